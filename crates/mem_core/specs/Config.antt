@@ -1,0 +1,16 @@
+-- The sizes that a zone may be booted with.
+use Rattle.std.specs.Prelude.{◌≤◌}
+use Rattle.mem_core.specs.declared.config.Config.{Config}
+
+-- every size is in its range, and a processor's list holds a batch at least
+pub record IsValidConfig (c : Config) : Type 0 where
+  pub frames_low : 1 ≤ c.frames
+  pub frames_high : c.frames ≤ 65536
+  pub cpus_low : 1 ≤ c.cpus
+  pub cpus_high : c.cpus ≤ 16
+  pub batch_low : 1 ≤ c.batch
+  pub batch_high : c.batch ≤ 64
+  pub high_low : c.batch ≤ c.high
+  pub high_high : c.high ≤ 256
+  pub stock_low : 1 ≤ c.stock
+  pub stock_high : c.stock ≤ 64

@@ -1,0 +1,34 @@
+//! How large the zone and its parts are.
+
+ghost use Rattle.std.specs.Prelude.{◌↔◌, IsTrue};
+
+/// The sizes that a zone is booted with. A value may be out of range until `is_valid` was asked.
+#[derive(Clone, Copy, Debug, PartialEq, Eq)]
+pub struct Config {
+    /// Frames of the zone, numbered from 0: 1 to 65,536.
+    pub frames: u32,
+    /// Processors, numbered from 1: 1 to 16.
+    pub cpus: u32,
+    /// Frames by which a processor's list is refilled or cut: 1 to 64.
+    pub batch: u32,
+    /// Frames at which a processor's list is cut: `batch` to 256.
+    pub high: u32,
+    /// Pages that a processor prepays at once: 1 to 64.
+    pub stock: u32,
+}
+
+impl Config {
+    ghost use Rattle.mem_core.specs.Config.{IsValidConfig};
+
+    /// Whether every value is in its range.
+    pub fn is_valid(&self) -> bool
+        ensures { IsTrue result ↔ IsValidConfig self.now }
+    {
+        let frames = 1 <= self.frames && self.frames <= 65_536;
+        let cpus = 1 <= self.cpus && self.cpus <= 16;
+        let batch = 1 <= self.batch && self.batch <= 64;
+        let high = self.batch <= self.high && self.high <= 256;
+        let stock = 1 <= self.stock && self.stock <= 64;
+        frames && cpus && batch && high && stock
+    }
+}
