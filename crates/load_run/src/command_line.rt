@@ -1,0 +1,82 @@
+//! The words of the command line.
+
+use crate::fault::LineFault;
+use crate::settings::Options;
+use clap::error::ErrorKind;
+use clap::{Arg, ArgMatches, Command, Error, value_parser};
+use mem_core::config::Config;
+use std::alloc::{AllocError, Global};
+use std::convert::AsStr;
+
+/// Reads the words that follow the program's name.
+pub fn options<S: AsStr>(alloc: Global, words: &[S]) -> Result<Options, LineFault> {
+    let mut command = memcg(alloc)?;
+    let found = match command.try_get_matches_from_mut(words) {
+        Ok(found) => found,
+        Err(error) => return Err(fault_of(alloc, &error)),
+    };
+    match sizes(&found) {
+        Some(config) => Ok(Options { config }),
+        None => {
+            let text = "an option has no value in its range";
+            let error = command.error(ErrorKind::InvalidValue, text)?;
+            Err(fault_of(alloc, &error))
+        }
+    }
+}
+
+fn fault_of(alloc: Global, error: &Error) -> LineFault {
+    if error.kind() == ErrorKind::OutOfMemory {
+        return LineFault::NoMemory(AllocError);
+    }
+    match format!(in alloc; "{error}") {
+        Ok(text) => LineFault::Words(text),
+        Err(error) => LineFault::NoMemory(error),
+    }
+}
+
+// The program as clap reads it.
+fn memcg<'a>(alloc: Global) -> Result<Command<'a>, AllocError> {
+    let replay = Command::new(alloc, "replay")
+        .about("Runs the lines of a script, one after the other")
+        .arg(size_option(alloc, "frames", "Frames of the zone, 1 to 65536", 65_536, "16"))?
+        .arg(size_option(alloc, "cpus", "Processors, 1 to 16", 16, "2"))?
+        .arg(size_option(alloc, "batch", "Frames by which a processor's list is refilled, 1 to 64", 64, "4"))?
+        .arg(size_option(alloc, "high", "Frames at which a processor's list gives back, batch to 256", 256, "8"))?
+        .arg(size_option(alloc, "stock", "Pages that a processor prepays, 1 to 64", 64, "4"))?;
+    Command::new(alloc, "memcg")
+        .bin_name("memcg")?
+        .no_binary_name(true)
+        .about("Charges page frames to the groups of a tree")
+        .subcommand_required(true)
+        .subcommand(replay)
+}
+
+// A number option from 1 to `most`.
+fn size_option<'a>(alloc: Global, name: &'a str, help: &'a str, most: u32, default: &'a str) -> Arg<'a> {
+    Arg::new(alloc, name)
+        .long(name)
+        .value_name("N")
+        .help(help)
+        .value_parser(value_parser!(u32).range(1..=i64::from(most)))
+        .default_value(default)
+}
+
+fn sizes(found: &ArgMatches<'_>) -> Option<Config> {
+    let replay = found.subcommand_matches("replay")?;
+    Some(Config {
+        frames: size(replay, "frames", 65_536)?,
+        cpus: size(replay, "cpus", 16)?,
+        batch: size(replay, "batch", 64)?,
+        high: size(replay, "high", 256)?,
+        stock: size(replay, "stock", 64)?,
+    })
+}
+
+fn size(found: &ArgMatches<'_>, name: &str, most: u32) -> Option<u32> {
+    let size = found.get_one::<u32>(name)?;
+    if size < 1 || most < size { None } else { Some(size) }
+}
+
+#[cfg(test)]
+mod tests;

@@ -1,0 +1,10 @@
+//! From the words of the command line and the bytes of a script to answers.
+#![tactic(auto)]
+
+pub mod command_line;
+pub mod fault;
+pub mod line;
+mod number;
+pub mod script;
+pub mod settings;
+mod verb;

@@ -1,0 +1,22 @@
+//! The lines of a script.
+
+/// One line of a script: a processor, and what is done there.
+#[derive(Clone, Copy, Debug, PartialEq, Eq)]
+pub struct Line<'a> {
+    /// The processor that the line names, from 1.
+    pub processor: u32,
+    /// What the line asks for.
+    pub command: Command<'a>,
+}
+
+/// What a line asks for. A path is a run of bytes above 32 and below 127: whether it is well formed is for
+/// the tree to say.
+#[derive(Clone, Copy, Debug, PartialEq, Eq)]
+pub enum Command<'a> {
+    /// Makes the group of this path.
+    Mkdir { path: &'a [u8] },
+    /// Takes a block of 2^order frames, charged to the group of this path.
+    Alloc { path: &'a [u8], order: u32 },
+    /// Tells the place of every frame and the usage of every group.
+    Show,
+}
