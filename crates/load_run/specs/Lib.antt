@@ -1,0 +1,3 @@
+pub mod Script
+pub mod Settings
+pub mod Verb

@@ -1,17 +1,21 @@
 //! Decimal numbers of a script.
 
+ghost use Rattle.std.specs.Prelude.{◌^◌, ◌<◌};
+ghost use Rattle.std.specs.Option.{SomeIff};
+ghost use Rattle.std.specs.Str.Parse.{IsNumeral, digits_value};
+
 /// The number that the word writes in decimal digits, leading zeros allowed. None where the word is empty,
 /// has another byte, or the number is above 2^32 - 1.
-pub fn number(word: &[u8]) -> Option<u32> {
+pub fn number(word: &[u8]) -> Option<u32>
+    ensures { SomeIff result (IsNumeral 10 word.now × (digits_value 10 word.now < 2 ^ 32)) (digits_value 10 word.now) }
+{
     if word.is_empty() {
         return None;
     }
     let mut value = 0u32;
     for byte in word {
-        if !byte.is_ascii_digit() {
-            return None;
-        }
-        value = value.checked_mul(10)?.checked_add(u32::from(*byte - b'0'))?;
+        let digit = char::from(*byte).to_digit(10)?;
+        value = value.checked_mul(10)?.checked_add(digit)?;
     }
     Some(value)
 }

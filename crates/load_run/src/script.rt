@@ -1,9 +1,16 @@
 //! A script's bytes, cut into lines.
 
+ghost use Rattle.std.specs.Prelude.{◌≡◌, ◌≢◌, ◌↔◌, ℕ, ◌+◌, ◌<◌, ◌≤◌, All, IfErr, IfOk, IsTrue, List, MatchOption, length, take};
+ghost use Rattle.load_run.specs.Script.{IsAllocText, IsCommandText, IsCut, IsFirstBadLine, IsLineText, IsPathText, IsScript};
+ghost use Rattle.load_run.specs.Script.{NamesFirstBadLine, ended_lines, is_skipped};
+ghost use Rattle.load_run.specs.Verb.{IsNames};
+ghost use Rattle.load_run.specs.declared.line.Command.{Command};
+ghost use Rattle.load_run.specs.declared.line.Line.{Line};
+
 use crate::fault::ScriptFault;
 use crate::line::{Command, Line};
 use crate::number::number;
-use crate::verb::{Names, Verb, command_names};
+use crate::verb::{Names, Verb, command_names, verb_of};
 use mem_core::config::Config;
 use std::alloc::{AllocError, Global};
 
@@ -23,28 +30,35 @@ pub fn parse_script<'a>(
     alloc: Global,
     input: &'a [u8],
     config: &Config,
-) -> Result<Vec<Line<'a>>, ScriptFault> {
+) -> Result<Vec<Line<'a>>, ScriptFault>
+    ensures ok { IfOk result (λ lines. IsScript config.now.cpus input.now lines.items) }
+    ensures bad_line { IfErr result (NamesFirstBadLine config.now.cpus input.now) }
+{
     let names = command_names(alloc)?;
     let over = line_over(input);
     let mut lines = Vec::new(alloc);
     for (index, text) in input.split(|byte| *byte == b'\n').enumerate() {
         let number = index + 1;
-        if text.len() > MOST_LINE || over == Some(number) {
+        if text.len() > MOST_LINE || !is_within(number, over) {
             return Err(ScriptFault::BadLine(number));
         }
         if is_skipped(text) {
             continue;
         }
-        let line = parse_line(&names, text, config.cpus);
-        lines.push(line.ok_or(ScriptFault::BadLine(number))?)
-            .map_err(|_| ScriptFault::NoMemory(AllocError))?;
+        match parse_line(&names, text, config.cpus) {
+            Some(line) => lines.push(line).map_err(|_| ScriptFault::NoMemory(AllocError))?,
+            None => return Err(ScriptFault::BadLine(number)),
+        }
     }
     Ok(lines)
 }
 
 // The number of the line in which the first byte past the most stands, where there is one. A line feed
 // belongs to the line that it ends.
-fn line_over(input: &[u8]) -> Option<usize> {
+fn line_over(input: &[u8]) -> Option<usize>
+    ensures { MatchOption result (length input.now ≤ 1048576)
+        (λ n. (1048576 < length input.now) × (n ≡ ended_lines (take 1048576 input.now) + 1)) }
+{
     if input.len() <= MOST_INPUT {
         return None;
     }
@@ -52,15 +66,28 @@ fn line_over(input: &[u8]) -> Option<usize> {
     Some(before + 1)
 }
 
+fn is_within(number: usize, over: Option<usize>) -> bool {
+    match over {
+        None => true,
+        Some(first) => number < first,
+    }
+}
+
 // Whether a line is passed over.
-fn is_skipped(text: &[u8]) -> bool {
+fn is_skipped(text: &[u8]) -> bool
+    ensures { result ≡ is_skipped text.now }
+{
     match text.first() {
         None => true,
         Some(first) => *first == b'#',
     }
 }
 
-fn parse_line<'a>(names: &Names, text: &'a [u8], cpus: u32) -> Option<Line<'a>> {
+fn parse_line<'a>(names: &Names, text: &'a [u8], cpus: u32) -> Option<Line<'a>>
+    requires { IsNames names.now }
+    ensures { MatchOption result ((line : Line) → ¬ IsLineText cpus line text.entry.now)
+        (λ line. IsLineText cpus line text.entry.now) }
+{
     let (processor, rest) = first_word(text)?;
     let processor = number(processor)?;
     if processor < 1 || cpus < processor {
@@ -70,40 +97,53 @@ fn parse_line<'a>(names: &Names, text: &'a [u8], cpus: u32) -> Option<Line<'a>> 
     Some(Line { processor, command })
 }
 
-fn parse_command<'a>(names: &Names, text: &'a [u8]) -> Option<Command<'a>> {
+fn parse_command<'a>(names: &Names, text: &'a [u8]) -> Option<Command<'a>>
+    requires { IsNames names.now }
+    ensures { MatchOption result ((command : Command) → ¬ IsCommandText command text.entry.now)
+        (λ command. IsCommandText command text.entry.now) }
+{
     match first_word(text) {
-        None => match names.get(text)? {
+        None => match verb_of(names, text)? {
             Verb::Show => Some(Command::Show),
-            _ => None,
+            Verb::Mkdir | Verb::Alloc => None,
         },
-        Some((name, arguments)) => match names.get(name)? {
+        Some((name, arguments)) => match verb_of(names, name)? {
             Verb::Mkdir => Some(Command::Mkdir {
                 path: path_of(arguments)?,
             }),
-            Verb::Alloc => parse_alloc(arguments),
+            Verb::Alloc => {
+                let (path, order) = parse_alloc(arguments)?;
+                Some(Command::Alloc { path, order })
+            }
             Verb::Show => None,
         },
     }
 }
 
-fn parse_alloc(arguments: &[u8]) -> Option<Command<'_>> {
+// The path and the order, which so far is 0.
+fn parse_alloc(arguments: &[u8]) -> Option<(&[u8], u32)>
+    ensures { MatchOption result
+        ((path : List ℕ) (order : ℕ) → ¬ IsAllocText path order arguments.now)
+        (λ p. IsAllocText p.0.now p.1 arguments.now) }
+{
     let (path, order) = first_word(arguments)?;
     let path = path_of(path)?;
     let order = number(order)?;
-    if order != 0 {
-        return None;
-    }
-    Some(Command::Alloc { path, order })
+    if order == 0 { Some((path, order)) } else { None }
 }
 
 // What stands before the first space, and what stands after it. None where there is no space.
-fn first_word(text: &[u8]) -> Option<(&[u8], &[u8])> {
+fn first_word(text: &[u8]) -> Option<(&[u8], &[u8])>
+    ensures { MatchOption result (All (λ b. b ≢ 32) text.now) (λ p. IsCut text.now p.0.now p.1.now) }
+{
     let end = text.iter().position(|byte| *byte == b' ')?;
     Some((&text[..end], &text[end + 1..]))
 }
 
 // The text, where it is a path or a file name: some bytes above 32 and below 127.
-fn path_of(text: &[u8]) -> Option<&[u8]> {
+fn path_of(text: &[u8]) -> Option<&[u8]>
+    ensures { MatchOption result (¬ IsPathText text.now) (λ path. IsPathText text.now × (path.now ≡ text.now)) }
+{
     if text.is_empty() || !text.iter().all(|byte| byte.is_ascii_graphic()) {
         return None;
     }

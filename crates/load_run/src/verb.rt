@@ -1,5 +1,8 @@
 //! The names of the commands.
 
+ghost use Rattle.std.specs.Prelude.{◌≡◌, IfOk};
+ghost use Rattle.load_run.specs.Verb.{IsNames, verb_named};
+
 use indexmap::IndexMap;
 use std::alloc::{AllocError, Global};
 
@@ -14,10 +17,20 @@ pub enum Verb {
 /// The commands by their names, as a script writes them.
 pub type Names = IndexMap<&'static [u8], Verb>;
 
-pub fn command_names(alloc: Global) -> Result<Names, AllocError> {
+pub fn command_names(alloc: Global) -> Result<Names, AllocError>
+    ensures { IfOk result IsNames }
+{
     let mut names = IndexMap::new(alloc);
     names.insert(b"mkdir".as_slice(), Verb::Mkdir)?;
     names.insert(b"alloc".as_slice(), Verb::Alloc)?;
     names.insert(b"show".as_slice(), Verb::Show)?;
     Ok(names)
+}
+
+/// The command of this name, where there is one.
+pub fn verb_of(names: &Names, name: &[u8]) -> Option<Verb>
+    requires { IsNames names.now }
+    ensures { result ≡ verb_named name.now }
+{
+    names.get(name).copied()
 }

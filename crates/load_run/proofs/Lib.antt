@@ -1,0 +1,4 @@
+pub mod Cuts
+pub mod Numerals
+pub mod Readings
+pub mod Verbs

@@ -1,0 +1,75 @@
+-- What a text says, once it is cut at its first space.
+use Rattle.std.proofs.Common.{◌≡◌, ℕ, List, ◌∷◌, ◌++◌, Option, None, Some, MatchOption, subst, sym, ap, ◌∙◌, codes}
+use Rattle.load_run.specs.Script.{IsAllocText, IsCommandText, IsCut, IsLineText, IsPathText, WritesNumber}
+use Rattle.load_run.specs.declared.line.Command.{Command}
+use Rattle.load_run.specs.declared.line.Command.TheVariants.{Mkdir, Alloc, Show}
+use Rattle.load_run.specs.declared.line.Line.{Line}
+use Rattle.load_run.specs.Verb.{verb_named}
+use Rattle.load_run.specs.declared.verb.Verb.{Verb}
+use Rattle.load_run.specs.declared.verb.Verb.TheVariants as verb
+use Rattle.load_run.proofs.Verbs.{name_no_space}
+use Rattle.load_run.proofs.Cuts.{NoSpace, cut_once, digits_no_space, no_cut, path_no_space}
+
+-- what a `None` says
+pub on_none : {T : Type 0} (r : Option T) (P : Type 0) (Q : T → Type 0) → r ≡ None → P → MatchOption r P Q
+on_none {T} r P Q is_none p = let F : Option T → Type 0 = λ o. MatchOption o P Q in subst F (sym is_none) p
+
+-- the arguments of `alloc` have a space
+pub alloc_has_space : (text : List ℕ) → NoSpace text → (path : List ℕ) (order : ℕ) → ¬ IsAllocText path order text
+alloc_has_space text none path order is = no_cut text path is.digits none is.parts
+
+-- the arguments of `alloc` are the parts of the cut
+pub alloc_parts : (text w r : List ℕ) → IsCut text w r → (path : List ℕ) (order : ℕ) → IsAllocText path order text → IsPathText w × WritesNumber r order × (order ≡ 0)
+alloc_parts text w r cut path order is =
+    let same = cut_once text w r path is.digits cut (path_no_space path is.path_text) is.parts in
+    let is_path : IsPathText w = rw same.0 is.path_text in
+    let is_number : WritesNumber r order = rw same.1 is.writes in
+    (is_path, is_number, is.single)
+
+-- a line has a space
+pub line_has_space : (cpus : ℕ) (text : List ℕ) → NoSpace text → (line : Line) → ¬ IsLineText cpus line text
+line_has_space cpus text none line is = no_cut text is.digits is.command none is.parts
+
+-- the processor and the command are the parts of the cut
+pub line_parts : (cpus : ℕ) (text w r : List ℕ) → IsCut text w r → (line : Line) → IsLineText cpus line text → WritesNumber w line.processor × IsCommandText line.command r
+line_parts cpus text w r cut line is =
+    let same = cut_once text w r is.digits is.command cut (digits_no_space is.digits is.writes.digits.1) is.parts in
+    let is_number : WritesNumber w line.processor = rw same.0 is.writes in
+    let is_command : IsCommandText line.command r = rw same.1 is.command_text in
+    (is_number, is_command)
+
+-- what the word before the first space and the rest of the text are, where the text is that of a command
+abbrev pub HasCommandParts : Command → List ℕ → List ℕ → Type 0
+HasCommandParts (Mkdir path) w r = (w ≡ codes "mkdir") × IsPathText r
+HasCommandParts (Alloc path order) w r = (w ≡ codes "alloc") × IsAllocText path.now order r
+HasCommandParts Show w r = ⊥
+
+pub command_parts : (text w r : List ℕ) → IsCut text w r → (command : Command) → IsCommandText command text → HasCommandParts command w r
+command_parts text w r cut (Mkdir path) is =
+    let same = cut_once text w r (codes "mkdir") path.now cut (name_no_space verb.Mkdir) is.1 in
+    let is_path : IsPathText r = rw same.1 is.0 in
+    (same.0, is_path)
+command_parts text w r cut (Alloc path order) is =
+    let same = cut_once text w r (codes "alloc") is.0 cut (name_no_space verb.Alloc) is.1 in
+    let is_alloc : IsAllocText path.now order r = rw same.1 is.2 in
+    (same.0, is_alloc)
+command_parts text w r cut Show is = no_cut (codes "show") w r (name_no_space verb.Show) (sym is ∙ cut.parts)
+
+-- a command without a space is `show`
+pub command_alone : (text : List ℕ) → NoSpace text → (command : Command) → IsCommandText command text → text ≡ codes "show"
+command_alone text none (Mkdir path) is = absurd (no_cut text (codes "mkdir") path.now none is.1)
+command_alone text none (Alloc path order) is = absurd (no_cut text (codes "alloc") is.0 none is.1)
+command_alone text none Show is = is
+
+-- the word before the first space is the name of the command
+pub command_named : (text w r : List ℕ) → IsCut text w r → (command : Command) → IsCommandText command text → (v : Verb) × (verb_named w ≡ Some v)
+command_named text w r cut (Mkdir path) is = (verb.Mkdir, ap verb_named (command_parts text w r cut (Mkdir path) is).0)
+command_named text w r cut (Alloc path order) is = (verb.Alloc, ap verb_named (command_parts text w r cut (Alloc path order) is).0)
+command_named text w r cut Show is = absurd (command_parts text w r cut Show is)
+
+-- after `alloc` stand the arguments of `alloc`
+pub no_alloc : (text w r : List ℕ) → IsCut text w r → verb_named w ≡ Some verb.Alloc → ((path : List ℕ) (order : ℕ) → ¬ IsAllocText path order r) → (command : Command) → ¬ IsCommandText command text
+no_alloc text w r cut e none (Mkdir path) is =
+    let h : verb_named w ≡ Some verb.Mkdir = ap verb_named (command_parts text w r cut (Mkdir path) is).0 in cc
+no_alloc text w r cut e none (Alloc path order) is = none path.now order (command_parts text w r cut (Alloc path order) is).1
+no_alloc text w r cut e none Show is = command_parts text w r cut Show is

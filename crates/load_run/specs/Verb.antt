@@ -1,0 +1,18 @@
+-- The names of the commands.
+use Rattle.std.specs.Prelude.{◌≡◌, ℕ, List, Option, Some, None, codes, if◌then◌else◌, nat_eq}
+use Rattle.std.specs.Cmp.Lexicographic.{pointwise}
+use Rattle.std.specs.HashMap.{HashMap, get_by}
+use Rattle.std.specs.Borrow.{Bor}
+use Rattle.load_run.specs.declared.verb.Verb.{Verb}
+use Rattle.load_run.specs.declared.verb.Verb.TheVariants.{Mkdir, Alloc, Show}
+
+-- the command of this name
+abbrev pub verb_named : List ℕ → Option Verb
+verb_named name = if pointwise nat_eq name (codes "mkdir") then Some Mkdir
+    else if pointwise nat_eq name (codes "alloc") then Some Alloc
+    else if pointwise nat_eq name (codes "show") then Some Show
+    else None
+
+-- the table has each command at its name, and no other name
+abbrev pub IsNames : {S : Type 0} → HashMap (Bor (List ℕ)) Verb S → Type 0
+IsNames names = (name : List ℕ) → get_by (λ key. pointwise nat_eq name key.now) names ≡ verb_named name
