@@ -28,12 +28,12 @@ named text v e =
     elim (picked text (codes "mkdir") Mkdir v _ (pointwise nat_eq text (codes "mkdir")) refl e) [
       | inl h ↦ h.0 ∙ ap name_of h.1
       | inr rest ↦ elim (picked text (codes "alloc") Alloc v _ (pointwise nat_eq text (codes "alloc")) refl rest) [
+        | inl h ↦ h.0 ∙ ap name_of h.1
+        | inr last ↦ elim (picked text (codes "show") Show v _ (pointwise nat_eq text (codes "show")) refl last) [
           | inl h ↦ h.0 ∙ ap name_of h.1
-          | inr last ↦ elim (picked text (codes "show") Show v _ (pointwise nat_eq text (codes "show")) refl last) [
-              | inl h ↦ h.0 ∙ ap name_of h.1
-              | inr none ↦ cc
-            ]
+          | inr none ↦ cc
         ]
+      ]
     ]
 
 -- whether a text has no space

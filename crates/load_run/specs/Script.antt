@@ -93,4 +93,4 @@ pub record IsFirstBadLine (cpus : ℕ) (script : List ℕ) (n : ℕ) : Type 0 wh
 -- what the fault says of the script
 abbrev pub NamesFirstBadLine : ℕ → List ℕ → ScriptFault → Type 0
 NamesFirstBadLine cpus script (BadLine n) = IsFirstBadLine cpus script n
-NamesFirstBadLine cpus script (NoMemory e) = ⊤
+NamesFirstBadLine cpus script NoMemory = ⊤

@@ -1,5 +1,8 @@
 //! The words of the command line.
 
+ghost use Rattle.std.specs.Prelude.{◌≤◌, IfOk, IfSome};
+ghost use Rattle.load_run.specs.Settings.{HasSizesInRange};
+
 use crate::fault::LineFault;
 use crate::settings::Options;
 use clap::error::ErrorKind;
@@ -9,7 +12,9 @@ use std::alloc::{AllocError, Global};
 use std::convert::AsStr;
 
 /// Reads the words that follow the program's name.
-pub fn options<S: AsStr>(alloc: Global, words: &[S]) -> Result<Options, LineFault> {
+pub fn options<S: AsStr>(alloc: Global, words: &[S]) -> Result<Options, LineFault>
+    ensures in_range { IfOk result (λ options. HasSizesInRange options.config) }
+{
     let mut command = memcg(alloc)?;
     let found = match command.try_get_matches_from_mut(words) {
         Ok(found) => found,
@@ -39,11 +44,35 @@ fn fault_of(alloc: Global, error: &Error) -> LineFault {
 fn memcg<'a>(alloc: Global) -> Result<Command<'a>, AllocError> {
     let replay = Command::new(alloc, "replay")
         .about("Runs the lines of a script, one after the other")
-        .arg(size_option(alloc, "frames", "Frames of the zone, 1 to 65536", 65_536, "16"))?
+        .arg(size_option(
+            alloc,
+            "frames",
+            "Frames of the zone, 1 to 65536",
+            65_536,
+            "16",
+        ))?
         .arg(size_option(alloc, "cpus", "Processors, 1 to 16", 16, "2"))?
-        .arg(size_option(alloc, "batch", "Frames by which a processor's list is refilled, 1 to 64", 64, "4"))?
-        .arg(size_option(alloc, "high", "Frames at which a processor's list gives back, batch to 256", 256, "8"))?
-        .arg(size_option(alloc, "stock", "Pages that a processor prepays, 1 to 64", 64, "4"))?;
+        .arg(size_option(
+            alloc,
+            "batch",
+            "Frames by which a processor's list is refilled, 1 to 64",
+            64,
+            "4",
+        ))?
+        .arg(size_option(
+            alloc,
+            "high",
+            "Frames at which a processor's list gives back, batch to 256",
+            256,
+            "8",
+        ))?
+        .arg(size_option(
+            alloc,
+            "stock",
+            "Pages that a processor prepays, 1 to 64",
+            64,
+            "4",
+        ))?;
     Command::new(alloc, "memcg")
         .bin_name("memcg")?
         .no_binary_name(true)
@@ -53,7 +82,13 @@ fn memcg<'a>(alloc: Global) -> Result<Command<'a>, AllocError> {
 }
 
 // A number option from 1 to `most`.
-fn size_option<'a>(alloc: Global, name: &'a str, help: &'a str, most: u32, default: &'a str) -> Arg<'a> {
+fn size_option<'a>(
+    alloc: Global,
+    name: &'a str,
+    help: &'a str,
+    most: u32,
+    default: &'a str,
+) -> Arg<'a> {
     Arg::new(alloc, name)
         .long(name)
         .value_name("N")
@@ -62,7 +97,9 @@ fn size_option<'a>(alloc: Global, name: &'a str, help: &'a str, most: u32, defau
         .default_value(default)
 }
 
-fn sizes(found: &ArgMatches<'_>) -> Option<Config> {
+fn sizes(found: &ArgMatches<'_>) -> Option<Config>
+    ensures { IfSome result HasSizesInRange }
+{
     let replay = found.subcommand_matches("replay")?;
     Some(Config {
         frames: size(replay, "frames", 65_536)?,
@@ -73,9 +110,15 @@ fn sizes(found: &ArgMatches<'_>) -> Option<Config> {
     })
 }
 
-fn size(found: &ArgMatches<'_>, name: &str, most: u32) -> Option<u32> {
+fn size(found: &ArgMatches<'_>, name: &str, most: u32) -> Option<u32>
+    ensures { IfSome result (λ size. (1 ≤ size) × (size ≤ most)) }
+{
     let size = found.get_one::<u32>(name)?;
-    if size < 1 || most < size { None } else { Some(size) }
+    if size < 1 || most < size {
+        None
+    } else {
+        Some(size)
+    }
 }
 
 #[cfg(test)]

@@ -1,6 +1,9 @@
 //! Why a command line or a script isn't taken.
 
-use std::alloc::AllocError;
+ghost use Rattle.std.specs.Prelude.{◌≡◌};
+ghost use Rattle.load_run.specs.declared.fault.ScriptFault.TheVariants.{NoMemory};
+
+use std::alloc::{AllocError, AllocFailed};
 use thiserror::Error;
 
 /// Why the words of the command line give no options.
@@ -16,12 +19,28 @@ pub enum LineFault {
 }
 
 /// Why a script gives no lines.
-#[derive(Debug, Drop, Error)]
+#[derive(Clone, Copy, Debug, Error)]
 pub enum ScriptFault {
     /// The first line that isn't in the grammar, counted from 1.
     #[error("bad line {0}")]
     BadLine(usize),
     /// Memory ran out.
     #[error("no memory")]
-    NoMemory(#[from(alloc)] AllocError),
+    NoMemory,
+}
+
+impl From<AllocError> for ScriptFault {
+    ghost from_gives = { λ _ e. e ≡ NoMemory };
+
+    fn from(_error: AllocError) -> ScriptFault {
+        ScriptFault::NoMemory
+    }
+}
+
+impl<T: Drop> From<AllocFailed<T>> for ScriptFault {
+    ghost from_gives = { λ _ e. e ≡ NoMemory };
+
+    fn from(_error: AllocFailed<T>) -> ScriptFault {
+        ScriptFault::NoMemory
+    }
 }

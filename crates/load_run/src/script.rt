@@ -1,6 +1,6 @@
 //! A script's bytes, cut into lines.
 
-ghost use Rattle.std.specs.Prelude.{◌≡◌, ◌≢◌, ◌↔◌, ℕ, ◌+◌, ◌<◌, ◌≤◌, All, IfErr, IfOk, IsTrue, List, MatchOption, length, take};
+ghost use Rattle.std.specs.Prelude.{◌≡◌, ◌≢◌, ◌↔◌, ℕ, ◌+◌, ◌<◌, ◌≤◌, All, IfErr, IfOk, IfSome, IsTrue, List, MatchOption, length, take};
 ghost use Rattle.load_run.specs.Script.{IsAllocText, IsCommandText, IsCut, IsFirstBadLine, IsLineText, IsPathText, IsScript};
 ghost use Rattle.load_run.specs.Script.{NamesFirstBadLine, ended_lines, is_skipped};
 ghost use Rattle.load_run.specs.Verb.{IsNames};
@@ -12,7 +12,7 @@ use crate::line::{Command, Line};
 use crate::number::number;
 use crate::verb::{Names, Verb, command_names, verb_of};
 use mem_core::config::Config;
-use std::alloc::{AllocError, Global};
+use std::alloc::Global;
 
 /// The most bytes that a script has.
 pub const MOST_INPUT: usize = 1_048_576;
@@ -46,7 +46,7 @@ pub fn parse_script<'a>(
             continue;
         }
         match parse_line(&names, text, config.cpus) {
-            Some(line) => lines.push(line).map_err(|_| ScriptFault::NoMemory(AllocError))?,
+            Some(line) => lines.push(line)?,
             None => return Err(ScriptFault::BadLine(number)),
         }
     }
@@ -62,11 +62,17 @@ fn line_over(input: &[u8]) -> Option<usize>
     if input.len() <= MOST_INPUT {
         return None;
     }
-    let before = input[..MOST_INPUT].iter().filter(|byte| **byte == b'\n').count();
+    let before = input[..MOST_INPUT]
+        .iter()
+        .filter(|byte| **byte == b'\n')
+        .count();
     Some(before + 1)
 }
 
-fn is_within(number: usize, over: Option<usize>) -> bool {
+// Whether the line of this number is before the one at which the script is too long.
+fn is_within(number: usize, over: Option<usize>) -> bool
+    ensures { IsTrue result ↔ IfSome over (λ first. number < first) }
+{
     match over {
         None => true,
         Some(first) => number < first,
@@ -129,7 +135,11 @@ fn parse_alloc(arguments: &[u8]) -> Option<(&[u8], u32)>
     let (path, order) = first_word(arguments)?;
     let path = path_of(path)?;
     let order = number(order)?;
-    if order == 0 { Some((path, order)) } else { None }
+    if order == 0 {
+        Some((path, order))
+    } else {
+        None
+    }
 }
 
 // What stands before the first space, and what stands after it. None where there is no space.

@@ -20,7 +20,16 @@ fn has_defaults(rt: HostRuntime) -> Result<(), Fail> {
 #[test]
 fn takes_the_greatest_values(rt: HostRuntime) -> Result<(), Fail> {
     let words = [
-        "replay", "--frames=65536", "--cpus", "16", "--batch", "64", "--high", "256", "--stock", "64",
+        "replay",
+        "--frames=65536",
+        "--cpus",
+        "16",
+        "--batch",
+        "64",
+        "--high",
+        "256",
+        "--stock",
+        "64",
     ];
     let found = options(rt.alloc(), &words)?;
     let greatest = Config {
@@ -46,11 +55,26 @@ fn told<R: AllocGlobal>(rt: &R, words: &[&str]) -> Result<String, Fail> {
 #[test]
 fn tells_what_is_wrong(rt: HostRuntime) -> Result<(), Fail> {
     let below = told(&rt, &["replay", "--frames", "0"])?;
-    assert!(rt; below.as_str().starts_with("error: invalid value '0' for '--frames <N>': 0 is not in 1..=65536\n"), "{below}");
+    assert!(rt;
+        below.as_str().starts_with(
+            "error: invalid value '0' for '--frames <N>': 0 is not in 1..=65536\n"
+        ),
+        "{below}"
+    );
     let unknown = told(&rt, &["play"])?;
-    assert!(rt; unknown.as_str().starts_with("error: unrecognized subcommand 'play'\n"), "{unknown}");
+    assert!(rt;
+        unknown
+            .as_str()
+            .starts_with("error: unrecognized subcommand 'play'\n"),
+        "{unknown}"
+    );
     let help = told(&rt, &["replay", "--help"])?;
-    assert!(rt; help.as_str().starts_with("Runs the lines of a script, one after the other\n\nUsage: memcg replay [OPTIONS]\n"), "{help}");
+    assert!(rt;
+        help.as_str().starts_with(
+            "Runs the lines of a script, one after the other\n\nUsage: memcg replay [OPTIONS]\n"
+        ),
+        "{help}"
+    );
     eprintln!(rt; "{help}{unknown}{below}")?;
     Ok(())
 }
@@ -58,8 +82,17 @@ fn tells_what_is_wrong(rt: HostRuntime) -> Result<(), Fail> {
 #[test]
 fn refuses_each_value_past_its_range(rt: HostRuntime) -> Result<(), Fail> {
     let past = [
-        "--frames=65537", "--cpus=17", "--cpus=0", "--batch=65", "--batch=0", "--high=257", "--high=0",
-        "--stock=65", "--stock=0", "--frames=1.5", "--audit",
+        "--frames=65537",
+        "--cpus=17",
+        "--cpus=0",
+        "--batch=65",
+        "--batch=0",
+        "--high=257",
+        "--high=0",
+        "--stock=65",
+        "--stock=0",
+        "--frames=1.5",
+        "--audit",
     ];
     for word in past {
         let text = told(&rt, &["replay", word])?;
@@ -70,7 +103,14 @@ fn refuses_each_value_past_its_range(rt: HostRuntime) -> Result<(), Fail> {
 
 #[test]
 fn refuses_what_it_does_not_have(rt: HostRuntime) -> Result<(), Fail> {
-    for words in [[].as_slice(), &["run"], &["replay", "--frames=1", "--frames=1"], &["replay", "x"], &["--help"], &["help"]] {
+    for words in [
+        [].as_slice(),
+        &["run"],
+        &["replay", "--frames=1", "--frames=1"],
+        &["replay", "x"],
+        &["--help"],
+        &["help"],
+    ] {
         let text = told(&rt, words)?;
         assert!(rt; !text.is_empty(), "{words:?}");
     }

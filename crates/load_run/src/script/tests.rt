@@ -18,7 +18,7 @@ fn bad_line(rt: &(impl Abort + AllocGlobal), script: &[u8]) -> usize {
     match parse_script(rt.alloc(), script, &ONE_PROCESSOR) {
         Ok(_) => 0,
         Err(ScriptFault::BadLine(number)) => number,
-        Err(ScriptFault::NoMemory(_)) => panic!(rt; "no memory"),
+        Err(ScriptFault::NoMemory) => panic!(rt; "no memory"),
     }
 }
 
@@ -27,17 +27,43 @@ fn reads_each_command(rt: HostRuntime) -> Result<(), Fail> {
     let script = b"# a comment\n\n1 mkdir /a/b\n01 alloc /a 000\n1 show";
     let lines = parse_script(rt.alloc(), script.as_slice(), &ONE_PROCESSOR)?;
     assert_eq!(rt; lines.len(), 3);
-    let mkdir = Command::Mkdir { path: b"/a/b".as_slice() };
-    assert!(rt; lines[0] == Line { processor: 1, command: mkdir });
-    let alloc = Command::Alloc { path: b"/a".as_slice(), order: 0 };
-    assert!(rt; lines[1] == Line { processor: 1, command: alloc });
-    assert!(rt; lines[2] == Line { processor: 1, command: Command::Show });
+    let mkdir = Command::Mkdir {
+        path: b"/a/b".as_slice(),
+    };
+    assert!(rt;
+        lines[0]
+            == Line {
+                processor: 1,
+                command: mkdir
+            }
+    );
+    let alloc = Command::Alloc {
+        path: b"/a".as_slice(),
+        order: 0,
+    };
+    assert!(rt;
+        lines[1]
+            == Line {
+                processor: 1,
+                command: alloc
+            }
+    );
+    assert!(rt;
+        lines[2]
+            == Line {
+                processor: 1,
+                command: Command::Show
+            }
+    );
     Ok(())
 }
 
 #[test]
 fn names_the_first_bad_line(rt: HostRuntime) {
-    assert_eq!(rt; bad_line(&rt, b"1 show\n#\n1 shown\n0 show\n".as_slice()), 3);
+    assert_eq!(rt;
+        bad_line(&rt, b"1 show\n#\n1 shown\n0 show\n".as_slice()),
+        3
+    );
 }
 
 #[test]
@@ -96,7 +122,10 @@ fn a_script_has_1048576_bytes(rt: HostRuntime) -> Result<(), Fail> {
         script.push(b'\n')?;
     }
     assert_eq!(rt; script.len(), 1_048_576);
-    assert_eq!(rt; parse_script(alloc, script.as_slice(), &ONE_PROCESSOR)?.len(), 0);
+    assert_eq!(rt;
+        parse_script(alloc, script.as_slice(), &ONE_PROCESSOR)?.len(),
+        0
+    );
     script.push(b'#')?;
     assert_eq!(rt; bad_line(&rt, script.as_slice()), 1_025);
     script.pop();
