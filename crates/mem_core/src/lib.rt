@@ -3,3 +3,4 @@
 #![tactic(auto)]
 
 pub mod config;
+pub mod step;
