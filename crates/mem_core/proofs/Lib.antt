@@ -1,3 +1,4 @@
 pub mod Runs
 pub mod PlaceLemmas
 pub mod Showing
+pub mod Laws

@@ -10,7 +10,7 @@ use Rattle.mem_core.specs.declared.step.Place.{Place}
 use Rattle.mem_core.specs.declared.step.Place.TheVariants.{Free, Charged}
 use Rattle.mem_core.specs.Places.{is_same_place, is_in_block}
 use Rattle.mem_core.specs.Shown.{is_some_place, is_at}
-use Rattle.mem_core.specs.Steps.{with_block, is_free_place}
+use Rattle.mem_core.specs.Steps.{with_block}
 
 pub is_same_place_same : (p : Place) → is_same_place p p ≡ true
 is_same_place_same Free = refl

@@ -24,8 +24,8 @@ use Rattle.mem_core.specs.declared.step.Answer.TheVariants.{Illegal, Done, Grant
 use Rattle.mem_core.specs.Places.{Places, is_same_place, is_in_block, places_at_boot, moved}
 use Rattle.mem_core.specs.Run.{Run, holder_after, holder_of, groups_after, groups_of, places_after, places_of, pages_granted, pages_used, granted_of, used_of, pending_of, free_frames}
 use Rattle.mem_core.specs.Legal.{is_processor, is_zone_seat, is_settled, is_legal_action, is_legal, IsAnswer, Allows, IsLegalRun}
-use Rattle.mem_core.specs.Shown.{State, is_some_place, is_at, Shows}
-use Rattle.mem_core.specs.Steps.{is_free_place, free_in, may_zone_act, may_act, with_block, Changes, Makes}
+use Rattle.mem_core.specs.Shown.{State, is_some_place, is_at, free_in, Shows}
+use Rattle.mem_core.specs.Steps.{may_zone_act, may_act, with_block, Changes, Makes}
 use Rattle.mem_core.proofs.Runs.{pushed, IsLegalRun-push}
 use Rattle.mem_core.proofs.PlaceLemmas.{is_same_place_same, is_same_place-sym, same_from_is_same_place, is_at_within, is_at_past, get_or-with_block_in, get_or-with_block_out, length-with_block}
 
@@ -41,10 +41,10 @@ pending_of-Shows s run shown g = omega (arith, shown.pending g)
 pub free_frames-Shows : (s : State) (run : Run) → Shows s run → HasSizes s → free_in s.places ≡ free_frames s.config run
 free_frames-Shows s run shown sizes =
     fill_by_all (λ f. places_of s.config run f Free) (free_in s.places) s.config.frames false
-    (length-map s.places is_free_place ∙ sizes.places)
+    (length-map s.places (λ p. is_same_place p Free) ∙ sizes.places)
     (λ f h.
       let within : f < length s.places = omega (arith, sizes.places) in
-      get_or-map is_free_place s.places f Free false within
+      get_or-map (λ p. is_same_place p Free) s.places f Free false within
       ∙ sym (is_at_within s.places f Free within)
       ∙ sym (shown.places f Free))
 
@@ -142,7 +142,7 @@ free_to_charged (Charged h) g = grind (arith, nat_tests)
 
 moved_in : (places : List Place) (b : Block) (g : ℕ) (f : ℕ) (p : Place) → IsFree (free_in places) f → f < length places → is_in_block b f ≡ true → moved (is_at places) b Free (Charged g) f p ≡ is_same_place (Charged g) p
 moved_in places b g f p free within e =
-    let was_free : is_free_place (get_or places f Free) ≡ true = sym (get_or-map is_free_place places f Free false within) ∙ free in
+    let was_free : is_same_place (get_or places f Free) Free ≡ true = sym (get_or-map (λ p. is_same_place p Free) places f Free false within) ∙ free in
     let was : get_or places f Free ≡ Free = same_from_is_same_place (get_or places f Free) Free was_free in
     let at : is_at places f p ≡ is_same_place Free p = is_at_within places f p within ∙ ap (λ q. is_same_place q p) was in
     rw (e, at) (free_to_charged p g)
@@ -164,7 +164,7 @@ is_at-with_block_out places b q f p inside out =
 -- the place of each frame after a free block was set to one place
 places_after-with_block : (places : List Place) (b : Block) (g : ℕ) → IsFreeBlock (free_in places) b → (f : ℕ) (p : Place) → moved (is_at places) b Free (Charged g) f p ≡ is_at (with_block places b (Charged g)) f p
 places_after-with_block places b g block f p =
-    let inside : b.at + 2 ^ b.order ≤ length places = subst (λ (n : ℕ). b.at + 2 ^ b.order ≤ n) (length-map places is_free_place) block.block.inside in
+    let inside : b.at + 2 ^ b.order ≤ length places = subst (λ (n : ℕ). b.at + 2 ^ b.order ≤ n) (length-map places (λ p. is_same_place p Free)) block.block.inside in
     let same_length = length-with_block places b (Charged g) inside in
     elim (cases_lt f b.at) [
     | inl before ↦ moved_out places b g f p (is_in_block_out b f (inl before)) ∙ is_at-with_block_out places b (Charged g) f p inside (inl before)

@@ -14,15 +14,7 @@ use Rattle.mem_core.specs.declared.step.Answer.{Answer}
 use Rattle.mem_core.specs.declared.step.Answer.TheVariants.{Illegal, Done, Granted, Placed, NoFreeBlock, Number}
 use Rattle.mem_core.specs.Places.{is_same_place}
 use Rattle.mem_core.specs.Legal.{is_processor}
-use Rattle.mem_core.specs.Shown.{State}
-
--- whether the place is Free
-abbrev pub is_free_place : Place → Bool
-is_free_place p = is_same_place p Free
-
--- which frames are free, by their places
-abbrev pub free_in : List Place → List Bool
-free_in places = map is_free_place places
+use Rattle.mem_core.specs.Shown.{State, free_in}
 
 -- the zone's own seat acts while a processor holds the lock
 abbrev pub may_zone_act : State → ℕ → Bool
