@@ -25,7 +25,7 @@ use Rattle.mem_core.specs.Places.{Places, is_same_place, is_in_block, places_at_
 use Rattle.mem_core.specs.Run.{Run, holder_after, holder_of, groups_after, groups_of, places_after, places_of, pages_granted, pages_used, granted_of, used_of, pending_of, free_frames}
 use Rattle.mem_core.specs.Legal.{is_processor, is_zone_seat, is_settled, is_legal_action, is_legal, IsAnswer, Allows, IsLegalRun}
 use Rattle.mem_core.specs.Shown.{State, is_some_place, is_at, free_in, Shows}
-use Rattle.mem_core.specs.Steps.{may_zone_act, may_act, with_block, Changes, Makes}
+use Rattle.mem_core.specs.Steps.{may_zone_act, may_act, with_block, counted, Changes, Makes}
 use Rattle.mem_core.proofs.Runs.{pushed, IsLegalRun-push}
 use Rattle.mem_core.proofs.PlaceLemmas.{is_same_place_same, is_same_place-sym, same_from_is_same_place, is_at_within, is_at_past, get_or-with_block_in, get_or-with_block_out, length-with_block}
 
@@ -88,17 +88,13 @@ Makes-allowed s run step answer t shown sizes m =
 -- what one step does to each part of the state
 record Advances (s : State) (seat : ℕ) (action : Action) (answer : Answer) (t : State) : Type 0 where
   config : t.config ≡ s.config
-  steps : t.steps ≡ s.steps
+  steps : t.steps ≡ s.steps + 1
   holder : t.holder ≡ holder_after s.holder seat action answer
   groups : t.groups ≡ groups_after s.groups action answer
   places : (f : ℕ) (p : Place) → places_after (is_at s.places) action answer f p ≡ is_at t.places f p
   pending : (g : ℕ) → pages_granted g action answer + slice_index s.pending g ≡ pages_used g action answer + slice_index t.pending g
 
--- the state with one step more
-abbrev pub counted : State → State
-counted t = record t { steps = t.steps + 1 }
-
-Shows-advance : (s : State) (run : Run) (step : Step) (answer : Answer) (t : State) → Shows s run → Allows s.config run step answer → Advances s step.seat step.action answer t → Shows (counted t) (pushed run step answer)
+Shows-advance : (s : State) (run : Run) (step : Step) (answer : Answer) (t : State) → Shows s run → Allows s.config run step answer → Advances s step.seat step.action answer t → Shows t (pushed run step answer)
 Shows-advance s run step answer t shown allowed advances =
     let same_places : places_of s.config run ≡ is_at s.places = λ i. λ f. λ p. shown.places f p i in
     let L : Config → Type 0 = λ config. IsLegalRun config (pushed run step answer) in
@@ -241,7 +237,7 @@ Changes-advance s seat (Make path) (Number n) t sizes may c =
 Changes-advance s seat action answer t sizes may c = absurd c
 
 -- an illegal step changes nothing but the number of steps
-Illegal-advance : (s : State) (seat : ℕ) (action : Action) → Advances s seat action Illegal s
+Illegal-advance : (s : State) (seat : ℕ) (action : Action) → Advances s seat action Illegal (counted s)
 Illegal-advance s seat Lock = record { config = refl; steps = refl; holder = refl; groups = refl; places = λ f p. refl; pending = λ g. refl }
 Illegal-advance s seat Unlock = record { config = refl; steps = refl; holder = refl; groups = refl; places = λ f p. refl; pending = λ g. refl }
 Illegal-advance s seat action = record { config = refl; steps = refl; holder = refl; groups = refl; places = λ f p. refl; pending = λ g. refl }
@@ -251,6 +247,6 @@ Makes-advance s step Illegal t sizes m = subst (λ (t : State). Advances s step.
 Makes-advance s step answer t sizes m = Changes-advance s step.seat step.action answer t sizes m.0 m.1
 
 -- the refinement: a state that shows a run shows, after a step, the run with this step and its answer
-pub Shows-step : (s : State) (run : Run) (step : Step) (answer : Answer) (t : State) → HasSizes s → Makes s step answer t → Shows s run → Shows (counted t) (pushed run step answer)
+pub Shows-step : (s : State) (run : Run) (step : Step) (answer : Answer) (t : State) → HasSizes s → Makes s step answer t → Shows s run → Shows t (pushed run step answer)
 Shows-step s run step answer t sizes m shown =
     Shows-advance s run step answer t shown (Makes-allowed s run step answer t shown sizes m) (Makes-advance s step answer t sizes m)

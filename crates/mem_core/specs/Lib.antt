@@ -5,3 +5,4 @@ pub mod Legal
 pub mod Headline
 pub mod Shown
 pub mod Steps
+pub mod Promise
