@@ -1,0 +1,1 @@
+//! The free areas of a zone.
