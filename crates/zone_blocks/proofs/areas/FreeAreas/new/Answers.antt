@@ -1,0 +1,1 @@
+use Rattle.zone_blocks.proofs.areas.FreeAreas.new.Goals as goal
