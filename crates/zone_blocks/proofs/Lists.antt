@@ -140,3 +140,29 @@ room_kept n lists e list within h new k d l =
         let s = get_or-set_other lists e k list d q in
         rw s (h k d l)
     ]
+
+-- lists of no blocks
+pub blocks_of_empty : (lists : List (Vec Block Global)) → ((k : ℕ) (d : Vec Block Global) → k < length lists → (get_or lists k d).items ≡ []) → blocks_of lists ≡ []
+blocks_of_empty [] h = refl
+blocks_of_empty (x ∷ xs) h = rw (h zero x (omega arith)) (blocks_of_empty xs (λ k d l. h (suc k) d (omega arith)))
+
+none_contained : {X : Type 0} (xs : List X) (x : X) → xs ≡ [] → Contains xs x → ⊥
+none_contained xs x e (k, l, g) = let m = rw e at l in absurd (omega arith)
+
+pub order_lists_empty : (n : ℕ) (lists : List (Vec Block Global)) → length lists ≡ 11
+    → ((k : ℕ) (d : Vec Block Global) → k < 11 → (get_or lists k d).items ≡ [])
+    → ((k : ℕ) (d : Vec Block Global) → k < 11 → n / 2 ^ k ≤ vec_capacity (get_or lists k d))
+    → AreOrderLists n lists
+order_lists_empty n lists count h room =
+    let none = blocks_of_empty lists (λ k d l. h k d (omega (arith, count))) in
+    record {
+      count = count;
+      each = λ k d l.
+        let e = h k d (omega (arith, count)) in
+        record {
+          each = λ b c. absurd (none_contained _ b e c);
+          ordered = rw e (λ i j d l m. absurd (omega arith));
+          room = room k d (omega (arith, count));
+        };
+      apart = λ a b p q f s t. absurd (none_contained _ a none p);
+    }

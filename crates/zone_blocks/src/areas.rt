@@ -11,6 +11,9 @@ use crate::order::Order;
 use std::alloc::{AllocError, Global};
 use std::marker::Model;
 
+// How many orders there are, 0 to 10.
+const ORDERS: u32 = Order::GREATEST + 1;
+
 /// The free areas of a zone: blocks of the zone, no two of which share a frame, seen as `frames`,
 /// how many frames the zone has, and `blocks` in walk order (by order, then by address).
 #[derive(Drop)]
@@ -39,8 +42,8 @@ impl FreeAreas {
         ensures frames { IfOk result (λ areas. areas.frames ≡ frames) }
         ensures blocks { IfOk result (λ areas. areas.blocks ≡ []) }
     {
-        let mut lists = Vec::with_capacity(alloc, 11)?;
-        for exponent in 0..11 {
+        let mut lists = Vec::with_capacity(alloc, ORDERS as usize)?;
+        for exponent in 0..ORDERS {
             let room = frames >> exponent;
             let list = Vec::with_capacity(alloc, room as usize)?;
             lists.push_reserved(list);
@@ -54,7 +57,7 @@ impl FreeAreas {
         ensures areas { AreMaximalBlocks free.now self.new.blocks }
         ensures frames { self.new.frames ≡ self.old.frames }
     {
-        for exponent in 0..11 {
+        for exponent in 0..ORDERS {
             let order = Order::of(exponent).unwrap();
             let list = &mut self.lists[exponent as usize];
             fill_with_maximal(list, free, order);

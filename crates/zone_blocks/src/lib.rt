@@ -7,3 +7,4 @@ pub mod areas;
 pub mod block;
 mod maximal;
 pub mod order;
+pub mod walk;
