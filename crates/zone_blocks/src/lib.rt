@@ -3,5 +3,8 @@
 //! 2.5).
 #![tactic(auto)]
 
+pub mod areas;
 pub mod block;
+mod maximal;
 pub mod order;
+pub mod walk;

@@ -49,6 +49,7 @@ impl Order {
     pub fn frames(self) -> u32
         ensures frames { result ≡ 2 ^ self }
         ensures at_most { result ≤ 1024 }
+        ensures order { self ≤ 10 }
     {
         1 << self.exponent
     }
