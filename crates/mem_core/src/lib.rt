@@ -3,3 +3,5 @@
 #![tactic(auto)]
 
 pub mod config;
+mod ranges;
+pub mod step;

@@ -1,0 +1,95 @@
+-- The tree of groups, as contracts see it: the list of its groups, in order of making.
+use Rattle.std.specs.Prelude.{◌≡◌, ◌≢◌, ℕ, ◌<◌, ◌≤◌, ◌==◌, ◌&&◌, ◌||◌, Bool, false, not, nat_le, nat_lt, IsTrue, IsSomeAnd, Option, Some, None, is_some, is_none, List, [], ◌∷◌, ◌++◌, length, slice_get, map, filter, if◌then◌else◌, All, AllPairs}
+use Rattle.std.specs.List.{find, list_any, starts_with}
+use Rattle.std.specs.Option.{option_map, option_and_then}
+use Rattle.std.specs.Str.{bytes_eq}
+use Rattle.group_tree.specs.Path.{root_path, is_root, names_of, depth_of, parent_path, is_well_formed, IsWellFormed}
+use Rattle.group_tree.specs.declared.fault.Fault.{Fault}
+use Rattle.group_tree.specs.declared.fault.Fault.TheVariants.{NoParent, Exists, BadName, TreeFull, TooDeep}
+-- a group has a number, a path and a limit in pages
+pub use Rattle.group_tree.specs.declared.group.Group.{Group}
+
+-- the tree begins with the root alone, whose number is 0, with no limit
+abbrev pub initial_groups : List Group
+initial_groups = record { number = 0; path = root_path; limit = None } ∷ []
+
+-- the group of this number
+unfoldable pub group_at : List Group → ℕ → Option Group
+group_at groups n = find (λ g. g.number == n) groups
+
+-- the number of the group with this path
+unfoldable pub number_at : List Group → List ℕ → Option ℕ
+number_at groups path = option_map (λ g. g.number) (find (λ g. bytes_eq g.path path) groups)
+
+-- there is a group of this number
+unfoldable pub has_group : List Group → ℕ → Bool
+has_group groups n = is_some (group_at groups n)
+
+-- the path of the group of this number
+unfoldable pub path_of : List Group → ℕ → Option (List ℕ)
+path_of groups n = option_map (λ g. g.path) (group_at groups n)
+
+-- the limit of the group of this number, in pages
+unfoldable pub limit_of : List Group → ℕ → Option ℕ
+limit_of groups n = option_and_then (λ g. g.limit) (group_at groups n)
+
+-- both are there, and the names of the first path begin the names of the second
+abbrev pub begins : Option (List ℕ) → Option (List ℕ) → Bool
+begins (Some above) (Some below) = starts_with bytes_eq (names_of below) (names_of above)
+begins _ _ = false
+
+-- the second group is the first or lies below it
+unfoldable pub in_subtree : List Group → ℕ → ℕ → Bool
+in_subtree groups g h = begins (path_of groups g) (path_of groups h)
+
+-- some other group lies below it
+unfoldable pub has_child : List Group → ℕ → Bool
+has_child groups n = list_any (λ g. not (g.number == n) && in_subtree groups n g.number) groups
+
+-- the number of the group just above; the root has none
+unfoldable pub parent_of : List Group → ℕ → Option ℕ
+parent_of groups n =
+    if n == 0 then None else option_and_then (λ path. number_at groups (parent_path path)) (path_of groups n)
+
+-- no group has this number, and each lesser one is some group's
+pub record IsLeastFreeNumber (groups : List Group) (n : ℕ) : Type 0 where
+  pub free : has_group groups n ≡ false
+  pub least : (k : ℕ) → k < n → IsTrue (has_group groups k)
+
+-- why a group with this path cannot be made, the first cause that holds
+unfoldable pub make_fault : List Group → List ℕ → Option Fault
+make_fault groups path =
+    if not (is_well_formed path) || is_root path then Some BadName
+    else (if nat_lt 8 (depth_of path) then Some TooDeep
+    else (if is_some (number_at groups path) then Some Exists
+    else (if is_none (number_at groups (parent_path path)) then Some NoParent
+    else (if nat_le 64 (length groups) then Some TreeFull
+    else None))))
+
+-- one more group, with no limit
+abbrev pub with_group : List Group → ℕ → List ℕ → List Group
+with_group groups n path = groups ++ record { number = n; path = path; limit = None } ∷ []
+
+-- the others stay in their order
+unfoldable pub without_group : List Group → ℕ → List Group
+without_group groups n = filter (λ g. not (g.number == n)) groups
+
+-- the group with another limit, if it has this number
+abbrev pub limited : ℕ → Option ℕ → Group → Group
+limited n limit g = if g.number == n then record g { limit = limit } else g
+
+-- one group has another limit, and all else stays
+unfoldable pub with_limit : List Group → ℕ → Option ℕ → List Group
+with_limit groups n limit = map (limited n limit) groups
+
+-- what holds of the groups of every tree: at most 64 of them, each with a number below 64 and a path of at
+-- most 8 names, no two with one number or one path; the root is the first, and each one's parent is there
+pub record AreGroups (groups : List Group) : Type 0 where
+  pub few : length groups ≤ 64
+  pub root : IsSomeAnd (slice_get groups 0) (λ g. (g.number ≡ 0) × (g.path ≡ root_path))
+  pub numbers : All (λ g. g.number < 64) groups
+  pub paths : All (λ g. IsWellFormed g.path) groups
+  pub depths : All (λ g. depth_of g.path ≤ 8) groups
+  pub numbers_distinct : AllPairs (λ g h. g.number ≢ h.number) groups
+  pub paths_distinct : AllPairs (λ g h. g.path ≢ h.path) groups
+  pub parents : All (λ g. IsTrue (is_some (number_at groups (parent_path g.path)))) groups

@@ -1,0 +1,4 @@
+pub mod Faults
+pub mod Groups
+pub mod Path
+pub mod Text

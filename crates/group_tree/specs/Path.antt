@@ -1,0 +1,48 @@
+-- The paths of groups: `/` is the root, and a group below it has a name after each slash.
+use Rattle.std.specs.Prelude.{ℕ, ◌==◌, ◌&&◌, Bool, not, nat_eq, nat_le, nat_lt, IsTrue, List, [], length, drop, if◌then◌else◌, codes}
+use Rattle.std.specs.List.{slice_split, list_all, before_last, starts_with}
+use Rattle.std.specs.Str.{bytes_eq}
+
+-- the byte that stands before each name
+abbrev pub is_slash : ℕ → Bool
+is_slash byte = byte == 47
+
+-- the path of the root
+abbrev pub root_path : List ℕ
+root_path = codes "/"
+
+-- a path is that of the root
+abbrev pub is_root : List ℕ → Bool
+is_root path = bytes_eq path root_path
+
+-- the names of a path from the root down, parted by its slashes; the root has none
+unfoldable pub names_of : List ℕ → List (List ℕ)
+names_of path = if is_root path then [] else drop 1 (slice_split is_slash path)
+
+-- how many names a path has: how far below the root it lies
+abbrev pub depth_of : List ℕ → ℕ
+depth_of path = length (names_of path)
+
+-- the path without its last name; what has no more than one lies below the root
+unfoldable pub parent_path : List ℕ → List ℕ
+parent_path path = if nat_le (depth_of path) 1 then root_path else before_last is_slash path
+
+-- a byte of a name is above 32 and below 127, and no slash
+abbrev pub is_name_byte : ℕ → Bool
+is_name_byte byte = nat_lt 32 byte && nat_lt byte 127 && not (is_slash byte)
+
+-- a name is 1 to 255 such bytes, and neither `.` nor `..`
+unfoldable pub is_name : List ℕ → Bool
+is_name name =
+    nat_le 1 (length name) && nat_le (length name) 255 && list_all is_name_byte name
+    && not (bytes_eq name (codes ".")) && not (bytes_eq name (codes ".."))
+
+abbrev pub IsName : List ℕ → Type 0
+IsName name = IsTrue (is_name name)
+
+-- a path has at most 512 bytes, begins with a slash, and has names alone between its slashes
+unfoldable pub is_well_formed : List ℕ → Bool
+is_well_formed path = nat_le (length path) 512 && starts_with nat_eq path root_path && list_all is_name (names_of path)
+
+abbrev pub IsWellFormed : List ℕ → Type 0
+IsWellFormed path = IsTrue (is_well_formed path)

@@ -1,0 +1,66 @@
+//! A group and its number.
+
+ghost use Rattle.std.specs.Prelude.{◌≡◌, ◌<◌, SomeIff};
+
+use crate::path::PathText;
+use std::marker::Model;
+
+/// How many groups there may be at once, the root counted.
+pub const MAX_GROUPS: usize = 64;
+
+/// The number of a group, 0 to 63. The root's is 0.
+#[derive(Clone, Copy, Debug, PartialEq, Eq, PartialOrd, Ord, Hash)]
+pub struct GroupId {
+    number: u32,
+}
+
+impl Model for GroupId {
+    ghost use Rattle.std.specs.Prelude.{ℕ, ◌<◌};
+
+    ghost Value = { ℕ };
+
+    ghost view = { λ g. g.number };
+
+    ghost invariant = { λ g. g.number < 64 };
+
+    ghost inverse = { λ n. record { number = n } };
+}
+
+impl GroupId {
+    /// The group of this number; None where the number is 64 or above.
+    pub fn of(number: u32) -> Option<GroupId>
+        ensures { SomeIff result (number < 64) number }
+    {
+        if number < 64 {
+            Some(GroupId { number })
+        } else {
+            None
+        }
+    }
+
+    /// The root of the tree.
+    pub fn root() -> GroupId
+        ensures { result ≡ 0 }
+    {
+        GroupId { number: 0 }
+    }
+
+    /// The group's number, 0 to 63.
+    pub fn number(self) -> u32
+        ensures value { result ≡ self }
+        ensures below { result < 64 }
+    {
+        self.number
+    }
+}
+
+/// A group as the tree keeps it.
+#[derive(Clone, Copy, Debug, PartialEq, Eq)]
+pub struct Group {
+    /// The group's number.
+    pub number: GroupId,
+    /// The group's path, from the root.
+    pub path: PathText,
+    /// The limit of the group's usage (memory.max), in pages; None for no limit.
+    pub limit: Option<u32>,
+}

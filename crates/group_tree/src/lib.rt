@@ -1,0 +1,9 @@
+//! The tree of control groups: names, parents and limits, and the numbers of the refusals.
+//!
+//! A group has a path, as cgroup-v2.rst writes it, and a number below 64. The tree is seen by its
+//! callers as the list of its groups, in order of making.
+#![tactic(auto)]
+
+pub mod fault;
+pub mod group;
+pub mod path;

@@ -1,0 +1,64 @@
+//! The text of a path.
+
+ghost use Rattle.std.specs.Prelude.{◌≡◌, ◌≤◌, ◌++◌, SomeIff, drop, length};
+
+use std::marker::Model;
+
+/// How many bytes a path may have.
+pub const MAX_PATH: usize = 512;
+
+/// A text of at most 512 bytes, kept without memory of its own. Behind the text stand zeros.
+#[derive(Clone, Copy, Debug, PartialEq, Eq)]
+pub struct PathText {
+    bytes: [u8; MAX_PATH],
+    len: usize,
+}
+
+impl Model for PathText {
+    ghost use Rattle.std.specs.Prelude.{◌≡◌, ◌-◌, ◌≤◌, ◌++◌, ℕ, List, length, take, drop, replicate};
+
+    ghost Value = { List ℕ };
+
+    ghost view = { λ p. take p.len p.bytes };
+
+    ghost use Rattle.group_tree.specs.Text.{IsPadded, padded, padded-view};
+
+    ghost invariant = { λ p. IsPadded p.bytes p.len };
+
+    ghost inverse = { λ text. record { bytes = padded text; len = length text } };
+
+    ghost inverse_ok = { λ p h. padded-view p.bytes p.len h };
+}
+
+impl PathText {
+    /// The text of these bytes; None exactly where there are more than 512.
+    pub fn of(text: &[u8]) -> Option<PathText>
+        ensures { SomeIff result (length text.now ≤ 512) text.now }
+    {
+        if text.len() > MAX_PATH {
+            return None;
+        }
+        let mut bytes = [0; MAX_PATH];
+        write_front(&mut bytes, text);
+        Some(PathText {
+            bytes,
+            len: text.len(),
+        })
+    }
+
+    /// The bytes of the text.
+    pub fn as_bytes(&self) -> &[u8]
+        ensures text { result.now ≡ self.now }
+        ensures short { length result.now ≤ 512 }
+    {
+        &self.bytes[..self.len]
+    }
+}
+
+// Writes the text over the first bytes.
+fn write_front(bytes: &mut [u8], text: &[u8])
+    requires { length text.now ≤ length bytes.old }
+    ensures { bytes.new ≡ text.now ++ drop (length text.now) bytes.old }
+{
+    bytes[..text.len()].copy_from_slice(text);
+}

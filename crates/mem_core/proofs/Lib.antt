@@ -1,0 +1,6 @@
+pub mod Runs
+pub mod PlaceLemmas
+pub mod Showing
+pub mod Laws
+pub mod Soundness
+pub mod Playing

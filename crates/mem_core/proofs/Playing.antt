@@ -1,0 +1,81 @@
+-- A run so far, and one step more.
+use Rattle.std.proofs.Common.{◌≡◌, ℕ, ◌+◌, ◌<◌, ◌≤◌, List, [], ◌∷◌, ◌++◌, length, take, get_or, zero, suc, true, false, ◌⊎◌, inl, inr, refl, sym, ◌∙◌, ap, subst, arith}
+use Rattle.std.specs.List.{zip}
+use Rattle.std.proofs.lemmas.List.{take_more, take_all, length-take-le}
+use Rattle.std.specs.Prelude.{All, ◌==◌}
+use Rattle.std.proofs.lemmas.Bool.{cases_eq, false≢true}
+use Rattle.group_tree.specs.declared.group.Group.{Group}
+use Rattle.group_tree.specs.Groups.{has_group, group_at, AreGroups}
+use Rattle.mem_core.specs.declared.config.Config.{Config}
+use Rattle.mem_core.specs.declared.step.Step.{Step}
+use Rattle.mem_core.specs.declared.step.Answer.{Answer}
+use Rattle.mem_core.specs.Run.{Run}
+use Rattle.mem_core.specs.Headline.{EveryBeginning, IsAccounted}
+use Rattle.mem_core.specs.Shown.{State, IsSound, Shows}
+use Rattle.mem_core.specs.Promise.{AgreesWith, IsShown}
+use Rattle.mem_core.proofs.Runs.{pushed, EveryBeginning-push}
+use Rattle.mem_core.proofs.Showing.{HasSizes}
+use Rattle.mem_core.proofs.Laws.{free_areas-Shows, current_in-Shows, IsAccounted-Shows}
+
+zip-push : (steps : List Step) (answers : List Answer) (step : Step) (answer : Answer) → length steps ≡ length answers → zip (steps ++ step ∷ []) (answers ++ answer ∷ []) ≡ pushed (zip steps answers) step answer
+zip-push [] [] step answer e = refl
+zip-push [] (a ∷ answers) step answer e = absurd (omega arith)
+zip-push (s ∷ steps) [] step answer e = absurd (omega arith)
+zip-push (s ∷ steps) (a ∷ answers) step answer e = ap (λ l. (s, a) ∷ l) (zip-push steps answers step answer (omega arith))
+
+pub zip-take_more : (steps : List Step) (answers : List Answer) (i : ℕ) (step : Step) (answer : Answer) → i < length steps → length answers ≡ i → zip (take (i + 1) steps) (answers ++ answer ∷ []) ≡ pushed (zip (take i steps) answers) (get_or steps i step) answer
+zip-take_more steps answers i step answer h len =
+    ap (λ l. zip l (answers ++ answer ∷ [])) (take_more steps i step h)
+    ∙ zip-push (take i steps) answers (get_or steps i step) answer (length-take-le i steps (omega arith) ∙ sym len)
+
+number_below : (groups : List Group) (g : ℕ) → All (λ x. x.number < 64) groups → has_group groups g ≡ true → g < 64
+unfolding has_group group_at
+number_below [] g small there = absurd (false≢true there)
+number_below (x ∷ xs) g small there =
+    elim (cases_eq x.number g) [
+    | inl same ↦ let first : x.number < 64 = small zero x (omega arith) in omega arith
+    | inr other ↦
+        let e : (x.number == g) ≡ false = grind arith in
+        let later : has_group xs g ≡ true = (rw e at there) in
+        number_below xs g (λ k d h. small (suc k) d (omega arith)) later
+    ]
+
+-- the sizes follow from the agreement of the parts
+pub HasSizes-IsSound : (s : State) → IsSound s → HasSizes s
+HasSizes-IsSound s sound = record { places = sound.places; pending = sound.pending; numbers = λ g there. number_below s.groups g sound.groups.numbers there }
+
+pub AgreesWith-Shows : (s : State) (run : Run) → IsSound s → Shows s run → AgreesWith s run
+AgreesWith-Shows s run sound shows =
+    let sizes = HasSizes-IsSound s sound in
+    record { areas = free_areas-Shows s run sizes sound shows; usage = λ g. current_in-Shows s run g sizes sound shows }
+
+pub IsShown-Shows : (s : State) (run : Run) → IsSound s → Shows s run → IsShown s.config run
+IsShown-Shows s run sound shows = record { state = s; sizes = refl; shows = shows; sound = sound; agrees = AgreesWith-Shows s run sound shows }
+
+-- what has been said of the run so far
+pub record PlaysOn (config : Config) (s : State) (run : Run) : Type 0 where
+  pub sizes : s.config ≡ config
+  pub shows : Shows s run
+  pub sound : IsSound s
+  pub accounted : EveryBeginning run (IsAccounted config)
+  pub shown : EveryBeginning run (IsShown config)
+
+pub PlaysOn-start : (config : Config) (s : State) → s.config ≡ config → Shows s [] → IsSound s → PlaysOn config s []
+PlaysOn-start config s same shows sound = record {
+  sizes = same;
+  shows = shows;
+  sound = sound;
+  accounted = λ k h. subst (λ (c : Config). IsAccounted c (take k [])) same (subst (λ (r : Run). IsAccounted s.config r) (sym (take_all k [] (omega arith))) (IsAccounted-Shows s [] (HasSizes-IsSound s sound) sound shows));
+  shown = λ k h. subst (λ (c : Config). IsShown c (take k [])) same (subst (λ (r : Run). IsShown s.config r) (sym (take_all k [] (omega arith))) (IsShown-Shows s [] sound shows))
+}
+
+pub PlaysOn-step : (config : Config) (s t : State) (run : Run) (step : Step) (answer : Answer) → PlaysOn config s run → t.config ≡ s.config → Shows t (pushed run step answer) → IsSound t → PlaysOn config t (pushed run step answer)
+PlaysOn-step config s t run step answer so_far same shows sound =
+    let e : t.config ≡ config = same ∙ so_far.sizes in
+    record {
+      sizes = e;
+      shows = shows;
+      sound = sound;
+      accounted = EveryBeginning-push run step answer (IsAccounted config) so_far.accounted (subst (λ (c : Config). IsAccounted c (pushed run step answer)) e (IsAccounted-Shows t (pushed run step answer) (HasSizes-IsSound t sound) sound shows));
+      shown = EveryBeginning-push run step answer (IsShown config) so_far.shown (subst (λ (c : Config). IsShown c (pushed run step answer)) e (IsShown-Shows t (pushed run step answer) sound shows))
+    }

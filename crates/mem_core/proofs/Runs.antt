@@ -1,0 +1,45 @@
+-- One more pair at the end of a run.
+use Rattle.std.proofs.Common.{◌≡◌, ℕ, ◌+◌, ◌-◌, ◌<◌, ◌≤◌, Bool, true, false, Option, Some, None, List, [], ◌∷◌, ◌++◌, length, take, refl, sym, ◌∙◌, ap, subst, arith, inl, inr, length-append, IfSome, zero, suc, ◌⊎◌}
+use Rattle.std.specs.List.{slice_get, fold, sum_by}
+use Rattle.std.proofs.lemmas.Bool.{cases_lt, cases_eq}
+use Rattle.std.proofs.lemmas.List.{take-append-le, take_all, take_at}
+use Rattle.std.proofs.lemmas.List.Sums.{fold_push, sum_by_push}
+use Rattle.std.proofs.lemmas.Option.{slice_get_past, slice_get_cases}
+use Rattle.mem_core.specs.declared.config.Config.{Config}
+use Rattle.mem_core.specs.declared.step.Step.{Step}
+use Rattle.mem_core.specs.declared.step.Answer.{Answer}
+use Rattle.mem_core.specs.Run.{Run}
+use Rattle.mem_core.specs.Legal.{Allows, IsLegalRun}
+use Rattle.mem_core.specs.Headline.{EveryBeginning}
+
+-- the run with one more pair
+abbrev pub pushed : Run → Step → Answer → Run
+pushed run step answer = run ++ (step, answer) ∷ []
+
+slice_get-push_before : {X : Type 0} (xs : List X) (x : X) (k : ℕ) → k < length xs → slice_get (xs ++ x ∷ []) k ≡ slice_get xs k
+slice_get-push_before [] x k h = absurd (omega arith)
+slice_get-push_before (y ∷ ys) x zero h = refl
+slice_get-push_before (y ∷ ys) x (suc k) h = slice_get-push_before ys x k (omega arith)
+
+slice_get-push_at : {X : Type 0} (xs : List X) (x : X) → slice_get (xs ++ x ∷ []) (length xs) ≡ Some x
+slice_get-push_at [] x = refl
+slice_get-push_at (y ∷ ys) x = slice_get-push_at ys x
+
+pub IsLegalRun-push : (config : Config) (run : Run) (step : Step) (answer : Answer) → IsLegalRun config run → Allows config run step answer → IsLegalRun config (pushed run step answer)
+IsLegalRun-push config run step answer legal allowed k =
+    elim (cases_lt k (length run)) [
+    | inl before ↦
+        let here : IfSome (slice_get run k) (λ e. Allows config (take k run) e.0 e.1) = legal k in
+        rw (slice_get-push_before run (step, answer) k before, take-append-le k run ((step, answer) ∷ []) (omega arith)) here
+    | inr past ↦ elim (cases_eq k (length run)) [
+      | inl at ↦ rw (at, slice_get-push_at run (step, answer), take_at run ((step, answer) ∷ []) (length run) refl) allowed
+      | inr beyond ↦ rw (slice_get_past (pushed run step answer) k (let e = length-append run ((step, answer) ∷ []) in omega arith)) tt
+      ]
+    ]
+
+pub EveryBeginning-push : (run : Run) (step : Step) (answer : Answer) (P : Run → Type 0) → EveryBeginning run P → P (pushed run step answer) → EveryBeginning (pushed run step answer) P
+EveryBeginning-push run step answer P each whole k h =
+    elim (cases_lt k (length run + 1)) [
+    | inl before ↦ let here : P (take k run) = each k (omega arith) in rw (take-append-le k run ((step, answer) ∷ []) (omega arith)) here
+    | inr past ↦ let e = length-append run ((step, answer) ∷ []) in rw (take_all k (pushed run step answer) (omega arith)) whole
+    ]

@@ -1,0 +1,59 @@
+-- Which steps may be made after a run, and which answers each of them may get.
+use Rattle.std.specs.Prelude.{◌≡◌, ℕ, ◌+◌, ◌^◌, ◌==◌, ◌&&◌, ◌<◌, ◌≤◌, nat_le, Bool, true, false, Option, is_none, is_some, List, length, take, slice_get, IfSome, ⊤}
+use Rattle.std.specs.List.{list_all, range_with_len}
+use Rattle.zone_blocks.specs.declared.block.Block.{Block}
+use Rattle.zone_blocks.specs.Areas.{IsFreeBlock}
+use Rattle.group_tree.specs.Groups.{has_group, make_fault, IsLeastFreeNumber}
+use Rattle.mem_core.specs.declared.config.Config.{Config}
+use Rattle.mem_core.specs.declared.step.Step.{Step}
+use Rattle.mem_core.specs.declared.step.Action.{Action}
+use Rattle.mem_core.specs.declared.step.Action.TheVariants.{Lock, Unlock, Grant, Ungrant, PlaceBlock, Make}
+use Rattle.mem_core.specs.declared.step.Answer.{Answer}
+use Rattle.mem_core.specs.declared.step.Answer.TheVariants.{Illegal, Done, Granted, Placed, NoFreeBlock, Number}
+use Rattle.mem_core.specs.Run.{Run, holder_of, groups_of, pending_of, free_frames}
+
+-- the seat is that of a processor; until the core has several there is one, of seat 1
+abbrev pub is_processor : ℕ → Bool
+is_processor seat = seat == 1
+
+-- the seat is the zone's own, which acts only while a processor holds the lock
+abbrev pub is_zone_seat : Run → ℕ → Bool
+is_zone_seat run seat = seat == 0 && is_some (holder_of run)
+
+-- no page of any group is pending
+abbrev pub is_settled : Run → Bool
+is_settled run = list_all (λ g. pending_of run g == 0) (range_with_len 0 64)
+
+-- whether the action may be made by the seat
+abbrev pub is_legal_action : Run → ℕ → Action → Bool
+is_legal_action run seat Lock = is_processor seat && is_none (holder_of run)
+is_legal_action run seat Unlock = is_processor seat && is_some (holder_of run) && is_settled run
+is_legal_action run seat (Grant g n) = is_zone_seat run seat && has_group (groups_of run) g
+is_legal_action run seat (Ungrant g n) = is_zone_seat run seat && has_group (groups_of run) g && nat_le n (pending_of run g)
+is_legal_action run seat (PlaceBlock g k) = is_zone_seat run seat && has_group (groups_of run) g && nat_le (2 ^ k) (pending_of run g)
+is_legal_action run seat (Make path) = is_zone_seat run seat && is_none (make_fault (groups_of run) path)
+
+-- whether the step may be made after the run
+abbrev pub is_legal : Run → Step → Bool
+is_legal run step = is_legal_action run step.seat step.action
+
+-- which answers an action may get, where it may be made: any free block of the order may be placed, and
+-- None is answered only where there is none; a group gets the least number that no group has
+abbrev pub IsAnswer : Config → Run → Action → Answer → Type 0
+IsAnswer config run Lock Done = Unit {0}
+IsAnswer config run Unlock Done = Unit {0}
+IsAnswer config run (Grant g n) Granted = Unit {0}
+IsAnswer config run (Ungrant g n) Done = Unit {0}
+IsAnswer config run (PlaceBlock g k) (Placed b) = (b.order ≡ k) × IsFreeBlock (free_frames config run) b
+IsAnswer config run (PlaceBlock g k) NoFreeBlock = (b : Block) → b.order ≡ k → ¬ IsFreeBlock (free_frames config run) b
+IsAnswer config run (Make path) (Number n) = IsLeastFreeNumber (groups_of run) n
+IsAnswer config run action answer = ⊥
+
+-- the answer that a step may get after the run: Illegal exactly where it may not be made
+abbrev pub Allows : Config → Run → Step → Answer → Type 0
+Allows config run step Illegal = is_legal run step ≡ false
+Allows config run step answer = (is_legal run step ≡ true) × IsAnswer config run step.action answer
+
+-- each answer is allowed after the beginning before it
+abbrev pub IsLegalRun : Config → Run → Type 0
+IsLegalRun config run = (k : ℕ) → IfSome (slice_get run k) (λ e. Allows config (take k run) e.0 e.1)

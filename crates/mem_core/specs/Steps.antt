@@ -1,0 +1,59 @@
+-- How one step changes what a core shows.
+use Rattle.std.specs.Prelude.{◌≡◌, ℕ, ◌+◌, ◌-◌, ◌*◌, ◌^◌, ◌==◌, ◌&&◌, ◌++◌, nat_le, Bool, true, false, Option, Some, None, is_none, is_some, List, length, map, take, drop, replicate, slice_index, slice_set}
+use Rattle.std.specs.List.{list_all}
+use Rattle.zone_blocks.specs.declared.block.Block.{Block}
+use Rattle.zone_blocks.specs.Areas.{IsFreeBlock, AreMaximalBlocks}
+use Rattle.group_tree.specs.declared.group.Group.{Group}
+use Rattle.group_tree.specs.Groups.{has_group, make_fault, with_group, IsLeastFreeNumber}
+use Rattle.mem_core.specs.declared.step.Place.{Place}
+use Rattle.mem_core.specs.declared.step.Place.TheVariants.{Free, Charged}
+use Rattle.mem_core.specs.declared.step.Step.{Step}
+use Rattle.mem_core.specs.declared.step.Action.{Action}
+use Rattle.mem_core.specs.declared.step.Action.TheVariants.{Lock, Unlock, Grant, Ungrant, PlaceBlock, Make}
+use Rattle.mem_core.specs.declared.step.Answer.{Answer}
+use Rattle.mem_core.specs.declared.step.Answer.TheVariants.{Illegal, Done, Granted, Placed, NoFreeBlock, Number}
+use Rattle.mem_core.specs.Places.{is_same_place}
+use Rattle.mem_core.specs.Legal.{is_processor}
+use Rattle.mem_core.specs.Shown.{State, free_in}
+
+-- the zone's own seat acts while a processor holds the lock
+abbrev pub may_zone_act : State → ℕ → Bool
+may_zone_act s seat = seat == 0 && is_some s.holder
+
+-- whether a step may be made in this state
+abbrev pub may_act : State → ℕ → Action → Bool
+may_act s seat Lock = is_processor seat && is_none s.holder
+may_act s seat Unlock = is_processor seat && is_some s.holder && list_all (λ n. n == 0) s.pending
+may_act s seat (Grant g n) = may_zone_act s seat && has_group s.groups g
+may_act s seat (Ungrant g n) = may_zone_act s seat && has_group s.groups g && nat_le n (slice_index s.pending g)
+may_act s seat (PlaceBlock g k) = may_zone_act s seat && has_group s.groups g && nat_le (2 ^ k) (slice_index s.pending g)
+may_act s seat (Make path) = may_zone_act s seat && is_none (make_fault s.groups path)
+
+-- the list with n of its elements, from the one at this place on, set to one value
+abbrev pub with_range : {X : Type 0} → List X → ℕ → ℕ → X → List X
+with_range xs at n x = take at xs ++ replicate n x ++ drop (at + n) xs
+
+-- the places with those of a block set to one place
+abbrev pub with_block : List Place → Block → Place → List Place
+with_block places b p = with_range places b.at (2 ^ b.order) p
+
+-- the state with one step more
+abbrev pub counted : State → State
+counted s = record s { steps = s.steps + 1 }
+
+-- how a step that is made, and is answered so, changes the state
+abbrev pub Changes : State → ℕ → Action → Answer → State → Type 0
+Changes s seat Lock Done t = t ≡ record (counted s) { holder = Some seat }
+Changes s seat Unlock Done t = t ≡ record (counted s) { holder = None }
+Changes s seat (Grant g n) Granted t = t ≡ record (counted s) { pending = slice_set s.pending g (slice_index s.pending g + n) }
+Changes s seat (Ungrant g n) Done t = t ≡ record (counted s) { pending = slice_set s.pending g (slice_index s.pending g - n) }
+Changes s seat (PlaceBlock g k) (Placed b) t = (b.order ≡ k) × IsFreeBlock (free_in s.places) b ×
+    (t ≡ record (counted s) { places = with_block s.places b (Charged g); pending = slice_set s.pending g (slice_index s.pending g - 2 ^ k); areas = t.areas })
+Changes s seat (PlaceBlock g k) NoFreeBlock t = ((b : Block) → b.order ≡ k → ¬ IsFreeBlock (free_in s.places) b) × (t ≡ counted s)
+Changes s seat (Make path) (Number n) t = IsLeastFreeNumber s.groups n × (t ≡ record (counted s) { groups = with_group s.groups n path })
+Changes s seat action answer t = ⊥
+
+-- the state after the step, where the answer is this one: a step that may not be made is only counted
+abbrev pub Makes : State → Step → Answer → State → Type 0
+Makes s step Illegal t = (may_act s step.seat step.action ≡ false) × (t ≡ counted s)
+Makes s step answer t = (may_act s step.seat step.action ≡ true) × Changes s step.seat step.action answer t

@@ -1,0 +1,57 @@
+//! What a processor, or the zone's own seat, may ask of the core, and what it is answered.
+
+use group_tree::group::GroupId;
+use group_tree::path::PathText;
+use zone_blocks::block::Block;
+use zone_blocks::order::Order;
+
+/// Where a frame is.
+#[derive(Clone, Copy, Debug, PartialEq, Eq)]
+pub enum Place {
+    /// In the zone's free areas.
+    Free,
+    /// Kept by this group: the group, and each of its ancestors, is charged for it.
+    Charged(GroupId),
+}
+
+/// One step of the core, and the seat that makes it: 0 is the zone's own seat, which acts only
+/// while a processor holds the lock, and the processors have the seats from 1 on.
+#[derive(Clone, Copy, Debug, PartialEq, Eq)]
+pub struct Step {
+    pub seat: u32,
+    pub action: Action,
+}
+
+/// What a step does.
+#[derive(Clone, Copy, Debug, PartialEq, Eq)]
+pub enum Action {
+    /// A processor takes the zone's lock.
+    Lock,
+    /// The processor that holds the lock gives it back.
+    Unlock,
+    /// Pages are granted to a group, to be placed before the lock is given back.
+    Grant { group: GroupId, pages: u32 },
+    /// Granted pages that were not placed are taken back.
+    Ungrant { group: GroupId, pages: u32 },
+    /// Granted pages are placed on a free block, whose frames the group keeps from then on.
+    PlaceBlock { group: GroupId, order: Order },
+    /// A group is made.
+    Make { path: PathText },
+}
+
+/// What a step is answered.
+#[derive(Clone, Copy, Debug, PartialEq, Eq)]
+pub enum Answer {
+    /// The step is not legal, and changed nothing.
+    Illegal,
+    /// The step was made.
+    Done,
+    /// The pages were granted.
+    Granted,
+    /// The block on which the pages were placed.
+    Placed(Block),
+    /// There is no free block of that order.
+    NoFreeBlock,
+    /// The number of the group that was made.
+    Number(GroupId),
+}

@@ -1,0 +1,4 @@
+pub mod Filling
+pub mod Frames
+pub mod Lists
+pub mod Nested

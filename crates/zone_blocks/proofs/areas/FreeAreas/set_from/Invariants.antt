@@ -1,0 +1,15 @@
+use Rattle.std.proofs.Common.{◌≡◌, ℕ, ◌/◌, ◌^◌, ◌<◌, ◌≤◌, length, get_or, Vec, Global}
+use Rattle.std.specs.Vec.{vec_capacity}
+use Rattle.zone_blocks.specs.declared.block.Block.{Block}
+use Rattle.zone_blocks.specs.OrderLists.{AreMaximalOfOrder}
+use Rattle.zone_blocks.proofs.Nested.{nested_high}
+use Rattle.zone_blocks.proofs.Lists.{ordered_from}
+use Rattle.zone_blocks.proofs.areas.FreeAreas.set_from.Given as goal
+
+abbrev pub invariant-loop-exponent : goal.invariant-loop-exponent
+invariant-loop-exponent l = record {
+  frames : l.self-inside.frames ≡ l.initial.self-inside.frames;
+  count : length l.self-inside.lists.items ≡ 11;
+  room : (k : ℕ) (d : Vec Block Global) → k < 11 → l.self-inside.frames / 2 ^ k ≤ vec_capacity (get_or l.self-inside.lists.items k d);
+  filled : (k : ℕ) (d : Vec Block Global) → k < l.exponent → AreMaximalOfOrder l.free k (get_or l.self-inside.lists.items k d).items;
+}

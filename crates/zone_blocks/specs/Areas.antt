@@ -1,0 +1,67 @@
+-- The maximal free blocks of a zone. The set of free frames is a list of truth values, one for each frame.
+use Rattle.std.specs.Prelude.{◌≡◌, ◌≢◌, ℕ, ◌<◌, ◌≤◌, ◌⊎◌, Bool, true, false, List, length}
+use Rattle.std.specs.List.{Contains, AllPairs, slice_index_or}
+use Rattle.zone_blocks.specs.declared.block.Block.{Block}
+use Rattle.zone_blocks.specs.Block.{IsBlock, Covers, enclosing}
+
+-- f is a frame of the zone, and free
+abbrev pub IsFree : List Bool → ℕ → Type 0
+IsFree free f = slice_index_or free f false ≡ true
+
+-- a block of the zone, each of its frames free
+pub record IsFreeBlock (free : List Bool) (b : Block) : Type 0 where
+  pub block : IsBlock (length free) b
+  pub all_free : (f : ℕ) → Covers b f → IsFree free f
+
+-- a free block that lies in no free block of the next order
+pub record IsMaximalBlock (free : List Bool) (b : Block) : Type 0 where
+  pub is_free : IsFreeBlock free b
+  pub maximal : ¬ IsFreeBlock free (enclosing b)
+
+-- walk order: a is of a lower order, or of the same order and at a lower address
+abbrev pub Precedes : Block → Block → Type 0
+Precedes a b = (a.order < b.order) ⊎ ((a.order ≡ b.order) × (a.at < b.at))
+
+-- the blocks are the maximal free blocks of the set, each once, in walk order
+pub record AreMaximalBlocks (free : List Bool) (blocks : List Block) : Type 0 where
+  pub each : (b : Block) → Contains blocks b → IsMaximalBlock free b
+  pub all : (b : Block) → IsMaximalBlock free b → Contains blocks b
+  pub ordered : AllPairs Precedes blocks
+
+-- what a caller sees of free areas: how many frames the zone has, and the free blocks in walk order
+pub record FreeBlocks : Type 0 where
+  pub frames : ℕ
+  pub blocks : List Block
+
+-- blocks of the zone in walk order, of which no two share a frame
+pub record AreBlocksApart (frames : ℕ) (blocks : List Block) : Type 0 where
+  pub each : (b : Block) → Contains blocks b → IsBlock frames b
+  pub apart : (a b : Block) → Contains blocks a → Contains blocks b → (f : ℕ) → Covers a f → Covers b f → a ≡ b
+  pub ordered : AllPairs Precedes blocks
+
+-- b is the block of exactly this order with the least address
+pub record IsFirstOf (blocks : List Block) (order : ℕ) (b : Block) : Type 0 where
+  pub there : Contains blocks b
+  pub order_is : b.order ≡ order
+  pub least_address : (c : Block) → Contains blocks c → c.order ≡ order → b.at ≤ c.at
+
+-- b is of the least order from this one on that has a block, and there has the least address
+pub record IsSmallestFrom (blocks : List Block) (order : ℕ) (b : Block) : Type 0 where
+  pub there : Contains blocks b
+  pub sufficient : order ≤ b.order
+  pub least_order : (c : Block) → Contains blocks c → order ≤ c.order → b.order ≤ c.order
+  pub least_address : (c : Block) → Contains blocks c → c.order ≡ b.order → b.at ≤ c.at
+
+-- the blocks after are those before and b, in walk order
+pub record Inserts (before : List Block) (b : Block) (after : List Block) : Type 0 where
+  pub there : Contains after b
+  pub keeps : (c : Block) → Contains before c → Contains after c
+  pub only : (c : Block) → Contains after c → Contains before c ⊎ (c ≡ b)
+  pub ordered : AllPairs Precedes after
+
+-- the blocks after are those before without b, in walk order
+pub record Removes (before : List Block) (b : Block) (after : List Block) : Type 0 where
+  pub gone : ¬ Contains after b
+  pub keeps : (c : Block) → Contains before c → c ≢ b → Contains after c
+  pub only : (c : Block) → Contains after c → Contains before c
+  pub ordered : AllPairs Precedes after

@@ -1,0 +1,22 @@
+-- Blocks of a zone of page frames, as in Knuth's buddy system (The Art of Computer Programming, 2.5).
+use Rattle.std.specs.Prelude.{◌≡◌, ℕ, ◌+◌, ◌-◌, ◌%◌, ◌^◌, ◌<◌, ◌≤◌}
+use Rattle.zone_blocks.specs.declared.block.Block.{Block}
+
+-- a block of a zone of this many frames: it has 2 ^ order frames and begins at a multiple of that number
+pub record IsBlock (frames : ℕ) (b : Block) : Type 0 where
+  pub order : b.order ≤ 10
+  pub aligned : b.at % 2 ^ b.order ≡ 0
+  pub inside : b.at + 2 ^ b.order ≤ frames
+
+-- frame f is one of the block's
+pub record Covers (b : Block) (f : ℕ) : Type 0 where
+  pub from : b.at ≤ f
+  pub before : f < b.at + 2 ^ b.order
+
+-- two blocks share no frame
+abbrev pub AreDisjoint : Block → Block → Type 0
+AreDisjoint a b = (f : ℕ) → Covers a f → ¬ Covers b f
+
+-- the block of the next order that encloses b
+abbrev pub enclosing : Block → Block
+enclosing b = record { at = b.at - b.at % 2 ^ (b.order + 1); order = b.order + 1 }

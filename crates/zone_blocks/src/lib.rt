@@ -1,0 +1,10 @@
+//! Blocks of a zone of page frames, and its free areas: for each order the free blocks that lie
+//! in no larger free block, as Knuth's buddy system keeps them (The Art of Computer Programming,
+//! 2.5).
+#![tactic(auto)]
+
+pub mod areas;
+pub mod block;
+mod maximal;
+pub mod order;
+pub mod walk;

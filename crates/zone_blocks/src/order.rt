@@ -1,0 +1,56 @@
+//! The order of a block: the exponent of its number of frames.
+
+ghost use Rattle.std.specs.Prelude.{◌≡◌, ◌^◌, ◌≤◌, ◌<◌, MatchOption};
+
+use std::marker::Model;
+
+/// The order of a block, 0 to 10: a block of order k has 2^k frames. A contract sees the number.
+#[derive(Clone, Copy, Debug, PartialEq, Eq, PartialOrd, Ord)]
+pub struct Order {
+    exponent: u32,
+}
+
+impl Model for Order {
+    ghost use Rattle.std.specs.Prelude.{ℕ, ◌≤◌};
+
+    ghost Value = { ℕ };
+
+    ghost view = { λ order. order.exponent };
+
+    ghost invariant = { λ order. order.exponent ≤ 10 };
+
+    ghost inverse = { λ n. record { exponent = n } };
+}
+
+impl Order {
+    /// The greatest order: a block of order 10 has 1,024 frames.
+    pub const GREATEST: u32 = 10;
+
+    /// The order with this exponent. None exactly where it is above 10.
+    pub fn of(exponent: u32) -> Option<Order>
+        ensures { MatchOption result (10 < exponent) (λ order. (order ≡ exponent) × (exponent ≤ 10)) }
+    {
+        if exponent <= Order::GREATEST {
+            Some(Order { exponent })
+        } else {
+            None
+        }
+    }
+
+    /// The exponent, 0 to 10.
+    pub fn exponent(self) -> u32
+        ensures exponent { result ≡ self }
+        ensures at_most { result ≤ 10 }
+    {
+        self.exponent
+    }
+
+    /// How many frames a block of this order has.
+    pub fn frames(self) -> u32
+        ensures frames { result ≡ 2 ^ self }
+        ensures at_most { result ≤ 1024 }
+        ensures order { self ≤ 10 }
+    {
+        1 << self.exponent
+    }
+}
