@@ -6,4 +6,5 @@
 
 pub mod fault;
 pub mod group;
+mod names;
 pub mod path;

@@ -1,0 +1,168 @@
+-- The names of a path and its bytes.
+use Rattle.std.proofs.Common.{◌≡◌, ℕ, suc, ◌<◌, ◌≤◌, Bool, true, false, not, cond, eqb, leb, get_or, Option, Some, None, MatchOption, Bor, ◌+◌, ◌-◌, length-append, nat_eq, List, [], ◌∷◌, ◌++◌, length, take, drop, IsTrue, refl, sym, ap, ◌∙◌, subst, arith, rules, tests, inl, inr, ⊎_elim, ◌⊎◌, ◌==◌, ◌&&◌}
+use Rattle.std.specs.List.{slice_split, count_by, onto_first, flat_map, starts_with, list_all}
+use Rattle.std.specs.Cmp.Lexicographic.{pointwise}
+use Rattle.std.specs.Str.{bytes_eq}
+use Rattle.std.proofs.lemmas.Bool.{eqb-true, eqb-false, eq-eqb, and_parts, cases_Bool, false_from_ne_true, false≢true, cond-true, cond-false}
+use Rattle.std.proofs.lemmas.List.Splits.{slice_split-cons_yes, slice_split-cons_no, length-slice_split}
+use Rattle.std.proofs.lemmas.List.{append_assoc, append_cancel_left, append-nil, take_rest}
+use Rattle.std.proofs.lemmas.Grind.{flat_map-append}
+use Rattle.std.proofs.lemmas.Slice.Eq.{bytes_eq-Decides, starts_is, strip_prefix_is}
+use Rattle.std.proofs.lemmas.Option.{MatchOption-at_none, MatchOption-at_some}
+use Rattle.std.proofs.lemmas.Bool.Decides.{Decides-eqb}
+use Rattle.group_tree.specs.Path.{is_slash, root_path, is_root, names_of, is_name, is_well_formed, IsWellFormed}
+
+-- the path begins with a slash
+abbrev pub BeginsWithSlash : List ℕ → Type 0
+BeginsWithSlash path = (rest : List ℕ) × (path ≡ 47 ∷ rest)
+
+pub begins_from_test : (path : List ℕ) → starts_with nat_eq path root_path ≡ true → BeginsWithSlash path
+begins_from_test [] e = absurd (false≢true e)
+begins_from_test (b ∷ bs) e = (bs, ap (λ x. x ∷ bs) (sym (eqb-true 47 b (and_parts (eqb 47 b) true e).0)))
+
+-- some part is always there
+pub split-cons : (xs : List ℕ) → (part : List ℕ) × (parts : List (List ℕ)) × (slice_split is_slash xs ≡ part ∷ parts)
+split-cons [] = ([], [], refl)
+split-cons (x ∷ xs) =
+    let h = split-cons xs in
+    ⊎_elim
+        (λ e. ([], slice_split is_slash xs, slice_split-cons_yes is_slash x xs e))
+        (λ e. (x ∷ h.0, h.1, slice_split-cons_no is_slash x xs e ∙ ap (onto_first x) h.2))
+        (cases_Bool (is_slash x))
+
+-- two texts parted by a slash have the parts of the one and then those of the other
+pub split-append : (xs ys : List ℕ) → slice_split is_slash (xs ++ 47 ∷ ys) ≡ slice_split is_slash xs ++ slice_split is_slash ys
+split-append [] ys = refl
+split-append (x ∷ xs) ys =
+    let h = split-cons xs in
+    ⊎_elim
+        (λ e. rw (slice_split-cons_yes is_slash x (xs ++ 47 ∷ ys) e, slice_split-cons_yes is_slash x xs e, split-append xs ys))
+        (λ e. rw (slice_split-cons_no is_slash x (xs ++ 47 ∷ ys) e, slice_split-cons_no is_slash x xs e, split-append xs ys, h.2))
+        (cases_Bool (is_slash x))
+
+-- each name behind a slash
+abbrev pub slashed : List (List ℕ) → List ℕ
+slashed names = flat_map (λ name. 47 ∷ name) names
+
+pub slashed-split : (xs : List ℕ) → slashed (slice_split is_slash xs) ≡ 47 ∷ xs
+slashed-split [] = refl
+slashed-split (x ∷ xs) =
+    let h = split-cons xs in
+    let ih : slashed (slice_split is_slash xs) ≡ 47 ∷ xs = slashed-split xs in
+    ⊎_elim
+        (λ e. rw (slice_split-cons_yes is_slash x xs e, ih, eqb-true x 47 e))
+        (λ e. let k : slashed (h.0 ∷ h.1) ≡ 47 ∷ xs = rw h.2 at ih in rw (slice_split-cons_no is_slash x xs e, h.2) (cc))
+        (cases_Bool (is_slash x))
+
+pub root-from_test : (path : List ℕ) → is_root path ≡ true → path ≡ root_path
+root-from_test path e = (bytes_eq-Decides path root_path).0 e
+
+pub names-root : (path : List ℕ) → is_root path ≡ true → names_of path ≡ []
+unfolding names_of
+names-root path e = cond-true (is_root path) _ _ e
+
+pub names-below : (path rest : List ℕ) → is_root path ≡ false → path ≡ 47 ∷ rest → names_of path ≡ slice_split is_slash rest
+unfolding names_of
+names-below path rest e s = cond-false (is_root path) _ _ e ∙ ap (λ p. drop 1 (slice_split is_slash p)) s
+
+-- the path below the root is its names, each behind a slash
+pub slashed-names : (path : List ℕ) → is_root path ≡ false → BeginsWithSlash path → slashed (names_of path) ≡ path
+slashed-names path e s = rw (names-below path s.0 e s.1, slashed-split) (sym s.1)
+
+pub names_behind : (path : List ℕ) → is_root path ≡ false → BeginsWithSlash path → names_of path ≡ slice_split is_slash (take (length path - 1) (drop 1 path))
+names_behind path e s =
+    let behind : take (length path - 1) (drop 1 path) ≡ s.0 = take_rest path 1 ∙ ap (drop 1) s.1 in
+    names-below path s.0 e s.1 ∙ ap (slice_split is_slash) (sym behind)
+
+pub begins_from_well_formed : (path : List ℕ) → IsWellFormed path → BeginsWithSlash path
+unfolding is_well_formed
+begins_from_well_formed path h =
+    begins_from_test path (and_parts (leb (length path) 512) (starts_with nat_eq path root_path) (and_parts _ (list_all is_name (names_of path)) h).0).1
+
+-- below the root there is a name for each slash
+pub depth-slashes : (path : List ℕ) → is_root path ≡ false → BeginsWithSlash path → length (names_of path) ≡ count_by is_slash path
+depth-slashes path e s =
+    let n : suc (length (slice_split is_slash s.0)) ≡ count_by is_slash (47 ∷ s.0) + 1 = length-slice_split is_slash (47 ∷ s.0) in
+    let same : count_by is_slash path ≡ count_by is_slash (47 ∷ s.0) = ap (count_by is_slash) s.1 in
+    let names : length (names_of path) ≡ length (slice_split is_slash s.0) = ap length (names-below path s.0 e s.1) in
+    omega arith
+
+-- the text is empty or begins with a slash
+abbrev pub AtSlash : List ℕ → Type 0
+AtSlash [] = Unit {0}
+AtSlash (b ∷ bs) = b ≡ 47
+
+AtSlash-slashed : (names : List (List ℕ)) → AtSlash (slashed names)
+AtSlash-slashed [] = tt
+AtSlash-slashed (n ∷ ns) = refl
+
+-- the names begin with other names
+pub begins_names : (below above : List (List ℕ)) → starts_with bytes_eq below above ≡ true → below ≡ above ++ drop (length above) below
+begins_names below above = (starts_is bytes_eq-Decides below above (starts_with bytes_eq below above) refl).0
+
+pub begins_from_names : (below above rest : List (List ℕ)) → below ≡ above ++ rest → starts_with bytes_eq below above ≡ true
+begins_from_names below above = (starts_is bytes_eq-Decides below above (starts_with bytes_eq below above) refl).1
+
+not_root-from_length : (path : List ℕ) → 1 < length path → is_root path ≡ false
+not_root-from_length path h =
+    ⊎_elim (λ e. let one : length path ≡ 1 = ap length (root-from_test path e) in absurd (omega arith)) (λ e. e) (cases_Bool (is_root path))
+
+not_root-from_names : (path : List ℕ) → 0 < length (names_of path) → is_root path ≡ false
+not_root-from_names path h =
+    ⊎_elim (λ e. let none : length (names_of path) ≡ 0 = ap length (names-root path e) in absurd (omega arith)) (λ e. e) (cases_Bool (is_root path))
+
+pub has_name : (path : List ℕ) → is_root path ≡ false → BeginsWithSlash path → 0 < length (names_of path)
+has_name path e s =
+    let h = split-cons s.0 in
+    rw (names-below path s.0 e s.1, h.2) (omega arith)
+
+-- the names of one path begin those of another where its bytes do, up to a slash
+pub begins_from_bytes : (above below rest : List ℕ) → is_root above ≡ false → BeginsWithSlash above → below ≡ above ++ rest → AtSlash rest → starts_with bytes_eq (names_of below) (names_of above) ≡ true
+begins_from_bytes above below [] e s b h =
+    begins_from_names (names_of below) (names_of above) [] (ap names_of (b ∙ append-nil above) ∙ sym (append-nil (names_of above)))
+begins_from_bytes above below (x ∷ ys) e s b h =
+    let whole : below ≡ 47 ∷ (s.0 ++ 47 ∷ ys) = rw (b, h, s.1) in
+    let long : 1 < length below = rw whole (omega (arith, length-append s.0 (47 ∷ ys))) in
+    begins_from_names (names_of below) (names_of above) (slice_split is_slash ys)
+        (rw (names-below below (s.0 ++ 47 ∷ ys) (not_root-from_length below long) whole, names-below above s.0 e s.1) (split-append s.0 ys))
+
+pub bytes_from_begins : (above below : List ℕ) → is_root above ≡ false → BeginsWithSlash above → BeginsWithSlash below → starts_with bytes_eq (names_of below) (names_of above) ≡ true → (rest : List ℕ) × (below ≡ above ++ rest) × AtSlash rest
+bytes_from_begins above below e s t h =
+    let more = drop (length (names_of above)) (names_of below) in
+    let names : names_of below ≡ names_of above ++ more = begins_names (names_of below) (names_of above) h in
+    let some : 0 < length (names_of below) = rw names (omega (arith, length-append (names_of above) more, has_name above e s)) in
+    let bytes : slashed (names_of below) ≡ slashed (names_of above) ++ slashed more = ap slashed names ∙ flat_map-append (λ name. 47 ∷ name) (names_of above) more in
+    (slashed more,
+        sym (slashed-names below (not_root-from_names below some) t) ∙ bytes ∙ ap (λ x. x ++ slashed more) (slashed-names above e s),
+        AtSlash-slashed more)
+
+pub begins_root : (above below : List ℕ) → is_root above ≡ true → starts_with bytes_eq (names_of below) (names_of above) ≡ true
+begins_root above below e = begins_from_names (names_of below) (names_of above) (names_of below) (sym (ap (λ x. x ++ names_of below) (names-root above e)))
+
+-- what is left of the one path behind the other decides it
+pub begins_empty : (above below rest : List ℕ) → is_root above ≡ false → BeginsWithSlash above → below ≡ above ++ rest → length rest ≡ 0 → starts_with bytes_eq (names_of below) (names_of above) ≡ true
+begins_empty above below [] e s b h = begins_from_bytes above below [] e s b tt
+begins_empty above below (x ∷ xs) e s b h = absurd (omega arith)
+
+pub begins_byte : (above below rest : List ℕ) → is_root above ≡ false → BeginsWithSlash above → BeginsWithSlash below → below ≡ above ++ rest → 0 < length rest → eqb (get_or rest 0 0) 47 ≡ starts_with bytes_eq (names_of below) (names_of above)
+begins_byte above below [] e s t b h = absurd (omega arith)
+begins_byte above below (x ∷ xs) e s t b h =
+    let named = starts_with bytes_eq (names_of below) (names_of above) in
+    ⊎_elim
+        (λ slash. slash ∙ sym (begins_from_bytes above below (x ∷ xs) e s b (eqb-true x 47 slash)))
+        (λ other. other ∙ sym (false_from_ne_true named (λ n.
+            let w = bytes_from_begins above below e s t n in
+            let same : x ∷ xs ≡ w.0 = append_cancel_left above (x ∷ xs) w.0 (sym b ∙ w.1) in
+            eqb-false x 47 other (subst AtSlash (sym same) w.2))))
+        (cases_Bool (eqb x 47))
+
+pub begins_nowhere : (above below : List ℕ) (r : Option (Bor (List ℕ))) → is_root above ≡ false → BeginsWithSlash above → BeginsWithSlash below → r ≡ None → MatchOption r (pointwise eqb (take (length above) below) above ≡ false) (λ x. (pointwise eqb (take (length above) below) above ≡ true) × (x.now ≡ drop (length above) below) × (length x.now + length above ≡ length below)) → false ≡ starts_with bytes_eq (names_of below) (names_of above)
+begins_nowhere above below r e s t none h =
+    let named = starts_with bytes_eq (names_of below) (names_of above) in
+    let nowhere = strip_prefix_is Decides-eqb below above r h in
+    sym (false_from_ne_true named (λ n.
+        let w = bytes_from_begins above below e s t n in
+        MatchOption-at_none _ _ none nowhere w.0 w.1))
+
+pub stripped : (above below : List ℕ) (r : Option (Bor (List ℕ))) (x : Bor (List ℕ)) → r ≡ Some x → MatchOption r (pointwise eqb (take (length above) below) above ≡ false) (λ x. (pointwise eqb (take (length above) below) above ≡ true) × (x.now ≡ drop (length above) below) × (length x.now + length above ≡ length below)) → below ≡ above ++ x.now
+stripped above below r x some h = MatchOption-at_some _ _ x some (strip_prefix_is Decides-eqb below above r h)
