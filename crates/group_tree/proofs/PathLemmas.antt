@@ -1,16 +1,17 @@
 -- The names of a path and its bytes.
 use Rattle.std.proofs.Common.{◌≡◌, ℕ, suc, ◌<◌, ◌≤◌, Bool, true, false, not, cond, eqb, leb, get_or, Option, Some, None, MatchOption, Bor, ◌+◌, ◌-◌, length-append, nat_eq, List, [], ◌∷◌, ◌++◌, length, take, drop, IsTrue, refl, sym, ap, ◌∙◌, subst, arith, rules, tests, inl, inr, ⊎_elim, ◌⊎◌, ◌==◌, ◌&&◌}
-use Rattle.std.specs.List.{slice_split, count_by, onto_first, flat_map, starts_with, list_all}
+use Rattle.std.specs.List.{slice_split, before_last, suffix_len, count_by, onto_first, flat_map, starts_with, list_all}
 use Rattle.std.specs.Cmp.Lexicographic.{pointwise}
 use Rattle.std.specs.Str.{bytes_eq}
-use Rattle.std.proofs.lemmas.Bool.{eqb-true, eqb-false, eq-eqb, and_parts, cases_Bool, false_from_ne_true, false≢true, cond-true, cond-false}
+use Rattle.std.proofs.lemmas.Bool.{eqb-true, eqb-false, eq-eqb, and_parts, cases_Bool, ne_eqb, not_from_true, not_from_false, false_from_ne_true, false≢true, cond-true, cond-false}
 use Rattle.std.proofs.lemmas.List.Splits.{slice_split-cons_yes, slice_split-cons_no, length-slice_split}
-use Rattle.std.proofs.lemmas.List.{append_assoc, append_cancel_left, append-nil, take_rest}
+use Rattle.std.proofs.lemmas.List.{append_assoc, append_cancel_left, append-nil, length-take-le, take_rest}
+use Rattle.std.proofs.lemmas.List.Sums.{suffix_len_is}
 use Rattle.std.proofs.lemmas.Grind.{flat_map-append}
 use Rattle.std.proofs.lemmas.Slice.Eq.{bytes_eq-Decides, starts_is, strip_prefix_is}
 use Rattle.std.proofs.lemmas.Option.{MatchOption-at_none, MatchOption-at_some}
 use Rattle.std.proofs.lemmas.Bool.Decides.{Decides-eqb}
-use Rattle.group_tree.specs.Path.{is_slash, root_path, is_root, names_of, is_name, is_well_formed, IsWellFormed}
+use Rattle.group_tree.specs.Path.{is_slash, or_root, parent_path, root_path, is_root, names_of, is_name, is_well_formed, IsWellFormed}
 
 -- the path begins with a slash
 abbrev pub BeginsWithSlash : List ℕ → Type 0
@@ -166,3 +167,28 @@ begins_nowhere above below r e s t none h =
 
 pub stripped : (above below : List ℕ) (r : Option (Bor (List ℕ))) (x : Bor (List ℕ)) → r ≡ Some x → MatchOption r (pointwise eqb (take (length above) below) above ≡ false) (λ x. (pointwise eqb (take (length above) below) above ≡ true) × (x.now ≡ drop (length above) below) × (length x.now + length above ≡ length below)) → below ≡ above ++ x.now
 stripped above below r x some h = MatchOption-at_some _ _ x some (strip_prefix_is Decides-eqb below above r h)
+
+-- what stands before the last slash, where that is found from the end
+before_last-at : (path : List ℕ) (end : ℕ) → end ≤ length path → ((k : ℕ) → end ≤ k → k < length path → get_or path k 0 ≡ 47 → ⊥) → (0 < end → get_or path (end - 1) 0 ≡ 47) → before_last is_slash path ≡ take (end - 1) path
+before_last-at path end fits others found =
+    let behind : suffix_len (λ x. not (is_slash x)) path ≡ length path - end =
+        suffix_len_is (λ x. not (is_slash x)) path end 0 fits (λ k low high. not_from_false (is_slash (get_or path k 0)) (ne_eqb (get_or path k 0) 47 (others k low high))) (λ some. not_from_true (is_slash (get_or path (end - 1) 0)) (eq-eqb (get_or path (end - 1) 0) 47 (found some))) in
+    let place : length path - suffix_len (λ x. not (is_slash x)) path - 1 ≡ end - 1 = omega arith in
+    ap (λ n. take n path) place
+
+pub or_root-some : (xs : List ℕ) → 0 < length xs → or_root xs ≡ xs
+or_root-some [] h = absurd (omega arith)
+or_root-some (x ∷ xs) h = refl
+
+pub parent_root : (path : List ℕ) (end : ℕ) → end ≤ length path → ((k : ℕ) → end ≤ k → k < length path → get_or path k 0 ≡ 47 → ⊥) → (0 < end → get_or path (end - 1) 0 ≡ 47) → end ≤ 1 → parent_path path ≡ 47 ∷ []
+unfolding parent_path
+parent_root path end fits others found low =
+    let none : end - 1 ≡ 0 = omega arith in
+    ap or_root (before_last-at path end fits others found ∙ ap (λ n. take n path) none)
+
+pub parent_text : (path : List ℕ) (end : ℕ) → end ≤ length path → ((k : ℕ) → end ≤ k → k < length path → get_or path k 0 ≡ 47 → ⊥) → (0 < end → get_or path (end - 1) 0 ≡ 47) → 1 < end → parent_path path ≡ take (end - 1) path
+unfolding parent_path
+parent_text path end fits others found low =
+    let size : length (take (end - 1) path) ≡ end - 1 = length-take-le (end - 1) path (omega arith) in
+    let some : 0 < length (take (end - 1) path) = omega arith in
+    ap or_root (before_last-at path end fits others found) ∙ or_root-some (take (end - 1) path) some

@@ -1,13 +1,16 @@
-use Rattle.std.proofs.Common.{rules, ◌≡◌, IsTrue, nat_eq, ℕ, ◌+◌, ◌-◌, ◌*◌, ◌<◌, ◌≤◌, length, ◌/◌, ◌%◌, Bool, true, false, nat_lt, List, [], ◌∷◌, ◌++◌, slice_index_or, slice_set, bit_and, bit_or, Fits, w8, w32, w64, Bor, MutBor}
-use Rattle.std.specs.List.{count_by, list_all, slice_split, starts_with}
-use Rattle.std.specs.Str.{bytes_eq}
-use Rattle.group_tree.specs.Path.{IsWellFormed, depth_of, is_dots, is_name, is_name_byte, is_root, is_slash, is_well_formed, names_of, parent_path, root_path}
+use Rattle.std.proofs.Common.{◌≡◌, ◌<◌, get_or, ◌-◌, arith, sym}
+use Rattle.group_tree.proofs.PathLemmas.{parent_root, parent_text}
 use Rattle.group_tree.proofs.names.parent_path.Goals as goal
+use Rattle.group_tree.proofs.names.parent_path.Goals.{then-loop-end-test+else-path-end-ne47, else-loop-end-test}
 
--- src/names.rt:85:1
 pub returns-then-end-le1 : goal.returns-then-end-le1
-returns-then-end-le1 c = ?
+returns-then-end-le1 c =
+    let found : 0 < c.loop-end.end → get_or c.args.path.now (c.loop-end.end - 1) 0 ≡ 47 =
+        elim c.loop-end-test.branch [ then-loop-end-test+else-path-end-ne47 w ↦ λ some. w.if-path-end-ne47.false | else-loop-end-test w ↦ λ some. absurd (omega arith) ] in
+    sym (parent_root c.args.path.now c.loop-end.end c.loop-end.invariant.0 c.loop-end.invariant.1 found c.if-end-le1.true)
 
--- src/names.rt:85:1
 pub returns-else-end-le1 : goal.returns-else-end-le1
-returns-else-end-le1 c = ?
+returns-else-end-le1 c =
+    let found : 0 < c.loop-end.end → get_or c.args.path.now (c.loop-end.end - 1) 0 ≡ 47 =
+        elim c.loop-end-test.branch [ then-loop-end-test+else-path-end-ne47 w ↦ λ some. w.if-path-end-ne47.false | else-loop-end-test w ↦ λ some. absurd (omega arith) ] in
+    sym (parent_text c.args.path.now c.loop-end.end c.loop-end.invariant.0 c.loop-end.invariant.1 found c.if-end-le1.false)
