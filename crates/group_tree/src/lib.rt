@@ -8,3 +8,4 @@ pub mod fault;
 pub mod group;
 mod names;
 pub mod path;
+pub mod tree;

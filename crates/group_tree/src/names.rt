@@ -58,8 +58,8 @@ fn has_names(path: &[u8]) -> bool
     is_root(path) || are_names(&path[1..])
 }
 
-#[tactic(auto, unfolding(crate::specs::Path::is_well_formed))]
 /// Whether the path is the root's, or a slash before each of its names, in at most 512 bytes.
+#[tactic(auto, unfolding(crate::specs::Path::is_well_formed))]
 pub fn is_well_formed(path: &[u8]) -> bool
     ensures { result ≡ is_well_formed path.now }
 {
