@@ -3,10 +3,11 @@ use Rattle.std.proofs.Common.{◌≡◌, ◌≢◌, ℕ, zero, suc, ◌+◌, ◌
 use Rattle.std.specs.List.{find, list_any, starts_with}
 use Rattle.std.specs.Option.{option_map, option_and_then, option_or}
 use Rattle.std.specs.Str.{bytes_eq}
-use Rattle.std.proofs.lemmas.Bool.{eqb-true, eqb-false, eq-eqb, ne_eqb, leb-false, ltb-false, ltb-true, and_from, and_parts, or_parts, or_right, cases_Bool, false≢true, true≢false, false_from_ne_true, not-true, not-false, not_from_false, both_ways, cases_eq, cond-true}
+use Rattle.std.proofs.lemmas.Bool.{eqb-true, eqb-false, eq-eqb, ne_eqb, leb-false, ltb-false, ltb-true, and_from, and_parts, or_parts, or_right, cases_Bool, false≢true, true≢false, false_from_ne_true, not-true, not-false, not_from_false, both_ways, cases_eq, cond-true, cond-false}
 use Rattle.std.proofs.lemmas.List.{get_or_default, at_drop_more, at_drop_all}
-use Rattle.std.proofs.lemmas.List.Elements.{All-push, All-filter, All-contains, All-weaker, All-from_get_or, All-get_or}
+use Rattle.std.proofs.lemmas.List.Elements.{All-push, All-head, All-tail, All-filter, All-contains, All-weaker, All-from_get_or, All-get_or}
 use Rattle.std.proofs.lemmas.List.Folds.{find-append, list_any_at, Any-from_list_any}
+use Rattle.std.proofs.lemmas.List.Filters.{length-filter_both}
 use Rattle.std.proofs.lemmas.List.Kept.{AllPairs-filter}
 use Rattle.std.proofs.lemmas.List.Quantifiers.{all_pairs_push}
 use Rattle.std.proofs.lemmas.List.Recursion.{found_at}
@@ -128,3 +129,55 @@ path_of-formed groups n path formed e =
     let h = path_of-is groups n path e in
     let g = h.0 in
     subst IsWellFormed h.2 (All-contains (λ x. IsWellFormed x.path) groups g formed (group_at-contains groups n g h.1).0)
+
+pub in_subtree-paths : (groups : List Group) (g h : ℕ) (above below : List ℕ) → path_of groups g ≡ Some above → path_of groups h ≡ Some below → in_subtree groups g h ≡ starts_with bytes_eq (names_of below) (names_of above)
+unfolding in_subtree
+in_subtree-paths groups g h above below a b = ap (λ o. begins o (path_of groups h)) a ∙ ap (λ o. begins (Some above) o) b
+
+-- ---- one group out
+filter-some : {X : Type 0} (p : X → Bool) (xs : List X) → list_any p xs ≡ true → 1 ≤ length (filter p xs)
+filter-some p [] e = absurd (false≢true e)
+filter-some p (x ∷ xs) e =
+    ⊎_elim
+        (λ t. subst (λ b. 1 ≤ length (cond b (x ∷ filter p xs) (filter p xs))) (sym t) (omega arith))
+        (λ f. subst (λ b. 1 ≤ length (cond b (x ∷ filter p xs) (filter p xs))) (sym f)
+            (filter-some p xs (subst (λ b. (b || list_any p xs) ≡ true) f e)))
+        (cases_Bool (p x))
+
+find-filter : {X : Type 0} (p q : X → Bool) (xs : List X) → All (λ x. p x ≡ true → q x ≡ true) xs → find p (filter q xs) ≡ find p xs
+find-filter p q [] h = refl
+find-filter p q (x ∷ xs) h =
+    let rest = find-filter p q xs (All-tail (λ x. p x ≡ true → q x ≡ true) x xs h) in
+    ⊎_elim
+        (λ t. subst (λ b. find p (cond b (x ∷ filter q xs) (filter q xs)) ≡ find p (x ∷ xs)) (sym t) (ap (λ o. cond (p x) (Some x) o) rest))
+        (λ f.
+            let out : p x ≡ false = false_from_ne_true (p x) (λ t. both_ways (q x) f (All-head (λ x. p x ≡ true → q x ≡ true) x xs h t)) in
+            subst (λ b. find p (cond b (x ∷ filter q xs) (filter q xs)) ≡ find p (x ∷ xs)) (sym f)
+                (rest ∙ sym (cond-false (p x) (Some x) (find p xs) out)))
+        (cases_Bool (q x))
+
+pub group_at-without : (groups : List Group) (n k : ℕ) → k ≢ n → group_at (without_group groups n) k ≡ group_at groups k
+unfolding group_at without_group
+group_at-without groups n k other =
+    find-filter (λ g. g.number == k) (λ g. not (g.number == n)) groups
+        (λ i d lt t. not_from_false ((get_or groups i d).number == n) (ne_eqb (get_or groups i d).number n (λ e. other (sym (eqb-true (get_or groups i d).number k t) ∙ e))))
+
+-- ---- there are as many groups as numbers below n, where each of these is taken
+without-shorter : (groups : List Group) (n : ℕ) → IsTrue (has_group groups n) → length (without_group groups n) + 1 ≤ length groups
+unfolding without_group
+without-shorter groups n h =
+    let one = filter-some (λ (g : Group). g.number == n) groups (sym (has_group-any groups n) ∙ h) in
+    let both = length-filter_both (λ (g : Group). g.number == n) (λ g. not (g.number == n)) (λ g. refl) groups in
+    omega arith
+
+without-others : (groups : List Group) (n k : ℕ) → k ≢ n → has_group (without_group groups n) k ≡ has_group groups k
+unfolding has_group
+without-others groups n k other = ap is_some (group_at-without groups n k other)
+
+pub length-full : (groups : List Group) (n : ℕ) → ((k : ℕ) → k < n → IsTrue (has_group groups k)) → n ≤ length groups
+length-full groups zero all = omega arith
+length-full groups (suc n) all =
+    let shorter = without-shorter groups n (all n (omega arith)) in
+    let rest : n ≤ length (without_group groups n) =
+        length-full (without_group groups n) n (λ k below. let other : k ≢ n = omega arith in without-others groups n k other ∙ all k (omega arith)) in
+    omega arith

@@ -1,13 +1,15 @@
 -- The names of a path and its bytes.
 use Rattle.std.proofs.Common.{◌≡◌, ℕ, suc, ◌<◌, ◌≤◌, Bool, true, false, not, cond, eqb, leb, get_or, Option, Some, None, MatchOption, Bor, ◌+◌, ◌-◌, length-append, nat_eq, List, [], ◌∷◌, ◌++◌, length, take, drop, IsTrue, refl, sym, ap, ◌∙◌, subst, arith, rules, tests, inl, inr, ⊎_elim, ◌⊎◌, ◌==◌, ◌&&◌}
-use Rattle.std.specs.List.{slice_split, before_last, suffix_len, count_by, onto_first, flat_map, starts_with, list_all}
+use Rattle.std.specs.List.{slice_split, list_any, before_last, suffix_len, count_by, onto_first, flat_map, starts_with, list_all}
 use Rattle.std.specs.Cmp.Lexicographic.{pointwise}
 use Rattle.std.specs.Str.{bytes_eq}
-use Rattle.std.proofs.lemmas.Bool.{eqb-true, eqb-false, eq-eqb, and_parts, cases_Bool, ne_eqb, not_from_true, not_from_false, false_from_ne_true, false≢true, cond-true, cond-false}
-use Rattle.std.proofs.lemmas.List.Splits.{slice_split-cons_yes, slice_split-cons_no, length-slice_split}
-use Rattle.std.proofs.lemmas.List.{append_assoc, append_cancel_left, append-nil, length-take-le, take_rest}
+use Rattle.std.proofs.lemmas.Bool.{eqb-true, eqb-false, eq-eqb, and_parts, cases_Bool, both_ways, or_cases, and_left, ne_eqb, not_from_true, not_from_false, false_from_ne_true, false≢true, cond-true, cond-false}
+use Rattle.std.proofs.lemmas.List.Splits.{slice_split-cons_yes, slice_split-cons_no, slice_split_none, length-slice_split}
+use Rattle.std.proofs.lemmas.List.{append_assoc, append_cancel_left, append-nil, get_or_at, get_or-append_right, take_at, length-take-le, take_rest}
 use Rattle.std.proofs.lemmas.List.Sums.{suffix_len_is}
-use Rattle.std.proofs.lemmas.Grind.{flat_map-append}
+use Rattle.std.proofs.lemmas.Grind.{flat_map-append, get_or_tail}
+use Rattle.std.proofs.lemmas.List.Folds.{list_any_at}
+use Rattle.std.proofs.lemmas.List.Elements.{All-from_get_or}
 use Rattle.std.proofs.lemmas.Slice.Eq.{bytes_eq-Decides, starts_is, strip_prefix_is}
 use Rattle.std.proofs.lemmas.Option.{MatchOption-at_none, MatchOption-at_some}
 use Rattle.std.proofs.lemmas.Bool.Decides.{Decides-eqb}
@@ -192,3 +194,79 @@ parent_text path end fits others found low =
     let size : length (take (end - 1) path) ≡ end - 1 = length-take-le (end - 1) path (omega arith) in
     let some : 0 < length (take (end - 1) path) = omega arith in
     ap or_root (before_last-at path end fits others found) ∙ or_root-some (take (end - 1) path) some
+
+-- ---- the last name
+cons_head : (x y : ℕ) (xs ys : List ℕ) → x ∷ xs ≡ y ∷ ys → x ≡ y
+cons_head x y xs ys e = cc
+
+cons_tail : (x y : ℕ) (xs ys : List ℕ) → x ∷ xs ≡ y ∷ ys → xs ≡ ys
+cons_tail x y xs ys e = cc
+
+last_slash : (xs : List ℕ) → list_any is_slash xs ≡ true → (above : List ℕ) × (name : List ℕ) × (xs ≡ above ++ 47 ∷ name) × (list_any is_slash name ≡ false)
+last_slash [] e = absurd (false≢true e)
+last_slash (x ∷ xs) e =
+    ⊎_elim
+        (λ later. let h = last_slash xs later in (x ∷ h.0, h.1, ap (λ ys. x ∷ ys) h.2, h.3))
+        (λ none. ⊎_elim
+            (λ here. ([], xs, ap (λ y. y ∷ xs) (eqb-true x 47 here), none))
+            (λ later. absurd (both_ways (list_any is_slash xs) none later))
+            (or_cases (is_slash x) (list_any is_slash xs) e))
+        (cases_Bool (list_any is_slash xs))
+
+no_slash-at : (name : List ℕ) (k : ℕ) → list_any is_slash name ≡ false → k < length name → get_or name k 0 ≡ 47 → ⊥
+no_slash-at name k none lt e = both_ways (list_any is_slash name) none (list_any_at is_slash name k 0 lt (eq-eqb (get_or name k 0) 47 e))
+
+parent-split : (path above name : List ℕ) → path ≡ above ++ 47 ∷ name → list_any is_slash name ≡ false → parent_path path ≡ or_root above
+unfolding parent_path
+parent-split path above name e none =
+    let size : length path ≡ length above + suc (length name) = ap length e ∙ length-append above (47 ∷ name) in
+    let others : (k : ℕ) → length above + 1 ≤ k → k < length path → get_or path k 0 ≡ 47 → ⊥ =
+        λ k low high at. no_slash-at name (k - (length above + 1)) none (omega arith)
+            (let behind : get_or (above ++ 47 ∷ name) k 0 ≡ get_or (47 ∷ name) (k - length above) 0 = get_or-append_right above (47 ∷ name) (length above) k 0 refl (omega arith) in
+             let next : get_or (47 ∷ name) (k - length above) 0 ≡ get_or name (k - length above - 1) 0 = get_or_tail 47 name (k - length above) 0 (omega arith) in
+             let same : k - length above - 1 ≡ k - (length above + 1) = omega arith in
+             ap (λ j. get_or name j 0) (sym same) ∙ sym next ∙ sym behind ∙ ap (λ p. get_or p k 0) (sym e) ∙ at) in
+    let place : length above + 1 - 1 ≡ length above = omega arith in
+    let found : 0 < length above + 1 → get_or path (length above + 1 - 1) 0 ≡ 47 =
+        λ _. ap (λ p. get_or p (length above + 1 - 1) 0) e ∙ get_or_at above 47 name 0 (length above + 1 - 1) (omega arith) in
+    ap or_root (before_last-at path (length above + 1) (omega arith) others found ∙ ap (λ p. take (length above + 1 - 1) p) e ∙ take_at above (47 ∷ name) (length above + 1 - 1) (omega arith))
+
+pub all_names : (path : List ℕ) → IsWellFormed path → list_all is_name (names_of path) ≡ true
+unfolding is_well_formed
+all_names path h = (and_parts (leb (length path) 512 && starts_with nat_eq path root_path) (list_all is_name (names_of path)) h).1
+
+empty_is_no_name : is_name [] ≡ false
+unfolding is_name
+empty_is_no_name = refl
+
+split_no_slash : (name : List ℕ) → list_any is_slash name ≡ false → slice_split is_slash name ≡ name ∷ []
+split_no_slash name none =
+    slice_split_none is_slash name (All-from_get_or (λ x. is_slash x ≡ false) name 0 (λ k lt. ne_eqb (get_or name k 0) 47 (no_slash-at name k none lt)))
+
+names_parent-at : (path rest above name : List ℕ) → IsWellFormed path → is_root path ≡ false → path ≡ 47 ∷ rest → path ≡ above ++ 47 ∷ name → list_any is_slash name ≡ false → names_of path ≡ names_of (parent_path path) ++ name ∷ []
+names_parent-at path rest [] name formed e s p none =
+    let one : names_of path ≡ name ∷ [] = names-below path name e p ∙ split_no_slash name none in
+    let parent : parent_path path ≡ root_path = parent-split path [] name p none in
+    one ∙ ap (λ ns. ns ++ name ∷ []) (sym (ap names_of parent ∙ names-root root_path refl))
+names_parent-at path rest (a ∷ as') name formed e s p none =
+    let parent : parent_path path ≡ a ∷ as' = parent-split path (a ∷ as') name p none in
+    let slash : a ≡ 47 = cons_head a 47 (as' ++ 47 ∷ name) rest (sym p ∙ s) in
+    let whole : path ≡ 47 ∷ (as' ++ 47 ∷ name) = p ∙ ap (λ b. b ∷ (as' ++ 47 ∷ name)) slash in
+    let names : names_of path ≡ slice_split is_slash as' ++ name ∷ [] =
+        names-below path (as' ++ 47 ∷ name) e whole ∙ split-append as' name ∙ ap (λ ns. slice_split is_slash as' ++ ns) (split_no_slash name none) in
+    ⊎_elim
+        (λ root.
+            let empty : as' ≡ [] = cons_tail a 47 as' [] (root-from_test (a ∷ as') root) in
+            let bad : names_of path ≡ [] ∷ name ∷ [] = names ∙ ap (λ b. slice_split is_slash b ++ name ∷ []) empty in
+            absurd (both_ways (list_all is_name (names_of path)) (ap (list_all is_name) bad ∙ and_left (is_name []) (list_all is_name (name ∷ [])) empty_is_no_name) (all_names path formed)))
+        (λ below.
+            let above : names_of (a ∷ as') ≡ slice_split is_slash as' = names-below (a ∷ as') as' below (ap (λ b. b ∷ as') slash) in
+            names ∙ ap (λ ns. ns ++ name ∷ []) (sym above ∙ ap names_of (sym parent)))
+        (cases_Bool (is_root (a ∷ as')))
+
+-- a path is its parent's and one name more
+pub names_parent : (path : List ℕ) → IsWellFormed path → is_root path ≡ false → (name : List ℕ) × (names_of path ≡ names_of (parent_path path) ++ name ∷ [])
+names_parent path formed e =
+    let s = begins_from_well_formed path formed in
+    let h = last_slash path (ap (list_any is_slash) s.1) in
+    (h.1, names_parent-at path s.0 h.0 h.1 formed e s.1 h.2 h.3)

@@ -1,8 +1,9 @@
 //! The tree of groups.
 
-ghost use Rattle.std.specs.Prelude.{◌≡◌, ◌≢◌, ◌↔◌, ◌<◌, false, length, IfOk, IsNone, IsTrue, OnErr, Some};
+ghost use Rattle.std.specs.Prelude.{◌≡◌, ◌≢◌, ◌↔◌, ◌<◌, ◌==◌, ◌&&◌, false, not, length, IfOk, IsNone, IsTrue, OnErr, Some};
 ghost use Rattle.std.specs.Option.{option_copied};
 ghost use Rattle.std.specs.Result.{result_err};
+ghost use Rattle.group_tree.specs.Path.{IsWellFormed};
 ghost use Rattle.group_tree.specs.Groups.{AreGroups, IsLeastFreeNumber, group_at, has_child, has_group, in_subtree, initial_groups, limit_of, make_fault, number_at, parent_of, path_of, the_root, with_group, with_limit, without_group};
 
 use crate::fault::Fault;
@@ -82,8 +83,10 @@ impl Tree {
     #[tactic(auto, unfolding(crate::specs::Groups::has_group, crate::specs::Groups::path_of))]
     pub fn path_of(&self, g: GroupId) -> PathText
         requires { IsTrue (has_group self.now g) }
-        ensures { path_of self.now g ≡ Some result }
+        ensures value { path_of self.now g ≡ Some result }
+        ensures formed { IsWellFormed result }
     {
+        let _ = &self.rows;
         self.row(g).unwrap().path
     }
 
@@ -102,9 +105,10 @@ impl Tree {
         ensures value { result ≡ parent_of self.now g }
         ensures root { IsNone result ↔ (g ≡ 0) }
     {
-        if g == GroupId::root() {
+        if g.number() == 0 {
             return None;
         }
+        let _ = &self.rows;
         let path = self.path_of(g);
         self.find(names::parent_path(path.as_bytes()))
     }
@@ -120,13 +124,22 @@ impl Tree {
         names::begins(above.as_bytes(), below.as_bytes())
     }
 
+    // Whether the second group is another one that lies below the first.
+    fn lies_below(&self, g: GroupId, h: GroupId) -> bool
+        requires above { IsTrue (has_group self.now g) }
+        requires below { IsTrue (has_group self.now h) }
+        ensures { result ≡ (not (h == g) && in_subtree self.now g h) }
+    {
+        h != g && self.in_subtree(g, h)
+    }
+
     /// Whether some other group lies below one that is there.
     pub fn has_child(&self, g: GroupId) -> bool
         requires { IsTrue (has_group self.now g) }
         ensures { result ≡ has_child self.now g }
     {
         for row in &self.rows {
-            if row.number != g && self.in_subtree(g, row.number) {
+            if self.lies_below(g, row.number) {
                 return true;
             }
         }
@@ -135,6 +148,7 @@ impl Tree {
 
     /// Why a group with this path cannot be made, the first cause that holds: BadName, TooDeep, Exists,
     /// NoParent, TreeFull. None where it can.
+    #[tactic(auto, unfolding(crate::specs::Groups::make_fault))]
     pub fn make_fault(&self, path: &[u8]) -> Option<Fault>
         ensures { result ≡ make_fault self.now path.now }
     {
@@ -153,18 +167,23 @@ impl Tree {
         }
     }
 
+    // Whether a group has the number, which may be above 63.
+    fn is_taken(&self, number: u32) -> bool
+        ensures { result ≡ has_group self.now number }
+    {
+        self.rows.iter().any(|row| row.number.number() == number)
+    }
+
     // The least number that no group has.
     fn least_free(&self) -> GroupId
         requires { length self.now < 64 }
         ensures { IsLeastFreeNumber self.now result }
     {
         let mut number = 0;
-        loop {
-            match GroupId::of(number) {
-                Some(g) if !self.contains(g) => return g,
-                _ => number += 1,
-            }
+        while self.is_taken(number) {
+            number += 1;
         }
+        GroupId::of(number).unwrap()
     }
 
     /// Makes a group with the least free number and no limit. It is refused as `make_fault` says, and
