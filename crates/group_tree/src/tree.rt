@@ -4,7 +4,7 @@ ghost use Rattle.std.specs.Prelude.{◌≡◌, ◌≢◌, ◌↔◌, ◌<◌, �
 ghost use Rattle.std.specs.Option.{option_copied};
 ghost use Rattle.std.specs.Result.{result_err};
 ghost use Rattle.group_tree.specs.Path.{IsWellFormed};
-ghost use Rattle.group_tree.specs.Groups.{AreGroups, IsLeastFreeNumber, group_at, has_child, has_group, in_subtree, initial_groups, limit_of, make_fault, number_at, parent_of, path_of, the_root, with_group, with_limit, without_group};
+ghost use Rattle.group_tree.specs.Groups.{AreGroups, IsLeastFreeNumber, group_at, has_child, has_group, in_subtree, initial_groups, limit_of, limited, make_fault, number_at, parent_of, path_of, the_root, with_group, with_limit, without_group};
 
 use crate::fault::Fault;
 use crate::group::{Group, GroupId, MAX_GROUPS};
@@ -177,7 +177,8 @@ impl Tree {
     // The least number that no group has.
     fn least_free(&self) -> GroupId
         requires { length self.now < 64 }
-        ensures { IsLeastFreeNumber self.now result }
+        ensures number { IsLeastFreeNumber self.now result }
+        ensures below { result < 64 }
     {
         let mut number = 0;
         while self.is_taken(number) {
@@ -199,7 +200,13 @@ impl Tree {
         }
         let number = self.least_free();
         let path = PathText::of(path).unwrap();
-        self.rows.push(Group { number, path, limit: None }).unwrap();
+        self.rows
+            .push(Group {
+                number,
+                path,
+                limit: None,
+            })
+            .unwrap();
         Ok(number)
     }
 
@@ -208,11 +215,7 @@ impl Tree {
         requires { IsTrue (has_group self.old g) }
         ensures { self.new ≡ with_limit self.old g limit }
     {
-        for row in self.rows.iter_mut() {
-            if row.number == g {
-                row.limit = limit;
-            }
-        }
+        set_limit(self.rows.as_mut_slice(), g, limit);
     }
 
     /// Takes out a group that is there, other than the root, with no group below it. Its number is
@@ -223,7 +226,8 @@ impl Tree {
         requires below_root { g ≢ 0 }
         ensures { self.new ≡ without_group self.old g }
     {
-        self.rows.retain(|row| row.number != g);
+        let number = g.number();
+        self.rows.retain(|row| row.number.number() != number);
     }
 }
 
@@ -235,5 +239,23 @@ fn root_group() -> Group
         number: GroupId::root(),
         path: PathText::of(b"/").unwrap(),
         limit: None,
+    }
+}
+
+// Writes the limit into the group's row.
+fn set_limit(rows: &mut [Group], g: GroupId, limit: Option<u32>)
+    ensures { rows.new ≡ with_limit rows.old g limit }
+{
+    for row in rows.iter_mut() {
+        set_limit_of_row(row, g, limit);
+    }
+}
+
+// Writes the limit into the row, if it is the group's.
+fn set_limit_of_row(row: &mut Group, g: GroupId, limit: Option<u32>)
+    ensures { row.new ≡ limited g limit row.old }
+{
+    if row.number == g {
+        row.limit = limit;
     }
 }

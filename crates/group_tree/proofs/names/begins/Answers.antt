@@ -1,4 +1,4 @@
-use Rattle.std.proofs.Common.{◌≡◌, ◌<◌, sym, ◌∙◌, length, arith}
+use Rattle.std.proofs.Common.{◌<◌, sym, ◌∙◌, length, arith}
 use Rattle.std.proofs.lemmas.Bool.{eqb-true, eqb-false}
 use Rattle.group_tree.proofs.PathLemmas.{begins_root, begins_empty, begins_byte, begins_nowhere, begins_from_well_formed, stripped}
 use Rattle.group_tree.proofs.names.begins.Goals as goal

@@ -1,6 +1,6 @@
-use Rattle.std.proofs.Common.{sym, ap, ◌∙◌, drop}
-use Rattle.std.specs.List.{list_all, slice_split}
-use Rattle.group_tree.specs.Path.{is_name, is_slash}
+use Rattle.std.proofs.Common.{sym, ap, ◌∙◌}
+use Rattle.std.specs.List.{list_all}
+use Rattle.group_tree.specs.Path.{is_name}
 use Rattle.group_tree.proofs.PathLemmas.{names-root, names_behind, begins_from_test}
 use Rattle.group_tree.proofs.names.has_names.Goals as goal
 

@@ -1,7 +1,7 @@
 use Rattle.std.proofs.Common.{rules, tests, ◌==◌}
 use Rattle.std.proofs.lemmas.Iterator.{YieldsList-from_slice}
 use Rattle.std.proofs.lemmas.Iterator.Search.{find_from_yields_List}
-use Rattle.group_tree.specs.Groups.{Group, group_at}
+use Rattle.group_tree.specs.Groups.{group_at}
 use Rattle.group_tree.proofs.tree.Tree.row.Goals as goal
 
 pub returns : goal.returns
