@@ -6,4 +6,6 @@
 
 pub mod fault;
 pub mod group;
+mod names;
 pub mod path;
+pub mod tree;
