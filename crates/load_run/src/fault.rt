@@ -1,6 +1,6 @@
-//! Why a command line or a script isn't taken.
+//! Why a command line, a script or a run of the program fails.
 
-ghost use Rattle.std.specs.Prelude.{◌≡◌};
+ghost use Rattle.std.specs.Prelude.{◌≡◌, ◌⊎◌};
 ghost use Rattle.load_run.specs.declared.fault.ScriptFault.TheVariants.{NoMemory};
 
 use std::alloc::{AllocError, AllocFailed};
@@ -42,5 +42,46 @@ impl<T: Drop> From<AllocFailed<T>> for ScriptFault {
 
     fn from(_error: AllocFailed<T>) -> ScriptFault {
         ScriptFault::NoMemory
+    }
+}
+
+/// Why the program ends without its answers.
+#[derive(Debug, Drop, Error)]
+pub enum ProgramFault {
+    /// The words of the command line give no options.
+    #[error("{0}")]
+    Line(LineFault),
+    /// The script gives no lines.
+    #[error("{0}")]
+    Script(ScriptFault),
+    /// A size is out of its range, or so far other than 1.
+    #[error("refused 14 BadConfig")]
+    BadConfig,
+    /// The script can't be read.
+    #[error("input failed")]
+    Input,
+    /// The answers can't be written.
+    #[error("output failed")]
+    Output,
+    /// Memory ran out.
+    #[error("no memory")]
+    NoMemory(#[from(alloc)] AllocError),
+}
+
+impl ProgramFault {
+    /// The status that the program ends with: 2 where it was used wrongly, 1 where it failed at its work.
+    pub fn status(&self) -> u8
+        ensures { (result ≡ 1) ⊎ (result ≡ 2) }
+    {
+        match self {
+            ProgramFault::Line(LineFault::Words(_))
+            | ProgramFault::Script(ScriptFault::BadLine(_))
+            | ProgramFault::BadConfig => 2,
+            ProgramFault::Line(LineFault::NoMemory(_))
+            | ProgramFault::Script(ScriptFault::NoMemory)
+            | ProgramFault::Input
+            | ProgramFault::Output
+            | ProgramFault::NoMemory(_) => 1,
+        }
     }
 }

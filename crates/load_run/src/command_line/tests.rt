@@ -75,7 +75,6 @@ fn tells_what_is_wrong(rt: HostRuntime) -> Result<(), Fail> {
         ),
         "{help}"
     );
-    eprintln!(rt; "{help}{unknown}{below}")?;
     Ok(())
 }
 

@@ -1,0 +1,86 @@
+//! The program over any reader and two writers.
+
+use crate::command_line::options;
+use crate::fault::{LineFault, ProgramFault};
+use crate::replay::replay_lines;
+use crate::script::{MOST_INPUT, parse_script};
+use mem_core::config::Config;
+use std::alloc::{AllocError, Global};
+use std::convert::AsStr;
+use std::io::{ErrorKind, Read, Write};
+
+/// Runs the program: the words that follow its name, the script, the answers and the faults. It gives the
+/// status to end with.
+///
+/// First the options are read, then the whole script is read and parsed, then the configuration checked,
+/// then the lines run. The answers are gathered and written once; where anything fails, none are. A fault
+/// is told in one line, those of the words in clap's text. The status is 0; 2 after a fault of the words,
+/// a bad line or a bad configuration; 1 where the script can't be read or the answers can't be written,
+/// and where memory runs out.
+pub fn drive<R, S: AsStr, I: Read, O: Write, F: Write>(
+    _rt: &R,
+    alloc: Global,
+    words: &[S],
+    input: &mut I,
+    output: &mut O,
+    faults: &mut F,
+) -> u8 {
+    match answers_to(alloc, words, input) {
+        Ok(answers) => match write_answers(output, &answers) {
+            Ok(()) => 0,
+            Err(fault) => tell(faults, &fault),
+        },
+        Err(fault) => tell(faults, &fault),
+    }
+}
+
+// The answers to the script that the input holds.
+fn answers_to<S: AsStr, I: Read>(alloc: Global, words: &[S], input: &mut I) -> Result<Vec<u8>, ProgramFault> {
+    let options = options(alloc, words).map_err(ProgramFault::Line)?;
+    let config = options.config;
+    let script = read_script(alloc, input)?;
+    let lines = parse_script(alloc, &script, &config).map_err(ProgramFault::Script)?;
+    if !config.is_valid() || !is_single(&config) {
+        return Err(ProgramFault::BadConfig);
+    }
+    Ok(replay_lines(alloc, config, &lines)?)
+}
+
+// Whether there is one processor, whose list and stock take one at a time: the only configuration until
+// the whole machine is there.
+fn is_single(config: &Config) -> bool {
+    config.cpus == 1 && config.batch == 1 && config.high == 1 && config.stock == 1
+}
+
+// Reads all of the script. Where it is longer than a script may be, one byte more tells so.
+fn read_script<I: Read>(alloc: Global, input: &mut I) -> Result<Vec<u8>, ProgramFault> {
+    let mut script = Vec::new(alloc);
+    let most = MOST_INPUT as u64 + 1;
+    match input.by_ref().take(most).read_to_end(&mut script) {
+        Ok(_) => Ok(script),
+        Err(error) => Err(if error.kind() == ErrorKind::OutOfMemory {
+            ProgramFault::NoMemory(AllocError)
+        } else {
+            ProgramFault::Input
+        }),
+    }
+}
+
+// Writes all of the answers.
+fn write_answers<O: Write>(output: &mut O, answers: &[u8]) -> Result<(), ProgramFault> {
+    output.write_all(answers).map_err(|_| ProgramFault::Output)?;
+    output.flush().map_err(|_| ProgramFault::Output)
+}
+
+// Tells a fault, as far as the writer takes it, and gives its status.
+fn tell<F: Write>(faults: &mut F, fault: &ProgramFault) -> u8 {
+    let _ = match fault {
+        ProgramFault::Line(LineFault::Words(text)) => faults.write_all(text.as_bytes()),
+        _ => writeln!(faults, "{fault}"),
+    };
+    let _ = faults.flush();
+    fault.status()
+}
+
+#[cfg(test)]
+mod tests;

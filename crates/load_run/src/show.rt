@@ -1,0 +1,59 @@
+//! The text that `show` is answered.
+
+use group_tree::group::GroupId;
+use group_tree::path::PathText;
+use mem_core::step::Place;
+use mem_core::zone::Core;
+use std::alloc::AllocError;
+
+/// How many bytes a page has.
+const PAGE_SIZE: u128 = 4_096;
+
+/// Adds a line for each longest run of frames with equal place, by ascending frame, and then one for each
+/// group but the root, in order of making, with its usage in bytes.
+pub fn write_show(core: &Core, frames: u32, text: &mut String) -> Result<(), AllocError> {
+    write_places(core, frames, text)?;
+    for group in core.tree().groups() {
+        if group.number != GroupId::root() {
+            let bytes = core.current(group.number) * PAGE_SIZE;
+            text.push_str("current ")?;
+            push_path(text, &group.path)?;
+            writeln!(text, " {bytes}")?;
+        }
+    }
+    Ok(())
+}
+
+// A line for each longest run of frames with equal place.
+fn write_places(core: &Core, frames: u32, text: &mut String) -> Result<(), AllocError> {
+    let mut first = 0;
+    for frame in 1..frames {
+        if core.place(frame) != core.place(first) {
+            write_run(core, first, frame - 1, text)?;
+            first = frame;
+        }
+    }
+    write_run(core, first, frames - 1, text)
+}
+
+// The line of the frames from the first to the last, which have equal place.
+fn write_run(core: &Core, first: u32, last: u32, text: &mut String) -> Result<(), AllocError> {
+    if first == last {
+        write!(text, "{first} ")?;
+    } else {
+        write!(text, "{first}-{last} ")?;
+    }
+    match core.place(first) {
+        Place::Free => text.push_str("free")?,
+        Place::Charged(group) => push_path(text, &core.tree().path_of(group))?,
+    }
+    text.push('\n')
+}
+
+// Adds a path, whose bytes are all below 128.
+fn push_path(text: &mut String, path: &PathText) -> Result<(), AllocError> {
+    for byte in path.as_bytes() {
+        text.push(char::from(*byte))?;
+    }
+    Ok(())
+}
