@@ -1,4 +1,6 @@
+pub mod Edits
 pub mod Filling
 pub mod Frames
 pub mod Lists
 pub mod Nested
+pub mod OrderLists
