@@ -4,3 +4,4 @@ pub mod Frames
 pub mod Lists
 pub mod Nested
 pub mod OrderLists
+pub mod Unique

@@ -5,6 +5,7 @@
 
 pub mod areas;
 pub mod block;
+pub mod laws;
 mod maximal;
 pub mod order;
 pub mod walk;
