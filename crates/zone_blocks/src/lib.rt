@@ -9,3 +9,6 @@ pub mod laws;
 mod maximal;
 pub mod order;
 pub mod walk;
+
+#[cfg(test)]
+mod tests;
