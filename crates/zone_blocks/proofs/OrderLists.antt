@@ -15,6 +15,7 @@ use Rattle.zone_blocks.specs.Block.{IsBlock, Covers, AreDisjoint}
 use Rattle.zone_blocks.specs.Areas.{AreBlocksApart, Precedes, HasNoneOf, HasNoneFrom, IsFirstOf, IsSmallestFrom, Inserts, Removes}
 use Rattle.zone_blocks.specs.OrderLists.{IsOrderList, AreOrderLists, blocks_of, IsLower, IsPlaceOf}
 use Rattle.zone_blocks.proofs.Lists.{contains_flat_map, contains_from_flat_map, ordered_from}
+use Rattle.zone_blocks.proofs.Filling.{same_block}
 use Rattle.zone_blocks.proofs.Edits.{all_pairs_insert, contains_insert, contains_insert_old, contains_insert_cases, contains_remove_old, contains_remove_keeps, contains_remove_gone}
 
 abbrev items_of : Vec Block Global → List Block
@@ -473,3 +474,21 @@ removes_in n lists good b there p old list here place e more =
     let cut : Vec Block Global → List Block = λ v. remove v.items p in
     let R : Vec Block Global → Type 0 = λ v. vec_capacity v ≤ vec_capacity list in
     removes n lists good b there p old list (subst P here place) (e ∙ ap cut here) (subst R here more)
+
+-- a block is there exactly where one of its order and address stands at its place
+pub contains_in : (n : ℕ) (lists : List (Vec Block Global)) → AreOrderLists n lists → (b : Block) → b.order < 11 → (p : ℕ) (old : Vec Block Global)
+    → old ≡ get_or lists b.order old → IsPlaceOf old.items b.at p → (x : Block) → p < length old.items → x ≡ get_or old.items p x
+    → (x.at ≡ b.at → Contains (blocks_of lists) b) × (Contains (blocks_of lists) b → x.at ≡ b.at)
+contains_in n lists good b l p old here place x within read =
+    let h = lists_of n lists good in
+    let count = h.count in
+    let P : Vec Block Global → Type 0 = λ v. IsOrderList n b.order v in
+    let Q : Vec Block Global → Type 0 = λ v. Contains v.items b in
+    let at : Block → ℕ = λ z. z.at in
+    let was : IsOrderList n b.order old = subst P (sym here) (h.each b.order old (omega arith)) in
+    let x_there : Contains old.items x = (p, within, sym read) in (
+      λ e. in_blocks n lists h b.order old l b
+          (subst Q here (subst (Contains old.items) (same_block x b e (was.each x x_there).0) x_there)),
+      λ c. let found = place_is old.items b p (lower_from n b.order old was) place (subst Q (sym here) ((in_list n lists h b c).2 old)) in
+          ap at (read ∙ get_or_default old.items p x b within ∙ found.1),
+    )

@@ -18,30 +18,30 @@ pub decide_range : (free : List Bool) (a n : ℕ) → ((f : ℕ) → a ≤ f →
 decide_range free a zero = inl (λ f low high. absurd (omega arith))
 decide_range free a (suc n) =
     elim (decide_range free a n) [
-      inl all ↦ elim (cases_Bool (get_or free (a + n) false)) [
-        inl e ↦ inl (λ f low high. elim (cases_lt f (a + n)) [
-            inl lt ↦ all f low lt
+      | inl all ↦ elim (cases_Bool (get_or free (a + n) false)) [
+        | inl e ↦ inl (λ f low high. elim (cases_lt f (a + n)) [
+          | inl lt ↦ all f low lt
           | inr ge ↦ let here : f ≡ a + n = omega arith in rw here e
-          ])
-      | inr e ↦ inr (λ h. false≢true (sym e ∙ h (a + n) (omega arith) (omega arith)))
+        ])
+        | inr e ↦ inr (λ h. false≢true (sym e ∙ h (a + n) (omega arith) (omega arith)))
       ]
-    | inr not ↦ inr (λ h. not (λ f low high. h f low (omega arith)))
+      | inr not ↦ inr (λ h. not (λ f low high. h f low (omega arith)))
     ]
 
 pub decide_free_block : (free : List Bool) (b : Block) → IsFreeBlock free b ⊎ (IsFreeBlock free b → ⊥)
 decide_free_block free b =
     elim (cases_lt 10 b.order) [
-      inl above ↦ inr (λ h. let o = h.block.order in absurd (omega arith))
-    | inr order ↦ elim (cases_eq (b.at % 2 ^ b.order) 0) [
-        inr crooked ↦ inr (λ h. crooked h.block.aligned)
-      | inl aligned ↦ elim (cases_lt (length free) (b.at + 2 ^ b.order)) [
-          inl outside ↦ inr (λ h. let i = h.block.inside in absurd (omega arith))
-        | inr inside ↦ elim (decide_range free b.at (2 ^ b.order)) [
-            inl all ↦ inl record {
+      | inl above ↦ inr (λ h. let o = h.block.order in absurd (omega arith))
+      | inr order ↦ elim (cases_eq (b.at % 2 ^ b.order) 0) [
+        | inr crooked ↦ inr (λ h. crooked h.block.aligned)
+        | inl aligned ↦ elim (cases_lt (length free) (b.at + 2 ^ b.order)) [
+          | inl outside ↦ inr (λ h. let i = h.block.inside in absurd (omega arith))
+          | inr inside ↦ elim (decide_range free b.at (2 ^ b.order)) [
+            | inl all ↦ inl record {
               block = record { order = order; aligned = aligned; inside = inside };
               all_free = λ f c. all f c.from c.before;
             }
-          | inr not ↦ inr (λ h. not (λ f low high. h.all_free f record { from = low; before = high }))
+            | inr not ↦ inr (λ h. not (λ f low high. h.all_free f record { from = low; before = high }))
           ]
         ]
       ]
@@ -73,15 +73,15 @@ climb free f zero k e h =
     (round f k, record { is_free = h; maximal = λ g. let o = g.block.order in absurd (omega arith) }, round_covers f k)
 climb free f (suc left) k e h =
     elim (decide_free_block free (enclosing (round f k))) [
-      inl more ↦ climb free f left (k + 1) (omega arith) (subst (IsFreeBlock free) (enclosing_round f k) more)
-    | inr not ↦ (round f k, record { is_free = h; maximal = not }, round_covers f k)
+      | inl more ↦ climb free f left (k + 1) (omega arith) (subst (IsFreeBlock free) (enclosing_round f k) more)
+      | inr not ↦ (round f k, record { is_free = h; maximal = not }, round_covers f k)
     ]
 
 free_inside_zone : (free : List Bool) (f : ℕ) → IsFree free f → f < length free
 free_inside_zone free f h =
     elim (cases_lt f (length free)) [
-      inl lt ↦ lt
-    | inr past ↦ absurd (false≢true (sym (get_or_past free f false past) ∙ h))
+      | inl lt ↦ lt
+      | inr past ↦ absurd (false≢true (sym (get_or_past free f false past) ∙ h))
     ]
 
 single_free : (free : List Bool) (f : ℕ) → IsFree free f → IsFreeBlock free (round f 0)
@@ -91,10 +91,10 @@ single_free free f h =
     record {
       block = record { order = omega arith; aligned = mod-one (f - f % 1); inside = omega (arith, e) };
       all_free = λ g c.
-        let from = c.from in
-        let before = c.before in
-        let same : g ≡ f = omega (arith, e) in
-        rw same h;
+          let from = c.from in
+          let before = c.before in
+          let same : g ≡ f = omega (arith, e) in
+          rw same h;
     }
 
 pub in_maximal : (free : List Bool) (f : ℕ) → IsFree free f → (b : Block) × IsMaximalBlock free b × Covers b f
@@ -124,10 +124,10 @@ same_heads : {X : Type 0} (R : X → X → Type 0) → ((x y : X) → R x y → 
     → Contains (y ∷ ys) x → Contains (x ∷ xs) y → x ≡ y
 same_heads R asym x y xs ys hx hy cx cy =
     elim (head_or_after R y x ys hy cx) [
-      inl e ↦ sym e
-    | inr after ↦ elim (head_or_after R x y xs hx cy) [
-        inl e ↦ e
-      | inr before ↦ absurd (asym x y before after)
+      | inl e ↦ sym e
+      | inr after ↦ elim (head_or_after R x y xs hx cy) [
+        | inl e ↦ e
+        | inr before ↦ absurd (asym x y before after)
       ]
     ]
 
@@ -145,10 +145,10 @@ same_from_members R strict asym (x ∷ xs) [] hx hy to from = let r = to x (zero
 same_from_members {X} R strict asym (x ∷ xs) (y ∷ ys) hx hy to from =
     let heads : x ≡ y = same_heads R asym x y xs ys hx hy (to x (zero, omega arith, refl)) (from y (zero, omega arith, refl)) in
     let tails : xs ≡ ys = same_from_members R strict asym xs ys
-      (λ i j d l m. hx (suc i) (suc j) d (omega arith) (omega arith))
-      (λ i j d l m. hy (suc i) (suc j) d (omega arith) (omega arith))
-      (λ z q. behind R strict x y z xs ys heads hx q (to z (later x z xs q)))
-      (λ z q. behind R strict y x z ys xs (sym heads) hy q (from z (later y z ys q))) in
+    (λ i j d l m. hx (suc i) (suc j) d (omega arith) (omega arith))
+    (λ i j d l m. hy (suc i) (suc j) d (omega arith) (omega arith))
+    (λ z q. behind R strict x y z xs ys heads hx q (to z (later x z xs q)))
+    (λ z q. behind R strict y x z ys xs (sym heads) hy q (from z (later y z ys q))) in
     let front : X → List X = λ z. z ∷ xs in
     let back : List X → List X = λ zs. y ∷ zs in
     ap front heads ∙ ap back tails

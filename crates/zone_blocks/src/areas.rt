@@ -1,6 +1,6 @@
 //! The free areas of a zone: for each order its free blocks, sorted by address.
 
-ghost use Rattle.std.specs.Prelude.{◌≡◌, ◌≤◌, ◌<◌, IfOk, MatchOption, ℕ, length, [], slice_index_or};
+ghost use Rattle.std.specs.Prelude.{◌≡◌, ◌≤◌, ◌<◌, ◌↔◌, IsTrue, IfOk, MatchOption, ℕ, length, [], slice_index_or};
 ghost use Rattle.std.specs.List.{AllPairs, Contains};
 ghost use Rattle.zone_blocks.specs.declared.block.Block.{Block};
 ghost use Rattle.zone_blocks.specs.Block.{IsBlock, AreDisjoint};
@@ -74,6 +74,15 @@ impl FreeAreas {
         ensures apart { AreBlocksApart self.now.frames self.now.blocks }
     {
         Walk::over(self.lists.as_slice())
+    }
+
+    /// Whether exactly this block is there.
+    pub fn contains(&self, block: Block) -> bool
+        ensures { IsTrue result ↔ Contains self.now.blocks block }
+    {
+        let list = &self.lists[block.order.exponent() as usize];
+        let place = place_of(list.as_slice(), block.at);
+        place < list.len() && list[place].at == block.at
     }
 
     /// The block of exactly this order with the least address. None exactly where there is none.

@@ -8,7 +8,6 @@ pub mod block;
 pub mod laws;
 mod maximal;
 pub mod order;
-pub mod walk;
-
 #[cfg(test)]
 mod tests;
+pub mod walk;
