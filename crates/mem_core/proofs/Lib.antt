@@ -4,3 +4,4 @@ pub mod Showing
 pub mod Laws
 pub mod Soundness
 pub mod Playing
+pub mod Wholeness

@@ -6,3 +6,4 @@ pub mod Headline
 pub mod Shown
 pub mod Steps
 pub mod Promise
+pub mod Inside

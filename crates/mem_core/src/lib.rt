@@ -5,3 +5,5 @@
 pub mod config;
 mod ranges;
 pub mod step;
+mod sums;
+pub mod zone;

@@ -1,9 +1,11 @@
-//! Writing one value over a range.
+//! Lists of one value, and writing one value over a range.
 
-ghost use Rattle.std.specs.Prelude.{◌≡◌, ◌+◌, ◌≤◌, length};
+ghost use Rattle.std.specs.Prelude.{◌≡◌, ◌+◌, ◌≤◌, true, IfOk, length, replicate};
 ghost use Rattle.mem_core.specs.Steps.{with_range};
 
 use crate::step::Place;
+use group_tree::group::MAX_GROUPS;
+use std::alloc::{AllocError, Global};
 
 // Sets the places of n frames from `at` on.
 pub(crate) fn set_places(places: &mut [Place], at: usize, n: usize, place: Place)
@@ -19,4 +21,25 @@ pub(crate) fn set_flags(flags: &mut [bool], at: usize, n: usize, flag: bool)
     ensures { flags.new ≡ with_range flags.old at n flag }
 {
     flags[at..at + n].fill(flag);
+}
+
+// As many places as the zone has frames, all free.
+pub(crate) fn free_places(alloc: Global, frames: usize) -> Result<Vec<Place>, AllocError>
+    ensures { IfOk result (λ places. places.items ≡ replicate frames Place.Free) }
+{
+    vec![in alloc; Place::Free; frames]
+}
+
+// As many flags as the zone has frames, all true.
+pub(crate) fn true_flags(alloc: Global, frames: usize) -> Result<Vec<bool>, AllocError>
+    ensures { IfOk result (λ flags. flags.items ≡ replicate frames true) }
+{
+    vec![in alloc; true; frames]
+}
+
+// A count of 0 for each group number.
+pub(crate) fn zeros(alloc: Global) -> Result<Vec<u128>, AllocError>
+    ensures { IfOk result (λ counts. counts.items ≡ replicate 64 0) }
+{
+    vec![in alloc; 0; MAX_GROUPS]
 }

@@ -1,11 +1,10 @@
 -- The frames of a block, as a part of the list of free frames.
-use Rattle.std.proofs.Common.{◌≡◌, ℕ, ◌+◌, ◌-◌, ◌^◌, ◌%◌, ◌<◌, ◌≤◌, ◌↔◌, Bool, true, false, List, length, get_or, sym, ◌∙◌, subst, arith}
+use Rattle.std.proofs.Common.{◌≡◌, ℕ, ◌+◌, ◌-◌, ◌^◌, ◌%◌, ◌<◌, ◌≤◌, Bool, true, false, List, length, get_or, sym, ◌∙◌, arith}
 use Rattle.std.specs.List.{All, between}
 use Rattle.std.proofs.lemmas.List.{get_or_default}
 use Rattle.std.proofs.lemmas.List.Edits.{length-between, get_or-between}
 use Rattle.zone_blocks.specs.declared.block.Block.{Block}
-use Rattle.zone_blocks.specs.Block.{IsBlock, Covers}
-use Rattle.zone_blocks.specs.Areas.{IsFree, IsFreeBlock}
+use Rattle.zone_blocks.specs.Areas.{IsFreeBlock}
 
 pub free_from_range : (free : List Bool) (a n : ℕ) → a + n ≤ length free → All (λ x. x ≡ true) (between a (a + n) free)
     → (f : ℕ) → a ≤ f → f < a + n → get_or free f false ≡ true

@@ -1,12 +1,12 @@
 -- Blocks are nested or apart, so two maximal free blocks that share a frame are one.
-use Rattle.std.proofs.Common.{◌≡◌, ◌≢◌, ℕ, zero, suc, ◌+◌, ◌-◌, ◌*◌, ◌/◌, ◌^◌, ◌%◌, ◌<◌, ◌≤◌, ◌⊎◌, Bool, true, false, List, length, refl, sym, ap, ◌∙◌, subst, inl, inr, arith}
-use Rattle.std.proofs.lemmas.Bool.{cases_lt, cases_order}
+use Rattle.std.proofs.Common.{◌≡◌, ℕ, ◌+◌, ◌-◌, ◌*◌, ◌/◌, ◌^◌, ◌%◌, ◌<◌, ◌≤◌, Bool, List, length, sym, ap, ◌∙◌, inl, inr, arith}
+use Rattle.std.proofs.lemmas.Bool.{cases_order}
 use Rattle.std.proofs.lemmas.Nat.{div-add-mod', pow_pos, pow-add, mod-pow-add, mod_below}
 use Rattle.std.proofs.Math.Nat.{mod-le, mul-mod_left}
 use Rattle.std.proofs.Math.Nat.{div-eq_of_lt-le, mul-le-mul_right}
 use Rattle.zone_blocks.specs.declared.block.Block.{Block}
 use Rattle.zone_blocks.specs.Block.{IsBlock, Covers, enclosing}
-use Rattle.zone_blocks.specs.Areas.{IsFree, IsFreeBlock, IsMaximalBlock}
+use Rattle.zone_blocks.specs.Areas.{IsFreeBlock, IsMaximalBlock}
 use Rattle.zone_blocks.proofs.Filling.{same_block}
 
 -- a multiple x of m with x ≤ f < x + m is f less its remainder
@@ -88,11 +88,11 @@ same_maximal free a b ha hb f ca cb =
     let sa = start_is a.at (2 ^ a.order) f (pow_pos a.order) ha.is_free.block.aligned ca.from ca.before in
     let sb = start_is b.at (2 ^ b.order) f (pow_pos b.order) hb.is_free.block.aligned cb.from cb.before in
     elim (cases_order a.order b.order) [
-      inl e ↦
-        let start : ℕ → ℕ = λ k. f - f % 2 ^ k in
-        same_block a b (sa ∙ ap start e ∙ sym sb) e
-    | inr d ↦ elim d [
-        inl lt ↦ absurd (greater_denied free a b ha hb.is_free f ca cb lt)
-      | inr gt ↦ absurd (greater_denied free b a hb ha.is_free f cb ca gt)
+      | inl e ↦
+          let start : ℕ → ℕ = λ k. f - f % 2 ^ k in
+          same_block a b (sa ∙ ap start e ∙ sym sb) e
+      | inr d ↦ elim d [
+        | inl lt ↦ absurd (greater_denied free a b ha hb.is_free f ca cb lt)
+        | inr gt ↦ absurd (greater_denied free b a hb ha.is_free f cb ca gt)
       ]
     ]

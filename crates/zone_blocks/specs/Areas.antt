@@ -39,6 +39,14 @@ pub record AreBlocksApart (frames : ℕ) (blocks : List Block) : Type 0 where
   pub apart : (a b : Block) → Contains blocks a → Contains blocks b → (f : ℕ) → Covers a f → Covers b f → a ≡ b
   pub ordered : AllPairs Precedes blocks
 
+-- no block is of exactly this order
+abbrev pub HasNoneOf : List Block → ℕ → Type 0
+HasNoneOf blocks order = (b : Block) → Contains blocks b → b.order ≢ order
+
+-- no block is of this order or above
+abbrev pub HasNoneFrom : List Block → ℕ → Type 0
+HasNoneFrom blocks order = (b : Block) → Contains blocks b → b.order < order
+
 -- b is the block of exactly this order with the least address
 pub record IsFirstOf (blocks : List Block) (order : ℕ) (b : Block) : Type 0 where
   pub there : Contains blocks b

@@ -1,3 +1,4 @@
 pub mod Areas
 pub mod Block
+pub mod Laws
 pub mod OrderLists

@@ -1,6 +1,6 @@
 -- What stands behind the free areas: for each order one list of blocks, sorted by address.
 use Rattle.std.specs.Prelude.{◌≡◌, ℕ, ◌/◌, ◌^◌, ◌<◌, ◌≤◌, Bool, List, length, Vec}
-use Rattle.std.specs.List.{All, AllPairs, Contains, flat_map, slice_index_or}
+use Rattle.std.specs.List.{AllPairs, Contains, flat_map, slice_index_or}
 use Rattle.std.specs.Vec.{vec_capacity}
 use Rattle.std.specs.declared.alloc.Global.{Global}
 use Rattle.zone_blocks.specs.declared.block.Block.{Block}
@@ -28,3 +28,13 @@ pub record AreOrderLists (frames : ℕ) (lists : List (Vec Block Global)) : Type
   pub count : length lists ≡ 11
   pub each : (k : ℕ) (d : Vec Block Global) → k < length lists → IsOrderList frames k (slice_index_or lists k d)
   pub apart : (a b : Block) → Contains (blocks_of lists) a → Contains (blocks_of lists) b → (f : ℕ) → Covers a f → Covers b f → a ≡ b
+
+-- a begins at a lower address
+abbrev pub IsLower : Block → Block → Type 0
+IsLower a b = a.at < b.at
+
+-- the blocks before place p begin below this address, and those from there on don't
+pub record IsPlaceOf (list : List Block) (at p : ℕ) : Type 0 where
+  pub within : p ≤ length list
+  pub before : (k : ℕ) (d : Block) → k < p → (slice_index_or list k d).at < at
+  pub from : (k : ℕ) (d : Block) → p ≤ k → k < length list → at ≤ (slice_index_or list k d).at

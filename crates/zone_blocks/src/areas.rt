@@ -1,13 +1,17 @@
 //! The free areas of a zone: for each order its free blocks, sorted by address.
 
-ghost use Rattle.std.specs.Prelude.{◌≡◌, ◌≤◌, ◌<◌, IfOk, MatchOption, ℕ, length, []};
-ghost use Rattle.std.specs.List.{Contains};
+ghost use Rattle.std.specs.Prelude.{◌≡◌, ◌≤◌, ◌<◌, ◌↔◌, IsTrue, IfOk, MatchOption, ℕ, length, [], slice_index_or};
+ghost use Rattle.std.specs.List.{AllPairs, Contains};
 ghost use Rattle.zone_blocks.specs.declared.block.Block.{Block};
-ghost use Rattle.zone_blocks.specs.Areas.{AreMaximalBlocks, AreBlocksApart};
+ghost use Rattle.zone_blocks.specs.Block.{IsBlock, AreDisjoint};
+ghost use Rattle.zone_blocks.specs.Areas.{AreMaximalBlocks, AreBlocksApart, HasNoneOf, HasNoneFrom};
+ghost use Rattle.zone_blocks.specs.Areas.{IsFirstOf, IsSmallestFrom, Inserts, Removes};
+ghost use Rattle.zone_blocks.specs.OrderLists.{IsLower, IsPlaceOf};
 
 use crate::block::Block;
 use crate::maximal::fill_with_maximal;
 use crate::order::Order;
+use crate::walk::Walk;
 use std::alloc::{AllocError, Global};
 use std::marker::Model;
 
@@ -63,4 +67,75 @@ impl FreeAreas {
             fill_with_maximal(list, free, order);
         }
     }
+
+    /// The blocks that are there, by order and then by address.
+    pub fn walk(&self) -> Walk<'_>
+        ensures walk { result ≡ self.now.blocks }
+        ensures apart { AreBlocksApart self.now.frames self.now.blocks }
+    {
+        Walk::over(self.lists.as_slice())
+    }
+
+    /// Whether exactly this block is there.
+    pub fn contains(&self, block: Block) -> bool
+        ensures { IsTrue result ↔ Contains self.now.blocks block }
+    {
+        let list = &self.lists[block.order.exponent() as usize];
+        let place = place_of(list.as_slice(), block.at);
+        place < list.len() && list[place].at == block.at
+    }
+
+    /// The block of exactly this order with the least address. None exactly where there is none.
+    pub fn first(&self, order: Order) -> Option<Block>
+        ensures { MatchOption result (HasNoneOf self.now.blocks order) (IsFirstOf self.now.blocks order) }
+    {
+        let list = &self.lists[order.exponent() as usize];
+        list.first().copied()
+    }
+
+    /// Of the blocks of the least order from this one on that has any, the one with the least
+    /// address. None exactly where no block of this order or above is there.
+    pub fn smallest_from(&self, order: Order) -> Option<Block>
+        ensures { MatchOption result (HasNoneFrom self.now.blocks order) (IsSmallestFrom self.now.blocks order) }
+    {
+        for exponent in order.exponent()..ORDERS {
+            let list = &self.lists[exponent as usize];
+            if let Some(block) = list.first().copied() {
+                return Some(block);
+            }
+        }
+        None
+    }
+
+    /// Puts a block of the zone in, which shares no frame with one that is there.
+    pub fn insert(&mut self, block: Block)
+        requires block { IsBlock self.old.frames block }
+        requires apart { (b : Block) → Contains self.old.blocks b → AreDisjoint b block }
+        ensures blocks { Inserts self.old.blocks block self.new.blocks }
+        ensures frames { self.new.frames ≡ self.old.frames }
+    {
+        let at = block.at;
+        let list = &mut self.lists[block.order.exponent() as usize];
+        let place = place_of(list.as_slice(), at);
+        list.insert(place, block).unwrap();
+    }
+
+    /// Takes a block that is there out.
+    pub fn remove(&mut self, block: Block)
+        requires { Contains self.old.blocks block }
+        ensures blocks { Removes self.old.blocks block self.new.blocks }
+        ensures frames { self.new.frames ≡ self.old.frames }
+    {
+        let list = &mut self.lists[block.order.exponent() as usize];
+        let place = place_of(list.as_slice(), block.at);
+        let _ = list.remove(place);
+    }
+}
+
+/// The place in a list by address at which a block of this address stands, or would stand.
+fn place_of(list: &[Block], at: u32) -> usize
+    requires { AllPairs IsLower list.now }
+    ensures { IsPlaceOf list.now at result }
+{
+    list.partition_point(|block| block.at < at)
 }

@@ -5,6 +5,9 @@
 
 pub mod areas;
 pub mod block;
+pub mod laws;
 mod maximal;
 pub mod order;
+#[cfg(test)]
+mod tests;
 pub mod walk;

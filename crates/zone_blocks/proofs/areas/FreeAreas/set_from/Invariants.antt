@@ -2,8 +2,6 @@ use Rattle.std.proofs.Common.{◌≡◌, ℕ, ◌/◌, ◌^◌, ◌<◌, ◌≤�
 use Rattle.std.specs.Vec.{vec_capacity}
 use Rattle.zone_blocks.specs.declared.block.Block.{Block}
 use Rattle.zone_blocks.specs.OrderLists.{AreMaximalOfOrder}
-use Rattle.zone_blocks.proofs.Nested.{nested_high}
-use Rattle.zone_blocks.proofs.Lists.{ordered_from}
 use Rattle.zone_blocks.proofs.areas.FreeAreas.set_from.Given as goal
 
 abbrev pub invariant-loop-exponent : goal.invariant-loop-exponent

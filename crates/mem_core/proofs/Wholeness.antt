@@ -1,0 +1,108 @@
+-- What a core keeps stays whole when it starts, when a group is made and when a block is placed.
+use Rattle.std.proofs.Common.{◌≡◌, ℕ, ◌+◌, ◌-◌, ◌*◌, ◌^◌, ◌<◌, ◌≤◌, ◌==◌, ◌&&◌, Bool, true, false, Option, Some, None, is_some, List, [], ◌∷◌, ◌++◌, length, map, replicate, get_or, refl, sym, ◌∙◌, ap, subst, arith, zero-add, inl, inr, ◌⊎◌, nat_lt}
+use Rattle.std.specs.Prelude.{slice_index, slice_set, All}
+use Rattle.std.specs.List.{slice_get}
+use Rattle.std.specs.declared.alloc.Global.{Global}
+use Rattle.std.proofs.lemmas.Bool.{cases_lt, cases_eq, le-leb, lt-ltb}
+use Rattle.std.proofs.lemmas.Bool.Decides.{nat_tests}
+use Rattle.std.proofs.lemmas.List.{get_or-replicate, get_or_past, get_or-set_same, get_or-set_other, length-replicate}
+use Rattle.std.proofs.Common.{length-set}
+use Rattle.zone_blocks.specs.declared.block.Block.{Block}
+use Rattle.zone_blocks.specs.Areas.{IsFreeBlock, AreMaximalBlocks}
+use Rattle.group_tree.specs.declared.group.Group.{Group}
+use Rattle.group_tree.specs.Groups.{has_group, make_fault, with_group, initial_groups, IsLeastFreeNumber, AreGroups}
+use Rattle.group_tree.proofs.GroupLemmas.{AreGroups-initial, AreGroups-with, can_make, CanMake, length-full}
+use Rattle.mem_core.specs.declared.config.Config.{Config}
+use Rattle.mem_core.specs.declared.step.Place.{Place}
+use Rattle.mem_core.specs.declared.step.Place.TheVariants.{Free, Charged}
+use Rattle.mem_core.specs.Config.{IsValidConfig}
+use Rattle.mem_core.specs.Places.{is_same_place}
+use Rattle.mem_core.specs.Shown.{State, is_at, free_in, KeeperIsThere, IsSound, Shows}
+use Rattle.mem_core.specs.Steps.{with_range, with_block, counted}
+use Rattle.mem_core.proofs.PlaceLemmas.{is_same_place-sym, is_at_within, is_at_past}
+use Rattle.mem_core.proofs.Soundness.{map-replicate, map-with_range, IsSound-made, IsSound-placed}
+
+-- what a core shows before its first step
+abbrev pub start_of : Config → List Block → State
+start_of config areas = record {
+  config = config;
+  holder = None;
+  groups = initial_groups;
+  places = replicate config.frames Free;
+  pending = replicate 64 0;
+  areas = areas;
+  steps = 0
+}
+
+pub free_in-start : (frames : ℕ) → free_in (replicate frames Free) ≡ replicate frames true
+free_in-start frames = map-replicate (λ p. is_same_place p Free) frames Free
+
+places-start : (frames f : ℕ) (p : Place) → (nat_lt f frames && is_same_place p Free) ≡ is_at (replicate frames Free) f p
+places-start frames f p =
+    let len = length-replicate frames Free in
+    elim (cases_lt f frames) [
+    | inl within ↦
+        rw (lt-ltb f frames within)
+        (is_same_place-sym p Free
+        ∙ ap (λ q. is_same_place q p) (sym (get_or-replicate frames f Free Free within))
+        ∙ sym (is_at_within (replicate frames Free) f p (omega arith)))
+    | inr past ↦
+        let e : nat_lt f frames ≡ false = grind (arith, nat_tests) in
+        rw e (sym (is_at_past (replicate frames Free) f p (omega arith)))
+    ]
+
+none_pending : (g : ℕ) → slice_index (replicate 64 0) g ≡ 0
+none_pending g =
+    elim (cases_lt g 64) [
+    | inl within ↦ get_or-replicate 64 g 0 0 within
+    | inr past ↦ get_or_past (replicate 64 0) g 0 (let len = length-replicate {A = ℕ} 64 0 in omega arith)
+    ]
+
+pub Shows-start : (config : Config) (areas : List Block) → Shows (start_of config areas) []
+Shows-start config areas = record {
+  legal = λ k. tt;
+  steps = refl;
+  holder = refl;
+  groups = refl;
+  places = places-start config.frames;
+  pending = λ g. sym (zero-add _ ∙ none_pending g)
+}
+
+pub IsSound-start : (config : Config) (areas : List Block) → IsValidConfig config → AreMaximalBlocks (replicate config.frames true) areas → IsSound (start_of config areas)
+IsSound-start config areas valid maximal = record {
+  config = valid;
+  groups = AreGroups-initial;
+  places = length-replicate config.frames Free;
+  pending = length-replicate {A = ℕ} 64 0;
+  areas = subst (λ (free : List Bool). AreMaximalBlocks free areas) (sym (free_in-start config.frames)) maximal;
+  keepers = λ k d h. subst (KeeperIsThere initial_groups) (sym (get_or-replicate config.frames k Free d (let len = length-replicate config.frames Free in omega arith))) tt;
+  settled = λ free k d h. get_or-replicate 64 k 0 d (let len = length-replicate {A = ℕ} 64 0 in omega arith)
+}
+
+-- ---- a group is made
+pub AreGroups-made : (groups : List Group) (n : ℕ) (path : List ℕ) → AreGroups groups → make_fault groups path ≡ None → IsLeastFreeNumber groups n → AreGroups (with_group groups n path)
+AreGroups-made groups n path facts fits least =
+    let can = can_make groups path fits in
+    let below = length-full groups n least.least in
+    let room = can.room in
+    AreGroups-with groups n path facts can (omega arith) least.free
+
+pub IsSound-step_made : (s : State) (n : ℕ) (path : List ℕ) → make_fault s.groups path ≡ None → IsLeastFreeNumber s.groups n → IsSound s → IsSound (record (counted s) { groups = with_group s.groups n path })
+IsSound-step_made s n path fits least sound = IsSound-made s n path (AreGroups-made s.groups n path sound.groups fits least) sound
+
+-- ---- pages that are pending stay few
+pub bound_more : (pending : List ℕ) (steps : ℕ) → All (λ n. n ≤ steps * 2 ^ 32) pending → All (λ n. n ≤ (steps + 1) * 2 ^ 32) pending
+bound_more pending steps bound k d h = let here = bound k d h in omega arith
+
+-- a number of the list is made less
+pub bound_less : (pending : List ℕ) (steps g v : ℕ) → g < length pending → v ≤ slice_index pending g → All (λ n. n ≤ steps * 2 ^ 32) pending → All (λ n. n ≤ (steps + 1) * 2 ^ 32) (slice_set pending g v)
+bound_less pending steps g v inside less bound k d h =
+    let len = length-set pending g v in
+    let there = bound g 0 inside in
+    elim (cases_eq k g) [
+    | inl same ↦ let e : get_or (slice_set pending g v) k d ≡ v = rw same (get_or-set_same pending g v d inside) in omega arith
+    | inr other ↦ let e = get_or-set_other pending g k v d other in let here = bound k d (omega arith) in omega arith
+    ]
+
+pub none_bound : (steps : ℕ) → All (λ n. n ≤ steps * 2 ^ 32) (replicate 64 0)
+none_bound steps k d h = let len = length-replicate {A = ℕ} 64 0 in let e = get_or-replicate 64 k 0 d (omega arith) in omega arith

@@ -1,0 +1,23 @@
+-- The groups of the tree with one more are those of a tree.
+use Rattle.std.proofs.Common.{◌≡◌, List, None, sym, subst}
+use Rattle.group_tree.specs.declared.group.Group.{Group}
+use Rattle.group_tree.specs.Groups.{make_fault, with_group, IsLeastFreeNumber}
+use Rattle.mem_core.specs.Shown.{IsSound}
+use Rattle.mem_core.specs.Steps.{counted}
+use Rattle.mem_core.specs.Inside.{state_of}
+use Rattle.mem_core.proofs.Wholeness.{IsSound-step_made, bound_more}
+use Rattle.mem_core.proofs.zone.Core.make.Goals as goal
+
+pub invariant_of-self : goal.invariant_of-self
+invariant_of-self c =
+    let n = c.unwrap-group.result in
+    let path = c.as_bytes.result.now in
+    let made : c.make.new.self ≡ with_group c.self.inside.tree n path = (rw c.unwrap-group.ensures at c.make.ensures.made) in
+    let least : IsLeastFreeNumber c.self.inside.tree n = (rw c.unwrap-group.ensures at c.make.ensures.least) in
+    let fits : make_fault c.self.inside.tree path ≡ None = sym (rw c.unwrap-group.ensures at c.make.ensures.refused) in
+    record {
+      sound = subst (λ (groups : List Group). IsSound (record (counted (state_of c.self.inside)) { groups = groups })) (sym made) (IsSound-step_made (state_of c.self.inside) n path fits least c.self.invariant.sound);
+      flags = c.self.invariant.flags;
+      zone = c.self.invariant.zone;
+      bound = bound_more c.self.inside.pending.items c.self.inside.steps c.self.invariant.bound
+    }

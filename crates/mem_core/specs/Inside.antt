@@ -1,0 +1,24 @@
+-- What a core keeps, and how a contract sees it.
+use Rattle.std.specs.Prelude.{◌≡◌, ℕ, ◌*◌, ◌^◌, ◌≤◌, List, length, All}
+use Rattle.mem_core.specs.declared.zone.Core.TheInside.{Inside}
+use Rattle.mem_core.specs.Shown.{State, free_in, IsSound}
+
+-- the state that a core shows
+abbrev pub state_of : Inside → State
+state_of c = record {
+  config = c.config;
+  holder = c.holder;
+  groups = c.tree;
+  places = c.places.items;
+  pending = c.pending.items;
+  areas = c.areas.blocks;
+  steps = c.steps
+}
+
+-- the parts of a core agree, its flags tell which frames are free, and as few pages are pending as so many
+-- steps can grant
+pub record IsWhole (c : Inside) : Type 0 where
+  pub sound : IsSound (state_of c)
+  pub flags : c.free.items ≡ free_in c.places.items
+  pub zone : c.areas.frames ≡ c.config.frames
+  pub bound : All (λ n. n ≤ c.steps * 2 ^ 32) c.pending.items

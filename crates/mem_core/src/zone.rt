@@ -1,0 +1,299 @@
+//! The core: what stands behind the zone's lock, and how a step changes it.
+
+ghost use Rattle.std.specs.Prelude.{◌≡◌, ℕ, ◌+◌, ◌-◌, ◌^◌, ◌<◌, ◌≤◌, ◌↔◌, ◌&&◌, ◌≢◌, ◌++◌, ◌∷◌, [], true, false, Some, None, is_some, is_none, IsTrue, IfOk, OnOk, MatchOption, length, slice_get, slice_index, slice_set, map, All, ◌==◌};
+ghost use Rattle.std.specs.List.{list_all};
+ghost use Rattle.zone_blocks.specs.declared.block.Block.{Block};
+ghost use Rattle.zone_blocks.specs.Areas.{IsFreeBlock, AreMaximalBlocks};
+ghost use Rattle.group_tree.specs.Groups.{has_group, make_fault, with_group, IsLeastFreeNumber};
+ghost use Rattle.mem_core.specs.declared.step.Place.{Place};
+ghost use Rattle.mem_core.specs.Config.{IsValidConfig};
+ghost use Rattle.mem_core.specs.Places.{is_same_place};
+ghost use Rattle.mem_core.specs.Run.{Run, groups_of, places_of, usage_of, free_frames};
+ghost use Rattle.mem_core.specs.Legal.{is_legal, Allows};
+ghost use Rattle.mem_core.specs.Shown.{State, Shows, IsSound, free_in, current_in};
+ghost use Rattle.mem_core.specs.Steps.{may_act, may_zone_act, counted, with_block, Changes, Makes};
+
+use crate::config::Config;
+use crate::ranges::{free_places, set_flags, set_places, true_flags, zeros};
+use crate::step::{Action, Answer, Place, Step};
+use crate::sums::{count_charged, sum_pending};
+use group_tree::group::GroupId;
+use group_tree::path::PathText;
+use group_tree::tree::Tree;
+use std::alloc::{AllocError, Global};
+use std::marker::Model;
+use zone_blocks::areas::FreeAreas;
+use zone_blocks::block::Block;
+use zone_blocks::order::Order;
+
+/// The seat of the zone itself, which acts while a processor holds the lock.
+pub const ZONE_SEAT: u32 = 0;
+
+/// The seat of the first processor; until the core has several there is no other.
+pub const FIRST_PROCESSOR: u32 = 1;
+
+/// The core. A contract sees it as a `State`: the sizes, who holds the lock, the groups, the place of
+/// each frame, the pages pending for each group number, the free areas and how many steps were made.
+#[derive(Drop)]
+pub struct Core {
+    config: Config,
+    holder: Option<u32>,
+    tree: Tree,
+    places: Vec<Place>,
+    // Whether each frame is free, as the areas want it told.
+    free: Vec<bool>,
+    pending: Vec<u128>,
+    areas: FreeAreas,
+    steps: u64,
+}
+
+impl Model for Core {
+    ghost use Rattle.mem_core.specs.Shown.{State};
+
+    ghost Value = { State };
+
+    ghost use Rattle.mem_core.specs.Inside.{state_of, IsWhole};
+
+    ghost view = { state_of };
+
+    ghost invariant = { IsWhole };
+}
+
+impl Core {
+    /// A core with all frames free, the root alone, the lock free and no step made. All room that
+    /// its steps need is reserved here.
+    pub fn new(alloc: Global, config: Config) -> Result<Core, AllocError>
+        requires { IsValidConfig config }
+        ensures config { IfOk result (λ core. core.config ≡ config) }
+        ensures empty { IfOk result (λ core. Shows core []) }
+        ensures sound { IfOk result IsSound }
+    {
+        let frames = config.frames as usize;
+        let places = free_places(alloc, frames)?;
+        let free = true_flags(alloc, frames)?;
+        let pending = zeros(alloc)?;
+        let mut areas = FreeAreas::new(alloc, config.frames)?;
+        areas.set_from(&free);
+        let tree = Tree::new(alloc)?;
+        Ok(Core {
+            config,
+            holder: None,
+            tree,
+            places,
+            free,
+            pending,
+            areas,
+            steps: 0,
+        })
+    }
+
+    /// How many steps were made, illegal ones included.
+    pub fn steps(&self) -> u64
+        ensures steps { result ≡ self.now.steps }
+        ensures run { (run : Run) → Shows self.now run → result ≡ length run }
+    {
+        self.steps
+    }
+
+    /// The groups.
+    pub fn tree(&self) -> &Tree
+        ensures groups { result.now ≡ self.now.groups }
+        ensures run { (run : Run) → Shows self.now run → result.now ≡ groups_of run }
+    {
+        &self.tree
+    }
+
+    /// The free areas: the maximal blocks of the free frames.
+    pub fn areas(&self) -> &FreeAreas
+        ensures areas { result.now.blocks ≡ self.now.areas }
+        ensures run { (run : Run) → Shows self.now run → AreMaximalBlocks (free_frames self.now.config run) result.now.blocks }
+    {
+        &self.areas
+    }
+
+    /// Where a frame is.
+    pub fn place(&self, frame: u32) -> Place
+        requires { frame < self.now.config.frames }
+        ensures place { slice_get self.now.places frame ≡ Some result }
+        ensures run { (run : Run) → Shows self.now run → (p : Place) → places_of self.now.config run frame p ≡ is_same_place result p }
+    {
+        self.places[frame as usize]
+    }
+}
+
+impl Core {
+    /// The memory now used by a group and its descendants (memory.current), in pages: the frames that
+    /// they keep and the pages pending for them.
+    pub fn current(&self, group: GroupId) -> u128
+        requires { IsTrue (has_group self.now.groups group) }
+        ensures current { result ≡ current_in self.now group }
+        ensures run { (run : Run) → Shows self.now run → result ≡ usage_of self.now.config run group }
+    {
+        let frames = count_charged(&self.tree, &self.places, group);
+        let pages = sum_pending(&self.tree, &self.pending, group);
+        frames + pages
+    }
+
+    /// Makes one step, where it is legal, and answers it. A step that is not legal is answered Illegal
+    /// and changes nothing but the number of steps.
+    pub fn step(&mut self, step: Step) -> Answer
+        requires { self.old.steps + 1 < 2 ^ 64 }
+        ensures shows { (run : Run) → Shows self.old run → Shows self.new (run ++ (step, result) ∷ []) }
+        ensures illegal { result ≡ Answer.Illegal → self.new ≡ counted self.old }
+        ensures config { self.new.config ≡ self.old.config }
+        ensures sound { IsSound self.new }
+    {
+        // Its parts agree before the step and after it.
+        let _ = &self.steps;
+        let answer = self.advance(step);
+        let _ = &self.steps;
+        answer
+    }
+
+    // Makes one step, as one change of the state.
+    fn advance(&mut self, step: Step) -> Answer
+        requires { self.old.steps + 1 < 2 ^ 64 }
+        ensures makes { Makes self.old step result self.new }
+    {
+        if !self.may_make(&step) {
+            self.skip();
+            return Answer::Illegal;
+        }
+        let Step { seat, action } = step;
+        match action {
+            Action::Lock => self.set_holder(Some(seat)),
+            Action::Unlock => self.set_holder(None),
+            Action::Grant { group, pages } => self.grant(group, pages),
+            Action::Ungrant { group, pages } => self.ungrant(group, pages),
+            Action::PlaceBlock { group, order } => self.place_block(group, order),
+            Action::Make { path } => self.make(&path),
+        }
+    }
+
+    // Whether the step may be made.
+    fn may_make(&self, step: &Step) -> bool
+        ensures { result ≡ may_act self.now step.now.seat step.now.action }
+    {
+        let seat = step.seat;
+        match &step.action {
+            Action::Lock => seat == FIRST_PROCESSOR && self.holder.is_none(),
+            Action::Unlock => {
+                seat == FIRST_PROCESSOR && self.holder.is_some() && is_settled(&self.pending)
+            }
+            Action::Grant { group, pages: _ } => self.may_zone_act(seat) && self.tree.contains(*group),
+            Action::Ungrant { group, pages } => {
+                self.may_zone_act(seat)
+                    && self.tree.contains(*group)
+                    && u128::from(*pages) <= self.pending[group.number() as usize]
+            }
+            Action::PlaceBlock { group, order } => {
+                self.may_zone_act(seat)
+                    && self.tree.contains(*group)
+                    && u128::from(order.frames()) <= self.pending[group.number() as usize]
+            }
+            Action::Make { path } => {
+                self.may_zone_act(seat) && self.tree.make_fault(path.as_bytes()).is_none()
+            }
+        }
+    }
+
+    // Whether the zone's own seat acts, which it may while a processor holds the lock.
+    fn may_zone_act(&self, seat: u32) -> bool
+        ensures { result ≡ may_zone_act self.now seat }
+    {
+        seat == ZONE_SEAT && self.holder.is_some()
+    }
+
+    // Counts a step that changes nothing else.
+    fn skip(&mut self)
+        requires { self.old.steps + 1 < 2 ^ 64 }
+        ensures { self.new ≡ counted self.old }
+    {
+        self.steps += 1;
+    }
+
+    // The lock changes hands.
+    fn set_holder(&mut self, holder: Option<u32>) -> Answer
+        requires room { self.old.steps + 1 < 2 ^ 64 }
+        requires settled { holder ≡ None → All (λ n. n ≡ 0) self.old.pending }
+        ensures answer { result ≡ Answer.Done }
+        ensures state { self.new ≡ record (counted self.old) { holder = holder } }
+    {
+        self.steps += 1;
+        self.holder = holder;
+        Answer::Done
+    }
+
+    // Grants pages to a group.
+    fn grant(&mut self, group: GroupId, pages: u32) -> Answer
+        requires room { self.old.steps + 1 < 2 ^ 64 }
+        requires held { is_some self.old.holder ≡ true }
+        ensures answer { result ≡ Answer.Granted }
+        ensures state { self.new ≡ record (counted self.old) { pending = slice_set self.old.pending group (slice_index self.old.pending group + pages) } }
+    {
+        self.steps += 1;
+        self.pending[group.number() as usize] += u128::from(pages);
+        Answer::Granted
+    }
+
+    // Takes pending pages of a group back.
+    fn ungrant(&mut self, group: GroupId, pages: u32) -> Answer
+        requires room { self.old.steps + 1 < 2 ^ 64 }
+        requires held { is_some self.old.holder ≡ true }
+        requires enough { pages ≤ slice_index self.old.pending group }
+        ensures answer { result ≡ Answer.Done }
+        ensures state { self.new ≡ record (counted self.old) { pending = slice_set self.old.pending group (slice_index self.old.pending group - pages) } }
+    {
+        self.steps += 1;
+        self.pending[group.number() as usize] -= u128::from(pages);
+        Answer::Done
+    }
+
+    // Places granted pages of a group on a free block of the order, where there is one.
+    fn place_block(&mut self, group: GroupId, order: Order) -> Answer
+        requires room { self.old.steps + 1 < 2 ^ 64 }
+        requires held { is_some self.old.holder ≡ true }
+        requires there { has_group self.old.groups group ≡ true }
+        requires enough { 2 ^ order ≤ slice_index self.old.pending group }
+        ensures { Changes self.old 0 (Action.PlaceBlock group order) result self.new }
+    {
+        self.skip();
+        Answer::NoFreeBlock
+    }
+
+    // Places pages of a group on a free block.
+    fn charge_block(&mut self, group: GroupId, block: Block)
+        requires room { self.old.steps + 1 < 2 ^ 64 }
+        requires held { is_some self.old.holder ≡ true }
+        requires there { has_group self.old.groups group ≡ true }
+        requires enough { 2 ^ block.order ≤ slice_index self.old.pending group }
+        requires free { IsFreeBlock (free_in self.old.places) block }
+        ensures { self.new ≡ record (counted self.old) { places = with_block self.old.places block (Place.Charged group); pending = slice_set self.old.pending group (slice_index self.old.pending group - 2 ^ block.order); areas = self.new.areas } }
+    {
+        self.steps += 1;
+        let at = block.at as usize;
+        let frames = block.order.frames();
+        set_places(&mut self.places, at, frames as usize, Place::Charged(group));
+        set_flags(&mut self.free, at, frames as usize, false);
+        self.areas.set_from(&self.free);
+        self.pending[group.number() as usize] -= u128::from(frames);
+    }
+
+    // Makes a group.
+    fn make(&mut self, path: &PathText) -> Answer
+        requires room { self.old.steps + 1 < 2 ^ 64 }
+        requires can { make_fault self.old.groups path.now ≡ None }
+        ensures made { Changes self.old 0 (Action.Make path.now) result self.new }
+    {
+        self.steps += 1;
+        let group = self.tree.make(path.as_bytes()).unwrap();
+        Answer::Number(group)
+    }
+}
+
+// Whether no page is pending.
+fn is_settled(pending: &[u128]) -> bool
+    ensures { result ≡ list_all (λ n. n == 0) pending.now }
+{
+    pending.iter().all(|pages| *pages == 0)
+}

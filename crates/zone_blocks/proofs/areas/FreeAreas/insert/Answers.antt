@@ -1,0 +1,56 @@
+use Rattle.std.proofs.Common.{◌≡◌, sym, subst, arith, set}
+use Rattle.std.specs.List.{Contains}
+use Rattle.zone_blocks.specs.declared.block.Block.{Block}
+use Rattle.zone_blocks.specs.Block.{IsBlock, AreDisjoint}
+use Rattle.zone_blocks.specs.Areas.{FreeBlocks, Inserts}
+use Rattle.zone_blocks.specs.OrderLists.{blocks_of}
+use Rattle.zone_blocks.proofs.OrderLists.{has_room_in, inserts_in, sorted_in}
+use Rattle.zone_blocks.proofs.areas.FreeAreas.insert.Goals as goal
+
+-- the block and its neighbours, told of what stands behind the areas
+block_inside : (v w : FreeBlocks) → v ≡ w → (b : Block) → IsBlock w.frames b → IsBlock v.frames b
+block_inside v w e b h = let P : FreeBlocks → Type 0 = λ u. IsBlock u.frames b in subst P (sym e) h
+
+apart_inside : (v w : FreeBlocks) → v ≡ w → (b : Block) → ((c : Block) → Contains w.blocks c → AreDisjoint c b)
+    → (c : Block) → Contains v.blocks c → AreDisjoint c b
+apart_inside v w e b h c q = let P : FreeBlocks → Type 0 = λ u. Contains u.blocks c in h c (subst P e q)
+
+pub place_of-place-requires : goal.place_of-place-requires
+place_of-place-requires c =
+    let at_most = c.exponent.ensures.at_most in
+    rw c.as_slice.ensures.value
+    (sorted_in c.self.inside.frames c.self.inside.lists.items c.self.invariant c.exponent.result (omega arith) c.index_mut-list.result.now c.index_mut-list.ensures.value)
+
+pub unwrap-requires : goal.unwrap-requires
+unwrap-requires c =
+    let old = c.index_mut-list.result.now in
+    let here = rw c.exponent.ensures.exponent at c.index_mut-list.ensures.value in
+    let place = rw c.as_slice.ensures.value at c.place_of-place.ensures in
+    let room = has_room_in c.self.inside.frames c.self.inside.lists.items c.self.invariant c.args.block c.place_of-place.result old here
+    (block_inside _ _ c.self.view_is c.args.block c.requires.block) (apart_inside _ _ c.self.view_is c.args.block c.requires.apart) place in
+    let len = old.ok.0 in
+    c.insert.ensures.succeeds (omega (arith, room, len))
+
+pub invariant_of-self : goal.invariant_of-self
+invariant_of-self c =
+    let old = c.index_mut-list.result.now in
+    let here = rw c.exponent.ensures.exponent at c.index_mut-list.ensures.value in
+    let place = rw c.as_slice.ensures.value at c.place_of-place.ensures in
+    let items = rw c.unwrap.ensures at c.insert.ensures.items in
+    rw c.exponent.ensures.exponent
+    (inserts_in c.self.inside.frames c.self.inside.lists.items c.self.invariant c.args.block c.place_of-place.result old c.insert.new.self here
+    (block_inside _ _ c.self.view_is c.args.block c.requires.block) (apart_inside _ _ c.self.view_is c.args.block c.requires.apart) place
+    items c.insert.ensures.capacity).0
+
+pub returns-clause-blocks : goal.returns-clause-blocks
+returns-clause-blocks c =
+    let old = c.index_mut-list.result.now in
+    let here = rw c.exponent.ensures.exponent at c.index_mut-list.ensures.value in
+    let place = rw c.as_slice.ensures.value at c.place_of-place.ensures in
+    let items = rw c.unwrap.ensures at c.insert.ensures.items in
+    let after = blocks_of (set c.self.inside.lists.items c.exponent.result c.insert.new.self) in
+    let P : FreeBlocks → Type 0 = λ v. Inserts v.blocks c.args.block after in
+    subst P c.self.view_is (rw c.exponent.ensures.exponent
+    (inserts_in c.self.inside.frames c.self.inside.lists.items c.self.invariant c.args.block c.place_of-place.result old c.insert.new.self here
+    (block_inside _ _ c.self.view_is c.args.block c.requires.block) (apart_inside _ _ c.self.view_is c.args.block c.requires.apart) place
+    items c.insert.ensures.capacity).1)

@@ -1,0 +1,83 @@
+use crate::areas::FreeAreas;
+use crate::block::Block;
+use crate::laws;
+use crate::order::Order;
+use std::alloc::{AllocError, Global};
+use std::test::Fail;
+
+// The walk, as pairs of order and address.
+fn walk_of(alloc: Global, areas: &FreeAreas) -> Result<Vec<(u32, u32)>, AllocError> {
+    let mut pairs = Vec::new(alloc);
+    for block in areas.walk() {
+        pairs.push((block.order.exponent(), block.at))?;
+    }
+    Ok(pairs)
+}
+
+#[test]
+fn orders_end_at_ten(rt: HostRuntime) -> Result<(), Fail> {
+    let greatest = Order::of(10).ok_or("order 10")?;
+    assert_eq!(rt; greatest.exponent(), 10);
+    assert_eq!(rt; greatest.frames(), 1024);
+    assert!(rt; Order::of(11).is_none());
+    Ok(())
+}
+
+#[test]
+fn eleven_free_frames(rt: HostRuntime) -> Result<(), Fail> {
+    let mut areas = FreeAreas::new(rt.alloc(), 11)?;
+    assert!(rt; areas.walk().next().is_none());
+    areas.set_from(&[true; 11]);
+    let pairs = walk_of(rt.alloc(), &areas)?;
+    assert_eq!(rt; pairs.as_slice(), [(0, 10), (1, 8), (3, 0)].as_slice());
+    Ok(())
+}
+
+#[test]
+fn sixteen_frames_with_five_in_use(rt: HostRuntime) -> Result<(), Fail> {
+    let mut free = [true; 16];
+    for used in [0, 4, 5, 6, 7] {
+        free[used] = false;
+    }
+    let mut areas = FreeAreas::new(rt.alloc(), 16)?;
+    areas.set_from(&free);
+    let pairs = walk_of(rt.alloc(), &areas)?;
+    assert_eq!(rt; pairs.as_slice(), [(0, 1), (1, 2), (3, 8)].as_slice());
+    Ok(())
+}
+
+#[test]
+fn a_whole_zone_is_blocks_of_the_greatest_order(rt: HostRuntime) -> Result<(), Fail> {
+    let free = vec![in rt.alloc(); true; 65_536]?;
+    let mut areas = FreeAreas::new(rt.alloc(), 65_536)?;
+    areas.set_from(free.as_slice());
+    let mut at = 0;
+    for block in areas.walk() {
+        assert_eq!(rt; block.order.exponent(), 10);
+        assert_eq!(rt; block.at, at);
+        at = at.wrapping_add(1024);
+    }
+    assert_eq!(rt; at, 65_536);
+    Ok(())
+}
+
+#[test]
+fn a_block_is_put_in_and_taken_out(rt: HostRuntime) -> Result<(), Fail> {
+    let one = Order::of(1).ok_or("order 1")?;
+    let two = Order::of(2).ok_or("order 2")?;
+    let mut areas = FreeAreas::new(rt.alloc(), 16)?;
+    areas.insert(Block { at: 8, order: one });
+    assert_eq!(rt; areas.first(one), Some(Block { at: 8, order: one }));
+    assert!(rt; areas.first(two).is_none());
+    assert!(rt; areas.smallest_from(two).is_none());
+    areas.remove(Block { at: 8, order: one });
+    assert!(rt; areas.smallest_from(one).is_none());
+    Ok(())
+}
+
+#[test]
+fn the_laws_can_be_called() {
+    laws::every_free_frame_is_in_one_block();
+    laws::every_frame_in_a_block_is_free();
+    laws::maximal_blocks_are_unique();
+}
