@@ -1,3 +1,4 @@
+pub mod Replay
 pub mod Script
 pub mod Settings
 pub mod Verb

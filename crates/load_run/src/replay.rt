@@ -1,9 +1,15 @@
 //! The lines of a script, run one after the other in a core.
 
+ghost use Rattle.std.specs.Prelude.{◌≡◌, ◌+◌, ◌*◌, ◌^◌, ◌<◌, ◌≤◌, All, IsTrue, length};
+ghost use Rattle.group_tree.specs.Groups.{has_group};
+ghost use Rattle.mem_core.specs.Config.{IsValidConfig};
+ghost use Rattle.load_run.specs.Replay.{AnswersMkdir, IsHeld, IsIdle, IsReached, IsStepped, PlacesBlock};
+
 use crate::line::{Command, Line};
 use crate::reply::Reply;
 use crate::show::write_show;
 use group_tree::fault::Fault;
+use group_tree::group::GroupId;
 use group_tree::path::PathText;
 use mem_core::config::Config;
 use mem_core::step::{Action, Answer, Step};
@@ -12,7 +18,10 @@ use std::alloc::{AllocError, Global};
 use zone_blocks::order::Order;
 
 /// Runs the lines and gives their answers, each ended by a line feed.
-pub fn replay_lines(alloc: Global, config: Config, lines: &[Line<'_>]) -> Result<Vec<u8>, AllocError> {
+pub fn replay_lines(alloc: Global, config: Config, lines: &[Line<'_>]) -> Result<Vec<u8>, AllocError>
+    requires valid { IsValidConfig config }
+    requires processors { All (λ line. line.processor ≡ 1) lines.now }
+{
     let mut core = Core::new(alloc, config)?;
     let mut answers = String::new(alloc);
     for line in lines {
@@ -22,48 +31,99 @@ pub fn replay_lines(alloc: Global, config: Config, lines: &[Line<'_>]) -> Result
 }
 
 // Runs a line and adds its answer.
-fn run_line(core: &mut Core, frames: u32, line: &Line<'_>, answers: &mut String) -> Result<(), AllocError> {
+fn run_line(core: &mut Core, frames: u32, line: &Line<'_>, answers: &mut String) -> Result<(), AllocError>
+    requires idle { IsIdle core.old }
+    requires frames { core.old.config.frames ≡ frames }
+    requires processor { line.now.processor ≡ 1 }
+    requires room { core.old.steps + 5 < 2 ^ 64 }
+    ensures idle { IsIdle core.new }
+    ensures config { core.new.config ≡ core.old.config }
+    ensures steps { core.new.steps ≤ core.old.steps + 5 }
+{
     let reply = match line.command {
         Command::Mkdir { path } => make_group(core, line.processor, path),
-        Command::Alloc { path, order: _ } => take_frame(core, line.processor, path),
+        Command::Alloc { path, order } => take_block(core, line.processor, path, order),
         Command::Show => return write_show(core, frames, answers),
     };
     writeln!(answers, "{reply}")
 }
 
+// Makes one step.
+fn make_step(core: &mut Core, seat: u32, action: Action) -> Answer
+    requires reached { IsReached core.old }
+    requires room { core.old.steps + 1 < 2 ^ 64 }
+    ensures reached { IsReached core.new }
+    ensures stepped { IsStepped core.old seat action result core.new }
+{
+    core.step(Step { seat, action })
+}
+
 // Makes the group of a path.
-fn make_group(core: &mut Core, seat: u32, path: &[u8]) -> Reply {
+fn make_group(core: &mut Core, seat: u32, path: &[u8]) -> Reply
+    requires idle { IsIdle core.old }
+    requires processor { seat ≡ 1 }
+    requires room { core.old.steps + 5 < 2 ^ 64 }
+    ensures idle { IsIdle core.new }
+    ensures config { core.new.config ≡ core.old.config }
+    ensures steps { core.new.steps ≤ core.old.steps + 5 }
+    ensures answer { AnswersMkdir core.old core.new path.now result }
+{
     if let Some(fault) = core.tree().make_fault(path) {
         return Reply::Refused(fault);
     }
-    let Some(path) = PathText::of(path) else {
-        return Reply::Refused(Fault::BadName);
-    };
-    core.step(Step { seat, action: Action::Lock });
-    let answer = core.step(Step { seat: ZONE_SEAT, action: Action::Make { path } });
-    core.step(Step { seat, action: Action::Unlock });
+    let path = PathText::of(path).unwrap();
+    make_step(core, seat, Action::Lock);
+    let answer = make_step(core, ZONE_SEAT, Action::Make { path });
+    make_step(core, seat, Action::Unlock);
     match answer {
         Answer::Number(group) => Reply::Group(group.number()),
         _ => unreachable!(),
     }
 }
 
-// Takes a free frame for the group of a path.
-fn take_frame(core: &mut Core, seat: u32, path: &[u8]) -> Reply {
+// Takes a free block for the group of a path.
+fn take_block(core: &mut Core, seat: u32, path: &[u8], order: u32) -> Reply
+    requires idle { IsIdle core.old }
+    requires processor { seat ≡ 1 }
+    requires room { core.old.steps + 5 < 2 ^ 64 }
+    ensures idle { IsIdle core.new }
+    ensures config { core.new.config ≡ core.old.config }
+    ensures steps { core.new.steps ≤ core.old.steps + 5 }
+{
     let Some(group) = core.tree().find(path) else {
         return Reply::Refused(Fault::NoGroup);
+    };
+    let Some(order) = Order::of(order) else {
+        return Reply::Refused(Fault::BadOrder);
     };
     if core.areas().walk().next().is_none() {
         return Reply::Refused(Fault::NoFrames);
     }
-    core.step(Step { seat, action: Action::Lock });
-    core.step(Step { seat: ZONE_SEAT, action: Action::Grant { group, pages: 1 } });
-    let order = Order::of(0).unwrap();
-    let answer = core.step(Step { seat: ZONE_SEAT, action: Action::PlaceBlock { group, order } });
-    core.step(Step { seat, action: Action::Unlock });
-    match answer {
+    make_step(core, seat, Action::Lock);
+    let reply = place_block(core, group, order);
+    make_step(core, seat, Action::Unlock);
+    reply
+}
+
+// Grants the pages of a block to a group and places them, where there is a free block.
+fn place_block(core: &mut Core, group: GroupId, order: Order) -> Reply
+    requires held { IsHeld core.old }
+    requires there { IsTrue (has_group core.old.groups group) }
+    requires room { core.old.steps + 3 < 2 ^ 64 }
+    ensures held { IsHeld core.new }
+    ensures config { core.new.config ≡ core.old.config }
+    ensures groups { core.new.groups ≡ core.old.groups }
+    ensures steps { core.new.steps ≤ core.old.steps + 3 }
+    ensures answer { PlacesBlock core.old core.new group order result }
+{
+    let pages = order.frames();
+    make_step(core, ZONE_SEAT, Action::Grant { group, pages });
+    match make_step(core, ZONE_SEAT, Action::PlaceBlock { group, order }) {
         Answer::Placed(block) => Reply::Frame(block.at),
-        _ => unreachable!(),
+        _ => {
+            make_step(core, ZONE_SEAT, Action::Ungrant { group, pages });
+            Reply::Refused(Fault::NoFrames)
+        }
     }
 }
 

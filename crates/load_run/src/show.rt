@@ -1,5 +1,8 @@
 //! The text that `show` is answered.
 
+ghost use Rattle.std.specs.Prelude.{◌≡◌, ◌<◌, ◌≤◌, IsTrue, None};
+ghost use Rattle.mem_core.specs.Shown.{IsSound};
+
 use group_tree::group::GroupId;
 use group_tree::path::PathText;
 use mem_core::step::Place;
@@ -11,7 +14,11 @@ const PAGE_SIZE: u128 = 4_096;
 
 /// Adds a line for each longest run of frames with equal place, by ascending frame, and then one for each
 /// group but the root, in order of making, with its usage in bytes.
-pub fn write_show(core: &Core, frames: u32, text: &mut String) -> Result<(), AllocError> {
+pub fn write_show(core: &Core, frames: u32, text: &mut String) -> Result<(), AllocError>
+    requires sound { IsSound core.now }
+    requires free { core.now.holder ≡ None }
+    requires frames { core.now.config.frames ≡ frames }
+{
     write_places(core, frames, text)?;
     for group in core.tree().groups() {
         if group.number != GroupId::root() {
@@ -25,7 +32,10 @@ pub fn write_show(core: &Core, frames: u32, text: &mut String) -> Result<(), All
 }
 
 // A line for each longest run of frames with equal place.
-fn write_places(core: &Core, frames: u32, text: &mut String) -> Result<(), AllocError> {
+fn write_places(core: &Core, frames: u32, text: &mut String) -> Result<(), AllocError>
+    requires sound { IsSound core.now }
+    requires frames { core.now.config.frames ≡ frames }
+{
     let mut first = 0;
     for frame in 1..frames {
         if core.place(frame) != core.place(first) {
@@ -37,7 +47,10 @@ fn write_places(core: &Core, frames: u32, text: &mut String) -> Result<(), Alloc
 }
 
 // The line of the frames from the first to the last, which have equal place.
-fn write_run(core: &Core, first: u32, last: u32, text: &mut String) -> Result<(), AllocError> {
+fn write_run(core: &Core, first: u32, last: u32, text: &mut String) -> Result<(), AllocError>
+    requires sound { IsSound core.now }
+    requires inside { first < core.now.config.frames }
+{
     if first == last {
         write!(text, "{first} ")?;
     } else {
