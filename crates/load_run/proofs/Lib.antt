@@ -1,3 +1,4 @@
+pub mod CoreSteps
 pub mod Cuts
 pub mod Numerals
 pub mod Progress

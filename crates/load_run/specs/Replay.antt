@@ -1,8 +1,8 @@
 -- How the core stands before, inside and after a line, and what a line is answered.
-use Rattle.std.specs.Prelude.{◌≡◌, ℕ, ◌+◌, ◌<◌, Bool, true, Option, Some, None, is_some, List, slice_index, nat_le, ◌==◌, ◌&&◌}
+use Rattle.std.specs.Prelude.{◌≡◌, ℕ, ◌+◌, true, Some, None, List, slice_index, ◌==◌, if◌then◌else◌}
 use Rattle.zone_blocks.specs.declared.block.Block.{Block}
 use Rattle.zone_blocks.specs.Areas.{IsFreeBlock}
-use Rattle.group_tree.specs.Groups.{IsLeastFreeNumber, make_fault, number_at, with_group}
+use Rattle.group_tree.specs.Groups.{IsLeastFreeNumber, has_group, make_fault, number_at, with_group}
 use Rattle.group_tree.specs.declared.fault.Fault.TheVariants.{NoGroup, BadOrder, NoFrames}
 use Rattle.mem_core.specs.declared.step.Place.{Place}
 use Rattle.mem_core.specs.declared.step.Place.TheVariants.{Free, Charged}
@@ -37,6 +37,13 @@ pub record IsHeld (s : State) : Type 0 where
   pub reached : IsReached s
   pub held : s.holder ≡ Some 1
   pub settled : NothingPending s
+
+-- inside a line, where pages are granted to one group and not placed yet
+pub record IsGranted (s : State) (group pages : ℕ) : Type 0 where
+  pub reached : IsReached s
+  pub held : s.holder ≡ Some 1
+  pub there : has_group s.groups group ≡ true
+  pub pending : (g : ℕ) → slice_index s.pending g ≡ (if g == group then pages else 0)
 
 -- what a legal step is answered
 abbrev pub IsAnswerTo : State → Action → Answer → Type 0
