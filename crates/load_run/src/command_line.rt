@@ -10,6 +10,22 @@ use clap::{Arg, ArgMatches, Command, Error, value_parser};
 use mem_core::config::Config;
 use std::alloc::{AllocError, Global};
 use std::convert::AsStr;
+use std::rt::Env;
+use std::{env, io};
+
+/// The words of the command line that follow the program's name. They have to be text.
+pub fn words<R: Env + AllocGlobal>(rt: &R) -> Result<Vec<String>, LineFault> {
+    match env::args(rt) {
+        Ok(words) => Ok(words.skip(1).collect(rt.alloc())?),
+        Err(error) if error.kind() == io::ErrorKind::OutOfMemory => {
+            Err(LineFault::NoMemory(AllocError))
+        }
+        Err(_) => {
+            let text = "error: a word of the command line is not valid UTF-8\n";
+            Err(LineFault::Words(String::from_str(rt.alloc(), text)?))
+        }
+    }
+}
 
 /// Reads the words that follow the program's name.
 pub fn options<S: AsStr>(alloc: Global, words: &[S]) -> Result<Options, LineFault>

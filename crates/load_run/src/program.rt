@@ -72,8 +72,8 @@ fn write_answers<O: Write>(output: &mut O, answers: &[u8]) -> Result<(), Program
     output.flush().map_err(|_| ProgramFault::Output)
 }
 
-// Tells a fault, as far as the writer takes it, and gives its status.
-fn tell<F: Write>(faults: &mut F, fault: &ProgramFault) -> u8 {
+/// Tells a fault in its words, as far as the writer takes them, and gives the status to end with.
+pub fn tell<F: Write>(faults: &mut F, fault: &ProgramFault) -> u8 {
     let _ = match fault {
         ProgramFault::Line(LineFault::Words(text)) => faults.write_all(text.as_bytes()),
         _ => writeln!(faults, "{fault}"),
