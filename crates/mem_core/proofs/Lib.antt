@@ -5,3 +5,4 @@ pub mod Laws
 pub mod Soundness
 pub mod Playing
 pub mod Wholeness
+pub mod Blocks

@@ -79,3 +79,17 @@ PlaysOn-step config s t run step answer so_far same shows sound =
       accounted = EveryBeginning-push run step answer (IsAccounted config) so_far.accounted (subst (λ (c : Config). IsAccounted c (pushed run step answer)) e (IsAccounted-Shows t (pushed run step answer) (HasSizes-IsSound t sound) sound shows));
       shown = EveryBeginning-push run step answer (IsShown config) so_far.shown (subst (λ (c : Config). IsShown c (pushed run step answer)) e (IsShown-Shows t (pushed run step answer) sound shows))
     }
+
+length-zip : {X Y : Type 0} (xs : List X) (ys : List Y) → length xs ≡ length ys → length (zip xs ys) ≡ length ys
+length-zip [] [] e = refl
+length-zip [] (y ∷ ys) e = absurd (omega arith)
+length-zip (x ∷ xs) [] e = absurd (omega arith)
+length-zip (x ∷ xs) (y ∷ ys) e = let rest = length-zip xs ys (omega arith) in omega arith
+
+-- as many pairs as answers
+pub length-zip-take : (steps : List Step) (answers : List Answer) (i : ℕ) → i ≤ length steps → length answers ≡ i → length (zip (take i steps) answers) ≡ i
+length-zip-take steps answers i h len = length-zip (take i steps) answers (length-take-le i steps h ∙ sym len) ∙ len
+
+-- all steps were made
+pub PlaysOn-all : (config : Config) (s : State) (steps : List Step) (answers : List Answer) (i : ℕ) → length steps ≤ i → PlaysOn config s (zip (take i steps) answers) → PlaysOn config s (zip steps answers)
+PlaysOn-all config s steps answers i h plays = subst (λ (l : List Step). PlaysOn config s (zip l answers)) (take_all i steps h) plays

@@ -19,6 +19,8 @@ use Rattle.mem_core.specs.Config.{IsValidConfig}
 use Rattle.mem_core.specs.Places.{is_same_place}
 use Rattle.mem_core.specs.Shown.{State, is_at, free_in, KeeperIsThere, IsSound, Shows}
 use Rattle.mem_core.specs.Steps.{with_range, with_block, counted}
+use Rattle.mem_core.specs.declared.zone.Core.TheInside.{Inside}
+use Rattle.mem_core.specs.Inside.{state_of, IsWhole}
 use Rattle.mem_core.proofs.PlaceLemmas.{is_same_place-sym, is_at_within, is_at_past}
 use Rattle.mem_core.proofs.Soundness.{map-replicate, map-with_range, IsSound-made, IsSound-placed}
 
@@ -106,3 +108,14 @@ bound_less pending steps g v inside less bound k d h =
 
 pub none_bound : (steps : ℕ) → All (λ n. n ≤ steps * 2 ^ 32) (replicate 64 0)
 none_bound steps k d h = let len = length-replicate {A = ℕ} 64 0 in let e = get_or-replicate 64 k 0 d (omega arith) in omega arith
+
+-- ---- a block is placed
+pub free_in-with_block : (c : Inside) (b : Block) (g : ℕ) → c.free.items ≡ free_in c.places.items → with_range c.free.items b.at (2 ^ b.order) false ≡ free_in (with_block c.places.items b (Charged g))
+free_in-with_block c b g flags =
+    ap (λ free. with_range free b.at (2 ^ b.order) false) flags
+    ∙ sym (map-with_range (λ p. is_same_place p Free) c.places.items b.at (2 ^ b.order) (Charged g))
+
+pub IsSound-step_placed : (c : Inside) (b : Block) (g : ℕ) (pending : List ℕ) (areas : List Block) → IsWhole c → length pending ≡ 64 → IsFreeBlock (free_in c.places.items) b → has_group c.tree g ≡ true → is_some c.holder ≡ true → AreMaximalBlocks (with_range c.free.items b.at (2 ^ b.order) false) areas → IsSound (record (counted (state_of c)) { places = with_block c.places.items b (Charged g); pending = pending; areas = areas })
+IsSound-step_placed c b g pending areas whole len block there held maximal =
+    IsSound-placed (state_of c) b g pending areas block there len held
+    (subst (λ (free : List Bool). AreMaximalBlocks free areas) (free_in-with_block c b g whole.flags) maximal) whole.sound

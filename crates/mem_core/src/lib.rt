@@ -4,6 +4,7 @@
 
 pub mod config;
 mod ranges;
+pub mod run;
 pub mod step;
 mod sums;
 pub mod zone;

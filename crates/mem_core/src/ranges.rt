@@ -1,6 +1,6 @@
 //! Lists of one value, and writing one value over a range.
 
-ghost use Rattle.std.specs.Prelude.{◌≡◌, ◌+◌, ◌≤◌, true, IfOk, length, replicate};
+ghost use Rattle.std.specs.Prelude.{◌≡◌, ◌+◌, ◌≤◌, true, IfOk, vec_len, replicate};
 ghost use Rattle.mem_core.specs.Steps.{with_range};
 
 use crate::step::Place;
@@ -8,17 +8,17 @@ use group_tree::group::MAX_GROUPS;
 use std::alloc::{AllocError, Global};
 
 // Sets the places of n frames from `at` on.
-pub(crate) fn set_places(places: &mut [Place], at: usize, n: usize, place: Place)
-    requires { at + n ≤ length places.old }
-    ensures { places.new ≡ with_range places.old at n place }
+pub(crate) fn set_places(places: &mut Vec<Place>, at: usize, n: usize, place: Place)
+    requires { at + n ≤ vec_len places.old }
+    ensures { places.new.items ≡ with_range places.old.items at n place }
 {
     places[at..at + n].fill(place);
 }
 
 // Sets n flags from `at` on.
-pub(crate) fn set_flags(flags: &mut [bool], at: usize, n: usize, flag: bool)
-    requires { at + n ≤ length flags.old }
-    ensures { flags.new ≡ with_range flags.old at n flag }
+pub(crate) fn set_flags(flags: &mut Vec<bool>, at: usize, n: usize, flag: bool)
+    requires { at + n ≤ vec_len flags.old }
+    ensures { flags.new.items ≡ with_range flags.old.items at n flag }
 {
     flags[at..at + n].fill(flag);
 }

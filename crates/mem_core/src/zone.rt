@@ -1,6 +1,6 @@
 //! The core: what stands behind the zone's lock, and how a step changes it.
 
-ghost use Rattle.std.specs.Prelude.{◌≡◌, ℕ, ◌+◌, ◌-◌, ◌^◌, ◌<◌, ◌≤◌, ◌↔◌, ◌&&◌, ◌≢◌, ◌++◌, ◌∷◌, [], true, false, Some, None, is_some, is_none, IsTrue, IfOk, OnOk, MatchOption, length, slice_get, slice_index, slice_set, map, All, ◌==◌};
+ghost use Rattle.std.specs.Prelude.{◌≡◌, ℕ, ◌+◌, ◌-◌, ◌^◌, ◌<◌, ◌≤◌, ◌↔◌, ◌&&◌, ◌≢◌, ◌++◌, ◌∷◌, [], true, false, Some, None, is_some, is_none, IsTrue, IfOk, OnOk, MatchOption, IfNone, IfSome, length, slice_get, slice_index, slice_set, map, All, ◌==◌};
 ghost use Rattle.std.specs.List.{list_all};
 ghost use Rattle.zone_blocks.specs.declared.block.Block.{Block};
 ghost use Rattle.zone_blocks.specs.Areas.{IsFreeBlock, AreMaximalBlocks};
@@ -129,6 +129,8 @@ impl Core {
         ensures current { result ≡ current_in self.now group }
         ensures run { (run : Run) → Shows self.now run → result ≡ usage_of self.now.config run group }
     {
+        // So many steps granted few enough pages for the sum.
+        let _steps = self.steps;
         let frames = count_charged(&self.tree, &self.places, group);
         let pages = sum_pending(&self.tree, &self.pending, group);
         frames + pages
@@ -257,18 +259,35 @@ impl Core {
         requires enough { 2 ^ order ≤ slice_index self.old.pending group }
         ensures { Changes self.old 0 (Action.PlaceBlock group order) result self.new }
     {
-        self.skip();
-        Answer::NoFreeBlock
+        match self.free_block(order) {
+            None => {
+                self.skip();
+                Answer::NoFreeBlock
+            }
+            Some(block) => {
+                self.charge_block(group, &block);
+                Answer::Placed(block)
+            }
+        }
+    }
+
+    // The free block of the order that is placed next: the lower part of the smallest area.
+    fn free_block(&self, order: Order) -> Option<Block>
+        ensures none { IfNone result ((b : Block) → b.order ≡ order → ¬ IsFreeBlock (free_in self.now.places) b) }
+        ensures some { IfSome result (λ b. (b.order ≡ order) × IsFreeBlock (free_in self.now.places) b) }
+    {
+        let area = self.areas.smallest_from(order)?;
+        Some(Block { at: area.at, order })
     }
 
     // Places pages of a group on a free block.
-    fn charge_block(&mut self, group: GroupId, block: Block)
+    fn charge_block(&mut self, group: GroupId, block: &Block)
         requires room { self.old.steps + 1 < 2 ^ 64 }
         requires held { is_some self.old.holder ≡ true }
         requires there { has_group self.old.groups group ≡ true }
-        requires enough { 2 ^ block.order ≤ slice_index self.old.pending group }
-        requires free { IsFreeBlock (free_in self.old.places) block }
-        ensures { self.new ≡ record (counted self.old) { places = with_block self.old.places block (Place.Charged group); pending = slice_set self.old.pending group (slice_index self.old.pending group - 2 ^ block.order); areas = self.new.areas } }
+        requires enough { 2 ^ block.now.order ≤ slice_index self.old.pending group }
+        requires free { IsFreeBlock (free_in self.old.places) block.now }
+        ensures { self.new ≡ record (counted self.old) { places = with_block self.old.places block.now (Place.Charged group); pending = slice_set self.old.pending group (slice_index self.old.pending group - 2 ^ block.now.order); areas = self.new.areas } }
     {
         self.steps += 1;
         let at = block.at as usize;

@@ -76,7 +76,8 @@ free_inside free a b h order aligned low high =
       all_free = λ f c. let from = c.from in let before = c.before in h.all_free f record { from = omega arith; before = omega arith };
     }
 
-greater_denied : (free : List Bool) (a b : Block) → IsMaximalBlock free a → IsFreeBlock free b → (f : ℕ) → Covers a f → Covers b f → a.order < b.order → ⊥
+-- a maximal free block shares no frame with a free block of a greater order
+pub greater_denied : (free : List Bool) (a b : Block) → IsMaximalBlock free a → IsFreeBlock free b → (f : ℕ) → Covers a f → Covers b f → a.order < b.order → ⊥
 greater_denied free a b ha hb f ca cb lt =
     let r = enclosing_inside (length free) a b ha.is_free.block hb.block lt f ca cb in
     let top = hb.block.order in

@@ -1,8 +1,8 @@
 -- All frames are free, and nothing is pending.
-use Rattle.std.proofs.Common.{◌≡◌, ℕ, List, Bool, true, replicate, refl, sym, subst}
+use Rattle.std.proofs.Common.{◌≡◌, ℕ, List, Bool, true, None, [], replicate, refl, sym, ap, ◌∙◌, ◌≤◌, ◌*◌, ◌^◌, subst}
 use Rattle.std.specs.Prelude.{All}
 use Rattle.zone_blocks.specs.Areas.{AreMaximalBlocks}
-use Rattle.mem_core.specs.Shown.{State, IsSound, Shows}
+use Rattle.mem_core.specs.Shown.{State, free_in, IsSound, Shows}
 use Rattle.mem_core.specs.Inside.{state_of}
 use Rattle.mem_core.proofs.Wholeness.{start_of, free_in-start, none_bound, IsSound-start, Shows-start}
 use Rattle.mem_core.proofs.zone.Core.new.Goals as goal
@@ -12,10 +12,17 @@ started : (c : goal.In_ok-tree) → start_of c.args.config c.set_from.new.self.b
 started c = rw (c.in_ok-places.ensures, c.in_ok-pending.ensures, c.in_ok-tree.ensures) refl
 
 sound : (c : goal.In_ok-tree) → IsSound (start_of c.args.config c.set_from.new.self.blocks)
-sound c = ?
+sound c =
+    IsSound-start c.args.config c.set_from.new.self.blocks c.requires
+    (subst (λ (free : List Bool). AreMaximalBlocks free c.set_from.new.self.blocks) (c.deref.ensures.value ∙ c.in_ok-free.ensures) c.set_from.ensures.areas)
 
 pub invariant_of-result : goal.invariant_of-result
-invariant_of-result c = ?
+invariant_of-result c = record {
+  sound = subst IsSound (started c) (sound c);
+  flags = c.in_ok-free.ensures ∙ sym (free_in-start c.args.config.frames) ∙ ap free_in (sym c.in_ok-places.ensures);
+  zone = c.set_from.ensures.frames ∙ c.in_ok-areas.ensures.frames;
+  bound = subst (All (λ n. n ≤ 0 * 2 ^ 32)) (sym c.in_ok-pending.ensures) (none_bound 0)
+}
 
 pub returns-clause-empty : goal.returns-clause-empty
 returns-clause-empty c = subst (λ (s : State). Shows s []) (started c) (Shows-start c.args.config c.set_from.new.self.blocks)

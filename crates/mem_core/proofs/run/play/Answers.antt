@@ -1,0 +1,55 @@
+-- Each step goes on the run, and in the end all steps were made.
+use Rattle.std.proofs.Common.{◌≡◌, ℕ, ◌+◌, ◌<◌, ◌≤◌, List, [], ◌∷◌, ◌++◌, length, take, get_or, refl, sym, ◌∙◌, ap, subst, arith, length-append}
+use Rattle.std.specs.List.{zip}
+use Rattle.mem_core.specs.declared.step.Step.{Step}
+use Rattle.mem_core.specs.declared.step.Answer.{Answer}
+use Rattle.mem_core.specs.Run.{Run}
+use Rattle.mem_core.proofs.Runs.{pushed}
+use Rattle.mem_core.proofs.Playing.{PlaysOn, PlaysOn-start, PlaysOn-step, PlaysOn-all, AgreesWith-Shows, zip-take_more, length-zip-take}
+use Rattle.mem_core.proofs.run.play.Goals as goal
+
+pub loop-step-init : goal.loop-step-init
+loop-step-init c = record {
+  one_each = ap length c.in_ok-answers.ensures.items;
+  plays = PlaysOn-start c.args.config c.in_ok-core.core c.in_ok-core.ensures.config c.in_ok-core.ensures.empty c.in_ok-core.ensures.sound
+}
+
+pub step-requires : goal.step-requires
+step-requires c =
+    let so_far = c.loop-step.invariant in
+    let i = c.loop-step.step-index in
+    let len = length-zip-take c.args.steps.now c.loop-step.answers.items i (let h = c.loop-step-test.true in omega arith) so_far.one_each in
+    let steps = so_far.plays.shows.steps in
+    omega arith
+
+pub loop-step-preserved : goal.loop-step-preserved
+loop-step-preserved c =
+    let so_far = c.loop-step.invariant in
+    let i = c.loop-step.step-index in
+    let steps = c.args.steps.now in
+    let answers = c.loop-step.answers.items in
+    let step = c.step-item.result in
+    let answer = c.step.result in
+    let run : Run = zip (take i steps) answers in
+    let pushes : c.push.new.self.items ≡ answers ++ answer ∷ [] = c.in_ok-push.ensures.items in
+    let more : zip (take (i + 1) steps) c.push.new.self.items ≡ pushed run step answer =
+      ap (zip (take (i + 1) steps)) pushes
+      ∙ zip-take_more steps answers i step answer c.loop-step-test.true so_far.one_each
+      ∙ ap (λ (x : Step). pushed run x answer) (sym c.step-item.is) in
+    let goes_on = PlaysOn-step c.args.config c.loop-step.core c.step.new.self run step answer so_far.plays c.step.ensures.config (c.step.ensures.shows run so_far.plays.shows) c.step.ensures.sound in
+    record {
+      one_each = ap length pushes ∙ length-append answers (answer ∷ []) ∙ ap (λ n. n + 1) so_far.one_each;
+      plays = subst (PlaysOn c.args.config c.step.new.self) (sym more) goes_on
+    }
+
+all : (c : goal.After-loop-step) → PlaysOn c.args.config c.loop-step.core (zip c.args.steps.now c.loop-step.answers.items)
+all c = PlaysOn-all c.args.config c.loop-step.core c.args.steps.now c.loop-step.answers.items c.loop-step.step-index c.loop-step-test.false c.loop-step.invariant.plays
+
+pub returns-clause-agrees : goal.returns-clause-agrees
+returns-clause-agrees c = let plays = all c in AgreesWith-Shows c.loop-step.core (zip c.args.steps.now c.loop-step.answers.items) plays.sound plays.shows
+
+pub returns-clause-accounted : goal.returns-clause-accounted
+returns-clause-accounted c = (all c).accounted
+
+pub returns-clause-shown : goal.returns-clause-shown
+returns-clause-shown c = (all c).shown

@@ -1,0 +1,11 @@
+use Rattle.std.proofs.Common.{◌≡◌, length, take}
+use Rattle.std.specs.List.{zip}
+use Rattle.mem_core.proofs.Playing.{PlaysOn}
+use Rattle.mem_core.proofs.run.play.Given as goal
+
+-- what was said of whole runs holds of the steps made so far
+abbrev pub invariant-loop-step : goal.invariant-loop-step
+invariant-loop-step l = record {
+  one_each : length l.answers.items ≡ l.step-index;
+  plays : PlaysOn l.fn.config l.core (zip (take l.step-index l.steps) l.answers.items);
+}

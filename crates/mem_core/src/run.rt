@@ -1,0 +1,54 @@
+//! Whole runs: the promise of the core, for every list of steps.
+
+ghost use Rattle.std.specs.Prelude.{◌≡◌, IfOk, length};
+ghost use Rattle.std.specs.List.{zip};
+ghost use Rattle.mem_core.specs.Config.{IsValidConfig};
+ghost use Rattle.mem_core.specs.Legal.{IsLegalRun};
+ghost use Rattle.mem_core.specs.Headline.{EveryBeginning, IsAccounted};
+ghost use Rattle.mem_core.specs.Shown.{Shows, IsSound};
+ghost use Rattle.mem_core.specs.Promise.{AgreesWith, IsShown};
+
+use crate::config::Config;
+use crate::step::{Answer, Step};
+use crate::zone::Core;
+use std::alloc::{AllocError, Global};
+
+/// The core after a list of steps, and their answers.
+#[derive(Drop)]
+pub struct Played {
+    pub core: Core,
+    pub answers: Vec<Answer>,
+}
+
+/// Makes the steps one after another, from a core on which none was made. The pairs of each step and
+/// its answer are a legal run, and the core shows it. In every beginning of that run each frame is
+/// accounted for, and a core in some state, the one that it had there, kept what the run defines.
+pub fn play(alloc: Global, config: Config, steps: &[Step]) -> Result<Played, AllocError>
+    requires { IsValidConfig config }
+    ensures one_each { IfOk result (λ p. length p.answers.items ≡ length steps.now) }
+    ensures shows { IfOk result (λ p. Shows p.core (zip steps.now p.answers.items)) }
+    ensures config { IfOk result (λ p. p.core.config ≡ config) }
+    ensures agrees { IfOk result (λ p. AgreesWith p.core (zip steps.now p.answers.items)) }
+    ensures accounted { IfOk result (λ p. EveryBeginning (zip steps.now p.answers.items) (IsAccounted config)) }
+    ensures shown { IfOk result (λ p. EveryBeginning (zip steps.now p.answers.items) (IsShown config)) }
+{
+    let mut core = Core::new(alloc, config)?;
+    let mut answers = Vec::with_capacity(alloc, steps.len())?;
+    for step in steps {
+        answers.push(core.step(*step))?;
+    }
+    Ok(Played { core, answers })
+}
+
+/// The answers to the steps, made one after another from the beginning: with them the steps are a
+/// legal run, and in every beginning of it each frame is accounted for.
+pub fn run(alloc: Global, config: Config, steps: &[Step]) -> Result<Vec<Answer>, AllocError>
+    requires { IsValidConfig config }
+    ensures one_each { IfOk result (λ answers. length answers.items ≡ length steps.now) }
+    ensures legal { IfOk result (λ answers. IsLegalRun config (zip steps.now answers.items)) }
+    ensures accounted { IfOk result (λ answers. EveryBeginning (zip steps.now answers.items) (IsAccounted config)) }
+    ensures shown { IfOk result (λ answers. EveryBeginning (zip steps.now answers.items) (IsShown config)) }
+{
+    let Played { core: _, answers } = play(alloc, config, steps)?;
+    Ok(answers)
+}
