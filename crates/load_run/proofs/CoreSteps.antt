@@ -8,7 +8,8 @@ use Rattle.std.proofs.lemmas.List.Sums.{fold_push, sum_by_push}
 use Rattle.zone_blocks.specs.declared.block.Block.{Block}
 use Rattle.zone_blocks.specs.Areas.{IsFreeBlock}
 use Rattle.group_tree.specs.declared.group.Group.{Group}
-use Rattle.group_tree.specs.Groups.{IsLeastFreeNumber, has_group, initial_groups, make_fault, with_group}
+use Rattle.group_tree.specs.Groups.{IsLeastFreeNumber, has_group, initial_groups, make_fault, number_at, with_group}
+use Rattle.group_tree.proofs.GroupLemmas.{has_group-contains, number_at-contains}
 use Rattle.mem_core.specs.declared.config.Config.{Config}
 use Rattle.mem_core.specs.declared.step.Place.{Place}
 use Rattle.mem_core.specs.declared.step.Place.TheVariants.{Free, Charged}
@@ -186,3 +187,10 @@ places s t g k NoFreeBlock granted reached step =
 places s t g k answer granted reached step =
     let may : may_act s 0 (PlaceBlock g k) ≡ true = rw (granted.held, granted.there, own_pages s g (2 ^ k) granted, le-leb (2 ^ k) (2 ^ k) (omega arith)) refl in
     absurd (step.answered may)
+
+-- a group that was found is there
+pub found_there : (groups : List Group) (path : List ℕ) (n : ℕ) → number_at groups path ≡ Some n → has_group groups n ≡ true
+found_there groups path n e =
+    let found = number_at-contains groups path n e in
+    let there : has_group groups found.0.number ≡ true = has_group-contains groups found.0 found.1 in
+    rw (← found.3) there

@@ -1,5 +1,5 @@
 -- How the core stands before, inside and after a line, and what a line is answered.
-use Rattle.std.specs.Prelude.{◌≡◌, ℕ, ◌+◌, true, Some, None, List, slice_index, ◌==◌, if◌then◌else◌}
+use Rattle.std.specs.Prelude.{◌≡◌, ℕ, ◌+◌, ◌<◌, ◌≤◌, true, Some, None, IsSome, List, slice_index, ◌==◌, if◌then◌else◌}
 use Rattle.zone_blocks.specs.declared.block.Block.{Block}
 use Rattle.zone_blocks.specs.Areas.{IsFreeBlock}
 use Rattle.group_tree.specs.Groups.{IsLeastFreeNumber, has_group, make_fault, number_at, with_group}
@@ -70,6 +70,12 @@ pub record IsStepped (s : State) (seat : ℕ) (action : Action) (answer : Answer
 abbrev pub SamePlaces : State → State → Type 0
 SamePlaces s t = (f : ℕ) (p : Place) → is_at t.places f p ≡ is_at s.places f p
 
+-- neither a group nor a place changed
+pub record IsSameMachine (s t : State) : Type 0 where
+  pub config : t.config ≡ s.config
+  pub groups : t.groups ≡ s.groups
+  pub places : SamePlaces s t
+
 -- the group of the path was made, with the least number that no group had, or is refused as the tree says
 abbrev pub AnswersMkdir : State → State → List ℕ → Reply → Type 0
 AnswersMkdir s t path (Group n) = (make_fault s.groups path ≡ None) × IsLeastFreeNumber s.groups n × (t.groups ≡ with_group s.groups n path) × SamePlaces s t
@@ -82,3 +88,10 @@ PlacesBlock s t g k (Frame f) = (b : Block) × (b.at ≡ f) × (b.order ≡ k) �
     × ((f : ℕ) (p : Place) → is_at t.places f p ≡ moved (is_at s.places) b Free (Charged g) f p)
 PlacesBlock s t g k (Refused NoFrames) = ((b : Block) → b.order ≡ k → ¬ IsFreeBlock (free_in s.places) b) × SamePlaces s t
 PlacesBlock s t g k reply = ⊥
+
+-- no group has the path, or the order is above 10, or there is no free block of the order; else one is the
+-- group's now
+abbrev pub AnswersAlloc : State → State → List ℕ → ℕ → Reply → Type 0
+AnswersAlloc s t path k (Refused NoGroup) = (number_at s.groups path ≡ None) × (t ≡ s)
+AnswersAlloc s t path k (Refused BadOrder) = IsSome (number_at s.groups path) × (10 < k) × (t ≡ s)
+AnswersAlloc s t path k reply = (g : ℕ) × (number_at s.groups path ≡ Some g) × (k ≤ 10) × (t.groups ≡ s.groups) × PlacesBlock s t g k reply

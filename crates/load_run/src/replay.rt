@@ -1,9 +1,10 @@
 //! The lines of a script, run one after the other in a core.
 
-ghost use Rattle.std.specs.Prelude.{◌≡◌, ◌+◌, ◌*◌, ◌^◌, ◌<◌, ◌≤◌, All, IsTrue, length};
-ghost use Rattle.group_tree.specs.Groups.{has_group};
+ghost use Rattle.std.specs.Prelude.{◌≡◌, ◌+◌, ◌*◌, ◌^◌, ◌<◌, ◌≤◌, All, None, length, true};
+ghost use Rattle.group_tree.specs.Groups.{IsLeastFreeNumber, has_group, make_fault, with_group};
 ghost use Rattle.mem_core.specs.Config.{IsValidConfig};
-ghost use Rattle.load_run.specs.Replay.{AnswersMkdir, IsHeld, IsIdle, IsReached, IsStepped, PlacesBlock};
+ghost use Rattle.load_run.specs.Replay.{AnswersAlloc, AnswersMkdir, IsGranted, IsHeld, IsIdle, IsReached};
+ghost use Rattle.load_run.specs.Replay.{IsSameMachine, IsStepped, PlacesBlock, SamePlaces};
 
 use crate::line::{Command, Line};
 use crate::reply::Reply;
@@ -58,6 +59,30 @@ fn make_step(core: &mut Core, seat: u32, action: Action) -> Answer
     core.step(Step { seat, action })
 }
 
+// The processor takes the lock.
+fn lock(core: &mut Core, seat: u32)
+    requires idle { IsIdle core.old }
+    requires processor { seat ≡ 1 }
+    requires room { core.old.steps + 1 < 2 ^ 64 }
+    ensures held { IsHeld core.new }
+    ensures same { IsSameMachine core.old core.new }
+    ensures steps { core.new.steps ≡ core.old.steps + 1 }
+{
+    make_step(core, seat, Action::Lock);
+}
+
+// The processor gives the lock back.
+fn unlock(core: &mut Core, seat: u32)
+    requires held { IsHeld core.old }
+    requires processor { seat ≡ 1 }
+    requires room { core.old.steps + 1 < 2 ^ 64 }
+    ensures idle { IsIdle core.new }
+    ensures same { IsSameMachine core.old core.new }
+    ensures steps { core.new.steps ≡ core.old.steps + 1 }
+{
+    make_step(core, seat, Action::Unlock);
+}
+
 // Makes the group of a path.
 fn make_group(core: &mut Core, seat: u32, path: &[u8]) -> Reply
     requires idle { IsIdle core.old }
@@ -72,11 +97,26 @@ fn make_group(core: &mut Core, seat: u32, path: &[u8]) -> Reply
         return Reply::Refused(fault);
     }
     let path = PathText::of(path).unwrap();
-    make_step(core, seat, Action::Lock);
-    let answer = make_step(core, ZONE_SEAT, Action::Make { path });
-    make_step(core, seat, Action::Unlock);
-    match answer {
-        Answer::Number(group) => Reply::Group(group.number()),
+    lock(core, seat);
+    let group = make_under_lock(core, path);
+    unlock(core, seat);
+    Reply::Group(group.number())
+}
+
+// Makes the group of a path that the tree doesn't refuse.
+fn make_under_lock(core: &mut Core, path: PathText) -> GroupId
+    requires held { IsHeld core.old }
+    requires can { make_fault core.old.groups path ≡ None }
+    requires room { core.old.steps + 1 < 2 ^ 64 }
+    ensures held { IsHeld core.new }
+    ensures config { core.new.config ≡ core.old.config }
+    ensures steps { core.new.steps ≡ core.old.steps + 1 }
+    ensures least { IsLeastFreeNumber core.old.groups result }
+    ensures groups { core.new.groups ≡ with_group core.old.groups result path }
+    ensures places { SamePlaces core.old core.new }
+{
+    match make_step(core, ZONE_SEAT, Action::Make { path }) {
+        Answer::Number(group) => group,
         _ => unreachable!(),
     }
 }
@@ -89,6 +129,7 @@ fn take_block(core: &mut Core, seat: u32, path: &[u8], order: u32) -> Reply
     ensures idle { IsIdle core.new }
     ensures config { core.new.config ≡ core.old.config }
     ensures steps { core.new.steps ≤ core.old.steps + 5 }
+    ensures answer { AnswersAlloc core.old core.new path.now order result }
 {
     let Some(group) = core.tree().find(path) else {
         return Reply::Refused(Fault::NoGroup);
@@ -99,16 +140,16 @@ fn take_block(core: &mut Core, seat: u32, path: &[u8], order: u32) -> Reply
     if core.areas().walk().next().is_none() {
         return Reply::Refused(Fault::NoFrames);
     }
-    make_step(core, seat, Action::Lock);
-    let reply = place_block(core, group, order);
-    make_step(core, seat, Action::Unlock);
+    lock(core, seat);
+    let reply = place_under_lock(core, group, order);
+    unlock(core, seat);
     reply
 }
 
 // Grants the pages of a block to a group and places them, where there is a free block.
-fn place_block(core: &mut Core, group: GroupId, order: Order) -> Reply
+fn place_under_lock(core: &mut Core, group: GroupId, order: Order) -> Reply
     requires held { IsHeld core.old }
-    requires there { IsTrue (has_group core.old.groups group) }
+    requires there { has_group core.old.groups group ≡ true }
     requires room { core.old.steps + 3 < 2 ^ 64 }
     ensures held { IsHeld core.new }
     ensures config { core.new.config ≡ core.old.config }
@@ -117,7 +158,7 @@ fn place_block(core: &mut Core, group: GroupId, order: Order) -> Reply
     ensures answer { PlacesBlock core.old core.new group order result }
 {
     let pages = order.frames();
-    make_step(core, ZONE_SEAT, Action::Grant { group, pages });
+    grant(core, group, pages);
     match make_step(core, ZONE_SEAT, Action::PlaceBlock { group, order }) {
         Answer::Placed(block) => Reply::Frame(block.at),
         _ => {
@@ -125,6 +166,18 @@ fn place_block(core: &mut Core, group: GroupId, order: Order) -> Reply
             Reply::Refused(Fault::NoFrames)
         }
     }
+}
+
+// Grants pages to a group.
+fn grant(core: &mut Core, group: GroupId, pages: u32)
+    requires held { IsHeld core.old }
+    requires there { has_group core.old.groups group ≡ true }
+    requires room { core.old.steps + 1 < 2 ^ 64 }
+    ensures granted { IsGranted core.new group pages }
+    ensures same { IsSameMachine core.old core.new }
+    ensures steps { core.new.steps ≡ core.old.steps + 1 }
+{
+    make_step(core, ZONE_SEAT, Action::Grant { group, pages });
 }
 
 #[cfg(test)]
