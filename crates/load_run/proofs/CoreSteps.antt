@@ -162,13 +162,12 @@ ungrants s t g n answer granted reached step =
     absurd (step.answered may)
 
 -- granted pages are placed, or there is no free block
-pub Places : State → State → ℕ → ℕ → Answer → Type 0
-Places s t g k (Placed b) = IsHeld t × (b.order ≡ k) × IsFreeBlock (free_in s.places) b × ((f : ℕ) (p : Place) → is_at t.places f p ≡ moved (is_at s.places) b Free (Charged g) f p)
-Places s t g k NoFreeBlock = IsGranted t g (2 ^ k) × ((b : Block) → b.order ≡ k → ¬ IsFreeBlock (free_in s.places) b) × SamePlaces s t
-Places s t g k answer = ⊥
+abbrev pub Outcome : State → State → ℕ → ℕ → Answer → Type 0
+Outcome s t g k (Placed b) = IsHeld t × (b.order ≡ k) × IsFreeBlock (free_in s.places) b × ((f : ℕ) (p : Place) → is_at t.places f p ≡ moved (is_at s.places) b Free (Charged g) f p)
+Outcome s t g k NoFreeBlock = IsGranted t g (2 ^ k) × ((b : Block) → b.order ≡ k → ¬ IsFreeBlock (free_in s.places) b) × SamePlaces s t
+Outcome s t g k answer = ⊥
 
-pub places : (s t : State) (g k : ℕ) (answer : Answer) → IsGranted s g (2 ^ k) → IsReached t → IsStepped s 0 (PlaceBlock g k) answer t → Places s t g k answer × (t.groups ≡ s.groups)
-unfolding Places
+pub places : (s t : State) (g k : ℕ) (answer : Answer) → IsGranted s g (2 ^ k) → IsReached t → IsStepped s 0 (PlaceBlock g k) answer t → Outcome s t g k answer × (t.groups ≡ s.groups)
 places s t g k (Placed b) granted reached step =
     let may : may_act s 0 (PlaceBlock g k) ≡ true = rw (granted.held, granted.there, own_pages s g (2 ^ k) granted, le-leb (2 ^ k) (2 ^ k) (omega arith)) refl in
     ((record {

@@ -1,5 +1,6 @@
 pub mod CoreSteps
 pub mod Cuts
+pub mod Machines
 pub mod Numerals
 pub mod Progress
 pub mod Readings
