@@ -99,7 +99,7 @@ all_zero (n ∷ pending) none =
     rw first (all_zero pending (λ g. none (suc g)))
 
 -- a group can have no pages pending where the lock is free
-settled : (s : State) → IsSound s → s.holder ≡ None → NothingPending s
+pub settled : (s : State) → IsSound s → s.holder ≡ None → NothingPending s
 settled s sound free g =
     elim (cases_lt g (length s.pending)) [
     | inl within ↦ sound.settled free g 0 within

@@ -1,6 +1,8 @@
 -- What stays the same over a line, and what an empty zone has.
-use Rattle.std.proofs.Common.{◌≡◌, ◌≢◌, ℕ, ◌+◌, ◌^◌, ◌<◌, ◌≤◌, Bool, true, false, Option, Some, None, is_some, List, [], ◌∷◌, length, map, get_or, refl, sym, ◌∙◌, ap, subst, arith}
-use Rattle.std.specs.List.{Contains, range_with_len}
+use Rattle.std.proofs.Common.{◌≡◌, ◌≢◌, ℕ, ◌+◌, ◌^◌, ◌<◌, ◌≤◌, Bool, true, false, Option, Some, None, is_some, List, [], ◌∷◌, length, map, get_or, refl, sym, ◌∙◌, ap, subst, arith, if◌then◌else◌}
+use Rattle.std.specs.List.{Contains, range_with_len, sum_by}
+use Rattle.std.specs.Prelude.{slice_index}
+use Rattle.std.proofs.lemmas.List.Sums.{count_by-le-length, sum_by-cons}
 use Rattle.std.proofs.lemmas.List.{get_or-map, length-map}
 use Rattle.std.proofs.lemmas.List.FromFn.{fill_by_all}
 use Rattle.std.proofs.lemmas.Nat.{pow_pos}
@@ -8,19 +10,20 @@ use Rattle.zone_blocks.specs.declared.block.Block.{Block}
 use Rattle.zone_blocks.specs.Areas.{AreMaximalBlocks, IsFreeBlock}
 use Rattle.zone_blocks.proofs.Unique.{in_one_block}
 use Rattle.group_tree.specs.declared.fault.Fault.TheVariants.{BadOrder, NoFrames, NoGroup}
-use Rattle.group_tree.specs.Groups.{number_at}
+use Rattle.group_tree.specs.Groups.{in_subtree, number_at}
+use Rattle.group_tree.specs.declared.group.Group.{Group}
 use Rattle.std.specs.Iterator.{YieldsFirst}
 use Rattle.std.proofs.lemmas.Bool.{false≢true}
 use Rattle.mem_core.specs.declared.step.Place.{Place}
 use Rattle.mem_core.specs.declared.step.Place.TheVariants.{Free, Charged}
 use Rattle.mem_core.specs.Places.{Places, is_same_place, moved}
-use Rattle.mem_core.specs.Shown.{IsSound, State, free_in, is_at}
+use Rattle.mem_core.specs.Shown.{IsSound, State, current_in, free_in, is_at, is_charged_below}
 use Rattle.mem_core.proofs.PlaceLemmas.{is_at_within}
 use Rattle.mem_core.specs.declared.step.Action.TheVariants.{PlaceBlock, Ungrant}
 use Rattle.mem_core.specs.declared.step.Answer.{Answer}
 use Rattle.mem_core.specs.declared.step.Answer.TheVariants.{NoFreeBlock, Placed}
-use Rattle.load_run.specs.Replay.{AnswersAlloc, IsGranted, IsHeld, IsReached, IsSameMachine, IsStepped, PlacesBlock, SamePlaces}
-use Rattle.load_run.proofs.CoreSteps.{places, ungrants}
+use Rattle.load_run.specs.Replay.{AnswersAlloc, IsGranted, IsHeld, IsReached, IsSameMachine, IsStepped, NothingPending, PlacesBlock, SamePlaces}
+use Rattle.load_run.proofs.CoreSteps.{places, settled, ungrants}
 use Rattle.load_run.specs.declared.reply.Reply.{Reply}
 use Rattle.load_run.specs.declared.reply.Reply.TheVariants.{Frame, Refused}
 
@@ -100,3 +103,24 @@ pub alloc_answered : (s t : State) (path : List ℕ) (k g : ℕ) (reply : Reply)
 alloc_answered s t path k g (Refused NoGroup) found low same placed = absurd placed
 alloc_answered s t path k g (Refused BadOrder) found low same placed = absurd placed
 alloc_answered s t path k g reply found low same placed = (g, found, low, same, placed)
+
+none_pending : (s : State) (g : ℕ) → NothingPending s → (groups : List Group) → sum_by (λ h. if in_subtree s.groups g h.number then slice_index s.pending h.number else 0) groups ≡ 0
+none_pending s g none groups = sum_zero groups
+  where
+    term : (h : Group) (b : Bool) → (if b then slice_index s.pending h.number else 0) ≡ 0
+    term h true = none h.number
+    term h false = refl
+    sum_zero : (groups : List Group) → sum_by (λ h. if in_subtree s.groups g h.number then slice_index s.pending h.number else 0) groups ≡ 0
+    sum_zero [] = refl
+    sum_zero (h ∷ groups) =
+        sum_by-cons (λ h. if in_subtree s.groups g h.number then slice_index s.pending h.number else 0) h groups
+        ∙ (let first = term h (in_subtree s.groups g h.number) in let rest = sum_zero groups in omega arith)
+
+-- while the lock is free, no group uses more pages than the zone has frames
+pub usage_low : (s : State) (g : ℕ) → IsSound s → s.holder ≡ None → current_in s g ≤ 65536
+usage_low s g sound free =
+    let frames = count_by-le-length (is_charged_below s.groups g) s.places in
+    let pages = none_pending s g (settled s sound free) s.groups in
+    let most = sound.config.frames_high in
+    let size = sound.places in
+    omega arith

@@ -1,7 +1,8 @@
 //! The text that `show` is answered.
 
-ghost use Rattle.std.specs.Prelude.{◌≡◌, ◌<◌, ◌≤◌, IsTrue, None};
-ghost use Rattle.mem_core.specs.Shown.{IsSound};
+ghost use Rattle.std.specs.Prelude.{◌≡◌, ◌*◌, ◌<◌, None, true};
+ghost use Rattle.group_tree.specs.Groups.{has_group};
+ghost use Rattle.mem_core.specs.Shown.{IsSound, current_in};
 
 use group_tree::group::GroupId;
 use group_tree::path::PathText;
@@ -22,13 +23,23 @@ pub fn write_show(core: &Core, frames: u32, text: &mut String) -> Result<(), All
     write_places(core, frames, text)?;
     for group in core.tree().groups() {
         if group.number != GroupId::root() {
-            let bytes = core.current(group.number) * PAGE_SIZE;
+            let bytes = bytes_used(core, group.number);
             text.push_str("current ")?;
             push_path(text, &group.path)?;
             writeln!(text, " {bytes}")?;
         }
     }
     Ok(())
+}
+
+// The memory now used by a group and its descendants, in bytes.
+fn bytes_used(core: &Core, group: GroupId) -> u128
+    requires sound { IsSound core.now }
+    requires free { core.now.holder ≡ None }
+    requires there { has_group core.now.groups group ≡ true }
+    ensures { result ≡ current_in core.now group * 4096 }
+{
+    core.current(group) * PAGE_SIZE
 }
 
 // A line for each longest run of frames with equal place.
