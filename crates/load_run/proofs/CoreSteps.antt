@@ -55,8 +55,8 @@ answer_to s run (PlaceBlock g k) (Placed b) sound shows is =
     (is.0, subst P (sym (free_frames-Shows s run shows (HasSizes-IsSound s sound))) is.1)
 answer_to s run (PlaceBlock g k) NoFreeBlock sound shows is =
     λ b order block.
-      let P : List Bool → Type 0 = λ free. IsFreeBlock free b in
-      is b order (subst P (free_frames-Shows s run shows (HasSizes-IsSound s sound)) block)
+    let P : List Bool → Type 0 = λ free. IsFreeBlock free b in
+    is b order (subst P (free_frames-Shows s run shows (HasSizes-IsSound s sound)) block)
 answer_to s run (Make path) (Number n) sound shows is =
     let P : List Group → Type 0 = λ groups. IsLeastFreeNumber groups n in
     subst P (sym shows.groups) is
@@ -81,15 +81,15 @@ stepped s t run step answer sound config before after =
       holder = after.holder ∙ fold_push (λ holder e. holder_after holder e.0.seat e.0.action e.1) None run (step, answer) ∙ ap (λ h. holder_after h step.seat step.action answer) (sym before.holder);
       groups = after.groups ∙ fold_push (λ groups e. groups_after groups e.0.action e.1) initial_groups run (step, answer) ∙ ap (λ gs. groups_after gs step.action answer) (sym before.groups);
       places = λ f p. sym (places_then f p)
-        ∙ ap (λ places. places f p) (fold_push (λ places e. places_after places e.0.action e.1) (places_at_boot s.config.frames) run (step, answer))
-        ∙ ap (λ places. places_after places step.action answer f p) same_places;
+          ∙ ap (λ places. places f p) (fold_push (λ places e. places_after places e.0.action e.1) (places_at_boot s.config.frames) run (step, answer))
+          ∙ ap (λ places. places_after places step.action answer f p) same_places;
       pending = λ g.
-        let more_granted = sum_by_push (λ e. pages_granted g e.0.action e.1) run (step, answer) in
-        let more_used = sum_by_push (λ e. pages_used g e.0.action e.1) run (step, answer) in
-        let here = before.pending g in
-        let there = after.pending g in
-        omega arith;
-      answered = legal_answer s run step answer sound before allowed
+          let more_granted = sum_by_push (λ e. pages_granted g e.0.action e.1) run (step, answer) in
+          let more_used = sum_by_push (λ e. pages_used g e.0.action e.1) run (step, answer) in
+          let here = before.pending g in
+          let there = after.pending g in
+          omega arith;
+      answered = legal_answer s run step answer sound before allowed;
     }
 
 all_zero : (pending : List ℕ) → ((g : ℕ) → slice_index pending g ≡ 0) → list_all (λ n. n == 0) pending ≡ true
@@ -102,17 +102,21 @@ all_zero (n ∷ pending) none =
 pub settled : (s : State) → IsSound s → s.holder ≡ None → NothingPending s
 settled s sound free g =
     elim (cases_lt g (length s.pending)) [
-    | inl within ↦ sound.settled free g 0 within
-    | inr past ↦ get_or_past s.pending g 0 past
+      | inl within ↦ sound.settled free g 0 within
+      | inr past ↦ get_or_past s.pending g 0 past
     ]
 
 -- the processor takes the lock
 pub locks : (s t : State) (seat : ℕ) (answer : Answer) → IsIdle s → seat ≡ 1 → IsReached t → IsStepped s seat Lock answer t → IsHeld t × (t.groups ≡ s.groups) × SamePlaces s t
-locks s t seat Done idle is reached step = (record {
+locks s t seat Done idle is reached step = (
+  record {
     reached = reached;
     held = step.holder ∙ ap Some is;
-    settled = λ g. let none = settled s idle.reached.sound idle.free g in let same = step.pending g in omega arith
-  }, step.groups, step.places)
+    settled = λ g. let none = settled s idle.reached.sound idle.free g in let same = step.pending g in omega arith;
+  },
+  step.groups,
+  step.places,
+)
 locks s t seat answer idle is reached step =
     let may : may_act s seat Lock ≡ true = rw (is, idle.free) refl in
     absurd (step.answered may)
@@ -126,23 +130,31 @@ unlocks s t seat answer held is reached step =
 
 -- a group is made under the lock
 pub makes : (s t : State) (path : List ℕ) (answer : Answer) → IsHeld s → make_fault s.groups path ≡ None → IsReached t → IsStepped s 0 (Make path) answer t → IsHeld t × ((n : ℕ) × (answer ≡ Number n) × IsLeastFreeNumber s.groups n × (t.groups ≡ with_group s.groups n path)) × SamePlaces s t
-makes s t path (Number n) held can reached step = (record {
+makes s t path (Number n) held can reached step = (
+  record {
     reached = reached;
     held = step.holder ∙ held.held;
-    settled = λ g. let none = held.settled g in let same = step.pending g in omega arith
-  }, (n, refl, step.answered (rw (held.held, can) refl), step.groups), step.places)
+    settled = λ g. let none = held.settled g in let same = step.pending g in omega arith;
+  },
+  (n, refl, step.answered (rw (held.held, can) refl), step.groups),
+  step.places,
+)
 makes s t path answer held can reached step =
     let may : may_act s 0 (Make path) ≡ true = rw (held.held, can) refl in
     absurd (step.answered may)
 
 -- pages are granted under the lock
 pub grants : (s t : State) (g n : ℕ) (answer : Answer) → IsHeld s → has_group s.groups g ≡ true → IsReached t → IsStepped s 0 (Grant g n) answer t → IsGranted t g n × (t.groups ≡ s.groups) × SamePlaces s t
-grants s t g n Granted held there reached step = (record {
+grants s t g n Granted held there reached step = (
+  record {
     reached = reached;
     held = step.holder ∙ held.held;
     there = rw step.groups there;
-    pending = λ h. let none = held.settled h in let more = step.pending h in omega arith
-  }, step.groups, step.places)
+    pending = λ h. let none = held.settled h in let more = step.pending h in omega arith;
+  },
+  step.groups,
+  step.places,
+)
 grants s t g n answer held there reached step =
     let may : may_act s 0 (Grant g n) ≡ true = rw (held.held, there) refl in
     absurd (step.answered may)
@@ -152,11 +164,15 @@ own_pages s g n granted = granted.pending g ∙ (let e : (g == g) ≡ true = gri
 
 -- granted pages are taken back
 pub ungrants : (s t : State) (g n : ℕ) (answer : Answer) → IsGranted s g n → IsReached t → IsStepped s 0 (Ungrant g n) answer t → IsHeld t × (t.groups ≡ s.groups) × SamePlaces s t
-ungrants s t g n Done granted reached step = (record {
+ungrants s t g n Done granted reached step = (
+  record {
     reached = reached;
     held = step.holder ∙ granted.held;
-    settled = λ h. let some = granted.pending h in let less = step.pending h in omega arith
-  }, step.groups, step.places)
+    settled = λ h. let some = granted.pending h in let less = step.pending h in omega arith;
+  },
+  step.groups,
+  step.places,
+)
 ungrants s t g n answer granted reached step =
     let may : may_act s 0 (Ungrant g n) ≡ true = rw (granted.held, granted.there, own_pages s g n granted, le-leb n n (omega arith)) refl in
     absurd (step.answered may)
@@ -169,20 +185,33 @@ Outcome s t g k answer = ⊥
 
 pub places : (s t : State) (g k : ℕ) (answer : Answer) → IsGranted s g (2 ^ k) → IsReached t → IsStepped s 0 (PlaceBlock g k) answer t → Outcome s t g k answer × (t.groups ≡ s.groups)
 places s t g k (Placed b) granted reached step =
-    let may : may_act s 0 (PlaceBlock g k) ≡ true = rw (granted.held, granted.there, own_pages s g (2 ^ k) granted, le-leb (2 ^ k) (2 ^ k) (omega arith)) refl in
-    ((record {
-      reached = reached;
-      held = step.holder ∙ granted.held;
-      settled = λ h. let some = granted.pending h in let less = step.pending h in omega arith
-    }, (step.answered may).0, (step.answered may).1, step.places), step.groups)
+    let may : may_act s 0 (PlaceBlock g k) ≡ true = rw (granted.held, granted.there, own_pages s g (2 ^ k) granted, le-leb (2 ^ k) (2 ^ k) (omega arith)) refl in (
+      (
+        record {
+          reached = reached;
+          held = step.holder ∙ granted.held;
+          settled = λ h. let some = granted.pending h in let less = step.pending h in omega arith;
+        },
+        (step.answered may).0,
+        (step.answered may).1,
+        step.places,
+      ),
+      step.groups,
+    )
 places s t g k NoFreeBlock granted reached step =
-    let may : may_act s 0 (PlaceBlock g k) ≡ true = rw (granted.held, granted.there, own_pages s g (2 ^ k) granted, le-leb (2 ^ k) (2 ^ k) (omega arith)) refl in
-    ((record {
-      reached = reached;
-      held = step.holder ∙ granted.held;
-      there = rw step.groups granted.there;
-      pending = λ h. let some = granted.pending h in let same = step.pending h in omega arith
-    }, step.answered may, step.places), step.groups)
+    let may : may_act s 0 (PlaceBlock g k) ≡ true = rw (granted.held, granted.there, own_pages s g (2 ^ k) granted, le-leb (2 ^ k) (2 ^ k) (omega arith)) refl in (
+      (
+        record {
+          reached = reached;
+          held = step.holder ∙ granted.held;
+          there = rw step.groups granted.there;
+          pending = λ h. let some = granted.pending h in let same = step.pending h in omega arith;
+        },
+        step.answered may,
+        step.places,
+      ),
+      step.groups,
+    )
 places s t g k answer granted reached step =
     let may : may_act s 0 (PlaceBlock g k) ≡ true = rw (granted.held, granted.there, own_pages s g (2 ^ k) granted, le-leb (2 ^ k) (2 ^ k) (omega arith)) refl in
     absurd (step.answered may)

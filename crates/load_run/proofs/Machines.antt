@@ -33,8 +33,8 @@ free_in-is_at s sound =
     fill_by_all (λ f. is_at s.places f Free) (free_in s.places) s.config.frames false
     (length-map s.places (λ p. is_same_place p Free) ∙ sound.places)
     (λ f h.
-      let within : f < length s.places = rw sound.places h in
-      get_or-map (λ p. is_same_place p Free) s.places f Free false within ∙ sym (is_at_within s.places f Free within))
+    let within : f < length s.places = rw sound.places h in
+    get_or-map (λ p. is_same_place p Free) s.places f Free false within ∙ sym (is_at_within s.places f Free within))
 
 -- where every frame is where it was, the same frames are free
 pub same_free : (s t : State) → IsSound s → IsSound t → t.config ≡ s.config → SamePlaces s t → free_in t.places ≡ free_in s.places
@@ -49,9 +49,14 @@ same_free s t before after config same =
 pub same_block : (s u v t : State) (g k : ℕ) (reply : Reply) → free_in u.places ≡ free_in s.places → SamePlaces s u → SamePlaces v t → PlacesBlock u v g k reply → PlacesBlock s t g k reply
 same_block s u v t g k (Frame f) free before after placed =
     let P : List Bool → Type 0 = λ set. IsFreeBlock set placed.0 in
-    let places : is_at u.places ≡ is_at s.places = λ i. λ f. λ p. before f p i in
-    (placed.0, placed.1, placed.2, subst P free placed.3, λ f p.
-      after f p ∙ placed.4 f p ∙ ap (λ (at : Places). moved at placed.0 Free (Charged g) f p) places)
+    let places : is_at u.places ≡ is_at s.places = λ i. λ f. λ p. before f p i in (
+      placed.0,
+      placed.1,
+      placed.2,
+      subst P free placed.3,
+      λ f p.
+          after f p ∙ placed.4 f p ∙ ap (λ (at : Places). moved at placed.0 Free (Charged g) f p) places,
+    )
 same_block s u v t g k (Refused NoFrames) free before after placed =
     let P : List Bool → Type 0 = λ set. (b : Block) → b.order ≡ k → ¬ IsFreeBlock set b in
     (subst P free placed.0, λ f p. after f p ∙ placed.1 f p ∙ before f p)
@@ -85,10 +90,11 @@ no_block_placed s u v t g k n NoFreeBlock back sound is granted same other reach
     let taken = ungrants v t g n back (subst Q (sym is) none.0.0) after last in
     let free = same_free s u sound granted.reached.sound same.config same.places in
     let R : List Bool → Type 0 = λ set. (b : Block) → b.order ≡ k → ¬ IsFreeBlock set b in
-    let stays : SamePlaces s t = λ f p. taken.2 f p ∙ none.0.2 f p ∙ same.places f p in
-    (taken.0,
+    let stays : SamePlaces s t = λ f p. taken.2 f p ∙ none.0.2 f p ∙ same.places f p in (
+      taken.0,
       record { config = last.config ∙ step.config ∙ same.config; groups = taken.1 ∙ none.1 ∙ same.groups; places = stays },
-      (subst R free none.0.1, stays))
+      (subst R free none.0.1, stays),
+    )
 no_block_placed s u v t g k n answer back sound is granted same other reached step after last =
     let P : ℕ → Type 0 = λ m. IsGranted u g m in
     absurd ((places u v g k answer (subst P is granted) reached step).0)
@@ -110,6 +116,7 @@ none_pending s g none groups = sum_zero groups
     term : (h : Group) (b : Bool) → (if b then slice_index s.pending h.number else 0) ≡ 0
     term h true = none h.number
     term h false = refl
+
     sum_zero : (groups : List Group) → sum_by (λ h. if in_subtree s.groups g h.number then slice_index s.pending h.number else 0) groups ≡ 0
     sum_zero [] = refl
     sum_zero (h ∷ groups) =

@@ -1,5 +1,5 @@
 -- How far a script was read.
-use Rattle.std.proofs.Common.{◌≡◌, ℕ, zero, suc, ◌+◌, ◌-◌, ◌<◌, ◌≤◌, List, [], ◌∷◌, ◌++◌, length, Bool, true, false, not, cond, filter, take, Option, Some, None, MatchOption, IfSome, ◌⊎◌, ◌==◌, count_by, drop, get_or, slice_get, refl, sym, ap, subst, ◌∙◌, arith, inl, inr, zero-add}
+use Rattle.std.proofs.Common.{◌≡◌, ℕ, zero, suc, ◌+◌, ◌-◌, ◌<◌, ◌≤◌, List, [], ◌∷◌, ◌++◌, length, Bool, true, false, not, cond, filter, take, Option, Some, None, MatchOption, IfSome, ◌⊎◌, ◌==◌, count_by, drop, get_or, slice_get, refl, sym, ap, subst, ◌∙◌, arith, inl, inr, zero-add, All}
 use Rattle.std.specs.List.{AllZip, enumerate_from, slice_split}
 use Rattle.std.proofs.lemmas.Bool.{cases_lt}
 use Rattle.std.proofs.lemmas.List.{append-nil, take-append-drop, take_all, take_more}
@@ -168,3 +168,11 @@ next_of script count index text turn =
       inside = rw index_is inside;
       is_text = rw index_is (slice_get-get_or (texts_of script) count text inside ∙ ap Some (sym text_is));
     }
+
+-- the processors of the lines of a script are those that there are
+pub processors_there : (cpus : ℕ) (texts : List (List ℕ)) (lines : List Line) → AllZip (λ text line. IsLineText cpus line text) texts lines → All (λ line. (1 ≤ line.processor) × (line.processor ≤ cpus)) lines
+processors_there cpus [] [] all k d h = absurd (omega arith)
+processors_there cpus [] (l ∷ lines) all k d h = absurd all
+processors_there cpus (t ∷ texts) [] all k d h = absurd all
+processors_there cpus (t ∷ texts) (l ∷ lines) all zero d h = (all.0.low, all.0.high)
+processors_there cpus (t ∷ texts) (l ∷ lines) all (suc k) d h = processors_there cpus texts lines all.1 k d (omega arith)

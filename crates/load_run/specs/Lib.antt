@@ -1,3 +1,4 @@
+pub mod Fault
 pub mod Replay
 pub mod Script
 pub mod Settings

@@ -1,6 +1,6 @@
 //! Why a command line, a script or a run of the program fails.
 
-ghost use Rattle.std.specs.Prelude.{◌≡◌, ◌⊎◌};
+ghost use Rattle.std.specs.Prelude.{◌≡◌};
 ghost use Rattle.load_run.specs.declared.fault.ScriptFault.TheVariants.{NoMemory};
 
 use std::alloc::{AllocError, AllocFailed};
@@ -50,10 +50,10 @@ impl<T: Drop> From<AllocFailed<T>> for ScriptFault {
 pub enum ProgramFault {
     /// The words of the command line give no options.
     #[error("{0}")]
-    Line(LineFault),
+    Line(#[from] LineFault),
     /// The script gives no lines.
     #[error("{0}")]
-    Script(ScriptFault),
+    Script(#[from] ScriptFault),
     /// A size is out of its range, or so far other than 1.
     #[error("refused 14 BadConfig")]
     BadConfig,
@@ -69,9 +69,11 @@ pub enum ProgramFault {
 }
 
 impl ProgramFault {
+    ghost use Rattle.load_run.specs.Fault.{status_of};
+
     /// The status that the program ends with: 2 where it was used wrongly, 1 where it failed at its work.
     pub fn status(&self) -> u8
-        ensures { (result ≡ 1) ⊎ (result ≡ 2) }
+        ensures { result ≡ status_of self.now }
     {
         match self {
             ProgramFault::Line(LineFault::Words(_))

@@ -1,5 +1,9 @@
 //! The program over any reader and two writers.
 
+ghost use Rattle.std.specs.Prelude.{◌≡◌, ◌≤◌, ◌↔◌, IfErr, IsTrue};
+ghost use Rattle.load_run.specs.Fault.{status_of};
+ghost use Rattle.load_run.specs.Settings.{IsSingle};
+
 use crate::command_line::options;
 use crate::fault::{LineFault, ProgramFault};
 use crate::replay::replay_lines;
@@ -24,7 +28,11 @@ pub fn drive<R, S: AsStr, I: Read, O: Write, F: Write>(
     input: &mut I,
     output: &mut O,
     faults: &mut F,
-) -> u8 {
+) -> u8
+    ensures status { result ≤ 2 }
+    ensures quiet { result ≡ 2 → O.contents output.new ≡ O.contents output.old }
+    ensures silent { result ≡ 0 → F.contents faults.new ≡ F.contents faults.old }
+{
     match answers_to(alloc, words, input) {
         Ok(answers) => match write_answers(output, &answers) {
             Ok(()) => 0,
@@ -35,11 +43,14 @@ pub fn drive<R, S: AsStr, I: Read, O: Write, F: Write>(
 }
 
 // The answers to the script that the input holds.
-fn answers_to<S: AsStr, I: Read>(alloc: Global, words: &[S], input: &mut I) -> Result<Vec<u8>, ProgramFault> {
-    let options = options(alloc, words).map_err(ProgramFault::Line)?;
-    let config = options.config;
+fn answers_to<S: AsStr, I: Read>(
+    alloc: Global,
+    words: &[S],
+    input: &mut I,
+) -> Result<Vec<u8>, ProgramFault> {
+    let config = options(alloc, words)?.config;
     let script = read_script(alloc, input)?;
-    let lines = parse_script(alloc, &script, &config).map_err(ProgramFault::Script)?;
+    let lines = parse_script(alloc, &script, &config)?;
     if !config.is_valid() || !is_single(&config) {
         return Err(ProgramFault::BadConfig);
     }
@@ -48,7 +59,9 @@ fn answers_to<S: AsStr, I: Read>(alloc: Global, words: &[S], input: &mut I) -> R
 
 // Whether there is one processor, whose list and stock take one at a time: the only configuration until
 // the whole machine is there.
-fn is_single(config: &Config) -> bool {
+fn is_single(config: &Config) -> bool
+    ensures { IsTrue result ↔ IsSingle config.now }
+{
     config.cpus == 1 && config.batch == 1 && config.high == 1 && config.stock == 1
 }
 
@@ -67,13 +80,17 @@ fn read_script<I: Read>(alloc: Global, input: &mut I) -> Result<Vec<u8>, Program
 }
 
 // Writes all of the answers.
-fn write_answers<O: Write>(output: &mut O, answers: &[u8]) -> Result<(), ProgramFault> {
+fn write_answers<O: Write>(output: &mut O, answers: &[u8]) -> Result<(), ProgramFault>
+    ensures { IfErr result (λ fault. status_of fault ≡ 1) }
+{
     output.write_all(answers).map_err(|_| ProgramFault::Output)?;
     output.flush().map_err(|_| ProgramFault::Output)
 }
 
 /// Tells a fault in its words, as far as the writer takes them, and gives the status to end with.
-pub fn tell<F: Write>(faults: &mut F, fault: &ProgramFault) -> u8 {
+pub fn tell<F: Write>(faults: &mut F, fault: &ProgramFault) -> u8
+    ensures { result ≡ status_of fault.now }
+{
     let _ = match fault {
         ProgramFault::Line(LineFault::Words(text)) => faults.write_all(text.as_bytes()),
         _ => writeln!(faults, "{fault}"),

@@ -19,7 +19,11 @@ use std::alloc::{AllocError, Global};
 use zone_blocks::order::Order;
 
 /// Runs the lines and gives their answers, each ended by a line feed.
-pub fn replay_lines(alloc: Global, config: Config, lines: &[Line<'_>]) -> Result<Vec<u8>, AllocError>
+pub fn replay_lines(
+    alloc: Global,
+    config: Config,
+    lines: &[Line<'_>],
+) -> Result<Vec<u8>, AllocError>
     requires valid { IsValidConfig config }
     requires processors { All (λ line. line.processor ≡ 1) lines.now }
 {
@@ -32,7 +36,12 @@ pub fn replay_lines(alloc: Global, config: Config, lines: &[Line<'_>]) -> Result
 }
 
 // Runs a line and adds its answer.
-fn run_line(core: &mut Core, frames: u32, line: &Line<'_>, answers: &mut String) -> Result<(), AllocError>
+fn run_line(
+    core: &mut Core,
+    frames: u32,
+    line: &Line<'_>,
+    answers: &mut String,
+) -> Result<(), AllocError>
     requires idle { IsIdle core.old }
     requires frames { core.old.config.frames ≡ frames }
     requires processor { line.now.processor ≡ 1 }

@@ -62,14 +62,30 @@ const SINGLE: [&str; 9] = [
 
 fn run<R: AllocGlobal>(rt: &R, words: &[&str], mut script: Script<'_>, room: usize) -> Outcome {
     let alloc = rt.alloc();
-    let mut output = Paper { text: Vec::new(alloc), at_once: 3, room };
-    let mut faults = Paper { text: Vec::new(alloc), at_once: 3, room: 10_000 };
+    let mut output = Paper {
+        text: Vec::new(alloc),
+        at_once: 3,
+        room,
+    };
+    let mut faults = Paper {
+        text: Vec::new(alloc),
+        at_once: 3,
+        room: 10_000,
+    };
     let status = drive(rt, alloc, words, &mut script, &mut output, &mut faults);
-    Outcome { status, output: output.text, faults: faults.text }
+    Outcome {
+        status,
+        output: output.text,
+        faults: faults.text,
+    }
 }
 
 fn whole(rest: &[u8]) -> Script<'_> {
-    Script { rest, at_once: 5, fails: false }
+    Script {
+        rest,
+        at_once: 5,
+        fails: false,
+    }
 }
 
 #[test]
@@ -84,7 +100,12 @@ fn runs_a_script(rt: HostRuntime) {
 
 #[test]
 fn tells_a_bad_line_before_a_bad_configuration(rt: HostRuntime) {
-    let outcome = run(&rt, &["replay"], whole(b"1 mkdir /a\ngo\n".as_slice()), 10_000);
+    let outcome = run(
+        &rt,
+        &["replay"],
+        whole(b"1 mkdir /a\ngo\n".as_slice()),
+        10_000,
+    );
     assert_eq!(rt; outcome.status, 2);
     assert!(rt; outcome.output.is_empty());
     assert!(rt; outcome.faults.as_slice() == b"bad line 2\n".as_slice());
@@ -108,15 +129,28 @@ fn refuses_more_than_one_processor_so_far(rt: HostRuntime) {
 
 #[test]
 fn refuses_words(rt: HostRuntime) {
-    let outcome = run(&rt, &["replay", "--frames=0"], whole(b"".as_slice()), 10_000);
+    let outcome = run(
+        &rt,
+        &["replay", "--frames=0"],
+        whole(b"".as_slice()),
+        10_000,
+    );
     assert_eq!(rt; outcome.status, 2);
     assert!(rt; outcome.output.is_empty());
-    assert!(rt; outcome.faults.starts_with(b"error: invalid value '0' for '--frames <N>'"));
+    assert!(rt;
+        outcome
+            .faults
+            .starts_with(b"error: invalid value '0' for '--frames <N>'")
+    );
 }
 
 #[test]
 fn tells_that_the_input_failed(rt: HostRuntime) {
-    let script = Script { rest: b"1 show\n".as_slice(), at_once: 2, fails: true };
+    let script = Script {
+        rest: b"1 show\n".as_slice(),
+        at_once: 2,
+        fails: true,
+    };
     let outcome = run(&rt, &SINGLE, script, 10_000);
     assert_eq!(rt; outcome.status, 1);
     assert!(rt; outcome.output.is_empty());
@@ -138,10 +172,18 @@ fn takes_scripts_of_1048576_bytes_alone(rt: HostRuntime) -> Result<(), Fail> {
         script.extend_from_slice(vec![in alloc; b'#'; 1_023]?.as_slice())?;
         script.push(b'\n')?;
     }
-    let good = Script { rest: &script, at_once: 100_000, fails: false };
+    let good = Script {
+        rest: &script,
+        at_once: 100_000,
+        fails: false,
+    };
     assert_eq!(rt; run(&rt, &SINGLE, good, 0).status, 0);
     script.push(b'#')?;
-    let long = Script { rest: &script, at_once: 100_000, fails: false };
+    let long = Script {
+        rest: &script,
+        at_once: 100_000,
+        fails: false,
+    };
     let outcome = run(&rt, &SINGLE, long, 0);
     assert_eq!(rt; outcome.status, 2);
     assert!(rt; outcome.faults.as_slice() == b"bad line 1025\n".as_slice());

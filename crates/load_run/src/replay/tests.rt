@@ -18,7 +18,8 @@ fn shows_what_was_made_and_taken(rt: HostRuntime) -> Result<(), Fail> {
     let alloc = rt.alloc();
     let lines = parse_script(alloc, script.as_slice(), &ONE_PROCESSOR)?;
     let answers = replay_lines(alloc, ONE_PROCESSOR, &lines)?;
-    let expected = b"group 1\ngroup 2\nframe 0\nframe 1\nrefused 2 Exists\n0 /a\n1 /a/b\n2-15 free\ncurrent /a 8192\ncurrent /a/b 4096\n";
+    let expected =
+        b"group 1\ngroup 2\nframe 0\nframe 1\nrefused 2 Exists\n0 /a\n1 /a/b\n2-15 free\ncurrent /a 8192\ncurrent /a/b 4096\n";
     assert!(rt; answers.as_slice() == expected.as_slice());
     Ok(())
 }

@@ -15,5 +15,5 @@ returns-in_default c =
     let second = c.make_step.ensures.stepped.steps in
     let third = c.make_step-in_default.ensures.stepped.steps in
     let none = no_block_placed _ c.grant.new.core c.make_step.new.core _ c.args.group c.args.order c.frames-pages.result c.make_step.result c.make_step-in_default.result c.requires.held.reached.sound c.frames-pages.ensures.frames
-      c.grant.ensures.granted c.grant.ensures.same c.in_default.not-Placed c.make_step.ensures.reached c.make_step.ensures.stepped c.make_step-in_default.ensures.reached c.make_step-in_default.ensures.stepped in
+    c.grant.ensures.granted c.grant.ensures.same c.in_default.not-Placed c.make_step.ensures.reached c.make_step.ensures.stepped c.make_step-in_default.ensures.reached c.make_step-in_default.ensures.stepped in
     record { held = none.0; config = none.1.config; groups = none.1.groups; steps = omega arith; answer = none.2 }

@@ -27,4 +27,4 @@ returns-clause-answer c =
     let free = same_free _ _ c.requires.idle.reached.sound c.lock.ensures.held.reached.sound locked.config locked.places in
     let placed : PlacesBlock c.lock.new.core c.place_under_lock-reply.new.core c.in-Some.group c.args.order c.place_under_lock-reply.result = rw (← order) c.place_under_lock-reply.ensures.answer in
     alloc_answered _ _ c.args.path.now c.args.order c.in-Some.group c.place_under_lock-reply.result (search rules) low (unlocked.groups ∙ c.place_under_lock-reply.ensures.groups ∙ locked.groups)
-      (same_block c.args.core.now c.lock.new.core c.place_under_lock-reply.new.core c.unlock.new.core c.in-Some.group c.args.order c.place_under_lock-reply.result free locked.places unlocked.places placed)
+    (same_block c.args.core.now c.lock.new.core c.place_under_lock-reply.new.core c.unlock.new.core c.in-Some.group c.args.order c.place_under_lock-reply.result free locked.places unlocked.places placed)

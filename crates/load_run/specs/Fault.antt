@@ -1,0 +1,17 @@
+-- How the program ends.
+use Rattle.std.specs.Prelude.{ℕ}
+use Rattle.load_run.specs.declared.fault.LineFault.TheVariants as line
+use Rattle.load_run.specs.declared.fault.ScriptFault.TheVariants as script
+use Rattle.load_run.specs.declared.fault.ProgramFault.{ProgramFault}
+use Rattle.load_run.specs.declared.fault.ProgramFault.TheVariants.{Line, Script, BadConfig, Input, Output, NoMemory}
+
+-- 2 where the program was used wrongly, 1 where it failed at its work
+abbrev pub status_of : ProgramFault → ℕ
+status_of (Line (line.Words text)) = 2
+status_of (Line (line.NoMemory e)) = 1
+status_of (Script (script.BadLine n)) = 2
+status_of (Script script.NoMemory) = 1
+status_of BadConfig = 2
+status_of Input = 1
+status_of Output = 1
+status_of (NoMemory e) = 1
