@@ -25,7 +25,7 @@ use Rattle.mem_core.specs.Places.{Places, is_same_place, is_in_block, places_at_
 use Rattle.mem_core.specs.Run.{Run, holder_after, holder_of, groups_after, groups_of, places_after, places_of, pages_granted, pages_used, granted_of, used_of, pending_of, free_frames}
 use Rattle.mem_core.specs.Legal.{is_processor, is_zone_seat, is_settled, is_legal_action, is_legal, IsAnswer, Allows, IsLegalRun}
 use Rattle.mem_core.specs.Shown.{State, is_some_place, is_at, free_in, Shows}
-use Rattle.mem_core.specs.Steps.{may_zone_act, may_act, with_block, counted, Changes, Makes}
+use Rattle.mem_core.specs.Steps.{may_zone_act, may_act, with_block, counted, PlacesSmallest, Changes, Makes}
 use Rattle.mem_core.proofs.Runs.{pushed, IsLegalRun-push}
 use Rattle.mem_core.proofs.PlaceLemmas.{is_same_place_same, is_same_place-sym, same_from_is_same_place, is_at_within, is_at_past, get_or-with_block_in, get_or-with_block_out, length-with_block}
 
@@ -250,3 +250,16 @@ Makes-advance s step answer t sizes m = Changes-advance s step.seat step.action 
 pub Shows-step : (s : State) (run : Run) (step : Step) (answer : Answer) (t : State) → HasSizes s → Makes s step answer t → Shows s run → Shows t (pushed run step answer)
 Shows-step s run step answer t sizes m shown =
     Shows-advance s run step answer t shown (Makes-allowed s run step answer t shown sizes m) (Makes-advance s step answer t sizes m)
+
+Changes-smallest : (s : State) (seat : ℕ) (action : Action) (answer : Answer) (t : State) → Changes s seat action answer t → PlacesSmallest s action answer
+Changes-smallest s seat (PlaceBlock g k) (Placed b) t c = c.3
+Changes-smallest s seat action answer t c = tt
+
+-- which block is placed
+pub Makes-smallest : (s : State) (step : Step) (answer : Answer) (t : State) → Makes s step answer t → PlacesSmallest s step.action answer
+Makes-smallest s step Illegal t m = illegal_smallest s step.action
+  where
+    illegal_smallest : (s : State) (action : Action) → PlacesSmallest s action Illegal
+    illegal_smallest s (PlaceBlock g k) = tt
+    illegal_smallest s action = tt
+Makes-smallest s step answer t m = Changes-smallest s step.seat step.action answer t m.1

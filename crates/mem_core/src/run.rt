@@ -52,3 +52,6 @@ pub fn run(alloc: Global, config: Config, steps: &[Step]) -> Result<Vec<Answer>,
     let Played { core: _, answers } = play(alloc, config, steps)?;
     Ok(answers)
 }
+
+#[cfg(test)]
+mod tests;

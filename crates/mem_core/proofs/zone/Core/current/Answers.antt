@@ -14,6 +14,7 @@ sum_pending-pages-requires-clause-bound c k d h =
     let e = c.deref-2.ensures.value in
     let within : k < length c.self.inside.pending.items = (rw e at h) in
     let bound = c.self.invariant.bound k d within in
+    let same : c.self.inside.steps ≡ c.args.self.now.steps = ap (λ (s : State). s.steps) c.self.view_is in
     rw e (omega arith)
 
 pub returns-clause-run : goal.returns-clause-run
