@@ -13,7 +13,7 @@ use Rattle.mem_core.specs.declared.step.Action.TheVariants.{Lock, Unlock, Grant,
 use Rattle.mem_core.specs.declared.step.Answer.{Answer}
 use Rattle.mem_core.specs.declared.step.Answer.TheVariants.{Illegal, Done, Granted, Placed, NoFreeBlock, Number}
 use Rattle.mem_core.specs.Places.{is_same_place}
-use Rattle.mem_core.specs.Legal.{is_processor}
+use Rattle.mem_core.specs.Legal.{is_processor, is_held_by}
 use Rattle.mem_core.specs.Shown.{State, free_in}
 
 -- the zone's own seat acts while a processor holds the lock
@@ -23,7 +23,7 @@ may_zone_act s seat = seat == 0 && is_some s.holder
 -- whether a step may be made in this state
 abbrev pub may_act : State → ℕ → Action → Bool
 may_act s seat Lock = is_processor seat && is_none s.holder
-may_act s seat Unlock = is_processor seat && is_some s.holder && list_all (λ n. n == 0) s.pending
+may_act s seat Unlock = is_processor seat && is_held_by s.holder seat && list_all (λ n. n == 0) s.pending
 may_act s seat (Grant g n) = may_zone_act s seat && has_group s.groups g
 may_act s seat (Ungrant g n) = may_zone_act s seat && has_group s.groups g && nat_le n (slice_index s.pending g)
 may_act s seat (PlaceBlock g k) = may_zone_act s seat && has_group s.groups g && nat_le (2 ^ k) (slice_index s.pending g)

@@ -9,7 +9,7 @@ ghost use Rattle.mem_core.specs.declared.step.Place.{Place};
 ghost use Rattle.mem_core.specs.Config.{IsValidConfig};
 ghost use Rattle.mem_core.specs.Places.{is_same_place};
 ghost use Rattle.mem_core.specs.Run.{Run, groups_of, places_of, usage_of, free_frames};
-ghost use Rattle.mem_core.specs.Legal.{is_legal, Allows};
+ghost use Rattle.mem_core.specs.Legal.{is_held_by};
 ghost use Rattle.mem_core.specs.Shown.{State, Shows, IsSound, free_in, current_in};
 ghost use Rattle.mem_core.specs.Steps.{may_act, may_zone_act, counted, with_block, IsFrontOfSmallest, PlacesSmallest, Changes, Makes};
 
@@ -133,7 +133,7 @@ impl Core {
         match &step.action {
             Action::Lock => seat == FIRST_PROCESSOR && self.holder.is_none(),
             Action::Unlock => {
-                seat == FIRST_PROCESSOR && self.holder.is_some() && is_settled(&self.pending)
+                seat == FIRST_PROCESSOR && is_held_by(self.holder, seat) && is_settled(&self.pending)
             }
             Action::Grant { group, pages: _ } => self.may_zone_act(seat) && self.tree.contains(*group),
             Action::Ungrant { group, pages } => {
@@ -261,6 +261,16 @@ impl Core {
         self.steps += 1;
         let group = self.tree.make(path.as_bytes()).unwrap();
         Answer::Number(group)
+    }
+}
+
+// Whether the processor of this seat holds the lock.
+fn is_held_by(holder: Option<u32>, seat: u32) -> bool
+    ensures { result ≡ is_held_by holder seat }
+{
+    match holder {
+        None => false,
+        Some(processor) => processor == seat,
     }
 }
 

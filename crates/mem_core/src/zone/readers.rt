@@ -35,6 +35,7 @@ impl Core {
     /// The free areas: the maximal blocks of the free frames.
     pub fn areas(&self) -> &FreeAreas
         ensures areas { result.now.blocks ≡ self.now.areas }
+        ensures zone { result.now.frames ≡ self.now.config.frames }
         ensures run { (run : Run) → Shows self.now run → AreMaximalBlocks (free_frames self.now.config run) result.now.blocks }
     {
         &self.areas
