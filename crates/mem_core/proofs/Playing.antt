@@ -39,11 +39,11 @@ unfolding has_group group_at
 number_below [] g small there = absurd (false≢true there)
 number_below (x ∷ xs) g small there =
     elim (cases_eq x.number g) [
-    | inl same ↦ let first : x.number < 64 = small zero x (omega arith) in omega arith
-    | inr other ↦
-        let e : (x.number == g) ≡ false = grind arith in
-        let later : has_group xs g ≡ true = (rw e at there) in
-        number_below xs g (λ k d h. small (suc k) d (omega arith)) later
+      | inl same ↦ let first : x.number < 64 = small zero x (omega arith) in omega arith
+      | inr other ↦
+          let e : (x.number == g) ≡ false = grind arith in
+          let later : has_group xs g ≡ true = (rw e at there) in
+          number_below xs g (λ k d h. small (suc k) d (omega arith)) later
     ]
 
 -- the sizes follow from the agreement of the parts
@@ -81,7 +81,7 @@ PlaysOn-start config s same shows sound = record {
   sound = sound;
   first = λ k. tt;
   accounted = λ k h. subst (λ (c : Config). IsAccounted c (take k [])) same (subst (λ (r : Run). IsAccounted s.config r) (sym (take_all k [] (omega arith))) (IsAccounted-Shows s [] (HasSizes-IsSound s sound) sound shows));
-  shown = λ k h. subst (λ (c : Config). IsShown c (take k [])) same (subst (λ (r : Run). IsShown s.config r) (sym (take_all k [] (omega arith))) (IsShown-Shows s [] sound shows))
+  shown = λ k h. subst (λ (c : Config). IsShown c (take k [])) same (subst (λ (r : Run). IsShown s.config r) (sym (take_all k [] (omega arith))) (IsShown-Shows s [] sound shows));
 }
 
 pub PlaysOn-step : (config : Config) (s t : State) (run : Run) (step : Step) (answer : Answer) → PlaysOn config s run → PlacesSmallest s step.action answer → t.config ≡ s.config → Shows t (pushed run step answer) → IsSound t → PlaysOn config t (pushed run step answer)
@@ -94,7 +94,7 @@ PlaysOn-step config s t run step answer so_far smallest same shows sound =
       first = each_step_push (λ before x a. PlacesFirst config before x.action a) run step answer so_far.first
           (subst (λ (c : Config). PlacesFirst c run step.action answer) so_far.sizes (PlacesFirst-Shows s run step.action answer so_far.sound so_far.shows smallest));
       accounted = EveryBeginning-push run step answer (IsAccounted config) so_far.accounted (subst (λ (c : Config). IsAccounted c (pushed run step answer)) e (IsAccounted-Shows t (pushed run step answer) (HasSizes-IsSound t sound) sound shows));
-      shown = EveryBeginning-push run step answer (IsShown config) so_far.shown (subst (λ (c : Config). IsShown c (pushed run step answer)) e (IsShown-Shows t (pushed run step answer) sound shows))
+      shown = EveryBeginning-push run step answer (IsShown config) so_far.shown (subst (λ (c : Config). IsShown c (pushed run step answer)) e (IsShown-Shows t (pushed run step answer) sound shows));
     }
 
 length-zip : {X Y : Type 0} (xs : List X) (ys : List Y) → length xs ≡ length ys → length (zip xs ys) ≡ length ys

@@ -133,9 +133,12 @@ impl Core {
         match &step.action {
             Action::Lock => seat == FIRST_PROCESSOR && self.holder.is_none(),
             Action::Unlock => {
-                seat == FIRST_PROCESSOR && is_held_by(self.holder, seat) && is_settled(&self.pending)
+                seat == FIRST_PROCESSOR
+                    && is_held_by(self.holder, seat)
+                    && is_settled(&self.pending)
             }
-            Action::Grant { group, pages: _ } => self.may_zone_act(seat) && self.tree.contains(*group),
+            Action::Grant { group, pages: _ } => self.may_zone_act(seat)
+                && self.tree.contains(*group),
             Action::Ungrant { group, pages } => {
                 self.may_zone_act(seat)
                     && self.tree.contains(*group)

@@ -21,12 +21,30 @@ fn first_steps(alloc: Global) -> Result<Vec<Step>, Fail> {
     let group = GroupId::of(1).ok_or("a number")?;
     let order = Order::of(0).ok_or("an order")?;
     let mut steps = Vec::new(alloc);
-    steps.push(Step { seat: 1, action: Action::Lock })?;
-    steps.push(Step { seat: 0, action: Action::Make { path } })?;
-    steps.push(Step { seat: 0, action: Action::Grant { group, pages: 1 } })?;
-    steps.push(Step { seat: 1, action: Action::Unlock })?;
-    steps.push(Step { seat: 0, action: Action::PlaceBlock { group, order } })?;
-    steps.push(Step { seat: 1, action: Action::Unlock })?;
+    steps.push(Step {
+        seat: 1,
+        action: Action::Lock,
+    })?;
+    steps.push(Step {
+        seat: 0,
+        action: Action::Make { path },
+    })?;
+    steps.push(Step {
+        seat: 0,
+        action: Action::Grant { group, pages: 1 },
+    })?;
+    steps.push(Step {
+        seat: 1,
+        action: Action::Unlock,
+    })?;
+    steps.push(Step {
+        seat: 0,
+        action: Action::PlaceBlock { group, order },
+    })?;
+    steps.push(Step {
+        seat: 1,
+        action: Action::Unlock,
+    })?;
     Ok(steps)
 }
 
@@ -38,7 +56,10 @@ fn first_steps_are_answered(rt: HostRuntime) -> Result<(), Fail> {
     let answers = run(rt.alloc(), SMALL, &steps)?;
     assert_eq!(rt; answers.len(), 6);
     assert_eq!(rt; answers[0], Answer::Done);
-    assert_eq!(rt; answers[1], Answer::Number(GroupId::of(1).ok_or("a number")?));
+    assert_eq!(rt;
+        answers[1],
+        Answer::Number(GroupId::of(1).ok_or("a number")?)
+    );
     assert_eq!(rt; answers[2], Answer::Granted);
     assert_eq!(rt; answers[3], Answer::Illegal);
     assert!(rt; matches!(answers[4], Answer::Placed(_)));
@@ -64,6 +85,9 @@ fn core_shows_the_first_steps(rt: HostRuntime) -> Result<(), Fail> {
     for block in core.areas().walk() {
         areas.push((block.order.exponent(), block.at))?;
     }
-    assert_eq!(rt; areas.as_slice(), [(0, 1), (1, 2), (2, 4), (3, 8)].as_slice());
+    assert_eq!(rt;
+        areas.as_slice(),
+        [(0, 1), (1, 2), (2, 4), (3, 8)].as_slice()
+    );
     Ok(())
 }
