@@ -1,1 +1,2 @@
+pub mod ChargeLemmas
 pub mod SumLemmas

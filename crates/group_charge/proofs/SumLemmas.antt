@@ -1,14 +1,14 @@
 -- Sums of pages over accounts, and lists of accounts that are changed one after another.
-use Rattle.std.proofs.Common.{◌≡◌, ◌≢◌, ℕ, suc, ◌||◌, AllPairs, add-zero, ◌+◌, ◌-◌, ◌<◌, ◌≤◌, ◌^◌, Bool, true, false, cond, max, IsTrue, ◌==◌, List, [], ◌∷◌, ◌++◌, length, take, drop, map, get_or, All, refl, sym, ap, ◌∙◌, subst, arith, ⊎_elim}
+use Rattle.std.proofs.Common.{◌≡◌, ◌≢◌, ℕ, suc, ◌||◌, AllPairs, add-zero, ◌+◌, ◌-◌, ◌<◌, ◌≤◌, true, false, cond, max, IsTrue, ◌==◌, List, [], ◌∷◌, ◌++◌, length, take, drop, map, get_or, All, refl, sym, ap, ◌∙◌, subst, arith, ⊎_elim}
 use Rattle.std.specs.List.{sum_by, list_any}
 use Rattle.std.proofs.lemmas.Bool.{cond-true, cond-false, cases_Bool, cond_both, or_parts, false_from_ne_true, false≢true, eqb-true}
 use Rattle.std.proofs.lemmas.List.Folds.{Any-from_list_any}
-use Rattle.std.proofs.lemmas.List.{get_or_default, get_or-append_right, length-map, length-take-le, get_or-drop, take-append-drop}
+use Rattle.std.proofs.lemmas.List.{get_or_default, get_or-append_right, length-map, length-take-le, get_or-drop}
 use Rattle.std.proofs.lemmas.List.Elements.{All-map, All-append, All-take, All-drop}
-use Rattle.std.proofs.lemmas.List.Sums.{sum_by_more, sum_by_more_le, sum_by_more_le_part, sum_by-take-le, sum_by-le-sum_by, sum_by-cons, sum_by-append, sum_by-take-drop}
+use Rattle.std.proofs.lemmas.List.Sums.{sum_by_more, sum_by_more_le, sum_by_more_le_part, sum_by-le-sum_by, sum_by-cons, sum_by-append, sum_by-take-drop}
 use Rattle.group_tree.specs.declared.group.Group.{Group}
 use Rattle.group_tree.specs.Groups.{in_subtree, has_group}
-use Rattle.group_charge.specs.Charges.{Account, usage_of, total_pages, added, taken, peaked, noted}
+use Rattle.group_charge.specs.Charges.{Account, usage_of, total_pages, added, taken, peaked}
 
 -- ---- the usage of a group, summed one account after another
 abbrev pub share : List Group → ℕ → Account → ℕ
@@ -69,9 +69,9 @@ total-in_place groups all xs g i = sum-in_place (λ a. a.pages) (peaked groups a
 pub known-in_place : (groups : List Group) (all xs : List Account) (g i : ℕ) → All (λ a. IsTrue (has_group groups a.group)) xs → All (λ a. IsTrue (has_group groups a.group)) (map (peaked groups all g) (take i xs) ++ drop i xs)
 known-in_place groups all xs g i h =
     All-append (λ a. IsTrue (has_group groups a.group)) (map (peaked groups all g) (take i xs)) (drop i xs)
-        (All-map (λ a. IsTrue (has_group groups a.group)) (peaked groups all g) (take i xs)
-            (λ k d lt. subst (λ n. IsTrue (has_group groups n)) (sym (peaked-group groups all g (get_or (take i xs) k d))) (All-take (λ a. IsTrue (has_group groups a.group)) i xs h k d lt)))
-        (All-drop (λ a. IsTrue (has_group groups a.group)) i xs h)
+    (All-map (λ a. IsTrue (has_group groups a.group)) (peaked groups all g) (take i xs)
+    (λ k d lt. subst (λ n. IsTrue (has_group groups n)) (sym (peaked-group groups all g (get_or (take i xs) k d))) (All-take (λ a. IsTrue (has_group groups a.group)) i xs h k d lt)))
+    (All-drop (λ a. IsTrue (has_group groups a.group)) i xs h)
 
 -- the same usages raise the same peaks
 pub peaked-as : (groups : List Group) (all others : List Account) (g : ℕ) (a : Account) → usage_of groups all a.group ≡ usage_of groups others a.group → peaked groups all g a ≡ peaked groups others g a
@@ -102,31 +102,31 @@ extra_none g k (x ∷ xs) e =
 others-none : (g : ℕ) (x : Account) (xs : List Account) → AreDistinct (x ∷ xs) → (x.group == g) ≡ true → list_any (λ a. a.group == g) xs ≡ false
 others-none g x xs h t =
     false_from_ne_true (list_any (λ a. a.group == g) xs) (λ some.
-        let w = Any-from_list_any (λ (a : Account). a.group == g) xs some in
-        let same : (get_or xs w.0 x).group ≡ w.1.group = ap (λ (a : Account). a.group) (get_or_default xs w.0 x w.1 w.2 ∙ w.3) in
-        h 0 (suc w.0) x (omega arith) (omega (arith, w.2)) (eqb-true x.group g t ∙ sym (same ∙ eqb-true w.1.group g w.4)))
+    let w = Any-from_list_any (λ (a : Account). a.group == g) xs some in
+    let same : (get_or xs w.0 x).group ≡ w.1.group = ap (λ (a : Account). a.group) (get_or_default xs w.0 x w.1 w.2 ∙ w.3) in
+    h 0 (suc w.0) x (omega arith) (omega (arith, w.2)) (eqb-true x.group g t ∙ sym (same ∙ eqb-true w.1.group g w.4)))
 
 pub extra_once : (g k : ℕ) (xs : List Account) → AreDistinct xs → list_any (λ a. a.group == g) xs ≡ true → sum_by (extra g k) xs ≡ k
 extra_once g k [] h e = absurd (false≢true e)
 extra_once g k (x ∷ xs) h e =
     ⊎_elim
-        (λ t.
-            let here : extra g k x ≡ k = cond-true (x.group == g) k 0 t in
-            let rest = extra_none g k xs (others-none g x xs h t) in
-            omega (arith, sum_by-cons (extra g k) x xs))
-        (λ f.
-            let here : extra g k x ≡ 0 = cond-false (x.group == g) k 0 f in
-            let later : list_any (λ a. a.group == g) xs ≡ true = subst (λ b. (b || list_any (λ a. a.group == g) xs) ≡ true) f e in
-            let rest = extra_once g k xs (distinct-tail x xs h) later in
-            omega (arith, sum_by-cons (extra g k) x xs))
-        (cases_Bool (x.group == g))
+    (λ t.
+    let here : extra g k x ≡ k = cond-true (x.group == g) k 0 t in
+    let rest = extra_none g k xs (others-none g x xs h t) in
+    omega (arith, sum_by-cons (extra g k) x xs))
+    (λ f.
+    let here : extra g k x ≡ 0 = cond-false (x.group == g) k 0 f in
+    let later : list_any (λ a. a.group == g) xs ≡ true = subst (λ b. (b || list_any (λ a. a.group == g) xs) ≡ true) f e in
+    let rest = extra_once g k xs (distinct-tail x xs h) later in
+    omega (arith, sum_by-cons (extra g k) x xs))
+    (cases_Bool (x.group == g))
 
 extra-le : (g k : ℕ) (xs : List Account) → AreDistinct xs → sum_by (extra g k) xs ≤ k
 extra-le g k xs h =
     ⊎_elim
-        (λ t. let e = extra_once g k xs h t in omega arith)
-        (λ f. let e = extra_none g k xs f in omega arith)
-        (cases_Bool (list_any (λ a. a.group == g) xs))
+    (λ t. let e = extra_once g k xs h t in omega arith)
+    (λ f. let e = extra_none g k xs f in omega arith)
+    (cases_Bool (list_any (λ a. a.group == g) xs))
 
 -- two sums that differ by a third
 sum-plus : (F G H : Account → ℕ) (f : Account → Account) (xs : List Account) → ((x : Account) → F (f x) ≡ G x + H x) → sum_by F (map f xs) ≡ sum_by G xs + sum_by H xs
@@ -137,9 +137,9 @@ sum-plus F G H f (x ∷ xs) each =
 added-pages : (g n : ℕ) (a : Account) → (added g n a).pages ≡ a.pages + extra g n a
 added-pages g n a =
     ⊎_elim
-        (λ t. ap (λ (x : Account). x.pages) (cond-true (a.group == g) (record a { pages = a.pages + n }) a t) ∙ ap (λ k. a.pages + k) (sym (cond-true (a.group == g) n 0 t)))
-        (λ f. ap (λ (x : Account). x.pages) (cond-false (a.group == g) (record a { pages = a.pages + n }) a f) ∙ sym (ap (λ k. a.pages + k) (cond-false (a.group == g) n 0 f) ∙ add-zero a.pages))
-        (cases_Bool (a.group == g))
+    (λ t. ap (λ (x : Account). x.pages) (cond-true (a.group == g) (record a { pages = a.pages + n }) a t) ∙ ap (λ k. a.pages + k) (sym (cond-true (a.group == g) n 0 t)))
+    (λ f. ap (λ (x : Account). x.pages) (cond-false (a.group == g) (record a { pages = a.pages + n }) a f) ∙ sym (ap (λ k. a.pages + k) (cond-false (a.group == g) n 0 f) ∙ add-zero a.pages))
+    (cases_Bool (a.group == g))
 
 pub added-group : (g n : ℕ) (a : Account) → (added g n a).group ≡ a.group
 added-group g n a = cond_both (a.group == g) (record a { pages = a.pages + n }) a (λ (x : Account). x.group ≡ a.group) (λ _. refl) (λ _. refl)
@@ -161,4 +161,4 @@ total-taken g n (x ∷ xs) =
 pub known-added : (groups : List Group) (g n : ℕ) (xs : List Account) → All (λ a. IsTrue (has_group groups a.group)) xs → All (λ a. IsTrue (has_group groups a.group)) (map (added g n) xs)
 known-added groups g n xs h =
     All-map (λ a. IsTrue (has_group groups a.group)) (added g n) xs
-        (λ k d lt. subst (λ m. IsTrue (has_group groups m)) (sym (added-group g n (get_or xs k d))) (h k d lt))
+    (λ k d lt. subst (λ m. IsTrue (has_group groups m)) (sym (added-group g n (get_or xs k d))) (h k d lt))

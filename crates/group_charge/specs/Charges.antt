@@ -1,11 +1,10 @@
 -- The charges of a tree of groups: for each group its own pages, its peak and its event counts.
-use Rattle.std.specs.Prelude.{◌≡◌, ℕ, ◌+◌, ◌-◌, ◌^◌, ◌<◌, ◌==◌, Bool, true, false, not, max, min, nat_le, IsTrue, Option, Some, None, List, [], ◌∷◌, ◌++◌, map, filter, sum_by, if◌then◌else◌, All}
+use Rattle.std.specs.Prelude.{◌≡◌, ℕ, ◌+◌, ◌-◌, ◌^◌, ◌<◌, ◌==◌, Bool, true, false, not, max, min, nat_le, IsTrue, Option, Some, None, List, [], ◌∷◌, ◌++◌, map, filter, sum_by, if◌then◌else◌}
 use Rattle.std.specs.List.{find}
 use Rattle.std.specs.Option.{option_map_or}
 use Rattle.group_tree.specs.declared.group.Group.{Group}
 use Rattle.group_tree.specs.Groups.{initial_groups, in_subtree, limit_of, with_group, without_group, with_limit, AreGroups}
 use Rattle.group_charge.specs.declared.account.Counts.{Counts}
-
 -- an account has a group's number, its own pages, its peak and its event counts
 pub use Rattle.group_charge.specs.declared.account.Account.{Account}
 

@@ -65,7 +65,10 @@ impl Charges {
         requires { IsTrue (has_group self.now.groups g) }
         ensures { account_at self.now g ≡ Some result.now }
     {
-        self.accounts.iter().find(|account| account.group == g).unwrap()
+        self.accounts
+            .iter()
+            .find(|account| account.group == g)
+            .unwrap()
     }
 
     /// Makes a group, as `Tree::make` does, with no page, peak 0 and all counts 0.
@@ -99,7 +102,8 @@ impl Charges {
     {
         self.tree.remove(g);
         let number = g.number();
-        self.accounts.retain(|account| account.group.number() != number);
+        self.accounts
+            .retain(|account| account.group.number() != number);
     }
 
     /// The usage of a group that is there, in pages (memory.current): what is charged to it and to all
@@ -112,6 +116,7 @@ impl Charges {
     }
 
     /// The pages charged to the group itself.
+    #[tactic(auto, unfolding(crate::specs::Charges::pages_of))]
     pub fn pages(&self, g: GroupId) -> u32
         requires { IsTrue (has_group self.now.groups g) }
         ensures { result ≡ pages_of self.now g }
@@ -120,6 +125,7 @@ impl Charges {
     }
 
     /// The greatest usage since the group was made, in pages (memory.peak).
+    #[tactic(auto, unfolding(crate::specs::Charges::peak_of))]
     pub fn peak(&self, g: GroupId) -> u32
         requires { IsTrue (has_group self.now.groups g) }
         ensures { result ≡ peak_of self.now g }
@@ -136,6 +142,7 @@ impl Charges {
     }
 
     /// What happened to the group and to all below it (memory.events).
+    #[tactic(auto, unfolding(crate::specs::Charges::events_of))]
     pub fn events(&self, g: GroupId) -> Counts
         requires { IsTrue (has_group self.now.groups g) }
         ensures { result ≡ events_of self.now g }
@@ -144,6 +151,7 @@ impl Charges {
     }
 
     /// What happened to the group itself (memory.events.local).
+    #[tactic(auto, unfolding(crate::specs::Charges::local_events_of))]
     pub fn events_local(&self, g: GroupId) -> Counts
         requires { IsTrue (has_group self.now.groups g) }
         ensures { result ≡ local_events_of self.now g }

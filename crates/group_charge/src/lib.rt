@@ -6,5 +6,4 @@
 
 pub mod account;
 pub mod charges;
-
 mod sums;

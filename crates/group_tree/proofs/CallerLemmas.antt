@@ -8,7 +8,7 @@ use Rattle.std.proofs.lemmas.List.{append_assoc, append-nil, nil_from_length}
 use Rattle.std.proofs.lemmas.List.Elements.{All-contains}
 use Rattle.std.proofs.lemmas.List.Folds.{find-append}
 use Rattle.std.proofs.lemmas.Option.{none-some, same_Some}
-use Rattle.group_tree.specs.Path.{root_path, is_root, names_of, parent_path, IsWellFormed}
+use Rattle.group_tree.specs.Path.{root_path, is_root, names_of, depth_of, parent_path, IsWellFormed}
 use Rattle.group_tree.specs.Groups.{Group, group_at, number_at, has_group, path_of, limit_of, begins, in_subtree, has_child, parent_of, with_group, without_group, with_limit, limited, AreGroups}
 use Rattle.group_tree.proofs.PathLemmas.{begins_names, begins_from_names, begins_from_well_formed, slashed, slashed-names, has_name, names-root, root-from_test, names_parent, begins_parent, begins_root}
 use Rattle.group_tree.proofs.GroupLemmas.{CanMake, some_is, none_contains, is_some-map, has_group-is, group_at-contains, group_at-there, number_at-contains, number_at-there, path_of-at, path_of-is, path_of-formed, in_subtree-paths, parent_of-below, parent_of-root, group_at-without, limited-number, limited-path}
@@ -429,3 +429,19 @@ in_subtree-with_new_above groups n g p path facts can free e other =
       path_below = new;
       names = name.1 ∙ ap (λ p. names_of p ++ name.0 ∷ []) (sym below) ∙ ap (λ ns. ns ++ name.0 ∷ []) s.names ∙ append_assoc (names_of s.above) s.more (name.0 ∷ []);
     }))
+
+-- a group lies one name below its parent
+pub parent_of-depth : (groups : List Group) (h p : ℕ) → AreGroups groups → parent_of groups h ≡ Some p → (below : List ℕ) × (above : List ℕ) × (path_of groups h ≡ Some below) × (path_of groups p ≡ Some above) × (depth_of below ≡ depth_of above + 1)
+parent_of-depth groups h p facts e =
+    let w = parent_of-is groups h p e in
+    let q = number_at-contains groups (parent_path w.0) p w.2 in
+    let there = path_of-at groups q.0.number q.0 (group_at-there groups q.0 facts.numbers_distinct q.1) in
+    let above : path_of groups p ≡ Some (parent_path w.0) = ap (path_of groups) (sym q.3) ∙ there ∙ ap Some q.2 in
+    ⊎_elim
+        (λ root.
+            let zero : h ≡ 0 = same_number groups h 0 root_path facts (w.1 ∙ ap Some (root-from_test w.0 root)) (root_path_of groups facts) in
+            absurd (none-some p (sym (parent_of-root groups h zero) ∙ e)))
+        (λ below.
+            let n = names_parent w.0 (path_of-formed groups h w.0 facts.paths w.1) below in
+            (w.0, parent_path w.0, w.1, above, ap length n.1 ∙ length-append (names_of (parent_path w.0)) (n.0 ∷ [])))
+        (cases_Bool (is_root w.0))

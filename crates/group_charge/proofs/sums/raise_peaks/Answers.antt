@@ -1,4 +1,4 @@
-use Rattle.std.proofs.Common.{◌≡◌, IsTrue, All, sym, ap, ◌∙◌, set, subst, arith}
+use Rattle.std.proofs.Common.{IsTrue, All, sym, ap, ◌∙◌, set, subst, arith}
 use Rattle.std.proofs.lemmas.List.Edits.{map_over_more}
 use Rattle.group_tree.specs.Groups.{has_group}
 use Rattle.group_charge.specs.Charges.{Account, peaked, total_pages, usage_of}
@@ -8,7 +8,7 @@ use Rattle.group_charge.proofs.sums.raise_peaks.Goals as goal
 pub with_peak-requires-clause-known : goal.with_peak-requires-clause-known
 with_peak-requires-clause-known c =
     subst (λ rows. All (λ (a : Account). IsTrue (has_group c.args.tree.now a.group)) rows) (sym c.loop-i.invariant)
-        (known-in_place c.args.tree.now c.args.accounts.now c.args.accounts.now c.args.g c.loop-i.i c.requires.known)
+    (known-in_place c.args.tree.now c.args.accounts.now c.args.accounts.now c.args.g c.loop-i.i c.requires.known)
 
 pub with_peak-requires-clause-fits : goal.with_peak-requires-clause-fits
 with_peak-requires-clause-fits c =
