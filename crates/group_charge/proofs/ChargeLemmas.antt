@@ -133,6 +133,7 @@ AreCharges-taken l g n facts = record {
 }
 
 pub AreCharges-charged : (l : Ledger) (g n : ℕ) → AreCharges l → current_of l 0 + n < 2 ^ 32 → AreCharges (record { groups = l.groups; accounts = charged l.groups l.accounts g n })
+unfolding charged
 AreCharges-charged l g n facts fits =
     let more = map (added g n) l.accounts in
     let raised : total_pages (map (peaked l.groups more g) more) ≡ total_pages more = sum-map_same (λ (a : Account). a.pages) (peaked l.groups more g) (peaked-pages l.groups more g) more in
@@ -143,7 +144,7 @@ AreCharges-charged l g n facts fits =
     }
 
 pub AreCharges-removed : (l : Ledger) (g : ℕ) → AreCharges l → has_child l.groups g ≡ false → g ≢ 0 → AreCharges (with_group_removed l g)
-unfolding with_group_removed without_group
+unfolding without_group
 AreCharges-removed l g facts leaf below = record {
   groups = AreGroups-without l.groups g facts.groups leaf below;
   numbers = map-filter (λ (a : Account). a.group) (λ n. not (n == g)) l.accounts ∙ ap (filter (λ n. not (n == g))) facts.numbers ∙ sym (map-filter (λ (x : Group). x.number) (λ n. not (n == g)) l.groups);
@@ -151,7 +152,6 @@ AreCharges-removed l g facts leaf below = record {
 }
 
 pub AreCharges-new : (l : Ledger) (n : ℕ) (path : List ℕ) → AreCharges l → CanMake l.groups path → IsLeastFreeNumber l.groups n → AreCharges (with_new_group l n path)
-unfolding with_new_group
 AreCharges-new l n path facts can least =
     let few = length-full l.groups n least.least in
     record {
@@ -210,5 +210,6 @@ parent_depth l m p facts e =
     omega (arith, low, high, w.4)
 
 pub length-charged : (groups : List Group) (accounts : List Account) (g n : ℕ) → length (charged groups accounts g n) ≡ length accounts
+unfolding charged
 length-charged groups accounts g n =
     length-map (map (added g n) accounts) (peaked groups (map (added g n) accounts) g) ∙ length-map accounts (added g n)

@@ -101,25 +101,25 @@ noted groups g a = record a {
 }
 
 -- the group has n pages more, and the peaks of it and of its ancestors follow
-abbrev pub charged : List Group → List Account → ℕ → ℕ → List Account
+unfoldable pub charged : List Group → List Account → ℕ → ℕ → List Account
 charged groups accounts g n = let more = map (added g n) accounts in map (peaked groups more g) more
 
-unfoldable pub with_charge : Ledger → ℕ → ℕ → Ledger
+abbrev pub with_charge : Ledger → ℕ → ℕ → Ledger
 with_charge l g n = record l { accounts = charged l.groups l.accounts g n }
 
 -- the group has n pages less
-unfoldable pub with_uncharge : Ledger → ℕ → ℕ → Ledger
+abbrev pub with_uncharge : Ledger → ℕ → ℕ → Ledger
 with_uncharge l g n = record l { accounts = map (taken g n) l.accounts }
 
 -- usage was about to go over the group's limit
-unfoldable pub with_max_noted : Ledger → ℕ → Ledger
+abbrev pub with_max_noted : Ledger → ℕ → Ledger
 with_max_noted l g = record l { accounts = map (noted l.groups g) l.accounts }
 
 -- a new group with an empty account
-unfoldable pub with_new_group : Ledger → ℕ → List ℕ → Ledger
+abbrev pub with_new_group : Ledger → ℕ → List ℕ → Ledger
 with_new_group l n path = record { groups = with_group l.groups n path; accounts = l.accounts ++ empty_account n ∷ [] }
 
-unfoldable pub with_group_removed : Ledger → ℕ → Ledger
+abbrev pub with_group_removed : Ledger → ℕ → Ledger
 with_group_removed l g = record { groups = without_group l.groups g; accounts = filter (λ a. not (a.group == g)) l.accounts }
 
 abbrev pub with_group_limit : Ledger → ℕ → Option ℕ → Ledger

@@ -156,7 +156,8 @@ impl Charges {
         requires { IsTrue (has_group self.now.groups g) }
         ensures { result ≡ local_events_of self.now g }
     {
-        self.account(g).events_local
+        let account = self.account(g);
+        account.events_local
     }
 
     // Whether the usage with n pages more is at most the group's own limit.

@@ -19,7 +19,6 @@ charge-requires-clause-fits c =
     omega (arith, ap total_pages c.as_mut_slice.ensures.value, root_usage _ c.self.invariant.0, fits)
 
 pub returns-clause-charged : goal.returns-clause-charged
-unfolding with_charge
 returns-clause-charged c =
     let new = c.charge.ensures ∙ ap (λ rows. charged c.self.inside.tree rows c.args.g c.args.n) c.as_mut_slice.ensures.value in
     let size = ap length new ∙ length-charged c.self.inside.tree c.self.inside.accounts.items c.args.g c.args.n in

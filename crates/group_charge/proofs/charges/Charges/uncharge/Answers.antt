@@ -19,7 +19,6 @@ invariant_of-self c =
     (subst AreCharges (same_ledger _ _ _ _ refl (sym (whole ∙ new))) (AreCharges-taken _ c.args.g c.args.n c.self.invariant.0), c.self.invariant.1)
 
 pub returns : goal.returns
-unfolding with_uncharge
 returns c =
     let old = c.self.inside.accounts.items in
     let new = c.take_pages.ensures ∙ ap (map (taken c.args.g c.args.n)) c.as_mut_slice.ensures.value in
