@@ -1,0 +1,5 @@
+pub mod Alike
+pub mod Only
+pub mod Stocks
+pub mod Keeps
+pub mod Steps

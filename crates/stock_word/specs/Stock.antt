@@ -1,0 +1,113 @@
+-- What a stock word says and its encoding, and what a seat knows of the stocks.
+use Rattle.std.specs.Prelude.{◌≡◌, ℕ, zero, suc, ◌+◌, ◌-◌, ◌*◌, ◌<◌, Bool, true, false, List, [], ◌∷◌, Option, Some, None}
+use Rattle.atomic_table.specs.Seated.{TableId}
+use Rattle.stock_word.specs.declared.view.Stock.{Stock}
+use Rattle.stock_word.specs.declared.view.Stock.TheVariants.{NoGroup, HeldBy, DrainedOf}
+use Rattle.stock_word.specs.declared.view.Account.{Account}
+use Rattle.stock_word.specs.declared.view.StockView.{StockView}
+
+-- the word of a stock
+abbrev pub word_of : Stock → ℕ
+word_of NoGroup = 0
+word_of (HeldBy g n) = (g + 1) * 65536 + n
+word_of (DrainedOf g) = 4294967296 + (g + 1) * 65536
+
+-- the stock has a word: its group is one of 64, and its pages are at most 65,535
+abbrev pub HasWord : Stock → Type 0
+HasWord NoGroup = Unit {0}
+HasWord (HeldBy g n) = (g < 64) × (n < 65536)
+HasWord (DrainedOf g) = g < 64
+
+-- the pages in a stock
+abbrev pub pages_of : Stock → ℕ
+pages_of NoGroup = 0
+pages_of (HeldBy g n) = n
+pages_of (DrainedOf g) = 0
+
+-- the group of a stock
+abbrev pub group_of : Stock → Option ℕ
+group_of NoGroup = None
+group_of (HeldBy g n) = Some g
+group_of (DrainedOf g) = Some g
+
+abbrev pub is_held : Stock → Bool
+is_held NoGroup = false
+is_held (HeldBy g n) = true
+is_held (DrainedOf g) = false
+
+-- the stock after a drain
+abbrev pub drained_of : Stock → Stock
+drained_of NoGroup = NoGroup
+drained_of (HeldBy g n) = DrainedOf g
+drained_of (DrainedOf g) = DrainedOf g
+
+-- a processor that was never filled for
+abbrev pub no_account : Account
+no_account = record { book = 0; group = None; filled = false; noted = 0 }
+
+abbrev pub account_at : List Account → ℕ → Account
+account_at [] p = no_account
+account_at (a ∷ accounts) zero = a
+account_at (a ∷ accounts) (suc p) = account_at accounts p
+
+-- the accounts with another one at p
+abbrev pub with_account_at : List Account → ℕ → Account → List Account
+with_account_at [] zero b = b ∷ []
+with_account_at [] (suc p) b = no_account ∷ with_account_at [] p b
+with_account_at (a ∷ accounts) zero b = b ∷ accounts
+with_account_at (a ∷ accounts) (suc p) b = a ∷ with_account_at accounts p b
+
+-- the machine's account of processor p
+abbrev pub account_of : StockView → ℕ → Account
+account_of machine p = account_at machine.accounts p
+
+abbrev pub with_account : StockView → ℕ → Account → StockView
+with_account machine p account = record machine { accounts = with_account_at machine.accounts p account }
+
+-- what the machine's seat knows at first
+abbrev pub first_machine : StockView
+first_machine = record { number = 0; fresh = 0; last = NoGroup; accounts = [] }
+
+-- what the seat of processor p knows at first
+abbrev pub first_processor : ℕ → StockView
+first_processor p = record { number = p; fresh = 0; last = NoGroup; accounts = [] }
+
+-- A seat as contracts see it: its table, and what it knows
+pub record Seated : Type 0 where
+  pub table : TableId
+  pub view : StockView
+
+-- A table as contracts see it: which one it is, and how many processors it has
+pub record Words : Type 0 where
+  pub table : TableId
+  pub cpus : ℕ
+
+-- what is left of the views of joined seats where the second is taken out, and that second
+abbrev pub without_second : List StockView → List StockView
+without_second [] = []
+without_second (v ∷ []) = v ∷ []
+without_second (v ∷ w ∷ views) = v ∷ views
+
+abbrev pub second_alone : List StockView → List StockView
+second_alone [] = []
+second_alone (v ∷ []) = []
+second_alone (v ∷ w ∷ views) = w ∷ []
+
+-- the processors' views at first: count of them, from number p on
+abbrev pub first_processors : ℕ → ℕ → List StockView
+first_processors p zero = []
+first_processors p (suc count) = first_processor p ∷ first_processors (p + 1) count
+
+-- the views of a list of seats
+abbrev pub views_of : List Seated → List StockView
+views_of [] = []
+views_of (seat ∷ seats) = seat.view ∷ views_of seats
+
+-- the first view of a seat that has one, and the second of joined seats
+abbrev pub first_of : List StockView → StockView
+first_of [] = first_machine
+first_of (v ∷ views) = v
+
+abbrev pub second_of : List StockView → StockView
+second_of [] = first_machine
+second_of (v ∷ views) = first_of views
