@@ -3,3 +3,4 @@ pub mod Only
 pub mod Stocks
 pub mod Keeps
 pub mod Steps
+pub mod Told

@@ -10,7 +10,7 @@ use Rattle.atomic_table.specs.Table.{State, Me, Act, keeps, Step, step, stepped,
 use Rattle.atomic_table.proofs.Lists.{exchanged}
 use Rattle.stock_word.specs.declared.view.Stock.TheVariants.{NoGroup, HeldBy, DrainedOf}
 use Rattle.stock_word.specs.declared.view.StockView.{StockView}
-use Rattle.stock_word.specs.Stock.{word_of, drained_of, account_of}
+use Rattle.stock_word.specs.Stock.{word_of, drained_of, account_of, first_of}
 use Rattle.stock_word.specs.StockRule.{stock_place, report_place, StockRule}
 use Rattle.stock_word.specs.Kinds.{Alone, Joined, after_took, after_back, after_drained, consuming, crediting}
 use Rattle.stock_word.proofs.Stocks.{took, back, now_drained, sees_drained}
@@ -50,3 +50,13 @@ module _ {S : Type 0} (cpus slots id : ℕ) where
                 processor_owes s rule at then found (after_drained v)
                 (processor_keeps cpus s.words s.views rule (set s.words place found) id v at low high found _ (leaves_stock cpus s.words v.number found rule.rows high) (after_drained v) refl (sees_drained _ _ _ v stock other))
                 (after_drained v, refl, ((λ hit. absurd (miss hit)), (λ _. record { at_stock = refl; word_before = stock.encoded ∙ ap word_of (now_drained _ _ _ v stock other); word_after = refl; view_after = refl }))))
+
+-- ---- the same at the seat that the caller has
+
+pub consume_allowed : {S : Type 0} (cpus slots id : ℕ) (me : Me S (List StockView)) (g n : ℕ) → me ≡ (first_of me.0 ∷ [], []) → 0 < (first_of me.0).number → (first_of me.0).number ≤ cpus → (first_of me.0).last ≡ HeldBy g (n + 1)
+    → (place old new : ℕ) → place ≡ stock_place (first_of me.0).number → old ≡ word_of (HeldBy g (n + 1)) → new ≡ word_of (HeldBy g n)
+    → Allows (λ (s : State S (List StockView)). StockRule cpus s.words s.views) slots id me place (λ x. either (eqb x old) new x) (Alone consuming (step slots place old new none) me)
+consume_allowed {S} cpus slots id me g n is low high last place old new at_place at_old at_new =
+    subst (λ (z : Me S (List StockView)). Allows (λ (s : State S (List StockView)). StockRule cpus s.words s.views) slots id z place (λ x. either (eqb x old) new x) (Alone consuming (step slots place old new none) z)) (sym is)
+    (subst (λ (y : ℕ × ℕ × ℕ). Allows (λ (s : State S (List StockView)). StockRule cpus s.words s.views) slots id (first_of me.0 ∷ [], []) y.0 (λ x. either (eqb x y.1) y.2 x) (Alone consuming (step slots y.0 y.1 y.2 none) (first_of me.0 ∷ [], []))) (λ i. (sym at_place i, sym at_old i, sym at_new i))
+        (consume_allowed_at cpus slots id (first_of me.0) low high g n last))
