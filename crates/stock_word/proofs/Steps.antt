@@ -51,6 +51,28 @@ module _ {S : Type 0} (cpus slots id : ℕ) where
                 (processor_keeps cpus s.words s.views rule (set s.words place found) id v at low high found _ (leaves_stock cpus s.words v.number found rule.rows high) (after_drained v) refl (sees_drained _ _ _ v stock other))
                 (after_drained v, refl, ((λ hit. absurd (miss hit)), (λ _. record { at_stock = refl; word_before = stock.encoded ∙ ap word_of (now_drained _ _ _ v stock other); word_after = refl; view_after = refl }))))
 
+    credit_allowed_at : (g n : ℕ) → v.last ≡ HeldBy g n → 0 < v.fresh
+        → Allows holds slots id (v ∷ [], []) (stock_place v.number) (λ x. either (eqb x (word_of (HeldBy g n))) (word_of (HeldBy g (n + 1))) x)
+            (Alone crediting (step slots (stock_place v.number) (word_of (HeldBy g n)) (word_of (HeldBy g (n + 1))) none) (v ∷ [], []))
+    credit_allowed_at g n last fresh s rule homes at fits =
+        let old = word_of (HeldBy g n) in
+        let new = word_of (HeldBy g (n + 1)) in
+        let place = stock_place v.number in
+        let found = slice_index s.words place in
+        let stock = processor_stock cpus s.words s.views rule s.words id v at low high in
+        let then = Alone crediting (step slots place old new none) (v ∷ [], []) in
+        exchanged found old new (Owes s (v ∷ [], []) place then)
+            (λ hit.
+                let after = back _ _ _ v g n stock fresh last hit in
+                processor_owes s rule at then new (after_back v g (n + 1))
+                (processor_keeps cpus s.words s.views rule (set s.words place new) id v at low high new _ (leaves_stock cpus s.words v.number new rule.rows high) (after_back v g (n + 1)) refl after)
+                (after_back v g (n + 1), refl, ((λ _. record { group = g; pages = n; at_stock = refl; from_held = last; word_before = hit; word_after = refl; has_word = after.last_word; view_after = refl }), (λ miss. absurd (miss hit)))))
+            (λ miss.
+                let other : found ≢ word_of v.last = (λ e. miss (e ∙ ap word_of last)) in
+                processor_owes s rule at then found (after_drained v)
+                (processor_keeps cpus s.words s.views rule (set s.words place found) id v at low high found _ (leaves_stock cpus s.words v.number found rule.rows high) (after_drained v) refl (sees_drained _ _ _ v stock other))
+                (after_drained v, refl, ((λ hit. absurd (miss hit)), (λ _. record { at_stock = refl; word_before = stock.encoded ∙ ap word_of (now_drained _ _ _ v stock other); word_after = refl; view_after = refl }))))
+
 -- ---- the same at the seat that the caller has
 
 pub consume_allowed : {S : Type 0} (cpus slots id : ℕ) (me : Me S (List StockView)) (g n : ℕ) → me ≡ (first_of me.0 ∷ [], []) → 0 < (first_of me.0).number → (first_of me.0).number ≤ cpus → (first_of me.0).last ≡ HeldBy g (n + 1)
@@ -60,3 +82,11 @@ consume_allowed {S} cpus slots id me g n is low high last place old new at_place
     subst (λ (z : Me S (List StockView)). Allows (λ (s : State S (List StockView)). StockRule cpus s.words s.views) slots id z place (λ x. either (eqb x old) new x) (Alone consuming (step slots place old new none) z)) (sym is)
     (subst (λ (y : ℕ × ℕ × ℕ). Allows (λ (s : State S (List StockView)). StockRule cpus s.words s.views) slots id (first_of me.0 ∷ [], []) y.0 (λ x. either (eqb x y.1) y.2 x) (Alone consuming (step slots y.0 y.1 y.2 none) (first_of me.0 ∷ [], []))) (λ i. (sym at_place i, sym at_old i, sym at_new i))
         (consume_allowed_at cpus slots id (first_of me.0) low high g n last))
+
+pub credit_allowed : {S : Type 0} (cpus slots id : ℕ) (me : Me S (List StockView)) (g n : ℕ) → me ≡ (first_of me.0 ∷ [], []) → 0 < (first_of me.0).number → (first_of me.0).number ≤ cpus → (first_of me.0).last ≡ HeldBy g n → 0 < (first_of me.0).fresh
+    → (place old new : ℕ) → place ≡ stock_place (first_of me.0).number → old ≡ word_of (HeldBy g n) → new ≡ word_of (HeldBy g (n + 1))
+    → Allows (λ (s : State S (List StockView)). StockRule cpus s.words s.views) slots id me place (λ x. either (eqb x old) new x) (Alone crediting (step slots place old new none) me)
+credit_allowed {S} cpus slots id me g n is low high last fresh place old new at_place at_old at_new =
+    subst (λ (z : Me S (List StockView)). Allows (λ (s : State S (List StockView)). StockRule cpus s.words s.views) slots id z place (λ x. either (eqb x old) new x) (Alone crediting (step slots place old new none) z)) (sym is)
+    (subst (λ (y : ℕ × ℕ × ℕ). Allows (λ (s : State S (List StockView)). StockRule cpus s.words s.views) slots id (first_of me.0 ∷ [], []) y.0 (λ x. either (eqb x y.1) y.2 x) (Alone crediting (step slots y.0 y.1 y.2 none) (first_of me.0 ∷ [], []))) (λ i. (sym at_place i, sym at_old i, sym at_new i))
+        (credit_allowed_at cpus slots id (first_of me.0) low high g n last fresh))

@@ -64,6 +64,7 @@ pub record Credits (place before after : ℕ) (v w : StockView) : Type 0 where
   pub from_held : v.last ≡ HeldBy group pages
   pub word_before : before ≡ word_of (HeldBy group pages)
   pub word_after : after ≡ word_of (HeldBy group (pages + 1))
+  pub has_word : HasWord (HeldBy group (pages + 1))
   pub view_after : w ≡ after_back v group (pages + 1)
 
 -- a consume or a credit whose exchange failed, by processor p: its stock word is drained of the group that it saw last, and stays
@@ -132,6 +133,7 @@ pub record Absorbs (p place before after : ℕ) (m m' : StockView) : Type 0 wher
   pub word_before : before ≡ (account_of m p).noted
   pub word_after : after ≡ 0
   pub enough : (account_of m p).noted ≤ (account_of m p).book
+  pub bounded : (account_of m p).book < 65536
   pub machine_after : m' ≡ absorbing m p
 
 -- ---- how the steps of a table are read as kinds

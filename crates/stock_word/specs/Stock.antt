@@ -1,6 +1,7 @@
 -- What a stock word says and its encoding, and what a seat knows of the stocks.
-use Rattle.std.specs.Prelude.{◌≡◌, ℕ, zero, suc, ◌+◌, ◌-◌, ◌*◌, ◌<◌, Bool, true, false, List, [], ◌∷◌, Option, Some, None}
+use Rattle.std.specs.Prelude.{◌≡◌, ℕ, zero, suc, ◌+◌, ◌-◌, ◌*◌, ◌<◌, ◌≤◌, Bool, true, false, List, [], ◌∷◌, Option, Some, None}
 use Rattle.atomic_table.specs.Seated.{TableId}
+use Rattle.atomic_table.specs.Table.{Me}
 use Rattle.stock_word.specs.declared.view.Stock.{Stock}
 use Rattle.stock_word.specs.declared.view.Stock.TheVariants.{NoGroup, HeldBy, DrainedOf}
 use Rattle.stock_word.specs.declared.view.Account.{Account}
@@ -57,6 +58,11 @@ with_account_at [] (suc p) b = no_account ∷ with_account_at [] p b
 with_account_at (a ∷ accounts) zero b = b ∷ accounts
 with_account_at (a ∷ accounts) (suc p) b = a ∷ with_account_at accounts p b
 
+-- A seat as contracts see it: its table, and what it knows
+pub record Seated : Type 0 where
+  pub table : TableId
+  pub view : StockView
+
 -- the machine's account of processor p
 abbrev pub account_of : StockView → ℕ → Account
 account_of machine p = account_at machine.accounts p
@@ -71,11 +77,6 @@ first_machine = record { number = 0; fresh = 0; last = NoGroup; accounts = [] }
 -- what the seat of processor p knows at first
 abbrev pub first_processor : ℕ → StockView
 first_processor p = record { number = p; fresh = 0; last = NoGroup; accounts = [] }
-
--- A seat as contracts see it: its table, and what it knows
-pub record Seated : Type 0 where
-  pub table : TableId
-  pub view : StockView
 
 -- A table as contracts see it: which one it is, and how many processors it has
 pub record Words : Type 0 where
@@ -98,6 +99,22 @@ abbrev pub first_processors : ℕ → ℕ → List StockView
 first_processors p zero = []
 first_processors p (suc count) = first_processor p ∷ first_processors (p + 1) count
 
+-- the processors' seats at first
+abbrev pub first_seats : TableId → ℕ → ℕ → List Seated
+first_seats table p zero = []
+first_seats table p (suc count) = record { table = table; view = first_processor p } ∷ first_seats table (p + 1) count
+
+-- the seats of the processors p, p + 1 and so on of one table, in order
+abbrev pub AreSeats : TableId → ℕ → List Seated → Type 0
+AreSeats table p [] = Unit {0}
+AreSeats table p (seat ∷ seats) = (seat.table ≡ table) × (seat.view.number ≡ p) × AreSeats table (p + 1) seats
+
+-- the view of the seat at k
+abbrev pub view_in : List Seated → ℕ → StockView
+view_in [] k = first_machine
+view_in (seat ∷ seats) zero = seat.view
+view_in (seat ∷ seats) (suc k) = view_in seats k
+
 -- the views of a list of seats
 abbrev pub views_of : List Seated → List StockView
 views_of [] = []
@@ -111,3 +128,22 @@ first_of (v ∷ views) = v
 abbrev pub second_of : List StockView → StockView
 second_of [] = first_machine
 second_of (v ∷ views) = first_of views
+
+-- the pages that processor p's stock has by the books: those that are neither fresh nor reported
+abbrev pub stocked : Account → StockView → ℕ
+stocked account view = account.book - view.fresh - account.noted
+
+-- What a seat keeps beside its place in the table: it has one view, of which it keeps the number and the last stock; a processor that never saw a stock has no fresh page
+pub record IsKept {S : Type 0} (me : Me S (List StockView)) (number : ℕ) (last : Stock) : Type 0 where
+  pub one_view : me ≡ (first_of me.0 ∷ [], [])
+  pub same_number : number ≡ (first_of me.0).number
+  pub same_last : last ≡ (first_of me.0).last
+  pub last_word : HasWord last
+  pub none_fresh : last ≡ NoGroup → (first_of me.0).fresh ≡ 0
+
+-- the view is that of a processor's seat, or of the machine's
+abbrev pub IsProcessor : Words → StockView → Type 0
+IsProcessor words view = (0 < view.number) × (view.number ≤ words.cpus)
+
+abbrev pub IsMachine : StockView → Type 0
+IsMachine view = view.number ≡ 0

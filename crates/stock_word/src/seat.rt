@@ -21,12 +21,11 @@ impl Model for StockSeat {
 
     ghost Value = { Seated };
 
-    ghost use Rattle.std.specs.Prelude.{◌≡◌, [], ◌∷◌};
-    ghost use Rattle.stock_word.specs.Stock.{first_of, HasWord};
+    ghost use Rattle.stock_word.specs.Stock.{first_of, IsKept};
 
     ghost view = { λ s. record { table = s.seat.table_id; view = first_of s.seat.me.0 } };
 
-    ghost invariant = { λ s. (s.seat.me ≡ (first_of s.seat.me.0 ∷ [], [])) × (s.number ≡ (first_of s.seat.me.0).number) × (s.last ≡ (first_of s.seat.me.0).last) };
+    ghost invariant = { λ s. IsKept s.seat.me s.number s.last };
 }
 
 impl StockSeat {

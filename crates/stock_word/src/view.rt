@@ -17,7 +17,8 @@ pub enum Stock {
 
 impl Stock {
     ghost use Rattle.std.specs.Prelude.{◌≡◌};
-    ghost use Rattle.stock_word.specs.Stock.{word_of};
+    ghost use Rattle.stock_word.specs.declared.view.Stock.{Stock};
+    ghost use Rattle.stock_word.specs.Stock.{word_of, HasWord, pages_of};
 
     // The stock's word.
     pub(crate) fn word(self) -> u64
@@ -27,6 +28,33 @@ impl Stock {
             Stock::NoGroup => 0,
             Stock::HeldBy { group, pages } => (u64::from(group) + 1) * 65_536 + u64::from(pages),
             Stock::DrainedOf { group } => DRAINED + (u64::from(group) + 1) * 65_536,
+        }
+    }
+
+    // The stock of a word.
+    pub(crate) fn of_word(word: u64) -> Stock
+        ensures { (stock : Stock) → HasWord stock → word ≡ word_of stock → result ≡ stock }
+    {
+        let code = (word % DRAINED) / 65_536;
+        if code == 0 {
+            return Stock::NoGroup;
+        }
+        let group = (code - 1) as u32;
+        if word < DRAINED {
+            let pages = (word % 65_536) as u32;
+            Stock::HeldBy { group, pages }
+        } else {
+            Stock::DrainedOf { group }
+        }
+    }
+
+    /// The pages in the stock.
+    pub fn pages(self) -> u32
+        ensures { result ≡ pages_of self }
+    {
+        match self {
+            Stock::HeldBy { group: _, pages } => pages,
+            Stock::NoGroup | Stock::DrainedOf { group: _ } => 0,
         }
     }
 }

@@ -1,8 +1,9 @@
-//! The stock table and the processor's calls.
-ghost use Rattle.std.specs.Prelude.{◌≡◌, ◌*◌, ◌<◌, ◌≤◌};
-ghost use Rattle.stock_word.specs.Calls.{Consumed};
+//! The stock table, and the calls that a processor makes alone.
+ghost use Rattle.std.specs.Prelude.{◌≡◌, ◌*◌, ◌+◌, ◌<◌, ◌≤◌};
+ghost use Rattle.stock_word.specs.Stock.{IsProcessor};
+ghost use Rattle.stock_word.specs.Calls.{Consumed, Credited};
 
-use crate::kinds::{Consuming, Views};
+use crate::kinds::{Consuming, Crediting, Views};
 use crate::seat::StockSeat;
 use crate::view::Stock;
 use atomic_table::{Table, TableRule};
@@ -40,11 +41,13 @@ pub enum Consume {
 pub enum Credit {
     /// The page is in the stock again.
     Back,
-    /// The stock was drained and not filled since. The page stays the processor's.
+    /// The stock was drained and not filled since. The page stays with the processor.
     Drained,
 }
 
-/// The stock words and report words of all processors, which are numbered from 1.
+/// The stock words and report words of all processors, which are numbered from 1. A contract sees
+/// which table it is and the number of processors. Threads share it by `&`; no call waits.
+#[derive(Drop)]
 pub struct StockWords {
     pub(crate) table: Table<(), Views, u32, StockRule, Global>,
 }
@@ -58,21 +61,30 @@ impl Model for StockWords {
 
     ghost view = { λ t. record { table = t.table.shared.table_id; cpus = t.table.shared.key } };
 
-    ghost invariant = { λ t. t.table.shared.table_id.words ≡ 16 * (t.table.shared.key + 1) };
+    ghost invariant = { λ t. (t.table.shared.table_id.words ≡ 16 * (t.table.shared.key + 1)) × (t.table.shared.table_id.slots ≡ 0) };
 }
 
-fn stock_place(number: u32) -> usize
+// The place of a processor's stock word.
+pub(crate) fn stock_place(number: u32) -> usize
     ensures { result ≡ 16 * number }
 {
     16 * number as usize
 }
 
+// The place of a processor's report word.
+pub(crate) fn report_place(number: u32) -> usize
+    ensures { result ≡ 16 * number + 1 }
+{
+    stock_place(number) + 1
+}
+
 impl StockWords {
-    /// Takes a page of group `g` (0 to 63) from the processor's stock, by one exchange or by what it saw last.
-    /// `Empty` and `OtherGroup` tell of the stock that it saw last. Only a drain changes a stock beside its processor.
+    /// Takes a page of group `g` (0 to 63) from the processor's stock, by one exchange. `Empty` and
+    /// `OtherGroup` tell of the stock that the processor saw last, without a step. Only a drain
+    /// changes a stock beside its processor, so an exchange that fails is `Drained`.
     pub fn consume(&self, seat: &mut StockSeat, g: u32) -> Consume
         requires table { seat.old.table ≡ self.now.table }
-        requires processor { (0 < seat.old.view.number) × (seat.old.view.number ≤ self.now.cpus) }
+        requires processor { IsProcessor self.now seat.old.view }
         requires group { g < 64 }
         ensures answer { Consumed g result seat.old.view seat.new.view }
         ensures table { seat.new.table ≡ seat.old.table }
@@ -82,11 +94,11 @@ impl StockWords {
                 if pages == 0 {
                     return Consume::Empty;
                 }
+                let word = seat.last.word();
                 let left = Stock::HeldBy {
                     group,
                     pages: pages - 1,
                 };
-                let word = seat.last.word();
                 let place = stock_place(seat.number);
                 let found = self
                     .table
@@ -102,6 +114,41 @@ impl StockWords {
             }
             Stock::DrainedOf { group } if group == g => Consume::Drained,
             _ => Consume::OtherGroup,
+        }
+    }
+
+    /// Puts a fresh page of the processor back into its stock, by one exchange, or without a step
+    /// where it saw before that the stock is drained. A fresh page is of the group of the stock
+    /// that the processor saw last.
+    pub fn credit(&self, seat: &mut StockSeat) -> Credit
+        requires table { seat.old.table ≡ self.now.table }
+        requires processor { IsProcessor self.now seat.old.view }
+        requires fresh { 0 < seat.old.view.fresh }
+        ensures answer { Credited result seat.old.view seat.new.view }
+        ensures table { seat.new.table ≡ seat.old.table }
+    {
+        match seat.last {
+            Stock::HeldBy { group, pages } => {
+                let word = seat.last.word();
+                let more = Stock::HeldBy {
+                    group,
+                    pages: pages + 1,
+                };
+                let place = stock_place(seat.number);
+                let found = self
+                    .table
+                    .shared
+                    .compare_exchange::<Crediting>(&mut seat.seat, place, word, more.word());
+                if found == word {
+                    seat.last = more;
+                    Credit::Back
+                } else {
+                    seat.last = Stock::DrainedOf { group };
+                    Credit::Drained
+                }
+            }
+            Stock::DrainedOf { group: _ } => Credit::Drained,
+            Stock::NoGroup => unreachable!(),
         }
     }
 }

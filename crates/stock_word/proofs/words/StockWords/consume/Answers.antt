@@ -12,14 +12,14 @@ compare_exchange-found-requires c =
     let n = c.in-HeldBy.pages - 1 in
     let pages : c.in-HeldBy.pages ≡ n + 1 = omega (arith, c.if-pages-eq0.false) in
     let seen = c.in-HeldBy.is ∙ ap (HeldBy g) pages in
-    let last = sym c.seat.invariant.2 ∙ seen in
+    let last = sym c.seat.invariant.same_last ∙ seen in
     (
       search rules,
       search rules,
-      consume_allowed _ _ _ _ g n c.seat.invariant.0 (search rules) (search rules) last _ _ _ (search rules) (c.word-word.ensures ∙ ap word_of seen) c.word.ensures,
+      consume_allowed _ _ _ _ g n c.seat.invariant.one_view (search rules) (search rules) last _ _ _ (search rules) (c.word-word.ensures ∙ ap word_of seen) c.word.ensures,
     )
 
 pub returns-then-found-word-clause-answer : goal.returns-then-found-word-clause-answer
 returns-then-found-word-clause-answer c =
     let told = c.compare_exchange-found.ensures.2 in
-    consumed_took _ _ _ _ _ _ _ _ _ _ (told.2.0 c.if-found-word.true) (ap (λ (s : Seated). s.view) c.seat.view_is) (ap (λ (z : List StockView × List (ℕ × Unit {0})). first_of z.0) told.1) (sym c.seat.invariant.2 ∙ c.in-HeldBy.is) (search rules)
+    consumed_took _ _ _ _ _ _ _ _ _ _ (told.2.0 c.if-found-word.true) (ap (λ (s : Seated). s.view) c.seat.view_is) (ap (λ (z : List StockView × List (ℕ × Unit {0})). first_of z.0) told.1) (sym c.seat.invariant.same_last ∙ c.in-HeldBy.is) (search rules)
