@@ -2,6 +2,7 @@
 use Rattle.std.specs.Prelude.{◌≡◌, ℕ, zero, suc, ◌+◌, ◌-◌, ◌*◌, ◌<◌, ◌≤◌, Bool, true, false, List, [], ◌∷◌, Option, Some, None}
 use Rattle.atomic_table.specs.Seated.{TableId}
 use Rattle.atomic_table.specs.Table.{Me}
+use Rattle.seat_sums.specs.Totals.{sum_over}
 use Rattle.stock_word.specs.declared.view.Stock.{Stock}
 use Rattle.stock_word.specs.declared.view.Stock.TheVariants.{NoGroup, HeldBy, DrainedOf}
 use Rattle.stock_word.specs.declared.view.Account.{Account}
@@ -147,3 +148,11 @@ IsProcessor words view = (0 < view.number) × (view.number ≤ words.cpus)
 
 abbrev pub IsMachine : StockView → Type 0
 IsMachine view = view.number ≡ 0
+
+-- a view of a seat of this number that has seen nothing
+abbrev pub StartsAs : ℕ → StockView → Type 0
+StartsAs number view = (view.number ≡ number) × (view.last ≡ NoGroup) × (view.fresh ≡ 0)
+
+-- these views are the machine's and those of the seats, in whatever order: each function of one view has the same sum
+abbrev pub Gathers : StockView → List Seated → List StockView → Type 0
+Gathers machine seats views = (f : StockView → ℕ) → sum_over f views ≡ f machine + sum_over f (views_of seats)

@@ -14,11 +14,15 @@
 //! A report word is a number of pages.
 #![tactic(auto)]
 
+mod closed;
 mod kinds;
+mod machine;
+mod make;
 mod seat;
 mod view;
 mod words;
 
+pub use closed::ClosedWords;
 pub use seat::StockSeat;
 pub use view::{Account, Stock, StockView};
-pub use words::{Consume, Credit, StockWords};
+pub use words::{Consume, Credit, StockRule, StockWords};
