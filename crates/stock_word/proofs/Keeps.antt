@@ -1,17 +1,19 @@
 -- How the rule follows from what one step leaves of one processor's words.
-use Rattle.std.proofs.Common.{◌≡◌, ◌≢◌, ℕ, zero, suc, ◌+◌, ◌*◌, ◌<◌, ◌≤◌, List, [], ◌∷◌, set, length, get_or, refl, ap, sym, ◌∙◌, subst, arith}
+use Rattle.std.proofs.Common.{◌≡◌, ◌≢◌, ℕ, zero, suc, ◌+◌, ◌*◌, ◌<◌, ◌≤◌, List, [], ◌∷◌, ◌++◌, set, length, get_or, refl, ap, sym, ◌∙◌, subst, arith}
 use Rattle.std.specs.Prelude.{slice_index}
 use Rattle.std.proofs.lemmas.List.{get_or-set_same, get_or-set_other, length-set}
 use mathlib.Core.Option.{some}
 use mathlib.Core.Logic.{dite}
 use native.Mathlib.Decide.{ℕ_discrete}
 use lib.ListN.{get_elem?}
-use Rattle.seat_sums.specs.Totals.{sum_over}
+use Rattle.atomic_table.specs.Table.{Splits, Joins}
+use Rattle.seat_sums.specs.Totals.{sum_over, SameTotals, join_of}
+use Rattle.seat_sums.proofs.Totals.{total_set, total_more, join_totals}
 use Rattle.stock_word.specs.declared.view.Account.{Account}
 use Rattle.stock_word.specs.declared.view.StockView.{StockView}
 use Rattle.stock_word.specs.Stock.{account_at, with_account_at, account_of, with_account}
 use Rattle.stock_word.specs.StockRule.{stock_place, report_place, at_seat, IsOnly, IsStock, HoldsAt, StockRule}
-use Rattle.stock_word.proofs.Only.{at_mine, at_other, known, turned, stays}
+use Rattle.stock_word.proofs.Only.{at_mine, at_other, known, turned, stays, same_only}
 
 -- ---- what one seat's views come to
 
@@ -210,3 +212,26 @@ module _ (cpus : ℕ) (words : List ℕ) (seats : List (List StockView)) (rule :
             only = turned seats id (m ∷ v ∷ []) at v.number v (second v.number m v (λ e. omega (arith, e, zeroth)) refl) h.view v' (m' ∷ v' ∷ []) (second v.number m' v' (λ e. omega (arith, e, named)) named') h.only;
             stock = stocked words' v.number x y (account_of m' v.number) v' leaves.stock leaves.report stock;
           }
+
+-- ---- splits and joins
+
+-- seats that all have the same totals keep the rule
+pub same_keeps : (cpus : ℕ) (words : List ℕ) (before after : List (List StockView)) → SameTotals before after → StockRule cpus words before → StockRule cpus words after
+same_keeps cpus words before after same rule = record {
+  rows = rule.rows;
+  machine = rule.machine;
+  only = same_only before after same 0 rule.machine rule.only;
+  each = λ q low high. let h = rule.each q low high in record { view = h.view; only = same_only before after same q h.view h.only; stock = h.stock };
+}
+
+-- a seat's views are cut in two
+pub split_keeps : {S : Type 0} (cpus id : ℕ) (old left right : List StockView) → ((f : StockView → ℕ) → sum_over f left + sum_over f right ≡ sum_over f old)
+    → Splits {S = S} (λ s. StockRule cpus s.words s.views) id old left right
+split_keeps cpus id old left right cut s rule at = same_keeps cpus s.words s.views (set s.views id left ++ right ∷ []) (λ f.
+        let a = total_more f (set s.views id left) right in
+        let b = total_set f s.views id old left at in
+        let c = cut f in omega arith) rule
+
+-- a seat takes in the views of another
+pub join_keeps : {S : Type 0} (cpus id other : ℕ) (views taken : List StockView) → Joins {S = S} (λ s. StockRule cpus s.words s.views) id views other taken (views ++ taken) []
+join_keeps cpus id other views taken s rule at apart there = same_keeps cpus s.words s.views (join_of s.views id views other taken) (join_totals s.views id other views taken at there) rule

@@ -4,9 +4,9 @@ use Rattle.stock_word.specs.declared.view.Stock.{Stock}
 use Rattle.stock_word.specs.declared.view.Stock.TheVariants.{NoGroup, HeldBy, DrainedOf}
 use Rattle.stock_word.specs.declared.view.Account.{Account}
 use Rattle.stock_word.specs.declared.view.StockView.{StockView}
-use Rattle.stock_word.specs.Stock.{word_of, HasWord, pages_of, group_of, is_held, drained_of}
+use Rattle.stock_word.specs.Stock.{word_of, HasWord, pages_of, group_of, is_held, drained_of, stocked}
 use Rattle.stock_word.specs.StockRule.{IsStock}
-use Rattle.stock_word.specs.Kinds.{after_took, after_back, after_drained}
+use Rattle.stock_word.specs.Kinds.{after_took, after_back, after_drained, after_report, after_fill}
 
 -- a stock of which the word is held by g with n is that one
 pub held_word : (s : Stock) (g n : ℕ) → HasWord s → g < 64 → n < 65536 → word_of s ≡ word_of (HeldBy g n) → s ≡ HeldBy g n
@@ -86,4 +86,149 @@ sees_drained word report a v h ne = record {
   reported = h.reported;
   last_seen = inl (now_drained word report a v h ne);
   last_word = drained_has_word v.last h.last_word;
+}
+
+-- a report of n fresh pages
+pub reported : (word report : ℕ) (a : Account) (v : StockView) (n : ℕ) → IsStock word report a v → n ≤ v.fresh → IsStock word (report + n) (record a { noted = a.noted + n }) (after_report v n)
+reported word report a v n h fresh = record {
+  stock = h.stock;
+  encoded = h.encoded;
+  has_word = h.has_word;
+  balanced = omega (arith, h.balanced, fresh);
+  bounded = h.bounded;
+  of_group = h.of_group;
+  unfilled = h.unfilled;
+  held = h.held;
+  reported = ap (λ r. r + n) h.reported;
+  last_seen = h.last_seen;
+  last_word = h.last_word;
+}
+
+held_of : (s : Stock) (g : ℕ) → 0 < pages_of s → group_of s ≡ Some g → s ≡ HeldBy g (pages_of s)
+held_of NoGroup g more e = absurd (omega arith)
+held_of (HeldBy k n) g more e = let d : k ≡ g = cc in ap (λ x. HeldBy x n) d
+held_of (DrainedOf k) g more e = absurd (omega arith)
+
+not_held : (s : Stock) → is_held (drained_of s) ≡ false
+not_held NoGroup = refl
+not_held (HeldBy g n) = refl
+not_held (DrainedOf g) = refl
+
+-- where the books say that the stock has a page, the processor saw it last
+pub held_by_books : (word report : ℕ) (a : Account) (v : StockView) (g : ℕ) (h : IsStock word report a v) → a.group ≡ Some g → v.fresh + a.noted < a.book
+    → (v.last ≡ HeldBy g (stocked a v)) × (word ≡ word_of (HeldBy g (stocked a v)))
+held_by_books word report a v g h group more =
+    let pages : pages_of h.stock ≡ stocked a v = omega (arith, h.balanced, h.reported, more) in
+    let some : 0 < pages_of h.stock = omega (arith, h.balanced, h.reported, more) in
+    let is : h.stock ≡ HeldBy g (pages_of h.stock) = held_of h.stock g some (h.of_group ∙ group) in
+    let stock : h.stock ≡ HeldBy g (stocked a v) = is ∙ ap (HeldBy g) pages in
+    let seen : h.stock ≡ v.last = ⊎_elim (λ (e : h.stock ≡ v.last). e) (λ (e : h.stock ≡ drained_of v.last). absurd (true≢false (sym (ap is_held is) ∙ ap is_held e ∙ not_held v.last))) h.last_seen in
+    (sym seen ∙ stock, h.encoded ∙ ap word_of stock)
+
+no_pages : (s : Stock) → is_held s ≡ false → pages_of s ≡ 0
+no_pages NoGroup e = refl
+no_pages (HeldBy g n) e = absurd (true≢false e)
+no_pages (DrainedOf g) e = refl
+
+-- nothing is booked to a stock that is drained, of a processor with no fresh and no reported page
+pub nothing_booked : (word report : ℕ) (a : Account) (v : StockView) → IsStock word report a v → a.filled ≡ false → v.fresh ≡ 0 → a.noted ≡ 0 → a.book ≡ 0
+nothing_booked word report a v h off fresh noted = let pages = no_pages h.stock (h.held ∙ off) in omega (arith, h.balanced, h.reported, pages, fresh, noted)
+
+pub filled : (word report : ℕ) (a : Account) (v : StockView) (g n : ℕ) → IsStock word report a v → g < 64 → n < 65536 → a.filled ≡ false → v.fresh ≡ 0 → a.noted ≡ 0
+    → IsStock (word_of (HeldBy g n)) report (record a { book = a.book + n; group = Some g; filled = true }) (after_fill v g n)
+filled word report a v g n h group fits off fresh noted =
+    let empty = nothing_booked word report a v h off fresh noted in
+    let book : a.book + n < 65536 = omega arith in
+    record {
+      stock = HeldBy g n;
+      encoded = refl;
+      has_word = (group, fits);
+      balanced = omega (arith, h.reported, empty, fresh, noted);
+      bounded = book;
+      of_group = refl;
+      unfilled = (λ e. absurd (cc));
+      held = refl;
+      reported = h.reported;
+      last_seen = inl refl;
+      last_word = (group, fits);
+    }
+
+drained_group : (s : Stock) (g : ℕ) → group_of s ≡ Some g → drained_of s ≡ DrainedOf g
+drained_group NoGroup g e = absurd (cc)
+drained_group (HeldBy k n) g e = let d : k ≡ g = cc in ap DrainedOf d
+drained_group (DrainedOf k) g e = let d : k ≡ g = cc in ap DrainedOf d
+
+drained_again : (s : Stock) → drained_of (drained_of s) ≡ drained_of s
+drained_again NoGroup = refl
+drained_again (HeldBy g n) = refl
+drained_again (DrainedOf g) = refl
+
+-- a drain
+pub drained : (word report : ℕ) (a : Account) (v : StockView) (g : ℕ) (h : IsStock word report a v) → group_of h.stock ≡ Some g → IsStock (word_of (DrainedOf g)) report (record a { book = a.book - pages_of h.stock; filled = false }) v
+drained word report a v g h group =
+    let is = drained_group h.stock g group in
+    let low : HasWord (DrainedOf g) = subst HasWord is (drained_has_word h.stock h.has_word) in
+    record {
+      stock = DrainedOf g;
+      encoded = refl;
+      has_word = low;
+      balanced = omega (arith, h.balanced);
+      bounded = omega (arith, h.bounded);
+      of_group = sym group ∙ h.of_group;
+      unfilled = (λ e. let b = h.unfilled e in omega (arith, b));
+      held = refl;
+      reported = h.reported;
+      last_seen = inr (sym is ∙ ⊎_elim (λ (e : h.stock ≡ v.last). ap drained_of e) (λ (e : h.stock ≡ drained_of v.last). ap drained_of e ∙ drained_again v.last) h.last_seen);
+      last_word = h.last_word;
+    }
+
+no_word : (s : Stock) → word_of s ≡ 0 → s ≡ NoGroup
+no_word NoGroup e = refl
+no_word (HeldBy g n) e = absurd (omega (arith, e))
+no_word (DrainedOf g) e = absurd (omega (arith, e))
+
+-- the drain of a stock that was never filled
+pub drained_none : (word report : ℕ) (a : Account) (v : StockView) (h : IsStock word report a v) → word ≡ 0 → (a.group ≡ None) × IsStock word report (record a { book = a.book - 0; filled = false }) v
+drained_none word report a v h zeroth =
+    let is = no_word h.stock (sym h.encoded ∙ zeroth) in
+    (
+      sym h.of_group ∙ ap group_of is,
+      record {
+        stock = h.stock;
+        encoded = h.encoded;
+        has_word = h.has_word;
+        balanced = omega (arith, h.balanced);
+        bounded = omega (arith, h.bounded);
+        of_group = h.of_group;
+        unfilled = (λ e. let b = h.unfilled e in omega (arith, b));
+        held = ap is_held is;
+        reported = h.reported;
+        last_seen = h.last_seen;
+        last_word = h.last_word;
+      },
+    )
+
+some_group : (s : Stock) → s ≢ NoGroup → (g : ℕ) × (group_of s ≡ Some g)
+some_group NoGroup ne = absurd (ne refl)
+some_group (HeldBy g n) ne = (g, refl)
+some_group (DrainedOf g) ne = (g, refl)
+
+-- a stock with a word above 0 is of a group
+pub of_some_group : (word report : ℕ) (a : Account) (v : StockView) (h : IsStock word report a v) → word ≢ 0 → (g : ℕ) × (group_of h.stock ≡ Some g)
+of_some_group word report a v h ne = some_group h.stock (λ e. ne (h.encoded ∙ ap word_of e))
+
+-- an absorb
+pub absorbed : (word report : ℕ) (a : Account) (v : StockView) → IsStock word report a v → IsStock word 0 (record a { book = a.book - a.noted; noted = 0 }) v
+absorbed word report a v h = record {
+  stock = h.stock;
+  encoded = h.encoded;
+  has_word = h.has_word;
+  balanced = omega (arith, h.balanced, h.reported);
+  bounded = omega (arith, h.bounded);
+  of_group = h.of_group;
+  unfilled = (λ e. let b = h.unfilled e in omega (arith, b));
+  held = h.held;
+  reported = refl;
+  last_seen = h.last_seen;
+  last_word = h.last_word;
 }
