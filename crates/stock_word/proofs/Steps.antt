@@ -6,16 +6,17 @@ use mathlib.Core.Logic.{dite}
 use native.Mathlib.Decide.{ℕ_discrete}
 use lib.ListN.{get_elem?}
 use prog.Atomic.{either}
-use Rattle.atomic_table.specs.Table.{State, Me, Act, keeps, Step, step, stepped, Valid, carried_after, Allows}
+use Rattle.atomic_table.specs.Table.{State, Me, Act, keeps, Step, step, stepped, Valid, carried_after, Allows, Splits}
+use Rattle.seat_sums.specs.Totals.{sum_over}
 use Rattle.atomic_table.proofs.Lists.{exchanged}
 use Rattle.stock_word.specs.declared.view.Stock.TheVariants.{NoGroup, HeldBy, DrainedOf}
 use Rattle.stock_word.specs.declared.view.Account.{Account}
 use Rattle.stock_word.specs.declared.view.StockView.{StockView}
-use Rattle.stock_word.specs.Stock.{word_of, pages_of, group_of, drained_of, account_of, with_account, stocked, first_of}
+use Rattle.stock_word.specs.Stock.{word_of, pages_of, group_of, drained_of, account_of, with_account, stocked, first_of, without_second, second_alone}
 use Rattle.stock_word.specs.StockRule.{stock_place, report_place, IsStock, StockRule}
 use Rattle.stock_word.specs.Kinds.{after_took, after_back, after_drained, after_report, noting, filling, after_fill, draining, absorbing, Drains, DrainsNone, LooksAt, Absorbs, Fills, Alone, Joined, consuming, crediting, looking, draining_step, absorbing_step, reporting_step, consuming_held, filling_step}
 use Rattle.stock_word.proofs.Stocks.{took, back, now_drained, sees_drained, reported, held_by_books, nothing_booked, filled, drained, drained_none, of_some_group, absorbed}
-use Rattle.stock_word.proofs.Keeps.{leaves_stock, leaves_report, account_of-with_account, account_of-with_account_other, processor_stock, processor_keeps, machine_stock, machine_keeps, joined_stock, joined_keeps}
+use Rattle.stock_word.proofs.Keeps.{leaves_stock, leaves_report, account_of-with_account, account_of-with_account_other, processor_stock, processor_keeps, machine_stock, machine_keeps, joined_stock, joined_keeps, split_keeps}
 
 same_stock_place : (p q : ℕ) → stock_place p ≡ stock_place q → p ≡ q
 same_stock_place p q e = omega (arith, e)
@@ -301,3 +302,61 @@ credit_allowed {S} cpus slots id me g n is low high last fresh place old new at_
     subst (λ (z : Me S (List StockView)). Allows (λ (s : State S (List StockView)). StockRule cpus s.words s.views) slots id z place (λ x. either (eqb x old) new x) (Alone crediting (step slots place old new none) z)) (sym is)
     (subst (λ (y : ℕ × ℕ × ℕ). Allows (λ (s : State S (List StockView)). StockRule cpus s.words s.views) slots id (first_of me.0 ∷ [], []) y.0 (λ x. either (eqb x y.1) y.2 x) (Alone crediting (step slots y.0 y.1 y.2 none) (first_of me.0 ∷ [], []))) (λ i. (sym at_place i, sym at_old i, sym at_new i))
         (credit_allowed_at cpus slots id (first_of me.0) low high g n last fresh))
+
+pub looking_allowed : {S : Type 0} (cpus slots id : ℕ) (me : Me S (List StockView)) (p : ℕ) → me ≡ (first_of me.0 ∷ [], []) → (first_of me.0).number ≡ 0 → 0 < p → p ≤ cpus → (place : ℕ) → place ≡ stock_place p
+    → Allows (λ (s : State S (List StockView)). StockRule cpus s.words s.views) slots id me place (λ x. x) (Alone looking (step slots place 0 0 none) me)
+looking_allowed {S} cpus slots id me p is zeroth low high place at_place =
+    subst (λ (z : Me S (List StockView)). Allows (λ (s : State S (List StockView)). StockRule cpus s.words s.views) slots id z place (λ x. x) (Alone looking (step slots place 0 0 none) z)) (sym is)
+    (subst (λ (y : ℕ). Allows (λ (s : State S (List StockView)). StockRule cpus s.words s.views) slots id (first_of me.0 ∷ [], []) y (λ x. x) (Alone looking (step slots y 0 0 none) (first_of me.0 ∷ [], []))) (sym at_place)
+        (looking_allowed_at cpus slots id (first_of me.0) zeroth p low high))
+
+pub draining_allowed : {S : Type 0} (cpus slots id : ℕ) (me : Me S (List StockView)) (p g : ℕ) → me ≡ (first_of me.0 ∷ [], []) → (first_of me.0).number ≡ 0 → 0 < p → p ≤ cpus → (account_of (first_of me.0) p).group ≡ Some g
+    → (place new : ℕ) → place ≡ stock_place p → new ≡ word_of (DrainedOf g)
+    → Allows (λ (s : State S (List StockView)). StockRule cpus s.words s.views) slots id me place (λ x. new) (Alone draining_step (step slots place new 0 none) me)
+draining_allowed {S} cpus slots id me p g is zeroth low high group place new at_place at_new =
+    subst (λ (z : Me S (List StockView)). Allows (λ (s : State S (List StockView)). StockRule cpus s.words s.views) slots id z place (λ x. new) (Alone draining_step (step slots place new 0 none) z)) (sym is)
+    (subst (λ (y : ℕ × ℕ). Allows (λ (s : State S (List StockView)). StockRule cpus s.words s.views) slots id (first_of me.0 ∷ [], []) y.0 (λ x. y.1) (Alone draining_step (step slots y.0 y.1 0 none) (first_of me.0 ∷ [], []))) (λ i. (sym at_place i, sym at_new i))
+        (draining_allowed_at cpus slots id (first_of me.0) zeroth p low high g group))
+
+pub absorbing_allowed : {S : Type 0} (cpus slots id : ℕ) (me : Me S (List StockView)) (p : ℕ) → me ≡ (first_of me.0 ∷ [], []) → (first_of me.0).number ≡ 0 → 0 < p → p ≤ cpus → (place : ℕ) → place ≡ report_place p
+    → Allows (λ (s : State S (List StockView)). StockRule cpus s.words s.views) slots id me place (λ x. 0) (Alone absorbing_step (step slots place 0 0 none) me)
+absorbing_allowed {S} cpus slots id me p is zeroth low high place at_place =
+    subst (λ (z : Me S (List StockView)). Allows (λ (s : State S (List StockView)). StockRule cpus s.words s.views) slots id z place (λ x. 0) (Alone absorbing_step (step slots place 0 0 none) z)) (sym is)
+    (subst (λ (y : ℕ). Allows (λ (s : State S (List StockView)). StockRule cpus s.words s.views) slots id (first_of me.0 ∷ [], []) y (λ x. 0) (Alone absorbing_step (step slots y 0 0 none) (first_of me.0 ∷ [], []))) (sym at_place)
+        (absorbing_allowed_at cpus slots id (first_of me.0) zeroth p low high))
+
+pub reporting_allowed : {S : Type 0} (cpus slots id : ℕ) (me : Me S (List StockView)) (m v : StockView) (n : ℕ) → me ≡ (m ∷ v ∷ [], []) → m.number ≡ 0 → 0 < v.number → v.number ≤ cpus → n ≤ v.fresh → (place : ℕ) → place ≡ report_place v.number
+    → Allows (λ (s : State S (List StockView)). StockRule cpus s.words s.views) slots id me place (λ x. (x + n) % 2 ^ 64) (Joined reporting_step (step slots place n 0 none) me)
+reporting_allowed {S} cpus slots id me m v n is zeroth low high fresh place at_place =
+    subst (λ (z : Me S (List StockView)). Allows (λ (s : State S (List StockView)). StockRule cpus s.words s.views) slots id z place (λ x. (x + n) % 2 ^ 64) (Joined reporting_step (step slots place n 0 none) z)) (sym is)
+    (subst (λ (y : ℕ). Allows (λ (s : State S (List StockView)). StockRule cpus s.words s.views) slots id (m ∷ v ∷ [], []) y (λ x. (x + n) % 2 ^ 64) (Joined reporting_step (step slots y n 0 none) (m ∷ v ∷ [], []))) (sym at_place)
+        (reporting_allowed_at cpus slots id m v zeroth low high n fresh))
+
+pub filling_allowed : {S : Type 0} (cpus slots id : ℕ) (me : Me S (List StockView)) (m v : StockView) (g n : ℕ) → me ≡ (m ∷ v ∷ [], []) → m.number ≡ 0 → 0 < v.number → v.number ≤ cpus → g < 64 → n < 65536
+    → (account_of m v.number).filled ≡ false → v.fresh ≡ 0 → (account_of m v.number).noted ≡ 0 → (place new : ℕ) → place ≡ stock_place v.number → new ≡ word_of (HeldBy g n)
+    → Allows (λ (s : State S (List StockView)). StockRule cpus s.words s.views) slots id me place (λ x. new) (λ x. Joined filling_step (step slots place new 0 none) me new)
+filling_allowed {S} cpus slots id me m v g n is zeroth low high group few off fresh noted place new at_place at_new =
+    subst (λ (z : Me S (List StockView)). Allows (λ (s : State S (List StockView)). StockRule cpus s.words s.views) slots id z place (λ x. new) (λ x. Joined filling_step (step slots place new 0 none) z new)) (sym is)
+    (subst (λ (y : ℕ × ℕ). Allows (λ (s : State S (List StockView)). StockRule cpus s.words s.views) slots id (m ∷ v ∷ [], []) y.0 (λ x. y.1) (λ x. Joined filling_step (step slots y.0 y.1 0 none) (m ∷ v ∷ [], []) y.1)) (λ i. (sym at_place i, sym at_new i))
+        (filling_allowed_at cpus slots id m v zeroth low high g n group few off fresh noted))
+
+pub consuming_held_allowed : {S : Type 0} (cpus slots id : ℕ) (me : Me S (List StockView)) (m v : StockView) (g : ℕ) → me ≡ (m ∷ v ∷ [], []) → m.number ≡ 0 → 0 < v.number → v.number ≤ cpus
+    → (account_of m v.number).group ≡ Some g → v.fresh + (account_of m v.number).noted < (account_of m v.number).book → (place : ℕ) → place ≡ stock_place v.number
+    → Allows (λ (s : State S (List StockView)). StockRule cpus s.words s.views) slots id me place (λ x. (x + (2 ^ 64 - 1)) % 2 ^ 64) (Joined consuming_held (step slots place 1 0 none) me)
+consuming_held_allowed {S} cpus slots id me m v g is zeroth low high group more place at_place =
+    subst (λ (z : Me S (List StockView)). Allows (λ (s : State S (List StockView)). StockRule cpus s.words s.views) slots id z place (λ x. (x + (2 ^ 64 - 1)) % 2 ^ 64) (Joined consuming_held (step slots place 1 0 none) z)) (sym is)
+    (subst (λ (y : ℕ). Allows (λ (s : State S (List StockView)). StockRule cpus s.words s.views) slots id (m ∷ v ∷ [], []) y (λ x. (x + (2 ^ 64 - 1)) % 2 ^ 64) (Joined consuming_held (step slots y 1 0 none) (m ∷ v ∷ [], []))) (sym at_place)
+        (consuming_held_allowed_at cpus slots id m v zeroth low high g group more))
+
+-- ---- splits and joins
+
+pub nothing_split : {S : Type 0} (cpus id : ℕ) (old : List StockView) → Splits {S = S} (λ s. StockRule cpus s.words s.views) id old old []
+nothing_split cpus id old = split_keeps cpus id old old [] (λ f. omega arith)
+
+pub second_split : {S : Type 0} (cpus id : ℕ) (old : List StockView) → Splits {S = S} (λ s. StockRule cpus s.words s.views) id old (without_second old) (second_alone old)
+second_split cpus id old = split_keeps cpus id old (without_second old) (second_alone old) (second_apart old)
+  where
+    second_apart : (views : List StockView) (f : StockView → ℕ) → sum_over f (without_second views) + sum_over f (second_alone views) ≡ sum_over f views
+    second_apart [] f = refl
+    second_apart (v ∷ []) f = omega arith
+    second_apart (v ∷ w ∷ views) f = omega arith
