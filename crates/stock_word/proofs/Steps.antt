@@ -280,6 +280,8 @@ module _ {S : Type 0} (cpus slots id : ℕ) where
           joined_keeps cpus s.words s.views rule (set s.words place (word_of (HeldBy g n))) id m v at zeroth low high _ _ (leaves_stock cpus s.words v.number _ rule.rows high) m (after_took v g n) zeroth refl (λ q ne. refl) kept,
           (m, after_took v g n, refl, record {
                 consumes = record { group = g; pages = n; at_stock = refl; from_held = last; word_before = is; word_after = minus_one found (word_of (HeldBy g n)) (is ∙ held_more g n); view_after = refl };
+                of_group = booked;
+                has_word = kept.last_word;
                 exact = exact_books a v (ap pages_of books.0) more;
                 machine_after = refl;
               }),

@@ -1,5 +1,5 @@
 -- What the kinds of step tell, as the calls' contracts say it.
-use Rattle.std.proofs.Common.{◌≡◌, ◌≢◌, ℕ, ◌+◌, ◌≤◌, ◌⊎◌, ⊎_elim, false, true≢false, [], ◌∷◌, List, Option, None, Some, refl, ap, sym, ◌∙◌, arith}
+use Rattle.std.proofs.Common.{◌≡◌, ◌≢◌, ℕ, ◌+◌, ◌-◌, ◌≤◌, ◌⊎◌, ⊎_elim, false, true≢false, [], ◌∷◌, List, Option, None, Some, refl, ap, sym, ◌∙◌, arith}
 use native.Mathlib.Decide.{ℕ_discrete}
 use Rattle.atomic_table.specs.Seated.{TableId}
 use Rattle.atomic_table.specs.Table.{Me}
@@ -7,8 +7,8 @@ use Rattle.stock_word.specs.declared.view.Stock.{Stock}
 use Rattle.stock_word.specs.declared.view.Stock.TheVariants.{NoGroup, HeldBy, DrainedOf}
 use Rattle.stock_word.specs.declared.view.StockView.{StockView}
 use Rattle.stock_word.specs.declared.words.Consume.TheVariants as consume
-use Rattle.stock_word.specs.Stock.{Seated, word_of, HasWord, pages_of, is_held, group_of, account_of, first_of, IsKept}
-use Rattle.stock_word.specs.Kinds.{Consumes, Drains, DrainsNone, LooksAt, after_took, draining}
+use Rattle.stock_word.specs.Stock.{Seated, word_of, HasWord, pages_of, is_held, group_of, account_of, stocked, first_of, IsKept}
+use Rattle.stock_word.specs.Kinds.{Consumes, ConsumesHeld, Drains, DrainsNone, LooksAt, after_took, draining}
 use Rattle.stock_word.specs.Calls.{Consumed, with_view}
 
 same_group : (a b : ℕ) → Some a ≡ Some b → a ≡ b
@@ -90,3 +90,17 @@ after_of {S} me next w is = ap (λ (z : Me S (List StockView)). first_of z.0) is
 
 pub either_group : (r : Stock) (g : ℕ) → ((n : ℕ) × (r ≡ HeldBy g n)) ⊎ (r ≡ DrainedOf g) → group_of r ≡ Some g
 either_group r g h = ⊎_elim (λ (x : (n : ℕ) × (r ≡ HeldBy g n)). ap group_of x.1) (λ (x : r ≡ DrainedOf g). ap group_of x) h
+
+-- ---- consume_held
+
+pub held_group : (g place before after : ℕ) (m v m' v' b u : StockView) → (kind : ConsumesHeld place before after m v m' v') → m ≡ b → v ≡ u → (account_of b u.number).group ≡ Some g → kind.consumes.group ≡ g
+held_group g place before after m v m' v' b u kind machine view group = same_group _ _ (sym kind.of_group ∙ (λ i. (account_of (machine i) (view i).number).group) ∙ group)
+
+pub held_pages : (place before after : ℕ) (m v m' v' b u : StockView) → (kind : ConsumesHeld place before after m v m' v') → m ≡ b → v ≡ u → kind.consumes.pages ≡ stocked (account_of b u.number) u - 1
+held_pages place before after m v m' v' b u kind machine view =
+    let more : pages_of v.last ≡ kind.consumes.pages + 1 = ap pages_of kind.consumes.from_held in
+    let here : kind.consumes.pages ≡ stocked (account_of m v.number) v - 1 = omega (arith, kind.exact, more) in
+    here ∙ (λ i. stocked (account_of (machine i) (view i).number) (view i) - 1)
+
+pub held_after : (g place before after : ℕ) (m v m' v' b u : StockView) → (kind : ConsumesHeld place before after m v m' v') → m ≡ b → v ≡ u → (account_of b u.number).group ≡ Some g → v' ≡ after_took u g (stocked (account_of b u.number) u - 1)
+held_after g place before after m v m' v' b u kind machine view group = kind.consumes.view_after ∙ (λ i. after_took (view i) (held_group g place before after m v m' v' b u kind machine view group i) (held_pages place before after m v m' v' b u kind machine view i))

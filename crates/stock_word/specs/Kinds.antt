@@ -84,6 +84,8 @@ pub record Reports (n place before after : ℕ) (m v m' v' : StockView) : Type 0
 -- a consume that always takes, by the joined seats: the stock has just the booked pages that are neither fresh nor reported
 pub record ConsumesHeld (place before after : ℕ) (m v m' v' : StockView) : Type 0 where
   pub consumes : Consumes place before after v v'
+  pub of_group : (account_of m v.number).group ≡ Some consumes.group
+  pub has_word : HasWord (HeldBy consumes.group consumes.pages)
   pub exact : (account_of m v.number).book ≡ pages_of v.last + v.fresh + (account_of m v.number).noted
   pub machine_after : m' ≡ m
 
