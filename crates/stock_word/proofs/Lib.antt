@@ -4,3 +4,4 @@ pub mod Stocks
 pub mod Keeps
 pub mod Steps
 pub mod Told
+pub mod Deals
