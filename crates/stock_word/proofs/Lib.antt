@@ -5,3 +5,4 @@ pub mod Keeps
 pub mod Steps
 pub mod Told
 pub mod Deals
+pub mod Opens
