@@ -6,3 +6,4 @@ pub mod Steps
 pub mod Told
 pub mod Deals
 pub mod Opens
+pub mod Gathers
