@@ -19,6 +19,8 @@ mod kinds;
 mod machine;
 mod make;
 mod seat;
+#[cfg(test)]
+mod tests;
 mod view;
 mod words;
 
