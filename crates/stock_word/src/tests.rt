@@ -32,3 +32,31 @@ fn drained_with_a_fresh_page(rt: HostRuntime) -> Result<(), Fail> {
     nothing_booked(&machine);
     Ok(())
 }
+
+// Takes and gives back pages of group 1 until it is told that the stock is drained, or for 100
+// steps. Tells how many pages it kept.
+fn work(words: &StockWords, seat: &mut StockSeat) -> u32
+    requires table { seat.old.table ≡ words.now.table }
+    requires processor { IsProcessor words.now seat.old.view }
+    requires settled { seat.old.view.fresh ≡ 0 }
+    ensures table { seat.new.table ≡ seat.old.table }
+    ensures number { seat.new.view.number ≡ seat.old.view.number }
+    ensures fresh { seat.new.view.fresh ≡ result }
+{
+    let mut fresh = 0;
+    for step in 0..100u32 {
+        if step % 3 < 2 {
+            match words.consume(seat, 1) {
+                Consume::Took => fresh += 1,
+                Consume::Drained => break,
+                Consume::Empty | Consume::OtherGroup => {}
+            }
+        } else if fresh > 0 {
+            match words.credit(seat) {
+                Credit::Back => fresh -= 1,
+                Credit::Drained => break,
+            }
+        }
+    }
+    fresh
+}
