@@ -156,3 +156,7 @@ StartsAs number view = (view.number ≡ number) × (view.last ≡ NoGroup) × (v
 -- these views are the machine's and those of the seats, in whatever order: each function of one view has the same sum
 abbrev pub Gathers : StockView → List Seated → List StockView → Type 0
 Gathers machine seats views = (f : StockView → ℕ) → sum_over f views ≡ f machine + sum_over f (views_of seats)
+
+-- the stock of a processor may be filled: it was never filled or was drained since, and the processor has no fresh page and none reported that was not taken in
+abbrev pub IsSettled : StockView → StockView → Type 0
+IsSettled machine view = ((account_of machine view.number).filled ≡ false) × (view.fresh ≡ 0) × ((account_of machine view.number).noted ≡ 0)
