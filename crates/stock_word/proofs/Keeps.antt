@@ -1,5 +1,5 @@
 -- How the rule follows from what one step leaves of one processor's words.
-use Rattle.std.proofs.Common.{◌≡◌, ◌≢◌, ℕ, zero, suc, ◌+◌, ◌-◌, ◌*◌, false, ◌<◌, ◌≤◌, List, [], ◌∷◌, ◌++◌, set, length, get_or, refl, ap, sym, ◌∙◌, subst, arith}
+use Rattle.std.proofs.Common.{◌≡◌, ◌≢◌, ℕ, zero, suc, ◌+◌, ◌*◌, false, ◌<◌, ◌≤◌, List, [], ◌∷◌, ◌++◌, set, length, refl, ap, sym, ◌∙◌, subst, arith}
 use Rattle.std.specs.Prelude.{slice_index}
 use Rattle.std.proofs.lemmas.List.{get_or-set_same, get_or-set_other, length-set}
 use mathlib.Core.Option.{some}
@@ -13,7 +13,7 @@ use Rattle.stock_word.specs.declared.view.Account.{Account}
 use Rattle.stock_word.specs.declared.view.StockView.{StockView}
 use Rattle.stock_word.specs.Stock.{account_at, with_account_at, account_of, with_account, IsSettled}
 use Rattle.stock_word.specs.Kinds.{after_report, noting, draining, absorbing}
-use Rattle.stock_word.specs.StockRule.{stock_place, report_place, at_seat, IsOnly, IsStock, HoldsAt, StockRule}
+use Rattle.stock_word.specs.StockRule.{stock_place, report_place, at_seat, IsStock, HoldsAt, StockRule}
 use Rattle.stock_word.proofs.Only.{at_mine, at_other, known, turned, stays, same_only}
 
 -- ---- what one seat's views come to
@@ -122,10 +122,10 @@ module _ (cpus : ℕ) (words : List ℕ) (seats : List (List StockView)) (rule :
       → ((f : StockView → ℕ) → sum_over (at_seat q f) new ≡ sum_over (at_seat q f) old) → account_of m' q ≡ account_of rule.machine q
       → 0 < q → q ≤ cpus → HoldsAt words' (set seats id new) m' q
   beside old new at p x y leaves m' q ne same account low high = let h = rule.each q low high in record {
-      view = h.view;
-      only = stays seats id old new at q h.view same h.only;
-      stock = stocked words' q _ _ (account_of m' q) h.view (leaves.stocks q ne) (leaves.reports q ne) (subst (λ a. Stocked words q a h.view) (sym account) h.stock);
-    }
+    view = h.view;
+    only = stays seats id old new at q h.view same h.only;
+    stock = stocked words' q _ _ (account_of m' q) h.view (leaves.stocks q ne) (leaves.reports q ne) (subst (λ a. Stocked words q a h.view) (sym account) h.stock);
+  }
 
   -- ---- a processor's seat
   module _ (v : StockView) (at : get_elem? seats id ≡ some (v ∷ [])) (low : 0 < v.number) (high : v.number ≤ cpus) where
@@ -136,20 +136,20 @@ module _ (cpus : ℕ) (words : List ℕ) (seats : List (List StockView)) (rule :
     pub processor_keeps : (x y : ℕ) → Leaves words words' v.number x y → (w : StockView) → w.number ≡ v.number → IsStock x y (account_of rule.machine v.number) w
         → StockRule cpus words' (set seats id (w ∷ []))
     processor_keeps x y leaves w named stock = record {
-        rows = leaves.same_length ∙ rule.rows;
-        machine = rule.machine;
-        only = stays seats id (v ∷ []) (w ∷ []) at 0 rule.machine (λ f. none 0 w (λ e. omega (arith, e, named)) f ∙ sym (none 0 v (λ e. omega (arith, e)) f)) rule.only;
-        each = λ q low' high'. dite (ℕ_discrete q v.number)
-            (λ e. subst (λ n. HoldsAt words' (set seats id (w ∷ [])) rule.machine n) (sym e) mine)
-            (λ ne. beside (v ∷ []) (w ∷ []) at v.number x y leaves rule.machine q ne (λ f. none q w (λ e. ne (sym e ∙ named)) f ∙ sym (none q v (λ e. ne (sym e)) f)) refl low' high');
-      }
+      rows = leaves.same_length ∙ rule.rows;
+      machine = rule.machine;
+      only = stays seats id (v ∷ []) (w ∷ []) at 0 rule.machine (λ f. none 0 w (λ e. omega (arith, e, named)) f ∙ sym (none 0 v (λ e. omega (arith, e)) f)) rule.only;
+      each = λ q low' high'. dite (ℕ_discrete q v.number)
+          (λ e. subst (λ n. HoldsAt words' (set seats id (w ∷ [])) rule.machine n) (sym e) mine)
+          (λ ne. beside (v ∷ []) (w ∷ []) at v.number x y leaves rule.machine q ne (λ f. none q w (λ e. ne (sym e ∙ named)) f ∙ sym (none q v (λ e. ne (sym e)) f)) refl low' high');
+    }
       where
         mine : HoldsAt words' (set seats id (w ∷ [])) rule.machine v.number
         mine = let h = rule.each v.number low high in record {
-            view = w;
-            only = turned seats id (v ∷ []) at v.number v (sole v.number v refl) h.view w (w ∷ []) (sole v.number w named) h.only;
-            stock = stocked words' v.number x y (account_of rule.machine v.number) w leaves.stock leaves.report stock;
-          }
+          view = w;
+          only = turned seats id (v ∷ []) at v.number v (sole v.number v refl) h.view w (w ∷ []) (sole v.number w named) h.only;
+          stock = stocked words' v.number x y (account_of rule.machine v.number) w leaves.stock leaves.report stock;
+        }
 
   -- ---- the machine's seat
   module _ (m : StockView) (at : get_elem? seats id ≡ some (m ∷ [])) (zeroth : m.number ≡ 0) where
@@ -164,23 +164,23 @@ module _ (cpus : ℕ) (words : List ℕ) (seats : List (List StockView)) (rule :
         → ((q : ℕ) → q ≢ p → account_of m' q ≡ account_of m q) → IsStock x y (account_of m' p) (rule.each p low high).view
         → StockRule cpus words' (set seats id (m' ∷ []))
     machine_keeps p x y low high leaves m' named others stock = record {
-        rows = leaves.same_length ∙ rule.rows;
-        machine = m';
-        only = turned seats id (m ∷ []) at 0 m (sole 0 m zeroth) rule.machine m' (m' ∷ []) (sole 0 m' named) rule.only;
-        each = λ q low' high'. dite (ℕ_discrete q p)
-            (λ e. subst (λ n. HoldsAt words' (set seats id (m' ∷ [])) m' n) (sym e) mine)
-            (λ ne. beside (m ∷ []) (m' ∷ []) at p x y leaves m' q ne (unmoved q low') (others q ne ∙ ap (λ (u : StockView). account_of u q) (sym machine_known)) low' high');
-      }
+      rows = leaves.same_length ∙ rule.rows;
+      machine = m';
+      only = turned seats id (m ∷ []) at 0 m (sole 0 m zeroth) rule.machine m' (m' ∷ []) (sole 0 m' named) rule.only;
+      each = λ q low' high'. dite (ℕ_discrete q p)
+          (λ e. subst (λ n. HoldsAt words' (set seats id (m' ∷ [])) m' n) (sym e) mine)
+          (λ ne. beside (m ∷ []) (m' ∷ []) at p x y leaves m' q ne (unmoved q low') (others q ne ∙ ap (λ (u : StockView). account_of u q) (sym machine_known)) low' high');
+    }
       where
         unmoved : (q : ℕ) → 0 < q → (f : StockView → ℕ) → sum_over (at_seat q f) (m' ∷ []) ≡ sum_over (at_seat q f) (m ∷ [])
         unmoved q above f = none q m' (λ e. omega (arith, e, named)) f ∙ sym (none q m (λ e. omega (arith, e, zeroth)) f)
 
         mine : HoldsAt words' (set seats id (m' ∷ [])) m' p
         mine = let h = rule.each p low high in record {
-            view = h.view;
-            only = stays seats id (m ∷ []) (m' ∷ []) at p h.view (unmoved p low) h.only;
-            stock = stocked words' p x y (account_of m' p) h.view leaves.stock leaves.report stock;
-          }
+          view = h.view;
+          only = stays seats id (m ∷ []) (m' ∷ []) at p h.view (unmoved p low) h.only;
+          stock = stocked words' p x y (account_of m' p) h.view leaves.stock leaves.report stock;
+        }
 
   -- ---- the machine's seat, joined with a processor's
   module _ (m v : StockView) (at : get_elem? seats id ≡ some (m ∷ v ∷ [])) (zeroth : m.number ≡ 0) (low : 0 < v.number) (high : v.number ≤ cpus) where
@@ -190,29 +190,29 @@ module _ (cpus : ℕ) (words : List ℕ) (seats : List (List StockView)) (rule :
     pub joined_stock : Stocked words v.number (account_of m v.number) v
     joined_stock = let h = rule.each v.number low high in
         subst (λ (u : StockView). Stocked words v.number (account_of u v.number) v) joined_machine
-            (subst (λ (u : StockView). Stocked words v.number (account_of rule.machine v.number) u) (known seats id (m ∷ v ∷ []) at v.number v (second v.number m v (λ e. omega (arith, e, zeroth)) refl) h.view h.only) h.stock)
+        (subst (λ (u : StockView). Stocked words v.number (account_of rule.machine v.number) u) (known seats id (m ∷ v ∷ []) at v.number v (second v.number m v (λ e. omega (arith, e, zeroth)) refl) h.view h.only) h.stock)
 
     pub joined_keeps : (x y : ℕ) → Leaves words words' v.number x y → (m' v' : StockView) → m'.number ≡ 0 → v'.number ≡ v.number
         → ((q : ℕ) → q ≢ v.number → account_of m' q ≡ account_of m q) → IsStock x y (account_of m' v.number) v'
         → StockRule cpus words' (set seats id (m' ∷ v' ∷ []))
     joined_keeps x y leaves m' v' named named' others stock = record {
-        rows = leaves.same_length ∙ rule.rows;
-        machine = m';
-        only = turned seats id (m ∷ v ∷ []) at 0 m (first 0 m v zeroth (λ e. omega (arith, e))) rule.machine m' (m' ∷ v' ∷ []) (first 0 m' v' named (λ e. omega (arith, e, named'))) rule.only;
-        each = λ q low' high'. dite (ℕ_discrete q v.number)
-            (λ e. subst (λ n. HoldsAt words' (set seats id (m' ∷ v' ∷ [])) m' n) (sym e) mine)
-            (λ ne. beside (m ∷ v ∷ []) (m' ∷ v' ∷ []) at v.number x y leaves m' q ne (unmoved q low' ne) (others q ne ∙ ap (λ (u : StockView). account_of u q) (sym joined_machine)) low' high');
-      }
+      rows = leaves.same_length ∙ rule.rows;
+      machine = m';
+      only = turned seats id (m ∷ v ∷ []) at 0 m (first 0 m v zeroth (λ e. omega (arith, e))) rule.machine m' (m' ∷ v' ∷ []) (first 0 m' v' named (λ e. omega (arith, e, named'))) rule.only;
+      each = λ q low' high'. dite (ℕ_discrete q v.number)
+          (λ e. subst (λ n. HoldsAt words' (set seats id (m' ∷ v' ∷ [])) m' n) (sym e) mine)
+          (λ ne. beside (m ∷ v ∷ []) (m' ∷ v' ∷ []) at v.number x y leaves m' q ne (unmoved q low' ne) (others q ne ∙ ap (λ (u : StockView). account_of u q) (sym joined_machine)) low' high');
+    }
       where
         unmoved : (q : ℕ) → 0 < q → q ≢ v.number → (f : StockView → ℕ) → sum_over (at_seat q f) (m' ∷ v' ∷ []) ≡ sum_over (at_seat q f) (m ∷ v ∷ [])
         unmoved q above ne f = neither q m' v' (λ e. omega (arith, e, named)) (λ e. ne (sym e ∙ named')) f ∙ sym (neither q m v (λ e. omega (arith, e, zeroth)) (λ e. ne (sym e)) f)
 
         mine : HoldsAt words' (set seats id (m' ∷ v' ∷ [])) m' v.number
         mine = let h = rule.each v.number low high in record {
-            view = v';
-            only = turned seats id (m ∷ v ∷ []) at v.number v (second v.number m v (λ e. omega (arith, e, zeroth)) refl) h.view v' (m' ∷ v' ∷ []) (second v.number m' v' (λ e. omega (arith, e, named)) named') h.only;
-            stock = stocked words' v.number x y (account_of m' v.number) v' leaves.stock leaves.report stock;
-          }
+          view = v';
+          only = turned seats id (m ∷ v ∷ []) at v.number v (second v.number m v (λ e. omega (arith, e, zeroth)) refl) h.view v' (m' ∷ v' ∷ []) (second v.number m' v' (λ e. omega (arith, e, named)) named') h.only;
+          stock = stocked words' v.number x y (account_of m' v.number) v' leaves.stock leaves.report stock;
+        }
 
 -- ---- splits and joins
 
@@ -229,9 +229,9 @@ same_keeps cpus words before after same rule = record {
 pub split_keeps : {S : Type 0} (cpus id : ℕ) (old left right : List StockView) → ((f : StockView → ℕ) → sum_over f left + sum_over f right ≡ sum_over f old)
     → Splits {S = S} (λ s. StockRule cpus s.words s.views) id old left right
 split_keeps cpus id old left right cut s rule at = same_keeps cpus s.words s.views (set s.views id left ++ right ∷ []) (λ f.
-        let a = total_more f (set s.views id left) right in
-        let b = total_set f s.views id old left at in
-        let c = cut f in omega arith) rule
+    let a = total_more f (set s.views id left) right in
+    let b = total_set f s.views id old left at in
+    let c = cut f in omega arith) rule
 
 -- a seat takes in the views of another
 pub join_keeps : {S : Type 0} (cpus id other : ℕ) (views taken : List StockView) → Joins {S = S} (λ s. StockRule cpus s.words s.views) id views other taken (views ++ taken) []
@@ -244,8 +244,7 @@ settled_after m0 m1 m2 m3 v v' n k one fresh drained noted absorbed reported =
     let named : v'.number ≡ 1 = ap (λ (u : StockView). u.number) reported ∙ one in
     let a1 : (account_of m1 1).filled ≡ false = ap (λ (u : StockView). (account_of u 1).filled) drained ∙ ap (λ (a : Account). a.filled) (account_of-with_account m0 1 _) in
     let a2 : (account_of m2 1).filled ≡ false = ap (λ (u : StockView). (account_of u 1).filled) (noted ∙ ap (λ (p : ℕ). noting m1 p k) one) ∙ ap (λ (a : Account). a.filled) (account_of-with_account m1 1 _) ∙ a1 in
-    let a3 = ap (λ (u : StockView). account_of u 1) absorbed ∙ account_of-with_account m2 1 _ in
-    (
+    let a3 = ap (λ (u : StockView). account_of u 1) absorbed ∙ account_of-with_account m2 1 _ in (
       ap (λ (p : ℕ). (account_of m3 p).filled) named ∙ ap (λ (a : Account). a.filled) a3 ∙ a2,
       ap (λ (u : StockView). u.fresh) reported ∙ omega (arith, fresh),
       ap (λ (p : ℕ). (account_of m3 p).noted) named ∙ ap (λ (a : Account). a.noted) a3,

@@ -1,5 +1,5 @@
 -- Which view is the only one of its number, as one seat's views change, and as seats are split and joined.
-use Rattle.std.proofs.Common.{◌≡◌, ◌≢◌, ℕ, zero, suc, ◌+◌, List, [], ◌∷◌, set, Bool, cond, true, false, eqb, eq-eqb, ne_eqb, refl, ap, sym, ◌∙◌, arith}
+use Rattle.std.proofs.Common.{◌≡◌, ◌≢◌, ℕ, List, [], ◌∷◌, set, Bool, cond, true, false, eqb, eq-eqb, ne_eqb, refl, ap, ◌∙◌, arith}
 use mathlib.Core.Option.{some}
 use lib.ListN.{get_elem?}
 use Rattle.seat_sums.specs.Totals.{sum_over, total_over, SameTotals}

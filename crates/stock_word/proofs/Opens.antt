@@ -1,5 +1,5 @@
 -- The rule at first, and what closes it.
-use Rattle.std.proofs.Common.{◌≡◌, ◌≢◌, ℕ, zero, suc, ◌+◌, ◌-◌, ◌*◌, ◌<◌, ◌≤◌, List, [], ◌∷◌, ◌++◌, replicate, length, get_or, refl, ap, sym, ◌∙◌, inl, subst, arith}
+use Rattle.std.proofs.Common.{◌≡◌, ℕ, zero, suc, ◌+◌, ◌-◌, ◌*◌, ◌<◌, ◌≤◌, List, [], ◌∷◌, replicate, length, get_or, refl, ap, sym, ◌∙◌, inl, subst, arith}
 use Rattle.std.specs.Prelude.{slice_index}
 use mathlib.Core.Option.{some, some-injective, some-ne-none}
 use mathlib.Core.Logic.{dite}
@@ -7,11 +7,11 @@ use native.Mathlib.Decide.{ℕ_discrete}
 use lib.ListN.{get_elem?}
 use Rattle.atomic_table.specs.Seated.{TableId}
 use Rattle.atomic_table.specs.Table.{State}
-use Rattle.seat_sums.specs.Totals.{sum_over, total_over}
+use Rattle.seat_sums.specs.Totals.{sum_over}
 use Rattle.stock_word.specs.declared.view.Stock.TheVariants.{NoGroup}
 use Rattle.stock_word.specs.declared.view.StockView.{StockView}
 use Rattle.stock_word.specs.Stock.{Seated, no_account, first_machine, first_processor, first_processors, AreSeats, Gathers, account_of, view_in, views_of}
-use Rattle.stock_word.specs.StockRule.{stock_place, report_place, at_seat, IsOnly, IsStock, StockRule}
+use Rattle.stock_word.specs.StockRule.{stock_place, report_place, at_seat, IsStock, StockRule}
 use Rattle.stock_word.proofs.Only.{at_mine, at_other, known}
 
 none_in : (q p n : ℕ) (f : StockView → ℕ) → q < p → sum_over (at_seat q f) (first_processors p n) ≡ 0
@@ -79,17 +79,17 @@ pub one_of : (q p : ℕ) (table : TableId) (seats : List Seated) (f : StockView 
 one_of q p table [] f are low high = absurd (omega arith)
 one_of q p table (seat ∷ seats) f are low high = dite (ℕ_discrete p q)
     (λ e.
-        let n = are.1 in
-        let a = at_mine q f seat.view (n ∙ e) in
-        let b = none_of q (p + 1) table seats f are.2 (omega arith) in
-        let z : q - p ≡ 0 = omega arith in
-        let c = ap (λ k. f (view_in (seat ∷ seats) k)) z in omega arith)
+    let n = are.1 in
+    let a = at_mine q f seat.view (n ∙ e) in
+    let b = none_of q (p + 1) table seats f are.2 (omega arith) in
+    let z : q - p ≡ 0 = omega arith in
+    let c = ap (λ k. f (view_in (seat ∷ seats) k)) z in omega arith)
     (λ ne.
-        let n = are.1 in
-        let a = at_other q f seat.view (λ e. ne (sym n ∙ e)) in
-        let b = one_of q (p + 1) table seats f are.2 (omega (arith, ne)) (omega arith) in
-        let z : q - p ≡ suc (q - (p + 1)) = omega (arith, ne) in
-        let c = ap (λ k. f (view_in (seat ∷ seats) k)) z in omega arith)
+    let n = are.1 in
+    let a = at_other q f seat.view (λ e. ne (sym n ∙ e)) in
+    let b = one_of q (p + 1) table seats f are.2 (omega (arith, ne)) (omega arith) in
+    let z : q - p ≡ suc (q - (p + 1)) = omega (arith, ne) in
+    let c = ap (λ k. f (view_in (seat ∷ seats) k)) z in omega arith)
 
 -- the words of a table of which one seat has all views
 pub closes : {S : Type 0} (cpus id : ℕ) (s : State S (List StockView)) (views : List StockView) (words : List ℕ) (m : StockView) (table : TableId) (seats : List Seated)
@@ -97,13 +97,13 @@ pub closes : {S : Type 0} (cpus id : ℕ) (s : State S (List StockView)) (views 
     → (p : ℕ) → 0 < p → p ≤ cpus → IsStock (slice_index words (stock_place p)) (slice_index words (report_place p)) (account_of m p) (view_in seats (p - 1))
 closes {S} cpus id s views words m table seats rule at same zeroth all are enough p low high =
     let machine : rule.machine ≡ m = known s.views id views at 0 m
-        (λ f. let a = all (at_seat 0 f) in let b = at_mine 0 f m zeroth in let c = none_of 0 1 table seats f are (omega arith) in omega arith) rule.machine rule.only in
+    (λ f. let a = all (at_seat 0 f) in let b = at_mine 0 f m zeroth in let c = none_of 0 1 table seats f are (omega arith) in omega arith) rule.machine rule.only in
     let h = rule.each p low high in
     let view : h.view ≡ view_in seats (p - 1) = known s.views id views at p (view_in seats (p - 1))
-        (λ f. let a = all (at_seat p f) in let b = at_other p f m (λ e. omega (arith, e, zeroth)) in let c = one_of p 1 table seats f are low (omega (arith, enough)) in omega arith) h.view h.only in
+    (λ f. let a = all (at_seat p f) in let b = at_other p f m (λ e. omega (arith, e, zeroth)) in let c = one_of p 1 table seats f are low (omega (arith, enough)) in omega arith) h.view h.only in
     subst (λ (w : List ℕ). IsStock (slice_index w (stock_place p)) (slice_index w (report_place p)) (account_of m p) (view_in seats (p - 1))) same
     (subst (λ (v : StockView). IsStock (slice_index s.words (stock_place p)) (slice_index s.words (report_place p)) (account_of m p) v) view
-        (subst (λ (u : StockView). IsStock (slice_index s.words (stock_place p)) (slice_index s.words (report_place p)) (account_of u p) h.view) machine h.stock))
+    (subst (λ (u : StockView). IsStock (slice_index s.words (stock_place p)) (slice_index s.words (report_place p)) (account_of u p) h.view) machine h.stock))
 
 pub index_is : (words : List ℕ) (k n : ℕ) → get_elem? words k ≡ some n → slice_index words k ≡ n
 index_is [] k n e = absurd (some-ne-none n (sym e))

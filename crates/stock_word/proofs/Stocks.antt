@@ -1,5 +1,5 @@
 -- What each kind of step leaves of one processor's words, account and view.
-use Rattle.std.proofs.Common.{◌≡◌, ◌≢◌, ℕ, zero, suc, ◌+◌, ◌-◌, ◌*◌, ◌<◌, ◌≤◌, ◌⊎◌, Bool, true, false, true≢false, Option, Some, None, refl, ap, sym, ◌∙◌, subst, inl, inr, ⊎_elim, arith}
+use Rattle.std.proofs.Common.{◌≡◌, ◌≢◌, ℕ, ◌+◌, ◌-◌, ◌*◌, ◌<◌, ◌≤◌, true, false, true≢false, Some, None, refl, ap, sym, ◌∙◌, subst, inl, inr, ⊎_elim, arith}
 use Rattle.stock_word.specs.declared.view.Stock.{Stock}
 use Rattle.stock_word.specs.declared.view.Stock.TheVariants.{NoGroup, HeldBy, DrainedOf}
 use Rattle.stock_word.specs.declared.view.Account.{Account}
@@ -190,8 +190,7 @@ no_word (DrainedOf g) e = absurd (omega (arith, e))
 -- the drain of a stock that was never filled
 pub drained_none : (word report : ℕ) (a : Account) (v : StockView) (h : IsStock word report a v) → word ≡ 0 → (a.group ≡ None) × IsStock word report (record a { book = a.book - 0; filled = false }) v
 drained_none word report a v h zeroth =
-    let is = no_word h.stock (sym h.encoded ∙ zeroth) in
-    (
+    let is = no_word h.stock (sym h.encoded ∙ zeroth) in (
       sym h.of_group ∙ ap group_of is,
       record {
         stock = h.stock;

@@ -114,10 +114,7 @@ impl StockWords {
         ensures drained_before { (account_of seat0.old.view p).filled ≡ false → result ≡ 0 }
     {
         let place = stock_place(p);
-        let seen = self
-            .table
-            .shared
-            .load::<Looking>(&mut seat0.seat, place);
+        let seen = self.table.shared.load::<Looking>(&mut seat0.seat, place);
         match Stock::of_word(seen) {
             Stock::NoGroup => 0,
             Stock::HeldBy { group, pages: _ } | Stock::DrainedOf { group } => {

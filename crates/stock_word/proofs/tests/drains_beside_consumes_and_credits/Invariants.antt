@@ -8,5 +8,5 @@ invariant-loop g l = record {
   others : l.seats.items ≡ [];
   tables : (l.machine.table ≡ l.words.table) × (l.seat.table ≡ l.words.table);
   numbers : IsMachine l.machine.view × (l.seat.view.number ≡ 1);
-  settled : IsSettled l.machine.view l.seat.view
+  settled : IsSettled l.machine.view l.seat.view;
 }

@@ -6,5 +6,5 @@ invariant-loop-step l = record {
   table : l.seat.table ≡ l.fn.seat.table;
   number : l.seat.view.number ≡ l.fn.seat.view.number;
   fresh : l.seat.view.fresh ≡ l.fresh;
-  few : l.fresh ≤ l.step
+  few : l.fresh ≤ l.step;
 }

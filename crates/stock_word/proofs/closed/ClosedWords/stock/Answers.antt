@@ -1,7 +1,6 @@
-use Rattle.std.proofs.Common.{◌≡◌, ℕ, List, ◌∙◌, sym, ap}
+use Rattle.std.proofs.Common.{◌∙◌, sym}
 use Rattle.std.specs.Prelude.{slice_index}
 use Rattle.std.specs.Slots.{slots_items}
-use Rattle.stock_word.specs.StockRule.{stock_place}
 use Rattle.stock_word.proofs.Opens.{index_is}
 use Rattle.stock_word.proofs.closed.ClosedWords.stock.Goals as goal
 

@@ -1,4 +1,4 @@
-use Rattle.std.proofs.Common.{rules, ◌≡◌, ◌<◌, ◌≤◌, refl, arith}
+use Rattle.std.proofs.Common.{rules, refl, arith}
 use Rattle.stock_word.proofs.Told.{kept_as}
 use Rattle.stock_word.proofs.Steps.{absorbing_allowed}
 use Rattle.stock_word.proofs.words.StockWords.absorb.Goals as goal

@@ -1,4 +1,4 @@
-use Rattle.std.proofs.Common.{rules, ◌≡◌, ◌*◌, ◌<◌, ◌≤◌, ℕ, ◌+◌, ◌-◌, ap, sym, ◌∙◌, refl, List, arith}
+use Rattle.std.proofs.Common.{rules, ◌≡◌, ℕ, ◌+◌, ◌-◌, ap, sym, ◌∙◌, List, arith}
 use Rattle.stock_word.specs.declared.view.Stock.TheVariants.{HeldBy}
 use Rattle.stock_word.specs.declared.view.StockView.{StockView}
 use Rattle.stock_word.specs.Stock.{Seated, word_of, first_of}
@@ -12,8 +12,7 @@ compare_exchange-found-requires c =
     let n = c.in-HeldBy.pages - 1 in
     let pages : c.in-HeldBy.pages ≡ n + 1 = omega (arith, c.if-pages-eq0.false) in
     let seen = c.in-HeldBy.is ∙ ap (HeldBy g) pages in
-    let last = sym c.seat.invariant.same_last ∙ seen in
-    (
+    let last = sym c.seat.invariant.same_last ∙ seen in (
       search rules,
       search rules,
       consume_allowed _ _ _ _ g n c.seat.invariant.one_view (search rules) (search rules) last _ _ _ (search rules) (c.word-word.ensures ∙ ap word_of seen) c.word.ensures,

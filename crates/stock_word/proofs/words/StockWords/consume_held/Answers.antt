@@ -1,4 +1,4 @@
-use Rattle.std.proofs.Common.{rules, ◌≡◌, ◌<◌, ◌≤◌, refl, sym, ◌∙◌, ap, arith, ℕ, List}
+use Rattle.std.proofs.Common.{rules, sym, ◌∙◌, ap, ℕ, List}
 use Rattle.stock_word.specs.declared.view.Stock.TheVariants.{HeldBy}
 use Rattle.stock_word.specs.declared.view.StockView.{StockView}
 use Rattle.stock_word.specs.Stock.{Seated, first_of, second_of}

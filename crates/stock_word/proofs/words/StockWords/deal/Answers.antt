@@ -1,4 +1,4 @@
-use Rattle.std.proofs.Common.{rules, ◌≡◌, ◌<◌, ◌≤◌, ℕ, ◌+◌, ◌-◌, refl, ap, sym, ◌∙◌, arith}
+use Rattle.std.proofs.Common.{rules, ap, ◌∙◌, arith}
 use Rattle.stock_word.specs.declared.view.StockView.{StockView}
 use Rattle.stock_word.proofs.Deals.{first_views, no_seats, one_more, none_more, next_views, last_views, split_off, split_rest, one_view_is, first_is, next_seats, last_seats}
 use Rattle.stock_word.proofs.Steps.{second_split}

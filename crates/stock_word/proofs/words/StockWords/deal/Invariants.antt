@@ -7,5 +7,5 @@ invariant-loop-p l = record {
   table : l.seat.table_id ≡ l.self.table;
   range : l.p ≤ l.cpus + 1;
   views : l.seat.me ≡ (first_machine ∷ first_processors l.p (l.cpus + 1 - l.p), []);
-  seats : l.seats.items ++ first_seats l.self.table l.p (l.cpus + 1 - l.p) ≡ first_seats l.self.table 1 l.cpus
+  seats : l.seats.items ++ first_seats l.self.table l.p (l.cpus + 1 - l.p) ≡ first_seats l.self.table 1 l.cpus;
 }

@@ -1,4 +1,4 @@
-use Rattle.std.proofs.Common.{rules, ◌≡◌, ◌<◌, ◌≤◌, refl, sym, ◌∙◌, ap, arith}
+use Rattle.std.proofs.Common.{rules, refl, ◌∙◌, ap}
 use Rattle.stock_word.specs.declared.view.StockView.{StockView}
 use Rattle.stock_word.specs.Stock.{Seated, pages_of, account_of}
 use Rattle.stock_word.proofs.Told.{kept_as, after_of, either_group, found_none, found_group, drained_told, drained_booked, drained_before}

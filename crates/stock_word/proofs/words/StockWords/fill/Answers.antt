@@ -1,4 +1,4 @@
-use Rattle.std.proofs.Common.{rules, ◌≡◌, ◌<◌, ◌≤◌, refl, sym, ◌∙◌, ap, arith}
+use Rattle.std.proofs.Common.{rules}
 use Rattle.stock_word.proofs.Steps.{filling_allowed}
 use Rattle.stock_word.proofs.words.StockWords.fill.Goals as goal
 

@@ -1,6 +1,6 @@
-use Rattle.std.proofs.Common.{rules, ◌≡◌, ◌<◌, ◌+◌, ◌≤◌, ℕ, List, refl, ap, sym, ◌∙◌, arith}
+use Rattle.std.proofs.Common.{rules, ℕ, List, ap, sym, ◌∙◌, arith}
 use Rattle.stock_word.specs.declared.view.StockView.{StockView}
-use Rattle.stock_word.specs.Stock.{Seated, Words, first_of}
+use Rattle.stock_word.specs.Stock.{Seated, Words}
 use Rattle.stock_word.proofs.Gathers.{fewer_seats, last_table, one_gathered, all_gathered, alone_sum}
 use Rattle.stock_word.proofs.Keeps.{join_keeps}
 use Rattle.stock_word.proofs.words.StockWords.gather.Goals as goal

@@ -10,7 +10,7 @@ invariant-loop-seat l = record {
   table : l.seat0.table_id ≡ l.self.table;
   slots : l.seat0.me.1 ≡ [];
   seats : AreSeats l.self.table 1 l.seats.items;
-  all : (f : StockView → ℕ) → sum_over f l.seat0.me.0 + sum_over f (views_of l.seats.items) ≡ f (first_of l.fn.seat0.me.0) + sum_over f (views_of l.fn.seats.items)
+  all : (f : StockView → ℕ) → sum_over f l.seat0.me.0 + sum_over f (views_of l.seats.items) ≡ f (first_of l.fn.seat0.me.0) + sum_over f (views_of l.fn.seats.items);
 }
 
 abbrev pub decreases-loop-seat : goal.decreases-loop-seat

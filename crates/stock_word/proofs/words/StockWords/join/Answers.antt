@@ -1,4 +1,4 @@
-use Rattle.std.proofs.Common.{rules, ◌≡◌, ◌<◌, ℕ, List, ap, arith}
+use Rattle.std.proofs.Common.{rules, ℕ, List, ap, arith}
 use Rattle.stock_word.specs.declared.view.StockView.{StockView}
 use Rattle.stock_word.proofs.Keeps.{join_keeps}
 use Rattle.stock_word.proofs.Steps.{nothing_split}

@@ -1,4 +1,4 @@
-use Rattle.std.proofs.Common.{rules, ◌∙◌, arith}
+use Rattle.std.proofs.Common.{◌∙◌}
 use Rattle.stock_word.proofs.Opens.{opens}
 use Rattle.stock_word.proofs.words.StockWords.new.Goals as goal
 

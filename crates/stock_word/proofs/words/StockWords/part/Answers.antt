@@ -1,4 +1,4 @@
-use Rattle.std.proofs.Common.{rules, ◌≡◌, ◌<◌, arith}
+use Rattle.std.proofs.Common.{rules, arith}
 use Rattle.stock_word.proofs.Steps.{second_split}
 use Rattle.stock_word.proofs.words.StockWords.part.Goals as goal
 

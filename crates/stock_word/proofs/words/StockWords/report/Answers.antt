@@ -1,4 +1,4 @@
-use Rattle.std.proofs.Common.{rules, ◌≡◌, ◌<◌, ◌≤◌, sym, ◌∙◌, ap, arith}
+use Rattle.std.proofs.Common.{rules}
 use Rattle.stock_word.proofs.Steps.{reporting_allowed}
 use Rattle.stock_word.proofs.words.StockWords.report.Goals as goal
 
