@@ -1,6 +1,6 @@
 -- The table of kinds: what each atomic step tells of the word that it found and of the seat after it.
 -- A seat's view is a list: its own view alone, or the zone's view and then a processor's while the two seats are joined.
-use Rattle.std.specs.Prelude.{◌≡◌, ◌≢◌, ℕ, ◌+◌, ◌-◌, ◌<◌, ◌≤◌, List, [], ◌∷◌, slice_index}
+use Rattle.std.specs.Prelude.{◌≡◌, ◌≢◌, ◌⊎◌, ℕ, ◌+◌, ◌-◌, ◌<◌, ◌≤◌, List, [], ◌∷◌, slice_index}
 use Rattle.atomic_table.specs.Table.{State, Step, Me}
 use Rattle.frame_word.specs.declared.view.FrameNote.{FrameNote}
 use Rattle.frame_word.specs.declared.view.FrameView.{FrameView}
@@ -53,10 +53,10 @@ module _ {S : Type 0} where
   rule_of frames cpus s = ReferenceRule frames cpus s.words s.views
 
   -- Each of these takes the step, the seat before it, the word found (or stored), and the seat after it.
-  -- The load of a get: one look, which saw the word. It is none of a hand where the seat has a reference.
+  -- The load of a get: one look, which saw the word, at most 255 or a mark, and 1 to 255 where the seat has a reference.
   abbrev pub looks : Step S → Me S (List FrameView) → ℕ → Me S (List FrameView) → Type 0
   looks st m word m' = (m' ≡ (first_changed m.0 st.word (looked word), m.1))
-      × (1 ≤ first_references m.0 st.word → (1 ≤ word) × (word ≤ 255))
+      × ((word ≤ 255) ⊎ (256 < word)) × (1 ≤ first_references m.0 st.word → (1 ≤ word) × (word ≤ 255))
 
   -- The exchange of a get, from the word that was seen to one more: one reference more, or a race.
   abbrev pub adds : Step S → Me S (List FrameView) → ℕ → Me S (List FrameView) → Type 0

@@ -3,3 +3,4 @@ pub mod ReferenceRule
 pub mod Seats
 pub mod Kinds
 pub mod Sitting
+pub mod Laws

@@ -12,6 +12,7 @@ mod closing;
 mod frame;
 mod handover;
 mod kinds;
+pub mod laws;
 mod pairs;
 mod references;
 mod seat;

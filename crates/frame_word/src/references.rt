@@ -23,15 +23,15 @@ impl FrameWords {
         ensures never_zero { 1 ≤ holds seat.old frame → result ≢ Zero }
     {
         let shared = &self.table.shared;
-        let seen = shared.load::<Look>(&mut seat.place, frame.word());
+        let word = frame.word();
+        let seen = shared.load::<Look>(&mut seat.place, word);
         if seen == 0 || seen > MOST_REFERENCES {
             return Get::Zero;
         }
         if seen == MOST_REFERENCES {
             return Get::Full;
         }
-        let found =
-            shared.compare_exchange::<Add>(&mut seat.place, frame.word(), seen, seen + 1);
+        let found = shared.compare_exchange::<Add>(&mut seat.place, word, seen, seen + 1);
         if found == seen {
             Get::Held
         } else {

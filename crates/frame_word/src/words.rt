@@ -26,7 +26,7 @@ impl Model for FrameWords {
 
     ghost view = { λ t. record { table = t.table.shared.table_id; frames = t.frames; cpus = t.cpus } };
 
-    ghost invariant = { λ t. (t.table.shared.table_id.words ≡ t.frames + t.cpus) × (t.table.shared.key ≡ record { frames = t.frames; cpus = t.cpus }) };
+    ghost invariant = { λ t. (t.table.shared.table_id.words ≡ t.frames + t.cpus) × (t.table.shared.key.frames ≡ t.frames) × (t.table.shared.key.cpus ≡ t.cpus) };
 }
 
 impl FrameWords {

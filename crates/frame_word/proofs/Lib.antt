@@ -1,0 +1,5 @@
+pub mod Notes
+pub mod Swap
+pub mod Cases
+pub mod ShortSteps
+pub mod Alone
