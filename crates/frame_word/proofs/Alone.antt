@@ -4,17 +4,22 @@ use mathlib.Core.Option.{none}
 use prog.Atomic.{either}
 use Rattle.atomic_table.specs.Table.{Me, step, Allows}
 use Rattle.atomic_table.specs.Seated.{TableId}
+use Rattle.atomic_table.specs.declared.shared.Seat.{Seat}
 use Rattle.frame_word.specs.declared.view.FrameNote.{FrameNote}
 use Rattle.frame_word.specs.declared.view.FrameView.{FrameView}
 use Rattle.frame_word.specs.Views.{note_of, changed}
 use Rattle.frame_word.specs.Kinds.{rule_of, first_changed, looks, adds, puts, freezes, unfreezes}
 use Rattle.frame_word.specs.Seats.{KnownSeat, seat_with}
-use Rattle.frame_word.specs.Sitting.{first_of}
+use Rattle.frame_word.specs.Sitting.{first_of, SitsAlone}
 use Rattle.frame_word.proofs.Notes.{changed_twice}
 use Rattle.frame_word.proofs.ShortSteps.{looks_at, adds_at, puts_at, freezes_at, unfreezes_at}
 
 abbrev pub known : TableId → List FrameView → KnownSeat
 known id views = record { table = id; view = first_of views }
+
+-- a seat with one view sits alone
+pub sits : {S : Type 0} (place : Seat S (List FrameView)) (v : FrameView) (number : ℕ) → place.me ≡ (v ∷ [], []) → v.number ≡ number → SitsAlone place number
+sits place v number is numbered = record { alone = is ∙ (λ i. (first_of (sym is i).0 ∷ [], [])); numbered = ap (λ m. (first_of m.0).number) is ∙ numbered }
 
 module _ {S : Type 0} (me : Me S (List FrameView)) (v : FrameView) (alone : me ≡ (v ∷ [], [])) where
   -- the seat after its first view changed

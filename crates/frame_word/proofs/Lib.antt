@@ -5,3 +5,5 @@ pub mod ShortSteps
 pub mod Alone
 pub mod HandOvers
 pub mod Joined
+pub mod Seating
+pub mod Opening

@@ -1,5 +1,5 @@
 //! The table of frame words, and how it is made.
-ghost use Rattle.std.specs.Prelude.{◌≡◌, ℕ, ◌+◌, ◌<◌, [], ◌∷◌, IfOk, MatchOption, replicate, ◌≤◌};
+ghost use Rattle.std.specs.Prelude.{◌≡◌, ℕ, ◌+◌, ◌<◌, [], ◌∷◌, IfOk, MatchOption, ◌≤◌};
 ghost use Rattle.frame_word.specs.Seats.{first_zone_view, first_cpu_seats, cpu_views};
 
 use crate::board::{Board, Place, Sizes, Words};
@@ -38,11 +38,12 @@ impl FrameWords {
         frames: u32,
         cpus: u32,
     ) -> Result<(FrameWords, FrameSeat, Vec<FrameSeat>), AllocError>
+        requires { 1 ≤ frames }
         ensures sizes { IfOk result (λ t. (t.0.frames ≡ frames) × (t.0.cpus ≡ cpus)) }
         ensures zone { IfOk result (λ t. t.1 ≡ record { table = t.0.table; view = first_zone_view frames }) }
         ensures cpus { IfOk result (λ t. t.2.items ≡ first_cpu_seats t.0.table 1 cpus) }
     {
-        let words = zeros(alloc, frames as usize + cpus as usize)?;
+        let words = vec![in alloc; 0; frames as usize + cpus as usize]?;
         let sizes = Sizes { frames, cpus };
         let (table, mut place) = Board::of_words(alloc, words.as_slice(), &sizes)?;
         let rest = table.shared.split_seat::<Cut>(&mut place);
@@ -66,16 +67,6 @@ impl FrameWords {
             None
         }
     }
-}
-
-fn zeros(alloc: Global, count: usize) -> Result<Vec<u64>, AllocError>
-    ensures { IfOk result (λ v. v.items ≡ replicate count 0) }
-{
-    let mut words = Vec::with_capacity(alloc, count)?;
-    for _ in 0..count {
-        words.push(0)?;
-    }
-    Ok(words)
 }
 
 // Splits off the seat of each processor.
