@@ -7,3 +7,4 @@ pub mod HandOvers
 pub mod Joined
 pub mod Seating
 pub mod Opening
+pub mod Ending

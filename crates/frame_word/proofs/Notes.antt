@@ -1,6 +1,8 @@
 -- Reading what was written: lists of counts, notes, and the tests of numbers and marks.
 use Rattle.std.proofs.Common.{◌≡◌, ◌≢◌, ℕ, zero, suc, ◌+◌, ◌≤◌, eqb, List, [], ◌∷◌, get_or, sym, refl, ap, ◌∙◌, subst, eq-eqb, ne_eqb, cond, arith}
 use mathlib.Core.Logic.{dite}
+use mathlib.Core.Option.{some, some-ne-none, some-injective}
+use lib.ListN.{get_elem?}
 use native.Mathlib.Decide.{ℕ_discrete}
 use Rattle.frame_word.specs.declared.view.FrameNote.{FrameNote}
 use Rattle.frame_word.specs.declared.view.FrameView.{FrameView}
@@ -52,3 +54,9 @@ marked_here p word is = subst (λ b. ◌≡◌ {A = ℕ} (cond b 1 0) 1) (sym (e
 
 pub marked_else : (p word : ℕ) → word ≢ mark p → marked p word ≡ 0
 marked_else p word not = subst (λ b. ◌≡◌ {A = ℕ} (cond b 1 0) 0) (sym (ne_eqb word (mark p) not)) refl
+
+-- a number of a list, read the other way
+pub read_at : (xs : List ℕ) (i x : ℕ) → get_elem? xs i ≡ some x → x ≡ get_or xs i 0
+read_at [] i x is = absurd (some-ne-none x (sym is))
+read_at (y ∷ ys) zero x is = sym (some-injective y x is)
+read_at (y ∷ ys) (suc i) x is = read_at ys i x is

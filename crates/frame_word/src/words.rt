@@ -19,14 +19,15 @@ pub struct FrameWords {
 }
 
 impl Model for FrameWords {
-    ghost use Rattle.std.specs.Prelude.{◌≡◌, ◌+◌};
     ghost use Rattle.frame_word.specs.Seats.{KnownTable};
 
     ghost Value = { KnownTable };
 
+    ghost use Rattle.frame_word.specs.Sitting.{IsLaidOut};
+
     ghost view = { λ t. record { table = t.table.shared.table_id; frames = t.frames; cpus = t.cpus } };
 
-    ghost invariant = { λ t. (t.table.shared.table_id.words ≡ t.frames + t.cpus) × (t.table.shared.key.frames ≡ t.frames) × (t.table.shared.key.cpus ≡ t.cpus) };
+    ghost invariant = { λ t. IsLaidOut t.table.shared.table_id t.table.shared.key.frames t.table.shared.key.cpus t.frames t.cpus };
 }
 
 impl FrameWords {
