@@ -8,3 +8,4 @@ pub mod Joined
 pub mod Seating
 pub mod Opening
 pub mod Ending
+pub mod Consequences
