@@ -56,13 +56,13 @@ lent_twice frames cpus words seats rule f inside zone is number p q p_low p_high
     let b = part_of (lent_in f q) seats zone is in let b1 = only_here 0 zone (get_or (note_of zone f).lent q 0) number in
     let both = borrowed_twice f p q seats apart in
     let marks : marked p w + marked q w ≤ 1 = dite (ℕ_discrete w (mark p))
-        (λ e. let x = marked_here p w e in let y = marked_else q w (λ z. apart (omega arith)) in omega arith)
-        (λ ne. let x = marked_else p w ne in dite (ℕ_discrete w (mark q)) (λ e. let y = marked_here q w e in omega arith) (λ no. let y = marked_else q w no in omega arith)) in
+    (λ e. let x = marked_here p w e in let y = marked_else q w (λ z. apart (omega arith)) in omega arith)
+    (λ ne. let x = marked_else p w ne in dite (ℕ_discrete w (mark q)) (λ e. let y = marked_here q w e in omega arith) (λ no. let y = marked_else q w no in omega arith)) in
     let free : (r : ℕ) → 1 ≤ marked r w → 1 ≤ total_over (hands_in f) seats → ⊥ = λ r m h. dite (ℕ_discrete w (mark r))
-        (λ e. let c = case_handed cpus w _ _ 1 (omega arith) h fr.one_case in let c0 = c.0 in absurd (omega arith)) (λ ne. let x = marked_else r w ne in absurd (omega arith)) in
+    (λ e. let c = case_handed cpus w _ _ 1 (omega arith) h fr.one_case in let c0 = c.0 in absurd (omega arith)) (λ ne. let x = marked_else r w ne in absurd (omega arith)) in
     dite (ℕ_discrete (marked p w) 0)
-        (λ none_p. dite (ℕ_discrete (marked q w) 0) (λ none_q. absurd (omega arith)) (λ some_q. absurd (free q (omega arith) (omega arith))))
-        (λ some_p. absurd (free p (omega arith) (omega arith))))
+    (λ none_p. dite (ℕ_discrete (marked q w) 0) (λ none_q. absurd (omega arith)) (λ some_q. absurd (free q (omega arith) (omega arith))))
+    (λ some_p. absurd (free p (omega arith) (omega arith))))
 
 pub own_not_lent : OwnHandIsNotLent
 own_not_lent frames cpus words seats rule f inside v zone is_v is_zone number own p low high =
@@ -75,11 +75,11 @@ own_not_lent frames cpus words seats rule f inside v zone is_v is_zone number ow
     let m = marked_else p w (λ e. absurd (omega arith)) in
     -- the own part of v's hands leaves none of the one hand for what is borrowed
     let below = total_below (λ u. only v.number u (note_of u f).own + (note_of u f).borrowed) (hands_in f) seats
-        (λ u. dite (ℕ_discrete u.number v.number) (λ e. let x = only_here v.number u (note_of u f).own e in omega arith) (λ ne. let x = only_else v.number u (note_of u f).own ne in omega arith)) in
+    (λ u. dite (ℕ_discrete u.number v.number) (λ e. let x = only_here v.number u (note_of u f).own e in omega arith) (λ ne. let x = only_else v.number u (note_of u f).own ne in omega arith)) in
     let sums = total_plus (λ u. only v.number u (note_of u f).own) (λ u. (note_of u f).borrowed) seats in
     let o = part_of (λ u. only v.number u (note_of u f).own) seats v is_v in let o1 = only_here v.number v (note_of v f).own refl in
     let few = total_below (borrowed_in f p) (λ u. (note_of u f).borrowed) seats
-        (λ u. dite (ℕ_discrete u.number p) (λ e. let x = only_here p u (note_of u f).borrowed e in omega arith) (λ ne. let x = only_else p u (note_of u f).borrowed ne in omega arith)) in
+    (λ u. dite (ℕ_discrete u.number p) (λ e. let x = only_here p u (note_of u f).borrowed e in omega arith) (λ ne. let x = only_else p u (note_of u f).borrowed ne in omega arith)) in
     omega arith
 
 counted : (cpus w r h : ℕ) → OneCase cpus w r h → (w ≤ 255 → r ≡ w) × (255 < w → r ≡ 0)

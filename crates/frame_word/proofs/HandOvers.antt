@@ -21,7 +21,7 @@ borrowed_handed f p u = dite (ℕ_discrete u.number p)
     (λ n. let is = only_else p u (note_of u f).borrowed n in omega arith)
 
 module _ (frames cpus : ℕ) (seats : List (List FrameView)) (id : ℕ) (views : List FrameView) (i : ℕ) (v : FrameView) (at : get_elem? seats id ≡ some views) (within : get_elem? views i ≡ some v)
-         (words : List ℕ) (f : ℕ) (inside : f < frames) (rule : ReferenceRule frames cpus words seats) where
+    (words : List ℕ) (f : ℕ) (inside : f < frames) (rule : ReferenceRule frames cpus words seats) where
   abbrev note : FrameNote
   note = note_of v f
 
@@ -92,28 +92,28 @@ module _ (frames cpus : ℕ) (seats : List (List FrameView)) (id : ℕ) (views :
       let part = hands_part in
       let c = case_handed cpus found refs hands (in_hands note) (omega arith) hands_part case_before in let c0 = c.0 in let c1 = c.1 in let c2 = c.2 in
       let visit : get_or words (visit_index frames q) 0 ≡ 1 = sym (rule.each_visit q low high).noted
-          ∙ alone seats id views i v at within 0 (rule.one_view 0 (omega arith)) zone (opened_in q) (λ u n. only_else 0 u (get_or u.opened q 0) n) ∙ only_here 0 v (get_or v.opened q 0) zone ∙ open_now in
+      ∙ alone seats id views i v at within 0 (rule.one_view 0 (omega arith)) zone (opened_in q) (λ u n. only_else 0 u (get_or u.opened q 0) n) ∙ only_here 0 v (get_or v.opened q 0) zone ∙ open_now in
       let ch : FrameNote → FrameNote = passed_out_to q in
       let at_q : HandOverRule (after ch q) f (mark q) q =
-            let o = (rule.each_frame f inside).each_cpu q low high in let o0 = o.passing in let o1 = o.borrowed_is_lent in let o2 = o.lent_is_near in
-            let b = begun_swap ch q in let e = ended_swap ch q in let l = lent_swap ch q in let d = borrowed_swap ch q in let h = hands_swap ch q in let below = borrowed_below ch q in
-            let m0 = marked_else q found (λ x. omega arith) in let m1 = marked_here q (mark q) refl in
-            let n0 = only_here 0 v (get_or note.passed_out q 0) zone in let n1 = only_here 0 v (get_or (ch note).passed_out q 0) zone in let n2 = put_here 0 note.passed_out q (get_or note.passed_out q 0 + 1) in
-            let l0 = only_here 0 v (get_or note.lent q 0) zone in let l1 = only_here 0 v (get_or (ch note).lent q 0) zone in let l2 = put_here 0 note.lent q 1 in
-            let lv = total_view (lent_in f q) seats id views i v at within in
-            record { passing = omega arith; borrowed_is_lent = omega arith; lent_is_near = omega arith } in
+      let o = (rule.each_frame f inside).each_cpu q low high in let o0 = o.passing in let o1 = o.borrowed_is_lent in let o2 = o.lent_is_near in
+      let b = begun_swap ch q in let e = ended_swap ch q in let l = lent_swap ch q in let d = borrowed_swap ch q in let h = hands_swap ch q in let below = borrowed_below ch q in
+      let m0 = marked_else q found (λ x. omega arith) in let m1 = marked_here q (mark q) refl in
+      let n0 = only_here 0 v (get_or note.passed_out q 0) zone in let n1 = only_here 0 v (get_or (ch note).passed_out q 0) zone in let n2 = put_here 0 note.passed_out q (get_or note.passed_out q 0 + 1) in
+      let l0 = only_here 0 v (get_or note.lent q 0) zone in let l1 = only_here 0 v (get_or (ch note).lent q 0) zone in let l2 = put_here 0 note.lent q 1 in
+      let lv = total_view (lent_in f q) seats id views i v at within in
+      record { passing = omega arith; borrowed_is_lent = omega arith; lent_is_near = omega arith } in
       hand_step ch (mark q) refl (λ p lo hi is. subst (λ (x : ℕ). get_or words (visit_index frames x) 0 ≡ 1) (omega arith) visit) (λ h eh. inr (inr (omega arith, omega arith, omega arith, omega arith)))
       (λ p lo hi. dite (ℕ_discrete p q)
-          (λ is. subst (HandOverRule (after ch q) f (mark q)) (sym is) at_q)
-          (λ not. let o = (rule.each_frame f inside).each_cpu p lo hi in let o0 = o.passing in let o1 = o.borrowed_is_lent in let o2 = o.lent_is_near in
-            let b = begun_swap ch p in let e = ended_swap ch p in let l = lent_swap ch p in let d = borrowed_swap ch p in let h = hands_swap ch p in let below = borrowed_below ch p in
-            let m0 = marked_else p found (λ x. omega arith) in let m1 = marked_else p (mark q) (λ x. not (omega arith)) in
-            let n2 = ap (only 0 v) (put_else 0 note.passed_out q p (get_or note.passed_out q 0 + 1) not) in let l2 = ap (only 0 v) (put_else 0 note.lent q p 1 not) in
-            record { passing = omega arith; borrowed_is_lent = omega arith; lent_is_near = omega arith }))
+      (λ is. subst (HandOverRule (after ch q) f (mark q)) (sym is) at_q)
+      (λ not. let o = (rule.each_frame f inside).each_cpu p lo hi in let o0 = o.passing in let o1 = o.borrowed_is_lent in let o2 = o.lent_is_near in
+      let b = begun_swap ch p in let e = ended_swap ch p in let l = lent_swap ch p in let d = borrowed_swap ch p in let h = hands_swap ch p in let below = borrowed_below ch p in
+      let m0 = marked_else p found (λ x. omega arith) in let m1 = marked_else p (mark q) (λ x. not (omega arith)) in
+      let n2 = ap (only 0 v) (put_else 0 note.passed_out q p (get_or note.passed_out q 0 + 1) not) in let l2 = ap (only 0 v) (put_else 0 note.lent q p 1 not) in
+      record { passing = omega arith; borrowed_is_lent = omega arith; lent_is_near = omega arith }))
 
 -- The zone's view z and a processor's view v, which stand side by side in one seat.
 module _ (frames cpus : ℕ) (seats : List (List FrameView)) (id : ℕ) (z v : FrameView) (at : get_elem? seats id ≡ some (z ∷ v ∷ [])) (zone : z.number ≡ 0) (low : 1 ≤ v.number) (high : v.number ≤ cpus)
-         (words : List ℕ) (rule : ReferenceRule frames cpus words seats) where
+    (words : List ℕ) (rule : ReferenceRule frames cpus words seats) where
   abbrev q : ℕ
   q = v.number
 
@@ -172,25 +172,25 @@ module _ (frames cpus : ℕ) (seats : List (List FrameView)) (id : ℕ) (z v : F
         let below = borrowed_before frames cpus seats id pair 1 v at refl words f inside rule in
         let new : List (List FrameView) = swapped seats id pair 1 v at refl (changed v f took_in) in
         let at_q : HandOverRule new f 0 q =
-              let o = (rule.each_frame f inside).each_cpu q low high in let o0 = o.passing in
-              let b = begun_swap frames cpus seats id pair 1 v at refl words f inside rule took_in q in let e = ended_swap frames cpus seats id pair 1 v at refl words f inside rule took_in q in
-              let l = lent_swap frames cpus seats id pair 1 v at refl words f inside rule took_in q in let d = borrowed_swap frames cpus seats id pair 1 v at refl words f inside rule took_in q in
-              let m0 = marked_here q word_now was in let m1 = marked_else q 0 (λ x. omega arith) in
-              let e0 = only_here q v (note_of v f).taken_in refl in let e1 = only_here q v ((note_of v f).taken_in + 1) refl in
-              let d0 = only_here q v (note_of v f).borrowed refl in let d1 = only_here q v 1 refl in
-              let lz = lent_here f in let db = below q in
-              record { passing = omega arith; borrowed_is_lent = omega arith; lent_is_near = omega arith } in
+        let o = (rule.each_frame f inside).each_cpu q low high in let o0 = o.passing in
+        let b = begun_swap frames cpus seats id pair 1 v at refl words f inside rule took_in q in let e = ended_swap frames cpus seats id pair 1 v at refl words f inside rule took_in q in
+        let l = lent_swap frames cpus seats id pair 1 v at refl words f inside rule took_in q in let d = borrowed_swap frames cpus seats id pair 1 v at refl words f inside rule took_in q in
+        let m0 = marked_here q word_now was in let m1 = marked_else q 0 (λ x. omega arith) in
+        let e0 = only_here q v (note_of v f).taken_in refl in let e1 = only_here q v ((note_of v f).taken_in + 1) refl in
+        let d0 = only_here q v (note_of v f).borrowed refl in let d1 = only_here q v 1 refl in
+        let lz = lent_here f in let db = below q in
+        record { passing = omega arith; borrowed_is_lent = omega arith; lent_is_near = omega arith } in
         hand_step frames cpus seats id pair 1 v at refl words f inside rule took_in 0 refl (λ p lo hi is. absurd (omega arith)) (λ h eh. inr (inl (refl, c2, omega arith)))
         (λ p lo hi. dite (ℕ_discrete p q)
-            (λ is. subst (HandOverRule new f 0) (sym is) at_q)
-            (λ not. let o = (rule.each_frame f inside).each_cpu p lo hi in let o0 = o.passing in let o1 = o.borrowed_is_lent in let o2 = o.lent_is_near in
-              let b = begun_swap frames cpus seats id pair 1 v at refl words f inside rule took_in p in let e = ended_swap frames cpus seats id pair 1 v at refl words f inside rule took_in p in
-              let l = lent_swap frames cpus seats id pair 1 v at refl words f inside rule took_in p in let d = borrowed_swap frames cpus seats id pair 1 v at refl words f inside rule took_in p in
-              let m0 = marked_else p word_now (λ x. not (omega arith)) in let m1 = marked_else p 0 (λ x. omega arith) in
-              let other : q ≢ p = λ x. not (sym x) in
-              let e0 = only_else p v (note_of v f).taken_in other in let e1 = only_else p v ((note_of v f).taken_in + 1) other in
-              let d0 = only_else p v (note_of v f).borrowed other in let d1 = only_else p v 1 other in
-              record { passing = omega arith; borrowed_is_lent = omega arith; lent_is_near = omega arith }))
+        (λ is. subst (HandOverRule new f 0) (sym is) at_q)
+        (λ not. let o = (rule.each_frame f inside).each_cpu p lo hi in let o0 = o.passing in let o1 = o.borrowed_is_lent in let o2 = o.lent_is_near in
+        let b = begun_swap frames cpus seats id pair 1 v at refl words f inside rule took_in p in let e = ended_swap frames cpus seats id pair 1 v at refl words f inside rule took_in p in
+        let l = lent_swap frames cpus seats id pair 1 v at refl words f inside rule took_in p in let d = borrowed_swap frames cpus seats id pair 1 v at refl words f inside rule took_in p in
+        let m0 = marked_else p word_now (λ x. not (omega arith)) in let m1 = marked_else p 0 (λ x. omega arith) in
+        let other : q ≢ p = λ x. not (sym x) in
+        let e0 = only_else p v (note_of v f).taken_in other in let e1 = only_else p v ((note_of v f).taken_in + 1) other in
+        let d0 = only_else p v (note_of v f).borrowed other in let d1 = only_else p v 1 other in
+        record { passing = omega arith; borrowed_is_lent = omega arith; lent_is_near = omega arith }))
 
     -- pass_back: out of the processor's hand, while its visit is open
     pub gave_back_rule : get_or z.opened q 0 ≡ 1 → in_hands (note_of v f) ≡ 1
@@ -201,27 +201,27 @@ module _ (frames cpus : ℕ) (seats : List (List FrameView)) (id : ℕ) (z v : F
         let c = case_handed cpus word_now refs_now hands_now 1 (omega arith) (omega arith) now in let c0 = c.0 in let c1 = c.1 in let c2 = c.2 in
         let new : List (List FrameView) = swapped seats id pair 1 v at refl (changed v f gave_back) in
         let at_q : HandOverRule new f (mark q) q =
-              let o = (rule.each_frame f inside).each_cpu q low high in let o0 = o.passing in let o2 = o.lent_is_near in
-              let b = begun_swap frames cpus seats id pair 1 v at refl words f inside rule gave_back q in let e = ended_swap frames cpus seats id pair 1 v at refl words f inside rule gave_back q in
-              let l = lent_swap frames cpus seats id pair 1 v at refl words f inside rule gave_back q in let d = borrowed_swap frames cpus seats id pair 1 v at refl words f inside rule gave_back q in
-              let h = hands_swap frames cpus seats id pair 1 v at refl words f inside rule gave_back q in let below = borrowed_below frames cpus seats id pair 1 v at refl words f inside rule gave_back q in
-              let before = borrowed_before frames cpus seats id pair 1 v at refl words f inside rule q in
-              let m0 = marked_else q word_now (λ x. omega arith) in let m1 = marked_here q (mark q) refl in
-              let b0 = only_here q v (note_of v f).passed_back refl in let b1 = only_here q v ((note_of v f).passed_back + 1) refl in
-              record { passing = omega arith; borrowed_is_lent = omega arith; lent_is_near = omega arith } in
+        let o = (rule.each_frame f inside).each_cpu q low high in let o0 = o.passing in let o2 = o.lent_is_near in
+        let b = begun_swap frames cpus seats id pair 1 v at refl words f inside rule gave_back q in let e = ended_swap frames cpus seats id pair 1 v at refl words f inside rule gave_back q in
+        let l = lent_swap frames cpus seats id pair 1 v at refl words f inside rule gave_back q in let d = borrowed_swap frames cpus seats id pair 1 v at refl words f inside rule gave_back q in
+        let h = hands_swap frames cpus seats id pair 1 v at refl words f inside rule gave_back q in let below = borrowed_below frames cpus seats id pair 1 v at refl words f inside rule gave_back q in
+        let before = borrowed_before frames cpus seats id pair 1 v at refl words f inside rule q in
+        let m0 = marked_else q word_now (λ x. omega arith) in let m1 = marked_here q (mark q) refl in
+        let b0 = only_here q v (note_of v f).passed_back refl in let b1 = only_here q v ((note_of v f).passed_back + 1) refl in
+        record { passing = omega arith; borrowed_is_lent = omega arith; lent_is_near = omega arith } in
         hand_step frames cpus seats id pair 1 v at refl words f inside rule gave_back (mark q) refl
         (λ p lo hi is. subst (λ (x : ℕ). get_or words (visit_index frames x) 0 ≡ 1) (omega arith) visit)
         (λ h eh. inr (inr (omega arith, omega arith, c1, omega arith)))
         (λ p lo hi. dite (ℕ_discrete p q)
-            (λ is. subst (HandOverRule new f (mark q)) (sym is) at_q)
-            (λ not. let o = (rule.each_frame f inside).each_cpu p lo hi in let o0 = o.passing in let o1 = o.borrowed_is_lent in let o2 = o.lent_is_near in
-              let b = begun_swap frames cpus seats id pair 1 v at refl words f inside rule gave_back p in let e = ended_swap frames cpus seats id pair 1 v at refl words f inside rule gave_back p in
-              let l = lent_swap frames cpus seats id pair 1 v at refl words f inside rule gave_back p in let d = borrowed_swap frames cpus seats id pair 1 v at refl words f inside rule gave_back p in
-              let m0 = marked_else p word_now (λ x. omega arith) in let m1 = marked_else p (mark q) (λ x. not (omega arith)) in
-              let other : q ≢ p = λ x. not (sym x) in
-              let b0 = only_else p v (note_of v f).passed_back other in let b1 = only_else p v ((note_of v f).passed_back + 1) other in
-              let d0 = only_else p v (note_of v f).borrowed other in let d1 = only_else p v 0 other in
-              record { passing = omega arith; borrowed_is_lent = omega arith; lent_is_near = omega arith }))
+        (λ is. subst (HandOverRule new f (mark q)) (sym is) at_q)
+        (λ not. let o = (rule.each_frame f inside).each_cpu p lo hi in let o0 = o.passing in let o1 = o.borrowed_is_lent in let o2 = o.lent_is_near in
+        let b = begun_swap frames cpus seats id pair 1 v at refl words f inside rule gave_back p in let e = ended_swap frames cpus seats id pair 1 v at refl words f inside rule gave_back p in
+        let l = lent_swap frames cpus seats id pair 1 v at refl words f inside rule gave_back p in let d = borrowed_swap frames cpus seats id pair 1 v at refl words f inside rule gave_back p in
+        let m0 = marked_else p word_now (λ x. omega arith) in let m1 = marked_else p (mark q) (λ x. not (omega arith)) in
+        let other : q ≢ p = λ x. not (sym x) in
+        let b0 = only_else p v (note_of v f).passed_back other in let b1 = only_else p v ((note_of v f).passed_back + 1) other in
+        let d0 = only_else p v (note_of v f).borrowed other in let d1 = only_else p v 0 other in
+        record { passing = omega arith; borrowed_is_lent = omega arith; lent_is_near = omega arith }))
 
     -- collect: into the zone's hand
     pub collected_rule : begun z v f ≡ ended z v f + 1 → ReferenceRule frames cpus (set words f 0) (swapped seats id pair 0 z at refl (changed z f (collected_from q)))
@@ -234,23 +234,23 @@ module _ (frames cpus : ℕ) (seats : List (List FrameView)) (id : ℕ) (z v : F
         let n : FrameNote = note_of z f in
         let new : List (List FrameView) = swapped seats id pair 0 z at refl (changed z f ch) in
         let at_q : HandOverRule new f 0 q =
-              let o = (rule.each_frame f inside).each_cpu q low high in let o0 = o.passing in
-              let b = begun_swap frames cpus seats id pair 0 z at refl words f inside rule ch q in let e = ended_swap frames cpus seats id pair 0 z at refl words f inside rule ch q in
-              let l = lent_swap frames cpus seats id pair 0 z at refl words f inside rule ch q in let d = borrowed_swap frames cpus seats id pair 0 z at refl words f inside rule ch q in
-              let m0 = marked_here q word_now was in let m1 = marked_else q 0 (λ x. omega arith) in
-              let e0 = only_here 0 z (get_or n.collected q 0) zone in let e1 = only_here 0 z (get_or (ch n).collected q 0) zone in let e2 = put_here 0 n.collected q (get_or n.collected q 0 + 1) in
-              let l0 = only_here 0 z (get_or n.lent q 0) zone in let l1 = only_here 0 z (get_or (ch n).lent q 0) zone in let l2 = put_here 0 n.lent q 0 in
-              let lz = lent_here f in let db = below q in
-              record { passing = omega arith; borrowed_is_lent = omega arith; lent_is_near = omega arith } in
+        let o = (rule.each_frame f inside).each_cpu q low high in let o0 = o.passing in
+        let b = begun_swap frames cpus seats id pair 0 z at refl words f inside rule ch q in let e = ended_swap frames cpus seats id pair 0 z at refl words f inside rule ch q in
+        let l = lent_swap frames cpus seats id pair 0 z at refl words f inside rule ch q in let d = borrowed_swap frames cpus seats id pair 0 z at refl words f inside rule ch q in
+        let m0 = marked_here q word_now was in let m1 = marked_else q 0 (λ x. omega arith) in
+        let e0 = only_here 0 z (get_or n.collected q 0) zone in let e1 = only_here 0 z (get_or (ch n).collected q 0) zone in let e2 = put_here 0 n.collected q (get_or n.collected q 0 + 1) in
+        let l0 = only_here 0 z (get_or n.lent q 0) zone in let l1 = only_here 0 z (get_or (ch n).lent q 0) zone in let l2 = put_here 0 n.lent q 0 in
+        let lz = lent_here f in let db = below q in
+        record { passing = omega arith; borrowed_is_lent = omega arith; lent_is_near = omega arith } in
         hand_step frames cpus seats id pair 0 z at refl words f inside rule ch 0 refl (λ p lo hi is. absurd (omega arith)) (λ h eh. inr (inl (refl, c2, omega arith)))
         (λ p lo hi. dite (ℕ_discrete p q)
-            (λ is. subst (HandOverRule new f 0) (sym is) at_q)
-            (λ not. let o = (rule.each_frame f inside).each_cpu p lo hi in let o0 = o.passing in let o1 = o.borrowed_is_lent in let o2 = o.lent_is_near in
-              let b = begun_swap frames cpus seats id pair 0 z at refl words f inside rule ch p in let e = ended_swap frames cpus seats id pair 0 z at refl words f inside rule ch p in
-              let l = lent_swap frames cpus seats id pair 0 z at refl words f inside rule ch p in let d = borrowed_swap frames cpus seats id pair 0 z at refl words f inside rule ch p in
-              let m0 = marked_else p word_now (λ x. not (omega arith)) in let m1 = marked_else p 0 (λ x. omega arith) in
-              let e2 = ap (only 0 z) (put_else 0 n.collected q p (get_or n.collected q 0 + 1) not) in let l2 = ap (only 0 z) (put_else 0 n.lent q p 0 not) in
-              record { passing = omega arith; borrowed_is_lent = omega arith; lent_is_near = omega arith }))
+        (λ is. subst (HandOverRule new f 0) (sym is) at_q)
+        (λ not. let o = (rule.each_frame f inside).each_cpu p lo hi in let o0 = o.passing in let o1 = o.borrowed_is_lent in let o2 = o.lent_is_near in
+        let b = begun_swap frames cpus seats id pair 0 z at refl words f inside rule ch p in let e = ended_swap frames cpus seats id pair 0 z at refl words f inside rule ch p in
+        let l = lent_swap frames cpus seats id pair 0 z at refl words f inside rule ch p in let d = borrowed_swap frames cpus seats id pair 0 z at refl words f inside rule ch p in
+        let m0 = marked_else p word_now (λ x. not (omega arith)) in let m1 = marked_else p 0 (λ x. omega arith) in
+        let e2 = ap (only 0 z) (put_else 0 n.collected q p (get_or n.collected q 0 + 1) not) in let l2 = ap (only 0 z) (put_else 0 n.lent q p 0 not) in
+        record { passing = omega arith; borrowed_is_lent = omega arith; lent_is_near = omega arith }))
 
   -- while the visit is shut, or nothing passes, no word is the processor's mark: nothing passes, and what is lent is borrowed
   pub settled_where : (f : ℕ) → f < frames → get_or words f 0 ≢ mark q → (begun z v f ≡ ended z v f) × (get_or (note_of z f).lent q 0 ≡ (note_of v f).borrowed)
@@ -273,13 +273,13 @@ module _ (frames cpus : ℕ) (seats : List (List FrameView)) (id : ℕ) (z v : F
       let stays = same_total seats id pair 0 z at refl in
       let frame_word : (f : ℕ) → f < frames → get_or (set words at_word state) f 0 ≡ get_or words f 0 = λ f lt. there f (λ e. absurd (omega arith)) in
       let at_q : VisitRule frames (set words at_word state) new q =
-            let t = total_swap (opened_in q) seats id pair 0 z w at refl in let t0 = of_zone (λ u. get_or u.opened q 0) in
-            let o0 = only_here 0 z (get_or z.opened q 0) zone in let o1 = only_here 0 z (get_or w.opened q 0) zone in let o2 = put_here 0 z.opened q state in
-            record {
-              noted = omega arith;
-              open_or_shut = omega arith;
-              shut = λ zero f lt is. none (sym here ∙ zero) f lt (sym (frame_word f lt) ∙ is);
-            } in record {
+      let t = total_swap (opened_in q) seats id pair 0 z w at refl in let t0 = of_zone (λ u. get_or u.opened q 0) in
+      let o0 = only_here 0 z (get_or z.opened q 0) zone in let o1 = only_here 0 z (get_or w.opened q 0) zone in let o2 = put_here 0 z.opened q state in
+      record {
+        noted = omega arith;
+        open_or_shut = omega arith;
+        shut = λ zero f lt is. none (sym here ∙ zero) f lt (sym (frame_word f lt) ∙ is);
+      } in record {
         wide = length-set words at_word state ∙ rule.wide;
         one_view = λ k le. stays (λ u. only k u 1) w refl ∙ rule.one_view k le;
         no_more = stays (λ (u : FrameView). 1) w refl ∙ rule.no_more;

@@ -52,23 +52,23 @@ module _ {S : Type 0} (frames cpus slots id : ℕ) (me : Me S (List FrameView)) 
         → Allows (rule_of {S = S} frames cpus) slots id me at_word (λ _. 1) (λ _. visits (step slots at_word 1 0 none) me 1)
     opens_as is_shut at_word is = subst (λ (x : ℕ × Me S (List FrameView)). Allows (rule_of {S = S} frames cpus) slots id x.1 x.0 (λ _. 1) (λ _. visits (step slots x.0 1 0 none) x.1 1)) (λ i. (sym is i, sym both i))
         (λ s h homes at small.
-          let no_mark : (f : ℕ) → f < frames → get_or s.words f 0 ≢ mark v.number = (h.each_visit v.number low high).shut (visit_here frames cpus s.views id z v at zone low high s.words h ∙ is_shut) in (
-            with_visit z v.number 1 ∷ v ∷ [],
-            keeps,
-            tt,
-            visit_rule frames cpus s.views id z v at zone low high s.words h 1 (omega arith) (λ one. absurd (omega arith)),
-            (refl, λ f lt. settled_where frames cpus s.views id z v at zone low high s.words h f (omega arith) (no_mark f (omega arith))),
-          ))
+        let no_mark : (f : ℕ) → f < frames → get_or s.words f 0 ≢ mark v.number = (h.each_visit v.number low high).shut (visit_here frames cpus s.views id z v at zone low high s.words h ∙ is_shut) in (
+          with_visit z v.number 1 ∷ v ∷ [],
+          keeps,
+          tt,
+          visit_rule frames cpus s.views id z v at zone low high s.words h 1 (omega arith) (λ one. absurd (omega arith)),
+          (refl, λ f lt. settled_where frames cpus s.views id z v at zone low high s.words h f (omega arith) (no_mark f (omega arith))),
+        ))
 
     -- shut_visit: nothing passes, so no word is the mark
     pub shuts_as : ((f : ℕ) → f < frames → begun z v f ≡ ended z v f) → (at_word : ℕ) → at_word ≡ visit_index frames v.number
         → Allows (rule_of {S = S} frames cpus) slots id me at_word (λ _. 0) (λ _. visits (step slots at_word 0 0 none) me 0)
     shuts_as nothing at_word is = subst (λ (x : ℕ × Me S (List FrameView)). Allows (rule_of {S = S} frames cpus) slots id x.1 x.0 (λ _. 0) (λ _. visits (step slots x.0 0 0 none) x.1 0)) (λ i. (sym is i, sym both i))
         (λ s h homes at small.
-          let no_mark : (f : ℕ) → f < frames → get_or s.words f 0 ≢ mark v.number = λ f lt. no_mark_where frames cpus s.views id z v at zone low high s.words h f lt (nothing f lt) in (
-            with_visit z v.number 0 ∷ v ∷ [],
-            keeps,
-            tt,
-            visit_rule frames cpus s.views id z v at zone low high s.words h 0 (omega arith) (λ _. no_mark),
-            (refl, λ f lt. settled_where frames cpus s.views id z v at zone low high s.words h f (omega arith) (no_mark f (omega arith))),
-          ))
+        let no_mark : (f : ℕ) → f < frames → get_or s.words f 0 ≢ mark v.number = λ f lt. no_mark_where frames cpus s.views id z v at zone low high s.words h f lt (nothing f lt) in (
+          with_visit z v.number 0 ∷ v ∷ [],
+          keeps,
+          tt,
+          visit_rule frames cpus s.views id z v at zone low high s.words h 0 (omega arith) (λ _. no_mark),
+          (refl, λ f lt. settled_where frames cpus s.views id z v at zone low high s.words h f (omega arith) (no_mark f (omega arith))),
+        ))

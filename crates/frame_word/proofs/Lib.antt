@@ -9,3 +9,4 @@ pub mod Seating
 pub mod Opening
 pub mod Ending
 pub mod Consequences
+pub mod CallerLemmas

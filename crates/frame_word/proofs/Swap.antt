@@ -20,7 +20,7 @@ OneCase cpus word references hands = IsReferenced word references hands ⊎ (IsI
 module _ (cpus : ℕ) (a b : List (List FrameView)) (f word : ℕ) where
   pub frame_carries : total_over (references_in f) b ≡ total_over (references_in f) a → total_over (hands_in f) b ≡ total_over (hands_in f) a
       → ((p : ℕ) → (total_over (begun_in f p) b ≡ total_over (begun_in f p) a) × (total_over (ended_in f p) b ≡ total_over (ended_in f p) a)
-          × (total_over (lent_in f p) b ≡ total_over (lent_in f p) a) × (total_over (borrowed_in f p) b ≡ total_over (borrowed_in f p) a))
+      × (total_over (lent_in f p) b ≡ total_over (lent_in f p) a) × (total_over (borrowed_in f p) b ≡ total_over (borrowed_in f p) a))
       → FrameRule cpus a f word → FrameRule cpus b f word
   frame_carries refs hands others rule = record {
     one_case = subst (λ (r : ℕ). OneCase cpus word r (total_over (hands_in f) b)) (sym refs) (subst (λ (h : ℕ). OneCase cpus word (total_over (references_in f) a) h) (sym hands) rule.one_case);
@@ -58,7 +58,7 @@ module _ (seats : List (List FrameView)) (id : ℕ) (views : List FrameView) (i 
       let none : only k w 1 ≡ 0 = only_else k w 1 other in
       let left : total_over (λ u. only k u 1) (swapped w) ≡ 0 = omega (arith, total_swap (λ u. only k u 1) seats id views i v w at within) in
       let gone : total_over g (swapped w) ≡ 0 = total_absent (λ u. only k u 1) g
-          (λ u no. dite (ℕ_discrete u.number k) (λ e. let y = only_here k u 1 e in absurd (omega arith)) (λ n. vanishes u n)) (swapped w) left in
+      (λ u no. dite (ℕ_discrete u.number k) (λ e. let y = only_here k u 1 e in absurd (omega arith)) (λ n. vanishes u n)) (swapped w) left in
       omega (arith, total_swap g seats id views i v w at within, vanishes w other)
 
   -- a step on the word of the frame f, by which the view's note of f changes
@@ -80,14 +80,14 @@ module _ (seats : List (List FrameView)) (id : ℕ) (views : List FrameView) (i 
           each_frame = λ g lt. dite (ℕ_discrete g f)
               (λ e. subst (λ (z : ℕ × ℕ). FrameRule cpus (swapped next) z.0 z.1) (λ c. (sym e c, (sym now ∙ ap (λ (h : ℕ). get_or (set words f word) h 0) (sym e)) c)) here)
               (λ n. let note = note_else v f g change n in
-                  subst (FrameRule cpus (swapped next) g) (sym (there g n)) (frame_carries cpus seats (swapped next) g (get_or words g 0)
-                    (same_total (references_in g) next (ap (λ k. k.references) note)) (same_total (hands_in g) next (ap in_hands note))
-                    (λ p. (
-                      same_total (begun_in g p) next (ap (λ k. only 0 v (get_or k.passed_out p 0) + only p v k.passed_back) note),
-                      same_total (ended_in g p) next (ap (λ k. only 0 v (get_or k.collected p 0) + only p v k.taken_in) note),
-                      same_total (lent_in g p) next (ap (λ k. only 0 v (get_or k.lent p 0)) note),
-                      same_total (borrowed_in g p) next (ap (λ k. only p v k.borrowed) note),
-                    )) (rule.each_frame g lt)));
+              subst (FrameRule cpus (swapped next) g) (sym (there g n)) (frame_carries cpus seats (swapped next) g (get_or words g 0)
+              (same_total (references_in g) next (ap (λ k. k.references) note)) (same_total (hands_in g) next (ap in_hands note))
+              (λ p. (
+                same_total (begun_in g p) next (ap (λ k. only 0 v (get_or k.passed_out p 0) + only p v k.passed_back) note),
+                same_total (ended_in g p) next (ap (λ k. only 0 v (get_or k.collected p 0) + only p v k.taken_in) note),
+                same_total (lent_in g p) next (ap (λ k. only 0 v (get_or k.lent p 0)) note),
+                same_total (borrowed_in g p) next (ap (λ k. only p v k.borrowed) note),
+              )) (rule.each_frame g lt)));
           each_visit = λ p low high. let h = rule.each_visit p low high in let same = there (visit_index frames p) (far p) in record {
             noted = same_total (opened_in p) next refl ∙ h.noted ∙ sym same;
             open_or_shut = subst (λ (n : ℕ). n ≤ 1) (sym same) h.open_or_shut;

@@ -1,7 +1,7 @@
 //! The table of words under the reference rule. It has no slots.
 use crate::view::FrameView;
-use std::alloc::Global;
 use atomic_table::{Seat, Shared, Table, TableRule};
+use std::alloc::Global;
 
 /// How many frames and processors a table has. It is fixed when the table is made.
 #[derive(Clone, Copy)]

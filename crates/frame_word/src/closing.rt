@@ -56,8 +56,7 @@ impl FinalWords {
         requires { (1 ≤ cpu) × (cpu ≤ self.now.cpus) }
         ensures { result ≡ slice_index self.now.words (visit_index self.now.frames cpu) }
     {
-        self.closed
-            .word(self.frames as usize + (cpu as usize - 1))
+        self.closed.word(self.frames as usize + (cpu as usize - 1))
     }
 }
 
@@ -75,7 +74,10 @@ impl FrameWords {
             frames,
             cpus: count,
         } = self;
-        let FrameSeat { mut place, number: _ } = zone;
+        let FrameSeat {
+            mut place,
+            number: _,
+        } = zone;
         gather(&table.shared, &mut place, cpus);
         FinalWords {
             closed: table.close_with(place),

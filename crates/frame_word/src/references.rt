@@ -1,6 +1,6 @@
 //! References: `get`, `put`, `freeze`, `unfreeze`. Each is one atomic step, `get` a load and at most one exchange.
-ghost use Rattle.std.specs.Prelude.{◌≡◌, ◌≢◌, ◌<◌, ◌≤◌, MatchBool, true};
-ghost use Rattle.frame_word.specs.declared.answers.Get.TheVariants.{Zero};
+ghost use Rattle.std.specs.Prelude.{◌≡◌, ◌≢◌, ◌+◌, ◌<◌, ◌≤◌, MatchBool, true};
+ghost use Rattle.frame_word.specs.declared.answers.Get.TheVariants.{Held, Zero};
 ghost use Rattle.frame_word.specs.Views.{frozen, missed, unfrozen};
 ghost use Rattle.frame_word.specs.Seats.{holds, IsInOwnHand, seat_with, GetAnswers, PutAnswers};
 
@@ -20,6 +20,7 @@ impl FrameWords {
         requires table { seat.old.table ≡ self.now.table }
         requires frame { frame < self.now.frames }
         ensures answer { GetAnswers seat.old frame result seat.new }
+        ensures held { result ≡ Held → holds seat.new frame ≡ holds seat.old frame + 1 }
         ensures never_zero { 1 ≤ holds seat.old frame → result ≢ Zero }
     {
         let shared = &self.table.shared;
@@ -67,12 +68,10 @@ impl FrameWords {
         ensures answer { MatchBool result (seat.new ≡ seat_with seat.old frame (frozen count)) (seat.new ≡ seat_with seat.old frame missed) }
         ensures all { result ≡ true → holds seat.old frame ≡ count }
     {
-        let found = self.table.shared.compare_exchange::<Freeze>(
-            &mut seat.place,
-            frame.word(),
-            count,
-            0,
-        );
+        let found = self
+            .table
+            .shared
+            .compare_exchange::<Freeze>(&mut seat.place, frame.word(), count, 0);
         found == count
     }
 

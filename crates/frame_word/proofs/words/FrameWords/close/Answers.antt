@@ -27,4 +27,4 @@ returns-clause-rule c =
     let frames = laid.frames_are ∙ ap (λ t. t.frames) c.self.view_is in
     let cpus = laid.cpus_are ∙ ap (λ t. t.cpus) c.self.view_is in
     subst (λ (z : ℕ × ℕ). ReferenceRule z.0 z.1 (slots_items c.close_with.result.words) ((c.args.zone.view ∷ map view_of c.args.cpus.items) ∷ [])) (λ i. (frames i, cpus i))
-        (final_rule _ _ _ _ _ _ c.args.zone.view c.args.cpus.items c.close_with.ensures.values.2 views (c.requires.cpus.0 ∙ sym cpus))
+    (final_rule _ _ _ _ _ _ c.args.zone.view c.args.cpus.items c.close_with.ensures.values.2 views (c.requires.cpus.0 ∙ sym cpus))

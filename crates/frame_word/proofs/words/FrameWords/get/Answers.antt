@@ -3,6 +3,7 @@ use Rattle.frame_word.specs.declared.answers.Get.TheVariants.{Held, Zero, Raced,
 use Rattle.frame_word.specs.Views.{note_of, looked, held, raced}
 use Rattle.frame_word.specs.Seats.{GetAnswers}
 use Rattle.frame_word.proofs.Alone.{known, first_after, seen_after, seen_after_two, looks_as, adds_as}
+use Rattle.frame_word.proofs.CallerLemmas.{held_one_more}
 use Rattle.frame_word.proofs.words.FrameWords.get.Goals as goal
 use Rattle.frame_word.proofs.words.FrameWords.get.Goals.{then-found-seen, else-found-seen}
 
@@ -34,13 +35,13 @@ returns-clause-answer c =
     let n = c.load-seen.result in
     let after = known c.compare_exchange-found.new.seat.table_id c.compare_exchange-found.new.seat.me.0 in
     elim c.if-found-seen.branch [
-      then-found-seen w ↦ subst (λ a. GetAnswers c.args.seat.now c.args.frame a after) (sym w.result-is) (
+      | then-found-seen w ↦ subst (λ a. GetAnswers c.args.seat.now c.args.frame a after) (sym w.result-is) (
         n,
         omega arith,
         omega arith,
         seen_after_two _ _ c.seat.invariant.alone _ _ (looked n) held _ _ _ _ _ _ c.word-word.ensures c.load-seen.ensures.0 add.0 c.seat.view_is look.0 (add.2.0 w.if-found-seen.true),
       )
-    | else-found-seen w ↦ subst (λ a. GetAnswers c.args.seat.now c.args.frame a after) (sym w.result-is) (
+      | else-found-seen w ↦ subst (λ a. GetAnswers c.args.seat.now c.args.frame a after) (sym w.result-is) (
         n,
         omega arith,
         omega arith,
@@ -48,3 +49,6 @@ returns-clause-answer c =
         seen_after_two _ _ c.seat.invariant.alone _ _ (looked n) (raced c.compare_exchange-found.result) _ _ _ _ _ _ c.word-word.ensures c.load-seen.ensures.0 add.0 c.seat.view_is look.0 (add.2.1 w.if-found-seen.false),
       )
     ]
+
+pub returns-clause-held : goal.returns-clause-held
+returns-clause-held c = held_one_more c.args.seat.now (known c.compare_exchange-found.new.seat.table_id c.compare_exchange-found.new.seat.me.0) c.args.frame c.if-found-seen.result (returns-clause-answer c)

@@ -13,10 +13,9 @@ store-requires c =
     let number = ap number_of cpu in
     let numbered = c.cpu.invariant.numbered in
     let at_word = c.visit_word-word.ensures in
-
     let both = c.join.ensures.views ∙ (λ i. ((c.zone.invariant.alone i).0 ++ (c.cpu.invariant.alone i).0, [])) in (
       c.join.ensures.table.0 ∙ (ap (λ s. s.table) zone ∙ c.requires.zone.0 ∙ sym (ap (λ t. t.table) c.self.view_is)),
       omega arith,
-      opens_as _ _ _ _ _ _ _ both (ap number_of zone ∙ c.requires.zone.1) (omega arith) (omega arith) 
+      opens_as _ _ _ _ _ _ _ both (ap number_of zone ∙ c.requires.zone.1) (omega arith) (omega arith)
           (subst (λ (s : KnownSeat × KnownSeat). IsShut s.0 (number_of s.1)) (λ i. (sym zone i, sym cpu i)) c.requires.shut) _ (omega arith),
     )
