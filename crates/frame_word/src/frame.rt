@@ -37,6 +37,7 @@ impl Frame {
     pub(crate) fn word(self) -> usize
         ensures { result ≡ self }
     {
-        self.number as usize
+        let Frame { number } = self;
+        number as usize
     }
 }
