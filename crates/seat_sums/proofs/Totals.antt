@@ -69,3 +69,29 @@ module _ {V : Type 0} where
   pub join_totals : (seats : List (List V)) (id other : ℕ) (views taken : List V) → get_elem? seats id ≡ some views
       → get_elem? (set seats id (views ++ taken)) other ≡ some taken → SameTotals seats (join_of seats id views other taken)
   join_totals seats id other views taken is at = λ f. omega (arith, total_set f seats id views (views ++ taken) is, total_set f (set seats id (views ++ taken)) other taken [] at, sum_append f views taken)
+
+  -- one view of one seat is replaced
+  pub total_swap : (f : V → ℕ) (seats : List (List V)) (id : ℕ) (views : List V) (i : ℕ) (old new : V) → get_elem? seats id ≡ some views → get_elem? views i ≡ some old
+      → total_over f (set seats id (set views i new)) + f old ≡ total_over f seats + f new
+  total_swap f seats id views i old new at within = omega (arith, total_set f seats id views (set views i new) at, sum_set f views i old new within)
+
+  -- one view of one seat is a part of all
+  pub total_view : (f : V → ℕ) (seats : List (List V)) (id : ℕ) (views : List V) (i : ℕ) (v : V) → get_elem? seats id ≡ some views → get_elem? views i ≡ some v → f v ≤ total_over f seats
+  total_view f seats id views i v at within = omega (arith, total_member f seats id views at, sum_member f views i v within)
+
+  -- where the total of f is 0, so is that of g, which is 0 wherever f is
+  pub sum_absent : (f g : V → ℕ) → ((v : V) → f v ≡ 0 → g v ≡ 0) → (views : List V) → sum_over f views ≡ 0 → sum_over g views ≡ 0
+  sum_absent f g where_none [] none = refl
+  sum_absent f g where_none (v ∷ vs) none = omega (arith, where_none v (omega arith), sum_absent f g where_none vs (omega arith))
+
+  pub total_absent : (f g : V → ℕ) → ((v : V) → f v ≡ 0 → g v ≡ 0) → (seats : List (List V)) → total_over f seats ≡ 0 → total_over g seats ≡ 0
+  total_absent f g where_none [] none = refl
+  total_absent f g where_none (s ∷ rest) none = omega (arith, sum_absent f g where_none s (omega arith), total_absent f g where_none rest (omega arith))
+
+  -- where one seat has as many views as all seats together, each total is its own
+  pub total_whole : (seats : List (List V)) (id : ℕ) (views : List V) → get_elem? seats id ≡ some views
+      → sum_over (λ (v : V). 1) views ≡ total_over (λ (v : V). 1) seats → SameTotals seats (views ∷ [])
+  total_whole seats id views at whole = λ f.
+      let rest = total_set (λ (v : V). 1) seats id views [] at in
+      let none = total_absent (λ (v : V). 1) f (λ v one. absurd (omega arith)) (set seats id []) (omega arith) in
+      omega (arith, total_set f seats id views [] at, none)
