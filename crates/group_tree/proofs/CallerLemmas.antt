@@ -438,10 +438,10 @@ parent_of-depth groups h p facts e =
     let there = path_of-at groups q.0.number q.0 (group_at-there groups q.0 facts.numbers_distinct q.1) in
     let above : path_of groups p ≡ Some (parent_path w.0) = ap (path_of groups) (sym q.3) ∙ there ∙ ap Some q.2 in
     ⊎_elim
-        (λ root.
-            let zero : h ≡ 0 = same_number groups h 0 root_path facts (w.1 ∙ ap Some (root-from_test w.0 root)) (root_path_of groups facts) in
-            absurd (none-some p (sym (parent_of-root groups h zero) ∙ e)))
-        (λ below.
-            let n = names_parent w.0 (path_of-formed groups h w.0 facts.paths w.1) below in
-            (w.0, parent_path w.0, w.1, above, ap length n.1 ∙ length-append (names_of (parent_path w.0)) (n.0 ∷ [])))
-        (cases_Bool (is_root w.0))
+    (λ root.
+    let zero : h ≡ 0 = same_number groups h 0 root_path facts (w.1 ∙ ap Some (root-from_test w.0 root)) (root_path_of groups facts) in
+    absurd (none-some p (sym (parent_of-root groups h zero) ∙ e)))
+    (λ below.
+    let n = names_parent w.0 (path_of-formed groups h w.0 facts.paths w.1) below in
+    (w.0, parent_path w.0, w.1, above, ap length n.1 ∙ length-append (names_of (parent_path w.0)) (n.0 ∷ [])))
+    (cases_Bool (is_root w.0))
