@@ -58,7 +58,7 @@ impl Core {
         ensures run { (run : Run) → Shows self.now run → result ≡ usage_of self.now.config run group }
     {
         // So many steps granted few enough pages for the sum.
-        let _steps = self.steps();
+        let _steps = Core::steps(self);
         let frames = count_charged(&self.tree, &self.places, group);
         let pages = sum_pending(&self.tree, &self.pending, group);
         frames + pages
