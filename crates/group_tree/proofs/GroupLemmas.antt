@@ -369,13 +369,13 @@ none_is_no_some None h e = false≢true e
 none_is_no_some (Some x) h e = true≢false h
 
 -- ---- another limit
-limited-number : (n : ℕ) (limit : Option ℕ) (g : Group) → (limited n limit g).number ≡ g.number
+pub limited-number : (n : ℕ) (limit : Option ℕ) (g : Group) → (limited n limit g).number ≡ g.number
 limited-number n limit g = cond_both (g.number == n) (record g { limit = limit }) g (λ (x : Group). x.number ≡ g.number) (λ _. refl) (λ _. refl)
 
-limited-path : (n : ℕ) (limit : Option ℕ) (g : Group) → (limited n limit g).path ≡ g.path
+pub limited-path : (n : ℕ) (limit : Option ℕ) (g : Group) → (limited n limit g).path ≡ g.path
 limited-path n limit g = cond_both (g.number == n) (record g { limit = limit }) g (λ (x : Group). x.path ≡ g.path) (λ _. refl) (λ _. refl)
 
-list_any-map : {X : Type 0} (p : X → Bool) (f : X → X) → ((x : X) → p (f x) ≡ p x) → (xs : List X) → list_any p (map f xs) ≡ list_any p xs
+pub list_any-map : {X : Type 0} (p : X → Bool) (f : X → X) → ((x : X) → p (f x) ≡ p x) → (xs : List X) → list_any p (map f xs) ≡ list_any p xs
 list_any-map p f same [] = refl
 list_any-map p f same (x ∷ xs) = ap (λ b. b || list_any p (map f xs)) (same x) ∙ ap (λ b. p x || b) (list_any-map p f same xs)
 

@@ -8,4 +8,6 @@ pub mod fault;
 pub mod group;
 mod names;
 pub mod path;
+#[cfg(test)]
+mod tests;
 pub mod tree;

@@ -200,13 +200,12 @@ impl Tree {
         }
         let number = self.least_free();
         let path = PathText::of(path).unwrap();
-        self.rows
-            .push(Group {
-                number,
-                path,
-                limit: None,
-            })
-            .unwrap();
+        let row = Group {
+            number,
+            path,
+            limit: None,
+        };
+        self.rows.push(row).unwrap();
         Ok(number)
     }
 

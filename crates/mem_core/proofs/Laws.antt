@@ -41,8 +41,8 @@ or_right_true false b e = e
 none_at : (t : ℕ → Bool) (k n : ℕ) → t k ≡ false → (t n && (k == n)) ≡ false
 none_at t k n fails =
     elim (cases_eq k n) [
-    | inl same ↦ and_left_false (t n) (k == n) (ap t (sym same) ∙ fails)
-    | inr other ↦ and_right_false (t n) (k == n) (grind arith)
+      | inl same ↦ and_left_false (t n) (k == n) (ap t (sym same) ∙ fails)
+      | inr other ↦ and_right_false (t n) (k == n) (grind arith)
     ]
 
 any_at_none : (groups : List Group) (t : ℕ → Bool) (k : ℕ) → t k ≡ false → list_any (λ h. t h.number && (k == h.number)) groups ≡ false
@@ -57,11 +57,11 @@ unfolding has_group group_at
 any_at_some [] t k passes there = absurd (false≢true there)
 any_at_some (x ∷ xs) t k passes there =
     elim (cases_eq x.number k) [
-    | inl same ↦ rw (some_at t k x.number passes same) refl
-    | inr other ↦
-        let e : (x.number == k) ≡ false = grind arith in
-        let later : has_group xs k ≡ true = (rw e at there) in
-        or_right_true (t x.number && (k == x.number)) (list_any (λ h. t h.number && (k == h.number)) xs) (any_at_some xs t k passes later)
+      | inl same ↦ rw (some_at t k x.number passes same) refl
+      | inr other ↦
+          let e : (x.number == k) ≡ false = grind arith in
+          let later : has_group xs k ≡ true = (rw e at there) in
+          or_right_true (t x.number && (k == x.number)) (list_any (λ h. t h.number && (k == h.number)) xs) (any_at_some xs t k passes later)
     ]
 
 any_at : (groups : List Group) (t : ℕ → Bool) (k : ℕ) → has_group groups k ≡ true → list_any (λ h. t h.number && (k == h.number)) groups ≡ t k
@@ -93,11 +93,11 @@ frames_kept-Shows : (s : State) (run : Run) (g : ℕ) → HasSizes s → IsSound
 frames_kept-Shows s run g sizes sound shown =
     let kept = is_kept (places_of s.config run) (groups_of run) g in
     let tests : map (is_charged_below s.groups g) s.places ≡ map kept (range_with_len 0 s.config.frames) =
-      fill_by_all kept (map (is_charged_below s.groups g) s.places) s.config.frames false
-      (length-map s.places (is_charged_below s.groups g) ∙ sizes.places)
-      (λ f h.
-        let within : f < length s.places = omega (arith, sizes.places) in
-        get_or-map (is_charged_below s.groups g) s.places f Free false within ∙ is_kept-Shows s run g f sizes sound shown h) in
+    fill_by_all kept (map (is_charged_below s.groups g) s.places) s.config.frames false
+    (length-map s.places (is_charged_below s.groups g) ∙ sizes.places)
+    (λ f h.
+    let within : f < length s.places = omega (arith, sizes.places) in
+    get_or-map (is_charged_below s.groups g) s.places f Free false within ∙ is_kept-Shows s run g f sizes sound shown h) in
     sym (sum_by-map (λ b. cond b 1 0) (is_charged_below s.groups g) s.places)
     ∙ ap (count_by (λ b. b)) tests
     ∙ sum_by-map (λ b. cond b 1 0) kept (range_with_len 0 s.config.frames)
@@ -114,29 +114,29 @@ current_in-Shows s run g sizes sound shown =
 pub IsAccounted-Shows : (s : State) (run : Run) → HasSizes s → IsSound s → Shows s run → IsAccounted s.config run
 IsAccounted-Shows s run sizes sound shown = record {
   one_place = λ f h.
-    let within : f < length s.places = omega (arith, sizes.places) in
-    let place = get_or s.places f Free in
-    record {
-      place = place;
-      there = shown.places f place ∙ is_at_within s.places f place within ∙ is_same_place_same place;
-      only = λ p e. sym (same_from_is_same_place place p (sym (is_at_within s.places f p within) ∙ sym (shown.places f p) ∙ e))
-    };
+      let within : f < length s.places = omega (arith, sizes.places) in
+      let place = get_or s.places f Free in
+      record {
+        place = place;
+        there = shown.places f place ∙ is_at_within s.places f place within ∙ is_same_place_same place;
+        only = λ p e. sym (same_from_is_same_place place p (sym (is_at_within s.places f p within) ∙ sym (shown.places f p) ∙ e));
+      };
   keeper_there = λ f g e.
-    let at : is_at s.places f (Charged g) ≡ true = sym (shown.places f (Charged g)) ∙ e in
-    elim (cases_lt f (length s.places)) [
-    | inl within ↦
-        let is : get_or s.places f Free ≡ Charged g = same_from_is_same_place (get_or s.places f Free) (Charged g) (sym (is_at_within s.places f (Charged g) within) ∙ at) in
-        let there : has_group s.groups g ≡ true = subst (KeeperIsThere s.groups) is (sound.keepers f Free within) in
-        ap (λ groups. has_group groups g) (sym shown.groups) ∙ there
-    | inr past ↦ absurd (false≢true (sym (is_at_past s.places f (Charged g) past) ∙ at))
-    ];
+      let at : is_at s.places f (Charged g) ≡ true = sym (shown.places f (Charged g)) ∙ e in
+      elim (cases_lt f (length s.places)) [
+        | inl within ↦
+            let is : get_or s.places f Free ≡ Charged g = same_from_is_same_place (get_or s.places f Free) (Charged g) (sym (is_at_within s.places f (Charged g) within) ∙ at) in
+            let there : has_group s.groups g ≡ true = subst (KeeperIsThere s.groups) is (sound.keepers f Free within) in
+            ap (λ groups. has_group groups g) (sym shown.groups) ∙ there
+        | inr past ↦ absurd (false≢true (sym (is_at_past s.places f (Charged g) past) ∙ at))
+      ];
   nothing_pending = λ free g.
-    let none : slice_index s.pending g ≡ 0 =
+      let none : slice_index s.pending g ≡ 0 =
       elim (cases_lt g (length s.pending)) [
-      | inl within ↦ sound.settled (shown.holder ∙ free) g 0 within
-      | inr past ↦ get_or_past s.pending g 0 past
+        | inl within ↦ sound.settled (shown.holder ∙ free) g 0 within
+        | inr past ↦ get_or_past s.pending g 0 past
       ] in
-    pending_of-Shows s run shown g ∙ none
+      pending_of-Shows s run shown g ∙ none;
 }
 
 pub free_areas-Shows : (s : State) (run : Run) → HasSizes s → IsSound s → Shows s run → AreMaximalBlocks (free_frames s.config run) s.areas

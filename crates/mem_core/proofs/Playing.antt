@@ -9,11 +9,17 @@ use Rattle.group_tree.specs.Groups.{has_group, group_at, AreGroups}
 use Rattle.mem_core.specs.declared.config.Config.{Config}
 use Rattle.mem_core.specs.declared.step.Step.{Step}
 use Rattle.mem_core.specs.declared.step.Answer.{Answer}
-use Rattle.mem_core.specs.Run.{Run}
+use Rattle.mem_core.specs.Run.{Run, free_frames}
 use Rattle.mem_core.specs.Headline.{EveryBeginning, IsAccounted}
 use Rattle.mem_core.specs.Shown.{State, IsSound, Shows}
-use Rattle.mem_core.specs.Promise.{AgreesWith, IsShown}
-use Rattle.mem_core.proofs.Runs.{pushed, EveryBeginning-push}
+use Rattle.mem_core.specs.Promise.{AgreesWith, PlacesFirst, AlwaysPlacesFirst, IsShown}
+use Rattle.mem_core.specs.Steps.{IsFrontOfSmallest, PlacesSmallest}
+use Rattle.zone_blocks.specs.declared.block.Block.{Block}
+use Rattle.zone_blocks.proofs.Unique.{unique_blocks}
+use Rattle.mem_core.specs.declared.step.Action.{Action}
+use Rattle.mem_core.specs.declared.step.Action.TheVariants.{Lock, Unlock, Grant, Ungrant, PlaceBlock, Make}
+use Rattle.mem_core.specs.declared.step.Answer.TheVariants.{Illegal, Done, Granted, Placed, NoFreeBlock, Number}
+use Rattle.mem_core.proofs.Runs.{pushed, each_step_push, EveryBeginning-push}
 use Rattle.mem_core.proofs.Showing.{HasSizes}
 use Rattle.mem_core.proofs.Laws.{free_areas-Shows, current_in-Shows, IsAccounted-Shows}
 
@@ -33,11 +39,11 @@ unfolding has_group group_at
 number_below [] g small there = absurd (false≢true there)
 number_below (x ∷ xs) g small there =
     elim (cases_eq x.number g) [
-    | inl same ↦ let first : x.number < 64 = small zero x (omega arith) in omega arith
-    | inr other ↦
-        let e : (x.number == g) ≡ false = grind arith in
-        let later : has_group xs g ≡ true = (rw e at there) in
-        number_below xs g (λ k d h. small (suc k) d (omega arith)) later
+      | inl same ↦ let first : x.number < 64 = small zero x (omega arith) in omega arith
+      | inr other ↦
+          let e : (x.number == g) ≡ false = grind arith in
+          let later : has_group xs g ≡ true = (rw e at there) in
+          number_below xs g (λ k d h. small (suc k) d (omega arith)) later
     ]
 
 -- the sizes follow from the agreement of the parts
@@ -52,11 +58,19 @@ AgreesWith-Shows s run sound shows =
 pub IsShown-Shows : (s : State) (run : Run) → IsSound s → Shows s run → IsShown s.config run
 IsShown-Shows s run sound shows = record { state = s; sizes = refl; shows = shows; sound = sound; agrees = AgreesWith-Shows s run sound shows }
 
+-- the block that is placed is the one that the run's own free areas tell
+PlacesFirst-Shows : (s : State) (run : Run) (action : Action) (answer : Answer) → IsSound s → Shows s run → PlacesSmallest s action answer → PlacesFirst s.config run action answer
+PlacesFirst-Shows s run (PlaceBlock g k) (Placed b) sound shows smallest = λ areas maximal.
+    let own = free_areas-Shows s run (HasSizes-IsSound s sound) sound shows in
+    subst (λ (l : List Block). IsFrontOfSmallest l b) (unique_blocks (free_frames s.config run) s.areas areas own maximal) smallest
+PlacesFirst-Shows s run action answer sound shows smallest = tt
+
 -- what has been said of the run so far
 pub record PlaysOn (config : Config) (s : State) (run : Run) : Type 0 where
   pub sizes : s.config ≡ config
   pub shows : Shows s run
   pub sound : IsSound s
+  pub first : AlwaysPlacesFirst config run
   pub accounted : EveryBeginning run (IsAccounted config)
   pub shown : EveryBeginning run (IsShown config)
 
@@ -65,19 +79,22 @@ PlaysOn-start config s same shows sound = record {
   sizes = same;
   shows = shows;
   sound = sound;
+  first = λ k. tt;
   accounted = λ k h. subst (λ (c : Config). IsAccounted c (take k [])) same (subst (λ (r : Run). IsAccounted s.config r) (sym (take_all k [] (omega arith))) (IsAccounted-Shows s [] (HasSizes-IsSound s sound) sound shows));
-  shown = λ k h. subst (λ (c : Config). IsShown c (take k [])) same (subst (λ (r : Run). IsShown s.config r) (sym (take_all k [] (omega arith))) (IsShown-Shows s [] sound shows))
+  shown = λ k h. subst (λ (c : Config). IsShown c (take k [])) same (subst (λ (r : Run). IsShown s.config r) (sym (take_all k [] (omega arith))) (IsShown-Shows s [] sound shows));
 }
 
-pub PlaysOn-step : (config : Config) (s t : State) (run : Run) (step : Step) (answer : Answer) → PlaysOn config s run → t.config ≡ s.config → Shows t (pushed run step answer) → IsSound t → PlaysOn config t (pushed run step answer)
-PlaysOn-step config s t run step answer so_far same shows sound =
+pub PlaysOn-step : (config : Config) (s t : State) (run : Run) (step : Step) (answer : Answer) → PlaysOn config s run → PlacesSmallest s step.action answer → t.config ≡ s.config → Shows t (pushed run step answer) → IsSound t → PlaysOn config t (pushed run step answer)
+PlaysOn-step config s t run step answer so_far smallest same shows sound =
     let e : t.config ≡ config = same ∙ so_far.sizes in
     record {
       sizes = e;
       shows = shows;
       sound = sound;
+      first = each_step_push (λ before x a. PlacesFirst config before x.action a) run step answer so_far.first
+          (subst (λ (c : Config). PlacesFirst c run step.action answer) so_far.sizes (PlacesFirst-Shows s run step.action answer so_far.sound so_far.shows smallest));
       accounted = EveryBeginning-push run step answer (IsAccounted config) so_far.accounted (subst (λ (c : Config). IsAccounted c (pushed run step answer)) e (IsAccounted-Shows t (pushed run step answer) (HasSizes-IsSound t sound) sound shows));
-      shown = EveryBeginning-push run step answer (IsShown config) so_far.shown (subst (λ (c : Config). IsShown c (pushed run step answer)) e (IsShown-Shows t (pushed run step answer) sound shows))
+      shown = EveryBeginning-push run step answer (IsShown config) so_far.shown (subst (λ (c : Config). IsShown c (pushed run step answer)) e (IsShown-Shows t (pushed run step answer) sound shows));
     }
 
 length-zip : {X Y : Type 0} (xs : List X) (ys : List Y) → length xs ≡ length ys → length (zip xs ys) ≡ length ys

@@ -25,21 +25,25 @@ slice_get-push_at : {X : Type 0} (xs : List X) (x : X) → slice_get (xs ++ x �
 slice_get-push_at [] x = refl
 slice_get-push_at (y ∷ ys) x = slice_get-push_at ys x
 
-pub IsLegalRun-push : (config : Config) (run : Run) (step : Step) (answer : Answer) → IsLegalRun config run → Allows config run step answer → IsLegalRun config (pushed run step answer)
-IsLegalRun-push config run step answer legal allowed k =
+-- what holds of each step and the beginning before it holds with one more such step
+pub each_step_push : (P : Run → Step → Answer → Type 0) (run : Run) (step : Step) (answer : Answer) → ((k : ℕ) → IfSome (slice_get run k) (λ e. P (take k run) e.0 e.1)) → P run step answer → (k : ℕ) → IfSome (slice_get (pushed run step answer) k) (λ e. P (take k (pushed run step answer)) e.0 e.1)
+each_step_push P run step answer each last k =
     elim (cases_lt k (length run)) [
-    | inl before ↦
-        let here : IfSome (slice_get run k) (λ e. Allows config (take k run) e.0 e.1) = legal k in
-        rw (slice_get-push_before run (step, answer) k before, take-append-le k run ((step, answer) ∷ []) (omega arith)) here
-    | inr past ↦ elim (cases_eq k (length run)) [
-      | inl at ↦ rw (at, slice_get-push_at run (step, answer), take_at run ((step, answer) ∷ []) (length run) refl) allowed
-      | inr beyond ↦ rw (slice_get_past (pushed run step answer) k (let e = length-append run ((step, answer) ∷ []) in omega arith)) tt
+      | inl before ↦
+          let here : IfSome (slice_get run k) (λ e. P (take k run) e.0 e.1) = each k in
+          rw (slice_get-push_before run (step, answer) k before, take-append-le k run ((step, answer) ∷ []) (omega arith)) here
+      | inr past ↦ elim (cases_eq k (length run)) [
+        | inl at ↦ rw (at, slice_get-push_at run (step, answer), take_at run ((step, answer) ∷ []) (length run) refl) last
+        | inr beyond ↦ rw (slice_get_past (pushed run step answer) k (let e = length-append run ((step, answer) ∷ []) in omega arith)) tt
       ]
     ]
+
+pub IsLegalRun-push : (config : Config) (run : Run) (step : Step) (answer : Answer) → IsLegalRun config run → Allows config run step answer → IsLegalRun config (pushed run step answer)
+IsLegalRun-push config run step answer = each_step_push (λ before s a. Allows config before s a) run step answer
 
 pub EveryBeginning-push : (run : Run) (step : Step) (answer : Answer) (P : Run → Type 0) → EveryBeginning run P → P (pushed run step answer) → EveryBeginning (pushed run step answer) P
 EveryBeginning-push run step answer P each whole k h =
     elim (cases_lt k (length run + 1)) [
-    | inl before ↦ let here : P (take k run) = each k (omega arith) in rw (take-append-le k run ((step, answer) ∷ []) (omega arith)) here
-    | inr past ↦ let e = length-append run ((step, answer) ∷ []) in rw (take_all k (pushed run step answer) (omega arith)) whole
+      | inl before ↦ let here : P (take k run) = each k (omega arith) in rw (take-append-le k run ((step, answer) ∷ []) (omega arith)) here
+      | inr past ↦ let e = length-append run ((step, answer) ∷ []) in rw (take_all k (pushed run step answer) (omega arith)) whole
     ]

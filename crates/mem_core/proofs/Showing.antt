@@ -25,7 +25,7 @@ use Rattle.mem_core.specs.Places.{Places, is_same_place, is_in_block, places_at_
 use Rattle.mem_core.specs.Run.{Run, holder_after, holder_of, groups_after, groups_of, places_after, places_of, pages_granted, pages_used, granted_of, used_of, pending_of, free_frames}
 use Rattle.mem_core.specs.Legal.{is_processor, is_zone_seat, is_settled, is_legal_action, is_legal, IsAnswer, Allows, IsLegalRun}
 use Rattle.mem_core.specs.Shown.{State, is_some_place, is_at, free_in, Shows}
-use Rattle.mem_core.specs.Steps.{may_zone_act, may_act, with_block, counted, Changes, Makes}
+use Rattle.mem_core.specs.Steps.{may_zone_act, may_act, with_block, counted, PlacesSmallest, Changes, Makes}
 use Rattle.mem_core.proofs.Runs.{pushed, IsLegalRun-push}
 use Rattle.mem_core.proofs.PlaceLemmas.{is_same_place_same, is_same_place-sym, same_from_is_same_place, is_at_within, is_at_past, get_or-with_block_in, get_or-with_block_out, length-with_block}
 
@@ -43,15 +43,15 @@ free_frames-Shows s run shown sizes =
     fill_by_all (λ f. places_of s.config run f Free) (free_in s.places) s.config.frames false
     (length-map s.places (λ p. is_same_place p Free) ∙ sizes.places)
     (λ f h.
-      let within : f < length s.places = omega (arith, sizes.places) in
-      get_or-map (λ p. is_same_place p Free) s.places f Free false within
-      ∙ sym (is_at_within s.places f Free within)
-      ∙ sym (shown.places f Free))
+    let within : f < length s.places = omega (arith, sizes.places) in
+    get_or-map (λ p. is_same_place p Free) s.places f Free false within
+    ∙ sym (is_at_within s.places f Free within)
+    ∙ sym (shown.places f Free))
 
 pub is_settled-Shows : (s : State) (run : Run) → Shows s run → HasSizes s → list_all (λ n. n == 0) s.pending ≡ is_settled run
 is_settled-Shows s run shown sizes =
     let all : s.pending ≡ map (pending_of run) (range_with_len 0 64) =
-      fill_by_all (pending_of run) s.pending 64 0 sizes.pending (λ g h. sym (pending_of-Shows s run shown g)) in
+    fill_by_all (pending_of run) s.pending 64 0 sizes.pending (λ g h. sym (pending_of-Shows s run shown g)) in
     ap (list_all (λ n. n == 0)) all ∙ list_all-map (λ n. n == 0) (pending_of run) (range_with_len 0 64)
 
 pub may_act-Shows : (s : State) (run : Run) (seat : ℕ) (action : Action) → Shows s run → HasSizes s → may_act s seat action ≡ is_legal_action run seat action
@@ -73,8 +73,8 @@ Changes-allowed s run seat (PlaceBlock g k) (Placed b) t shown sizes c =
     (c.0, subst P (free_frames-Shows s run shown sizes) c.1)
 Changes-allowed s run seat (PlaceBlock g k) NoFreeBlock t shown sizes c =
     λ b order block.
-      let P : List Bool → Type 0 = λ free. IsFreeBlock free b in
-      c.0 b order (subst P (sym (free_frames-Shows s run shown sizes)) block)
+    let P : List Bool → Type 0 = λ free. IsFreeBlock free b in
+    c.0 b order (subst P (sym (free_frames-Shows s run shown sizes)) block)
 Changes-allowed s run seat (Make path) (Number n) t shown sizes c =
     let P : List Group → Type 0 = λ groups. IsLeastFreeNumber groups n in
     subst P shown.groups c.0
@@ -105,24 +105,23 @@ Shows-advance s run step answer t shown allowed advances =
       holder = advances.holder ∙ ap (λ h. holder_after h step.seat step.action answer) shown.holder ∙ sym (fold_push (λ holder e. holder_after holder e.0.seat e.0.action e.1) None run (step, answer));
       groups = advances.groups ∙ ap (λ gs. groups_after gs step.action answer) shown.groups ∙ sym (fold_push (λ groups e. groups_after groups e.0.action e.1) initial_groups run (step, answer));
       places = subst P (sym advances.config) (λ f p.
-        ap (λ places. places f p) (fold_push (λ places e. places_after places e.0.action e.1) (places_at_boot s.config.frames) run (step, answer))
-        ∙ ap (λ places. places_after places step.action answer f p) same_places
-        ∙ advances.places f p);
+          ap (λ places. places f p) (fold_push (λ places e. places_after places e.0.action e.1) (places_at_boot s.config.frames) run (step, answer))
+          ∙ ap (λ places. places_after places step.action answer f p) same_places
+          ∙ advances.places f p);
       pending = λ g.
-        let more_granted = sum_by_push (λ e. pages_granted g e.0.action e.1) run (step, answer) in
-        let more_used = sum_by_push (λ e. pages_used g e.0.action e.1) run (step, answer) in
-        let before = shown.pending g in
-        let change = advances.pending g in
-        omega arith
+          let more_granted = sum_by_push (λ e. pages_granted g e.0.action e.1) run (step, answer) in
+          let more_used = sum_by_push (λ e. pages_used g e.0.action e.1) run (step, answer) in
+          let before = shown.pending g in
+          let change = advances.pending g in
+          omega arith;
     }
 
 slice_index-set_pending : (pending : List ℕ) (g h v : ℕ) → g < length pending → slice_index (slice_set pending g v) h ≡ (if h == g then v else slice_index pending h)
 slice_index-set_pending pending g h v inside =
     elim (cases_eq h g) [
-    | inl same ↦ let e : (h == g) ≡ true = grind arith in rw (same, get_or-set_same pending g v 0 inside) (grind arith)
-    | inr other ↦ let e : (h == g) ≡ false = grind arith in rw (get_or-set_other pending g h v 0 other, e) refl
+      | inl same ↦ let e : (h == g) ≡ true = grind arith in rw (same, get_or-set_same pending g v 0 inside) (grind arith)
+      | inr other ↦ let e : (h == g) ≡ false = grind arith in rw (get_or-set_other pending g h v 0 other, e) refl
     ]
-
 
 is_in_block_in : (b : Block) (f : ℕ) → b.at ≤ f → f < b.at + 2 ^ b.order → is_in_block b f ≡ true
 is_in_block_in b f low high = let n = 2 ^ b.order in rw (le-leb b.at f low, lt-ltb f (b.at + n) high) refl
@@ -150,11 +149,11 @@ is_at-with_block_out : (places : List Place) (b : Block) (q : Place) (f : ℕ) (
 is_at-with_block_out places b q f p inside out =
     let same_length = length-with_block places b q inside in
     elim (cases_lt f (length places)) [
-    | inl within ↦
-        is_at_within places f p within
-        ∙ ap (λ r. is_same_place r p) (sym (get_or-with_block_out places b q f inside out))
-        ∙ sym (is_at_within (with_block places b q) f p (omega arith))
-    | inr past ↦ is_at_past places f p past ∙ sym (is_at_past (with_block places b q) f p (omega arith))
+      | inl within ↦
+          is_at_within places f p within
+          ∙ ap (λ r. is_same_place r p) (sym (get_or-with_block_out places b q f inside out))
+          ∙ sym (is_at_within (with_block places b q) f p (omega arith))
+      | inr past ↦ is_at_past places f p past ∙ sym (is_at_past (with_block places b q) f p (omega arith))
     ]
 
 -- the place of each frame after a free block was set to one place
@@ -163,16 +162,15 @@ places_after-with_block places b g block f p =
     let inside : b.at + 2 ^ b.order ≤ length places = subst (λ (n : ℕ). b.at + 2 ^ b.order ≤ n) (length-map places (λ p. is_same_place p Free)) block.block.inside in
     let same_length = length-with_block places b (Charged g) inside in
     elim (cases_lt f b.at) [
-    | inl before ↦ moved_out places b g f p (is_in_block_out b f (inl before)) ∙ is_at-with_block_out places b (Charged g) f p inside (inl before)
-    | inr from ↦ elim (cases_lt f (b.at + 2 ^ b.order)) [
-      | inl within ↦
-          moved_in places b g f p (block.all_free f (record { from = from; before = within })) (omega arith) (is_in_block_in b f from within)
-          ∙ ap (λ r. is_same_place r p) (sym (get_or-with_block_in places b (Charged g) f inside from within))
-          ∙ sym (is_at_within (with_block places b (Charged g)) f p (omega arith))
-      | inr after ↦ moved_out places b g f p (is_in_block_out b f (inr after)) ∙ is_at-with_block_out places b (Charged g) f p inside (inr after)
+      | inl before ↦ moved_out places b g f p (is_in_block_out b f (inl before)) ∙ is_at-with_block_out places b (Charged g) f p inside (inl before)
+      | inr from ↦ elim (cases_lt f (b.at + 2 ^ b.order)) [
+        | inl within ↦
+            moved_in places b g f p (block.all_free f (record { from = from; before = within })) (omega arith) (is_in_block_in b f from within)
+            ∙ ap (λ r. is_same_place r p) (sym (get_or-with_block_in places b (Charged g) f inside from within))
+            ∙ sym (is_at_within (with_block places b (Charged g)) f p (omega arith))
+        | inr after ↦ moved_out places b g f p (is_in_block_out b f (inr after)) ∙ is_at-with_block_out places b (Charged g) f p inside (inr after)
       ]
     ]
-
 
 -- from a test of three parts, its parts
 both-left : (a b : Bool) → (a && b) ≡ true → a ≡ true
@@ -195,15 +193,15 @@ group_inside s seat g more sizes may =
 added : (pending : List ℕ) (g n h : ℕ) → g < length pending → (if h == g then n else 0) + slice_index pending h ≡ slice_index (slice_set pending g (slice_index pending g + n)) h
 added pending g n h inside =
     elim (cases_eq h g) [
-    | inl same ↦ let e : (h == g) ≡ true = grind arith in rw (slice_index-set_pending pending g h (slice_index pending g + n) inside, e, same) (omega arith)
-    | inr other ↦ let e : (h == g) ≡ false = grind arith in rw (slice_index-set_pending pending g h (slice_index pending g + n) inside, e) (omega arith)
+      | inl same ↦ let e : (h == g) ≡ true = grind arith in rw (slice_index-set_pending pending g h (slice_index pending g + n) inside, e, same) (omega arith)
+      | inr other ↦ let e : (h == g) ≡ false = grind arith in rw (slice_index-set_pending pending g h (slice_index pending g + n) inside, e) (omega arith)
     ]
 
 taken : (pending : List ℕ) (g n h : ℕ) → g < length pending → n ≤ slice_index pending g → slice_index pending h ≡ (if h == g then n else 0) + slice_index (slice_set pending g (slice_index pending g - n)) h
 taken pending g n h inside enough =
     elim (cases_eq h g) [
-    | inl same ↦ let e : (h == g) ≡ true = grind arith in rw (slice_index-set_pending pending g h (slice_index pending g - n) inside, e, same) (omega arith)
-    | inr other ↦ let e : (h == g) ≡ false = grind arith in rw (slice_index-set_pending pending g h (slice_index pending g - n) inside, e) (omega arith)
+      | inl same ↦ let e : (h == g) ≡ true = grind arith in rw (slice_index-set_pending pending g h (slice_index pending g - n) inside, e, same) (omega arith)
+      | inr other ↦ let e : (h == g) ≡ false = grind arith in rw (slice_index-set_pending pending g h (slice_index pending g - n) inside, e) (omega arith)
     ]
 
 -- each step that is made advances the state
@@ -250,3 +248,16 @@ Makes-advance s step answer t sizes m = Changes-advance s step.seat step.action 
 pub Shows-step : (s : State) (run : Run) (step : Step) (answer : Answer) (t : State) → HasSizes s → Makes s step answer t → Shows s run → Shows t (pushed run step answer)
 Shows-step s run step answer t sizes m shown =
     Shows-advance s run step answer t shown (Makes-allowed s run step answer t shown sizes m) (Makes-advance s step answer t sizes m)
+
+Changes-smallest : (s : State) (seat : ℕ) (action : Action) (answer : Answer) (t : State) → Changes s seat action answer t → PlacesSmallest s action answer
+Changes-smallest s seat (PlaceBlock g k) (Placed b) t c = c.3
+Changes-smallest s seat action answer t c = tt
+
+-- which block is placed
+pub Makes-smallest : (s : State) (step : Step) (answer : Answer) (t : State) → Makes s step answer t → PlacesSmallest s step.action answer
+Makes-smallest s step Illegal t m = illegal_smallest s step.action
+  where
+    illegal_smallest : (s : State) (action : Action) → PlacesSmallest s action Illegal
+    illegal_smallest s (PlaceBlock g k) = tt
+    illegal_smallest s action = tt
+Makes-smallest s step answer t m = Changes-smallest s step.seat step.action answer t m.1

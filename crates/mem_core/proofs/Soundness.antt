@@ -38,10 +38,10 @@ KeeperIsThere-with_block groups places b g there inside keepers f d h =
     let old_keeper : KeeperIsThere groups (get_or places f Free) = keepers f Free (omega arith) in
     let default = get_or_default new f Free d h in
     elim (cases_lt f b.at) [
-    | inl before ↦ subst (KeeperIsThere groups) (sym (get_or-with_block_out places b (Charged g) f inside (inl before)) ∙ default) old_keeper
-    | inr from ↦ elim (cases_lt f (b.at + 2 ^ b.order)) [
-      | inl within ↦ subst (KeeperIsThere groups) (sym (get_or-with_block_in places b (Charged g) f inside from within) ∙ default) there
-      | inr after ↦ subst (KeeperIsThere groups) (sym (get_or-with_block_out places b (Charged g) f inside (inr after)) ∙ default) old_keeper
+      | inl before ↦ subst (KeeperIsThere groups) (sym (get_or-with_block_out places b (Charged g) f inside (inl before)) ∙ default) old_keeper
+      | inr from ↦ elim (cases_lt f (b.at + 2 ^ b.order)) [
+        | inl within ↦ subst (KeeperIsThere groups) (sym (get_or-with_block_in places b (Charged g) f inside from within) ∙ default) there
+        | inr after ↦ subst (KeeperIsThere groups) (sym (get_or-with_block_out places b (Charged g) f inside (inr after)) ∙ default) old_keeper
       ]
     ]
 
@@ -59,15 +59,15 @@ IsSound-placed s b g pending areas block there len held maximal sound =
       pending = len;
       areas = maximal;
       keepers = KeeperIsThere-with_block s.groups s.places b g there inside sound.keepers;
-      settled = held_is_not_free s.holder (All (λ n. n ≡ 0) pending) held
+      settled = held_is_not_free s.holder (All (λ n. n ≡ 0) pending) held;
     }
 
 find_some-append : (t : Group → Bool) (xs ys : List Group) → is_some (find t xs) ≡ true → is_some (find t (xs ++ ys)) ≡ true
 find_some-append t [] ys there = absurd (false≢true there)
 find_some-append t (x ∷ xs) ys there =
     elim (t x) as (λ b. is_some (cond b (Some x) (find t xs)) ≡ true → is_some (cond b (Some x) (find t (xs ++ ys))) ≡ true) [
-    | true ↦ λ here. here
-    | false ↦ λ later. find_some-append t xs ys later
+      | true ↦ λ here. here
+      | false ↦ λ later. find_some-append t xs ys later
     ] there
 
 pub has_group-with_group : (groups : List Group) (n g : ℕ) (path : List ℕ) → has_group groups g ≡ true → has_group (with_group groups n path) g ≡ true
@@ -87,7 +87,7 @@ IsSound-made s n path groups sound = record {
   pending = sound.pending;
   areas = sound.areas;
   keepers = λ f d h. KeeperIsThere-with_group s.groups n path (slice_index_or s.places f d) (sound.keepers f d h);
-  settled = sound.settled
+  settled = sound.settled;
 }
 
 pub map-replicate : {X Y : Type 0} (f : X → Y) (n : ℕ) (x : X) → map f (replicate n x) ≡ replicate n (f x)

@@ -33,7 +33,7 @@ start_of config areas = record {
   places = replicate config.frames Free;
   pending = replicate 64 0;
   areas = areas;
-  steps = 0
+  steps = 0;
 }
 
 pub free_in-start : (frames : ℕ) → free_in (replicate frames Free) ≡ replicate frames true
@@ -43,21 +43,21 @@ places-start : (frames f : ℕ) (p : Place) → (nat_lt f frames && is_same_plac
 places-start frames f p =
     let len = length-replicate frames Free in
     elim (cases_lt f frames) [
-    | inl within ↦
-        rw (lt-ltb f frames within)
-        (is_same_place-sym p Free
-        ∙ ap (λ q. is_same_place q p) (sym (get_or-replicate frames f Free Free within))
-        ∙ sym (is_at_within (replicate frames Free) f p (omega arith)))
-    | inr past ↦
-        let e : nat_lt f frames ≡ false = grind (arith, nat_tests) in
-        rw e (sym (is_at_past (replicate frames Free) f p (omega arith)))
+      | inl within ↦
+          rw (lt-ltb f frames within)
+          (is_same_place-sym p Free
+          ∙ ap (λ q. is_same_place q p) (sym (get_or-replicate frames f Free Free within))
+          ∙ sym (is_at_within (replicate frames Free) f p (omega arith)))
+      | inr past ↦
+          let e : nat_lt f frames ≡ false = grind (arith, nat_tests) in
+          rw e (sym (is_at_past (replicate frames Free) f p (omega arith)))
     ]
 
 none_pending : (g : ℕ) → slice_index (replicate 64 0) g ≡ 0
 none_pending g =
     elim (cases_lt g 64) [
-    | inl within ↦ get_or-replicate 64 g 0 0 within
-    | inr past ↦ get_or_past (replicate 64 0) g 0 (let len = length-replicate {A = ℕ} 64 0 in omega arith)
+      | inl within ↦ get_or-replicate 64 g 0 0 within
+      | inr past ↦ get_or_past (replicate 64 0) g 0 (let len = length-replicate {A = ℕ} 64 0 in omega arith)
     ]
 
 pub Shows-start : (config : Config) (areas : List Block) → Shows (start_of config areas) []
@@ -67,7 +67,7 @@ Shows-start config areas = record {
   holder = refl;
   groups = refl;
   places = places-start config.frames;
-  pending = λ g. sym (zero-add _ ∙ none_pending g)
+  pending = λ g. sym (zero-add _ ∙ none_pending g);
 }
 
 pub IsSound-start : (config : Config) (areas : List Block) → IsValidConfig config → AreMaximalBlocks (replicate config.frames true) areas → IsSound (start_of config areas)
@@ -78,7 +78,7 @@ IsSound-start config areas valid maximal = record {
   pending = length-replicate {A = ℕ} 64 0;
   areas = subst (λ (free : List Bool). AreMaximalBlocks free areas) (sym (free_in-start config.frames)) maximal;
   keepers = λ k d h. subst (KeeperIsThere initial_groups) (sym (get_or-replicate config.frames k Free d (let len = length-replicate config.frames Free in omega arith))) tt;
-  settled = λ free k d h. get_or-replicate 64 k 0 d (let len = length-replicate {A = ℕ} 64 0 in omega arith)
+  settled = λ free k d h. get_or-replicate 64 k 0 d (let len = length-replicate {A = ℕ} 64 0 in omega arith);
 }
 
 -- ---- a group is made
@@ -102,8 +102,8 @@ bound_less pending steps g v inside less bound k d h =
     let len = length-set pending g v in
     let there = bound g 0 inside in
     elim (cases_eq k g) [
-    | inl same ↦ let e : get_or (slice_set pending g v) k d ≡ v = rw same (get_or-set_same pending g v d inside) in omega arith
-    | inr other ↦ let e = get_or-set_other pending g k v d other in let here = bound k d (omega arith) in omega arith
+      | inl same ↦ let e : get_or (slice_set pending g v) k d ≡ v = rw same (get_or-set_same pending g v d inside) in omega arith
+      | inr other ↦ let e = get_or-set_other pending g k v d other in let here = bound k d (omega arith) in omega arith
     ]
 
 pub none_bound : (steps : ℕ) → All (λ n. n ≤ steps * 2 ^ 32) (replicate 64 0)

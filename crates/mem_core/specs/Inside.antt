@@ -12,7 +12,7 @@ state_of c = record {
   places = c.places.items;
   pending = c.pending.items;
   areas = c.areas.blocks;
-  steps = c.steps
+  steps = c.steps;
 }
 
 -- the parts of a core agree, its flags tell which frames are free, and as few pages are pending as so many

@@ -1,5 +1,5 @@
 -- Which steps may be made after a run, and which answers each of them may get.
-use Rattle.std.specs.Prelude.{◌≡◌, ℕ, ◌+◌, ◌^◌, ◌==◌, ◌&&◌, ◌<◌, ◌≤◌, nat_le, Bool, true, false, Option, is_none, is_some, List, length, take, slice_get, IfSome, ⊤}
+use Rattle.std.specs.Prelude.{◌≡◌, ℕ, ◌+◌, ◌^◌, ◌==◌, ◌&&◌, ◌<◌, ◌≤◌, nat_le, Bool, true, false, Option, Some, None, is_none, is_some, List, length, take, slice_get, IfSome, ⊤}
 use Rattle.std.specs.List.{list_all, range_with_len}
 use Rattle.zone_blocks.specs.declared.block.Block.{Block}
 use Rattle.zone_blocks.specs.Areas.{IsFreeBlock}
@@ -20,6 +20,11 @@ is_processor seat = seat == 1
 abbrev pub is_zone_seat : Run → ℕ → Bool
 is_zone_seat run seat = seat == 0 && is_some (holder_of run)
 
+-- the processor of this seat holds the lock
+abbrev pub is_held_by : Option ℕ → ℕ → Bool
+is_held_by None seat = false
+is_held_by (Some holder) seat = holder == seat
+
 -- no page of any group is pending
 abbrev pub is_settled : Run → Bool
 is_settled run = list_all (λ g. pending_of run g == 0) (range_with_len 0 64)
@@ -27,7 +32,7 @@ is_settled run = list_all (λ g. pending_of run g == 0) (range_with_len 0 64)
 -- whether the action may be made by the seat
 abbrev pub is_legal_action : Run → ℕ → Action → Bool
 is_legal_action run seat Lock = is_processor seat && is_none (holder_of run)
-is_legal_action run seat Unlock = is_processor seat && is_some (holder_of run) && is_settled run
+is_legal_action run seat Unlock = is_processor seat && is_held_by (holder_of run) seat && is_settled run
 is_legal_action run seat (Grant g n) = is_zone_seat run seat && has_group (groups_of run) g
 is_legal_action run seat (Ungrant g n) = is_zone_seat run seat && has_group (groups_of run) g && nat_le n (pending_of run g)
 is_legal_action run seat (PlaceBlock g k) = is_zone_seat run seat && has_group (groups_of run) g && nat_le (2 ^ k) (pending_of run g)
@@ -38,7 +43,7 @@ abbrev pub is_legal : Run → Step → Bool
 is_legal run step = is_legal_action run step.seat step.action
 
 -- which answers an action may get, where it may be made: any free block of the order may be placed, and
--- None is answered only where there is none; a group gets the least number that no group has
+-- NoFreeBlock is answered only where there is none; a group gets the least number that no group has
 abbrev pub IsAnswer : Config → Run → Action → Answer → Type 0
 IsAnswer config run Lock Done = Unit {0}
 IsAnswer config run Unlock Done = Unit {0}

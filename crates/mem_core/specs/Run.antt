@@ -56,9 +56,11 @@ pages_used g (Ungrant h n) Done = if g == h then n else 0
 pages_used g (PlaceBlock h k) (Placed b) = if g == h then 2 ^ k else 0
 pages_used g action answer = 0
 
+-- all pages that were granted to the group
 abbrev pub granted_of : Run → ℕ → ℕ
 granted_of run g = sum_by (λ e. pages_granted g e.0.action e.1) run
 
+-- all pages of the group that were placed, or taken back
 abbrev pub used_of : Run → ℕ → ℕ
 used_of run g = sum_by (λ e. pages_used g e.0.action e.1) run
 

@@ -2,7 +2,7 @@
 use Rattle.std.specs.Prelude.{◌≡◌, ℕ, ◌+◌, ◌-◌, ◌*◌, ◌^◌, ◌==◌, ◌&&◌, ◌++◌, nat_le, Bool, true, false, Option, Some, None, is_none, is_some, List, length, map, take, drop, replicate, slice_index, slice_set}
 use Rattle.std.specs.List.{list_all}
 use Rattle.zone_blocks.specs.declared.block.Block.{Block}
-use Rattle.zone_blocks.specs.Areas.{IsFreeBlock, AreMaximalBlocks}
+use Rattle.zone_blocks.specs.Areas.{IsFreeBlock, IsSmallestFrom}
 use Rattle.group_tree.specs.declared.group.Group.{Group}
 use Rattle.group_tree.specs.Groups.{has_group, make_fault, with_group, IsLeastFreeNumber}
 use Rattle.mem_core.specs.declared.step.Place.{Place}
@@ -13,7 +13,7 @@ use Rattle.mem_core.specs.declared.step.Action.TheVariants.{Lock, Unlock, Grant,
 use Rattle.mem_core.specs.declared.step.Answer.{Answer}
 use Rattle.mem_core.specs.declared.step.Answer.TheVariants.{Illegal, Done, Granted, Placed, NoFreeBlock, Number}
 use Rattle.mem_core.specs.Places.{is_same_place}
-use Rattle.mem_core.specs.Legal.{is_processor}
+use Rattle.mem_core.specs.Legal.{is_processor, is_held_by}
 use Rattle.mem_core.specs.Shown.{State, free_in}
 
 -- the zone's own seat acts while a processor holds the lock
@@ -23,7 +23,7 @@ may_zone_act s seat = seat == 0 && is_some s.holder
 -- whether a step may be made in this state
 abbrev pub may_act : State → ℕ → Action → Bool
 may_act s seat Lock = is_processor seat && is_none s.holder
-may_act s seat Unlock = is_processor seat && is_some s.holder && list_all (λ n. n == 0) s.pending
+may_act s seat Unlock = is_processor seat && is_held_by s.holder seat && list_all (λ n. n == 0) s.pending
 may_act s seat (Grant g n) = may_zone_act s seat && has_group s.groups g
 may_act s seat (Ungrant g n) = may_zone_act s seat && has_group s.groups g && nat_le n (slice_index s.pending g)
 may_act s seat (PlaceBlock g k) = may_zone_act s seat && has_group s.groups g && nat_le (2 ^ k) (slice_index s.pending g)
@@ -41,6 +41,16 @@ with_block places b p = with_range places b.at (2 ^ b.order) p
 abbrev pub counted : State → State
 counted s = record s { steps = s.steps + 1 }
 
+-- the block begins where the smallest area does: the area of the least sufficient order, and there of the least
+-- address (Knuth)
+abbrev pub IsFrontOfSmallest : List Block → Block → Type 0
+IsFrontOfSmallest areas b = (area : Block) × IsSmallestFrom areas b.order area × (b.at ≡ area.at)
+
+-- which of the free blocks the core places
+abbrev pub PlacesSmallest : State → Action → Answer → Type 0
+PlacesSmallest s (PlaceBlock g k) (Placed b) = IsFrontOfSmallest s.areas b
+PlacesSmallest s action answer = Unit {0}
+
 -- how a step that is made, and is answered so, changes the state
 abbrev pub Changes : State → ℕ → Action → Answer → State → Type 0
 Changes s seat Lock Done t = t ≡ record (counted s) { holder = Some seat }
@@ -48,7 +58,7 @@ Changes s seat Unlock Done t = t ≡ record (counted s) { holder = None }
 Changes s seat (Grant g n) Granted t = t ≡ record (counted s) { pending = slice_set s.pending g (slice_index s.pending g + n) }
 Changes s seat (Ungrant g n) Done t = t ≡ record (counted s) { pending = slice_set s.pending g (slice_index s.pending g - n) }
 Changes s seat (PlaceBlock g k) (Placed b) t = (b.order ≡ k) × IsFreeBlock (free_in s.places) b ×
-    (t ≡ record (counted s) { places = with_block s.places b (Charged g); pending = slice_set s.pending g (slice_index s.pending g - 2 ^ k); areas = t.areas })
+    (t ≡ record (counted s) { places = with_block s.places b (Charged g); pending = slice_set s.pending g (slice_index s.pending g - 2 ^ k); areas = t.areas }) × IsFrontOfSmallest s.areas b
 Changes s seat (PlaceBlock g k) NoFreeBlock t = ((b : Block) → b.order ≡ k → ¬ IsFreeBlock (free_in s.places) b) × (t ≡ counted s)
 Changes s seat (Make path) (Number n) t = IsLeastFreeNumber s.groups n × (t ≡ record (counted s) { groups = with_group s.groups n path })
 Changes s seat action answer t = ⊥

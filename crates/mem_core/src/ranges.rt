@@ -7,7 +7,7 @@ use crate::step::Place;
 use group_tree::group::MAX_GROUPS;
 use std::alloc::{AllocError, Global};
 
-// Sets the places of n frames from `at` on.
+/// Sets the places of n frames from `at` on.
 pub(crate) fn set_places(places: &mut Vec<Place>, at: usize, n: usize, place: Place)
     requires { at + n ≤ vec_len places.old }
     ensures { places.new.items ≡ with_range places.old.items at n place }
@@ -15,7 +15,7 @@ pub(crate) fn set_places(places: &mut Vec<Place>, at: usize, n: usize, place: Pl
     places[at..at + n].fill(place);
 }
 
-// Sets n flags from `at` on.
+/// Sets n flags from `at` on.
 pub(crate) fn set_flags(flags: &mut Vec<bool>, at: usize, n: usize, flag: bool)
     requires { at + n ≤ vec_len flags.old }
     ensures { flags.new.items ≡ with_range flags.old.items at n flag }
@@ -23,21 +23,21 @@ pub(crate) fn set_flags(flags: &mut Vec<bool>, at: usize, n: usize, flag: bool)
     flags[at..at + n].fill(flag);
 }
 
-// As many places as the zone has frames, all free.
+/// As many places as the zone has frames, all free.
 pub(crate) fn free_places(alloc: Global, frames: usize) -> Result<Vec<Place>, AllocError>
     ensures { IfOk result (λ places. places.items ≡ replicate frames Place.Free) }
 {
     vec![in alloc; Place::Free; frames]
 }
 
-// As many flags as the zone has frames, all true.
+/// As many flags as the zone has frames, all true.
 pub(crate) fn true_flags(alloc: Global, frames: usize) -> Result<Vec<bool>, AllocError>
     ensures { IfOk result (λ flags. flags.items ≡ replicate frames true) }
 {
     vec![in alloc; true; frames]
 }
 
-// A count of 0 for each group number.
+/// A count of 0 for each group number.
 pub(crate) fn zeros(alloc: Global) -> Result<Vec<u128>, AllocError>
     ensures { IfOk result (λ counts. counts.items ≡ replicate 64 0) }
 {

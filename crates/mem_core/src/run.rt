@@ -6,7 +6,7 @@ ghost use Rattle.mem_core.specs.Config.{IsValidConfig};
 ghost use Rattle.mem_core.specs.Legal.{IsLegalRun};
 ghost use Rattle.mem_core.specs.Headline.{EveryBeginning, IsAccounted};
 ghost use Rattle.mem_core.specs.Shown.{Shows, IsSound};
-ghost use Rattle.mem_core.specs.Promise.{AgreesWith, IsShown};
+ghost use Rattle.mem_core.specs.Promise.{AgreesWith, AlwaysPlacesFirst, IsShown};
 
 use crate::config::Config;
 use crate::step::{Answer, Step};
@@ -21,14 +21,17 @@ pub struct Played {
 }
 
 /// Makes the steps one after another, from a core on which none was made. The pairs of each step and
-/// its answer are a legal run, and the core shows it. In every beginning of that run each frame is
-/// accounted for, and a core in some state, the one that it had there, kept what the run defines.
+/// its answer are a legal run, and the core shows it: its free areas are the maximal blocks of the free
+/// frames, and its number for each group is the usage that the run defines. In every beginning of that
+/// run each frame is accounted for, and a core in some state shows it in the same sense.
 pub fn play(alloc: Global, config: Config, steps: &[Step]) -> Result<Played, AllocError>
     requires { IsValidConfig config }
     ensures one_each { IfOk result (λ p. length p.answers.items ≡ length steps.now) }
     ensures shows { IfOk result (λ p. Shows p.core (zip steps.now p.answers.items)) }
     ensures config { IfOk result (λ p. p.core.config ≡ config) }
+    ensures sound { IfOk result (λ p. IsSound p.core) }
     ensures agrees { IfOk result (λ p. AgreesWith p.core (zip steps.now p.answers.items)) }
+    ensures first { IfOk result (λ p. AlwaysPlacesFirst config (zip steps.now p.answers.items)) }
     ensures accounted { IfOk result (λ p. EveryBeginning (zip steps.now p.answers.items) (IsAccounted config)) }
     ensures shown { IfOk result (λ p. EveryBeginning (zip steps.now p.answers.items) (IsShown config)) }
 {
@@ -46,9 +49,13 @@ pub fn run(alloc: Global, config: Config, steps: &[Step]) -> Result<Vec<Answer>,
     requires { IsValidConfig config }
     ensures one_each { IfOk result (λ answers. length answers.items ≡ length steps.now) }
     ensures legal { IfOk result (λ answers. IsLegalRun config (zip steps.now answers.items)) }
+    ensures first { IfOk result (λ answers. AlwaysPlacesFirst config (zip steps.now answers.items)) }
     ensures accounted { IfOk result (λ answers. EveryBeginning (zip steps.now answers.items) (IsAccounted config)) }
     ensures shown { IfOk result (λ answers. EveryBeginning (zip steps.now answers.items) (IsShown config)) }
 {
     let Played { core: _, answers } = play(alloc, config, steps)?;
     Ok(answers)
 }
+
+#[cfg(test)]
+mod tests;

@@ -8,7 +8,7 @@ use crate::step::Place;
 use group_tree::group::GroupId;
 use group_tree::tree::Tree;
 
-// How many frames are placed in the group's subtree.
+/// How many frames are placed in the group's subtree.
 pub(crate) fn count_charged(tree: &Tree, places: &[Place], group: GroupId) -> u128
     requires there { IsTrue (has_group tree.now group) }
     requires keepers { All (KeeperIsThere tree.now) places.now }
@@ -36,7 +36,7 @@ fn is_below(tree: &Tree, place: Place, group: GroupId) -> bool
     }
 }
 
-// How many pages are pending in the group's subtree.
+/// How many pages are pending in the group's subtree.
 pub(crate) fn sum_pending(tree: &Tree, pending: &[u128], group: GroupId) -> u128
     requires there { IsTrue (has_group tree.now group) }
     requires numbers { length pending.now ≡ 64 }

@@ -9,14 +9,15 @@ ghost use Rattle.mem_core.specs.declared.step.Place.{Place};
 ghost use Rattle.mem_core.specs.Config.{IsValidConfig};
 ghost use Rattle.mem_core.specs.Places.{is_same_place};
 ghost use Rattle.mem_core.specs.Run.{Run, groups_of, places_of, usage_of, free_frames};
-ghost use Rattle.mem_core.specs.Legal.{is_legal, Allows};
+ghost use Rattle.mem_core.specs.Legal.{is_held_by};
 ghost use Rattle.mem_core.specs.Shown.{State, Shows, IsSound, free_in, current_in};
-ghost use Rattle.mem_core.specs.Steps.{may_act, may_zone_act, counted, with_block, Changes, Makes};
+ghost use Rattle.mem_core.specs.Steps.{may_act, may_zone_act, counted, with_block, IsFrontOfSmallest, PlacesSmallest, Changes, Makes};
+
+mod readers;
 
 use crate::config::Config;
 use crate::ranges::{free_places, set_flags, set_places, true_flags, zeros};
 use crate::step::{Action, Answer, Place, Step};
-use crate::sums::{count_charged, sum_pending};
 use group_tree::group::GroupId;
 use group_tree::path::PathText;
 use group_tree::tree::Tree;
@@ -87,61 +88,13 @@ impl Core {
         })
     }
 
-    /// How many steps were made, illegal ones included.
-    pub fn steps(&self) -> u64
-        ensures steps { result ≡ self.now.steps }
-        ensures run { (run : Run) → Shows self.now run → result ≡ length run }
-    {
-        self.steps
-    }
-
-    /// The groups.
-    pub fn tree(&self) -> &Tree
-        ensures groups { result.now ≡ self.now.groups }
-        ensures run { (run : Run) → Shows self.now run → result.now ≡ groups_of run }
-    {
-        &self.tree
-    }
-
-    /// The free areas: the maximal blocks of the free frames.
-    pub fn areas(&self) -> &FreeAreas
-        ensures areas { result.now.blocks ≡ self.now.areas }
-        ensures run { (run : Run) → Shows self.now run → AreMaximalBlocks (free_frames self.now.config run) result.now.blocks }
-    {
-        &self.areas
-    }
-
-    /// Where a frame is.
-    pub fn place(&self, frame: u32) -> Place
-        requires { frame < self.now.config.frames }
-        ensures place { slice_get self.now.places frame ≡ Some result }
-        ensures run { (run : Run) → Shows self.now run → (p : Place) → places_of self.now.config run frame p ≡ is_same_place result p }
-    {
-        self.places[frame as usize]
-    }
-}
-
-impl Core {
-    /// The memory now used by a group and its descendants (memory.current), in pages: the frames that
-    /// they keep and the pages pending for them.
-    pub fn current(&self, group: GroupId) -> u128
-        requires { IsTrue (has_group self.now.groups group) }
-        ensures current { result ≡ current_in self.now group }
-        ensures run { (run : Run) → Shows self.now run → result ≡ usage_of self.now.config run group }
-    {
-        // So many steps granted few enough pages for the sum.
-        let _steps = self.steps;
-        let frames = count_charged(&self.tree, &self.places, group);
-        let pages = sum_pending(&self.tree, &self.pending, group);
-        frames + pages
-    }
-
     /// Makes one step, where it is legal, and answers it. A step that is not legal is answered Illegal
     /// and changes nothing but the number of steps.
     pub fn step(&mut self, step: Step) -> Answer
         requires { self.old.steps + 1 < 2 ^ 64 }
         ensures shows { (run : Run) → Shows self.old run → Shows self.new (run ++ (step, result) ∷ []) }
         ensures illegal { result ≡ Answer.Illegal → self.new ≡ counted self.old }
+        ensures smallest { PlacesSmallest self.old step.action result }
         ensures config { self.new.config ≡ self.old.config }
         ensures sound { IsSound self.new }
     {
@@ -180,9 +133,12 @@ impl Core {
         match &step.action {
             Action::Lock => seat == FIRST_PROCESSOR && self.holder.is_none(),
             Action::Unlock => {
-                seat == FIRST_PROCESSOR && self.holder.is_some() && is_settled(&self.pending)
+                seat == FIRST_PROCESSOR
+                    && is_held_by(self.holder, seat)
+                    && is_settled(&self.pending)
             }
-            Action::Grant { group, pages: _ } => self.may_zone_act(seat) && self.tree.contains(*group),
+            Action::Grant { group, pages: _ } => self.may_zone_act(seat)
+                && self.tree.contains(*group),
             Action::Ungrant { group, pages } => {
                 self.may_zone_act(seat)
                     && self.tree.contains(*group)
@@ -275,6 +231,7 @@ impl Core {
     fn free_block(&self, order: Order) -> Option<Block>
         ensures none { IfNone result ((b : Block) → b.order ≡ order → ¬ IsFreeBlock (free_in self.now.places) b) }
         ensures some { IfSome result (λ b. (b.order ≡ order) × IsFreeBlock (free_in self.now.places) b) }
+        ensures smallest { IfSome result (IsFrontOfSmallest self.now.areas) }
     {
         let area = self.areas.smallest_from(order)?;
         Some(Block { at: area.at, order })
@@ -307,6 +264,16 @@ impl Core {
         self.steps += 1;
         let group = self.tree.make(path.as_bytes()).unwrap();
         Answer::Number(group)
+    }
+}
+
+// Whether the processor of this seat holds the lock.
+fn is_held_by(holder: Option<u32>, seat: u32) -> bool
+    ensures { result ≡ is_held_by holder seat }
+{
+    match holder {
+        None => false,
+        Some(processor) => processor == seat,
     }
 }
 

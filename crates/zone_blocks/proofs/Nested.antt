@@ -1,6 +1,6 @@
 -- Blocks are nested or apart, so two maximal free blocks that share a frame are one.
 use Rattle.std.proofs.Common.{◌≡◌, ℕ, ◌+◌, ◌-◌, ◌*◌, ◌/◌, ◌^◌, ◌%◌, ◌<◌, ◌≤◌, Bool, List, length, sym, ap, ◌∙◌, inl, inr, arith}
-use Rattle.std.proofs.lemmas.Bool.{cases_order}
+use Rattle.std.proofs.lemmas.Bool.{cases_lt, cases_order}
 use Rattle.std.proofs.lemmas.Nat.{div-add-mod', pow_pos, pow-add, mod-pow-add, mod_below}
 use Rattle.std.proofs.Math.Nat.{mod-le, mul-mod_left}
 use Rattle.std.proofs.Math.Nat.{div-eq_of_lt-le, mul-le-mul_right}
@@ -97,3 +97,34 @@ same_maximal free a b ha hb f ca cb =
         | inr gt ↦ absurd (greater_denied free b a hb ha.is_free f cb ca gt)
       ]
     ]
+
+-- of two blocks that share a frame the one of the lesser or the same order lies inside the other
+pub block_inside : (n : ℕ) (a b : Block) → IsBlock n a → IsBlock n b → a.order ≤ b.order → (f : ℕ) → Covers a f → Covers b f
+    → (b.at ≤ a.at) × (a.at + 2 ^ a.order ≤ b.at + 2 ^ b.order)
+block_inside n a b ha hb le f ca cb =
+    let i : ℕ = b.order - a.order in
+    let e : i + a.order ≡ b.order = omega arith in
+    let sa = start_is a.at (2 ^ a.order) f (pow_pos a.order) ha.aligned ca.from ca.before in
+    let sb = start_is b.at (2 ^ b.order) f (pow_pos b.order) hb.aligned cb.from cb.before in
+    let low = rw e at (nested_low f i a.order) in
+    let high = rw e at (nested_high f i a.order) in
+    (omega (arith, sa, sb, low), omega (arith, sa, sb, high))
+
+-- a free block lies inside the maximal free block with which it shares a frame
+pub inside_maximal : (free : List Bool) (a m : Block) → IsFreeBlock free a → IsMaximalBlock free m → (f : ℕ) → Covers a f → Covers m f
+    → (m.at ≤ a.at) × (a.at + 2 ^ a.order ≤ m.at + 2 ^ m.order)
+inside_maximal free a m ha hm f ca cm =
+    elim (cases_lt m.order a.order) [
+      | inl lt ↦ absurd (greater_denied free m a hm ha f cm ca lt)
+      | inr ge ↦ block_inside (length free) a m ha.block hm.is_free.block ge f ca cm
+    ]
+
+-- a block's first frame is one of the block that encloses it
+pub enclosing_covers : (b : Block) → Covers (enclosing b) b.at
+enclosing_covers b =
+    let below = mod_below b.at (2 ^ (b.order + 1)) (pow_pos (b.order + 1)) in
+    let le = mod-le b.at (2 ^ (b.order + 1)) in
+    record { from = omega arith; before = omega (arith, below, le) }
+
+pub covers_start : (b : Block) → Covers b b.at
+covers_start b = let pos = pow_pos b.order in record { from = omega arith; before = omega arith }

@@ -11,7 +11,7 @@ use Rattle.mem_core.proofs.run.play.Goals as goal
 pub loop-step-init : goal.loop-step-init
 loop-step-init c = record {
   one_each = ap length c.in_ok-answers.ensures.items;
-  plays = PlaysOn-start c.args.config c.in_ok-core.core c.in_ok-core.ensures.config c.in_ok-core.ensures.empty c.in_ok-core.ensures.sound
+  plays = PlaysOn-start c.args.config c.in_ok-core.core c.in_ok-core.ensures.config c.in_ok-core.ensures.empty c.in_ok-core.ensures.sound;
 }
 
 pub step-requires : goal.step-requires
@@ -33,13 +33,13 @@ loop-step-preserved c =
     let run : Run = zip (take i steps) answers in
     let pushes : c.push.new.self.items ≡ answers ++ answer ∷ [] = c.in_ok-push.ensures.items in
     let more : zip (take (i + 1) steps) c.push.new.self.items ≡ pushed run step answer =
-      ap (zip (take (i + 1) steps)) pushes
-      ∙ zip-take_more steps answers i step answer c.loop-step-test.true so_far.one_each
-      ∙ ap (λ (x : Step). pushed run x answer) (sym c.step-item.is) in
-    let goes_on = PlaysOn-step c.args.config c.loop-step.core c.step.new.self run step answer so_far.plays c.step.ensures.config (c.step.ensures.shows run so_far.plays.shows) c.step.ensures.sound in
+    ap (zip (take (i + 1) steps)) pushes
+    ∙ zip-take_more steps answers i step answer c.loop-step-test.true so_far.one_each
+    ∙ ap (λ (x : Step). pushed run x answer) (sym c.step-item.is) in
+    let goes_on = PlaysOn-step c.args.config c.loop-step.core c.step.new.self run step answer so_far.plays c.step.ensures.smallest c.step.ensures.config (c.step.ensures.shows run so_far.plays.shows) c.step.ensures.sound in
     record {
       one_each = ap length pushes ∙ length-append answers (answer ∷ []) ∙ ap (λ n. n + 1) so_far.one_each;
-      plays = subst (PlaysOn c.args.config c.step.new.self) (sym more) goes_on
+      plays = subst (PlaysOn c.args.config c.step.new.self) (sym more) goes_on;
     }
 
 all : (c : goal.After-loop-step) → PlaysOn c.args.config c.loop-step.core (zip c.args.steps.now c.loop-step.answers.items)
@@ -53,3 +53,6 @@ returns-clause-accounted c = (all c).accounted
 
 pub returns-clause-shown : goal.returns-clause-shown
 returns-clause-shown c = (all c).shown
+
+pub returns-clause-first : goal.returns-clause-first
+returns-clause-first c = (all c).first

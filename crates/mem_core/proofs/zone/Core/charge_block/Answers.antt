@@ -18,9 +18,9 @@ invariant_of-self c =
     let b = c.args.block.now in
     let g = c.args.group in
     let places : c.set_places.new.places.items ≡ with_block c.self.inside.places.items b (Charged g) =
-      c.set_places.ensures ∙ (rw c.frames-frames.ensures.frames refl) in
+    c.set_places.ensures ∙ (rw c.frames-frames.ensures.frames refl) in
     let flags : c.set_flags.new.flags.items ≡ with_range c.self.inside.free.items b.at (2 ^ b.order) false =
-      c.set_flags.ensures ∙ (rw c.frames-frames.ensures.frames refl) in
+    c.set_flags.ensures ∙ (rw c.frames-frames.ensures.frames refl) in
     let n = c.number.result in
     let v = c.index_mut.result.now - c.from.result in
     let old = c.self.inside.pending.items in
@@ -28,7 +28,7 @@ invariant_of-self c =
     let inside : n < length old = let below = c.number.ensures.below in omega arith in
     let was : c.index_mut.result.now ≡ slice_index old n = c.index_mut.ensures.value ∙ get_or_default old n c.index_mut.result.now 0 inside in
     let maximal : AreMaximalBlocks (with_range c.self.inside.free.items b.at (2 ^ b.order) false) c.set_from.new.self.blocks =
-      subst (λ (free : List Bool). AreMaximalBlocks free c.set_from.new.self.blocks) (c.deref.ensures.value ∙ flags) c.set_from.ensures.areas in
+    subst (λ (free : List Bool). AreMaximalBlocks free c.set_from.new.self.blocks) (c.deref.ensures.value ∙ flags) c.set_from.ensures.areas in
     let state : c.args.self.now ≡ state_of c.self.inside = sym c.self.view_is in
     let block : IsFreeBlock (free_in c.self.inside.places.items) b = subst (λ (s : State). IsFreeBlock (free_in s.places) b) state c.requires.free in
     let there : has_group c.self.inside.tree g ≡ true = subst (λ (s : State). has_group s.groups g ≡ true) state c.requires.there in
@@ -39,5 +39,5 @@ invariant_of-self c =
       sound = subst (λ (places : List Place). IsSound (record (counted (state_of c.self.inside)) { places = places; pending = pending; areas = c.set_from.new.self.blocks })) (sym places) sound;
       flags = flags ∙ free_in-with_block c.self.inside b g c.self.invariant.flags ∙ ap free_in (sym places);
       zone = c.set_from.ensures.frames ∙ c.self.invariant.zone;
-      bound = bound_less old c.self.inside.steps n v inside (omega arith) c.self.invariant.bound
+      bound = bound_less old c.self.inside.steps n v inside (omega arith) c.self.invariant.bound;
     }

@@ -16,6 +16,8 @@ pub returns-clause-some : goal.returns-clause-some
 returns-clause-some c =
     let sound = c.self.invariant.sound in
     let smallest = c.in_ok-area.ensures in
-    let area = sound.areas.each c.in_ok-area.area smallest.there in
-    (refl, subst (λ (s : State). IsFreeBlock (free_in s.places) (record { at = c.in_ok-area.area.at; order = c.args.order })) c.self.view_is
-    (lower_part_is_free (free_in c.self.inside.places.items) c.in_ok-area.area c.args.order area.is_free smallest.sufficient))
+    let area = sound.areas.each c.in_ok-area.area smallest.there in (
+      refl,
+      subst (λ (s : State). IsFreeBlock (free_in s.places) (record { at = c.in_ok-area.area.at; order = c.args.order })) c.self.view_is
+          (lower_part_is_free (free_in c.self.inside.places.items) c.in_ok-area.area c.args.order area.is_free smallest.sufficient),
+    )

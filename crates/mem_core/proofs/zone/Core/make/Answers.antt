@@ -19,5 +19,5 @@ invariant_of-self c =
       sound = subst (λ (groups : List Group). IsSound (record (counted (state_of c.self.inside)) { groups = groups })) (sym made) (IsSound-step_made (state_of c.self.inside) n path fits least c.self.invariant.sound);
       flags = c.self.invariant.flags;
       zone = c.self.invariant.zone;
-      bound = bound_more c.self.inside.pending.items c.self.inside.steps c.self.invariant.bound
+      bound = bound_more c.self.inside.pending.items c.self.inside.steps c.self.invariant.bound;
     }

@@ -21,7 +21,7 @@ invariant_of-result c = record {
   sound = subst IsSound (started c) (sound c);
   flags = c.in_ok-free.ensures ∙ sym (free_in-start c.args.config.frames) ∙ ap free_in (sym c.in_ok-places.ensures);
   zone = c.set_from.ensures.frames ∙ c.in_ok-areas.ensures.frames;
-  bound = subst (All (λ n. n ≤ 0 * 2 ^ 32)) (sym c.in_ok-pending.ensures) (none_bound 0)
+  bound = subst (All (λ n. n ≤ 0 * 2 ^ 32)) (sym c.in_ok-pending.ensures) (none_bound 0);
 }
 
 pub returns-clause-empty : goal.returns-clause-empty

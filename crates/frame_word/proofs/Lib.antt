@@ -1,0 +1,12 @@
+pub mod Notes
+pub mod Swap
+pub mod Cases
+pub mod ShortSteps
+pub mod Alone
+pub mod HandOvers
+pub mod Joined
+pub mod Seating
+pub mod Opening
+pub mod Ending
+pub mod Consequences
+pub mod CallerLemmas

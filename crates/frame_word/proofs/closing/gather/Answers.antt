@@ -1,0 +1,46 @@
+use Rattle.std.proofs.Common.{◌≡◌, [], ◌∷◌, ◌++◌, map, length, List, sym, ap, ◌∙◌, subst, append_assoc, append-nil, arith, refl}
+use Rattle.std.specs.Vec.Iter.{into_iter_items, into_iter_len}
+use Rattle.frame_word.specs.Seats.{KnownSeat, view_of, AreSeatsAt}
+use Rattle.frame_word.proofs.Seating.{joins}
+use Rattle.frame_word.proofs.closing.gather.Goals as goal
+
+pub join_seat-requires : goal.join_seat-requires
+join_seat-requires c =
+    let at = c.loop-seat in
+    let steps : into_iter_items at.seat-iterator ≡ c.in-Some.seat ∷ into_iter_items c.next.new.self = c.in-Some.ensures.steps.0 in
+    let left = subst (AreSeatsAt c.args.shared.now.table_id) steps at.invariant.left in (
+      at.invariant.seated ∙ c.requires.table.0,
+      ap (λ s. s.table) c.seat.view_is ∙ left.0,
+      ap (λ m. m.1) c.seat.invariant.alone,
+      c.requires.table.1,
+      joins _ _ _ _ _ _,
+    )
+
+pub loop-seat-preserved : goal.loop-seat-preserved
+loop-seat-preserved c =
+    let at = c.loop-seat in
+    let steps : into_iter_items at.seat-iterator ≡ c.in-Some.seat ∷ into_iter_items c.next.new.self = c.in-Some.ensures.steps.0 in
+    let left = subst (AreSeatsAt c.args.shared.now.table_id) steps at.invariant.left in
+    let more = map view_of (into_iter_items c.next.new.self) in
+    let own = ap (λ m. m.0) c.seat.invariant.alone ∙ ap (λ (s : KnownSeat). s.view ∷ []) c.seat.view_is in
+    let joined = c.join_seat.ensures in record {
+      seated = joined.0 ∙ at.invariant.seated;
+      left = left.1;
+      counted = (let was = at.invariant.counted in let gone = c.in-Some.ensures.steps.1 in let short = ap length steps in omega arith);
+      views = (λ i. (joined.2 i).0 ++ more) ∙ (λ i. (at.all.me.0 ++ own i) ++ more) ∙ append_assoc at.all.me.0 (c.in-Some.seat.view ∷ []) more
+          ∙ ap (λ l. at.all.me.0 ++ map view_of l) (sym steps) ∙ at.invariant.views;
+      no_slot = ap (λ m. m.1) joined.2 ∙ at.invariant.no_slot;
+    }
+
+nothing_left : {X : Type 0} (l : List X) → length l ≡ 0 → l ≡ []
+nothing_left [] h = refl
+nothing_left (x ∷ xs) h = absurd (omega arith)
+
+pub returns-clause-views : goal.returns-clause-views
+returns-clause-views c =
+    let at = c.loop-seat in
+    let gone = c.in-None.ensures.steps in
+    let empty : into_iter_items at.seat-iterator ≡ [] = nothing_left _ (sym at.invariant.counted ∙ gone.0) in
+    let items = c.into_iter-seat-iterator.ensures.into_iter_gives.0 in
+    let views = sym (append-nil at.all.me.0) ∙ ap (λ l. at.all.me.0 ++ map view_of l) (sym empty) ∙ at.invariant.views ∙ ap (λ l. c.args.all.now.me.0 ++ map view_of l) items in
+    λ i. (views i, at.invariant.no_slot i)

@@ -1,0 +1,23 @@
+use Rattle.std.proofs.Common.{arith, ◌≡◌, ◌+◌, ◌<◌, ◌++◌, [], ◌∙◌, ap, sym, subst, ◌≤◌, ℕ}
+use Rattle.frame_word.specs.Seats.{KnownSeat, number_of, IsInHand, IsLent, IsOpen, IsShut, Passes}
+use Rattle.frame_word.specs.Views.{begun, ended}
+use Rattle.frame_word.proofs.Joined.{passes_back_as}
+use Rattle.frame_word.proofs.words.FrameWords.pass_back.Goals as goal
+
+pub store-requires : goal.store-requires
+store-requires c =
+    let frames = ap (λ t. t.frames) c.self.view_is in
+    let cpus = ap (λ t. t.cpus) c.self.view_is in
+    let zone = c.zone.view_is in
+    let cpu = c.cpu.view_is in
+    let number = ap number_of cpu in
+    let numbered = c.cpu.invariant.numbered in
+    let word = c.word.ensures in
+    let from = c.from-mark.ensures in
+    let both = c.join.ensures.views ∙ (λ i. ((c.zone.invariant.alone i).0 ++ (c.cpu.invariant.alone i).0, [])) in (
+      c.join.ensures.table.0 ∙ (ap (λ s. s.table) zone ∙ c.requires.zone.0 ∙ sym (ap (λ t. t.table) c.self.view_is)),
+      omega arith,
+      passes_back_as _ _ _ _ _ _ _ both (ap number_of zone ∙ c.requires.zone.1) (omega arith) (omega arith) _ (omega arith)
+          (subst (λ (s : KnownSeat × KnownSeat). IsOpen s.0 (number_of s.1)) (λ i. (sym zone i, sym cpu i)) c.requires.open)
+          (subst (λ (s : KnownSeat × ℕ). IsInHand s.0 s.1) (λ i. (sym cpu i, sym word i)) c.requires.hand) _ (omega arith),
+    )

@@ -1,0 +1,6 @@
+pub mod Views
+pub mod ReferenceRule
+pub mod Seats
+pub mod Kinds
+pub mod Sitting
+pub mod Laws

@@ -1,0 +1,23 @@
+-- What holds inside a `FrameSeat` and a `FrameWords`.
+use Rattle.std.specs.Prelude.{◌≡◌, ◌≤◌, ◌+◌, ℕ, List, [], ◌∷◌}
+use Rattle.atomic_table.specs.Seated.{TableId}
+use Rattle.atomic_table.specs.declared.shared.Seat.{Seat}
+use Rattle.frame_word.specs.declared.view.FrameView.{FrameView}
+use Rattle.frame_word.specs.Seats.{first_cpu_view}
+
+abbrev pub first_of : List FrameView → FrameView
+first_of [] = first_cpu_view 0
+first_of (v ∷ vs) = v
+
+-- the seat has its own view alone, which bears its number
+pub record SitsAlone {S : Type 0} (place : Seat S (List FrameView)) (number : ℕ) : Type 0 where
+  pub alone : place.me ≡ (first_of place.me.0 ∷ [], [])
+  pub numbered : (first_of place.me.0).number ≡ number
+
+-- the table has a word for each frame and each processor, and no slot, and its rule counts these frames and processors
+pub record IsLaidOut (table : TableId) (rule_frames rule_cpus frames cpus : ℕ) : Type 0 where
+  pub words_are : table.words ≡ frames + cpus
+  pub slots_are : table.slots ≡ 0
+  pub frames_are : rule_frames ≡ frames
+  pub cpus_are : rule_cpus ≡ cpus
+  pub some_frame : 1 ≤ frames

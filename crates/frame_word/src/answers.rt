@@ -1,0 +1,23 @@
+//! What `get` and `put` answer.
+
+/// What a `get` answers.
+#[derive(Clone, Copy, PartialEq, Eq, Debug)]
+pub enum Get {
+    /// The seat has one reference more.
+    Held,
+    /// No one had a reference: the frame is in a hand, or passes.
+    Zero,
+    /// Another seat changed the word in between, to this. Try again.
+    Raced(u64),
+    /// The frame has 255 references already.
+    Full,
+}
+
+/// What a `put` answers.
+#[derive(Clone, Copy, PartialEq, Eq, Debug)]
+pub enum Put {
+    /// So many references are left, at least one.
+    Left(u64),
+    /// That was the last reference. The frame is in the seat's own hand now.
+    Last,
+}

@@ -1,0 +1,101 @@
+//! The end of a table.
+ghost use Rattle.std.specs.Prelude.{◌≡◌, ◌<◌, ◌≤◌, [], ◌∷◌, ◌++◌, map, slice_index, length};
+ghost use Rattle.frame_word.specs.ReferenceRule.{ReferenceRule, visit_index};
+ghost use Rattle.frame_word.specs.Seats.{view_of, IsZoneSeat, AreCpuSeats, AreSeatsAt};
+
+use crate::board::{Place, Words};
+use crate::frame::Frame;
+use crate::kinds::Pair;
+use crate::seat::FrameSeat;
+use crate::words::FrameWords;
+use atomic_table::Closed;
+use std::alloc::Global;
+use std::marker::Model;
+
+/// The words at the end, when no seat is left to change them.
+pub struct FinalWords {
+    closed: Closed<(), Global>,
+    frames: u32,
+    cpus: u32,
+}
+
+impl Model for FinalWords {
+    ghost use Rattle.std.specs.Prelude.{◌≡◌, ◌+◌};
+    ghost use Rattle.std.specs.Mem.Slots.{slots_items, slots_len, IsFull};
+    ghost use Rattle.frame_word.specs.Seats.{KnownWords};
+
+    ghost Value = { KnownWords };
+
+    ghost view = { λ w. record { words = slots_items w.closed.words; frames = w.frames; cpus = w.cpus } };
+
+    ghost invariant = { λ w. IsFull w.closed.words × (slots_len w.closed.words ≡ w.frames + w.cpus) × (slots_len w.closed.slots ≡ 0) };
+}
+
+impl Drop for FinalWords {
+    fn drop(self) {
+        let FinalWords {
+            closed,
+            frames: _,
+            cpus: _,
+        } = self;
+        closed.free();
+    }
+}
+
+impl FinalWords {
+    /// The word of a frame.
+    pub fn word(&self, frame: Frame) -> u64
+        requires { frame < self.now.frames }
+        ensures { result ≡ slice_index self.now.words frame }
+    {
+        self.closed.word(frame.word())
+    }
+
+    /// The visit word of a processor.
+    pub fn visit_word(&self, cpu: u32) -> u64
+        requires { (1 ≤ cpu) × (cpu ≤ self.now.cpus) }
+        ensures { result ≡ slice_index self.now.words (visit_index self.now.frames cpu) }
+    {
+        self.closed.word(self.frames as usize + (cpu as usize - 1))
+    }
+}
+
+impl FrameWords {
+    /// Ends the table with all its seats, the processors' in order. The reference rule holds of the
+    /// final words and these seats' views.
+    pub fn close(self, zone: FrameSeat, cpus: Vec<FrameSeat>) -> FinalWords
+        requires zone { IsZoneSeat self zone }
+        requires cpus { (length cpus.items ≡ self.cpus) × AreCpuSeats self 1 cpus.items }
+        ensures sizes { (result.frames ≡ self.frames) × (result.cpus ≡ self.cpus) }
+        ensures rule { ReferenceRule self.frames self.cpus result.words ((zone.view ∷ map view_of cpus.items) ∷ []) }
+    {
+        let FrameWords {
+            table,
+            frames,
+            cpus: count,
+        } = self;
+        let FrameSeat {
+            mut place,
+            number: _,
+        } = zone;
+        gather(&table.shared, &mut place, cpus);
+        FinalWords {
+            closed: table.close_with(place),
+            frames,
+            cpus: count,
+        }
+    }
+}
+
+// Joins all seats into one.
+fn gather(shared: &Words, all: &mut Place, seats: Vec<FrameSeat>)
+    requires table { (all.old.table_id ≡ shared.now.table_id) × (0 < shared.now.table_id.words) }
+    requires seats { AreSeatsAt shared.now.table_id seats.items }
+    ensures table { all.new.table_id ≡ all.old.table_id }
+    ensures views { all.new.me ≡ (all.old.me.0 ++ map view_of seats.items, all.old.me.1) }
+{
+    for seat in seats {
+        let FrameSeat { place, number: _ } = seat;
+        shared.join_seat::<Pair>(all, place);
+    }
+}

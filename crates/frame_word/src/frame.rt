@@ -1,0 +1,43 @@
+//! The number of a frame.
+use std::marker::Model;
+
+/// A frame's number, from 0 up. `FrameWords::frame` makes it.
+#[derive(Clone, Copy, PartialEq, Eq, Debug)]
+pub struct Frame {
+    number: u32,
+}
+
+impl Model for Frame {
+    ghost use Rattle.std.specs.Prelude.{ℕ};
+
+    ghost Value = { ℕ };
+
+    ghost view = { λ f. f.number };
+
+    ghost inverse = { λ n. record { number = n } };
+}
+
+impl Frame {
+    ghost use Rattle.std.specs.Prelude.{◌≡◌};
+
+    pub(crate) fn new(number: u32) -> Frame
+        ensures { result ≡ number }
+    {
+        Frame { number }
+    }
+
+    /// The frame's number.
+    pub fn number(self) -> u32
+        ensures { result ≡ self }
+    {
+        self.number
+    }
+
+    // Where the frame's word stands.
+    pub(crate) fn word(self) -> usize
+        ensures { result ≡ self }
+    {
+        let Frame { number } = self;
+        number as usize
+    }
+}

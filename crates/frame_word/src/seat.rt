@@ -1,0 +1,35 @@
+//! The seat of the zone (0) or of a processor.
+use crate::board::Place;
+use std::marker::Model;
+
+/// A seat at the table of frame words: number 0 is the zone's, 1 and up are the processors'.
+/// It keeps its number alone; what it knows is for contracts.
+#[derive(Drop)]
+pub struct FrameSeat {
+    pub(crate) place: Place,
+    pub(crate) number: u32,
+}
+
+impl Model for FrameSeat {
+    ghost use Rattle.frame_word.specs.Seats.{KnownSeat};
+
+    ghost Value = { KnownSeat };
+
+    ghost use Rattle.frame_word.specs.Sitting.{first_of, SitsAlone};
+
+    ghost view = { λ s. record { table = s.place.table_id; view = first_of s.place.me.0 } };
+
+    ghost invariant = { λ s. SitsAlone s.place s.number };
+}
+
+impl FrameSeat {
+    ghost use Rattle.std.specs.Prelude.{◌≡◌};
+    ghost use Rattle.frame_word.specs.Seats.{number_of};
+
+    /// The seat's number: 0 for the zone's, the processor's else.
+    pub fn number(&self) -> u32
+        ensures { result ≡ number_of self.now }
+    {
+        self.number
+    }
+}

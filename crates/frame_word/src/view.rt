@@ -1,0 +1,41 @@
+//! What a seat knows. It is plain data for the proofs; no value of it is ever made.
+
+/// What a seat knows of one frame.
+pub struct FrameNote {
+    /// The references that the seat has on the frame.
+    pub references: u64,
+    /// The references that the seat's last put of the frame left to all seats.
+    pub left: u64,
+    /// The freezes of the seat that found another number than they asked for.
+    pub misses: u64,
+    /// The loads that the seat's gets made.
+    pub looks: u64,
+    /// The word that the seat's last get found.
+    pub seen: u64,
+    /// The gets of the seat whose exchange failed.
+    pub races: u64,
+    /// 1 where the frame is in the seat's own hand, else 0.
+    pub own: u64,
+    /// 1 where the frame is in the seat's borrowed hand, else 0.
+    pub borrowed: u64,
+    /// The hand-overs of the frame that a processor's seat began, by passing it back.
+    pub passed_back: u64,
+    /// The hand-overs of the frame that a processor's seat ended, by taking it in.
+    pub taken_in: u64,
+    /// The hand-overs to each processor that the zone's seat began, by passing the frame out.
+    pub passed_out: [u64; 0],
+    /// The hand-overs from each processor that the zone's seat ended, by collecting the frame.
+    pub collected: [u64; 0],
+    /// By processor: 1 where the frame is lent to it, else 0.
+    pub lent: [u64; 0],
+}
+
+/// What a seat knows of all frames, and, at the zone's seat, of the visits.
+pub struct FrameView {
+    /// The seat's number: 0 is the zone's, 1 and up are the processors'.
+    pub number: u64,
+    /// By frame; past the end stands a note of nothing.
+    pub notes: [FrameNote; 0],
+    /// By processor: 1 where its visit is open, else 0.
+    pub opened: [u64; 0],
+}

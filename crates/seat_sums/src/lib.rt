@@ -1,0 +1,17 @@
+//! Sums over the views of all seats of a table of words.
+//! A seat's view is a list of views, so that seats can be joined and split: one view, two where
+//! the seat took in another's, none where it is spent or empty. A rule that reads views only
+//! through totals over all seats then holds on, whatever is joined or split.
+#![tactic(auto)]
+
+ghost use Rattle.seat_sums.specs.Totals.{SplitsKeepTotals, JoinsKeepTotals};
+
+/// Law: cutting a seat's views in two changes the total of no function of one view.
+pub fn splits_keep_totals<V>()
+    ensures { SplitsKeepTotals V }
+{}
+
+/// Law: joining two seats changes the total of no function of one view.
+pub fn joins_keep_totals<V>()
+    ensures { JoinsKeepTotals V }
+{}

@@ -1,0 +1,251 @@
+-- How the rule follows from what one step leaves of one processor's words.
+use Rattle.std.proofs.Common.{◌≡◌, ◌≢◌, ℕ, zero, suc, ◌+◌, ◌*◌, false, ◌<◌, ◌≤◌, List, [], ◌∷◌, ◌++◌, set, length, refl, ap, sym, ◌∙◌, subst, arith}
+use Rattle.std.specs.Prelude.{slice_index}
+use Rattle.std.proofs.lemmas.List.{get_or-set_same, get_or-set_other, length-set}
+use mathlib.Core.Option.{some}
+use mathlib.Core.Logic.{dite}
+use native.Mathlib.Decide.{ℕ_discrete}
+use lib.ListN.{get_elem?}
+use Rattle.atomic_table.specs.Table.{Splits, Joins}
+use Rattle.seat_sums.specs.Totals.{sum_over, SameTotals, join_of}
+use Rattle.seat_sums.proofs.Totals.{total_set, total_more, join_totals}
+use Rattle.stock_word.specs.declared.view.Account.{Account}
+use Rattle.stock_word.specs.declared.view.StockView.{StockView}
+use Rattle.stock_word.specs.Stock.{account_at, with_account_at, account_of, with_account, IsSettled}
+use Rattle.stock_word.specs.Kinds.{after_report, noting, draining, absorbing}
+use Rattle.stock_word.specs.StockRule.{stock_place, report_place, at_seat, IsStock, HoldsAt, StockRule}
+use Rattle.stock_word.proofs.Only.{at_mine, at_other, known, turned, stays, same_only}
+
+-- ---- what one seat's views come to
+
+sole : (q : ℕ) (v : StockView) → v.number ≡ q → (f : StockView → ℕ) → sum_over (at_seat q f) (v ∷ []) ≡ f v
+sole q v e f = let a = at_mine q f v e in omega arith
+
+none : (q : ℕ) (v : StockView) → v.number ≢ q → (f : StockView → ℕ) → sum_over (at_seat q f) (v ∷ []) ≡ 0
+none q v ne f = let a = at_other q f v ne in omega arith
+
+first : (q : ℕ) (v w : StockView) → v.number ≡ q → w.number ≢ q → (f : StockView → ℕ) → sum_over (at_seat q f) (v ∷ w ∷ []) ≡ f v
+first q v w e ne f = let a = at_mine q f v e in let b = at_other q f w ne in omega arith
+
+second : (q : ℕ) (v w : StockView) → v.number ≢ q → w.number ≡ q → (f : StockView → ℕ) → sum_over (at_seat q f) (v ∷ w ∷ []) ≡ f w
+second q v w ne e f = let a = at_other q f v ne in let b = at_mine q f w e in omega arith
+
+neither : (q : ℕ) (v w : StockView) → v.number ≢ q → w.number ≢ q → (f : StockView → ℕ) → sum_over (at_seat q f) (v ∷ w ∷ []) ≡ 0
+neither q v w ne nor f = let a = at_other q f v ne in let b = at_other q f w nor in omega arith
+
+-- ---- one word changes
+
+module _ (words : List ℕ) (x : ℕ) where
+  -- the stock word of p, and then every other word of a processor
+  pub stock_set : (p : ℕ) → stock_place p < length words → slice_index (set words (stock_place p) x) (stock_place p) ≡ x
+  stock_set p h = get_or-set_same words (stock_place p) x 0 h
+
+  pub report_beside : (p q : ℕ) → slice_index (set words (stock_place p) x) (report_place q) ≡ slice_index words (report_place q)
+  report_beside p q = get_or-set_other words (stock_place p) (report_place q) x 0 (λ e. omega (arith, e))
+
+  pub stock_apart : (p q : ℕ) → q ≢ p → slice_index (set words (stock_place p) x) (stock_place q) ≡ slice_index words (stock_place q)
+  stock_apart p q ne = get_or-set_other words (stock_place p) (stock_place q) x 0 (λ e. ne (omega (arith, e)))
+
+  -- the report word of p, and then every other one
+  pub report_set : (p : ℕ) → report_place p < length words → slice_index (set words (report_place p) x) (report_place p) ≡ x
+  report_set p h = get_or-set_same words (report_place p) x 0 h
+
+  pub stock_beside : (p q : ℕ) → slice_index (set words (report_place p) x) (stock_place q) ≡ slice_index words (stock_place q)
+  stock_beside p q = get_or-set_other words (report_place p) (stock_place q) x 0 (λ e. omega (arith, e))
+
+  pub report_apart : (p q : ℕ) → q ≢ p → slice_index (set words (report_place p) x) (report_place q) ≡ slice_index words (report_place q)
+  report_apart p q ne = get_or-set_other words (report_place p) (report_place q) x 0 (λ e. ne (omega (arith, e)))
+
+-- what a step leaves of the words: of p's the stock word x and the report word y, of the others what they were
+pub record Leaves (words words' : List ℕ) (p x y : ℕ) : Type 0 where
+  pub same_length : length words' ≡ length words
+  pub stock : slice_index words' (stock_place p) ≡ x
+  pub report : slice_index words' (report_place p) ≡ y
+  pub stocks : (q : ℕ) → q ≢ p → slice_index words' (stock_place q) ≡ slice_index words (stock_place q)
+  pub reports : (q : ℕ) → q ≢ p → slice_index words' (report_place q) ≡ slice_index words (report_place q)
+
+pub leaves_stock : (cpus : ℕ) (words : List ℕ) (p x : ℕ) → length words ≡ 16 * (cpus + 1) → p ≤ cpus → Leaves words (set words (stock_place p) x) p x (slice_index words (report_place p))
+leaves_stock cpus words p x rows below = record {
+  same_length = length-set words (stock_place p) x;
+  stock = stock_set words x p (omega arith);
+  report = report_beside words x p p;
+  stocks = stock_apart words x p;
+  reports = λ q ne. report_beside words x p q;
+}
+
+pub leaves_report : (cpus : ℕ) (words : List ℕ) (p y : ℕ) → length words ≡ 16 * (cpus + 1) → p ≤ cpus → Leaves words (set words (report_place p) y) p (slice_index words (stock_place p)) y
+leaves_report cpus words p y rows below = record {
+  same_length = length-set words (report_place p) y;
+  stock = stock_beside words y p p;
+  report = report_set words y p (omega arith);
+  stocks = λ q ne. stock_beside words y p q;
+  reports = report_apart words y p;
+}
+
+-- ---- the accounts
+
+place_set : (accounts : List Account) (p : ℕ) (a : Account) → account_at (with_account_at accounts p a) p ≡ a
+place_set [] zero a = refl
+place_set [] (suc p) a = place_set [] p a
+place_set (b ∷ accounts) zero a = refl
+place_set (b ∷ accounts) (suc p) a = place_set accounts p a
+
+place_else : (accounts : List Account) (p q : ℕ) (a : Account) → q ≢ p → account_at (with_account_at accounts p a) q ≡ account_at accounts q
+place_else [] zero zero a ne = absurd (ne refl)
+place_else [] zero (suc q) a ne = refl
+place_else [] (suc p) zero a ne = refl
+place_else [] (suc p) (suc q) a ne = place_else [] p q a (λ e. ne (ap suc e))
+place_else (b ∷ accounts) zero zero a ne = absurd (ne refl)
+place_else (b ∷ accounts) zero (suc q) a ne = refl
+place_else (b ∷ accounts) (suc p) zero a ne = refl
+place_else (b ∷ accounts) (suc p) (suc q) a ne = place_else accounts p q a (λ e. ne (ap suc e))
+
+-- the account that was put at p, and the others
+pub account_of-with_account : (m : StockView) (p : ℕ) (a : Account) → account_of (with_account m p a) p ≡ a
+account_of-with_account m p a = place_set m.accounts p a
+
+pub account_of-with_account_other : (m : StockView) (p q : ℕ) (a : Account) → q ≢ p → account_of (with_account m p a) q ≡ account_of m q
+account_of-with_account_other m p q a ne = place_else m.accounts p q a ne
+
+-- ---- the rule
+
+abbrev Stocked : List ℕ → ℕ → Account → StockView → Type 0
+Stocked words q a v = IsStock (slice_index words (stock_place q)) (slice_index words (report_place q)) a v
+
+-- the words are other terms for the same numbers
+stocked : (words : List ℕ) (q x y : ℕ) (a : Account) (v : StockView) → slice_index words (stock_place q) ≡ x → slice_index words (report_place q) ≡ y → IsStock x y a v → Stocked words q a v
+stocked words q x y a v at_x at_y h = subst (λ n. IsStock n (slice_index words (report_place q)) a v) (sym at_x) (subst (λ n. IsStock x n a v) (sym at_y) h)
+
+module _ (cpus : ℕ) (words : List ℕ) (seats : List (List StockView)) (rule : StockRule cpus words seats) (words' : List ℕ) (id : ℕ) where
+  -- another processor, whose seat makes no step
+  beside : (old new : List StockView) → get_elem? seats id ≡ some old → (p x y : ℕ) → Leaves words words' p x y → (m' : StockView) (q : ℕ) → q ≢ p
+      → ((f : StockView → ℕ) → sum_over (at_seat q f) new ≡ sum_over (at_seat q f) old) → account_of m' q ≡ account_of rule.machine q
+      → 0 < q → q ≤ cpus → HoldsAt words' (set seats id new) m' q
+  beside old new at p x y leaves m' q ne same account low high = let h = rule.each q low high in record {
+    view = h.view;
+    only = stays seats id old new at q h.view same h.only;
+    stock = stocked words' q _ _ (account_of m' q) h.view (leaves.stocks q ne) (leaves.reports q ne) (subst (λ a. Stocked words q a h.view) (sym account) h.stock);
+  }
+
+  -- ---- a processor's seat
+  module _ (v : StockView) (at : get_elem? seats id ≡ some (v ∷ [])) (low : 0 < v.number) (high : v.number ≤ cpus) where
+    pub processor_stock : Stocked words v.number (account_of rule.machine v.number) v
+    processor_stock = let h = rule.each v.number low high in
+        subst (λ (u : StockView). Stocked words v.number (account_of rule.machine v.number) u) (known seats id (v ∷ []) at v.number v (sole v.number v refl) h.view h.only) h.stock
+
+    pub processor_keeps : (x y : ℕ) → Leaves words words' v.number x y → (w : StockView) → w.number ≡ v.number → IsStock x y (account_of rule.machine v.number) w
+        → StockRule cpus words' (set seats id (w ∷ []))
+    processor_keeps x y leaves w named stock = record {
+      rows = leaves.same_length ∙ rule.rows;
+      machine = rule.machine;
+      only = stays seats id (v ∷ []) (w ∷ []) at 0 rule.machine (λ f. none 0 w (λ e. omega (arith, e, named)) f ∙ sym (none 0 v (λ e. omega (arith, e)) f)) rule.only;
+      each = λ q low' high'. dite (ℕ_discrete q v.number)
+          (λ e. subst (λ n. HoldsAt words' (set seats id (w ∷ [])) rule.machine n) (sym e) mine)
+          (λ ne. beside (v ∷ []) (w ∷ []) at v.number x y leaves rule.machine q ne (λ f. none q w (λ e. ne (sym e ∙ named)) f ∙ sym (none q v (λ e. ne (sym e)) f)) refl low' high');
+    }
+      where
+        mine : HoldsAt words' (set seats id (w ∷ [])) rule.machine v.number
+        mine = let h = rule.each v.number low high in record {
+          view = w;
+          only = turned seats id (v ∷ []) at v.number v (sole v.number v refl) h.view w (w ∷ []) (sole v.number w named) h.only;
+          stock = stocked words' v.number x y (account_of rule.machine v.number) w leaves.stock leaves.report stock;
+        }
+
+  -- ---- the machine's seat
+  module _ (m : StockView) (at : get_elem? seats id ≡ some (m ∷ [])) (zeroth : m.number ≡ 0) where
+    pub machine_known : rule.machine ≡ m
+    machine_known = known seats id (m ∷ []) at 0 m (sole 0 m zeroth) rule.machine rule.only
+
+    -- a processor's stock, whoever holds its seat
+    pub machine_stock : (p : ℕ) (low : 0 < p) (high : p ≤ cpus) → Stocked words p (account_of m p) (rule.each p low high).view
+    machine_stock p low high = let h = rule.each p low high in subst (λ (u : StockView). Stocked words p (account_of u p) h.view) machine_known h.stock
+
+    pub machine_keeps : (p x y : ℕ) (low : 0 < p) (high : p ≤ cpus) → Leaves words words' p x y → (m' : StockView) → m'.number ≡ 0
+        → ((q : ℕ) → q ≢ p → account_of m' q ≡ account_of m q) → IsStock x y (account_of m' p) (rule.each p low high).view
+        → StockRule cpus words' (set seats id (m' ∷ []))
+    machine_keeps p x y low high leaves m' named others stock = record {
+      rows = leaves.same_length ∙ rule.rows;
+      machine = m';
+      only = turned seats id (m ∷ []) at 0 m (sole 0 m zeroth) rule.machine m' (m' ∷ []) (sole 0 m' named) rule.only;
+      each = λ q low' high'. dite (ℕ_discrete q p)
+          (λ e. subst (λ n. HoldsAt words' (set seats id (m' ∷ [])) m' n) (sym e) mine)
+          (λ ne. beside (m ∷ []) (m' ∷ []) at p x y leaves m' q ne (unmoved q low') (others q ne ∙ ap (λ (u : StockView). account_of u q) (sym machine_known)) low' high');
+    }
+      where
+        unmoved : (q : ℕ) → 0 < q → (f : StockView → ℕ) → sum_over (at_seat q f) (m' ∷ []) ≡ sum_over (at_seat q f) (m ∷ [])
+        unmoved q above f = none q m' (λ e. omega (arith, e, named)) f ∙ sym (none q m (λ e. omega (arith, e, zeroth)) f)
+
+        mine : HoldsAt words' (set seats id (m' ∷ [])) m' p
+        mine = let h = rule.each p low high in record {
+          view = h.view;
+          only = stays seats id (m ∷ []) (m' ∷ []) at p h.view (unmoved p low) h.only;
+          stock = stocked words' p x y (account_of m' p) h.view leaves.stock leaves.report stock;
+        }
+
+  -- ---- the machine's seat, joined with a processor's
+  module _ (m v : StockView) (at : get_elem? seats id ≡ some (m ∷ v ∷ [])) (zeroth : m.number ≡ 0) (low : 0 < v.number) (high : v.number ≤ cpus) where
+    pub joined_machine : rule.machine ≡ m
+    joined_machine = known seats id (m ∷ v ∷ []) at 0 m (first 0 m v zeroth (λ e. omega (arith, e))) rule.machine rule.only
+
+    pub joined_stock : Stocked words v.number (account_of m v.number) v
+    joined_stock = let h = rule.each v.number low high in
+        subst (λ (u : StockView). Stocked words v.number (account_of u v.number) v) joined_machine
+        (subst (λ (u : StockView). Stocked words v.number (account_of rule.machine v.number) u) (known seats id (m ∷ v ∷ []) at v.number v (second v.number m v (λ e. omega (arith, e, zeroth)) refl) h.view h.only) h.stock)
+
+    pub joined_keeps : (x y : ℕ) → Leaves words words' v.number x y → (m' v' : StockView) → m'.number ≡ 0 → v'.number ≡ v.number
+        → ((q : ℕ) → q ≢ v.number → account_of m' q ≡ account_of m q) → IsStock x y (account_of m' v.number) v'
+        → StockRule cpus words' (set seats id (m' ∷ v' ∷ []))
+    joined_keeps x y leaves m' v' named named' others stock = record {
+      rows = leaves.same_length ∙ rule.rows;
+      machine = m';
+      only = turned seats id (m ∷ v ∷ []) at 0 m (first 0 m v zeroth (λ e. omega (arith, e))) rule.machine m' (m' ∷ v' ∷ []) (first 0 m' v' named (λ e. omega (arith, e, named'))) rule.only;
+      each = λ q low' high'. dite (ℕ_discrete q v.number)
+          (λ e. subst (λ n. HoldsAt words' (set seats id (m' ∷ v' ∷ [])) m' n) (sym e) mine)
+          (λ ne. beside (m ∷ v ∷ []) (m' ∷ v' ∷ []) at v.number x y leaves m' q ne (unmoved q low' ne) (others q ne ∙ ap (λ (u : StockView). account_of u q) (sym joined_machine)) low' high');
+    }
+      where
+        unmoved : (q : ℕ) → 0 < q → q ≢ v.number → (f : StockView → ℕ) → sum_over (at_seat q f) (m' ∷ v' ∷ []) ≡ sum_over (at_seat q f) (m ∷ v ∷ [])
+        unmoved q above ne f = neither q m' v' (λ e. omega (arith, e, named)) (λ e. ne (sym e ∙ named')) f ∙ sym (neither q m v (λ e. omega (arith, e, zeroth)) (λ e. ne (sym e)) f)
+
+        mine : HoldsAt words' (set seats id (m' ∷ v' ∷ [])) m' v.number
+        mine = let h = rule.each v.number low high in record {
+          view = v';
+          only = turned seats id (m ∷ v ∷ []) at v.number v (second v.number m v (λ e. omega (arith, e, zeroth)) refl) h.view v' (m' ∷ v' ∷ []) (second v.number m' v' (λ e. omega (arith, e, named)) named') h.only;
+          stock = stocked words' v.number x y (account_of m' v.number) v' leaves.stock leaves.report stock;
+        }
+
+-- ---- splits and joins
+
+-- seats that all have the same totals keep the rule
+pub same_keeps : (cpus : ℕ) (words : List ℕ) (before after : List (List StockView)) → SameTotals before after → StockRule cpus words before → StockRule cpus words after
+same_keeps cpus words before after same rule = record {
+  rows = rule.rows;
+  machine = rule.machine;
+  only = same_only before after same 0 rule.machine rule.only;
+  each = λ q low high. let h = rule.each q low high in record { view = h.view; only = same_only before after same q h.view h.only; stock = h.stock };
+}
+
+-- a seat's views are cut in two
+pub split_keeps : {S : Type 0} (cpus id : ℕ) (old left right : List StockView) → ((f : StockView → ℕ) → sum_over f left + sum_over f right ≡ sum_over f old)
+    → Splits {S = S} (λ s. StockRule cpus s.words s.views) id old left right
+split_keeps cpus id old left right cut s rule at = same_keeps cpus s.words s.views (set s.views id left ++ right ∷ []) (λ f.
+    let a = total_more f (set s.views id left) right in
+    let b = total_set f s.views id old left at in
+    let c = cut f in omega arith) rule
+
+-- a seat takes in the views of another
+pub join_keeps : {S : Type 0} (cpus id other : ℕ) (views taken : List StockView) → Joins {S = S} (λ s. StockRule cpus s.words s.views) id views other taken (views ++ taken) []
+join_keeps cpus id other views taken s rule at apart there = same_keeps cpus s.words s.views (join_of s.views id views other taken) (join_totals s.views id other views taken at there) rule
+
+-- ---- after a drain, a report of all fresh pages and an absorb the stock may be filled
+
+pub settled_after : (m0 m1 m2 m3 v v' : StockView) (n k : ℕ) → v.number ≡ 1 → v.fresh ≡ k → m1 ≡ draining m0 1 n → m2 ≡ noting m1 v.number k → m3 ≡ absorbing m2 1 → v' ≡ after_report v k → IsSettled m3 v'
+settled_after m0 m1 m2 m3 v v' n k one fresh drained noted absorbed reported =
+    let named : v'.number ≡ 1 = ap (λ (u : StockView). u.number) reported ∙ one in
+    let a1 : (account_of m1 1).filled ≡ false = ap (λ (u : StockView). (account_of u 1).filled) drained ∙ ap (λ (a : Account). a.filled) (account_of-with_account m0 1 _) in
+    let a2 : (account_of m2 1).filled ≡ false = ap (λ (u : StockView). (account_of u 1).filled) (noted ∙ ap (λ (p : ℕ). noting m1 p k) one) ∙ ap (λ (a : Account). a.filled) (account_of-with_account m1 1 _) ∙ a1 in
+    let a3 = ap (λ (u : StockView). account_of u 1) absorbed ∙ account_of-with_account m2 1 _ in (
+      ap (λ (p : ℕ). (account_of m3 p).filled) named ∙ ap (λ (a : Account). a.filled) a3 ∙ a2,
+      ap (λ (u : StockView). u.fresh) reported ∙ omega (arith, fresh),
+      ap (λ (p : ℕ). (account_of m3 p).noted) named ∙ ap (λ (a : Account). a.noted) a3,
+    )

@@ -1,0 +1,9 @@
+pub mod Alike
+pub mod Only
+pub mod Stocks
+pub mod Keeps
+pub mod Steps
+pub mod Told
+pub mod Deals
+pub mod Opens
+pub mod Gathers

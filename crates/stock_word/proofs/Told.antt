@@ -1,0 +1,106 @@
+-- What the kinds of step tell, as the calls' contracts say it.
+use Rattle.std.proofs.Common.{◌≡◌, ◌≢◌, ℕ, ◌+◌, ◌-◌, ◌≤◌, ◌⊎◌, ⊎_elim, false, true≢false, [], ◌∷◌, List, None, Some, refl, ap, sym, ◌∙◌, arith}
+use native.Mathlib.Decide.{ℕ_discrete}
+use Rattle.atomic_table.specs.Seated.{TableId}
+use Rattle.atomic_table.specs.Table.{Me}
+use Rattle.stock_word.specs.declared.view.Stock.{Stock}
+use Rattle.stock_word.specs.declared.view.Stock.TheVariants.{NoGroup, HeldBy, DrainedOf}
+use Rattle.stock_word.specs.declared.view.StockView.{StockView}
+use Rattle.stock_word.specs.declared.words.Consume.TheVariants as consume
+use Rattle.stock_word.specs.Stock.{Seated, word_of, HasWord, pages_of, is_held, group_of, account_of, stocked, first_of, IsKept}
+use Rattle.stock_word.specs.Kinds.{Consumes, ConsumesHeld, Drains, DrainsNone, LooksAt, after_took, draining}
+use Rattle.stock_word.specs.Calls.{Consumed, with_view}
+
+same_group : (a b : ℕ) → Some a ≡ Some b → a ≡ b
+same_group a b e = cc
+
+-- v is the view before, and w after; b and u are what the caller has for them
+pub consumed_took : (g k n : ℕ) (b u v w : StockView) (place found new : ℕ) → Consumes place found new v w → v ≡ b → u ≡ w → v.last ≡ HeldBy k n → k ≡ g → Consumed g consume.Took b u
+consumed_took g k n b u v w place found new kind before after last of =
+    let group : kind.group ≡ g = same_group _ _ (ap group_of (sym kind.from_held ∙ last)) ∙ of in
+    (kind.pages, ap (λ (x : StockView). x.last) (sym before) ∙ kind.from_held ∙ ap (λ (x : ℕ). HeldBy x (kind.pages + 1)) group, after ∙ kind.view_after ∙ (λ i. after_took (before i) (group i) kind.pages))
+
+-- a seat whose view changed in its accounts alone
+pub kept_as : {S : Type 0} (me next : Me S (List StockView)) (number : ℕ) (last : Stock) (w u : StockView) → IsKept me number last → next ≡ (w ∷ [], me.1) → w ≡ u → u.number ≡ (first_of me.0).number → u.last ≡ (first_of me.0).last → u.fresh ≡ (first_of me.0).fresh → IsKept next number last
+kept_as {S} me next number last w u kept is same number_is last_is fresh_is =
+    let now : first_of next.0 ≡ u = ap (λ (z : Me S (List StockView)). first_of z.0) is ∙ same in
+    record {
+      one_view = is ∙ (λ i. (sym (ap (λ (z : Me S (List StockView)). first_of z.0) is) i ∷ [], ap (λ (z : Me S (List StockView)). z.1) kept.one_view i));
+      same_number = kept.same_number ∙ sym number_is ∙ ap (λ (v : StockView). v.number) (sym now);
+      same_last = kept.same_last ∙ sym last_is ∙ ap (λ (v : StockView). v.last) (sym now);
+      last_word = kept.last_word;
+      none_fresh = (λ e. ap (λ (v : StockView). v.fresh) now ∙ fresh_is ∙ kept.none_fresh e);
+    }
+
+-- the seat that the caller has afterwards
+pub seat_after : {S : Type 0} (table after : TableId) (me next : Me S (List StockView)) (before : Seated) (w u : StockView) → record { table = table; view = first_of me.0 } ≡ before → after ≡ table → next ≡ (w ∷ [], me.1) → w ≡ u
+    → record { table = after; view = first_of next.0 } ≡ with_view before u
+seat_after {S} table after me next before w u seen table_is is same = λ i. record { table = (table_is ∙ ap (λ (s : Seated). s.table) seen) i; view = (ap (λ (z : Me S (List StockView)). first_of z.0) is ∙ same) i }
+
+-- ---- drain
+
+-- what the look told, by the stock r that its word decodes to
+abbrev Looked : ℕ → ℕ → ℕ → StockView → StockView → Type 0
+Looked p place found m w = (found ≡ 0 → DrainsNone p place found found m w) × (found ≢ 0 → LooksAt p place found found m w)
+
+abbrev Decodes : ℕ → Stock → Type 0
+Decodes found r = (stock : Stock) → HasWord stock → found ≡ word_of stock → r ≡ stock
+
+looked_none : (p place found : ℕ) (m w : StockView) (r : Stock) → Looked p place found m w → Decodes found r → r ≡ NoGroup → Dec (found ≡ 0) → DrainsNone p place found found m w
+looked_none p place found m w r told decodes is (yes e) = told.0 e
+looked_none p place found m w r told decodes is (no ne) = let kind = told.1 ne in let same = decodes kind.stock kind.has_word kind.word_before in
+    let impossible : None ≡ Some kind.group = ap group_of (sym is ∙ same) ∙ kind.of_group in absurd (cc)
+
+pub found_none : (p place found : ℕ) (m w : StockView) (r : Stock) → Looked p place found m w → Decodes found r → r ≡ NoGroup → DrainsNone p place found found m w
+found_none p place found m w r told decodes is = looked_none p place found m w r told decodes is (ℕ_discrete found 0)
+
+some_word : (found g : ℕ) (r : Stock) → Decodes found r → group_of r ≡ Some g → found ≢ 0
+some_word found g r decodes group e = let is : r ≡ NoGroup = decodes NoGroup tt e in
+    let impossible : None ≡ Some g = sym (ap group_of is) ∙ group in absurd (cc)
+
+-- it saw the group to drain
+pub found_group : (p place found g : ℕ) (m w : StockView) (r : Stock) → Looked p place found m w → Decodes found r → group_of r ≡ Some g → ((account_of m p).group ≡ Some g) × (w ≡ m)
+found_group p place found g m w r told decodes group =
+    let kind = told.1 (some_word found g r decodes group) in
+    let same = decodes kind.stock kind.has_word kind.word_before in
+    (kind.filled_for ∙ sym kind.of_group ∙ sym (ap group_of same) ∙ group, kind.machine_after)
+
+-- the swap took the pages of the stock that it found
+pub drained_told : {S : Type 0} (table after : TableId) (me next : Me S (List StockView)) (before : Seated) (p g place found new pages : ℕ) (w : StockView)
+    → table ≡ before.table → first_of me.0 ≡ before.view → after ≡ table → next ≡ (w ∷ [], me.1) → (kind : Drains p g place found new (first_of me.0) w) → pages ≡ pages_of kind.stock
+    → record { table = after; view = first_of next.0 } ≡ with_view before (draining before.view p pages)
+drained_told {S} table after me next before p g place found new pages w table_is view_is after_is is kind many = λ i. record {
+  table = (after_is ∙ table_is) i;
+  view = (ap (λ (z : Me S (List StockView)). first_of z.0) is ∙ kind.machine_after ∙ (λ j. draining (view_is j) p (sym many j))) i;
+}
+
+pub drained_booked : (before : StockView) (p g place found new pages : ℕ) (m w : StockView) → m ≡ before → (kind : Drains p g place found new m w) → pages ≡ pages_of kind.stock → pages ≤ (account_of before p).book
+drained_booked before p g place found new pages m w e kind many = let b = ap (λ (v : StockView). (account_of v p).book) e in omega (arith, kind.enough, b)
+
+unheld_pages : (s : Stock) → is_held s ≡ false → pages_of s ≡ 0
+unheld_pages NoGroup e = refl
+unheld_pages (HeldBy g n) e = absurd (true≢false e)
+unheld_pages (DrainedOf g) e = refl
+
+pub drained_before : (before : StockView) (p g place found new pages : ℕ) (m w : StockView) → m ≡ before → (kind : Drains p g place found new m w) → pages ≡ pages_of kind.stock → (account_of before p).filled ≡ false → pages ≡ 0
+drained_before before p g place found new pages m w e kind many off = many ∙ unheld_pages kind.stock (kind.was_held ∙ ap (λ (v : StockView). (account_of v p).filled) e ∙ off)
+
+pub after_of : {S : Type 0} (me next : Me S (List StockView)) (w : StockView) → next ≡ (w ∷ [], me.1) → first_of next.0 ≡ w
+after_of {S} me next w is = ap (λ (z : Me S (List StockView)). first_of z.0) is
+
+pub either_group : (r : Stock) (g : ℕ) → ((n : ℕ) × (r ≡ HeldBy g n)) ⊎ (r ≡ DrainedOf g) → group_of r ≡ Some g
+either_group r g h = ⊎_elim (λ (x : (n : ℕ) × (r ≡ HeldBy g n)). ap group_of x.1) (λ (x : r ≡ DrainedOf g). ap group_of x) h
+
+-- ---- consume_held
+
+pub held_group : (g place before after : ℕ) (m v m' v' b u : StockView) → (kind : ConsumesHeld place before after m v m' v') → m ≡ b → v ≡ u → (account_of b u.number).group ≡ Some g → kind.consumes.group ≡ g
+held_group g place before after m v m' v' b u kind machine view group = same_group _ _ (sym kind.of_group ∙ (λ i. (account_of (machine i) (view i).number).group) ∙ group)
+
+pub held_pages : (place before after : ℕ) (m v m' v' b u : StockView) → (kind : ConsumesHeld place before after m v m' v') → m ≡ b → v ≡ u → kind.consumes.pages ≡ stocked (account_of b u.number) u - 1
+held_pages place before after m v m' v' b u kind machine view =
+    let more : pages_of v.last ≡ kind.consumes.pages + 1 = ap pages_of kind.consumes.from_held in
+    let here : kind.consumes.pages ≡ stocked (account_of m v.number) v - 1 = omega (arith, kind.exact, more) in
+    here ∙ (λ i. stocked (account_of (machine i) (view i).number) (view i) - 1)
+
+pub held_after : (g place before after : ℕ) (m v m' v' b u : StockView) → (kind : ConsumesHeld place before after m v m' v') → m ≡ b → v ≡ u → (account_of b u.number).group ≡ Some g → v' ≡ after_took u g (stocked (account_of b u.number) u - 1)
+held_after g place before after m v m' v' b u kind machine view group = kind.consumes.view_after ∙ (λ i. after_took (view i) (held_group g place before after m v m' v' b u kind machine view group i) (held_pages place before after m v m' v' b u kind machine view i))

@@ -1,0 +1,27 @@
+-- What the calls answer, and what they leave.
+use Rattle.std.specs.Prelude.{◌≡◌, ◌≢◌, ℕ, ◌+◌, Some}
+use Rattle.stock_word.specs.declared.view.Stock.TheVariants.{HeldBy}
+use Rattle.stock_word.specs.declared.view.StockView.{StockView}
+use Rattle.stock_word.specs.declared.words.Consume.{Consume}
+use Rattle.stock_word.specs.declared.words.Consume.TheVariants.{Took, Empty, OtherGroup, Drained}
+use Rattle.stock_word.specs.declared.words.Credit.{Credit}
+use Rattle.stock_word.specs.declared.words.Credit.TheVariants as credit
+use Rattle.stock_word.specs.Stock.{Seated, group_of}
+use Rattle.stock_word.specs.Kinds.{after_took, after_back, after_drained}
+
+-- the seat with another view
+abbrev pub with_view : Seated → StockView → Seated
+with_view seat view = record { table = seat.table; view = view }
+
+-- What consume(g) answers at a processor that knows v, and knows w afterwards. It took a page of a stock of g that it saw last with a page;
+-- the stock that it saw last is of g and has no page; or isn't of g; or is of g, and is drained by now
+abbrev pub Consumed : ℕ → Consume → StockView → StockView → Type 0
+Consumed g Took v w = (n : ℕ) × (v.last ≡ HeldBy g (n + 1)) × (w ≡ after_took v g n)
+Consumed g Empty v w = (v.last ≡ HeldBy g 0) × (w ≡ v)
+Consumed g OtherGroup v w = (group_of v.last ≢ Some g) × (w ≡ v)
+Consumed g Drained v w = (group_of v.last ≡ Some g) × (v.last ≢ HeldBy g 0) × (w ≡ after_drained v)
+
+-- What credit answers: a page went back into the stock of g that it saw last; or that stock is drained by now
+abbrev pub Credited : Credit → StockView → StockView → Type 0
+Credited credit.Back v w = (g : ℕ) × (n : ℕ) × (v.last ≡ HeldBy g n) × (w ≡ after_back v g (n + 1))
+Credited credit.Drained v w = (g : ℕ) × (group_of v.last ≡ Some g) × (w ≡ after_drained v)

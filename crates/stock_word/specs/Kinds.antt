@@ -1,0 +1,181 @@
+-- The kinds of atomic step. Each is a relation between the place of the word, the word before and after, and the views of the seats that make the step, before and after.
+-- A step changes one word and the views of its own seats, and nothing else: what is not named here stays.
+use Rattle.std.specs.Prelude.{◌≡◌, ◌≢◌, ℕ, ◌+◌, ◌-◌, ◌<◌, ◌≤◌, false, true, List, [], ◌∷◌, Some, None}
+use Rattle.atomic_table.specs.Table.{Me, Step}
+use Rattle.stock_word.specs.declared.view.Stock.{Stock}
+use Rattle.stock_word.specs.declared.view.Stock.TheVariants.{HeldBy, DrainedOf}
+use Rattle.stock_word.specs.declared.view.StockView.{StockView}
+use Rattle.stock_word.specs.Stock.{word_of, HasWord, pages_of, group_of, is_held, drained_of, account_of, with_account, first_of, second_of}
+use Rattle.stock_word.specs.StockRule.{stock_place, report_place}
+
+-- ---- the views after each kind
+
+-- a page of the stock became fresh
+abbrev pub after_took : StockView → ℕ → ℕ → StockView
+after_took v g n = record v { fresh = v.fresh + 1; last = HeldBy g n }
+
+-- a fresh page went back into the stock
+abbrev pub after_back : StockView → ℕ → ℕ → StockView
+after_back v g n = record v { fresh = v.fresh - 1; last = HeldBy g n }
+
+-- the processor saw that its stock was drained
+abbrev pub after_drained : StockView → StockView
+after_drained v = record v { last = drained_of v.last }
+
+-- n fresh pages were reported: by the processor's seat, and noted by the machine's
+abbrev pub after_report : StockView → ℕ → StockView
+after_report v n = record v { fresh = v.fresh - n }
+
+abbrev pub noting : StockView → ℕ → ℕ → StockView
+noting m p n = let a = account_of m p in with_account m p (record a { noted = a.noted + n })
+
+-- the stock was filled for g with n pages: the machine's view, and the processor's
+abbrev pub filling : StockView → ℕ → ℕ → ℕ → StockView
+filling m p g n = let a = account_of m p in with_account m p (record a { book = a.book + n; group = Some g; filled = true })
+
+abbrev pub after_fill : StockView → ℕ → ℕ → StockView
+after_fill v g n = record v { last = HeldBy g n }
+
+-- n pages were drained
+abbrev pub draining : StockView → ℕ → ℕ → StockView
+draining m p n = let a = account_of m p in with_account m p (record a { book = a.book - n; filled = false })
+
+-- the report was taken in
+abbrev pub absorbing : StockView → ℕ → StockView
+absorbing m p = let a = account_of m p in with_account m p (record a { book = a.book - a.noted; noted = 0 })
+
+-- ---- the table of kinds
+
+-- consume, by processor p: its stock word, held by g with n + 1 pages, to n; one fresh page more
+pub record Consumes (place before after : ℕ) (v w : StockView) : Type 0 where
+  pub group : ℕ
+  pub pages : ℕ
+  pub at_stock : place ≡ stock_place v.number
+  pub from_held : v.last ≡ HeldBy group (pages + 1)
+  pub word_before : before ≡ word_of (HeldBy group (pages + 1))
+  pub word_after : after ≡ word_of (HeldBy group pages)
+  pub view_after : w ≡ after_took v group pages
+
+-- credit, by processor p: its stock word, held by g with n pages, to n + 1; one fresh page less
+pub record Credits (place before after : ℕ) (v w : StockView) : Type 0 where
+  pub group : ℕ
+  pub pages : ℕ
+  pub at_stock : place ≡ stock_place v.number
+  pub from_held : v.last ≡ HeldBy group pages
+  pub word_before : before ≡ word_of (HeldBy group pages)
+  pub word_after : after ≡ word_of (HeldBy group (pages + 1))
+  pub has_word : HasWord (HeldBy group (pages + 1))
+  pub view_after : w ≡ after_back v group (pages + 1)
+
+-- a consume or a credit whose exchange failed, by processor p: its stock word is drained of the group that it saw last, and stays
+pub record SeesDrained (place before after : ℕ) (v w : StockView) : Type 0 where
+  pub at_stock : place ≡ stock_place v.number
+  pub word_before : before ≡ word_of (drained_of v.last)
+  pub word_after : after ≡ before
+  pub view_after : w ≡ after_drained v
+
+-- report, by the joined seats of the machine (m) and of processor p (v): p's report word from r to r + n; n fresh pages less, and n more noted
+pub record Reports (n place before after : ℕ) (m v m' v' : StockView) : Type 0 where
+  pub at_report : place ≡ report_place v.number
+  pub word_after : after ≡ before + n
+  pub machine_after : m' ≡ noting m v.number n
+  pub view_after : v' ≡ after_report v n
+
+-- a consume that always takes, by the joined seats: the stock has just the booked pages that are neither fresh nor reported
+pub record ConsumesHeld (place before after : ℕ) (m v m' v' : StockView) : Type 0 where
+  pub consumes : Consumes place before after v v'
+  pub of_group : (account_of m v.number).group ≡ Some consumes.group
+  pub has_word : HasWord (HeldBy consumes.group consumes.pages)
+  pub exact : (account_of m v.number).book ≡ pages_of v.last + v.fresh + (account_of m v.number).noted
+  pub machine_after : m' ≡ m
+
+-- fill, by the joined seats: p's stock word, with no page, to held by g with n; the book was 0 and is n
+pub record Fills (group pages place after : ℕ) (m v m' v' : StockView) : Type 0 where
+  pub at_stock : place ≡ stock_place v.number
+  pub word_after : after ≡ word_of (HeldBy group pages)
+  pub book_before : (account_of m v.number).book ≡ 0
+  pub machine_after : m' ≡ filling m v.number group pages
+  pub view_after : v' ≡ after_fill v group pages
+
+-- drain, by the machine's seat: p's stock word, held by g with n pages or drained of g, to drained of g; the book is n less
+pub record Drains (p group place before after : ℕ) (m m' : StockView) : Type 0 where
+  pub stock : Stock
+  pub at_stock : place ≡ stock_place p
+  pub of_group : group_of stock ≡ Some group
+  pub has_word : HasWord stock
+  pub word_before : before ≡ word_of stock
+  pub word_after : after ≡ word_of (DrainedOf group)
+  pub enough : pages_of stock ≤ (account_of m p).book
+  pub was_held : is_held stock ≡ (account_of m p).filled
+  pub machine_after : m' ≡ draining m p (pages_of stock)
+
+-- the drain of a stock that was never filled, by the machine's seat: p's stock word is 0 and stays
+pub record DrainsNone (p place before after : ℕ) (m m' : StockView) : Type 0 where
+  pub at_stock : place ≡ stock_place p
+  pub word_before : before ≡ 0
+  pub word_after : after ≡ 0
+  pub never_filled : (account_of m p).group ≡ None
+  pub machine_after : m' ≡ draining m p 0
+
+-- a look of a drain, by the machine's seat: p's stock word is of the group of the last fill, and stays
+pub record LooksAt (p place before after : ℕ) (m m' : StockView) : Type 0 where
+  pub stock : Stock
+  pub group : ℕ
+  pub at_stock : place ≡ stock_place p
+  pub of_group : group_of stock ≡ Some group
+  pub has_word : HasWord stock
+  pub word_before : before ≡ word_of stock
+  pub word_after : after ≡ before
+  pub filled_for : (account_of m p).group ≡ Some group
+  pub machine_after : m' ≡ m
+
+-- absorb, by the machine's seat: p's report word, which is what was noted, to 0; the book is so many less
+pub record Absorbs (p place before after : ℕ) (m m' : StockView) : Type 0 where
+  pub at_report : place ≡ report_place p
+  pub word_before : before ≡ (account_of m p).noted
+  pub word_after : after ≡ 0
+  pub enough : (account_of m p).noted ≤ (account_of m p).book
+  pub bounded : (account_of m p).book < 65536
+  pub machine_after : m' ≡ absorbing m p
+
+-- ---- how the steps of a table are read as kinds
+
+-- one seat, with one view
+abbrev pub Alone : {S : Type 0} → (Step S → ℕ → StockView → StockView → Type 0) → Step S → Me S (List StockView) → ℕ → Me S (List StockView) → Type 0
+Alone kind s me found next = (w : StockView) × (next ≡ (w ∷ [], me.1)) × kind s found (first_of me.0) w
+
+-- the machine's seat, joined with a processor's
+abbrev pub Joined : {S : Type 0} → (Step S → ℕ → StockView → StockView → StockView → StockView → Type 0) → Step S → Me S (List StockView) → ℕ → Me S (List StockView) → Type 0
+Joined kind s me found next = (m : StockView) × (v : StockView) × (next ≡ (m ∷ v ∷ [], me.1)) × kind s found (first_of me.0) (second_of me.0) m v
+
+-- the exchange of a consume: it took, or found its stock drained
+abbrev pub consuming : {S : Type 0} → Step S → ℕ → StockView → StockView → Type 0
+consuming s found v w = (found ≡ s.first → Consumes s.word found s.second v w) × (found ≢ s.first → SeesDrained s.word found found v w)
+
+-- the exchange of a credit
+abbrev pub crediting : {S : Type 0} → Step S → ℕ → StockView → StockView → Type 0
+crediting s found v w = (found ≡ s.first → Credits s.word found s.second v w) × (found ≢ s.first → SeesDrained s.word found found v w)
+
+-- the look of a drain: it drained nothing, or saw which group to drain
+abbrev pub looking : {S : Type 0} → Step S → ℕ → StockView → StockView → Type 0
+looking s found m m' = (p : ℕ) → s.word ≡ stock_place p → (found ≡ 0 → DrainsNone p s.word found found m m') × (found ≢ 0 → LooksAt p s.word found found m m')
+
+-- the swap of a drain
+abbrev pub draining_step : {S : Type 0} → Step S → ℕ → StockView → StockView → Type 0
+draining_step s found m m' = (p group : ℕ) → s.word ≡ stock_place p → (account_of m p).group ≡ Some group → Drains p group s.word found s.first m m'
+
+-- the swap of an absorb
+abbrev pub absorbing_step : {S : Type 0} → Step S → ℕ → StockView → StockView → Type 0
+absorbing_step s found m m' = (p : ℕ) → s.word ≡ report_place p → Absorbs p s.word found s.first m m'
+
+-- the addition of a report
+abbrev pub reporting_step : {S : Type 0} → Step S → ℕ → StockView → StockView → StockView → StockView → Type 0
+reporting_step s found m v m' v' = Reports s.first s.word found (found + s.first) m v m' v'
+
+-- the subtraction of a consume that always takes
+abbrev pub consuming_held : {S : Type 0} → Step S → ℕ → StockView → StockView → StockView → StockView → Type 0
+consuming_held s found m v m' v' = ConsumesHeld s.word found (found - s.first) m v m' v'
+
+-- the store of a fill
+abbrev pub filling_step : {S : Type 0} → Step S → ℕ → StockView → StockView → StockView → StockView → Type 0
+filling_step s found m v m' v' = (group pages : ℕ) → pages < 65536 → s.first ≡ word_of (HeldBy group pages) → Fills group pages s.word s.first m v m' v'

@@ -1,0 +1,4 @@
+pub mod Stock
+pub mod StockRule
+pub mod Kinds
+pub mod Calls

@@ -1,0 +1,162 @@
+-- What a stock word says and its encoding, and what a seat knows of the stocks.
+use Rattle.std.specs.Prelude.{◌≡◌, ℕ, zero, suc, ◌+◌, ◌-◌, ◌*◌, ◌<◌, ◌≤◌, Bool, true, false, List, [], ◌∷◌, Option, Some, None}
+use Rattle.atomic_table.specs.Seated.{TableId}
+use Rattle.atomic_table.specs.Table.{Me}
+use Rattle.seat_sums.specs.Totals.{sum_over}
+use Rattle.stock_word.specs.declared.view.Stock.{Stock}
+use Rattle.stock_word.specs.declared.view.Stock.TheVariants.{NoGroup, HeldBy, DrainedOf}
+use Rattle.stock_word.specs.declared.view.Account.{Account}
+use Rattle.stock_word.specs.declared.view.StockView.{StockView}
+
+-- the word of a stock
+abbrev pub word_of : Stock → ℕ
+word_of NoGroup = 0
+word_of (HeldBy g n) = (g + 1) * 65536 + n
+word_of (DrainedOf g) = 4294967296 + (g + 1) * 65536
+
+-- the stock has a word: its group is one of 64, and its pages are at most 65,535
+abbrev pub HasWord : Stock → Type 0
+HasWord NoGroup = Unit {0}
+HasWord (HeldBy g n) = (g < 64) × (n < 65536)
+HasWord (DrainedOf g) = g < 64
+
+-- the pages in a stock
+abbrev pub pages_of : Stock → ℕ
+pages_of NoGroup = 0
+pages_of (HeldBy g n) = n
+pages_of (DrainedOf g) = 0
+
+-- the group of a stock
+abbrev pub group_of : Stock → Option ℕ
+group_of NoGroup = None
+group_of (HeldBy g n) = Some g
+group_of (DrainedOf g) = Some g
+
+abbrev pub is_held : Stock → Bool
+is_held NoGroup = false
+is_held (HeldBy g n) = true
+is_held (DrainedOf g) = false
+
+-- the stock after a drain
+abbrev pub drained_of : Stock → Stock
+drained_of NoGroup = NoGroup
+drained_of (HeldBy g n) = DrainedOf g
+drained_of (DrainedOf g) = DrainedOf g
+
+-- a processor that was never filled for
+abbrev pub no_account : Account
+no_account = record { book = 0; group = None; filled = false; noted = 0 }
+
+abbrev pub account_at : List Account → ℕ → Account
+account_at [] p = no_account
+account_at (a ∷ accounts) zero = a
+account_at (a ∷ accounts) (suc p) = account_at accounts p
+
+-- the accounts with another one at p
+abbrev pub with_account_at : List Account → ℕ → Account → List Account
+with_account_at [] zero b = b ∷ []
+with_account_at [] (suc p) b = no_account ∷ with_account_at [] p b
+with_account_at (a ∷ accounts) zero b = b ∷ accounts
+with_account_at (a ∷ accounts) (suc p) b = a ∷ with_account_at accounts p b
+
+-- A seat as contracts see it: its table, and what it knows
+pub record Seated : Type 0 where
+  pub table : TableId
+  pub view : StockView
+
+-- the machine's account of processor p
+abbrev pub account_of : StockView → ℕ → Account
+account_of machine p = account_at machine.accounts p
+
+abbrev pub with_account : StockView → ℕ → Account → StockView
+with_account machine p account = record machine { accounts = with_account_at machine.accounts p account }
+
+-- what the machine's seat knows at first
+abbrev pub first_machine : StockView
+first_machine = record { number = 0; fresh = 0; last = NoGroup; accounts = [] }
+
+-- what the seat of processor p knows at first
+abbrev pub first_processor : ℕ → StockView
+first_processor p = record { number = p; fresh = 0; last = NoGroup; accounts = [] }
+
+-- A table as contracts see it: which one it is, and how many processors it has
+pub record Words : Type 0 where
+  pub table : TableId
+  pub cpus : ℕ
+
+-- what is left of the views of joined seats where the second is taken out, and that second
+abbrev pub without_second : List StockView → List StockView
+without_second [] = []
+without_second (v ∷ []) = v ∷ []
+without_second (v ∷ w ∷ views) = v ∷ views
+
+abbrev pub second_alone : List StockView → List StockView
+second_alone [] = []
+second_alone (v ∷ []) = []
+second_alone (v ∷ w ∷ views) = w ∷ []
+
+-- the processors' views at first: count of them, from number p on
+abbrev pub first_processors : ℕ → ℕ → List StockView
+first_processors p zero = []
+first_processors p (suc count) = first_processor p ∷ first_processors (p + 1) count
+
+-- the processors' seats at first
+abbrev pub first_seats : TableId → ℕ → ℕ → List Seated
+first_seats table p zero = []
+first_seats table p (suc count) = record { table = table; view = first_processor p } ∷ first_seats table (p + 1) count
+
+-- the seats of the processors p, p + 1 and so on of one table, in order
+abbrev pub AreSeats : TableId → ℕ → List Seated → Type 0
+AreSeats table p [] = Unit {0}
+AreSeats table p (seat ∷ seats) = (seat.table ≡ table) × (seat.view.number ≡ p) × AreSeats table (p + 1) seats
+
+-- the view of the seat at k
+abbrev pub view_in : List Seated → ℕ → StockView
+view_in [] k = first_machine
+view_in (seat ∷ seats) zero = seat.view
+view_in (seat ∷ seats) (suc k) = view_in seats k
+
+-- the views of a list of seats
+abbrev pub views_of : List Seated → List StockView
+views_of [] = []
+views_of (seat ∷ seats) = seat.view ∷ views_of seats
+
+-- the first view of a seat that has one, and the second of joined seats
+abbrev pub first_of : List StockView → StockView
+first_of [] = first_machine
+first_of (v ∷ views) = v
+
+abbrev pub second_of : List StockView → StockView
+second_of [] = first_machine
+second_of (v ∷ views) = first_of views
+
+-- the pages that processor p's stock has by the books: those that are neither fresh nor reported
+abbrev pub stocked : Account → StockView → ℕ
+stocked account view = account.book - view.fresh - account.noted
+
+-- What a seat keeps beside its place in the table: it has one view, of which it keeps the number and the last stock; a processor that never saw a stock has no fresh page
+pub record IsKept {S : Type 0} (me : Me S (List StockView)) (number : ℕ) (last : Stock) : Type 0 where
+  pub one_view : me ≡ (first_of me.0 ∷ [], [])
+  pub same_number : number ≡ (first_of me.0).number
+  pub same_last : last ≡ (first_of me.0).last
+  pub last_word : HasWord last
+  pub none_fresh : last ≡ NoGroup → (first_of me.0).fresh ≡ 0
+
+-- the view is that of a processor's seat, or of the machine's
+abbrev pub IsProcessor : Words → StockView → Type 0
+IsProcessor words view = (0 < view.number) × (view.number ≤ words.cpus)
+
+abbrev pub IsMachine : StockView → Type 0
+IsMachine view = view.number ≡ 0
+
+-- a view of a seat of this number that has seen nothing
+abbrev pub StartsAs : ℕ → StockView → Type 0
+StartsAs number view = (view.number ≡ number) × (view.last ≡ NoGroup) × (view.fresh ≡ 0)
+
+-- these views are the machine's and those of the seats, in whatever order: each function of one view has the same sum
+abbrev pub Gathers : StockView → List Seated → List StockView → Type 0
+Gathers machine seats views = (f : StockView → ℕ) → sum_over f views ≡ f machine + sum_over f (views_of seats)
+
+-- the stock of a processor may be filled: it was never filled or was drained since, and the processor has no fresh page and none reported that was not taken in
+abbrev pub IsSettled : StockView → StockView → Type 0
+IsSettled machine view = ((account_of machine view.number).filled ≡ false) × (view.fresh ≡ 0) × ((account_of machine view.number).noted ≡ 0)

@@ -1,0 +1,54 @@
+-- The stock rule: what the words and the views of all seats always satisfy, between any two atomic steps.
+use Rattle.std.specs.Prelude.{◌≡◌, ℕ, ◌+◌, ◌*◌, ◌<◌, ◌≤◌, ◌⊎◌, List, ◌==◌, cond, None, length, slice_index}
+use Rattle.seat_sums.specs.Totals.{total_over}
+use Rattle.stock_word.specs.declared.view.Stock.{Stock}
+use Rattle.stock_word.specs.declared.view.Account.{Account}
+use Rattle.stock_word.specs.declared.view.StockView.{StockView}
+use Rattle.stock_word.specs.Stock.{word_of, HasWord, pages_of, group_of, is_held, drained_of, account_of}
+
+-- the places of processor p's words
+abbrev pub stock_place : ℕ → ℕ
+stock_place p = 16 * p
+
+abbrev pub report_place : ℕ → ℕ
+report_place p = 16 * p + 1
+
+-- f of a view of seat number q, and 0 of any other
+abbrev pub at_seat : ℕ → (StockView → ℕ) → StockView → ℕ
+at_seat q f view = cond (view.number == q) (f view) 0
+
+-- Among the views of all seats, joined ones and all, this is the only one of number q: whatever is summed over the views of number q comes to what it is of this one
+abbrev pub IsOnly : List (List StockView) → ℕ → StockView → Type 0
+IsOnly seats q view = (f : StockView → ℕ) → total_over (at_seat q f) seats ≡ f view
+
+-- The stock word and the report word of one processor, the machine's account of it, and the processor's view
+pub record IsStock (word report : ℕ) (account : Account) (view : StockView) : Type 0 where
+  pub stock : Stock
+  pub encoded : word ≡ word_of stock
+  pub has_word : HasWord stock
+  -- the book is the pages in the stock, the fresh pages and the reported pages, and fits a word
+  pub balanced : account.book ≡ pages_of stock + view.fresh + report
+  pub bounded : account.book < 65536
+  -- the stock is of the group of the last fill, and of no group before the first, when nothing is booked
+  pub of_group : group_of stock ≡ account.group
+  pub unfilled : account.group ≡ None → account.book ≡ 0
+  -- it is held from each fill to the next drain; else the word is 0 or drained
+  pub held : is_held stock ≡ account.filled
+  -- what was reported was noted
+  pub reported : report ≡ account.noted
+  -- the word is what the processor saw last, or was drained since, of the same group
+  pub last_seen : (stock ≡ view.last) ⊎ (stock ≡ drained_of view.last)
+  pub last_word : HasWord view.last
+
+-- processor p has one seat, whose view tells its words together with the machine's
+pub record HoldsAt (words : List ℕ) (seats : List (List StockView)) (machine : StockView) (p : ℕ) : Type 0 where
+  pub view : StockView
+  pub only : IsOnly seats p view
+  pub stock : IsStock (slice_index words (stock_place p)) (slice_index words (report_place p)) (account_of machine p) view
+
+-- the machine has one seat, and each processor one
+pub record StockRule (cpus : ℕ) (words : List ℕ) (seats : List (List StockView)) : Type 0 where
+  pub rows : length words ≡ 16 * (cpus + 1)
+  pub machine : StockView
+  pub only : IsOnly seats 0 machine
+  pub each : (p : ℕ) → 0 < p → p ≤ cpus → HoldsAt words seats machine p

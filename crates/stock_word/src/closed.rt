@@ -1,0 +1,96 @@
+//! The end of a stock table.
+ghost use Rattle.std.specs.Prelude.{◌≡◌, ◌+◌, ◌-◌, ◌*◌, ◌<◌, ◌≤◌, ℕ, [], ◌∷◌, length, slice_index};
+ghost use Rattle.stock_word.specs.Stock.{IsMachine, AreSeats, first_of, Gathers, account_of, view_in, word_of, HasWord};
+ghost use Rattle.stock_word.specs.declared.view.Stock.{Stock as AStock};
+ghost use Rattle.stock_word.specs.StockRule.{IsStock, stock_place as place_of_stock, report_place as place_of_report};
+
+use crate::kinds::{Both, Views};
+use crate::seat::StockSeat;
+use crate::view::Stock;
+use crate::words::{StockWords, report_place, stock_place};
+use atomic_table::{Closed, Seat};
+use std::alloc::Global;
+use std::marker::Model;
+
+/// The words of a table that no thread shares any more. A contract sees them as a list, in rows of
+/// sixteen: word 16 p is the stock word of processor p, word 16 p + 1 its report word.
+pub struct ClosedWords {
+    closed: Closed<(), Global>,
+}
+
+impl Model for ClosedWords {
+    ghost use Rattle.std.specs.Prelude.{◌≡◌, ℕ, List};
+    ghost use Rattle.std.specs.Mem.Slots.{slots_items, slots_len, IsFull};
+
+    ghost Value = { List ℕ };
+
+    ghost view = { λ c. slots_items c.closed.words };
+
+    ghost invariant = { λ c. IsFull c.closed.words × (slots_len c.closed.slots ≡ 0) };
+}
+
+impl StockWords {
+    // The machine's seat takes in all seats of the processors.
+    fn gather(&self, seat0: &mut Seat<(), Views>, mut seats: Vec<StockSeat>)
+        requires table { (seat0.old.table_id ≡ self.now.table) × AreSeats self.now.table 1 seats.items }
+        requires alone { seat0.old.me ≡ (first_of seat0.old.me.0 ∷ [], []) }
+        ensures table { seat0.new.table_id ≡ self.now.table }
+        ensures all { Gathers (first_of seat0.old.me.0) seats.items seat0.new.me.0 }
+        ensures slots { seat0.new.me.1 ≡ [] }
+    {
+        while let Some(seat) = seats.pop() {
+            let StockSeat {
+                seat,
+                number: _,
+                last: _,
+            } = seat;
+            self.table.shared.join_seat::<Both>(seat0, seat);
+        }
+    }
+
+    /// Ends the table, with all its seats: the machine's and those of the processors in their
+    /// order. For each processor its words are what the machine's account of it and its own seat
+    /// tell, so no page was lost or made.
+    pub fn close(self, seat0: StockSeat, seats: Vec<StockSeat>) -> ClosedWords
+        requires machine { (seat0.table ≡ self.table) × IsMachine seat0.view }
+        requires processors { AreSeats self.table 1 seats.items × (length seats.items ≡ self.cpus) }
+        ensures length { length result ≡ 16 * (self.cpus + 1) }
+        ensures stocks { (p : ℕ) → 0 < p → p ≤ self.cpus → IsStock (slice_index result (place_of_stock p)) (slice_index result (place_of_report p)) (account_of seat0.view p) (view_in seats.items (p - 1)) }
+    {
+        let StockSeat {
+            mut seat,
+            number: _,
+            last: _,
+        } = seat0;
+        self.gather(&mut seat, seats);
+        let StockWords { table } = self;
+        ClosedWords {
+            closed: table.close_with(seat),
+        }
+    }
+}
+
+impl ClosedWords {
+    /// What the stock word of processor `p` says.
+    pub fn stock(&self, p: u32) -> Stock
+        requires { place_of_stock p < length self.now }
+        ensures { (stock : AStock) → HasWord stock → slice_index self.now (place_of_stock p) ≡ word_of stock → result ≡ stock }
+    {
+        Stock::of_word(self.closed.word(stock_place(p)))
+    }
+
+    /// The number of pages in the report word of processor `p`.
+    pub fn reported(&self, p: u32) -> u64
+        requires { place_of_report p < length self.now }
+        ensures { result ≡ slice_index self.now (place_of_report p) }
+    {
+        self.closed.word(report_place(p))
+    }
+}
+
+impl Drop for ClosedWords {
+    fn drop(self) {
+        let ClosedWords { closed } = self;
+        closed.free();
+    }
+}

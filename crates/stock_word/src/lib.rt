@@ -1,0 +1,30 @@
+//! Pages prepaid for a processor: a stock word and a report word for each, changed by single
+//! atomic steps. The processor pays from its stock without a lock; the machine's seat fills it,
+//! drains it and takes in what the processor reports.
+//!
+//! Row p of sixteen words is processor p's: word 0 is its stock word, word 1 its report word. The
+//! others stand for distance, so that no two processors write to one cache line. Row 0 is unused.
+//!
+//! | stock word | value |
+//! | --- | --- |
+//! | no group (at first) | 0 |
+//! | held by group g with n pages | (g + 1) * 65536 + n |
+//! | drained of group g | 2^32 + (g + 1) * 65536 |
+//!
+//! A report word is a number of pages.
+#![tactic(auto)]
+
+mod closed;
+mod kinds;
+mod machine;
+mod make;
+mod seat;
+#[cfg(test)]
+mod tests;
+mod view;
+mod words;
+
+pub use closed::ClosedWords;
+pub use seat::StockSeat;
+pub use view::{Account, Stock, StockView};
+pub use words::{Consume, Credit, StockRule, StockWords};

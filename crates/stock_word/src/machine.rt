@@ -1,0 +1,145 @@
+//! The calls of the machine's seat, alone or joined with a processor's. Whoever has that seat has
+//! the zone's lock.
+ghost use Rattle.std.specs.Prelude.{◌≡◌, ◌+◌, ◌-◌, ◌<◌, ◌≤◌, [], ◌∷◌, false, Some};
+ghost use Rattle.stock_word.specs.Stock.{IsProcessor, IsMachine, account_of, stocked, first_of, second_of};
+ghost use Rattle.stock_word.specs.Kinds.{after_took, after_report, noting, filling, after_fill, draining, absorbing};
+ghost use Rattle.stock_word.specs.Calls.{with_view};
+
+use crate::kinds::{
+    Absorbing, Both, ConsumingHeld, Draining, Filling, Looking, Nothing, Reporting, Second, Views,
+};
+use crate::seat::StockSeat;
+use crate::view::Stock;
+use crate::words::{StockWords, report_place, stock_place};
+use atomic_table::Seat;
+use std::mem;
+
+impl StockWords {
+    // The machine's seat takes in the processor's, in the place of which an empty seat stands.
+    fn join(&self, seat0: &mut Seat<(), Views>, seat: &mut Seat<(), Views>)
+        requires tables { (seat0.old.table_id ≡ self.now.table) × (seat.old.table_id ≡ self.now.table) }
+        requires views { (seat0.old.me ≡ (first_of seat0.old.me.0 ∷ [], [])) × (seat.old.me ≡ (first_of seat.old.me.0 ∷ [], [])) }
+        ensures tables { (seat0.new.table_id ≡ self.now.table) × (seat.new.table_id ≡ self.now.table) }
+        ensures joined { seat0.new.me ≡ (first_of seat0.old.me.0 ∷ first_of seat.old.me.0 ∷ [], []) }
+    {
+        let empty = self.table.shared.split_seat::<Nothing>(seat0);
+        let processor = mem::replace(seat, empty);
+        self.table.shared.join_seat::<Both>(seat0, processor);
+    }
+
+    // Parts joined seats again.
+    fn part(&self, seat0: &mut Seat<(), Views>, seat: &mut Seat<(), Views>)
+        requires table { seat0.old.table_id ≡ self.now.table }
+        requires joined { seat0.old.me ≡ (first_of seat0.old.me.0 ∷ second_of seat0.old.me.0 ∷ [], []) }
+        ensures tables { (seat0.new.table_id ≡ self.now.table) × (seat.new.table_id ≡ self.now.table) }
+        ensures machine { seat0.new.me ≡ (first_of seat0.old.me.0 ∷ [], []) }
+        ensures processor { seat.new.me ≡ (second_of seat0.old.me.0 ∷ [], []) }
+    {
+        *seat = self.table.shared.split_seat::<Second>(seat0);
+    }
+
+    /// Puts `n` fresh pages of the processor into its report word, from which an `absorb` takes
+    /// them.
+    pub fn report(&self, seat0: &mut StockSeat, seat: &mut StockSeat, n: u32)
+        requires tables { (seat0.old.table ≡ self.now.table) × (seat.old.table ≡ self.now.table) }
+        requires machine { IsMachine seat0.old.view }
+        requires processor { IsProcessor self.now seat.old.view }
+        requires fresh { n ≤ seat.old.view.fresh }
+        ensures machine { seat0.new ≡ with_view seat0.old (noting seat0.old.view seat.old.view.number n) }
+        ensures processor { seat.new ≡ with_view seat.old (after_report seat.old.view n) }
+    {
+        self.join(&mut seat0.seat, &mut seat.seat);
+        let place = report_place(seat.number);
+        self.table
+            .shared
+            .fetch_add::<Reporting>(&mut seat0.seat, place, u64::from(n));
+        self.part(&mut seat0.seat, &mut seat.seat);
+    }
+
+    /// A `consume` that always takes. By the books the processor's stock, which is of group `g`
+    /// (0 to 63), has a page that is neither fresh nor reported.
+    pub fn consume_held(&self, seat0: &mut StockSeat, seat: &mut StockSeat, g: u32)
+        requires tables { (seat0.old.table ≡ self.now.table) × (seat.old.table ≡ self.now.table) }
+        requires machine { IsMachine seat0.old.view }
+        requires processor { IsProcessor self.now seat.old.view }
+        requires group { (account_of seat0.old.view seat.old.view.number).group ≡ Some g }
+        requires page { seat.old.view.fresh + (account_of seat0.old.view seat.old.view.number).noted < (account_of seat0.old.view seat.old.view.number).book }
+        ensures machine { seat0.new ≡ seat0.old }
+        ensures processor { seat.new ≡ with_view seat.old (after_took seat.old.view g (stocked (account_of seat0.old.view seat.old.view.number) seat.old.view - 1)) }
+    {
+        self.join(&mut seat0.seat, &mut seat.seat);
+        let place = stock_place(seat.number);
+        let found = self
+            .table
+            .shared
+            .fetch_sub::<ConsumingHeld>(&mut seat0.seat, place, 1);
+        seat.last = Stock::of_word(found - 1);
+        self.part(&mut seat0.seat, &mut seat.seat);
+    }
+
+    /// Fills the processor's stock with `n` pages (1 to 65,535) of group `g` (0 to 63). The stock
+    /// was never filled, or was drained after its last fill, and the processor has no fresh page
+    /// and none reported that was not taken in.
+    pub fn fill(&self, seat0: &mut StockSeat, seat: &mut StockSeat, g: u32, n: u32)
+        requires tables { (seat0.old.table ≡ self.now.table) × (seat.old.table ≡ self.now.table) }
+        requires machine { IsMachine seat0.old.view }
+        requires processor { IsProcessor self.now seat.old.view }
+        requires group { g < 64 }
+        requires pages { (0 < n) × (n < 65536) }
+        requires drained { (account_of seat0.old.view seat.old.view.number).filled ≡ false }
+        requires settled { (seat.old.view.fresh ≡ 0) × ((account_of seat0.old.view seat.old.view.number).noted ≡ 0) }
+        ensures nothing_booked { (account_of seat0.old.view seat.old.view.number).book ≡ 0 }
+        ensures machine { seat0.new ≡ with_view seat0.old (filling seat0.old.view seat.old.view.number g n) }
+        ensures processor { seat.new ≡ with_view seat.old (after_fill seat.old.view g n) }
+    {
+        self.join(&mut seat0.seat, &mut seat.seat);
+        let stock = Stock::HeldBy { group: g, pages: n };
+        let place = stock_place(seat.number);
+        self.table
+            .shared
+            .store::<Filling>(&mut seat0.seat, place, stock.word());
+        seat.last = stock;
+        self.part(&mut seat0.seat, &mut seat.seat);
+    }
+
+    /// Takes all pages out of the stock of processor `p`, and tells how many they were. The stock
+    /// is drained from then on, until a fill. It is 0 where the stock was never filled or is
+    /// drained already. The processor's own calls may go on meanwhile.
+    pub fn drain(&self, seat0: &mut StockSeat, p: u32) -> u32
+        requires table { seat0.old.table ≡ self.now.table }
+        requires machine { IsMachine seat0.old.view }
+        requires processor { (0 < p) × (p ≤ self.now.cpus) }
+        ensures machine { seat0.new ≡ with_view seat0.old (draining seat0.old.view p result) }
+        ensures booked { result ≤ (account_of seat0.old.view p).book }
+        ensures drained_before { (account_of seat0.old.view p).filled ≡ false → result ≡ 0 }
+    {
+        let place = stock_place(p);
+        let seen = self.table.shared.load::<Looking>(&mut seat0.seat, place);
+        match Stock::of_word(seen) {
+            Stock::NoGroup => 0,
+            Stock::HeldBy { group, pages: _ } | Stock::DrainedOf { group } => {
+                let drained = Stock::DrainedOf { group };
+                let found = self
+                    .table
+                    .shared
+                    .swap::<Draining>(&mut seat0.seat, place, drained.word());
+                Stock::of_word(found).pages()
+            }
+        }
+    }
+
+    /// Takes in the pages that processor `p` reported and that were not taken in yet, and tells
+    /// how many they are. They are no longer booked to its stock.
+    pub fn absorb(&self, seat0: &mut StockSeat, p: u32) -> u32
+        requires table { seat0.old.table ≡ self.now.table }
+        requires machine { IsMachine seat0.old.view }
+        requires processor { (0 < p) × (p ≤ self.now.cpus) }
+        ensures reported { result ≡ (account_of seat0.old.view p).noted }
+        ensures machine { seat0.new ≡ with_view seat0.old (absorbing seat0.old.view p) }
+    {
+        let place = report_place(p);
+        self.table
+            .shared
+            .swap::<Absorbing>(&mut seat0.seat, place, 0) as u32
+    }
+}

@@ -1,0 +1,64 @@
+//! A new stock table.
+ghost use Rattle.std.specs.Prelude.{◌≡◌, ◌<◌, ◌≤◌, [], ◌∷◌, IfOk, OnOk};
+ghost use Rattle.stock_word.specs.Stock.{first_machine, first_processor, first_processors, first_seats, first_of, StartsAs};
+
+use crate::kinds::{Second, Views};
+use crate::seat::StockSeat;
+use crate::view::Stock;
+use crate::words::StockWords;
+use atomic_table::{Seat, Table};
+use std::alloc::{AllocError, Global};
+
+// A seat as it is at first.
+fn seated(seat: Seat<(), Views>, number: u32) -> StockSeat
+    requires view { seat.me ≡ (first_of seat.me.0 ∷ [], []) }
+    requires first { StartsAs number (first_of seat.me.0) }
+    ensures { result ≡ record { table = seat.table_id; view = first_of seat.me.0 } }
+{
+    StockSeat {
+        seat,
+        number,
+        last: Stock::NoGroup,
+    }
+}
+
+impl StockWords {
+    /// A table for the processors 1 to `cpus` (1 to 64), with the machine's seat and those of the
+    /// processors in their order. No stock has a group, and nothing is booked.
+    pub fn new(
+        alloc: Global,
+        cpus: u32,
+    ) -> Result<(StockWords, StockSeat, Vec<StockSeat>), AllocError>
+        requires { (1 ≤ cpus) × (cpus ≤ 64) }
+        ensures cpus { IfOk result (λ r. r.0.cpus ≡ cpus) }
+        ensures machine { IfOk result (λ r. r.1 ≡ record { table = r.0.table; view = first_machine }) }
+        ensures processors { IfOk result (λ r. r.2.items ≡ first_seats r.0.table 1 cpus) }
+    {
+        let words = vec![in alloc; 0u64; 16 * (cpus as usize + 1)]?;
+        let (table, mut seat) = Table::of_words(alloc, words.as_slice(), &cpus)?;
+        let words = StockWords { table };
+        let seats = words.deal(alloc, &mut seat, cpus)?;
+        Ok((words, seated(seat, 0), seats))
+    }
+
+    // Gives each processor its seat, out of the one that has all views.
+    fn deal(
+        &self,
+        alloc: Global,
+        seat: &mut Seat<(), Views>,
+        cpus: u32,
+    ) -> Result<Vec<StockSeat>, AllocError>
+        requires table { (seat.old.table_id ≡ self.now.table) × (cpus ≤ 64) }
+        requires views { seat.old.me ≡ (first_machine ∷ first_processors 1 cpus, []) }
+        ensures table { seat.new.table_id ≡ self.now.table }
+        ensures machine { OnOk result (seat.new.me ≡ (first_machine ∷ [], [])) }
+        ensures processors { IfOk result (λ seats. seats.items ≡ first_seats self.now.table 1 cpus) }
+    {
+        let mut seats = Vec::new(alloc);
+        for p in 1..cpus + 1 {
+            let next = self.table.shared.split_seat::<Second>(seat);
+            seats.push(seated(next, p))?;
+        }
+        Ok(seats)
+    }
+}

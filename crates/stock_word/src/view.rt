@@ -1,0 +1,84 @@
+//! What a stock word says, and what a seat at the stock table knows.
+use std::collections::LinkedList;
+
+// A word from here on is that of a drained stock.
+pub(crate) const DRAINED: u64 = 1 << 32;
+
+/// What a processor has prepaid. Groups are numbers from 0 to 63.
+#[derive(Clone, Copy, Debug, PartialEq, Eq)]
+pub enum Stock {
+    /// No group yet: the stock was never filled.
+    NoGroup,
+    /// So many pages, 0 to 65,535, are prepaid for the group.
+    HeldBy { group: u32, pages: u32 },
+    /// The pages were taken back from the stock of the group, which stays so until a fill.
+    DrainedOf { group: u32 },
+}
+
+impl Stock {
+    ghost use Rattle.std.specs.Prelude.{◌≡◌};
+    ghost use Rattle.stock_word.specs.declared.view.Stock.{Stock};
+    ghost use Rattle.stock_word.specs.Stock.{word_of, HasWord, pages_of};
+
+    // The stock's word.
+    pub(crate) fn word(self) -> u64
+        ensures { result ≡ word_of self }
+    {
+        match self {
+            Stock::NoGroup => 0,
+            Stock::HeldBy { group, pages } => (u64::from(group) + 1) * 65_536 + u64::from(pages),
+            Stock::DrainedOf { group } => DRAINED + (u64::from(group) + 1) * 65_536,
+        }
+    }
+
+    // The stock of a word.
+    pub(crate) fn of_word(word: u64) -> Stock
+        ensures { (stock : Stock) → HasWord stock → word ≡ word_of stock → result ≡ stock }
+    {
+        let code = (word % DRAINED) / 65_536;
+        if code == 0 {
+            return Stock::NoGroup;
+        }
+        let group = (code - 1) as u32;
+        if word < DRAINED {
+            let pages = (word % 65_536) as u32;
+            Stock::HeldBy { group, pages }
+        } else {
+            Stock::DrainedOf { group }
+        }
+    }
+
+    /// The pages in the stock.
+    pub fn pages(self) -> u32
+        ensures { result ≡ pages_of self }
+    {
+        match self {
+            Stock::HeldBy { group: _, pages } => pages,
+            Stock::NoGroup | Stock::DrainedOf { group: _ } => 0,
+        }
+    }
+}
+
+/// What the machine's seat knows of one processor. No value of it is made.
+pub struct Account {
+    /// Pages charged through this processor's stock: prepaid, fresh and reported ones.
+    pub book: u64,
+    /// The group of its last fill.
+    pub group: Option<u32>,
+    /// Whether it was filled and not drained since.
+    pub filled: bool,
+    /// Pages that were reported and not taken in yet.
+    pub noted: u64,
+}
+
+/// What a seat knows. Seat 0 is the machine's, the others the processors'. No value of it is made.
+pub struct StockView {
+    /// 0 at the machine's seat, else the processor's number.
+    pub number: u32,
+    /// Pages that the processor took and has neither given back nor reported.
+    pub fresh: u64,
+    /// The stock that the processor saw last. Its fresh pages are of that group.
+    pub last: Stock,
+    /// The machine's account of each processor, by its number. Place 0 is unused.
+    pub accounts: LinkedList<Account>,
+}

@@ -1,0 +1,4 @@
+pub mod Frames
+pub mod Halves
+pub mod Merging
+pub mod Sets

@@ -1,0 +1,44 @@
+use Rattle.std.proofs.Common.{◌≡◌, ℕ, ◌+◌, ◌-◌, ◌^◌, ◌∙◌, ap, refl, arith}
+use Rattle.zone_blocks.specs.declared.block.Block.{Block}
+use Rattle.zone_blocks.proofs.Filling.{same_block}
+use Rattle.zone_buddy.specs.Zone.{block_at}
+use Rattle.zone_buddy.proofs.Halves.{upper_ready, halve_step}
+use Rattle.zone_buddy.proofs.split.free_upper_halves.Goals as goal
+
+-- the block that is put in is the upper half
+half_is : (at e size order : ℕ) → size ≡ 2 ^ order → order ≡ e → (u : Block) → u ≡ block_at (at + size) order → u ≡ block_at (at + 2 ^ e) e
+half_is at e size order s o u same =
+    let power : ℕ → ℕ = λ i. at + 2 ^ i in
+    let sum : ℕ → ℕ = λ i. at + i in
+    same ∙ same_block (block_at (at + size) order) (block_at (at + 2 ^ e) e) (ap sum s ∙ ap power o) o
+
+pub insert-requires-clause-block : goal.insert-requires-clause-block
+insert-requires-clause-block c =
+    let e : ℕ = c.loop-exponent.exponent - 1 in
+    let o = rw c.unwrap-half.ensures at c.of.ensures in
+    let k : c.loop-exponent.exponent ≡ e + 1 = omega arith in
+    (upper_ready c.loop-exponent.areas c.args.at c.loop-exponent.exponent e _ k
+    (half_is c.args.at e c.frames.result c.unwrap-half.result c.frames.ensures.frames o.0 _ refl) c.loop-exponent.invariant.halving).0
+
+pub insert-requires-clause-apart : goal.insert-requires-clause-apart
+insert-requires-clause-apart c =
+    let e : ℕ = c.loop-exponent.exponent - 1 in
+    let o = rw c.unwrap-half.ensures at c.of.ensures in
+    let k : c.loop-exponent.exponent ≡ e + 1 = omega arith in
+    (upper_ready c.loop-exponent.areas c.args.at c.loop-exponent.exponent e _ k
+    (half_is c.args.at e c.frames.result c.unwrap-half.result c.frames.ensures.frames o.0 _ refl) c.loop-exponent.invariant.halving).1
+
+pub loop-exponent-preserved : goal.loop-exponent-preserved
+loop-exponent-preserved c =
+    let e : ℕ = c.loop-exponent.exponent - 1 in
+    let o = rw c.unwrap-half.ensures at c.of.ensures in
+    let k : c.loop-exponent.exponent ≡ e + 1 = omega arith in
+    let r = halve_step c.loop-exponent.areas c.insert.new.self c.args.at c.loop-exponent.exponent e _ k
+    (half_is c.args.at e c.frames.result c.unwrap-half.result c.frames.ensures.frames o.0 _ refl) c.loop-exponent.invariant.halving
+    c.insert.ensures.blocks c.insert.ensures.frames in
+    record {
+      halving = r.0;
+      frames = c.insert.ensures.frames ∙ c.loop-exponent.invariant.frames;
+      enough = omega (arith, c.exponent.ensures.exponent);
+      taken = λ free t. r.1 free (c.loop-exponent.invariant.taken free t);
+    }

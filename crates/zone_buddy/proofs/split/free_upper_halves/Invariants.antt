@@ -1,0 +1,16 @@
+use Rattle.std.proofs.Common.{◌≡◌, ◌≤◌, List, Bool}
+use Rattle.zone_buddy.specs.Zone.{block_at, set_of, TakesFrames}
+use Rattle.zone_buddy.proofs.Halves.{Halving}
+use Rattle.zone_buddy.proofs.split.free_upper_halves.Given as goal
+
+abbrev pub invariant-loop-exponent : goal.invariant-loop-exponent
+invariant-loop-exponent l = record {
+  halving : Halving l.areas l.at l.exponent;
+  frames : l.areas.frames ≡ l.initial.areas.frames;
+  enough : l.order ≤ l.exponent;
+  taken : (free : List Bool) → TakesFrames free (block_at l.at l.initial.exponent) (set_of l.initial.areas)
+      → TakesFrames free (block_at l.at l.exponent) (set_of l.areas);
+}
+
+abbrev pub decreases-loop-exponent : goal.decreases-loop-exponent
+decreases-loop-exponent l = l.exponent

@@ -1,0 +1,66 @@
+-- A zone whose frames are taken and given back in blocks, as in Knuth's buddy system (The Art of Computer Programming, 2.5).
+use Rattle.std.specs.Prelude.{◌≡◌, ◌+◌, ◌-◌, ◌%◌, ◌^◌, ℕ, ◌<◌, ◌↔◌, ◌⊎◌, ◌==◌, ◌&&◌, Bool, List, length, map, if◌then◌else◌, nat_le, nat_lt}
+use Rattle.std.specs.List.{Contains, list_any, range_with_len}
+use Rattle.zone_blocks.specs.declared.block.Block.{Block}
+use Rattle.zone_blocks.specs.Block.{Covers, enclosing}
+use Rattle.zone_blocks.specs.Areas.{IsFree, AreMaximalBlocks, FreeBlocks, IsSmallestFrom, Removes}
+
+-- what a caller sees of a zone: for each frame whether it is free, and the maximal free blocks in walk order
+pub record Zone : Type 0 where
+  pub free : List Bool
+  pub blocks : List Block
+
+-- the block's frames were free and are in use, and all others are as before
+pub record TakesFrames (before : List Bool) (b : Block) (after : List Bool) : Type 0 where
+  pub same_length : length after ≡ length before
+  pub were_free : (f : ℕ) → Covers b f → IsFree before f
+  pub in_use : (f : ℕ) → Covers b f → ¬ IsFree after f
+  pub others : (f : ℕ) → ¬ Covers b f → IsFree after f ↔ IsFree before f
+
+-- the block's frames were in use and are free, and all others are as before
+abbrev pub GivesFrames : List Bool → Block → List Bool → Type 0
+GivesFrames before b after = TakesFrames after b before
+
+-- b is the front, of this order, of the block of the least sufficient order that has the least address
+pub record IsFrontOfSmallest (blocks : List Block) (order : ℕ) (b : Block) : Type 0 where
+  pub order_is : b.order ≡ order
+  pub smallest : Block
+  pub is_smallest : IsSmallestFrom blocks order smallest
+  pub front : b.at ≡ smallest.at
+
+-- ---- behind the calls
+
+abbrev pub block_at : ℕ → ℕ → Block
+block_at at order = record { at = at; order = order }
+
+abbrev pub covers : ℕ → Block → Bool
+covers f b = nat_le b.at f && nat_lt f (b.at + 2 ^ b.order)
+
+-- the frames that lie in a block of the areas
+unfoldable pub set_of : FreeBlocks → List Bool
+set_of areas = map (λ f. list_any (covers f) areas.blocks) (range_with_len 0 areas.frames)
+
+abbrev pub zone_of : FreeBlocks → Zone
+zone_of areas = record { free = set_of areas; blocks = areas.blocks }
+
+-- the areas are the maximal free blocks of their frames, and each frame has a number of 32 bits
+pub record AreKept (areas : FreeBlocks) : Type 0 where
+  pub maximal : AreMaximalBlocks (set_of areas) areas.blocks
+  pub small : areas.frames < 2 ^ 32
+
+-- the buddy of the block at x is at x + 2 ^ k if x is a multiple of 2 ^ (k + 1), else at x - 2 ^ k
+abbrev pub buddy : Block → Block
+buddy b = record { at = if b.at % 2 ^ (b.order + 1) == 0 then b.at + 2 ^ b.order else b.at - 2 ^ b.order; order = b.order }
+
+-- nothing changed, and there is no buddy to merge b with
+pub record HasNoBuddy (before : FreeBlocks) (b : Block) (after : FreeBlocks) : Type 0 where
+  pub same : after ≡ before
+  pub none : (b.order ≡ 10) ⊎ (¬ Contains before.blocks (buddy b))
+
+-- b's buddy was there and was taken out, and both together are the block `larger`
+pub record TakesBuddy (before : FreeBlocks) (b : Block) (after : FreeBlocks) (larger : Block) : Type 0 where
+  pub there : Contains before.blocks (buddy b)
+  pub order_below : b.order < 10
+  pub same_frames : after.frames ≡ before.frames
+  pub taken : Removes before.blocks (buddy b) after.blocks
+  pub larger_is : larger ≡ enclosing b

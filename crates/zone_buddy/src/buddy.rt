@@ -1,0 +1,83 @@
+//! A zone whose frames are taken and given back in blocks.
+
+ghost use Rattle.std.specs.Prelude.{◌≡◌, ℕ, IfOk, MatchOption, replicate, length, true};
+ghost use Rattle.std.specs.Option.{IfNone, IfSome};
+ghost use Rattle.zone_blocks.specs.Block.{IsBlock, Covers};
+ghost use Rattle.zone_blocks.specs.Areas.{IsFree, AreMaximalBlocks, HasNoneFrom};
+ghost use Rattle.zone_buddy.specs.Zone.{TakesFrames, GivesFrames, IsFrontOfSmallest};
+
+use crate::merge::insert_merged;
+use crate::split::free_upper_halves;
+use std::alloc::{AllocError, Global};
+use std::marker::Model;
+use zone_blocks::areas::FreeAreas;
+use zone_blocks::block::Block;
+use zone_blocks::order::Order;
+use zone_blocks::walk::Walk;
+
+/// A zone of page frames, seen as `free`, which of its frames are free, and `blocks`, the maximal
+/// free blocks in walk order.
+#[derive(Drop)]
+pub struct Buddy {
+    areas: FreeAreas,
+}
+
+impl Model for Buddy {
+    ghost use Rattle.zone_buddy.specs.Zone.{Zone, zone_of, AreKept};
+
+    ghost Value = { Zone };
+
+    ghost view = { λ b. zone_of b.areas };
+
+    ghost invariant = { λ b. AreKept b.areas };
+}
+
+impl Buddy {
+    /// A zone of this many frames, all free. All room is reserved here: no other call takes
+    /// memory.
+    pub fn new(alloc: Global, frames: u32) -> Result<Buddy, AllocError>
+        ensures free { IfOk result (λ zone. zone.free ≡ replicate frames true) }
+        ensures areas { IfOk result (λ zone. AreMaximalBlocks zone.free zone.blocks) }
+    {
+        let free = vec![in alloc; true; frames as usize]?;
+        let mut areas = FreeAreas::new(alloc, frames)?;
+        areas.set_from(free.as_slice());
+        Ok(Buddy { areas })
+    }
+
+    /// Takes a block of this order: the front of the free block of the least sufficient order
+    /// that has the least address. None, and nothing changed, exactly where no free block of that
+    /// order or above is there.
+    pub fn take(&mut self, order: Order) -> Option<Block>
+        ensures taken { MatchOption result (HasNoneFrom self.old.blocks order) (IsFrontOfSmallest self.old.blocks order) }
+        ensures none { IfNone result (self.new ≡ self.old) }
+        ensures frames { IfSome result (λ block. TakesFrames self.old.free block self.new.free) }
+        ensures areas { AreMaximalBlocks self.new.free self.new.blocks }
+    {
+        let found = self.areas.smallest_from(order)?;
+        let at = found.at;
+        let exponent = found.order.exponent();
+        self.areas.remove(found);
+        free_upper_halves(&mut self.areas, at, exponent, order);
+        Some(Block { at, order })
+    }
+
+    /// Gives a block back, all of whose frames are in use, and merges it with its buddy while that
+    /// is a free block of the same order, up to order 10.
+    pub fn give(&mut self, block: Block)
+        requires block { IsBlock (length self.old.free) block }
+        requires in_use { (f : ℕ) → Covers block f → ¬ IsFree self.old.free f }
+        ensures frames { GivesFrames self.old.free block self.new.free }
+        ensures areas { AreMaximalBlocks self.new.free self.new.blocks }
+    {
+        insert_merged(&mut self.areas, block);
+    }
+
+    /// The maximal free blocks, by order and then by address.
+    pub fn blocks(&self) -> Walk<'_>
+        ensures blocks { result ≡ self.now.blocks }
+        ensures areas { AreMaximalBlocks self.now.free self.now.blocks }
+    {
+        self.areas.walk()
+    }
+}

@@ -1,0 +1,32 @@
+//! The halves that a block leaves when a smaller one is taken from it.
+
+ghost use Rattle.std.specs.Prelude.{◌≡◌, ◌≤◌, ◌<◌, ℕ, List, Bool};
+ghost use Rattle.zone_blocks.specs.Block.{IsBlock, Covers};
+ghost use Rattle.zone_blocks.specs.Areas.{IsFree};
+ghost use Rattle.zone_buddy.specs.Zone.{block_at, set_of, AreKept, TakesFrames};
+
+use zone_blocks::areas::FreeAreas;
+use zone_blocks::block::Block;
+use zone_blocks::order::Order;
+
+/// Halves the block of order `exponent` at `at`, which is in use, down to `order`: each time the
+/// upper half is put into the areas, so that only the block of that order at `at` stays in use.
+pub fn free_upper_halves(areas: &mut FreeAreas, at: u32, exponent: u32, order: Order)
+    requires kept { AreKept areas.old }
+    requires block { IsBlock areas.old.frames (block_at at exponent) }
+    requires in_use { (f : ℕ) → Covers (block_at at exponent) f → ¬ IsFree (set_of areas.old) f }
+    requires enough { order ≤ exponent }
+    ensures kept { AreKept areas.new }
+    ensures frames { areas.new.frames ≡ areas.old.frames }
+    ensures in_use { (free : List Bool) → TakesFrames free (block_at at exponent) (set_of areas.old) → TakesFrames free (block_at at order) (set_of areas.new) }
+{
+    let mut exponent = exponent;
+    while exponent > order.exponent() {
+        exponent -= 1;
+        let half = Order::of(exponent).unwrap();
+        areas.insert(Block {
+            at: at + half.frames(),
+            order: half,
+        });
+    }
+}
