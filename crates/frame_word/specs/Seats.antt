@@ -1,5 +1,5 @@
 -- What a contract sees of the tables and the seats, the conditions of the calls, and what they answer.
-use Rattle.std.specs.Prelude.{◌≡◌, ◌≢◌, ◌⊎◌, ℕ, zero, suc, ◌+◌, ◌<◌, ◌≤◌, List, [], ◌∷◌, map, replicate, slice_index}
+use Rattle.std.specs.Prelude.{◌≡◌, ◌≢◌, ◌⊎◌, ℕ, zero, suc, ◌+◌, ◌<◌, ◌≤◌, List, [], ◌∷◌, replicate, slice_index}
 use Rattle.atomic_table.specs.Seated.{TableId}
 use Rattle.frame_word.specs.declared.view.FrameNote.{FrameNote}
 use Rattle.frame_word.specs.declared.view.FrameView.{FrameView}
@@ -7,7 +7,7 @@ use Rattle.frame_word.specs.declared.answers.Get.{Get}
 use Rattle.frame_word.specs.declared.answers.Get.TheVariants.{Held, Zero, Raced, Full}
 use Rattle.frame_word.specs.declared.answers.Put.{Put}
 use Rattle.frame_word.specs.declared.answers.Put.TheVariants.{Left, Last}
-use Rattle.frame_word.specs.Views.{blank, note_of, changed, with_visit, in_hands, begun, ended, looked, held, raced, let_go, let_go_last, frozen, missed}
+use Rattle.frame_word.specs.Views.{blank, note_of, changed, with_visit, in_hands, begun, ended, looked, held, raced, let_go, let_go_last}
 
 -- which table it is, and how many frames and processors it has
 pub record KnownTable : Type 0 where
