@@ -11,7 +11,7 @@ use Rattle.std.proofs.lemmas.Bool.{cases_lt, cases_eq}
 use Rattle.std.proofs.lemmas.Nat.{div-add-mod', le-div, pow_pos}
 use Rattle.std.proofs.Math.Nat.{mul-le-mul_right, lt_of_mul-lt-mul_right}
 use Rattle.zone_blocks.specs.declared.block.Block.{Block}
-use Rattle.zone_blocks.specs.Block.{IsBlock, Covers, AreDisjoint}
+use Rattle.zone_blocks.specs.Block.{IsBlock, Covers}
 use Rattle.zone_blocks.specs.Areas.{AreBlocksApart, Precedes, HasNoneOf, HasNoneFrom, IsFirstOf, IsSmallestFrom, Inserts, Removes, Overlaps}
 use Rattle.zone_blocks.specs.OrderLists.{IsOrderList, AreOrderLists, blocks_of, IsLower, IsPlaceOf, MeetsRange}
 use Rattle.zone_blocks.proofs.Lists.{contains_flat_map, contains_from_flat_map, ordered_from}
@@ -273,7 +273,7 @@ put_few n xs b p h =
     omega (arith, few, length-insert xs p b h.place.within)
 
 pub puts_in : (n : ℕ) (lists : List (Vec Block Global)) → AreLists n lists → (b : Block) (p : ℕ) (d : Vec Block Global) → IsBlock n b
-    → ((c : Block) → Contains (blocks_of lists) c → AreDisjoint c b) → IsPlaceOf (get_or lists b.order d).items b.at p
+    → (Overlaps (blocks_of lists) b → ⊥) → IsPlaceOf (get_or lists b.order d).items b.at p
     → PutsIn n (get_or lists b.order d).items b p
 puts_in n lists h b p d block apart place =
     let count = h.count in
@@ -286,13 +286,13 @@ puts_in n lists h b p d block apart place =
       others = λ c q e.
           let pos = pow_pos c.order in
           let pos' = pow_pos b.order in
-          apart c (in_blocks n lists h b.order d (omega arith) c q) c.at record { from = omega arith; before = omega arith }
-          record { from = omega arith; before = omega arith };
+          apart (c, in_blocks n lists h b.order d (omega arith) c q,
+            (c.at, record { from = omega arith; before = omega arith }, record { from = omega arith; before = omega arith }));
       place = place;
     }
 
 pub has_room : (n : ℕ) (lists : List (Vec Block Global)) → AreLists n lists → (b : Block) (p : ℕ) (d : Vec Block Global) → IsBlock n b
-    → ((c : Block) → Contains (blocks_of lists) c → AreDisjoint c b) → IsPlaceOf (get_or lists b.order d).items b.at p
+    → (Overlaps (blocks_of lists) b → ⊥) → IsPlaceOf (get_or lists b.order d).items b.at p
     → length (get_or lists b.order d).items < vec_capacity (get_or lists b.order d)
 has_room n lists h b p d block apart place =
     let count = h.count in
@@ -310,7 +310,7 @@ put_list n old list b p h room e = record {
 }
 
 pub inserts : (n : ℕ) (lists : List (Vec Block Global)) → AreOrderLists n lists → (b : Block) (p : ℕ) (d list : Vec Block Global) → IsBlock n b
-    → ((c : Block) → Contains (blocks_of lists) c → AreDisjoint c b) → IsPlaceOf (get_or lists b.order d).items b.at p
+    → (Overlaps (blocks_of lists) b → ⊥) → IsPlaceOf (get_or lists b.order d).items b.at p
     → list.items ≡ insert (get_or lists b.order d).items p b → vec_capacity (get_or lists b.order d) ≤ vec_capacity list
     → AreOrderLists n (set lists b.order list) × Inserts (blocks_of lists) b (blocks_of (set lists b.order list))
 inserts n lists good b p d list block apart place e more =
@@ -338,10 +338,10 @@ inserts n lists good b p d list block apart place e more =
         apart = λ a c qa qc f ca cc. elim (only a qa) [
           | inl oa ↦ elim (only c qc) [
             | inl oc ↦ good.apart a c oa oc f ca cc
-            | inr nc ↦ absurd (apart a oa f ca (subst (λ z. Covers z f) nc cc))
+            | inr nc ↦ absurd (apart (a, oa, (f, ca, subst (λ z. Covers z f) nc cc)))
           ]
           | inr na ↦ elim (only c qc) [
-            | inl oc ↦ absurd (apart c oc f cc (subst (λ z. Covers z f) na ca))
+            | inl oc ↦ absurd (apart (c, oc, (f, cc, subst (λ z. Covers z f) na ca)))
             | inr nc ↦ na ∙ sym nc
           ]
         ];
@@ -436,14 +436,14 @@ removes n lists good b there p d list place e more =
 -- ---- the same, where the list of the block's order was read before
 
 pub has_room_in : (n : ℕ) (lists : List (Vec Block Global)) → AreOrderLists n lists → (b : Block) (p : ℕ) (old : Vec Block Global) → old ≡ get_or lists b.order old
-    → IsBlock n b → ((c : Block) → Contains (blocks_of lists) c → AreDisjoint c b) → IsPlaceOf old.items b.at p → length old.items < vec_capacity old
+    → IsBlock n b → (Overlaps (blocks_of lists) b → ⊥) → IsPlaceOf old.items b.at p → length old.items < vec_capacity old
 has_room_in n lists good b p old here block apart place =
     let P : Vec Block Global → Type 0 = λ v. IsPlaceOf v.items b.at p in
     let R : Vec Block Global → Type 0 = λ v. length v.items < vec_capacity v in
     subst R (sym here) (has_room n lists (lists_of n lists good) b p old block apart (subst P here place))
 
 pub inserts_in : (n : ℕ) (lists : List (Vec Block Global)) → AreOrderLists n lists → (b : Block) (p : ℕ) (old list : Vec Block Global) → old ≡ get_or lists b.order old
-    → IsBlock n b → ((c : Block) → Contains (blocks_of lists) c → AreDisjoint c b) → IsPlaceOf old.items b.at p
+    → IsBlock n b → (Overlaps (blocks_of lists) b → ⊥) → IsPlaceOf old.items b.at p
     → list.items ≡ insert old.items p b → vec_capacity old ≤ vec_capacity list
     → AreOrderLists n (set lists b.order list) × Inserts (blocks_of lists) b (blocks_of (set lists b.order list))
 inserts_in n lists good b p old list here block apart place e more =

@@ -2,8 +2,7 @@
 
 ghost use Rattle.std.specs.Prelude.{◌≡◌, ◌≤◌, ◌<◌, ◌↔◌, IsTrue, IfOk, MatchOption, ℕ, length, [], slice_index_or};
 ghost use Rattle.std.specs.List.{AllPairs, Contains};
-ghost use Rattle.zone_blocks.specs.declared.block.Block.{Block};
-ghost use Rattle.zone_blocks.specs.Block.{IsBlock, AreDisjoint};
+ghost use Rattle.zone_blocks.specs.Block.{IsBlock};
 ghost use Rattle.zone_blocks.specs.Areas.{AreMaximalBlocks, AreBlocksApart, HasNoneOf, HasNoneFrom};
 ghost use Rattle.zone_blocks.specs.Areas.{IsFirstOf, IsSmallestFrom, Inserts, Removes, Overlaps};
 ghost use Rattle.zone_blocks.specs.OrderLists.{IsLower, IsPlaceOf, MeetsRange};
@@ -132,7 +131,7 @@ impl FreeAreas {
     /// Puts a block of the zone in, which shares no frame with one that is there.
     pub fn insert(&mut self, block: Block)
         requires block { IsBlock self.old.frames block }
-        requires apart { (b : Block) → Contains self.old.blocks b → AreDisjoint b block }
+        requires apart { ¬ Overlaps self.old.blocks block }
         ensures blocks { Inserts self.old.blocks block self.new.blocks }
         ensures frames { self.new.frames ≡ self.old.frames }
     {

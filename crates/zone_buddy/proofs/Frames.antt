@@ -6,7 +6,7 @@ use Rattle.std.proofs.lemmas.List.{get_or_past, same_lists, get_or_default}
 use Rattle.std.proofs.lemmas.List.Folds.{Any-from_list_any, list_any-from_Any}
 use Rattle.std.proofs.lemmas.List.FromFn.{length-map-range_with_len, get_or-map-range_with_len}
 use Rattle.zone_blocks.specs.declared.block.Block.{Block}
-use Rattle.zone_blocks.specs.Block.{IsBlock, Covers, AreDisjoint, enclosing}
+use Rattle.zone_blocks.specs.Block.{IsBlock, Covers, enclosing}
 use Rattle.zone_blocks.specs.Areas.{IsFree, IsFreeBlock, AreMaximalBlocks, FreeBlocks, Inserts, Removes, Overlaps}
 use Rattle.zone_blocks.proofs.Nested.{same_maximal}
 use Rattle.zone_blocks.proofs.Unique.{in_maximal}
@@ -106,8 +106,8 @@ kept_more old new u kept inserts block in_use same alone = record {
 
 -- a block in use shares no frame with a free one
 pub apart_from_use : (a : FreeBlocks) (u : Block) → AreMaximalBlocks (set_of a) a.blocks → ((f : ℕ) → Covers u f → ¬ IsFree (set_of a) f)
-    → (b : Block) → Contains a.blocks b → AreDisjoint b u
-apart_from_use a u kept in_use b there f p q = in_use f q ((kept.each b there).is_free.all_free f p)
+    → Overlaps a.blocks u → ⊥
+apart_from_use a u kept in_use (b, there, (f, p, q)) = in_use f q ((kept.each b there).is_free.all_free f p)
 
 -- ---- the areas of a set
 
