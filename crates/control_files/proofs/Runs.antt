@@ -1,0 +1,31 @@
+-- The bytes at the front of a list that pass a test, and the bytes behind them.
+use Rattle.std.proofs.Common.{◌≡◌, ℕ, ◌+◌, ◌&&◌, Bool, true, false, not, List, [], ◌∷◌, ◌++◌, length, take, drop, refl, sym, ◌∙◌, ap, arith}
+use Rattle.std.specs.Prelude.{IsTrue}
+use Rattle.std.specs.List.{list_all, position_or_len}
+use Rattle.std.proofs.Math.Seq.{take-append_seam, drop-append_seam}
+
+-- the list is empty, or its first element does not pass
+abbrev pub BeginsOutside : (ℕ → Bool) → List ℕ → Type 0
+BeginsOutside p [] = Unit {0}
+BeginsOutside p (y ∷ ys) = p y ≡ false
+
+pub and_parts : (a b : Bool) → (a && b) ≡ true → (a ≡ true) × (b ≡ true)
+and_parts true b h = (refl, h)
+and_parts false b h = cc
+
+-- as many pass as stand before what does not
+pub position_or_len-append : (p q : ℕ → Bool) → ((x : ℕ) → not (q x) ≡ p x) → (xs ys : List ℕ) → IsTrue (list_all p xs) → BeginsOutside p ys → position_or_len q (xs ++ ys) ≡ length xs
+position_or_len-append p q opposite [] [] all outside = refl
+position_or_len-append p q opposite [] (y ∷ ys) all outside = rw (opposite y) (rw outside refl)
+position_or_len-append p q opposite (x ∷ xs) ys all outside =
+    let first : p x ≡ true = (and_parts (p x) (list_all p xs) all).0 in
+    let rest : position_or_len q (xs ++ ys) ≡ length xs = position_or_len-append p q opposite xs ys (and_parts (p x) (list_all p xs) all).1 outside in
+    rw (opposite x) (rw first (omega (arith, rest)))
+
+-- a list has one front that passes with a rest that does not begin so
+pub same_front : (p q : ℕ → Bool) → ((x : ℕ) → not (q x) ≡ p x) → (xs ys us vs : List ℕ) → IsTrue (list_all p xs) → BeginsOutside p ys → IsTrue (list_all p us) → BeginsOutside p vs → (xs ++ ys) ≡ (us ++ vs) → (xs ≡ us) × (ys ≡ vs)
+same_front p q opposite xs ys us vs xs_pass ys_outside us_pass vs_outside same =
+    let size : length xs ≡ length us = sym (position_or_len-append p q opposite xs ys xs_pass ys_outside) ∙ (ap (position_or_len q) same ∙ position_or_len-append p q opposite us vs us_pass vs_outside) in
+    let front : take (length xs) (xs ++ ys) ≡ take (length us) (us ++ vs) = rw same (ap (λ n. take n (us ++ vs)) size) in
+    let rest : drop (length xs) (xs ++ ys) ≡ drop (length us) (us ++ vs) = rw same (ap (λ n. drop n (us ++ vs)) size) in
+    (sym (take-append_seam xs ys) ∙ (front ∙ take-append_seam us vs), sym (drop-append_seam xs ys) ∙ (rest ∙ drop-append_seam us vs))

@@ -1,0 +1,32 @@
+-- What the parts of the reader of limits answer.
+use Rattle.std.specs.Prelude.{◌≡◌, ◌≢◌, ℕ, ◌^◌, ◌<◌, ◌≤◌, not, IsTrue, Option, Some, None, Result, Ok, Err, List, [], ◌++◌}
+use Rattle.std.specs.List.{list_all}
+use Rattle.group_tree.specs.declared.fault.Fault.{Fault}
+use Rattle.group_tree.specs.declared.fault.Fault.TheVariants.{BadLimit, BadNumber}
+use Rattle.control_files.specs.Limit.{is_space, AreSpaces, IsAmount}
+
+-- bytes of which none is white space
+abbrev pub HasNoSpace : List ℕ → Type 0
+HasNoSpace bytes = IsTrue (list_all (λ byte. not (is_space byte)) bytes)
+
+-- the text is this word between white space
+pub record HasOnlyWord (text word : List ℕ) : Type 0 where
+  pub before : List ℕ
+  pub after : List ℕ
+  pub parts : text ≡ before ++ (word ++ after)
+  pub spaces_before : AreSpaces before
+  pub spaces_after : AreSpaces after
+  pub no_space : HasNoSpace word
+  pub some_byte : word ≢ []
+
+-- the one word of the text, or that there is none
+abbrev pub IsOnlyWord : List ℕ → Option (List ℕ) → Type 0
+IsOnlyWord text None = (word : List ℕ) → ¬ HasOnlyWord text word
+IsOnlyWord text (Some word) = HasOnlyWord text word
+
+-- the amount that the word writes, or why there is none
+abbrev pub IsAmountReading : List ℕ → Result ℕ Fault → Type 0
+IsAmountReading word (Ok amount) = IsAmount word amount × (amount < 2 ^ 64)
+IsAmountReading word (Err BadNumber) = (amount : ℕ) × (2 ^ 64 ≤ amount) × IsAmount word amount
+IsAmountReading word (Err BadLimit) = (amount : ℕ) → ¬ IsAmount word amount
+IsAmountReading word (Err _) = ⊥

@@ -1,0 +1,125 @@
+//! The limit of a group, as memory.max writes it.
+
+ghost use Rattle.std.specs.Prelude.{◌≡◌, ℕ, ◌^◌, ◌<◌, not, Option, SomeIff, IfErr, List, take, drop, ◌↔◌, ◌⊎◌, option_copied};
+ghost use Rattle.std.specs.Char.{is_ascii_digit, to_ascii_uppercase};
+ghost use Rattle.std.specs.List.{position_or_len};
+ghost use Rattle.std.specs.Str.Parse.{AllDigits, digits_value};
+ghost use Rattle.control_files.specs.Limit.{is_space, factor_of, pages_of, IsLimitText, ReadsAs, IsTooGreat, IsNoLimitText};
+ghost use Rattle.control_files.specs.Reading.{IsOnlyWord, IsAmountReading};
+
+use group_tree::fault::Fault;
+
+/// A limit in pages of 4,096 bytes; None for no limit.
+pub type Limit = Option<u32>;
+
+/// The bytes of a page.
+const PAGE: u64 = 4096;
+
+/// Reads the text of a limit, of any length: `max`, or bytes in decimal with one letter of K M G T P E
+/// at most, in either case, and white space before and after. The limit is in pages, rounded up, and
+/// none where there are 2^32 of them or more. `BadLimit`: the text is not in this grammar. `BadNumber`: it
+/// is, and its value is above 2^64 - 1 bytes. (cgroup-v2.rst, memory.max; suffixes as in the kernel's
+/// memparse.)
+pub fn read_limit(text: &[u8]) -> Result<Limit, Fault>
+    ensures ok { (limit : Option ℕ) → (result ≡ Ok limit) ↔ ReadsAs text.now limit }
+    ensures bad_number { (result ≡ Err Fault.BadNumber) ↔ IsTooGreat text.now }
+    ensures bad_limit { (result ≡ Err Fault.BadLimit) ↔ IsNoLimitText text.now }
+    ensures err { IfErr result (λ fault. (fault ≡ Fault.BadNumber) ⊎ (fault ≡ Fault.BadLimit)) }
+{
+    let word = only_word(text).ok_or(Fault::BadLimit)?;
+    if word == b"max".as_slice() {
+        return Ok(None);
+    }
+    Ok(limit_of(read_amount(word)?))
+}
+
+/// A text has one value at most.
+pub fn one_value()
+    ensures { (text : List ℕ) (v w : Option ℕ) → IsLimitText text v → IsLimitText text w → v ≡ w }
+{
+}
+
+// The limit of this many bytes.
+fn limit_of(amount: u64) -> Limit
+    ensures { result ≡ pages_of (Some amount) }
+{
+    u32::try_from(amount.div_ceil(PAGE)).ok()
+}
+
+fn is_space(byte: u8) -> bool
+    ensures { result ≡ is_space byte }
+{
+    matches!(byte, b' ' | b'\t'..=b'\r')
+}
+
+// What a suffix multiplies by.
+#[tactic(auto, unfolding(crate::specs::Limit::factor_of))]
+fn factor_of(letter: u8) -> Option<u64>
+    ensures { result ≡ factor_of (to_ascii_uppercase letter) }
+{
+    match letter.to_ascii_uppercase() {
+        b'K' => Some(1 << 10),
+        b'M' => Some(1 << 20),
+        b'G' => Some(1 << 30),
+        b'T' => Some(1 << 40),
+        b'P' => Some(1 << 50),
+        b'E' => Some(1 << 60),
+        _ => None,
+    }
+}
+
+// The one word of a text between white space; None where there is none, or more than one.
+fn only_word(text: &[u8]) -> Option<&[u8]>
+    ensures { IsOnlyWord text.now (option_copied result) }
+{
+    let start = text.iter().position(|byte| !is_space(*byte))?;
+    let (word, after) = split_word(&text[start..]);
+    after.iter().all(|byte| is_space(*byte)).then_some(word)
+}
+
+// The bytes before the first white space, and the bytes from there on.
+fn split_word(text: &[u8]) -> (&[u8], &[u8])
+    ensures word { result.0.now ≡ take (position_or_len is_space text.now) text.now }
+    ensures after { result.1.now ≡ drop (position_or_len is_space text.now) text.now }
+{
+    let end = text.iter().position(|byte| is_space(*byte)).unwrap_or(text.len());
+    text.split_at(end)
+}
+
+// Reads an amount of bytes.
+fn read_amount(word: &[u8]) -> Result<u64, Fault>
+    ensures { IsAmountReading word.now result }
+{
+    let (digits, suffix) = split_digits(word);
+    let factor = match suffix {
+        [] => 1,
+        [letter] => factor_of(*letter).ok_or(Fault::BadLimit)?,
+        _ => return Err(Fault::BadLimit),
+    };
+    if digits.is_empty() {
+        return Err(Fault::BadLimit);
+    }
+    let number = number_of(digits).ok_or(Fault::BadNumber)?;
+    number.checked_mul(factor).ok_or(Fault::BadNumber)
+}
+
+// The digits at the front, and the bytes behind them.
+fn split_digits(word: &[u8]) -> (&[u8], &[u8])
+    ensures digits { result.0.now ≡ take (position_or_len (λ byte. not (is_ascii_digit byte)) word.now) word.now }
+    ensures suffix { result.1.now ≡ drop (position_or_len (λ byte. not (is_ascii_digit byte)) word.now) word.now }
+{
+    let end = word.iter().position(|byte| !byte.is_ascii_digit()).unwrap_or(word.len());
+    word.split_at(end)
+}
+
+// The number that digits write; None where it is above 2^64 - 1.
+fn number_of(digits: &[u8]) -> Option<u64>
+    requires { AllDigits 10 digits.now }
+    ensures { SomeIff result (digits_value 10 digits.now < 2 ^ 64) (digits_value 10 digits.now) }
+{
+    let mut number: u64 = 0;
+    for digit in digits {
+        number = number.checked_mul(10)?.checked_add(u64::from(*digit - b'0'))?;
+    }
+    Some(number)
+}
