@@ -1,7 +1,9 @@
 -- The bytes at the front of a list that pass a test, and the bytes behind them.
 use Rattle.std.proofs.Common.{◌≡◌, ℕ, ◌+◌, ◌&&◌, Bool, true, false, not, List, [], ◌∷◌, ◌++◌, length, take, drop, refl, sym, ◌∙◌, ap, arith}
-use Rattle.std.specs.Prelude.{IsTrue}
-use Rattle.std.specs.List.{list_all, position_or_len}
+use Rattle.std.specs.Prelude.{◌≤◌, IsTrue, unwrap_or}
+use Rattle.std.specs.List.{list_all, position, position_or_len}
+use Rattle.std.proofs.lemmas.Bool.Decides.{nat_tests}
+use Rattle.std.proofs.lemmas.List.Sums.{prefix_len-le-length}
 use Rattle.std.proofs.Math.Seq.{take-append_seam, drop-append_seam}
 
 -- the list is empty, or its first element does not pass
@@ -29,3 +31,9 @@ same_front p q opposite xs ys us vs xs_pass ys_outside us_pass vs_outside same =
     let front : take (length xs) (xs ++ ys) ≡ take (length us) (us ++ vs) = rw same (ap (λ n. take n (us ++ vs)) size) in
     let rest : drop (length xs) (xs ++ ys) ≡ drop (length us) (us ++ vs) = rw same (ap (λ n. drop n (us ++ vs)) size) in
     (sym (take-append_seam xs ys) ∙ (front ∙ take-append_seam us vs), sym (drop-append_seam xs ys) ∙ (rest ∙ drop-append_seam us vs))
+
+-- where the first that passes stands, or the end
+pub unwrap_or-position : (p : ℕ → Bool) (xs : List ℕ) → unwrap_or (position p xs) (length xs) ≡ position_or_len p xs
+unwrap_or-position p xs =
+    let bound : position_or_len p xs ≤ length xs = prefix_len-le-length (λ x. not (p x)) xs in
+    grind (arith, nat_tests)

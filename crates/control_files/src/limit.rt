@@ -1,8 +1,8 @@
 //! The limit of a group, as memory.max writes it.
 
-ghost use Rattle.std.specs.Prelude.{◌≡◌, ℕ, ◌^◌, ◌<◌, not, Option, SomeIff, IfErr, List, take, drop, ◌↔◌, ◌⊎◌, option_copied};
+ghost use Rattle.std.specs.Prelude.{◌≡◌, ℕ, ◌^◌, ◌<◌, not, Option, SomeIff, IfErr, List, ◌↔◌, ◌⊎◌, option_copied};
 ghost use Rattle.std.specs.Char.{is_ascii_digit, to_ascii_uppercase};
-ghost use Rattle.std.specs.List.{position_or_len};
+ghost use Rattle.std.specs.List.{position, list_all};
 ghost use Rattle.std.specs.Str.Parse.{AllDigits, digits_value};
 ghost use Rattle.control_files.specs.Limit.{is_space, factor_of, pages_of, IsLimitText, ReadsAs, IsTooGreat, IsNoLimitText};
 ghost use Rattle.control_files.specs.Reading.{IsOnlyWord, IsAmountReading};
@@ -72,25 +72,36 @@ fn factor_of(letter: u8) -> Option<u64>
 fn only_word(text: &[u8]) -> Option<&[u8]>
     ensures { IsOnlyWord text.now (option_copied result) }
 {
-    let start = text.iter().position(|byte| !is_space(*byte))?;
-    let (word, after) = split_word(&text[start..]);
-    after.iter().all(|byte| is_space(*byte)).then_some(word)
+    let start = first_non_space(text)?;
+    let text = &text[start..];
+    let (word, after) = text.split_at(first_space(text).unwrap_or(text.len()));
+    are_spaces(after).then_some(word)
 }
 
-// The bytes before the first white space, and the bytes from there on.
-fn split_word(text: &[u8]) -> (&[u8], &[u8])
-    ensures word { result.0.now ≡ take (position_or_len is_space text.now) text.now }
-    ensures after { result.1.now ≡ drop (position_or_len is_space text.now) text.now }
+// The first byte that is no white space.
+fn first_non_space(text: &[u8]) -> Option<usize>
+    ensures { result ≡ position (λ byte. not (is_space byte)) text.now }
 {
-    let end = text.iter().position(|byte| is_space(*byte)).unwrap_or(text.len());
-    text.split_at(end)
+    text.iter().position(|byte| !is_space(*byte))
+}
+
+fn first_space(text: &[u8]) -> Option<usize>
+    ensures { result ≡ position is_space text.now }
+{
+    text.iter().position(|byte| is_space(*byte))
+}
+
+fn are_spaces(text: &[u8]) -> bool
+    ensures { result ≡ list_all is_space text.now }
+{
+    text.iter().all(|byte| is_space(*byte))
 }
 
 // Reads an amount of bytes.
 fn read_amount(word: &[u8]) -> Result<u64, Fault>
     ensures { IsAmountReading word.now result }
 {
-    let (digits, suffix) = split_digits(word);
+    let (digits, suffix) = word.split_at(first_non_digit(word).unwrap_or(word.len()));
     let factor = match suffix {
         [] => 1,
         [letter] => factor_of(*letter).ok_or(Fault::BadLimit)?,
@@ -103,13 +114,10 @@ fn read_amount(word: &[u8]) -> Result<u64, Fault>
     number.checked_mul(factor).ok_or(Fault::BadNumber)
 }
 
-// The digits at the front, and the bytes behind them.
-fn split_digits(word: &[u8]) -> (&[u8], &[u8])
-    ensures digits { result.0.now ≡ take (position_or_len (λ byte. not (is_ascii_digit byte)) word.now) word.now }
-    ensures suffix { result.1.now ≡ drop (position_or_len (λ byte. not (is_ascii_digit byte)) word.now) word.now }
+fn first_non_digit(word: &[u8]) -> Option<usize>
+    ensures { result ≡ position (λ byte. not (is_ascii_digit byte)) word.now }
 {
-    let end = word.iter().position(|byte| !byte.is_ascii_digit()).unwrap_or(word.len());
-    word.split_at(end)
+    word.iter().position(|byte| !byte.is_ascii_digit())
 }
 
 // The number that digits write; None where it is above 2^64 - 1.
