@@ -63,7 +63,7 @@ same_factor [] m n h k = h ∙ sym k
 same_factor (c ∷ []) m n h k = let same : Some m ≡ Some n = sym h ∙ k in cc
 same_factor (c ∷ d ∷ ds) m n h k = absurd h
 
-double_not : (b : Bool) → not (not b) ≡ b
+pub double_not : (b : Bool) → not (not b) ≡ b
 double_not true = refl
 double_not false = refl
 
@@ -114,7 +114,7 @@ has_only_word text v h =
     let clear : HasNoSpace h.word × (h.word ≢ []) = limit_word_no_space h.word v h.word_is in
     record { before = h.before; after = h.after; parts = h.parts; spaces_before = h.spaces_before; spaces_after = h.spaces_after; no_space = clear.0; some_byte = clear.1 }
 
-spaces_outside : (bytes : List ℕ) → AreSpaces bytes → BeginsOutside (λ byte. not (is_space byte)) bytes
+pub spaces_outside : (bytes : List ℕ) → AreSpaces bytes → BeginsOutside (λ byte. not (is_space byte)) bytes
 spaces_outside [] h = tt
 spaces_outside (c ∷ cs) h = rw ((and_parts (is_space c) (list_all is_space cs) h).0) refl
 
@@ -122,7 +122,7 @@ not_true : (b : Bool) → not b ≡ true → b ≡ false
 not_true true h = cc
 not_true false h = refl
 
-word_outside : (word after : List ℕ) → HasNoSpace word → word ≢ [] → BeginsOutside is_space (word ++ after)
+pub word_outside : (word after : List ℕ) → HasNoSpace word → word ≢ [] → BeginsOutside is_space (word ++ after)
 word_outside [] after h some = absurd (some refl)
 word_outside (c ∷ cs) after h some = not_true (is_space c) (and_parts (not (is_space c)) (list_all (λ byte. not (is_space byte)) cs) h).0
 

@@ -1,3 +1,4 @@
 pub mod Runs
 pub mod GrammarLemmas
 pub mod NumberLemmas
+pub mod WordLemmas

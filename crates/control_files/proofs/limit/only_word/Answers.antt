@@ -1,15 +1,11 @@
-use Rattle.std.proofs.Common.{rules, ◌≡◌, ℕ, ◌^◌, ◌<◌, not, Option, SomeIff, IfErr, List, ◌↔◌, ◌⊎◌, option_copied, ◌+◌, ◌-◌, ◌*◌, ◌≤◌, length, ◌/◌, ◌%◌, Bool, true, false, nat_eq, nat_lt, [], ◌∷◌, ◌++◌, slice_index_or, slice_set, bit_and, bit_or, Fits, w8, w32, w64, Bor, MutBor}
-use Rattle.std.specs.Char.{is_ascii_digit, to_ascii_uppercase}
-use Rattle.std.specs.List.{position, list_all}
-use Rattle.std.specs.Str.Parse.{AllDigits, digits_value}
-use Rattle.control_files.specs.Limit.{is_space, factor_of, pages_of, IsLimitText, ReadsAs, IsTooGreat, IsNoLimitText}
-use Rattle.control_files.specs.Reading.{IsOnlyWord, IsAmountReading}
+use Rattle.std.proofs.Common.{◌≡◌, refl, sym}
+use Rattle.control_files.proofs.WordLemmas.{no_word, word_answer}
 use Rattle.control_files.proofs.limit.only_word.Goals as goal
 
--- src/limit.rt:75:17
 pub returns-in_err-start : goal.returns-in_err-start
-returns-in_err-start c = ?
+returns-in_err-start c = rw c.from_residual.ensures (no_word c.args.text.now (sym (c.in_err-start.ensures)))
 
--- src/limit.rt:72:1
 pub returns : goal.returns
-returns c = ?
+returns c = rw c.then_some.ensures
+    (word_answer c.args.text.now _ c.split_at.result.1.now c.in_ok-start.start c.unwrap_or.result c.split_at.result.0 c.are_spaces.result
+        (sym c.in_ok-start.ensures) refl (rw c.first_space.ensures at c.unwrap_or.ensures) c.split_at.ensures.front c.split_at.ensures.back c.are_spaces.ensures)
