@@ -7,9 +7,9 @@ use Rattle.std.specs.Str.Parse.{IsNumeral, AllDigits, digits_value}
 use Rattle.std.proofs.lemmas.List.Folds.{list_all-append}
 use Rattle.std.proofs.lemmas.Bool.Decides.{nat_tests}
 use Rattle.std.proofs.lemmas.Grind.{common_steps}
-use Rattle.control_files.proofs.Runs.{BeginsOutside, and_parts, same_front}
+use Rattle.control_files.proofs.Runs.{and_parts, same_front}
 use Rattle.control_files.specs.Limit.{is_space, AreSpaces, factor_of, IsSuffix, IsAmount, IsLimitWord, IsLimitText}
-use Rattle.control_files.specs.Reading.{HasNoSpace, HasOnlyWord}
+use Rattle.control_files.specs.Reading.{BeginsOutside, HasNoSpace, HasOnlyWord}
 
 digit_range : (c : ℕ) → digit_value c < 10 → (48 ≤ c) × (c ≤ 57)
 digit_range c h = (grind (arith, nat_tests), grind (arith, nat_tests))
@@ -28,7 +28,7 @@ outside_digits c h = grind (arith, nat_tests)
 outside_spaces : (c : ℕ) → 33 ≤ c → is_space c ≡ false
 outside_spaces c h = grind (arith, nat_tests)
 
-all_digits_pass : (ds : List ℕ) → AllDigits 10 ds → IsTrue (list_all is_ascii_digit ds)
+pub all_digits_pass : (ds : List ℕ) → AllDigits 10 ds → IsTrue (list_all is_ascii_digit ds)
 all_digits_pass [] h = refl
 all_digits_pass (c ∷ cs) h = rw (digit_passes c h.0) (all_digits_pass cs h.1)
 
@@ -47,7 +47,7 @@ suffix_no_space [] factor h = refl
 suffix_no_space (c ∷ []) factor h = rw (letter_no_space c factor h) refl
 suffix_no_space (c ∷ d ∷ ds) factor h = absurd h
 
-suffix_outside : (suffix : List ℕ) (factor : ℕ) → IsSuffix suffix factor → BeginsOutside is_ascii_digit suffix
+pub suffix_outside : (suffix : List ℕ) (factor : ℕ) → IsSuffix suffix factor → BeginsOutside is_ascii_digit suffix
 suffix_outside [] factor h = tt
 suffix_outside (c ∷ []) factor h = let r : (69 ≤ c) × (c ≤ 116) × (1 ≤ factor) = letter_range c factor h in outside_digits c (omega arith)
 suffix_outside (c ∷ d ∷ ds) factor h = absurd h

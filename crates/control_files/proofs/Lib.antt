@@ -2,3 +2,4 @@ pub mod Runs
 pub mod GrammarLemmas
 pub mod NumberLemmas
 pub mod WordLemmas
+pub mod AmountLemmas

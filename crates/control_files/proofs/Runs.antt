@@ -1,15 +1,11 @@
 -- The bytes at the front of a list that pass a test, and the bytes behind them.
 use Rattle.std.proofs.Common.{◌≡◌, ℕ, ◌+◌, ◌&&◌, Bool, true, false, not, List, [], ◌∷◌, ◌++◌, length, take, drop, refl, sym, ◌∙◌, ap, arith, one-add}
+use Rattle.control_files.specs.Reading.{BeginsOutside}
 use Rattle.std.specs.Prelude.{◌<◌, ◌≤◌, IsTrue, Option, Some, None, cond, nat_lt, unwrap_or}
 use Rattle.std.specs.List.{list_all, position, position_or_len}
 use Rattle.std.proofs.lemmas.Bool.Decides.{nat_tests}
 use Rattle.std.proofs.lemmas.List.Sums.{prefix_len-le-length}
 use Rattle.std.proofs.Math.Seq.{take-append_seam, drop-append_seam}
-
--- the list is empty, or its first element does not pass
-abbrev pub BeginsOutside : (ℕ → Bool) → List ℕ → Type 0
-BeginsOutside p [] = Unit {0}
-BeginsOutside p (y ∷ ys) = p y ≡ false
 
 pub and_parts : (a b : Bool) → (a && b) ≡ true → (a ≡ true) × (b ≡ true)
 and_parts true b h = (refl, h)

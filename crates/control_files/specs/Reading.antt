@@ -1,6 +1,8 @@
 -- What the parts of the reader of limits answer.
-use Rattle.std.specs.Prelude.{◌≡◌, ◌≢◌, ℕ, ◌^◌, ◌<◌, ◌≤◌, not, IsTrue, Option, Some, None, Result, Ok, Err, List, [], ◌++◌}
+use Rattle.std.specs.Prelude.{◌≡◌, ◌≢◌, ℕ, ◌^◌, ◌<◌, ◌≤◌, ⊤, Bool, false, not, IsTrue, Option, Some, None, Result, Ok, Err, List, [], ◌∷◌, ◌++◌}
+use Rattle.std.specs.Char.{is_ascii_digit}
 use Rattle.std.specs.List.{list_all}
+use Rattle.std.specs.Str.Parse.{AllDigits}
 use Rattle.group_tree.specs.declared.fault.Fault.{Fault}
 use Rattle.group_tree.specs.declared.fault.Fault.TheVariants.{BadLimit, BadNumber}
 use Rattle.control_files.specs.Limit.{is_space, AreSpaces, IsAmount}
@@ -23,6 +25,17 @@ pub record HasOnlyWord (text word : List ℕ) : Type 0 where
 abbrev pub IsOnlyWord : List ℕ → Option (List ℕ) → Type 0
 IsOnlyWord text None = (word : List ℕ) → ¬ HasOnlyWord text word
 IsOnlyWord text (Some word) = HasOnlyWord text word
+
+-- the list is empty, or its first byte does not pass
+abbrev pub BeginsOutside : (ℕ → Bool) → List ℕ → Type 0
+BeginsOutside passes [] = ⊤
+BeginsOutside passes (byte ∷ bytes) = passes byte ≡ false
+
+-- the digits that begin a word, and the bytes behind them
+pub record SplitsDigits (word digits suffix : List ℕ) : Type 0 where
+  pub parts : word ≡ digits ++ suffix
+  pub all_digits : AllDigits 10 digits
+  pub no_digit : BeginsOutside is_ascii_digit suffix
 
 -- the amount that the word writes, or why there is none
 abbrev pub IsAmountReading : List ℕ → Result ℕ Fault → Type 0

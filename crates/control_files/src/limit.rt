@@ -1,11 +1,11 @@
 //! The limit of a group, as memory.max writes it.
 
-ghost use Rattle.std.specs.Prelude.{◌≡◌, ℕ, ◌^◌, ◌<◌, not, Option, SomeIff, IfErr, List, ◌↔◌, ◌⊎◌, option_copied};
+ghost use Rattle.std.specs.Prelude.{◌≡◌, ℕ, ◌^◌, ◌<◌, not, Option, SomeIff, IfSome, IfNone, IfErr, List, ◌↔◌, ◌⊎◌, option_copied};
 ghost use Rattle.std.specs.Char.{is_ascii_digit, to_ascii_uppercase};
 ghost use Rattle.std.specs.List.{position, list_all};
 ghost use Rattle.std.specs.Str.Parse.{AllDigits, digits_value};
-ghost use Rattle.control_files.specs.Limit.{is_space, factor_of, pages_of, IsLimitText, ReadsAs, IsTooGreat, IsNoLimitText};
-ghost use Rattle.control_files.specs.Reading.{IsOnlyWord, IsAmountReading};
+ghost use Rattle.control_files.specs.Limit.{is_space, factor_of, IsSuffix, pages_of, IsLimitText, ReadsAs, IsTooGreat, IsNoLimitText};
+ghost use Rattle.control_files.specs.Reading.{IsOnlyWord, IsAmountReading, SplitsDigits};
 
 use group_tree::fault::Fault;
 
@@ -101,12 +101,8 @@ fn are_spaces(text: &[u8]) -> bool
 fn read_amount(word: &[u8]) -> Result<u64, Fault>
     ensures { IsAmountReading word.now result }
 {
-    let (digits, suffix) = word.split_at(first_non_digit(word).unwrap_or(word.len()));
-    let factor = match suffix {
-        [] => 1,
-        [letter] => factor_of(*letter).ok_or(Fault::BadLimit)?,
-        _ => return Err(Fault::BadLimit),
-    };
+    let (digits, suffix) = split_digits(word);
+    let factor = read_suffix(suffix).ok_or(Fault::BadLimit)?;
     if digits.is_empty() {
         return Err(Fault::BadLimit);
     }
@@ -114,10 +110,29 @@ fn read_amount(word: &[u8]) -> Result<u64, Fault>
     number.checked_mul(factor).ok_or(Fault::BadNumber)
 }
 
+// The digits that begin the word, and the bytes behind them.
+fn split_digits(word: &[u8]) -> (&[u8], &[u8])
+    ensures { SplitsDigits word.now result.0.now result.1.now }
+{
+    word.split_at(first_non_digit(word).unwrap_or(word.len()))
+}
+
 fn first_non_digit(word: &[u8]) -> Option<usize>
     ensures { result ≡ position (λ byte. not (is_ascii_digit byte)) word.now }
 {
     word.iter().position(|byte| !byte.is_ascii_digit())
+}
+
+// What a suffix multiplies by; None where the bytes are no suffix.
+fn read_suffix(suffix: &[u8]) -> Option<u64>
+    ensures some { IfSome result (λ factor. IsSuffix suffix.now factor) }
+    ensures none { IfNone result ((factor : ℕ) → ¬ IsSuffix suffix.now factor) }
+{
+    match suffix {
+        [] => Some(1),
+        [letter] => factor_of(*letter),
+        _ => None,
+    }
 }
 
 // The number that digits write; None where it is above 2^64 - 1.
