@@ -3,3 +3,4 @@ pub mod GrammarLemmas
 pub mod NumberLemmas
 pub mod WordLemmas
 pub mod AmountLemmas
+pub mod ReadingLemmas

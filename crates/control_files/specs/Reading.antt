@@ -5,7 +5,7 @@ use Rattle.std.specs.List.{list_all}
 use Rattle.std.specs.Str.Parse.{AllDigits}
 use Rattle.group_tree.specs.declared.fault.Fault.{Fault}
 use Rattle.group_tree.specs.declared.fault.Fault.TheVariants.{BadLimit, BadNumber}
-use Rattle.control_files.specs.Limit.{is_space, AreSpaces, IsAmount}
+use Rattle.control_files.specs.Limit.{is_space, AreSpaces, IsAmount, ReadsAs, IsTooGreat, IsNoLimitText}
 
 -- bytes of which none is white space
 abbrev pub HasNoSpace : List ℕ → Type 0
@@ -43,3 +43,10 @@ IsAmountReading word (Ok amount) = IsAmount word amount × (amount < 2 ^ 64)
 IsAmountReading word (Err BadNumber) = (amount : ℕ) × (2 ^ 64 ≤ amount) × IsAmount word amount
 IsAmountReading word (Err BadLimit) = (amount : ℕ) → ¬ IsAmount word amount
 IsAmountReading word (Err _) = ⊥
+
+-- the limit that the text writes, or why there is none
+abbrev pub IsReading : List ℕ → Result (Option ℕ) Fault → Type 0
+IsReading text (Ok limit) = ReadsAs text limit
+IsReading text (Err BadNumber) = IsTooGreat text
+IsReading text (Err BadLimit) = IsNoLimitText text
+IsReading text (Err _) = ⊥
