@@ -4,3 +4,6 @@ pub mod NumberLemmas
 pub mod WordLemmas
 pub mod AmountLemmas
 pub mod ReadingLemmas
+pub mod TextLemmas
+pub mod FileLemmas
+pub mod WritingLemmas

@@ -1,6 +1,8 @@
 //! The files of a group, by their names.
 
 ghost use Rattle.std.specs.Prelude.{◌≡◌, IsTrue, ◌↔◌};
+ghost use Rattle.std.specs.List.{find};
+ghost use Rattle.std.specs.Str.{bytes_eq};
 ghost use Rattle.control_files.specs.declared.file.File.{File};
 ghost use Rattle.control_files.specs.Files.{name_of};
 
@@ -19,7 +21,7 @@ pub enum File {
     EventsLocal,
 }
 
-/// All files, in no order that matters.
+// All files.
 const FILES: [File; 5] = [File::Current, File::Max, File::Peak, File::Events, File::EventsLocal];
 
 impl File {
@@ -48,5 +50,12 @@ impl File {
 pub fn file_named(name: &[u8]) -> Option<File>
     ensures { (file : File) → (result ≡ Some file) ↔ (name.now ≡ name_of file) }
 {
-    FILES.iter().copied().find(|file| file.name().as_bytes() == name)
+    first_named(&FILES, name)
+}
+
+// The first of the files that has this name.
+fn first_named(files: &[File], name: &[u8]) -> Option<File>
+    ensures { result ≡ find (λ file. bytes_eq (name_of file) name.now) files.now }
+{
+    files.iter().copied().find(|file| file.name().as_bytes() == name)
 }

@@ -4,3 +4,6 @@
 pub mod file;
 pub mod limit;
 pub mod text;
+
+#[cfg(test)]
+mod tests;

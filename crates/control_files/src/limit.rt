@@ -4,16 +4,15 @@ ghost use Rattle.std.specs.Prelude.{◌≡◌, ℕ, ◌^◌, ◌<◌, not, Optio
 ghost use Rattle.std.specs.Char.{is_ascii_digit, to_ascii_uppercase};
 ghost use Rattle.std.specs.List.{position, list_all};
 ghost use Rattle.std.specs.Str.Parse.{AllDigits, digits_value};
+ghost use Rattle.control_files.specs.Files.{limit_text};
 ghost use Rattle.control_files.specs.Limit.{is_space, factor_of, IsSuffix, pages_of, IsLimitText, ReadsAs, IsTooGreat, IsNoLimitText};
 ghost use Rattle.control_files.specs.Reading.{IsOnlyWord, IsAmountReading, SplitsDigits};
 
+use crate::text::{ArrayText, PAGE_BYTES, pages_text, text_of};
 use group_tree::fault::Fault;
 
 /// A limit in pages of 4,096 bytes; None for no limit.
 pub type Limit = Option<u32>;
-
-/// The bytes of a page.
-const PAGE: u64 = 4096;
 
 /// Reads the text of a limit, of any length: `max`, or bytes in decimal with one letter of K M G T P E
 /// at most, in either case, and white space before and after. The limit is in pages, rounded up, and
@@ -33,6 +32,18 @@ pub fn read_limit(text: &[u8]) -> Result<Limit, Fault>
     Ok(limit_of(read_amount(word)?))
 }
 
+/// The text of memory.max: the limit in bytes in decimal, or `max`, on a line of its own. It reads back as
+/// the same limit.
+pub fn write_limit(limit: Limit) -> ArrayText
+    ensures text { result ≡ limit_text limit }
+    ensures reads_back { ReadsAs result limit }
+{
+    match limit {
+        None => text_of(b"max\n"),
+        Some(pages) => pages_text(pages),
+    }
+}
+
 /// A text has one value at most.
 pub fn one_value()
     ensures { (text : List ℕ) (v w : Option ℕ) → IsLimitText text v → IsLimitText text w → v ≡ w }
@@ -43,7 +54,7 @@ pub fn one_value()
 fn limit_of(amount: u64) -> Limit
     ensures { result ≡ pages_of (Some amount) }
 {
-    u32::try_from(amount.div_ceil(PAGE)).ok()
+    u32::try_from(amount.div_ceil(PAGE_BYTES)).ok()
 }
 
 fn is_space(byte: u8) -> bool
