@@ -1,1 +1,4 @@
+pub mod CallerLemmas
+pub mod GroupLemmas
+pub mod PathLemmas
 pub mod TextLemmas

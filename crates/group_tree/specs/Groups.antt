@@ -9,9 +9,13 @@ use Rattle.group_tree.specs.declared.fault.Fault.TheVariants.{NoParent, Exists, 
 -- a group has a number, a path and a limit in pages
 pub use Rattle.group_tree.specs.declared.group.Group.{Group}
 
--- the tree begins with the root alone, whose number is 0, with no limit
+-- the root, as it is before a limit is set
+abbrev pub the_root : Group
+the_root = record { number = 0; path = root_path; limit = None }
+
+-- the tree begins with the root alone
 abbrev pub initial_groups : List Group
-initial_groups = record { number = 0; path = root_path; limit = None } ∷ []
+initial_groups = the_root ∷ []
 
 -- the group of this number
 unfoldable pub group_at : List Group → ℕ → Option Group

@@ -1,5 +1,5 @@
 -- The paths of groups: `/` is the root, and a group below it has a name after each slash.
-use Rattle.std.specs.Prelude.{ℕ, ◌==◌, ◌&&◌, Bool, not, nat_eq, nat_le, nat_lt, IsTrue, List, [], length, drop, if◌then◌else◌, codes}
+use Rattle.std.specs.Prelude.{ℕ, ◌==◌, ◌&&◌, ◌||◌, Bool, not, nat_eq, nat_le, nat_lt, IsTrue, List, [], ◌∷◌, length, drop, if◌then◌else◌, codes}
 use Rattle.std.specs.List.{slice_split, list_all, before_last, starts_with}
 use Rattle.std.specs.Str.{bytes_eq}
 
@@ -23,19 +23,26 @@ names_of path = if is_root path then [] else drop 1 (slice_split is_slash path)
 abbrev pub depth_of : List ℕ → ℕ
 depth_of path = length (names_of path)
 
--- the path without its last name; what has no more than one lies below the root
+-- the path, and the root for no text
+abbrev pub or_root : List ℕ → List ℕ
+or_root [] = root_path
+or_root (b ∷ bs) = b ∷ bs
+
+-- the path without its last name: what stands before its last slash, and the root where nothing does
 unfoldable pub parent_path : List ℕ → List ℕ
-parent_path path = if nat_le (depth_of path) 1 then root_path else before_last is_slash path
+parent_path path = or_root (before_last is_slash path)
 
 -- a byte of a name is above 32 and below 127, and no slash
 abbrev pub is_name_byte : ℕ → Bool
 is_name_byte byte = nat_lt 32 byte && nat_lt byte 127 && not (is_slash byte)
 
+-- `.` and `..` name no group
+abbrev pub is_dots : List ℕ → Bool
+is_dots name = bytes_eq name (codes ".") || bytes_eq name (codes "..")
+
 -- a name is 1 to 255 such bytes, and neither `.` nor `..`
 unfoldable pub is_name : List ℕ → Bool
-is_name name =
-    nat_le 1 (length name) && nat_le (length name) 255 && list_all is_name_byte name
-    && not (bytes_eq name (codes ".")) && not (bytes_eq name (codes ".."))
+is_name name = nat_le 1 (length name) && nat_le (length name) 255 && list_all is_name_byte name && not (is_dots name)
 
 abbrev pub IsName : List ℕ → Type 0
 IsName name = IsTrue (is_name name)

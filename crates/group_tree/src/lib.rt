@@ -6,4 +6,8 @@
 
 pub mod fault;
 pub mod group;
+mod names;
 pub mod path;
+#[cfg(test)]
+mod tests;
+pub mod tree;

@@ -1,0 +1,214 @@
+-- What holds of the charges of a tree, and how a change keeps it.
+use Rattle.std.proofs.Common.{◌≡◌, ◌≢◌, ℕ, suc, ◌||◌, ◌+◌, ◌^◌, ◌<◌, ◌≤◌, Bool, true, false, not, cond, ◌==◌, IsTrue, All, Contains, Option, Some, None, List, [], ◌∷◌, ◌++◌, length, map, filter, get_or, refl, sym, ap, ◌∙◌, subst, arith, lit<, ⊎_elim, ◌⊎◌, inl, inr}
+use Rattle.std.specs.List.{find, list_any, sum_by}
+use Rattle.std.specs.Option.{option_map_or}
+use Rattle.std.proofs.lemmas.Bool.{eq-eqb, ne_eqb, cond-true, cond_both, both_ways, cases_Bool}
+use Rattle.std.proofs.lemmas.List.{get_or-map, length-map, map-append}
+use Rattle.std.proofs.lemmas.List.Elements.{Contains-get_or}
+use Rattle.std.proofs.lemmas.List.Recursion.{found_at}
+use Rattle.std.proofs.lemmas.List.Sums.{sum_by-cons, sum_by_push}
+use Rattle.group_tree.specs.declared.group.Group.{Group}
+use Rattle.group_tree.specs.Path.{depth_of}
+use Rattle.group_tree.specs.Groups.{the_root, IsLeastFreeNumber, has_group, in_subtree, has_child, path_of, parent_of, without_group, with_limit, limited}
+use Rattle.group_tree.proofs.GroupLemmas.{CanMake, has_group-any, has_group-contains, length-full, AreGroups-initial, AreGroups-with, AreGroups-without, AreGroups-limited, limited-number}
+use Rattle.group_tree.proofs.CallerLemmas.{in_subtree-root, in_subtree-refl, in_subtree-trans, in_subtree-above, in_subtree-antisym, in_subtree-parent_of, in_subtree-above_parent, parent_of-depth}
+use Rattle.group_charge.specs.Charges.{Account, Ledger, AreCharges, IsLowestOver, PathHasRoom, has_room, account_at, pages_of, current_of, usage_of, total_pages, added, taken, peaked, noted, charged, empty_account, initial_ledger, with_new_group, with_group_removed, with_group_limit}
+use Rattle.group_charge.proofs.SumLemmas.{AreDistinct, share, total-added, total-taken, usage-le-total, added-group, taken-group, peaked-group, peaked-pages, sum-map_same}
+
+-- ---- each group has one account
+list_any-over : {X Y : Type 0} (p : Y → Bool) (f : X → Y) (xs : List X) → list_any p (map f xs) ≡ list_any (λ x. p (f x)) xs
+list_any-over p f [] = refl
+list_any-over p f (x ∷ xs) = ap (λ b. p (f x) || b) (list_any-over p f xs)
+
+pub has_account : (l : Ledger) (g : ℕ) → AreCharges l → list_any (λ a. a.group == g) l.accounts ≡ has_group l.groups g
+has_account l g facts =
+    sym (list_any-over (λ n. n == g) (λ (a : Account). a.group) l.accounts) ∙ ap (list_any (λ n. n == g)) facts.numbers
+    ∙ list_any-over (λ n. n == g) (λ (x : Group). x.number) l.groups ∙ sym (has_group-any l.groups g)
+
+pub as_many : (l : Ledger) → AreCharges l → length l.accounts ≡ length l.groups
+as_many l facts = sym (length-map l.accounts (λ (a : Account). a.group)) ∙ ap length facts.numbers ∙ length-map l.groups (λ (x : Group). x.number)
+
+account_number : (l : Ledger) (k : ℕ) (d : Account) → AreCharges l → k < length l.accounts → (get_or l.accounts k d).group ≡ (get_or l.groups k the_root).number
+account_number l k d facts lt =
+    let also : k < length l.groups = omega (arith, as_many l facts) in
+    sym (get_or-map (λ (a : Account). a.group) l.accounts k d 0 lt) ∙ ap (λ ns. get_or ns k 0) facts.numbers ∙ get_or-map (λ (x : Group). x.number) l.groups k the_root 0 also
+
+pub all_known : (l : Ledger) → AreCharges l → All (λ a. IsTrue (has_group l.groups a.group)) l.accounts
+all_known l facts = λ k d lt.
+    let also : k < length l.groups = omega (arith, as_many l facts) in
+    subst (λ n. IsTrue (has_group l.groups n)) (sym (account_number l k d facts lt)) (has_group-contains l.groups (get_or l.groups k the_root) (Contains-get_or l.groups k the_root also))
+
+pub all_distinct : (l : Ledger) → AreCharges l → AreDistinct l.accounts
+all_distinct l facts = λ i j d below lt same.
+    let first = account_number l i d facts (omega arith) in
+    let second = account_number l j d facts lt in
+    facts.groups.numbers_distinct i j the_root below (omega (arith, as_many l facts)) (sym first ∙ same ∙ second)
+
+pub account_at-there : (l : Ledger) (a : Account) → AreCharges l → Contains l.accounts a → account_at l a.group ≡ Some a
+unfolding account_at
+account_at-there l a facts h =
+    let test : Account → Bool = λ x. x.group == a.group in
+    let at : find test l.accounts ≡ Some (get_or l.accounts h.0 a) =
+    found_at (find test) test Some None refl (λ _ _. refl) l.accounts h.0 a h.1
+    (λ j below. ne_eqb (get_or l.accounts j a).group a.group (λ same. all_distinct l facts j h.0 a below h.1 (same ∙ ap (λ (x : Account). x.group) (sym h.2))))
+    (eq-eqb (get_or l.accounts h.0 a).group a.group (ap (λ (x : Account). x.group) h.2)) in
+    at ∙ ap Some h.2
+
+pub pages-there : (l : Ledger) (g n : ℕ) → AreCharges l → n ≤ pages_of l g → All (λ a. a.group ≡ g → n ≤ a.pages) l.accounts
+unfolding pages_of
+pages-there l g n facts h = λ k d lt same.
+    let a = get_or l.accounts k d in
+    let at : account_at l g ≡ Some a = ap (account_at l) (sym same) ∙ account_at-there l a facts (Contains-get_or l.accounts k d lt) in
+    let own : option_map_or (λ (x : Account). x.pages) (account_at l g) 0 ≡ a.pages = ap (λ o. option_map_or (λ (x : Account). x.pages) o 0) at in
+    omega (arith, own, h)
+
+-- ---- the root's usage is all that is charged
+sum-same : (F G : Account → ℕ) (xs : List Account) → All (λ x. F x ≡ G x) xs → sum_by F xs ≡ sum_by G xs
+sum-same F G [] h = refl
+sum-same F G (x ∷ xs) h =
+    omega (arith, h 0 x (omega arith), sum-same F G xs (λ k d lt. h (suc k) d (omega arith)), sum_by-cons F x xs, sum_by-cons G x xs)
+
+pub root_usage : (l : Ledger) → AreCharges l → current_of l 0 ≡ total_pages l.accounts
+unfolding usage_of
+root_usage l facts =
+    sum-same (share l.groups 0) (λ a. a.pages) l.accounts
+    (λ k d lt. let a = get_or l.accounts k d in cond-true (in_subtree l.groups 0 a.group) a.pages 0 (in_subtree-root l.groups a.group facts.groups (all_known l facts k d lt)))
+
+pub usage-le-root : (l : Ledger) (g : ℕ) → AreCharges l → current_of l g ≤ current_of l 0
+usage-le-root l g facts = omega (arith, usage-le-total l.groups l.accounts g, root_usage l facts)
+
+-- ---- a change keeps the facts
+pub same_ledger : (g h : List Group) (a b : List Account) → g ≡ h → a ≡ b → ◌≡◌ {A = Ledger} (record { groups = g; accounts = a }) (record { groups = h; accounts = b })
+same_ledger g h a b x y = cc
+
+same_groups : (f : Account → Account) → ((a : Account) → (f a).group ≡ a.group) → (xs : List Account) → map (λ (a : Account). a.group) (map f xs) ≡ map (λ (a : Account). a.group) xs
+same_groups f same [] = refl
+same_groups f same (x ∷ xs) = ap (λ n. n ∷ map (λ (a : Account). a.group) (map f xs)) (same x) ∙ ap (λ ns. x.group ∷ ns) (same_groups f same xs)
+
+numbers-limited : (n : ℕ) (limit : Option ℕ) (xs : List Group) → map (λ (x : Group). x.number) (map (limited n limit) xs) ≡ map (λ (x : Group). x.number) xs
+numbers-limited n limit [] = refl
+numbers-limited n limit (x ∷ xs) =
+    ap (λ k. k ∷ map (λ (y : Group). y.number) (map (limited n limit) xs)) (limited-number n limit x) ∙ ap (λ ns. x.number ∷ ns) (numbers-limited n limit xs)
+
+map-filter : {X Y : Type 0} (f : X → Y) (p : Y → Bool) (xs : List X) → map f (filter (λ x. p (f x)) xs) ≡ filter p (map f xs)
+map-filter f p [] = refl
+map-filter f p (x ∷ xs) =
+    ⊎_elim
+    (λ t. subst (λ b. map f (cond b (x ∷ filter (λ y. p (f y)) xs) (filter (λ y. p (f y)) xs)) ≡ cond b (f x ∷ filter p (map f xs)) (filter p (map f xs))) (sym t) (ap (λ ys. f x ∷ ys) (map-filter f p xs)))
+    (λ n. subst (λ b. map f (cond b (x ∷ filter (λ y. p (f y)) xs) (filter (λ y. p (f y)) xs)) ≡ cond b (f x ∷ filter p (map f xs)) (filter p (map f xs))) (sym n) (map-filter f p xs))
+    (cases_Bool (p (f x)))
+
+total-filter : (p : Account → Bool) (xs : List Account) → total_pages (filter p xs) ≤ total_pages xs
+total-filter p [] = omega arith
+total-filter p (x ∷ xs) =
+    let rest = total-filter p xs in
+    let whole = sum_by-cons (λ (a : Account). a.pages) x xs in
+    cond_both (p x) (x ∷ filter p xs) (filter p xs) (λ ys. total_pages ys ≤ total_pages (x ∷ xs))
+    (λ _. omega (arith, sum_by-cons (λ (a : Account). a.pages) x (filter p xs)))
+    (λ _. omega arith)
+
+pub AreCharges-initial : AreCharges initial_ledger
+AreCharges-initial = record { groups = AreGroups-initial; numbers = refl; fits = lit< tt }
+
+pub AreCharges-limited : (l : Ledger) (g : ℕ) (limit : Option ℕ) → AreCharges l → AreCharges (with_group_limit l g limit)
+unfolding with_limit
+AreCharges-limited l g limit facts = record {
+  groups = AreGroups-limited l.groups g limit facts.groups;
+  numbers = facts.numbers ∙ sym (numbers-limited g limit l.groups);
+  fits = facts.fits;
+}
+
+pub AreCharges-noted : (l : Ledger) (g : ℕ) → AreCharges l → AreCharges (record { groups = l.groups; accounts = map (noted l.groups g) l.accounts })
+AreCharges-noted l g facts = record {
+  groups = facts.groups;
+  numbers = same_groups (noted l.groups g) (λ a. refl) l.accounts ∙ facts.numbers;
+  fits = omega (arith, sum-map_same (λ (a : Account). a.pages) (noted l.groups g) (λ a. refl) l.accounts, facts.fits);
+}
+
+pub AreCharges-taken : (l : Ledger) (g n : ℕ) → AreCharges l → AreCharges (record { groups = l.groups; accounts = map (taken g n) l.accounts })
+AreCharges-taken l g n facts = record {
+  groups = facts.groups;
+  numbers = same_groups (taken g n) (taken-group g n) l.accounts ∙ facts.numbers;
+  fits = omega (arith, total-taken g n l.accounts, facts.fits);
+}
+
+pub AreCharges-charged : (l : Ledger) (g n : ℕ) → AreCharges l → current_of l 0 + n < 2 ^ 32 → AreCharges (record { groups = l.groups; accounts = charged l.groups l.accounts g n })
+AreCharges-charged l g n facts fits =
+    let more = map (added g n) l.accounts in
+    let raised : total_pages (map (peaked l.groups more g) more) ≡ total_pages more = sum-map_same (λ (a : Account). a.pages) (peaked l.groups more g) (peaked-pages l.groups more g) more in
+    record {
+      groups = facts.groups;
+      numbers = same_groups (peaked l.groups more g) (peaked-group l.groups more g) more ∙ same_groups (added g n) (added-group g n) l.accounts ∙ facts.numbers;
+      fits = omega (arith, raised, total-added g n l.accounts (all_distinct l facts), root_usage l facts, fits);
+    }
+
+pub AreCharges-removed : (l : Ledger) (g : ℕ) → AreCharges l → has_child l.groups g ≡ false → g ≢ 0 → AreCharges (with_group_removed l g)
+unfolding with_group_removed without_group
+AreCharges-removed l g facts leaf below = record {
+  groups = AreGroups-without l.groups g facts.groups leaf below;
+  numbers = map-filter (λ (a : Account). a.group) (λ n. not (n == g)) l.accounts ∙ ap (filter (λ n. not (n == g))) facts.numbers ∙ sym (map-filter (λ (x : Group). x.number) (λ n. not (n == g)) l.groups);
+  fits = omega (arith, total-filter (λ a. not (a.group == g)) l.accounts, facts.fits);
+}
+
+pub AreCharges-new : (l : Ledger) (n : ℕ) (path : List ℕ) → AreCharges l → CanMake l.groups path → IsLeastFreeNumber l.groups n → AreCharges (with_new_group l n path)
+unfolding with_new_group
+AreCharges-new l n path facts can least =
+    let few = length-full l.groups n least.least in
+    record {
+      groups = AreGroups-with l.groups n path facts.groups can (omega (arith, few, can.room)) least.free;
+      numbers = map-append (λ (a : Account). a.group) l.accounts (empty_account n ∷ []) ∙ ap (λ ns. ns ++ n ∷ []) facts.numbers ∙ sym (map-append (λ (x : Group). x.number) l.groups (record { number = n; path = path; limit = None } ∷ []));
+      fits = omega (arith, sum_by_push (λ (a : Account). a.pages) l.accounts (empty_account n), facts.fits);
+    }
+
+-- ---- the path from a group to the root
+-- how many names the group's path has
+pub depth_at : List Group → ℕ → ℕ
+depth_at groups g = option_map_or (λ p. depth_of p) (path_of groups g) 0
+
+-- the walk from g has come to m, and all that is below it on the path has room
+pub record WalkedTo (l : Ledger) (g n m : ℕ) : Type 0 where
+  pub on_path : IsTrue (in_subtree l.groups m g)
+  pub passed : (k : ℕ) → IsTrue (in_subtree l.groups k g) → (has_room l n k ≡ true) ⊎ IsTrue (in_subtree l.groups k m)
+
+pub walked_start : (l : Ledger) (g n : ℕ) → IsTrue (has_group l.groups g) → WalkedTo l g n g
+walked_start l g n there = record { on_path = in_subtree-refl l.groups g there; passed = λ k h. inr h }
+
+pub walked_up : (l : Ledger) (g n m p : ℕ) → AreCharges l → WalkedTo l g n m → has_room l n m ≡ true → parent_of l.groups m ≡ Some p → WalkedTo l g n p
+walked_up l g n m p facts w room e = record {
+  on_path = in_subtree-trans l.groups p m g (in_subtree-parent_of l.groups m p facts.groups e) w.on_path;
+  passed = λ k h.
+      ⊎_elim (λ r. inl r)
+      (λ above. ⊎_elim
+      (λ same. inl (ap (has_room l n) same ∙ room))
+      (λ up. inr up)
+      (in_subtree-above_parent l.groups k m p facts.groups e above))
+      (w.passed k h);
+}
+
+pub walked_all : (l : Ledger) (g n m : ℕ) → AreCharges l → WalkedTo l g n m → has_room l n m ≡ true → m ≡ 0 → PathHasRoom l n g
+walked_all l g n m facts w room root = λ k h.
+    ⊎_elim (λ r. r)
+    (λ above.
+    let up : in_subtree l.groups k 0 ≡ true = ap (in_subtree l.groups k) (sym root) ∙ above in
+    let down : in_subtree l.groups 0 k ≡ true = in_subtree-root l.groups k facts.groups (in_subtree-above l.groups k 0 up) in
+    ap (has_room l n) (in_subtree-antisym l.groups k 0 facts.groups up down ∙ sym root) ∙ room)
+    (w.passed k h)
+
+pub walked_over : (l : Ledger) (g n m : ℕ) → WalkedTo l g n m → has_room l n m ≡ false → IsLowestOver l n g m
+walked_over l g n m w over = record {
+  on_path = w.on_path;
+  over = over;
+  lowest = λ k h none. ⊎_elim (λ r. absurd (both_ways (has_room l n k) none r)) (λ above. above) (w.passed k h);
+}
+
+pub parent_depth : (l : Ledger) (m p : ℕ) → AreCharges l → parent_of l.groups m ≡ Some p → depth_at l.groups p < depth_at l.groups m
+unfolding depth_at
+parent_depth l m p facts e =
+    let w = parent_of-depth l.groups m p facts.groups e in
+    let low : depth_at l.groups m ≡ depth_of w.0 = ap (λ o. option_map_or (λ q. depth_of q) o 0) w.2 in
+    let high : depth_at l.groups p ≡ depth_of w.1 = ap (λ o. option_map_or (λ q. depth_of q) o 0) w.3 in
+    omega (arith, low, high, w.4)
+
+pub length-charged : (groups : List Group) (accounts : List Account) (g n : ℕ) → length (charged groups accounts g n) ≡ length accounts
+length-charged groups accounts g n =
+    length-map (map (added g n) accounts) (peaked groups (map (added g n) accounts) g) ∙ length-map accounts (added g n)

@@ -1,0 +1,2 @@
+pub mod ChargeLemmas
+pub mod SumLemmas

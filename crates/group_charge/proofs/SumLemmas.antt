@@ -1,0 +1,164 @@
+-- Sums of pages over accounts, and lists of accounts that are changed one after another.
+use Rattle.std.proofs.Common.{◌≡◌, ◌≢◌, ℕ, suc, ◌||◌, AllPairs, add-zero, ◌+◌, ◌-◌, ◌<◌, ◌≤◌, true, false, cond, max, IsTrue, ◌==◌, List, [], ◌∷◌, ◌++◌, length, take, drop, map, get_or, All, refl, sym, ap, ◌∙◌, subst, arith, ⊎_elim}
+use Rattle.std.specs.List.{sum_by, list_any}
+use Rattle.std.proofs.lemmas.Bool.{cond-true, cond-false, cases_Bool, cond_both, or_parts, false_from_ne_true, false≢true, eqb-true}
+use Rattle.std.proofs.lemmas.List.Folds.{Any-from_list_any}
+use Rattle.std.proofs.lemmas.List.{get_or_default, get_or-append_right, length-map, length-take-le, get_or-drop}
+use Rattle.std.proofs.lemmas.List.Elements.{All-map, All-append, All-take, All-drop}
+use Rattle.std.proofs.lemmas.List.Sums.{sum_by_more, sum_by_more_le, sum_by_more_le_part, sum_by-le-sum_by, sum_by-cons, sum_by-append, sum_by-take-drop}
+use Rattle.group_tree.specs.declared.group.Group.{Group}
+use Rattle.group_tree.specs.Groups.{in_subtree, has_group}
+use Rattle.group_charge.specs.Charges.{Account, usage_of, total_pages, added, taken, peaked}
+
+-- ---- the usage of a group, summed one account after another
+abbrev pub share : List Group → ℕ → Account → ℕ
+share groups g a = cond (in_subtree groups g a.group) a.pages 0
+
+share-le : (groups : List Group) (g : ℕ) (a : Account) → share groups g a ≤ a.pages
+share-le groups g a = cond_both (in_subtree groups g a.group) a.pages 0 (λ x. x ≤ a.pages) (λ _. omega arith) (λ _. omega arith)
+
+pub usage_more : (groups : List Group) (xs : List Account) (g i : ℕ) (d : Account) → i < length xs → usage_of groups (take (i + 1) xs) g ≡ usage_of groups (take i xs) g + share groups g (get_or xs i d)
+unfolding usage_of
+usage_more groups xs g i d lt = sum_by_more (share groups g) xs i d lt
+
+pub usage-part : (groups : List Group) (xs : List Account) (g i : ℕ) (d : Account) → i < length xs → usage_of groups (take i xs) g + (get_or xs i d).pages ≤ total_pages xs
+unfolding usage_of
+usage-part groups xs g i d lt = sum_by_more_le_part (share groups g) (λ a. a.pages) xs i d lt (share-le groups g)
+
+pub usage-le-total : (groups : List Group) (xs : List Account) (g : ℕ) → usage_of groups xs g ≤ total_pages xs
+unfolding usage_of
+usage-le-total groups xs g = sum_by-le-sum_by (share groups g) (λ a. a.pages) xs (share-le groups g)
+
+pub pages-le-total : (xs : List Account) (i : ℕ) (d : Account) → i < length xs → (get_or xs i d).pages ≤ total_pages xs
+pages-le-total xs i d lt = let h = sum_by_more_le (λ (a : Account). a.pages) xs i d lt in omega arith
+
+-- ---- a list that is changed in place, up to i
+pub item_left : {X : Type 0} (f : X → X) (xs ys : List X) (i : ℕ) (d : X) → i < length xs → ys ≡ map f (take i xs) ++ drop i xs → get_or ys i d ≡ get_or xs i d
+item_left f xs ys i d lt e =
+    let size : length (map f (take i xs)) ≡ i = length-map (take i xs) f ∙ length-take-le i xs (omega arith) in
+    let zero : i - i ≡ 0 = omega arith in
+    ap (λ zs. get_or zs i d) e ∙ get_or-append_right (map f (take i xs)) (drop i xs) i i d size (omega arith) ∙ ap (λ k. get_or (drop i xs) k d) zero ∙ get_or-drop i xs 0 d ∙ (let same : i + 0 ≡ i = omega arith in ap (λ k. get_or xs k d) same)
+
+module _ {X : Type 0} (F : X → ℕ) (f : X → X) (same : (x : X) → F (f x) ≡ F x) where
+  pub sum-map_same : (xs : List X) → sum_by F (map f xs) ≡ sum_by F xs
+  sum-map_same [] = refl
+  sum-map_same (x ∷ xs) =
+      sum_by-cons F (f x) (map f xs) ∙ ap (λ n. n + sum_by F (map f xs)) (same x) ∙ ap (λ n. F x + n) (sum-map_same xs) ∙ sym (sum_by-cons F x xs)
+
+  pub sum-in_place : (xs : List X) (i : ℕ) → sum_by F (map f (take i xs) ++ drop i xs) ≡ sum_by F xs
+  sum-in_place xs i =
+      sum_by-append F (map f (take i xs)) (drop i xs) ∙ ap (λ n. n + sum_by F (drop i xs)) (sum-map_same (take i xs)) ∙ sum_by-take-drop F xs i
+
+pub peaked-pages : (groups : List Group) (all : List Account) (g : ℕ) (a : Account) → (peaked groups all g a).pages ≡ a.pages
+peaked-pages groups all g a = cond_both (in_subtree groups a.group g) (record a { peak = max a.peak (usage_of groups all a.group) }) a (λ (x : Account). x.pages ≡ a.pages) (λ _. refl) (λ _. refl)
+
+pub peaked-group : (groups : List Group) (all : List Account) (g : ℕ) (a : Account) → (peaked groups all g a).group ≡ a.group
+peaked-group groups all g a = cond_both (in_subtree groups a.group g) (record a { peak = max a.peak (usage_of groups all a.group) }) a (λ (x : Account). x.group ≡ a.group) (λ _. refl) (λ _. refl)
+
+peaked-share : (groups : List Group) (all : List Account) (g m : ℕ) (a : Account) → share groups m (peaked groups all g a) ≡ share groups m a
+peaked-share groups all g m a = cond_both (in_subtree groups a.group g) (record a { peak = max a.peak (usage_of groups all a.group) }) a (λ (x : Account). share groups m x ≡ share groups m a) (λ _. refl) (λ _. refl)
+
+-- peaks that are raised change no usage
+pub usage-in_place : (groups : List Group) (all xs : List Account) (g m i : ℕ) → usage_of groups (map (peaked groups all g) (take i xs) ++ drop i xs) m ≡ usage_of groups xs m
+unfolding usage_of
+usage-in_place groups all xs g m i = sum-in_place (share groups m) (peaked groups all g) (peaked-share groups all g m) xs i
+
+pub total-in_place : (groups : List Group) (all xs : List Account) (g i : ℕ) → total_pages (map (peaked groups all g) (take i xs) ++ drop i xs) ≡ total_pages xs
+total-in_place groups all xs g i = sum-in_place (λ a. a.pages) (peaked groups all g) (peaked-pages groups all g) xs i
+
+pub known-in_place : (groups : List Group) (all xs : List Account) (g i : ℕ) → All (λ a. IsTrue (has_group groups a.group)) xs → All (λ a. IsTrue (has_group groups a.group)) (map (peaked groups all g) (take i xs) ++ drop i xs)
+known-in_place groups all xs g i h =
+    All-append (λ a. IsTrue (has_group groups a.group)) (map (peaked groups all g) (take i xs)) (drop i xs)
+    (All-map (λ a. IsTrue (has_group groups a.group)) (peaked groups all g) (take i xs)
+    (λ k d lt. subst (λ n. IsTrue (has_group groups n)) (sym (peaked-group groups all g (get_or (take i xs) k d))) (All-take (λ a. IsTrue (has_group groups a.group)) i xs h k d lt)))
+    (All-drop (λ a. IsTrue (has_group groups a.group)) i xs h)
+
+-- the same usages raise the same peaks
+pub peaked-as : (groups : List Group) (all others : List Account) (g : ℕ) (a : Account) → usage_of groups all a.group ≡ usage_of groups others a.group → peaked groups all g a ≡ peaked groups others g a
+peaked-as groups all others g a e = ap (λ n. cond (in_subtree groups a.group g) (record a { peak = max a.peak n }) a) e
+
+pub usage_none : (groups : List Group) (g : ℕ) → usage_of groups [] g ≡ 0
+unfolding usage_of
+usage_none groups g = refl
+
+-- ---- pages that come to one group
+abbrev pub extra : ℕ → ℕ → Account → ℕ
+extra g k a = cond (a.group == g) k 0
+
+abbrev pub AreDistinct : List Account → Type 0
+AreDistinct xs = AllPairs (λ a b. a.group ≢ b.group) xs
+
+distinct-tail : (x : Account) (xs : List Account) → AreDistinct (x ∷ xs) → AreDistinct xs
+distinct-tail x xs h = λ i j d below lt. h (suc i) (suc j) d (omega arith) (omega arith)
+
+extra_none : (g k : ℕ) (xs : List Account) → list_any (λ a. a.group == g) xs ≡ false → sum_by (extra g k) xs ≡ 0
+extra_none g k [] e = refl
+extra_none g k (x ∷ xs) e =
+    let parts = or_parts (x.group == g) (list_any (λ a. a.group == g) xs) e in
+    let here : extra g k x ≡ 0 = cond-false (x.group == g) k 0 parts.0 in
+    let rest = extra_none g k xs parts.1 in
+    omega (arith, sum_by-cons (extra g k) x xs)
+
+others-none : (g : ℕ) (x : Account) (xs : List Account) → AreDistinct (x ∷ xs) → (x.group == g) ≡ true → list_any (λ a. a.group == g) xs ≡ false
+others-none g x xs h t =
+    false_from_ne_true (list_any (λ a. a.group == g) xs) (λ some.
+    let w = Any-from_list_any (λ (a : Account). a.group == g) xs some in
+    let same : (get_or xs w.0 x).group ≡ w.1.group = ap (λ (a : Account). a.group) (get_or_default xs w.0 x w.1 w.2 ∙ w.3) in
+    h 0 (suc w.0) x (omega arith) (omega (arith, w.2)) (eqb-true x.group g t ∙ sym (same ∙ eqb-true w.1.group g w.4)))
+
+pub extra_once : (g k : ℕ) (xs : List Account) → AreDistinct xs → list_any (λ a. a.group == g) xs ≡ true → sum_by (extra g k) xs ≡ k
+extra_once g k [] h e = absurd (false≢true e)
+extra_once g k (x ∷ xs) h e =
+    ⊎_elim
+    (λ t.
+    let here : extra g k x ≡ k = cond-true (x.group == g) k 0 t in
+    let rest = extra_none g k xs (others-none g x xs h t) in
+    omega (arith, sum_by-cons (extra g k) x xs))
+    (λ f.
+    let here : extra g k x ≡ 0 = cond-false (x.group == g) k 0 f in
+    let later : list_any (λ a. a.group == g) xs ≡ true = subst (λ b. (b || list_any (λ a. a.group == g) xs) ≡ true) f e in
+    let rest = extra_once g k xs (distinct-tail x xs h) later in
+    omega (arith, sum_by-cons (extra g k) x xs))
+    (cases_Bool (x.group == g))
+
+extra-le : (g k : ℕ) (xs : List Account) → AreDistinct xs → sum_by (extra g k) xs ≤ k
+extra-le g k xs h =
+    ⊎_elim
+    (λ t. let e = extra_once g k xs h t in omega arith)
+    (λ f. let e = extra_none g k xs f in omega arith)
+    (cases_Bool (list_any (λ a. a.group == g) xs))
+
+-- two sums that differ by a third
+sum-plus : (F G H : Account → ℕ) (f : Account → Account) (xs : List Account) → ((x : Account) → F (f x) ≡ G x + H x) → sum_by F (map f xs) ≡ sum_by G xs + sum_by H xs
+sum-plus F G H f [] each = refl
+sum-plus F G H f (x ∷ xs) each =
+    omega (arith, sum-plus F G H f xs each, each x, sum_by-cons F (f x) (map f xs), sum_by-cons G x xs, sum_by-cons H x xs)
+
+added-pages : (g n : ℕ) (a : Account) → (added g n a).pages ≡ a.pages + extra g n a
+added-pages g n a =
+    ⊎_elim
+    (λ t. ap (λ (x : Account). x.pages) (cond-true (a.group == g) (record a { pages = a.pages + n }) a t) ∙ ap (λ k. a.pages + k) (sym (cond-true (a.group == g) n 0 t)))
+    (λ f. ap (λ (x : Account). x.pages) (cond-false (a.group == g) (record a { pages = a.pages + n }) a f) ∙ sym (ap (λ k. a.pages + k) (cond-false (a.group == g) n 0 f) ∙ add-zero a.pages))
+    (cases_Bool (a.group == g))
+
+pub added-group : (g n : ℕ) (a : Account) → (added g n a).group ≡ a.group
+added-group g n a = cond_both (a.group == g) (record a { pages = a.pages + n }) a (λ (x : Account). x.group ≡ a.group) (λ _. refl) (λ _. refl)
+
+pub taken-group : (g n : ℕ) (a : Account) → (taken g n a).group ≡ a.group
+taken-group g n a = cond_both (a.group == g) (record a { pages = a.pages - n }) a (λ (x : Account). x.group ≡ a.group) (λ _. refl) (λ _. refl)
+
+pub total-added : (g n : ℕ) (xs : List Account) → AreDistinct xs → total_pages (map (added g n) xs) ≤ total_pages xs + n
+total-added g n xs h =
+    let sum = sum-plus (λ a. a.pages) (λ a. a.pages) (extra g n) (added g n) xs (added-pages g n) in
+    omega (arith, sum, extra-le g n xs h)
+
+pub total-taken : (g n : ℕ) (xs : List Account) → total_pages (map (taken g n) xs) ≤ total_pages xs
+total-taken g n [] = omega arith
+total-taken g n (x ∷ xs) =
+    let here : (taken g n x).pages ≤ x.pages = cond_both (x.group == g) (record x { pages = x.pages - n }) x (λ (y : Account). y.pages ≤ x.pages) (λ _. omega arith) (λ _. omega arith) in
+    omega (arith, total-taken g n xs, sum_by-cons (λ (a : Account). a.pages) (taken g n x) (map (taken g n) xs), sum_by-cons (λ (a : Account). a.pages) x xs)
+
+pub known-added : (groups : List Group) (g n : ℕ) (xs : List Account) → All (λ a. IsTrue (has_group groups a.group)) xs → All (λ a. IsTrue (has_group groups a.group)) (map (added g n) xs)
+known-added groups g n xs h =
+    All-map (λ a. IsTrue (has_group groups a.group)) (added g n) xs
+    (λ k d lt. subst (λ m. IsTrue (has_group groups m)) (sym (added-group g n (get_or xs k d))) (h k d lt))

@@ -1,0 +1,35 @@
+use Rattle.std.proofs.Common.{◌≢◌, ◌+◌, ◌<◌, ◌^◌, IsTrue, All, AllPairs, length, sym, ap, ◌∙◌, subst, refl, arith, rules}
+use Rattle.group_tree.specs.Groups.{has_group}
+use Rattle.group_tree.proofs.GroupLemmas.{take_new}
+use Rattle.group_charge.specs.Charges.{Account, AreCharges, charged, current_of, total_pages, with_charge}
+use Rattle.group_charge.proofs.ChargeLemmas.{AreCharges-charged, all_distinct, all_known, length-charged, root_usage, same_ledger}
+use Rattle.group_charge.proofs.charges.Charges.try_charge.Goals as goal
+
+pub charge-requires-clause-known : goal.charge-requires-clause-known
+charge-requires-clause-known c =
+    subst (λ rows. All (λ (a : Account). IsTrue (has_group c.self.inside.tree a.group)) rows) (sym c.as_mut_slice.ensures.value) (all_known _ c.self.invariant.0)
+
+pub charge-requires-clause-distinct : goal.charge-requires-clause-distinct
+charge-requires-clause-distinct c =
+    subst (λ rows. AllPairs (λ (a b : Account). a.group ≢ b.group) rows) (sym c.as_mut_slice.ensures.value) (all_distinct _ c.self.invariant.0)
+
+pub charge-requires-clause-fits : goal.charge-requires-clause-fits
+charge-requires-clause-fits c =
+    let fits = subst (λ l. current_of l 0 + c.args.n < 2 ^ 32) (sym c.self.view_is) c.requires.fits in
+    omega (arith, ap total_pages c.as_mut_slice.ensures.value, root_usage _ c.self.invariant.0, fits)
+
+pub returns-clause-charged : goal.returns-clause-charged
+unfolding with_charge
+returns-clause-charged c =
+    let new = c.charge.ensures ∙ ap (λ rows. charged c.self.inside.tree rows c.args.g c.args.n) c.as_mut_slice.ensures.value in
+    let size = ap length new ∙ length-charged c.self.inside.tree c.self.inside.accounts.items c.args.g c.args.n in
+    let whole = take_new c.self.inside.accounts.len c.self.inside.accounts.items c.charge.new.accounts size (search rules) in
+    same_ledger _ _ _ _ refl (whole ∙ new) ∙ ap (λ l. with_charge l c.args.g c.args.n) c.self.view_is
+
+pub invariant_of-self : goal.invariant_of-self
+invariant_of-self c =
+    let fits = subst (λ l. current_of l 0 + c.args.n < 2 ^ 32) (sym c.self.view_is) c.requires.fits in
+    let new = c.charge.ensures ∙ ap (λ rows. charged c.self.inside.tree rows c.args.g c.args.n) c.as_mut_slice.ensures.value in
+    let size = ap length new ∙ length-charged c.self.inside.tree c.self.inside.accounts.items c.args.g c.args.n in
+    let whole = take_new c.self.inside.accounts.len c.self.inside.accounts.items c.charge.new.accounts size (search rules) in
+    (subst AreCharges (same_ledger _ _ _ _ refl (sym (whole ∙ new))) (AreCharges-charged _ c.args.g c.args.n c.self.invariant.0 fits), c.self.invariant.1)

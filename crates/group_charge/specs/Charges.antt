@@ -1,0 +1,132 @@
+-- The charges of a tree of groups: for each group its own pages, its peak and its event counts.
+use Rattle.std.specs.Prelude.{◌≡◌, ℕ, ◌+◌, ◌-◌, ◌^◌, ◌<◌, ◌==◌, Bool, true, false, not, max, min, nat_le, IsTrue, Option, Some, None, List, [], ◌∷◌, ◌++◌, map, filter, sum_by, if◌then◌else◌}
+use Rattle.std.specs.List.{find}
+use Rattle.std.specs.Option.{option_map_or}
+use Rattle.group_tree.specs.declared.group.Group.{Group}
+use Rattle.group_tree.specs.Groups.{initial_groups, in_subtree, limit_of, with_group, without_group, with_limit, AreGroups}
+use Rattle.group_charge.specs.declared.account.Counts.{Counts}
+-- an account has a group's number, its own pages, its peak and its event counts
+pub use Rattle.group_charge.specs.declared.account.Account.{Account}
+
+-- the groups of the tree, and an account for each, in order of making
+pub record Ledger : Type 0 where
+  pub groups : List Group
+  pub accounts : List Account
+
+-- nothing has happened
+abbrev pub no_events : Counts
+no_events = record { low = 0; high = 0; max = 0; oom = 0; oom_kill = 0 }
+
+-- a new group has no page, peak 0 and all counts 0
+abbrev pub empty_account : ℕ → Account
+empty_account n = record { group = n; pages = 0; peak = 0; events = no_events; events_local = no_events }
+
+-- the root alone, with nothing charged
+abbrev pub initial_ledger : Ledger
+initial_ledger = record { groups = initial_groups; accounts = empty_account 0 ∷ [] }
+
+-- the account of the group
+unfoldable pub account_at : Ledger → ℕ → Option Account
+account_at l g = find (λ a. a.group == g) l.accounts
+
+-- the pages charged to the group itself
+unfoldable pub pages_of : Ledger → ℕ → ℕ
+pages_of l g = option_map_or (λ a. a.pages) (account_at l g) 0
+
+-- memory.peak: the greatest usage since the group was made
+unfoldable pub peak_of : Ledger → ℕ → ℕ
+peak_of l g = option_map_or (λ a. a.peak) (account_at l g) 0
+
+-- memory.events: counts over the group and all below it
+unfoldable pub events_of : Ledger → ℕ → Counts
+events_of l g = option_map_or (λ a. a.events) (account_at l g) no_events
+
+-- memory.events.local: counts of the group alone
+unfoldable pub local_events_of : Ledger → ℕ → Counts
+local_events_of l g = option_map_or (λ a. a.events_local) (account_at l g) no_events
+
+-- all pages that are charged
+abbrev pub total_pages : List Account → ℕ
+total_pages accounts = sum_by (λ a. a.pages) accounts
+
+-- the pages charged to a group and to all below it
+unfoldable pub usage_of : List Group → List Account → ℕ → ℕ
+usage_of groups accounts g = sum_by (λ a. if in_subtree groups g a.group then a.pages else 0) accounts
+
+-- memory.current: the usage of the group and its descendants, in pages
+abbrev pub current_of : Ledger → ℕ → ℕ
+current_of l g = usage_of l.groups l.accounts g
+
+-- a usage is at most the limit, if there is one
+abbrev pub is_within : Option ℕ → ℕ → Bool
+is_within None usage = true
+is_within (Some limit) usage = nat_le usage limit
+
+-- with n pages more the group's usage is at most its own limit
+unfoldable pub has_room : Ledger → ℕ → ℕ → Bool
+has_room l n g = is_within (limit_of l.groups g) (current_of l g + n)
+
+-- so it is at the group and at each of its ancestors
+abbrev pub PathHasRoom : Ledger → ℕ → ℕ → Type 0
+PathHasRoom l n g = (m : ℕ) → IsTrue (in_subtree l.groups m g) → IsTrue (has_room l n m)
+
+-- m is g or an ancestor and has no room, and whoever else of these has none is an ancestor of m
+pub record IsLowestOver (l : Ledger) (n g m : ℕ) : Type 0 where
+  pub on_path : IsTrue (in_subtree l.groups m g)
+  pub over : has_room l n m ≡ false
+  pub lowest : (k : ℕ) → IsTrue (in_subtree l.groups k g) → has_room l n k ≡ false → IsTrue (in_subtree l.groups k m)
+
+-- the account with n pages more, if it is the group's
+abbrev pub added : ℕ → ℕ → Account → Account
+added g n a = if a.group == g then record a { pages = a.pages + n } else a
+
+-- the account with n pages less, if it is the group's
+abbrev pub taken : ℕ → ℕ → Account → Account
+taken g n a = if a.group == g then record a { pages = a.pages - n } else a
+
+-- the account's peak is at least its usage, if it is the group's or an ancestor's
+abbrev pub peaked : List Group → List Account → ℕ → Account → Account
+peaked groups accounts g a =
+    if in_subtree groups a.group g then record a { peak = max a.peak (usage_of groups accounts a.group) } else a
+
+-- one more, and 2^64 - 1 at most
+abbrev pub with_max : Counts → Counts
+with_max c = record c { max = min (c.max + 1) (2 ^ 64 - 1) }
+
+-- one more `max` at the group itself, and at each group above it for all below that
+abbrev pub noted : List Group → ℕ → Account → Account
+noted groups g a = record a {
+  events = if in_subtree groups a.group g then with_max a.events else a.events;
+  events_local = if a.group == g then with_max a.events_local else a.events_local;
+}
+
+-- the group has n pages more, and the peaks of it and of its ancestors follow
+abbrev pub charged : List Group → List Account → ℕ → ℕ → List Account
+charged groups accounts g n = let more = map (added g n) accounts in map (peaked groups more g) more
+
+unfoldable pub with_charge : Ledger → ℕ → ℕ → Ledger
+with_charge l g n = record l { accounts = charged l.groups l.accounts g n }
+
+-- the group has n pages less
+unfoldable pub with_uncharge : Ledger → ℕ → ℕ → Ledger
+with_uncharge l g n = record l { accounts = map (taken g n) l.accounts }
+
+-- usage was about to go over the group's limit
+unfoldable pub with_max_noted : Ledger → ℕ → Ledger
+with_max_noted l g = record l { accounts = map (noted l.groups g) l.accounts }
+
+-- a new group with an empty account
+unfoldable pub with_new_group : Ledger → ℕ → List ℕ → Ledger
+with_new_group l n path = record { groups = with_group l.groups n path; accounts = l.accounts ++ empty_account n ∷ [] }
+
+unfoldable pub with_group_removed : Ledger → ℕ → Ledger
+with_group_removed l g = record { groups = without_group l.groups g; accounts = filter (λ a. not (a.group == g)) l.accounts }
+
+abbrev pub with_group_limit : Ledger → ℕ → Option ℕ → Ledger
+with_group_limit l g limit = record l { groups = with_limit l.groups g limit }
+
+-- what holds of every ledger: the groups are a tree's, each has an account, and all pages fit 32 bits
+pub record AreCharges (l : Ledger) : Type 0 where
+  pub groups : AreGroups l.groups
+  pub numbers : map (λ a. a.group) l.accounts ≡ map (λ g. g.number) l.groups
+  pub fits : total_pages l.accounts < 2 ^ 32

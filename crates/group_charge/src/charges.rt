@@ -1,0 +1,244 @@
+//! The charges of a tree of groups.
+
+ghost use Rattle.std.specs.Prelude.{◌≡◌, ◌≢◌, ◌↔◌, ◌+◌, ◌^◌, ◌<◌, ◌≤◌, false, IfErr, IfOk, IsOk, IsTrue, MatchOption, OnErr, OnOk, Some};
+ghost use Rattle.std.specs.Option.{option_copied};
+ghost use Rattle.std.specs.Result.{result_err};
+ghost use Rattle.group_tree.specs.Groups.{IsLeastFreeNumber, has_child, has_group, limit_of, make_fault};
+ghost use Rattle.group_charge.specs.Charges.{AreCharges, IsLowestOver, PathHasRoom, account_at, current_of, empty_account, events_of, has_room, initial_ledger, local_events_of, pages_of, peak_of, with_charge, with_group_limit, with_group_removed, with_max_noted, with_new_group, with_uncharge};
+
+use crate::account::{Account, Counts};
+use crate::sums;
+use group_tree::fault::Fault;
+use group_tree::group::{GroupId, MAX_GROUPS};
+use group_tree::tree::Tree;
+use std::alloc::{AllocError, Global};
+use std::marker::Model;
+
+/// A refused charge: the lowest group whose limit has no room.
+#[derive(Clone, Copy, Debug, PartialEq, Eq)]
+pub struct Over {
+    /// The group itself or one of its ancestors.
+    pub group: GroupId,
+}
+
+/// A tree of groups with its charges, in pages of 4,096 bytes. The usage of the root is at most
+/// 2^32 - 1 pages. Room for 64 groups is reserved, so that no later call takes memory.
+#[derive(Debug, Drop)]
+pub struct Charges {
+    tree: Tree,
+    accounts: Vec<Account>,
+}
+
+impl Model for Charges {
+    ghost use Rattle.std.specs.Prelude.{◌≤◌, vec_capacity};
+    ghost use Rattle.group_charge.specs.Charges.{AreCharges, Ledger};
+
+    ghost Value = { Ledger };
+
+    ghost view = { λ c. record { groups = c.tree; accounts = c.accounts.items } };
+
+    ghost invariant = { λ c.
+        AreCharges (record { groups = c.tree; accounts = c.accounts.items }) × (64 ≤ vec_capacity c.accounts) };
+}
+
+impl Charges {
+    /// The root alone, with nothing charged and no limit.
+    pub fn new(alloc: Global) -> Result<Charges, AllocError>
+        ensures { IfOk result (λ charges. charges ≡ initial_ledger) }
+    {
+        let tree = Tree::new(alloc)?;
+        let mut accounts = Vec::with_capacity(alloc, MAX_GROUPS)?;
+        accounts.push(new_account(GroupId::root())).unwrap();
+        Ok(Charges { tree, accounts })
+    }
+
+    /// The tree.
+    pub fn tree(&self) -> &Tree
+        ensures tree { result.now ≡ self.now.groups }
+        ensures legal { AreCharges self.now }
+    {
+        &self.tree
+    }
+
+    // The account of a group that is there.
+    fn account(&self, g: GroupId) -> &Account
+        requires { IsTrue (has_group self.now.groups g) }
+        ensures { account_at self.now g ≡ Some result.now }
+    {
+        self.accounts
+            .iter()
+            .find(|account| account.group == g)
+            .unwrap()
+    }
+
+    /// Makes a group, as `Tree::make` does, with no page, peak 0 and all counts 0.
+    pub fn make(&mut self, path: &[u8]) -> Result<GroupId, Fault>
+        ensures made { IfOk result (λ n. self.new ≡ with_new_group self.old n path.now) }
+        ensures least { IfOk result (λ n. IsLeastFreeNumber self.old.groups n) }
+        ensures refused { result_err result ≡ make_fault self.old.groups path.now }
+        ensures unchanged { OnErr result (self.new ≡ self.old) }
+    {
+        let g = self.tree.make(path)?;
+        self.accounts.push(new_account(g)).unwrap();
+        Ok(g)
+    }
+
+    /// Gives a group that is there another limit, in pages; None for no limit. It binds later charges
+    /// alone.
+    pub fn set_max(&mut self, g: GroupId, limit: Option<u32>)
+        requires { IsTrue (has_group self.old.groups g) }
+        ensures { self.new ≡ with_group_limit self.old g limit }
+    {
+        self.tree.set_max(g, limit);
+    }
+
+    /// Takes out a group that is there, other than the root, with no group below it and nothing charged.
+    pub fn remove(&mut self, g: GroupId)
+        requires there { IsTrue (has_group self.old.groups g) }
+        requires leaf { has_child self.old.groups g ≡ false }
+        requires below_root { g ≢ 0 }
+        requires empty { current_of self.old g ≡ 0 }
+        ensures { self.new ≡ with_group_removed self.old g }
+    {
+        self.tree.remove(g);
+        let number = g.number();
+        self.accounts
+            .retain(|account| account.group.number() != number);
+    }
+
+    /// The usage of a group that is there, in pages (memory.current): what is charged to it and to all
+    /// below it.
+    pub fn current(&self, g: GroupId) -> u32
+        requires { IsTrue (has_group self.now.groups g) }
+        ensures { result ≡ current_of self.now g }
+    {
+        sums::usage(&self.tree, self.accounts.as_slice(), g)
+    }
+
+    /// The pages charged to the group itself.
+    #[tactic(auto, unfolding(crate::specs::Charges::pages_of))]
+    pub fn pages(&self, g: GroupId) -> u32
+        requires { IsTrue (has_group self.now.groups g) }
+        ensures { result ≡ pages_of self.now g }
+    {
+        self.account(g).pages
+    }
+
+    /// The greatest usage since the group was made, in pages (memory.peak).
+    #[tactic(auto, unfolding(crate::specs::Charges::peak_of))]
+    pub fn peak(&self, g: GroupId) -> u32
+        requires { IsTrue (has_group self.now.groups g) }
+        ensures { result ≡ peak_of self.now g }
+    {
+        self.account(g).peak
+    }
+
+    /// The limit of the group, in pages (memory.max); None for no limit.
+    pub fn max(&self, g: GroupId) -> Option<u32>
+        requires { IsTrue (has_group self.now.groups g) }
+        ensures { result ≡ limit_of self.now.groups g }
+    {
+        self.tree.limit(g)
+    }
+
+    /// What happened to the group and to all below it (memory.events).
+    #[tactic(auto, unfolding(crate::specs::Charges::events_of))]
+    pub fn events(&self, g: GroupId) -> Counts
+        requires { IsTrue (has_group self.now.groups g) }
+        ensures { result ≡ events_of self.now g }
+    {
+        self.account(g).events
+    }
+
+    /// What happened to the group itself (memory.events.local).
+    #[tactic(auto, unfolding(crate::specs::Charges::local_events_of))]
+    pub fn events_local(&self, g: GroupId) -> Counts
+        requires { IsTrue (has_group self.now.groups g) }
+        ensures { result ≡ local_events_of self.now g }
+    {
+        self.account(g).events_local
+    }
+
+    // Whether the usage with n pages more is at most the group's own limit.
+    fn has_room(&self, g: GroupId, n: u32) -> bool
+        requires there { IsTrue (has_group self.now.groups g) }
+        requires fits { current_of self.now 0 + n < 2 ^ 32 }
+        ensures { result ≡ has_room self.now n g }
+    {
+        match self.tree.limit(g) {
+            None => true,
+            Some(limit) => self.current(g) + n <= limit,
+        }
+    }
+
+    // The lowest group, from this one up to the root, that has no room.
+    fn lowest_over(&self, g: GroupId, n: u32) -> Option<GroupId>
+        requires there { IsTrue (has_group self.now.groups g) }
+        requires fits { current_of self.now 0 + n < 2 ^ 32 }
+        ensures { MatchOption result (PathHasRoom self.now n g) (λ m. IsLowestOver self.now n g m) }
+    {
+        let mut m = g;
+        while self.has_room(m, n) {
+            match self.tree.parent(m) {
+                Some(parent) => m = parent,
+                None => return None,
+            }
+        }
+        Some(m)
+    }
+
+    /// Charges n pages to the group, where it and each of its ancestors has room for all of them. Else
+    /// the error names the lowest that has none, and nothing has changed, peaks included.
+    pub fn try_charge(&mut self, g: GroupId, n: u32) -> Result<(), Over>
+        requires there { IsTrue (has_group self.old.groups g) }
+        requires fits { current_of self.old 0 + n < 2 ^ 32 }
+        ensures granted { IsOk result ↔ PathHasRoom self.old n g }
+        ensures charged { OnOk result (self.new ≡ with_charge self.old g n) }
+        ensures over { IfErr result (λ e. IsLowestOver self.old n g e.group) }
+        ensures unchanged { OnErr result (self.new ≡ self.old) }
+    {
+        if let Some(group) = self.lowest_over(g, n) {
+            return Err(Over { group });
+        }
+        sums::charge(&self.tree, self.accounts.as_mut_slice(), g, n);
+        Ok(())
+    }
+
+    /// Takes n pages back that were charged to the group itself. Its peak stands.
+    pub fn uncharge(&mut self, g: GroupId, n: u32)
+        requires there { IsTrue (has_group self.old.groups g) }
+        requires charged { n ≤ pages_of self.old g }
+        ensures { self.new ≡ with_uncharge self.old g n }
+    {
+        sums::take_pages(self.accounts.as_mut_slice(), g, n);
+    }
+
+    /// Notes that usage was about to go over the group's limit: one more `max` for the group itself, and
+    /// for it and each of its ancestors. A count stays at 2^64 - 1.
+    pub fn note_max(&mut self, g: GroupId)
+        requires { IsTrue (has_group self.old.groups g) }
+        ensures { self.new ≡ with_max_noted self.old g }
+    {
+        sums::note_max(&self.tree, self.accounts.as_mut_slice(), g);
+    }
+}
+
+// The account of a new group.
+fn new_account(group: GroupId) -> Account
+    ensures { result ≡ empty_account group }
+{
+    let nothing = Counts {
+        low: 0,
+        high: 0,
+        max: 0,
+        oom: 0,
+        oom_kill: 0,
+    };
+    Account {
+        group,
+        pages: 0,
+        peak: 0,
+        events: nothing,
+        events_local: nothing,
+    }
+}

@@ -1,0 +1,14 @@
+use Rattle.std.proofs.Common.{◌==◌, not, sym, ap, ◌∙◌, subst, rules, tests}
+use Rattle.std.proofs.lemmas.Fn.{filter_same}
+use Rattle.group_tree.specs.Groups.{Group, AreGroups, without_group}
+use Rattle.group_tree.proofs.GroupLemmas.{AreGroups-without}
+use Rattle.group_tree.proofs.tree.Tree.remove.Goals as goal
+
+pub returns : goal.returns
+unfolding without_group
+returns c = filter_same _ (λ (g : Group). not (g.number == c.args.g)) _ (λ x b q k. search (rules, tests)) _ _ c.retain.ensures.filtered ∙ ap (λ rows. without_group rows c.args.g) c.self.view_is
+
+pub invariant_of-self : goal.invariant_of-self
+invariant_of-self c =
+    let old = subst AreGroups c.self.view_is c.self.invariant.0 in
+    (subst AreGroups (sym (returns c)) (AreGroups-without c.args.self.now c.args.g old c.requires.leaf c.requires.below_root), search (rules, c.self.invariant))

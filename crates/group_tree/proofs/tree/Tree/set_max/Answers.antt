@@ -1,0 +1,13 @@
+use Rattle.std.proofs.Common.{◌≡◌, ◌++◌, take, drop, length, sym, ap, ◌∙◌, subst, rules}
+use Rattle.group_tree.specs.Groups.{AreGroups, with_limit}
+use Rattle.group_tree.proofs.GroupLemmas.{AreGroups-limited, length-limited, take_new}
+use Rattle.group_tree.proofs.tree.Tree.set_max.Goals as goal
+
+pub invariant_of-self : goal.invariant_of-self
+invariant_of-self c =
+    let old = c.self.inside.rows.items in
+    let new : c.set_limit.new.rows ≡ with_limit old c.args.g c.args.limit = c.set_limit.ensures ∙ ap (λ rows. with_limit rows c.args.g c.args.limit) c.as_mut_slice.ensures.value in
+    let size : length c.set_limit.new.rows ≡ length old = ap length new ∙ length-limited old c.args.g c.args.limit in
+    let whole : take c.self.inside.rows.len (c.set_limit.new.rows ++ drop (length c.set_limit.new.rows) old) ≡ c.set_limit.new.rows =
+    take_new c.self.inside.rows.len old c.set_limit.new.rows size (search rules) in
+    (subst AreGroups (sym (whole ∙ new)) (AreGroups-limited old c.args.g c.args.limit c.self.invariant.0), c.self.invariant.1)

@@ -1,0 +1,260 @@
+//! The tree of groups.
+
+ghost use Rattle.std.specs.Prelude.{◌≡◌, ◌≢◌, ◌↔◌, ◌<◌, ◌==◌, ◌&&◌, false, not, length, IfOk, IsNone, IsTrue, OnErr, Some};
+ghost use Rattle.std.specs.Option.{option_copied};
+ghost use Rattle.std.specs.Result.{result_err};
+ghost use Rattle.group_tree.specs.Path.{IsWellFormed};
+ghost use Rattle.group_tree.specs.Groups.{AreGroups, IsLeastFreeNumber, group_at, has_child, has_group, in_subtree, initial_groups, limit_of, limited, make_fault, number_at, parent_of, path_of, the_root, with_group, with_limit, without_group};
+
+use crate::fault::Fault;
+use crate::group::{Group, GroupId, MAX_GROUPS};
+use crate::names;
+use crate::path::PathText;
+use std::alloc::{AllocError, Global};
+use std::marker::Model;
+
+/// How many names a path may have.
+const MAX_DEPTH: usize = 8;
+
+/// The groups of a controller, seen as their list in order of making. Room for 64 is reserved when
+/// the tree is made, so that no later call takes memory.
+#[derive(Debug, Drop)]
+pub struct Tree {
+    rows: Vec<Group>,
+}
+
+impl Model for Tree {
+    ghost use Rattle.std.specs.Prelude.{◌≤◌, List, vec_capacity};
+    ghost use Rattle.group_tree.specs.Groups.{AreGroups, Group};
+
+    ghost Value = { List Group };
+
+    ghost view = { λ t. t.rows.items };
+
+    ghost invariant = { λ t. AreGroups t.rows.items × (64 ≤ vec_capacity t.rows) };
+}
+
+impl Tree {
+    /// The root alone, with no limit.
+    pub fn new(alloc: Global) -> Result<Tree, AllocError>
+        ensures { IfOk result (λ tree. tree ≡ initial_groups) }
+    {
+        let mut rows = Vec::with_capacity(alloc, MAX_GROUPS)?;
+        rows.push(root_group()).unwrap();
+        Ok(Tree { rows })
+    }
+
+    /// The groups, in order of making; the root is the first.
+    pub fn groups(&self) -> &[Group]
+        ensures groups { result.now ≡ self.now }
+        ensures legal { AreGroups self.now }
+    {
+        self.rows.as_slice()
+    }
+
+    // The group of this number.
+    fn row(&self, g: GroupId) -> Option<&Group>
+        ensures { option_copied result ≡ group_at self.now g }
+    {
+        self.rows.iter().find(|row| row.number == g)
+    }
+
+    /// Whether there is a group of this number.
+    #[tactic(auto, unfolding(crate::specs::Groups::has_group))]
+    pub fn contains(&self, g: GroupId) -> bool
+        ensures { result ≡ has_group self.now g }
+    {
+        self.row(g).is_some()
+    }
+
+    /// The group with this path; None where no group has it.
+    pub fn find(&self, path: &[u8]) -> Option<GroupId>
+        ensures { result ≡ number_at self.now path.now }
+    {
+        for row in &self.rows {
+            if row.path.as_bytes() == path {
+                return Some(row.number);
+            }
+        }
+        None
+    }
+
+    /// The path of a group that is there.
+    #[tactic(auto, unfolding(crate::specs::Groups::has_group, crate::specs::Groups::path_of))]
+    pub fn path_of(&self, g: GroupId) -> PathText
+        requires { IsTrue (has_group self.now g) }
+        ensures value { path_of self.now g ≡ Some result }
+        ensures formed { IsWellFormed result }
+    {
+        let _ = &self.rows;
+        self.row(g).unwrap().path
+    }
+
+    /// The limit of a group that is there, in pages; None for no limit.
+    #[tactic(auto, unfolding(crate::specs::Groups::has_group, crate::specs::Groups::limit_of))]
+    pub fn limit(&self, g: GroupId) -> Option<u32>
+        requires { IsTrue (has_group self.now g) }
+        ensures { result ≡ limit_of self.now g }
+    {
+        self.row(g).unwrap().limit
+    }
+
+    /// The group just above one that is there; None exactly for the root.
+    pub fn parent(&self, g: GroupId) -> Option<GroupId>
+        requires { IsTrue (has_group self.now g) }
+        ensures value { result ≡ parent_of self.now g }
+        ensures root { IsNone result ↔ (g ≡ 0) }
+    {
+        if g.number() == 0 {
+            return None;
+        }
+        let _ = &self.rows;
+        let path = self.path_of(g);
+        self.find(names::parent_path(path.as_bytes()))
+    }
+
+    /// Whether the second group is the first or lies below it; both are there.
+    pub fn in_subtree(&self, g: GroupId, h: GroupId) -> bool
+        requires above { IsTrue (has_group self.now g) }
+        requires below { IsTrue (has_group self.now h) }
+        ensures { result ≡ in_subtree self.now g h }
+    {
+        let above = self.path_of(g);
+        let below = self.path_of(h);
+        names::begins(above.as_bytes(), below.as_bytes())
+    }
+
+    // Whether the second group is another one that lies below the first.
+    fn lies_below(&self, g: GroupId, h: GroupId) -> bool
+        requires above { IsTrue (has_group self.now g) }
+        requires below { IsTrue (has_group self.now h) }
+        ensures { result ≡ (not (h == g) && in_subtree self.now g h) }
+    {
+        h != g && self.in_subtree(g, h)
+    }
+
+    /// Whether some other group lies below one that is there.
+    pub fn has_child(&self, g: GroupId) -> bool
+        requires { IsTrue (has_group self.now g) }
+        ensures { result ≡ has_child self.now g }
+    {
+        for row in &self.rows {
+            if self.lies_below(g, row.number) {
+                return true;
+            }
+        }
+        false
+    }
+
+    /// Why a group with this path cannot be made, the first cause that holds: BadName, TooDeep, Exists,
+    /// NoParent, TreeFull. None where it can.
+    #[tactic(auto, unfolding(crate::specs::Groups::make_fault))]
+    pub fn make_fault(&self, path: &[u8]) -> Option<Fault>
+        ensures { result ≡ make_fault self.now path.now }
+    {
+        if !names::is_well_formed(path) || names::is_root(path) {
+            Some(Fault::BadName)
+        } else if names::depth(path) > MAX_DEPTH {
+            Some(Fault::TooDeep)
+        } else if self.find(path).is_some() {
+            Some(Fault::Exists)
+        } else if self.find(names::parent_path(path)).is_none() {
+            Some(Fault::NoParent)
+        } else if self.rows.len() >= MAX_GROUPS {
+            Some(Fault::TreeFull)
+        } else {
+            None
+        }
+    }
+
+    // Whether a group has the number, which may be above 63.
+    fn is_taken(&self, number: u32) -> bool
+        ensures { result ≡ has_group self.now number }
+    {
+        self.rows.iter().any(|row| row.number.number() == number)
+    }
+
+    // The least number that no group has.
+    fn least_free(&self) -> GroupId
+        requires { length self.now < 64 }
+        ensures number { IsLeastFreeNumber self.now result }
+        ensures below { result < 64 }
+    {
+        let mut number = 0;
+        while self.is_taken(number) {
+            number += 1;
+        }
+        GroupId::of(number).unwrap()
+    }
+
+    /// Makes a group with the least free number and no limit. It is refused as `make_fault` says, and
+    /// the tree is then as before.
+    pub fn make(&mut self, path: &[u8]) -> Result<GroupId, Fault>
+        ensures made { IfOk result (λ n. self.new ≡ with_group self.old n path.now) }
+        ensures least { IfOk result (λ n. IsLeastFreeNumber self.old n) }
+        ensures refused { result_err result ≡ make_fault self.old path.now }
+        ensures unchanged { OnErr result (self.new ≡ self.old) }
+    {
+        if let Some(fault) = self.make_fault(path) {
+            return Err(fault);
+        }
+        let number = self.least_free();
+        let path = PathText::of(path).unwrap();
+        let row = Group {
+            number,
+            path,
+            limit: None,
+        };
+        self.rows.push(row).unwrap();
+        Ok(number)
+    }
+
+    /// Gives a group that is there another limit, in pages; None for no limit.
+    pub fn set_max(&mut self, g: GroupId, limit: Option<u32>)
+        requires { IsTrue (has_group self.old g) }
+        ensures { self.new ≡ with_limit self.old g limit }
+    {
+        set_limit(self.rows.as_mut_slice(), g, limit);
+    }
+
+    /// Takes out a group that is there, other than the root, with no group below it. Its number is
+    /// free then.
+    pub fn remove(&mut self, g: GroupId)
+        requires there { IsTrue (has_group self.old g) }
+        requires leaf { has_child self.old g ≡ false }
+        requires below_root { g ≢ 0 }
+        ensures { self.new ≡ without_group self.old g }
+    {
+        let number = g.number();
+        self.rows.retain(|row| row.number.number() != number);
+    }
+}
+
+// The root, as a tree begins with it.
+fn root_group() -> Group
+    ensures { result ≡ the_root }
+{
+    Group {
+        number: GroupId::root(),
+        path: PathText::of(b"/").unwrap(),
+        limit: None,
+    }
+}
+
+// Writes the limit into the group's row.
+fn set_limit(rows: &mut [Group], g: GroupId, limit: Option<u32>)
+    ensures { rows.new ≡ with_limit rows.old g limit }
+{
+    for row in rows.iter_mut() {
+        set_limit_of_row(row, g, limit);
+    }
+}
+
+// Writes the limit into the row, if it is the group's.
+fn set_limit_of_row(row: &mut Group, g: GroupId, limit: Option<u32>)
+    ensures { row.new ≡ limited g limit row.old }
+{
+    if row.number == g {
+        row.limit = limit;
+    }
+}
