@@ -1,10 +1,18 @@
 //! The files of a group, by their names.
 
-ghost use Rattle.std.specs.Prelude.{◌≡◌, IsTrue, ◌↔◌};
+ghost use Rattle.std.specs.Prelude.{◌≡◌, ◌≢◌, ◌+◌, ◌≤◌, ◌++◌, length, IsTrue, ◌↔◌};
 ghost use Rattle.std.specs.List.{find};
 ghost use Rattle.std.specs.Str.{bytes_eq};
 ghost use Rattle.control_files.specs.declared.file.File.{File};
-ghost use Rattle.control_files.specs.Files.{name_of};
+ghost use Rattle.control_files.specs.Files.{name_of, count_line, events_text, file_text};
+ghost use Rattle.group_tree.specs.Groups.{has_group};
+
+use crate::limit::write_limit;
+use crate::text::{ArrayText, pages_text, text_of};
+use group_charge::account::Counts;
+use group_charge::charges::Charges;
+use group_tree::fault::Fault;
+use group_tree::group::GroupId;
 
 /// A file that each group but the root has.
 #[derive(Clone, Copy, Debug, PartialEq, Eq)]
@@ -44,6 +52,48 @@ impl File {
     {
         self == File::Max
     }
+}
+
+/// The text of a file of a group that is there. `NoFile` for the root, which has no files.
+pub fn file_text(charges: &Charges, g: GroupId, file: File) -> Result<ArrayText, Fault>
+    requires { IsTrue (has_group charges.now.groups g) }
+    ensures root { g ≡ 0 → result ≡ Err Fault.NoFile }
+    ensures text { g ≢ 0 → result ≡ Ok (file_text charges.now g file) }
+{
+    if g == GroupId::root() {
+        return Err(Fault::NoFile);
+    }
+    Ok(match file {
+        File::Current => pages_text(charges.current(g)),
+        File::Max => write_limit(charges.max(g)),
+        File::Peak => pages_text(charges.peak(g)),
+        File::Events => events_text(charges.events(g)),
+        File::EventsLocal => events_text(charges.events_local(g)),
+    })
+}
+
+// The text of counts. Nothing is protected here and nothing is throttled, so `low` and `high` stay 0.
+#[tactic(auto, unfolding(crate::specs::Files::events_text))]
+fn events_text(counts: Counts) -> ArrayText
+    ensures { result ≡ events_text counts }
+{
+    let mut text = text_of(b"low 0\nhigh 0\n");
+    push_count(&mut text, b"max", counts.max);
+    push_count(&mut text, b"oom", counts.oom);
+    push_count(&mut text, b"oom_kill", counts.oom_kill);
+    text
+}
+
+// Writes the line of a key and its count.
+fn push_count(text: &mut ArrayText, key: &[u8], count: u64)
+    requires { length text.old + length key.now + 22 ≤ 160 }
+    ensures text { text.new ≡ text.old ++ count_line key.now count }
+    ensures short { length text.new ≤ length text.old + length key.now + 22 }
+{
+    text.push(key);
+    text.push(b" ");
+    text.push_number(count);
+    text.push(b"\n");
 }
 
 /// The file of this name; None where none has it.

@@ -1,7 +1,10 @@
-use crate::file::{File, file_named};
+use crate::file::{File, file_named, file_text};
 use crate::limit::{Limit, read_limit, write_limit};
+use group_charge::charges::Charges;
 use group_tree::fault::Fault;
+use group_tree::group::GroupId;
 use std::process::Abort;
+use std::test::Fail;
 
 fn reads(rt: &impl Abort, text: &[u8], limit: Limit) {
     assert_eq!(rt; read_limit(text), Ok(limit), "{text:?}");
@@ -68,4 +71,24 @@ fn files_are_found_by_name(rt: HostRuntime) {
     assert_eq!(rt; File::EventsLocal.name(), "memory.events.local");
     assert_eq!(rt; file_named(b"memory.high"), None);
     assert!(rt; File::Max.is_writable());
+}
+
+#[test]
+fn files_tell_what_is_charged(rt: HostRuntime) -> Result<(), Fail> {
+    let mut charges = Charges::new(rt.alloc())?;
+    let g = charges.make(b"/a")?;
+    charges.set_max(g, Some(2));
+    charges.try_charge(g, 1)?;
+    charges.note_max(g);
+    let text = file_text(&charges, g, File::Current)?;
+    assert_eq!(rt; text.as_bytes(), b"4096\n".as_slice());
+    let text = file_text(&charges, g, File::Max)?;
+    assert_eq!(rt; text.as_bytes(), b"8192\n".as_slice());
+    let text = file_text(&charges, g, File::Peak)?;
+    assert_eq!(rt; text.as_bytes(), b"4096\n".as_slice());
+    let text = file_text(&charges, g, File::Events)?;
+    assert_eq!(rt; text.as_bytes(), b"low 0\nhigh 0\nmax 1\noom 0\noom_kill 0\n".as_slice());
+    let text = file_text(&charges, GroupId::root(), File::EventsLocal);
+    assert_eq!(rt; text, Err(Fault::NoFile));
+    Ok(())
 }
