@@ -1,5 +1,5 @@
 -- The charges of a tree of groups: for each group its own pages, its peak and its event counts.
-use Rattle.std.specs.Prelude.{◌≡◌, ℕ, ◌+◌, ◌-◌, ◌^◌, ◌<◌, ◌==◌, Bool, true, false, not, max, min, nat_le, IsTrue, Option, Some, None, List, [], ◌∷◌, ◌++◌, map, filter, sum_by, if◌then◌else◌}
+use Rattle.std.specs.Prelude.{All, ◌≡◌, ℕ, ◌+◌, ◌-◌, ◌^◌, ◌<◌, ◌≤◌, ◌==◌, Bool, true, false, not, max, min, nat_le, IsTrue, Option, Some, None, List, [], ◌∷◌, ◌++◌, map, filter, sum_by, if◌then◌else◌}
 use Rattle.std.specs.List.{find}
 use Rattle.std.specs.Option.{option_map_or}
 use Rattle.group_tree.specs.declared.group.Group.{Group}
@@ -125,8 +125,14 @@ with_group_removed l g = record { groups = without_group l.groups g; accounts = 
 abbrev pub with_group_limit : Ledger → ℕ → Option ℕ → Ledger
 with_group_limit l g limit = record l { groups = with_limit l.groups g limit }
 
--- what holds of every ledger: the groups are a tree's, each has an account, and all pages fit 32 bits
+-- the second ledger has n pages more in the usage of g and of each of its ancestors, and the same in all others
+abbrev pub UsageRises : Ledger → Ledger → ℕ → ℕ → Type 0
+UsageRises l k g n = (m : ℕ) → current_of k m ≡ (if in_subtree l.groups m g then current_of l m + n else current_of l m)
+
+-- what holds of every ledger: the groups are a tree's, each has an account, all pages fit 32 bits, and no
+-- peak is below the usage
 pub record AreCharges (l : Ledger) : Type 0 where
   pub groups : AreGroups l.groups
   pub numbers : map (λ a. a.group) l.accounts ≡ map (λ g. g.number) l.groups
   pub fits : total_pages l.accounts < 2 ^ 32
+  pub peaks : All (λ a. current_of l a.group ≤ a.peak) l.accounts
