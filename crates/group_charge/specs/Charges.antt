@@ -100,28 +100,31 @@ noted groups g a = record a {
   events_local = if a.group == g then with_max a.events_local else a.events_local;
 }
 
--- the group has n pages more, and the peaks of it and of its ancestors follow
+-- the accounts with n pages more for the group, where the peaks of it and of its ancestors follow
 unfoldable pub charged : List Group → List Account → ℕ → ℕ → List Account
 charged groups accounts g n = let more = map (added g n) accounts in map (peaked groups more g) more
 
+-- the ledger after a charge that was granted: nothing else has changed
 abbrev pub with_charge : Ledger → ℕ → ℕ → Ledger
 with_charge l g n = record l { accounts = charged l.groups l.accounts g n }
 
--- the group has n pages less
+-- the ledger after n pages of the group were taken back: the peaks stand
 abbrev pub with_uncharge : Ledger → ℕ → ℕ → Ledger
 with_uncharge l g n = record l { accounts = map (taken g n) l.accounts }
 
--- usage was about to go over the group's limit
+-- the ledger after one more note that usage was about to go over the group's limit
 abbrev pub with_max_noted : Ledger → ℕ → Ledger
 with_max_noted l g = record l { accounts = map (noted l.groups g) l.accounts }
 
--- a new group with an empty account
+-- the ledger with a new group, which has an empty account
 abbrev pub with_new_group : Ledger → ℕ → List ℕ → Ledger
 with_new_group l n path = record { groups = with_group l.groups n path; accounts = l.accounts ++ empty_account n ∷ [] }
 
+-- the ledger without the group and its account: the counts of its ancestors stay as they are
 abbrev pub with_group_removed : Ledger → ℕ → Ledger
 with_group_removed l g = record { groups = without_group l.groups g; accounts = filter (λ a. not (a.group == g)) l.accounts }
 
+-- the ledger with another limit of the group
 abbrev pub with_group_limit : Ledger → ℕ → Option ℕ → Ledger
 with_group_limit l g limit = record l { groups = with_limit l.groups g limit }
 

@@ -166,7 +166,7 @@ impl Charges {
         requires fits { current_of self.now 0 + n < 2 ^ 32 }
         ensures { result ≡ has_room self.now n g }
     {
-        match self.tree.limit(g) {
+        match self.tree().limit(g) {
             None => true,
             Some(limit) => self.current(g) + n <= limit,
         }
