@@ -7,3 +7,5 @@
 pub mod account;
 pub mod charges;
 mod sums;
+#[cfg(test)]
+mod tests;

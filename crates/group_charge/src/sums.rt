@@ -92,6 +92,7 @@ fn raise_peaks(tree: &Tree, accounts: &mut [Account], g: GroupId)
 }
 
 /// Gives the group n pages more, and the peaks of it and of its ancestors follow.
+#[tactic(auto, unfolding(crate::specs::Charges::charged))]
 pub fn charge(tree: &Tree, accounts: &mut [Account], g: GroupId, n: u32)
     requires there { IsTrue (has_group tree.now g) }
     requires known { All (λ a. IsTrue (has_group tree.now a.group)) accounts.old }

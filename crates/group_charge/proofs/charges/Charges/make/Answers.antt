@@ -14,7 +14,6 @@ unwrap-requires c =
     search (rules, few)
 
 pub returns-clause-made : goal.returns-clause-made
-unfolding with_new_group
 returns-clause-made c =
     let rows = pushed (c.new_account.result ∷ []) refl c.unwrap.ensures c.push.ensures.items ∙ ap (λ a. c.self.inside.accounts.items ++ a ∷ []) c.new_account.ensures in
     same_ledger _ _ _ _ c.in_ok-g.ensures.made rows ∙ ap (λ l. with_new_group l c.in_ok-g.g c.args.path.now) c.self.view_is

@@ -19,7 +19,6 @@ invariant_of-self c =
     (subst AreCharges (same_ledger _ _ _ _ refl (sym (whole ∙ new))) (AreCharges-noted _ c.args.g c.self.invariant.0), c.self.invariant.1)
 
 pub returns : goal.returns
-unfolding with_max_noted
 returns c =
     let old = c.self.inside.accounts.items in
     let new = c.note_max.ensures ∙ ap (map (noted c.self.inside.tree c.args.g)) c.as_mut_slice.ensures.value in

@@ -6,7 +6,6 @@ use Rattle.group_charge.proofs.ChargeLemmas.{AreCharges-removed, same_ledger}
 use Rattle.group_charge.proofs.charges.Charges.remove.Goals as goal
 
 pub returns : goal.returns
-unfolding with_group_removed
 returns c =
     let kept = filter_same _ (λ (a : Account). not (a.group == c.args.g)) _ (λ x b q k. search (rules, tests)) _ _ c.retain.ensures.filtered in
     same_ledger _ _ _ _ c.remove.ensures kept ∙ ap (λ l. with_group_removed l c.args.g) c.self.view_is
