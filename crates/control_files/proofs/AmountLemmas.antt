@@ -1,7 +1,7 @@
 -- The amount that a word writes, by its digits and its suffix.
-use Rattle.std.proofs.Common.{◌≡◌, ◌≢◌, ℕ, ◌+◌, ◌*◌, ◌^◌, ◌<◌, ◌≤◌, Bool, true, not, List, [], ◌∷◌, ◌++◌, length, take, drop, refl, sym, ◌∙◌, ap, subst, arith}
+use Rattle.std.proofs.Common.{◌≡◌, ℕ, ◌*◌, ◌^◌, ◌<◌, ◌≤◌, true, not, List, [], ◌∷◌, length, take, drop, refl, sym, ◌∙◌, subst, arith}
 use Rattle.std.proofs.Math.Nat.{mul-le-mul_left}
-use Rattle.std.specs.Prelude.{IsTrue, Option, Some, None, Result, Ok, Err, IfNone, SomeIff, ok_or}
+use Rattle.std.specs.Prelude.{IsTrue, Option, Some, None, Result, Err, IfNone, SomeIff, ok_or}
 use Rattle.group_tree.specs.declared.fault.Fault.{Fault}
 use Rattle.group_tree.specs.declared.fault.Fault.TheVariants.{BadLimit, BadNumber}
 use Rattle.std.specs.Char.{is_ascii_digit, digit_value}
@@ -12,7 +12,7 @@ use Rattle.std.proofs.lemmas.List.{take-append-drop}
 use Rattle.control_files.proofs.Runs.{and_parts, same_front, front_passes, rest_outside}
 use Rattle.control_files.proofs.GrammarLemmas.{double_not, all_digits_pass, suffix_outside, factor_positive}
 use Rattle.control_files.specs.Limit.{IsSuffix, IsAmount}
-use Rattle.control_files.specs.Reading.{BeginsOutside, SplitsDigits, IsAmountReading}
+use Rattle.control_files.specs.Reading.{SplitsDigits, IsAmountReading}
 
 passing_digit : (c : ℕ) → is_ascii_digit c ≡ true → digit_value c < 10
 passing_digit c h = grind (arith, nat_tests)
@@ -27,25 +27,20 @@ pub splits_digits : (word : List ℕ) (end : ℕ) → end ≡ position_or_len (�
 splits_digits word end h = record {
   parts = sym (take-append-drop end word);
   all_digits = rw h (passing_digits _ (front_passes is_ascii_digit (λ byte. not (is_ascii_digit byte)) (λ byte. double_not (is_ascii_digit byte)) word));
-  no_digit = rw h (rest_outside is_ascii_digit (λ byte. not (is_ascii_digit byte)) (λ byte. double_not (is_ascii_digit byte)) word)
+  no_digit = rw h (rest_outside is_ascii_digit (λ byte. not (is_ascii_digit byte)) (λ byte. double_not (is_ascii_digit byte)) word);
 }
 
 -- an amount has the digits and the suffix into which its word is split
 amount_parts : (word digits suffix : List ℕ) (amount : ℕ) → SplitsDigits word digits suffix → (a : IsAmount word amount) → (a.digits ≡ digits) × (a.suffix ≡ suffix)
 amount_parts word digits suffix amount split a =
     same_front is_ascii_digit (λ c. not (is_ascii_digit c)) (λ c. double_not (is_ascii_digit c)) a.digits a.suffix digits suffix
-        (all_digits_pass a.digits a.numeral.1) (suffix_outside a.suffix a.factor a.suffix_is)
-        (all_digits_pass digits split.all_digits) split.no_digit (sym a.parts ∙ split.parts)
+    (all_digits_pass a.digits a.numeral.1) (suffix_outside a.suffix a.factor a.suffix_is)
+    (all_digits_pass digits split.all_digits) split.no_digit (sym a.parts ∙ split.parts)
 
 pub no_suffix : (word digits suffix : List ℕ) → SplitsDigits word digits suffix → ((factor : ℕ) → ¬ IsSuffix suffix factor) → (amount : ℕ) → ¬ IsAmount word amount
 no_suffix word digits suffix split refused amount a =
     let P : List ℕ → Type 0 = λ s. IsSuffix s a.factor in
     refused a.factor (subst P (amount_parts word digits suffix amount split a).1 a.suffix_is)
-
-pub no_digits : (word digits suffix : List ℕ) → SplitsDigits word digits suffix → length digits ≡ 0 → (amount : ℕ) → ¬ IsAmount word amount
-no_digits word digits suffix split none amount a =
-    let same : length a.digits ≡ length digits = ap length (amount_parts word digits suffix amount split a).0 in
-    omega (arith, a.numeral.0)
 
 pub amount_of : (word digits suffix : List ℕ) (factor : ℕ) → SplitsDigits word digits suffix → 0 < length digits → IsSuffix suffix factor → IsAmount word (digits_value 10 digits * factor)
 amount_of word digits suffix factor split some suffix_is = record { digits = digits; suffix = suffix; factor = factor; parts = split.parts; numeral = (some, split.all_digits); suffix_is = suffix_is; value = refl }

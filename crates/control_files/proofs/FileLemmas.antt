@@ -1,6 +1,6 @@
 -- The files by their names.
-use Rattle.std.proofs.Common.{◌≡◌, ℕ, Bool, true, false, List, [], ◌∷◌, refl, sym, ◌∙◌, rules}
-use Rattle.std.specs.Prelude.{Option, Some, None, ◌↔◌, cond}
+use Rattle.std.proofs.Common.{◌≡◌, ℕ, Bool, true, false, List, [], ◌∷◌, refl, sym}
+use Rattle.std.specs.Prelude.{Some, ◌↔◌, cond}
 use Rattle.std.specs.List.{find}
 use Rattle.std.specs.Str.{bytes_eq}
 use Rattle.std.proofs.lemmas.Slice.Eq.{bytes_eq-Decides}
@@ -29,6 +29,7 @@ found_by_name Events = refl
 found_by_name EventsLocal = refl
 
 pub found-name_of : (name : List ℕ) (file : File) → (find (λ f. bytes_eq (name_of f) name) all_files ≡ Some file) ↔ (name ≡ name_of file)
-found-name_of name file =
-    (λ found. sym ((bytes_eq-Decides (name_of file) name).0 (found_passes (λ f. bytes_eq (name_of f) name) all_files file found)),
-     λ same. rw same (found_by_name file))
+found-name_of name file = (
+  λ found. sym ((bytes_eq-Decides (name_of file) name).0 (found_passes (λ f. bytes_eq (name_of f) name) all_files file found)),
+  λ same. rw same (found_by_name file),
+)

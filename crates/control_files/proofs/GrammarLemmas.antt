@@ -1,12 +1,11 @@
 -- The grammar of limits: each text has one value.
-use Rattle.std.proofs.Common.{◌≡◌, ◌≢◌, ℕ, ◌+◌, ◌*◌, ◌<◌, ◌≤◌, ◌&&◌, ◌==◌, Bool, true, false, not, List, [], ◌∷◌, ◌++◌, length, refl, sym, ◌∙◌, ap, subst, arith, rules, append_assoc}
-use Rattle.std.specs.Prelude.{IsTrue, Option, Some, None, codes, nat_lt}
+use Rattle.std.proofs.Common.{◌≡◌, ◌≢◌, ℕ, ◌<◌, ◌≤◌, Bool, true, false, not, List, [], ◌∷◌, ◌++◌, length, refl, sym, ◌∙◌, ap, subst, arith}
+use Rattle.std.specs.Prelude.{IsTrue, Option, Some, None, codes}
 use Rattle.std.specs.Char.{is_ascii_digit, digit_value, to_ascii_uppercase}
-use Rattle.std.specs.List.{list_all, position_or_len}
+use Rattle.std.specs.List.{list_all}
 use Rattle.std.specs.Str.Parse.{IsNumeral, AllDigits, digits_value}
 use Rattle.std.proofs.lemmas.List.Folds.{list_all-append}
 use Rattle.std.proofs.lemmas.Bool.Decides.{nat_tests}
-use Rattle.std.proofs.lemmas.Grind.{common_steps}
 use Rattle.control_files.proofs.Runs.{and_parts, same_front}
 use Rattle.control_files.specs.Limit.{is_space, AreSpaces, factor_of, IsSuffix, IsAmount, IsLimitWord, IsLimitText}
 use Rattle.control_files.specs.Reading.{BeginsOutside, HasNoSpace, HasOnlyWord}
@@ -71,10 +70,10 @@ double_not false = refl
 pub same_amount : (word : List ℕ) (m n : ℕ) → IsAmount word m → IsAmount word n → m ≡ n
 same_amount word m n h k =
     let parts : (h.digits ≡ k.digits) × (h.suffix ≡ k.suffix) =
-        same_front is_ascii_digit (λ c. not (is_ascii_digit c)) (λ c. double_not (is_ascii_digit c)) h.digits h.suffix k.digits k.suffix
-            (all_digits_pass h.digits h.numeral.1) (suffix_outside h.suffix h.factor h.suffix_is)
-            (all_digits_pass k.digits k.numeral.1) (suffix_outside k.suffix k.factor k.suffix_is)
-            (sym h.parts ∙ k.parts) in
+    same_front is_ascii_digit (λ c. not (is_ascii_digit c)) (λ c. double_not (is_ascii_digit c)) h.digits h.suffix k.digits k.suffix
+    (all_digits_pass h.digits h.numeral.1) (suffix_outside h.suffix h.factor h.suffix_is)
+    (all_digits_pass k.digits k.numeral.1) (suffix_outside k.suffix k.factor k.suffix_is)
+    (sym h.parts ∙ k.parts) in
     let P : List ℕ → Type 0 = λ s. IsSuffix s k.factor in
     let suffix_is : IsSuffix h.suffix k.factor = subst P (sym parts.1) k.suffix_is in
     let factors : h.factor ≡ k.factor = same_factor h.suffix h.factor k.factor h.suffix_is suffix_is in
@@ -82,17 +81,17 @@ same_amount word m n h k =
     h.value ∙ (rw (numbers, factors) (sym k.value))
 
 -- `max` is no amount
-max_no_amount : (n : ℕ) (digits suffix : List ℕ) → IsNumeral 10 digits → codes "max" ≡ (digits ++ suffix) → ⊥
-max_no_amount n [] suffix numeral parts = omega (arith, numeral.0)
-max_no_amount n (c ∷ cs) suffix numeral parts =
+max_no_amount : (digits suffix : List ℕ) → IsNumeral 10 digits → codes "max" ≡ (digits ++ suffix) → ⊥
+max_no_amount [] suffix numeral parts = omega (arith, numeral.0)
+max_no_amount (c ∷ cs) suffix numeral parts =
     let first : 109 ≡ c = cc in
     let range : (48 ≤ c) × (c ≤ 57) = digit_range c numeral.1.0 in
     omega arith
 
 same_word_value : (word : List ℕ) (v w : Option ℕ) → IsLimitWord word v → IsLimitWord word w → v ≡ w
 same_word_value word None None h k = refl
-same_word_value word None (Some n) h k = absurd (max_no_amount n k.digits k.suffix k.numeral (sym h ∙ k.parts))
-same_word_value word (Some m) None h k = absurd (max_no_amount m h.digits h.suffix h.numeral (sym k ∙ h.parts))
+same_word_value word None (Some n) h k = absurd (max_no_amount k.digits k.suffix k.numeral (sym h ∙ k.parts))
+same_word_value word (Some m) None h k = absurd (max_no_amount h.digits h.suffix h.numeral (sym k ∙ h.parts))
 same_word_value word (Some m) (Some n) h k = ap Some (same_amount word m n h k)
 
 no_space_append : (xs ys : List ℕ) → HasNoSpace xs → HasNoSpace ys → HasNoSpace (xs ++ ys)
@@ -105,9 +104,10 @@ nonempty_append (x ∷ xs) ys h same = cc
 -- the word of a text in the grammar has no white space, and some byte
 limit_word_no_space : (word : List ℕ) (v : Option ℕ) → IsLimitWord word v → HasNoSpace word × (word ≢ [])
 limit_word_no_space word None h = (rw h refl, λ same. let no : codes "max" ≡ [] = sym h ∙ same in cc)
-limit_word_no_space word (Some n) h =
-    (rw h.parts (no_space_append h.digits h.suffix (all_digits_no_space h.digits h.numeral.1) (suffix_no_space h.suffix h.factor h.suffix_is)),
-     rw h.parts (nonempty_append h.digits h.suffix h.numeral.0))
+limit_word_no_space word (Some n) h = (
+  rw h.parts (no_space_append h.digits h.suffix (all_digits_no_space h.digits h.numeral.1) (suffix_no_space h.suffix h.factor h.suffix_is)),
+  rw h.parts (nonempty_append h.digits h.suffix h.numeral.0),
+)
 
 pub has_only_word : (text : List ℕ) (v : Option ℕ) (h : IsLimitText text v) → HasOnlyWord text h.word
 has_only_word text v h =
@@ -126,17 +126,14 @@ pub word_outside : (word after : List ℕ) → HasNoSpace word → word ≢ [] �
 word_outside [] after h some = absurd (some refl)
 word_outside (c ∷ cs) after h some = not_true (is_space c) (and_parts (not (is_space c)) (list_all (λ byte. not (is_space byte)) cs) h).0
 
-same_bool : (b : Bool) → b ≡ b
-same_bool b = refl
-
 -- a text has one word at most between white space
 pub same_only_word : (text word other : List ℕ) → HasOnlyWord text word → HasOnlyWord text other → word ≡ other
 same_only_word text word other h k =
     let rest : (h.before ≡ k.before) × ((word ++ h.after) ≡ (other ++ k.after)) =
-        same_front is_space (λ c. not (is_space c)) (λ c. double_not (is_space c)) h.before (word ++ h.after) k.before (other ++ k.after)
-            h.spaces_before (word_outside word h.after h.no_space h.some_byte) k.spaces_before (word_outside other k.after k.no_space k.some_byte) (sym h.parts ∙ k.parts) in
+    same_front is_space (λ c. not (is_space c)) (λ c. double_not (is_space c)) h.before (word ++ h.after) k.before (other ++ k.after)
+    h.spaces_before (word_outside word h.after h.no_space h.some_byte) k.spaces_before (word_outside other k.after k.no_space k.some_byte) (sym h.parts ∙ k.parts) in
     (same_front (λ c. not (is_space c)) is_space (λ c. refl) word h.after other k.after
-        h.no_space (spaces_outside h.after h.spaces_after) k.no_space (spaces_outside k.after k.spaces_after) rest.1).0
+    h.no_space (spaces_outside h.after h.spaces_after) k.no_space (spaces_outside k.after k.spaces_after) rest.1).0
 
 -- a text has one value
 pub same_value : (text : List ℕ) (v w : Option ℕ) → IsLimitText text v → IsLimitText text w → v ≡ w

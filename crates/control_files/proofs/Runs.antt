@@ -1,5 +1,5 @@
 -- The bytes at the front of a list that pass a test, and the bytes behind them.
-use Rattle.std.proofs.Common.{◌≡◌, ℕ, ◌+◌, ◌&&◌, Bool, true, false, not, List, [], ◌∷◌, ◌++◌, length, take, drop, refl, sym, ◌∙◌, ap, arith, one-add}
+use Rattle.std.proofs.Common.{◌≡◌, ℕ, ◌&&◌, Bool, true, false, not, List, [], ◌∷◌, ◌++◌, length, take, drop, refl, sym, ◌∙◌, ap, arith, one-add}
 use Rattle.control_files.specs.Reading.{BeginsOutside}
 use Rattle.std.specs.Prelude.{◌<◌, ◌≤◌, IsTrue, Option, Some, None, cond, nat_lt, unwrap_or}
 use Rattle.std.specs.List.{list_all, position, position_or_len}

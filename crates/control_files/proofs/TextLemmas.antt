@@ -1,6 +1,6 @@
 -- A text to which bytes are written.
-use Rattle.std.proofs.Common.{◌≡◌, ℕ, ◌+◌, ◌-◌, ◌≤◌, ◌++◌, List, length, take, drop, replicate, refl, ap, sym, ◌∙◌, arith, length-append, length-drop, drop-drop, append_assoc}
-use Rattle.std.proofs.lemmas.List.{drop-replicate, drop_at, length-replicate, length-take-le}
+use Rattle.std.proofs.Common.{◌≡◌, ℕ, ◌+◌, ◌-◌, ◌≤◌, ◌++◌, List, length, take, drop, replicate, ap, sym, ◌∙◌, arith, length-append, length-drop, drop-drop, append_assoc}
+use Rattle.std.proofs.lemmas.List.{drop-replicate, drop_at, length-take-le}
 use Rattle.control_files.specs.Text.{IsPadded}
 
 rest_zeros : (bytes : List ℕ) (len more : ℕ) → IsPadded bytes len → drop (len + more) bytes ≡ replicate (160 - (len + more)) 0
@@ -15,6 +15,6 @@ IsPadded-written bytes new more len h fits written = record {
   size = rw written (simp length-append (omega (arith, length-take-le len bytes (omega (arith, h.size)), length-drop (len + length more) bytes, h.size)));
   fits = fits;
   zeros = rw (written, ← append_assoc)
-    (drop_at (take len bytes ++ more) (drop (len + length more) bytes) (len + length more) (omega (arith, length-append (take len bytes) more, length-take-le len bytes (omega (arith, h.size))))
-    ∙ rest_zeros bytes len (length more) h)
+      (drop_at (take len bytes ++ more) (drop (len + length more) bytes) (len + length more) (omega (arith, length-append (take len bytes) more, length-take-le len bytes (omega (arith, h.size))))
+      ∙ rest_zeros bytes len (length more) h);
 }

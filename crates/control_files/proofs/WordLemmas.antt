@@ -1,15 +1,15 @@
 -- The one word of a text, found from the left.
-use Rattle.std.proofs.Common.{◌≡◌, ◌≢◌, ℕ, ◌+◌, ◌<◌, ◌≤◌, Bool, true, false, not, List, [], ◌∷◌, ◌++◌, length, take, drop, refl, sym, ◌∙◌, ap, arith, length-append, length-drop, one-add}
+use Rattle.std.proofs.Common.{◌≡◌, ◌≢◌, ℕ, ◌+◌, ◌<◌, Bool, true, false, not, List, [], ◌∷◌, ◌++◌, length, take, drop, refl, sym, ◌∙◌, ap, arith, length-append, length-drop, one-add}
 use Rattle.std.proofs.Math.Seq.{drop-append_seam, take-length}
 use Rattle.std.proofs.lemmas.List.{take-append-drop}
-use Rattle.std.specs.Prelude.{◌-◌, IsTrue, Option, Some, None, option_copied, unwrap_or}
+use Rattle.std.specs.Prelude.{◌-◌, Some, None, option_copied, unwrap_or}
 use Rattle.std.specs.Borrow.{Bor}
 use Rattle.std.specs.Bool.{then_some}
 use Rattle.std.specs.List.{list_all, position, position_or_len}
 use Rattle.control_files.proofs.Runs.{position_or_len-append, position-found, position-none, front_passes, rest_outside, unwrap_or-position}
 use Rattle.control_files.proofs.GrammarLemmas.{double_not, word_outside, spaces_outside}
 use Rattle.control_files.specs.Limit.{is_space, AreSpaces}
-use Rattle.control_files.specs.Reading.{BeginsOutside, HasNoSpace, HasOnlyWord, IsOnlyWord}
+use Rattle.control_files.specs.Reading.{BeginsOutside, HasOnlyWord, IsOnlyWord}
 
 length_positive : (xs : List ℕ) → xs ≢ [] → 0 < length xs
 length_positive [] h = absurd (h refl)
@@ -19,7 +19,7 @@ length_positive (x ∷ xs) h = omega arith
 word_start : (text word : List ℕ) (h : HasOnlyWord text word) → (position_or_len (λ byte. not (is_space byte)) text ≡ length h.before) × (length h.before < length text)
 word_start text word h =
     let at : position_or_len (λ byte. not (is_space byte)) (h.before ++ (word ++ h.after)) ≡ length h.before =
-        position_or_len-append is_space (λ byte. not (is_space byte)) (λ byte. double_not (is_space byte)) h.before (word ++ h.after) h.spaces_before (word_outside word h.after h.no_space h.some_byte) in
+    position_or_len-append is_space (λ byte. not (is_space byte)) (λ byte. double_not (is_space byte)) h.before (word ++ h.after) h.spaces_before (word_outside word h.after h.no_space h.some_byte) in
     (rw h.parts at, rw h.parts (simp length-append (omega (arith, length_positive word h.some_byte))))
 
 pub no_word : (text : List ℕ) → position (λ byte. not (is_space byte)) text ≡ None → (word : List ℕ) → ¬ HasOnlyWord text word
@@ -35,7 +35,7 @@ pub word_missing : (text : List ℕ) (start : ℕ) → position (λ byte. not (i
     list_all is_space (drop (position_or_len is_space (drop start text)) (drop start text)) ≡ false → (word : List ℕ) → ¬ HasOnlyWord text word
 word_missing text start found other word h =
     let end : position_or_len is_space (word ++ h.after) ≡ length word =
-        position_or_len-append (λ byte. not (is_space byte)) is_space (λ byte. refl) word h.after h.no_space (spaces_outside h.after h.spaces_after) in
+    position_or_len-append (λ byte. not (is_space byte)) is_space (λ byte. refl) word h.after h.no_space (spaces_outside h.after h.spaces_after) in
     let rest : list_all is_space (drop (position_or_len is_space (word ++ h.after)) (word ++ h.after)) ≡ false = rw (word_rest text word start found h) at other in
     let after : list_all is_space h.after ≡ false = rw (end, drop-append_seam word h.after) at rest in
     let clash : true ≡ false = sym h.spaces_after ∙ after in
@@ -61,7 +61,7 @@ word_found text start found spaces =
       spaces_before = front;
       spaces_after = spaces;
       no_space = front_passes (λ byte. not (is_space byte)) is_space (λ byte. refl) (drop start text);
-      some_byte = begins_word (drop start text) (simp length-drop (omega (arith, at.1))) outside
+      some_byte = begins_word (drop start text) (simp length-drop (omega (arith, at.1))) outside;
     }
 
 -- the part from a place on is the rest
@@ -82,5 +82,5 @@ word_answer text rest after start end word b found rest_is end_is word_is after_
     let rest_now : rest ≡ drop start text = rest_is ∙ whole_rest start text in
     let end_now : end ≡ position_or_len is_space (drop start text) = end_is ∙ (unwrap_or-position is_space rest ∙ ap (position_or_len is_space) rest_now) in
     answer_by text start word b found
-        (word_is ∙ rw (end_now, rest_now) refl)
-        (clear ∙ rw (after_is, end_now, rest_now) refl)
+    (word_is ∙ rw (end_now, rest_now) refl)
+    (clear ∙ rw (after_is, end_now, rest_now) refl)

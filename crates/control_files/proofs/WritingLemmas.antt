@@ -1,13 +1,13 @@
 -- What is written of a limit is read back.
-use Rattle.std.proofs.Common.{◌≡◌, ℕ, ◌+◌, ◌*◌, ◌/◌, ◌%◌, ◌^◌, ◌<◌, ◌≤◌, true, List, [], ◌∷◌, ◌++◌, length, refl, sym, arith, append-nil}
-use Rattle.std.specs.Prelude.{Option, Some, None, codes, nat_lt, min}
+use Rattle.std.proofs.Common.{◌≡◌, ℕ, ◌*◌, ◌^◌, ◌<◌, [], refl, sym, arith, append-nil}
+use Rattle.std.specs.Prelude.{Some, None, codes}
 use Rattle.std.specs.Fmt.{decimal}
 use Rattle.std.specs.Int.{div_ceil}
 use Rattle.std.specs.Str.Parse.{IsNumeral, digits_value}
 use Rattle.std.proofs.lemmas.Bool.Decides.{nat_tests}
 use Rattle.std.proofs.lemmas.Fmt.{decimal_is_IsNumeral}
 use Rattle.control_files.specs.Files.{pages_text, limit_text}
-use Rattle.control_files.specs.Limit.{IsAmount, IsLimitText, pages_of, ReadsAs}
+use Rattle.control_files.specs.Limit.{IsAmount, ReadsAs}
 
 whole_pages : (pages : ℕ) → div_ceil (pages * 4096) 4096 ≡ pages
 whole_pages pages = omega arith
@@ -24,7 +24,7 @@ pages_read_back pages small =
       value = Some (pages * 4096);
       grammar = record { before = []; word = decimal (pages * 4096); after = codes "\n"; parts = refl; spaces_before = refl; spaces_after = refl; word_is = decimal_amount (pages * 4096) in_range };
       in_range = in_range;
-      pages = rw (whole_pages pages) (grind (arith, nat_tests))
+      pages = rw (whole_pages pages) (grind (arith, nat_tests));
     }
 
 pub max_reads_back : ReadsAs (limit_text None) None
@@ -32,5 +32,5 @@ max_reads_back = record {
   value = None;
   grammar = record { before = []; word = codes "max"; after = codes "\n"; parts = refl; spaces_before = refl; spaces_after = refl; word_is = refl };
   in_range = tt;
-  pages = refl
+  pages = refl;
 }

@@ -13,6 +13,7 @@ use Rattle.std.specs.Str.Parse.{IsNumeral, digits_value}
 abbrev pub is_space : ℕ → Bool
 is_space byte = byte == 32 || (nat_le 9 byte && nat_le byte 13)
 
+-- bytes of which each is white space
 abbrev pub AreSpaces : List ℕ → Type 0
 AreSpaces bytes = IsTrue (list_all is_space bytes)
 

@@ -30,7 +30,13 @@ pub enum File {
 }
 
 // All files.
-const FILES: [File; 5] = [File::Current, File::Max, File::Peak, File::Events, File::EventsLocal];
+const FILES: [File; 5] = [
+    File::Current,
+    File::Max,
+    File::Peak,
+    File::Events,
+    File::EventsLocal,
+];
 
 impl File {
     /// The name, as the file stands in a group's folder.
@@ -107,5 +113,8 @@ pub fn file_named(name: &[u8]) -> Option<File>
 fn first_named(files: &[File], name: &[u8]) -> Option<File>
     ensures { result ≡ find (λ file. bytes_eq (name_of file) name.now) files.now }
 {
-    files.iter().copied().find(|file| file.name().as_bytes() == name)
+    files
+        .iter()
+        .copied()
+        .find(|file| file.name().as_bytes() == name)
 }

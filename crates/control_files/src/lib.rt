@@ -3,7 +3,6 @@
 
 pub mod file;
 pub mod limit;
-pub mod text;
-
 #[cfg(test)]
 mod tests;
+pub mod text;

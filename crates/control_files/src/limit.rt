@@ -47,8 +47,7 @@ pub fn write_limit(limit: Limit) -> ArrayText
 /// A text has one value at most.
 pub fn one_value()
     ensures { (text : List ℕ) (v w : Option ℕ) → IsLimitText text v → IsLimitText text w → v ≡ w }
-{
-}
+{}
 
 // The limit of this many bytes.
 fn limit_of(amount: u64) -> Limit
@@ -153,7 +152,9 @@ fn number_of(digits: &[u8]) -> Option<u64>
 {
     let mut number: u64 = 0;
     for digit in digits {
-        number = number.checked_mul(10)?.checked_add(u64::from(*digit - b'0'))?;
+        number = number
+            .checked_mul(10)?
+            .checked_add(u64::from(*digit - b'0'))?;
     }
     Some(number)
 }

@@ -73,22 +73,60 @@ fn files_are_found_by_name(rt: HostRuntime) {
     assert!(rt; File::Max.is_writable());
 }
 
+// The group is there, and the file has this text.
+fn tells(
+    rt: &impl Abort,
+    charges: &Charges,
+    g: GroupId,
+    file: File,
+    expected: &[u8],
+) -> Result<(), Fault> {
+    assert!(rt; charges.tree().contains(g));
+    let text = file_text(charges, g, file)?;
+    assert_eq!(rt; text.as_bytes(), expected);
+    Ok(())
+}
+
 #[test]
 fn files_tell_what_is_charged(rt: HostRuntime) -> Result<(), Fail> {
     let mut charges = Charges::new(rt.alloc())?;
     let g = charges.make(b"/a")?;
+    assert!(rt; charges.tree().contains(g));
     charges.set_max(g, Some(2));
+    assert!(rt; charges.tree().contains(GroupId::root()));
+    assert_eq!(rt; charges.current(GroupId::root()), 0);
+    assert!(rt; charges.tree().contains(g));
     charges.try_charge(g, 1)?;
+    assert!(rt; charges.tree().contains(g));
     charges.note_max(g);
-    let text = file_text(&charges, g, File::Current)?;
-    assert_eq!(rt; text.as_bytes(), b"4096\n".as_slice());
-    let text = file_text(&charges, g, File::Max)?;
-    assert_eq!(rt; text.as_bytes(), b"8192\n".as_slice());
-    let text = file_text(&charges, g, File::Peak)?;
-    assert_eq!(rt; text.as_bytes(), b"4096\n".as_slice());
-    let text = file_text(&charges, g, File::Events)?;
-    assert_eq!(rt; text.as_bytes(), b"low 0\nhigh 0\nmax 1\noom 0\noom_kill 0\n".as_slice());
-    let text = file_text(&charges, GroupId::root(), File::EventsLocal);
-    assert_eq!(rt; text, Err(Fault::NoFile));
+    tells(&rt, &charges, g, File::Current, b"4096\n")?;
+    tells(&rt, &charges, g, File::Max, b"8192\n")?;
+    tells(&rt, &charges, g, File::Peak, b"4096\n")?;
+    tells(
+        &rt,
+        &charges,
+        g,
+        File::Events,
+        b"low 0\nhigh 0\nmax 1\noom 0\noom_kill 0\n",
+    )?;
+    tells(
+        &rt,
+        &charges,
+        g,
+        File::EventsLocal,
+        b"low 0\nhigh 0\nmax 1\noom 0\noom_kill 0\n",
+    )?;
+    Ok(())
+}
+
+#[test]
+fn the_root_has_no_files(rt: HostRuntime) -> Result<(), Fail> {
+    let charges = Charges::new(rt.alloc())?;
+    let root = GroupId::root();
+    assert!(rt; charges.tree().contains(root));
+    assert_eq!(rt;
+        file_text(&charges, root, File::Current),
+        Err(Fault::NoFile)
+    );
     Ok(())
 }

@@ -45,7 +45,7 @@ impl ArrayText {
         &self.bytes[..self.len]
     }
 
-    // The empty text.
+    /// The empty text.
     pub(crate) fn new() -> ArrayText
         ensures { result ≡ [] }
     {
@@ -55,7 +55,7 @@ impl ArrayText {
         }
     }
 
-    // Writes more bytes at the end.
+    /// Writes more bytes at the end.
     pub(crate) fn push(&mut self, more: &[u8])
         requires { length self.old + length more.now ≤ 160 }
         ensures { self.new ≡ self.old ++ more.now }
@@ -64,7 +64,7 @@ impl ArrayText {
         self.len += more.len();
     }
 
-    // Writes a number at the end, in decimal.
+    /// Writes a number at the end, in decimal.
     pub(crate) fn push_number(&mut self, number: u64)
         requires { length self.old + 20 ≤ 160 }
         ensures text { self.new ≡ self.old ++ decimal number }
@@ -75,7 +75,7 @@ impl ArrayText {
     }
 }
 
-// These bytes as a text.
+/// These bytes as a text.
 pub(crate) fn text_of(bytes: &[u8]) -> ArrayText
     requires { length bytes.now ≤ 160 }
     ensures { result ≡ bytes.now }
@@ -85,7 +85,7 @@ pub(crate) fn text_of(bytes: &[u8]) -> ArrayText
     text
 }
 
-// So many pages, told in bytes, on a line of their own.
+/// So many pages, told in bytes, on a line of their own.
 pub(crate) fn pages_text(pages: u32) -> ArrayText
     ensures { result ≡ pages_text pages }
 {

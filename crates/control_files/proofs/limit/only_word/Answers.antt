@@ -1,4 +1,4 @@
-use Rattle.std.proofs.Common.{◌≡◌, refl, sym}
+use Rattle.std.proofs.Common.{refl, sym}
 use Rattle.control_files.proofs.WordLemmas.{no_word, word_answer}
 use Rattle.control_files.proofs.limit.only_word.Goals as goal
 
@@ -8,4 +8,4 @@ returns-in_err-start c = rw c.from_residual.ensures (no_word c.args.text.now (sy
 pub returns : goal.returns
 returns c = rw c.then_some.ensures
     (word_answer c.args.text.now _ c.split_at.result.1.now c.in_ok-start.start c.unwrap_or.result c.split_at.result.0 c.are_spaces.result
-        (sym c.in_ok-start.ensures) refl (rw c.first_space.ensures at c.unwrap_or.ensures) c.split_at.ensures.front c.split_at.ensures.back c.are_spaces.ensures)
+    (sym c.in_ok-start.ensures) refl (rw c.first_space.ensures at c.unwrap_or.ensures) c.split_at.ensures.front c.split_at.ensures.back c.are_spaces.ensures)

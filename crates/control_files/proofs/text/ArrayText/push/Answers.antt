@@ -1,4 +1,4 @@
-use Rattle.std.proofs.Common.{◌≤◌, ap, length, arith}
+use Rattle.std.proofs.Common.{ap, length, arith}
 use Rattle.std.proofs.lemmas.List.{length-take-le}
 use Rattle.control_files.proofs.TextLemmas.{IsPadded-written}
 use Rattle.control_files.proofs.text.ArrayText.push.Goals as goal
