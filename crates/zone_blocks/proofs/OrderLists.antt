@@ -286,8 +286,11 @@ puts_in n lists h b p d block apart place =
       others = λ c q e.
           let pos = pow_pos c.order in
           let pos' = pow_pos b.order in
-          apart (c, in_blocks n lists h b.order d (omega arith) c q,
-            (c.at, record { from = omega arith; before = omega arith }, record { from = omega arith; before = omega arith }));
+          apart (
+            c,
+            in_blocks n lists h b.order d (omega arith) c q,
+            (c.at, record { from = omega arith; before = omega arith }, record { from = omega arith; before = omega arith }),
+          );
       place = place;
     }
 
