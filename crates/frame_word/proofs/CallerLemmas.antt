@@ -1,8 +1,8 @@
 -- What a caller of `get`, `put`, `freeze` and the hand-over calls reads from their answers: the note of the frame after a change, and of other frames.
-use Rattle.std.proofs.Common.{◌≡◌, ◌≢◌, ℕ, ◌+◌, ◌-◌, ◌≤◌, sym, refl, ap, ◌∙◌, subst}
+use Rattle.std.proofs.Common.{◌≡◌, ◌≢◌, ℕ, ◌+◌, ◌-◌, ap, ◌∙◌, subst}
 use Rattle.frame_word.specs.declared.view.FrameNote.{FrameNote}
 use Rattle.frame_word.specs.declared.answers.Get.{Get}
-use Rattle.frame_word.specs.declared.answers.Get.TheVariants.{Held, Zero, Raced, Full}
+use Rattle.frame_word.specs.declared.answers.Get.TheVariants.{Held}
 use Rattle.frame_word.specs.declared.answers.Put.TheVariants.{Left, Last}
 use Rattle.frame_word.specs.Views.{note_of, looked, held, let_go, let_go_last}
 use Rattle.frame_word.specs.Seats.{KnownSeat, holds, IsInOwnHand, seat_with, GetAnswers, PutAnswers}

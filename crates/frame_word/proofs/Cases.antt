@@ -1,6 +1,6 @@
 -- Which case of the rule a frame is in after each kind of step: w, r and h are its word, references and hands, and k and o are what one view has of the last two.
-use Rattle.std.proofs.Common.{◌≡◌, ◌≢◌, ◌⊎◌, ℕ, ◌+◌, ◌-◌, ◌<◌, ◌≤◌, sym, refl, ap, ◌∙◌, subst, inl, inr, arith}
-use Rattle.frame_word.specs.ReferenceRule.{mark, IsReferenced, IsInOneHand, IsPassing}
+use Rattle.std.proofs.Common.{◌≡◌, ◌⊎◌, ℕ, ◌<◌, ◌≤◌, sym, subst, inl, inr, arith}
+use Rattle.frame_word.specs.ReferenceRule.{IsReferenced, IsInOneHand, IsPassing}
 use Rattle.frame_word.proofs.Swap.{OneCase}
 
 module _ (cpus : ℕ) where

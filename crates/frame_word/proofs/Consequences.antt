@@ -1,12 +1,12 @@
 -- The laws of the reference rule.
-use Rattle.std.proofs.Common.{◌≡◌, ◌≢◌, ℕ, ◌+◌, ◌<◌, ◌≤◌, List, get_or, sym, refl, ap, ◌∙◌, ◌⊎◌, inl, inr, arith}
+use Rattle.std.proofs.Common.{◌≡◌, ◌≢◌, ℕ, ◌+◌, ◌<◌, ◌≤◌, List, get_or, sym, refl, ◌∙◌, inl, inr, arith}
 use mathlib.Core.Logic.{dite}
 use native.Mathlib.Decide.{ℕ_discrete}
 use Rattle.seat_sums.specs.Totals.{total_over}
 use Rattle.seat_sums.proofs.Totals.{total_view, total_below, total_plus}
 use Rattle.frame_word.specs.declared.view.FrameView.{FrameView}
 use Rattle.frame_word.specs.Views.{note_of, in_hands}
-use Rattle.frame_word.specs.ReferenceRule.{mark, marked, only, references_in, hands_in, lent_in, borrowed_in, ReferenceRule}
+use Rattle.frame_word.specs.ReferenceRule.{mark, marked, only, hands_in, lent_in, borrowed_in}
 use Rattle.frame_word.specs.Laws.{IsViewOf, NoFrameInTwoHands, NoFrameLentTwice, OwnHandIsNotLent, WordsCountReferences, ShutVisitHasNoMark}
 use Rattle.frame_word.proofs.Notes.{only_here, only_else, marked_here, marked_else}
 use Rattle.frame_word.proofs.Swap.{OneCase}

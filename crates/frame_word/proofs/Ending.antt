@@ -1,7 +1,6 @@
 -- The table at the end: one seat has all views, and the rule speaks of these alone.
-use Rattle.std.proofs.Common.{◌≡◌, ℕ, zero, suc, ◌+◌, List, [], ◌∷◌, ◌++◌, length, map, sym, refl, ap, ◌∙◌, subst, arith}
-use Rattle.atomic_table.specs.Table.{State, Final, Seen}
-use Rattle.atomic_table.specs.Seated.{TableId}
+use Rattle.std.proofs.Common.{◌≡◌, ℕ, suc, List, [], ◌∷◌, length, map, refl, ap, subst, arith}
+use Rattle.atomic_table.specs.Table.{Final, Seen}
 use Rattle.seat_sums.specs.Totals.{sum_over}
 use Rattle.seat_sums.proofs.Totals.{total_whole}
 use Rattle.frame_word.specs.declared.view.FrameView.{FrameView}

@@ -1,8 +1,6 @@
 -- The steps of the zone's seat, alone or joined with a processor's, as `atomic_table` asks for them.
-use Rattle.std.proofs.Common.{◌≡◌, ◌≢◌, ℕ, zero, suc, ◌+◌, ◌-◌, ◌<◌, ◌≤◌, List, [], ◌∷◌, get_or, set, sym, refl, ap, ◌∙◌, subst, arith}
+use Rattle.std.proofs.Common.{◌≡◌, ◌≢◌, ℕ, ◌+◌, ◌-◌, ◌<◌, ◌≤◌, List, [], ◌∷◌, get_or, set, sym, refl, ◌∙◌, subst, arith}
 use mathlib.Core.Option.{none}
-use mathlib.Core.Logic.{dite}
-use native.Mathlib.Decide.{ℕ_discrete}
 use Rattle.atomic_table.specs.Table.{Me, step, keeps, Allows}
 use Rattle.frame_word.specs.declared.view.FrameView.{FrameView}
 use Rattle.frame_word.specs.Views.{note_of, changed, with_visit, in_hands, begun, ended, passed_out_to, took_in, gave_back, collected_from}

@@ -1,7 +1,6 @@
 -- Seats are split and joined: the rule goes on.
-use Rattle.std.proofs.Common.{◌≡◌, ◌≢◌, ℕ, List, [], ◌∷◌, ◌++◌, set, sym, refl, ap, ◌∙◌}
+use Rattle.std.proofs.Common.{◌≡◌, ℕ, List, [], ◌∷◌, ◌++◌, refl, ap, ◌∙◌}
 use mathlib.Core.Option.{some}
-use lib.ListN.{get_elem?}
 use Rattle.atomic_table.specs.Table.{Splits, Joins}
 use Rattle.seat_sums.proofs.Totals.{split_totals, join_totals}
 use Rattle.frame_word.specs.declared.view.FrameView.{FrameView}

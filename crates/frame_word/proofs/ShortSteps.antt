@@ -1,21 +1,21 @@
 -- The four kinds that leave the hand-overs as they are, by a seat that is not joined: get, put, freeze, unfreeze.
-use Rattle.std.proofs.Common.{◌≡◌, ◌≢◌, ◌⊎◌, ℕ, zero, suc, eqb, ◌+◌, ◌-◌, ◌%◌, ◌^◌, ◌<◌, ◌≤◌, List, [], ◌∷◌, length, get_or, set, sym, refl, ap, ◌∙◌, subst, inl, inr, arith}
+use Rattle.std.proofs.Common.{◌≡◌, ℕ, eqb, ◌+◌, ◌-◌, ◌%◌, ◌^◌, ◌<◌, ◌≤◌, List, [], ◌∷◌, get_or, set, sym, refl, ap, ◌∙◌, subst, inl, inr, arith}
 use mathlib.Core.Option.{some, none}
 use mathlib.Core.Logic.{dite}
 use native.Mathlib.Decide.{ℕ_discrete}
 use prog.Atomic.{either}
 use lib.ListN.{get_elem?}
-use Rattle.atomic_table.specs.Table.{State, step, keeps, Act, Valid, stepped, carried_after, Allows}
+use Rattle.atomic_table.specs.Table.{step, keeps, Act, Valid, stepped, carried_after, Allows}
 use Rattle.atomic_table.proofs.Lists.{exchanged}
 use Rattle.seat_sums.specs.Totals.{total_over}
 use Rattle.seat_sums.proofs.Totals.{total_swap, total_view}
 use Rattle.frame_word.specs.declared.view.FrameNote.{FrameNote}
 use Rattle.frame_word.specs.declared.view.FrameView.{FrameView}
 use Rattle.frame_word.specs.Views.{note_of, changed, in_hands, looked, held, raced, let_go, let_go_last, frozen, missed, unfrozen}
-use Rattle.frame_word.specs.ReferenceRule.{mark, marked, only, visit_index, references_in, hands_in, begun_in, ended_in, lent_in, borrowed_in, FrameRule, VisitRule, ReferenceRule}
+use Rattle.frame_word.specs.ReferenceRule.{mark, marked, only, visit_index, references_in, hands_in, begun_in, ended_in, lent_in, borrowed_in, ReferenceRule}
 use Rattle.frame_word.specs.Kinds.{rule_of, looks, adds, puts, freezes, unfreezes}
-use Rattle.frame_word.proofs.Notes.{note_here, marked_here, marked_else}
-use Rattle.frame_word.proofs.Swap.{OneCase, swapped, same_total, next, frame_step}
+use Rattle.frame_word.proofs.Notes.{note_here, marked_else}
+use Rattle.frame_word.proofs.Swap.{OneCase, swapped, same_total, frame_step}
 use Rattle.frame_word.proofs.Cases.{case_same, case_referenced, case_counted, case_handed, case_word}
 
 -- what a note says of hand-overs

@@ -1,16 +1,16 @@
 -- One view of one seat is replaced, by one with another note of one frame: how the rule goes on.
-use Rattle.std.proofs.Common.{◌≡◌, ◌≢◌, ◌⊎◌, ℕ, zero, suc, ◌+◌, ◌-◌, ◌<◌, ◌≤◌, List, [], ◌∷◌, length, get_or, set, sym, refl, ap, ◌∙◌, subst, ⊎_elim, inl, inr, arith, length-set, get_or-set_other, get_or-set_same}
+use Rattle.std.proofs.Common.{◌≡◌, ◌≢◌, ◌⊎◌, ℕ, suc, ◌+◌, ◌<◌, ◌≤◌, List, length, get_or, set, sym, refl, ap, ◌∙◌, subst, arith, length-set, get_or-set_other, get_or-set_same}
 use mathlib.Core.Option.{some}
 use mathlib.Core.Logic.{dite}
 use native.Mathlib.Decide.{ℕ_discrete}
 use lib.ListN.{get_elem?}
 use Rattle.seat_sums.specs.Totals.{total_over, SameTotals}
-use Rattle.seat_sums.proofs.Totals.{total_swap, total_view, total_absent}
+use Rattle.seat_sums.proofs.Totals.{total_swap, total_absent}
 use Rattle.frame_word.specs.declared.view.FrameNote.{FrameNote}
 use Rattle.frame_word.specs.declared.view.FrameView.{FrameView}
-use Rattle.frame_word.specs.Views.{note_of, changed, in_hands}
-use Rattle.frame_word.specs.ReferenceRule.{mark, marked, only, visit_index, references_in, hands_in, begun_in, ended_in, lent_in, borrowed_in, opened_in, IsReferenced, IsInOneHand, IsPassing, HandOverRule, FrameRule, VisitRule, ReferenceRule}
-use Rattle.frame_word.proofs.Notes.{note_here, note_else, only_here, only_else, marked_here, marked_else}
+use Rattle.frame_word.specs.Views.{changed, in_hands}
+use Rattle.frame_word.specs.ReferenceRule.{mark, marked, only, visit_index, references_in, hands_in, begun_in, ended_in, lent_in, borrowed_in, opened_in, IsReferenced, IsInOneHand, IsPassing, FrameRule, ReferenceRule}
+use Rattle.frame_word.proofs.Notes.{note_else, only_here, only_else}
 
 -- what the rule says of a word, its references and its hands
 abbrev pub OneCase : ℕ → ℕ → ℕ → ℕ → Type 0

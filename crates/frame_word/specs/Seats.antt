@@ -1,5 +1,5 @@
 -- What a contract sees of the tables and the seats, the conditions of the calls, and what they answer.
-use Rattle.std.specs.Prelude.{◌≡◌, ◌≢◌, ◌⊎◌, ℕ, zero, suc, ◌+◌, ◌<◌, ◌≤◌, List, [], ◌∷◌, map, replicate, slice_index}
+use Rattle.std.specs.Prelude.{◌≡◌, ◌≢◌, ◌⊎◌, ℕ, zero, suc, ◌+◌, ◌<◌, ◌≤◌, List, [], ◌∷◌, replicate, slice_index, Bool, true, false}
 use Rattle.atomic_table.specs.Seated.{TableId}
 use Rattle.frame_word.specs.declared.view.FrameNote.{FrameNote}
 use Rattle.frame_word.specs.declared.view.FrameView.{FrameView}
@@ -96,6 +96,12 @@ GetAnswers s f Full t = t ≡ seat_with s f (looked 255)
 abbrev pub PutAnswers : KnownSeat → ℕ → Put → KnownSeat → Type 0
 PutAnswers s f (Left n) t = (1 ≤ n) × (n ≤ 254) × (t ≡ seat_with s f (let_go n))
 PutAnswers s f Last t = t ≡ seat_with s f let_go_last
+
+-- What a freeze of n references answers, and the seat after it: they were all, and go, and the frame is in the seat's
+-- own hand; or the word was another number, which counts a miss.
+abbrev pub FreezeAnswers : KnownSeat → ℕ → ℕ → Bool → KnownSeat → Type 0
+FreezeAnswers s f n true t = (holds s f ≡ n) × (t ≡ seat_with s f (frozen n))
+FreezeAnswers s f n false t = t ≡ seat_with s f missed
 
 -- the view of the zone's seat at first: every frame is in its own hand
 abbrev pub first_zone_view : ℕ → FrameView

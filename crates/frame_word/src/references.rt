@@ -1,8 +1,8 @@
 //! References: `get`, `put`, `freeze`, `unfreeze`. Each is one atomic step, `get` a load and at most one exchange.
-ghost use Rattle.std.specs.Prelude.{◌≡◌, ◌≢◌, ◌+◌, ◌<◌, ◌≤◌, MatchBool, true};
+ghost use Rattle.std.specs.Prelude.{◌≡◌, ◌≢◌, ◌+◌, ◌<◌, ◌≤◌};
 ghost use Rattle.frame_word.specs.declared.answers.Get.TheVariants.{Held, Zero};
-ghost use Rattle.frame_word.specs.Views.{frozen, missed, unfrozen};
-ghost use Rattle.frame_word.specs.Seats.{holds, IsInOwnHand, seat_with, GetAnswers, PutAnswers};
+ghost use Rattle.frame_word.specs.Views.{unfrozen};
+ghost use Rattle.frame_word.specs.Seats.{holds, IsInOwnHand, seat_with, GetAnswers, PutAnswers, FreezeAnswers};
 
 use crate::answers::{Get, Put};
 use crate::frame::Frame;
@@ -65,8 +65,7 @@ impl FrameWords {
         requires table { seat.old.table ≡ self.now.table }
         requires frame { frame < self.now.frames }
         requires held { (1 ≤ count) × (count ≤ holds seat.old frame) }
-        ensures answer { MatchBool result (seat.new ≡ seat_with seat.old frame (frozen count)) (seat.new ≡ seat_with seat.old frame missed) }
-        ensures all { result ≡ true → holds seat.old frame ≡ count }
+        ensures answer { FreezeAnswers seat.old frame count result seat.new }
     {
         let found = self
             .table

@@ -1,10 +1,11 @@
 -- What holds of the charges of a tree, and how a change keeps it.
-use Rattle.std.proofs.Common.{◌≡◌, ◌≢◌, ℕ, suc, ◌||◌, ◌+◌, ◌^◌, ◌<◌, ◌≤◌, Bool, true, false, not, cond, ◌==◌, IsTrue, All, Contains, Option, Some, None, List, [], ◌∷◌, ◌++◌, length, map, filter, get_or, refl, sym, ap, ◌∙◌, subst, arith, lit<, ⊎_elim, ◌⊎◌, inl, inr}
-use Rattle.std.specs.List.{find, list_any, sum_by}
+use Rattle.std.proofs.Common.{◌≡◌, ◌≢◌, ℕ, ◌||◌, ◌+◌, ◌^◌, ◌<◌, ◌≤◌, Bool, true, false, not, cond, ◌==◌, IsTrue, All, Contains, Option, Some, None, List, [], ◌∷◌, ◌++◌, length, map, filter, get_or, refl, sym, ap, ◌∙◌, subst, arith, lit<, ⊎_elim, ◌⊎◌, inl, inr}
+use Rattle.std.specs.List.{find, list_any}
 use Rattle.std.specs.Option.{option_map_or}
 use Rattle.std.proofs.lemmas.Bool.{eq-eqb, ne_eqb, cond-true, cond_both, both_ways, cases_Bool}
 use Rattle.std.proofs.lemmas.List.{get_or-map, length-map, map-append}
-use Rattle.std.proofs.lemmas.List.Elements.{Contains-get_or}
+use Rattle.group_charge.proofs.UsageLemmas.{PeaksCover, cover_charged, cover_limited, cover_new, cover_noted, cover_removed, cover_taken, part-is, sum-same, usage-charged, usage-taken}
+use Rattle.std.proofs.lemmas.List.Elements.{All-cons, All-nil, Contains-get_or}
 use Rattle.std.proofs.lemmas.List.Recursion.{found_at}
 use Rattle.std.proofs.lemmas.List.Sums.{sum_by-cons, sum_by_push}
 use Rattle.group_tree.specs.declared.group.Group.{Group}
@@ -12,7 +13,7 @@ use Rattle.group_tree.specs.Path.{depth_of}
 use Rattle.group_tree.specs.Groups.{the_root, IsLeastFreeNumber, has_group, in_subtree, has_child, path_of, parent_of, without_group, with_limit, limited}
 use Rattle.group_tree.proofs.GroupLemmas.{CanMake, has_group-any, has_group-contains, length-full, AreGroups-initial, AreGroups-with, AreGroups-without, AreGroups-limited, limited-number}
 use Rattle.group_tree.proofs.CallerLemmas.{in_subtree-root, in_subtree-refl, in_subtree-trans, in_subtree-above, in_subtree-antisym, in_subtree-parent_of, in_subtree-above_parent, parent_of-depth}
-use Rattle.group_charge.specs.Charges.{Account, Ledger, AreCharges, IsLowestOver, PathHasRoom, has_room, account_at, pages_of, current_of, usage_of, total_pages, added, taken, peaked, noted, charged, empty_account, initial_ledger, with_new_group, with_group_removed, with_group_limit}
+use Rattle.group_charge.specs.Charges.{Account, Ledger, AreCharges, UsageRises, IsLowestOver, PathHasRoom, has_room, account_at, pages_of, current_of, usage_of, total_pages, added, taken, peaked, noted, charged, empty_account, initial_ledger, with_charge, with_uncharge, with_new_group, with_group_removed, with_group_limit}
 use Rattle.group_charge.proofs.SumLemmas.{AreDistinct, share, total-added, total-taken, usage-le-total, added-group, taken-group, peaked-group, peaked-pages, sum-map_same}
 
 -- ---- each group has one account
@@ -63,11 +64,6 @@ pages-there l g n facts h = λ k d lt same.
     omega (arith, own, h)
 
 -- ---- the root's usage is all that is charged
-sum-same : (F G : Account → ℕ) (xs : List Account) → All (λ x. F x ≡ G x) xs → sum_by F xs ≡ sum_by G xs
-sum-same F G [] h = refl
-sum-same F G (x ∷ xs) h =
-    omega (arith, h 0 x (omega arith), sum-same F G xs (λ k d lt. h (suc k) d (omega arith)), sum_by-cons F x xs, sum_by-cons G x xs)
-
 pub root_usage : (l : Ledger) → AreCharges l → current_of l 0 ≡ total_pages l.accounts
 unfolding usage_of
 root_usage l facts =
@@ -107,8 +103,14 @@ total-filter p (x ∷ xs) =
     (λ _. omega (arith, sum_by-cons (λ (a : Account). a.pages) x (filter p xs)))
     (λ _. omega arith)
 
+initial_peaks : PeaksCover (the_root ∷ []) (empty_account 0 ∷ [])
+initial_peaks =
+    All-cons (λ (a : Account). usage_of (the_root ∷ []) (empty_account 0 ∷ []) a.group ≤ a.peak) (empty_account 0) []
+    (usage-le-total (the_root ∷ []) (empty_account 0 ∷ []) 0)
+    (All-nil (λ (a : Account). usage_of (the_root ∷ []) (empty_account 0 ∷ []) a.group ≤ a.peak))
+
 pub AreCharges-initial : AreCharges initial_ledger
-AreCharges-initial = record { groups = AreGroups-initial; numbers = refl; fits = lit< tt }
+AreCharges-initial = record { groups = AreGroups-initial; numbers = refl; fits = lit< tt; peaks = initial_peaks }
 
 pub AreCharges-limited : (l : Ledger) (g : ℕ) (limit : Option ℕ) → AreCharges l → AreCharges (with_group_limit l g limit)
 unfolding with_limit
@@ -116,6 +118,7 @@ AreCharges-limited l g limit facts = record {
   groups = AreGroups-limited l.groups g limit facts.groups;
   numbers = facts.numbers ∙ sym (numbers-limited g limit l.groups);
   fits = facts.fits;
+  peaks = cover_limited l.groups l.accounts g limit facts.peaks;
 }
 
 pub AreCharges-noted : (l : Ledger) (g : ℕ) → AreCharges l → AreCharges (record { groups = l.groups; accounts = map (noted l.groups g) l.accounts })
@@ -123,6 +126,7 @@ AreCharges-noted l g facts = record {
   groups = facts.groups;
   numbers = same_groups (noted l.groups g) (λ a. refl) l.accounts ∙ facts.numbers;
   fits = omega (arith, sum-map_same (λ (a : Account). a.pages) (noted l.groups g) (λ a. refl) l.accounts, facts.fits);
+  peaks = cover_noted l.groups l.accounts g facts.peaks;
 }
 
 pub AreCharges-taken : (l : Ledger) (g n : ℕ) → AreCharges l → AreCharges (record { groups = l.groups; accounts = map (taken g n) l.accounts })
@@ -130,17 +134,19 @@ AreCharges-taken l g n facts = record {
   groups = facts.groups;
   numbers = same_groups (taken g n) (taken-group g n) l.accounts ∙ facts.numbers;
   fits = omega (arith, total-taken g n l.accounts, facts.fits);
+  peaks = cover_taken l.groups l.accounts g n facts.peaks;
 }
 
-pub AreCharges-charged : (l : Ledger) (g n : ℕ) → AreCharges l → current_of l 0 + n < 2 ^ 32 → AreCharges (record { groups = l.groups; accounts = charged l.groups l.accounts g n })
+pub AreCharges-charged : (l : Ledger) (g n : ℕ) → AreCharges l → IsTrue (has_group l.groups g) → current_of l 0 + n < 2 ^ 32 → AreCharges (record { groups = l.groups; accounts = charged l.groups l.accounts g n })
 unfolding charged
-AreCharges-charged l g n facts fits =
+AreCharges-charged l g n facts there fits =
     let more = map (added g n) l.accounts in
     let raised : total_pages (map (peaked l.groups more g) more) ≡ total_pages more = sum-map_same (λ (a : Account). a.pages) (peaked l.groups more g) (peaked-pages l.groups more g) more in
     record {
       groups = facts.groups;
       numbers = same_groups (peaked l.groups more g) (peaked-group l.groups more g) more ∙ same_groups (added g n) (added-group g n) l.accounts ∙ facts.numbers;
       fits = omega (arith, raised, total-added g n l.accounts (all_distinct l facts), root_usage l facts, fits);
+      peaks = cover_charged l.groups l.accounts g n (all_distinct l facts) (has_account l g facts ∙ there) facts.peaks;
     }
 
 pub AreCharges-removed : (l : Ledger) (g : ℕ) → AreCharges l → has_child l.groups g ≡ false → g ≢ 0 → AreCharges (with_group_removed l g)
@@ -149,6 +155,7 @@ AreCharges-removed l g facts leaf below = record {
   groups = AreGroups-without l.groups g facts.groups leaf below;
   numbers = map-filter (λ (a : Account). a.group) (λ n. not (n == g)) l.accounts ∙ ap (filter (λ n. not (n == g))) facts.numbers ∙ sym (map-filter (λ (x : Group). x.number) (λ n. not (n == g)) l.groups);
   fits = omega (arith, total-filter (λ a. not (a.group == g)) l.accounts, facts.fits);
+  peaks = cover_removed l.groups l.accounts g facts.peaks;
 }
 
 pub AreCharges-new : (l : Ledger) (n : ℕ) (path : List ℕ) → AreCharges l → CanMake l.groups path → IsLeastFreeNumber l.groups n → AreCharges (with_new_group l n path)
@@ -158,6 +165,7 @@ AreCharges-new l n path facts can least =
       groups = AreGroups-with l.groups n path facts.groups can (omega (arith, few, can.room)) least.free;
       numbers = map-append (λ (a : Account). a.group) l.accounts (empty_account n ∷ []) ∙ ap (λ ns. ns ++ n ∷ []) facts.numbers ∙ sym (map-append (λ (x : Group). x.number) l.groups (record { number = n; path = path; limit = None } ∷ []));
       fits = omega (arith, sum_by_push (λ (a : Account). a.pages) l.accounts (empty_account n), facts.fits);
+      peaks = cover_new l.groups l.accounts n path facts.groups can least.free (all_known l facts) facts.peaks;
     }
 
 -- ---- the path from a group to the root
@@ -213,3 +221,13 @@ pub length-charged : (groups : List Group) (accounts : List Account) (g n : ℕ)
 unfolding charged
 length-charged groups accounts g n =
     length-map (map (added g n) accounts) (peaked groups (map (added g n) accounts) g) ∙ length-map accounts (added g n)
+
+-- ---- what a charge does to usage
+pub charge_rises : (l : Ledger) (g n : ℕ) → AreCharges l → IsTrue (has_group l.groups g) → UsageRises l (with_charge l g n) g n
+charge_rises l g n facts there = λ m.
+    usage-charged l.groups l.accounts g n m (all_distinct l facts) (has_account l g facts ∙ there) ∙ part-is l.groups m g n (current_of l m)
+
+pub uncharge_falls : (l : Ledger) (g n : ℕ) → AreCharges l → IsTrue (has_group l.groups g) → n ≤ pages_of l g → UsageRises (with_uncharge l g n) l g n
+uncharge_falls l g n facts there enough = λ m.
+    sym (usage-taken l.groups l.accounts g n m (all_distinct l facts) (has_account l g facts ∙ there) (pages-there l g n facts enough))
+    ∙ part-is l.groups m g n (usage_of l.groups (map (taken g n) l.accounts) m)

@@ -1,2 +1,3 @@
 pub mod ChargeLemmas
 pub mod SumLemmas
+pub mod UsageLemmas

@@ -129,7 +129,7 @@ extra-le g k xs h =
     (cases_Bool (list_any (λ a. a.group == g) xs))
 
 -- two sums that differ by a third
-sum-plus : (F G H : Account → ℕ) (f : Account → Account) (xs : List Account) → ((x : Account) → F (f x) ≡ G x + H x) → sum_by F (map f xs) ≡ sum_by G xs + sum_by H xs
+pub sum-plus : (F G H : Account → ℕ) (f : Account → Account) (xs : List Account) → ((x : Account) → F (f x) ≡ G x + H x) → sum_by F (map f xs) ≡ sum_by G xs + sum_by H xs
 sum-plus F G H f [] each = refl
 sum-plus F G H f (x ∷ xs) each =
     omega (arith, sum-plus F G H f xs each, each x, sum_by-cons F (f x) (map f xs), sum_by-cons G x xs, sum_by-cons H x xs)

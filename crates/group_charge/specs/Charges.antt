@@ -1,5 +1,5 @@
 -- The charges of a tree of groups: for each group its own pages, its peak and its event counts.
-use Rattle.std.specs.Prelude.{◌≡◌, ℕ, ◌+◌, ◌-◌, ◌^◌, ◌<◌, ◌==◌, Bool, true, false, not, max, min, nat_le, IsTrue, Option, Some, None, List, [], ◌∷◌, ◌++◌, map, filter, sum_by, if◌then◌else◌}
+use Rattle.std.specs.Prelude.{All, ◌≡◌, ℕ, ◌+◌, ◌-◌, ◌^◌, ◌<◌, ◌≤◌, ◌==◌, Bool, true, false, not, max, min, nat_le, IsTrue, Option, Some, None, List, [], ◌∷◌, ◌++◌, map, filter, sum_by, if◌then◌else◌}
 use Rattle.std.specs.List.{find}
 use Rattle.std.specs.Option.{option_map_or}
 use Rattle.group_tree.specs.declared.group.Group.{Group}
@@ -100,33 +100,42 @@ noted groups g a = record a {
   events_local = if a.group == g then with_max a.events_local else a.events_local;
 }
 
--- the group has n pages more, and the peaks of it and of its ancestors follow
+-- the accounts with n pages more for the group, where the peaks of it and of its ancestors follow
 unfoldable pub charged : List Group → List Account → ℕ → ℕ → List Account
 charged groups accounts g n = let more = map (added g n) accounts in map (peaked groups more g) more
 
+-- the ledger after a charge that was granted: nothing else has changed
 abbrev pub with_charge : Ledger → ℕ → ℕ → Ledger
 with_charge l g n = record l { accounts = charged l.groups l.accounts g n }
 
--- the group has n pages less
+-- the ledger after n pages of the group were taken back: the peaks stand
 abbrev pub with_uncharge : Ledger → ℕ → ℕ → Ledger
 with_uncharge l g n = record l { accounts = map (taken g n) l.accounts }
 
--- usage was about to go over the group's limit
+-- the ledger after one more note that usage was about to go over the group's limit
 abbrev pub with_max_noted : Ledger → ℕ → Ledger
 with_max_noted l g = record l { accounts = map (noted l.groups g) l.accounts }
 
--- a new group with an empty account
+-- the ledger with a new group, which has an empty account
 abbrev pub with_new_group : Ledger → ℕ → List ℕ → Ledger
 with_new_group l n path = record { groups = with_group l.groups n path; accounts = l.accounts ++ empty_account n ∷ [] }
 
+-- the ledger without the group and its account: the counts of its ancestors stay as they are
 abbrev pub with_group_removed : Ledger → ℕ → Ledger
 with_group_removed l g = record { groups = without_group l.groups g; accounts = filter (λ a. not (a.group == g)) l.accounts }
 
+-- the ledger with another limit of the group
 abbrev pub with_group_limit : Ledger → ℕ → Option ℕ → Ledger
 with_group_limit l g limit = record l { groups = with_limit l.groups g limit }
 
--- what holds of every ledger: the groups are a tree's, each has an account, and all pages fit 32 bits
+-- the second ledger has n pages more in the usage of g and of each of its ancestors, and the same in all others
+abbrev pub UsageRises : Ledger → Ledger → ℕ → ℕ → Type 0
+UsageRises l k g n = (m : ℕ) → current_of k m ≡ (if in_subtree l.groups m g then current_of l m + n else current_of l m)
+
+-- what holds of every ledger: the groups are a tree's, each has an account, all pages fit 32 bits, and no
+-- peak is below the usage
 pub record AreCharges (l : Ledger) : Type 0 where
   pub groups : AreGroups l.groups
   pub numbers : map (λ a. a.group) l.accounts ≡ map (λ g. g.number) l.groups
   pub fits : total_pages l.accounts < 2 ^ 32
+  pub peaks : All (λ a. current_of l a.group ≤ a.peak) l.accounts

@@ -4,7 +4,7 @@ ghost use Rattle.std.specs.Prelude.{◌≡◌, ◌≢◌, ◌↔◌, ◌+◌, �
 ghost use Rattle.std.specs.Option.{option_copied};
 ghost use Rattle.std.specs.Result.{result_err};
 ghost use Rattle.group_tree.specs.Groups.{IsLeastFreeNumber, has_child, has_group, limit_of, make_fault};
-ghost use Rattle.group_charge.specs.Charges.{AreCharges, IsLowestOver, PathHasRoom, account_at, current_of, empty_account, events_of, has_room, initial_ledger, local_events_of, pages_of, peak_of, with_charge, with_group_limit, with_group_removed, with_max_noted, with_new_group, with_uncharge};
+ghost use Rattle.group_charge.specs.Charges.{AreCharges, IsLowestOver, PathHasRoom, UsageRises, account_at, current_of, empty_account, events_of, has_room, initial_ledger, local_events_of, pages_of, peak_of, with_charge, with_group_limit, with_group_removed, with_max_noted, with_new_group, with_uncharge};
 
 use crate::account::{Account, Counts};
 use crate::sums;
@@ -166,7 +166,7 @@ impl Charges {
         requires fits { current_of self.now 0 + n < 2 ^ 32 }
         ensures { result ≡ has_room self.now n g }
     {
-        match self.tree.limit(g) {
+        match self.tree().limit(g) {
             None => true,
             Some(limit) => self.current(g) + n <= limit,
         }
@@ -195,6 +195,7 @@ impl Charges {
         requires fits { current_of self.old 0 + n < 2 ^ 32 }
         ensures granted { IsOk result ↔ PathHasRoom self.old n g }
         ensures charged { OnOk result (self.new ≡ with_charge self.old g n) }
+        ensures usage { OnOk result (UsageRises self.old self.new g n) }
         ensures over { IfErr result (λ e. IsLowestOver self.old n g e.group) }
         ensures unchanged { OnErr result (self.new ≡ self.old) }
     {
@@ -209,7 +210,8 @@ impl Charges {
     pub fn uncharge(&mut self, g: GroupId, n: u32)
         requires there { IsTrue (has_group self.old.groups g) }
         requires charged { n ≤ pages_of self.old g }
-        ensures { self.new ≡ with_uncharge self.old g n }
+        ensures uncharged { self.new ≡ with_uncharge self.old g n }
+        ensures usage { UsageRises self.new self.old g n }
     {
         sums::take_pages(self.accounts.as_mut_slice(), g, n);
     }

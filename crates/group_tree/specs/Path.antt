@@ -44,6 +44,7 @@ is_dots name = bytes_eq name (codes ".") || bytes_eq name (codes "..")
 unfoldable pub is_name : List ℕ → Bool
 is_name name = nat_le 1 (length name) && nat_le (length name) 255 && list_all is_name_byte name && not (is_dots name)
 
+-- the same as a fact
 abbrev pub IsName : List ℕ → Type 0
 IsName name = IsTrue (is_name name)
 
@@ -51,5 +52,6 @@ IsName name = IsTrue (is_name name)
 unfoldable pub is_well_formed : List ℕ → Bool
 is_well_formed path = nat_le (length path) 512 && starts_with nat_eq path root_path && list_all is_name (names_of path)
 
+-- the same as a fact
 abbrev pub IsWellFormed : List ℕ → Type 0
 IsWellFormed path = IsTrue (is_well_formed path)

@@ -12,10 +12,10 @@ use Rattle.atomic_table.proofs.Lists.{exchanged}
 use Rattle.stock_word.specs.declared.view.Stock.TheVariants.{HeldBy, DrainedOf}
 use Rattle.stock_word.specs.declared.view.Account.{Account}
 use Rattle.stock_word.specs.declared.view.StockView.{StockView}
-use Rattle.stock_word.specs.Stock.{word_of, pages_of, group_of, account_of, with_account, stocked, first_of, without_second, second_alone}
+use Rattle.stock_word.specs.Stock.{word_of, pages_of, group_of, account_of, with_account, first_of, without_second, second_alone}
 use Rattle.stock_word.specs.StockRule.{stock_place, report_place, IsStock, StockRule}
 use Rattle.stock_word.specs.Kinds.{after_took, after_back, after_drained, after_report, noting, filling, after_fill, draining, absorbing, Drains, DrainsNone, LooksAt, Absorbs, Fills, Alone, Joined, consuming, crediting, looking, draining_step, absorbing_step, reporting_step, consuming_held, filling_step}
-use Rattle.stock_word.proofs.Stocks.{took, back, now_drained, sees_drained, reported, held_by_books, nothing_booked, filled, drained, drained_none, of_some_group, absorbed}
+use Rattle.stock_word.proofs.Stocks.{left_of, took, back, now_drained, sees_drained, reported, held_by_books, nothing_booked, filled, drained, drained_none, of_some_group, absorbed}
 use Rattle.stock_word.proofs.Keeps.{leaves_stock, leaves_report, account_of-with_account, account_of-with_account_other, processor_stock, processor_keeps, machine_stock, machine_keeps, joined_stock, joined_keeps, split_keeps}
 
 same_stock_place : (p q : ℕ) → stock_place p ≡ stock_place q → p ≡ q
@@ -45,7 +45,7 @@ same_held_group g n k j a b e = let c : (g + 1) * 65536 + n ≡ (k + 1) * 65536 
 same_held_pages : (g n k j : ℕ) → n < 65536 → j < 65536 → word_of (HeldBy g n) ≡ word_of (HeldBy k j) → n ≡ j
 same_held_pages g n k j a b e = let c : (g + 1) * 65536 + n ≡ (k + 1) * 65536 + j = e in omega arith
 
-exact_books : (a : Account) (v : StockView) → pages_of v.last ≡ stocked a v → v.fresh + a.noted < a.book → a.book ≡ pages_of v.last + v.fresh + a.noted
+exact_books : (a : Account) (v : StockView) → pages_of v.last ≡ left_of a v → v.fresh + a.noted < a.book → a.book ≡ pages_of v.last + v.fresh + a.noted
 exact_books a v e more = omega arith
 
 module _ {S : Type 0} (cpus slots id : ℕ) where
@@ -282,9 +282,9 @@ module _ {S : Type 0} (cpus slots id : ℕ) where
         let stock = joined_stock cpus s.words s.views rule s.words id m v at zeroth low high in
         let then = Joined consuming_held (step slots place 1 0 none) (m ∷ v ∷ [], []) in
         let a = account_of m v.number in
-        let n = stocked a v - 1 in
+        let n = left_of a v - 1 in
         let books = held_by_books _ _ a v g stock booked more in
-        let pages : stocked a v ≡ n + 1 = omega (arith, more) in
+        let pages : left_of a v ≡ n + 1 = omega (arith, more) in
         let last : v.last ≡ HeldBy g (n + 1) = books.0 ∙ ap (HeldBy g) pages in
         let is : found ≡ word_of (HeldBy g (n + 1)) = books.1 ∙ ap (λ k. word_of (HeldBy g k)) pages in
         let kept = took _ _ a v g n stock last is in

@@ -4,7 +4,7 @@ use Rattle.stock_word.specs.declared.view.Stock.{Stock}
 use Rattle.stock_word.specs.declared.view.Stock.TheVariants.{NoGroup, HeldBy, DrainedOf}
 use Rattle.stock_word.specs.declared.view.Account.{Account}
 use Rattle.stock_word.specs.declared.view.StockView.{StockView}
-use Rattle.stock_word.specs.Stock.{word_of, HasWord, pages_of, group_of, is_held, drained_of, stocked}
+use Rattle.stock_word.specs.Stock.{word_of, HasWord, pages_of, group_of, is_held, drained_of}
 use Rattle.stock_word.specs.StockRule.{IsStock}
 use Rattle.stock_word.specs.Kinds.{after_took, after_back, after_drained, after_report, after_fill}
 
@@ -104,6 +104,10 @@ reported word report a v n h fresh = record {
   last_word = h.last_word;
 }
 
+-- the pages that are neither fresh nor reported
+abbrev pub left_of : Account → StockView → ℕ
+left_of a v = a.book - v.fresh - a.noted
+
 held_of : (s : Stock) (g : ℕ) → 0 < pages_of s → group_of s ≡ Some g → s ≡ HeldBy g (pages_of s)
 held_of NoGroup g more e = absurd (omega arith)
 held_of (HeldBy k n) g more e = let d : k ≡ g = cc in ap (λ x. HeldBy x n) d
@@ -116,12 +120,12 @@ not_held (DrainedOf g) = refl
 
 -- where the books say that the stock has a page, the processor saw it last
 pub held_by_books : (word report : ℕ) (a : Account) (v : StockView) (g : ℕ) (h : IsStock word report a v) → a.group ≡ Some g → v.fresh + a.noted < a.book
-    → (v.last ≡ HeldBy g (stocked a v)) × (word ≡ word_of (HeldBy g (stocked a v)))
+    → (v.last ≡ HeldBy g (left_of a v)) × (word ≡ word_of (HeldBy g (left_of a v)))
 held_by_books word report a v g h group more =
-    let pages : pages_of h.stock ≡ stocked a v = omega (arith, h.balanced, h.reported, more) in
+    let pages : pages_of h.stock ≡ left_of a v = omega (arith, h.balanced, h.reported, more) in
     let some : 0 < pages_of h.stock = omega (arith, h.balanced, h.reported, more) in
     let is : h.stock ≡ HeldBy g (pages_of h.stock) = held_of h.stock g some (h.of_group ∙ group) in
-    let stock : h.stock ≡ HeldBy g (stocked a v) = is ∙ ap (HeldBy g) pages in
+    let stock : h.stock ≡ HeldBy g (left_of a v) = is ∙ ap (HeldBy g) pages in
     let seen : h.stock ≡ v.last = ⊎_elim (λ (e : h.stock ≡ v.last). e) (λ (e : h.stock ≡ drained_of v.last). absurd (true≢false (sym (ap is_held is) ∙ ap is_held e ∙ not_held v.last))) h.last_seen in
     (sym seen ∙ stock, h.encoded ∙ ap word_of stock)
 

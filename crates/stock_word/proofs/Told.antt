@@ -96,11 +96,11 @@ either_group r g h = ⊎_elim (λ (x : (n : ℕ) × (r ≡ HeldBy g n)). ap grou
 pub held_group : (g place before after : ℕ) (m v m' v' b u : StockView) → (kind : ConsumesHeld place before after m v m' v') → m ≡ b → v ≡ u → (account_of b u.number).group ≡ Some g → kind.consumes.group ≡ g
 held_group g place before after m v m' v' b u kind machine view group = same_group _ _ (sym kind.of_group ∙ (λ i. (account_of (machine i) (view i).number).group) ∙ group)
 
-pub held_pages : (place before after : ℕ) (m v m' v' b u : StockView) → (kind : ConsumesHeld place before after m v m' v') → m ≡ b → v ≡ u → kind.consumes.pages ≡ stocked (account_of b u.number) u - 1
+pub held_pages : (place before after : ℕ) (m v m' v' b u : StockView) → (kind : ConsumesHeld place before after m v m' v') → m ≡ b → v ≡ u → kind.consumes.pages ≡ stocked b u - 1
 held_pages place before after m v m' v' b u kind machine view =
     let more : pages_of v.last ≡ kind.consumes.pages + 1 = ap pages_of kind.consumes.from_held in
-    let here : kind.consumes.pages ≡ stocked (account_of m v.number) v - 1 = omega (arith, kind.exact, more) in
-    here ∙ (λ i. stocked (account_of (machine i) (view i).number) (view i) - 1)
+    let here : kind.consumes.pages ≡ stocked m v - 1 = omega (arith, kind.exact, more) in
+    here ∙ (λ i. stocked (machine i) (view i) - 1)
 
-pub held_after : (g place before after : ℕ) (m v m' v' b u : StockView) → (kind : ConsumesHeld place before after m v m' v') → m ≡ b → v ≡ u → (account_of b u.number).group ≡ Some g → v' ≡ after_took u g (stocked (account_of b u.number) u - 1)
+pub held_after : (g place before after : ℕ) (m v m' v' b u : StockView) → (kind : ConsumesHeld place before after m v m' v') → m ≡ b → v ≡ u → (account_of b u.number).group ≡ Some g → v' ≡ after_took u g (stocked b u - 1)
 held_after g place before after m v m' v' b u kind machine view group = kind.consumes.view_after ∙ (λ i. after_took (view i) (held_group g place before after m v m' v' b u kind machine view group i) (held_pages place before after m v m' v' b u kind machine view i))

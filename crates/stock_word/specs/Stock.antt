@@ -130,9 +130,13 @@ abbrev pub second_of : List StockView → StockView
 second_of [] = first_machine
 second_of (v ∷ views) = first_of views
 
--- the pages that processor p's stock has by the books: those that are neither fresh nor reported
-abbrev pub stocked : Account → StockView → ℕ
-stocked account view = account.book - view.fresh - account.noted
+-- the machine's account of the processor that has this view
+abbrev pub account_for : StockView → StockView → Account
+account_for machine view = account_of machine view.number
+
+-- the pages that the processor's stock has by the books: those that are neither fresh nor reported
+abbrev pub stocked : StockView → StockView → ℕ
+stocked machine view = (account_for machine view).book - view.fresh - (account_for machine view).noted
 
 -- What a seat keeps beside its place in the table: it has one view, of which it keeps the number and the last stock; a processor that never saw a stock has no fresh page
 pub record IsKept {S : Type 0} (me : Me S (List StockView)) (number : ℕ) (last : Stock) : Type 0 where

@@ -40,11 +40,15 @@ pub record IsStock (word report : ℕ) (account : Account) (view : StockView) : 
   pub last_seen : (stock ≡ view.last) ⊎ (stock ≡ drained_of view.last)
   pub last_word : HasWord view.last
 
+-- the words of processor p are what the machine's view and the processor's tell
+abbrev pub IsStockOf : List ℕ → ℕ → StockView → StockView → Type 0
+IsStockOf words p machine view = IsStock (slice_index words (stock_place p)) (slice_index words (report_place p)) (account_of machine p) view
+
 -- processor p has one seat, whose view tells its words together with the machine's
 pub record HoldsAt (words : List ℕ) (seats : List (List StockView)) (machine : StockView) (p : ℕ) : Type 0 where
   pub view : StockView
   pub only : IsOnly seats p view
-  pub stock : IsStock (slice_index words (stock_place p)) (slice_index words (report_place p)) (account_of machine p) view
+  pub stock : IsStockOf words p machine view
 
 -- the machine has one seat, and each processor one
 pub record StockRule (cpus : ℕ) (words : List ℕ) (seats : List (List StockView)) : Type 0 where

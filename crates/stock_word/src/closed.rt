@@ -2,7 +2,7 @@
 ghost use Rattle.std.specs.Prelude.{◌≡◌, ◌+◌, ◌-◌, ◌*◌, ◌<◌, ◌≤◌, ℕ, [], ◌∷◌, length, slice_index};
 ghost use Rattle.stock_word.specs.Stock.{IsMachine, AreSeats, first_of, Gathers, account_of, view_in, word_of, HasWord};
 ghost use Rattle.stock_word.specs.declared.view.Stock.{Stock as AStock};
-ghost use Rattle.stock_word.specs.StockRule.{IsStock, stock_place as place_of_stock, report_place as place_of_report};
+ghost use Rattle.stock_word.specs.StockRule.{IsStockOf, stock_place as place_of_stock, report_place as place_of_report};
 
 use crate::kinds::{Both, Views};
 use crate::seat::StockSeat;
@@ -55,7 +55,7 @@ impl StockWords {
         requires machine { (seat0.table ≡ self.table) × IsMachine seat0.view }
         requires processors { AreSeats self.table 1 seats.items × (length seats.items ≡ self.cpus) }
         ensures length { length result ≡ 16 * (self.cpus + 1) }
-        ensures stocks { (p : ℕ) → 0 < p → p ≤ self.cpus → IsStock (slice_index result (place_of_stock p)) (slice_index result (place_of_report p)) (account_of seat0.view p) (view_in seats.items (p - 1)) }
+        ensures stocks { (p : ℕ) → 0 < p → p ≤ self.cpus → IsStockOf result p seat0.view (view_in seats.items (p - 1)) }
     {
         let StockSeat {
             mut seat,

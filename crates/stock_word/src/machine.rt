@@ -1,7 +1,7 @@
 //! The calls of the machine's seat, alone or joined with a processor's. Whoever has that seat has
 //! the zone's lock.
 ghost use Rattle.std.specs.Prelude.{◌≡◌, ◌+◌, ◌-◌, ◌<◌, ◌≤◌, [], ◌∷◌, false, Some};
-ghost use Rattle.stock_word.specs.Stock.{IsProcessor, IsMachine, account_of, stocked, first_of, second_of};
+ghost use Rattle.stock_word.specs.Stock.{IsProcessor, IsMachine, account_of, account_for, stocked, first_of, second_of};
 ghost use Rattle.stock_word.specs.Kinds.{after_took, after_report, noting, filling, after_fill, draining, absorbing};
 ghost use Rattle.stock_word.specs.Calls.{with_view};
 
@@ -62,10 +62,10 @@ impl StockWords {
         requires tables { (seat0.old.table ≡ self.now.table) × (seat.old.table ≡ self.now.table) }
         requires machine { IsMachine seat0.old.view }
         requires processor { IsProcessor self.now seat.old.view }
-        requires group { (account_of seat0.old.view seat.old.view.number).group ≡ Some g }
-        requires page { seat.old.view.fresh + (account_of seat0.old.view seat.old.view.number).noted < (account_of seat0.old.view seat.old.view.number).book }
+        requires group { (account_for seat0.old.view seat.old.view).group ≡ Some g }
+        requires page { 0 < stocked seat0.old.view seat.old.view }
         ensures machine { seat0.new ≡ seat0.old }
-        ensures processor { seat.new ≡ with_view seat.old (after_took seat.old.view g (stocked (account_of seat0.old.view seat.old.view.number) seat.old.view - 1)) }
+        ensures processor { seat.new ≡ with_view seat.old (after_took seat.old.view g (stocked seat0.old.view seat.old.view - 1)) }
     {
         self.join(&mut seat0.seat, &mut seat.seat);
         let place = stock_place(seat.number);
@@ -86,9 +86,9 @@ impl StockWords {
         requires processor { IsProcessor self.now seat.old.view }
         requires group { g < 64 }
         requires pages { (0 < n) × (n < 65536) }
-        requires drained { (account_of seat0.old.view seat.old.view.number).filled ≡ false }
-        requires settled { (seat.old.view.fresh ≡ 0) × ((account_of seat0.old.view seat.old.view.number).noted ≡ 0) }
-        ensures nothing_booked { (account_of seat0.old.view seat.old.view.number).book ≡ 0 }
+        requires drained { (account_for seat0.old.view seat.old.view).filled ≡ false }
+        requires settled { (seat.old.view.fresh ≡ 0) × ((account_for seat0.old.view seat.old.view).noted ≡ 0) }
+        ensures nothing_booked { (account_for seat0.old.view seat.old.view).book ≡ 0 }
         ensures machine { seat0.new ≡ with_view seat0.old (filling seat0.old.view seat.old.view.number g n) }
         ensures processor { seat.new ≡ with_view seat.old (after_fill seat.old.view g n) }
     {

@@ -1,5 +1,5 @@
 -- A list for each order: what their blocks are, and what they become when one list is changed.
-use Rattle.std.proofs.Common.{◌≡◌, ◌≢◌, ℕ, zero, suc, ◌+◌, ◌*◌, ◌/◌, ◌^◌, ◌%◌, ◌<◌, ◌≤◌, ◌⊎◌, List, [], ◌∷◌, length, get_or, set, refl, sym, ap, ◌∙◌, subst, inl, inr, arith, Vec, Global, Option, Some, None, length-set}
+use Rattle.std.proofs.Common.{◌≡◌, ◌≢◌, ℕ, zero, suc, ◌+◌, ◌-◌, ◌*◌, ◌/◌, ◌^◌, ◌%◌, ◌<◌, ◌≤◌, ◌⊎◌, List, [], ◌∷◌, length, get_or, set, refl, sym, ap, ◌∙◌, subst, inl, inr, arith, Vec, Global, Option, Some, None, length-set}
 use Rattle.std.specs.List.{AllPairs, Contains, insert, remove, slice_get}
 use Rattle.std.specs.Vec.{vec_capacity}
 use Rattle.std.specs.Option.{MatchOption}
@@ -11,9 +11,9 @@ use Rattle.std.proofs.lemmas.Bool.{cases_lt, cases_eq}
 use Rattle.std.proofs.lemmas.Nat.{div-add-mod', le-div, pow_pos}
 use Rattle.std.proofs.Math.Nat.{mul-le-mul_right, lt_of_mul-lt-mul_right}
 use Rattle.zone_blocks.specs.declared.block.Block.{Block}
-use Rattle.zone_blocks.specs.Block.{IsBlock, Covers, AreDisjoint}
-use Rattle.zone_blocks.specs.Areas.{AreBlocksApart, Precedes, HasNoneOf, HasNoneFrom, IsFirstOf, IsSmallestFrom, Inserts, Removes}
-use Rattle.zone_blocks.specs.OrderLists.{IsOrderList, AreOrderLists, blocks_of, IsLower, IsPlaceOf}
+use Rattle.zone_blocks.specs.Block.{IsBlock, Covers}
+use Rattle.zone_blocks.specs.Areas.{AreBlocksApart, Precedes, HasNoneOf, HasNoneFrom, IsFirstOf, IsSmallestFrom, Inserts, Removes, Overlaps}
+use Rattle.zone_blocks.specs.OrderLists.{IsOrderList, AreOrderLists, blocks_of, IsLower, IsPlaceOf, MeetsRange}
 use Rattle.zone_blocks.proofs.Lists.{contains_flat_map, contains_from_flat_map, ordered_from}
 use Rattle.zone_blocks.proofs.Filling.{same_block}
 use Rattle.zone_blocks.proofs.Edits.{all_pairs_insert, contains_insert, contains_insert_old, contains_insert_cases, contains_remove_old, contains_remove_keeps, contains_remove_gone}
@@ -273,7 +273,7 @@ put_few n xs b p h =
     omega (arith, few, length-insert xs p b h.place.within)
 
 pub puts_in : (n : ℕ) (lists : List (Vec Block Global)) → AreLists n lists → (b : Block) (p : ℕ) (d : Vec Block Global) → IsBlock n b
-    → ((c : Block) → Contains (blocks_of lists) c → AreDisjoint c b) → IsPlaceOf (get_or lists b.order d).items b.at p
+    → (Overlaps (blocks_of lists) b → ⊥) → IsPlaceOf (get_or lists b.order d).items b.at p
     → PutsIn n (get_or lists b.order d).items b p
 puts_in n lists h b p d block apart place =
     let count = h.count in
@@ -286,13 +286,16 @@ puts_in n lists h b p d block apart place =
       others = λ c q e.
           let pos = pow_pos c.order in
           let pos' = pow_pos b.order in
-          apart c (in_blocks n lists h b.order d (omega arith) c q) c.at record { from = omega arith; before = omega arith }
-          record { from = omega arith; before = omega arith };
+          apart (
+            c,
+            in_blocks n lists h b.order d (omega arith) c q,
+            (c.at, record { from = omega arith; before = omega arith }, record { from = omega arith; before = omega arith }),
+          );
       place = place;
     }
 
 pub has_room : (n : ℕ) (lists : List (Vec Block Global)) → AreLists n lists → (b : Block) (p : ℕ) (d : Vec Block Global) → IsBlock n b
-    → ((c : Block) → Contains (blocks_of lists) c → AreDisjoint c b) → IsPlaceOf (get_or lists b.order d).items b.at p
+    → (Overlaps (blocks_of lists) b → ⊥) → IsPlaceOf (get_or lists b.order d).items b.at p
     → length (get_or lists b.order d).items < vec_capacity (get_or lists b.order d)
 has_room n lists h b p d block apart place =
     let count = h.count in
@@ -310,7 +313,7 @@ put_list n old list b p h room e = record {
 }
 
 pub inserts : (n : ℕ) (lists : List (Vec Block Global)) → AreOrderLists n lists → (b : Block) (p : ℕ) (d list : Vec Block Global) → IsBlock n b
-    → ((c : Block) → Contains (blocks_of lists) c → AreDisjoint c b) → IsPlaceOf (get_or lists b.order d).items b.at p
+    → (Overlaps (blocks_of lists) b → ⊥) → IsPlaceOf (get_or lists b.order d).items b.at p
     → list.items ≡ insert (get_or lists b.order d).items p b → vec_capacity (get_or lists b.order d) ≤ vec_capacity list
     → AreOrderLists n (set lists b.order list) × Inserts (blocks_of lists) b (blocks_of (set lists b.order list))
 inserts n lists good b p d list block apart place e more =
@@ -338,10 +341,10 @@ inserts n lists good b p d list block apart place e more =
         apart = λ a c qa qc f ca cc. elim (only a qa) [
           | inl oa ↦ elim (only c qc) [
             | inl oc ↦ good.apart a c oa oc f ca cc
-            | inr nc ↦ absurd (apart a oa f ca (subst (λ z. Covers z f) nc cc))
+            | inr nc ↦ absurd (apart (a, oa, (f, ca, subst (λ z. Covers z f) nc cc)))
           ]
           | inr na ↦ elim (only c qc) [
-            | inl oc ↦ absurd (apart c oc f cc (subst (λ z. Covers z f) na ca))
+            | inl oc ↦ absurd (apart (c, oc, (f, cc, subst (λ z. Covers z f) na ca)))
             | inr nc ↦ na ∙ sym nc
           ]
         ];
@@ -436,14 +439,14 @@ removes n lists good b there p d list place e more =
 -- ---- the same, where the list of the block's order was read before
 
 pub has_room_in : (n : ℕ) (lists : List (Vec Block Global)) → AreOrderLists n lists → (b : Block) (p : ℕ) (old : Vec Block Global) → old ≡ get_or lists b.order old
-    → IsBlock n b → ((c : Block) → Contains (blocks_of lists) c → AreDisjoint c b) → IsPlaceOf old.items b.at p → length old.items < vec_capacity old
+    → IsBlock n b → (Overlaps (blocks_of lists) b → ⊥) → IsPlaceOf old.items b.at p → length old.items < vec_capacity old
 has_room_in n lists good b p old here block apart place =
     let P : Vec Block Global → Type 0 = λ v. IsPlaceOf v.items b.at p in
     let R : Vec Block Global → Type 0 = λ v. length v.items < vec_capacity v in
     subst R (sym here) (has_room n lists (lists_of n lists good) b p old block apart (subst P here place))
 
 pub inserts_in : (n : ℕ) (lists : List (Vec Block Global)) → AreOrderLists n lists → (b : Block) (p : ℕ) (old list : Vec Block Global) → old ≡ get_or lists b.order old
-    → IsBlock n b → ((c : Block) → Contains (blocks_of lists) c → AreDisjoint c b) → IsPlaceOf old.items b.at p
+    → IsBlock n b → (Overlaps (blocks_of lists) b → ⊥) → IsPlaceOf old.items b.at p
     → list.items ≡ insert old.items p b → vec_capacity old ≤ vec_capacity list
     → AreOrderLists n (set lists b.order list) × Inserts (blocks_of lists) b (blocks_of (set lists b.order list))
 inserts_in n lists good b p old list here block apart place e more =
@@ -492,3 +495,66 @@ contains_in n lists good b l p old here place x within read =
       λ c. let found = place_is old.items b p (lower_from n b.order old was) place (subst Q (sym here) ((in_list n lists h b c).2 old)) in
           ap at (read ∙ get_or_default old.items p x b within ∙ found.1),
     )
+
+-- ---- blocks that share a frame with a range
+
+-- where the block at the place does not meet the range, one that does is or stands before the last one below the place
+pub last_meets : (xs : List Block) (k at end p : ℕ) → p ≤ length xs → AllPairs IsLower xs → (length xs ≤ p) ⊎ ((d : Block) × (p < length xs) × (end ≤ (get_or xs p d).at))
+    → MeetsRange xs k at end → (0 < p) × ((d : Block) → at < (get_or xs (p - 1) d).at + 2 ^ k)
+last_meets xs k at end p within lower next (c, (i, l, e), below, above) =
+    let before : i < p = elim (cases_lt i p) [
+      | inl lt ↦ lt
+      | inr ge ↦ elim next [
+        | inl past ↦ absurd (omega arith)
+        | inr r ↦
+            let d = r.0 in
+            let stop = r.2 in
+            let same : get_or xs i d ≡ c = get_or_default xs i d c l ∙ e in
+            elim (cases_eq p i) [
+              | inl here ↦ let stop' = rw (here, same) at stop in absurd (omega arith)
+              | inr ne ↦ let low = lower p i d (omega arith) l in let low' = rw same at low in absurd (omega arith)
+            ]
+      ]
+    ] in (
+      omega arith,
+      λ d.
+          let same : get_or xs i d ≡ c = get_or_default xs i d c l ∙ e in
+          elim (cases_eq (p - 1) i) [
+            | inl here ↦ rw (here, same) above
+            | inr ne ↦ elim (cases_lt (p - 1) (length xs)) [
+              | inl in' ↦ let low = lower i (p - 1) d (omega arith) in' in let low' = rw same at low in omega arith
+              | inr past ↦ absurd (omega arith)
+            ]
+          ],
+    )
+
+pub overlaps_from : (n : ℕ) (lists : List (Vec Block Global)) → AreLists n lists → (k : ℕ) (d : Vec Block Global) → k < 11 → (b : Block) (end : ℕ)
+    → end ≡ b.at + 2 ^ b.order → MeetsRange (get_or lists k d).items k b.at end → Overlaps (blocks_of lists) b
+overlaps_from n lists h k d l b end e (c, q, below, above) =
+    let count = h.count in
+    let o = ((h.each k d (omega arith)).each c q).0 in
+    let pb = pow_pos b.order in
+    let pc = pow_pos c.order in
+    let above' = rw (sym o) at above in (
+      c,
+      in_blocks n lists h k d l c q,
+      elim (cases_lt c.at b.at) [
+        | inl lt ↦ (b.at, record { from = omega arith; before = above' }, record { from = omega arith; before = omega arith })
+        | inr ge ↦ (c.at, record { from = omega arith; before = omega arith }, record { from = ge; before = omega arith })
+      ],
+    )
+
+overlaps_none_with : (n : ℕ) (lists : List (Vec Block Global)) → AreLists n lists → (b : Block) (end : ℕ) → end ≡ b.at + 2 ^ b.order
+    → ((k : ℕ) (d : Vec Block Global) → k < 11 → MeetsRange (get_or lists k d).items k b.at end → ⊥) → (d : Vec Block Global) → Overlaps (blocks_of lists) b → ⊥
+overlaps_none_with n lists h b end e none d (c, q, (f, p, r)) =
+    let s = in_list n lists h c q in
+    let pf = p.from in
+    let pb = p.before in
+    let rf = r.from in
+    let rb = r.before in
+    none c.order d s.0 (c, s.2 d, omega arith, omega arith)
+
+pub overlaps_none : (n : ℕ) (lists : List (Vec Block Global)) → AreLists n lists → (b : Block) (end : ℕ) → end ≡ b.at + 2 ^ b.order
+    → ((k : ℕ) (d : Vec Block Global) → k < 11 → MeetsRange (get_or lists k d).items k b.at end → ⊥) → Overlaps (blocks_of lists) b → ⊥
+overlaps_none n [] h b end e none o = let count = h.count in absurd (omega arith)
+overlaps_none n (x ∷ xs) h b end e none o = overlaps_none_with n (x ∷ xs) h b end e none x o

@@ -39,6 +39,10 @@ pub record AreBlocksApart (frames : ℕ) (blocks : List Block) : Type 0 where
   pub apart : (a b : Block) → Contains blocks a → Contains blocks b → (f : ℕ) → Covers a f → Covers b f → a ≡ b
   pub ordered : AllPairs Precedes blocks
 
+-- a block of the list shares a frame with b
+abbrev pub Overlaps : List Block → Block → Type 0
+Overlaps blocks b = (c : Block) × Contains blocks c × ((f : ℕ) × Covers c f × Covers b f)
+
 -- no block is of exactly this order
 abbrev pub HasNoneOf : List Block → ℕ → Type 0
 HasNoneOf blocks order = (b : Block) → Contains blocks b → b.order ≢ order

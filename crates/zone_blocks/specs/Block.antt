@@ -13,10 +13,6 @@ pub record Covers (b : Block) (f : ℕ) : Type 0 where
   pub from : b.at ≤ f
   pub before : f < b.at + 2 ^ b.order
 
--- two blocks share no frame
-abbrev pub AreDisjoint : Block → Block → Type 0
-AreDisjoint a b = (f : ℕ) → Covers a f → ¬ Covers b f
-
 -- the block of the next order that encloses b
 abbrev pub enclosing : Block → Block
 enclosing b = record { at = b.at - b.at % 2 ^ (b.order + 1); order = b.order + 1 }

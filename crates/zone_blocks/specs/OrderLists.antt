@@ -1,5 +1,5 @@
 -- What stands behind the free areas: for each order one list of blocks, sorted by address.
-use Rattle.std.specs.Prelude.{◌≡◌, ℕ, ◌/◌, ◌^◌, ◌<◌, ◌≤◌, Bool, List, length, Vec}
+use Rattle.std.specs.Prelude.{◌≡◌, ℕ, ◌+◌, ◌/◌, ◌^◌, ◌<◌, ◌≤◌, Bool, List, length, Vec}
 use Rattle.std.specs.List.{AllPairs, Contains, flat_map, slice_index_or}
 use Rattle.std.specs.Vec.{vec_capacity}
 use Rattle.std.specs.declared.alloc.Global.{Global}
@@ -38,3 +38,7 @@ pub record IsPlaceOf (list : List Block) (at p : ℕ) : Type 0 where
   pub within : p ≤ length list
   pub before : (k : ℕ) (d : Block) → k < p → (slice_index_or list k d).at < at
   pub from : (k : ℕ) (d : Block) → p ≤ k → k < length list → at ≤ (slice_index_or list k d).at
+
+-- a block of the list, which are all of this order, has a frame from `at` to before `end`
+abbrev pub MeetsRange : List Block → ℕ → ℕ → ℕ → Type 0
+MeetsRange list order at end = (c : Block) × Contains list c × (c.at < end) × (at < c.at + 2 ^ order)

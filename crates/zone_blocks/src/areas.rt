@@ -2,11 +2,10 @@
 
 ghost use Rattle.std.specs.Prelude.{◌≡◌, ◌≤◌, ◌<◌, ◌↔◌, IsTrue, IfOk, MatchOption, ℕ, length, [], slice_index_or};
 ghost use Rattle.std.specs.List.{AllPairs, Contains};
-ghost use Rattle.zone_blocks.specs.declared.block.Block.{Block};
-ghost use Rattle.zone_blocks.specs.Block.{IsBlock, AreDisjoint};
+ghost use Rattle.zone_blocks.specs.Block.{IsBlock};
 ghost use Rattle.zone_blocks.specs.Areas.{AreMaximalBlocks, AreBlocksApart, HasNoneOf, HasNoneFrom};
-ghost use Rattle.zone_blocks.specs.Areas.{IsFirstOf, IsSmallestFrom, Inserts, Removes};
-ghost use Rattle.zone_blocks.specs.OrderLists.{IsLower, IsPlaceOf};
+ghost use Rattle.zone_blocks.specs.Areas.{IsFirstOf, IsSmallestFrom, Inserts, Removes, Overlaps};
+ghost use Rattle.zone_blocks.specs.OrderLists.{IsLower, IsPlaceOf, MeetsRange};
 
 use crate::block::Block;
 use crate::maximal::fill_with_maximal;
@@ -68,6 +67,13 @@ impl FreeAreas {
         }
     }
 
+    /// How many frames the zone has.
+    pub fn frames(&self) -> u32
+        ensures { result ≡ self.now.frames }
+    {
+        self.frames
+    }
+
     /// The blocks that are there, by order and then by address.
     pub fn walk(&self) -> Walk<'_>
         ensures walk { result ≡ self.now.blocks }
@@ -83,6 +89,21 @@ impl FreeAreas {
         let list = &self.lists[block.order.exponent() as usize];
         let place = place_of(list.as_slice(), block.at);
         place < list.len() && list[place].at == block.at
+    }
+
+    /// Whether a block that is there shares a frame with this one.
+    pub fn overlaps(&self, block: Block) -> bool
+        ensures { IsTrue result ↔ Overlaps self.now.blocks block }
+    {
+        let end = block.at as usize + block.order.frames() as usize;
+        for exponent in 0..ORDERS {
+            let order = Order::of(exponent).unwrap();
+            let list = &self.lists[exponent as usize];
+            if overlaps_list(list.as_slice(), order, block.at, end) {
+                return true;
+            }
+        }
+        false
     }
 
     /// The block of exactly this order with the least address. None exactly where there is none.
@@ -110,7 +131,7 @@ impl FreeAreas {
     /// Puts a block of the zone in, which shares no frame with one that is there.
     pub fn insert(&mut self, block: Block)
         requires block { IsBlock self.old.frames block }
-        requires apart { (b : Block) → Contains self.old.blocks b → AreDisjoint b block }
+        requires apart { ¬ Overlaps self.old.blocks block }
         ensures blocks { Inserts self.old.blocks block self.new.blocks }
         ensures frames { self.new.frames ≡ self.old.frames }
     {
@@ -138,4 +159,19 @@ fn place_of(list: &[Block], at: u32) -> usize
     ensures { IsPlaceOf list.now at result }
 {
     list.partition_point(|block| block.at < at)
+}
+
+/// Whether a block of a list by address, all of one order, shares a frame with those from `at`
+/// to before `end`.
+fn overlaps_list(list: &[Block], order: Order, at: u32, end: usize) -> bool
+    requires sorted { AllPairs IsLower list.now }
+    requires some { at < end }
+    ensures { IsTrue result ↔ MeetsRange list.now order at end }
+{
+    let size = order.frames() as usize;
+    let place = place_of(list, at);
+    if place < list.len() && (list[place].at as usize) < end {
+        return true;
+    }
+    place > 0 && (at as usize) < list[place - 1].at as usize + size
 }

@@ -6,11 +6,11 @@ use Rattle.std.proofs.lemmas.List.{get_or_past, same_lists, get_or_default}
 use Rattle.std.proofs.lemmas.List.Folds.{Any-from_list_any, list_any-from_Any}
 use Rattle.std.proofs.lemmas.List.FromFn.{length-map-range_with_len, get_or-map-range_with_len}
 use Rattle.zone_blocks.specs.declared.block.Block.{Block}
-use Rattle.zone_blocks.specs.Block.{IsBlock, Covers, AreDisjoint, enclosing}
-use Rattle.zone_blocks.specs.Areas.{IsFree, IsFreeBlock, AreMaximalBlocks, FreeBlocks, Inserts, Removes}
+use Rattle.zone_blocks.specs.Block.{IsBlock, Covers, enclosing}
+use Rattle.zone_blocks.specs.Areas.{IsFree, IsFreeBlock, AreMaximalBlocks, FreeBlocks, Inserts, Removes, Overlaps}
 use Rattle.zone_blocks.proofs.Nested.{same_maximal}
 use Rattle.zone_blocks.proofs.Unique.{in_maximal}
-use Rattle.zone_buddy.specs.Zone.{set_of, covers, TakesFrames, GivesFrames, AreKept}
+use Rattle.zone_buddy.specs.Zone.{set_of, covers, TakesFrames, GivesFrames, AreKept, IsInUse}
 use Rattle.zone_buddy.proofs.Sets.{removed_maximal, added_maximal}
 
 pub length-set_of : (a : FreeBlocks) → length (set_of a) ≡ a.frames
@@ -106,8 +106,8 @@ kept_more old new u kept inserts block in_use same alone = record {
 
 -- a block in use shares no frame with a free one
 pub apart_from_use : (a : FreeBlocks) (u : Block) → AreMaximalBlocks (set_of a) a.blocks → ((f : ℕ) → Covers u f → ¬ IsFree (set_of a) f)
-    → (b : Block) → Contains a.blocks b → AreDisjoint b u
-apart_from_use a u kept in_use b there f p q = in_use f q ((kept.each b there).is_free.all_free f p)
+    → Overlaps a.blocks u → ⊥
+apart_from_use a u kept in_use (b, there, (f, p, q)) = in_use f q ((kept.each b there).is_free.all_free f p)
 
 -- ---- the areas of a set
 
@@ -129,3 +129,16 @@ set_of_maximal free a same h =
         | inr also ↦ also ∙ sym not
       ]
     ] ∙ sym back)
+
+-- a block of the zone is in use exactly where it shares no frame with a block of the areas
+pub in_use_apart : (a : FreeBlocks) (b : Block) → IsBlock a.frames b → (Overlaps a.blocks b → ⊥) → IsInUse (set_of a) b
+in_use_apart a b block apart = record {
+  block = rw (length-set_of a) block;
+  none_free = λ f c is. let r = (in_a_block a f is).1 in apart (r.0, r.1, (f, r.2, c));
+}
+
+pub overlaps_not_in_use : (a : FreeBlocks) (b : Block) → IsInUse (set_of a) b → Overlaps a.blocks b → ⊥
+overlaps_not_in_use a b h (c, there, (f, p, q)) =
+    let before = q.before in
+    let inside = h.block.inside in
+    h.none_free f q (free_from_block a f c (omega (arith, length-set_of a)) there p)

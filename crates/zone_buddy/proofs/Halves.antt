@@ -5,8 +5,8 @@ use Rattle.std.proofs.lemmas.Bool.{cases_lt, cases_eq, ne_eqb, cond-true, cond-f
 use Rattle.std.proofs.lemmas.Nat.{pow_pos, pow-add, mod-pow-add, mod_below}
 use Rattle.std.proofs.Math.Nat.{add-mod_right, mod-le}
 use Rattle.zone_blocks.specs.declared.block.Block.{Block}
-use Rattle.zone_blocks.specs.Block.{IsBlock, Covers, AreDisjoint, enclosing}
-use Rattle.zone_blocks.specs.Areas.{IsFree, FreeBlocks, Inserts}
+use Rattle.zone_blocks.specs.Block.{IsBlock, Covers, enclosing}
+use Rattle.zone_blocks.specs.Areas.{IsFree, FreeBlocks, Overlaps, Inserts}
 use Rattle.zone_blocks.proofs.Filling.{same_block}
 use Rattle.zone_blocks.proofs.Nested.{covers_start, start_is}
 use Rattle.zone_buddy.specs.Zone.{block_at, set_of, buddy, AreKept, TakesFrames, GivesFrames}
@@ -98,10 +98,10 @@ halve old new at e h inserts same =
 
 -- the same at a block u and an order k that are known to be these
 pub upper_ready : (areas : FreeBlocks) (at k e : ℕ) (u : Block) → k ≡ e + 1 → u ≡ block_at (at + 2 ^ e) e → Halving areas at k
-    → IsBlock areas.frames u × ((b : Block) → Contains areas.blocks b → AreDisjoint b u)
+    → IsBlock areas.frames u × (Overlaps areas.blocks u → ⊥)
 upper_ready areas at k e u ek eu h' =
     let H : ℕ → Type 0 = λ i. Halving areas at i in
-    let P : Block → Type 0 = λ z. IsBlock areas.frames z × ((b : Block) → Contains areas.blocks b → AreDisjoint b z) in
+    let P : Block → Type 0 = λ z. IsBlock areas.frames z × (Overlaps areas.blocks z → ⊥) in
     let h : Halving areas at (e + 1) = subst H ek h' in
     let d = double e in
     subst P (sym eu) (

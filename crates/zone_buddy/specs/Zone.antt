@@ -2,7 +2,7 @@
 use Rattle.std.specs.Prelude.{◌≡◌, ◌+◌, ◌-◌, ◌%◌, ◌^◌, ℕ, ◌<◌, ◌↔◌, ◌⊎◌, ◌==◌, ◌&&◌, Bool, List, length, map, if◌then◌else◌, nat_le, nat_lt}
 use Rattle.std.specs.List.{Contains, list_any, range_with_len}
 use Rattle.zone_blocks.specs.declared.block.Block.{Block}
-use Rattle.zone_blocks.specs.Block.{Covers, enclosing}
+use Rattle.zone_blocks.specs.Block.{IsBlock, Covers, enclosing}
 use Rattle.zone_blocks.specs.Areas.{IsFree, AreMaximalBlocks, FreeBlocks, IsSmallestFrom, Removes}
 
 -- what a caller sees of a zone: for each frame whether it is free, and the maximal free blocks in walk order
@@ -20,6 +20,11 @@ pub record TakesFrames (before : List Bool) (b : Block) (after : List Bool) : Ty
 -- the block's frames were in use and are free, and all others are as before
 abbrev pub GivesFrames : List Bool → Block → List Bool → Type 0
 GivesFrames before b after = TakesFrames after b before
+
+-- a block of the zone, each of its frames in use
+pub record IsInUse (free : List Bool) (b : Block) : Type 0 where
+  pub block : IsBlock (length free) b
+  pub none_free : (f : ℕ) → Covers b f → ¬ IsFree free f
 
 -- b is the front, of this order, of the block of the least sufficient order that has the least address
 pub record IsFrontOfSmallest (blocks : List Block) (order : ℕ) (b : Block) : Type 0 where

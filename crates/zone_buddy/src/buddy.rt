@@ -1,10 +1,9 @@
 //! A zone whose frames are taken and given back in blocks.
 
-ghost use Rattle.std.specs.Prelude.{◌≡◌, ℕ, IfOk, MatchOption, replicate, length, true};
+ghost use Rattle.std.specs.Prelude.{◌≡◌, ◌↔◌, IsTrue, IfOk, MatchOption, replicate, true};
 ghost use Rattle.std.specs.Option.{IfNone, IfSome};
-ghost use Rattle.zone_blocks.specs.Block.{IsBlock, Covers};
-ghost use Rattle.zone_blocks.specs.Areas.{IsFree, AreMaximalBlocks, HasNoneFrom};
-ghost use Rattle.zone_buddy.specs.Zone.{TakesFrames, GivesFrames, IsFrontOfSmallest};
+ghost use Rattle.zone_blocks.specs.Areas.{AreMaximalBlocks, HasNoneFrom};
+ghost use Rattle.zone_buddy.specs.Zone.{TakesFrames, GivesFrames, IsInUse, IsFrontOfSmallest};
 
 use crate::merge::insert_merged;
 use crate::split::free_upper_halves;
@@ -62,11 +61,17 @@ impl Buddy {
         Some(Block { at, order })
     }
 
+    /// Whether it is a block of the zone, all of whose frames are in use: it may be given back.
+    pub fn is_in_use(&self, block: Block) -> bool
+        ensures { IsTrue result ↔ IsInUse self.now.free block }
+    {
+        block.is_block_of(self.areas.frames()) && !self.areas.overlaps(block)
+    }
+
     /// Gives a block back, all of whose frames are in use, and merges it with its buddy while that
     /// is a free block of the same order, up to order 10.
     pub fn give(&mut self, block: Block)
-        requires block { IsBlock (length self.old.free) block }
-        requires in_use { (f : ℕ) → Covers block f → ¬ IsFree self.old.free f }
+        requires { IsInUse self.old.free block }
         ensures frames { GivesFrames self.old.free block self.new.free }
         ensures areas { AreMaximalBlocks self.new.free self.new.blocks }
     {

@@ -5,3 +5,5 @@
 pub mod buddy;
 mod merge;
 mod split;
+#[cfg(test)]
+mod tests;

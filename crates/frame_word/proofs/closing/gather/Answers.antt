@@ -1,5 +1,5 @@
 use Rattle.std.proofs.Common.{◌≡◌, [], ◌∷◌, ◌++◌, map, length, List, sym, ap, ◌∙◌, subst, append_assoc, append-nil, arith, refl}
-use Rattle.std.specs.Vec.Iter.{into_iter_items, into_iter_len}
+use Rattle.std.specs.Vec.Iter.{into_iter_items}
 use Rattle.frame_word.specs.Seats.{KnownSeat, view_of, AreSeatsAt}
 use Rattle.frame_word.proofs.Seating.{joins}
 use Rattle.frame_word.proofs.closing.gather.Goals as goal

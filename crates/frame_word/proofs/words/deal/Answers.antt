@@ -1,7 +1,6 @@
-use Rattle.std.proofs.Common.{arith, ◌≡◌, ◌+◌, ◌-◌, ◌++◌, ◌∷◌, [], ◌∙◌, ap, sym, refl}
-use Rattle.frame_word.specs.Seats.{KnownSeat, first_cpu_view, cpu_views, first_cpu_seats}
+use Rattle.std.proofs.Common.{◌+◌, ◌++◌, ◌∷◌, [], ◌∙◌, ap, sym, refl}
+use Rattle.frame_word.specs.Seats.{first_cpu_view}
 use Rattle.frame_word.specs.Kinds.{first_alone, but_first}
-use Rattle.frame_word.specs.Sitting.{first_of}
 use Rattle.frame_word.proofs.Alone.{known, sits}
 use Rattle.frame_word.proofs.Opening.{views_next, seats_next}
 use Rattle.frame_word.proofs.Seating.{splits}

@@ -1,4 +1,4 @@
-use Rattle.std.proofs.Common.{arith, ◌≡◌, ◌++◌, ◌∷◌, [], map, List, ℕ, ◌∙◌, ap, sym, subst}
+use Rattle.std.proofs.Common.{arith, ◌++◌, ◌∷◌, [], map, List, ℕ, ◌∙◌, ap, sym, subst}
 use Rattle.std.specs.Slots.{slots_items}
 use Rattle.frame_word.specs.declared.view.FrameView.{FrameView}
 use Rattle.frame_word.specs.ReferenceRule.{ReferenceRule}

@@ -1,6 +1,5 @@
-use Rattle.std.proofs.Common.{rules, arith, ◌≡◌, ◌≢◌, ◌≤◌, ◌<◌, ◌⊎◌, ◌∙◌, ℕ, ap, sym, subst, inl, inr, ⊎_elim}
-use Rattle.frame_word.specs.declared.answers.Get.TheVariants.{Held, Zero, Raced, Full}
-use Rattle.frame_word.specs.Views.{note_of, looked, held, raced}
+use Rattle.std.proofs.Common.{arith, ◌≤◌, ◌<◌, ◌∙◌, ap, sym, subst, inl, inr, ⊎_elim}
+use Rattle.frame_word.specs.Views.{looked, held, raced}
 use Rattle.frame_word.specs.Seats.{GetAnswers}
 use Rattle.frame_word.proofs.Alone.{known, first_after, seen_after, seen_after_two, looks_as, adds_as}
 use Rattle.frame_word.proofs.CallerLemmas.{held_one_more}

@@ -1,4 +1,4 @@
-use Rattle.std.proofs.Common.{arith, ◌≡◌, [], ◌∷◌, ◌∙◌, ap, sym, subst, List, ℕ, replicate, length, ◌+◌}
+use Rattle.std.proofs.Common.{arith, [], ◌∷◌, ◌∙◌, ap, sym, subst, List, ℕ, length, ◌+◌}
 use Rattle.std.proofs.lemmas.List.{length-replicate}
 use Rattle.frame_word.specs.ReferenceRule.{ReferenceRule}
 use Rattle.frame_word.specs.Kinds.{first_views}

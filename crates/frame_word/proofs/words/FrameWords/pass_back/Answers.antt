@@ -1,6 +1,5 @@
-use Rattle.std.proofs.Common.{arith, ◌≡◌, ◌+◌, ◌<◌, ◌++◌, [], ◌∙◌, ap, sym, subst, ◌≤◌, ℕ}
-use Rattle.frame_word.specs.Seats.{KnownSeat, number_of, IsInHand, IsLent, IsOpen, IsShut, Passes}
-use Rattle.frame_word.specs.Views.{begun, ended}
+use Rattle.std.proofs.Common.{arith, ◌++◌, [], ◌∙◌, ap, sym, subst, ℕ}
+use Rattle.frame_word.specs.Seats.{KnownSeat, number_of, IsInHand, IsOpen}
 use Rattle.frame_word.proofs.Joined.{passes_back_as}
 use Rattle.frame_word.proofs.words.FrameWords.pass_back.Goals as goal
 

@@ -1,4 +1,4 @@
-use Rattle.std.proofs.Common.{arith, ◌≡◌, ◌+◌, ◌∙◌, ap, sym, subst, ◌≤◌, ℕ}
+use Rattle.std.proofs.Common.{arith, ◌∙◌, ap, sym, subst, ℕ}
 use Rattle.frame_word.specs.Seats.{KnownSeat, IsInOwnHand, IsOpen}
 use Rattle.frame_word.proofs.Joined.{passes_out_as}
 use Rattle.frame_word.proofs.words.FrameWords.pass_out.Goals as goal

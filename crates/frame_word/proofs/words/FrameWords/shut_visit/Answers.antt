@@ -1,5 +1,5 @@
-use Rattle.std.proofs.Common.{arith, ◌≡◌, ◌+◌, ◌<◌, ◌++◌, [], ◌∙◌, ap, sym, subst, ◌≤◌, ℕ}
-use Rattle.frame_word.specs.Seats.{KnownSeat, number_of, IsInHand, IsLent, IsOpen, IsShut, Passes}
+use Rattle.std.proofs.Common.{arith, ◌≡◌, ◌++◌, [], ◌∙◌, ap, sym, subst}
+use Rattle.frame_word.specs.Seats.{KnownSeat, number_of}
 use Rattle.frame_word.specs.Views.{begun, ended}
 use Rattle.frame_word.proofs.Joined.{shuts_as}
 use Rattle.frame_word.proofs.words.FrameWords.shut_visit.Goals as goal

@@ -1,4 +1,4 @@
-use Rattle.std.proofs.Common.{arith, ◌∙◌, ap, sym, subst, ◌≤◌, ℕ}
+use Rattle.std.proofs.Common.{arith, ◌∙◌, ap, sym, subst, ℕ}
 use Rattle.frame_word.specs.Seats.{KnownSeat, IsInOwnHand}
 use Rattle.frame_word.proofs.Alone.{unfreezes_as}
 use Rattle.frame_word.proofs.words.FrameWords.unfreeze.Goals as goal

@@ -1,8 +1,7 @@
 use Rattle.std.proofs.Common.{◌≡◌, sym, subst, arith, set}
-use Rattle.std.specs.List.{Contains}
 use Rattle.zone_blocks.specs.declared.block.Block.{Block}
-use Rattle.zone_blocks.specs.Block.{IsBlock, AreDisjoint}
-use Rattle.zone_blocks.specs.Areas.{FreeBlocks, Inserts}
+use Rattle.zone_blocks.specs.Block.{IsBlock}
+use Rattle.zone_blocks.specs.Areas.{FreeBlocks, Inserts, Overlaps}
 use Rattle.zone_blocks.specs.OrderLists.{blocks_of}
 use Rattle.zone_blocks.proofs.OrderLists.{has_room_in, inserts_in, sorted_in}
 use Rattle.zone_blocks.proofs.areas.FreeAreas.insert.Goals as goal
@@ -11,9 +10,8 @@ use Rattle.zone_blocks.proofs.areas.FreeAreas.insert.Goals as goal
 block_inside : (v w : FreeBlocks) → v ≡ w → (b : Block) → IsBlock w.frames b → IsBlock v.frames b
 block_inside v w e b h = let P : FreeBlocks → Type 0 = λ u. IsBlock u.frames b in subst P (sym e) h
 
-apart_inside : (v w : FreeBlocks) → v ≡ w → (b : Block) → ((c : Block) → Contains w.blocks c → AreDisjoint c b)
-    → (c : Block) → Contains v.blocks c → AreDisjoint c b
-apart_inside v w e b h c q = let P : FreeBlocks → Type 0 = λ u. Contains u.blocks c in h c (subst P e q)
+apart_inside : (v w : FreeBlocks) → v ≡ w → (b : Block) → (Overlaps w.blocks b → ⊥) → Overlaps v.blocks b → ⊥
+apart_inside v w e b h q = let P : FreeBlocks → Type 0 = λ u. Overlaps u.blocks b in h (subst P e q)
 
 pub place_of-place-requires : goal.place_of-place-requires
 place_of-place-requires c =

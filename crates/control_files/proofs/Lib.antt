@@ -1,0 +1,9 @@
+pub mod Runs
+pub mod GrammarLemmas
+pub mod NumberLemmas
+pub mod WordLemmas
+pub mod AmountLemmas
+pub mod ReadingLemmas
+pub mod TextLemmas
+pub mod FileLemmas
+pub mod WritingLemmas

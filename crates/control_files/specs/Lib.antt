@@ -1,0 +1,4 @@
+pub mod Files
+pub mod Limit
+pub mod Reading
+pub mod Text

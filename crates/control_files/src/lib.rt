@@ -1,0 +1,8 @@
+//! The files of a group: their names, the text of a limit read and written, and the text of each file.
+#![tactic(auto)]
+
+pub mod file;
+pub mod limit;
+#[cfg(test)]
+mod tests;
+pub mod text;

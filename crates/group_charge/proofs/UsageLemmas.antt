@@ -1,0 +1,264 @@
+-- How the usage of a group changes with a list of accounts, and that peaks cover it.
+use Rattle.std.proofs.Common.{◌≡◌, ◌≢◌, ℕ, ◌+◌, ◌-◌, ◌≤◌, Bool, true, false, not, cond, max, ◌==◌, IsTrue, All, Option, List, [], ◌∷◌, ◌++◌, map, filter, get_or, refl, sym, ap, ◌∙◌, subst, arith, ⊎_elim}
+use Rattle.std.specs.List.{sum_by, list_any}
+use Rattle.std.proofs.lemmas.Bool.{cond-true, cond-false, cases_Bool, cond_both, eqb-true, eqb-false, not-true, both_ways, false_from_ne_true}
+use Rattle.std.proofs.lemmas.List.Elements.{All-map, All-head, All-tail, All-filter, All-push, filter_passes}
+use Rattle.std.proofs.lemmas.List.Sums.{sum_by-cons, sum_by_push}
+use Rattle.group_tree.specs.declared.group.Group.{Group}
+use Rattle.group_tree.specs.Groups.{AreGroups, has_group, in_subtree, with_group, with_limit, without_group}
+use Rattle.group_tree.proofs.GroupLemmas.{CanMake}
+use Rattle.group_tree.proofs.CallerLemmas.{in_subtree-limited, in_subtree-with, in_subtree-with_new, in_subtree-without}
+use Rattle.group_charge.specs.Charges.{Account, usage_of, added, taken, peaked, noted, charged, empty_account}
+use Rattle.group_charge.proofs.SumLemmas.{share, extra, extra_once, AreDistinct, sum-plus, sum-map_same, peaked-group, added-group, taken-group}
+
+pub sum-same : (F G : Account → ℕ) (xs : List Account) → All (λ x. F x ≡ G x) xs → sum_by F xs ≡ sum_by G xs
+sum-same F G [] h = refl
+sum-same F G (x ∷ xs) h =
+    omega (arith, All-head (λ y. F y ≡ G y) x xs h, sum-same F G xs (All-tail (λ y. F y ≡ G y) x xs h), sum_by-cons F x xs, sum_by-cons G x xs)
+
+sum-minus : (F G H : Account → ℕ) (f : Account → Account) (xs : List Account) → All (λ x. G (f x) + H x ≡ F x) xs → sum_by G (map f xs) + sum_by H xs ≡ sum_by F xs
+sum-minus F G H f [] h = refl
+sum-minus F G H f (x ∷ xs) h =
+    omega (arith, All-head (λ y. G (f y) + H y ≡ F y) x xs h, sum-minus F G H f xs (All-tail (λ y. G (f y) + H y ≡ F y) x xs h), sum_by-cons F x xs, sum_by-cons G (f x) (map f xs), sum_by-cons H x xs)
+
+-- what n pages of g are to m
+abbrev pub part : List Group → ℕ → ℕ → ℕ → ℕ
+part groups m g n = cond (in_subtree groups m g) n 0
+
+share-added : (groups : List Group) (m g n : ℕ) (a : Account) → share groups m (added g n a) ≡ share groups m a + extra g (part groups m g n) a
+share-added groups m g n a =
+    ⊎_elim
+    (λ t.
+    let same : a.group ≡ g = eqb-true a.group g t in
+    let new : share groups m (added g n a) ≡ cond (in_subtree groups m a.group) (a.pages + n) 0 = ap (share groups m) (cond-true (a.group == g) (record a { pages = a.pages + n }) a t) in
+    let more : extra g (part groups m g n) a ≡ part groups m a.group n = cond-true (a.group == g) (part groups m g n) 0 t ∙ ap (λ h. part groups m h n) (sym same) in
+    ⊎_elim
+    (λ below.
+    let x : cond (in_subtree groups m a.group) (a.pages + n) 0 ≡ a.pages + n = cond-true _ (a.pages + n) 0 below in
+    let y : share groups m a ≡ a.pages = cond-true _ a.pages 0 below in
+    let z : part groups m a.group n ≡ n = cond-true _ n 0 below in
+    omega arith)
+    (λ apart.
+    let x : cond (in_subtree groups m a.group) (a.pages + n) 0 ≡ 0 = cond-false _ (a.pages + n) 0 apart in
+    let y : share groups m a ≡ 0 = cond-false _ a.pages 0 apart in
+    let z : part groups m a.group n ≡ 0 = cond-false _ n 0 apart in
+    omega arith)
+    (cases_Bool (in_subtree groups m a.group)))
+    (λ f.
+    let new : share groups m (added g n a) ≡ share groups m a = ap (share groups m) (cond-false (a.group == g) (record a { pages = a.pages + n }) a f) in
+    let more : extra g (part groups m g n) a ≡ 0 = cond-false (a.group == g) (part groups m g n) 0 f in
+    omega arith)
+    (cases_Bool (a.group == g))
+
+share-taken : (groups : List Group) (m g n : ℕ) (a : Account) → (a.group ≡ g → n ≤ a.pages) → share groups m (taken g n a) + extra g (part groups m g n) a ≡ share groups m a
+share-taken groups m g n a enough =
+    ⊎_elim
+    (λ t.
+    let same : a.group ≡ g = eqb-true a.group g t in
+    let room : n ≤ a.pages = enough same in
+    let new : share groups m (taken g n a) ≡ cond (in_subtree groups m a.group) (a.pages - n) 0 = ap (share groups m) (cond-true (a.group == g) (record a { pages = a.pages - n }) a t) in
+    let more : extra g (part groups m g n) a ≡ part groups m a.group n = cond-true (a.group == g) (part groups m g n) 0 t ∙ ap (λ h. part groups m h n) (sym same) in
+    ⊎_elim
+    (λ below.
+    let x : cond (in_subtree groups m a.group) (a.pages - n) 0 ≡ a.pages - n = cond-true _ (a.pages - n) 0 below in
+    let y : share groups m a ≡ a.pages = cond-true _ a.pages 0 below in
+    let z : part groups m a.group n ≡ n = cond-true _ n 0 below in
+    omega arith)
+    (λ apart.
+    let x : cond (in_subtree groups m a.group) (a.pages - n) 0 ≡ 0 = cond-false _ (a.pages - n) 0 apart in
+    let y : share groups m a ≡ 0 = cond-false _ a.pages 0 apart in
+    let z : part groups m a.group n ≡ 0 = cond-false _ n 0 apart in
+    omega arith)
+    (cases_Bool (in_subtree groups m a.group)))
+    (λ f.
+    let new : share groups m (taken g n a) ≡ share groups m a = ap (share groups m) (cond-false (a.group == g) (record a { pages = a.pages - n }) a f) in
+    let more : extra g (part groups m g n) a ≡ 0 = cond-false (a.group == g) (part groups m g n) 0 f in
+    omega arith)
+    (cases_Bool (a.group == g))
+
+peaked-share : (groups : List Group) (all : List Account) (g m : ℕ) (a : Account) → share groups m (peaked groups all g a) ≡ share groups m a
+peaked-share groups all g m a = cond_both (in_subtree groups a.group g) (record a { peak = max a.peak (usage_of groups all a.group) }) a (λ (x : Account). share groups m x ≡ share groups m a) (λ _. refl) (λ _. refl)
+
+pub usage-added : (groups : List Group) (xs : List Account) (g n m : ℕ) → AreDistinct xs → list_any (λ a. a.group == g) xs ≡ true → usage_of groups (map (added g n) xs) m ≡ usage_of groups xs m + part groups m g n
+unfolding usage_of
+usage-added groups xs g n m distinct there =
+    sum-plus (share groups m) (share groups m) (extra g (part groups m g n)) (added g n) xs (share-added groups m g n)
+    ∙ ap (λ k. sum_by (share groups m) xs + k) (extra_once g (part groups m g n) xs distinct there)
+
+pub usage-peaked : (groups : List Group) (all xs : List Account) (g m : ℕ) → usage_of groups (map (peaked groups all g) xs) m ≡ usage_of groups xs m
+unfolding usage_of
+usage-peaked groups all xs g m = sum-map_same (share groups m) (peaked groups all g) (peaked-share groups all g m) xs
+
+-- a charge raises the usage of the group and of all above it
+pub usage-charged : (groups : List Group) (xs : List Account) (g n m : ℕ) → AreDistinct xs → list_any (λ a. a.group == g) xs ≡ true → usage_of groups (charged groups xs g n) m ≡ usage_of groups xs m + part groups m g n
+unfolding charged
+usage-charged groups xs g n m distinct there = usage-peaked groups (map (added g n) xs) (map (added g n) xs) g m ∙ usage-added groups xs g n m distinct there
+
+-- and what is taken back lowers it
+pub usage-taken : (groups : List Group) (xs : List Account) (g n m : ℕ) → AreDistinct xs → list_any (λ a. a.group == g) xs ≡ true → All (λ a. a.group ≡ g → n ≤ a.pages) xs → usage_of groups (map (taken g n) xs) m + part groups m g n ≡ usage_of groups xs m
+unfolding usage_of
+usage-taken groups xs g n m distinct there enough =
+    ap (λ k. sum_by (share groups m) (map (taken g n) xs) + k) (sym (extra_once g (part groups m g n) xs distinct there))
+    ∙ sum-minus (share groups m) (share groups m) (extra g (part groups m g n)) (taken g n) xs (λ k d lt. share-taken groups m g n (get_or xs k d) (enough k d lt))
+
+pub part-is : (groups : List Group) (m g n u : ℕ) → u + part groups m g n ≡ cond (in_subtree groups m g) (u + n) u
+part-is groups m g n u =
+    ⊎_elim
+    (λ t. ap (λ k. u + k) (cond-true _ n 0 t) ∙ sym (cond-true _ (u + n) u t))
+    (λ f. let zero : part groups m g n ≡ 0 = cond-false _ n 0 f in let same : u + part groups m g n ≡ u = omega arith in same ∙ sym (cond-false _ (u + n) u f))
+    (cases_Bool (in_subtree groups m g))
+
+-- ---- peaks cover usage
+abbrev pub PeaksCover : List Group → List Account → Type 0
+PeaksCover groups xs = All (λ a. usage_of groups xs a.group ≤ a.peak) xs
+
+added-peak : (g n : ℕ) (a : Account) → (added g n a).peak ≡ a.peak
+added-peak g n a = cond_both (a.group == g) (record a { pages = a.pages + n }) a (λ (x : Account). x.peak ≡ a.peak) (λ _. refl) (λ _. refl)
+
+taken-peak : (g n : ℕ) (a : Account) → (taken g n a).peak ≡ a.peak
+taken-peak g n a = cond_both (a.group == g) (record a { pages = a.pages - n }) a (λ (x : Account). x.peak ≡ a.peak) (λ _. refl) (λ _. refl)
+
+pub cover_charged : (groups : List Group) (xs : List Account) (g n : ℕ) → AreDistinct xs → list_any (λ a. a.group == g) xs ≡ true → PeaksCover groups xs → PeaksCover groups (charged groups xs g n)
+unfolding charged
+cover_charged groups xs g n distinct there cover =
+    let more = map (added g n) xs in
+    let new = map (peaked groups more g) more in
+    All-map (λ x. usage_of groups new x.group ≤ x.peak) (peaked groups more g) more
+    (All-map (λ y. usage_of groups new (peaked groups more g y).group ≤ (peaked groups more g y).peak) (added g n) xs
+    (λ k d lt.
+    let a = get_or xs k d in
+    let y = added g n a in
+    let own : (peaked groups more g y).group ≡ a.group = peaked-group groups more g y ∙ added-group g n a in
+    let usage : usage_of groups new (peaked groups more g y).group ≡ usage_of groups more a.group = ap (usage_of groups new) own ∙ usage-peaked groups more more g a.group in
+    let also : usage_of groups more y.group ≡ usage_of groups more a.group = ap (usage_of groups more) (added-group g n a) in
+    let peak : y.peak ≡ a.peak = added-peak g n a in
+    let old : usage_of groups xs a.group ≤ a.peak = cover k d lt in
+    let rise : usage_of groups more a.group ≡ usage_of groups xs a.group + part groups a.group g n = usage-added groups xs g n a.group distinct there in
+    ⊎_elim
+    (λ t.
+    let top : (peaked groups more g y).peak ≡ max y.peak (usage_of groups more y.group) = ap (λ (x : Account). x.peak) (cond-true (in_subtree groups y.group g) (record y { peak = max y.peak (usage_of groups more y.group) }) y t) in
+    omega arith)
+    (λ f.
+    let top : (peaked groups more g y).peak ≡ y.peak = ap (λ (x : Account). x.peak) (cond-false (in_subtree groups y.group g) (record y { peak = max y.peak (usage_of groups more y.group) }) y f) in
+    let none : part groups a.group g n ≡ 0 = cond-false (in_subtree groups a.group g) n 0 (ap (λ h. in_subtree groups h g) (sym (added-group g n a)) ∙ f) in
+    omega arith)
+    (cases_Bool (in_subtree groups y.group g))))
+
+-- ---- lists with a smaller or an equal usage
+sum-le : (F G : Account → ℕ) (xs : List Account) → All (λ x. F x ≤ G x) xs → sum_by F xs ≤ sum_by G xs
+sum-le F G [] h = omega arith
+sum-le F G (x ∷ xs) h =
+    omega (arith, All-head (λ y. F y ≤ G y) x xs h, sum-le F G xs (All-tail (λ y. F y ≤ G y) x xs h), sum_by-cons F x xs, sum_by-cons G x xs)
+
+share-taken_le : (groups : List Group) (m g n : ℕ) (a : Account) → share groups m (taken g n a) ≤ share groups m a
+share-taken_le groups m g n a =
+    cond_both (a.group == g) (record a { pages = a.pages - n }) a (λ (x : Account). share groups m x ≤ share groups m a)
+    (λ _. ⊎_elim
+    (λ t. omega (arith, cond-true (in_subtree groups m a.group) (a.pages - n) 0 t, cond-true (in_subtree groups m a.group) a.pages 0 t))
+    (λ f. omega (arith, cond-false (in_subtree groups m a.group) (a.pages - n) 0 f))
+    (cases_Bool (in_subtree groups m a.group)))
+    (λ _. omega arith)
+
+usage-taken_le : (groups : List Group) (xs : List Account) (g n m : ℕ) → usage_of groups (map (taken g n) xs) m ≤ usage_of groups xs m
+unfolding usage_of
+usage-taken_le groups [] g n m = omega arith
+usage-taken_le groups (x ∷ xs) g n m =
+    omega (arith, usage-taken_le groups xs g n m, share-taken_le groups m g n x, sum_by-cons (share groups m) (taken g n x) (map (taken g n) xs), sum_by-cons (share groups m) x xs)
+
+pub cover_taken : (groups : List Group) (xs : List Account) (g n : ℕ) → PeaksCover groups xs → PeaksCover groups (map (taken g n) xs)
+unfolding usage_of
+cover_taken groups xs g n cover =
+    All-map (λ x. usage_of groups (map (taken g n) xs) x.group ≤ x.peak) (taken g n) xs
+    (λ k d lt.
+    let a = get_or xs k d in
+    let less : usage_of groups (map (taken g n) xs) a.group ≤ usage_of groups xs a.group = usage-taken_le groups xs g n a.group in
+    let own : usage_of groups (map (taken g n) xs) (taken g n a).group ≡ usage_of groups (map (taken g n) xs) a.group = ap (usage_of groups (map (taken g n) xs)) (taken-group g n a) in
+    omega (arith, less, own, cover k d lt, taken-peak g n a))
+
+-- ---- other trees
+-- where the same accounts lie in the subtree, the usage is the same
+usage_groups : (groups others : List Group) (xs : List Account) (m : ℕ) → All (λ a. in_subtree groups m a.group ≡ in_subtree others m a.group) xs → usage_of groups xs m ≡ usage_of others xs m
+unfolding usage_of
+usage_groups groups others xs m h = sum-same (share groups m) (share others m) xs (λ k d lt. ap (λ b. cond b (get_or xs k d).pages 0) (h k d lt))
+
+pub cover_limited : (groups : List Group) (xs : List Account) (g : ℕ) (limit : Option ℕ) → PeaksCover groups xs → PeaksCover (with_limit groups g limit) xs
+cover_limited groups xs g limit cover = λ k d lt.
+    let a = get_or xs k d in
+    omega (arith, cover k d lt, usage_groups (with_limit groups g limit) groups xs a.group (λ j e h. in_subtree-limited groups g a.group (get_or xs j e).group limit))
+
+pub cover_noted : (groups : List Group) (xs : List Account) (g : ℕ) → PeaksCover groups xs → PeaksCover groups (map (noted groups g) xs)
+unfolding usage_of
+cover_noted groups xs g cover =
+    All-map (λ x. usage_of groups (map (noted groups g) xs) x.group ≤ x.peak) (noted groups g) xs
+    (λ k d lt. let a = get_or xs k d in omega (arith, cover k d lt, sum-map_same (share groups a.group) (noted groups g) (λ x. refl) xs))
+
+sum-filter_le : (F G : Account → ℕ) (p : Account → Bool) (xs : List Account) → All (λ x. p x ≡ true → F x ≤ G x) xs → sum_by F (filter p xs) ≤ sum_by G xs
+sum-filter_le F G p [] h = omega arith
+sum-filter_le F G p (x ∷ xs) h =
+    let rest = sum-filter_le F G p xs (All-tail (λ y. p y ≡ true → F y ≤ G y) x xs h) in
+    let whole = sum_by-cons G x xs in
+    ⊎_elim
+    (λ t.
+    let here : F x ≤ G x = All-head (λ y. p y ≡ true → F y ≤ G y) x xs h t in
+    let sum = sum_by-cons F x (filter p xs) in
+    subst (λ b. sum_by F (cond b (x ∷ filter p xs) (filter p xs)) ≤ sum_by G (x ∷ xs)) (sym t) (omega arith))
+    (λ f. subst (λ b. sum_by F (cond b (x ∷ filter p xs) (filter p xs)) ≤ sum_by G (x ∷ xs)) (sym f) (omega arith))
+    (cases_Bool (p x))
+
+pub cover_removed : (groups : List Group) (xs : List Account) (g : ℕ) → PeaksCover groups xs → PeaksCover (without_group groups g) (filter (λ a. not (a.group == g)) xs)
+unfolding usage_of
+cover_removed groups xs g cover =
+    let test : Account → Bool = λ a. not (a.group == g) in
+    let kept : All (λ a. usage_of groups xs a.group ≤ a.peak) (filter test xs) = All-filter test (λ a. usage_of groups xs a.group ≤ a.peak) xs cover in
+    let others : All (λ a. test a ≡ true) (filter test xs) = filter_passes test xs in
+    λ k d lt.
+    let a = get_or (filter test xs) k d in
+    let apart : a.group ≢ g = eqb-false a.group g (not-true (a.group == g) (others k d lt)) in
+    let less : sum_by (share (without_group groups g) a.group) (filter test xs) ≤ sum_by (share groups a.group) xs =
+    sum-filter_le (share (without_group groups g) a.group) (share groups a.group) test xs
+    (λ j e h t.
+    let x = get_or xs j e in
+    let other : x.group ≢ g = eqb-false x.group g (not-true (x.group == g) t) in
+    let same : share (without_group groups g) a.group x ≡ share groups a.group x = ap (λ b. cond b x.pages 0) (in_subtree-without groups g a.group x.group apart other) in
+    omega arith) in
+    omega (arith, less, kept k d lt)
+
+sum-zero : (xs : List Account) → sum_by (λ _. 0) xs ≡ 0
+sum-zero [] = refl
+sum-zero (x ∷ xs) = omega (arith, sum-zero xs, sum_by-cons (λ (_ : Account). 0) x xs)
+
+usage-push_empty : (groups : List Group) (xs : List Account) (n m : ℕ) → usage_of groups (xs ++ empty_account n ∷ []) m ≡ usage_of groups xs m
+unfolding usage_of
+usage-push_empty groups xs n m =
+    let none : share groups m (empty_account n) ≡ 0 = cond_both (in_subtree groups m n) 0 0 (λ x. x ≡ 0) (λ _. refl) (λ _. refl) in
+    omega (arith, sum_by_push (share groups m) xs (empty_account n))
+
+-- the usage of a new group is 0, and that of the others is as before
+pub usage-new : (groups : List Group) (xs : List Account) (n : ℕ) (path : List ℕ) → AreGroups groups → CanMake groups path → has_group groups n ≡ false → All (λ a. IsTrue (has_group groups a.group)) xs → usage_of (with_group groups n path) (xs ++ empty_account n ∷ []) n ≡ 0
+unfolding usage_of
+usage-new groups xs n path facts can free known =
+    usage-push_empty (with_group groups n path) xs n n
+    ∙ sum-same (share (with_group groups n path) n) (λ _. 0) xs
+    (λ k d lt.
+    let a = get_or xs k d in
+    let out : in_subtree (with_group groups n path) n a.group ≡ false =
+    false_from_ne_true (in_subtree (with_group groups n path) n a.group) (λ t.
+    both_ways (has_group groups n) free (ap (has_group groups) (sym (in_subtree-with_new groups n a.group path facts can free t)) ∙ known k d lt)) in
+    cond-false (in_subtree (with_group groups n path) n a.group) a.pages 0 out)
+    ∙ sum-zero xs
+
+pub usage-new_other : (groups : List Group) (xs : List Account) (n m : ℕ) (path : List ℕ) → has_group groups n ≡ false → All (λ a. IsTrue (has_group groups a.group)) xs → m ≢ n → usage_of (with_group groups n path) (xs ++ empty_account n ∷ []) m ≡ usage_of groups xs m
+usage-new_other groups xs n m path free known other =
+    usage-push_empty (with_group groups n path) xs n m
+    ∙ usage_groups (with_group groups n path) groups xs m
+    (λ k d lt. in_subtree-with groups n m (get_or xs k d).group path other
+    (λ same. both_ways (has_group groups n) free (ap (has_group groups) (sym same) ∙ known k d lt)))
+
+pub cover_new : (groups : List Group) (xs : List Account) (n : ℕ) (path : List ℕ) → AreGroups groups → CanMake groups path → has_group groups n ≡ false → All (λ a. IsTrue (has_group groups a.group)) xs → PeaksCover groups xs → PeaksCover (with_group groups n path) (xs ++ empty_account n ∷ [])
+cover_new groups xs n path facts can free known cover =
+    All-push (λ a. usage_of (with_group groups n path) (xs ++ empty_account n ∷ []) a.group ≤ a.peak) xs (empty_account n)
+    (λ k d lt.
+    let a = get_or xs k d in
+    let other : a.group ≢ n = λ same. both_ways (has_group groups n) free (ap (has_group groups) (sym same) ∙ known k d lt) in
+    omega (arith, cover k d lt, usage-new_other groups xs n a.group path free known other))
+    (omega (arith, usage-new groups xs n path facts can free known))

@@ -1,0 +1,88 @@
+use crate::buddy::Buddy;
+use rand_core::{Rng, SeedableRng};
+use rand_pcg::Pcg32;
+use std::alloc::{AllocError, Global};
+use std::process::Abort;
+use std::test::Fail;
+use zone_blocks::areas::FreeAreas;
+use zone_blocks::block::Block;
+use zone_blocks::order::Order;
+use zone_blocks::walk::Walk;
+
+// The walk, as pairs of order and address.
+fn pairs_of(alloc: Global, walk: Walk<'_>) -> Result<Vec<(u32, u32)>, AllocError> {
+    let mut pairs = Vec::new(alloc);
+    for block in walk {
+        pairs.push((block.order.exponent(), block.at))?;
+    }
+    Ok(pairs)
+}
+
+#[test]
+fn sixteen_frames_one_by_one(rt: HostRuntime) -> Result<(), Fail> {
+    let single = Order::of(0).ok_or("order 0")?;
+    let mut zone = Buddy::new(rt.alloc(), 16)?;
+    for at in 0..16 {
+        assert_eq!(rt; zone.take(single), Some(Block { at, order: single }));
+    }
+    assert!(rt; zone.take(single).is_none());
+    for at in [7, 0, 12, 3, 15, 8, 1, 14, 6, 9, 2, 11, 5, 10, 4, 13] {
+        assert!(rt; zone.is_in_use(Block { at, order: single }));
+        zone.give(Block { at, order: single });
+    }
+    let pairs = pairs_of(rt.alloc(), zone.blocks())?;
+    assert_eq!(rt; pairs.as_slice(), [(4, 0)].as_slice());
+    Ok(())
+}
+
+// Marks so many frames from `at` on as free or in use.
+fn mark(free: &mut [bool], at: u32, frames: u32, is_free: bool) {
+    let start = at as usize;
+    let end = start + frames as usize;
+    for (number, frame) in free.iter_mut().enumerate() {
+        if start <= number && number < end {
+            *frame = is_free;
+        }
+    }
+}
+
+// By a random word takes a block, or gives one of those held, and notes which frames are free.
+fn take_or_give(
+    rt: &impl Abort,
+    zone: &mut Buddy,
+    held: &mut Vec<(u32, Order)>,
+    free: &mut [bool],
+    word: u32,
+) -> Result<(), AllocError> {
+    if word % 2 == 0 || held.is_empty() {
+        let order = Order::of(word / 2 % 7).unwrap();
+        if let Some(block) = zone.take(order) {
+            mark(free, block.at, order.frames(), false);
+            held.push((block.at, order))?;
+        }
+    } else {
+        let index = word as usize / 2 % held.len();
+        let (at, order) = held.swap_remove(index);
+        assert!(rt; zone.is_in_use(Block { at, order }));
+        zone.give(Block { at, order });
+        mark(free, at, order.frames(), true);
+    }
+    Ok(())
+}
+
+#[test]
+fn take_and_give_agree_with_the_areas_of_the_frames(rt: HostRuntime) -> Result<(), Fail> {
+    let mut random = Pcg32::seed_from_u64(2_025);
+    let mut zone = Buddy::new(rt.alloc(), 1_000)?;
+    let mut plain = FreeAreas::new(rt.alloc(), 1_000)?;
+    let mut held = Vec::new(rt.alloc());
+    let mut free = [true; 1_000];
+    for _ in 0..3_000 {
+        take_or_give(&rt, &mut zone, &mut held, &mut free, random.next_u32())?;
+        plain.set_from(&free);
+        let found = pairs_of(rt.alloc(), zone.blocks())?;
+        let wanted = pairs_of(rt.alloc(), plain.walk())?;
+        assert!(rt; found.as_slice() == wanted.as_slice());
+    }
+    Ok(())
+}
