@@ -88,14 +88,73 @@ fn whole(rest: &[u8]) -> Script<'_> {
     }
 }
 
+// Whether the script is run to the end and answered so.
+fn answers<R: AllocGlobal>(rt: &R, script: &[u8], expected: &[u8]) -> bool {
+    let outcome = run(rt, &SINGLE, whole(script), 10_000);
+    outcome.status == 0 && outcome.output.as_slice() == expected && outcome.faults.is_empty()
+}
+
 #[test]
-fn runs_a_script(rt: HostRuntime) {
+fn answers_each_command(rt: HostRuntime) {
     let script = b"1 mkdir /a\n1 alloc /a 0\n1 show";
-    let outcome = run(&rt, &SINGLE, whole(script.as_slice()), 10_000);
-    assert_eq!(rt; outcome.status, 0);
-    let answers = b"group 1\nframe 0\n0 /a\n1-15 free\ncurrent /a 4096\n";
-    assert!(rt; outcome.output.as_slice() == answers.as_slice());
-    assert!(rt; outcome.faults.is_empty());
+    let expected = b"group 1\nframe 0\n0 /a\n1-15 free\ncurrent /a 4096\n";
+    assert!(rt; answers(&rt, script.as_slice(), expected.as_slice()));
+}
+
+#[test]
+fn refuses_paths_as_the_tree_does(rt: HostRuntime) {
+    let script =
+        b"1 mkdir /user@1000.service\n1 mkdir /..\n1 mkdir /a/a/a/a/a/a/a/a/a\n1 alloc /b 0\n";
+    let expected = b"group 1\nrefused 3 BadName\nrefused 5 TooDeep\nrefused 6 NoGroup\n";
+    assert!(rt; answers(&rt, script.as_slice(), expected.as_slice()));
+}
+
+#[test]
+fn refuses_a_path_of_more_than_512_bytes(rt: HostRuntime) -> Result<(), Fail> {
+    let alloc = rt.alloc();
+    let path = vec![in alloc; b'/'; 513]?;
+    let mut script = b"1 mkdir ".to_vec(alloc)?;
+    script.extend_from_slice(&path)?;
+    script.extend_from_slice(b"\n1 alloc ".as_slice())?;
+    script.extend_from_slice(&path)?;
+    script.extend_from_slice(b" 0\n".as_slice())?;
+    assert!(rt;
+        answers(
+            &rt,
+            &script,
+            b"refused 3 BadName\nrefused 6 NoGroup\n".as_slice()
+        )
+    );
+    Ok(())
+}
+
+#[test]
+fn refuses_a_frame_where_none_is_free(rt: HostRuntime) {
+    let words = [
+        "replay",
+        "--frames=1",
+        "--cpus=1",
+        "--batch=1",
+        "--high=1",
+        "--stock=1",
+    ];
+    let script = b"1 alloc / 0\n1 alloc / 0\n1 alloc /a 0\n1 show\n";
+    let outcome = run(&rt, &words, whole(script.as_slice()), 10_000);
+    let expected = b"frame 0\nrefused 16 NoFrames\nrefused 6 NoGroup\n0 /\n";
+    assert!(rt; outcome.output.as_slice() == expected.as_slice());
+}
+
+#[test]
+fn tells_a_script_that_is_cut(rt: HostRuntime) {
+    let outcome = run(
+        &rt,
+        &SINGLE,
+        whole(b"1 mkdir /a\n1 alloc /a".as_slice()),
+        10_000,
+    );
+    assert_eq!(rt; outcome.status, 2);
+    assert!(rt; outcome.output.is_empty());
+    assert!(rt; outcome.faults.as_slice() == b"bad line 2\n".as_slice());
 }
 
 #[test]
@@ -113,7 +172,7 @@ fn tells_a_bad_line_before_a_bad_configuration(rt: HostRuntime) {
 
 #[test]
 fn refuses_a_configuration_after_the_script(rt: HostRuntime) {
-    let words = ["replay", "--cpus=1", "--batch=2", "--high=1", "--stock=1"];
+    let words = ["replay", "--cpus=1", "--batch=4", "--high=2", "--stock=1"];
     let outcome = run(&rt, &words, whole(b"".as_slice()), 10_000);
     assert_eq!(rt; outcome.status, 2);
     assert!(rt; outcome.output.is_empty());
