@@ -8,7 +8,7 @@ ghost use Rattle.load_run.specs.Replay.{IsSameMachine, IsStepped, PlacesBlock, S
 
 use crate::line::{Command, Line};
 use crate::reply::Reply;
-use crate::show::write_show;
+use crate::show::{write_blocks, write_show};
 use group_tree::fault::Fault;
 use group_tree::group::GroupId;
 use group_tree::path::PathText;
@@ -53,6 +53,7 @@ fn run_line(
     let reply = match line.command {
         Command::Mkdir { path } => make_group(core, line.processor, path),
         Command::Alloc { path, order } => take_block(core, line.processor, path, order),
+        Command::Blocks => return write_blocks(core, answers),
         Command::Show => return write_show(core, frames, answers),
     };
     writeln!(answers, "{reply}")
@@ -146,9 +147,6 @@ fn take_block(core: &mut Core, seat: u32, path: &[u8], order: u32) -> Reply
     let Some(order) = Order::of(order) else {
         return Reply::Refused(Fault::BadOrder);
     };
-    if core.areas().walk().next().is_none() {
-        return Reply::Refused(Fault::NoFrames);
-    }
     lock(core, seat);
     let reply = place_under_lock(core, group, order);
     unlock(core, seat);
