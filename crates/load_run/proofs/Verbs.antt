@@ -34,8 +34,8 @@ named_in : (commands : List (List ℕ × Verb)) (text : List ℕ) (v : Verb) →
 named_in [] text v names e = cc
 named_in (c ∷ cs) text v names e =
     elim (found text c v _ (pointwise nat_eq text c.0) refl e) [
-    | inl h ↦ h.0 ∙ names.0 ∙ ap name_of h.1
-    | inr later ↦ named_in cs text v names.1 later
+      | inl h ↦ h.0 ∙ names.0 ∙ ap name_of h.1
+      | inr later ↦ named_in cs text v names.1 later
     ]
 
 -- a text that names a command is its name

@@ -18,7 +18,9 @@ use mem_core::zone::{Core, ZONE_SEAT};
 use std::alloc::{AllocError, Global};
 use zone_blocks::order::Order;
 
-/// Runs the lines and gives their answers, each ended by a line feed.
+/// Runs the lines in a new core, in their order, and gives their answers, each ended by a line feed.
+///
+/// Until the core has several processors, 1 is the only one. It fails only for want of memory.
 pub fn replay_lines(
     alloc: Global,
     config: Config,
