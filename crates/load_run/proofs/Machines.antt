@@ -62,17 +62,6 @@ same_block s u v t g k (Refused NoFrames) free before after placed =
     (subst P free placed.0, λ f p. after f p ∙ placed.1 f p ∙ before f p)
 same_block s u v t g k reply free before after placed = absurd placed
 
-contains_none : (b : Block) → Contains [] b → ⊥
-contains_none b there = absurd (omega arith)
-
--- no block is free where there is no maximal free block
-pub none_free : (free : List Bool) → AreMaximalBlocks free [] → (b : Block) → ¬ IsFreeBlock free b
-none_free free maximal b is =
-    let positive = pow_pos b.order in
-    let first = is.all_free b.at (record { from = omega arith; before = omega arith }) in
-    let one = in_one_block free [] maximal b.at first in
-    contains_none one.0 one.1
-
 -- a block was placed where pages were granted for it
 pub block_placed : (s u t : State) (g k n : ℕ) (b : Block) → IsSound s → n ≡ 2 ^ k → IsGranted u g n → IsSameMachine s u → IsReached t → IsStepped u 0 (PlaceBlock g k) (Placed b) t → PlacesBlock s t g k (Frame b.at)
 block_placed s u t g k n b sound is granted same reached step =
@@ -98,11 +87,6 @@ no_block_placed s u v t g k n NoFreeBlock back sound is granted same other reach
 no_block_placed s u v t g k n answer back sound is granted same other reached step after last =
     let P : ℕ → Type 0 = λ m. IsGranted u g m in
     absurd ((places u v g k answer (subst P is granted) reached step).0)
-
--- a walk that gives nothing had nothing left
-pub none_left : (xs ys : List Block) (r : Option Block) → YieldsFirst (λ blocks. blocks) xs r ys → is_some r ≡ false → xs ≡ []
-none_left xs ys None steps e = steps.0
-none_left xs ys (Some b) steps e = absurd (false≢true (sym e))
 
 -- what placing a block tells is what `alloc` is answered, where the group and the order are there
 pub alloc_answered : (s t : State) (path : List ℕ) (k g : ℕ) (reply : Reply) → number_at s.groups path ≡ Some g → k ≤ 10 → t.groups ≡ s.groups → PlacesBlock s t g k reply → AnswersAlloc s t path k reply

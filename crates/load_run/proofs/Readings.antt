@@ -1,8 +1,8 @@
 -- What a text says, once it is cut at its first space.
-use Rattle.std.proofs.Common.{◌≡◌, ℕ, List, ◌∷◌, ◌++◌, Option, None, Some, MatchOption, subst, sym, ap, ◌∙◌, codes}
+use Rattle.std.proofs.Common.{◌≡◌, ℕ, List, ◌∷◌, ◌++◌, Option, None, Some, MatchOption, ◌⊎◌, inl, inr, subst, sym, ap, ◌∙◌, codes}
 use Rattle.load_run.specs.Script.{IsAllocText, IsCommandText, IsCut, IsLineText, IsPathText, WritesNumber}
 use Rattle.load_run.specs.declared.line.Command.{Command}
-use Rattle.load_run.specs.declared.line.Command.TheVariants.{Mkdir, Alloc, Show}
+use Rattle.load_run.specs.declared.line.Command.TheVariants.{Mkdir, Alloc, Blocks, Show}
 use Rattle.load_run.specs.declared.line.Line.{Line}
 use Rattle.load_run.specs.Verb.{verb_named}
 use Rattle.load_run.specs.declared.verb.Verb.{Verb}
@@ -19,12 +19,12 @@ pub alloc_has_space : (text : List ℕ) → NoSpace text → (path : List ℕ) (
 alloc_has_space text none path order is = no_cut text path is.digits none is.parts
 
 -- the arguments of `alloc` are the parts of the cut
-pub alloc_parts : (text w r : List ℕ) → IsCut text w r → (path : List ℕ) (order : ℕ) → IsAllocText path order text → IsPathText w × WritesNumber r order × (order ≡ 0)
+pub alloc_parts : (text w r : List ℕ) → IsCut text w r → (path : List ℕ) (order : ℕ) → IsAllocText path order text → IsPathText w × WritesNumber r order
 alloc_parts text w r cut path order is =
     let same = cut_once text w r path is.digits cut (path_no_space path is.path_text) is.parts in
     let is_path : IsPathText w = rw same.0 is.path_text in
     let is_number : WritesNumber r order = rw same.1 is.writes in
-    (is_path, is_number, is.single)
+    (is_path, is_number)
 
 -- a line has a space
 pub line_has_space : (cpus : ℕ) (text : List ℕ) → NoSpace text → (line : Line) → ¬ IsLineText cpus line text
@@ -42,6 +42,7 @@ line_parts cpus text w r cut line is =
 abbrev pub HasCommandParts : Command → List ℕ → List ℕ → Type 0
 HasCommandParts (Mkdir path) w r = (w ≡ codes "mkdir") × IsPathText r
 HasCommandParts (Alloc path order) w r = (w ≡ codes "alloc") × IsAllocText path.now order r
+HasCommandParts Blocks w r = ⊥
 HasCommandParts Show w r = ⊥
 
 pub command_parts : (text w r : List ℕ) → IsCut text w r → (command : Command) → IsCommandText command text → HasCommandParts command w r
@@ -53,18 +54,21 @@ command_parts text w r cut (Alloc path order) is =
     let same = cut_once text w r (codes "alloc") is.0 cut (name_no_space verb.Alloc) is.1 in
     let is_alloc : IsAllocText path.now order r = rw same.1 is.2 in
     (same.0, is_alloc)
+command_parts text w r cut Blocks is = no_cut (codes "blocks") w r (name_no_space verb.Blocks) (sym is ∙ cut.parts)
 command_parts text w r cut Show is = no_cut (codes "show") w r (name_no_space verb.Show) (sym is ∙ cut.parts)
 
--- a command without a space is `show`
-pub command_alone : (text : List ℕ) → NoSpace text → (command : Command) → IsCommandText command text → text ≡ codes "show"
+-- a command without a space is `blocks` or `show`
+pub command_alone : (text : List ℕ) → NoSpace text → (command : Command) → IsCommandText command text → (verb_named text ≡ Some verb.Blocks) ⊎ (verb_named text ≡ Some verb.Show)
 command_alone text none (Mkdir path) is = absurd (no_cut text (codes "mkdir") path.now none is.1)
 command_alone text none (Alloc path order) is = absurd (no_cut text (codes "alloc") is.0 none is.1)
-command_alone text none Show is = is
+command_alone text none Blocks is = inl (ap verb_named is)
+command_alone text none Show is = inr (ap verb_named is)
 
 -- the word before the first space is the name of the command
 pub command_named : (text w r : List ℕ) → IsCut text w r → (command : Command) → IsCommandText command text → (v : Verb) × (verb_named w ≡ Some v)
 command_named text w r cut (Mkdir path) is = (verb.Mkdir, ap verb_named (command_parts text w r cut (Mkdir path) is).0)
 command_named text w r cut (Alloc path order) is = (verb.Alloc, ap verb_named (command_parts text w r cut (Alloc path order) is).0)
+command_named text w r cut Blocks is = absurd (command_parts text w r cut Blocks is)
 command_named text w r cut Show is = absurd (command_parts text w r cut Show is)
 
 -- after `alloc` stand the arguments of `alloc`
@@ -72,4 +76,5 @@ pub no_alloc : (text w r : List ℕ) → IsCut text w r → verb_named w ≡ Som
 no_alloc text w r cut e none (Mkdir path) is =
     let h : verb_named w ≡ Some verb.Mkdir = ap verb_named (command_parts text w r cut (Mkdir path) is).0 in cc
 no_alloc text w r cut e none (Alloc path order) is = none path.now order (command_parts text w r cut (Alloc path order) is).1
+no_alloc text w r cut e none Blocks is = command_parts text w r cut Blocks is
 no_alloc text w r cut e none Show is = command_parts text w r cut Show is

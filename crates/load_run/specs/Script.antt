@@ -4,7 +4,7 @@ use Rattle.std.specs.List.{AllZip, slice_split}
 use Rattle.std.specs.Str.Parse.{IsNumeral, digits_value}
 use Rattle.load_run.specs.declared.line.Line.{Line}
 use Rattle.load_run.specs.declared.line.Command.{Command}
-use Rattle.load_run.specs.declared.line.Command.TheVariants.{Mkdir, Alloc, Show}
+use Rattle.load_run.specs.declared.line.Command.TheVariants.{Mkdir, Alloc, Blocks, Show}
 use Rattle.load_run.specs.declared.fault.ScriptFault.{ScriptFault}
 use Rattle.load_run.specs.declared.fault.ScriptFault.TheVariants.{BadLine, NoMemory}
 
@@ -28,18 +28,18 @@ pub record WritesNumber (text : List ℕ) (n : ℕ) : Type 0 where
   pub value : digits_value 10 text ≡ n
   pub fits : n < 2 ^ 32
 
--- `PATH ORDER`, of which the order is 0
+-- `PATH ORDER`
 pub record IsAllocText (path : List ℕ) (order : ℕ) (text : List ℕ) : Type 0 where
   pub digits : List ℕ
   pub parts : text ≡ path ++ 32 ∷ digits
   pub path_text : IsPathText path
   pub writes : WritesNumber digits order
-  pub single : order ≡ 0
 
--- `mkdir PATH`, `alloc PATH ORDER` or `show`
+-- `mkdir PATH`, `alloc PATH ORDER`, `blocks` or `show`
 abbrev pub IsCommandText : Command → List ℕ → Type 0
 IsCommandText (Mkdir path) text = IsPathText path.now × (text ≡ codes "mkdir" ++ 32 ∷ path.now)
 IsCommandText (Alloc path order) text = (arguments : List ℕ) × (text ≡ codes "alloc" ++ 32 ∷ arguments) × IsAllocText path.now order arguments
+IsCommandText Blocks text = text ≡ codes "blocks"
 IsCommandText Show text = text ≡ codes "show"
 
 -- `P COMMAND`, where P is the number of one of so many processors

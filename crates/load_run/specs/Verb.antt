@@ -1,17 +1,19 @@
 -- The names of the commands.
-use Rattle.std.specs.Prelude.{◌≡◌, ℕ, List, Option, Some, None, codes, if◌then◌else◌, nat_eq}
+use Rattle.std.specs.Prelude.{◌≡◌, ℕ, List, [], ◌∷◌, Option, codes, nat_eq}
 use Rattle.std.specs.Cmp.Lexicographic.{pointwise}
 use Rattle.std.specs.HashMap.{HashMap, get_by}
+use Rattle.std.specs.Map.{lookup}
 use Rattle.std.specs.Borrow.{Bor}
 use Rattle.load_run.specs.declared.verb.Verb.{Verb}
-use Rattle.load_run.specs.declared.verb.Verb.TheVariants.{Mkdir, Alloc, Show}
+use Rattle.load_run.specs.declared.verb.Verb.TheVariants.{Mkdir, Alloc, Blocks, Show}
+
+-- the names of the commands, each with its command
+abbrev pub named_commands : List (List ℕ × Verb)
+named_commands = (codes "mkdir", Mkdir) ∷ (codes "alloc", Alloc) ∷ (codes "blocks", Blocks) ∷ (codes "show", Show) ∷ []
 
 -- the command of this name
 abbrev pub verb_named : List ℕ → Option Verb
-verb_named name = if pointwise nat_eq name (codes "mkdir") then Some Mkdir
-    else if pointwise nat_eq name (codes "alloc") then Some Alloc
-    else if pointwise nat_eq name (codes "show") then Some Show
-    else None
+verb_named name = lookup (λ key. pointwise nat_eq name key) named_commands
 
 -- the table has each command at its name, and no other name
 abbrev pub IsNames : {S : Type 0} → HashMap (Bor (List ℕ)) Verb S → Type 0

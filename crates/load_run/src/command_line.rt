@@ -13,7 +13,8 @@ use std::convert::AsStr;
 use std::rt::Env;
 use std::{env, io};
 
-/// The words of the command line that follow the program's name. They have to be text.
+/// The words of the command line that follow the program's name. A word that isn't UTF-8 is a fault of the
+/// words.
 pub fn words<R: Env + AllocGlobal>(rt: &R) -> Result<Vec<String>, LineFault> {
     match env::args(rt) {
         Ok(words) => Ok(words.skip(1).collect(rt.alloc())?),
@@ -27,7 +28,9 @@ pub fn words<R: Env + AllocGlobal>(rt: &R) -> Result<Vec<String>, LineFault> {
     }
 }
 
-/// Reads the words that follow the program's name.
+/// Reads the words that follow the program's name: `replay`, and then any of `--frames`, `--cpus`, `--batch`,
+/// `--high` and `--stock`, each at most once, with a whole number in its range. One that is left out is 16, 2,
+/// 4, 8, 4 in turn. Anything else is a fault of the words, a request for help too.
 pub fn options<S: AsStr>(alloc: Global, words: &[S]) -> Result<Options, LineFault>
     ensures in_range { IfOk result (λ options. HasSizesInRange options.config) }
 {

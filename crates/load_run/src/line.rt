@@ -17,6 +17,8 @@ pub enum Command<'a> {
     Mkdir { path: &'a [u8] },
     /// Takes a block of 2^order frames, charged to the group of this path.
     Alloc { path: &'a [u8], order: u32 },
+    /// Tells the blocks of the zone's free areas.
+    Blocks,
     /// Tells the place of every frame and the usage of every group.
     Show,
 }

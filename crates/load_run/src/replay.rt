@@ -8,7 +8,7 @@ ghost use Rattle.load_run.specs.Replay.{IsSameMachine, IsStepped, PlacesBlock, S
 
 use crate::line::{Command, Line};
 use crate::reply::Reply;
-use crate::show::write_show;
+use crate::show::{write_blocks, write_show};
 use group_tree::fault::Fault;
 use group_tree::group::GroupId;
 use group_tree::path::PathText;
@@ -18,7 +18,9 @@ use mem_core::zone::{Core, ZONE_SEAT};
 use std::alloc::{AllocError, Global};
 use zone_blocks::order::Order;
 
-/// Runs the lines and gives their answers, each ended by a line feed.
+/// Runs the lines in a new core, in their order, and gives their answers, each ended by a line feed.
+///
+/// Until the core has several processors, 1 is the only one. It fails only for want of memory.
 pub fn replay_lines(
     alloc: Global,
     config: Config,
@@ -53,6 +55,7 @@ fn run_line(
     let reply = match line.command {
         Command::Mkdir { path } => make_group(core, line.processor, path),
         Command::Alloc { path, order } => take_block(core, line.processor, path, order),
+        Command::Blocks => return write_blocks(core, answers),
         Command::Show => return write_show(core, frames, answers),
     };
     writeln!(answers, "{reply}")
@@ -146,9 +149,6 @@ fn take_block(core: &mut Core, seat: u32, path: &[u8], order: u32) -> Reply
     let Some(order) = Order::of(order) else {
         return Reply::Refused(Fault::BadOrder);
     };
-    if core.areas().walk().next().is_none() {
-        return Reply::Refused(Fault::NoFrames);
-    }
     lock(core, seat);
     let reply = place_under_lock(core, group, order);
     unlock(core, seat);

@@ -110,6 +110,7 @@ fn parse_command<'a>(names: &Names, text: &'a [u8]) -> Option<Command<'a>>
 {
     match first_word(text) {
         None => match verb_of(names, text)? {
+            Verb::Blocks => Some(Command::Blocks),
             Verb::Show => Some(Command::Show),
             Verb::Mkdir | Verb::Alloc => None,
         },
@@ -121,25 +122,19 @@ fn parse_command<'a>(names: &Names, text: &'a [u8]) -> Option<Command<'a>>
                 let (path, order) = parse_alloc(arguments)?;
                 Some(Command::Alloc { path, order })
             }
-            Verb::Show => None,
+            Verb::Blocks | Verb::Show => None,
         },
     }
 }
 
-// The path and the order, which so far is 0.
+// The path and the order.
 fn parse_alloc(arguments: &[u8]) -> Option<(&[u8], u32)>
     ensures { MatchOption result
         ((path : List ℕ) (order : ℕ) → ¬ IsAllocText path order arguments.now)
         (λ p. IsAllocText p.0.now p.1 arguments.now) }
 {
     let (path, order) = first_word(arguments)?;
-    let path = path_of(path)?;
-    let order = number(order)?;
-    if order == 0 {
-        Some((path, order))
-    } else {
-        None
-    }
+    Some((path_of(path)?, number(order)?))
 }
 
 // What stands before the first space, and what stands after it. None where there is no space.

@@ -1,4 +1,4 @@
-//! The text that `show` is answered.
+//! The texts that `show` and `blocks` are answered.
 
 ghost use Rattle.std.specs.Prelude.{◌≡◌, ◌*◌, ◌<◌, None, true};
 ghost use Rattle.group_tree.specs.Groups.{has_group};
@@ -30,6 +30,25 @@ pub fn write_show(core: &Core, frames: u32, text: &mut String) -> Result<(), All
         }
     }
     Ok(())
+}
+
+/// Adds a line with each free block, its order and its first frame, by order and then by address; `none` where
+/// there is none.
+pub fn write_blocks(core: &Core, text: &mut String) -> Result<(), AllocError> {
+    let mut is_first = true;
+    for block in core.areas().walk() {
+        if !is_first {
+            text.push(' ')?;
+        }
+        is_first = false;
+        let order = block.order.exponent();
+        let at = block.at;
+        write!(text, "{order}:{at}")?;
+    }
+    if is_first {
+        text.push_str("none")?;
+    }
+    text.push('\n')
 }
 
 // The memory now used by a group and its descendants, in bytes.

@@ -11,6 +11,7 @@ use std::alloc::{AllocError, Global};
 pub enum Verb {
     Mkdir,
     Alloc,
+    Blocks,
     Show,
 }
 
@@ -23,6 +24,7 @@ pub fn command_names(alloc: Global) -> Result<Names, AllocError>
     let mut names = IndexMap::new(alloc);
     names.insert(b"mkdir".as_slice(), Verb::Mkdir)?;
     names.insert(b"alloc".as_slice(), Verb::Alloc)?;
+    names.insert(b"blocks".as_slice(), Verb::Blocks)?;
     names.insert(b"show".as_slice(), Verb::Show)?;
     Ok(names)
 }

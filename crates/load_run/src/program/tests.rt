@@ -102,6 +102,50 @@ fn answers_each_command(rt: HostRuntime) {
 }
 
 #[test]
+fn takes_blocks_of_every_order(rt: HostRuntime) {
+    let script =
+        b"1 blocks\n1 mkdir /a\n1 alloc /a 0\n1 alloc /a 2\n1 blocks\n1 alloc /a 3\n1 blocks\n";
+    let expected = b"4:0\ngroup 1\nframe 0\nframe 4\n0:1 1:2 3:8\nframe 8\n0:1 1:2\n";
+    assert!(rt; answers(&rt, script.as_slice(), expected.as_slice()));
+}
+
+#[test]
+fn refuses_orders_before_frames(rt: HostRuntime) {
+    let words = [
+        "replay",
+        "--frames=11",
+        "--cpus=1",
+        "--batch=1",
+        "--high=1",
+        "--stock=1",
+    ];
+    let script =
+        b"1 mkdir /a\n1 alloc /a 4\n1 alloc /a 11\n1 alloc /b 11\n1 alloc /a 4294967295\n1 blocks\n1 show\n";
+    let outcome = run(&rt, &words, whole(script.as_slice()), 10_000);
+    let refused =
+        b"group 1\nrefused 16 NoFrames\nrefused 19 BadOrder\nrefused 6 NoGroup\nrefused 19 BadOrder\n";
+    let shown = b"0:10 1:8 3:0\n0-10 free\ncurrent /a 0\n";
+    assert!(rt; outcome.output.starts_with(refused.as_slice()));
+    assert!(rt; outcome.output.ends_with(shown.as_slice()));
+    assert_eq!(rt; outcome.output.len(), refused.len() + shown.len());
+}
+
+#[test]
+fn has_blocks_of_order_ten(rt: HostRuntime) {
+    let words = [
+        "replay",
+        "--frames=1024",
+        "--cpus=1",
+        "--batch=1",
+        "--high=1",
+        "--stock=1",
+    ];
+    let script = b"1 alloc / 10\n1 blocks\n1 alloc / 0\n";
+    let outcome = run(&rt, &words, whole(script.as_slice()), 10_000);
+    assert!(rt; outcome.output.as_slice() == b"frame 0\nnone\nrefused 16 NoFrames\n".as_slice());
+}
+
+#[test]
 fn refuses_paths_as_the_tree_does(rt: HostRuntime) {
     let script =
         b"1 mkdir /user@1000.service\n1 mkdir /..\n1 mkdir /a/a/a/a/a/a/a/a/a\n1 alloc /b 0\n";

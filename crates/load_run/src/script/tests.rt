@@ -24,7 +24,7 @@ fn bad_line(rt: &(impl Abort + AllocGlobal), script: &[u8]) -> usize {
 
 #[test]
 fn reads_each_command(rt: HostRuntime) -> Result<(), Fail> {
-    let script = b"# a comment\n\n1 mkdir /a/b\n01 alloc /a 000\n1 show";
+    let script = b"# a comment\n\n1 mkdir /a/b\n01 alloc /a 0010\n1 show";
     let lines = parse_script(rt.alloc(), script.as_slice(), &ONE_PROCESSOR)?;
     assert_eq!(rt; lines.len(), 3);
     let mkdir = Command::Mkdir {
@@ -39,7 +39,7 @@ fn reads_each_command(rt: HostRuntime) -> Result<(), Fail> {
     );
     let alloc = Command::Alloc {
         path: b"/a".as_slice(),
-        order: 0,
+        order: 10,
     };
     assert!(rt;
         lines[1]
@@ -86,10 +86,10 @@ fn refuses_what_is_not_in_the_grammar(rt: HostRuntime) {
         b"1 go".as_slice(),
         b"1 alloc /a".as_slice(),
         b"1 alloc /a ".as_slice(),
-        b"1 alloc /a 1".as_slice(),
+        b"1 alloc /a 4294967296".as_slice(),
         b"1 alloc /a +0".as_slice(),
         b"4294967297 show".as_slice(),
-        b"1 blocks".as_slice(),
+        b"1 blocks 0".as_slice(),
         b"1".as_slice(),
     ];
     for script in bad.iter() {

@@ -5,14 +5,8 @@ use Rattle.group_tree.specs.Groups.{number_at}
 use Rattle.mem_core.specs.Shown.{free_in}
 use Rattle.load_run.specs.Replay.{PlacesBlock}
 use Rattle.load_run.proofs.CoreSteps.{found_there}
-use Rattle.load_run.proofs.Machines.{alloc_answered, none_free, none_left, same_block, same_free}
+use Rattle.load_run.proofs.Machines.{alloc_answered, same_block, same_free}
 use Rattle.load_run.proofs.replay.take_block.Goals as goal
-
-pub returns-then-is_none-clause-answer : goal.returns-then-is_none-clause-answer
-returns-then-is_none-clause-answer c =
-    let empty : c.args.core.now.areas ≡ [] = sym (c.walk.ensures.walk ∙ c.areas.ensures.areas) ∙ none_left _ _ c.next.result c.next.ensures.steps (c.if-is_none.ensures) in
-    let maximal = subst (λ (blocks : List Block). AreMaximalBlocks (free_in c.args.core.now.places) blocks) empty c.requires.idle.reached.sound.areas in
-    (c.in-Some.group, search rules, search rules, refl, (λ b order. none_free _ maximal b, λ f p. refl))
 
 pub place_under_lock-reply-requires-clause-there : goal.place_under_lock-reply-requires-clause-there
 place_under_lock-reply-requires-clause-there c =

@@ -1,4 +1,4 @@
-use Rattle.std.proofs.Common.{◌≡◌, Some, ap, rules}
+use Rattle.std.proofs.Common.{◌≡◌, Some, inl, inr, rules}
 use Rattle.load_run.specs.Verb.{verb_named}
 use Rattle.load_run.specs.declared.verb.Verb.TheVariants as verb
 use Rattle.load_run.proofs.Readings.{command_alone, command_named, no_alloc, on_none}
@@ -6,8 +6,8 @@ use Rattle.load_run.proofs.script.parse_command.Goals as goal
 
 pub returns-in_err-verb_of-in-None : goal.returns-in_err-verb_of-in-None
 returns-in_err-verb_of-in-None c = on_none _ _ _ c.from_residual.ensures
-    (λ command is. let show : verb_named c.args.text.now ≡ Some verb.Show = ap verb_named (command_alone _ c.in-None.ensures command is) in
-    let none = c.in_err-verb_of-in-None.ensures in cc)
+    (λ command is. let none = c.in_err-verb_of-in-None.ensures in
+    elim (command_alone _ c.in-None.ensures command is) [ inl named ↦ cc | inr named ↦ cc ])
 
 pub returns-in_err-verb_of-in-Some : goal.returns-in_err-verb_of-in-Some
 returns-in_err-verb_of-in-Some c = on_none _ _ _ c.from_residual-in_err-verb_of-in-Some.ensures
