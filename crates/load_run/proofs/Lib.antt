@@ -1,6 +1,5 @@
-pub mod CoreSteps
 pub mod Cuts
-pub mod Machines
+pub mod Desks
 pub mod Numerals
 pub mod Progress
 pub mod Readings

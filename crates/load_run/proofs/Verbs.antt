@@ -4,13 +4,15 @@ use Rattle.std.specs.Cmp.Lexicographic.{pointwise, same_text}
 use Rattle.load_run.specs.Verb.{named_commands, verb_named}
 use Rattle.std.specs.Map.{lookup}
 use Rattle.load_run.specs.declared.verb.Verb.{Verb}
-use Rattle.load_run.specs.declared.verb.Verb.TheVariants.{Mkdir, Alloc, Blocks, Show}
+use Rattle.load_run.specs.declared.verb.Verb.TheVariants.{Mkdir, Alloc, Write, Read, Blocks, Show}
 use Rattle.load_run.proofs.Cuts.{NoSpace}
 
 -- the name of a command
 abbrev pub name_of : Verb → List ℕ
 name_of Mkdir = codes "mkdir"
 name_of Alloc = codes "alloc"
+name_of Write = codes "write"
+name_of Read = codes "read"
 name_of Blocks = codes "blocks"
 name_of Show = codes "show"
 
@@ -18,6 +20,8 @@ name_of Show = codes "show"
 pub verb_named-name_of : (v : Verb) → verb_named (name_of v) ≡ Some v
 verb_named-name_of Mkdir = refl
 verb_named-name_of Alloc = refl
+verb_named-name_of Write = refl
+verb_named-name_of Read = refl
 verb_named-name_of Blocks = refl
 verb_named-name_of Show = refl
 
@@ -40,7 +44,7 @@ named_in (c ∷ cs) text v names e =
 
 -- a text that names a command is its name
 pub named : (text : List ℕ) (v : Verb) → verb_named text ≡ Some v → text ≡ name_of v
-named text v e = named_in named_commands text v (refl, (refl, (refl, (refl, tt)))) e
+named text v e = named_in named_commands text v (refl, (refl, (refl, (refl, (refl, (refl, tt)))))) e
 
 -- whether a text has no space
 abbrev has_no_space : List ℕ → Bool
@@ -60,5 +64,7 @@ no_space_told (b ∷ bs) e (suc k) d h = no_space_told bs (told b (eqb b 32) (ha
 pub name_no_space : (v : Verb) → NoSpace (name_of v)
 name_no_space Mkdir = no_space_told (name_of Mkdir) refl
 name_no_space Alloc = no_space_told (name_of Alloc) refl
+name_no_space Write = no_space_told (name_of Write) refl
+name_no_space Read = no_space_told (name_of Read) refl
 name_no_space Blocks = no_space_told (name_of Blocks) refl
 name_no_space Show = no_space_told (name_of Show) refl

@@ -1,5 +1,5 @@
+pub mod Desk
 pub mod Fault
-pub mod Replay
 pub mod Script
 pub mod Settings
 pub mod Verb

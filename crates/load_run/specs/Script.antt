@@ -4,7 +4,7 @@ use Rattle.std.specs.List.{AllZip, slice_split}
 use Rattle.std.specs.Str.Parse.{IsNumeral, digits_value}
 use Rattle.load_run.specs.declared.line.Line.{Line}
 use Rattle.load_run.specs.declared.line.Command.{Command}
-use Rattle.load_run.specs.declared.line.Command.TheVariants.{Mkdir, Alloc, Blocks, Show}
+use Rattle.load_run.specs.declared.line.Command.TheVariants.{Mkdir, Alloc, Write, Read, Blocks, Show}
 use Rattle.load_run.specs.declared.fault.ScriptFault.{ScriptFault}
 use Rattle.load_run.specs.declared.fault.ScriptFault.TheVariants.{BadLine, NoMemory}
 
@@ -35,10 +35,25 @@ pub record IsAllocText (path : List ℕ) (order : ℕ) (text : List ℕ) : Type 
   pub path_text : IsPathText path
   pub writes : WritesNumber digits order
 
--- `mkdir PATH`, `alloc PATH ORDER`, `blocks` or `show`
+-- `PATH FILE`
+pub record IsReadText (path file text : List ℕ) : Type 0 where
+  pub parts : text ≡ path ++ 32 ∷ file
+  pub path_text : IsPathText path
+  pub file_text : IsPathText file
+
+-- `PATH FILE VALUE`, where the value is all that follows the space after the file's name: it may have spaces,
+-- and be empty
+pub record IsWriteText (path file value text : List ℕ) : Type 0 where
+  pub parts : text ≡ path ++ 32 ∷ (file ++ 32 ∷ value)
+  pub path_text : IsPathText path
+  pub file_text : IsPathText file
+
+-- `mkdir PATH`, `alloc PATH ORDER`, `write PATH FILE VALUE`, `read PATH FILE`, `blocks` or `show`
 abbrev pub IsCommandText : Command → List ℕ → Type 0
 IsCommandText (Mkdir path) text = IsPathText path.now × (text ≡ codes "mkdir" ++ 32 ∷ path.now)
 IsCommandText (Alloc path order) text = (arguments : List ℕ) × (text ≡ codes "alloc" ++ 32 ∷ arguments) × IsAllocText path.now order arguments
+IsCommandText (Write path file value) text = (arguments : List ℕ) × (text ≡ codes "write" ++ 32 ∷ arguments) × IsWriteText path.now file.now value.now arguments
+IsCommandText (Read path file) text = (arguments : List ℕ) × (text ≡ codes "read" ++ 32 ∷ arguments) × IsReadText path.now file.now arguments
 IsCommandText Blocks text = text ≡ codes "blocks"
 IsCommandText Show text = text ≡ codes "show"
 

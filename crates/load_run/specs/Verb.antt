@@ -5,11 +5,11 @@ use Rattle.std.specs.HashMap.{HashMap, get_by}
 use Rattle.std.specs.Map.{lookup}
 use Rattle.std.specs.Borrow.{Bor}
 use Rattle.load_run.specs.declared.verb.Verb.{Verb}
-use Rattle.load_run.specs.declared.verb.Verb.TheVariants.{Mkdir, Alloc, Blocks, Show}
+use Rattle.load_run.specs.declared.verb.Verb.TheVariants.{Mkdir, Alloc, Write, Read, Blocks, Show}
 
 -- the names of the commands, each with its command
 abbrev pub named_commands : List (List ℕ × Verb)
-named_commands = (codes "mkdir", Mkdir) ∷ (codes "alloc", Alloc) ∷ (codes "blocks", Blocks) ∷ (codes "show", Show) ∷ []
+named_commands = (codes "mkdir", Mkdir) ∷ (codes "alloc", Alloc) ∷ (codes "write", Write) ∷ (codes "read", Read) ∷ (codes "blocks", Blocks) ∷ (codes "show", Show) ∷ []
 
 -- the command of this name
 abbrev pub verb_named : List ℕ → Option Verb

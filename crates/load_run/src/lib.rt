@@ -2,6 +2,7 @@
 #![tactic(auto)]
 
 pub mod command_line;
+mod desk;
 pub mod fault;
 pub mod line;
 mod number;
@@ -11,4 +12,5 @@ pub mod reply;
 pub mod script;
 pub mod settings;
 mod show;
+mod taking;
 mod verb;

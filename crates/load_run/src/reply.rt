@@ -1,29 +1,53 @@
 //! What a line is answered.
 
+use control_files::text::ArrayText;
 use group_tree::fault::Fault;
-use std::fmt;
+use group_tree::path::PathText;
+use std::alloc::AllocError;
 
-/// The answer to a line, but for `show`, whose answer is a text.
+/// The answer to a line, but for `blocks` and `show`, whose answers are texts of any length.
 #[derive(Clone, Copy, Debug, PartialEq, Eq)]
 pub enum Reply {
     /// The number of the group that was made.
     Group(u32),
     /// The number of the first frame of the block that was taken.
     Frame(u32),
+    /// The value was written.
+    Done,
+    /// The text of the file, each of its lines with its line feed.
+    Text(ArrayText),
+    /// The group of this path has no room for the charge.
+    OverLimit(PathText),
     /// Nothing was done, for this reason.
     Refused(Fault),
 }
 
-impl fmt::Display for Reply {
-    fn fmt<W: fmt::Write>(&self, f: &mut fmt::Formatter<W>) -> fmt::Result {
+impl Reply {
+    /// Adds the answer to a text, with the line feed of each of its lines. It fails only for want of memory.
+    pub fn write_to(&self, text: &mut String) -> Result<(), AllocError> {
         match self {
-            Reply::Group(number) => write!(f, "group {number}"),
-            Reply::Frame(number) => write!(f, "frame {number}"),
+            Reply::Group(number) => writeln!(text, "group {number}"),
+            Reply::Frame(number) => writeln!(text, "frame {number}"),
+            Reply::Done => text.push_str("ok\n"),
+            Reply::Text(file) => push_ascii(text, file.as_bytes()),
+            Reply::OverLimit(path) => {
+                text.push_str("refused 15 OverLimit ")?;
+                push_ascii(text, path.as_bytes())?;
+                text.push('\n')
+            }
             Reply::Refused(fault) => {
                 let number = fault.number();
                 let name = fault.name();
-                write!(f, "refused {number} {name}")
+                writeln!(text, "refused {number} {name}")
             }
         }
     }
+}
+
+/// Adds bytes below 128 to a text.
+pub fn push_ascii(text: &mut String, bytes: &[u8]) -> Result<(), AllocError> {
+    for byte in bytes {
+        text.push(char::from(*byte))?;
+    }
+    Ok(())
 }

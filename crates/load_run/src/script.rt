@@ -1,7 +1,7 @@
 //! A script's bytes, cut into lines.
 
 ghost use Rattle.std.specs.Prelude.{◌≡◌, ◌≢◌, ◌↔◌, ℕ, ◌+◌, ◌<◌, ◌≤◌, All, IfErr, IfOk, IfSome, IsTrue, List, MatchOption, length, take};
-ghost use Rattle.load_run.specs.Script.{IsAllocText, IsCommandText, IsCut, IsFirstBadLine, IsLineText, IsPathText, IsScript};
+ghost use Rattle.load_run.specs.Script.{IsAllocText, IsCommandText, IsCut, IsFirstBadLine, IsLineText, IsPathText, IsReadText, IsScript, IsWriteText};
 ghost use Rattle.load_run.specs.Script.{NamesFirstBadLine, ended_lines, is_skipped};
 ghost use Rattle.load_run.specs.Verb.{IsNames};
 ghost use Rattle.load_run.specs.declared.line.Command.{Command};
@@ -23,7 +23,8 @@ const MOST_LINE: usize = 1_024;
 /// The lines of a script in their order, without the empty ones and those that begin with `#`.
 ///
 /// Each line ends with a line feed, which the last may lack, and is `P COMMAND`, with a single space
-/// between words and none at either end. P is a processor of the configuration. A line that isn't so, or
+/// between words and none at either end, but for the value of `write`, which is all that follows the space
+/// after the file's name. P is a processor of the configuration. A line that isn't so, or
 /// is longer than 1,024 bytes, is a bad line, and so is the one in which the byte stands that is past
 /// 1,048,576. The fault names the first bad line.
 pub fn parse_script<'a>(
@@ -112,7 +113,7 @@ fn parse_command<'a>(names: &Names, text: &'a [u8]) -> Option<Command<'a>>
         None => match verb_of(names, text)? {
             Verb::Blocks => Some(Command::Blocks),
             Verb::Show => Some(Command::Show),
-            Verb::Mkdir | Verb::Alloc => None,
+            Verb::Mkdir | Verb::Alloc | Verb::Write | Verb::Read => None,
         },
         Some((name, arguments)) => match verb_of(names, name)? {
             Verb::Mkdir => Some(Command::Mkdir {
@@ -121,6 +122,14 @@ fn parse_command<'a>(names: &Names, text: &'a [u8]) -> Option<Command<'a>>
             Verb::Alloc => {
                 let (path, order) = parse_alloc(arguments)?;
                 Some(Command::Alloc { path, order })
+            }
+            Verb::Write => {
+                let (path, file, value) = parse_write(arguments)?;
+                Some(Command::Write { path, file, value })
+            }
+            Verb::Read => {
+                let (path, file) = parse_read(arguments)?;
+                Some(Command::Read { path, file })
             }
             Verb::Blocks | Verb::Show => None,
         },
@@ -135,6 +144,27 @@ fn parse_alloc(arguments: &[u8]) -> Option<(&[u8], u32)>
 {
     let (path, order) = first_word(arguments)?;
     Some((path_of(path)?, number(order)?))
+}
+
+// The path, the file's name and the value, which is all that follows the space after the name.
+fn parse_write(arguments: &[u8]) -> Option<(&[u8], &[u8], &[u8])>
+    ensures { MatchOption result
+        ((path : List ℕ) (file : List ℕ) (value : List ℕ) → ¬ IsWriteText path file value arguments.now)
+        (λ p. IsWriteText p.0.now p.1.now p.2.now arguments.now) }
+{
+    let (path, rest) = first_word(arguments)?;
+    let (file, value) = first_word(rest)?;
+    Some((path_of(path)?, path_of(file)?, value))
+}
+
+// The path and the file's name.
+fn parse_read(arguments: &[u8]) -> Option<(&[u8], &[u8])>
+    ensures { MatchOption result
+        ((path : List ℕ) (file : List ℕ) → ¬ IsReadText path file arguments.now)
+        (λ p. IsReadText p.0.now p.1.now arguments.now) }
+{
+    let (path, file) = first_word(arguments)?;
+    Some((path_of(path)?, path_of(file)?))
 }
 
 // What stands before the first space, and what stands after it. None where there is no space.

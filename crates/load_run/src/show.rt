@@ -1,31 +1,29 @@
 //! The texts that `show` and `blocks` are answered.
 
-ghost use Rattle.std.specs.Prelude.{◌≡◌, ◌*◌, ◌<◌, None, true};
+ghost use Rattle.std.specs.Prelude.{◌≡◌, ◌*◌, ◌<◌, ◌≤◌, All, IsTrue, length};
 ghost use Rattle.group_tree.specs.Groups.{has_group};
-ghost use Rattle.mem_core.specs.Shown.{IsSound, current_in};
+ghost use Rattle.group_charge.specs.Charges.{current_of};
+ghost use Rattle.mem_core.specs.Shown.{KeeperIsThere};
 
+use crate::desk::Desk;
+use crate::reply::push_ascii;
+use control_files::text::PAGE_BYTES;
+use group_charge::charges::Charges;
 use group_tree::group::GroupId;
-use group_tree::path::PathText;
+use group_tree::tree::Tree;
 use mem_core::step::Place;
-use mem_core::zone::Core;
 use std::alloc::AllocError;
-
-/// How many bytes a page has.
-const PAGE_SIZE: u128 = 4_096;
 
 /// Adds a line for each longest run of frames with equal place, by ascending frame, and then one for each
 /// group but the root, in order of making, with its usage in bytes.
-pub fn write_show(core: &Core, frames: u32, text: &mut String) -> Result<(), AllocError>
-    requires sound { IsSound core.now }
-    requires free { core.now.holder ≡ None }
-    requires frames { core.now.config.frames ≡ frames }
-{
-    write_places(core, frames, text)?;
-    for group in core.tree().groups() {
+pub fn write_show(desk: &Desk, text: &mut String) -> Result<(), AllocError> {
+    let charges = desk.charges();
+    write_places(desk.places(), charges.tree(), text)?;
+    for group in charges.tree().groups() {
         if group.number != GroupId::root() {
-            let bytes = bytes_used(core, group.number);
+            let bytes = bytes_used(charges, group.number);
             text.push_str("current ")?;
-            push_path(text, &group.path)?;
+            push_ascii(text, group.path.as_bytes())?;
             writeln!(text, " {bytes}")?;
         }
     }
@@ -34,9 +32,9 @@ pub fn write_show(core: &Core, frames: u32, text: &mut String) -> Result<(), All
 
 /// Adds a line with each free block, its order and its first frame, by order and then by address; `none` where
 /// there is none.
-pub fn write_blocks(core: &Core, text: &mut String) -> Result<(), AllocError> {
+pub fn write_blocks(desk: &Desk, text: &mut String) -> Result<(), AllocError> {
     let mut is_first = true;
-    for block in core.areas().walk() {
+    for block in desk.blocks() {
         if !is_first {
             text.push(' ')?;
         }
@@ -52,51 +50,48 @@ pub fn write_blocks(core: &Core, text: &mut String) -> Result<(), AllocError> {
 }
 
 // The memory now used by a group and its descendants, in bytes.
-fn bytes_used(core: &Core, group: GroupId) -> u128
-    requires sound { IsSound core.now }
-    requires free { core.now.holder ≡ None }
-    requires there { has_group core.now.groups group ≡ true }
-    ensures { result ≡ current_in core.now group * 4096 }
+fn bytes_used(charges: &Charges, group: GroupId) -> u64
+    requires { IsTrue (has_group charges.now.groups group) }
+    ensures { result ≡ current_of charges.now group * 4096 }
 {
-    core.current(group) * PAGE_SIZE
+    u64::from(charges.current(group)) * PAGE_BYTES
 }
 
 // A line for each longest run of frames with equal place.
-fn write_places(core: &Core, frames: u32, text: &mut String) -> Result<(), AllocError>
-    requires sound { IsSound core.now }
-    requires frames { core.now.config.frames ≡ frames }
+fn write_places(places: &[Place], tree: &Tree, text: &mut String) -> Result<(), AllocError>
+    requires owners { All (KeeperIsThere tree.now) places.now }
 {
     let mut first = 0;
-    for frame in 1..frames {
-        if core.place(frame) != core.place(first) {
-            write_run(core, first, frame - 1, text)?;
+    for frame in 1..places.len() {
+        if places[frame] != places[first] {
+            write_run(first, frame - 1, places[first], tree, text)?;
             first = frame;
         }
     }
-    write_run(core, first, frames - 1, text)
+    match places.last() {
+        Some(place) => write_run(first, places.len() - 1, *place, tree, text),
+        None => Ok(()),
+    }
 }
 
-// The line of the frames from the first to the last, which have equal place.
-fn write_run(core: &Core, first: u32, last: u32, text: &mut String) -> Result<(), AllocError>
-    requires sound { IsSound core.now }
-    requires inside { first < core.now.config.frames }
+// The line of the frames from the first to the last, which are all at this place.
+fn write_run(
+    first: usize,
+    last: usize,
+    place: Place,
+    tree: &Tree,
+    text: &mut String,
+) -> Result<(), AllocError>
+    requires owner { KeeperIsThere tree.now place }
 {
     if first == last {
         write!(text, "{first} ")?;
     } else {
         write!(text, "{first}-{last} ")?;
     }
-    match core.place(first) {
+    match place {
         Place::Free => text.push_str("free")?,
-        Place::Charged(group) => push_path(text, &core.tree().path_of(group))?,
+        Place::Charged(group) => push_ascii(text, tree.path_of(group).as_bytes())?,
     }
     text.push('\n')
-}
-
-// Adds a path, whose bytes are all below 128.
-fn push_path(text: &mut String, path: &PathText) -> Result<(), AllocError> {
-    for byte in path.as_bytes() {
-        text.push(char::from(*byte))?;
-    }
-    Ok(())
 }

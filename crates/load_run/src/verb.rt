@@ -11,6 +11,8 @@ use std::alloc::{AllocError, Global};
 pub enum Verb {
     Mkdir,
     Alloc,
+    Write,
+    Read,
     Blocks,
     Show,
 }
@@ -24,6 +26,8 @@ pub fn command_names(alloc: Global) -> Result<Names, AllocError>
     let mut names = IndexMap::new(alloc);
     names.insert(b"mkdir".as_slice(), Verb::Mkdir)?;
     names.insert(b"alloc".as_slice(), Verb::Alloc)?;
+    names.insert(b"write".as_slice(), Verb::Write)?;
+    names.insert(b"read".as_slice(), Verb::Read)?;
     names.insert(b"blocks".as_slice(), Verb::Blocks)?;
     names.insert(b"show".as_slice(), Verb::Show)?;
     Ok(names)

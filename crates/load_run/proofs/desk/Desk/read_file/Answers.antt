@@ -1,0 +1,15 @@
+use Rattle.std.proofs.Common.{◌≡◌, List, ℕ, sym, ap, ◌∙◌}
+use Rattle.control_files.specs.Files.{file_text}
+use Rattle.load_run.specs.Desk.{DeskState}
+use Rattle.load_run.proofs.Desks.{file_of, found_there}
+use Rattle.load_run.proofs.desk.Desk.read_file.Goals as goal
+
+pub file_text-requires : goal.file_text-requires
+file_text-requires c = found_there _ _ _ c.in-Ok.ensures.number
+
+pub returns-in-Ok-file_text : goal.returns-in-Ok-file_text
+returns-in-Ok-file_text c =
+    let is = c.in-Ok.ensures in
+    let same = c.self.view_is in
+    let text : c.in-Ok-file_text.text ≡ file_text c.self.inside.charges c.in-Ok.found.0 c.in-Ok.found.1 = let told = c.in-Ok-file_text.ensures.text is.below_root in cc in
+    (c.in-Ok.found.0, c.in-Ok.found.1, file_of _ _ _ _ _ _ same is, text ∙ ap (λ (d : DeskState). file_text d.charges c.in-Ok.found.0 c.in-Ok.found.1) same)
