@@ -2,13 +2,13 @@
 use Rattle.std.proofs.Common.{◌≡◌, ℕ, zero, suc, ◌+◌, ◌-◌, ◌<◌, ◌≤◌, List, [], ◌∷◌, ◌++◌, length, Bool, true, false, not, cond, filter, take, Option, Some, None, MatchOption, IfSome, ◌⊎◌, ◌==◌, count_by, drop, get_or, slice_get, refl, sym, ap, subst, ◌∙◌, arith, inl, inr, zero-add, All}
 use Rattle.std.specs.List.{AllZip, enumerate_from, slice_split}
 use Rattle.std.proofs.lemmas.Bool.{cases_lt}
-use Rattle.std.proofs.lemmas.List.{append-nil, take-append-drop, take_all, take_more}
+use Rattle.std.proofs.lemmas.List.{append-nil, length-take, take-append-drop, take_all, take_more}
 use Rattle.std.proofs.lemmas.List.Sums.{sum_by-append}
 use Rattle.std.proofs.lemmas.List.Elements.{filter-append}
 use Rattle.std.proofs.lemmas.List.Splits.{length-slice_split}
 use Rattle.std.proofs.lemmas.Option.{get_or_from_slice_get, slice_get-get_or}
 use Rattle.std.proofs.lemmas.List.FromFn.{get_or-enumerate_from, length-enumerate_from}
-use Rattle.load_run.specs.Script.{AreLines, IsFirstBadLine, IsGoodLine, IsLineText, IsScript, asking_texts, ended_lines, is_skipped, texts_of}
+use Rattle.load_run.specs.Script.{AreLines, IsFirstBadLine, IsGoodLine, IsGoodScript, IsLineText, IsScript, asking_texts, ended_lines, is_skipped, texts_of}
 use Rattle.load_run.specs.declared.line.Line.{Line}
 
 -- the first lines of the script were good, and are these
@@ -169,10 +169,12 @@ next_of script count index text turn =
       is_text = rw index_is (slice_get-get_or (texts_of script) count text inside ∙ ap Some (sym text_is));
     }
 
--- the processors of the lines of a script are those that there are
-pub processors_there : (cpus : ℕ) (texts : List (List ℕ)) (lines : List Line) → AllZip (λ text line. IsLineText cpus line text) texts lines → All (λ line. (1 ≤ line.processor) × (line.processor ≤ cpus)) lines
-processors_there cpus [] [] all k d h = absurd (omega arith)
-processors_there cpus [] (l ∷ lines) all k d h = absurd all
-processors_there cpus (t ∷ texts) [] all k d h = absurd all
-processors_there cpus (t ∷ texts) (l ∷ lines) all zero d h = (all.0.low, all.0.high)
-processors_there cpus (t ∷ texts) (l ∷ lines) all (suc k) d h = processors_there cpus texts lines all.1 k d (omega arith)
+-- what was read of an input is all of it, where it is a script
+pub good_script : (input : Option (List ℕ)) (script : List ℕ) (cpus : ℕ) (lines : List Line) → IfSome input (λ bytes. script ≡ take 1048577 bytes) → IsScript cpus script lines → cpus ≡ 1 → IfSome input (IsGoodScript 1)
+good_script None script cpus lines read is single = tt
+good_script (Some bytes) script cpus lines read is single =
+    let fits = is.fits in
+    let len : length script ≡ length (take 1048577 bytes) = ap length read in
+    let taken = length-take 1048577 bytes in
+    let whole : take 1048577 bytes ≡ bytes = take_all 1048577 bytes (omega arith) in
+    (lines, subst (λ (n : ℕ). IsScript n bytes lines) single (subst (λ (text : List ℕ). IsScript cpus text lines) (read ∙ whole) is))

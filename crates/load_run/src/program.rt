@@ -1,7 +1,8 @@
 //! The program over any reader and two writers.
 
-ghost use Rattle.std.specs.Prelude.{◌≡◌, ◌≤◌, ◌↔◌, IfErr, IsTrue};
+ghost use Rattle.std.specs.Prelude.{◌≡◌, ◌≤◌, ◌↔◌, IfErr, IfOk, IfSome, IsTrue, take};
 ghost use Rattle.load_run.specs.Fault.{status_of};
+ghost use Rattle.load_run.specs.Script.{IsGoodScript};
 ghost use Rattle.load_run.specs.Settings.{IsSingle};
 
 use crate::command_line::options;
@@ -32,6 +33,7 @@ pub fn drive<R, S: AsStr, I: Read, O: Write, F: Write>(
     ensures status { result ≤ 2 }
     ensures quiet { result ≡ 2 → O.contents output.new ≡ O.contents output.old }
     ensures silent { result ≡ 0 → F.contents faults.new ≡ F.contents faults.old }
+    ensures script { result ≡ 0 → IfSome (I.remaining input.old) (IsGoodScript 1) }
 {
     match answers_to(alloc, words, input) {
         Ok(answers) => match write_answers(output, &answers) {
@@ -47,7 +49,9 @@ fn answers_to<S: AsStr, I: Read>(
     alloc: Global,
     words: &[S],
     input: &mut I,
-) -> Result<Vec<u8>, ProgramFault> {
+) -> Result<Vec<u8>, ProgramFault>
+    ensures { IfOk result (λ _. IfSome (I.remaining input.old) (IsGoodScript 1)) }
+{
     let config = options(alloc, words)?.config;
     let script = read_script(alloc, input)?;
     let lines = parse_script(alloc, &script, &config)?;
@@ -66,10 +70,12 @@ fn is_single(config: &Config) -> bool
 }
 
 // Reads all of the script. Where it is longer than a script may be, one byte more tells so.
-fn read_script<I: Read>(alloc: Global, input: &mut I) -> Result<Vec<u8>, ProgramFault> {
+fn read_script<I: Read>(alloc: Global, input: &mut I) -> Result<Vec<u8>, ProgramFault>
+    ensures { IfOk result (λ script. IfSome (I.remaining input.old) (λ bytes. script.items ≡ take 1048577 bytes)) }
+{
     let mut script = Vec::new(alloc);
     let most = MOST_INPUT as u64 + 1;
-    match input.by_ref().take(most).read_to_end(&mut script) {
+    match input.take(most).read_to_end(&mut script) {
         Ok(_) => Ok(script),
         Err(error) => Err(if error.kind() == ErrorKind::OutOfMemory {
             ProgramFault::NoMemory(AllocError)

@@ -59,6 +59,31 @@ fn reads_each_command(rt: HostRuntime) -> Result<(), Fail> {
 }
 
 #[test]
+fn a_value_is_all_that_follows_the_space(rt: HostRuntime) -> Result<(), Fail> {
+    let script = b"1 write /a memory.max  \0 1k \n1 write /a x \n1 read /a memory.max\n";
+    let lines = parse_script(rt.alloc(), script.as_slice(), &ONE_PROCESSOR)?;
+    assert_eq!(rt; lines.len(), 3);
+    let write = Command::Write {
+        path: b"/a".as_slice(),
+        file: b"memory.max".as_slice(),
+        value: b" \0 1k ".as_slice(),
+    };
+    assert!(rt; lines[0].command == write);
+    let empty = Command::Write {
+        path: b"/a".as_slice(),
+        file: b"x".as_slice(),
+        value: b"".as_slice(),
+    };
+    assert!(rt; lines[1].command == empty);
+    let read = Command::Read {
+        path: b"/a".as_slice(),
+        file: b"memory.max".as_slice(),
+    };
+    assert!(rt; lines[2].command == read);
+    Ok(())
+}
+
+#[test]
 fn names_the_first_bad_line(rt: HostRuntime) {
     assert_eq!(rt;
         bad_line(&rt, b"1 show\n#\n1 shown\n0 show\n".as_slice()),
@@ -68,7 +93,7 @@ fn names_the_first_bad_line(rt: HostRuntime) {
 
 #[test]
 fn refuses_what_is_not_in_the_grammar(rt: HostRuntime) {
-    let bad: [&[u8]; 22] = [
+    let bad: [&[u8]; 31] = [
         b"0 show".as_slice(),
         b"2 show".as_slice(),
         b"1  show".as_slice(),
@@ -91,6 +116,15 @@ fn refuses_what_is_not_in_the_grammar(rt: HostRuntime) {
         b"4294967297 show".as_slice(),
         b"1 blocks 0".as_slice(),
         b"1".as_slice(),
+        b"1 write".as_slice(),
+        b"1 write /a".as_slice(),
+        b"1 write /a memory.max".as_slice(),
+        b"1 write /a  0".as_slice(),
+        b"1 write  memory.max 0".as_slice(),
+        b"1 write /a\0 memory.max 0".as_slice(),
+        b"1 read /a".as_slice(),
+        b"1 read /a memory.max ".as_slice(),
+        b"1 read /a memory.max 0".as_slice(),
     ];
     for script in bad.iter() {
         assert_eq!(rt; bad_line(&rt, script), 1, "{script:?}");
