@@ -11,6 +11,7 @@ state_of c = record {
   groups = c.tree;
   places = c.places.items;
   pending = c.pending.items;
+  accounts = c.accounts.items;
   areas = c.areas.blocks;
   steps = c.steps;
 }

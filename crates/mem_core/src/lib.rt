@@ -2,6 +2,8 @@
 //! the promise that after every step at which the zone's lock is free each frame is accounted for.
 #![tactic(auto)]
 
+pub mod account;
+mod accounts;
 pub mod config;
 mod ranges;
 pub mod run;

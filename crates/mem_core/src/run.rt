@@ -5,6 +5,7 @@ ghost use Rattle.std.specs.List.{zip};
 ghost use Rattle.mem_core.specs.Config.{IsValidConfig};
 ghost use Rattle.mem_core.specs.Legal.{IsLegalRun};
 ghost use Rattle.mem_core.specs.Headline.{EveryBeginning, IsAccounted};
+ghost use Rattle.mem_core.specs.Limits.{GrantsRespectLimits};
 ghost use Rattle.mem_core.specs.Shown.{Shows, IsSound};
 ghost use Rattle.mem_core.specs.Promise.{AgreesWith, AlwaysPlacesFirst, IsShown};
 
@@ -32,6 +33,7 @@ pub fn play(alloc: Global, config: Config, steps: &[Step]) -> Result<Played, All
     ensures sound { IfOk result (λ p. IsSound p.core) }
     ensures agrees { IfOk result (λ p. AgreesWith p.core (zip steps.now p.answers.items)) }
     ensures first { IfOk result (λ p. AlwaysPlacesFirst config (zip steps.now p.answers.items)) }
+    ensures limits { IfOk result (λ p. GrantsRespectLimits config (zip steps.now p.answers.items)) }
     ensures accounted { IfOk result (λ p. EveryBeginning (zip steps.now p.answers.items) (IsAccounted config)) }
     ensures shown { IfOk result (λ p. EveryBeginning (zip steps.now p.answers.items) (IsShown config)) }
 {
@@ -50,6 +52,7 @@ pub fn run(alloc: Global, config: Config, steps: &[Step]) -> Result<Vec<Answer>,
     ensures one_each { IfOk result (λ answers. length answers.items ≡ length steps.now) }
     ensures legal { IfOk result (λ answers. IsLegalRun config (zip steps.now answers.items)) }
     ensures first { IfOk result (λ answers. AlwaysPlacesFirst config (zip steps.now answers.items)) }
+    ensures limits { IfOk result (λ answers. GrantsRespectLimits config (zip steps.now answers.items)) }
     ensures accounted { IfOk result (λ answers. EveryBeginning (zip steps.now answers.items) (IsAccounted config)) }
     ensures shown { IfOk result (λ answers. EveryBeginning (zip steps.now answers.items) (IsShown config)) }
 {

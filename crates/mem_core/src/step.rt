@@ -29,7 +29,8 @@ pub enum Action {
     Lock,
     /// The processor that holds the lock gives it back.
     Unlock,
-    /// Pages are granted to a group, to be placed before the lock is given back.
+    /// Pages are granted to a group, to be placed before the lock is given back, where the limits of
+    /// the group and of each of its ancestors have room for all of them.
     Grant { group: GroupId, pages: u32 },
     /// Granted pages that were not placed are taken back.
     Ungrant { group: GroupId, pages: u32 },
@@ -37,6 +38,13 @@ pub enum Action {
     PlaceBlock { group: GroupId, order: Order },
     /// A group is made.
     Make { path: PathText },
+    /// A group other than the root is given another limit, in pages; None for no limit. It binds later
+    /// grants alone.
+    SetMax { group: GroupId, limit: Option<u32> },
+    /// It is noted that the usage of a group was about to go over its limit.
+    NoteMax { group: GroupId },
+    /// A group other than the root is taken out, which has none below it and uses no page.
+    Remove { group: GroupId },
 }
 
 /// What a step is answered.
@@ -48,6 +56,8 @@ pub enum Answer {
     Done,
     /// The pages were granted.
     Granted,
+    /// The lowest group on the path whose limit has no room for the pages. Nothing was granted.
+    Over(GroupId),
     /// The block on which the pages were placed.
     Placed(Block),
     /// There is no free block of that order.
