@@ -1,29 +1,30 @@
 -- What a core keeps stays whole when it starts, when a group is made and when a block is placed.
-use Rattle.std.proofs.Common.{◌≡◌, ℕ, ◌+◌, ◌-◌, ◌*◌, ◌^◌, ◌<◌, ◌≤◌, ◌==◌, ◌&&◌, Bool, true, false, Option, Some, None, is_some, List, [], ◌∷◌, ◌++◌, length, map, replicate, get_or, refl, sym, ◌∙◌, ap, subst, arith, zero-add, inl, inr, ◌⊎◌, nat_lt}
+use Rattle.std.proofs.Common.{◌≡◌, ℕ, ◌+◌, ◌-◌, ◌*◌, ◌^◌, ◌<◌, ◌≤◌, ◌==◌, ◌&&◌, ◌≢◌, not, false, Bool, true, false, Option, Some, None, is_some, List, [], ◌∷◌, ◌++◌, length, map, replicate, get_or, refl, sym, ◌∙◌, ap, subst, arith, zero-add, inl, inr, ◌⊎◌, nat_lt}
 use Rattle.std.specs.Prelude.{slice_index, slice_set, All}
 use Rattle.std.specs.List.{slice_get}
 use Rattle.std.specs.declared.alloc.Global.{Global}
-use Rattle.std.proofs.lemmas.Bool.{cases_lt, cases_eq, le-leb, lt-ltb}
+use Rattle.std.proofs.lemmas.Bool.{and_parts, not-true, eqb-true, eqb-false, cases_lt, cases_eq, le-leb, lt-ltb}
 use Rattle.std.proofs.lemmas.Bool.Decides.{nat_tests}
 use Rattle.std.proofs.lemmas.List.{get_or-replicate, get_or_past, get_or-set_same, get_or-set_other, length-replicate}
 use Rattle.std.proofs.Common.{length-set}
 use Rattle.zone_blocks.specs.declared.block.Block.{Block}
 use Rattle.zone_blocks.specs.Areas.{IsFreeBlock, AreMaximalBlocks}
 use Rattle.group_tree.specs.declared.group.Group.{Group}
-use Rattle.group_tree.specs.Groups.{has_group, make_fault, with_group, initial_groups, IsLeastFreeNumber, AreGroups}
+use Rattle.group_tree.specs.Groups.{has_group, has_child, without_group, make_fault, with_group, initial_groups, IsLeastFreeNumber, AreGroups}
 use Rattle.group_tree.proofs.GroupLemmas.{AreGroups-initial, AreGroups-with, can_make, CanMake, length-full}
 use Rattle.mem_core.specs.declared.config.Config.{Config}
 use Rattle.mem_core.specs.declared.step.Place.{Place}
 use Rattle.mem_core.specs.declared.step.Place.TheVariants.{Free, Charged}
 use Rattle.mem_core.specs.Config.{IsValidConfig}
 use Rattle.mem_core.specs.Places.{is_same_place}
-use Rattle.mem_core.specs.Shown.{State, is_at, free_in, KeeperIsThere, IsSound}
+use Rattle.mem_core.specs.Shown.{State, is_at, free_in, frames_below, pages_below, current_in, KeeperIsThere, IsSound}
 use Rattle.mem_core.specs.Events.{Account, new_account}
-use Rattle.mem_core.specs.Steps.{with_range, with_block, counted}
+use Rattle.mem_core.specs.Steps.{with_range, with_block, counted, may_remove}
 use Rattle.mem_core.specs.declared.zone.Core.TheInside.{Inside}
 use Rattle.mem_core.specs.Inside.{state_of, IsWhole}
 use Rattle.mem_core.proofs.PlaceLemmas.{is_same_place-sym, is_at_within, is_at_past}
-use Rattle.mem_core.proofs.Soundness.{map-replicate, map-with_range, IsSound-made, IsSound-placed, NoneAbsent-less}
+use Rattle.mem_core.proofs.Soundness.{map-replicate, map-with_range, IsSound-made, IsSound-placed, IsSound-removed, NoneAbsent-less}
+use Rattle.mem_core.proofs.Usage.{no_page_of, no_frame_of}
 
 -- what a core shows before its first step
 abbrev pub start_of : Config → List Block → State
@@ -89,19 +90,50 @@ pub IsSound-step_made : (s : State) (n : ℕ) (path : List ℕ) (account : Accou
 IsSound-step_made s n path account fits least sound =
     IsSound-made s n path (slice_set s.accounts n account) (AreGroups-made s.groups n path sound.groups fits least) (length-set s.accounts n account ∙ sound.accounts) sound
 
+-- ---- a group is taken out
+record Removable (s : State) (g : ℕ) : Type 0 where
+  there : has_group s.groups g ≡ true
+  below_root : g ≢ 0
+  leaf : has_child s.groups g ≡ false
+  unused : current_in s g ≡ 0
+
+removable : (s : State) (g : ℕ) → may_remove s g ≡ true → Removable s g
+removable s g may =
+    let last = and_parts (has_group s.groups g && not (g == 0) && not (has_child s.groups g)) (current_in s g == 0) may in
+    let third = and_parts (has_group s.groups g && not (g == 0)) (not (has_child s.groups g)) last.0 in
+    let first = and_parts (has_group s.groups g) (not (g == 0)) third.0 in
+    record {
+      there = first.0;
+      below_root = eqb-false g 0 (not-true (g == 0) first.1);
+      leaf = not-true (has_child s.groups g) third.1;
+      unused = eqb-true (current_in s g) 0 last.1;
+    }
+
+pub IsSound-step_removed : (s : State) (g : ℕ) → may_remove s g ≡ true → IsSound s → IsSound (record (counted s) { groups = without_group s.groups g })
+IsSound-step_removed s g may sound =
+    let facts = removable s g may in
+    let unused = facts.unused in
+    let frames : frames_below s.groups s.places g ≡ 0 = omega arith in
+    let pages : pages_below s.groups s.pending g ≡ 0 = omega arith in
+    IsSound-removed s g facts.leaf facts.below_root (no_page_of s.groups s.pending g sound.groups facts.there pages) (no_frame_of s.groups s.places g facts.there sound.keepers frames) sound
+
 -- ---- pages that are pending stay few
 pub bound_more : (pending : List ℕ) (steps : ℕ) → All (λ n. n ≤ steps * 2 ^ 32) pending → All (λ n. n ≤ (steps + 1) * 2 ^ 32) pending
 bound_more pending steps bound k d h = let here = bound k d h in omega arith
 
--- a number of the list is made less
-pub bound_less : (pending : List ℕ) (steps g v : ℕ) → g < length pending → v ≤ slice_index pending g → All (λ n. n ≤ steps * 2 ^ 32) pending → All (λ n. n ≤ (steps + 1) * 2 ^ 32) (slice_set pending g v)
-bound_less pending steps g v inside less bound k d h =
+-- a number of the list is made another
+pub bound_set : (pending : List ℕ) (steps g v : ℕ) → g < length pending → v ≤ slice_index pending g + 2 ^ 32 → All (λ n. n ≤ steps * 2 ^ 32) pending → All (λ n. n ≤ (steps + 1) * 2 ^ 32) (slice_set pending g v)
+bound_set pending steps g v inside less bound k d h =
     let len = length-set pending g v in
     let there = bound g 0 inside in
     elim (cases_eq k g) [
       | inl same ↦ let e : get_or (slice_set pending g v) k d ≡ v = rw same (get_or-set_same pending g v d inside) in omega arith
       | inr other ↦ let e = get_or-set_other pending g k v d other in let here = bound k d (omega arith) in omega arith
     ]
+
+-- a number of the list is made less
+pub bound_less : (pending : List ℕ) (steps g v : ℕ) → g < length pending → v ≤ slice_index pending g → All (λ n. n ≤ steps * 2 ^ 32) pending → All (λ n. n ≤ (steps + 1) * 2 ^ 32) (slice_set pending g v)
+bound_less pending steps g v inside less bound = bound_set pending steps g v inside (omega arith) bound
 
 pub none_bound : (steps : ℕ) → All (λ n. n ≤ steps * 2 ^ 32) (replicate 64 0)
 none_bound steps k d h = let len = length-replicate {A = ℕ} 64 0 in let e = get_or-replicate 64 k 0 d (omega arith) in omega arith

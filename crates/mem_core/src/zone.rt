@@ -259,7 +259,7 @@ impl Core {
         ensures few { result < 2 ^ 104 }
     {
         // So many steps granted few enough pages for the sum.
-        let _ = &self.steps;
+        let _steps = self.steps;
         usage(&self.tree, &self.places, &self.pending, group)
     }
 
