@@ -144,8 +144,8 @@ free_in-with_block c b g flags =
     ap (λ free. with_range free b.at (2 ^ b.order) false) flags
     ∙ sym (map-with_range (λ p. is_same_place p Free) c.places.items b.at (2 ^ b.order) (Charged g))
 
-pub IsSound-step_placed : (c : Inside) (b : Block) (g v : ℕ) (areas : List Block) → IsWhole c → v ≤ slice_index c.pending.items g → IsFreeBlock (free_in c.places.items) b → has_group c.tree g ≡ true → is_some c.holder ≡ true → AreMaximalBlocks (with_range c.free.items b.at (2 ^ b.order) false) areas → IsSound (record (counted (state_of c)) { places = with_block c.places.items b (Charged g); pending = slice_set c.pending.items g v; areas = areas })
-IsSound-step_placed c b g v areas whole less block there held maximal =
-    IsSound-placed (state_of c) b g (slice_set c.pending.items g v) areas block there (length-set c.pending.items g v ∙ whole.sound.pending)
-    (NoneAbsent-less c.tree c.pending.items g v less whole.sound.absent) held
+pub IsSound-step_placed : (c : Inside) (b : Block) (g n v : ℕ) (areas : List Block) → IsWhole c → v ≤ slice_index c.pending.items n → IsFreeBlock (free_in c.places.items) b → has_group c.tree g ≡ true → is_some c.holder ≡ true → AreMaximalBlocks (with_range c.free.items b.at (2 ^ b.order) false) areas → IsSound (record (counted (state_of c)) { places = with_block c.places.items b (Charged g); pending = slice_set c.pending.items n v; areas = areas })
+IsSound-step_placed c b g n v areas whole less block there held maximal =
+    IsSound-placed (state_of c) b g (slice_set c.pending.items n v) areas block there (length-set c.pending.items n v ∙ whole.sound.pending)
+    (NoneAbsent-less c.tree c.pending.items n v less whole.sound.absent) held
     (subst (λ (free : List Bool). AreMaximalBlocks free areas) (free_in-with_block c b g whole.flags) maximal) whole.sound
