@@ -8,3 +8,4 @@ pub mod Wholeness
 pub mod Blocks
 pub mod Usage
 pub mod AccountLemmas
+pub mod PathLemmas
