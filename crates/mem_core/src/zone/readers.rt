@@ -59,6 +59,8 @@ impl Core {
         ensures current { result ≡ current_in self.now group }
         ensures run { (run : Run) → Shows self.now run → result ≡ usage_of self.now.config run group }
     {
+        // Its parts agree.
+        let _ = &self.steps;
         self.usage(group)
     }
 
