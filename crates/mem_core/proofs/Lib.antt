@@ -1,7 +1,10 @@
 pub mod Runs
 pub mod PlaceLemmas
-pub mod Showing
+pub mod Parts
 pub mod Laws
+pub mod Peaks
+pub mod Counting
+pub mod Showing
 pub mod Soundness
 pub mod Playing
 pub mod Wholeness
