@@ -5,7 +5,12 @@ pub mod Laws
 pub mod Peaks
 pub mod Counting
 pub mod Showing
+pub mod Usage
+pub mod Effects
+pub mod AccountLemmas
 pub mod Soundness
+pub mod Stepping
 pub mod Playing
 pub mod Wholeness
 pub mod Blocks
+pub mod Starting

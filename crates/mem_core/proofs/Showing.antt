@@ -180,16 +180,16 @@ places_after-with_block places b g block f p =
     ]
 
 -- from a test of three parts, its parts
-both-left : (a b : Bool) → (a && b) ≡ true → a ≡ true
+pub both-left : (a b : Bool) → (a && b) ≡ true → a ≡ true
 both-left true b e = refl
 both-left false b e = e
 
-both-right : (a b : Bool) → (a && b) ≡ true → b ≡ true
+pub both-right : (a b : Bool) → (a && b) ≡ true → b ≡ true
 both-right true b e = e
 both-right false b e = absurd (false≢true e)
 
 -- the number of a group that a step of the zone's seat names is below 64
-group_inside : (s : State) (seat g : ℕ) (more : Bool) → HasSizes s → (may_zone_act s seat && has_group s.groups g && more) ≡ true → g < length s.pending
+pub group_inside : (s : State) (seat g : ℕ) (more : Bool) → HasSizes s → (may_zone_act s seat && has_group s.groups g && more) ≡ true → g < length s.pending
 group_inside s seat g more sizes may =
     let there : has_group s.groups g ≡ true = both-right (may_zone_act s seat) (has_group s.groups g) (both-left (may_zone_act s seat && has_group s.groups g) more may) in
     let below = sizes.numbers g there in

@@ -6,7 +6,7 @@ use Rattle.mem_core.specs.Run.{usage_of}
 use Rattle.mem_core.specs.Shown.{State, IsSound, Shows, is_charged_below, current_in}
 use Rattle.mem_core.specs.Inside.{state_of}
 use Rattle.mem_core.proofs.Laws.{current_in-Shows}
-use Rattle.mem_core.proofs.Playing.{HasSizes-IsSound}
+use Rattle.mem_core.proofs.Parts.{HasSizes-IsSound}
 use Rattle.mem_core.proofs.zone.Core.current.Goals as goal
 
 pub sum_pending-pages-requires-clause-bound : goal.sum_pending-pages-requires-clause-bound
