@@ -1,204 +1,90 @@
--- What a step does to the account of each group: its peak follows the usage, and its events are counted.
-use Rattle.std.proofs.Common.{◌≡◌, ◌≢◌, ℕ, ◌+◌, ◌<◌, ◌≤◌, ◌==◌, max, Option, Bool, true, false, cond, List, length, get_or, refl, sym, ◌∙◌, ap, subst, arith, inl, inr, ◌⊎◌, if◌then◌else◌}
-use Rattle.std.specs.Prelude.{slice_set}
-use Rattle.std.proofs.lemmas.Bool.{cases_lt, cases_eq, false≢true}
-use Rattle.std.proofs.lemmas.List.{get_or-set_same, get_or-set_other, get_or_past}
-use Rattle.std.proofs.Common.{length-set}
+-- The accounts of the groups that are there change one after another.
+use Rattle.std.proofs.Common.{◌≡◌, ◌≢◌, ℕ, ◌+◌, ◌<◌, ◌≤◌, ◌||◌, Bool, true, false, cond, eqb, List, length, take, get_or, set, refl, sym, ◌∙◌, ap, subst, arith, inl, inr, length-take}
+use Rattle.std.specs.Prelude.{All, AllPairs}
+use Rattle.std.specs.List.{list_any}
+use Rattle.std.proofs.lemmas.Bool.{cases_eq, cases_Bool, false≢true, eq-eqb, ne_eqb, false_from_ne_true}
+use Rattle.std.proofs.lemmas.List.{get_or-set_same, get_or-set_other, get_or_default, get_or-take, take_all, length-take-le}
+use Rattle.std.proofs.lemmas.List.Folds.{list_any_more, list_any_none}
 use Rattle.group_tree.specs.declared.group.Group.{Group}
-use Rattle.group_tree.specs.Groups.{has_group, in_subtree, with_group, with_limit, without_group}
-use Rattle.group_tree.proofs.CallerLemmas.{has_group-with, has_group-without, has_group-limited}
-use Rattle.mem_core.specs.declared.step.Step.{Step}
-use Rattle.mem_core.specs.declared.step.Action.{Action}
-use Rattle.mem_core.specs.declared.step.Action.TheVariants.{Lock, Unlock, Grant, Ungrant, PlaceBlock, Make, SetMax, NoteMax, Remove}
-use Rattle.mem_core.specs.declared.step.Answer.{Answer}
-use Rattle.mem_core.specs.declared.step.Answer.TheVariants.{Illegal, Done, Granted, Over, Placed, NoFreeBlock, Number}
-use Rattle.mem_core.specs.Events.{Events, Account, new_account, with_max, events_after, local_events_after}
-use Rattle.mem_core.specs.Shown.{State, account_in, current_in, IsSound}
-use Rattle.mem_core.specs.Steps.{may_act, peaked, noted, counted, Changes, Makes, MovesUsage}
-use Rattle.mem_core.proofs.Usage.{none_below}
-use Rattle.mem_core.proofs.Effects.{Changes-usage, Removable, removable}
+use Rattle.group_tree.specs.Groups.{has_group, in_subtree, AreGroups}
+use Rattle.group_tree.proofs.GroupLemmas.{has_group-any}
+use Rattle.group_tree.proofs.CallerLemmas.{in_subtree-above}
+use Rattle.mem_core.specs.Events.{Account, new_account}
+use Rattle.mem_core.specs.Steps.{noted, peaked}
 
--- what one step does to the account of each group that is there after it
-pub record AccountsAdvance (s : State) (action : Action) (answer : Answer) (t : State) : Type 0 where
-  pub peak : (g : ℕ) → has_group t.groups g ≡ true → has_group s.groups g ≡ true → current_in s g ≤ (account_in s g).peak → (account_in t g).peak ≡ max (account_in s g).peak (current_in t g)
-  pub new_peak : (g : ℕ) → has_group t.groups g ≡ true → has_group s.groups g ≡ false → (account_in t g).peak ≡ current_in t g
-  pub events : (g : ℕ) (x : Events) → has_group t.groups g ≡ true → (has_group s.groups g ≡ true → (account_in s g).events ≡ x) → (account_in t g).events ≡ events_after g s.groups x action answer
-  pub local_events : (g : ℕ) (x : Events) → has_group t.groups g ≡ true → (has_group s.groups g ≡ true → (account_in s g).local_events ≡ x) → (account_in t g).local_events ≡ local_events_after g x action answer
+-- the account of each group that is there is changed, and no other
+abbrev pub AreChanged : List Group → (ℕ → Account → Account) → List Account → List Account → Type 0
+AreChanged groups f old new = (m : ℕ) → get_or new m new_account ≡ cond (has_group groups m) (f m (get_or old m new_account)) (get_or old m new_account)
 
--- a step that raises no usage, makes no group and leaves the accounts as they are
-record LeavesAccounts (s t : State) : Type 0 where
-  accounts : (g : ℕ) → account_in t g ≡ account_in s g
-  groups : (g : ℕ) → has_group t.groups g ≡ true → has_group s.groups g ≡ true
-  usage : (m : ℕ) → current_in t m ≤ current_in s m
+has_group-take_more : (groups : List Group) (i m : ℕ) (d : Group) → i < length groups → has_group (take (i + 1) groups) m ≡ (has_group (take i groups) m || eqb (get_or groups i d).number m)
+has_group-take_more groups i m d h =
+    has_group-any (take (i + 1) groups) m ∙ list_any_more (λ g. eqb g.number m) groups i d h
+    ∙ ap (λ b. b || eqb (get_or groups i d).number m) (sym (has_group-any (take i groups) m))
 
-accounts_left : (s : State) (action : Action) (answer : Answer) (t : State) → LeavesAccounts s t → ((g : ℕ) (x : Events) → x ≡ events_after g s.groups x action answer) → ((g : ℕ) (x : Events) → x ≡ local_events_after g x action answer) → AccountsAdvance s action answer t
-accounts_left s action answer t leaves events local = record {
-  peak = λ g now before covers.
-      let same = ap (λ (a : Account). a.peak) (leaves.accounts g) in
-      let less = leaves.usage g in
-      omega (arith, same, less, covers);
-  new_peak = λ g now absent. absurd (false≢true (sym absent ∙ leaves.groups g now));
-  events = λ g x now told. ap (λ (a : Account). a.events) (leaves.accounts g) ∙ told (leaves.groups g now) ∙ events g x;
-  local_events = λ g x now told. ap (λ (a : Account). a.local_events) (leaves.accounts g) ∙ told (leaves.groups g now) ∙ local g x;
-}
+-- no group has the number of a later one
+not_yet : (groups : List Group) (i : ℕ) (d : Group) → AllPairs (λ x y. x.number ≢ y.number) groups → i < length groups → has_group (take i groups) (get_or groups i d).number ≡ false
+not_yet groups i d distinct h =
+    has_group-any (take i groups) (get_or groups i d).number
+    ∙ list_any_none (λ g. eqb g.number (get_or groups i d).number) (take i groups)
+    (λ k e lt.
+    let len = length-take-le i groups (omega arith) in
+    let below : k < i = omega arith in
+    ne_eqb (get_or (take i groups) k e).number (get_or groups i d).number
+    (λ same. distinct k i d below h (ap (λ (g : Group). g.number) (get_or_default groups k d e (omega arith) ∙ sym (get_or-take i groups k e below)) ∙ same)))
 
--- the groups and the accounts are the same
-leaves_same : (s t : State) → t.groups ≡ s.groups → t.accounts ≡ s.accounts → ((m : ℕ) → current_in t m ≤ current_in s m) → LeavesAccounts s t
-leaves_same s t groups accounts usage = record {
-  accounts = λ g. ap (λ (l : List Account). get_or l g new_account) accounts;
-  groups = λ g there. subst (λ (l : List Group). has_group l g ≡ true) groups there;
-  usage = usage;
-}
+or_false : (a b : Bool) → b ≡ false → (a || b) ≡ a
+or_false true b e = refl
+or_false false b e = e
 
--- a grant
-accounts_granted : (s : State) (g n : ℕ) (t : State) → t.groups ≡ s.groups → ((m : ℕ) → current_in t m ≡ current_in s m + (if in_subtree s.groups m g then n else 0)) → ((m : ℕ) → account_in t m ≡ peaked s.groups g m (current_in t m) (account_in s m)) → AccountsAdvance s (Grant g n) Granted t
-accounts_granted s g n t groups rises raised = record {
-  peak = λ m now before covers. ap (λ (a : Account). a.peak) (raised m) ∙ peak_follows (in_subtree s.groups m g) (current_in t m) (current_in s m) n (account_in s m) covers (rises m);
-  new_peak = λ m now absent. absurd (false≢true (sym absent ∙ subst (λ (l : List Group). has_group l m ≡ true) groups now));
-  events = λ m x now told. ap (λ (a : Account). a.events) (raised m) ∙ peaked_events (in_subtree s.groups m g) (current_in t m) (account_in s m) ∙ told (subst (λ (l : List Group). has_group l m ≡ true) groups now);
-  local_events = λ m x now told. ap (λ (a : Account). a.local_events) (raised m) ∙ peaked_local (in_subtree s.groups m g) (current_in t m) (account_in s m) ∙ told (subst (λ (l : List Group). has_group l m ≡ true) groups now);
-}
-  where
-    peak_follows : (b : Bool) (now before n : ℕ) (a : Account) → before ≤ a.peak → now ≡ before + (if b then n else 0) → (cond b (record a { peak = max a.peak now }) a).peak ≡ max a.peak now
-    peak_follows true now before n a covers e = refl
-    peak_follows false now before n a covers e = omega (arith, covers, e)
-    peaked_events : (b : Bool) (now : ℕ) (a : Account) → (cond b (record a { peak = max a.peak now }) a).events ≡ a.events
-    peaked_events true now a = refl
-    peaked_events false now a = refl
-    peaked_local : (b : Bool) (now : ℕ) (a : Account) → (cond b (record a { peak = max a.peak now }) a).local_events ≡ a.local_events
-    peaked_local true now a = refl
-    peaked_local false now a = refl
+or_true : (a b : Bool) → b ≡ true → (a || b) ≡ true
+or_true true b e = refl
+or_true false b e = e
 
--- a note
-accounts_noted : (s : State) (g : ℕ) (t : State) → t.groups ≡ s.groups → ((m : ℕ) → current_in t m ≤ current_in s m) → ((m : ℕ) → account_in t m ≡ noted s.groups g m (account_in s m)) → AccountsAdvance s (NoteMax g) Done t
-accounts_noted s g t groups usage counts = record {
-  peak = λ m now before covers.
-      let same : (account_in t m).peak ≡ (account_in s m).peak = ap (λ (a : Account). a.peak) (counts m) in
-      let less = usage m in
-      omega (arith, same, less, covers);
-  new_peak = λ m now absent. absurd (false≢true (sym absent ∙ subst (λ (l : List Group). has_group l m ≡ true) groups now));
-  events = λ m x now told. ap (λ (a : Account). a.events) (counts m) ∙ ap (λ (e : Events). if in_subtree s.groups m g then with_max e else e) (told (subst (λ (l : List Group). has_group l m ≡ true) groups now));
-  local_events = λ m x now told. ap (λ (a : Account). a.local_events) (counts m) ∙ ap (λ (e : Events). if m == g then with_max e else e) (told (subst (λ (l : List Group). has_group l m ≡ true) groups now));
-}
+pub AreChanged-none : (groups : List Group) (f : ℕ → Account → Account) (old : List Account) → AreChanged (take 0 groups) f old old
+AreChanged-none groups f old m = ap (λ b. cond b (f m (get_or old m new_account)) (get_or old m new_account)) (sym (has_group-any (take 0 groups) m))
 
--- the account of the number that a new group gets, and those of the others
-account-set_same : (accounts : List Account) (n : ℕ) → get_or (slice_set accounts n new_account) n new_account ≡ new_account
-account-set_same accounts n =
-    elim (cases_lt n (length accounts)) [
-      | inl within ↦ get_or-set_same accounts n new_account new_account within
-      | inr past ↦ let len = length-set accounts n new_account in get_or_past (slice_set accounts n new_account) n new_account (omega arith)
+-- one account more is changed
+AreChanged-more : (groups : List Group) (f : ℕ → Account → Account) (old new : List Account) (i : ℕ) (d : Group) (a : Account) → AllPairs (λ x y. x.number ≢ y.number) groups → i < length groups → (get_or groups i d).number < length new → AreChanged (take i groups) f old new → AreChanged (take (i + 1) groups) f old (set new (get_or groups i d).number (f (get_or groups i d).number (get_or new (get_or groups i d).number a)))
+AreChanged-more groups f old new i d a distinct h inside changed m =
+    let n : ℕ = (get_or groups i d).number in
+    let v : Account = f n (get_or new n a) in
+    let at : ℕ → Account = λ (k : ℕ). get_or old k new_account in
+    elim (cases_eq m n) [
+      | inl same ↦
+          let was : get_or new n a ≡ at n = get_or_default new n a new_account inside ∙ changed n ∙ ap (λ b. cond b (f n (at n)) (at n)) (not_yet groups i d distinct h) in
+          let now : has_group (take (i + 1) groups) n ≡ true = has_group-take_more groups i n d h ∙ or_true (has_group (take i groups) n) (eqb n n) (eq-eqb n n refl) in
+          subst (λ (k : ℕ). get_or (set new n v) k new_account ≡ cond (has_group (take (i + 1) groups) k) (f k (at k)) (at k)) (sym same)
+          (get_or-set_same new n v new_account inside ∙ ap (f n) was ∙ ap (λ b. cond b (f n (at n)) (at n)) (sym now))
+      | inr other ↦
+          let now : has_group (take (i + 1) groups) m ≡ has_group (take i groups) m =
+          has_group-take_more groups i m d h ∙ or_false (has_group (take i groups) m) (eqb n m) (ne_eqb n m (λ e. other (sym e))) in
+          get_or-set_other new n m v new_account other ∙ changed m ∙ ap (λ b. cond b (f m (at m)) (at m)) (sym now)
     ]
 
--- a group is made
-accounts_made : (s : State) (n : ℕ) (path : List ℕ) (t : State) → t.groups ≡ with_group s.groups n path → t.accounts ≡ slice_set s.accounts n new_account → has_group s.groups n ≡ false → ((m : ℕ) → current_in t m ≤ current_in s m) → AccountsAdvance s (Make path) (Number n) t
-accounts_made s n path t groups accounts free usage = record {
-  peak = λ g now before covers.
-      let other : g ≢ n = λ same. false≢true (sym free ∙ subst (λ k. has_group s.groups k ≡ true) same before) in
-      let same = ap (λ (a : Account). a.peak) (others g other) in
-      let less = usage g in
-      omega (arith, same, less, covers);
-  new_peak = λ g now absent.
-      let none = none_below s.groups s.places s.pending g absent in
-      let frames = none.0 in
-      let pages = none.1 in
-      let less = usage g in
-      let zero_now : current_in t g ≡ 0 = omega (arith, frames, pages, less) in
-      let empty : (account_in t g).peak ≡ 0 = ap (λ (a : Account). a.peak) (ap (account_in t) (is_new g now absent) ∙ made) in
-      empty ∙ sym zero_now;
-  events = λ g x now told.
-      elim (cases_eq g n) [
-        | inl same ↦
-            let e : (g == n) ≡ true = grind arith in
-            rw e (ap (λ (a : Account). a.events) (ap (account_in t) same ∙ made))
-        | inr other ↦
-            let e : (g == n) ≡ false = grind arith in
-            rw e (ap (λ (a : Account). a.events) (others g other) ∙ told (was_there g other now))
-      ];
-  local_events = λ g x now told.
-      elim (cases_eq g n) [
-        | inl same ↦
-            let e : (g == n) ≡ true = grind arith in
-            rw e (ap (λ (a : Account). a.local_events) (ap (account_in t) same ∙ made))
-        | inr other ↦
-            let e : (g == n) ≡ false = grind arith in
-            rw e (ap (λ (a : Account). a.local_events) (others g other) ∙ told (was_there g other now))
-      ];
-}
-  where
-    made : account_in t n ≡ new_account
-    made = ap (λ (l : List Account). get_or l n new_account) accounts ∙ account-set_same s.accounts n
-    others : (g : ℕ) → g ≢ n → account_in t g ≡ account_in s g
-    others g other = ap (λ (l : List Account). get_or l g new_account) accounts ∙ get_or-set_other s.accounts n g new_account new_account other
-    was_there : (g : ℕ) → g ≢ n → has_group t.groups g ≡ true → has_group s.groups g ≡ true
-    was_there g other now = sym (has_group-with s.groups n g path other) ∙ subst (λ (l : List Group). has_group l g ≡ true) groups now
-    is_new : (g : ℕ) → has_group t.groups g ≡ true → has_group s.groups g ≡ false → g ≡ n
-    is_new g now absent =
-        elim (cases_eq g n) [
-          | inl same ↦ same
-          | inr other ↦ absurd (false≢true (sym absent ∙ sym (has_group-with s.groups n g path other) ∙ subst (λ (l : List Group). has_group l g ≡ true) groups now))
-        ]
+pub AreChanged-step : (groups : List Group) (f : ℕ → Account → Account) (old new : List Account) (i n : ℕ) (d : Group) (a v : Account) → AllPairs (λ x y. x.number ≢ y.number) groups → i < length groups → n < length new → n ≡ (get_or groups i d).number → v ≡ f n (get_or new n a) → AreChanged (take i groups) f old new → AreChanged (take (i + 1) groups) f old (set new n v)
+AreChanged-step groups f old new i n d a v distinct h inside number value changed =
+    let k : ℕ = (get_or groups i d).number in
+    let below : k < length new = omega arith in
+    let here : v ≡ f k (get_or new k a) = value ∙ ap (λ (x : ℕ). f x (get_or new x a)) number in
+    subst (λ (x : Account). AreChanged (take (i + 1) groups) f old (set new n x)) (sym here)
+    (subst (λ (x : ℕ). AreChanged (take (i + 1) groups) f old (set new x (f k (get_or new k a)))) (sym number) (AreChanged-more groups f old new i d a distinct h below changed))
 
--- a group with another limit, or without one group, was there before
-there_before_limit : (s t : State) (n : ℕ) (limit : Option ℕ) → t.groups ≡ with_limit s.groups n limit → (g : ℕ) → has_group t.groups g ≡ true → has_group s.groups g ≡ true
-there_before_limit s t n limit groups g now = sym (has_group-limited s.groups n g limit) ∙ subst (λ (l : List Group). has_group l g ≡ true) groups now
-
-there_before_removal : (s t : State) (n : ℕ) → has_group s.groups n ≡ true → t.groups ≡ without_group s.groups n → (g : ℕ) → has_group t.groups g ≡ true → has_group s.groups g ≡ true
-there_before_removal s t n there groups g now =
-    elim (cases_eq g n) [
-      | inl same ↦ subst (λ k. has_group s.groups k ≡ true) (sym same) there
-      | inr other ↦ sym (has_group-without s.groups n g other) ∙ subst (λ (l : List Group). has_group l g ≡ true) groups now
+-- all are changed, where the change leaves the accounts of numbers that no group has
+pub AreChanged-all : (groups : List Group) (f : ℕ → Account → Account) (old new : List Account) → ((m : ℕ) (a : Account) → has_group groups m ≡ false → f m a ≡ a) → AreChanged groups f old new → (m : ℕ) → get_or new m new_account ≡ f m (get_or old m new_account)
+AreChanged-all groups f old new absent changed m =
+    let a : Account = get_or old m new_account in
+    elim (cases_Bool (has_group groups m)) [
+      | inl there ↦ changed m ∙ ap (λ b. cond b (f m a) a) there
+      | inr not_there ↦ changed m ∙ ap (λ b. cond b (f m a) a) not_there ∙ sym (absent m a not_there)
     ]
 
-Changes-accounts : (s : State) (seat : ℕ) (action : Action) (answer : Answer) (t : State) → IsSound s → may_act s seat action ≡ true → Changes s seat action answer t → AccountsAdvance s action answer t
-Changes-accounts s seat Lock Done t sound may c =
-    accounts_left s Lock Done t (leaves_same s t (ap (λ (t : State). t.groups) c) (ap (λ (t : State). t.accounts) c) (Changes-usage s seat Lock Done t sound may c)) (λ g x. refl) (λ g x. refl)
-Changes-accounts s seat Unlock Done t sound may c =
-    accounts_left s Unlock Done t (leaves_same s t (ap (λ (t : State). t.groups) c) (ap (λ (t : State). t.accounts) c) (Changes-usage s seat Unlock Done t sound may c)) (λ g x. refl) (λ g x. refl)
-Changes-accounts s seat (Grant g n) Granted t sound may c =
-    accounts_granted s g n t (ap (λ (t : State). t.groups) c.1) (Changes-usage s seat (Grant g n) Granted t sound may c).0 c.2
-Changes-accounts s seat (Grant g n) (Over m) t sound may c =
-    accounts_left s (Grant g n) (Over m) t (leaves_same s t (ap (λ (t : State). t.groups) c.1) (ap (λ (t : State). t.accounts) c.1) (Changes-usage s seat (Grant g n) (Over m) t sound may c)) (λ g x. refl) (λ g x. refl)
-Changes-accounts s seat (Ungrant g n) Done t sound may c =
-    accounts_left s (Ungrant g n) Done t (leaves_same s t (ap (λ (t : State). t.groups) c) (ap (λ (t : State). t.accounts) c) (Changes-usage s seat (Ungrant g n) Done t sound may c)) (λ g x. refl) (λ g x. refl)
-Changes-accounts s seat (PlaceBlock g k) (Placed b) t sound may c =
-    accounts_left s (PlaceBlock g k) (Placed b) t (leaves_same s t (ap (λ (t : State). t.groups) c.2) (ap (λ (t : State). t.accounts) c.2) (Changes-usage s seat (PlaceBlock g k) (Placed b) t sound may c)) (λ g x. refl) (λ g x. refl)
-Changes-accounts s seat (PlaceBlock g k) NoFreeBlock t sound may c =
-    accounts_left s (PlaceBlock g k) NoFreeBlock t (leaves_same s t (ap (λ (t : State). t.groups) c.1) (ap (λ (t : State). t.accounts) c.1) (Changes-usage s seat (PlaceBlock g k) NoFreeBlock t sound may c)) (λ g x. refl) (λ g x. refl)
-Changes-accounts s seat (Make path) (Number n) t sound may c =
-    accounts_made s n path t (ap (λ (t : State). t.groups) c.1) (ap (λ (t : State). t.accounts) c.1) c.0.free (Changes-usage s seat (Make path) (Number n) t sound may c)
-Changes-accounts s seat (SetMax g limit) Done t sound may c =
-    accounts_left s (SetMax g limit) Done t
-    (record {
-      accounts = λ m. ap (λ (t : State). account_in t m) c;
-      groups = there_before_limit s t g limit (ap (λ (t : State). t.groups) c);
-      usage = Changes-usage s seat (SetMax g limit) Done t sound may c;
-    })
-    (λ g x. refl) (λ g x. refl)
-Changes-accounts s seat (NoteMax g) Done t sound may c =
-    accounts_noted s g t (ap (λ (t : State). t.groups) c.0) (Changes-usage s seat (NoteMax g) Done t sound may c) c.1
-Changes-accounts s seat (Remove g) Done t sound may c =
-    accounts_left s (Remove g) Done t
-    (record {
-      accounts = λ m. ap (λ (t : State). account_in t m) c;
-      groups = there_before_removal s t g (removable s seat g may).there (ap (λ (t : State). t.groups) c);
-      usage = Changes-usage s seat (Remove g) Done t sound may c;
-    })
-    (λ g x. refl) (λ g x. refl)
-Changes-accounts s seat action answer t sound may c = absurd c
+not_above : (groups : List Group) (m g : ℕ) → has_group groups m ≡ false → in_subtree groups m g ≡ false
+not_above groups m g absent = false_from_ne_true (in_subtree groups m g) (λ t. false≢true (sym absent ∙ in_subtree-above groups m g t))
 
-illegal_events : (g : ℕ) (groups : List Group) (x : Events) (action : Action) → x ≡ events_after g groups x action Illegal
-illegal_events g groups x (NoteMax m) = refl
-illegal_events g groups x (Make path) = refl
-illegal_events g groups x action = refl
+pub peaked-absent : (groups : List Group) (g m usage : ℕ) (a : Account) → has_group groups m ≡ false → peaked groups g m usage a ≡ a
+peaked-absent groups g m usage a absent = rw (not_above groups m g absent) refl
 
-illegal_local_events : (g : ℕ) (x : Events) (action : Action) → x ≡ local_events_after g x action Illegal
-illegal_local_events g x (NoteMax m) = refl
-illegal_local_events g x (Make path) = refl
-illegal_local_events g x action = refl
-
-pub Makes-accounts : (s : State) (step : Step) (answer : Answer) (t : State) → IsSound s → Makes s step answer t → AccountsAdvance s step.action answer t
-Makes-accounts s step Illegal t sound m =
-    accounts_left s step.action Illegal t
-    (leaves_same s t (ap (λ (t : State). t.groups) m.1) (ap (λ (t : State). t.accounts) m.1) (λ k. let e : current_in t k ≡ current_in s k = ap (λ (t : State). current_in t k) m.1 in omega (arith, e)))
-    (λ g x. illegal_events g s.groups x step.action) (λ g x. illegal_local_events g x step.action)
-Makes-accounts s step answer t sound m = Changes-accounts s step.seat step.action answer t sound m.0 m.1
+pub noted-absent : (groups : List Group) (g m : ℕ) (a : Account) → has_group groups g ≡ true → has_group groups m ≡ false → noted groups g m a ≡ a
+noted-absent groups g m a there absent =
+    let other : eqb m g ≡ false = ne_eqb m g (λ e. false≢true (sym absent ∙ ap (has_group groups) e ∙ there)) in
+    rw (not_above groups m g absent, other) refl

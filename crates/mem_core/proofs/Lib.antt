@@ -8,6 +8,7 @@ pub mod Showing
 pub mod Usage
 pub mod Effects
 pub mod AccountLemmas
+pub mod AccountSteps
 pub mod Soundness
 pub mod Stepping
 pub mod Playing

@@ -18,7 +18,7 @@ use Rattle.mem_core.proofs.Laws.{current_in-Shows, current_in-Matches}
 use Rattle.mem_core.proofs.Peaks.{usage-le-peak, IsPeak-more, IsPeak-new}
 use Rattle.mem_core.proofs.Counting.{events_of-pushed, local_events_of-pushed}
 use Rattle.mem_core.proofs.Showing.{Advances, Matches-advance, Makes-advance, Makes-allowed}
-use Rattle.mem_core.proofs.AccountLemmas.{AccountsAdvance, Makes-accounts}
+use Rattle.mem_core.proofs.AccountSteps.{AccountsAdvance, Makes-accounts}
 
 -- the peak of a group that is there is that of the longer run
 peak-step : (s : State) (run : Run) (step : Step) (answer : Answer) (t : State) → IsSound s → Shows s run → AccountsAdvance s step.action answer t → t.config ≡ s.config → ((g : ℕ) → current_in t g ≡ usage_of t.config (pushed run step answer) g) → t.groups ≡ groups_of (pushed run step answer) → (g : ℕ) → has_group t.groups g ≡ true → IsPeak t.config (pushed run step answer) g (account_in t g).peak

@@ -34,5 +34,11 @@ frames_below-without_group groups places g m are there keepers none = ?
 pub pages_below-without_group : (groups : List Group) (pending : List ℕ) (g m : ℕ) → AreGroups groups → has_group groups g ≡ true → pages_below groups pending g ≡ 0 → pages_below (without_group groups g) pending m ≡ pages_below groups pending m
 pages_below-without_group groups pending g m are there none = ?
 
+pub no_page_of : (groups : List Group) (pending : List ℕ) (g : ℕ) → AreGroups groups → has_group groups g ≡ true → pages_below groups pending g ≡ 0 → slice_index pending g ≡ 0
+no_page_of groups pending g facts there none = ?
+
+pub no_frame_of : (groups : List Group) (places : List Place) (g : ℕ) → has_group groups g ≡ true → All (KeeperIsThere groups) places → frames_below groups places g ≡ 0 → All (KeeperIsThere (without_group groups g)) places
+no_frame_of groups places g there keepers none = ?
+
 pub none_below : (groups : List Group) (places : List Place) (pending : List ℕ) (m : ℕ) → has_group groups m ≡ false → (frames_below groups places m ≡ 0) × (pages_below groups pending m ≡ 0)
 none_below groups places pending m absent = ?

@@ -17,12 +17,13 @@ use Rattle.mem_core.specs.declared.step.Place.{Place}
 use Rattle.mem_core.specs.declared.step.Place.TheVariants.{Free, Charged}
 use Rattle.mem_core.specs.Config.{IsValidConfig}
 use Rattle.mem_core.specs.Places.{is_same_place}
-use Rattle.mem_core.specs.Shown.{State, is_at, free_in, KeeperIsThere, IsSound, Shows}
+use Rattle.mem_core.specs.Shown.{State, is_at, free_in, KeeperIsThere, IsSound}
+use Rattle.mem_core.specs.Events.{Account, new_account}
 use Rattle.mem_core.specs.Steps.{with_range, with_block, counted}
 use Rattle.mem_core.specs.declared.zone.Core.TheInside.{Inside}
 use Rattle.mem_core.specs.Inside.{state_of, IsWhole}
 use Rattle.mem_core.proofs.PlaceLemmas.{is_same_place-sym, is_at_within, is_at_past}
-use Rattle.mem_core.proofs.Soundness.{map-replicate, map-with_range, IsSound-made, IsSound-placed}
+use Rattle.mem_core.proofs.Soundness.{map-replicate, map-with_range, IsSound-made, IsSound-placed, NoneAbsent-less}
 
 -- what a core shows before its first step
 abbrev pub start_of : Config → List Block → State
@@ -32,6 +33,7 @@ start_of config areas = record {
   groups = initial_groups;
   places = replicate config.frames Free;
   pending = replicate 64 0;
+  accounts = replicate 64 new_account;
   areas = areas;
   steps = 0;
 }
@@ -39,7 +41,8 @@ start_of config areas = record {
 pub free_in-start : (frames : ℕ) → free_in (replicate frames Free) ≡ replicate frames true
 free_in-start frames = map-replicate (λ p. is_same_place p Free) frames Free
 
-places-start : (frames f : ℕ) (p : Place) → (nat_lt f frames && is_same_place p Free) ≡ is_at (replicate frames Free) f p
+-- each frame is free at first
+pub places-start : (frames f : ℕ) (p : Place) → (nat_lt f frames && is_same_place p Free) ≡ is_at (replicate frames Free) f p
 places-start frames f p =
     let len = length-replicate frames Free in
     elim (cases_lt f frames) [
@@ -53,22 +56,13 @@ places-start frames f p =
           rw e (sym (is_at_past (replicate frames Free) f p (omega arith)))
     ]
 
-none_pending : (g : ℕ) → slice_index (replicate 64 0) g ≡ 0
+-- no page is pending at first
+pub none_pending : (g : ℕ) → slice_index (replicate 64 0) g ≡ 0
 none_pending g =
     elim (cases_lt g 64) [
       | inl within ↦ get_or-replicate 64 g 0 0 within
       | inr past ↦ get_or_past (replicate 64 0) g 0 (let len = length-replicate {A = ℕ} 64 0 in omega arith)
     ]
-
-pub Shows-start : (config : Config) (areas : List Block) → Shows (start_of config areas) []
-Shows-start config areas = record {
-  legal = λ k. tt;
-  steps = refl;
-  holder = refl;
-  groups = refl;
-  places = places-start config.frames;
-  pending = λ g. sym (zero-add _ ∙ none_pending g);
-}
 
 pub IsSound-start : (config : Config) (areas : List Block) → IsValidConfig config → AreMaximalBlocks (replicate config.frames true) areas → IsSound (start_of config areas)
 IsSound-start config areas valid maximal = record {
@@ -76,6 +70,8 @@ IsSound-start config areas valid maximal = record {
   groups = AreGroups-initial;
   places = length-replicate config.frames Free;
   pending = length-replicate {A = ℕ} 64 0;
+  accounts = length-replicate {A = Account} 64 new_account;
+  absent = λ g absent. none_pending g;
   areas = subst (λ (free : List Bool). AreMaximalBlocks free areas) (sym (free_in-start config.frames)) maximal;
   keepers = λ k d h. subst (KeeperIsThere initial_groups) (sym (get_or-replicate config.frames k Free d (let len = length-replicate config.frames Free in omega arith))) tt;
   settled = λ free k d h. get_or-replicate 64 k 0 d (let len = length-replicate {A = ℕ} 64 0 in omega arith);
@@ -89,8 +85,9 @@ AreGroups-made groups n path facts fits least =
     let room = can.room in
     AreGroups-with groups n path facts can (omega arith) least.free
 
-pub IsSound-step_made : (s : State) (n : ℕ) (path : List ℕ) → make_fault s.groups path ≡ None → IsLeastFreeNumber s.groups n → IsSound s → IsSound (record (counted s) { groups = with_group s.groups n path })
-IsSound-step_made s n path fits least sound = IsSound-made s n path (AreGroups-made s.groups n path sound.groups fits least) sound
+pub IsSound-step_made : (s : State) (n : ℕ) (path : List ℕ) (account : Account) → make_fault s.groups path ≡ None → IsLeastFreeNumber s.groups n → IsSound s → IsSound (record (counted s) { groups = with_group s.groups n path; accounts = slice_set s.accounts n account })
+IsSound-step_made s n path account fits least sound =
+    IsSound-made s n path (slice_set s.accounts n account) (AreGroups-made s.groups n path sound.groups fits least) (length-set s.accounts n account ∙ sound.accounts) sound
 
 -- ---- pages that are pending stay few
 pub bound_more : (pending : List ℕ) (steps : ℕ) → All (λ n. n ≤ steps * 2 ^ 32) pending → All (λ n. n ≤ (steps + 1) * 2 ^ 32) pending
@@ -115,7 +112,8 @@ free_in-with_block c b g flags =
     ap (λ free. with_range free b.at (2 ^ b.order) false) flags
     ∙ sym (map-with_range (λ p. is_same_place p Free) c.places.items b.at (2 ^ b.order) (Charged g))
 
-pub IsSound-step_placed : (c : Inside) (b : Block) (g : ℕ) (pending : List ℕ) (areas : List Block) → IsWhole c → length pending ≡ 64 → IsFreeBlock (free_in c.places.items) b → has_group c.tree g ≡ true → is_some c.holder ≡ true → AreMaximalBlocks (with_range c.free.items b.at (2 ^ b.order) false) areas → IsSound (record (counted (state_of c)) { places = with_block c.places.items b (Charged g); pending = pending; areas = areas })
-IsSound-step_placed c b g pending areas whole len block there held maximal =
-    IsSound-placed (state_of c) b g pending areas block there len held
+pub IsSound-step_placed : (c : Inside) (b : Block) (g v : ℕ) (areas : List Block) → IsWhole c → v ≤ slice_index c.pending.items g → IsFreeBlock (free_in c.places.items) b → has_group c.tree g ≡ true → is_some c.holder ≡ true → AreMaximalBlocks (with_range c.free.items b.at (2 ^ b.order) false) areas → IsSound (record (counted (state_of c)) { places = with_block c.places.items b (Charged g); pending = slice_set c.pending.items g v; areas = areas })
+IsSound-step_placed c b g v areas whole less block there held maximal =
+    IsSound-placed (state_of c) b g (slice_set c.pending.items g v) areas block there (length-set c.pending.items g v ∙ whole.sound.pending)
+    (NoneAbsent-less c.tree c.pending.items g v less whole.sound.absent) held
     (subst (λ (free : List Bool). AreMaximalBlocks free areas) (free_in-with_block c b g whole.flags) maximal) whole.sound

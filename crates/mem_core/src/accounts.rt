@@ -1,8 +1,8 @@
 //! Peaks and events along a path.
 
-ghost use Rattle.std.specs.Prelude.{◌≡◌, ◌+◌, ◌^◌, ◌<◌, ◌≤◌, ℕ, IsTrue, length, vec_len, All};
+ghost use Rattle.std.specs.Prelude.{◌≡◌, ◌+◌, ◌^◌, ◌≤◌, ℕ, IsTrue, length, vec_len, All};
 ghost use Rattle.std.specs.List.{slice_index_or};
-ghost use Rattle.group_tree.specs.Groups.{has_group, in_subtree};
+ghost use Rattle.group_tree.specs.Groups.{has_group};
 ghost use Rattle.mem_core.specs.Events.{new_account};
 ghost use Rattle.mem_core.specs.Shown.{frames_below, KeeperIsThere, pages_below};
 ghost use Rattle.mem_core.specs.Steps.{noted, peaked};
@@ -29,31 +29,30 @@ pub(crate) fn raise_peaks(
     ensures length { vec_len accounts.new ≡ 64 }
     ensures peaks { (m : ℕ) → slice_index_or accounts.new.items m new_account ≡ peaked tree.now group m (frames_below tree.now places.now m + pages_below tree.now pending.now m) (slice_index_or accounts.old.items m new_account) }
 {
-    for number in 0..64u32 {
-        let place = number as usize;
-        accounts[place] = with_peak(tree, places, pending, group, number, accounts[place]);
+    for row in tree.groups() {
+        let place = row.number.number() as usize;
+        accounts[place] = with_peak(tree, places, pending, group, row.number, accounts[place]);
     }
 }
 
-// The account of the group of this number, whose peak is at least its usage where the other group is in its
+// The account of a group that is there, whose peak is at least its usage where the other group is in its
 // subtree.
 fn with_peak(
     tree: &Tree,
     places: &[Place],
     pending: &[u128],
     group: GroupId,
-    number: u32,
+    above: GroupId,
     account: Account,
 ) -> Account
     requires there { IsTrue (has_group tree.now group) }
+    requires above { IsTrue (has_group tree.now above) }
     requires keepers { All (KeeperIsThere tree.now) places.now }
     requires numbers { length pending.now ≡ 64 }
     requires bound { All (λ n. n ≤ 2 ^ 96) pending.now }
-    requires number { number < 64 }
-    ensures { result ≡ peaked tree.now group number (frames_below tree.now places.now number + pages_below tree.now pending.now number) account }
+    ensures { result ≡ peaked tree.now group above (frames_below tree.now places.now above + pages_below tree.now pending.now above) account }
 {
-    let above = GroupId::of(number).unwrap();
-    if !is_above(tree, above, group) {
+    if !tree.in_subtree(above, group) {
         return account;
     }
     let usage = usage(tree, places, pending, above);
@@ -63,14 +62,6 @@ fn with_peak(
     }
 }
 
-// Whether the first group is there and has the second in its subtree.
-fn is_above(tree: &Tree, above: GroupId, group: GroupId) -> bool
-    requires there { IsTrue (has_group tree.now group) }
-    ensures { result ≡ in_subtree tree.now above group }
-{
-    tree.contains(above) && tree.in_subtree(above, group)
-}
-
 /// Counts one more `max` at the group and at each of its ancestors, and for the group alone.
 pub(crate) fn note_max(tree: &Tree, accounts: &mut Vec<Account>, group: GroupId)
     requires there { IsTrue (has_group tree.now group) }
@@ -78,21 +69,20 @@ pub(crate) fn note_max(tree: &Tree, accounts: &mut Vec<Account>, group: GroupId)
     ensures length { vec_len accounts.new ≡ 64 }
     ensures events { (m : ℕ) → slice_index_or accounts.new.items m new_account ≡ noted tree.now group m (slice_index_or accounts.old.items m new_account) }
 {
-    for number in 0..64u32 {
-        let place = number as usize;
-        accounts[place] = with_note(tree, group, number, accounts[place]);
+    for row in tree.groups() {
+        let place = row.number.number() as usize;
+        accounts[place] = with_note(tree, group, row.number, accounts[place]);
     }
 }
 
-// The account of the group of this number after a note at the other group.
-fn with_note(tree: &Tree, group: GroupId, number: u32, account: Account) -> Account
+// The account of a group that is there, after a note at the other group.
+fn with_note(tree: &Tree, group: GroupId, above: GroupId, account: Account) -> Account
     requires there { IsTrue (has_group tree.now group) }
-    requires number { number < 64 }
-    ensures { result ≡ noted tree.now group number account }
+    requires above { IsTrue (has_group tree.now above) }
+    ensures { result ≡ noted tree.now group above account }
 {
-    let above = GroupId::of(number).unwrap();
     let mut noted = account;
-    if is_above(tree, above, group) {
+    if tree.in_subtree(above, group) {
         noted.events = account.events.with_max();
     }
     if above == group {
