@@ -25,7 +25,7 @@ fold-map g f a (x ∷ xs) = fold-map g f (a + g (f x)) xs
 sum_by-map : {X Y : Type 0} (g : Y → ℕ) (f : X → Y) (xs : List X) → sum_by g (map f xs) ≡ sum_by (λ x. g (f x)) xs
 sum_by-map g f xs = fold-map g f 0 xs
 
-and_right_false : (a b : Bool) → b ≡ false → (a && b) ≡ false
+pub and_right_false : (a b : Bool) → b ≡ false → (a && b) ≡ false
 and_right_false true b e = e
 and_right_false false b e = refl
 

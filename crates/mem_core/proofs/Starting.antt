@@ -18,7 +18,7 @@ use Rattle.mem_core.proofs.Wholeness.{start_of, places-start, none_pending}
 -- no element passes a test that always fails
 count_none : {X : Type 0} (xs : List X) → count_by (λ x. false) xs ≡ 0
 count_none [] = refl
-count_none (x ∷ xs) = sum_by-cons (λ x. 0) x xs ∙ count_none xs
+count_none (x ∷ xs) = sum_by-cons (λ x. 0) x xs ∙ zero-add _ ∙ count_none xs
 
 none_kept : (config : Config) (g f : ℕ) → is_kept (places_of config []) initial_groups g f ≡ false
 none_kept config g f = rw (and_right_false (nat_lt f config.frames) false refl, and_right_false (in_subtree initial_groups g 0) false refl) refl
