@@ -6,3 +6,4 @@ pub mod Soundness
 pub mod Playing
 pub mod Wholeness
 pub mod Blocks
+pub mod Usage
