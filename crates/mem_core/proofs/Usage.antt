@@ -1,8 +1,8 @@
 -- What each change of a state's parts does to the frames and to the pages that a group's subtree uses.
-use Rattle.std.proofs.Common.{◌≡◌, ◌≢◌, ℕ, zero, suc, ◌+◌, ◌-◌, ◌*◌, ◌^◌, ◌<◌, ◌≤◌, Bool, true, false, not, cond, min, ◌||◌, ◌==◌, IsTrue, Option, None, List, [], ◌∷◌, ◌++◌, length, take, drop, map, filter, replicate, get_or, All, AllPairs, Contains, refl, sym, ap, ◌∙◌, subst, arith, inl, inr, ⊎_elim, length-take, if◌then◌else◌}
+use Rattle.std.proofs.Common.{◌≡◌, ◌≢◌, ℕ, suc, ◌+◌, ◌*◌, ◌^◌, ◌<◌, ◌≤◌, Bool, true, false, not, cond, min, ◌||◌, ◌==◌, Option, None, List, [], ◌∷◌, ◌++◌, length, take, drop, map, filter, replicate, get_or, All, AllPairs, refl, sym, ap, ◌∙◌, subst, arith, inl, inr, ⊎_elim, length-take, if◌then◌else◌}
 use Rattle.std.specs.Prelude.{slice_index, slice_set}
 use Rattle.std.specs.List.{sum_by, count_by, list_any}
-use Rattle.std.proofs.lemmas.Bool.{cond-true, cond-false, cond_both, cases_Bool, cases_eq, both_ways, false_from_ne_true, false≢true, not-true, not-false, eqb-true, eqb-false, eq-eqb, ne_eqb, or_parts}
+use Rattle.std.proofs.lemmas.Bool.{cond-true, cond-false, cases_Bool, cases_eq, both_ways, false_from_ne_true, false≢true, not-true, not-false, eqb-true, eqb-false, eq-eqb, ne_eqb, or_parts}
 use Rattle.std.proofs.lemmas.List.{get_or-map, get_or-take, get_or-drop, get_or-set_same, get_or-set_other, get_or_default, drop-drop, length-map}
 use Rattle.std.proofs.lemmas.List.Elements.{All-head, All-tail, All-contains, Contains-get_or, filter_passes}
 use Rattle.std.proofs.lemmas.List.Folds.{Any-from_list_any, sum_by-replicate}
