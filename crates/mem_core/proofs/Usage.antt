@@ -214,7 +214,7 @@ none_below groups places pending m free = (
 )
 
 -- ---- a group that is made
--- the new group lies below those above it, and has none of the others below it
+-- a group that was there lies below the same groups as before, and not below the new one
 below-with : (groups : List Group) (n m h : ℕ) (path : List ℕ) → AreGroups groups → make_fault groups path ≡ None → has_group groups n ≡ false → has_group groups h ≡ true → in_subtree (with_group groups n path) m h ≡ in_subtree groups m h
 below-with groups n m h path facts fault free there =
     let apart : h ≢ n = λ same. both_ways (has_group groups n) free (ap (has_group groups) (sym same) ∙ there) in
