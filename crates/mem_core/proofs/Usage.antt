@@ -208,12 +208,13 @@ absent-charged groups m (Charged h) free = absent-below groups m h free
 
 -- a group that is not there uses nothing
 pub none_below : (groups : List Group) (places : List Place) (pending : List ℕ) (m : ℕ) → has_group groups m ≡ false → (frames_below groups places m ≡ 0) × (pages_below groups pending m ≡ 0)
-none_below groups places pending m free =
-    (count-none (is_charged_below groups m) places (λ k d lt. absent-charged groups m (get_or places k d) free),
-    sum-none (share groups pending m) groups (λ k d lt. cond-false (in_subtree groups m (get_or groups k d).number) (slice_index pending (get_or groups k d).number) 0 (absent-below groups m (get_or groups k d).number free)))
+none_below groups places pending m free = (
+  count-none (is_charged_below groups m) places (λ k d lt. absent-charged groups m (get_or places k d) free),
+  sum-none (share groups pending m) groups (λ k d lt. cond-false (in_subtree groups m (get_or groups k d).number) (slice_index pending (get_or groups k d).number) 0 (absent-below groups m (get_or groups k d).number free)),
+)
 
 -- ---- a group that is made
--- the new group lies below those above it, and has none of the others below it
+-- a group that was there lies below the same groups as before, and not below the new one
 below-with : (groups : List Group) (n m h : ℕ) (path : List ℕ) → AreGroups groups → make_fault groups path ≡ None → has_group groups n ≡ false → has_group groups h ≡ true → in_subtree (with_group groups n path) m h ≡ in_subtree groups m h
 below-with groups n m h path facts fault free there =
     let apart : h ≢ n = λ same. both_ways (has_group groups n) free (ap (has_group groups) (sym same) ∙ there) in
@@ -244,9 +245,9 @@ pages_below-with_group groups pending n m path facts fault free none =
     let more = sum_by_push F groups new in
     let last : F new ≡ 0 = zero_either (in_subtree (with_group groups n path) m n) (slice_index pending n) none in
     let others = sum-same F (share groups pending m) groups
-        (λ k d lt.
-        let h = get_or groups k d in
-        ap (λ b. cond b (slice_index pending h.number) 0) (below-with groups n m h.number path facts fault free (has_group-contains groups h (Contains-get_or groups k d lt)))) in
+    (λ k d lt.
+    let h = get_or groups k d in
+    ap (λ b. cond b (slice_index pending h.number) 0) (below-with groups n m h.number path facts fault free (has_group-contains groups h (Contains-get_or groups k d lt)))) in
     omega arith
 
 -- ---- another limit
