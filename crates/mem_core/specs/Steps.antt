@@ -1,5 +1,5 @@
 -- How one step changes what a core shows.
-use Rattle.std.specs.Prelude.{◌≡◌, ℕ, ◌+◌, ◌-◌, ◌*◌, ◌^◌, ◌==◌, ◌&&◌, ◌++◌, nat_le, not, max, Bool, true, false, Option, Some, None, is_none, is_some, List, length, map, take, drop, replicate, slice_index, slice_set, if◌then◌else◌}
+use Rattle.std.specs.Prelude.{◌≡◌, ℕ, ◌+◌, ◌-◌, ◌*◌, ◌^◌, ◌==◌, ◌&&◌, ◌++◌, ◌≤◌, nat_le, not, max, Bool, true, false, Option, Some, None, is_none, is_some, List, length, map, take, drop, replicate, slice_index, slice_set, if◌then◌else◌}
 use Rattle.std.specs.List.{list_all}
 use Rattle.zone_blocks.specs.declared.block.Block.{Block}
 use Rattle.zone_blocks.specs.Areas.{IsFreeBlock, IsSmallestFrom}
@@ -108,6 +108,14 @@ Changes s seat (SetMax g limit) Done t = t ≡ record (counted s) { groups = wit
 Changes s seat (NoteMax g) Done t = (t ≡ record (counted s) { accounts = t.accounts }) × CountsMax s t g
 Changes s seat (Remove g) Done t = t ≡ record (counted s) { groups = without_group s.groups g }
 Changes s seat action answer t = ⊥
+
+-- what a step does to the numbers that are kept: pages that are granted to a group are added there and at each of
+-- its ancestors, at none of which the number is above the limit then; no other step raises any number
+abbrev pub MovesUsage : State → Action → Answer → State → Type 0
+MovesUsage s (Grant g n) Granted t =
+    ((m : ℕ) → current_in t m ≡ current_in s m + (if in_subtree s.groups m g then n else 0)) ×
+    ((m : ℕ) → in_subtree t.groups m g ≡ true → fits_limit (limit_of t.groups m) (current_in t m) ≡ true)
+MovesUsage s action answer t = (m : ℕ) → current_in t m ≤ current_in s m
 
 -- the state after the step, where the answer is this one: a step that may not be made is only counted
 abbrev pub Makes : State → Step → Answer → State → Type 0

@@ -11,7 +11,7 @@ ghost use Rattle.mem_core.specs.Places.{is_same_place};
 ghost use Rattle.mem_core.specs.Run.{Run, groups_of, places_of, usage_of, free_frames};
 ghost use Rattle.mem_core.specs.Legal.{is_held_by};
 ghost use Rattle.mem_core.specs.Shown.{State, Shows, IsSound, free_in, current_in};
-ghost use Rattle.mem_core.specs.Steps.{may_act, may_remove, may_zone_act, counted, has_room_in, with_block, CountsMax, IsFrontOfSmallest, IsLowestOverIn, PathHasRoomIn, PlacesSmallest, RaisesPeaks, Changes, Makes};
+ghost use Rattle.mem_core.specs.Steps.{may_act, may_remove, may_zone_act, counted, has_room_in, with_block, CountsMax, IsFrontOfSmallest, IsLowestOverIn, MovesUsage, PathHasRoomIn, PlacesSmallest, RaisesPeaks, Changes, Makes};
 
 mod readers;
 
@@ -102,6 +102,7 @@ impl Core {
         ensures shows { (run : Run) → Shows self.old run → Shows self.new (run ++ (step, result) ∷ []) }
         ensures illegal { result ≡ Answer.Illegal → self.new ≡ counted self.old }
         ensures smallest { PlacesSmallest self.old step.action result }
+        ensures usage { MovesUsage self.old step.action result self.new }
         ensures config { self.new.config ≡ self.old.config }
         ensures sound { IsSound self.new }
     {

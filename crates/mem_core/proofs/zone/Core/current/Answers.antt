@@ -2,7 +2,7 @@
 use Rattle.std.proofs.Common.{◌∙◌, subst}
 use Rattle.mem_core.specs.Shown.{IsSound}
 use Rattle.mem_core.proofs.Laws.{current_in-Shows}
-use Rattle.mem_core.proofs.Playing.{HasSizes-IsSound}
+use Rattle.mem_core.proofs.Parts.{HasSizes-IsSound}
 use Rattle.mem_core.proofs.zone.Core.current.Goals as goal
 
 pub returns-clause-run : goal.returns-clause-run

@@ -5,6 +5,7 @@ use Rattle.zone_blocks.specs.Areas.{AreMaximalBlocks}
 use Rattle.mem_core.specs.Shown.{State, free_in, IsSound, Shows}
 use Rattle.mem_core.specs.Inside.{state_of}
 use Rattle.mem_core.proofs.Wholeness.{start_of, free_in-start, none_bound, IsSound-start}
+use Rattle.mem_core.proofs.Starting.{Shows-start}
 use Rattle.mem_core.proofs.zone.Core.new.Goals as goal
 
 -- the state that the new core shows
