@@ -1,12 +1,11 @@
 -- The accounts of the groups that are there change one after another.
-use Rattle.std.proofs.Common.{◌≡◌, ◌≢◌, ℕ, ◌+◌, ◌<◌, ◌≤◌, ◌||◌, Bool, true, false, cond, eqb, List, length, take, get_or, set, refl, sym, ◌∙◌, ap, subst, arith, inl, inr, length-take}
-use Rattle.std.specs.Prelude.{All, AllPairs}
-use Rattle.std.specs.List.{list_any}
+use Rattle.std.proofs.Common.{◌≡◌, ◌≢◌, ℕ, ◌+◌, ◌<◌, ◌||◌, Bool, true, false, cond, eqb, List, length, take, get_or, set, refl, sym, ◌∙◌, ap, subst, arith, inl, inr}
+use Rattle.std.specs.Prelude.{AllPairs}
 use Rattle.std.proofs.lemmas.Bool.{cases_eq, cases_Bool, false≢true, eq-eqb, ne_eqb, false_from_ne_true}
-use Rattle.std.proofs.lemmas.List.{get_or-set_same, get_or-set_other, get_or_default, get_or-take, take_all, length-take-le}
+use Rattle.std.proofs.lemmas.List.{get_or-set_same, get_or-set_other, get_or_default, get_or-take, length-take-le}
 use Rattle.std.proofs.lemmas.List.Folds.{list_any_more, list_any_none}
 use Rattle.group_tree.specs.declared.group.Group.{Group}
-use Rattle.group_tree.specs.Groups.{has_group, in_subtree, AreGroups}
+use Rattle.group_tree.specs.Groups.{has_group, in_subtree}
 use Rattle.group_tree.proofs.GroupLemmas.{has_group-any}
 use Rattle.group_tree.proofs.CallerLemmas.{in_subtree-above}
 use Rattle.mem_core.specs.Events.{Account, new_account}

@@ -1,10 +1,9 @@
 -- Each change of the state keeps its parts in agreement.
-use Rattle.std.proofs.Common.{◌≡◌, ℕ, ◌+◌, ◌-◌, ◌*◌, ◌^◌, ◌<◌, ◌≤◌, ◌⊎◌, ◌==◌, ◌&&◌, ◌≢◌, Bool, true, false, cond, Option, Some, None, is_some, zero, suc, List, [], ◌∷◌, ◌++◌, length, take, drop, map, replicate, get_or, refl, sym, ◌∙◌, ap, subst, arith, inl, inr, length-set}
+use Rattle.std.proofs.Common.{◌≡◌, ℕ, ◌+◌, ◌^◌, ◌≤◌, ◌==◌, ◌≢◌, Bool, true, false, cond, Option, Some, None, is_some, zero, suc, List, [], ◌∷◌, ◌++◌, length, take, drop, map, replicate, get_or, refl, sym, ◌∙◌, ap, subst, arith, inl, inr, length-set}
 use Rattle.std.specs.Prelude.{slice_index, slice_set, All}
 use Rattle.std.specs.List.{slice_index_or, find}
 use Rattle.std.proofs.lemmas.Bool.{cases_lt, cases_eq, cases_Bool, false≢true}
-use Rattle.std.proofs.lemmas.List.{get_or-map, length-map, map-append, take-map, drop-map, get_or_default, get_or_past, get_or-set_same, get_or-set_other}
-use Rattle.std.proofs.lemmas.Grind.{common_steps}
+use Rattle.std.proofs.lemmas.List.{length-map, map-append, take-map, drop-map, get_or_default, get_or_past, get_or-set_same, get_or-set_other}
 use Rattle.zone_blocks.specs.declared.block.Block.{Block}
 use Rattle.zone_blocks.specs.Areas.{IsFreeBlock, AreMaximalBlocks}
 use Rattle.group_tree.specs.declared.group.Group.{Group}
@@ -19,18 +18,6 @@ use Rattle.mem_core.specs.Shown.{State, free_in, KeeperIsThere, IsSound}
 use Rattle.mem_core.specs.Steps.{with_range, with_block, counted}
 use Rattle.mem_core.proofs.PlaceLemmas.{length-with_block, get_or-with_block_in, get_or-with_block_out}
 
--- a step that changes no part but the number of steps
-pub IsSound-counted : (s : State) → IsSound s → IsSound (counted s)
-IsSound-counted s sound = record { config = sound.config; groups = sound.groups; places = sound.places; pending = sound.pending; accounts = sound.accounts; absent = sound.absent; areas = sound.areas; keepers = sound.keepers; settled = sound.settled }
-
--- the lock changes hands: it is given back only where nothing is pending
-pub IsSound-holder : (s : State) (holder : Option ℕ) → (holder ≡ None → All (λ n. n ≡ 0) s.pending) → IsSound s → IsSound (record (counted s) { holder = holder })
-IsSound-holder s holder settled sound = record { config = sound.config; groups = sound.groups; places = sound.places; pending = sound.pending; accounts = sound.accounts; absent = sound.absent; areas = sound.areas; keepers = sound.keepers; settled = settled }
-
--- something is noted in the accounts
-pub IsSound-noted : (s : State) (accounts : List Account) → length accounts ≡ 64 → IsSound s → IsSound (record (counted s) { accounts = accounts })
-IsSound-noted s accounts len sound = record { config = sound.config; groups = sound.groups; places = sound.places; pending = sound.pending; accounts = len; absent = sound.absent; areas = sound.areas; keepers = sound.keepers; settled = sound.settled }
-
 held_is_not_free : (holder : Option ℕ) (P : Type 0) → is_some holder ≡ true → holder ≡ None → P
 held_is_not_free None P held free = absurd (false≢true held)
 held_is_not_free (Some seat) P held free = cc
@@ -38,14 +25,6 @@ held_is_not_free (Some seat) P held free = cc
 -- no page is pending for a group that isn't there
 abbrev pub NoneAbsent : List Group → List ℕ → Type 0
 NoneAbsent groups pending = (k : ℕ) → has_group groups k ≡ false → slice_index pending k ≡ 0
-
--- a group that is there gets another number of pages
-pub NoneAbsent-there : (groups : List Group) (pending : List ℕ) (g v : ℕ) → has_group groups g ≡ true → NoneAbsent groups pending → NoneAbsent groups (slice_set pending g v)
-NoneAbsent-there groups pending g v there none k absent =
-    elim (cases_eq k g) [
-      | inl same ↦ absurd (false≢true (sym absent ∙ ap (has_group groups) same ∙ there))
-      | inr other ↦ get_or-set_other pending g k v 0 other ∙ none k absent
-    ]
 
 -- a number of pages is made less
 pub NoneAbsent-less : (groups : List Group) (pending : List ℕ) (g v : ℕ) → v ≤ slice_index pending g → NoneAbsent groups pending → NoneAbsent groups (slice_set pending g v)
@@ -60,10 +39,6 @@ NoneAbsent-less groups pending g v less none k absent =
       | inr other ↦ get_or-set_other pending g k v 0 other ∙ none k absent
     ]
 
--- while the lock is held, pages may be pending, and the accounts may follow
-pub IsSound-pending : (s : State) (pending : List ℕ) (accounts : List Account) → length pending ≡ 64 → length accounts ≡ 64 → NoneAbsent s.groups pending → is_some s.holder ≡ true → IsSound s → IsSound (record (counted s) { pending = pending; accounts = accounts })
-IsSound-pending s pending accounts len accounts_len absent held sound = record { config = sound.config; groups = sound.groups; places = sound.places; pending = len; accounts = accounts_len; absent = absent; areas = sound.areas; keepers = sound.keepers; settled = held_is_not_free s.holder (All (λ n. n ≡ 0) pending) held }
-
 KeeperIsThere-with_block : (groups : List Group) (places : List Place) (b : Block) (g : ℕ) → has_group groups g ≡ true → b.at + 2 ^ b.order ≤ length places → All (KeeperIsThere groups) places → All (KeeperIsThere groups) (with_block places b (Charged g))
 KeeperIsThere-with_block groups places b g there inside keepers f d h =
     let same_length = length-with_block places b (Charged g) inside in
@@ -77,9 +52,6 @@ KeeperIsThere-with_block groups places b g there inside keepers f d h =
         | inr after ↦ subst (KeeperIsThere groups) (sym (get_or-with_block_out places b (Charged g) f inside (inr after)) ∙ default) old_keeper
       ]
     ]
-
-pub length_of_free : (s : State) → IsSound s → length (free_in s.places) ≡ s.config.frames
-length_of_free s sound = length-map s.places (λ p. is_same_place p Free) ∙ sound.places
 
 -- a free block is placed
 pub IsSound-placed : (s : State) (b : Block) (g : ℕ) (pending : List ℕ) (areas : List Block) → IsFreeBlock (free_in s.places) b → has_group s.groups g ≡ true → length pending ≡ 64 → NoneAbsent s.groups pending → is_some s.holder ≡ true → AreMaximalBlocks (free_in (with_block s.places b (Charged g))) areas → IsSound s → IsSound (record (counted s) { places = with_block s.places b (Charged g); pending = pending; areas = areas })

@@ -1,9 +1,7 @@
 -- What a core keeps stays whole when it starts, when a group is made and when a block is placed.
-use Rattle.std.proofs.Common.{◌≡◌, ℕ, ◌+◌, ◌-◌, ◌*◌, ◌^◌, ◌<◌, ◌≤◌, ◌==◌, ◌&&◌, ◌≢◌, not, false, Bool, true, false, Option, Some, None, is_some, List, [], ◌∷◌, ◌++◌, length, map, replicate, get_or, refl, sym, ◌∙◌, ap, subst, arith, zero-add, inl, inr, ◌⊎◌, nat_lt}
+use Rattle.std.proofs.Common.{◌≡◌, ℕ, ◌+◌, ◌*◌, ◌^◌, ◌<◌, ◌≤◌, ◌==◌, ◌&&◌, ◌≢◌, not, false, Bool, true, false, None, is_some, List, length, replicate, get_or, sym, ◌∙◌, ap, subst, arith, inl, inr, nat_lt}
 use Rattle.std.specs.Prelude.{slice_index, slice_set, All}
-use Rattle.std.specs.List.{slice_get}
-use Rattle.std.specs.declared.alloc.Global.{Global}
-use Rattle.std.proofs.lemmas.Bool.{and_parts, not-true, eqb-true, eqb-false, cases_lt, cases_eq, le-leb, lt-ltb}
+use Rattle.std.proofs.lemmas.Bool.{and_parts, not-true, eqb-true, eqb-false, cases_lt, cases_eq, lt-ltb}
 use Rattle.std.proofs.lemmas.Bool.Decides.{nat_tests}
 use Rattle.std.proofs.lemmas.List.{get_or-replicate, get_or_past, get_or-set_same, get_or-set_other, length-replicate}
 use Rattle.std.proofs.Common.{length-set}
@@ -11,7 +9,7 @@ use Rattle.zone_blocks.specs.declared.block.Block.{Block}
 use Rattle.zone_blocks.specs.Areas.{IsFreeBlock, AreMaximalBlocks}
 use Rattle.group_tree.specs.declared.group.Group.{Group}
 use Rattle.group_tree.specs.Groups.{has_group, has_child, without_group, make_fault, with_group, initial_groups, IsLeastFreeNumber, AreGroups}
-use Rattle.group_tree.proofs.GroupLemmas.{AreGroups-initial, AreGroups-with, can_make, CanMake, length-full}
+use Rattle.group_tree.proofs.GroupLemmas.{AreGroups-initial, AreGroups-with, can_make, length-full}
 use Rattle.mem_core.specs.declared.config.Config.{Config}
 use Rattle.mem_core.specs.declared.step.Place.{Place}
 use Rattle.mem_core.specs.declared.step.Place.TheVariants.{Free, Charged}
@@ -121,19 +119,15 @@ IsSound-step_removed s g may sound =
 pub bound_more : (pending : List ℕ) (steps : ℕ) → All (λ n. n ≤ steps * 2 ^ 32) pending → All (λ n. n ≤ (steps + 1) * 2 ^ 32) pending
 bound_more pending steps bound k d h = let here = bound k d h in omega arith
 
--- a number of the list is made another
-pub bound_set : (pending : List ℕ) (steps g v : ℕ) → g < length pending → v ≤ slice_index pending g + 2 ^ 32 → All (λ n. n ≤ steps * 2 ^ 32) pending → All (λ n. n ≤ (steps + 1) * 2 ^ 32) (slice_set pending g v)
-bound_set pending steps g v inside less bound k d h =
+-- a number of the list is made less
+pub bound_less : (pending : List ℕ) (steps g v : ℕ) → g < length pending → v ≤ slice_index pending g → All (λ n. n ≤ steps * 2 ^ 32) pending → All (λ n. n ≤ (steps + 1) * 2 ^ 32) (slice_set pending g v)
+bound_less pending steps g v inside less bound k d h =
     let len = length-set pending g v in
     let there = bound g 0 inside in
     elim (cases_eq k g) [
       | inl same ↦ let e : get_or (slice_set pending g v) k d ≡ v = rw same (get_or-set_same pending g v d inside) in omega arith
       | inr other ↦ let e = get_or-set_other pending g k v d other in let here = bound k d (omega arith) in omega arith
     ]
-
--- a number of the list is made less
-pub bound_less : (pending : List ℕ) (steps g v : ℕ) → g < length pending → v ≤ slice_index pending g → All (λ n. n ≤ steps * 2 ^ 32) pending → All (λ n. n ≤ (steps + 1) * 2 ^ 32) (slice_set pending g v)
-bound_less pending steps g v inside less bound = bound_set pending steps g v inside (omega arith) bound
 
 pub none_bound : (steps : ℕ) → All (λ n. n ≤ steps * 2 ^ 32) (replicate 64 0)
 none_bound steps k d h = let len = length-replicate {A = ℕ} 64 0 in let e = get_or-replicate 64 k 0 d (omega arith) in omega arith

@@ -1,10 +1,10 @@
 -- Each group is passed once, and no other has an account that changes.
-use Rattle.std.proofs.Common.{◌≡◌, ℕ, ◌+◌, ◌<◌, IsTrue, List, length, take, get_or, set, refl, sym, ◌∙◌, ap, subst, arith, length-set}
-use Rattle.std.proofs.lemmas.List.{take_all, get_or_default}
+use Rattle.std.proofs.Common.{◌≡◌, ℕ, ◌<◌, IsTrue, List, length, take, get_or, sym, ◌∙◌, ap, subst, arith}
+use Rattle.std.proofs.lemmas.List.{take_all}
 use Rattle.group_tree.specs.declared.group.Group.{Group}
-use Rattle.group_tree.specs.Groups.{has_group, the_root, AreGroups}
+use Rattle.group_tree.specs.Groups.{has_group, AreGroups}
 use Rattle.group_tree.proofs.GroupLemmas.{has_group-contains}
-use Rattle.mem_core.specs.Events.{Account, new_account}
+use Rattle.mem_core.specs.Events.{Account}
 use Rattle.mem_core.specs.Steps.{noted}
 use Rattle.mem_core.proofs.AccountLemmas.{AreChanged, AreChanged-none, AreChanged-step, AreChanged-all, noted-absent}
 use Rattle.mem_core.proofs.accounts.note_max.Goals as goal

@@ -1,12 +1,12 @@
 -- The places and the flags of the block's frames change alike, and the areas follow the flags.
-use Rattle.std.proofs.Common.{◌≡◌, ◌<◌, ◌≤◌, ◌+◌, ◌-◌, ◌^◌, ℕ, List, Bool, false, refl, sym, ◌∙◌, ap, subst, arith, length}
+use Rattle.std.proofs.Common.{◌≡◌, ◌<◌, ◌≤◌, ◌-◌, ◌^◌, List, Bool, false, refl, sym, ◌∙◌, ap, subst, arith, length}
 use Rattle.std.specs.Prelude.{slice_index, slice_set}
-use Rattle.std.proofs.Common.{Option, is_some, true, length-set}
+use Rattle.std.proofs.Common.{is_some, true}
 use Rattle.std.proofs.lemmas.List.{get_or_default}
 use Rattle.zone_blocks.specs.Areas.{IsFreeBlock, AreMaximalBlocks}
 use Rattle.group_tree.specs.Groups.{has_group}
 use Rattle.mem_core.specs.declared.step.Place.{Place}
-use Rattle.mem_core.specs.declared.step.Place.TheVariants.{Free, Charged}
+use Rattle.mem_core.specs.declared.step.Place.TheVariants.{Charged}
 use Rattle.mem_core.specs.Shown.{State, free_in, IsSound}
 use Rattle.mem_core.specs.Steps.{counted, with_range, with_block}
 use Rattle.mem_core.specs.Inside.{state_of}

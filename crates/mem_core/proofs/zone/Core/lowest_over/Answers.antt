@@ -1,5 +1,5 @@
 -- Each group that the walk passes has room, and its parent stands one name higher.
-use Rattle.std.proofs.Common.{◌≡◌, IsTrue, sym, ap, ◌∙◌, subst, refl, true}
+use Rattle.std.proofs.Common.{IsTrue, sym, ap, ◌∙◌, subst, refl}
 use Rattle.group_tree.specs.Groups.{has_group, parent_of, AreGroups}
 use Rattle.group_tree.proofs.CallerLemmas.{in_subtree-above}
 use Rattle.mem_core.specs.Shown.{State}

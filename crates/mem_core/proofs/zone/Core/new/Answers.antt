@@ -1,5 +1,5 @@
 -- All frames are free, and nothing is pending.
-use Rattle.std.proofs.Common.{◌≡◌, ℕ, List, Bool, true, None, [], replicate, refl, sym, ap, ◌∙◌, ◌≤◌, ◌*◌, ◌^◌, subst}
+use Rattle.std.proofs.Common.{◌≡◌, List, Bool, None, [], refl, sym, ap, ◌∙◌, ◌≤◌, ◌*◌, ◌^◌, subst}
 use Rattle.std.specs.Prelude.{All}
 use Rattle.zone_blocks.specs.Areas.{AreMaximalBlocks}
 use Rattle.mem_core.specs.Shown.{State, free_in, IsSound, Shows}
@@ -26,7 +26,7 @@ invariant_of-result c = record {
 }
 
 pub returns-clause-empty : goal.returns-clause-empty
-returns-clause-empty c = subst (λ (s : State). Shows s []) (started c) ?
+returns-clause-empty c = subst (λ (s : State). Shows s []) (started c) (Shows-start c.args.config c.set_from.new.self.blocks)
 
 pub returns-clause-sound : goal.returns-clause-sound
 returns-clause-sound c = subst IsSound (started c) (sound c)
