@@ -1,11 +1,10 @@
 -- Free blocks of an order, found by the maximal free blocks.
-use Rattle.std.proofs.Common.{◌≡◌, ℕ, ◌+◌, ◌-◌, ◌*◌, ◌%◌, ◌^◌, ◌<◌, ◌≤◌, Bool, List, length, refl, sym, ◌∙◌, ap, subst, arith}
-use Rattle.std.specs.List.{Contains}
+use Rattle.std.proofs.Common.{◌≡◌, ℕ, ◌+◌, ◌-◌, ◌%◌, ◌^◌, ◌≤◌, Bool, List, sym, ◌∙◌, ap, subst, arith}
 use Rattle.std.proofs.Math.Pow.{pow_mono, mod-mod-pow}
 use Rattle.std.proofs.Math.Nat.{zero-mod}
 use Rattle.zone_blocks.specs.declared.block.Block.{Block}
-use Rattle.zone_blocks.specs.Block.{IsBlock, Covers}
-use Rattle.zone_blocks.specs.Areas.{IsFreeBlock, IsMaximalBlock, AreMaximalBlocks, HasNoneFrom}
+use Rattle.zone_blocks.specs.Block.{Covers}
+use Rattle.zone_blocks.specs.Areas.{IsFreeBlock, AreMaximalBlocks, HasNoneFrom}
 use Rattle.zone_blocks.proofs.Nested.{free_inside, greater_denied}
 use Rattle.zone_blocks.proofs.Unique.{in_maximal}
 

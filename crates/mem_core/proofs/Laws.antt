@@ -16,7 +16,7 @@ use Rattle.mem_core.specs.Run.{Run, holder_of, groups_of, places_of, pending_of,
 use Rattle.mem_core.specs.Headline.{IsAccounted}
 use Rattle.mem_core.specs.Shown.{State, is_at, free_in, is_charged_below, current_in, KeeperIsThere, IsSound, Shows}
 use Rattle.mem_core.proofs.PlaceLemmas.{is_same_place_same, same_from_is_same_place, is_at_within, is_at_past}
-use Rattle.mem_core.proofs.Showing.{HasSizes, pending_of-Shows, free_frames-Shows}
+use Rattle.mem_core.proofs.Parts.{HasSizes, Matches, Matches-Shows, pending_of-Matches, free_frames-Matches}
 
 fold-map : {X Y : Type 0} (g : Y → ℕ) (f : X → Y) (a : ℕ) (xs : List X) → fold (λ n y. n + g y) a (map f xs) ≡ fold (λ n x. n + g (f x)) a xs
 fold-map g f a [] = refl
@@ -25,7 +25,7 @@ fold-map g f a (x ∷ xs) = fold-map g f (a + g (f x)) xs
 sum_by-map : {X Y : Type 0} (g : Y → ℕ) (f : X → Y) (xs : List X) → sum_by g (map f xs) ≡ sum_by (λ x. g (f x)) xs
 sum_by-map g f xs = fold-map g f 0 xs
 
-and_right_false : (a b : Bool) → b ≡ false → (a && b) ≡ false
+pub and_right_false : (a b : Bool) → b ≡ false → (a && b) ≡ false
 and_right_false true b e = e
 and_right_false false b e = refl
 
@@ -80,8 +80,8 @@ is_kept-place : (groups : List Group) (g : ℕ) (place : Place) → KeeperIsTher
 is_kept-place groups g Free there = any_nowhere groups (in_subtree groups g)
 is_kept-place groups g (Charged k) there = any_at groups (in_subtree groups g) k there
 
-is_kept-Shows : (s : State) (run : Run) (g f : ℕ) → HasSizes s → IsSound s → Shows s run → f < s.config.frames → is_charged_below s.groups g (get_or s.places f Free) ≡ is_kept (places_of s.config run) (groups_of run) g f
-is_kept-Shows s run g f sizes sound shown h =
+is_kept-Matches : (s : State) (run : Run) (g f : ℕ) → HasSizes s → IsSound s → Matches s run → f < s.config.frames → is_charged_below s.groups g (get_or s.places f Free) ≡ is_kept (places_of s.config run) (groups_of run) g f
+is_kept-Matches s run g f sizes sound shown h =
     let within : f < length s.places = omega (arith, sizes.places) in
     let kept = λ (groups : List Group) (at : Place → Bool). list_any (λ x. in_subtree groups g x.number && at (Charged x.number)) groups in
     let by_place : (λ (p : Place). is_same_place (get_or s.places f Free) p) ≡ places_of s.config run f = λ i. λ p. (sym (is_at_within s.places f p within) ∙ sym (shown.places f p)) i in
@@ -89,27 +89,30 @@ is_kept-Shows s run g f sizes sound shown h =
     ∙ ap (kept s.groups) by_place
     ∙ ap (λ groups. kept groups (places_of s.config run f)) shown.groups
 
-frames_kept-Shows : (s : State) (run : Run) (g : ℕ) → HasSizes s → IsSound s → Shows s run → count_by (is_charged_below s.groups g) s.places ≡ frames_kept s.config run g
-frames_kept-Shows s run g sizes sound shown =
+frames_kept-Matches : (s : State) (run : Run) (g : ℕ) → HasSizes s → IsSound s → Matches s run → count_by (is_charged_below s.groups g) s.places ≡ frames_kept s.config run g
+frames_kept-Matches s run g sizes sound shown =
     let kept = is_kept (places_of s.config run) (groups_of run) g in
     let tests : map (is_charged_below s.groups g) s.places ≡ map kept (range_with_len 0 s.config.frames) =
     fill_by_all kept (map (is_charged_below s.groups g) s.places) s.config.frames false
     (length-map s.places (is_charged_below s.groups g) ∙ sizes.places)
     (λ f h.
     let within : f < length s.places = omega (arith, sizes.places) in
-    get_or-map (is_charged_below s.groups g) s.places f Free false within ∙ is_kept-Shows s run g f sizes sound shown h) in
+    get_or-map (is_charged_below s.groups g) s.places f Free false within ∙ is_kept-Matches s run g f sizes sound shown h) in
     sym (sum_by-map (λ b. cond b 1 0) (is_charged_below s.groups g) s.places)
     ∙ ap (count_by (λ b. b)) tests
     ∙ sum_by-map (λ b. cond b 1 0) kept (range_with_len 0 s.config.frames)
 
 -- the number that a core keeps for a group is the usage that the run defines
-pub current_in-Shows : (s : State) (run : Run) (g : ℕ) → HasSizes s → IsSound s → Shows s run → current_in s g ≡ usage_of s.config run g
-current_in-Shows s run g sizes sound shown =
+pub current_in-Matches : (s : State) (run : Run) (g : ℕ) → HasSizes s → IsSound s → Matches s run → current_in s g ≡ usage_of s.config run g
+current_in-Matches s run g sizes sound shown =
     let pages = λ (groups : List Group) (pending : ℕ → ℕ). sum_by (λ h. if in_subtree groups g h.number then pending h.number else 0) groups in
-    let by_group : (λ (h : ℕ). slice_index s.pending h) ≡ pending_of run = λ i. λ h. sym (pending_of-Shows s run shown h) i in
+    let by_group : (λ (h : ℕ). slice_index s.pending h) ≡ pending_of run = λ i. λ h. sym (pending_of-Matches s run shown h) i in
     let p : pages s.groups (λ h. slice_index s.pending h) ≡ pages_pending run g = ap (pages s.groups) by_group ∙ ap (λ groups. pages groups (pending_of run)) shown.groups in
-    let f = frames_kept-Shows s run g sizes sound shown in
+    let f = frames_kept-Matches s run g sizes sound shown in
     ap (λ n. n + pages s.groups (λ h. slice_index s.pending h)) f ∙ ap (λ n. frames_kept s.config run g + n) p
+
+pub current_in-Shows : (s : State) (run : Run) (g : ℕ) → HasSizes s → IsSound s → Shows s run → current_in s g ≡ usage_of s.config run g
+current_in-Shows s run g sizes sound shown = current_in-Matches s run g sizes sound (Matches-Shows s run shown)
 
 pub IsAccounted-Shows : (s : State) (run : Run) → HasSizes s → IsSound s → Shows s run → IsAccounted s.config run
 IsAccounted-Shows s run sizes sound shown = record {
@@ -136,8 +139,8 @@ IsAccounted-Shows s run sizes sound shown = record {
         | inl within ↦ sound.settled (shown.holder ∙ free) g 0 within
         | inr past ↦ get_or_past s.pending g 0 past
       ] in
-      pending_of-Shows s run shown g ∙ none;
+      pending_of-Matches s run (Matches-Shows s run shown) g ∙ none;
 }
 
 pub free_areas-Shows : (s : State) (run : Run) → HasSizes s → IsSound s → Shows s run → AreMaximalBlocks (free_frames s.config run) s.areas
-free_areas-Shows s run sizes sound shown = subst (λ (free : List Bool). AreMaximalBlocks free s.areas) (free_frames-Shows s run shown sizes) sound.areas
+free_areas-Shows s run sizes sound shown = subst (λ (free : List Bool). AreMaximalBlocks free s.areas) (free_frames-Matches s run (Matches-Shows s run shown) sizes) sound.areas

@@ -1,14 +1,12 @@
 -- Lists of places, a block of which is set to one place.
-use Rattle.std.proofs.Common.{◌≡◌, ℕ, ◌+◌, ◌-◌, ◌*◌, ◌^◌, ◌<◌, ◌≤◌, ◌&&◌, ◌||◌, not, ◌==◌, nat_lt, nat_le, Bool, true, false, Option, Some, None, List, [], ◌∷◌, ◌++◌, length, take, drop, map, replicate, get_or, refl, sym, ◌∙◌, ap, arith, inl, inr, length-append, length-take, length-drop, ◌⊎◌}
-use Rattle.std.specs.List.{slice_get}
-use Rattle.std.proofs.lemmas.Bool.{cases_lt, cases_eq}
-use Rattle.std.proofs.lemmas.List.{get_or_append_left, get_or-append_right, get_or-take, get_or-drop, get_or-replicate, length-take-le, same_lists, get_or_past}
+use Rattle.std.proofs.Common.{◌≡◌, ℕ, ◌+◌, ◌-◌, ◌^◌, ◌<◌, ◌≤◌, true, false, List, ◌++◌, length, take, drop, replicate, get_or, refl, ◌∙◌, ap, arith, inl, inr, ◌⊎◌}
+use Rattle.std.proofs.lemmas.List.{get_or_append_left, get_or-append_right, get_or-take, get_or-drop, get_or-replicate, length-take-le}
 use Rattle.std.proofs.lemmas.Option.{slice_get-get_or, slice_get_past}
 use Rattle.std.proofs.lemmas.Grind.{common_steps}
 use Rattle.zone_blocks.specs.declared.block.Block.{Block}
 use Rattle.mem_core.specs.declared.step.Place.{Place}
 use Rattle.mem_core.specs.declared.step.Place.TheVariants.{Free, Charged}
-use Rattle.mem_core.specs.Places.{is_same_place, is_in_block}
+use Rattle.mem_core.specs.Places.{is_same_place}
 use Rattle.mem_core.specs.Shown.{is_some_place, is_at}
 use Rattle.mem_core.specs.Steps.{with_block}
 

@@ -38,6 +38,21 @@ each_step_push P run step answer each last k =
       ]
     ]
 
+-- what holds of each step, of the beginning before it and of the one that ends with it, holds with one more
+pub each_change_push : (P : Run → Run → Step → Answer → Type 0) (run : Run) (step : Step) (answer : Answer) → ((k : ℕ) → IfSome (slice_get run k) (λ e. P (take k run) (take (k + 1) run) e.0 e.1)) → P run (pushed run step answer) step answer → (k : ℕ) → IfSome (slice_get (pushed run step answer) k) (λ e. P (take k (pushed run step answer)) (take (k + 1) (pushed run step answer)) e.0 e.1)
+each_change_push P run step answer each last k =
+    elim (cases_lt k (length run)) [
+      | inl before ↦
+          let here : IfSome (slice_get run k) (λ e. P (take k run) (take (k + 1) run) e.0 e.1) = each k in
+          rw (slice_get-push_before run (step, answer) k before, take-append-le k run ((step, answer) ∷ []) (omega arith), take-append-le (k + 1) run ((step, answer) ∷ []) (omega arith)) here
+      | inr past ↦ elim (cases_eq k (length run)) [
+        | inl at ↦
+            let e = length-append run ((step, answer) ∷ []) in
+            rw (at, slice_get-push_at run (step, answer), take_at run ((step, answer) ∷ []) (length run) refl, take_all (length run + 1) (pushed run step answer) (omega arith)) last
+        | inr beyond ↦ rw (slice_get_past (pushed run step answer) k (let e = length-append run ((step, answer) ∷ []) in omega arith)) tt
+      ]
+    ]
+
 pub IsLegalRun-push : (config : Config) (run : Run) (step : Step) (answer : Answer) → IsLegalRun config run → Allows config run step answer → IsLegalRun config (pushed run step answer)
 IsLegalRun-push config run step answer = each_step_push (λ before s a. Allows config before s a) run step answer
 

@@ -1,4 +1,4 @@
--- A core that shows a run shows it with one more pair after the step.
+-- What a step may be answered, and what it does to each part of the state but the accounts.
 use Rattle.std.proofs.Common.{◌≡◌, ℕ, ◌+◌, ◌-◌, ◌*◌, ◌^◌, ◌<◌, ◌≤◌, ◌&&◌, ◌||◌, not, ◌==◌, nat_lt, nat_le, Bool, true, false, Option, Some, None, is_none, is_some, List, [], ◌∷◌, ◌++◌, length, take, drop, map, get_or, refl, sym, ◌∙◌, ap, subst, arith, zero-add, inl, inr, length-append, ◌⊎◌, if◌then◌else◌}
 use Rattle.std.specs.Prelude.{slice_index, slice_set}
 use Rattle.std.specs.List.{slice_get, fold, sum_by, list_all, range_with_len}
@@ -12,96 +12,103 @@ use Rattle.std.proofs.lemmas.Bool.Decides.{nat_tests}
 use Rattle.zone_blocks.specs.declared.block.Block.{Block}
 use Rattle.zone_blocks.specs.Areas.{IsFree, IsFreeBlock}
 use Rattle.group_tree.specs.declared.group.Group.{Group}
-use Rattle.group_tree.specs.Groups.{has_group, make_fault, with_group, IsLeastFreeNumber, initial_groups}
+use Rattle.group_tree.specs.Groups.{has_group, has_child, in_subtree, limit_of, make_fault, with_group, with_limit, without_group, IsLeastFreeNumber, initial_groups}
 use Rattle.mem_core.specs.declared.config.Config.{Config}
 use Rattle.mem_core.specs.declared.step.Place.{Place}
 use Rattle.mem_core.specs.declared.step.Place.TheVariants.{Free, Charged}
 use Rattle.mem_core.specs.declared.step.Step.{Step}
 use Rattle.mem_core.specs.declared.step.Action.{Action}
-use Rattle.mem_core.specs.declared.step.Action.TheVariants.{Lock, Unlock, Grant, Ungrant, PlaceBlock, Make}
+use Rattle.mem_core.specs.declared.step.Action.TheVariants.{Lock, Unlock, Grant, Ungrant, PlaceBlock, Make, SetMax, NoteMax, Remove}
 use Rattle.mem_core.specs.declared.step.Answer.{Answer}
-use Rattle.mem_core.specs.declared.step.Answer.TheVariants.{Illegal, Done, Granted, Placed, NoFreeBlock, Number}
+use Rattle.mem_core.specs.declared.step.Answer.TheVariants.{Illegal, Done, Granted, Over, Placed, NoFreeBlock, Number}
 use Rattle.mem_core.specs.Places.{Places, is_same_place, is_in_block, places_at_boot, moved}
-use Rattle.mem_core.specs.Run.{Run, holder_after, holder_of, groups_after, groups_of, places_after, places_of, pages_granted, pages_used, granted_of, used_of, pending_of, free_frames}
-use Rattle.mem_core.specs.Legal.{is_processor, is_zone_seat, is_settled, is_legal_action, is_legal, IsAnswer, Allows, IsLegalRun}
-use Rattle.mem_core.specs.Shown.{State, is_some_place, is_at, free_in, Shows}
-use Rattle.mem_core.specs.Steps.{may_zone_act, may_act, with_block, counted, PlacesSmallest, Changes, Makes}
-use Rattle.mem_core.proofs.Runs.{pushed, IsLegalRun-push}
+use Rattle.mem_core.specs.Run.{Run, holder_after, holder_of, groups_after, groups_of, places_after, places_of, pages_granted, pages_used, granted_of, used_of, pending_of, usage_of, free_frames}
+use Rattle.mem_core.specs.Legal.{is_processor, is_zone_seat, is_settled, is_removable, is_legal_action, is_legal, IsAnswer, Allows}
+use Rattle.mem_core.specs.Limits.{fits_limit, has_room, PathHasRoom, IsLowestOver}
+use Rattle.mem_core.specs.Shown.{State, is_some_place, is_at, free_in, current_in, IsSound, Shows}
+use Rattle.mem_core.specs.Steps.{may_zone_act, may_remove, may_act, has_room_in, PathHasRoomIn, IsLowestOverIn, with_block, counted, PlacesSmallest, Changes, Makes}
+use Rattle.mem_core.proofs.Runs.{pushed}
+use Rattle.mem_core.proofs.Parts.{HasSizes, HasSizes-IsSound, Matches, Matches-Shows, pending_of-Matches, free_frames-Matches, is_settled-Matches}
+use Rattle.mem_core.proofs.Laws.{current_in-Shows}
 use Rattle.mem_core.proofs.PlaceLemmas.{is_same_place_same, is_same_place-sym, same_from_is_same_place, is_at_within, is_at_past, get_or-with_block_in, get_or-with_block_out, length-with_block}
 
--- the lists of a state are as long as its zone and its numbers of groups
-pub record HasSizes (s : State) : Type 0 where
-  pub places : length s.places ≡ s.config.frames
-  pub pending : length s.pending ≡ 64
-  pub numbers : (g : ℕ) → has_group s.groups g ≡ true → g < 64
+-- the group may be taken out, by the state and by the run
+may_remove-Shows : (s : State) (run : Run) (g : ℕ) → IsSound s → Shows s run → may_remove s g ≡ is_removable s.config run g
+may_remove-Shows s run g sound shown =
+    let usage = current_in-Shows s run g (HasSizes-IsSound s sound) sound shown in
+    rw (usage, shown.groups) refl
 
-pub pending_of-Shows : (s : State) (run : Run) → Shows s run → (g : ℕ) → pending_of run g ≡ slice_index s.pending g
-pending_of-Shows s run shown g = omega (arith, shown.pending g)
+pub may_act-Shows : (s : State) (run : Run) (seat : ℕ) (action : Action) → IsSound s → Shows s run → may_act s seat action ≡ is_legal_action s.config run seat action
+may_act-Shows s run seat Lock sound shown = rw shown.holder refl
+may_act-Shows s run seat Unlock sound shown = rw (shown.holder, is_settled-Matches s run (Matches-Shows s run shown) (HasSizes-IsSound s sound)) refl
+may_act-Shows s run seat (Grant g n) sound shown = rw (shown.holder, shown.groups) refl
+may_act-Shows s run seat (Ungrant g n) sound shown = rw (shown.holder, shown.groups, ← pending_of-Matches s run (Matches-Shows s run shown) g) refl
+may_act-Shows s run seat (PlaceBlock g k) sound shown = rw (shown.holder, shown.groups, ← pending_of-Matches s run (Matches-Shows s run shown) g) refl
+may_act-Shows s run seat (Make path) sound shown = rw (shown.holder, shown.groups) refl
+may_act-Shows s run seat (SetMax g limit) sound shown = rw (shown.holder, shown.groups) refl
+may_act-Shows s run seat (NoteMax g) sound shown = rw (shown.holder, shown.groups) refl
+may_act-Shows s run seat (Remove g) sound shown = ap (λ b. may_zone_act s seat && b) (may_remove-Shows s run g sound shown) ∙ ap (λ h. (seat == 0 && is_some h) && is_removable s.config run g) shown.holder
 
-pub free_frames-Shows : (s : State) (run : Run) → Shows s run → HasSizes s → free_in s.places ≡ free_frames s.config run
-free_frames-Shows s run shown sizes =
-    fill_by_all (λ f. places_of s.config run f Free) (free_in s.places) s.config.frames false
-    (length-map s.places (λ p. is_same_place p Free) ∙ sizes.places)
-    (λ f h.
-    let within : f < length s.places = omega (arith, sizes.places) in
-    get_or-map (λ p. is_same_place p Free) s.places f Free false within
-    ∙ sym (is_at_within s.places f Free within)
-    ∙ sym (shown.places f Free))
+has_room-Shows : (s : State) (run : Run) (n g : ℕ) → IsSound s → Shows s run → has_room_in s n g ≡ has_room s.config run n g
+has_room-Shows s run n g sound shown =
+    let usage = current_in-Shows s run g (HasSizes-IsSound s sound) sound shown in
+    ap (λ pages. fits_limit (limit_of s.groups g) (pages + n)) usage ∙ ap (λ groups. fits_limit (limit_of groups g) (usage_of s.config run g + n)) shown.groups
 
-pub is_settled-Shows : (s : State) (run : Run) → Shows s run → HasSizes s → list_all (λ n. n == 0) s.pending ≡ is_settled run
-is_settled-Shows s run shown sizes =
-    let all : s.pending ≡ map (pending_of run) (range_with_len 0 64) =
-    fill_by_all (pending_of run) s.pending 64 0 sizes.pending (λ g h. sym (pending_of-Shows s run shown g)) in
-    ap (list_all (λ n. n == 0)) all ∙ list_all-map (λ n. n == 0) (pending_of run) (range_with_len 0 64)
+PathHasRoom-Shows : (s : State) (run : Run) (n g : ℕ) → IsSound s → Shows s run → PathHasRoomIn s n g → PathHasRoom s.config run n g
+PathHasRoom-Shows s run n g sound shown room m on_path =
+    let above : in_subtree s.groups m g ≡ true = subst (λ (groups : List Group). in_subtree groups m g ≡ true) (sym shown.groups) on_path in
+    sym (has_room-Shows s run n m sound shown) ∙ room m above
 
-pub may_act-Shows : (s : State) (run : Run) (seat : ℕ) (action : Action) → Shows s run → HasSizes s → may_act s seat action ≡ is_legal_action run seat action
-may_act-Shows s run seat Lock shown sizes = rw shown.holder refl
-may_act-Shows s run seat Unlock shown sizes = rw (shown.holder, is_settled-Shows s run shown sizes) refl
-may_act-Shows s run seat (Grant g n) shown sizes = rw (shown.holder, shown.groups) refl
-may_act-Shows s run seat (Ungrant g n) shown sizes = rw (shown.holder, shown.groups, ← pending_of-Shows s run shown g) refl
-may_act-Shows s run seat (PlaceBlock g k) shown sizes = rw (shown.holder, shown.groups, ← pending_of-Shows s run shown g) refl
-may_act-Shows s run seat (Make path) shown sizes = rw (shown.holder, shown.groups) refl
+IsLowestOver-Shows : (s : State) (run : Run) (n g m : ℕ) → IsSound s → Shows s run → IsLowestOverIn s n g m → IsLowestOver s.config run n g m
+IsLowestOver-Shows s run n g m sound shown over = record {
+  on_path = subst (λ (groups : List Group). in_subtree groups m g ≡ true) shown.groups over.on_path;
+  over = sym (has_room-Shows s run n m sound shown) ∙ over.over;
+  lowest = λ k on_path none.
+      let above : in_subtree s.groups k g ≡ true = subst (λ (groups : List Group). in_subtree groups k g ≡ true) (sym shown.groups) on_path in
+      subst (λ (groups : List Group). in_subtree groups k m ≡ true) shown.groups (over.lowest k above (has_room-Shows s run n k sound shown ∙ none));
+}
 
 -- a step that is made gets an answer that is allowed
-Changes-allowed : (s : State) (run : Run) (seat : ℕ) (action : Action) (answer : Answer) (t : State) → Shows s run → HasSizes s → Changes s seat action answer t → IsAnswer s.config run action answer
-Changes-allowed s run seat Lock Done t shown sizes c = tt
-Changes-allowed s run seat Unlock Done t shown sizes c = tt
-Changes-allowed s run seat (Grant g n) Granted t shown sizes c = tt
-Changes-allowed s run seat (Ungrant g n) Done t shown sizes c = tt
-Changes-allowed s run seat (PlaceBlock g k) (Placed b) t shown sizes c =
+Changes-allowed : (s : State) (run : Run) (seat : ℕ) (action : Action) (answer : Answer) (t : State) → IsSound s → Shows s run → Changes s seat action answer t → IsAnswer s.config run action answer
+Changes-allowed s run seat Lock Done t sound shown c = tt
+Changes-allowed s run seat Unlock Done t sound shown c = tt
+Changes-allowed s run seat (Grant g n) Granted t sound shown c = PathHasRoom-Shows s run n g sound shown c.0
+Changes-allowed s run seat (Grant g n) (Over m) t sound shown c = IsLowestOver-Shows s run n g m sound shown c.0
+Changes-allowed s run seat (Ungrant g n) Done t sound shown c = tt
+Changes-allowed s run seat (PlaceBlock g k) (Placed b) t sound shown c =
     let P : List Bool → Type 0 = λ free. IsFreeBlock free b in
-    (c.0, subst P (free_frames-Shows s run shown sizes) c.1)
-Changes-allowed s run seat (PlaceBlock g k) NoFreeBlock t shown sizes c =
+    (c.0, subst P (free_frames-Matches s run (Matches-Shows s run shown) (HasSizes-IsSound s sound)) c.1)
+Changes-allowed s run seat (PlaceBlock g k) NoFreeBlock t sound shown c =
     λ b order block.
     let P : List Bool → Type 0 = λ free. IsFreeBlock free b in
-    c.0 b order (subst P (sym (free_frames-Shows s run shown sizes)) block)
-Changes-allowed s run seat (Make path) (Number n) t shown sizes c =
+    c.0 b order (subst P (sym (free_frames-Matches s run (Matches-Shows s run shown) (HasSizes-IsSound s sound))) block)
+Changes-allowed s run seat (Make path) (Number n) t sound shown c =
     let P : List Group → Type 0 = λ groups. IsLeastFreeNumber groups n in
     subst P shown.groups c.0
-Changes-allowed s run seat action answer t shown sizes c = absurd c
+Changes-allowed s run seat (SetMax g limit) Done t sound shown c = tt
+Changes-allowed s run seat (NoteMax g) Done t sound shown c = tt
+Changes-allowed s run seat (Remove g) Done t sound shown c = tt
+Changes-allowed s run seat action answer t sound shown c = absurd c
 
-pub Makes-allowed : (s : State) (run : Run) (step : Step) (answer : Answer) (t : State) → Shows s run → HasSizes s → Makes s step answer t → Allows s.config run step answer
-Makes-allowed s run step Illegal t shown sizes m = sym (may_act-Shows s run step.seat step.action shown sizes) ∙ m.0
-Makes-allowed s run step answer t shown sizes m =
-    (sym (may_act-Shows s run step.seat step.action shown sizes) ∙ m.0, Changes-allowed s run step.seat step.action answer t shown sizes m.1)
+pub Makes-allowed : (s : State) (run : Run) (step : Step) (answer : Answer) (t : State) → IsSound s → Shows s run → Makes s step answer t → Allows s.config run step answer
+Makes-allowed s run step Illegal t sound shown m = sym (may_act-Shows s run step.seat step.action sound shown) ∙ m.0
+Makes-allowed s run step answer t sound shown m =
+    (sym (may_act-Shows s run step.seat step.action sound shown) ∙ m.0, Changes-allowed s run step.seat step.action answer t sound shown m.1)
 
--- what one step does to each part of the state
-record Advances (s : State) (seat : ℕ) (action : Action) (answer : Answer) (t : State) : Type 0 where
-  config : t.config ≡ s.config
-  steps : t.steps ≡ s.steps + 1
-  holder : t.holder ≡ holder_after s.holder seat action answer
-  groups : t.groups ≡ groups_after s.groups action answer
-  places : (f : ℕ) (p : Place) → places_after (is_at s.places) action answer f p ≡ is_at t.places f p
-  pending : (g : ℕ) → pages_granted g action answer + slice_index s.pending g ≡ pages_used g action answer + slice_index t.pending g
+-- what one step does to each part of the state but the accounts
+pub record Advances (s : State) (seat : ℕ) (action : Action) (answer : Answer) (t : State) : Type 0 where
+  pub config : t.config ≡ s.config
+  pub steps : t.steps ≡ s.steps + 1
+  pub holder : t.holder ≡ holder_after s.holder seat action answer
+  pub groups : t.groups ≡ groups_after s.groups action answer
+  pub places : (f : ℕ) (p : Place) → places_after (is_at s.places) action answer f p ≡ is_at t.places f p
+  pub pending : (g : ℕ) → pages_granted g action answer + slice_index s.pending g ≡ pages_used g action answer + slice_index t.pending g
 
-Shows-advance : (s : State) (run : Run) (step : Step) (answer : Answer) (t : State) → Shows s run → Allows s.config run step answer → Advances s step.seat step.action answer t → Shows t (pushed run step answer)
-Shows-advance s run step answer t shown allowed advances =
+pub Matches-advance : (s : State) (run : Run) (step : Step) (answer : Answer) (t : State) → Matches s run → Advances s step.seat step.action answer t → Matches t (pushed run step answer)
+Matches-advance s run step answer t shown advances =
     let same_places : places_of s.config run ≡ is_at s.places = λ i. λ f. λ p. shown.places f p i in
-    let L : Config → Type 0 = λ config. IsLegalRun config (pushed run step answer) in
     let P : Config → Type 0 = λ config. (f : ℕ) (p : Place) → places_of config (pushed run step answer) f p ≡ is_at t.places f p in
     record {
-      legal = subst L (sym advances.config) (IsLegalRun-push s.config run step answer shown.legal allowed);
-      steps = let e = length-append run ((step, answer) ∷ []) in let m = shown.steps in let n = advances.steps in omega arith;
       holder = advances.holder ∙ ap (λ h. holder_after h step.seat step.action answer) shown.holder ∙ sym (fold_push (λ holder e. holder_after holder e.0.seat e.0.action e.1) None run (step, answer));
       groups = advances.groups ∙ ap (λ gs. groups_after gs step.action answer) shown.groups ∙ sym (fold_push (λ groups e. groups_after groups e.0.action e.1) initial_groups run (step, answer));
       places = subst P (sym advances.config) (λ f p.
@@ -173,16 +180,16 @@ places_after-with_block places b g block f p =
     ]
 
 -- from a test of three parts, its parts
-both-left : (a b : Bool) → (a && b) ≡ true → a ≡ true
+pub both-left : (a b : Bool) → (a && b) ≡ true → a ≡ true
 both-left true b e = refl
 both-left false b e = e
 
-both-right : (a b : Bool) → (a && b) ≡ true → b ≡ true
+pub both-right : (a b : Bool) → (a && b) ≡ true → b ≡ true
 both-right true b e = e
 both-right false b e = absurd (false≢true e)
 
 -- the number of a group that a step of the zone's seat names is below 64
-group_inside : (s : State) (seat g : ℕ) (more : Bool) → HasSizes s → (may_zone_act s seat && has_group s.groups g && more) ≡ true → g < length s.pending
+pub group_inside : (s : State) (seat g : ℕ) (more : Bool) → HasSizes s → (may_zone_act s seat && has_group s.groups g && more) ≡ true → g < length s.pending
 group_inside s seat g more sizes may =
     let there : has_group s.groups g ≡ true = both-right (may_zone_act s seat) (has_group s.groups g) (both-left (may_zone_act s seat && has_group s.groups g) more may) in
     let below = sizes.numbers g there in
@@ -214,8 +221,11 @@ Changes-advance s seat Unlock Done t sizes may c =
     (record { config = refl; steps = refl; holder = refl; groups = refl; places = λ f p. refl; pending = λ g. refl })
 Changes-advance s seat (Grant g n) Granted t sizes may c =
     let inside = group_inside s seat g true sizes (ap (λ b. b && true) may) in
-    subst (λ (t : State). Advances s seat (Grant g n) Granted t) (sym c)
+    subst (λ (t : State). Advances s seat (Grant g n) Granted t) (sym c.1)
     (record { config = refl; steps = refl; holder = refl; groups = refl; places = λ f p. refl; pending = λ h. added s.pending g n h inside ∙ sym (zero-add _) })
+Changes-advance s seat (Grant g n) (Over m) t sizes may c =
+    subst (λ (t : State). Advances s seat (Grant g n) (Over m) t) (sym c.1)
+    (record { config = refl; steps = refl; holder = refl; groups = refl; places = λ f p. refl; pending = λ g. refl })
 Changes-advance s seat (Ungrant g n) Done t sizes may c =
     let inside = group_inside s seat g (nat_le n (slice_index s.pending g)) sizes may in
     let enough = leb-true n (slice_index s.pending g) (both-right (may_zone_act s seat && has_group s.groups g) (nat_le n (slice_index s.pending g)) may) in
@@ -232,6 +242,15 @@ Changes-advance s seat (PlaceBlock g k) NoFreeBlock t sizes may c =
 Changes-advance s seat (Make path) (Number n) t sizes may c =
     subst (λ (t : State). Advances s seat (Make path) (Number n) t) (sym c.1)
     (record { config = refl; steps = refl; holder = refl; groups = refl; places = λ f p. refl; pending = λ g. refl })
+Changes-advance s seat (SetMax g limit) Done t sizes may c =
+    subst (λ (t : State). Advances s seat (SetMax g limit) Done t) (sym c)
+    (record { config = refl; steps = refl; holder = refl; groups = refl; places = λ f p. refl; pending = λ g. refl })
+Changes-advance s seat (NoteMax g) Done t sizes may c =
+    subst (λ (t : State). Advances s seat (NoteMax g) Done t) (sym c.0)
+    (record { config = refl; steps = refl; holder = refl; groups = refl; places = λ f p. refl; pending = λ g. refl })
+Changes-advance s seat (Remove g) Done t sizes may c =
+    subst (λ (t : State). Advances s seat (Remove g) Done t) (sym c)
+    (record { config = refl; steps = refl; holder = refl; groups = refl; places = λ f p. refl; pending = λ g. refl })
 Changes-advance s seat action answer t sizes may c = absurd c
 
 -- an illegal step changes nothing but the number of steps
@@ -240,14 +259,9 @@ Illegal-advance s seat Lock = record { config = refl; steps = refl; holder = ref
 Illegal-advance s seat Unlock = record { config = refl; steps = refl; holder = refl; groups = refl; places = λ f p. refl; pending = λ g. refl }
 Illegal-advance s seat action = record { config = refl; steps = refl; holder = refl; groups = refl; places = λ f p. refl; pending = λ g. refl }
 
-Makes-advance : (s : State) (step : Step) (answer : Answer) (t : State) → HasSizes s → Makes s step answer t → Advances s step.seat step.action answer t
+pub Makes-advance : (s : State) (step : Step) (answer : Answer) (t : State) → HasSizes s → Makes s step answer t → Advances s step.seat step.action answer t
 Makes-advance s step Illegal t sizes m = subst (λ (t : State). Advances s step.seat step.action Illegal t) (sym m.1) (Illegal-advance s step.seat step.action)
 Makes-advance s step answer t sizes m = Changes-advance s step.seat step.action answer t sizes m.0 m.1
-
--- the refinement: a state that shows a run shows, after a step, the run with this step and its answer
-pub Shows-step : (s : State) (run : Run) (step : Step) (answer : Answer) (t : State) → HasSizes s → Makes s step answer t → Shows s run → Shows t (pushed run step answer)
-Shows-step s run step answer t sizes m shown =
-    Shows-advance s run step answer t shown (Makes-allowed s run step answer t shown sizes m) (Makes-advance s step answer t sizes m)
 
 Changes-smallest : (s : State) (seat : ℕ) (action : Action) (answer : Answer) (t : State) → Changes s seat action answer t → PlacesSmallest s action answer
 Changes-smallest s seat (PlaceBlock g k) (Placed b) t c = c.3

@@ -1,6 +1,8 @@
 pub mod Config
 pub mod Places
 pub mod Run
+pub mod Limits
+pub mod Events
 pub mod Legal
 pub mod Headline
 pub mod Shown

@@ -4,9 +4,9 @@ use Rattle.zone_blocks.specs.declared.block.Block.{Block}
 use Rattle.zone_blocks.specs.Areas.{AreMaximalBlocks}
 use Rattle.mem_core.specs.declared.config.Config.{Config}
 use Rattle.mem_core.specs.declared.step.Action.{Action}
-use Rattle.mem_core.specs.declared.step.Action.TheVariants.{Lock, Unlock, Grant, Ungrant, PlaceBlock, Make}
+use Rattle.mem_core.specs.declared.step.Action.TheVariants.{Lock, Unlock, Grant, Ungrant, PlaceBlock, Make, SetMax, NoteMax, Remove}
 use Rattle.mem_core.specs.declared.step.Answer.{Answer}
-use Rattle.mem_core.specs.declared.step.Answer.TheVariants.{Illegal, Done, Granted, Placed, NoFreeBlock, Number}
+use Rattle.mem_core.specs.declared.step.Answer.TheVariants.{Illegal, Done, Granted, Over, Placed, NoFreeBlock, Number}
 use Rattle.mem_core.specs.Steps.{IsFrontOfSmallest}
 use Rattle.mem_core.specs.Run.{Run, usage_of, free_frames}
 use Rattle.mem_core.specs.Shown.{State, Shows, IsSound, current_in}
@@ -28,7 +28,7 @@ PlacesFirst config run action answer = Unit {0}
 abbrev pub AlwaysPlacesFirst : Config → Run → Type 0
 AlwaysPlacesFirst config run = (k : ℕ) → IfSome (slice_get run k) (λ e. PlacesFirst config (take k run) e.0.action e.1)
 
--- a core in some state shows the run, and all that is said of every core holds of it
+-- some state shows the run, is sound, and agrees with it
 pub record IsShown (config : Config) (run : Run) : Type 0 where
   pub state : State
   pub sizes : state.config ≡ config

@@ -1,14 +1,15 @@
 -- A run is the list of the steps that were made, each with its answer. What stands where after it is
--- counted over that list alone. A pair whose answer is Illegal counts nowhere.
+-- counted over that list alone. A pair whose answer is Illegal counts
+-- only as a step.
 use Rattle.std.specs.Prelude.{ℕ, ◌+◌, ◌-◌, ◌^◌, ◌==◌, ◌&&◌, Bool, Option, Some, None, List, map, fold, sum_by, count_by, if◌then◌else◌}
 use Rattle.std.specs.List.{list_any, range_with_len}
 use Rattle.group_tree.specs.declared.group.Group.{Group}
-use Rattle.group_tree.specs.Groups.{initial_groups, in_subtree, with_group}
+use Rattle.group_tree.specs.Groups.{initial_groups, in_subtree, with_group, with_limit, without_group}
 use Rattle.mem_core.specs.declared.config.Config.{Config}
 use Rattle.mem_core.specs.declared.step.Place.TheVariants.{Free, Charged}
 use Rattle.mem_core.specs.declared.step.Step.{Step}
 use Rattle.mem_core.specs.declared.step.Action.{Action}
-use Rattle.mem_core.specs.declared.step.Action.TheVariants.{Lock, Unlock, Grant, Ungrant, PlaceBlock, Make}
+use Rattle.mem_core.specs.declared.step.Action.TheVariants.{Lock, Unlock, Grant, Ungrant, PlaceBlock, Make, SetMax, NoteMax, Remove}
 use Rattle.mem_core.specs.declared.step.Answer.{Answer}
 use Rattle.mem_core.specs.declared.step.Answer.TheVariants.{Done, Granted, Placed, Number}
 use Rattle.mem_core.specs.Places.{Places, places_at_boot, moved}
@@ -30,9 +31,11 @@ holder_of run = fold (λ holder e. holder_after holder e.0.seat e.0.action e.1) 
 -- the groups after one more step
 abbrev pub groups_after : List Group → Action → Answer → List Group
 groups_after groups (Make path) (Number n) = with_group groups n path
+groups_after groups (SetMax g limit) Done = with_limit groups g limit
+groups_after groups (Remove g) Done = without_group groups g
 groups_after groups action answer = groups
 
--- the groups that are there, in order of making
+-- the groups that are there, in order of making, each with its limit
 abbrev pub groups_of : Run → List Group
 groups_of run = fold (λ groups e. groups_after groups e.0.action e.1) initial_groups run
 

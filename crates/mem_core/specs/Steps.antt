@@ -1,24 +1,30 @@
 -- How one step changes what a core shows.
-use Rattle.std.specs.Prelude.{◌≡◌, ℕ, ◌+◌, ◌-◌, ◌*◌, ◌^◌, ◌==◌, ◌&&◌, ◌++◌, nat_le, Bool, true, false, Option, Some, None, is_none, is_some, List, length, map, take, drop, replicate, slice_index, slice_set}
+use Rattle.std.specs.Prelude.{◌≡◌, ℕ, ◌+◌, ◌-◌, ◌*◌, ◌^◌, ◌==◌, ◌&&◌, ◌++◌, ◌≤◌, nat_le, not, max, Bool, true, false, Option, Some, None, is_none, is_some, List, length, map, take, drop, replicate, slice_index, slice_set, if◌then◌else◌}
 use Rattle.std.specs.List.{list_all}
 use Rattle.zone_blocks.specs.declared.block.Block.{Block}
 use Rattle.zone_blocks.specs.Areas.{IsFreeBlock, IsSmallestFrom}
 use Rattle.group_tree.specs.declared.group.Group.{Group}
-use Rattle.group_tree.specs.Groups.{has_group, make_fault, with_group, IsLeastFreeNumber}
+use Rattle.group_tree.specs.Groups.{has_group, has_child, in_subtree, limit_of, make_fault, with_group, with_limit, without_group, IsLeastFreeNumber}
 use Rattle.mem_core.specs.declared.step.Place.{Place}
 use Rattle.mem_core.specs.declared.step.Place.TheVariants.{Free, Charged}
 use Rattle.mem_core.specs.declared.step.Step.{Step}
 use Rattle.mem_core.specs.declared.step.Action.{Action}
-use Rattle.mem_core.specs.declared.step.Action.TheVariants.{Lock, Unlock, Grant, Ungrant, PlaceBlock, Make}
+use Rattle.mem_core.specs.declared.step.Action.TheVariants.{Lock, Unlock, Grant, Ungrant, PlaceBlock, Make, SetMax, NoteMax, Remove}
 use Rattle.mem_core.specs.declared.step.Answer.{Answer}
-use Rattle.mem_core.specs.declared.step.Answer.TheVariants.{Illegal, Done, Granted, Placed, NoFreeBlock, Number}
+use Rattle.mem_core.specs.declared.step.Answer.TheVariants.{Illegal, Done, Granted, Over, Placed, NoFreeBlock, Number}
 use Rattle.mem_core.specs.Places.{is_same_place}
 use Rattle.mem_core.specs.Legal.{is_processor, is_held_by}
-use Rattle.mem_core.specs.Shown.{State, free_in}
+use Rattle.mem_core.specs.Limits.{fits_limit}
+use Rattle.mem_core.specs.Events.{Account, new_account, with_max}
+use Rattle.mem_core.specs.Shown.{State, account_in, free_in, current_in}
 
 -- the zone's own seat acts while a processor holds the lock
 abbrev pub may_zone_act : State → ℕ → Bool
 may_zone_act s seat = seat == 0 && is_some s.holder
+
+-- the group is there, is not the root, has none below it, and its usage is 0
+abbrev pub may_remove : State → ℕ → Bool
+may_remove s g = has_group s.groups g && not (g == 0) && not (has_child s.groups g) && current_in s g == 0
 
 -- whether a step may be made in this state
 abbrev pub may_act : State → ℕ → Action → Bool
@@ -28,6 +34,9 @@ may_act s seat (Grant g n) = may_zone_act s seat && has_group s.groups g
 may_act s seat (Ungrant g n) = may_zone_act s seat && has_group s.groups g && nat_le n (slice_index s.pending g)
 may_act s seat (PlaceBlock g k) = may_zone_act s seat && has_group s.groups g && nat_le (2 ^ k) (slice_index s.pending g)
 may_act s seat (Make path) = may_zone_act s seat && is_none (make_fault s.groups path)
+may_act s seat (SetMax g limit) = may_zone_act s seat && has_group s.groups g && not (g == 0)
+may_act s seat (NoteMax g) = may_zone_act s seat && has_group s.groups g
+may_act s seat (Remove g) = may_zone_act s seat && may_remove s g
 
 -- the list with n of its elements, from the one at this place on, set to one value
 abbrev pub with_range : {X : Type 0} → List X → ℕ → ℕ → X → List X
@@ -36,6 +45,17 @@ with_range xs at n x = take at xs ++ replicate n x ++ drop (at + n) xs
 -- the places with those of a block set to one place
 abbrev pub with_block : List Place → Block → Place → List Place
 with_block places b p = with_range places b.at (2 ^ b.order) p
+
+-- the account of group m, its peak the greater of the old one and its usage where g is m or lies below it
+abbrev pub peaked : List Group → ℕ → ℕ → ℕ → Account → Account
+peaked groups g m usage account = if in_subtree groups m g then record account { peak = max account.peak usage } else account
+
+-- the account of group m after a note that the usage of g was about to go over its limit
+abbrev pub noted : List Group → ℕ → ℕ → Account → Account
+noted groups g m account = record account {
+  events = if in_subtree groups m g then with_max account.events else account.events;
+  local_events = if m == g then with_max account.local_events else account.local_events;
+}
 
 -- the state with one step more
 abbrev pub counted : State → State
@@ -51,17 +71,52 @@ abbrev pub PlacesSmallest : State → Action → Answer → Type 0
 PlacesSmallest s (PlaceBlock g k) (Placed b) = IsFrontOfSmallest s.areas b
 PlacesSmallest s action answer = Unit {0}
 
+-- with n pages more the number that is kept for the group is at most its own limit
+abbrev pub has_room_in : State → ℕ → ℕ → Bool
+has_room_in s n g = fits_limit (limit_of s.groups g) (current_in s g + n)
+
+-- the group and each of its ancestors have room for n pages more
+abbrev pub PathHasRoomIn : State → ℕ → ℕ → Type 0
+PathHasRoomIn s n g = (m : ℕ) → in_subtree s.groups m g ≡ true → has_room_in s n m ≡ true
+
+-- m is g or an ancestor and has no room, and each other group of the path without room is an ancestor of m
+pub record IsLowestOverIn (s : State) (n g m : ℕ) : Type 0 where
+  pub on_path : in_subtree s.groups m g ≡ true
+  pub over : has_room_in s n m ≡ false
+  pub lowest : (k : ℕ) → in_subtree s.groups k g ≡ true → has_room_in s n k ≡ false → in_subtree s.groups k m ≡ true
+
+-- the peaks of the group and of its ancestors rise to the usage where it is greater, and nothing else of any
+-- account changes
+abbrev pub RaisesPeaks : State → State → ℕ → Type 0
+RaisesPeaks s t g = (m : ℕ) → account_in t m ≡ peaked s.groups g m (current_in t m) (account_in s m)
+
+-- one `max` more in the events of the group and of each of its ancestors, and in the group's own
+abbrev pub CountsMax : State → State → ℕ → Type 0
+CountsMax s t g = (m : ℕ) → account_in t m ≡ noted s.groups g m (account_in s m)
+
 -- how a step that is made, and is answered so, changes the state
 abbrev pub Changes : State → ℕ → Action → Answer → State → Type 0
 Changes s seat Lock Done t = t ≡ record (counted s) { holder = Some seat }
 Changes s seat Unlock Done t = t ≡ record (counted s) { holder = None }
-Changes s seat (Grant g n) Granted t = t ≡ record (counted s) { pending = slice_set s.pending g (slice_index s.pending g + n) }
+Changes s seat (Grant g n) Granted t = PathHasRoomIn s n g × (t ≡ record (counted s) { pending = slice_set s.pending g (slice_index s.pending g + n); accounts = t.accounts }) × RaisesPeaks s t g
+Changes s seat (Grant g n) (Over m) t = IsLowestOverIn s n g m × (t ≡ counted s)
 Changes s seat (Ungrant g n) Done t = t ≡ record (counted s) { pending = slice_set s.pending g (slice_index s.pending g - n) }
 Changes s seat (PlaceBlock g k) (Placed b) t = (b.order ≡ k) × IsFreeBlock (free_in s.places) b ×
     (t ≡ record (counted s) { places = with_block s.places b (Charged g); pending = slice_set s.pending g (slice_index s.pending g - 2 ^ k); areas = t.areas }) × IsFrontOfSmallest s.areas b
 Changes s seat (PlaceBlock g k) NoFreeBlock t = ((b : Block) → b.order ≡ k → ¬ IsFreeBlock (free_in s.places) b) × (t ≡ counted s)
-Changes s seat (Make path) (Number n) t = IsLeastFreeNumber s.groups n × (t ≡ record (counted s) { groups = with_group s.groups n path })
+Changes s seat (Make path) (Number n) t = IsLeastFreeNumber s.groups n × (t ≡ record (counted s) { groups = with_group s.groups n path; accounts = slice_set s.accounts n new_account })
+Changes s seat (SetMax g limit) Done t = t ≡ record (counted s) { groups = with_limit s.groups g limit }
+Changes s seat (NoteMax g) Done t = (t ≡ record (counted s) { accounts = t.accounts }) × CountsMax s t g
+Changes s seat (Remove g) Done t = t ≡ record (counted s) { groups = without_group s.groups g }
 Changes s seat action answer t = ⊥
+
+-- what a step does to the numbers that are kept: pages that are granted to a group are added there and at each of
+-- its ancestors, at none of which the number is above the limit then; no other step raises any number
+abbrev pub MovesUsage : State → Action → Answer → State → Type 0
+MovesUsage s (Grant g n) Granted t =
+    ((m : ℕ) → current_in t m ≡ current_in s m + (if in_subtree s.groups m g then n else 0)) ×
+    ((m : ℕ) → in_subtree t.groups m g ≡ true → fits_limit (limit_of t.groups m) (current_in t m) ≡ true)
+MovesUsage s action answer t = (m : ℕ) → current_in t m ≤ current_in s m
 
 -- the state after the step, where the answer is this one: a step that may not be made is only counted
 abbrev pub Makes : State → Step → Answer → State → Type 0

@@ -1,8 +1,10 @@
 //! Lists of one value, and writing one value over a range.
 
 ghost use Rattle.std.specs.Prelude.{◌≡◌, ◌+◌, ◌≤◌, true, IfOk, vec_len, replicate};
+ghost use Rattle.mem_core.specs.Events.{new_account};
 ghost use Rattle.mem_core.specs.Steps.{with_range};
 
+use crate::account::Account;
 use crate::step::Place;
 use group_tree::group::MAX_GROUPS;
 use std::alloc::{AllocError, Global};
@@ -42,4 +44,11 @@ pub(crate) fn zeros(alloc: Global) -> Result<Vec<u128>, AllocError>
     ensures { IfOk result (λ counts. counts.items ≡ replicate 64 0) }
 {
     vec![in alloc; 0; MAX_GROUPS]
+}
+
+/// A new group's account for each group number.
+pub(crate) fn new_accounts(alloc: Global) -> Result<Vec<Account>, AllocError>
+    ensures { IfOk result (λ accounts. accounts.items ≡ replicate 64 new_account) }
+{
+    vec![in alloc; Account::new(); MAX_GROUPS]
 }

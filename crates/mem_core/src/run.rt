@@ -5,6 +5,7 @@ ghost use Rattle.std.specs.List.{zip};
 ghost use Rattle.mem_core.specs.Config.{IsValidConfig};
 ghost use Rattle.mem_core.specs.Legal.{IsLegalRun};
 ghost use Rattle.mem_core.specs.Headline.{EveryBeginning, IsAccounted};
+ghost use Rattle.mem_core.specs.Limits.{GrantsRespectLimits};
 ghost use Rattle.mem_core.specs.Shown.{Shows, IsSound};
 ghost use Rattle.mem_core.specs.Promise.{AgreesWith, AlwaysPlacesFirst, IsShown};
 
@@ -16,14 +17,18 @@ use std::alloc::{AllocError, Global};
 /// The core after a list of steps, and their answers.
 #[derive(Drop)]
 pub struct Played {
+    /// The core as the last step left it.
     pub core: Core,
+    /// The answer to each step, in their order.
     pub answers: Vec<Answer>,
 }
 
 /// Makes the steps one after another, from a core on which none was made. The pairs of each step and
 /// its answer are a legal run, and the core shows it: its free areas are the maximal blocks of the free
-/// frames, and its number for each group is the usage that the run defines. In every beginning of that
-/// run each frame is accounted for, and a core in some state shows it in the same sense.
+/// frames, and its number for each group is the usage that the run defines. A block that is placed is the
+/// first of the smallest, and no grant passed a limit on its path. In every beginning (each front part) of
+/// that run each frame is accounted for, and some state shows it in the same sense. It fails for want of
+/// memory alone.
 pub fn play(alloc: Global, config: Config, steps: &[Step]) -> Result<Played, AllocError>
     requires { IsValidConfig config }
     ensures one_each { IfOk result (λ p. length p.answers.items ≡ length steps.now) }
@@ -32,6 +37,7 @@ pub fn play(alloc: Global, config: Config, steps: &[Step]) -> Result<Played, All
     ensures sound { IfOk result (λ p. IsSound p.core) }
     ensures agrees { IfOk result (λ p. AgreesWith p.core (zip steps.now p.answers.items)) }
     ensures first { IfOk result (λ p. AlwaysPlacesFirst config (zip steps.now p.answers.items)) }
+    ensures limits { IfOk result (λ p. GrantsRespectLimits config (zip steps.now p.answers.items)) }
     ensures accounted { IfOk result (λ p. EveryBeginning (zip steps.now p.answers.items) (IsAccounted config)) }
     ensures shown { IfOk result (λ p. EveryBeginning (zip steps.now p.answers.items) (IsShown config)) }
 {
@@ -44,12 +50,14 @@ pub fn play(alloc: Global, config: Config, steps: &[Step]) -> Result<Played, All
 }
 
 /// The answers to the steps, made one after another from the beginning: with them the steps are a
-/// legal run, and in every beginning of it each frame is accounted for.
+/// legal run, a block that is placed is the first of the smallest, no grant passed a limit on its path,
+/// and in every beginning each frame is accounted for. It fails for want of memory alone.
 pub fn run(alloc: Global, config: Config, steps: &[Step]) -> Result<Vec<Answer>, AllocError>
     requires { IsValidConfig config }
     ensures one_each { IfOk result (λ answers. length answers.items ≡ length steps.now) }
     ensures legal { IfOk result (λ answers. IsLegalRun config (zip steps.now answers.items)) }
     ensures first { IfOk result (λ answers. AlwaysPlacesFirst config (zip steps.now answers.items)) }
+    ensures limits { IfOk result (λ answers. GrantsRespectLimits config (zip steps.now answers.items)) }
     ensures accounted { IfOk result (λ answers. EveryBeginning (zip steps.now answers.items) (IsAccounted config)) }
     ensures shown { IfOk result (λ answers. EveryBeginning (zip steps.now answers.items) (IsShown config)) }
 {

@@ -1,18 +1,30 @@
 //! Sums over a group and its descendants.
 
-ghost use Rattle.std.specs.Prelude.{◌≡◌, ◌*◌, ◌^◌, ◌<◌, ◌≤◌, IsTrue, length, slice_index, sum_by, count_by, if◌then◌else◌, All};
+ghost use Rattle.std.specs.Prelude.{◌≡◌, ◌+◌, ◌*◌, ◌^◌, ◌<◌, ◌≤◌, IsTrue, length, slice_index, sum_by, count_by, if◌then◌else◌, All};
 ghost use Rattle.group_tree.specs.Groups.{has_group, in_subtree};
-ghost use Rattle.mem_core.specs.Shown.{is_charged_below, KeeperIsThere};
+ghost use Rattle.mem_core.specs.Shown.{frames_below, is_charged_below, KeeperIsThere, pages_below};
 
 use crate::step::Place;
 use group_tree::group::GroupId;
 use group_tree::tree::Tree;
 
-/// How many frames are placed in the group's subtree.
-pub(crate) fn count_charged(tree: &Tree, places: &[Place], group: GroupId) -> u128
+/// The usage of a group, in pages: the frames that its subtree keeps, and the pages pending there.
+pub(crate) fn usage(tree: &Tree, places: &[Place], pending: &[u128], group: GroupId) -> u128
     requires there { IsTrue (has_group tree.now group) }
     requires keepers { All (KeeperIsThere tree.now) places.now }
-    ensures count { result ≡ count_by (is_charged_below tree.now group) places.now }
+    requires numbers { length pending.now ≡ 64 }
+    requires bound { All (λ n. n ≤ 2 ^ 96) pending.now }
+    ensures usage { result ≡ frames_below tree.now places.now group + pages_below tree.now pending.now group }
+    ensures few { result < 2 ^ 104 }
+{
+    count_charged(tree, places, group) + sum_pending(tree, pending, group)
+}
+
+// How many frames are placed in the group's subtree.
+fn count_charged(tree: &Tree, places: &[Place], group: GroupId) -> u128
+    requires there { IsTrue (has_group tree.now group) }
+    requires keepers { All (KeeperIsThere tree.now) places.now }
+    ensures count { result ≡ frames_below tree.now places.now group }
     ensures few { result < 2 ^ 64 }
 {
     let mut count = 0u128;
@@ -36,12 +48,12 @@ fn is_below(tree: &Tree, place: Place, group: GroupId) -> bool
     }
 }
 
-/// How many pages are pending in the group's subtree.
-pub(crate) fn sum_pending(tree: &Tree, pending: &[u128], group: GroupId) -> u128
+// How many pages are pending in the group's subtree.
+fn sum_pending(tree: &Tree, pending: &[u128], group: GroupId) -> u128
     requires there { IsTrue (has_group tree.now group) }
     requires numbers { length pending.now ≡ 64 }
     requires bound { All (λ n. n ≤ 2 ^ 96) pending.now }
-    ensures sum { result ≡ sum_by (λ h. if in_subtree tree.now group h.number then slice_index pending.now h.number else 0) tree.now }
+    ensures sum { result ≡ pages_below tree.now pending.now group }
     ensures few { result ≤ 64 * 2 ^ 96 }
 {
     let mut sum = 0u128;

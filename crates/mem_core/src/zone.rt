@@ -4,20 +4,23 @@ ghost use Rattle.std.specs.Prelude.{◌≡◌, ℕ, ◌+◌, ◌-◌, ◌^◌, �
 ghost use Rattle.std.specs.List.{list_all};
 ghost use Rattle.zone_blocks.specs.declared.block.Block.{Block};
 ghost use Rattle.zone_blocks.specs.Areas.{IsFreeBlock, AreMaximalBlocks};
-ghost use Rattle.group_tree.specs.Groups.{has_group, make_fault, with_group, IsLeastFreeNumber};
+ghost use Rattle.group_tree.specs.Groups.{has_child, has_group, make_fault, with_group, with_limit, without_group, IsLeastFreeNumber};
 ghost use Rattle.mem_core.specs.declared.step.Place.{Place};
 ghost use Rattle.mem_core.specs.Config.{IsValidConfig};
 ghost use Rattle.mem_core.specs.Places.{is_same_place};
 ghost use Rattle.mem_core.specs.Run.{Run, groups_of, places_of, usage_of, free_frames};
 ghost use Rattle.mem_core.specs.Legal.{is_held_by};
 ghost use Rattle.mem_core.specs.Shown.{State, Shows, IsSound, free_in, current_in};
-ghost use Rattle.mem_core.specs.Steps.{may_act, may_zone_act, counted, with_block, IsFrontOfSmallest, PlacesSmallest, Changes, Makes};
+ghost use Rattle.mem_core.specs.Steps.{may_act, may_remove, may_zone_act, counted, has_room_in, with_block, CountsMax, IsFrontOfSmallest, IsLowestOverIn, MovesUsage, PathHasRoomIn, PlacesSmallest, RaisesPeaks, Changes, Makes};
 
 mod readers;
 
+use crate::account::Account;
+use crate::accounts::{note_max, raise_peaks};
 use crate::config::Config;
-use crate::ranges::{free_places, set_flags, set_places, true_flags, zeros};
+use crate::ranges::{free_places, new_accounts, set_flags, set_places, true_flags, zeros};
 use crate::step::{Action, Answer, Place, Step};
+use crate::sums::usage;
 use group_tree::group::GroupId;
 use group_tree::path::PathText;
 use group_tree::tree::Tree;
@@ -33,8 +36,9 @@ pub const ZONE_SEAT: u32 = 0;
 /// The seat of the first processor; until the core has several there is no other.
 pub const FIRST_PROCESSOR: u32 = 1;
 
-/// The core. A contract sees it as a `State`: the sizes, who holds the lock, the groups, the place of
-/// each frame, the pages pending for each group number, the free areas and how many steps were made.
+/// The core. A contract sees it as a `State`: the sizes, who holds the lock, the groups with their
+/// limits, the place of each frame, the pages pending and the account for each group number, the free
+/// areas and how many steps were made.
 #[derive(Drop)]
 pub struct Core {
     config: Config,
@@ -44,6 +48,7 @@ pub struct Core {
     // Whether each frame is free, as the areas want it told.
     free: Vec<bool>,
     pending: Vec<u128>,
+    accounts: Vec<Account>,
     areas: FreeAreas,
     steps: u64,
 }
@@ -73,6 +78,7 @@ impl Core {
         let places = free_places(alloc, frames)?;
         let free = true_flags(alloc, frames)?;
         let pending = zeros(alloc)?;
+        let accounts = new_accounts(alloc)?;
         let mut areas = FreeAreas::new(alloc, config.frames)?;
         areas.set_from(&free);
         let tree = Tree::new(alloc)?;
@@ -83,18 +89,20 @@ impl Core {
             places,
             free,
             pending,
+            accounts,
             areas,
             steps: 0,
         })
     }
 
     /// Makes one step, where it is legal, and answers it. A step that is not legal is answered Illegal
-    /// and changes nothing but the number of steps.
+    /// and changes nothing but the number of steps, of which 2^64 - 1 may be made.
     pub fn step(&mut self, step: Step) -> Answer
         requires { self.old.steps + 1 < 2 ^ 64 }
         ensures shows { (run : Run) → Shows self.old run → Shows self.new (run ++ (step, result) ∷ []) }
         ensures illegal { result ≡ Answer.Illegal → self.new ≡ counted self.old }
         ensures smallest { PlacesSmallest self.old step.action result }
+        ensures usage { MovesUsage self.old step.action result self.new }
         ensures config { self.new.config ≡ self.old.config }
         ensures sound { IsSound self.new }
     {
@@ -122,6 +130,9 @@ impl Core {
             Action::Ungrant { group, pages } => self.ungrant(group, pages),
             Action::PlaceBlock { group, order } => self.place_block(group, order),
             Action::Make { path } => self.make(&path),
+            Action::SetMax { group, limit } => self.set_max(group, limit),
+            Action::NoteMax { group } => self.note_max(group),
+            Action::Remove { group } => self.remove(group),
         }
     }
 
@@ -152,7 +163,22 @@ impl Core {
             Action::Make { path } => {
                 self.may_zone_act(seat) && self.tree.make_fault(path.as_bytes()).is_none()
             }
+            Action::SetMax { group, limit: _ } => self.may_zone_act(seat)
+                && self.tree.contains(*group)
+                && group.number() != 0,
+            Action::NoteMax { group } => self.may_zone_act(seat) && self.tree.contains(*group),
+            Action::Remove { group } => self.may_zone_act(seat) && self.may_remove(*group),
         }
+    }
+
+    // Whether the group may be taken out: it is there, is not the root, has none below it and uses no page.
+    fn may_remove(&self, group: GroupId) -> bool
+        ensures { result ≡ may_remove self.now group }
+    {
+        self.tree.contains(group)
+            && group.number() != 0
+            && !self.tree.has_child(group)
+            && self.usage(group) == 0
     }
 
     // Whether the zone's own seat acts, which it may while a processor holds the lock.
@@ -182,16 +208,79 @@ impl Core {
         Answer::Done
     }
 
-    // Grants pages to a group.
+    // Grants pages to a group, where the limits on its path have room for them.
     fn grant(&mut self, group: GroupId, pages: u32) -> Answer
         requires room { self.old.steps + 1 < 2 ^ 64 }
         requires held { is_some self.old.holder ≡ true }
-        ensures answer { result ≡ Answer.Granted }
-        ensures state { self.new ≡ record (counted self.old) { pending = slice_set self.old.pending group (slice_index self.old.pending group + pages) } }
+        requires there { has_group self.old.groups group ≡ true }
+        ensures { Changes self.old 0 (Action.Grant group pages) result self.new }
+    {
+        match self.lowest_over(group, pages) {
+            Some(over) => {
+                self.skip();
+                Answer::Over(over)
+            }
+            None => {
+                self.add_pages(group, pages);
+                Answer::Granted
+            }
+        }
+    }
+
+    // The lowest group, from this one up to the root, whose limit has no room for the pages.
+    fn lowest_over(&self, group: GroupId, pages: u32) -> Option<GroupId>
+        requires there { has_group self.now.groups group ≡ true }
+        ensures { MatchOption result (PathHasRoomIn self.now pages group) (IsLowestOverIn self.now pages group) }
+    {
+        let mut lowest = group;
+        while self.has_room(lowest, pages) {
+            match self.tree.parent(lowest) {
+                Some(parent) => lowest = parent,
+                None => return None,
+            }
+        }
+        Some(lowest)
+    }
+
+    // Whether the usage with so many pages more is at most the group's own limit.
+    fn has_room(&self, group: GroupId, pages: u32) -> bool
+        requires there { has_group self.now.groups group ≡ true }
+        ensures { result ≡ has_room_in self.now pages group }
+    {
+        match self.tree.limit(group) {
+            None => true,
+            Some(limit) => self.usage(group) + u128::from(pages) <= u128::from(limit),
+        }
+    }
+
+    // The usage of a group, in pages.
+    fn usage(&self, group: GroupId) -> u128
+        requires there { has_group self.now.groups group ≡ true }
+        ensures usage { result ≡ current_in self.now group }
+        ensures few { result < 2 ^ 104 }
+    {
+        // So many steps granted few enough pages for the sum.
+        let _steps = self.steps;
+        usage(&self.tree, &self.places, &self.pending, group)
+    }
+
+    // Gives a group more pending pages, and the peaks on its path rise to the usage where it is greater.
+    fn add_pages(&mut self, group: GroupId, pages: u32)
+        requires room { self.old.steps + 1 < 2 ^ 64 }
+        requires held { is_some self.old.holder ≡ true }
+        requires there { has_group self.old.groups group ≡ true }
+        ensures state { self.new ≡ record (counted self.old) { pending = slice_set self.old.pending group (slice_index self.old.pending group + pages); accounts = self.new.accounts } }
+        ensures peaks { RaisesPeaks self.old self.new group }
     {
         self.steps += 1;
         self.pending[group.number() as usize] += u128::from(pages);
-        Answer::Granted
+        raise_peaks(
+            &self.tree,
+            &self.places,
+            &self.pending,
+            &mut self.accounts,
+            group,
+        );
     }
 
     // Takes pending pages of a group back.
@@ -263,7 +352,41 @@ impl Core {
     {
         self.steps += 1;
         let group = self.tree.make(path.as_bytes()).unwrap();
+        self.accounts[group.number() as usize] = Account::new();
         Answer::Number(group)
+    }
+
+    // Gives a group another limit.
+    fn set_max(&mut self, group: GroupId, limit: Option<u32>) -> Answer
+        requires room { self.old.steps + 1 < 2 ^ 64 }
+        requires there { has_group self.old.groups group ≡ true }
+        ensures { Changes self.old 0 (Action.SetMax group limit) result self.new }
+    {
+        self.steps += 1;
+        self.tree.set_max(group, limit);
+        Answer::Done
+    }
+
+    // Counts one more `max` on the path of a group.
+    fn note_max(&mut self, group: GroupId) -> Answer
+        requires room { self.old.steps + 1 < 2 ^ 64 }
+        requires there { has_group self.old.groups group ≡ true }
+        ensures { Changes self.old 0 (Action.NoteMax group) result self.new }
+    {
+        self.steps += 1;
+        note_max(&self.tree, &mut self.accounts, group);
+        Answer::Done
+    }
+
+    // Takes a group out.
+    fn remove(&mut self, group: GroupId) -> Answer
+        requires room { self.old.steps + 1 < 2 ^ 64 }
+        requires may { may_remove self.old group ≡ true }
+        ensures { Changes self.old 0 (Action.Remove group) result self.new }
+    {
+        self.steps += 1;
+        self.tree.remove(group);
+        Answer::Done
     }
 }
 

@@ -1,3 +1,5 @@
+mod limits;
+
 use super::{Played, play, run};
 use crate::config::Config;
 use crate::step::{Action, Answer, Place, Step};

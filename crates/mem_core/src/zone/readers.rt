@@ -1,16 +1,18 @@
 //! What a core tells.
 
-ghost use Rattle.std.specs.Prelude.{◌≡◌, ◌<◌, Some, IsTrue, length, slice_get};
+ghost use Rattle.std.specs.Prelude.{◌≡◌, ◌^◌, ◌<◌, Some, IsTrue, length, slice_get};
 ghost use Rattle.zone_blocks.specs.Areas.{AreMaximalBlocks};
-ghost use Rattle.group_tree.specs.Groups.{has_group};
+ghost use Rattle.group_tree.specs.Groups.{has_group, limit_of};
 ghost use Rattle.mem_core.specs.declared.step.Place.{Place};
 ghost use Rattle.mem_core.specs.Places.{is_same_place};
 ghost use Rattle.mem_core.specs.Run.{Run, groups_of, places_of, usage_of, free_frames};
-ghost use Rattle.mem_core.specs.Shown.{Shows, current_in};
+ghost use Rattle.mem_core.specs.Shown.{Shows, account_in, current_in};
+ghost use Rattle.mem_core.specs.Limits.{IsPeak, max_of};
+ghost use Rattle.mem_core.specs.Events.{events_of, local_events_of};
 
 use super::Core;
+use crate::account::Events;
 use crate::step::Place;
-use crate::sums::{count_charged, sum_pending};
 use group_tree::group::GroupId;
 use group_tree::tree::Tree;
 use zone_blocks::areas::FreeAreas;
@@ -41,7 +43,7 @@ impl Core {
         &self.areas
     }
 
-    /// Where a frame is.
+    /// Where a frame of the zone is.
     pub fn place(&self, frame: u32) -> Place
         requires { frame < self.now.config.frames }
         ensures place { slice_get self.now.places frame ≡ Some result }
@@ -51,16 +53,52 @@ impl Core {
     }
 
     /// The memory now used by a group and its descendants (memory.current), in pages: the frames that
-    /// they keep and the pages pending for them.
+    /// they keep and the pages pending for them, less than 2^104. The group is there.
     pub fn current(&self, group: GroupId) -> u128
         requires { IsTrue (has_group self.now.groups group) }
         ensures current { result ≡ current_in self.now group }
+        ensures few { result < 2 ^ 104 }
         ensures run { (run : Run) → Shows self.now run → result ≡ usage_of self.now.config run group }
     {
-        // So many steps granted few enough pages for the sum.
-        let _steps = Core::steps(self);
-        let frames = count_charged(&self.tree, &self.places, group);
-        let pages = sum_pending(&self.tree, &self.pending, group);
-        frames + pages
+        // Its parts agree.
+        let _ = &self.steps;
+        self.usage(group)
+    }
+
+    /// The greatest usage of a group that is there since it was made (memory.peak), in pages.
+    pub fn peak(&self, group: GroupId) -> u128
+        requires { IsTrue (has_group self.now.groups group) }
+        ensures peak { result ≡ (account_in self.now group).peak }
+        ensures run { (run : Run) → Shows self.now run → IsPeak self.now.config run group result }
+    {
+        self.accounts[group.number() as usize].peak
+    }
+
+    /// The limit of a group that is there (memory.max), in pages; None for no limit.
+    pub fn max(&self, group: GroupId) -> Option<u32>
+        requires { IsTrue (has_group self.now.groups group) }
+        ensures limit { result ≡ limit_of self.now.groups group }
+        ensures run { (run : Run) → Shows self.now run → result ≡ max_of run group }
+    {
+        self.tree.limit(group)
+    }
+
+    /// What was counted for a group that is there and all below it since it was made (memory.events).
+    pub fn events(&self, group: GroupId) -> Events
+        requires { IsTrue (has_group self.now.groups group) }
+        ensures events { result ≡ (account_in self.now group).events }
+        ensures run { (run : Run) → Shows self.now run → result ≡ events_of run group }
+    {
+        self.accounts[group.number() as usize].events
+    }
+
+    /// What was counted for a group that is there alone since it was made (memory.events.local).
+    pub fn local_events(&self, group: GroupId) -> Events
+        requires { IsTrue (has_group self.now.groups group) }
+        ensures events { result ≡ (account_in self.now group).local_events }
+        ensures run { (run : Run) → Shows self.now run → result ≡ local_events_of run group }
+    {
+        let account = self.accounts[group.number() as usize];
+        account.local_events
     }
 }

@@ -36,7 +36,7 @@ loop-step-preserved c =
     ap (zip (take (i + 1) steps)) pushes
     ∙ zip-take_more steps answers i step answer c.loop-step-test.true so_far.one_each
     ∙ ap (λ (x : Step). pushed run x answer) (sym c.step-item.is) in
-    let goes_on = PlaysOn-step c.args.config c.loop-step.core c.step.new.self run step answer so_far.plays c.step.ensures.smallest c.step.ensures.config (c.step.ensures.shows run so_far.plays.shows) c.step.ensures.sound in
+    let goes_on = PlaysOn-step c.args.config c.loop-step.core c.step.new.self run step answer so_far.plays c.step.ensures.smallest c.step.ensures.usage c.step.ensures.config (c.step.ensures.shows run so_far.plays.shows) c.step.ensures.sound in
     record {
       one_each = ap length pushes ∙ length-append answers (answer ∷ []) ∙ ap (λ n. n + 1) so_far.one_each;
       plays = subst (PlaysOn c.args.config c.step.new.self) (sym more) goes_on;
@@ -56,3 +56,6 @@ returns-clause-shown c = (all c).shown
 
 pub returns-clause-first : goal.returns-clause-first
 returns-clause-first c = (all c).first
+
+pub returns-clause-limits : goal.returns-clause-limits
+returns-clause-limits c = (all c).limits

@@ -1,5 +1,5 @@
 -- A group of the tree is there.
-use Rattle.std.proofs.Common.{◌<◌, IsTrue, List, length, sym, subst, arith}
+use Rattle.std.proofs.Common.{IsTrue, List, sym, subst}
 use Rattle.group_tree.specs.declared.group.Group.{Group}
 use Rattle.group_tree.specs.Groups.{has_group}
 use Rattle.group_tree.proofs.GroupLemmas.{has_group-contains}

@@ -1,12 +1,12 @@
 -- The places and the flags of the block's frames change alike, and the areas follow the flags.
-use Rattle.std.proofs.Common.{◌≡◌, ◌<◌, ◌≤◌, ◌+◌, ◌-◌, ◌^◌, ℕ, List, Bool, false, refl, sym, ◌∙◌, ap, subst, arith, length}
+use Rattle.std.proofs.Common.{◌≡◌, ◌<◌, ◌≤◌, ◌-◌, ◌^◌, List, Bool, false, refl, sym, ◌∙◌, ap, subst, arith, length}
 use Rattle.std.specs.Prelude.{slice_index, slice_set}
-use Rattle.std.proofs.Common.{Option, is_some, true, length-set}
+use Rattle.std.proofs.Common.{is_some, true}
 use Rattle.std.proofs.lemmas.List.{get_or_default}
 use Rattle.zone_blocks.specs.Areas.{IsFreeBlock, AreMaximalBlocks}
 use Rattle.group_tree.specs.Groups.{has_group}
 use Rattle.mem_core.specs.declared.step.Place.{Place}
-use Rattle.mem_core.specs.declared.step.Place.TheVariants.{Free, Charged}
+use Rattle.mem_core.specs.declared.step.Place.TheVariants.{Charged}
 use Rattle.mem_core.specs.Shown.{State, free_in, IsSound}
 use Rattle.mem_core.specs.Steps.{counted, with_range, with_block}
 use Rattle.mem_core.specs.Inside.{state_of}
@@ -33,11 +33,11 @@ invariant_of-self c =
     let block : IsFreeBlock (free_in c.self.inside.places.items) b = subst (λ (s : State). IsFreeBlock (free_in s.places) b) state c.requires.free in
     let there : has_group c.self.inside.tree g ≡ true = subst (λ (s : State). has_group s.groups g ≡ true) state c.requires.there in
     let held : is_some c.self.inside.holder ≡ true = subst (λ (s : State). is_some s.holder ≡ true) state c.requires.held in
-    let pending = slice_set old n v in
-    let sound = IsSound-step_placed c.self.inside b g pending c.set_from.new.self.blocks c.self.invariant (length-set old n v ∙ numbers) block there held maximal in
+    let less : v ≤ slice_index old n = omega arith in
+    let sound = IsSound-step_placed c.self.inside b g n v c.set_from.new.self.blocks c.self.invariant less block there held maximal in
     record {
-      sound = subst (λ (places : List Place). IsSound (record (counted (state_of c.self.inside)) { places = places; pending = pending; areas = c.set_from.new.self.blocks })) (sym places) sound;
+      sound = subst (λ (places : List Place). IsSound (record (counted (state_of c.self.inside)) { places = places; pending = slice_set old n v; areas = c.set_from.new.self.blocks })) (sym places) sound;
       flags = flags ∙ free_in-with_block c.self.inside b g c.self.invariant.flags ∙ ap free_in (sym places);
       zone = c.set_from.ensures.frames ∙ c.self.invariant.zone;
-      bound = bound_less old c.self.inside.steps n v inside (omega arith) c.self.invariant.bound;
+      bound = bound_less old c.self.inside.steps n v inside less c.self.invariant.bound;
     }

@@ -1,9 +1,8 @@
 -- The lower part of the smallest area is a free block, and without an area there is none.
-use Rattle.std.proofs.Common.{◌≡◌, refl, sym, subst}
+use Rattle.std.proofs.Common.{◌≡◌, refl, subst}
 use Rattle.zone_blocks.specs.declared.block.Block.{Block}
 use Rattle.zone_blocks.specs.Areas.{IsFreeBlock}
 use Rattle.mem_core.specs.Shown.{State, free_in}
-use Rattle.mem_core.specs.Inside.{state_of}
 use Rattle.mem_core.proofs.Blocks.{lower_part_is_free, none_is_free}
 use Rattle.mem_core.proofs.zone.Core.free_block.Goals as goal
 

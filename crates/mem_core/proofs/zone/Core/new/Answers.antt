@@ -1,15 +1,16 @@
 -- All frames are free, and nothing is pending.
-use Rattle.std.proofs.Common.{◌≡◌, ℕ, List, Bool, true, None, [], replicate, refl, sym, ap, ◌∙◌, ◌≤◌, ◌*◌, ◌^◌, subst}
+use Rattle.std.proofs.Common.{◌≡◌, List, Bool, None, [], refl, sym, ap, ◌∙◌, ◌≤◌, ◌*◌, ◌^◌, subst}
 use Rattle.std.specs.Prelude.{All}
 use Rattle.zone_blocks.specs.Areas.{AreMaximalBlocks}
 use Rattle.mem_core.specs.Shown.{State, free_in, IsSound, Shows}
 use Rattle.mem_core.specs.Inside.{state_of}
-use Rattle.mem_core.proofs.Wholeness.{start_of, free_in-start, none_bound, IsSound-start, Shows-start}
+use Rattle.mem_core.proofs.Wholeness.{start_of, free_in-start, none_bound, IsSound-start}
+use Rattle.mem_core.proofs.Starting.{Shows-start}
 use Rattle.mem_core.proofs.zone.Core.new.Goals as goal
 
 -- the state that the new core shows
-started : (c : goal.In_ok-tree) → start_of c.args.config c.set_from.new.self.blocks ≡ state_of (record { config = c.args.config; holder = None; tree = c.in_ok-tree.tree; places = c.in_ok-places.places; free = c.in_ok-free.free; pending = c.in_ok-pending.pending; areas = c.set_from.new.self; steps = 0 })
-started c = rw (c.in_ok-places.ensures, c.in_ok-pending.ensures, c.in_ok-tree.ensures) refl
+started : (c : goal.In_ok-tree) → start_of c.args.config c.set_from.new.self.blocks ≡ state_of (record { config = c.args.config; holder = None; tree = c.in_ok-tree.tree; places = c.in_ok-places.places; free = c.in_ok-free.free; pending = c.in_ok-pending.pending; accounts = c.in_ok-accounts.accounts; areas = c.set_from.new.self; steps = 0 })
+started c = rw (c.in_ok-places.ensures, c.in_ok-pending.ensures, c.in_ok-accounts.ensures, c.in_ok-tree.ensures) refl
 
 sound : (c : goal.In_ok-tree) → IsSound (start_of c.args.config c.set_from.new.self.blocks)
 sound c =

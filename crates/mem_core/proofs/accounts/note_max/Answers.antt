@@ -1,0 +1,45 @@
+-- Each group is passed once, and no other has an account that changes.
+use Rattle.std.proofs.Common.{◌≡◌, ℕ, ◌<◌, IsTrue, List, length, take, get_or, sym, ◌∙◌, ap, subst, arith}
+use Rattle.std.proofs.lemmas.List.{take_all}
+use Rattle.group_tree.specs.declared.group.Group.{Group}
+use Rattle.group_tree.specs.Groups.{has_group, AreGroups}
+use Rattle.group_tree.proofs.GroupLemmas.{has_group-contains}
+use Rattle.mem_core.specs.Events.{Account}
+use Rattle.mem_core.specs.Steps.{noted}
+use Rattle.mem_core.proofs.AccountLemmas.{AreChanged, AreChanged-none, AreChanged-step, AreChanged-all, noted-absent}
+use Rattle.mem_core.proofs.accounts.note_max.Goals as goal
+
+pub loop-row-init : goal.loop-row-init
+loop-row-init c = record {
+  length = c.requires.accounts;
+  changed = AreChanged-none c.groups-row-items.result.now (noted c.args.tree.now c.args.group) c.args.accounts.now.items;
+}
+
+pub with_note-requires-clause-above : goal.with_note-requires-clause-above
+with_note-requires-clause-above c =
+    subst (λ (groups : List Group). IsTrue (has_group groups c.row-item.result.number)) c.groups-row-items.ensures.groups
+    (has_group-contains c.groups-row-items.result.now c.row-item.result (c.loop-row.row-index, c.loop-row-test.true, sym c.row-item.is))
+
+pub loop-row-preserved : goal.loop-row-preserved
+loop-row-preserved c =
+    let rows = c.groups-row-items.result.now in
+    let accounts = c.loop-row.accounts.items in
+    let f : ℕ → Account → Account = noted c.args.tree.now c.args.group in
+    let n = c.number-place.result in
+    let facts : AreGroups rows = subst AreGroups (sym c.groups-row-items.ensures.groups) c.groups-row-items.ensures.legal in
+    let inside : n < length accounts = omega (arith, c.loop-row.accounts.ok.0) in
+    let number : n ≡ (get_or rows c.loop-row.row-index c.row-item.result).number = c.number-place.ensures.value ∙ ap (λ (g : Group). g.number) c.row-item.is in
+    let value : c.with_note.result ≡ f n (get_or accounts n c.index.result.now) =
+    c.with_note.ensures ∙ ap (λ (k : ℕ). noted c.args.tree.now c.args.group k c.index.result.now) (sym c.number-place.ensures.value) ∙ ap (f n) c.index.ensures in
+    record {
+      length = c.loop-row.invariant.length;
+      changed = AreChanged-step rows f c.args.accounts.now.items accounts c.loop-row.row-index n c.row-item.result c.index.result.now c.with_note.result facts.numbers_distinct c.loop-row-test.true inside number value c.loop-row.invariant.changed;
+    }
+
+pub returns-clause-events : goal.returns-clause-events
+returns-clause-events c =
+    let rows = c.groups-row-items.result.now in
+    let f : ℕ → Account → Account = noted c.args.tree.now c.args.group in
+    let all : take c.loop-row.row-index rows ≡ c.args.tree.now = take_all c.loop-row.row-index rows c.loop-row-test.false ∙ c.groups-row-items.ensures.groups in
+    AreChanged-all c.args.tree.now f c.args.accounts.now.items c.loop-row.accounts.items (λ m a. noted-absent c.args.tree.now c.args.group m a c.requires.there)
+    (subst (λ (groups : List Group). AreChanged groups f c.args.accounts.now.items c.loop-row.accounts.items) all c.loop-row.invariant.changed)

@@ -1,0 +1,92 @@
+//! Peaks and events along a path.
+
+ghost use Rattle.std.specs.Prelude.{◌≡◌, ◌+◌, ◌^◌, ◌≤◌, ℕ, IsTrue, length, vec_len, All};
+ghost use Rattle.std.specs.List.{slice_index_or};
+ghost use Rattle.group_tree.specs.Groups.{has_group};
+ghost use Rattle.mem_core.specs.Events.{new_account};
+ghost use Rattle.mem_core.specs.Shown.{frames_below, KeeperIsThere, pages_below};
+ghost use Rattle.mem_core.specs.Steps.{noted, peaked};
+
+use crate::account::Account;
+use crate::step::Place;
+use crate::sums::usage;
+use group_tree::group::GroupId;
+use group_tree::tree::Tree;
+
+/// The peaks of the group and of each of its ancestors rise to their usage, where it is greater.
+pub(crate) fn raise_peaks(
+    tree: &Tree,
+    places: &[Place],
+    pending: &[u128],
+    accounts: &mut Vec<Account>,
+    group: GroupId,
+)
+    requires there { IsTrue (has_group tree.now group) }
+    requires keepers { All (KeeperIsThere tree.now) places.now }
+    requires numbers { length pending.now ≡ 64 }
+    requires bound { All (λ n. n ≤ 2 ^ 96) pending.now }
+    requires accounts { vec_len accounts.old ≡ 64 }
+    ensures length { vec_len accounts.new ≡ 64 }
+    ensures peaks { (m : ℕ) → slice_index_or accounts.new.items m new_account ≡ peaked tree.now group m (frames_below tree.now places.now m + pages_below tree.now pending.now m) (slice_index_or accounts.old.items m new_account) }
+{
+    for row in tree.groups() {
+        let place = row.number.number() as usize;
+        accounts[place] = with_peak(tree, places, pending, group, row.number, accounts[place]);
+    }
+}
+
+// The account of a group that is there, whose peak is at least its usage where the other group is in its
+// subtree.
+fn with_peak(
+    tree: &Tree,
+    places: &[Place],
+    pending: &[u128],
+    group: GroupId,
+    above: GroupId,
+    account: Account,
+) -> Account
+    requires there { IsTrue (has_group tree.now group) }
+    requires above { IsTrue (has_group tree.now above) }
+    requires keepers { All (KeeperIsThere tree.now) places.now }
+    requires numbers { length pending.now ≡ 64 }
+    requires bound { All (λ n. n ≤ 2 ^ 96) pending.now }
+    ensures { result ≡ peaked tree.now group above (frames_below tree.now places.now above + pages_below tree.now pending.now above) account }
+{
+    if !tree.in_subtree(above, group) {
+        return account;
+    }
+    let usage = usage(tree, places, pending, above);
+    Account {
+        peak: account.peak.max(usage),
+        ..account
+    }
+}
+
+/// Counts one more `max` at the group and at each of its ancestors, and for the group alone.
+pub(crate) fn note_max(tree: &Tree, accounts: &mut Vec<Account>, group: GroupId)
+    requires there { IsTrue (has_group tree.now group) }
+    requires accounts { vec_len accounts.old ≡ 64 }
+    ensures length { vec_len accounts.new ≡ 64 }
+    ensures events { (m : ℕ) → slice_index_or accounts.new.items m new_account ≡ noted tree.now group m (slice_index_or accounts.old.items m new_account) }
+{
+    for row in tree.groups() {
+        let place = row.number.number() as usize;
+        accounts[place] = with_note(tree, group, row.number, accounts[place]);
+    }
+}
+
+// The account of a group that is there, after a note at the other group.
+fn with_note(tree: &Tree, group: GroupId, above: GroupId, account: Account) -> Account
+    requires there { IsTrue (has_group tree.now group) }
+    requires above { IsTrue (has_group tree.now above) }
+    ensures { result ≡ noted tree.now group above account }
+{
+    let mut noted = account;
+    if tree.in_subtree(above, group) {
+        noted.events = account.events.with_max();
+    }
+    if above == group {
+        noted.local_events = account.local_events.with_max();
+    }
+    noted
+}
