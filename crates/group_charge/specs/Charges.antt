@@ -15,7 +15,7 @@ pub record Ledger : Type 0 where
 
 -- nothing has happened
 abbrev pub no_events : Counts
-no_events = record { low = 0; high = 0; max = 0; oom = 0; oom_kill = 0 }
+no_events = record { max = 0; oom = 0; oom_kill = 0 }
 
 -- a new group has no page, peak 0 and all counts 0
 abbrev pub empty_account : ℕ → Account
