@@ -89,7 +89,7 @@ abbrev pub peaked : List Group → List Account → ℕ → Account → Account
 peaked groups accounts g a =
     if in_subtree groups a.group g then record a { peak = max a.peak (usage_of groups accounts a.group) } else a
 
--- one more, and 2^64 - 1 at most
+-- one more `max`, and 2^64 - 1 at most
 abbrev pub with_max : Counts → Counts
 with_max c = record c { max = min (c.max + 1) (2 ^ 64 - 1) }
 

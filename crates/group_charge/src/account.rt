@@ -2,7 +2,8 @@
 
 use group_tree::group::GroupId;
 
-/// How often something happened to a group (memory.events). A count stays at 2^64 - 1.
+/// How often something happened to a group (memory.events). A count stays at 2^64 - 1. There is no
+/// memory.low and no memory.high, so nothing is counted for them.
 #[derive(Clone, Copy, Debug, PartialEq, Eq)]
 pub struct Counts {
     /// How often usage was about to go over the limit.
