@@ -28,7 +28,7 @@ limit_text (Some pages) = pages_text pages
 abbrev pub count_line : List ℕ → ℕ → List ℕ
 count_line key count = key ++ (codes " " ++ (decimal count ++ codes "\n"))
 
--- a line for each key: what never happens here first, and then the counts
+-- a line for each key: `low` and `high` never happen here and stay 0, and then come the counts
 unfoldable pub events_text : Counts → List ℕ
 events_text counts =
     codes "low 0\nhigh 0\n" ++ count_line (codes "max") counts.max ++ count_line (codes "oom") counts.oom

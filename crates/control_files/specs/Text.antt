@@ -14,6 +14,7 @@ pub record IsPadded (bytes : List ℕ) (len : ℕ) : Type 0 where
 abbrev pub padded : List ℕ → List ℕ
 padded text = text ++ replicate (160 - length text) 0
 
+-- the first bytes with zeros behind them are all the bytes
 padded-bytes : (bytes : List ℕ) (len : ℕ) → IsPadded bytes len → padded (take len bytes) ≡ bytes
 padded-bytes bytes len h =
     let size : length (take len bytes) ≡ len = length-take-le len bytes (omega (arith, h.size, h.fits)) in

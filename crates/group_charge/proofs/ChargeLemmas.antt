@@ -21,30 +21,36 @@ list_any-over : {X Y : Type 0} (p : Y → Bool) (f : X → Y) (xs : List X) → 
 list_any-over p f [] = refl
 list_any-over p f (x ∷ xs) = ap (λ b. p (f x) || b) (list_any-over p f xs)
 
+-- a group has an account exactly where it is there
 pub has_account : (l : Ledger) (g : ℕ) → AreCharges l → list_any (λ a. a.group == g) l.accounts ≡ has_group l.groups g
 has_account l g facts =
     sym (list_any-over (λ n. n == g) (λ (a : Account). a.group) l.accounts) ∙ ap (list_any (λ n. n == g)) facts.numbers
     ∙ list_any-over (λ n. n == g) (λ (x : Group). x.number) l.groups ∙ sym (has_group-any l.groups g)
 
+-- there are as many accounts as groups
 pub as_many : (l : Ledger) → AreCharges l → length l.accounts ≡ length l.groups
 as_many l facts = sym (length-map l.accounts (λ (a : Account). a.group)) ∙ ap length facts.numbers ∙ length-map l.groups (λ (x : Group). x.number)
 
+-- the k-th account is the k-th group's
 account_number : (l : Ledger) (k : ℕ) (d : Account) → AreCharges l → k < length l.accounts → (get_or l.accounts k d).group ≡ (get_or l.groups k the_root).number
 account_number l k d facts lt =
     let also : k < length l.groups = omega (arith, as_many l facts) in
     sym (get_or-map (λ (a : Account). a.group) l.accounts k d 0 lt) ∙ ap (λ ns. get_or ns k 0) facts.numbers ∙ get_or-map (λ (x : Group). x.number) l.groups k the_root 0 also
 
+-- each account's group is there
 pub all_known : (l : Ledger) → AreCharges l → All (λ a. IsTrue (has_group l.groups a.group)) l.accounts
 all_known l facts = λ k d lt.
     let also : k < length l.groups = omega (arith, as_many l facts) in
     subst (λ n. IsTrue (has_group l.groups n)) (sym (account_number l k d facts lt)) (has_group-contains l.groups (get_or l.groups k the_root) (Contains-get_or l.groups k the_root also))
 
+-- no group has two accounts
 pub all_distinct : (l : Ledger) → AreCharges l → AreDistinct l.accounts
 all_distinct l facts = λ i j d below lt same.
     let first = account_number l i d facts (omega arith) in
     let second = account_number l j d facts lt in
     facts.groups.numbers_distinct i j the_root below (omega (arith, as_many l facts)) (sym first ∙ same ∙ second)
 
+-- an account of the list is found by its number
 pub account_at-there : (l : Ledger) (a : Account) → AreCharges l → Contains l.accounts a → account_at l a.group ≡ Some a
 unfolding account_at
 account_at-there l a facts h =
@@ -55,6 +61,7 @@ account_at-there l a facts h =
     (eq-eqb (get_or l.accounts h.0 a).group a.group (ap (λ (x : Account). x.group) h.2)) in
     at ∙ ap Some h.2
 
+-- the group's own pages are those of its account
 pub pages-there : (l : Ledger) (g n : ℕ) → AreCharges l → n ≤ pages_of l g → All (λ a. a.group ≡ g → n ≤ a.pages) l.accounts
 unfolding pages_of
 pages-there l g n facts h = λ k d lt same.
@@ -70,6 +77,7 @@ root_usage l facts =
     sum-same (share l.groups 0) (λ a. a.pages) l.accounts
     (λ k d lt. let a = get_or l.accounts k d in cond-true (in_subtree l.groups 0 a.group) a.pages 0 (in_subtree-root l.groups a.group facts.groups (all_known l facts k d lt)))
 
+-- no usage is above the root's
 pub usage-le-root : (l : Ledger) (g : ℕ) → AreCharges l → current_of l g ≤ current_of l 0
 usage-le-root l g facts = omega (arith, usage-le-total l.groups l.accounts g, root_usage l facts)
 
@@ -77,15 +85,18 @@ usage-le-root l g facts = omega (arith, usage-le-total l.groups l.accounts g, ro
 pub same_ledger : (g h : List Group) (a b : List Account) → g ≡ h → a ≡ b → ◌≡◌ {A = Ledger} (record { groups = g; accounts = a }) (record { groups = h; accounts = b })
 same_ledger g h a b x y = cc
 
+-- a change that keeps each account's group keeps the list of groups
 same_groups : (f : Account → Account) → ((a : Account) → (f a).group ≡ a.group) → (xs : List Account) → map (λ (a : Account). a.group) (map f xs) ≡ map (λ (a : Account). a.group) xs
 same_groups f same [] = refl
 same_groups f same (x ∷ xs) = ap (λ n. n ∷ map (λ (a : Account). a.group) (map f xs)) (same x) ∙ ap (λ ns. x.group ∷ ns) (same_groups f same xs)
 
+-- another limit changes no number
 numbers-limited : (n : ℕ) (limit : Option ℕ) (xs : List Group) → map (λ (x : Group). x.number) (map (limited n limit) xs) ≡ map (λ (x : Group). x.number) xs
 numbers-limited n limit [] = refl
 numbers-limited n limit (x ∷ xs) =
     ap (λ k. k ∷ map (λ (y : Group). y.number) (map (limited n limit) xs)) (limited-number n limit x) ∙ ap (λ ns. x.number ∷ ns) (numbers-limited n limit xs)
 
+-- mapping after filtering is filtering after mapping
 map-filter : {X Y : Type 0} (f : X → Y) (p : Y → Bool) (xs : List X) → map f (filter (λ x. p (f x)) xs) ≡ filter p (map f xs)
 map-filter f p [] = refl
 map-filter f p (x ∷ xs) =
@@ -94,6 +105,7 @@ map-filter f p (x ∷ xs) =
     (λ n. subst (λ b. map f (cond b (x ∷ filter (λ y. p (f y)) xs) (filter (λ y. p (f y)) xs)) ≡ cond b (f x ∷ filter p (map f xs)) (filter p (map f xs))) (sym n) (map-filter f p xs))
     (cases_Bool (p (f x)))
 
+-- fewer accounts have no more pages
 total-filter : (p : Account → Bool) (xs : List Account) → total_pages (filter p xs) ≤ total_pages xs
 total-filter p [] = omega arith
 total-filter p (x ∷ xs) =
@@ -103,15 +115,18 @@ total-filter p (x ∷ xs) =
     (λ _. omega (arith, sum_by-cons (λ (a : Account). a.pages) x (filter p xs)))
     (λ _. omega arith)
 
+-- peaks cover usage at first
 initial_peaks : PeaksCover (the_root ∷ []) (empty_account 0 ∷ [])
 initial_peaks =
     All-cons (λ (a : Account). usage_of (the_root ∷ []) (empty_account 0 ∷ []) a.group ≤ a.peak) (empty_account 0) []
     (usage-le-total (the_root ∷ []) (empty_account 0 ∷ []) 0)
     (All-nil (λ (a : Account). usage_of (the_root ∷ []) (empty_account 0 ∷ []) a.group ≤ a.peak))
 
+-- the facts hold at first
 pub AreCharges-initial : AreCharges initial_ledger
 AreCharges-initial = record { groups = AreGroups-initial; numbers = refl; fits = lit< tt; peaks = initial_peaks }
 
+-- and after another limit
 pub AreCharges-limited : (l : Ledger) (g : ℕ) (limit : Option ℕ) → AreCharges l → AreCharges (with_group_limit l g limit)
 unfolding with_limit
 AreCharges-limited l g limit facts = record {
@@ -121,6 +136,7 @@ AreCharges-limited l g limit facts = record {
   peaks = cover_limited l.groups l.accounts g limit facts.peaks;
 }
 
+-- and after a note
 pub AreCharges-noted : (l : Ledger) (g : ℕ) → AreCharges l → AreCharges (record { groups = l.groups; accounts = map (noted l.groups g) l.accounts })
 AreCharges-noted l g facts = record {
   groups = facts.groups;
@@ -129,6 +145,7 @@ AreCharges-noted l g facts = record {
   peaks = cover_noted l.groups l.accounts g facts.peaks;
 }
 
+-- and after pages were taken
 pub AreCharges-taken : (l : Ledger) (g n : ℕ) → AreCharges l → AreCharges (record { groups = l.groups; accounts = map (taken g n) l.accounts })
 AreCharges-taken l g n facts = record {
   groups = facts.groups;
@@ -137,6 +154,7 @@ AreCharges-taken l g n facts = record {
   peaks = cover_taken l.groups l.accounts g n facts.peaks;
 }
 
+-- and after a charge that fits 32 bits
 pub AreCharges-charged : (l : Ledger) (g n : ℕ) → AreCharges l → IsTrue (has_group l.groups g) → current_of l 0 + n < 2 ^ 32 → AreCharges (record { groups = l.groups; accounts = charged l.groups l.accounts g n })
 unfolding charged
 AreCharges-charged l g n facts there fits =
@@ -149,6 +167,7 @@ AreCharges-charged l g n facts there fits =
       peaks = cover_charged l.groups l.accounts g n (all_distinct l facts) (has_account l g facts ∙ there) facts.peaks;
     }
 
+-- and without a group that has no group below it
 pub AreCharges-removed : (l : Ledger) (g : ℕ) → AreCharges l → has_child l.groups g ≡ false → g ≢ 0 → AreCharges (with_group_removed l g)
 unfolding without_group
 AreCharges-removed l g facts leaf below = record {
@@ -158,6 +177,7 @@ AreCharges-removed l g facts leaf below = record {
   peaks = cover_removed l.groups l.accounts g facts.peaks;
 }
 
+-- and with a new group
 pub AreCharges-new : (l : Ledger) (n : ℕ) (path : List ℕ) → AreCharges l → CanMake l.groups path → IsLeastFreeNumber l.groups n → AreCharges (with_new_group l n path)
 AreCharges-new l n path facts can least =
     let few = length-full l.groups n least.least in
@@ -178,9 +198,11 @@ pub record WalkedTo (l : Ledger) (g n m : ℕ) : Type 0 where
   pub on_path : IsTrue (in_subtree l.groups m g)
   pub passed : (k : ℕ) → IsTrue (in_subtree l.groups k g) → (has_room l n k ≡ true) ⊎ IsTrue (in_subtree l.groups k m)
 
+-- the walk begins at g
 pub walked_start : (l : Ledger) (g n : ℕ) → IsTrue (has_group l.groups g) → WalkedTo l g n g
 walked_start l g n there = record { on_path = in_subtree-refl l.groups g there; passed = λ k h. inr h }
 
+-- where m has room, the walk goes on to its parent
 pub walked_up : (l : Ledger) (g n m p : ℕ) → AreCharges l → WalkedTo l g n m → has_room l n m ≡ true → parent_of l.groups m ≡ Some p → WalkedTo l g n p
 walked_up l g n m p facts w room e = record {
   on_path = in_subtree-trans l.groups p m g (in_subtree-parent_of l.groups m p facts.groups e) w.on_path;
@@ -193,6 +215,7 @@ walked_up l g n m p facts w room e = record {
       (w.passed k h);
 }
 
+-- where the root has room, the whole path has
 pub walked_all : (l : Ledger) (g n m : ℕ) → AreCharges l → WalkedTo l g n m → has_room l n m ≡ true → m ≡ 0 → PathHasRoom l n g
 walked_all l g n m facts w room root = λ k h.
     ⊎_elim (λ r. r)
@@ -202,6 +225,7 @@ walked_all l g n m facts w room root = λ k h.
     ap (has_room l n) (in_subtree-antisym l.groups k 0 facts.groups up down ∙ sym root) ∙ room)
     (w.passed k h)
 
+-- where m has none, it is the lowest such group
 pub walked_over : (l : Ledger) (g n m : ℕ) → WalkedTo l g n m → has_room l n m ≡ false → IsLowestOver l n g m
 walked_over l g n m w over = record {
   on_path = w.on_path;
@@ -209,6 +233,7 @@ walked_over l g n m w over = record {
   lowest = λ k h none. ⊎_elim (λ r. absurd (both_ways (has_room l n k) none r)) (λ above. above) (w.passed k h);
 }
 
+-- a parent's path has fewer names, so the walk ends
 pub parent_depth : (l : Ledger) (m p : ℕ) → AreCharges l → parent_of l.groups m ≡ Some p → depth_at l.groups p < depth_at l.groups m
 unfolding depth_at
 parent_depth l m p facts e =
@@ -217,6 +242,7 @@ parent_depth l m p facts e =
     let high : depth_at l.groups p ≡ depth_of w.1 = ap (λ o. option_map_or (λ q. depth_of q) o 0) w.3 in
     omega (arith, low, high, w.4)
 
+-- a charge leaves the number of accounts
 pub length-charged : (groups : List Group) (accounts : List Account) (g n : ℕ) → length (charged groups accounts g n) ≡ length accounts
 unfolding charged
 length-charged groups accounts g n =
@@ -227,6 +253,7 @@ pub charge_rises : (l : Ledger) (g n : ℕ) → AreCharges l → IsTrue (has_gro
 charge_rises l g n facts there = λ m.
     usage-charged l.groups l.accounts g n m (all_distinct l facts) (has_account l g facts ∙ there) ∙ part-is l.groups m g n (current_of l m)
 
+-- what is taken back lowers the usage of the group and of all above it
 pub uncharge_falls : (l : Ledger) (g n : ℕ) → AreCharges l → IsTrue (has_group l.groups g) → n ≤ pages_of l g → UsageRises (with_uncharge l g n) l g n
 uncharge_falls l g n facts there enough = λ m.
     sym (usage-taken l.groups l.accounts g n m (all_distinct l facts) (has_account l g facts ∙ there) (pages-there l g n facts enough))

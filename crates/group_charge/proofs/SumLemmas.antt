@@ -3,42 +3,39 @@ use Rattle.std.proofs.Common.{◌≡◌, ◌≢◌, ℕ, suc, ◌||◌, AllPairs
 use Rattle.std.specs.List.{sum_by, list_any}
 use Rattle.std.proofs.lemmas.Bool.{cond-true, cond-false, cases_Bool, cond_both, or_parts, false_from_ne_true, false≢true, eqb-true}
 use Rattle.std.proofs.lemmas.List.Folds.{Any-from_list_any}
-use Rattle.std.proofs.lemmas.List.{get_or_default, get_or-append_right, length-map, length-take-le, get_or-drop}
+use Rattle.std.proofs.lemmas.List.{get_or_default}
 use Rattle.std.proofs.lemmas.List.Elements.{All-map, All-append, All-take, All-drop}
-use Rattle.std.proofs.lemmas.List.Sums.{sum_by_more, sum_by_more_le, sum_by_more_le_part, sum_by-le-sum_by, sum_by-cons, sum_by-append, sum_by-take-drop}
+use Rattle.std.proofs.lemmas.List.Sums.{sum_by_more, sum_by_more_le_part, sum_by-le-sum_by, sum_by-cons, sum_by-append, sum_by-take-drop}
 use Rattle.group_tree.specs.declared.group.Group.{Group}
 use Rattle.group_tree.specs.Groups.{in_subtree, has_group}
 use Rattle.group_charge.specs.Charges.{Account, usage_of, total_pages, added, taken, peaked}
 
 -- ---- the usage of a group, summed one account after another
+-- what an account adds to the usage of g
 abbrev pub share : List Group → ℕ → Account → ℕ
 share groups g a = cond (in_subtree groups g a.group) a.pages 0
 
+-- an account adds no more than its pages
 share-le : (groups : List Group) (g : ℕ) (a : Account) → share groups g a ≤ a.pages
 share-le groups g a = cond_both (in_subtree groups g a.group) a.pages 0 (λ x. x ≤ a.pages) (λ _. omega arith) (λ _. omega arith)
 
+-- one account more adds its share
 pub usage_more : (groups : List Group) (xs : List Account) (g i : ℕ) (d : Account) → i < length xs → usage_of groups (take (i + 1) xs) g ≡ usage_of groups (take i xs) g + share groups g (get_or xs i d)
 unfolding usage_of
 usage_more groups xs g i d lt = sum_by_more (share groups g) xs i d lt
 
+-- the usage so far and the next pages fit into all pages
 pub usage-part : (groups : List Group) (xs : List Account) (g i : ℕ) (d : Account) → i < length xs → usage_of groups (take i xs) g + (get_or xs i d).pages ≤ total_pages xs
 unfolding usage_of
 usage-part groups xs g i d lt = sum_by_more_le_part (share groups g) (λ a. a.pages) xs i d lt (share-le groups g)
 
+-- no usage is above all that is charged
 pub usage-le-total : (groups : List Group) (xs : List Account) (g : ℕ) → usage_of groups xs g ≤ total_pages xs
 unfolding usage_of
 usage-le-total groups xs g = sum_by-le-sum_by (share groups g) (λ a. a.pages) xs (share-le groups g)
 
-pub pages-le-total : (xs : List Account) (i : ℕ) (d : Account) → i < length xs → (get_or xs i d).pages ≤ total_pages xs
-pages-le-total xs i d lt = let h = sum_by_more_le (λ (a : Account). a.pages) xs i d lt in omega arith
-
 -- ---- a list that is changed in place, up to i
-pub item_left : {X : Type 0} (f : X → X) (xs ys : List X) (i : ℕ) (d : X) → i < length xs → ys ≡ map f (take i xs) ++ drop i xs → get_or ys i d ≡ get_or xs i d
-item_left f xs ys i d lt e =
-    let size : length (map f (take i xs)) ≡ i = length-map (take i xs) f ∙ length-take-le i xs (omega arith) in
-    let zero : i - i ≡ 0 = omega arith in
-    ap (λ zs. get_or zs i d) e ∙ get_or-append_right (map f (take i xs)) (drop i xs) i i d size (omega arith) ∙ ap (λ k. get_or (drop i xs) k d) zero ∙ get_or-drop i xs 0 d ∙ (let same : i + 0 ≡ i = omega arith in ap (λ k. get_or xs k d) same)
-
+-- a change that keeps F of each item keeps the sum
 module _ {X : Type 0} (F : X → ℕ) (f : X → X) (same : (x : X) → F (f x) ≡ F x) where
   pub sum-map_same : (xs : List X) → sum_by F (map f xs) ≡ sum_by F xs
   sum-map_same [] = refl
@@ -49,13 +46,16 @@ module _ {X : Type 0} (F : X → ℕ) (f : X → X) (same : (x : X) → F (f x) 
   sum-in_place xs i =
       sum_by-append F (map f (take i xs)) (drop i xs) ∙ ap (λ n. n + sum_by F (drop i xs)) (sum-map_same (take i xs)) ∙ sum_by-take-drop F xs i
 
+-- a raised peak changes no pages
 pub peaked-pages : (groups : List Group) (all : List Account) (g : ℕ) (a : Account) → (peaked groups all g a).pages ≡ a.pages
 peaked-pages groups all g a = cond_both (in_subtree groups a.group g) (record a { peak = max a.peak (usage_of groups all a.group) }) a (λ (x : Account). x.pages ≡ a.pages) (λ _. refl) (λ _. refl)
 
+-- nor the group's number
 pub peaked-group : (groups : List Group) (all : List Account) (g : ℕ) (a : Account) → (peaked groups all g a).group ≡ a.group
 peaked-group groups all g a = cond_both (in_subtree groups a.group g) (record a { peak = max a.peak (usage_of groups all a.group) }) a (λ (x : Account). x.group ≡ a.group) (λ _. refl) (λ _. refl)
 
-peaked-share : (groups : List Group) (all : List Account) (g m : ℕ) (a : Account) → share groups m (peaked groups all g a) ≡ share groups m a
+-- nor what the account adds to a usage
+pub peaked-share : (groups : List Group) (all : List Account) (g m : ℕ) (a : Account) → share groups m (peaked groups all g a) ≡ share groups m a
 peaked-share groups all g m a = cond_both (in_subtree groups a.group g) (record a { peak = max a.peak (usage_of groups all a.group) }) a (λ (x : Account). share groups m x ≡ share groups m a) (λ _. refl) (λ _. refl)
 
 -- peaks that are raised change no usage
@@ -63,9 +63,11 @@ pub usage-in_place : (groups : List Group) (all xs : List Account) (g m i : ℕ)
 unfolding usage_of
 usage-in_place groups all xs g m i = sum-in_place (share groups m) (peaked groups all g) (peaked-share groups all g m) xs i
 
+-- nor all that is charged
 pub total-in_place : (groups : List Group) (all xs : List Account) (g i : ℕ) → total_pages (map (peaked groups all g) (take i xs) ++ drop i xs) ≡ total_pages xs
 total-in_place groups all xs g i = sum-in_place (λ a. a.pages) (peaked groups all g) (peaked-pages groups all g) xs i
 
+-- nor whose accounts these are
 pub known-in_place : (groups : List Group) (all xs : List Account) (g i : ℕ) → All (λ a. IsTrue (has_group groups a.group)) xs → All (λ a. IsTrue (has_group groups a.group)) (map (peaked groups all g) (take i xs) ++ drop i xs)
 known-in_place groups all xs g i h =
     All-append (λ a. IsTrue (has_group groups a.group)) (map (peaked groups all g) (take i xs)) (drop i xs)
@@ -77,20 +79,25 @@ known-in_place groups all xs g i h =
 pub peaked-as : (groups : List Group) (all others : List Account) (g : ℕ) (a : Account) → usage_of groups all a.group ≡ usage_of groups others a.group → peaked groups all g a ≡ peaked groups others g a
 peaked-as groups all others g a e = ap (λ n. cond (in_subtree groups a.group g) (record a { peak = max a.peak n }) a) e
 
+-- without accounts there is no usage
 pub usage_none : (groups : List Group) (g : ℕ) → usage_of groups [] g ≡ 0
 unfolding usage_of
 usage_none groups g = refl
 
 -- ---- pages that come to one group
+-- k for an account of g, and nothing for the others
 abbrev pub extra : ℕ → ℕ → Account → ℕ
 extra g k a = cond (a.group == g) k 0
 
+-- no group has two accounts
 abbrev pub AreDistinct : List Account → Type 0
 AreDistinct xs = AllPairs (λ a b. a.group ≢ b.group) xs
 
+-- nor has it in the rest of the list
 distinct-tail : (x : Account) (xs : List Account) → AreDistinct (x ∷ xs) → AreDistinct xs
 distinct-tail x xs h = λ i j d below lt. h (suc i) (suc j) d (omega arith) (omega arith)
 
+-- a group without an account gets nothing
 extra_none : (g k : ℕ) (xs : List Account) → list_any (λ a. a.group == g) xs ≡ false → sum_by (extra g k) xs ≡ 0
 extra_none g k [] e = refl
 extra_none g k (x ∷ xs) e =
@@ -99,6 +106,7 @@ extra_none g k (x ∷ xs) e =
     let rest = extra_none g k xs parts.1 in
     omega (arith, sum_by-cons (extra g k) x xs)
 
+-- behind a group's account there is no other of it
 others-none : (g : ℕ) (x : Account) (xs : List Account) → AreDistinct (x ∷ xs) → (x.group == g) ≡ true → list_any (λ a. a.group == g) xs ≡ false
 others-none g x xs h t =
     false_from_ne_true (list_any (λ a. a.group == g) xs) (λ some.
@@ -106,6 +114,7 @@ others-none g x xs h t =
     let same : (get_or xs w.0 x).group ≡ w.1.group = ap (λ (a : Account). a.group) (get_or_default xs w.0 x w.1 w.2 ∙ w.3) in
     h 0 (suc w.0) x (omega arith) (omega (arith, w.2)) (eqb-true x.group g t ∙ sym (same ∙ eqb-true w.1.group g w.4)))
 
+-- a group with an account gets k once
 pub extra_once : (g k : ℕ) (xs : List Account) → AreDistinct xs → list_any (λ a. a.group == g) xs ≡ true → sum_by (extra g k) xs ≡ k
 extra_once g k [] h e = absurd (false≢true e)
 extra_once g k (x ∷ xs) h e =
@@ -121,6 +130,7 @@ extra_once g k (x ∷ xs) h e =
     omega (arith, sum_by-cons (extra g k) x xs))
     (cases_Bool (x.group == g))
 
+-- a group gets k at most
 extra-le : (g k : ℕ) (xs : List Account) → AreDistinct xs → sum_by (extra g k) xs ≤ k
 extra-le g k xs h =
     ⊎_elim
@@ -134,6 +144,7 @@ sum-plus F G H f [] each = refl
 sum-plus F G H f (x ∷ xs) each =
     omega (arith, sum-plus F G H f xs each, each x, sum_by-cons F (f x) (map f xs), sum_by-cons G x xs, sum_by-cons H x xs)
 
+-- n pages are added to the account of g alone
 added-pages : (g n : ℕ) (a : Account) → (added g n a).pages ≡ a.pages + extra g n a
 added-pages g n a =
     ⊎_elim
@@ -141,23 +152,28 @@ added-pages g n a =
     (λ f. ap (λ (x : Account). x.pages) (cond-false (a.group == g) (record a { pages = a.pages + n }) a f) ∙ sym (ap (λ k. a.pages + k) (cond-false (a.group == g) n 0 f) ∙ add-zero a.pages))
     (cases_Bool (a.group == g))
 
+-- added pages change no group's number
 pub added-group : (g n : ℕ) (a : Account) → (added g n a).group ≡ a.group
 added-group g n a = cond_both (a.group == g) (record a { pages = a.pages + n }) a (λ (x : Account). x.group ≡ a.group) (λ _. refl) (λ _. refl)
 
+-- nor do pages that are taken
 pub taken-group : (g n : ℕ) (a : Account) → (taken g n a).group ≡ a.group
 taken-group g n a = cond_both (a.group == g) (record a { pages = a.pages - n }) a (λ (x : Account). x.group ≡ a.group) (λ _. refl) (λ _. refl)
 
+-- all that is charged grows by n at most
 pub total-added : (g n : ℕ) (xs : List Account) → AreDistinct xs → total_pages (map (added g n) xs) ≤ total_pages xs + n
 total-added g n xs h =
     let sum = sum-plus (λ a. a.pages) (λ a. a.pages) (extra g n) (added g n) xs (added-pages g n) in
     omega (arith, sum, extra-le g n xs h)
 
+-- pages that are taken raise no total
 pub total-taken : (g n : ℕ) (xs : List Account) → total_pages (map (taken g n) xs) ≤ total_pages xs
 total-taken g n [] = omega arith
 total-taken g n (x ∷ xs) =
     let here : (taken g n x).pages ≤ x.pages = cond_both (x.group == g) (record x { pages = x.pages - n }) x (λ (y : Account). y.pages ≤ x.pages) (λ _. omega arith) (λ _. omega arith) in
     omega (arith, total-taken g n xs, sum_by-cons (λ (a : Account). a.pages) (taken g n x) (map (taken g n) xs), sum_by-cons (λ (a : Account). a.pages) x xs)
 
+-- added pages change nothing of whose accounts these are
 pub known-added : (groups : List Group) (g n : ℕ) (xs : List Account) → All (λ a. IsTrue (has_group groups a.group)) xs → All (λ a. IsTrue (has_group groups a.group)) (map (added g n) xs)
 known-added groups g n xs h =
     All-map (λ a. IsTrue (has_group groups a.group)) (added g n) xs

@@ -9,13 +9,15 @@ use Rattle.group_tree.specs.Groups.{AreGroups, has_group, in_subtree, with_group
 use Rattle.group_tree.proofs.GroupLemmas.{CanMake}
 use Rattle.group_tree.proofs.CallerLemmas.{in_subtree-limited, in_subtree-with, in_subtree-with_new, in_subtree-without}
 use Rattle.group_charge.specs.Charges.{Account, usage_of, added, taken, peaked, noted, charged, empty_account}
-use Rattle.group_charge.proofs.SumLemmas.{share, extra, extra_once, AreDistinct, sum-plus, sum-map_same, peaked-group, added-group, taken-group}
+use Rattle.group_charge.proofs.SumLemmas.{share, extra, extra_once, AreDistinct, sum-plus, sum-map_same, peaked-group, peaked-share, added-group, taken-group}
 
+-- the same items make the same sum
 pub sum-same : (F G : Account → ℕ) (xs : List Account) → All (λ x. F x ≡ G x) xs → sum_by F xs ≡ sum_by G xs
 sum-same F G [] h = refl
 sum-same F G (x ∷ xs) h =
     omega (arith, All-head (λ y. F y ≡ G y) x xs h, sum-same F G xs (All-tail (λ y. F y ≡ G y) x xs h), sum_by-cons F x xs, sum_by-cons G x xs)
 
+-- each item loses its part, so the sum loses the sum of the parts
 sum-minus : (F G H : Account → ℕ) (f : Account → Account) (xs : List Account) → All (λ x. G (f x) + H x ≡ F x) xs → sum_by G (map f xs) + sum_by H xs ≡ sum_by F xs
 sum-minus F G H f [] h = refl
 sum-minus F G H f (x ∷ xs) h =
@@ -25,6 +27,7 @@ sum-minus F G H f (x ∷ xs) h =
 abbrev pub part : List Group → ℕ → ℕ → ℕ → ℕ
 part groups m g n = cond (in_subtree groups m g) n 0
 
+-- n pages of g raise what its account adds to the usage of m
 share-added : (groups : List Group) (m g n : ℕ) (a : Account) → share groups m (added g n a) ≡ share groups m a + extra g (part groups m g n) a
 share-added groups m g n a =
     ⊎_elim
@@ -50,6 +53,7 @@ share-added groups m g n a =
     omega arith)
     (cases_Bool (a.group == g))
 
+-- and what is taken from g lowers it
 share-taken : (groups : List Group) (m g n : ℕ) (a : Account) → (a.group ≡ g → n ≤ a.pages) → share groups m (taken g n a) + extra g (part groups m g n) a ≡ share groups m a
 share-taken groups m g n a enough =
     ⊎_elim
@@ -76,15 +80,14 @@ share-taken groups m g n a enough =
     omega arith)
     (cases_Bool (a.group == g))
 
-peaked-share : (groups : List Group) (all : List Account) (g m : ℕ) (a : Account) → share groups m (peaked groups all g a) ≡ share groups m a
-peaked-share groups all g m a = cond_both (in_subtree groups a.group g) (record a { peak = max a.peak (usage_of groups all a.group) }) a (λ (x : Account). share groups m x ≡ share groups m a) (λ _. refl) (λ _. refl)
-
+-- so n pages of g raise the usage of m where g lies in its subtree
 pub usage-added : (groups : List Group) (xs : List Account) (g n m : ℕ) → AreDistinct xs → list_any (λ a. a.group == g) xs ≡ true → usage_of groups (map (added g n) xs) m ≡ usage_of groups xs m + part groups m g n
 unfolding usage_of
 usage-added groups xs g n m distinct there =
     sum-plus (share groups m) (share groups m) (extra g (part groups m g n)) (added g n) xs (share-added groups m g n)
     ∙ ap (λ k. sum_by (share groups m) xs + k) (extra_once g (part groups m g n) xs distinct there)
 
+-- raised peaks change no usage
 pub usage-peaked : (groups : List Group) (all xs : List Account) (g m : ℕ) → usage_of groups (map (peaked groups all g) xs) m ≡ usage_of groups xs m
 unfolding usage_of
 usage-peaked groups all xs g m = sum-map_same (share groups m) (peaked groups all g) (peaked-share groups all g m) xs
@@ -101,6 +104,7 @@ usage-taken groups xs g n m distinct there enough =
     ap (λ k. sum_by (share groups m) (map (taken g n) xs) + k) (sym (extra_once g (part groups m g n) xs distinct there))
     ∙ sum-minus (share groups m) (share groups m) (extra g (part groups m g n)) (taken g n) xs (λ k d lt. share-taken groups m g n (get_or xs k d) (enough k d lt))
 
+-- a usage and its part, by cases
 pub part-is : (groups : List Group) (m g n u : ℕ) → u + part groups m g n ≡ cond (in_subtree groups m g) (u + n) u
 part-is groups m g n u =
     ⊎_elim
@@ -112,12 +116,15 @@ part-is groups m g n u =
 abbrev pub PeaksCover : List Group → List Account → Type 0
 PeaksCover groups xs = All (λ a. usage_of groups xs a.group ≤ a.peak) xs
 
+-- added pages leave the peak
 added-peak : (g n : ℕ) (a : Account) → (added g n a).peak ≡ a.peak
 added-peak g n a = cond_both (a.group == g) (record a { pages = a.pages + n }) a (λ (x : Account). x.peak ≡ a.peak) (λ _. refl) (λ _. refl)
 
+-- and so do pages that are taken
 taken-peak : (g n : ℕ) (a : Account) → (taken g n a).peak ≡ a.peak
 taken-peak g n a = cond_both (a.group == g) (record a { pages = a.pages - n }) a (λ (x : Account). x.peak ≡ a.peak) (λ _. refl) (λ _. refl)
 
+-- peaks cover usage after a charge
 pub cover_charged : (groups : List Group) (xs : List Account) (g n : ℕ) → AreDistinct xs → list_any (λ a. a.group == g) xs ≡ true → PeaksCover groups xs → PeaksCover groups (charged groups xs g n)
 unfolding charged
 cover_charged groups xs g n distinct there cover =
@@ -150,6 +157,7 @@ sum-le F G [] h = omega arith
 sum-le F G (x ∷ xs) h =
     omega (arith, All-head (λ y. F y ≤ G y) x xs h, sum-le F G xs (All-tail (λ y. F y ≤ G y) x xs h), sum_by-cons F x xs, sum_by-cons G x xs)
 
+-- pages that are taken raise no share
 share-taken_le : (groups : List Group) (m g n : ℕ) (a : Account) → share groups m (taken g n a) ≤ share groups m a
 share-taken_le groups m g n a =
     cond_both (a.group == g) (record a { pages = a.pages - n }) a (λ (x : Account). share groups m x ≤ share groups m a)
@@ -159,12 +167,14 @@ share-taken_le groups m g n a =
     (cases_Bool (in_subtree groups m a.group)))
     (λ _. omega arith)
 
+-- nor any usage
 usage-taken_le : (groups : List Group) (xs : List Account) (g n m : ℕ) → usage_of groups (map (taken g n) xs) m ≤ usage_of groups xs m
 unfolding usage_of
 usage-taken_le groups [] g n m = omega arith
 usage-taken_le groups (x ∷ xs) g n m =
     omega (arith, usage-taken_le groups xs g n m, share-taken_le groups m g n x, sum_by-cons (share groups m) (taken g n x) (map (taken g n) xs), sum_by-cons (share groups m) x xs)
 
+-- peaks cover usage after pages were taken
 pub cover_taken : (groups : List Group) (xs : List Account) (g n : ℕ) → PeaksCover groups xs → PeaksCover groups (map (taken g n) xs)
 unfolding usage_of
 cover_taken groups xs g n cover =
@@ -181,17 +191,20 @@ usage_groups : (groups others : List Group) (xs : List Account) (m : ℕ) → Al
 unfolding usage_of
 usage_groups groups others xs m h = sum-same (share groups m) (share others m) xs (λ k d lt. ap (λ b. cond b (get_or xs k d).pages 0) (h k d lt))
 
+-- peaks cover usage under another limit
 pub cover_limited : (groups : List Group) (xs : List Account) (g : ℕ) (limit : Option ℕ) → PeaksCover groups xs → PeaksCover (with_limit groups g limit) xs
 cover_limited groups xs g limit cover = λ k d lt.
     let a = get_or xs k d in
     omega (arith, cover k d lt, usage_groups (with_limit groups g limit) groups xs a.group (λ j e h. in_subtree-limited groups g a.group (get_or xs j e).group limit))
 
+-- peaks cover usage after a note
 pub cover_noted : (groups : List Group) (xs : List Account) (g : ℕ) → PeaksCover groups xs → PeaksCover groups (map (noted groups g) xs)
 unfolding usage_of
 cover_noted groups xs g cover =
     All-map (λ x. usage_of groups (map (noted groups g) xs) x.group ≤ x.peak) (noted groups g) xs
     (λ k d lt. let a = get_or xs k d in omega (arith, cover k d lt, sum-map_same (share groups a.group) (noted groups g) (λ x. refl) xs))
 
+-- what is left of a list sums to no more
 sum-filter_le : (F G : Account → ℕ) (p : Account → Bool) (xs : List Account) → All (λ x. p x ≡ true → F x ≤ G x) xs → sum_by F (filter p xs) ≤ sum_by G xs
 sum-filter_le F G p [] h = omega arith
 sum-filter_le F G p (x ∷ xs) h =
@@ -205,6 +218,7 @@ sum-filter_le F G p (x ∷ xs) h =
     (λ f. subst (λ b. sum_by F (cond b (x ∷ filter p xs) (filter p xs)) ≤ sum_by G (x ∷ xs)) (sym f) (omega arith))
     (cases_Bool (p x))
 
+-- peaks cover usage after a group went
 pub cover_removed : (groups : List Group) (xs : List Account) (g : ℕ) → PeaksCover groups xs → PeaksCover (without_group groups g) (filter (λ a. not (a.group == g)) xs)
 unfolding usage_of
 cover_removed groups xs g cover =
@@ -223,10 +237,12 @@ cover_removed groups xs g cover =
     omega arith) in
     omega (arith, less, kept k d lt)
 
+-- zeros sum to zero
 sum-zero : (xs : List Account) → sum_by (λ _. 0) xs ≡ 0
 sum-zero [] = refl
 sum-zero (x ∷ xs) = omega (arith, sum-zero xs, sum_by-cons (λ (_ : Account). 0) x xs)
 
+-- an empty account adds to no usage
 usage-push_empty : (groups : List Group) (xs : List Account) (n m : ℕ) → usage_of groups (xs ++ empty_account n ∷ []) m ≡ usage_of groups xs m
 unfolding usage_of
 usage-push_empty groups xs n m =
@@ -247,6 +263,7 @@ usage-new groups xs n path facts can free known =
     cond-false (in_subtree (with_group groups n path) n a.group) a.pages 0 out)
     ∙ sum-zero xs
 
+-- a new group changes no usage of the others
 pub usage-new_other : (groups : List Group) (xs : List Account) (n m : ℕ) (path : List ℕ) → has_group groups n ≡ false → All (λ a. IsTrue (has_group groups a.group)) xs → m ≢ n → usage_of (with_group groups n path) (xs ++ empty_account n ∷ []) m ≡ usage_of groups xs m
 usage-new_other groups xs n m path free known other =
     usage-push_empty (with_group groups n path) xs n m
@@ -254,6 +271,7 @@ usage-new_other groups xs n m path free known other =
     (λ k d lt. in_subtree-with groups n m (get_or xs k d).group path other
     (λ same. both_ways (has_group groups n) free (ap (has_group groups) (sym same) ∙ known k d lt)))
 
+-- peaks cover usage with a new group
 pub cover_new : (groups : List Group) (xs : List Account) (n : ℕ) (path : List ℕ) → AreGroups groups → CanMake groups path → has_group groups n ≡ false → All (λ a. IsTrue (has_group groups a.group)) xs → PeaksCover groups xs → PeaksCover (with_group groups n path) (xs ++ empty_account n ∷ [])
 cover_new groups xs n path facts can free known cover =
     All-push (λ a. usage_of (with_group groups n path) (xs ++ empty_account n ∷ []) a.group ≤ a.peak) xs (empty_account n)

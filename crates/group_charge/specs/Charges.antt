@@ -15,7 +15,7 @@ pub record Ledger : Type 0 where
 
 -- nothing has happened
 abbrev pub no_events : Counts
-no_events = record { low = 0; high = 0; max = 0; oom = 0; oom_kill = 0 }
+no_events = record { max = 0; oom = 0; oom_kill = 0 }
 
 -- a new group has no page, peak 0 and all counts 0
 abbrev pub empty_account : ℕ → Account
@@ -89,7 +89,7 @@ abbrev pub peaked : List Group → List Account → ℕ → Account → Account
 peaked groups accounts g a =
     if in_subtree groups a.group g then record a { peak = max a.peak (usage_of groups accounts a.group) } else a
 
--- one more, and 2^64 - 1 at most
+-- one more `max`, and 2^64 - 1 at most
 abbrev pub with_max : Counts → Counts
 with_max c = record c { max = min (c.max + 1) (2 ^ 64 - 1) }
 

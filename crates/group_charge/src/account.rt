@@ -2,13 +2,10 @@
 
 use group_tree::group::GroupId;
 
-/// How often something happened to a group (memory.events). A count stays at 2^64 - 1.
+/// How often something happened to a group (memory.events). A count stays at 2^64 - 1. There is no
+/// memory.low and no memory.high, so nothing is counted for them.
 #[derive(Clone, Copy, Debug, PartialEq, Eq)]
 pub struct Counts {
-    /// Always 0: there is no memory.low here.
-    pub low: u64,
-    /// Always 0: there is no memory.high here.
-    pub high: u64,
     /// How often usage was about to go over the limit.
     pub max: u64,
     /// How often an allocation was about to fail at the limit, and killing was an option.

@@ -231,8 +231,6 @@ fn new_account(group: GroupId) -> Account
     ensures { result ≡ empty_account group }
 {
     let nothing = Counts {
-        low: 0,
-        high: 0,
         max: 0,
         oom: 0,
         oom_kill: 0,

@@ -100,8 +100,6 @@ fn a_group_made_anew_begins_empty(rt: HostRuntime) -> Result<(), Fail> {
     assert_eq!(rt; figures(&rt, &charges, b), (0, 0, None));
     assert!(rt; charges.tree().contains(b));
     let nothing = Counts {
-        low: 0,
-        high: 0,
         max: 0,
         oom: 0,
         oom_kill: 0,
