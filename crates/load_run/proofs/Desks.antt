@@ -175,13 +175,13 @@ found_pages g n f same more (x ∷ xs) there =
     let test : ((f x).group == g) ≡ (x.group == g) = ap (λ k. k == g) (same x) in
     elim (cases_Bool (x.group == g)) [
       | inl here ↦
-      let found : find (λ a. a.group == g) (f x ∷ rest) ≡ Some (f x) = cond-true ((f x).group == g) (Some (f x)) (find (λ a. a.group == g) rest) (test ∙ here) in
-      let enough : n ≤ (f x).pages = more x (eqb-true x.group g here) in
-      subst (λ (o : Option Account). n ≤ option_map_or (λ a. a.pages) o 0) (sym found) enough
+          let found : find (λ a. a.group == g) (f x ∷ rest) ≡ Some (f x) = cond-true ((f x).group == g) (Some (f x)) (find (λ a. a.group == g) rest) (test ∙ here) in
+          let enough : n ≤ (f x).pages = more x (eqb-true x.group g here) in
+          subst (λ (o : Option Account). n ≤ option_map_or (λ a. a.pages) o 0) (sym found) enough
       | inr other ↦
-      let later : find (λ a. a.group == g) (f x ∷ rest) ≡ find (λ a. a.group == g) rest = cond-false ((f x).group == g) (Some (f x)) (find (λ a. a.group == g) rest) (test ∙ other) in
-      let still : list_any (λ a. a.group == g) xs ≡ true = rw other at there in
-      subst (λ (o : Option Account). n ≤ option_map_or (λ a. a.pages) o 0) (sym later) (found_pages g n f same more xs still)
+          let later : find (λ a. a.group == g) (f x ∷ rest) ≡ find (λ a. a.group == g) rest = cond-false ((f x).group == g) (Some (f x)) (find (λ a. a.group == g) rest) (test ∙ other) in
+          let still : list_any (λ a. a.group == g) xs ≡ true = rw other at there in
+          subst (λ (o : Option Account). n ≤ option_map_or (λ a. a.pages) o 0) (sym later) (found_pages g n f same more xs still)
     ]
 
 added-pages : (g n : ℕ) (a : Account) → a.group ≡ g → n ≤ (added g n a).pages
@@ -215,7 +215,7 @@ new_desk zone places charges frames few free all_free initial = record {
   legal = subst AreCharges (sym initial) AreCharges-initial;
   free = free ∙ sym (map-replicate (λ p. is_same_place p Free) frames Free) ∙ ap free_in (sym all_free);
   owners = subst (All (KeeperIsThere charges.groups)) (sym all_free) (free_owners charges.groups frames);
-  usage = ap (λ (l : Ledger). current_of l 0) initial ∙ initial_usage ∙ sym (none_charged (replicate frames Free) (λ k lt. get_or-replicate frames k Free Free (let len = length-replicate {A = Place} frames Free in omega arith)) ) ∙ ap (count_by is_charged) (sym all_free);
+  usage = ap (λ (l : Ledger). current_of l 0) initial ∙ initial_usage ∙ sym (none_charged (replicate frames Free) (λ k lt. get_or-replicate frames k Free Free (let len = length-replicate {A = Place} frames Free in omega arith))) ∙ ap (count_by is_charged) (sym all_free);
 }
   where
     map-replicate : {X Y : Type 0} (f : X → Y) (n : ℕ) (x : X) → map f (replicate n x) ≡ replicate n (f x)

@@ -28,11 +28,7 @@ pub fn replay_lines(
 }
 
 // Serves a command and adds its answer.
-fn serve(
-    desk: &mut Desk,
-    command: &Command<'_>,
-    answers: &mut String,
-) -> Result<(), AllocError> {
+fn serve(desk: &mut Desk, command: &Command<'_>, answers: &mut String) -> Result<(), AllocError> {
     let reply = match command {
         Command::Mkdir { path } => desk.make_group(path),
         Command::Alloc { path, order } => desk.take_block(path, *order),

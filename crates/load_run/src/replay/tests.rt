@@ -1,6 +1,10 @@
+mod as_core;
+
 use crate::replay::replay_lines;
 use crate::script::parse_script;
 use mem_core::config::Config;
+use mem_core::zone::Core;
+use std::alloc::{AllocError, Global};
 use std::process::Abort;
 use std::test::Fail;
 
@@ -93,9 +97,9 @@ fn the_peak_stands_where_no_frame_was_left(rt: HostRuntime) -> Result<(), Fail> 
 
 #[test]
 fn the_limit_is_asked_before_the_zone(rt: HostRuntime) -> Result<(), Fail> {
-    let script = b"1 mkdir /a\n1 write /a memory.max 4096\n1 alloc /a 1\n1 alloc /a 0\n1 alloc /a 0\n";
-    let expected =
-        b"group 1\nok\nrefused 15 OverLimit /a\nframe 0\nrefused 15 OverLimit /a\n";
+    let script =
+        b"1 mkdir /a\n1 write /a memory.max 4096\n1 alloc /a 1\n1 alloc /a 0\n1 alloc /a 0\n";
+    let expected = b"group 1\nok\nrefused 15 OverLimit /a\nframe 0\nrefused 15 OverLimit /a\n";
     assert!(rt; answers(&rt, 1, script.as_slice(), expected.as_slice())?);
     Ok(())
 }
@@ -107,5 +111,106 @@ fn the_root_has_no_files_and_others_have_five(rt: HostRuntime) -> Result<(), Fai
     let expected =
         b"group 1\nrefused 10 NoFile\nrefused 10 NoFile\nrefused 10 NoFile\nrefused 10 NoFile\nrefused 11 ReadOnly\nrefused 11 ReadOnly\nrefused 6 NoGroup\nrefused 6 NoGroup\nframe 0\n";
     assert!(rt; answers(&rt, 16, script.as_slice(), expected.as_slice())?);
+    Ok(())
+}
+
+// Every kind of line and of refusal: groups at three depths with limits at each, and a zone that fills.
+const MIXED: [&str; 52] = [
+    "1 show",
+    "1 mkdir /a",
+    "1 mkdir /a/b",
+    "1 mkdir /a/b/c",
+    "1 mkdir /d",
+    "1 mkdir /d",
+    "1 mkdir /e/f",
+    "1 mkdir /",
+    "1 mkdir /a/a/a/a/a/a/a/a/a",
+    "1 read /a/b memory.max",
+    "1 write /a memory.max 64K",
+    "1 write /a/b memory.max 40000",
+    "1 write /a/b/c memory.max 12K",
+    "1 read /a/b memory.max",
+    "1 alloc /a/b/c 0",
+    "1 alloc /a/b/c 2",
+    "1 alloc /a/b/c 1",
+    "1 alloc /a/b/c 0",
+    "1 alloc /a/b 3",
+    "1 alloc /a/b 2",
+    "1 alloc /a 4",
+    "1 alloc /a 3",
+    "1 blocks",
+    "1 alloc /d 3",
+    "1 alloc /d 4",
+    "1 alloc /d 10",
+    "1 alloc /d 11",
+    "1 alloc /nowhere 11",
+    "1 alloc / 0",
+    "1 write /d memory.max 0",
+    "1 alloc /d 0",
+    "1 write /d memory.max max",
+    "1 alloc /d 0",
+    "1 write /a/b/c memory.max 16777215T",
+    "1 write /a/b/c memory.max 16E",
+    "1 write /a/b/c memory.max ",
+    "1 write /a/b/c memory.peak 0",
+    "1 write /a/b/c memory.high 0",
+    "1 write / memory.max 0",
+    "1 alloc /a/b/c 1",
+    "1 read /a memory.current",
+    "1 read /a memory.peak",
+    "1 read /a memory.events",
+    "1 read /a memory.events.local",
+    "1 read /a/b memory.events",
+    "1 read /a/b/c memory.events",
+    "1 read /a/b/c memory.events.local",
+    "1 read /d memory.events",
+    "1 read /d memory.peak",
+    "1 read / memory.peak",
+    "1 blocks",
+    "1 show",
+];
+
+// The lines as a script.
+fn script_of(alloc: Global, lines: &[&str]) -> Result<Vec<u8>, AllocError> {
+    let mut script = Vec::new(alloc);
+    for line in lines {
+        script.extend_from_slice(line.as_bytes())?;
+        script.push(b'\n')?;
+    }
+    Ok(script)
+}
+
+// Whether the script is answered alike by the desk and by a core that makes its steps.
+fn is_answered_as_by_a_core<R: Abort + AllocGlobal>(
+    rt: &R,
+    frames: u32,
+    script: &[u8],
+) -> Result<bool, Fail> {
+    let config = Config {
+        frames,
+        cpus: 1,
+        batch: 1,
+        high: 1,
+        stock: 1,
+    };
+    assert!(rt; config.is_valid());
+    let lines = parse_script(rt.alloc(), script, &config)?;
+    let answers = replay_lines(rt.alloc(), config, &lines)?;
+    let mut core = Core::new(rt.alloc(), config)?;
+    let mut told = String::new(rt.alloc());
+    for line in &lines {
+        as_core::serve(&mut core, &line.command, &mut told)?;
+    }
+    Ok(answers.as_slice() == told.as_bytes())
+}
+
+#[test]
+fn desk_as_core(rt: HostRuntime) -> Result<(), Fail> {
+    let script = script_of(rt.alloc(), MIXED.as_slice())?;
+    assert!(rt; is_answered_as_by_a_core(&rt, 1, &script)?);
+    assert!(rt; is_answered_as_by_a_core(&rt, 11, &script)?);
+    assert!(rt; is_answered_as_by_a_core(&rt, 16, &script)?);
+    assert!(rt; is_answered_as_by_a_core(&rt, 64, &script)?);
+    assert!(rt; is_answered_as_by_a_core(&rt, 1_024, &script)?);
     Ok(())
 }
