@@ -18,14 +18,27 @@ const MOST_STEPS: u64 = 1_000_000;
 
 /// Makes the steps of a command and adds its answer, as the core tells it.
 pub fn serve(core: &mut Core, command: &Command<'_>, text: &mut String) -> Result<(), Fail> {
+    match command {
+        Command::Read { path, file } => read_file(core, path, file, text),
+        Command::Blocks => tell_blocks(core, text),
+        Command::Show => tell_places(core, text),
+        _ => serve_shortly(core, command, text),
+    }
+}
+
+// The same for a command that isn't answered by a text of its own.
+fn serve_shortly(core: &mut Core, command: &Command<'_>, text: &mut String) -> Result<(), Fail> {
     let reply = match command {
         Command::Mkdir { path } => make_group(core, path)?,
         Command::Alloc { path, order } => take_block(core, path, *order)?,
         Command::Write { path, file, value } => write_file(core, path, file, value)?,
-        Command::Read { path, file } => return read_file(core, path, file, text),
-        Command::Blocks => return tell_blocks(core, text),
-        Command::Show => return tell_places(core, text),
+        // Not met: `serve` has answered these.
+        Command::Read { .. } | Command::Blocks | Command::Show => Reply::Refused(Fault::NoFile),
     };
+    write(reply, text)
+}
+
+fn write(reply: Reply, text: &mut String) -> Result<(), Fail> {
     Ok(reply.write_to(text)?)
 }
 
@@ -160,14 +173,17 @@ fn tell_events(events: Events, text: &mut String) -> Result<(), Fail> {
 }
 
 fn tell_blocks(core: &Core, text: &mut String) -> Result<(), Fail> {
-    let mut between = "";
+    let mut is_first = true;
     for block in core.areas().walk() {
+        if !is_first {
+            text.push(' ')?;
+        }
+        is_first = false;
         let order = block.order.exponent();
         let at = block.at;
-        write!(text, "{between}{order}:{at}")?;
-        between = " ";
+        write!(text, "{order}:{at}")?;
     }
-    if between.is_empty() {
+    if is_first {
         text.push_str("none")?;
     }
     Ok(text.push('\n')?)
