@@ -8,7 +8,8 @@ use Rattle.std.proofs.lemmas.List.Elements.{filter-append}
 use Rattle.std.proofs.lemmas.List.Splits.{length-slice_split}
 use Rattle.std.proofs.lemmas.Option.{get_or_from_slice_get, slice_get-get_or}
 use Rattle.std.proofs.lemmas.List.FromFn.{get_or-enumerate_from, length-enumerate_from}
-use Rattle.load_run.specs.Script.{AreLines, IsFirstBadLine, IsGoodLine, IsGoodScript, IsLineText, IsScript, asking_texts, ended_lines, is_skipped, texts_of}
+use Rattle.load_run.specs.Answers.{AreAnswers, IsAnswered}
+use Rattle.load_run.specs.Script.{AreLines, IsFirstBadLine, IsGoodLine, IsLineText, IsScript, asking_texts, ended_lines, is_skipped, texts_of}
 use Rattle.load_run.specs.declared.line.Line.{Line}
 
 -- the first lines of the script were good, and are these
@@ -169,12 +170,13 @@ next_of script count index text turn =
       is_text = rw index_is (slice_get-get_or (texts_of script) count text inside ∙ ap Some (sym text_is));
     }
 
--- what was read of an input is all of it, where it is a script
-pub good_script : (input : Option (List ℕ)) (script : List ℕ) (cpus : ℕ) (lines : List Line) → IfSome input (λ bytes. script ≡ take 1048577 bytes) → IsScript cpus script lines → cpus ≡ 1 → IfSome input (IsGoodScript 1)
-good_script None script cpus lines read is single = tt
-good_script (Some bytes) script cpus lines read is single =
+-- what was read of an input is all of it, where it is a script, and is answered by what its lines are
+pub answered : (input : Option (List ℕ)) (script : List ℕ) (cpus frames : ℕ) (lines : List Line) (text : List ℕ) → IfSome input (λ bytes. script ≡ take 1048577 bytes) → IsScript cpus script lines → cpus ≡ 1 → AreAnswers frames lines text → IfSome input (λ bytes. IsAnswered bytes text)
+answered None script cpus frames lines text read is single answers = tt
+answered (Some bytes) script cpus frames lines text read is single answers =
     let fits = is.fits in
     let len : length script ≡ length (take 1048577 bytes) = ap length read in
     let taken = length-take 1048577 bytes in
     let whole : take 1048577 bytes ≡ bytes = take_all 1048577 bytes (omega arith) in
-    (lines, subst (λ (n : ℕ). IsScript n bytes lines) single (subst (λ (text : List ℕ). IsScript cpus text lines) (read ∙ whole) is))
+    let is_script : IsScript 1 bytes lines = subst (λ (n : ℕ). IsScript n bytes lines) single (subst (λ (all : List ℕ). IsScript cpus all lines) (read ∙ whole) is) in
+    record { frames = frames; lines = lines; script = is_script; answers = answers }

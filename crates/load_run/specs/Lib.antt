@@ -1,3 +1,4 @@
+pub mod Answers
 pub mod Desk
 pub mod Fault
 pub mod Script

@@ -98,10 +98,6 @@ pub record IsScript (cpus : ℕ) (script : List ℕ) (lines : List Line) : Type 
   pub good : (n : ℕ) → 1 ≤ n → n ≤ length (texts_of script) → IsGoodLine cpus script n
   pub says : AreLines cpus (texts_of script) lines
 
--- some lines are those of the script
-abbrev pub IsGoodScript : ℕ → List ℕ → Type 0
-IsGoodScript cpus script = (lines : List Line) × IsScript cpus script lines
-
 -- the n-th line of the script, counted from 1, is the first that isn't good
 pub record IsFirstBadLine (cpus : ℕ) (script : List ℕ) (n : ℕ) : Type 0 where
   pub low : 1 ≤ n

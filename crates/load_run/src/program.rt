@@ -1,8 +1,9 @@
 //! The program over any reader and two writers.
 
-ghost use Rattle.std.specs.Prelude.{◌≡◌, ◌≤◌, ◌↔◌, IfErr, IfOk, IfSome, IsTrue, take};
+ghost use Rattle.std.specs.Prelude.{◌≡◌, ◌≤◌, ◌↔◌, IfErr, IfOk, IfSome, IsTrue, OnOk, take};
+ghost use Rattle.std.specs.Io.KnownBytes.{Appends};
+ghost use Rattle.load_run.specs.Answers.{IsAnswered, IsReplayed};
 ghost use Rattle.load_run.specs.Fault.{status_of};
-ghost use Rattle.load_run.specs.Script.{IsGoodScript};
 ghost use Rattle.load_run.specs.Settings.{IsSingle};
 
 use crate::command_line::options;
@@ -33,7 +34,7 @@ pub fn drive<R, S: AsStr, I: Read, O: Write, F: Write>(
     ensures status { result ≤ 2 }
     ensures quiet { result ≡ 2 → O.contents output.new ≡ O.contents output.old }
     ensures silent { result ≡ 0 → F.contents faults.new ≡ F.contents faults.old }
-    ensures script { result ≡ 0 → IfSome (I.remaining input.old) (IsGoodScript 1) }
+    ensures replayed { result ≡ 0 → IfSome (I.remaining input.old) (λ bytes. IsReplayed bytes (O.contents output.old) (O.contents output.new)) }
 {
     match answers_to(alloc, words, input) {
         Ok(answers) => match write_answers(output, &answers) {
@@ -50,7 +51,7 @@ fn answers_to<S: AsStr, I: Read>(
     words: &[S],
     input: &mut I,
 ) -> Result<Vec<u8>, ProgramFault>
-    ensures { IfOk result (λ _. IfSome (I.remaining input.old) (IsGoodScript 1)) }
+    ensures { IfOk result (λ answers. IfSome (I.remaining input.old) (λ bytes. IsAnswered bytes answers.items)) }
 {
     let config = options(alloc, words)?.config;
     let script = read_script(alloc, input)?;
@@ -87,7 +88,8 @@ fn read_script<I: Read>(alloc: Global, input: &mut I) -> Result<Vec<u8>, Program
 
 // Writes all of the answers.
 fn write_answers<O: Write>(output: &mut O, answers: &[u8]) -> Result<(), ProgramFault>
-    ensures { IfErr result (λ fault. status_of fault ≡ 1) }
+    ensures failed { IfErr result (λ fault. status_of fault ≡ 1) }
+    ensures written { OnOk result (Appends (O.contents output.old) (O.contents output.new) answers.now) }
 {
     output.write_all(answers).map_err(|_| ProgramFault::Output)?;
     output.flush().map_err(|_| ProgramFault::Output)

@@ -1,6 +1,9 @@
 //! The lines of a script, served one after the other by a desk.
 
+ghost use Rattle.std.specs.Prelude.{◌≡◌, ◌++◌, ℕ, IfOk, List};
+ghost use Rattle.std.specs.String.{string_bytes};
 ghost use Rattle.mem_core.specs.Config.{IsValidConfig};
+ghost use Rattle.load_run.specs.Answers.{AreAnswers, Serves};
 
 use crate::desk::Desk;
 use crate::line::{Command, Line};
@@ -18,6 +21,7 @@ pub fn replay_lines(
     lines: &[Line<'_>],
 ) -> Result<Vec<u8>, AllocError>
     requires { IsValidConfig config }
+    ensures { IfOk result (λ answers. AreAnswers config.frames lines.now answers.items) }
 {
     let mut desk = Desk::new(alloc, config.frames)?;
     let mut answers = String::new(alloc);
@@ -28,7 +32,13 @@ pub fn replay_lines(
 }
 
 // Serves a command and adds its answer.
-fn serve(desk: &mut Desk, command: &Command<'_>, answers: &mut String) -> Result<(), AllocError> {
+fn serve(
+    desk: &mut Desk,
+    command: &Command<'_>,
+    answers: &mut String,
+) -> Result<(), AllocError>
+    ensures { IfOk result (λ _. (text : List ℕ) × Serves desk.old command.now text desk.new × (string_bytes answers.new ≡ string_bytes answers.old ++ text)) }
+{
     let reply = match command {
         Command::Mkdir { path } => desk.make_group(path),
         Command::Alloc { path, order } => desk.take_block(path, *order),

@@ -1,5 +1,9 @@
 //! What a line is answered.
 
+ghost use Rattle.std.specs.Prelude.{◌≡◌, ◌++◌, IfOk};
+ghost use Rattle.std.specs.String.{string_bytes};
+ghost use Rattle.load_run.specs.Answers.{characters};
+
 use control_files::text::ArrayText;
 use group_tree::fault::Fault;
 use group_tree::path::PathText;
@@ -23,17 +27,21 @@ pub enum Reply {
 }
 
 impl Reply {
+    ghost use Rattle.load_run.specs.Answers.{reply_text};
+
     /// Adds the answer to a text, with the line feed of each of its lines. It fails only for want of memory.
-    pub fn write_to(&self, text: &mut String) -> Result<(), AllocError> {
+    pub fn write_to(&self, text: &mut String) -> Result<(), AllocError>
+        ensures { IfOk result (λ _. string_bytes text.new ≡ string_bytes text.old ++ reply_text self.now) }
+    {
         match self {
             Reply::Group(number) => writeln!(text, "group {number}"),
             Reply::Frame(number) => writeln!(text, "frame {number}"),
             Reply::Done => text.push_str("ok\n"),
-            Reply::Text(file) => push_ascii(text, file.as_bytes()),
+            Reply::Text(file) => push_characters(text, file.as_bytes()),
             Reply::OverLimit(path) => {
                 text.push_str("refused 15 OverLimit ")?;
-                push_ascii(text, path.as_bytes())?;
-                text.push('\n')
+                push_characters(text, path.as_bytes())?;
+                text.push_str("\n")
             }
             Reply::Refused(fault) => {
                 let number = fault.number();
@@ -44,10 +52,12 @@ impl Reply {
     }
 }
 
-/// Adds bytes below 128 to a text.
-pub fn push_ascii(text: &mut String, bytes: &[u8]) -> Result<(), AllocError> {
-    for byte in bytes {
-        text.push(char::from(*byte))?;
+/// Adds the characters that have these codes to a text.
+pub fn push_characters(text: &mut String, codes: &[u8]) -> Result<(), AllocError>
+    ensures { IfOk result (λ _. string_bytes text.new ≡ string_bytes text.old ++ characters codes.now) }
+{
+    for code in codes {
+        text.push(char::from(*code))?;
     }
     Ok(())
 }

@@ -1,12 +1,14 @@
 //! The texts that `show` and `blocks` are answered.
 
-ghost use Rattle.std.specs.Prelude.{◌≡◌, ◌*◌, ◌<◌, ◌≤◌, All, IsTrue, length};
+ghost use Rattle.std.specs.Prelude.{◌≡◌, ◌*◌, ◌<◌, ◌≤◌, ◌++◌, ℕ, All, IfOk, IsTrue, List, length};
+ghost use Rattle.std.specs.String.{string_bytes};
 ghost use Rattle.group_tree.specs.Groups.{has_group};
 ghost use Rattle.group_charge.specs.Charges.{current_of};
 ghost use Rattle.mem_core.specs.Shown.{KeeperIsThere};
+ghost use Rattle.load_run.specs.Answers.{Grows};
 
 use crate::desk::Desk;
-use crate::reply::push_ascii;
+use crate::reply::push_characters;
 use control_files::text::PAGE_BYTES;
 use group_charge::charges::Charges;
 use group_tree::group::GroupId;
@@ -16,14 +18,16 @@ use std::alloc::AllocError;
 
 /// Adds a line for each longest run of frames with equal place, by ascending frame, and then one for each
 /// group but the root, in order of making, with its usage in bytes.
-pub fn write_show(desk: &Desk, text: &mut String) -> Result<(), AllocError> {
+pub fn write_show(desk: &Desk, text: &mut String) -> Result<(), AllocError>
+    ensures { IfOk result (λ _. Grows (string_bytes text.old) (string_bytes text.new)) }
+{
     let charges = desk.charges();
     write_places(desk.places(), charges.tree(), text)?;
     for group in charges.tree().groups() {
         if group.number != GroupId::root() {
             let bytes = bytes_used(charges, group.number);
             text.push_str("current ")?;
-            push_ascii(text, group.path.as_bytes())?;
+            push_characters(text, group.path.as_bytes())?;
             writeln!(text, " {bytes}")?;
         }
     }
@@ -32,7 +36,9 @@ pub fn write_show(desk: &Desk, text: &mut String) -> Result<(), AllocError> {
 
 /// Adds a line with each free block, its order and its first frame, by order and then by address; `none` where
 /// there is none.
-pub fn write_blocks(desk: &Desk, text: &mut String) -> Result<(), AllocError> {
+pub fn write_blocks(desk: &Desk, text: &mut String) -> Result<(), AllocError>
+    ensures { IfOk result (λ _. Grows (string_bytes text.old) (string_bytes text.new)) }
+{
     let mut is_first = true;
     for block in desk.blocks() {
         if !is_first {
@@ -60,6 +66,7 @@ fn bytes_used(charges: &Charges, group: GroupId) -> u64
 // A line for each longest run of frames with equal place.
 fn write_places(places: &[Place], tree: &Tree, text: &mut String) -> Result<(), AllocError>
     requires owners { All (KeeperIsThere tree.now) places.now }
+    ensures { IfOk result (λ _. Grows (string_bytes text.old) (string_bytes text.new)) }
 {
     let mut first = 0;
     for frame in 1..places.len() {
@@ -83,6 +90,7 @@ fn write_run(
     text: &mut String,
 ) -> Result<(), AllocError>
     requires owner { KeeperIsThere tree.now place }
+    ensures { IfOk result (λ _. Grows (string_bytes text.old) (string_bytes text.new)) }
 {
     if first == last {
         write!(text, "{first} ")?;
@@ -91,7 +99,7 @@ fn write_run(
     }
     match place {
         Place::Free => text.push_str("free")?,
-        Place::Charged(group) => push_ascii(text, tree.path_of(group).as_bytes())?,
+        Place::Charged(group) => push_characters(text, tree.path_of(group).as_bytes())?,
     }
     text.push('\n')
 }

@@ -1,0 +1,66 @@
+-- The texts of the answers, and what a script is answered.
+use Rattle.std.specs.Prelude.{◌≡◌, ℕ, Option, List, [], ◌∷◌, ◌++◌, codes}
+use Rattle.std.specs.List.{flat_map}
+use Rattle.std.specs.Char.{encode_utf8}
+use Rattle.std.specs.Fmt.{decimal}
+use Rattle.std.specs.Io.KnownBytes.{Appends}
+use Rattle.group_tree.specs.Faults.{name_of, number_of}
+use Rattle.load_run.specs.declared.line.Command.{Command}
+use Rattle.load_run.specs.declared.line.Command.TheVariants.{Mkdir, Alloc, Write, Read, Blocks, Show}
+use Rattle.load_run.specs.declared.line.Line.{Line}
+use Rattle.load_run.specs.declared.reply.Reply.{Reply}
+use Rattle.load_run.specs.declared.reply.Reply.TheVariants.{Done, Frame, Group, OverLimit, Refused, Text}
+use Rattle.load_run.specs.Desk.{AnswersAlloc, AnswersMkdir, AnswersRead, AnswersWrite, DeskState, IsNewDesk}
+use Rattle.load_run.specs.Script.{IsScript}
+
+-- the characters that have these codes, in UTF-8: codes below 128 stand for themselves
+abbrev pub characters : List ℕ → List ℕ
+characters bytes = flat_map encode_utf8 bytes
+
+-- what is written for a reply
+abbrev pub reply_text : Reply → List ℕ
+reply_text (Group n) = codes "group " ++ decimal n ++ codes "\n"
+reply_text (Frame n) = codes "frame " ++ decimal n ++ codes "\n"
+reply_text Done = codes "ok\n"
+reply_text (Text text) = characters text
+reply_text (OverLimit path) = codes "refused 15 OverLimit " ++ characters path ++ codes "\n"
+reply_text (Refused fault) = codes "refused " ++ decimal (number_of fault) ++ codes " " ++ name_of fault ++ codes "\n"
+
+-- some text was added to a text
+abbrev pub Grows : List ℕ → List ℕ → Type 0
+Grows old new = (text : List ℕ) × (new ≡ old ++ text)
+
+-- a command at a desk d is answered this text, and the desk is e then; of the texts of `blocks` and `show`
+-- nothing is said
+abbrev pub Serves : DeskState → Command → List ℕ → DeskState → Type 0
+Serves d (Mkdir path) text e = (reply : Reply) × AnswersMkdir d e path.now reply × (text ≡ reply_text reply)
+Serves d (Alloc path order) text e = (reply : Reply) × AnswersAlloc d e path.now order reply × (text ≡ reply_text reply)
+Serves d (Write path file value) text e = (reply : Reply) × AnswersWrite d e path.now file.now value.now reply × (text ≡ reply_text reply)
+Serves d (Read path file) text e = (reply : Reply) × (e ≡ d) × AnswersRead d path.now file.now reply × (text ≡ reply_text reply)
+Serves d Blocks text e = e ≡ d
+Serves d Show text e = e ≡ d
+
+-- the lines are served one after the other, and their texts stand one after the other
+abbrev pub ServesAll : DeskState → List Line → List ℕ → DeskState → Type 0
+ServesAll d [] text e = (text ≡ []) × (e ≡ d)
+ServesAll d (line ∷ lines) text e = (first : List ℕ) × (rest : List ℕ) × (mid : DeskState) × Serves d line.command first mid × ServesAll mid lines rest e × (text ≡ first ++ rest)
+
+-- what a new desk with so many frames answers to the lines
+pub record AreAnswers (frames : ℕ) (lines : List Line) (text : List ℕ) : Type 0 where
+  pub start : DeskState
+  pub end : DeskState
+  pub new : IsNewDesk frames start
+  pub served : ServesAll start lines text end
+
+-- the input is a script for one processor, and the text is what it is answered
+pub record IsAnswered (input text : List ℕ) : Type 0 where
+  pub frames : ℕ
+  pub lines : List Line
+  pub script : IsScript 1 input lines
+  pub answers : AreAnswers frames lines text
+
+-- and a writer that held the bytes `before`, where they are known, was given all of its answers
+pub record IsReplayed (input : List ℕ) (before after : Option (List ℕ)) : Type 0 where
+  pub text : List ℕ
+  pub answered : IsAnswered input text
+  pub written : Appends before after text
