@@ -62,9 +62,11 @@ accounts_granted s g n t groups rises raised = record {
     peak_follows : (b : Bool) (now before n : ℕ) (a : Account) → before ≤ a.peak → now ≡ before + (if b then n else 0) → (cond b (record a { peak = max a.peak now }) a).peak ≡ max a.peak now
     peak_follows true now before n a covers e = refl
     peak_follows false now before n a covers e = omega (arith, covers, e)
+
     peaked_events : (b : Bool) (now : ℕ) (a : Account) → (cond b (record a { peak = max a.peak now }) a).events ≡ a.events
     peaked_events true now a = refl
     peaked_events false now a = refl
+
     peaked_local : (b : Bool) (now : ℕ) (a : Account) → (cond b (record a { peak = max a.peak now }) a).local_events ≡ a.local_events
     peaked_local true now a = refl
     peaked_local false now a = refl
@@ -127,10 +129,13 @@ accounts_made s n path t groups accounts free usage = record {
   where
     made : account_in t n ≡ new_account
     made = ap (λ (l : List Account). get_or l n new_account) accounts ∙ account-set_same s.accounts n
+
     others : (g : ℕ) → g ≢ n → account_in t g ≡ account_in s g
     others g other = ap (λ (l : List Account). get_or l g new_account) accounts ∙ get_or-set_other s.accounts n g new_account new_account other
+
     was_there : (g : ℕ) → g ≢ n → has_group t.groups g ≡ true → has_group s.groups g ≡ true
     was_there g other now = sym (has_group-with s.groups n g path other) ∙ subst (λ (l : List Group). has_group l g ≡ true) groups now
+
     is_new : (g : ℕ) → has_group t.groups g ≡ true → has_group s.groups g ≡ false → g ≡ n
     is_new g now absent =
         elim (cases_eq g n) [

@@ -117,10 +117,12 @@ Changes-usage s seat (Grant g n) Granted t sound may c =
     let there = named_is_there s seat g true (ap (λ b. b && true) may) in
     let inside = group_inside s seat g true (HasSizes-IsSound s sound) (ap (λ b. b && true) may) in
     let rises : (m : ℕ) → current_in t m ≡ current_in s m + (if in_subtree s.groups m g then n else 0) = λ m. ap (λ (t : State). current_in t m) c.1 ∙ current-granted s g n t.accounts sound there inside m in
-    let same : t.groups ≡ s.groups = ap (λ (t : State). t.groups) c.1 in
-    (rises, λ m on_path.
-    let here : in_subtree s.groups m g ≡ true = subst (λ (groups : List Group). in_subtree groups m g ≡ true) same on_path in
-    subst (λ (groups : List Group). fits_limit (limit_of groups m) (current_in t m) ≡ true) (sym same) (grant_fits s g n m (current_in t m) c.0 (rises m) here))
+    let same : t.groups ≡ s.groups = ap (λ (t : State). t.groups) c.1 in (
+      rises,
+      λ m on_path.
+          let here : in_subtree s.groups m g ≡ true = subst (λ (groups : List Group). in_subtree groups m g ≡ true) same on_path in
+          subst (λ (groups : List Group). fits_limit (limit_of groups m) (current_in t m) ≡ true) (sym same) (grant_fits s g n m (current_in t m) c.0 (rises m) here),
+    )
 Changes-usage s seat (Grant g n) (Over m) t sound may c = same_raises_none s t (λ m. ap (λ (t : State). current_in t m) c.1)
 Changes-usage s seat (Ungrant g n) Done t sound may c = λ m.
     let inside = group_inside s seat g (nat_le n (slice_index s.pending g)) (HasSizes-IsSound s sound) may in

@@ -59,12 +59,14 @@ RespectsLimits-Shows config s t run step answer before after sound sound_after s
   where
     raises_none : ((m : ℕ) → current_in t m ≤ current_in s m) → ((m : ℕ) → current_in s m ≡ usage_of config run m) → ((m : ℕ) → current_in t m ≡ usage_of config (pushed run step answer) m) → (m : ℕ) → usage_of config (pushed run step answer) m ≤ usage_of config run m
     raises_none less usage usage_after m = let a = less m in let b = usage m in let c = usage_after m in omega (arith, a, b, c)
+
     respects : (action : Action) (a : Answer) → MovesUsage s action a t → ((m : ℕ) → current_in s m ≡ usage_of config run m) → ((m : ℕ) → current_in t m ≡ usage_of config (pushed run step answer) m) → RespectsLimits config run (pushed run step answer) action a
     respects (Grant g n) Granted moves usage usage_after = (
-        λ m. sym (usage_after m) ∙ moves.0 m ∙ ap (λ k. k + (if in_subtree s.groups m g then n else 0)) (usage m) ∙ ap (λ (groups : List Group). usage_of config run m + (if in_subtree groups m g then n else 0)) shows.groups,
-        λ m on_path.
-        let here : in_subtree t.groups m g ≡ true = subst (λ (groups : List Group). in_subtree groups m g ≡ true) (sym shows_after.groups) on_path in
-        subst (λ (groups : List Group). fits_limit (limit_of groups m) (usage_of config (pushed run step answer) m) ≡ true) shows_after.groups (subst (λ (k : ℕ). fits_limit (limit_of t.groups m) k ≡ true) (usage_after m) (moves.1 m here)))
+      λ m. sym (usage_after m) ∙ moves.0 m ∙ ap (λ k. k + (if in_subtree s.groups m g then n else 0)) (usage m) ∙ ap (λ (groups : List Group). usage_of config run m + (if in_subtree groups m g then n else 0)) shows.groups,
+      λ m on_path.
+          let here : in_subtree t.groups m g ≡ true = subst (λ (groups : List Group). in_subtree groups m g ≡ true) (sym shows_after.groups) on_path in
+          subst (λ (groups : List Group). fits_limit (limit_of groups m) (usage_of config (pushed run step answer) m) ≡ true) shows_after.groups (subst (λ (k : ℕ). fits_limit (limit_of t.groups m) k ≡ true) (usage_after m) (moves.1 m here)),
+    )
     respects action a moves usage usage_after = raises_none moves usage usage_after
 
 -- what has been said of the run so far

@@ -16,8 +16,8 @@ state_of c = record {
   steps = c.steps;
 }
 
--- the parts of a core agree, its flags tell which frames are free, and as few pages are pending as so many
--- steps can grant
+-- the parts of a core agree, its flags tell which frames are free, and no more pages are pending for any group than
+-- that many steps can grant
 pub record IsWhole (c : Inside) : Type 0 where
   pub sound : IsSound (state_of c)
   pub flags : c.free.items ≡ free_in c.places.items

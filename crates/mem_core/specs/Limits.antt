@@ -21,11 +21,11 @@ fits_limit (Some limit) pages = nat_le pages limit
 abbrev pub has_room : Config → Run → ℕ → ℕ → Bool
 has_room config run n g = fits_limit (max_of run g) (usage_of config run g + n)
 
--- so it is at the group and at each of its ancestors
+-- the group and each of its ancestors have room for n pages more
 abbrev pub PathHasRoom : Config → Run → ℕ → ℕ → Type 0
 PathHasRoom config run n g = (m : ℕ) → in_subtree (groups_of run) m g ≡ true → has_room config run n m ≡ true
 
--- m is g or an ancestor and has no room, and whoever else of these has none is an ancestor of m
+-- m is g or an ancestor and has no room, and each other group of the path without room is an ancestor of m
 pub record IsLowestOver (config : Config) (run : Run) (n g m : ℕ) : Type 0 where
   pub on_path : in_subtree (groups_of run) m g ≡ true
   pub over : has_room config run n m ≡ false

@@ -28,7 +28,7 @@ PlacesFirst config run action answer = Unit {0}
 abbrev pub AlwaysPlacesFirst : Config → Run → Type 0
 AlwaysPlacesFirst config run = (k : ℕ) → IfSome (slice_get run k) (λ e. PlacesFirst config (take k run) e.0.action e.1)
 
--- a core in some state shows the run, and all that is said of every core holds of it
+-- some state shows the run, is sound, and agrees with it
 pub record IsShown (config : Config) (run : Run) : Type 0 where
   pub state : State
   pub sizes : state.config ≡ config

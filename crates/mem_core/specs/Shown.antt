@@ -78,7 +78,9 @@ abbrev pub KeeperIsThere : List Group → Place → Type 0
 KeeperIsThere groups Free = Unit {0}
 KeeperIsThere groups (Charged g) = has_group groups g ≡ true
 
--- what is said of every core: its parts agree, no page is pending for a group that isn't there, and the free areas are the maximal blocks of its free frames
+-- what is said of every core: its sizes are valid and its parts agree with them, its groups are those of a tree, a group
+-- that keeps a frame is there, no page is pending for a group that isn't there, nor for any while the lock is free, and
+-- the free areas are the maximal blocks of the free frames
 pub record IsSound (s : State) : Type 0 where
   pub config : IsValidConfig s.config
   pub groups : AreGroups s.groups

@@ -46,7 +46,7 @@ with_range xs at n x = take at xs ++ replicate n x ++ drop (at + n) xs
 abbrev pub with_block : List Place → Block → Place → List Place
 with_block places b p = with_range places b.at (2 ^ b.order) p
 
--- the account of group m, whose peak is at least its usage where g is m or lies below it
+-- the account of group m, its peak the greater of the old one and its usage where g is m or lies below it
 abbrev pub peaked : List Group → ℕ → ℕ → ℕ → Account → Account
 peaked groups g m usage account = if in_subtree groups m g then record account { peak = max account.peak usage } else account
 
@@ -75,21 +75,22 @@ PlacesSmallest s action answer = Unit {0}
 abbrev pub has_room_in : State → ℕ → ℕ → Bool
 has_room_in s n g = fits_limit (limit_of s.groups g) (current_in s g + n)
 
--- so it is at the group and at each of its ancestors
+-- the group and each of its ancestors have room for n pages more
 abbrev pub PathHasRoomIn : State → ℕ → ℕ → Type 0
 PathHasRoomIn s n g = (m : ℕ) → in_subtree s.groups m g ≡ true → has_room_in s n m ≡ true
 
--- m is g or an ancestor and has no room, and whoever else of these has none is an ancestor of m
+-- m is g or an ancestor and has no room, and each other group of the path without room is an ancestor of m
 pub record IsLowestOverIn (s : State) (n g m : ℕ) : Type 0 where
   pub on_path : in_subtree s.groups m g ≡ true
   pub over : has_room_in s n m ≡ false
   pub lowest : (k : ℕ) → in_subtree s.groups k g ≡ true → has_room_in s n k ≡ false → in_subtree s.groups k m ≡ true
 
--- the peaks of the group and of its ancestors follow the usage, and nothing else of any account changes
+-- the peaks of the group and of its ancestors rise to the usage where it is greater, and nothing else of any
+-- account changes
 abbrev pub RaisesPeaks : State → State → ℕ → Type 0
 RaisesPeaks s t g = (m : ℕ) → account_in t m ≡ peaked s.groups g m (current_in t m) (account_in s m)
 
--- one `max` more is counted for the group and for each of its ancestors, and for itself alone
+-- one `max` more in the events of the group and of each of its ancestors, and in the group's own
 abbrev pub CountsMax : State → State → ℕ → Type 0
 CountsMax s t g = (m : ℕ) → account_in t m ≡ noted s.groups g m (account_in s m)
 

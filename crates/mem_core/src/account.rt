@@ -6,7 +6,7 @@ ghost use Rattle.mem_core.specs.Events.{new_account, with_max};
 /// How often something happened to a group (memory.events). A count stays at 2^64 - 1.
 #[derive(Clone, Copy, Debug, PartialEq, Eq)]
 pub struct Events {
-    /// How often usage was about to go over the limit.
+    /// How often it was noted that usage was about to go over the limit.
     pub max: u64,
 }
 

@@ -13,7 +13,7 @@ use crate::sums::usage;
 use group_tree::group::GroupId;
 use group_tree::tree::Tree;
 
-/// The peaks of the group and of each of its ancestors follow their usage.
+/// The peaks of the group and of each of its ancestors rise to their usage, where it is greater.
 pub(crate) fn raise_peaks(
     tree: &Tree,
     places: &[Place],

@@ -1,5 +1,6 @@
 //! The core of the memory controller: a list of steps by processors, each legal or refused, and
-//! the promise that after every step at which the zone's lock is free each frame is accounted for.
+//! the promise that after every step each frame is accounted for, and where the zone's lock is free
+//! nothing is pending.
 #![tactic(auto)]
 
 pub mod account;

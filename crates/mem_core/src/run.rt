@@ -17,14 +17,18 @@ use std::alloc::{AllocError, Global};
 /// The core after a list of steps, and their answers.
 #[derive(Drop)]
 pub struct Played {
+    /// The core as the last step left it.
     pub core: Core,
+    /// The answer to each step, in their order.
     pub answers: Vec<Answer>,
 }
 
 /// Makes the steps one after another, from a core on which none was made. The pairs of each step and
 /// its answer are a legal run, and the core shows it: its free areas are the maximal blocks of the free
-/// frames, and its number for each group is the usage that the run defines. In every beginning of that
-/// run each frame is accounted for, and a core in some state shows it in the same sense.
+/// frames, and its number for each group is the usage that the run defines. A block that is placed is the
+/// first of the smallest, and no grant passed a limit on its path. In every beginning (each front part) of
+/// that run each frame is accounted for, and some state shows it in the same sense. It fails for want of
+/// memory alone.
 pub fn play(alloc: Global, config: Config, steps: &[Step]) -> Result<Played, AllocError>
     requires { IsValidConfig config }
     ensures one_each { IfOk result (λ p. length p.answers.items ≡ length steps.now) }
@@ -46,7 +50,8 @@ pub fn play(alloc: Global, config: Config, steps: &[Step]) -> Result<Played, All
 }
 
 /// The answers to the steps, made one after another from the beginning: with them the steps are a
-/// legal run, and in every beginning of it each frame is accounted for.
+/// legal run, a block that is placed is the first of the smallest, no grant passed a limit on its path,
+/// and in every beginning each frame is accounted for. It fails for want of memory alone.
 pub fn run(alloc: Global, config: Config, steps: &[Step]) -> Result<Vec<Answer>, AllocError>
     requires { IsValidConfig config }
     ensures one_each { IfOk result (λ answers. length answers.items ≡ length steps.now) }

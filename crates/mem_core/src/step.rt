@@ -18,25 +18,29 @@ pub enum Place {
 /// while a processor holds the lock, and the processors have the seats from 1 on.
 #[derive(Clone, Copy, Debug, PartialEq, Eq)]
 pub struct Step {
+    /// The seat's number. One that isn't there makes the step illegal.
     pub seat: u32,
+    /// What is done.
     pub action: Action,
 }
 
-/// What a step does.
+/// What a step does. All but Lock and Unlock are the zone's own seat's, made while a processor holds the
+/// lock; a group that one names has to be there. Else the step is illegal.
 #[derive(Clone, Copy, Debug, PartialEq, Eq)]
 pub enum Action {
-    /// A processor takes the zone's lock.
+    /// A processor takes the zone's lock, which is free.
     Lock,
-    /// The processor that holds the lock gives it back.
+    /// The processor that holds the lock gives it back, where no page of any group is pending.
     Unlock,
     /// Pages are granted to a group, to be placed before the lock is given back, where the limits of
     /// the group and of each of its ancestors have room for all of them.
     Grant { group: GroupId, pages: u32 },
-    /// Granted pages that were not placed are taken back.
+    /// Pending pages are taken back, no more than the group has.
     Ungrant { group: GroupId, pages: u32 },
-    /// Granted pages are placed on a free block, whose frames the group keeps from then on.
+    /// Pending pages, as many as the block has frames, are placed on a free block, whose frames the group
+    /// keeps from then on.
     PlaceBlock { group: GroupId, order: Order },
-    /// A group is made.
+    /// A group is made, which the tree doesn't refuse (`Tree::make_fault`).
     Make { path: PathText },
     /// A group other than the root is given another limit, in pages; None for no limit. It binds later
     /// grants alone.
@@ -50,7 +54,7 @@ pub enum Action {
 /// What a step is answered.
 #[derive(Clone, Copy, Debug, PartialEq, Eq)]
 pub enum Answer {
-    /// The step is not legal, and changed nothing.
+    /// The step is not legal, and changed nothing but the number of steps.
     Illegal,
     /// The step was made.
     Done,

@@ -96,7 +96,7 @@ impl Core {
     }
 
     /// Makes one step, where it is legal, and answers it. A step that is not legal is answered Illegal
-    /// and changes nothing but the number of steps.
+    /// and changes nothing but the number of steps, of which 2^64 - 1 may be made.
     pub fn step(&mut self, step: Step) -> Answer
         requires { self.old.steps + 1 < 2 ^ 64 }
         ensures shows { (run : Run) → Shows self.old run → Shows self.new (run ++ (step, result) ∷ []) }
@@ -264,7 +264,7 @@ impl Core {
         usage(&self.tree, &self.places, &self.pending, group)
     }
 
-    // Gives a group more pending pages, and the peaks on its path follow.
+    // Gives a group more pending pages, and the peaks on its path rise to the usage where it is greater.
     fn add_pages(&mut self, group: GroupId, pages: u32)
         requires room { self.old.steps + 1 < 2 ^ 64 }
         requires held { is_some self.old.holder ≡ true }

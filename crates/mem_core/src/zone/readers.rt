@@ -1,6 +1,6 @@
 //! What a core tells.
 
-ghost use Rattle.std.specs.Prelude.{◌≡◌, ◌<◌, Some, IsTrue, length, slice_get};
+ghost use Rattle.std.specs.Prelude.{◌≡◌, ◌^◌, ◌<◌, Some, IsTrue, length, slice_get};
 ghost use Rattle.zone_blocks.specs.Areas.{AreMaximalBlocks};
 ghost use Rattle.group_tree.specs.Groups.{has_group, limit_of};
 ghost use Rattle.mem_core.specs.declared.step.Place.{Place};
@@ -43,7 +43,7 @@ impl Core {
         &self.areas
     }
 
-    /// Where a frame is.
+    /// Where a frame of the zone is.
     pub fn place(&self, frame: u32) -> Place
         requires { frame < self.now.config.frames }
         ensures place { slice_get self.now.places frame ≡ Some result }
@@ -53,10 +53,11 @@ impl Core {
     }
 
     /// The memory now used by a group and its descendants (memory.current), in pages: the frames that
-    /// they keep and the pages pending for them.
+    /// they keep and the pages pending for them, less than 2^104. The group is there.
     pub fn current(&self, group: GroupId) -> u128
         requires { IsTrue (has_group self.now.groups group) }
         ensures current { result ≡ current_in self.now group }
+        ensures few { result < 2 ^ 104 }
         ensures run { (run : Run) → Shows self.now run → result ≡ usage_of self.now.config run group }
     {
         // Its parts agree.
@@ -64,7 +65,7 @@ impl Core {
         self.usage(group)
     }
 
-    /// The greatest usage of a group since it was made (memory.peak), in pages.
+    /// The greatest usage of a group that is there since it was made (memory.peak), in pages.
     pub fn peak(&self, group: GroupId) -> u128
         requires { IsTrue (has_group self.now.groups group) }
         ensures peak { result ≡ (account_in self.now group).peak }
@@ -73,7 +74,7 @@ impl Core {
         self.accounts[group.number() as usize].peak
     }
 
-    /// The limit of a group (memory.max), in pages; None for no limit.
+    /// The limit of a group that is there (memory.max), in pages; None for no limit.
     pub fn max(&self, group: GroupId) -> Option<u32>
         requires { IsTrue (has_group self.now.groups group) }
         ensures limit { result ≡ limit_of self.now.groups group }
@@ -82,7 +83,7 @@ impl Core {
         self.tree.limit(group)
     }
 
-    /// What was counted for a group and all below it since it was made (memory.events).
+    /// What was counted for a group that is there and all below it since it was made (memory.events).
     pub fn events(&self, group: GroupId) -> Events
         requires { IsTrue (has_group self.now.groups group) }
         ensures events { result ≡ (account_in self.now group).events }
@@ -91,7 +92,7 @@ impl Core {
         self.accounts[group.number() as usize].events
     }
 
-    /// What was counted for a group alone since it was made (memory.events.local).
+    /// What was counted for a group that is there alone since it was made (memory.events.local).
     pub fn local_events(&self, group: GroupId) -> Events
         requires { IsTrue (has_group self.now.groups group) }
         ensures events { result ≡ (account_in self.now group).local_events }
