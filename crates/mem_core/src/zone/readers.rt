@@ -61,7 +61,7 @@ impl Core {
         ensures run { (run : Run) → Shows self.now run → result ≡ usage_of self.now.config run group }
     {
         // Its parts agree.
-        let _ = &self.steps;
+        let _ = &self.holder;
         self.usage(group)
     }
 
