@@ -1,7 +1,7 @@
 //! The commands of a script as steps of a core, each command under the lock of processor 1.
 
 use crate::line::Command;
-use crate::reply::{Reply, push_ascii};
+use crate::reply::{Reply, push_characters};
 use control_files::file::{File, file_named};
 use control_files::limit::read_limit;
 use group_tree::fault::Fault;
@@ -203,7 +203,7 @@ fn tell_places(core: &Core, text: &mut String) -> Result<(), Fail> {
     for group in core.tree().groups() {
         if group.number != GroupId::root() {
             text.push_str("current ")?;
-            push_ascii(text, group.path.as_bytes())?;
+            push_characters(text, group.path.as_bytes())?;
             text.push(' ')?;
             tell_usage(core, group.number, text)?;
         }
@@ -229,7 +229,7 @@ fn tell_run(
             if !core.tree().contains(group) {
                 Err("the group of a frame is not there")?;
             }
-            push_ascii(text, core.tree().path_of(group).as_bytes())?;
+            push_characters(text, core.tree().path_of(group).as_bytes())?;
         }
     }
     Ok(text.push('\n')?)
