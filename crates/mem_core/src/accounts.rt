@@ -1,6 +1,6 @@
 //! Peaks and events along a path.
 
-ghost use Rattle.std.specs.Prelude.{◌≡◌, ◌+◌, ◌^◌, ◌≤◌, ℕ, IsTrue, length, vec_len, All};
+ghost use Rattle.std.specs.Prelude.{◌≡◌, ◌+◌, ◌^◌, ◌<◌, ◌≤◌, ℕ, IsTrue, length, vec_len, All};
 ghost use Rattle.std.specs.List.{slice_index_or};
 ghost use Rattle.group_tree.specs.Groups.{has_group};
 ghost use Rattle.mem_core.specs.Events.{new_account};
@@ -26,7 +26,9 @@ pub(crate) fn raise_peaks(
     requires numbers { length pending.now ≡ 64 }
     requires bound { All (λ n. n ≤ 2 ^ 96) pending.now }
     requires accounts { vec_len accounts.old ≡ 64 }
+    requires few { All (λ a. a.peak < 2 ^ 104) accounts.old.items }
     ensures length { vec_len accounts.new ≡ 64 }
+    ensures few { All (λ a. a.peak < 2 ^ 104) accounts.new.items }
     ensures peaks { (m : ℕ) → slice_index_or accounts.new.items m new_account ≡ peaked tree.now group m (frames_below tree.now places.now m + pages_below tree.now pending.now m) (slice_index_or accounts.old.items m new_account) }
 {
     for row in tree.groups() {
@@ -50,7 +52,9 @@ fn with_peak(
     requires keepers { All (KeeperIsThere tree.now) places.now }
     requires numbers { length pending.now ≡ 64 }
     requires bound { All (λ n. n ≤ 2 ^ 96) pending.now }
-    ensures { result ≡ peaked tree.now group above (frames_below tree.now places.now above + pages_below tree.now pending.now above) account }
+    requires few { account.peak < 2 ^ 104 }
+    ensures few { result.peak < 2 ^ 104 }
+    ensures peak { result ≡ peaked tree.now group above (frames_below tree.now places.now above + pages_below tree.now pending.now above) account }
 {
     if !tree.in_subtree(above, group) {
         return account;
@@ -66,7 +70,9 @@ fn with_peak(
 pub(crate) fn note_max(tree: &Tree, accounts: &mut Vec<Account>, group: GroupId)
     requires there { IsTrue (has_group tree.now group) }
     requires accounts { vec_len accounts.old ≡ 64 }
+    requires few { All (λ a. a.peak < 2 ^ 104) accounts.old.items }
     ensures length { vec_len accounts.new ≡ 64 }
+    ensures few { All (λ a. a.peak < 2 ^ 104) accounts.new.items }
     ensures events { (m : ℕ) → slice_index_or accounts.new.items m new_account ≡ noted tree.now group m (slice_index_or accounts.old.items m new_account) }
 {
     for row in tree.groups() {

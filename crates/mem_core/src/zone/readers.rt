@@ -65,10 +65,12 @@ impl Core {
         self.usage(group)
     }
 
-    /// The greatest usage of a group that is there since it was made (memory.peak), in pages.
+    /// The greatest usage of a group that is there since it was made (memory.peak), in pages, less than
+    /// 2^104.
     pub fn peak(&self, group: GroupId) -> u128
         requires { IsTrue (has_group self.now.groups group) }
         ensures peak { result ≡ (account_in self.now group).peak }
+        ensures few { result < 2 ^ 104 }
         ensures run { (run : Run) → Shows self.now run → IsPeak self.now.config run group result }
     {
         self.accounts[group.number() as usize].peak

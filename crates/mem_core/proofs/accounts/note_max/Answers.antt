@@ -1,6 +1,7 @@
 -- Each group is passed once, and no other has an account that changes.
-use Rattle.std.proofs.Common.{◌≡◌, ℕ, ◌<◌, IsTrue, List, length, take, get_or, sym, ◌∙◌, ap, subst, arith}
+use Rattle.std.proofs.Common.{◌≡◌, ℕ, ◌<◌, ◌^◌, IsTrue, List, length, take, get_or, sym, ◌∙◌, ap, subst, arith}
 use Rattle.std.proofs.lemmas.List.{take_all}
+use Rattle.std.proofs.lemmas.List.Elements.{All-set}
 use Rattle.group_tree.specs.declared.group.Group.{Group}
 use Rattle.group_tree.specs.Groups.{has_group, AreGroups}
 use Rattle.group_tree.proofs.GroupLemmas.{has_group-contains}
@@ -12,6 +13,7 @@ use Rattle.mem_core.proofs.accounts.note_max.Goals as goal
 pub loop-row-init : goal.loop-row-init
 loop-row-init c = record {
   length = c.requires.accounts;
+  few = c.requires.few;
   changed = AreChanged-none c.groups-row-items.result.now (noted c.args.tree.now c.args.group) c.args.accounts.now.items;
 }
 
@@ -31,8 +33,12 @@ loop-row-preserved c =
     let number : n ≡ (get_or rows c.loop-row.row-index c.row-item.result).number = c.number-place.ensures.value ∙ ap (λ (g : Group). g.number) c.row-item.is in
     let value : c.with_note.result ≡ f n (get_or accounts n c.index.result.now) =
     c.with_note.ensures ∙ ap (λ (k : ℕ). noted c.args.tree.now c.args.group k c.index.result.now) (sym c.number-place.ensures.value) ∙ ap (f n) c.index.ensures in
+    let same : c.with_note.result.peak ≡ c.index.result.now.peak = ap (λ (a : Account). a.peak) c.with_note.ensures in
+    let was : c.index.result.now.peak < 2 ^ 104 = subst (λ (a : Account). a.peak < 2 ^ 104) (sym c.index.ensures) (c.loop-row.invariant.few n c.index.result.now inside) in
+    let few : c.with_note.result.peak < 2 ^ 104 = subst (λ (p : ℕ). p < 2 ^ 104) (sym same) was in
     record {
       length = c.loop-row.invariant.length;
+      few = All-set (λ (a : Account). a.peak < 2 ^ 104) accounts n c.with_note.result few c.loop-row.invariant.few;
       changed = AreChanged-step rows f c.args.accounts.now.items accounts c.loop-row.row-index n c.row-item.result c.index.result.now c.with_note.result facts.numbers_distinct c.loop-row-test.true inside number value c.loop-row.invariant.changed;
     }
 

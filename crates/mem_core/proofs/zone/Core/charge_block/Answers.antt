@@ -40,4 +40,5 @@ invariant_of-self c =
       flags = flags ∙ free_in-with_block c.self.inside b g c.self.invariant.flags ∙ ap free_in (sym places);
       zone = c.set_from.ensures.frames ∙ c.self.invariant.zone;
       bound = bound_less old c.self.inside.steps n v inside less c.self.invariant.bound;
+      peaks = c.self.invariant.peaks;
     }

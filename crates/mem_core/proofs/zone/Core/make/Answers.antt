@@ -1,6 +1,7 @@
 -- The groups of the tree with one more are those of a tree.
-use Rattle.std.proofs.Common.{◌≡◌, ℕ, List, None, sym, subst}
-use Rattle.std.specs.Prelude.{slice_set}
+use Rattle.std.proofs.Common.{◌≡◌, ◌^◌, ◌<◌, lit<, ℕ, List, None, sym, subst}
+use Rattle.std.specs.Prelude.{All, slice_set}
+use Rattle.std.proofs.lemmas.List.Elements.{All-set}
 use Rattle.group_tree.specs.declared.group.Group.{Group}
 use Rattle.group_tree.specs.Groups.{make_fault, with_group, IsLeastFreeNumber}
 use Rattle.mem_core.specs.Events.{Account, new_account}
@@ -29,4 +30,5 @@ invariant_of-self c =
       flags = c.self.invariant.flags;
       zone = c.self.invariant.zone;
       bound = bound_more c.self.inside.pending.items c.self.inside.steps c.self.invariant.bound;
+      peaks = subst (λ (x : Account). All (λ (a : Account). a.peak < 2 ^ 104) (slice_set s.accounts c.number.result x)) (sym account) (All-set (λ (a : Account). a.peak < 2 ^ 104) s.accounts c.number.result new_account (lit< tt) c.self.invariant.peaks);
     }

@@ -14,4 +14,5 @@ invariant_of-self c = record {
   flags = c.self.invariant.flags;
   zone = c.self.invariant.zone;
   bound = bound_more c.self.inside.pending.items c.self.inside.steps c.self.invariant.bound;
+  peaks = c.self.invariant.peaks;
 }
