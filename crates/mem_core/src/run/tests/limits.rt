@@ -63,6 +63,7 @@ fn limit_binds_later_grants_alone(rt: HostRuntime) -> Result<(), Fail> {
     let steps = under_lock(rt.alloc(), &actions)?;
     assert!(rt; SMALL.is_valid());
     let Played { core, answers } = play(rt.alloc(), SMALL, &steps)?;
+    assert_eq!(rt; answers.len(), 9);
     assert_eq!(rt; answers[1], Answer::Number(group));
     assert_eq!(rt; answers[2], Answer::Done);
     assert_eq!(rt; answers[3], Answer::Over(group));
@@ -112,6 +113,7 @@ fn limit_of_the_parent_refuses_the_child(rt: HostRuntime) -> Result<(), Fail> {
     let steps = under_lock(rt.alloc(), &actions)?;
     assert!(rt; SMALL.is_valid());
     let Played { core, answers } = play(rt.alloc(), SMALL, &steps)?;
+    assert_eq!(rt; answers.len(), 8);
     assert_eq!(rt; answers[4], Answer::Over(parent));
     assert_eq!(rt; answers[6], Answer::Granted);
     assert!(rt; core.tree().contains(parent));
@@ -125,14 +127,13 @@ fn limit_of_the_parent_refuses_the_child(rt: HostRuntime) -> Result<(), Fail> {
     Ok(())
 }
 
-// The root has no limit and isn't taken out, nor is a group with another below it or with pages. What is
-// counted at an ancestor stays when the noted group is gone, and a group made anew begins anew.
-#[test]
-fn only_an_empty_leaf_is_taken_out(rt: HostRuntime) -> Result<(), Fail> {
+// Removals of the root, of a parent, of a group with a pending page and of one without, and a group made
+// under the number that is free then.
+fn removals(alloc: Global) -> Result<Vec<Step>, Fail> {
     let root = number(0)?;
     let parent = number(1)?;
     let child = number(2)?;
-    let mut actions = Vec::new(rt.alloc());
+    let mut actions = Vec::new(alloc);
     actions.push(Action::SetMax {
         group: root,
         limit: Some(1),
@@ -156,9 +157,19 @@ fn only_an_empty_leaf_is_taken_out(rt: HostRuntime) -> Result<(), Fail> {
     actions.push(Action::Remove { group: child })?;
     actions.push(Action::NoteMax { group: child })?;
     actions.push(Action::Make { path: path(b"/c")? })?;
-    let steps = under_lock(rt.alloc(), &actions)?;
+    Ok(under_lock(alloc, &actions)?)
+}
+
+// The root has no limit and isn't taken out, nor is a group with another below it or with pages. What is
+// counted at an ancestor stays when the noted group is gone, and a group made anew begins anew.
+#[test]
+fn only_an_empty_leaf_is_taken_out(rt: HostRuntime) -> Result<(), Fail> {
+    let parent = number(1)?;
+    let child = number(2)?;
+    let steps = removals(rt.alloc())?;
     assert!(rt; SMALL.is_valid());
     let Played { core, answers } = play(rt.alloc(), SMALL, &steps)?;
+    assert_eq!(rt; answers.len(), 13);
     assert_eq!(rt; answers[1], Answer::Illegal);
     assert_eq!(rt; answers[2], Answer::Illegal);
     assert_eq!(rt; answers[5], Answer::Illegal);
