@@ -1,5 +1,5 @@
 -- What a step does to the account of each group: its peak follows the usage, and its events are counted.
-use Rattle.std.proofs.Common.{◌≡◌, ◌≢◌, ℕ, ◌+◌, ◌<◌, ◌≤◌, ◌==◌, max, Option, Bool, true, false, cond, List, length, get_or, refl, sym, ◌∙◌, ap, subst, arith, inl, inr, ◌⊎◌, if◌then◌else◌}
+use Rattle.std.proofs.Common.{◌≡◌, ◌≢◌, ℕ, ◌+◌, ◌≤◌, ◌==◌, max, Option, Bool, true, false, cond, List, length, get_or, refl, sym, ◌∙◌, ap, subst, arith, inl, inr, if◌then◌else◌}
 use Rattle.std.specs.Prelude.{slice_set}
 use Rattle.std.proofs.lemmas.Bool.{cases_lt, cases_eq, false≢true}
 use Rattle.std.proofs.lemmas.List.{get_or-set_same, get_or-set_other, get_or_past}
@@ -14,9 +14,9 @@ use Rattle.mem_core.specs.declared.step.Answer.{Answer}
 use Rattle.mem_core.specs.declared.step.Answer.TheVariants.{Illegal, Done, Granted, Over, Placed, NoFreeBlock, Number}
 use Rattle.mem_core.specs.Events.{Events, Account, new_account, with_max, events_after, local_events_after}
 use Rattle.mem_core.specs.Shown.{State, account_in, current_in, IsSound}
-use Rattle.mem_core.specs.Steps.{may_act, peaked, noted, counted, Changes, Makes, MovesUsage}
+use Rattle.mem_core.specs.Steps.{may_act, peaked, noted, Changes, Makes}
 use Rattle.mem_core.proofs.Usage.{none_below}
-use Rattle.mem_core.proofs.Effects.{Changes-usage, Removable, removable}
+use Rattle.mem_core.proofs.Effects.{Changes-usage, removable}
 
 -- what one step does to the account of each group that is there after it
 pub record AccountsAdvance (s : State) (action : Action) (answer : Answer) (t : State) : Type 0 where

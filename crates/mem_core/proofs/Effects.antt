@@ -1,14 +1,10 @@
 -- What a step does to the numbers that are kept for each group, and to the accounts.
-use Rattle.std.proofs.Common.{◌≡◌, ◌≢◌, ℕ, ◌+◌, ◌-◌, ◌*◌, ◌^◌, ◌==◌, ◌&&◌, ◌<◌, ◌≤◌, not, nat_le, max, Bool, true, false, cond, Option, Some, None, is_some, is_none, List, [], ◌∷◌, ◌++◌, length, get_or, refl, sym, ◌∙◌, ap, subst, arith, inl, inr, ◌⊎◌, if◌then◌else◌}
-use Rattle.std.specs.Prelude.{slice_index, slice_set, All}
-use Rattle.std.specs.List.{slice_index_or}
-use Rattle.std.proofs.lemmas.Bool.{cases_lt, cases_eq, cases_Bool, false≢true, leb-true}
-use Rattle.std.proofs.lemmas.List.{get_or-set_same, get_or-set_other, get_or_past}
-use Rattle.std.proofs.Common.{length-set}
+use Rattle.std.proofs.Common.{◌≡◌, ℕ, ◌+◌, ◌-◌, ◌^◌, ◌==◌, ◌&&◌, ◌<◌, ◌≤◌, not, nat_le, Bool, true, false, cond, Option, Some, None, is_none, List, length, refl, sym, ◌∙◌, ap, subst, arith, if◌then◌else◌}
+use Rattle.std.specs.Prelude.{slice_index, slice_set}
+use Rattle.std.proofs.lemmas.Bool.{false≢true, leb-true}
 use Rattle.zone_blocks.specs.declared.block.Block.{Block}
 use Rattle.group_tree.specs.declared.group.Group.{Group}
-use Rattle.group_tree.specs.Groups.{has_group, has_child, in_subtree, limit_of, make_fault, with_group, with_limit, without_group, IsLeastFreeNumber, AreGroups}
-use Rattle.group_tree.proofs.CallerLemmas.{has_group-with, has_group-without, has_group-limited}
+use Rattle.group_tree.specs.Groups.{has_group, has_child, in_subtree, limit_of, make_fault, with_group, with_limit, without_group}
 use Rattle.mem_core.specs.declared.step.Place.TheVariants.{Charged}
 use Rattle.mem_core.specs.declared.step.Step.{Step}
 use Rattle.mem_core.specs.declared.step.Action.{Action}
@@ -16,12 +12,12 @@ use Rattle.mem_core.specs.declared.step.Action.TheVariants.{Lock, Unlock, Grant,
 use Rattle.mem_core.specs.declared.step.Answer.{Answer}
 use Rattle.mem_core.specs.declared.step.Answer.TheVariants.{Illegal, Done, Granted, Over, Placed, NoFreeBlock, Number}
 use Rattle.mem_core.specs.Limits.{fits_limit}
-use Rattle.mem_core.specs.Events.{Events, Account, no_events, new_account, with_max, events_after, local_events_after}
-use Rattle.mem_core.specs.Shown.{State, account_in, free_in, frames_below, pages_below, current_in, KeeperIsThere, IsSound}
-use Rattle.mem_core.specs.Steps.{may_zone_act, may_remove, may_act, has_room_in, PathHasRoomIn, with_block, peaked, noted, counted, Changes, Makes, MovesUsage}
+use Rattle.mem_core.specs.Events.{Account, new_account}
+use Rattle.mem_core.specs.Shown.{State, frames_below, pages_below, current_in, IsSound}
+use Rattle.mem_core.specs.Steps.{may_zone_act, may_remove, may_act, PathHasRoomIn, with_block, counted, Changes, Makes, MovesUsage}
 use Rattle.mem_core.proofs.Parts.{HasSizes-IsSound}
 use Rattle.mem_core.proofs.Showing.{both-left, both-right, group_inside}
-use Rattle.mem_core.proofs.Usage.{pages_below-set, frames_below-with_block, frames_below-with_group, pages_below-with_group, frames_below-with_limit, pages_below-with_limit, frames_below-without_group, pages_below-without_group, none_below}
+use Rattle.mem_core.proofs.Usage.{pages_below-set, frames_below-with_block, frames_below-with_group, pages_below-with_group, frames_below-with_limit, pages_below-with_limit, frames_below-without_group, pages_below-without_group}
 
 -- ---- the numbers
 -- pages of a group are added to, or taken from, what is pending

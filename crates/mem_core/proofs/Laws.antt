@@ -1,20 +1,19 @@
 -- What a core shows is what the run defines.
-use Rattle.std.proofs.Common.{◌≡◌, ℕ, ◌+◌, ◌-◌, ◌<◌, ◌≤◌, ◌&&◌, ◌||◌, ◌==◌, Bool, true, false, Option, Some, None, is_some, List, [], ◌∷◌, length, map, get_or, refl, sym, ◌∙◌, ap, subst, arith, inl, inr, cond, ◌⊎◌, if◌then◌else◌}
-use Rattle.std.specs.Prelude.{slice_index, All}
-use Rattle.std.specs.List.{slice_get, fold, sum_by, count_by, list_any, find, range_with_len}
+use Rattle.std.proofs.Common.{◌≡◌, ℕ, ◌+◌, ◌<◌, ◌&&◌, ◌||◌, ◌==◌, Bool, true, false, List, [], ◌∷◌, length, map, get_or, refl, sym, ◌∙◌, ap, subst, arith, inl, inr, cond, if◌then◌else◌}
+use Rattle.std.specs.Prelude.{slice_index}
+use Rattle.std.specs.List.{fold, sum_by, count_by, list_any, range_with_len}
 use Rattle.std.proofs.lemmas.Bool.{cases_lt, cases_eq, false≢true}
 use Rattle.std.proofs.lemmas.List.{get_or-map, length-map, get_or_past}
 use Rattle.std.proofs.lemmas.List.FromFn.{fill_by_all}
 use Rattle.zone_blocks.specs.Areas.{AreMaximalBlocks}
 use Rattle.group_tree.specs.declared.group.Group.{Group}
 use Rattle.group_tree.specs.Groups.{has_group, group_at, in_subtree}
-use Rattle.mem_core.specs.declared.config.Config.{Config}
 use Rattle.mem_core.specs.declared.step.Place.{Place}
 use Rattle.mem_core.specs.declared.step.Place.TheVariants.{Free, Charged}
-use Rattle.mem_core.specs.Places.{is_same_place, HasOnePlace}
-use Rattle.mem_core.specs.Run.{Run, holder_of, groups_of, places_of, pending_of, is_kept, frames_kept, pages_pending, usage_of, free_frames}
+use Rattle.mem_core.specs.Places.{is_same_place}
+use Rattle.mem_core.specs.Run.{Run, groups_of, places_of, pending_of, is_kept, frames_kept, pages_pending, usage_of, free_frames}
 use Rattle.mem_core.specs.Headline.{IsAccounted}
-use Rattle.mem_core.specs.Shown.{State, is_at, free_in, is_charged_below, current_in, KeeperIsThere, IsSound, Shows}
+use Rattle.mem_core.specs.Shown.{State, is_at, is_charged_below, current_in, KeeperIsThere, IsSound, Shows}
 use Rattle.mem_core.proofs.PlaceLemmas.{is_same_place_same, same_from_is_same_place, is_at_within, is_at_past}
 use Rattle.mem_core.proofs.Parts.{HasSizes, Matches, Matches-Shows, pending_of-Matches, free_frames-Matches}
 

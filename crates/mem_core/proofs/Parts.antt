@@ -1,5 +1,5 @@
 -- The parts of a state that a run leads to.
-use Rattle.std.proofs.Common.{◌≡◌, ℕ, ◌+◌, ◌-◌, ◌<◌, ◌≤◌, ◌==◌, Bool, false, true, Option, List, length, map, get_or, refl, sym, ◌∙◌, ap, arith, zero, suc, inl, inr, ◌⊎◌, ◌∷◌, []}
+use Rattle.std.proofs.Common.{◌≡◌, ℕ, ◌+◌, ◌<◌, ◌==◌, false, true, List, length, map, sym, ◌∙◌, ap, arith, zero, suc, inl, inr, ◌∷◌, []}
 use Rattle.std.specs.Prelude.{slice_index, All}
 use Rattle.std.specs.List.{list_all, range_with_len}
 use Rattle.std.proofs.lemmas.Bool.{cases_eq, false≢true}

@@ -1,25 +1,23 @@
 -- A run so far, and one step more.
-use Rattle.std.proofs.Common.{◌≡◌, ℕ, ◌+◌, ◌<◌, ◌≤◌, List, [], ◌∷◌, ◌++◌, length, take, get_or, zero, suc, true, false, ◌⊎◌, inl, inr, refl, sym, ◌∙◌, ap, subst, arith, if◌then◌else◌}
+use Rattle.std.proofs.Common.{◌≡◌, ℕ, ◌+◌, ◌<◌, ◌≤◌, List, [], ◌∷◌, ◌++◌, length, take, get_or, true, refl, sym, ◌∙◌, ap, subst, arith, if◌then◌else◌}
 use Rattle.std.specs.List.{zip}
 use Rattle.std.proofs.lemmas.List.{take_more, take_all, length-take-le}
-use Rattle.std.specs.Prelude.{All, ◌==◌}
-use Rattle.std.proofs.lemmas.Bool.{cases_eq, false≢true}
 use Rattle.group_tree.specs.declared.group.Group.{Group}
 use Rattle.group_tree.specs.Groups.{in_subtree, limit_of}
 use Rattle.mem_core.specs.declared.config.Config.{Config}
 use Rattle.mem_core.specs.declared.step.Step.{Step}
 use Rattle.mem_core.specs.declared.step.Answer.{Answer}
-use Rattle.mem_core.specs.Run.{Run, groups_of, usage_of, free_frames}
+use Rattle.mem_core.specs.Run.{Run, usage_of, free_frames}
 use Rattle.mem_core.specs.Headline.{EveryBeginning, IsAccounted}
 use Rattle.mem_core.specs.Shown.{State, current_in, IsSound, Shows}
 use Rattle.mem_core.specs.Promise.{AgreesWith, PlacesFirst, AlwaysPlacesFirst, IsShown}
 use Rattle.mem_core.specs.Steps.{IsFrontOfSmallest, PlacesSmallest, MovesUsage}
-use Rattle.mem_core.specs.Limits.{fits_limit, max_of, RespectsLimits, GrantsRespectLimits}
+use Rattle.mem_core.specs.Limits.{fits_limit, RespectsLimits, GrantsRespectLimits}
 use Rattle.zone_blocks.specs.declared.block.Block.{Block}
 use Rattle.zone_blocks.proofs.Unique.{unique_blocks}
 use Rattle.mem_core.specs.declared.step.Action.{Action}
-use Rattle.mem_core.specs.declared.step.Action.TheVariants.{Lock, Unlock, Grant, Ungrant, PlaceBlock, Make, SetMax, NoteMax, Remove}
-use Rattle.mem_core.specs.declared.step.Answer.TheVariants.{Illegal, Done, Granted, Over, Placed, NoFreeBlock, Number}
+use Rattle.mem_core.specs.declared.step.Action.TheVariants.{Grant, PlaceBlock}
+use Rattle.mem_core.specs.declared.step.Answer.TheVariants.{Granted, Placed}
 use Rattle.mem_core.proofs.Runs.{pushed, each_step_push, each_change_push, EveryBeginning-push}
 use Rattle.mem_core.proofs.Parts.{HasSizes-IsSound}
 use Rattle.mem_core.proofs.Laws.{free_areas-Shows, current_in-Shows, IsAccounted-Shows}

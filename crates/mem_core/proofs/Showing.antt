@@ -1,18 +1,15 @@
 -- What a step may be answered, and what it does to each part of the state but the accounts.
-use Rattle.std.proofs.Common.{◌≡◌, ℕ, ◌+◌, ◌-◌, ◌*◌, ◌^◌, ◌<◌, ◌≤◌, ◌&&◌, ◌||◌, not, ◌==◌, nat_lt, nat_le, Bool, true, false, Option, Some, None, is_none, is_some, List, [], ◌∷◌, ◌++◌, length, take, drop, map, get_or, refl, sym, ◌∙◌, ap, subst, arith, zero-add, inl, inr, length-append, ◌⊎◌, if◌then◌else◌}
+use Rattle.std.proofs.Common.{◌≡◌, ℕ, ◌+◌, ◌-◌, ◌^◌, ◌<◌, ◌≤◌, ◌&&◌, ◌||◌, not, ◌==◌, nat_le, Bool, true, false, None, is_some, List, length, get_or, refl, sym, ◌∙◌, ap, subst, arith, zero-add, inl, inr, ◌⊎◌, if◌then◌else◌}
 use Rattle.std.specs.Prelude.{slice_index, slice_set}
-use Rattle.std.specs.List.{slice_get, fold, sum_by, list_all, range_with_len}
 use Rattle.std.proofs.lemmas.Bool.{cases_lt, cases_eq}
 use Rattle.std.proofs.lemmas.List.{get_or-set_same, get_or-set_other, get_or-map, length-map}
-use Rattle.std.proofs.lemmas.List.FromFn.{fill_by_all}
-use Rattle.std.proofs.lemmas.List.Folds.{list_all-map}
 use Rattle.std.proofs.lemmas.List.Sums.{fold_push, sum_by_push}
 use Rattle.std.proofs.lemmas.Bool.{le-leb, lt-ltb, leb-true, false≢true}
 use Rattle.std.proofs.lemmas.Bool.Decides.{nat_tests}
 use Rattle.zone_blocks.specs.declared.block.Block.{Block}
 use Rattle.zone_blocks.specs.Areas.{IsFree, IsFreeBlock}
 use Rattle.group_tree.specs.declared.group.Group.{Group}
-use Rattle.group_tree.specs.Groups.{has_group, has_child, in_subtree, limit_of, make_fault, with_group, with_limit, without_group, IsLeastFreeNumber, initial_groups}
+use Rattle.group_tree.specs.Groups.{has_group, in_subtree, limit_of, IsLeastFreeNumber, initial_groups}
 use Rattle.mem_core.specs.declared.config.Config.{Config}
 use Rattle.mem_core.specs.declared.step.Place.{Place}
 use Rattle.mem_core.specs.declared.step.Place.TheVariants.{Free, Charged}
@@ -21,16 +18,16 @@ use Rattle.mem_core.specs.declared.step.Action.{Action}
 use Rattle.mem_core.specs.declared.step.Action.TheVariants.{Lock, Unlock, Grant, Ungrant, PlaceBlock, Make, SetMax, NoteMax, Remove}
 use Rattle.mem_core.specs.declared.step.Answer.{Answer}
 use Rattle.mem_core.specs.declared.step.Answer.TheVariants.{Illegal, Done, Granted, Over, Placed, NoFreeBlock, Number}
-use Rattle.mem_core.specs.Places.{Places, is_same_place, is_in_block, places_at_boot, moved}
-use Rattle.mem_core.specs.Run.{Run, holder_after, holder_of, groups_after, groups_of, places_after, places_of, pages_granted, pages_used, granted_of, used_of, pending_of, usage_of, free_frames}
-use Rattle.mem_core.specs.Legal.{is_processor, is_zone_seat, is_settled, is_removable, is_legal_action, is_legal, IsAnswer, Allows}
+use Rattle.mem_core.specs.Places.{is_same_place, is_in_block, places_at_boot, moved}
+use Rattle.mem_core.specs.Run.{Run, holder_after, groups_after, places_after, places_of, pages_granted, pages_used, usage_of}
+use Rattle.mem_core.specs.Legal.{is_removable, is_legal_action, IsAnswer, Allows}
 use Rattle.mem_core.specs.Limits.{fits_limit, has_room, PathHasRoom, IsLowestOver}
-use Rattle.mem_core.specs.Shown.{State, is_some_place, is_at, free_in, current_in, IsSound, Shows}
+use Rattle.mem_core.specs.Shown.{State, is_at, free_in, IsSound, Shows}
 use Rattle.mem_core.specs.Steps.{may_zone_act, may_remove, may_act, has_room_in, PathHasRoomIn, IsLowestOverIn, with_block, counted, PlacesSmallest, Changes, Makes}
 use Rattle.mem_core.proofs.Runs.{pushed}
 use Rattle.mem_core.proofs.Parts.{HasSizes, HasSizes-IsSound, Matches, Matches-Shows, pending_of-Matches, free_frames-Matches, is_settled-Matches}
 use Rattle.mem_core.proofs.Laws.{current_in-Shows}
-use Rattle.mem_core.proofs.PlaceLemmas.{is_same_place_same, is_same_place-sym, same_from_is_same_place, is_at_within, is_at_past, get_or-with_block_in, get_or-with_block_out, length-with_block}
+use Rattle.mem_core.proofs.PlaceLemmas.{same_from_is_same_place, is_at_within, is_at_past, get_or-with_block_in, get_or-with_block_out, length-with_block}
 
 -- the group may be taken out, by the state and by the run
 may_remove-Shows : (s : State) (run : Run) (g : ℕ) → IsSound s → Shows s run → may_remove s g ≡ is_removable s.config run g

@@ -1,17 +1,16 @@
 -- A core on which no step was made shows the empty run.
-use Rattle.std.proofs.Common.{◌≡◌, ℕ, ◌+◌, ◌<◌, ◌≤◌, ◌&&◌, nat_lt, Bool, true, false, None, List, [], ◌∷◌, length, take, replicate, get_or, refl, sym, ◌∙◌, ap, subst, arith, zero-add, inl, inr, ◌⊎◌, if◌then◌else◌}
-use Rattle.std.specs.List.{count_by, list_any, range_with_len}
+use Rattle.std.proofs.Common.{◌≡◌, ℕ, ◌+◌, nat_lt, Bool, true, false, List, [], ◌∷◌, take, replicate, get_or, refl, sym, ◌∙◌, ap, subst, arith, zero-add, inl, inr, if◌then◌else◌}
+use Rattle.std.specs.List.{count_by, range_with_len}
 use Rattle.std.proofs.lemmas.Bool.{cases_lt}
 use Rattle.std.proofs.lemmas.List.{get_or-replicate, get_or_past, length-replicate, take_all}
 use Rattle.std.proofs.lemmas.List.Sums.{sum_by-cons}
 use Rattle.zone_blocks.specs.declared.block.Block.{Block}
 use Rattle.group_tree.specs.Groups.{has_group, in_subtree, initial_groups}
 use Rattle.mem_core.specs.declared.config.Config.{Config}
-use Rattle.mem_core.specs.declared.step.Place.TheVariants.{Free, Charged}
 use Rattle.mem_core.specs.Run.{Run, groups_of, places_of, is_kept, frames_kept, pages_pending, usage_of}
-use Rattle.mem_core.specs.Limits.{IsThereSince, IsPeak}
+use Rattle.mem_core.specs.Limits.{IsPeak}
 use Rattle.mem_core.specs.Events.{Account, new_account}
-use Rattle.mem_core.specs.Shown.{State, account_in, Shows}
+use Rattle.mem_core.specs.Shown.{Shows}
 use Rattle.mem_core.proofs.Laws.{and_right_false}
 use Rattle.mem_core.proofs.Wholeness.{start_of, places-start, none_pending}
 

@@ -1,5 +1,5 @@
 -- The refinement: a state that shows a run shows, after a step, the run with this step and its answer.
-use Rattle.std.proofs.Common.{◌≡◌, ℕ, ◌+◌, ◌<◌, ◌≤◌, max, Bool, true, false, List, [], ◌∷◌, ◌++◌, length, refl, sym, ◌∙◌, ap, subst, arith, inl, inr, length-append, ◌⊎◌}
+use Rattle.std.proofs.Common.{◌≡◌, ℕ, ◌≤◌, max, true, false, List, [], ◌∷◌, sym, ◌∙◌, ap, subst, arith, inl, inr, length-append}
 use Rattle.std.proofs.lemmas.Bool.{cases_Bool}
 use Rattle.group_tree.specs.declared.group.Group.{Group}
 use Rattle.group_tree.specs.Groups.{has_group}
@@ -13,11 +13,11 @@ use Rattle.mem_core.specs.Events.{events_after, events_of, local_events_of}
 use Rattle.mem_core.specs.Shown.{State, account_in, current_in, IsSound, Shows}
 use Rattle.mem_core.specs.Steps.{Makes}
 use Rattle.mem_core.proofs.Runs.{pushed, IsLegalRun-push}
-use Rattle.mem_core.proofs.Parts.{HasSizes-IsSound, Matches, Matches-Shows}
+use Rattle.mem_core.proofs.Parts.{HasSizes-IsSound, Matches-Shows}
 use Rattle.mem_core.proofs.Laws.{current_in-Shows, current_in-Matches}
 use Rattle.mem_core.proofs.Peaks.{usage-le-peak, IsPeak-more, IsPeak-new}
 use Rattle.mem_core.proofs.Counting.{events_of-pushed, local_events_of-pushed}
-use Rattle.mem_core.proofs.Showing.{Advances, Matches-advance, Makes-advance, Makes-allowed}
+use Rattle.mem_core.proofs.Showing.{Matches-advance, Makes-advance, Makes-allowed}
 use Rattle.mem_core.proofs.AccountSteps.{AccountsAdvance, Makes-accounts}
 
 -- the peak of a group that is there is that of the longer run

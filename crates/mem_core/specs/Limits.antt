@@ -1,11 +1,11 @@
 -- Limits, peaks, and the grants that respect them, counted over a run (memory.max and memory.peak of cgroup-v2.rst).
-use Rattle.std.specs.Prelude.{◌≡◌, ℕ, ◌+◌, ◌<◌, ◌≤◌, nat_le, Bool, true, false, Option, Some, None, length, take, slice_get, IfSome, if◌then◌else◌}
+use Rattle.std.specs.Prelude.{◌≡◌, ℕ, ◌+◌, ◌≤◌, nat_le, Bool, true, false, Option, Some, None, length, take, slice_get, IfSome, if◌then◌else◌}
 use Rattle.group_tree.specs.Groups.{has_group, in_subtree, limit_of}
 use Rattle.mem_core.specs.declared.config.Config.{Config}
 use Rattle.mem_core.specs.declared.step.Action.{Action}
-use Rattle.mem_core.specs.declared.step.Action.TheVariants.{Lock, Unlock, Grant, Ungrant, PlaceBlock, Make, SetMax, NoteMax, Remove}
+use Rattle.mem_core.specs.declared.step.Action.TheVariants.{Grant}
 use Rattle.mem_core.specs.declared.step.Answer.{Answer}
-use Rattle.mem_core.specs.declared.step.Answer.TheVariants.{Illegal, Done, Granted, Over, Placed, NoFreeBlock, Number}
+use Rattle.mem_core.specs.declared.step.Answer.TheVariants.{Granted}
 use Rattle.mem_core.specs.Run.{Run, groups_of, usage_of}
 
 -- memory.max: the limit that the group was given last since it was made, in pages, or none

@@ -4,9 +4,9 @@ use Rattle.zone_blocks.specs.declared.block.Block.{Block}
 use Rattle.zone_blocks.specs.Areas.{AreMaximalBlocks}
 use Rattle.mem_core.specs.declared.config.Config.{Config}
 use Rattle.mem_core.specs.declared.step.Action.{Action}
-use Rattle.mem_core.specs.declared.step.Action.TheVariants.{Lock, Unlock, Grant, Ungrant, PlaceBlock, Make, SetMax, NoteMax, Remove}
+use Rattle.mem_core.specs.declared.step.Action.TheVariants.{PlaceBlock}
 use Rattle.mem_core.specs.declared.step.Answer.{Answer}
-use Rattle.mem_core.specs.declared.step.Answer.TheVariants.{Illegal, Done, Granted, Over, Placed, NoFreeBlock, Number}
+use Rattle.mem_core.specs.declared.step.Answer.TheVariants.{Placed}
 use Rattle.mem_core.specs.Steps.{IsFrontOfSmallest}
 use Rattle.mem_core.specs.Run.{Run, usage_of, free_frames}
 use Rattle.mem_core.specs.Shown.{State, Shows, IsSound, current_in}

@@ -9,7 +9,7 @@ use Rattle.mem_core.specs.declared.config.Config.{Config}
 use Rattle.mem_core.specs.declared.step.Place.TheVariants.{Free, Charged}
 use Rattle.mem_core.specs.declared.step.Step.{Step}
 use Rattle.mem_core.specs.declared.step.Action.{Action}
-use Rattle.mem_core.specs.declared.step.Action.TheVariants.{Lock, Unlock, Grant, Ungrant, PlaceBlock, Make, SetMax, NoteMax, Remove}
+use Rattle.mem_core.specs.declared.step.Action.TheVariants.{Lock, Unlock, Grant, Ungrant, PlaceBlock, Make, SetMax, Remove}
 use Rattle.mem_core.specs.declared.step.Answer.{Answer}
 use Rattle.mem_core.specs.declared.step.Answer.TheVariants.{Done, Granted, Placed, Number}
 use Rattle.mem_core.specs.Places.{Places, places_at_boot, moved}

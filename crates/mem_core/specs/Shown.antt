@@ -1,5 +1,5 @@
 -- What a core shows, and of which runs it shows the state.
-use Rattle.std.specs.Prelude.{◌≡◌, ℕ, ◌+◌, ◌*◌, ◌^◌, ◌<◌, ◌≤◌, ◌&&◌, Bool, true, false, Option, Some, None, List, length, map, slice_get, slice_index, sum_by, count_by, All, if◌then◌else◌}
+use Rattle.std.specs.Prelude.{◌≡◌, ℕ, ◌+◌, Bool, true, false, Option, Some, None, List, length, map, slice_get, slice_index, sum_by, count_by, All, if◌then◌else◌}
 use Rattle.std.specs.List.{slice_index_or}
 use Rattle.zone_blocks.specs.declared.block.Block.{Block}
 use Rattle.zone_blocks.specs.Areas.{AreMaximalBlocks}
@@ -10,7 +10,7 @@ use Rattle.mem_core.specs.Config.{IsValidConfig}
 use Rattle.mem_core.specs.declared.step.Place.{Place}
 use Rattle.mem_core.specs.declared.step.Place.TheVariants.{Free, Charged}
 use Rattle.mem_core.specs.Places.{is_same_place}
-use Rattle.mem_core.specs.Run.{Run, holder_of, groups_of, places_of, granted_of, used_of, pending_of}
+use Rattle.mem_core.specs.Run.{Run, holder_of, groups_of, places_of, granted_of, used_of}
 use Rattle.mem_core.specs.Legal.{IsLegalRun}
 use Rattle.mem_core.specs.Limits.{IsPeak}
 use Rattle.mem_core.specs.Events.{Account, new_account, events_of, local_events_of}

@@ -1,18 +1,17 @@
 -- How one step changes what a core shows.
-use Rattle.std.specs.Prelude.{◌≡◌, ℕ, ◌+◌, ◌-◌, ◌*◌, ◌^◌, ◌==◌, ◌&&◌, ◌++◌, ◌≤◌, nat_le, not, max, Bool, true, false, Option, Some, None, is_none, is_some, List, length, map, take, drop, replicate, slice_index, slice_set, if◌then◌else◌}
+use Rattle.std.specs.Prelude.{◌≡◌, ℕ, ◌+◌, ◌-◌, ◌^◌, ◌==◌, ◌&&◌, ◌++◌, ◌≤◌, nat_le, not, max, Bool, true, false, Some, None, is_none, is_some, List, take, drop, replicate, slice_index, slice_set, if◌then◌else◌}
 use Rattle.std.specs.List.{list_all}
 use Rattle.zone_blocks.specs.declared.block.Block.{Block}
 use Rattle.zone_blocks.specs.Areas.{IsFreeBlock, IsSmallestFrom}
 use Rattle.group_tree.specs.declared.group.Group.{Group}
 use Rattle.group_tree.specs.Groups.{has_group, has_child, in_subtree, limit_of, make_fault, with_group, with_limit, without_group, IsLeastFreeNumber}
 use Rattle.mem_core.specs.declared.step.Place.{Place}
-use Rattle.mem_core.specs.declared.step.Place.TheVariants.{Free, Charged}
+use Rattle.mem_core.specs.declared.step.Place.TheVariants.{Charged}
 use Rattle.mem_core.specs.declared.step.Step.{Step}
 use Rattle.mem_core.specs.declared.step.Action.{Action}
 use Rattle.mem_core.specs.declared.step.Action.TheVariants.{Lock, Unlock, Grant, Ungrant, PlaceBlock, Make, SetMax, NoteMax, Remove}
 use Rattle.mem_core.specs.declared.step.Answer.{Answer}
 use Rattle.mem_core.specs.declared.step.Answer.TheVariants.{Illegal, Done, Granted, Over, Placed, NoFreeBlock, Number}
-use Rattle.mem_core.specs.Places.{is_same_place}
 use Rattle.mem_core.specs.Legal.{is_processor, is_held_by}
 use Rattle.mem_core.specs.Limits.{fits_limit}
 use Rattle.mem_core.specs.Events.{Account, new_account, with_max}

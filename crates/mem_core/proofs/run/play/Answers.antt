@@ -1,8 +1,7 @@
 -- Each step goes on the run, and in the end all steps were made.
-use Rattle.std.proofs.Common.{◌≡◌, ℕ, ◌+◌, ◌<◌, ◌≤◌, List, [], ◌∷◌, ◌++◌, length, take, get_or, refl, sym, ◌∙◌, ap, subst, arith, length-append}
+use Rattle.std.proofs.Common.{◌≡◌, ◌+◌, [], ◌∷◌, ◌++◌, length, take, sym, ◌∙◌, ap, subst, arith, length-append}
 use Rattle.std.specs.List.{zip}
 use Rattle.mem_core.specs.declared.step.Step.{Step}
-use Rattle.mem_core.specs.declared.step.Answer.{Answer}
 use Rattle.mem_core.specs.Run.{Run}
 use Rattle.mem_core.proofs.Runs.{pushed}
 use Rattle.mem_core.proofs.Playing.{PlaysOn, PlaysOn-start, PlaysOn-step, PlaysOn-all, AgreesWith-Shows, zip-take_more, length-zip-take}

@@ -1,5 +1,5 @@
 -- All frames are free, and nothing is pending.
-use Rattle.std.proofs.Common.{◌≡◌, ◌<◌, lit<, List, Bool, None, [], length, replicate, arith, refl, sym, ap, ◌∙◌, ◌≤◌, ◌*◌, ◌^◌, subst}
+use Rattle.std.proofs.Common.{◌≡◌, ◌<◌, lit<, List, Bool, None, [], replicate, arith, refl, sym, ap, ◌∙◌, ◌≤◌, ◌*◌, ◌^◌, subst}
 use Rattle.std.specs.Prelude.{All}
 use Rattle.std.proofs.lemmas.List.{get_or-replicate, length-replicate}
 use Rattle.zone_blocks.specs.Areas.{AreMaximalBlocks}
