@@ -1,5 +1,5 @@
 -- What keeps a desk consistent.
-use Rattle.std.proofs.Common.{◌≡◌, ◌≢◌, ℕ, zero, suc, ◌+◌, ◌-◌, ◌*◌, ◌^◌, ◌<◌, ◌≤◌, ◌==◌, Bool, true, false, cond, IsTrue, All, Option, Some, None, List, [], ◌∷◌, ◌++◌, length, map, take, drop, replicate, get_or, refl, sym, ap, ◌∙◌, subst, arith, inl, inr, ◌⊎◌}
+use Rattle.std.proofs.Common.{◌≡◌, ℕ, zero, suc, ◌+◌, ◌-◌, ◌*◌, ◌^◌, ◌<◌, ◌≤◌, ◌==◌, Bool, true, false, cond, IsTrue, All, Option, Some, None, List, [], ◌∷◌, ◌++◌, length, map, take, drop, replicate, get_or, refl, sym, ap, ◌∙◌, subst, arith, inl, inr, ◌⊎◌}
 use Rattle.std.specs.List.{count_by, find, list_any, sum_by}
 use Rattle.std.specs.Option.{option_map_or}
 use Rattle.std.proofs.lemmas.Bool.{cases_Bool, cases_lt, cond-true, cond-false, eq-eqb, eqb-true, false≢true}
@@ -11,14 +11,13 @@ use Rattle.std.proofs.lemmas.List.Sums.{sum_by-append, sum_by-cons, count_by-le-
 use Rattle.std.proofs.lemmas.List.Folds.{sum_by-replicate}
 use Rattle.zone_blocks.specs.declared.block.Block.{Block}
 use Rattle.zone_blocks.specs.Block.{Covers}
-use Rattle.zone_blocks.specs.Areas.{IsFree}
 use Rattle.zone_buddy.specs.Zone.{TakesFrames, Zone}
 use Rattle.group_tree.specs.declared.group.Group.{Group}
-use Rattle.group_tree.specs.Groups.{AreGroups, IsLeastFreeNumber, has_group, in_subtree, limited, make_fault, number_at, with_group, with_limit}
+use Rattle.group_tree.specs.Groups.{IsLeastFreeNumber, has_group, in_subtree, limited, make_fault, number_at, with_group, with_limit}
 use Rattle.group_tree.proofs.GroupLemmas.{can_make, has_group-any, has_group-contains, limited-number, list_any-map, number_at-contains}
 use Rattle.group_tree.proofs.CallerLemmas.{in_subtree-root}
 use Rattle.group_charge.specs.declared.account.Account.{Account}
-use Rattle.group_charge.specs.Charges.{AreCharges, Ledger, UsageRises, account_at, added, charged, current_of, empty_account, initial_ledger, noted, pages_of, peaked, with_charge, with_group_limit, with_max_noted, with_new_group, with_uncharge}
+use Rattle.group_charge.specs.Charges.{AreCharges, Ledger, account_at, added, charged, current_of, empty_account, initial_ledger, noted, pages_of, peaked, with_charge, with_group_limit, with_max_noted, with_new_group, with_uncharge}
 use Rattle.group_charge.proofs.SumLemmas.{added-group, peaked-group, peaked-pages, sum-map_same}
 use Rattle.group_charge.proofs.ChargeLemmas.{AreCharges-charged, AreCharges-initial, AreCharges-limited, AreCharges-new, AreCharges-noted, AreCharges-taken, charge_rises, has_account, root_usage, uncharge_falls}
 use Rattle.mem_core.specs.declared.step.Place.{Place}
@@ -175,13 +174,13 @@ found_pages g n f same more (x ∷ xs) there =
     let test : ((f x).group == g) ≡ (x.group == g) = ap (λ k. k == g) (same x) in
     elim (cases_Bool (x.group == g)) [
       | inl here ↦
-      let found : find (λ a. a.group == g) (f x ∷ rest) ≡ Some (f x) = cond-true ((f x).group == g) (Some (f x)) (find (λ a. a.group == g) rest) (test ∙ here) in
-      let enough : n ≤ (f x).pages = more x (eqb-true x.group g here) in
-      subst (λ (o : Option Account). n ≤ option_map_or (λ a. a.pages) o 0) (sym found) enough
+          let found : find (λ a. a.group == g) (f x ∷ rest) ≡ Some (f x) = cond-true ((f x).group == g) (Some (f x)) (find (λ a. a.group == g) rest) (test ∙ here) in
+          let enough : n ≤ (f x).pages = more x (eqb-true x.group g here) in
+          subst (λ (o : Option Account). n ≤ option_map_or (λ a. a.pages) o 0) (sym found) enough
       | inr other ↦
-      let later : find (λ a. a.group == g) (f x ∷ rest) ≡ find (λ a. a.group == g) rest = cond-false ((f x).group == g) (Some (f x)) (find (λ a. a.group == g) rest) (test ∙ other) in
-      let still : list_any (λ a. a.group == g) xs ≡ true = rw other at there in
-      subst (λ (o : Option Account). n ≤ option_map_or (λ a. a.pages) o 0) (sym later) (found_pages g n f same more xs still)
+          let later : find (λ a. a.group == g) (f x ∷ rest) ≡ find (λ a. a.group == g) rest = cond-false ((f x).group == g) (Some (f x)) (find (λ a. a.group == g) rest) (test ∙ other) in
+          let still : list_any (λ a. a.group == g) xs ≡ true = rw other at there in
+          subst (λ (o : Option Account). n ≤ option_map_or (λ a. a.pages) o 0) (sym later) (found_pages g n f same more xs still)
     ]
 
 added-pages : (g n : ℕ) (a : Account) → a.group ≡ g → n ≤ (added g n a).pages
@@ -215,7 +214,7 @@ new_desk zone places charges frames few free all_free initial = record {
   legal = subst AreCharges (sym initial) AreCharges-initial;
   free = free ∙ sym (map-replicate (λ p. is_same_place p Free) frames Free) ∙ ap free_in (sym all_free);
   owners = subst (All (KeeperIsThere charges.groups)) (sym all_free) (free_owners charges.groups frames);
-  usage = ap (λ (l : Ledger). current_of l 0) initial ∙ initial_usage ∙ sym (none_charged (replicate frames Free) (λ k lt. get_or-replicate frames k Free Free (let len = length-replicate {A = Place} frames Free in omega arith)) ) ∙ ap (count_by is_charged) (sym all_free);
+  usage = ap (λ (l : Ledger). current_of l 0) initial ∙ initial_usage ∙ sym (none_charged (replicate frames Free) (λ k lt. get_or-replicate frames k Free Free (let len = length-replicate {A = Place} frames Free in omega arith))) ∙ ap (count_by is_charged) (sym all_free);
 }
   where
     map-replicate : {X Y : Type 0} (f : X → Y) (n : ℕ) (x : X) → map f (replicate n x) ≡ replicate n (f x)

@@ -14,9 +14,14 @@ pub struct Line<'a> {
 #[derive(Clone, Copy, Debug, PartialEq, Eq)]
 pub enum Command<'a> {
     /// Makes the group of this path.
-    Mkdir { path: &'a [u8] },
+    Mkdir {
+        path: &'a [u8],
+    },
     /// Takes a block of 2^order frames, charged to the group of this path.
-    Alloc { path: &'a [u8], order: u32 },
+    Alloc {
+        path: &'a [u8],
+        order: u32,
+    },
     /// Writes a value, which may be any bytes and none, to a file of the group of this path.
     Write {
         path: &'a [u8],
@@ -24,7 +29,10 @@ pub enum Command<'a> {
         value: &'a [u8],
     },
     /// Tells the text of a file of the group of this path.
-    Read { path: &'a [u8], file: &'a [u8] },
+    Read {
+        path: &'a [u8],
+        file: &'a [u8],
+    },
     /// Tells the blocks of the zone's free areas.
     Blocks,
     /// Tells the place of every frame and the usage of every group.

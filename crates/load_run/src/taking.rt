@@ -28,12 +28,7 @@ pub enum Taken {
 
 /// Charges the pages of a block of this order to a group, and then takes the block from the zone. Where
 /// there is none, the charge is taken back.
-pub fn take_charged(
-    zone: &mut Buddy,
-    charges: &mut Charges,
-    group: GroupId,
-    order: Order,
-) -> Taken
+pub fn take_charged(zone: &mut Buddy, charges: &mut Charges, group: GroupId, order: Order) -> Taken
     requires there { IsTrue (has_group charges.old.groups group) }
     requires fits { current_of charges.old 0 + 1024 < 2 ^ 32 }
     ensures { IsTaken zone.old charges.old group order zone.new charges.new result }

@@ -93,9 +93,9 @@ fn the_peak_stands_where_no_frame_was_left(rt: HostRuntime) -> Result<(), Fail> 
 
 #[test]
 fn the_limit_is_asked_before_the_zone(rt: HostRuntime) -> Result<(), Fail> {
-    let script = b"1 mkdir /a\n1 write /a memory.max 4096\n1 alloc /a 1\n1 alloc /a 0\n1 alloc /a 0\n";
-    let expected =
-        b"group 1\nok\nrefused 15 OverLimit /a\nframe 0\nrefused 15 OverLimit /a\n";
+    let script =
+        b"1 mkdir /a\n1 write /a memory.max 4096\n1 alloc /a 1\n1 alloc /a 0\n1 alloc /a 0\n";
+    let expected = b"group 1\nok\nrefused 15 OverLimit /a\nframe 0\nrefused 15 OverLimit /a\n";
     assert!(rt; answers(&rt, 1, script.as_slice(), expected.as_slice())?);
     Ok(())
 }
