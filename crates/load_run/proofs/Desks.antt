@@ -1,5 +1,5 @@
 -- What keeps a desk consistent.
-use Rattle.std.proofs.Common.{◌≡◌, ◌≢◌, ℕ, zero, suc, ◌+◌, ◌-◌, ◌*◌, ◌^◌, ◌<◌, ◌≤◌, ◌==◌, Bool, true, false, cond, IsTrue, All, Option, Some, None, List, [], ◌∷◌, ◌++◌, length, map, take, drop, replicate, get_or, refl, sym, ap, ◌∙◌, subst, arith, inl, inr, ◌⊎◌}
+use Rattle.std.proofs.Common.{◌≡◌, ℕ, zero, suc, ◌+◌, ◌-◌, ◌*◌, ◌^◌, ◌<◌, ◌≤◌, ◌==◌, Bool, true, false, cond, IsTrue, All, Option, Some, None, List, [], ◌∷◌, ◌++◌, length, map, take, drop, replicate, get_or, refl, sym, ap, ◌∙◌, subst, arith, inl, inr, ◌⊎◌}
 use Rattle.std.specs.List.{count_by, find, list_any, sum_by}
 use Rattle.std.specs.Option.{option_map_or}
 use Rattle.std.proofs.lemmas.Bool.{cases_Bool, cases_lt, cond-true, cond-false, eq-eqb, eqb-true, false≢true}
@@ -11,14 +11,13 @@ use Rattle.std.proofs.lemmas.List.Sums.{sum_by-append, sum_by-cons, count_by-le-
 use Rattle.std.proofs.lemmas.List.Folds.{sum_by-replicate}
 use Rattle.zone_blocks.specs.declared.block.Block.{Block}
 use Rattle.zone_blocks.specs.Block.{Covers}
-use Rattle.zone_blocks.specs.Areas.{IsFree}
 use Rattle.zone_buddy.specs.Zone.{TakesFrames, Zone}
 use Rattle.group_tree.specs.declared.group.Group.{Group}
-use Rattle.group_tree.specs.Groups.{AreGroups, IsLeastFreeNumber, has_group, in_subtree, limited, make_fault, number_at, with_group, with_limit}
+use Rattle.group_tree.specs.Groups.{IsLeastFreeNumber, has_group, in_subtree, limited, make_fault, number_at, with_group, with_limit}
 use Rattle.group_tree.proofs.GroupLemmas.{can_make, has_group-any, has_group-contains, limited-number, list_any-map, number_at-contains}
 use Rattle.group_tree.proofs.CallerLemmas.{in_subtree-root}
 use Rattle.group_charge.specs.declared.account.Account.{Account}
-use Rattle.group_charge.specs.Charges.{AreCharges, Ledger, UsageRises, account_at, added, charged, current_of, empty_account, initial_ledger, noted, pages_of, peaked, with_charge, with_group_limit, with_max_noted, with_new_group, with_uncharge}
+use Rattle.group_charge.specs.Charges.{AreCharges, Ledger, account_at, added, charged, current_of, empty_account, initial_ledger, noted, pages_of, peaked, with_charge, with_group_limit, with_max_noted, with_new_group, with_uncharge}
 use Rattle.group_charge.proofs.SumLemmas.{added-group, peaked-group, peaked-pages, sum-map_same}
 use Rattle.group_charge.proofs.ChargeLemmas.{AreCharges-charged, AreCharges-initial, AreCharges-limited, AreCharges-new, AreCharges-noted, AreCharges-taken, charge_rises, has_account, root_usage, uncharge_falls}
 use Rattle.mem_core.specs.declared.step.Place.{Place}

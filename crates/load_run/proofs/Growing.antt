@@ -1,5 +1,5 @@
 -- Texts to which some text is added.
-use Rattle.std.proofs.Common.{◌≡◌, ℕ, cond, List, [], ◌++◌, append_assoc, append-nil, Option, None, Some, IfSome, Result, Ok, Err, IfOk, is_ok, ap, sym, ◌∙◌}
+use Rattle.std.proofs.Common.{◌≡◌, ℕ, cond, List, [], ◌++◌, append_assoc, append-nil, Result, Ok, Err, IfOk, is_ok, ap, sym, ◌∙◌}
 use Rattle.load_run.specs.Answers.{Grows}
 
 pub grows_none : (a : List ℕ) → Grows a a

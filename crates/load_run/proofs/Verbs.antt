@@ -1,5 +1,5 @@
 -- The names of the commands.
-use Rattle.std.proofs.Common.{◌≡◌, ◌≢◌, ℕ, zero, suc, Bool, true, false, cond, List, [], ◌∷◌, ◌⊎◌, inl, inr, Option, Some, None, codes, refl, sym, ap, ◌∙◌, eqb, arith, All, nat_eq}
+use Rattle.std.proofs.Common.{◌≡◌, ◌≢◌, ℕ, zero, suc, Bool, true, false, cond, List, [], ◌∷◌, ◌⊎◌, inl, inr, Option, Some, codes, refl, ap, ◌∙◌, eqb, arith, nat_eq}
 use Rattle.std.specs.Cmp.Lexicographic.{pointwise, same_text}
 use Rattle.load_run.specs.Verb.{named_commands, verb_named}
 use Rattle.std.specs.Map.{lookup}

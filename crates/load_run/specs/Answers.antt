@@ -4,6 +4,7 @@ use Rattle.std.specs.List.{flat_map}
 use Rattle.std.specs.Char.{encode_utf8}
 use Rattle.std.specs.Fmt.{decimal}
 use Rattle.std.specs.Io.KnownBytes.{Appends}
+use Rattle.zone_blocks.specs.declared.block.Block.{Block}
 use Rattle.group_tree.specs.Faults.{name_of, number_of}
 use Rattle.load_run.specs.declared.line.Command.{Command}
 use Rattle.load_run.specs.declared.line.Command.TheVariants.{Mkdir, Alloc, Write, Read, Blocks, Show}
@@ -26,18 +27,29 @@ reply_text (Text text) = characters text
 reply_text (OverLimit path) = codes "refused 15 OverLimit " ++ characters path ++ codes "\n"
 reply_text (Refused fault) = codes "refused " ++ decimal (number_of fault) ++ codes " " ++ name_of fault ++ codes "\n"
 
+-- a free block: its order and its first frame
+abbrev pub block_text : Block → List ℕ
+block_text b = decimal b.order ++ codes ":" ++ decimal b.at
+
+abbrev pub spaced_block : Block → List ℕ
+spaced_block b = codes " " ++ block_text b
+
+-- what is written for `blocks`: the free blocks with a space between each two, or that there is none
+abbrev pub blocks_text : List Block → List ℕ
+blocks_text [] = codes "none\n"
+blocks_text (b ∷ blocks) = block_text b ++ flat_map spaced_block blocks ++ codes "\n"
+
 -- some text was added to a text
 abbrev pub Grows : List ℕ → List ℕ → Type 0
 Grows old new = (text : List ℕ) × (new ≡ old ++ text)
 
--- a command at a desk d is answered this text, and the desk is e then; of the texts of `blocks` and `show`
--- nothing is said
+-- a command at a desk d is answered this text, and the desk is e then; of the text of `show` nothing is said
 abbrev pub Serves : DeskState → Command → List ℕ → DeskState → Type 0
 Serves d (Mkdir path) text e = (reply : Reply) × AnswersMkdir d e path.now reply × (text ≡ reply_text reply)
 Serves d (Alloc path order) text e = (reply : Reply) × AnswersAlloc d e path.now order reply × (text ≡ reply_text reply)
 Serves d (Write path file value) text e = (reply : Reply) × AnswersWrite d e path.now file.now value.now reply × (text ≡ reply_text reply)
 Serves d (Read path file) text e = (reply : Reply) × (e ≡ d) × AnswersRead d path.now file.now reply × (text ≡ reply_text reply)
-Serves d Blocks text e = e ≡ d
+Serves d Blocks text e = (e ≡ d) × (text ≡ blocks_text d.zone.blocks)
 Serves d Show text e = e ≡ d
 
 -- the lines are served one after the other, and their texts stand one after the other

@@ -1,11 +1,12 @@
 //! The texts that `show` and `blocks` are answered.
 
 ghost use Rattle.std.specs.Prelude.{◌≡◌, ◌*◌, ◌<◌, ◌≤◌, ◌++◌, ℕ, All, IfOk, IsTrue, List, length};
+ghost use Rattle.std.specs.List.{flat_map};
 ghost use Rattle.std.specs.String.{string_bytes};
 ghost use Rattle.group_tree.specs.Groups.{has_group};
 ghost use Rattle.group_charge.specs.Charges.{current_of};
 ghost use Rattle.mem_core.specs.Shown.{KeeperIsThere};
-ghost use Rattle.load_run.specs.Answers.{Grows};
+ghost use Rattle.load_run.specs.Answers.{Grows, block_text, blocks_text, spaced_block};
 
 use crate::desk::Desk;
 use crate::reply::push_characters;
@@ -15,6 +16,8 @@ use group_tree::group::GroupId;
 use group_tree::tree::Tree;
 use mem_core::step::Place;
 use std::alloc::AllocError;
+use zone_blocks::block::Block;
+use zone_blocks::walk::Walk;
 
 /// Adds a line for each longest run of frames with equal place, by ascending frame, and then one for each
 /// group but the root, in order of making, with its usage in bytes.
@@ -37,22 +40,35 @@ pub fn write_show(desk: &Desk, text: &mut String) -> Result<(), AllocError>
 /// Adds a line with each free block, its order and its first frame, by order and then by address; `none` where
 /// there is none.
 pub fn write_blocks(desk: &Desk, text: &mut String) -> Result<(), AllocError>
-    ensures { IfOk result (λ _. Grows (string_bytes text.old) (string_bytes text.new)) }
+    ensures { IfOk result (λ _. string_bytes text.new ≡ string_bytes text.old ++ blocks_text desk.now.zone.blocks) }
 {
-    let mut is_first = true;
-    for block in desk.blocks() {
-        if !is_first {
-            text.push(' ')?;
-        }
-        is_first = false;
-        let order = block.order.exponent();
-        let at = block.at;
-        write!(text, "{order}:{at}")?;
+    let mut blocks = desk.blocks();
+    let Some(first) = blocks.next() else {
+        return text.push_str("none\n");
+    };
+    write_block(first, text)?;
+    write_others(blocks, text)?;
+    text.push_str("\n")
+}
+
+// A free block: its order and its first frame.
+fn write_block(block: Block, text: &mut String) -> Result<(), AllocError>
+    ensures { IfOk result (λ _. string_bytes text.new ≡ string_bytes text.old ++ block_text block) }
+{
+    let order = block.order.exponent();
+    let at = block.at;
+    write!(text, "{order}:{at}")
+}
+
+// More free blocks, each after a space.
+fn write_others(blocks: Walk<'_>, text: &mut String) -> Result<(), AllocError>
+    ensures { IfOk result (λ _. string_bytes text.new ≡ string_bytes text.old ++ flat_map spaced_block blocks.entry) }
+{
+    for block in blocks {
+        text.push_str(" ")?;
+        write_block(block, text)?;
     }
-    if is_first {
-        text.push_str("none")?;
-    }
-    text.push('\n')
+    Ok(())
 }
 
 // The memory now used by a group and its descendants, in bytes.

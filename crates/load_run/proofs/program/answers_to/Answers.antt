@@ -1,4 +1,4 @@
-use Rattle.std.proofs.Common.{◌≡◌, ◌∙◌, refl, subst, List, ℕ}
+use Rattle.std.proofs.Common.{refl, subst, List, ℕ}
 use Rattle.load_run.specs.declared.line.Line.{Line}
 use Rattle.load_run.specs.Answers.{AreAnswers}
 use Rattle.load_run.specs.Script.{IsScript}

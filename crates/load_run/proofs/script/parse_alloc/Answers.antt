@@ -1,4 +1,3 @@
-use Rattle.std.proofs.Common.{◌≡◌, sym, ◌∙◌, arith}
 use Rattle.load_run.proofs.Readings.{alloc_has_space, alloc_parts, on_none}
 use Rattle.load_run.proofs.script.parse_alloc.Goals as goal
 

@@ -1,6 +1,4 @@
-use Rattle.std.proofs.Common.{◌≡◌, Some, inl, inr, rules}
-use Rattle.load_run.specs.Verb.{verb_named}
-use Rattle.load_run.specs.declared.verb.Verb.TheVariants as verb
+use Rattle.std.proofs.Common.{inl, inr, rules}
 use Rattle.load_run.proofs.Readings.{command_alone, command_named, no_alloc, on_none}
 use Rattle.load_run.proofs.script.parse_command.Goals as goal
 

@@ -1,10 +1,10 @@
-use Rattle.std.proofs.Common.{◌≡◌, ℕ, ◌==◌, ◌+◌, List, [], ◌∷◌, ◌++◌, length, arith, rules, ◌∙◌, sym, true, false}
+use Rattle.std.proofs.Common.{◌≡◌, ◌==◌, [], ◌∷◌, ◌++◌, length, rules, ◌∙◌, sym, true, false}
 use Rattle.std.proofs.lemmas.Iterator.Consumers.{YieldsList-end, YieldsList-from_enumerate, YieldsList-turn}
 use Rattle.std.proofs.lemmas.Iterator.Splits.{YieldsList-from_slice_split}
 use Rattle.std.proofs.lemmas.List.{length_push}
 use Rattle.std.proofs.lemmas.List.FromFn.{length-enumerate_from}
 use Rattle.load_run.specs.Script.{is_skipped, texts_of}
-use Rattle.load_run.proofs.Progress.{IsReadTo, is_first_bad, is_good, is_whole, next_of, not_far, not_long, not_said, passes_over, takes_line}
+use Rattle.load_run.proofs.Progress.{is_first_bad, is_good, is_whole, next_of, not_far, not_long, not_said, passes_over, takes_line}
 use Rattle.load_run.proofs.script.parse_script.Goals as goal
 use Rattle.load_run.proofs.script.parse_script.Goals.{then-text-gt-MOST_LINE-via-then-text-gt-MOST_LINE, then-text-gt-MOST_LINE-via-else-text-gt-MOST_LINE+then-not-is_within}
 

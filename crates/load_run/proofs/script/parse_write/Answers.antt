@@ -1,4 +1,4 @@
-use Rattle.load_run.proofs.Readings.{on_none, write_has_space, write_has_spaces, write_joined, write_parts}
+use Rattle.load_run.proofs.Readings.{on_none, write_has_space, write_has_spaces, write_parts}
 use Rattle.load_run.proofs.script.parse_write.Goals as goal
 
 pub returns-in_err-path : goal.returns-in_err-path

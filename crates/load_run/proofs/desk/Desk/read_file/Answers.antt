@@ -1,4 +1,4 @@
-use Rattle.std.proofs.Common.{◌≡◌, List, ℕ, sym, ap, ◌∙◌}
+use Rattle.std.proofs.Common.{◌≡◌, ap, ◌∙◌}
 use Rattle.control_files.specs.Files.{file_text}
 use Rattle.load_run.specs.Desk.{DeskState}
 use Rattle.load_run.proofs.Desks.{file_of, found_there}

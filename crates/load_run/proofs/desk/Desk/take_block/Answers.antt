@@ -1,4 +1,4 @@
-use Rattle.std.proofs.Common.{◌≡◌, ◌^◌, ◌≤◌, Some, true, IsTrue, refl, sym, ap, ◌∙◌, subst, arith, rules}
+use Rattle.std.proofs.Common.{◌≡◌, ◌^◌, ◌≤◌, Some, IsTrue, sym, ap, ◌∙◌, subst, arith, rules}
 use Rattle.zone_buddy.specs.Zone.{Zone}
 use Rattle.group_tree.specs.Groups.{has_group, number_at}
 use Rattle.group_tree.proofs.CallerLemmas.{in_subtree-above}

@@ -1,4 +1,4 @@
-use Rattle.std.proofs.Common.{◌≡◌, ℕ, cond, List, ◌++◌, append_assoc, Result, Ok, Err, IfOk, is_ok, ap, sym, ◌∙◌, refl, codes}
+use Rattle.std.proofs.Common.{◌≡◌, ℕ, cond, List, ◌++◌, append_assoc, Result, Ok, Err, IfOk, is_ok, ap, ◌∙◌, codes}
 use Rattle.std.specs.String.{string_bytes}
 use Rattle.load_run.specs.Answers.{characters}
 use Rattle.load_run.proofs.reply.Reply.write_to.Goals as goal
