@@ -1,6 +1,5 @@
 pub mod Cuts
 pub mod Desks
-pub mod Growing
 pub mod Numerals
 pub mod Progress
 pub mod Readings

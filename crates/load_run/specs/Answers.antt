@@ -1,10 +1,17 @@
 -- The texts of the answers, and what a script is answered.
-use Rattle.std.specs.Prelude.{◌≡◌, ℕ, Option, List, [], ◌∷◌, ◌++◌, codes}
+use Rattle.std.specs.Prelude.{◌≡◌, ℕ, Option, List, [], ◌∷◌, ◌++◌, codes, ◌+◌, ◌-◌, ◌*◌, ◌==◌, if◌then◌else◌}
 use Rattle.std.specs.List.{flat_map}
 use Rattle.std.specs.Char.{encode_utf8}
+use Rattle.std.specs.Option.{option_map_or}
 use Rattle.std.specs.Fmt.{decimal}
 use Rattle.std.specs.Io.KnownBytes.{Appends}
 use Rattle.zone_blocks.specs.declared.block.Block.{Block}
+use Rattle.group_tree.specs.declared.group.Group as tree
+use Rattle.group_tree.specs.Groups.{path_of}
+use Rattle.group_charge.specs.Charges.{Ledger, current_of}
+use Rattle.mem_core.specs.declared.step.Place.{Place}
+use Rattle.mem_core.specs.declared.step.Place.TheVariants.{Free, Charged}
+use Rattle.mem_core.specs.Places.{is_same_place}
 use Rattle.group_tree.specs.Faults.{name_of, number_of}
 use Rattle.load_run.specs.declared.line.Command.{Command}
 use Rattle.load_run.specs.declared.line.Command.TheVariants.{Mkdir, Alloc, Write, Read, Blocks, Show}
@@ -39,18 +46,48 @@ abbrev pub blocks_text : List Block → List ℕ
 blocks_text [] = codes "none\n"
 blocks_text (b ∷ blocks) = block_text b ++ flat_map spaced_block blocks ++ codes "\n"
 
--- some text was added to a text
-abbrev pub Grows : List ℕ → List ℕ → Type 0
-Grows old new = (text : List ℕ) × (new ≡ old ++ text)
+-- where a frame is: in the free areas, or at the group of this path
+abbrev pub place_text : List tree.Group → Place → List ℕ
+place_text groups Free = codes "free"
+place_text groups (Charged g) = option_map_or characters (path_of groups g) []
 
--- a command at a desk d is answered this text, and the desk is e then; of the text of `show` nothing is said
+-- the frames from the first to the last
+abbrev pub frames_text : ℕ → ℕ → List ℕ
+frames_text first last = if first == last then decimal first ++ codes " " else decimal first ++ codes "-" ++ decimal last ++ codes " "
+
+abbrev pub run_text : List tree.Group → ℕ → ℕ → Place → List ℕ
+run_text groups first last p = frames_text first last ++ place_text groups p ++ codes "\n"
+
+-- the frames from `first` to the one before `next` are at p, and those from `next` on at these places
+abbrev pub runs_text : List tree.Group → ℕ → ℕ → Place → List Place → List ℕ
+runs_text groups first next p [] = run_text groups first (next - 1) p
+runs_text groups first next p (q ∷ places) =
+    if is_same_place q p then runs_text groups first (next + 1) p places
+    else run_text groups first (next - 1) p ++ runs_text groups next (next + 1) q places
+
+-- a line for each longest run of frames with equal place
+abbrev pub places_text : List tree.Group → List Place → List ℕ
+places_text groups [] = []
+places_text groups (p ∷ places) = runs_text groups 0 1 p places
+
+-- a line for a group other than the root, with its usage in bytes
+abbrev pub usage_text : Ledger → tree.Group → List ℕ
+usage_text l g =
+    if g.number == 0 then []
+    else codes "current " ++ characters g.path ++ (codes " " ++ decimal (current_of l g.number * 4096) ++ codes "\n")
+
+-- what is written for `show`
+abbrev pub show_text : DeskState → List ℕ
+show_text d = places_text d.charges.groups d.places ++ flat_map (usage_text d.charges) d.charges.groups
+
+-- a command at a desk d is answered this text, and the desk is e then
 abbrev pub Serves : DeskState → Command → List ℕ → DeskState → Type 0
 Serves d (Mkdir path) text e = (reply : Reply) × AnswersMkdir d e path.now reply × (text ≡ reply_text reply)
 Serves d (Alloc path order) text e = (reply : Reply) × AnswersAlloc d e path.now order reply × (text ≡ reply_text reply)
 Serves d (Write path file value) text e = (reply : Reply) × AnswersWrite d e path.now file.now value.now reply × (text ≡ reply_text reply)
 Serves d (Read path file) text e = (reply : Reply) × (e ≡ d) × AnswersRead d path.now file.now reply × (text ≡ reply_text reply)
 Serves d Blocks text e = (e ≡ d) × (text ≡ blocks_text d.zone.blocks)
-Serves d Show text e = e ≡ d
+Serves d Show text e = (e ≡ d) × (text ≡ show_text d)
 
 -- the lines are served one after the other, and their texts stand one after the other
 abbrev pub ServesAll : DeskState → List Line → List ℕ → DeskState → Type 0

@@ -1,7 +1,7 @@
 -- What stands on the desk, and how the commands of a script change it.
 use Rattle.std.specs.Prelude.{◌≡◌, ◌≢◌, ◌⊎◌, ℕ, ◌^◌, ◌<◌, ◌≤◌, Bool, true, false, Option, Some, None, IsSome, List, length, replicate, count_by, All}
 use Rattle.zone_blocks.specs.declared.block.Block.{Block}
-use Rattle.zone_blocks.specs.Areas.{HasNoneFrom}
+use Rattle.zone_blocks.specs.Areas.{AreMaximalBlocks, HasNoneFrom}
 use Rattle.zone_buddy.specs.Zone.{IsFrontOfSmallest, TakesFrames, Zone}
 use Rattle.group_tree.specs.declared.fault.Fault.{Fault}
 use Rattle.group_tree.specs.declared.fault.Fault.TheVariants.{BadLimit, BadNumber, BadOrder, NoFile, NoFrames, NoGroup, ReadOnly}
@@ -43,6 +43,8 @@ pub record IsConsistent (d : DeskState) : Type 0 where
 
 -- at first every frame is free, the root is alone and nothing is charged
 pub record IsNewDesk (frames : ℕ) (d : DeskState) : Type 0 where
+  pub free : d.zone.free ≡ replicate frames true
+  pub areas : AreMaximalBlocks d.zone.free d.zone.blocks
   pub places : d.places ≡ replicate frames Free
   pub charges : d.charges ≡ initial_ledger
 
@@ -59,6 +61,7 @@ pub record TakesCharged (z : Zone) (l : Ledger) (g k : ℕ) (b : Block) (y : Zon
   pub room : PathHasRoom l (2 ^ k) g
   pub smallest : IsFrontOfSmallest z.blocks k b
   pub taken : TakesFrames z.free b y.free
+  pub areas : AreMaximalBlocks y.free y.blocks
   pub charged : m ≡ with_charge l g (2 ^ k)
 
 -- the path of g has room for the pages, and no block of this order or above is free: the charge was taken

@@ -5,14 +5,15 @@ ghost use Rattle.std.specs.List.{flat_map};
 ghost use Rattle.std.specs.String.{string_bytes};
 ghost use Rattle.group_tree.specs.Groups.{has_group};
 ghost use Rattle.group_charge.specs.Charges.{current_of};
+ghost use Rattle.mem_core.specs.Places.{is_same_place};
 ghost use Rattle.mem_core.specs.Shown.{KeeperIsThere};
-ghost use Rattle.load_run.specs.Answers.{Grows, block_text, blocks_text, spaced_block};
+ghost use Rattle.load_run.specs.Answers.{block_text, blocks_text, frames_text, place_text, places_text, run_text, show_text, spaced_block, usage_text};
 
 use crate::desk::Desk;
 use crate::reply::push_characters;
 use control_files::text::PAGE_BYTES;
 use group_charge::charges::Charges;
-use group_tree::group::GroupId;
+use group_tree::group::{Group, GroupId};
 use group_tree::tree::Tree;
 use mem_core::step::Place;
 use std::alloc::AllocError;
@@ -22,17 +23,12 @@ use zone_blocks::walk::Walk;
 /// Adds a line for each longest run of frames with equal place, by ascending frame, and then one for each
 /// group but the root, in order of making, with its usage in bytes.
 pub fn write_show(desk: &Desk, text: &mut String) -> Result<(), AllocError>
-    ensures { IfOk result (λ _. Grows (string_bytes text.old) (string_bytes text.new)) }
+    ensures { IfOk result (λ _. string_bytes text.new ≡ string_bytes text.old ++ show_text desk.now) }
 {
     let charges = desk.charges();
     write_places(desk.places(), charges.tree(), text)?;
     for group in charges.tree().groups() {
-        if group.number != GroupId::root() {
-            let bytes = bytes_used(charges, group.number);
-            text.push_str("current ")?;
-            push_characters(text, group.path.as_bytes())?;
-            writeln!(text, " {bytes}")?;
-        }
+        write_usage(charges, group, text)?;
     }
     Ok(())
 }
@@ -71,6 +67,20 @@ fn write_others(blocks: Walk<'_>, text: &mut String) -> Result<(), AllocError>
     Ok(())
 }
 
+// A line with the usage of a group in bytes; none for the root.
+fn write_usage(charges: &Charges, group: &Group, text: &mut String) -> Result<(), AllocError>
+    requires { IsTrue (has_group charges.now.groups group.now.number) }
+    ensures { IfOk result (λ _. string_bytes text.new ≡ string_bytes text.old ++ usage_text charges.now group.now) }
+{
+    if group.number == GroupId::root() {
+        return Ok(());
+    }
+    let bytes = bytes_used(charges, group.number);
+    text.push_str("current ")?;
+    push_characters(text, group.path.as_bytes())?;
+    writeln!(text, " {bytes}")
+}
+
 // The memory now used by a group and its descendants, in bytes.
 fn bytes_used(charges: &Charges, group: GroupId) -> u64
     requires { IsTrue (has_group charges.now.groups group) }
@@ -81,41 +91,62 @@ fn bytes_used(charges: &Charges, group: GroupId) -> u64
 
 // A line for each longest run of frames with equal place.
 fn write_places(places: &[Place], tree: &Tree, text: &mut String) -> Result<(), AllocError>
-    requires owners { All (KeeperIsThere tree.now) places.now }
-    ensures { IfOk result (λ _. Grows (string_bytes text.old) (string_bytes text.new)) }
+    requires { All (KeeperIsThere tree.now) places.now }
+    ensures { IfOk result (λ _. string_bytes text.new ≡ string_bytes text.old ++ places_text tree.now places.now) }
 {
+    let Some(mut place) = places.first() else {
+        return Ok(());
+    };
     let mut first = 0;
     for frame in 1..places.len() {
-        if places[frame] != places[first] {
-            write_run(first, frame - 1, places[first], tree, text)?;
+        let next = &places[frame];
+        if !is_same_place(next, place) {
+            write_run(first, frame - 1, place, tree, text)?;
             first = frame;
+            place = next;
         }
     }
-    match places.last() {
-        Some(place) => write_run(first, places.len() - 1, *place, tree, text),
-        None => Ok(()),
-    }
+    write_run(first, places.len() - 1, place, tree, text)
+}
+
+fn is_same_place(a: &Place, b: &Place) -> bool
+    ensures { result ≡ is_same_place a.now b.now }
+{
+    a == b
 }
 
 // The line of the frames from the first to the last, which are all at this place.
 fn write_run(
     first: usize,
     last: usize,
-    place: Place,
+    place: &Place,
     tree: &Tree,
     text: &mut String,
 ) -> Result<(), AllocError>
-    requires owner { KeeperIsThere tree.now place }
-    ensures { IfOk result (λ _. Grows (string_bytes text.old) (string_bytes text.new)) }
+    requires { KeeperIsThere tree.now place.now }
+    ensures { IfOk result (λ _. string_bytes text.new ≡ string_bytes text.old ++ run_text tree.now first last place.now) }
+{
+    write_frames(first, last, text)?;
+    write_place(place, tree, text)?;
+    text.push_str("\n")
+}
+
+fn write_frames(first: usize, last: usize, text: &mut String) -> Result<(), AllocError>
+    ensures { IfOk result (λ _. string_bytes text.new ≡ string_bytes text.old ++ frames_text first last) }
 {
     if first == last {
-        write!(text, "{first} ")?;
+        write!(text, "{first} ")
     } else {
-        write!(text, "{first}-{last} ")?;
+        write!(text, "{first}-{last} ")
     }
+}
+
+fn write_place(place: &Place, tree: &Tree, text: &mut String) -> Result<(), AllocError>
+    requires { KeeperIsThere tree.now place.now }
+    ensures { IfOk result (λ _. string_bytes text.new ≡ string_bytes text.old ++ place_text tree.now place.now) }
+{
     match place {
-        Place::Free => text.push_str("free")?,
-        Place::Charged(group) => push_characters(text, tree.path_of(group).as_bytes())?,
+        Place::Free => text.push_str("free"),
+        Place::Charged(group) => push_characters(text, tree.path_of(*group).as_bytes()),
     }
-    text.push('\n')
 }

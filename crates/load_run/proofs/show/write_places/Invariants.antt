@@ -1,10 +1,12 @@
-use Rattle.std.proofs.Common.{◌<◌}
+use Rattle.std.proofs.Common.{◌≡◌, ◌<◌, ◌++◌, drop}
 use Rattle.std.specs.String.{string_bytes}
-use Rattle.load_run.specs.Answers.{Grows}
+use Rattle.mem_core.specs.Shown.{KeeperIsThere}
+use Rattle.load_run.specs.Answers.{places_text, runs_text}
 use Rattle.load_run.proofs.show.write_places.Given as goal
 
 abbrev pub invariant-loop-frame : goal.invariant-loop-frame
 invariant-loop-frame l = record {
   before : l.first < l.frame;
-  grown : Grows (string_bytes l.initial.text) (string_bytes l.text);
+  owner : KeeperIsThere l.tree l.place;
+  told : string_bytes l.text ++ runs_text l.tree l.first l.frame l.place (drop l.frame l.places) ≡ string_bytes l.initial.text ++ places_text l.tree l.places;
 }
