@@ -1,19 +1,18 @@
 -- What holds of the charges of a tree, and how a change keeps it.
-use Rattle.std.proofs.Common.{◌≡◌, ◌≢◌, ℕ, ◌||◌, ◌+◌, ◌^◌, ◌<◌, ◌≤◌, Bool, true, false, not, cond, ◌==◌, IsTrue, All, Contains, Option, Some, None, List, [], ◌∷◌, ◌++◌, length, map, filter, get_or, refl, sym, ap, ◌∙◌, subst, arith, lit<, ⊎_elim, ◌⊎◌, inl, inr}
+use Rattle.std.proofs.Common.{◌≡◌, ◌≢◌, ℕ, ◌||◌, ◌+◌, ◌^◌, ◌<◌, ◌≤◌, Bool, false, not, cond, ◌==◌, IsTrue, All, Contains, Option, Some, None, List, [], ◌∷◌, ◌++◌, length, map, filter, get_or, refl, sym, ap, ◌∙◌, subst, arith, lit<, ⊎_elim}
 use Rattle.std.specs.List.{find, list_any}
 use Rattle.std.specs.Option.{option_map_or}
-use Rattle.std.proofs.lemmas.Bool.{eq-eqb, ne_eqb, cond-true, cond_both, both_ways, cases_Bool}
+use Rattle.std.proofs.lemmas.Bool.{eq-eqb, ne_eqb, cond-true, cond_both, cases_Bool}
 use Rattle.std.proofs.lemmas.List.{get_or-map, length-map, map-append}
 use Rattle.group_charge.proofs.UsageLemmas.{PeaksCover, cover_charged, cover_limited, cover_new, cover_noted, cover_removed, cover_taken, part-is, sum-same, usage-charged, usage-taken}
 use Rattle.std.proofs.lemmas.List.Elements.{All-cons, All-nil, Contains-get_or}
 use Rattle.std.proofs.lemmas.List.Recursion.{found_at}
 use Rattle.std.proofs.lemmas.List.Sums.{sum_by-cons, sum_by_push}
 use Rattle.group_tree.specs.declared.group.Group.{Group}
-use Rattle.group_tree.specs.Path.{depth_of}
-use Rattle.group_tree.specs.Groups.{the_root, IsLeastFreeNumber, has_group, in_subtree, has_child, path_of, parent_of, without_group, with_limit, limited}
+use Rattle.group_tree.specs.Groups.{the_root, IsLeastFreeNumber, has_group, in_subtree, has_child, without_group, with_limit, limited}
 use Rattle.group_tree.proofs.GroupLemmas.{CanMake, has_group-any, has_group-contains, length-full, AreGroups-initial, AreGroups-with, AreGroups-without, AreGroups-limited, limited-number}
-use Rattle.group_tree.proofs.CallerLemmas.{in_subtree-root, in_subtree-refl, in_subtree-trans, in_subtree-above, in_subtree-antisym, in_subtree-parent_of, in_subtree-above_parent, parent_of-depth}
-use Rattle.group_charge.specs.Charges.{Account, Ledger, AreCharges, UsageRises, IsLowestOver, PathHasRoom, has_room, account_at, pages_of, current_of, usage_of, total_pages, added, taken, peaked, noted, charged, empty_account, initial_ledger, with_charge, with_uncharge, with_new_group, with_group_removed, with_group_limit}
+use Rattle.group_tree.proofs.CallerLemmas.{in_subtree-root}
+use Rattle.group_charge.specs.Charges.{Account, Ledger, AreCharges, UsageRises, account_at, pages_of, current_of, usage_of, total_pages, added, taken, peaked, noted, charged, empty_account, initial_ledger, with_charge, with_uncharge, with_new_group, with_group_removed, with_group_limit}
 use Rattle.group_charge.proofs.SumLemmas.{AreDistinct, share, total-added, total-taken, usage-le-total, added-group, taken-group, peaked-group, peaked-pages, sum-map_same}
 
 -- ---- each group has one account
@@ -188,60 +187,7 @@ AreCharges-new l n path facts can least =
       peaks = cover_new l.groups l.accounts n path facts.groups can least.free (all_known l facts) facts.peaks;
     }
 
--- ---- the path from a group to the root
--- how many names the group's path has
-pub depth_at : List Group → ℕ → ℕ
-depth_at groups g = option_map_or (λ p. depth_of p) (path_of groups g) 0
-
--- the walk from g has come to m, and all that is below it on the path has room
-pub record WalkedTo (l : Ledger) (g n m : ℕ) : Type 0 where
-  pub on_path : IsTrue (in_subtree l.groups m g)
-  pub passed : (k : ℕ) → IsTrue (in_subtree l.groups k g) → (has_room l n k ≡ true) ⊎ IsTrue (in_subtree l.groups k m)
-
--- the walk begins at g
-pub walked_start : (l : Ledger) (g n : ℕ) → IsTrue (has_group l.groups g) → WalkedTo l g n g
-walked_start l g n there = record { on_path = in_subtree-refl l.groups g there; passed = λ k h. inr h }
-
--- where m has room, the walk goes on to its parent
-pub walked_up : (l : Ledger) (g n m p : ℕ) → AreCharges l → WalkedTo l g n m → has_room l n m ≡ true → parent_of l.groups m ≡ Some p → WalkedTo l g n p
-walked_up l g n m p facts w room e = record {
-  on_path = in_subtree-trans l.groups p m g (in_subtree-parent_of l.groups m p facts.groups e) w.on_path;
-  passed = λ k h.
-      ⊎_elim (λ r. inl r)
-      (λ above. ⊎_elim
-      (λ same. inl (ap (has_room l n) same ∙ room))
-      (λ up. inr up)
-      (in_subtree-above_parent l.groups k m p facts.groups e above))
-      (w.passed k h);
-}
-
--- where the root has room, the whole path has
-pub walked_all : (l : Ledger) (g n m : ℕ) → AreCharges l → WalkedTo l g n m → has_room l n m ≡ true → m ≡ 0 → PathHasRoom l n g
-walked_all l g n m facts w room root = λ k h.
-    ⊎_elim (λ r. r)
-    (λ above.
-    let up : in_subtree l.groups k 0 ≡ true = ap (in_subtree l.groups k) (sym root) ∙ above in
-    let down : in_subtree l.groups 0 k ≡ true = in_subtree-root l.groups k facts.groups (in_subtree-above l.groups k 0 up) in
-    ap (has_room l n) (in_subtree-antisym l.groups k 0 facts.groups up down ∙ sym root) ∙ room)
-    (w.passed k h)
-
--- where m has none, it is the lowest such group
-pub walked_over : (l : Ledger) (g n m : ℕ) → WalkedTo l g n m → has_room l n m ≡ false → IsLowestOver l n g m
-walked_over l g n m w over = record {
-  on_path = w.on_path;
-  over = over;
-  lowest = λ k h none. ⊎_elim (λ r. absurd (both_ways (has_room l n k) none r)) (λ above. above) (w.passed k h);
-}
-
--- a parent's path has fewer names, so the walk ends
-pub parent_depth : (l : Ledger) (m p : ℕ) → AreCharges l → parent_of l.groups m ≡ Some p → depth_at l.groups p < depth_at l.groups m
-unfolding depth_at
-parent_depth l m p facts e =
-    let w = parent_of-depth l.groups m p facts.groups e in
-    let low : depth_at l.groups m ≡ depth_of w.0 = ap (λ o. option_map_or (λ q. depth_of q) o 0) w.2 in
-    let high : depth_at l.groups p ≡ depth_of w.1 = ap (λ o. option_map_or (λ q. depth_of q) o 0) w.3 in
-    omega (arith, low, high, w.4)
-
+-- ---- lists of accounts
 -- a charge leaves the number of accounts
 pub length-charged : (groups : List Group) (accounts : List Account) (g n : ℕ) → length (charged groups accounts g n) ≡ length accounts
 unfolding charged

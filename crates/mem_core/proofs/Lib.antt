@@ -15,4 +15,3 @@ pub mod Playing
 pub mod Wholeness
 pub mod Blocks
 pub mod Starting
-pub mod PathLemmas
