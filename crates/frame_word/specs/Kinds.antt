@@ -17,6 +17,7 @@ abbrev pub first_alone : List FrameView → List FrameView
 first_alone [] = []
 first_alone (v ∷ vs) = v ∷ []
 
+-- what is cut off: the views behind the first
 abbrev pub but_first : List FrameView → List FrameView
 but_first [] = []
 but_first (v ∷ vs) = vs
@@ -26,18 +27,22 @@ abbrev pub second_number : List FrameView → ℕ
 second_number (z ∷ v ∷ vs) = v.number
 second_number _ = 0
 
+-- the views after this change of the first one's note of f
 abbrev pub first_changed : List FrameView → ℕ → (FrameNote → FrameNote) → List FrameView
 first_changed [] f change = []
 first_changed (v ∷ vs) f change = changed v f change ∷ vs
 
+-- the views after this change of the second one's note of f, where there is a second
 abbrev pub second_changed : List FrameView → ℕ → (FrameNote → FrameNote) → List FrameView
 second_changed (z ∷ v ∷ vs) f change = z ∷ changed v f change ∷ vs
 second_changed other f change = other
 
+-- the views after the zone's, which is first, notes the visit of the second's processor: open (1) or shut (0)
 abbrev pub visit_changed : List FrameView → ℕ → List FrameView
 visit_changed (z ∷ v ∷ vs) state = with_visit z v.number state ∷ v ∷ vs
 visit_changed other state = other
 
+-- the references that the first view has on f; 0 where there is no view
 abbrev pub first_references : List FrameView → ℕ → ℕ
 first_references [] f = 0
 first_references (v ∷ vs) f = (note_of v f).references

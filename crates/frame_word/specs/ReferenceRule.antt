@@ -10,6 +10,7 @@ use Rattle.frame_word.specs.Views.{note_of, in_hands}
 abbrev pub mark : ℕ → ℕ
 mark p = 256 + p
 
+-- where the visit word of processor p stands: behind the words of all frames
 abbrev pub visit_index : ℕ → ℕ → ℕ
 visit_index frames p = frames + (p - 1)
 
@@ -43,6 +44,7 @@ module _ (f : ℕ) where
   abbrev pub borrowed_in : ℕ → FrameView → ℕ
   borrowed_in p v = only p v (note_of v f).borrowed
 
+-- what the zone's view notes of the visit of processor p; 0 of any other view
 abbrev pub opened_in : ℕ → FrameView → ℕ
 opened_in p v = only 0 v (slice_index v.opened p)
 
@@ -51,9 +53,11 @@ opened_in p v = only 0 v (slice_index v.opened p)
 abbrev pub IsReferenced : ℕ → ℕ → ℕ → Type 0
 IsReferenced word references hands = (1 ≤ word) × (word ≤ 255) × (references ≡ word) × (hands ≡ 0)
 
+-- the word is 0: the frame has no reference and is in exactly one hand
 abbrev pub IsInOneHand : ℕ → ℕ → ℕ → Type 0
 IsInOneHand word references hands = (word ≡ 0) × (references ≡ 0) × (hands ≡ 1)
 
+-- the word is the mark of a processor, 1 to cpus: the frame has no reference and is in no hand
 abbrev pub IsPassing : ℕ → ℕ → ℕ → ℕ → Type 0
 IsPassing cpus word references hands = (mark 1 ≤ word) × (word ≤ mark cpus) × (references ≡ 0) × (hands ≡ 0)
 
@@ -64,6 +68,7 @@ pub record HandOverRule (seats : List (List FrameView)) (f word p : ℕ) : Type 
   pub borrowed_is_lent : total_over (borrowed_in f p) seats ≤ total_over (lent_in f p) seats
   pub lent_is_near : total_over (lent_in f p) seats ≤ total_over (borrowed_in f p) seats + marked p word
 
+-- a frame is referenced, in one hand or passing, and its hand-overs with each processor keep their rule
 pub record FrameRule (cpus : ℕ) (seats : List (List FrameView)) (f word : ℕ) : Type 0 where
   pub one_case : IsReferenced word (total_over (references_in f) seats) (total_over (hands_in f) seats)
       ⊎ (IsInOneHand word (total_over (references_in f) seats) (total_over (hands_in f) seats)
@@ -76,6 +81,7 @@ pub record VisitRule (frames : ℕ) (words : List ℕ) (seats : List (List Frame
   pub open_or_shut : slice_index words (visit_index frames p) ≤ 1
   pub shut : slice_index words (visit_index frames p) ≡ 0 → (f : ℕ) → f < frames → slice_index words f ≢ mark p
 
+-- each frame and each visit has its word and keeps its rule, and each seat, 0 to cpus, has exactly one view
 pub record ReferenceRule (frames cpus : ℕ) (words : List ℕ) (seats : List (List FrameView)) : Type 0 where
   pub wide : length words ≡ frames + cpus
   -- one view for each seat, 0 to cpus, and no other

@@ -26,6 +26,7 @@ pub record KnownWords : Type 0 where
   pub frames : ℕ
   pub cpus : ℕ
 
+-- the seat's number: 0 for the zone's, else the processor's
 abbrev pub number_of : KnownSeat → ℕ
 number_of s = s.view.number
 
@@ -33,6 +34,7 @@ number_of s = s.view.number
 abbrev pub holds : KnownSeat → ℕ → ℕ
 holds s f = (note_of s.view f).references
 
+-- the seat's freezes of the frame that found another number than they asked for
 abbrev pub misses_of : KnownSeat → ℕ → ℕ
 misses_of s f = (note_of s.view f).misses
 
@@ -56,6 +58,7 @@ IsLent zone f p = slice_index (note_of zone.view f).lent p ≡ 1
 abbrev pub IsOpen : KnownSeat → ℕ → Type 0
 IsOpen zone p = slice_index zone.view.opened p ≡ 1
 
+-- the visit of the processor p is shut, as the zone's seat knows
 abbrev pub IsShut : KnownSeat → ℕ → Type 0
 IsShut zone p = slice_index zone.view.opened p ≡ 0
 
@@ -63,6 +66,7 @@ IsShut zone p = slice_index zone.view.opened p ≡ 0
 abbrev pub Passes : KnownSeat → KnownSeat → ℕ → Type 0
 Passes zone cpu f = begun zone.view cpu.view f ≡ ended zone.view cpu.view f + 1
 
+-- no frame passes for the processor: each hand-over that began has ended
 abbrev pub NothingPasses : KnownTable → KnownSeat → KnownSeat → Type 0
 NothingPasses t zone cpu = (f : ℕ) → f < t.frames → begun zone.view cpu.view f ≡ ended zone.view cpu.view f
 
@@ -70,9 +74,11 @@ NothingPasses t zone cpu = (f : ℕ) → f < t.frames → begun zone.view cpu.vi
 abbrev pub LentIsBorrowed : KnownTable → KnownSeat → KnownSeat → Type 0
 LentIsBorrowed t zone cpu = (f : ℕ) → f < t.frames → slice_index (note_of zone.view f).lent (number_of cpu) ≡ (note_of cpu.view f).borrowed
 
+-- it is the zone's seat at this table
 abbrev pub IsZoneSeat : KnownTable → KnownSeat → Type 0
 IsZoneSeat t s = (s.table ≡ t.table) × (number_of s ≡ 0)
 
+-- it is the seat of one of this table's processors
 abbrev pub IsCpuSeat : KnownTable → KnownSeat → Type 0
 IsCpuSeat t s = (s.table ≡ t.table) × (1 ≤ number_of s) × (number_of s ≤ t.cpus)
 
@@ -131,5 +137,6 @@ abbrev pub AreSeatsAt : TableId → List KnownSeat → Type 0
 AreSeatsAt id [] = Unit {0}
 AreSeatsAt id (s ∷ rest) = (s.table ≡ id) × AreSeatsAt id rest
 
+-- what the seat knows
 abbrev pub view_of : KnownSeat → FrameView
 view_of s = s.view

@@ -5,6 +5,7 @@ use Rattle.atomic_table.specs.declared.shared.Seat.{Seat}
 use Rattle.frame_word.specs.declared.view.FrameView.{FrameView}
 use Rattle.frame_word.specs.Seats.{first_cpu_view}
 
+-- the first of a seat's views; where it has none, a view of number 0 without notes
 abbrev pub first_of : List FrameView → FrameView
 first_of [] = first_cpu_view 0
 first_of (v ∷ vs) = v

@@ -14,6 +14,7 @@ put_at d (y ∷ ys) (suc i) x = y ∷ put_at d ys i x
 abbrev pub blank : FrameNote
 blank = record { references = 0; left = 0; misses = 0; looks = 0; seen = 0; races = 0; own = 0; borrowed = 0; passed_back = 0; taken_in = 0; passed_out = []; collected = []; lent = [] }
 
+-- the view's note of frame f; a blank one past the end of its notes
 abbrev pub note_of : FrameView → ℕ → FrameNote
 note_of v f = slice_index_or v.notes f blank
 
@@ -33,6 +34,7 @@ in_hands k = k.own + k.borrowed
 abbrev pub begun : FrameView → FrameView → ℕ → ℕ
 begun zone cpu f = slice_index (note_of zone f).passed_out cpu.number + (note_of cpu f).passed_back
 
+-- the hand-overs of the frame between the zone and this processor that one of the two seats ended
 abbrev pub ended : FrameView → FrameView → ℕ → ℕ
 ended zone cpu f = slice_index (note_of zone f).collected cpu.number + (note_of cpu f).taken_in
 
@@ -40,9 +42,11 @@ ended zone cpu f = slice_index (note_of zone f).collected cpu.number + (note_of 
 abbrev pub looked : ℕ → FrameNote → FrameNote
 looked word k = record k { looks = k.looks + 1; seen = word }
 
+-- one reference more
 abbrev pub held : FrameNote → FrameNote
 held k = record k { references = k.references + 1 }
 
+-- one race more, whose exchange found this word
 abbrev pub raced : ℕ → FrameNote → FrameNote
 raced word k = record k { races = k.races + 1; seen = word }
 
@@ -50,6 +54,7 @@ raced word k = record k { races = k.races + 1; seen = word }
 abbrev pub let_go : ℕ → FrameNote → FrameNote
 let_go n k = record k { references = k.references - 1; left = n }
 
+-- one reference less, none left to any seat, and the frame comes into the own hand
 abbrev pub let_go_last : FrameNote → FrameNote
 let_go_last k = record k { references = k.references - 1; left = 0; own = 1 }
 
@@ -57,6 +62,7 @@ let_go_last k = record k { references = k.references - 1; left = 0; own = 1 }
 abbrev pub frozen : ℕ → FrameNote → FrameNote
 frozen n k = record k { references = k.references - n; own = 1 }
 
+-- one miss more: a freeze that found another number than it asked for
 abbrev pub missed : FrameNote → FrameNote
 missed k = record k { misses = k.misses + 1 }
 

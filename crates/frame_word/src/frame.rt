@@ -20,6 +20,7 @@ impl Model for Frame {
 impl Frame {
     ghost use Rattle.std.specs.Prelude.{◌≡◌};
 
+    /// The frame of this number. That the zone has it is for the caller to see to.
     pub(crate) fn new(number: u32) -> Frame
         ensures { result ≡ number }
     {
@@ -33,7 +34,7 @@ impl Frame {
         self.number
     }
 
-    // Where the frame's word stands.
+    /// Where the frame's word stands in the table: at the frame's number.
     pub(crate) fn word(self) -> usize
         ensures { result ≡ self }
     {

@@ -38,6 +38,7 @@ reply_text (Refused fault) = codes "refused " ++ decimal (number_of fault) ++ co
 abbrev pub block_text : Block → List ℕ
 block_text b = decimal b.order ++ codes ":" ++ decimal b.at
 
+-- a free block that follows another: a space, and then its text
 abbrev pub spaced_block : Block → List ℕ
 spaced_block b = codes " " ++ block_text b
 
@@ -55,6 +56,7 @@ place_text groups (Charged g) = option_map_or characters (path_of groups g) []
 abbrev pub frames_text : ℕ → ℕ → List ℕ
 frames_text first last = if first == last then decimal first ++ codes " " else decimal first ++ codes "-" ++ decimal last ++ codes " "
 
+-- the line of a run: its frames from the first to the last, and the place where they all are
 abbrev pub run_text : List tree.Group → ℕ → ℕ → Place → List ℕ
 run_text groups first last p = frames_text first last ++ place_text groups p ++ codes "\n"
 

@@ -20,6 +20,7 @@ pub enum Verb {
 /// The commands by their names, as a script writes them.
 pub type Names = IndexMap<&'static [u8], Verb>;
 
+/// A new table of all commands by their names. `AllocError` comes where memory is wanting.
 pub fn command_names(alloc: Global) -> Result<Names, AllocError>
     ensures { IfOk result IsNames }
 {

@@ -11,7 +11,7 @@ pub struct Events {
 }
 
 impl Events {
-    // One `max` more, and 2^64 - 1 at most.
+    /// One `max` more, and 2^64 - 1 at most.
     pub(crate) fn with_max(self) -> Events
         ensures { result ≡ with_max self }
     {
@@ -33,7 +33,7 @@ pub struct Account {
 }
 
 impl Account {
-    // The account of a new group.
+    /// The account of a new group.
     pub(crate) fn new() -> Account
         ensures { result ≡ new_account }
     {

@@ -25,10 +25,12 @@ split_of seats id left right = slice_set seats id left ++ right ∷ []
 abbrev pub join_of : {V : Type 0} → List (List V) → ℕ → List V → ℕ → List V → List (List V)
 join_of seats id views other taken = slice_set (slice_set seats id (views ++ taken)) other []
 
+-- each function of one view has the same total after a seat's views are cut in two
 abbrev pub SplitsKeepTotals : Type 0 → Type 0
 SplitsKeepTotals V = (seats : List (List V)) (id : ℕ) (left right : List V)
     → get_elem? seats id ≡ some (left ++ right) → SameTotals seats (split_of seats id left right)
 
+-- each function of one view has the same total after a seat takes in the views of another
 abbrev pub JoinsKeepTotals : Type 0 → Type 0
 JoinsKeepTotals V = (seats : List (List V)) (id other : ℕ) (views taken : List V)
     → get_elem? seats id ≡ some views → get_elem? (slice_set seats id (views ++ taken)) other ≡ some taken

@@ -26,6 +26,7 @@ after_drained v = record v { last = drained_of v.last }
 abbrev pub after_report : StockView → ℕ → StockView
 after_report v n = record v { fresh = v.fresh - n }
 
+-- the machine's view with n more pages noted as reported by processor p
 abbrev pub noting : StockView → ℕ → ℕ → StockView
 noting m p n = let a = account_of m p in with_account m p (record a { noted = a.noted + n })
 
@@ -33,6 +34,7 @@ noting m p n = let a = account_of m p in with_account m p (record a { noted = a.
 abbrev pub filling : StockView → ℕ → ℕ → ℕ → StockView
 filling m p g n = let a = account_of m p in with_account m p (record a { book = a.book + n; group = Some g; filled = true })
 
+-- the processor's view after a fill: it saw its stock last as held by g with n pages
 abbrev pub after_fill : StockView → ℕ → ℕ → StockView
 after_fill v g n = record v { last = HeldBy g n }
 

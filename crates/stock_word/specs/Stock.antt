@@ -32,6 +32,7 @@ group_of NoGroup = None
 group_of (HeldBy g n) = Some g
 group_of (DrainedOf g) = Some g
 
+-- whether the stock is held by a group; one of no group is not, nor is a drained one
 abbrev pub is_held : Stock → Bool
 is_held NoGroup = false
 is_held (HeldBy g n) = true
@@ -47,6 +48,7 @@ drained_of (DrainedOf g) = DrainedOf g
 abbrev pub no_account : Account
 no_account = record { book = 0; group = None; filled = false; noted = 0 }
 
+-- the account at p; past the end, that of a processor that was never filled for
 abbrev pub account_at : List Account → ℕ → Account
 account_at [] p = no_account
 account_at (a ∷ accounts) zero = a
@@ -68,6 +70,7 @@ pub record Seated : Type 0 where
 abbrev pub account_of : StockView → ℕ → Account
 account_of machine p = account_at machine.accounts p
 
+-- the machine's view with another account of processor p
 abbrev pub with_account : StockView → ℕ → Account → StockView
 with_account machine p account = record machine { accounts = with_account_at machine.accounts p account }
 
@@ -90,6 +93,7 @@ without_second [] = []
 without_second (v ∷ []) = v ∷ []
 without_second (v ∷ w ∷ views) = v ∷ views
 
+-- the second view alone, for the seat that is taken out; none where there is no second
 abbrev pub second_alone : List StockView → List StockView
 second_alone [] = []
 second_alone (v ∷ []) = []
@@ -126,6 +130,7 @@ abbrev pub first_of : List StockView → StockView
 first_of [] = first_machine
 first_of (v ∷ views) = v
 
+-- the second view of joined seats; where there is none, what the machine's seat knows at first
 abbrev pub second_of : List StockView → StockView
 second_of [] = first_machine
 second_of (v ∷ views) = first_of views
@@ -150,6 +155,7 @@ pub record IsKept {S : Type 0} (me : Me S (List StockView)) (number : ℕ) (last
 abbrev pub IsProcessor : Words → StockView → Type 0
 IsProcessor words view = (0 < view.number) × (view.number ≤ words.cpus)
 
+-- the view is that of the machine's seat, whose number is 0
 abbrev pub IsMachine : StockView → Type 0
 IsMachine view = view.number ≡ 0
 

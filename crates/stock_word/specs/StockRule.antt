@@ -10,6 +10,7 @@ use Rattle.stock_word.specs.Stock.{word_of, HasWord, pages_of, group_of, is_held
 abbrev pub stock_place : ℕ → ℕ
 stock_place p = 16 * p
 
+-- the place of processor p's report word, next to its stock word
 abbrev pub report_place : ℕ → ℕ
 report_place p = 16 * p + 1
 

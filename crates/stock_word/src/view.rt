@@ -20,7 +20,7 @@ impl Stock {
     ghost use Rattle.stock_word.specs.declared.view.Stock.{Stock};
     ghost use Rattle.stock_word.specs.Stock.{word_of, HasWord, pages_of};
 
-    // The stock's word.
+    /// The word that stands for this stock in the table.
     pub(crate) fn word(self) -> u64
         ensures { result ≡ word_of self }
     {
@@ -31,7 +31,7 @@ impl Stock {
         }
     }
 
-    // The stock of a word.
+    /// The stock that a word stands for. Of a word that is no stock's nothing is said.
     pub(crate) fn of_word(word: u64) -> Stock
         ensures { (stock : Stock) → HasWord stock → word ≡ word_of stock → result ≡ stock }
     {

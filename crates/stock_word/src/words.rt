@@ -64,14 +64,14 @@ impl Model for StockWords {
     ghost invariant = { λ t. (t.table.shared.table_id.words ≡ 16 * (t.table.shared.key + 1)) × (t.table.shared.table_id.slots ≡ 0) };
 }
 
-// The place of a processor's stock word.
+/// The place of a processor's stock word: word 0 of its row of sixteen.
 pub(crate) fn stock_place(number: u32) -> usize
     ensures { result ≡ 16 * number }
 {
     16 * number as usize
 }
 
-// The place of a processor's report word.
+/// The place of a processor's report word: word 1 of its row of sixteen.
 pub(crate) fn report_place(number: u32) -> usize
     ensures { result ≡ 16 * number + 1 }
 {

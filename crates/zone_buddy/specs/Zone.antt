@@ -35,9 +35,11 @@ pub record IsFrontOfSmallest (blocks : List Block) (order : ℕ) (b : Block) : T
 
 -- ---- behind the calls
 
+-- the block of this order whose first frame is `at`
 abbrev pub block_at : ℕ → ℕ → Block
 block_at at order = record { at = at; order = order }
 
+-- whether the frame f lies in the block
 abbrev pub covers : ℕ → Block → Bool
 covers f b = nat_le b.at f && nat_lt f (b.at + 2 ^ b.order)
 
@@ -45,6 +47,7 @@ covers f b = nat_le b.at f && nat_lt f (b.at + 2 ^ b.order)
 unfoldable pub set_of : FreeBlocks → List Bool
 set_of areas = map (λ f. list_any (covers f) areas.blocks) (range_with_len 0 areas.frames)
 
+-- what a caller sees of these areas: for each frame whether it is free, and their blocks
 abbrev pub zone_of : FreeBlocks → Zone
 zone_of areas = record { free = set_of areas; blocks = areas.blocks }
 
