@@ -39,7 +39,10 @@ fn take_in_core(rt: &impl Abort, core: &mut Core, path: &[u8], order: u32) -> Re
         return Reply::Refused(Fault::BadOrder);
     };
     let pages = order.frames();
-    assert_eq!(rt; step(rt, core, ZONE_SEAT, Action::Grant { group, pages }), Answer::Granted);
+    assert_eq!(rt;
+        step(rt, core, ZONE_SEAT, Action::Grant { group, pages }),
+        Answer::Granted
+    );
     match step(rt, core, ZONE_SEAT, Action::PlaceBlock { group, order }) {
         Answer::Placed(block) => Reply::Frame(block.at),
         Answer::NoFreeBlock => {
@@ -71,9 +74,7 @@ fn answer_alike(rt: &impl Abort, desk: &mut Desk, core: &mut Core, command: &Com
 fn show_alike(desk: &Desk, core: &Core, group: GroupId) -> bool {
     let are_same = desk.blocks().eq(core.areas().walk());
     let is_in_both = desk.charges().tree().contains(group) && core.tree().contains(group);
-    are_same
-        && is_in_both
-        && u128::from(desk.charges().current(group)) == core.current(group)
+    are_same && is_in_both && u128::from(desk.charges().current(group)) == core.current(group)
 }
 
 #[test]
