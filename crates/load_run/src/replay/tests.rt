@@ -114,7 +114,7 @@ fn the_root_has_no_files_and_others_have_five(rt: HostRuntime) -> Result<(), Fai
     Ok(())
 }
 
-// Every kind of line and of refusal: groups at three depths with limits at each, and a zone that fills.
+// Every kind of line, and of refusal but that of a full tree: groups at three depths with limits at each, and a zone that fills.
 const MIXED: [&str; 52] = [
     "1 show",
     "1 mkdir /a",
