@@ -11,10 +11,10 @@ use Rattle.mem_core.specs.declared.step.Action.{Action}
 use Rattle.mem_core.specs.declared.step.Action.TheVariants.{Lock, Unlock, Grant, Ungrant, PlaceBlock, Make, SetMax, NoteMax, Remove}
 use Rattle.mem_core.specs.declared.step.Answer.{Answer}
 use Rattle.mem_core.specs.declared.step.Answer.TheVariants.{Illegal, Done, Granted, Over, Placed, NoFreeBlock, Number}
-use Rattle.mem_core.specs.Limits.{fits_limit}
+use Rattle.mem_core.specs.Limits.{fits_limit, PathHasRoom}
 use Rattle.mem_core.specs.Events.{Account, new_account}
 use Rattle.mem_core.specs.Shown.{State, frames_below, pages_below, current_in, IsSound}
-use Rattle.mem_core.specs.Steps.{may_zone_act, may_remove, may_act, PathHasRoomIn, with_block, counted, Changes, Makes, MovesUsage}
+use Rattle.mem_core.specs.Steps.{may_zone_act, may_remove, may_act, with_block, counted, Changes, Makes, MovesUsage}
 use Rattle.mem_core.proofs.Parts.{HasSizes-IsSound}
 use Rattle.mem_core.proofs.Showing.{both-left, both-right, group_inside}
 use Rattle.mem_core.proofs.Usage.{pages_below-set, frames_below-with_block, frames_below-with_group, pages_below-with_group, frames_below-with_limit, pages_below-with_limit, frames_below-without_group, pages_below-without_group}
@@ -40,7 +40,7 @@ pages_less s g n m sound there inside enough =
     less_by false old n new all enough e = omega (arith, e)
 
 -- the group that a step of the zone's seat names is there
-named_is_there : (s : State) (seat g : ℕ) (more : Bool) → (may_zone_act s seat && has_group s.groups g && more) ≡ true → has_group s.groups g ≡ true
+pub named_is_there : (s : State) (seat g : ℕ) (more : Bool) → (may_zone_act s seat && has_group s.groups g && more) ≡ true → has_group s.groups g ≡ true
 named_is_there s seat g more may = both-right (may_zone_act s seat) (has_group s.groups g) (both-left (may_zone_act s seat && has_group s.groups g) more may)
 
 -- what is known of a group that may be taken out
@@ -93,13 +93,13 @@ current-removed s g sound may m =
     omega (arith, frames, pages)
 
 -- a grant that every limit on the path has room for passes none
-grant_fits : (s : State) (g n m : ℕ) (now : ℕ) → PathHasRoomIn s n g → now ≡ current_in s m + (if in_subtree s.groups m g then n else 0) → in_subtree s.groups m g ≡ true → fits_limit (limit_of s.groups m) now ≡ true
+grant_fits : (s : State) (g n m : ℕ) (now : ℕ) → PathHasRoom s.groups (current_in s) g n → now ≡ current_in s m + (if in_subtree s.groups m g then n else 0) → in_subtree s.groups m g ≡ true → fits_limit (limit_of s.groups m) now ≡ true
 grant_fits s g n m now room e on_path =
     let more : (if in_subtree s.groups m g then n else 0) ≡ n = ap (λ b. cond b n 0) on_path in
     let same : now ≡ current_in s m + n = omega (arith, e, more) in
     ap (fits_limit (limit_of s.groups m)) same ∙ room m on_path
 
-make_is_free : (s : State) (seat : ℕ) (path : List ℕ) → (may_zone_act s seat && is_none (make_fault s.groups path)) ≡ true → make_fault s.groups path ≡ None
+pub make_is_free : (s : State) (seat : ℕ) (path : List ℕ) → (may_zone_act s seat && is_none (make_fault s.groups path)) ≡ true → make_fault s.groups path ≡ None
 make_is_free s seat path may = none_is (make_fault s.groups path) (both-right (may_zone_act s seat) (is_none (make_fault s.groups path)) may)
   where
     none_is : {X : Type 0} (o : Option X) → is_none o ≡ true → o ≡ None

@@ -1,7 +1,7 @@
 pub mod Runs
 pub mod PlaceLemmas
 pub mod Parts
-pub mod Laws
+pub mod ShownRuns
 pub mod Peaks
 pub mod Counting
 pub mod Showing
@@ -15,3 +15,6 @@ pub mod Playing
 pub mod Wholeness
 pub mod Blocks
 pub mod Starting
+pub mod Maximal
+pub mod Next
+pub mod LegalRuns

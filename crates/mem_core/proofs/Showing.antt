@@ -9,7 +9,7 @@ use Rattle.std.proofs.lemmas.Bool.Decides.{nat_tests}
 use Rattle.zone_blocks.specs.declared.block.Block.{Block}
 use Rattle.zone_blocks.specs.Areas.{IsFree, IsFreeBlock}
 use Rattle.group_tree.specs.declared.group.Group.{Group}
-use Rattle.group_tree.specs.Groups.{has_group, in_subtree, limit_of, IsLeastFreeNumber, initial_groups}
+use Rattle.group_tree.specs.Groups.{has_group, IsLeastFreeNumber, initial_groups}
 use Rattle.mem_core.specs.declared.config.Config.{Config}
 use Rattle.mem_core.specs.declared.step.Place.{Place}
 use Rattle.mem_core.specs.declared.step.Place.TheVariants.{Free, Charged}
@@ -19,14 +19,14 @@ use Rattle.mem_core.specs.declared.step.Action.TheVariants.{Lock, Unlock, Grant,
 use Rattle.mem_core.specs.declared.step.Answer.{Answer}
 use Rattle.mem_core.specs.declared.step.Answer.TheVariants.{Illegal, Done, Granted, Over, Placed, NoFreeBlock, Number}
 use Rattle.mem_core.specs.Places.{is_same_place, is_in_block, places_at_boot, moved}
-use Rattle.mem_core.specs.Run.{Run, holder_after, groups_after, places_after, places_of, pages_granted, pages_used, usage_of}
+use Rattle.mem_core.specs.Run.{Run, holder_after, groups_of, groups_after, places_after, places_of, pages_granted, pages_used, usage_of}
 use Rattle.mem_core.specs.Legal.{is_removable, is_legal_action, IsAnswer, Allows}
-use Rattle.mem_core.specs.Limits.{fits_limit, has_room, PathHasRoom, IsLowestOver}
-use Rattle.mem_core.specs.Shown.{State, is_at, free_in, IsSound, Shows}
-use Rattle.mem_core.specs.Steps.{may_zone_act, may_remove, may_act, has_room_in, PathHasRoomIn, IsLowestOverIn, with_block, counted, PlacesSmallest, Changes, Makes}
+use Rattle.mem_core.specs.Limits.{PathHasRoom, IsLowestOver}
+use Rattle.mem_core.specs.Shown.{State, is_at, free_in, current_in, IsSound, Shows}
+use Rattle.mem_core.specs.Steps.{may_zone_act, may_remove, may_act, with_block, counted, Changes, Makes}
 use Rattle.mem_core.proofs.Runs.{pushed}
 use Rattle.mem_core.proofs.Parts.{HasSizes, HasSizes-IsSound, Matches, Matches-Shows, pending_of-Matches, free_frames-Matches, is_settled-Matches}
-use Rattle.mem_core.proofs.Laws.{current_in-Shows}
+use Rattle.mem_core.proofs.ShownRuns.{current_in-Shows}
 use Rattle.mem_core.proofs.PlaceLemmas.{same_from_is_same_place, is_at_within, is_at_past, get_or-with_block_in, get_or-with_block_out, length-with_block}
 
 -- the group may be taken out, by the state and by the run
@@ -46,31 +46,23 @@ may_act-Shows s run seat (SetMax g limit) sound shown = rw (shown.holder, shown.
 may_act-Shows s run seat (NoteMax g) sound shown = rw (shown.holder, shown.groups) refl
 may_act-Shows s run seat (Remove g) sound shown = ap (λ b. may_zone_act s seat && b) (may_remove-Shows s run g sound shown) ∙ ap (λ h. (seat == 0 && is_some h) && is_removable s.config run g) shown.holder
 
-has_room-Shows : (s : State) (run : Run) (n g : ℕ) → IsSound s → Shows s run → has_room_in s n g ≡ has_room s.config run n g
-has_room-Shows s run n g sound shown =
-    let usage = current_in-Shows s run g (HasSizes-IsSound s sound) sound shown in
-    ap (λ pages. fits_limit (limit_of s.groups g) (pages + n)) usage ∙ ap (λ groups. fits_limit (limit_of groups g) (usage_of s.config run g + n)) shown.groups
+-- what holds of the groups and the usage of the state holds of those of the run, and the reverse
+pub by_run : (P : List Group → (ℕ → ℕ) → Type 0) (s : State) (run : Run) → IsSound s → Shows s run → P s.groups (current_in s) → P (groups_of run) (usage_of s.config run)
+by_run P s run sound shown p =
+    let usage : current_in s ≡ usage_of s.config run = λ i. λ g. current_in-Shows s run g (HasSizes-IsSound s sound) sound shown i in
+    subst (λ (groups : List Group). P groups (usage_of s.config run)) shown.groups (subst (P s.groups) usage p)
 
-PathHasRoom-Shows : (s : State) (run : Run) (n g : ℕ) → IsSound s → Shows s run → PathHasRoomIn s n g → PathHasRoom s.config run n g
-PathHasRoom-Shows s run n g sound shown room m on_path =
-    let above : in_subtree s.groups m g ≡ true = subst (λ (groups : List Group). in_subtree groups m g ≡ true) (sym shown.groups) on_path in
-    sym (has_room-Shows s run n m sound shown) ∙ room m above
-
-IsLowestOver-Shows : (s : State) (run : Run) (n g m : ℕ) → IsSound s → Shows s run → IsLowestOverIn s n g m → IsLowestOver s.config run n g m
-IsLowestOver-Shows s run n g m sound shown over = record {
-  on_path = subst (λ (groups : List Group). in_subtree groups m g ≡ true) shown.groups over.on_path;
-  over = sym (has_room-Shows s run n m sound shown) ∙ over.over;
-  lowest = λ k on_path none.
-      let above : in_subtree s.groups k g ≡ true = subst (λ (groups : List Group). in_subtree groups k g ≡ true) (sym shown.groups) on_path in
-      subst (λ (groups : List Group). in_subtree groups k m ≡ true) shown.groups (over.lowest k above (has_room-Shows s run n k sound shown ∙ none));
-}
+pub by_state : (P : List Group → (ℕ → ℕ) → Type 0) (s : State) (run : Run) → IsSound s → Shows s run → P (groups_of run) (usage_of s.config run) → P s.groups (current_in s)
+by_state P s run sound shown p =
+    let usage : current_in s ≡ usage_of s.config run = λ i. λ g. current_in-Shows s run g (HasSizes-IsSound s sound) sound shown i in
+    subst (P s.groups) (sym usage) (subst (λ (groups : List Group). P groups (usage_of s.config run)) (sym shown.groups) p)
 
 -- a step that is made gets an answer that is allowed
 Changes-allowed : (s : State) (run : Run) (seat : ℕ) (action : Action) (answer : Answer) (t : State) → IsSound s → Shows s run → Changes s seat action answer t → IsAnswer s.config run action answer
 Changes-allowed s run seat Lock Done t sound shown c = tt
 Changes-allowed s run seat Unlock Done t sound shown c = tt
-Changes-allowed s run seat (Grant g n) Granted t sound shown c = PathHasRoom-Shows s run n g sound shown c.0
-Changes-allowed s run seat (Grant g n) (Over m) t sound shown c = IsLowestOver-Shows s run n g m sound shown c.0
+Changes-allowed s run seat (Grant g n) Granted t sound shown c = by_run (λ groups usage. PathHasRoom groups usage g n) s run sound shown c.0
+Changes-allowed s run seat (Grant g n) (Over m) t sound shown c = by_run (λ groups usage. IsLowestOver groups usage g n m) s run sound shown c.0
 Changes-allowed s run seat (Ungrant g n) Done t sound shown c = tt
 Changes-allowed s run seat (PlaceBlock g k) (Placed b) t sound shown c =
     let P : List Bool → Type 0 = λ free. IsFreeBlock free b in
@@ -259,16 +251,3 @@ Illegal-advance s seat action = record { config = refl; steps = refl; holder = r
 pub Makes-advance : (s : State) (step : Step) (answer : Answer) (t : State) → HasSizes s → Makes s step answer t → Advances s step.seat step.action answer t
 Makes-advance s step Illegal t sizes m = subst (λ (t : State). Advances s step.seat step.action Illegal t) (sym m.1) (Illegal-advance s step.seat step.action)
 Makes-advance s step answer t sizes m = Changes-advance s step.seat step.action answer t sizes m.0 m.1
-
-Changes-smallest : (s : State) (seat : ℕ) (action : Action) (answer : Answer) (t : State) → Changes s seat action answer t → PlacesSmallest s action answer
-Changes-smallest s seat (PlaceBlock g k) (Placed b) t c = c.3
-Changes-smallest s seat action answer t c = tt
-
--- which block is placed
-pub Makes-smallest : (s : State) (step : Step) (answer : Answer) (t : State) → Makes s step answer t → PlacesSmallest s step.action answer
-Makes-smallest s step Illegal t m = illegal_smallest s step.action
-  where
-    illegal_smallest : (s : State) (action : Action) → PlacesSmallest s action Illegal
-    illegal_smallest s (PlaceBlock g k) = tt
-    illegal_smallest s action = tt
-Makes-smallest s step answer t m = Changes-smallest s step.seat step.action answer t m.1

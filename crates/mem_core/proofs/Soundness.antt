@@ -18,7 +18,7 @@ use Rattle.mem_core.specs.Shown.{State, free_in, KeeperIsThere, IsSound}
 use Rattle.mem_core.specs.Steps.{with_range, with_block, counted}
 use Rattle.mem_core.proofs.PlaceLemmas.{length-with_block, get_or-with_block_in, get_or-with_block_out}
 
-held_is_not_free : (holder : Option ℕ) (P : Type 0) → is_some holder ≡ true → holder ≡ None → P
+pub held_is_not_free : (holder : Option ℕ) (P : Type 0) → is_some holder ≡ true → holder ≡ None → P
 held_is_not_free None P held free = absurd (false≢true held)
 held_is_not_free (Some seat) P held free = cc
 

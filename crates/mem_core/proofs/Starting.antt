@@ -11,7 +11,7 @@ use Rattle.mem_core.specs.Run.{Run, groups_of, places_of, is_kept, frames_kept, 
 use Rattle.mem_core.specs.Limits.{IsPeak}
 use Rattle.mem_core.specs.Events.{Account, new_account}
 use Rattle.mem_core.specs.Shown.{Shows}
-use Rattle.mem_core.proofs.Laws.{and_right_false}
+use Rattle.mem_core.proofs.ShownRuns.{and_right_false}
 use Rattle.mem_core.proofs.Wholeness.{start_of, places-start, none_pending}
 
 -- no element passes a test that always fails

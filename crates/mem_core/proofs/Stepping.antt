@@ -14,7 +14,7 @@ use Rattle.mem_core.specs.Shown.{State, account_in, current_in, IsSound, Shows}
 use Rattle.mem_core.specs.Steps.{Makes}
 use Rattle.mem_core.proofs.Runs.{pushed, IsLegalRun-push}
 use Rattle.mem_core.proofs.Parts.{HasSizes-IsSound, Matches-Shows}
-use Rattle.mem_core.proofs.Laws.{current_in-Shows, current_in-Matches}
+use Rattle.mem_core.proofs.ShownRuns.{current_in-Shows, current_in-Matches}
 use Rattle.mem_core.proofs.Peaks.{usage-le-peak, IsPeak-more, IsPeak-new}
 use Rattle.mem_core.proofs.Counting.{events_of-pushed, local_events_of-pushed}
 use Rattle.mem_core.proofs.Showing.{Matches-advance, Makes-advance, Makes-allowed}

@@ -56,8 +56,8 @@ is_legal config run step = is_legal_action config run step.seat step.action
 abbrev pub IsAnswer : Config → Run → Action → Answer → Type 0
 IsAnswer config run Lock Done = Unit {0}
 IsAnswer config run Unlock Done = Unit {0}
-IsAnswer config run (Grant g n) Granted = PathHasRoom config run n g
-IsAnswer config run (Grant g n) (Over m) = IsLowestOver config run n g m
+IsAnswer config run (Grant g n) Granted = PathHasRoom (groups_of run) (usage_of config run) g n
+IsAnswer config run (Grant g n) (Over m) = IsLowestOver (groups_of run) (usage_of config run) g n m
 IsAnswer config run (Ungrant g n) Done = Unit {0}
 IsAnswer config run (PlaceBlock g k) (Placed b) = (b.order ≡ k) × IsFreeBlock (free_frames config run) b
 IsAnswer config run (PlaceBlock g k) NoFreeBlock = (b : Block) → b.order ≡ k → ¬ IsFreeBlock (free_frames config run) b

@@ -8,4 +8,5 @@ pub mod Headline
 pub mod Shown
 pub mod Steps
 pub mod Promise
+pub mod Laws
 pub mod Inside

@@ -1,5 +1,6 @@
 -- Limits, peaks, and the grants that respect them, counted over a run (memory.max and memory.peak of cgroup-v2.rst).
-use Rattle.std.specs.Prelude.{◌≡◌, ℕ, ◌+◌, ◌≤◌, nat_le, Bool, true, false, Option, Some, None, length, take, slice_get, IfSome, if◌then◌else◌}
+use Rattle.std.specs.Prelude.{◌≡◌, ℕ, ◌+◌, ◌≤◌, nat_le, Bool, true, false, Option, Some, None, List, length, take, slice_get, IfSome, if◌then◌else◌}
+use Rattle.group_tree.specs.declared.group.Group.{Group}
 use Rattle.group_tree.specs.Groups.{has_group, in_subtree, limit_of}
 use Rattle.mem_core.specs.declared.config.Config.{Config}
 use Rattle.mem_core.specs.declared.step.Action.{Action}
@@ -18,18 +19,18 @@ fits_limit None pages = true
 fits_limit (Some limit) pages = nat_le pages limit
 
 -- with n pages more the group's usage is at most its own limit
-abbrev pub has_room : Config → Run → ℕ → ℕ → Bool
-has_room config run n g = fits_limit (max_of run g) (usage_of config run g + n)
+abbrev pub has_room : List Group → (ℕ → ℕ) → ℕ → ℕ → Bool
+has_room groups usage g n = fits_limit (limit_of groups g) (usage g + n)
 
 -- the group and each of its ancestors have room for n pages more
-abbrev pub PathHasRoom : Config → Run → ℕ → ℕ → Type 0
-PathHasRoom config run n g = (m : ℕ) → in_subtree (groups_of run) m g ≡ true → has_room config run n m ≡ true
+abbrev pub PathHasRoom : List Group → (ℕ → ℕ) → ℕ → ℕ → Type 0
+PathHasRoom groups usage g n = (m : ℕ) → in_subtree groups m g ≡ true → has_room groups usage m n ≡ true
 
 -- m is g or an ancestor and has no room, and each other group of the path without room is an ancestor of m
-pub record IsLowestOver (config : Config) (run : Run) (n g m : ℕ) : Type 0 where
-  pub on_path : in_subtree (groups_of run) m g ≡ true
-  pub over : has_room config run n m ≡ false
-  pub lowest : (k : ℕ) → in_subtree (groups_of run) k g ≡ true → has_room config run n k ≡ false → in_subtree (groups_of run) k m ≡ true
+pub record IsLowestOver (groups : List Group) (usage : ℕ → ℕ) (g n m : ℕ) : Type 0 where
+  pub on_path : in_subtree groups m g ≡ true
+  pub over : has_room groups usage m n ≡ false
+  pub lowest : (k : ℕ) → in_subtree groups k g ≡ true → has_room groups usage k n ≡ false → in_subtree groups k m ≡ true
 
 -- the group has been there in every beginning from the k-th on
 abbrev pub IsThereSince : Run → ℕ → ℕ → Type 0

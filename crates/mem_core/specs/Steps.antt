@@ -13,7 +13,7 @@ use Rattle.mem_core.specs.declared.step.Action.TheVariants.{Lock, Unlock, Grant,
 use Rattle.mem_core.specs.declared.step.Answer.{Answer}
 use Rattle.mem_core.specs.declared.step.Answer.TheVariants.{Illegal, Done, Granted, Over, Placed, NoFreeBlock, Number}
 use Rattle.mem_core.specs.Legal.{is_processor, is_held_by}
-use Rattle.mem_core.specs.Limits.{fits_limit}
+use Rattle.mem_core.specs.Limits.{fits_limit, PathHasRoom, IsLowestOver}
 use Rattle.mem_core.specs.Events.{Account, new_account, with_max}
 use Rattle.mem_core.specs.Shown.{State, account_in, free_in, current_in}
 
@@ -70,20 +70,6 @@ abbrev pub PlacesSmallest : State → Action → Answer → Type 0
 PlacesSmallest s (PlaceBlock g k) (Placed b) = IsFrontOfSmallest s.areas b
 PlacesSmallest s action answer = Unit {0}
 
--- with n pages more the number that is kept for the group is at most its own limit
-abbrev pub has_room_in : State → ℕ → ℕ → Bool
-has_room_in s n g = fits_limit (limit_of s.groups g) (current_in s g + n)
-
--- the group and each of its ancestors have room for n pages more
-abbrev pub PathHasRoomIn : State → ℕ → ℕ → Type 0
-PathHasRoomIn s n g = (m : ℕ) → in_subtree s.groups m g ≡ true → has_room_in s n m ≡ true
-
--- m is g or an ancestor and has no room, and each other group of the path without room is an ancestor of m
-pub record IsLowestOverIn (s : State) (n g m : ℕ) : Type 0 where
-  pub on_path : in_subtree s.groups m g ≡ true
-  pub over : has_room_in s n m ≡ false
-  pub lowest : (k : ℕ) → in_subtree s.groups k g ≡ true → has_room_in s n k ≡ false → in_subtree s.groups k m ≡ true
-
 -- the peaks of the group and of its ancestors rise to the usage where it is greater, and nothing else of any
 -- account changes
 abbrev pub RaisesPeaks : State → State → ℕ → Type 0
@@ -93,15 +79,15 @@ RaisesPeaks s t g = (m : ℕ) → account_in t m ≡ peaked s.groups g m (curren
 abbrev pub CountsMax : State → State → ℕ → Type 0
 CountsMax s t g = (m : ℕ) → account_in t m ≡ noted s.groups g m (account_in s m)
 
--- how a step that is made, and is answered so, changes the state
+-- how a step that is made, and is answered so, changes the state, whichever free block is placed
 abbrev pub Changes : State → ℕ → Action → Answer → State → Type 0
 Changes s seat Lock Done t = t ≡ record (counted s) { holder = Some seat }
 Changes s seat Unlock Done t = t ≡ record (counted s) { holder = None }
-Changes s seat (Grant g n) Granted t = PathHasRoomIn s n g × (t ≡ record (counted s) { pending = slice_set s.pending g (slice_index s.pending g + n); accounts = t.accounts }) × RaisesPeaks s t g
-Changes s seat (Grant g n) (Over m) t = IsLowestOverIn s n g m × (t ≡ counted s)
+Changes s seat (Grant g n) Granted t = PathHasRoom s.groups (current_in s) g n × (t ≡ record (counted s) { pending = slice_set s.pending g (slice_index s.pending g + n); accounts = t.accounts }) × RaisesPeaks s t g
+Changes s seat (Grant g n) (Over m) t = IsLowestOver s.groups (current_in s) g n m × (t ≡ counted s)
 Changes s seat (Ungrant g n) Done t = t ≡ record (counted s) { pending = slice_set s.pending g (slice_index s.pending g - n) }
 Changes s seat (PlaceBlock g k) (Placed b) t = (b.order ≡ k) × IsFreeBlock (free_in s.places) b ×
-    (t ≡ record (counted s) { places = with_block s.places b (Charged g); pending = slice_set s.pending g (slice_index s.pending g - 2 ^ k); areas = t.areas }) × IsFrontOfSmallest s.areas b
+    (t ≡ record (counted s) { places = with_block s.places b (Charged g); pending = slice_set s.pending g (slice_index s.pending g - 2 ^ k); areas = t.areas })
 Changes s seat (PlaceBlock g k) NoFreeBlock t = ((b : Block) → b.order ≡ k → ¬ IsFreeBlock (free_in s.places) b) × (t ≡ counted s)
 Changes s seat (Make path) (Number n) t = IsLeastFreeNumber s.groups n × (t ≡ record (counted s) { groups = with_group s.groups n path; accounts = slice_set s.accounts n new_account })
 Changes s seat (SetMax g limit) Done t = t ≡ record (counted s) { groups = with_limit s.groups g limit }

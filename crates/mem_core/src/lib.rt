@@ -6,6 +6,7 @@
 pub mod account;
 mod accounts;
 pub mod config;
+pub mod laws;
 mod ranges;
 pub mod run;
 pub mod step;

@@ -4,10 +4,8 @@ ghost use Rattle.std.specs.Prelude.{◌≡◌, IfOk, length};
 ghost use Rattle.std.specs.List.{zip};
 ghost use Rattle.mem_core.specs.Config.{IsValidConfig};
 ghost use Rattle.mem_core.specs.Legal.{IsLegalRun};
-ghost use Rattle.mem_core.specs.Headline.{EveryBeginning, IsAccounted};
-ghost use Rattle.mem_core.specs.Limits.{GrantsRespectLimits};
 ghost use Rattle.mem_core.specs.Shown.{Shows, IsSound};
-ghost use Rattle.mem_core.specs.Promise.{AgreesWith, AlwaysPlacesFirst, IsShown};
+ghost use Rattle.mem_core.specs.Promise.{AgreesWith, AlwaysPlacesFirst};
 
 use crate::config::Config;
 use crate::step::{Answer, Step};
@@ -23,12 +21,12 @@ pub struct Played {
     pub answers: Vec<Answer>,
 }
 
-/// Makes the steps one after another, from a core on which none was made. The pairs of each step and
-/// its answer are a legal run, and the core shows it: its free areas are the maximal blocks of the free
+/// Makes the steps one after another, from a core on which none was made. The pairs of each step and its
+/// answer are a legal run, and the core shows that run: its free areas are the maximal blocks of the free
 /// frames, and its number for each group is the usage that the run defines. A block that is placed is the
-/// first of the smallest, and no grant passed a limit on its path. In every beginning (each front part) of
-/// that run each frame is accounted for, and some state shows it in the same sense. It fails for want of
-/// memory alone.
+/// first of the smallest. What follows for any legal run is said in `laws`: that no grant passed a limit,
+/// and that in every beginning (each front part) each frame is accounted for. It fails for want of memory
+/// alone.
 pub fn play(alloc: Global, config: Config, steps: &[Step]) -> Result<Played, AllocError>
     requires { IsValidConfig config }
     ensures one_each { IfOk result (λ p. length p.answers.items ≡ length steps.now) }
@@ -37,9 +35,6 @@ pub fn play(alloc: Global, config: Config, steps: &[Step]) -> Result<Played, All
     ensures sound { IfOk result (λ p. IsSound p.core) }
     ensures agrees { IfOk result (λ p. AgreesWith p.core (zip steps.now p.answers.items)) }
     ensures first { IfOk result (λ p. AlwaysPlacesFirst config (zip steps.now p.answers.items)) }
-    ensures limits { IfOk result (λ p. GrantsRespectLimits config (zip steps.now p.answers.items)) }
-    ensures accounted { IfOk result (λ p. EveryBeginning (zip steps.now p.answers.items) (IsAccounted config)) }
-    ensures shown { IfOk result (λ p. EveryBeginning (zip steps.now p.answers.items) (IsShown config)) }
 {
     let mut core = Core::new(alloc, config)?;
     let mut answers = Vec::with_capacity(alloc, steps.len())?;
@@ -49,17 +44,14 @@ pub fn play(alloc: Global, config: Config, steps: &[Step]) -> Result<Played, All
     Ok(Played { core, answers })
 }
 
-/// The answers to the steps, made one after another from the beginning: with them the steps are a
-/// legal run, a block that is placed is the first of the smallest, no grant passed a limit on its path,
-/// and in every beginning each frame is accounted for. It fails for want of memory alone.
+/// The answers to the steps, made one after another from the beginning: one for each, with which the
+/// steps are a legal run. So the laws of `laws` hold of them. A block that is placed is the first of the
+/// smallest, which legality leaves open. It fails for want of memory alone.
 pub fn run(alloc: Global, config: Config, steps: &[Step]) -> Result<Vec<Answer>, AllocError>
     requires { IsValidConfig config }
     ensures one_each { IfOk result (λ answers. length answers.items ≡ length steps.now) }
     ensures legal { IfOk result (λ answers. IsLegalRun config (zip steps.now answers.items)) }
     ensures first { IfOk result (λ answers. AlwaysPlacesFirst config (zip steps.now answers.items)) }
-    ensures limits { IfOk result (λ answers. GrantsRespectLimits config (zip steps.now answers.items)) }
-    ensures accounted { IfOk result (λ answers. EveryBeginning (zip steps.now answers.items) (IsAccounted config)) }
-    ensures shown { IfOk result (λ answers. EveryBeginning (zip steps.now answers.items) (IsShown config)) }
 {
     let Played { core: _, answers } = play(alloc, config, steps)?;
     Ok(answers)

@@ -10,8 +10,9 @@ ghost use Rattle.mem_core.specs.Config.{IsValidConfig};
 ghost use Rattle.mem_core.specs.Places.{is_same_place};
 ghost use Rattle.mem_core.specs.Run.{Run, groups_of, places_of, usage_of, free_frames};
 ghost use Rattle.mem_core.specs.Legal.{is_held_by};
+ghost use Rattle.mem_core.specs.Limits.{has_room, IsLowestOver, PathHasRoom};
 ghost use Rattle.mem_core.specs.Shown.{State, Shows, IsSound, free_in, current_in};
-ghost use Rattle.mem_core.specs.Steps.{may_act, may_remove, may_zone_act, counted, has_room_in, with_block, CountsMax, IsFrontOfSmallest, IsLowestOverIn, MovesUsage, PathHasRoomIn, PlacesSmallest, RaisesPeaks, Changes, Makes};
+ghost use Rattle.mem_core.specs.Steps.{may_act, may_remove, may_zone_act, counted, with_block, CountsMax, IsFrontOfSmallest, MovesUsage, PlacesSmallest, RaisesPeaks, Changes, Makes};
 
 mod readers;
 
@@ -117,6 +118,7 @@ impl Core {
     fn advance(&mut self, step: Step) -> Answer
         requires { self.old.steps + 1 < 2 ^ 64 }
         ensures makes { Makes self.old step result self.new }
+        ensures smallest { PlacesSmallest self.old step.action result }
     {
         if !self.may_make(&step) {
             self.skip();
@@ -230,7 +232,7 @@ impl Core {
     // The lowest group, from this one up to the root, whose limit has no room for the pages.
     fn lowest_over(&self, group: GroupId, pages: u32) -> Option<GroupId>
         requires there { has_group self.now.groups group ≡ true }
-        ensures { MatchOption result (PathHasRoomIn self.now pages group) (IsLowestOverIn self.now pages group) }
+        ensures { MatchOption result (PathHasRoom self.now.groups (current_in self.now) group pages) (IsLowestOver self.now.groups (current_in self.now) group pages) }
     {
         let mut lowest = group;
         while self.has_room(lowest, pages) {
@@ -245,7 +247,7 @@ impl Core {
     // Whether the usage with so many pages more is at most the group's own limit.
     fn has_room(&self, group: GroupId, pages: u32) -> bool
         requires there { has_group self.now.groups group ≡ true }
-        ensures { result ≡ has_room_in self.now pages group }
+        ensures { result ≡ has_room self.now.groups (current_in self.now) group pages }
     {
         match self.tree.limit(group) {
             None => true,
@@ -302,7 +304,8 @@ impl Core {
         requires held { is_some self.old.holder ≡ true }
         requires there { has_group self.old.groups group ≡ true }
         requires enough { 2 ^ order ≤ slice_index self.old.pending group }
-        ensures { Changes self.old 0 (Action.PlaceBlock group order) result self.new }
+        ensures changes { Changes self.old 0 (Action.PlaceBlock group order) result self.new }
+        ensures smallest { PlacesSmallest self.old (Action.PlaceBlock group order) result }
     {
         match self.free_block(order) {
             None => {

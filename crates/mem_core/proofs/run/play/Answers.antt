@@ -4,7 +4,8 @@ use Rattle.std.specs.List.{zip}
 use Rattle.mem_core.specs.declared.step.Step.{Step}
 use Rattle.mem_core.specs.Run.{Run}
 use Rattle.mem_core.proofs.Runs.{pushed}
-use Rattle.mem_core.proofs.Playing.{PlaysOn, PlaysOn-start, PlaysOn-step, PlaysOn-all, AgreesWith-Shows, zip-take_more, length-zip-take}
+use Rattle.mem_core.proofs.Playing.{PlaysOn, PlaysOn-start, PlaysOn-step, PlaysOn-all, zip-take_more, length-zip-take}
+use Rattle.mem_core.proofs.LegalRuns.{AgreesWith-Shows}
 use Rattle.mem_core.proofs.run.play.Goals as goal
 
 pub loop-step-init : goal.loop-step-init
@@ -35,7 +36,7 @@ loop-step-preserved c =
     ap (zip (take (i + 1) steps)) pushes
     ∙ zip-take_more steps answers i step answer c.loop-step-test.true so_far.one_each
     ∙ ap (λ (x : Step). pushed run x answer) (sym c.step-item.is) in
-    let goes_on = PlaysOn-step c.args.config c.loop-step.core c.step.new.self run step answer so_far.plays c.step.ensures.smallest c.step.ensures.usage c.step.ensures.config (c.step.ensures.shows run so_far.plays.shows) c.step.ensures.sound in
+    let goes_on = PlaysOn-step c.args.config c.loop-step.core c.step.new.self run step answer so_far.plays c.step.ensures.smallest c.step.ensures.config (c.step.ensures.shows run so_far.plays.shows) c.step.ensures.sound in
     record {
       one_each = ap length pushes ∙ length-append answers (answer ∷ []) ∙ ap (λ n. n + 1) so_far.one_each;
       plays = subst (PlaysOn c.args.config c.step.new.self) (sym more) goes_on;
@@ -47,14 +48,5 @@ all c = PlaysOn-all c.args.config c.loop-step.core c.args.steps.now c.loop-step.
 pub returns-clause-agrees : goal.returns-clause-agrees
 returns-clause-agrees c = let plays = all c in AgreesWith-Shows c.loop-step.core (zip c.args.steps.now c.loop-step.answers.items) plays.sound plays.shows
 
-pub returns-clause-accounted : goal.returns-clause-accounted
-returns-clause-accounted c = (all c).accounted
-
-pub returns-clause-shown : goal.returns-clause-shown
-returns-clause-shown c = (all c).shown
-
 pub returns-clause-first : goal.returns-clause-first
 returns-clause-first c = (all c).first
-
-pub returns-clause-limits : goal.returns-clause-limits
-returns-clause-limits c = (all c).limits

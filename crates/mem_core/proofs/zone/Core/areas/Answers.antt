@@ -4,7 +4,7 @@ use Rattle.zone_blocks.specs.Areas.{AreMaximalBlocks}
 use Rattle.mem_core.specs.Run.{free_frames}
 use Rattle.mem_core.specs.Shown.{State, Shows}
 use Rattle.mem_core.specs.Inside.{state_of}
-use Rattle.mem_core.proofs.Laws.{free_areas-Shows}
+use Rattle.mem_core.proofs.ShownRuns.{free_areas-Shows}
 use Rattle.mem_core.proofs.Parts.{HasSizes-IsSound}
 use Rattle.mem_core.proofs.zone.Core.areas.Goals as goal
 

@@ -1,7 +1,7 @@
 -- The usage of the state is that of each run that is shown.
 use Rattle.std.proofs.Common.{◌∙◌, subst}
 use Rattle.mem_core.specs.Shown.{IsSound}
-use Rattle.mem_core.proofs.Laws.{current_in-Shows}
+use Rattle.mem_core.proofs.ShownRuns.{current_in-Shows}
 use Rattle.mem_core.proofs.Parts.{HasSizes-IsSound}
 use Rattle.mem_core.proofs.zone.Core.current.Goals as goal
 

@@ -1,7 +1,6 @@
 -- A core that showed a run shows it with the step and its answer.
 use Rattle.std.proofs.Common.{subst}
 use Rattle.mem_core.specs.Shown.{IsSound}
-use Rattle.mem_core.proofs.Showing.{Makes-smallest}
 use Rattle.mem_core.proofs.Stepping.{Shows-step}
 use Rattle.mem_core.proofs.Effects.{Makes-usage}
 use Rattle.mem_core.proofs.zone.Core.step.Goals as goal
@@ -19,6 +18,3 @@ returns-clause-usage c =
 
 pub returns-clause-sound : goal.returns-clause-sound
 returns-clause-sound c = subst IsSound c.self-2.view_is c.self-2.invariant.sound
-
-pub returns-clause-smallest : goal.returns-clause-smallest
-returns-clause-smallest c = Makes-smallest c.args.self.now c.args.step c.advance-answer.result c.advance-answer.new.self c.advance-answer.ensures.makes
