@@ -4,7 +4,8 @@ ghost use Rattle.std.specs.Prelude.{◌≡◌, ◌≢◌, ◌↔◌, ◌+◌, �
 ghost use Rattle.std.specs.Option.{option_copied};
 ghost use Rattle.std.specs.Result.{result_err};
 ghost use Rattle.group_tree.specs.Groups.{IsLeastFreeNumber, has_child, has_group, limit_of, make_fault};
-ghost use Rattle.group_charge.specs.Charges.{AreCharges, IsLowestOver, PathHasRoom, UsageRises, account_at, current_of, empty_account, events_of, has_room, initial_ledger, local_events_of, pages_of, peak_of, with_charge, with_group_limit, with_group_removed, with_max_noted, with_new_group, with_uncharge};
+ghost use Rattle.group_tree.specs.Room.{IsLowestOver, PathHasRoom, has_room};
+ghost use Rattle.group_charge.specs.Charges.{AreCharges, UsageRises, account_at, current_of, empty_account, events_local_of, events_of, initial_ledger, pages_of, peak_of, with_charge, with_group_limit, with_group_removed, with_max_noted, with_new_group, with_uncharge};
 
 use crate::account::{Account, Counts};
 use crate::sums;
@@ -151,10 +152,10 @@ impl Charges {
     }
 
     /// What happened to the group itself (memory.events.local).
-    #[tactic(auto, unfolding(crate::specs::Charges::local_events_of))]
+    #[tactic(auto, unfolding(crate::specs::Charges::events_local_of))]
     pub fn events_local(&self, g: GroupId) -> Counts
         requires { IsTrue (has_group self.now.groups g) }
-        ensures { result ≡ local_events_of self.now g }
+        ensures { result ≡ events_local_of self.now g }
     {
         let account = self.account(g);
         account.events_local
@@ -164,7 +165,7 @@ impl Charges {
     fn has_room(&self, g: GroupId, n: u32) -> bool
         requires there { IsTrue (has_group self.now.groups g) }
         requires fits { current_of self.now 0 + n < 2 ^ 32 }
-        ensures { result ≡ has_room self.now n g }
+        ensures { result ≡ has_room self.now.groups (current_of self.now) g n }
     {
         match self.tree().limit(g) {
             None => true,
@@ -176,7 +177,7 @@ impl Charges {
     fn lowest_over(&self, g: GroupId, n: u32) -> Option<GroupId>
         requires there { IsTrue (has_group self.now.groups g) }
         requires fits { current_of self.now 0 + n < 2 ^ 32 }
-        ensures { MatchOption result (PathHasRoom self.now n g) (λ m. IsLowestOver self.now n g m) }
+        ensures { MatchOption result (PathHasRoom self.now.groups (current_of self.now) g n) (IsLowestOver self.now.groups (current_of self.now) g n) }
     {
         let mut m = g;
         while self.has_room(m, n) {
@@ -193,10 +194,10 @@ impl Charges {
     pub fn try_charge(&mut self, g: GroupId, n: u32) -> Result<(), Over>
         requires there { IsTrue (has_group self.old.groups g) }
         requires fits { current_of self.old 0 + n < 2 ^ 32 }
-        ensures granted { IsOk result ↔ PathHasRoom self.old n g }
+        ensures granted { IsOk result ↔ PathHasRoom self.old.groups (current_of self.old) g n }
         ensures charged { OnOk result (self.new ≡ with_charge self.old g n) }
         ensures usage { OnOk result (UsageRises self.old self.new g n) }
-        ensures over { IfErr result (λ e. IsLowestOver self.old n g e.group) }
+        ensures over { IfErr result (λ e. IsLowestOver self.old.groups (current_of self.old) g n e.group) }
         ensures unchanged { OnErr result (self.new ≡ self.old) }
     {
         if let Some(group) = self.lowest_over(g, n) {

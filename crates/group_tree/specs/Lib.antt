@@ -1,4 +1,5 @@
 pub mod Faults
 pub mod Groups
 pub mod Path
+pub mod Room
 pub mod Text
