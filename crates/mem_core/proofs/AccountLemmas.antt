@@ -80,8 +80,8 @@ AreChanged-all groups f old new absent changed m =
 not_above : (groups : List Group) (m g : ℕ) → has_group groups m ≡ false → in_subtree groups m g ≡ false
 not_above groups m g absent = false_from_ne_true (in_subtree groups m g) (λ t. false≢true (sym absent ∙ in_subtree-above groups m g t))
 
-pub peaked-absent : (groups : List Group) (g m usage : ℕ) (a : Account) → has_group groups m ≡ false → peaked groups g m usage a ≡ a
-peaked-absent groups g m usage a absent = rw (not_above groups m g absent) refl
+pub peaked-absent : (groups : List Group) (usage : ℕ → ℕ) (g m : ℕ) (a : Account) → has_group groups m ≡ false → peaked groups usage g m a ≡ a
+peaked-absent groups usage g m a absent = rw (not_above groups m g absent) refl
 
 pub noted-absent : (groups : List Group) (g m : ℕ) (a : Account) → has_group groups g ≡ true → has_group groups m ≡ false → noted groups g m a ≡ a
 noted-absent groups g m a there absent =

@@ -6,13 +6,14 @@ use Rattle.std.proofs.lemmas.List.{get_or-set_same, get_or-set_other, get_or_pas
 use Rattle.std.proofs.Common.{length-set}
 use Rattle.group_tree.specs.declared.group.Group.{Group}
 use Rattle.group_tree.specs.Groups.{has_group, in_subtree, with_group, with_limit, without_group}
+use Rattle.group_tree.specs.Room.{at_group, on_path}
 use Rattle.group_tree.proofs.CallerLemmas.{has_group-with, has_group-without, has_group-limited}
 use Rattle.mem_core.specs.declared.step.Step.{Step}
 use Rattle.mem_core.specs.declared.step.Action.{Action}
 use Rattle.mem_core.specs.declared.step.Action.TheVariants.{Lock, Unlock, Grant, Ungrant, PlaceBlock, Make, SetMax, NoteMax, Remove}
 use Rattle.mem_core.specs.declared.step.Answer.{Answer}
 use Rattle.mem_core.specs.declared.step.Answer.TheVariants.{Illegal, Done, Granted, Over, Placed, NoFreeBlock, Number}
-use Rattle.mem_core.specs.Events.{Events, Account, new_account, with_max, events_after, local_events_after}
+use Rattle.mem_core.specs.Events.{Events, Account, new_account, with_max, events_after, events_local_after}
 use Rattle.mem_core.specs.Shown.{State, account_in, current_in, IsSound}
 use Rattle.mem_core.specs.Steps.{may_act, peaked, noted, Changes, Makes}
 use Rattle.mem_core.proofs.Usage.{none_below}
@@ -23,7 +24,7 @@ pub record AccountsAdvance (s : State) (action : Action) (answer : Answer) (t : 
   pub peak : (g : ℕ) → has_group t.groups g ≡ true → has_group s.groups g ≡ true → current_in s g ≤ (account_in s g).peak → (account_in t g).peak ≡ max (account_in s g).peak (current_in t g)
   pub new_peak : (g : ℕ) → has_group t.groups g ≡ true → has_group s.groups g ≡ false → (account_in t g).peak ≡ current_in t g
   pub events : (g : ℕ) (x : Events) → has_group t.groups g ≡ true → (has_group s.groups g ≡ true → (account_in s g).events ≡ x) → (account_in t g).events ≡ events_after g s.groups x action answer
-  pub local_events : (g : ℕ) (x : Events) → has_group t.groups g ≡ true → (has_group s.groups g ≡ true → (account_in s g).local_events ≡ x) → (account_in t g).local_events ≡ local_events_after g x action answer
+  pub events_local : (g : ℕ) (x : Events) → has_group t.groups g ≡ true → (has_group s.groups g ≡ true → (account_in s g).events_local ≡ x) → (account_in t g).events_local ≡ events_local_after g x action answer
 
 -- a step that raises no usage, makes no group and leaves the accounts as they are
 record LeavesAccounts (s t : State) : Type 0 where
@@ -31,7 +32,7 @@ record LeavesAccounts (s t : State) : Type 0 where
   groups : (g : ℕ) → has_group t.groups g ≡ true → has_group s.groups g ≡ true
   usage : (m : ℕ) → current_in t m ≤ current_in s m
 
-accounts_left : (s : State) (action : Action) (answer : Answer) (t : State) → LeavesAccounts s t → ((g : ℕ) (x : Events) → x ≡ events_after g s.groups x action answer) → ((g : ℕ) (x : Events) → x ≡ local_events_after g x action answer) → AccountsAdvance s action answer t
+accounts_left : (s : State) (action : Action) (answer : Answer) (t : State) → LeavesAccounts s t → ((g : ℕ) (x : Events) → x ≡ events_after g s.groups x action answer) → ((g : ℕ) (x : Events) → x ≡ events_local_after g x action answer) → AccountsAdvance s action answer t
 accounts_left s action answer t leaves events local = record {
   peak = λ g now before covers.
       let same = ap (λ (a : Account). a.peak) (leaves.accounts g) in
@@ -39,7 +40,7 @@ accounts_left s action answer t leaves events local = record {
       omega (arith, same, less, covers);
   new_peak = λ g now absent. absurd (false≢true (sym absent ∙ leaves.groups g now));
   events = λ g x now told. ap (λ (a : Account). a.events) (leaves.accounts g) ∙ told (leaves.groups g now) ∙ events g x;
-  local_events = λ g x now told. ap (λ (a : Account). a.local_events) (leaves.accounts g) ∙ told (leaves.groups g now) ∙ local g x;
+  events_local = λ g x now told. ap (λ (a : Account). a.events_local) (leaves.accounts g) ∙ told (leaves.groups g now) ∙ local g x;
 }
 
 -- the groups and the accounts are the same
@@ -51,25 +52,17 @@ leaves_same s t groups accounts usage = record {
 }
 
 -- a grant
-accounts_granted : (s : State) (g n : ℕ) (t : State) → t.groups ≡ s.groups → ((m : ℕ) → current_in t m ≡ current_in s m + (if in_subtree s.groups m g then n else 0)) → ((m : ℕ) → account_in t m ≡ peaked s.groups g m (current_in t m) (account_in s m)) → AccountsAdvance s (Grant g n) Granted t
+accounts_granted : (s : State) (g n : ℕ) (t : State) → t.groups ≡ s.groups → ((m : ℕ) → current_in t m ≡ on_path s.groups g (λ pages. pages + n) m (current_in s m)) → ((m : ℕ) → account_in t m ≡ peaked s.groups (current_in t) g m (account_in s m)) → AccountsAdvance s (Grant g n) Granted t
 accounts_granted s g n t groups rises raised = record {
-  peak = λ m now before covers. ap (λ (a : Account). a.peak) (raised m) ∙ peak_follows (in_subtree s.groups m g) (current_in t m) (current_in s m) n (account_in s m) covers (rises m);
+  peak = λ m now before covers. ap (λ (a : Account). a.peak) (raised m) ∙ peak_follows (in_subtree s.groups m g) (current_in t m) (current_in s m) n (account_in s m).peak covers (rises m);
   new_peak = λ m now absent. absurd (false≢true (sym absent ∙ subst (λ (l : List Group). has_group l m ≡ true) groups now));
-  events = λ m x now told. ap (λ (a : Account). a.events) (raised m) ∙ peaked_events (in_subtree s.groups m g) (current_in t m) (account_in s m) ∙ told (subst (λ (l : List Group). has_group l m ≡ true) groups now);
-  local_events = λ m x now told. ap (λ (a : Account). a.local_events) (raised m) ∙ peaked_local (in_subtree s.groups m g) (current_in t m) (account_in s m) ∙ told (subst (λ (l : List Group). has_group l m ≡ true) groups now);
+  events = λ m x now told. ap (λ (a : Account). a.events) (raised m) ∙ told (subst (λ (l : List Group). has_group l m ≡ true) groups now);
+  events_local = λ m x now told. ap (λ (a : Account). a.events_local) (raised m) ∙ told (subst (λ (l : List Group). has_group l m ≡ true) groups now);
 }
   where
-    peak_follows : (b : Bool) (now before n : ℕ) (a : Account) → before ≤ a.peak → now ≡ before + (if b then n else 0) → (cond b (record a { peak = max a.peak now }) a).peak ≡ max a.peak now
-    peak_follows true now before n a covers e = refl
-    peak_follows false now before n a covers e = omega (arith, covers, e)
-
-    peaked_events : (b : Bool) (now : ℕ) (a : Account) → (cond b (record a { peak = max a.peak now }) a).events ≡ a.events
-    peaked_events true now a = refl
-    peaked_events false now a = refl
-
-    peaked_local : (b : Bool) (now : ℕ) (a : Account) → (cond b (record a { peak = max a.peak now }) a).local_events ≡ a.local_events
-    peaked_local true now a = refl
-    peaked_local false now a = refl
+    peak_follows : (b : Bool) (now before n old : ℕ) → before ≤ old → now ≡ cond b (before + n) before → cond b (max old now) old ≡ max old now
+    peak_follows true now before n old covers e = refl
+    peak_follows false now before n old covers e = omega (arith, covers, e)
 
 -- a note
 accounts_noted : (s : State) (g : ℕ) (t : State) → t.groups ≡ s.groups → ((m : ℕ) → current_in t m ≤ current_in s m) → ((m : ℕ) → account_in t m ≡ noted s.groups g m (account_in s m)) → AccountsAdvance s (NoteMax g) Done t
@@ -79,8 +72,8 @@ accounts_noted s g t groups usage counts = record {
       let less = usage m in
       omega (arith, same, less, covers);
   new_peak = λ m now absent. absurd (false≢true (sym absent ∙ subst (λ (l : List Group). has_group l m ≡ true) groups now));
-  events = λ m x now told. ap (λ (a : Account). a.events) (counts m) ∙ ap (λ (e : Events). if in_subtree s.groups m g then with_max e else e) (told (subst (λ (l : List Group). has_group l m ≡ true) groups now));
-  local_events = λ m x now told. ap (λ (a : Account). a.local_events) (counts m) ∙ ap (λ (e : Events). if m == g then with_max e else e) (told (subst (λ (l : List Group). has_group l m ≡ true) groups now));
+  events = λ m x now told. ap (λ (a : Account). a.events) (counts m) ∙ ap (on_path s.groups g with_max m) (told (subst (λ (l : List Group). has_group l m ≡ true) groups now));
+  events_local = λ m x now told. ap (λ (a : Account). a.events_local) (counts m) ∙ ap (at_group g with_max m) (told (subst (λ (l : List Group). has_group l m ≡ true) groups now));
 }
 
 -- the account of the number that a new group gets, and those of the others
@@ -116,14 +109,14 @@ accounts_made s n path t groups accounts free usage = record {
             let e : (g == n) ≡ false = grind arith in
             rw e (ap (λ (a : Account). a.events) (others g other) ∙ told (was_there g other now))
       ];
-  local_events = λ g x now told.
+  events_local = λ g x now told.
       elim (cases_eq g n) [
         | inl same ↦
             let e : (g == n) ≡ true = grind arith in
-            rw e (ap (λ (a : Account). a.local_events) (ap (account_in t) same ∙ made))
+            rw e (ap (λ (a : Account). a.events_local) (ap (account_in t) same ∙ made))
         | inr other ↦
             let e : (g == n) ≡ false = grind arith in
-            rw e (ap (λ (a : Account). a.local_events) (others g other) ∙ told (was_there g other now))
+            rw e (ap (λ (a : Account). a.events_local) (others g other) ∙ told (was_there g other now))
       ];
 }
   where
@@ -196,14 +189,14 @@ illegal_events g groups x (NoteMax m) = refl
 illegal_events g groups x (Make path) = refl
 illegal_events g groups x action = refl
 
-illegal_local_events : (g : ℕ) (x : Events) (action : Action) → x ≡ local_events_after g x action Illegal
-illegal_local_events g x (NoteMax m) = refl
-illegal_local_events g x (Make path) = refl
-illegal_local_events g x action = refl
+illegal_events_local : (g : ℕ) (x : Events) (action : Action) → x ≡ events_local_after g x action Illegal
+illegal_events_local g x (NoteMax m) = refl
+illegal_events_local g x (Make path) = refl
+illegal_events_local g x action = refl
 
 pub Makes-accounts : (s : State) (step : Step) (answer : Answer) (t : State) → IsSound s → Makes s step answer t → AccountsAdvance s step.action answer t
 Makes-accounts s step Illegal t sound m =
     accounts_left s step.action Illegal t
     (leaves_same s t (ap (λ (t : State). t.groups) m.1) (ap (λ (t : State). t.accounts) m.1) (λ k. let e : current_in t k ≡ current_in s k = ap (λ (t : State). current_in t k) m.1 in omega (arith, e)))
-    (λ g x. illegal_events g s.groups x step.action) (λ g x. illegal_local_events g x step.action)
+    (λ g x. illegal_events g s.groups x step.action) (λ g x. illegal_events_local g x step.action)
 Makes-accounts s step answer t sound m = Changes-accounts s step.seat step.action answer t sound m.0 m.1

@@ -7,7 +7,7 @@ use Rattle.group_tree.specs.Groups.{initial_groups}
 use Rattle.mem_core.specs.declared.step.Step.{Step}
 use Rattle.mem_core.specs.declared.step.Answer.{Answer}
 use Rattle.mem_core.specs.Run.{Run, groups_after, groups_of}
-use Rattle.mem_core.specs.Events.{Events, no_events, events_after, events_of, tally_of, local_events_after, local_events_of}
+use Rattle.mem_core.specs.Events.{Events, no_events, events_after, events_of, tally_of, events_local_after, events_local_of}
 use Rattle.mem_core.proofs.Runs.{pushed}
 
 -- the groups that a tally carries along are those of the run
@@ -23,5 +23,5 @@ events_of-pushed run step answer g =
     ap (λ (t : List Group × Events). t.1) (fold_push (λ (t : List Group × Events) (e : Step × Answer). (groups_after t.0 e.0.action e.1, events_after g t.0 t.1 e.0.action e.1)) (initial_groups, no_events) run (step, answer))
     ∙ ap (λ groups. events_after g groups (events_of run g) step.action answer) (tally-groups run g)
 
-pub local_events_of-pushed : (run : Run) (step : Step) (answer : Answer) (g : ℕ) → local_events_of (pushed run step answer) g ≡ local_events_after g (local_events_of run g) step.action answer
-local_events_of-pushed run step answer g = fold_push (λ (events : Events) (e : Step × Answer). local_events_after g events e.0.action e.1) no_events run (step, answer)
+pub events_local_of-pushed : (run : Run) (step : Step) (answer : Answer) (g : ℕ) → events_local_of (pushed run step answer) g ≡ events_local_after g (events_local_of run g) step.action answer
+events_local_of-pushed run step answer g = fold_push (λ (events : Events) (e : Step × Answer). events_local_after g events e.0.action e.1) no_events run (step, answer)

@@ -11,7 +11,7 @@ use Rattle.mem_core.specs.declared.step.Action.{Action}
 use Rattle.mem_core.specs.declared.step.Action.TheVariants.{Lock, Unlock, Grant, Ungrant, PlaceBlock, Make, SetMax, NoteMax, Remove}
 use Rattle.mem_core.specs.declared.step.Answer.{Answer}
 use Rattle.mem_core.specs.declared.step.Answer.TheVariants.{Illegal, Done, Granted, Over, Placed, NoFreeBlock, Number}
-use Rattle.mem_core.specs.Limits.{fits_limit, PathHasRoom}
+use Rattle.group_tree.specs.Room.{fits_limit, on_path, PathHasRoom}
 use Rattle.mem_core.specs.Events.{Account, new_account}
 use Rattle.mem_core.specs.Shown.{State, frames_below, pages_below, current_in, IsSound}
 use Rattle.mem_core.specs.Steps.{may_zone_act, may_remove, may_act, with_block, counted, Changes, Makes, MovesUsage}
@@ -92,6 +92,11 @@ current-removed s g sound may m =
     let pages = pages_below-without_group s.groups s.pending g m sound.groups may.there may.no_pages in
     omega (arith, frames, pages)
 
+-- pages that are added on a path
+added_on_path : (b : Bool) (pages n : ℕ) → pages + (if b then n else 0) ≡ (if b then pages + n else pages)
+added_on_path true pages n = refl
+added_on_path false pages n = omega arith
+
 -- a grant that every limit on the path has room for passes none
 grant_fits : (s : State) (g n m : ℕ) (now : ℕ) → PathHasRoom s.groups (current_in s) g n → now ≡ current_in s m + (if in_subtree s.groups m g then n else 0) → in_subtree s.groups m g ≡ true → fits_limit (limit_of s.groups m) now ≡ true
 grant_fits s g n m now room e on_path =
@@ -114,7 +119,7 @@ Changes-usage s seat (Grant g n) Granted t sound may c =
     let inside = group_inside s seat g true (HasSizes-IsSound s sound) (ap (λ b. b && true) may) in
     let rises : (m : ℕ) → current_in t m ≡ current_in s m + (if in_subtree s.groups m g then n else 0) = λ m. ap (λ (t : State). current_in t m) c.1 ∙ current-granted s g n t.accounts sound there inside m in
     let same : t.groups ≡ s.groups = ap (λ (t : State). t.groups) c.1 in (
-      rises,
+      λ m. rises m ∙ added_on_path (in_subtree s.groups m g) (current_in s m) n,
       λ m on_path.
           let here : in_subtree s.groups m g ≡ true = subst (λ (groups : List Group). in_subtree groups m g ≡ true) same on_path in
           subst (λ (groups : List Group). fits_limit (limit_of groups m) (current_in t m) ≡ true) (sym same) (grant_fits s g n m (current_in t m) c.0 (rises m) here),

@@ -15,7 +15,8 @@ use Rattle.mem_core.specs.declared.step.Answer.TheVariants.{Granted}
 use Rattle.mem_core.specs.Run.{Run, usage_of}
 use Rattle.mem_core.specs.Legal.{Allows, IsLegalRun}
 use Rattle.mem_core.specs.Headline.{EveryBeginning, IsAccounted}
-use Rattle.mem_core.specs.Limits.{fits_limit, RespectsLimits, GrantsRespectLimits}
+use Rattle.group_tree.specs.Room.{fits_limit, on_path}
+use Rattle.mem_core.specs.Limits.{RespectsLimits, GrantsRespectLimits}
 use Rattle.mem_core.specs.Shown.{State, current_in, IsSound, Shows}
 use Rattle.mem_core.specs.Steps.{MovesUsage}
 use Rattle.mem_core.specs.Promise.{AgreesWith, IsShown}
@@ -53,7 +54,7 @@ RespectsLimits-Shows config s t run step answer before after sound sound_after s
 
     respects : (action : Action) (a : Answer) → MovesUsage s action a t → ((m : ℕ) → current_in s m ≡ usage_of config run m) → ((m : ℕ) → current_in t m ≡ usage_of config (pushed run step answer) m) → RespectsLimits config run (pushed run step answer) action a
     respects (Grant g n) Granted moves usage usage_after = (
-      λ m. sym (usage_after m) ∙ moves.0 m ∙ ap (λ k. k + (if in_subtree s.groups m g then n else 0)) (usage m) ∙ ap (λ (groups : List Group). usage_of config run m + (if in_subtree groups m g then n else 0)) shows.groups,
+      λ m. sym (usage_after m) ∙ moves.0 m ∙ ap (on_path s.groups g (λ pages. pages + n) m) (usage m) ∙ ap (λ (groups : List Group). on_path groups g (λ pages. pages + n) m (usage_of config run m)) shows.groups,
       λ m on_path.
           let here : in_subtree t.groups m g ≡ true = subst (λ (groups : List Group). in_subtree groups m g ≡ true) (sym shows_after.groups) on_path in
           subst (λ (groups : List Group). fits_limit (limit_of groups m) (usage_of config (pushed run step answer) m) ≡ true) shows_after.groups (subst (λ (k : ℕ). fits_limit (limit_of t.groups m) k ≡ true) (usage_after m) (moves.1 m here)),

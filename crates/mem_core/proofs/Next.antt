@@ -18,14 +18,14 @@ use Rattle.mem_core.specs.declared.step.Answer.{Answer}
 use Rattle.mem_core.specs.declared.step.Answer.TheVariants.{Illegal, Done, Granted, Over, Placed, NoFreeBlock, Number}
 use Rattle.mem_core.specs.Run.{Run}
 use Rattle.mem_core.specs.Legal.{is_processor, is_held_by, IsAnswer, Allows}
-use Rattle.mem_core.specs.Limits.{PathHasRoom, IsLowestOver}
+use Rattle.group_tree.specs.Room.{PathHasRoom, IsLowestOver}
 use Rattle.mem_core.specs.Events.{Account, new_account}
 use Rattle.mem_core.specs.Shown.{State, account_in, current_in, free_in, IsSound, Shows}
 use Rattle.mem_core.specs.Steps.{may_zone_act, may_remove, may_act, with_block, counted, peaked, noted, Changes, Makes}
 use Rattle.mem_core.proofs.Parts.{HasSizes-IsSound, Matches-Shows, free_frames-Matches}
 use Rattle.mem_core.proofs.Showing.{may_act-Shows, by_state, both-left, both-right}
 use Rattle.mem_core.proofs.Effects.{make_is_free}
-use Rattle.mem_core.proofs.Usage.{absent-below}
+use Rattle.mem_core.proofs.AccountLemmas.{peaked-absent, noted-absent}
 use Rattle.mem_core.proofs.Soundness.{NoneAbsent, NoneAbsent-less, held_is_not_free, IsSound-placed, IsSound-limited}
 use Rattle.mem_core.proofs.Wholeness.{IsSound-step_made, IsSound-step_removed}
 use Rattle.mem_core.proofs.Maximal.{maximal_blocks}
@@ -129,15 +129,11 @@ no_group_past s m sound past = false_from_ne_true (has_group s.groups m) (λ the
 account_past : (s : State) (m : ℕ) → IsSound s → 64 ≤ m → account_in s m ≡ new_account
 account_past s m sound past = let len = sound.accounts in get_or_past s.accounts m new_account (omega arith)
 
-peaked_past : (s : State) (g m usage : ℕ) → IsSound s → 64 ≤ m → peaked s.groups g m usage (account_in s m) ≡ new_account
-peaked_past s g m usage sound past =
-    cond-false (in_subtree s.groups m g) _ (account_in s m) (absent-below s.groups m g (no_group_past s m sound past)) ∙ account_past s m sound past
+peaked_past : (s : State) (usage : ℕ → ℕ) (g m : ℕ) → IsSound s → 64 ≤ m → peaked s.groups usage g m (account_in s m) ≡ new_account
+peaked_past s usage g m sound past = peaked-absent s.groups usage g m (account_in s m) (no_group_past s m sound past) ∙ account_past s m sound past
 
-noted_past : (s : State) (g m : ℕ) → IsSound s → g < 64 → 64 ≤ m → noted s.groups g m (account_in s m) ≡ new_account
-noted_past s g m sound below past =
-    let out : in_subtree s.groups m g ≡ false = absent-below s.groups m g (no_group_past s m sound past) in
-    let other : (m == g) ≡ false = ne_eqb m g (λ same. absurd (omega arith)) in
-    rw (out, other) (account_past s m sound past)
+noted_past : (s : State) (g m : ℕ) → IsSound s → has_group s.groups g ≡ true → 64 ≤ m → noted s.groups g m (account_in s m) ≡ new_account
+noted_past s g m sound there past = noted-absent s.groups g m (account_in s m) there (no_group_past s m sound past) ∙ account_past s m sound past
 
 -- ---- the state after each answer
 granted : (s : State) (seat g n : ℕ) → IsSound s → (may_zone_act s seat && has_group s.groups g) ≡ true → PathHasRoom s.groups (current_in s) g n → Changed s seat (Grant g n) Granted
@@ -145,10 +141,10 @@ granted s seat g n sound may room =
     let there : has_group s.groups g ≡ true = both-right (may_zone_act s seat) (has_group s.groups g) may in
     let pending = slice_set s.pending g (slice_index s.pending g + n) in
     let after : State = record (counted s) { pending = pending } in
-    let raised : ℕ → Account = λ m. peaked s.groups g m (current_in after m) (account_in s m) in
+    let raised : ℕ → Account = λ m. peaked s.groups (current_in after) g m (account_in s m) in
     record {
       state = record (counted s) { pending = pending; accounts = of_each raised };
-      changes = (room, refl, λ m. of_each-is raised m (λ past. peaked_past s g m (current_in after m) sound past));
+      changes = (room, refl, λ m. of_each-is raised m (λ past. peaked_past s (current_in after) g m sound past));
       sound = IsSound-kept s pending (of_each raised) (length-set s.pending g _ ∙ sound.pending) (length-of_each raised) (NoneAbsent-there s.groups s.pending g _ there sound.absent) (zone_acts_held s seat (has_group s.groups g) may) sound;
     }
 
@@ -178,11 +174,10 @@ placed s seat g k b sound may order free =
 noted_at : (s : State) (seat g : ℕ) → IsSound s → (may_zone_act s seat && has_group s.groups g) ≡ true → Changed s seat (NoteMax g) Done
 noted_at s seat g sound may =
     let there : has_group s.groups g ≡ true = both-right (may_zone_act s seat) (has_group s.groups g) may in
-    let below = (HasSizes-IsSound s sound).numbers g there in
     let after : ℕ → Account = λ m. noted s.groups g m (account_in s m) in
     record {
       state = record (counted s) { accounts = of_each after };
-      changes = (refl, λ m. of_each-is after m (λ past. noted_past s g m sound below past));
+      changes = (refl, λ m. of_each-is after m (λ past. noted_past s g m sound there past));
       sound = IsSound-kept s s.pending (of_each after) sound.pending (length-of_each after) sound.absent (zone_acts_held s seat (has_group s.groups g) may) sound;
     }
 

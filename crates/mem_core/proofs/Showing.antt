@@ -21,7 +21,7 @@ use Rattle.mem_core.specs.declared.step.Answer.TheVariants.{Illegal, Done, Grant
 use Rattle.mem_core.specs.Places.{is_same_place, is_in_block, places_at_boot, moved}
 use Rattle.mem_core.specs.Run.{Run, holder_after, groups_of, groups_after, places_after, places_of, pages_granted, pages_used, usage_of}
 use Rattle.mem_core.specs.Legal.{is_removable, is_legal_action, IsAnswer, Allows}
-use Rattle.mem_core.specs.Limits.{PathHasRoom, IsLowestOver}
+use Rattle.group_tree.specs.Room.{PathHasRoom, IsLowestOver}
 use Rattle.mem_core.specs.Shown.{State, is_at, free_in, current_in, IsSound, Shows}
 use Rattle.mem_core.specs.Steps.{may_zone_act, may_remove, may_act, with_block, counted, Changes, Makes}
 use Rattle.mem_core.proofs.Runs.{pushed}

@@ -62,5 +62,5 @@ Shows-start config areas = record {
   pending = λ g. sym (zero-add _ ∙ none_pending g);
   peaks = λ g there. subst (IsPeak config [] g) (sym (ap (λ (a : Account). a.peak) (account-start g))) (peak-start config g there);
   events = λ g there. ap (λ (a : Account). a.events) (account-start g);
-  local_events = λ g there. ap (λ (a : Account). a.local_events) (account-start g);
+  events_local = λ g there. ap (λ (a : Account). a.events_local) (account-start g);
 }

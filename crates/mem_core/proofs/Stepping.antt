@@ -9,14 +9,14 @@ use Rattle.mem_core.specs.declared.step.Answer.{Answer}
 use Rattle.mem_core.specs.Run.{Run, groups_of, usage_of}
 use Rattle.mem_core.specs.Legal.{Allows, IsLegalRun}
 use Rattle.mem_core.specs.Limits.{IsPeak}
-use Rattle.mem_core.specs.Events.{events_after, events_of, local_events_of}
+use Rattle.mem_core.specs.Events.{events_after, events_of, events_local_of}
 use Rattle.mem_core.specs.Shown.{State, account_in, current_in, IsSound, Shows}
 use Rattle.mem_core.specs.Steps.{Makes}
 use Rattle.mem_core.proofs.Runs.{pushed, IsLegalRun-push}
 use Rattle.mem_core.proofs.Parts.{HasSizes-IsSound, Matches-Shows}
 use Rattle.mem_core.proofs.ShownRuns.{current_in-Shows, current_in-Matches}
 use Rattle.mem_core.proofs.Peaks.{usage-le-peak, IsPeak-more, IsPeak-new}
-use Rattle.mem_core.proofs.Counting.{events_of-pushed, local_events_of-pushed}
+use Rattle.mem_core.proofs.Counting.{events_of-pushed, events_local_of-pushed}
 use Rattle.mem_core.proofs.Showing.{Matches-advance, Makes-advance, Makes-allowed}
 use Rattle.mem_core.proofs.AccountSteps.{AccountsAdvance, Makes-accounts}
 
@@ -59,5 +59,5 @@ Shows-step s run step answer t sound after m shown =
           accounts.events g (events_of run g) there (shown.events g)
           ∙ ap (λ groups. events_after g groups (events_of run g) step.action answer) shown.groups
           ∙ sym (events_of-pushed run step answer g);
-      local_events = λ g there. accounts.local_events g (local_events_of run g) there (shown.local_events g) ∙ sym (local_events_of-pushed run step answer g);
+      events_local = λ g there. accounts.events_local g (events_local_of run g) there (shown.events_local g) ∙ sym (events_local_of-pushed run step answer g);
     }

@@ -199,7 +199,7 @@ frames_below-with_block groups places b g m block =
     ∙ ap (λ n. frames_below groups places m + n) (times_test (in_subtree groups m g) (2 ^ b.order))
 
 -- ---- groups that are not there
-pub absent-below : (groups : List Group) (m h : ℕ) → has_group groups m ≡ false → in_subtree groups m h ≡ false
+absent-below : (groups : List Group) (m h : ℕ) → has_group groups m ≡ false → in_subtree groups m h ≡ false
 absent-below groups m h free = false_from_ne_true (in_subtree groups m h) (λ t. both_ways (has_group groups m) free (in_subtree-above groups m h t))
 
 absent-charged : (groups : List Group) (m : ℕ) (p : Place) → has_group groups m ≡ false → is_charged_below groups m p ≡ false

@@ -1,7 +1,8 @@
 -- Event counts over a run (memory.events and memory.events.local of cgroup-v2.rst).
-use Rattle.std.specs.Prelude.{ℕ, ◌+◌, ◌-◌, ◌^◌, ◌==◌, min, List, fold, if◌then◌else◌}
+use Rattle.std.specs.Prelude.{ℕ, ◌==◌, List, fold, if◌then◌else◌}
 use Rattle.group_tree.specs.declared.group.Group.{Group}
-use Rattle.group_tree.specs.Groups.{initial_groups, in_subtree}
+use Rattle.group_tree.specs.Groups.{initial_groups}
+use Rattle.group_tree.specs.Room.{at_group, on_path, one_more}
 use Rattle.mem_core.specs.declared.step.Action.{Action}
 use Rattle.mem_core.specs.declared.step.Action.TheVariants.{Make, NoteMax}
 use Rattle.mem_core.specs.declared.step.Answer.{Answer}
@@ -18,16 +19,16 @@ no_events = record { max = 0 }
 
 -- the account of a new group
 abbrev pub new_account : Account
-new_account = record { peak = 0; events = no_events; local_events = no_events }
+new_account = record { peak = 0; events = no_events; events_local = no_events }
 
--- one `max` more; a count stays at 2^64 - 1
+-- one `max` more
 abbrev pub with_max : Events → Events
-with_max events = record { max = min (events.max + 1) (2 ^ 64 - 1) }
+with_max events = record { max = one_more events.max }
 
 -- the events of a group and of those below it after one more step: a note counts where the noted group is in the
 -- group's subtree at that step, and a group that is made begins anew
 abbrev pub events_after : ℕ → List Group → Events → Action → Answer → Events
-events_after g groups events (NoteMax m) Done = if in_subtree groups g m then with_max events else events
+events_after g groups events (NoteMax m) Done = on_path groups m with_max g events
 events_after g groups events (Make path) (Number n) = if g == n then no_events else events
 events_after g groups events action answer = events
 
@@ -40,11 +41,11 @@ abbrev pub events_of : Run → ℕ → Events
 events_of run g = (tally_of run g).1
 
 -- the events of a group alone after one more step
-abbrev pub local_events_after : ℕ → Events → Action → Answer → Events
-local_events_after g events (NoteMax m) Done = if g == m then with_max events else events
-local_events_after g events (Make path) (Number n) = if g == n then no_events else events
-local_events_after g events action answer = events
+abbrev pub events_local_after : ℕ → Events → Action → Answer → Events
+events_local_after g events (NoteMax m) Done = at_group m with_max g events
+events_local_after g events (Make path) (Number n) = if g == n then no_events else events
+events_local_after g events action answer = events
 
 -- memory.events.local: the events noted for the group itself, since it was made
-abbrev pub local_events_of : Run → ℕ → Events
-local_events_of run g = fold (λ events e. local_events_after g events e.0.action e.1) no_events run
+abbrev pub events_local_of : Run → ℕ → Events
+events_local_of run g = fold (λ events e. events_local_after g events e.0.action e.1) no_events run

@@ -4,6 +4,7 @@ use Rattle.std.specs.List.{list_all, range_with_len}
 use Rattle.zone_blocks.specs.declared.block.Block.{Block}
 use Rattle.zone_blocks.specs.Areas.{IsFreeBlock}
 use Rattle.group_tree.specs.Groups.{has_group, has_child, make_fault, IsLeastFreeNumber}
+use Rattle.group_tree.specs.Room.{PathHasRoom, IsLowestOver}
 use Rattle.mem_core.specs.declared.config.Config.{Config}
 use Rattle.mem_core.specs.declared.step.Step.{Step}
 use Rattle.mem_core.specs.declared.step.Action.{Action}
@@ -11,7 +12,6 @@ use Rattle.mem_core.specs.declared.step.Action.TheVariants.{Lock, Unlock, Grant,
 use Rattle.mem_core.specs.declared.step.Answer.{Answer}
 use Rattle.mem_core.specs.declared.step.Answer.TheVariants.{Illegal, Done, Granted, Over, Placed, NoFreeBlock, Number}
 use Rattle.mem_core.specs.Run.{Run, holder_of, groups_of, pending_of, usage_of, free_frames}
-use Rattle.mem_core.specs.Limits.{PathHasRoom, IsLowestOver}
 
 -- the seat is that of a processor; until the core has several there is one, of seat 1
 abbrev pub is_processor : ℕ → Bool

@@ -1,7 +1,7 @@
 -- Limits, peaks, and the grants that respect them, counted over a run (memory.max and memory.peak of cgroup-v2.rst).
 use Rattle.std.specs.Prelude.{◌≡◌, ℕ, ◌+◌, ◌≤◌, nat_le, Bool, true, false, Option, Some, None, List, length, take, slice_get, IfSome, if◌then◌else◌}
-use Rattle.group_tree.specs.declared.group.Group.{Group}
 use Rattle.group_tree.specs.Groups.{has_group, in_subtree, limit_of}
+use Rattle.group_tree.specs.Room.{fits_limit, on_path}
 use Rattle.mem_core.specs.declared.config.Config.{Config}
 use Rattle.mem_core.specs.declared.step.Action.{Action}
 use Rattle.mem_core.specs.declared.step.Action.TheVariants.{Grant}
@@ -12,25 +12,6 @@ use Rattle.mem_core.specs.Run.{Run, groups_of, usage_of}
 -- memory.max: the limit that the group was given last since it was made, in pages, or none
 abbrev pub max_of : Run → ℕ → Option ℕ
 max_of run g = limit_of (groups_of run) g
-
--- so many pages are at most the limit, if there is one
-abbrev pub fits_limit : Option ℕ → ℕ → Bool
-fits_limit None pages = true
-fits_limit (Some limit) pages = nat_le pages limit
-
--- with n pages more the group's usage is at most its own limit
-abbrev pub has_room : List Group → (ℕ → ℕ) → ℕ → ℕ → Bool
-has_room groups usage g n = fits_limit (limit_of groups g) (usage g + n)
-
--- the group and each of its ancestors have room for n pages more
-abbrev pub PathHasRoom : List Group → (ℕ → ℕ) → ℕ → ℕ → Type 0
-PathHasRoom groups usage g n = (m : ℕ) → in_subtree groups m g ≡ true → has_room groups usage m n ≡ true
-
--- m is g or an ancestor and has no room, and each other group of the path without room is an ancestor of m
-pub record IsLowestOver (groups : List Group) (usage : ℕ → ℕ) (g n m : ℕ) : Type 0 where
-  pub on_path : in_subtree groups m g ≡ true
-  pub over : has_room groups usage m n ≡ false
-  pub lowest : (k : ℕ) → in_subtree groups k g ≡ true → has_room groups usage k n ≡ false → in_subtree groups k m ≡ true
 
 -- the group has been there in every beginning from the k-th on
 abbrev pub IsThereSince : Run → ℕ → ℕ → Type 0
@@ -48,7 +29,7 @@ pub record IsPeak (config : Config) (run : Run) (g peak : ℕ) : Type 0 where
 -- at none of which the usage is above the limit then; no other step raises any usage
 abbrev pub RespectsLimits : Config → Run → Run → Action → Answer → Type 0
 RespectsLimits config before after (Grant g n) Granted =
-    ((m : ℕ) → usage_of config after m ≡ usage_of config before m + (if in_subtree (groups_of before) m g then n else 0)) ×
+    ((m : ℕ) → usage_of config after m ≡ on_path (groups_of before) g (λ pages. pages + n) m (usage_of config before m)) ×
     ((m : ℕ) → in_subtree (groups_of after) m g ≡ true → fits_limit (max_of after m) (usage_of config after m) ≡ true)
 RespectsLimits config before after action answer = (m : ℕ) → usage_of config after m ≤ usage_of config before m
 

@@ -13,7 +13,7 @@ use Rattle.mem_core.specs.Places.{is_same_place}
 use Rattle.mem_core.specs.Run.{Run, holder_of, groups_of, places_of, granted_of, used_of}
 use Rattle.mem_core.specs.Legal.{IsLegalRun}
 use Rattle.mem_core.specs.Limits.{IsPeak}
-use Rattle.mem_core.specs.Events.{Account, new_account, events_of, local_events_of}
+use Rattle.mem_core.specs.Events.{Account, new_account, events_of, events_local_of}
 
 -- what a core shows: the place of each frame; for each group number the pages that are pending, and an account with
 -- its peak and its events; the free areas; and how many steps were made
@@ -50,7 +50,7 @@ pub record Shows (s : State) (run : Run) : Type 0 where
   pub pending : (g : ℕ) → granted_of run g ≡ used_of run g + slice_index s.pending g
   pub peaks : (g : ℕ) → has_group s.groups g ≡ true → IsPeak s.config run g (account_in s g).peak
   pub events : (g : ℕ) → has_group s.groups g ≡ true → (account_in s g).events ≡ events_of run g
-  pub local_events : (g : ℕ) → has_group s.groups g ≡ true → (account_in s g).local_events ≡ local_events_of run g
+  pub events_local : (g : ℕ) → has_group s.groups g ≡ true → (account_in s g).events_local ≡ events_local_of run g
 
 -- which frames are free, by their places
 abbrev pub free_in : List Place → List Bool
@@ -69,9 +69,13 @@ frames_below groups places g = count_by (is_charged_below groups g) places
 abbrev pub pages_below : List Group → List ℕ → ℕ → ℕ
 pages_below groups pending g = sum_by (λ h. if in_subtree groups g h.number then slice_index pending h.number else 0) groups
 
--- the number that a core keeps for a group: the frames placed in its subtree, and the pages pending there
+-- the usage of a group, by places and pending pages: the frames placed in its subtree, and the pages pending there
+abbrev pub usage_below : List Group → List Place → List ℕ → ℕ → ℕ
+usage_below groups places pending g = frames_below groups places g + pages_below groups pending g
+
+-- the number that a core keeps for a group
 abbrev pub current_in : State → ℕ → ℕ
-current_in s g = frames_below s.groups s.places g + pages_below s.groups s.pending g
+current_in s g = usage_below s.groups s.places s.pending g
 
 -- a group that keeps the frame is there
 abbrev pub KeeperIsThere : List Group → Place → Type 0

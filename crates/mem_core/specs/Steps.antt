@@ -5,6 +5,7 @@ use Rattle.zone_blocks.specs.declared.block.Block.{Block}
 use Rattle.zone_blocks.specs.Areas.{IsFreeBlock, IsSmallestFrom}
 use Rattle.group_tree.specs.declared.group.Group.{Group}
 use Rattle.group_tree.specs.Groups.{has_group, has_child, in_subtree, limit_of, make_fault, with_group, with_limit, without_group, IsLeastFreeNumber}
+use Rattle.group_tree.specs.Room.{at_group, fits_limit, on_path, peak_after, PathHasRoom, IsLowestOver}
 use Rattle.mem_core.specs.declared.step.Place.{Place}
 use Rattle.mem_core.specs.declared.step.Place.TheVariants.{Charged}
 use Rattle.mem_core.specs.declared.step.Step.{Step}
@@ -13,7 +14,6 @@ use Rattle.mem_core.specs.declared.step.Action.TheVariants.{Lock, Unlock, Grant,
 use Rattle.mem_core.specs.declared.step.Answer.{Answer}
 use Rattle.mem_core.specs.declared.step.Answer.TheVariants.{Illegal, Done, Granted, Over, Placed, NoFreeBlock, Number}
 use Rattle.mem_core.specs.Legal.{is_processor, is_held_by}
-use Rattle.mem_core.specs.Limits.{fits_limit, PathHasRoom, IsLowestOver}
 use Rattle.mem_core.specs.Events.{Account, new_account, with_max}
 use Rattle.mem_core.specs.Shown.{State, account_in, free_in, current_in}
 
@@ -45,15 +45,15 @@ with_range xs at n x = take at xs ++ replicate n x ++ drop (at + n) xs
 abbrev pub with_block : List Place → Block → Place → List Place
 with_block places b p = with_range places b.at (2 ^ b.order) p
 
--- the account of group m, its peak the greater of the old one and its usage where g is m or lies below it
-abbrev pub peaked : List Group → ℕ → ℕ → ℕ → Account → Account
-peaked groups g m usage account = if in_subtree groups m g then record account { peak = max account.peak usage } else account
+-- the account of group m after a grant to g: at g and at each of its ancestors the peak follows the usage
+abbrev pub peaked : List Group → (ℕ → ℕ) → ℕ → ℕ → Account → Account
+peaked groups usage g m account = record account { peak = peak_after groups usage g m account.peak }
 
 -- the account of group m after a note that the usage of g was about to go over its limit
 abbrev pub noted : List Group → ℕ → ℕ → Account → Account
 noted groups g m account = record account {
-  events = if in_subtree groups m g then with_max account.events else account.events;
-  local_events = if m == g then with_max account.local_events else account.local_events;
+  events = on_path groups g with_max m account.events;
+  events_local = at_group g with_max m account.events_local;
 }
 
 -- the state with one step more
@@ -73,7 +73,7 @@ PlacesSmallest s action answer = Unit {0}
 -- the peaks of the group and of its ancestors rise to the usage where it is greater, and nothing else of any
 -- account changes
 abbrev pub RaisesPeaks : State → State → ℕ → Type 0
-RaisesPeaks s t g = (m : ℕ) → account_in t m ≡ peaked s.groups g m (current_in t m) (account_in s m)
+RaisesPeaks s t g = (m : ℕ) → account_in t m ≡ peaked s.groups (current_in t) g m (account_in s m)
 
 -- one `max` more in the events of the group and of each of its ancestors, and in the group's own
 abbrev pub CountsMax : State → State → ℕ → Type 0
@@ -99,7 +99,7 @@ Changes s seat action answer t = ⊥
 -- its ancestors, at none of which the number is above the limit then; no other step raises any number
 abbrev pub MovesUsage : State → Action → Answer → State → Type 0
 MovesUsage s (Grant g n) Granted t =
-    ((m : ℕ) → current_in t m ≡ current_in s m + (if in_subtree s.groups m g then n else 0)) ×
+    ((m : ℕ) → current_in t m ≡ on_path s.groups g (λ pages. pages + n) m (current_in s m)) ×
     ((m : ℕ) → in_subtree t.groups m g ≡ true → fits_limit (limit_of t.groups m) (current_in t m) ≡ true)
 MovesUsage s action answer t = (m : ℕ) → current_in t m ≤ current_in s m
 

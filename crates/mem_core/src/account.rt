@@ -29,7 +29,7 @@ pub struct Account {
     /// The events of the group and of all below it (memory.events).
     pub events: Events,
     /// The events of the group alone (memory.events.local).
-    pub local_events: Events,
+    pub events_local: Events,
 }
 
 impl Account {
@@ -41,7 +41,7 @@ impl Account {
         Account {
             peak: 0,
             events: none,
-            local_events: none,
+            events_local: none,
         }
     }
 }

@@ -1,10 +1,10 @@
 //! Peaks and events along a path.
 
-ghost use Rattle.std.specs.Prelude.{◌≡◌, ◌+◌, ◌^◌, ◌<◌, ◌≤◌, ℕ, IsTrue, length, vec_len, All};
+ghost use Rattle.std.specs.Prelude.{◌≡◌, ◌^◌, ◌<◌, ◌≤◌, ℕ, IsTrue, length, vec_len, All};
 ghost use Rattle.std.specs.List.{slice_index_or};
 ghost use Rattle.group_tree.specs.Groups.{has_group};
 ghost use Rattle.mem_core.specs.Events.{new_account};
-ghost use Rattle.mem_core.specs.Shown.{frames_below, KeeperIsThere, pages_below};
+ghost use Rattle.mem_core.specs.Shown.{KeeperIsThere, usage_below};
 ghost use Rattle.mem_core.specs.Steps.{noted, peaked};
 
 use crate::account::Account;
@@ -29,7 +29,7 @@ pub(crate) fn raise_peaks(
     requires few { All (λ a. a.peak < 2 ^ 104) accounts.old.items }
     ensures length { vec_len accounts.new ≡ 64 }
     ensures few { All (λ a. a.peak < 2 ^ 104) accounts.new.items }
-    ensures peaks { (m : ℕ) → slice_index_or accounts.new.items m new_account ≡ peaked tree.now group m (frames_below tree.now places.now m + pages_below tree.now pending.now m) (slice_index_or accounts.old.items m new_account) }
+    ensures peaks { (m : ℕ) → slice_index_or accounts.new.items m new_account ≡ peaked tree.now (usage_below tree.now places.now pending.now) group m (slice_index_or accounts.old.items m new_account) }
 {
     for row in tree.groups() {
         let place = row.number.number() as usize;
@@ -54,7 +54,7 @@ fn with_peak(
     requires bound { All (λ n. n ≤ 2 ^ 96) pending.now }
     requires few { account.peak < 2 ^ 104 }
     ensures few { result.peak < 2 ^ 104 }
-    ensures peak { result ≡ peaked tree.now group above (frames_below tree.now places.now above + pages_below tree.now pending.now above) account }
+    ensures peak { result ≡ peaked tree.now (usage_below tree.now places.now pending.now) group above account }
 {
     if !tree.in_subtree(above, group) {
         return account;
@@ -92,7 +92,7 @@ fn with_note(tree: &Tree, group: GroupId, above: GroupId, account: Account) -> A
         noted.events = account.events.with_max();
     }
     if above == group {
-        noted.local_events = account.local_events.with_max();
+        noted.events_local = account.events_local.with_max();
     }
     noted
 }

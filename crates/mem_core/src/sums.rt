@@ -2,7 +2,7 @@
 
 ghost use Rattle.std.specs.Prelude.{◌≡◌, ◌+◌, ◌*◌, ◌^◌, ◌<◌, ◌≤◌, IsTrue, length, slice_index, sum_by, count_by, if◌then◌else◌, All};
 ghost use Rattle.group_tree.specs.Groups.{has_group, in_subtree};
-ghost use Rattle.mem_core.specs.Shown.{frames_below, is_charged_below, KeeperIsThere, pages_below};
+ghost use Rattle.mem_core.specs.Shown.{frames_below, is_charged_below, KeeperIsThere, pages_below, usage_below};
 
 use crate::step::Place;
 use group_tree::group::GroupId;
@@ -14,7 +14,7 @@ pub(crate) fn usage(tree: &Tree, places: &[Place], pending: &[u128], group: Grou
     requires keepers { All (KeeperIsThere tree.now) places.now }
     requires numbers { length pending.now ≡ 64 }
     requires bound { All (λ n. n ≤ 2 ^ 96) pending.now }
-    ensures usage { result ≡ frames_below tree.now places.now group + pages_below tree.now pending.now group }
+    ensures usage { result ≡ usage_below tree.now places.now pending.now group }
     ensures few { result < 2 ^ 104 }
 {
     count_charged(tree, places, group) + sum_pending(tree, pending, group)

@@ -5,12 +5,12 @@ ghost use Rattle.std.specs.List.{list_all};
 ghost use Rattle.zone_blocks.specs.declared.block.Block.{Block};
 ghost use Rattle.zone_blocks.specs.Areas.{IsFreeBlock, AreMaximalBlocks};
 ghost use Rattle.group_tree.specs.Groups.{has_child, has_group, make_fault, with_group, with_limit, without_group, IsLeastFreeNumber};
+ghost use Rattle.group_tree.specs.Room.{has_room, IsLowestOver, PathHasRoom};
 ghost use Rattle.mem_core.specs.declared.step.Place.{Place};
 ghost use Rattle.mem_core.specs.Config.{IsValidConfig};
 ghost use Rattle.mem_core.specs.Places.{is_same_place};
 ghost use Rattle.mem_core.specs.Run.{Run, groups_of, places_of, usage_of, free_frames};
 ghost use Rattle.mem_core.specs.Legal.{is_held_by};
-ghost use Rattle.mem_core.specs.Limits.{has_room, IsLowestOver, PathHasRoom};
 ghost use Rattle.mem_core.specs.Shown.{State, Shows, IsSound, free_in, current_in};
 ghost use Rattle.mem_core.specs.Steps.{may_act, may_remove, may_zone_act, counted, with_block, CountsMax, IsFrontOfSmallest, MovesUsage, PlacesSmallest, RaisesPeaks, Changes, Makes};
 

@@ -8,7 +8,7 @@ ghost use Rattle.mem_core.specs.Places.{is_same_place};
 ghost use Rattle.mem_core.specs.Run.{Run, groups_of, places_of, usage_of, free_frames};
 ghost use Rattle.mem_core.specs.Shown.{Shows, account_in, current_in};
 ghost use Rattle.mem_core.specs.Limits.{IsPeak, max_of};
-ghost use Rattle.mem_core.specs.Events.{events_of, local_events_of};
+ghost use Rattle.mem_core.specs.Events.{events_of, events_local_of};
 
 use super::Core;
 use crate::account::Events;
@@ -95,12 +95,12 @@ impl Core {
     }
 
     /// What was counted for a group that is there alone since it was made (memory.events.local).
-    pub fn local_events(&self, group: GroupId) -> Events
+    pub fn events_local(&self, group: GroupId) -> Events
         requires { IsTrue (has_group self.now.groups group) }
-        ensures events { result ≡ (account_in self.now group).local_events }
-        ensures run { (run : Run) → Shows self.now run → result ≡ local_events_of run group }
+        ensures events { result ≡ (account_in self.now group).events_local }
+        ensures run { (run : Run) → Shows self.now run → result ≡ events_local_of run group }
     {
         let account = self.accounts[group.number() as usize];
-        account.local_events
+        account.events_local
     }
 }

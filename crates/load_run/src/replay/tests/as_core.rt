@@ -158,7 +158,7 @@ fn read_file(core: &Core, path: &[u8], name: &[u8], text: &mut String) -> Result
             Some(pages) => tell_pages(u128::from(pages), text),
         },
         File::Events => tell_events(core.events(group), text),
-        File::EventsLocal => tell_events(core.local_events(group), text),
+        File::EventsLocal => tell_events(core.events_local(group), text),
     }
 }
 

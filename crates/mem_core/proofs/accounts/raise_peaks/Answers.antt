@@ -7,7 +7,7 @@ use Rattle.group_tree.specs.Groups.{has_group, AreGroups}
 use Rattle.group_tree.proofs.GroupLemmas.{has_group-contains}
 use Rattle.mem_core.specs.Events.{Account}
 use Rattle.mem_core.specs.Steps.{peaked}
-use Rattle.mem_core.specs.Shown.{frames_below, pages_below}
+use Rattle.mem_core.specs.Shown.{usage_below}
 use Rattle.mem_core.proofs.AccountLemmas.{AreChanged, AreChanged-none, AreChanged-step, AreChanged-all, peaked-absent}
 use Rattle.mem_core.proofs.accounts.raise_peaks.Goals as goal
 
@@ -15,7 +15,7 @@ pub loop-row-init : goal.loop-row-init
 loop-row-init c = record {
   length = c.requires.accounts;
   few = c.requires.few;
-  changed = AreChanged-none c.groups-row-items.result.now (λ m. peaked c.args.tree.now c.args.group m (frames_below c.args.tree.now c.args.places.now m + pages_below c.args.tree.now c.args.pending.now m)) c.args.accounts.now.items;
+  changed = AreChanged-none c.groups-row-items.result.now (peaked c.args.tree.now (usage_below c.args.tree.now c.args.places.now c.args.pending.now) c.args.group) c.args.accounts.now.items;
 }
 
 pub with_peak-requires-clause-above : goal.with_peak-requires-clause-above
@@ -27,13 +27,13 @@ pub loop-row-preserved : goal.loop-row-preserved
 loop-row-preserved c =
     let rows = c.groups-row-items.result.now in
     let accounts = c.loop-row.accounts.items in
-    let f : ℕ → Account → Account = λ m. peaked c.args.tree.now c.args.group m (frames_below c.args.tree.now c.args.places.now m + pages_below c.args.tree.now c.args.pending.now m) in
+    let f : ℕ → Account → Account = peaked c.args.tree.now (usage_below c.args.tree.now c.args.places.now c.args.pending.now) c.args.group in
     let n = c.number-place.result in
     let facts : AreGroups rows = subst AreGroups (sym c.groups-row-items.ensures.groups) c.groups-row-items.ensures.legal in
     let inside : n < length accounts = omega (arith, c.loop-row.accounts.ok.0) in
     let number : n ≡ (get_or rows c.loop-row.row-index c.row-item.result).number = c.number-place.ensures.value ∙ ap (λ (g : Group). g.number) c.row-item.is in
     let value : c.with_peak.result ≡ f n (get_or accounts n c.index.result.now) =
-    c.with_peak.ensures.peak ∙ ap (λ (k : ℕ). peaked c.args.tree.now c.args.group k (frames_below c.args.tree.now c.args.places.now k + pages_below c.args.tree.now c.args.pending.now k) c.index.result.now) (sym c.number-place.ensures.value) ∙ ap (f n) c.index.ensures in
+    c.with_peak.ensures.peak ∙ ap (λ (k : ℕ). f k c.index.result.now) (sym c.number-place.ensures.value) ∙ ap (f n) c.index.ensures in
     let few : c.with_peak.result.peak < 2 ^ 104 = c.with_peak.ensures.few in
     record {
       length = c.loop-row.invariant.length;
@@ -44,9 +44,9 @@ loop-row-preserved c =
 pub returns-clause-peaks : goal.returns-clause-peaks
 returns-clause-peaks c =
     let rows = c.groups-row-items.result.now in
-    let f : ℕ → Account → Account = λ m. peaked c.args.tree.now c.args.group m (frames_below c.args.tree.now c.args.places.now m + pages_below c.args.tree.now c.args.pending.now m) in
+    let f : ℕ → Account → Account = peaked c.args.tree.now (usage_below c.args.tree.now c.args.places.now c.args.pending.now) c.args.group in
     let all : take c.loop-row.row-index rows ≡ c.args.tree.now = take_all c.loop-row.row-index rows c.loop-row-test.false ∙ c.groups-row-items.ensures.groups in
-    AreChanged-all c.args.tree.now f c.args.accounts.now.items c.loop-row.accounts.items (λ m a. peaked-absent c.args.tree.now c.args.group m (frames_below c.args.tree.now c.args.places.now m + pages_below c.args.tree.now c.args.pending.now m) a)
+    AreChanged-all c.args.tree.now f c.args.accounts.now.items c.loop-row.accounts.items (peaked-absent c.args.tree.now (usage_below c.args.tree.now c.args.places.now c.args.pending.now) c.args.group)
     (subst (λ (groups : List Group). AreChanged groups f c.args.accounts.now.items c.loop-row.accounts.items) all c.loop-row.invariant.changed)
 
 pub with_peak-requires-clause-few : goal.with_peak-requires-clause-few

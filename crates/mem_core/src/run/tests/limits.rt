@@ -77,7 +77,7 @@ fn limit_binds_later_grants_alone(rt: HostRuntime) -> Result<(), Fail> {
     assert_eq!(rt; core.peak(group), 1);
     assert_eq!(rt; core.max(group), Some(0));
     assert_eq!(rt; core.events(group), once());
-    assert_eq!(rt; core.local_events(group), once());
+    assert_eq!(rt; core.events_local(group), once());
     Ok(())
 }
 
@@ -123,7 +123,7 @@ fn limit_of_the_parent_refuses_the_child(rt: HostRuntime) -> Result<(), Fail> {
     assert_eq!(rt; core.max(child), None);
     assert_eq!(rt; core.events(parent), once());
     assert_eq!(rt; core.events(child), none());
-    assert_eq!(rt; core.local_events(parent), once());
+    assert_eq!(rt; core.events_local(parent), once());
     Ok(())
 }
 
@@ -181,7 +181,7 @@ fn only_an_empty_leaf_is_taken_out(rt: HostRuntime) -> Result<(), Fail> {
     assert!(rt; core.tree().contains(parent));
     assert!(rt; core.tree().contains(child));
     assert_eq!(rt; core.events(parent), once());
-    assert_eq!(rt; core.local_events(parent), none());
+    assert_eq!(rt; core.events_local(parent), none());
     assert_eq!(rt; core.peak(parent), 1);
     assert_eq!(rt; core.events(child), none());
     assert_eq!(rt; core.peak(child), 0);

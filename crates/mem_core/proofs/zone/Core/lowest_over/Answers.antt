@@ -4,7 +4,7 @@ use Rattle.group_tree.specs.Groups.{has_group, parent_of, AreGroups}
 use Rattle.group_tree.proofs.CallerLemmas.{in_subtree-above}
 use Rattle.mem_core.specs.Shown.{State, current_in}
 use Rattle.group_tree.proofs.Walks.{walked_start, walked_up, walked_all, walked_lowest, parent_depth}
-use Rattle.mem_core.specs.Limits.{has_room}
+use Rattle.group_tree.specs.Room.{has_room}
 use Rattle.mem_core.proofs.zone.Core.lowest_over.Goals as goal
 
 pub loop-self-init : goal.loop-self-init

@@ -1,6 +1,6 @@
 -- The walk goes up the path, past groups with room.
 use Rattle.group_tree.proofs.Walks.{WalkedTo, depth_at}
-use Rattle.mem_core.specs.Limits.{has_room}
+use Rattle.group_tree.specs.Room.{has_room}
 use Rattle.mem_core.specs.Shown.{current_in}
 use Rattle.mem_core.proofs.zone.Core.lowest_over.Given as goal
 
