@@ -1,5 +1,5 @@
 -- What follows from a run being legal (for the laws of legal runs).
-use Rattle.std.proofs.Common.{◌≡◌, ℕ, zero, suc, ◌+◌, ◌≤◌, true, List, [], take, replicate, refl, sym, ◌∙◌, ap, subst, arith, inl, inr, IfSome, if◌then◌else◌}
+use Rattle.std.proofs.Common.{◌≡◌, ℕ, zero, suc, ◌+◌, ◌≤◌, true, List, [], take, replicate, refl, sym, ◌∙◌, ap, subst, arith, inl, inr, IfSome}
 use Rattle.std.specs.List.{slice_get}
 use Rattle.std.proofs.lemmas.List.{take_more}
 use Rattle.std.proofs.lemmas.Option.{slice_get_cases}

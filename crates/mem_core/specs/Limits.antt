@@ -1,5 +1,5 @@
 -- Limits, peaks, and the grants that respect them, counted over a run (memory.max and memory.peak of cgroup-v2.rst).
-use Rattle.std.specs.Prelude.{◌≡◌, ℕ, ◌+◌, ◌≤◌, nat_le, Bool, true, false, Option, Some, None, List, length, take, slice_get, IfSome, if◌then◌else◌}
+use Rattle.std.specs.Prelude.{◌≡◌, ℕ, ◌+◌, ◌≤◌, true, Option, length, take, slice_get, IfSome}
 use Rattle.group_tree.specs.Groups.{has_group, in_subtree, limit_of}
 use Rattle.group_tree.specs.Room.{fits_limit, on_path}
 use Rattle.mem_core.specs.declared.config.Config.{Config}

@@ -1,5 +1,5 @@
 -- How one step changes what a core shows.
-use Rattle.std.specs.Prelude.{◌≡◌, ℕ, ◌+◌, ◌-◌, ◌^◌, ◌==◌, ◌&&◌, ◌++◌, ◌≤◌, nat_le, not, max, Bool, true, false, Some, None, is_none, is_some, List, take, drop, replicate, slice_index, slice_set, if◌then◌else◌}
+use Rattle.std.specs.Prelude.{◌≡◌, ℕ, ◌+◌, ◌-◌, ◌^◌, ◌==◌, ◌&&◌, ◌++◌, ◌≤◌, nat_le, not, Bool, true, false, Some, None, is_none, is_some, List, take, drop, replicate, slice_index, slice_set}
 use Rattle.std.specs.List.{list_all}
 use Rattle.zone_blocks.specs.declared.block.Block.{Block}
 use Rattle.zone_blocks.specs.Areas.{IsFreeBlock, IsSmallestFrom}
