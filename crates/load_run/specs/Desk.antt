@@ -1,8 +1,8 @@
 -- What stands on the desk, and how the commands of a script change it.
 use Rattle.std.specs.Prelude.{◌≡◌, ◌≢◌, ◌⊎◌, ℕ, ◌^◌, ◌<◌, ◌≤◌, Bool, true, false, Option, Some, None, IsSome, List, length, replicate, count_by, All}
 use Rattle.zone_blocks.specs.declared.block.Block.{Block}
-use Rattle.zone_blocks.specs.Areas.{AreMaximalBlocks, HasNoneFrom}
-use Rattle.zone_buddy.specs.Zone.{IsFrontOfSmallest, TakesFrames, Zone}
+use Rattle.zone_blocks.specs.Areas.{AreMaximalBlocks, HasNoneFrom, IsFrontOfSmallest}
+use Rattle.zone_buddy.specs.Zone.{TakesFrames, Zone}
 use Rattle.group_tree.specs.declared.fault.Fault.{Fault}
 use Rattle.group_tree.specs.declared.fault.Fault.TheVariants.{BadLimit, BadNumber, BadOrder, NoFile, NoFrames, NoGroup, ReadOnly}
 use Rattle.group_tree.specs.declared.group.Group as tree

@@ -4,6 +4,7 @@ use Rattle.std.specs.List.{All, between}
 use Rattle.std.proofs.lemmas.List.{get_or_default}
 use Rattle.std.proofs.lemmas.List.Edits.{length-between, get_or-between}
 use Rattle.zone_blocks.specs.declared.block.Block.{Block}
+use Rattle.zone_blocks.specs.Block.{IsBlock}
 use Rattle.zone_blocks.specs.Areas.{IsFreeBlock}
 
 pub free_from_range : (free : List Bool) (a n : ℕ) → a + n ≤ length free → All (λ x. x ≡ true) (between a (a + n) free)
@@ -20,12 +21,11 @@ range_from_free free a n fits h k d l =
     let k_lt : k < n = omega (arith, length-between free a (a + n) fits) in
     get_or_default (between a (a + n) free) k d false l ∙ get_or-between free a (a + n) k false (omega arith) ∙ h (a + k) (omega arith) (omega arith)
 
-pub free_block_from_range : (free : List Bool) (b : Block) (n : ℕ) → n ≡ 2 ^ b.order → b.order ≤ 10 → b.at % n ≡ 0 → b.at + n ≤ length free
+pub free_block_from_range : (free : List Bool) (b : Block) (n : ℕ) → n ≡ 2 ^ b.order → IsBlock (length free) b
     → All (λ x. x ≡ true) (between b.at (b.at + n) free) → IsFreeBlock free b
-free_block_from_range free b n e o aligned fits h = record {
-  block = record { order = o; aligned = rw e at aligned; inside = rw e at fits };
-  all_free = λ f c. free_from_range free b.at n fits h f c.from (rw e c.before);
-}
+free_block_from_range free b n e block h =
+    let inside = block.inside in
+    record { block = block; all_free = λ f c. free_from_range free b.at n (rw e inside) h f c.from (rw e c.before) }
 
 pub range_from_free_block : (free : List Bool) (b : Block) (n : ℕ) → n ≡ 2 ^ b.order → IsFreeBlock free b → All (λ x. x ≡ true) (between b.at (b.at + n) free)
 range_from_free_block free b n e h =

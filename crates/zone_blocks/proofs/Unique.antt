@@ -106,7 +106,7 @@ in_one_block free blocks h f is =
     (r.0, h.all r.0 r.1, r.2, λ c q cover. same_maximal free c r.0 (h.each c q) r.1 f cover r.2)
 
 pub in_a_block_is_free : EveryFrameInABlockIsFree
-in_a_block_is_free free blocks h f r = (h.each r.0 r.1).is_free.all_free f r.2
+in_a_block_is_free free blocks h b there f cover = (h.each b there).is_free.all_free f cover
 
 -- ---- a list in strict order is told by its members
 

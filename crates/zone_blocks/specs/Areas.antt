@@ -64,6 +64,13 @@ pub record IsSmallestFrom (blocks : List Block) (order : ℕ) (b : Block) : Type
   pub least_order : (c : Block) → Contains blocks c → order ≤ c.order → b.order ≤ c.order
   pub least_address : (c : Block) → Contains blocks c → c.order ≡ b.order → b.at ≤ c.at
 
+-- b is of this order, and begins where the block of the least sufficient order does that has the least address (Knuth)
+pub record IsFrontOfSmallest (blocks : List Block) (order : ℕ) (b : Block) : Type 0 where
+  pub order_is : b.order ≡ order
+  pub smallest : Block
+  pub is_smallest : IsSmallestFrom blocks order smallest
+  pub front : b.at ≡ smallest.at
+
 -- the blocks after are those before and b, in walk order
 pub record Inserts (before : List Block) (b : Block) (after : List Block) : Type 0 where
   pub there : Contains after b

@@ -15,7 +15,8 @@ EveryFreeFrameIsInOneBlock = (free : List Bool) (blocks : List Block) → AreMax
 
 -- every frame of a maximal free block is free
 abbrev pub EveryFrameInABlockIsFree : Type 0
-EveryFrameInABlockIsFree = (free : List Bool) (blocks : List Block) → AreMaximalBlocks free blocks → (f : ℕ) → IsInOneBlock blocks f → IsFree free f
+EveryFrameInABlockIsFree =
+    (free : List Bool) (blocks : List Block) → AreMaximalBlocks free blocks → (b : Block) → Contains blocks b → (f : ℕ) → Covers b f → IsFree free f
 
 -- a set has one list of maximal free blocks
 abbrev pub MaximalBlocksAreUnique : Type 0

@@ -21,13 +21,11 @@ pub fn is_free_block(free: &[bool], block: Block) -> bool
     requires { length free.now < 2 ^ 32 }
     ensures { IsTrue result ↔ IsFreeBlock free.now block }
 {
-    let size = block.order.frames() as usize;
-    let start = block.at as usize;
-    let end = start + size;
-    if start % size != 0 || end > free.len() {
+    if !block.is_block_of(free.len() as u32) {
         return false;
     }
-    are_all_free(&free[start..end])
+    let start = block.at as usize;
+    are_all_free(&free[start..start + block.order.frames() as usize])
 }
 
 /// Whether it is a free block that lies in no free block of the next order.

@@ -3,7 +3,7 @@ use Rattle.std.specs.Prelude.{◌≡◌, ◌+◌, ◌-◌, ◌%◌, ◌^◌, ℕ
 use Rattle.std.specs.List.{Contains, list_any, range_with_len}
 use Rattle.zone_blocks.specs.declared.block.Block.{Block}
 use Rattle.zone_blocks.specs.Block.{IsBlock, Covers, enclosing}
-use Rattle.zone_blocks.specs.Areas.{IsFree, AreMaximalBlocks, FreeBlocks, IsSmallestFrom, Removes}
+use Rattle.zone_blocks.specs.Areas.{IsFree, AreMaximalBlocks, FreeBlocks, Removes}
 
 -- what a caller sees of a zone: for each frame whether it is free, and the maximal free blocks in walk order
 pub record Zone : Type 0 where
@@ -25,13 +25,6 @@ GivesFrames before b after = TakesFrames after b before
 pub record IsInUse (free : List Bool) (b : Block) : Type 0 where
   pub block : IsBlock (length free) b
   pub none_free : (f : ℕ) → Covers b f → ¬ IsFree free f
-
--- b is the front, of this order, of the block of the least sufficient order that has the least address
-pub record IsFrontOfSmallest (blocks : List Block) (order : ℕ) (b : Block) : Type 0 where
-  pub order_is : b.order ≡ order
-  pub smallest : Block
-  pub is_smallest : IsSmallestFrom blocks order smallest
-  pub front : b.at ≡ smallest.at
 
 -- ---- behind the calls
 

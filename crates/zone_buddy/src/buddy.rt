@@ -2,8 +2,8 @@
 
 ghost use Rattle.std.specs.Prelude.{◌≡◌, ◌↔◌, IsTrue, IfOk, MatchOption, replicate, true};
 ghost use Rattle.std.specs.Option.{IfNone, IfSome};
-ghost use Rattle.zone_blocks.specs.Areas.{AreMaximalBlocks, HasNoneFrom};
-ghost use Rattle.zone_buddy.specs.Zone.{TakesFrames, GivesFrames, IsInUse, IsFrontOfSmallest};
+ghost use Rattle.zone_blocks.specs.Areas.{AreMaximalBlocks, HasNoneFrom, IsFrontOfSmallest};
+ghost use Rattle.zone_buddy.specs.Zone.{TakesFrames, GivesFrames, IsInUse};
 
 use crate::merge::insert_merged;
 use crate::split::free_upper_halves;
@@ -54,11 +54,13 @@ impl Buddy {
         ensures areas { AreMaximalBlocks self.new.free self.new.blocks }
     {
         let found = self.areas.smallest_from(order)?;
-        let at = found.at;
-        let exponent = found.order.exponent();
-        self.areas.remove(found);
-        free_upper_halves(&mut self.areas, at, exponent, order);
-        Some(Block { at, order })
+        let taken = found;
+        self.areas.remove(taken);
+        free_upper_halves(&mut self.areas, &found, order);
+        Some(Block {
+            at: found.at,
+            order,
+        })
     }
 
     /// Whether it is a block of the zone, all of whose frames are in use: it may be given back.

@@ -9,23 +9,23 @@ use zone_blocks::areas::FreeAreas;
 use zone_blocks::block::Block;
 use zone_blocks::order::Order;
 
-/// Halves the block of order `exponent` at `at`, which is in use, down to `order`: each time the
-/// upper half is put into the areas, so that only the block of that order at `at` stays in use.
-pub fn free_upper_halves(areas: &mut FreeAreas, at: u32, exponent: u32, order: Order)
+/// Halves a block that is in use down to `order`: each time the upper half is put into the areas,
+/// so that only the block of that order at the front stays in use.
+pub fn free_upper_halves(areas: &mut FreeAreas, block: &Block, order: Order)
     requires kept { AreKept areas.old }
-    requires block { IsBlock areas.old.frames (block_at at exponent) }
-    requires in_use { (f : ℕ) → Covers (block_at at exponent) f → ¬ IsFree (set_of areas.old) f }
-    requires enough { order ≤ exponent }
+    requires block { IsBlock areas.old.frames block.now }
+    requires in_use { (f : ℕ) → Covers block.now f → ¬ IsFree (set_of areas.old) f }
+    requires enough { order ≤ block.now.order }
     ensures kept { AreKept areas.new }
     ensures frames { areas.new.frames ≡ areas.old.frames }
-    ensures in_use { (free : List Bool) → TakesFrames free (block_at at exponent) (set_of areas.old) → TakesFrames free (block_at at order) (set_of areas.new) }
+    ensures in_use { (free : List Bool) → TakesFrames free block.now (set_of areas.old) → TakesFrames free (block_at block.now.at order) (set_of areas.new) }
 {
-    let mut exponent = exponent;
+    let mut exponent = block.order.exponent();
     while exponent > order.exponent() {
         exponent -= 1;
         let half = Order::of(exponent).unwrap();
         areas.insert(Block {
-            at: at + half.frames(),
+            at: block.at + half.frames(),
             order: half,
         });
     }

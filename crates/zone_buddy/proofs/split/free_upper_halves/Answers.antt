@@ -1,7 +1,7 @@
-use Rattle.std.proofs.Common.{◌≡◌, ℕ, ◌+◌, ◌-◌, ◌^◌, ◌∙◌, ap, refl, arith}
+use Rattle.std.proofs.Common.{◌≡◌, ℕ, ◌+◌, ◌-◌, ◌^◌, ◌∙◌, ap, refl, subst, arith, List, Bool}
 use Rattle.zone_blocks.specs.declared.block.Block.{Block}
 use Rattle.zone_blocks.proofs.Filling.{same_block}
-use Rattle.zone_buddy.specs.Zone.{block_at}
+use Rattle.zone_buddy.specs.Zone.{block_at, set_of, TakesFrames}
 use Rattle.zone_buddy.proofs.Halves.{upper_ready, halve_step}
 use Rattle.zone_buddy.proofs.split.free_upper_halves.Goals as goal
 
@@ -17,24 +17,24 @@ insert-requires-clause-block c =
     let e : ℕ = c.loop-exponent.exponent - 1 in
     let o = rw c.unwrap-half.ensures at c.of.ensures in
     let k : c.loop-exponent.exponent ≡ e + 1 = omega arith in
-    (upper_ready c.loop-exponent.areas c.args.at c.loop-exponent.exponent e _ k
-    (half_is c.args.at e c.frames.result c.unwrap-half.result c.frames.ensures.frames o.0 _ refl) c.loop-exponent.invariant.halving).0
+    (upper_ready c.loop-exponent.areas c.args.block.now.at c.loop-exponent.exponent e _ k
+    (half_is c.args.block.now.at e c.frames.result c.unwrap-half.result c.frames.ensures.frames o.0 _ refl) c.loop-exponent.invariant.halving).0
 
 pub insert-requires-clause-apart : goal.insert-requires-clause-apart
 insert-requires-clause-apart c =
     let e : ℕ = c.loop-exponent.exponent - 1 in
     let o = rw c.unwrap-half.ensures at c.of.ensures in
     let k : c.loop-exponent.exponent ≡ e + 1 = omega arith in
-    (upper_ready c.loop-exponent.areas c.args.at c.loop-exponent.exponent e _ k
-    (half_is c.args.at e c.frames.result c.unwrap-half.result c.frames.ensures.frames o.0 _ refl) c.loop-exponent.invariant.halving).1
+    (upper_ready c.loop-exponent.areas c.args.block.now.at c.loop-exponent.exponent e _ k
+    (half_is c.args.block.now.at e c.frames.result c.unwrap-half.result c.frames.ensures.frames o.0 _ refl) c.loop-exponent.invariant.halving).1
 
 pub loop-exponent-preserved : goal.loop-exponent-preserved
 loop-exponent-preserved c =
     let e : ℕ = c.loop-exponent.exponent - 1 in
     let o = rw c.unwrap-half.ensures at c.of.ensures in
     let k : c.loop-exponent.exponent ≡ e + 1 = omega arith in
-    let r = halve_step c.loop-exponent.areas c.insert.new.self c.args.at c.loop-exponent.exponent e _ k
-    (half_is c.args.at e c.frames.result c.unwrap-half.result c.frames.ensures.frames o.0 _ refl) c.loop-exponent.invariant.halving
+    let r = halve_step c.loop-exponent.areas c.insert.new.self c.args.block.now.at c.loop-exponent.exponent e _ k
+    (half_is c.args.block.now.at e c.frames.result c.unwrap-half.result c.frames.ensures.frames o.0 _ refl) c.loop-exponent.invariant.halving
     c.insert.ensures.blocks c.insert.ensures.frames in
     record {
       halving = r.0;
@@ -42,3 +42,10 @@ loop-exponent-preserved c =
       enough = omega (arith, c.exponent.ensures.exponent);
       taken = λ free t. r.1 free (c.loop-exponent.invariant.taken free t);
     }
+
+pub returns-clause-in_use : goal.returns-clause-in_use
+returns-clause-in_use c =
+    let same : c.loop-exponent.exponent ≡ c.args.order = omega (arith, c.loop-exponent.invariant.enough, c.exponent.ensures.exponent) in
+    let T : ℕ → Type 0 = λ k. (free : List Bool) → TakesFrames free c.args.block.now (set_of c.args.areas.now)
+    → TakesFrames free (block_at c.args.block.now.at k) (set_of c.loop-exponent.areas) in
+    subst T same c.loop-exponent.invariant.taken

@@ -5,11 +5,11 @@ use Rattle.zone_buddy.proofs.split.free_upper_halves.Given as goal
 
 abbrev pub invariant-loop-exponent : goal.invariant-loop-exponent
 invariant-loop-exponent l = record {
-  halving : Halving l.areas l.at l.exponent;
+  halving : Halving l.areas l.block.at l.exponent;
   frames : l.areas.frames ≡ l.initial.areas.frames;
   enough : l.order ≤ l.exponent;
-  taken : (free : List Bool) → TakesFrames free (block_at l.at l.initial.exponent) (set_of l.initial.areas)
-      → TakesFrames free (block_at l.at l.exponent) (set_of l.areas);
+  taken : (free : List Bool) → TakesFrames free l.block (set_of l.initial.areas)
+      → TakesFrames free (block_at l.block.at l.exponent) (set_of l.areas);
 }
 
 abbrev pub decreases-loop-exponent : goal.decreases-loop-exponent

@@ -20,20 +20,16 @@ free_upper_halves-requires-clause-block c =
     let there = c.in_ok-found.ensures.there in
     let block = (c.self.invariant.maximal.each c.in_ok-found.found there).is_free.block in
     let P : ℕ → Type 0 = λ n. IsBlock n c.in_ok-found.found in
-    let Q : ℕ → Type 0 = λ k. IsBlock c.remove.new.self.frames (block_at c.in_ok-found.found.at k) in
-    subst Q (sym c.exponent-exponent.ensures.exponent) (subst P (length-set_of c.self.inside.areas ∙ sym c.remove.ensures.frames) block)
+    subst P (length-set_of c.self.inside.areas ∙ sym c.remove.ensures.frames) block
 
 pub free_upper_halves-requires-clause-in_use : goal.free_upper_halves-requires-clause-in_use
 free_upper_halves-requires-clause-in_use c =
     let there = c.in_ok-found.ensures.there in
-    let taken = takes_frames c.self.inside.areas c.remove.new.self c.in_ok-found.found c.self.invariant.maximal there c.remove.ensures.blocks c.remove.ensures.frames in
-    let P : ℕ → Type 0 = λ k. (f : ℕ) → Covers (block_at c.in_ok-found.found.at k) f → ¬ IsFree (set_of c.remove.new.self) f in
-    subst P (sym c.exponent-exponent.ensures.exponent) taken.in_use
+    (takes_frames c.self.inside.areas c.remove.new.self c.in_ok-found.found c.self.invariant.maximal there c.remove.ensures.blocks c.remove.ensures.frames).in_use
 
 pub returns-clause-frames : goal.returns-clause-frames
 returns-clause-frames c =
     let there = c.in_ok-found.ensures.there in
     let taken = takes_frames c.self.inside.areas c.remove.new.self c.in_ok-found.found c.self.invariant.maximal there c.remove.ensures.blocks c.remove.ensures.frames in
-    let P : ℕ → Type 0 = λ k. TakesFrames (set_of c.self.inside.areas) (block_at c.in_ok-found.found.at k) (set_of c.remove.new.self) in
     let Q : Zone → Type 0 = λ z. TakesFrames z.free (block_at c.in_ok-found.found.at c.args.order) (set_of c.free_upper_halves.new.areas) in
-    subst Q c.self.view_is (c.free_upper_halves.ensures.in_use (set_of c.self.inside.areas) (subst P (sym c.exponent-exponent.ensures.exponent) taken))
+    subst Q c.self.view_is (c.free_upper_halves.ensures.in_use (set_of c.self.inside.areas) taken)
