@@ -14,7 +14,7 @@ use Rattle.mem_core.specs.declared.step.Answer.TheVariants.{Illegal, Done, Grant
 use Rattle.group_tree.specs.Room.{fits_limit, on_path, PathHasRoom}
 use Rattle.mem_core.specs.Events.{Account, new_account}
 use Rattle.mem_core.specs.Shown.{State, frames_below, pages_below, current_in, IsSound}
-use Rattle.mem_core.specs.Steps.{may_zone_act, may_remove, may_act, with_block, counted, Changes, Makes, MovesUsage}
+use Rattle.mem_core.specs.Steps.{may_zone_act, may_remove, may_act, with_block, with_placed, counted, Changes, Makes, MovesUsage}
 use Rattle.mem_core.proofs.Parts.{HasSizes-IsSound}
 use Rattle.mem_core.proofs.Showing.{both-left, both-right, group_inside}
 use Rattle.mem_core.proofs.Usage.{pages_below-set, frames_below-with_block, frames_below-with_group, pages_below-with_group, frames_below-with_limit, pages_below-with_limit, frames_below-without_group, pages_below-without_group}
@@ -68,11 +68,10 @@ same_raises_none s t same m = let e = same m in omega (arith, e)
 current-granted : (s : State) (g n : ℕ) (accounts : List Account) → IsSound s → has_group s.groups g ≡ true → g < length s.pending → (m : ℕ) → current_in (record (counted s) { pending = slice_set s.pending g (slice_index s.pending g + n); accounts = accounts }) m ≡ current_in s m + (if in_subtree s.groups m g then n else 0)
 current-granted s g n accounts sound there inside m = let e = pages_more s g n m sound there inside in omega (arith, e)
 
-current-placed : (s : State) (g k : ℕ) (b : Block) (areas : List Block) → IsSound s → has_group s.groups g ≡ true → g < length s.pending → 2 ^ k ≤ slice_index s.pending g → b.order ≡ k → (m : ℕ) → frames_below s.groups (with_block s.places b (Charged g)) m ≡ frames_below s.groups s.places m + (if in_subtree s.groups m g then 2 ^ b.order else 0) → current_in (record (counted s) { places = with_block s.places b (Charged g); pending = slice_set s.pending g (slice_index s.pending g - 2 ^ k); areas = areas }) m ≡ current_in s m
-current-placed s g k b areas sound there inside enough order m frames =
-    let e = pages_less s g (2 ^ k) m sound there inside enough in
-    let same : (if in_subtree s.groups m g then 2 ^ b.order else 0) ≡ (if in_subtree s.groups m g then 2 ^ k else 0) = ap (λ k. if in_subtree s.groups m g then 2 ^ k else 0) order in
-    omega (arith, e, frames, same)
+current-placed : (s : State) (g : ℕ) (b : Block) (areas : List Block) → IsSound s → has_group s.groups g ≡ true → g < length s.pending → 2 ^ b.order ≤ slice_index s.pending g → (m : ℕ) → frames_below s.groups (with_block s.places b (Charged g)) m ≡ frames_below s.groups s.places m + (if in_subtree s.groups m g then 2 ^ b.order else 0) → current_in (with_placed s g b areas) m ≡ current_in s m
+current-placed s g b areas sound there inside enough m frames =
+    let e = pages_less s g (2 ^ b.order) m sound there inside enough in
+    omega (arith, e, frames)
 
 current-made : (s : State) (n : ℕ) (path : List ℕ) (accounts : List Account) → IsSound s → make_fault s.groups path ≡ None → has_group s.groups n ≡ false → (m : ℕ) → current_in (record (counted s) { groups = with_group s.groups n path; accounts = accounts }) m ≡ current_in s m
 current-made s n path accounts sound fits absent m =
@@ -136,7 +135,7 @@ Changes-usage s seat (PlaceBlock g k) (Placed b) t sound may c =
     let inside = group_inside s seat g (nat_le (2 ^ k) (slice_index s.pending g)) (HasSizes-IsSound s sound) may in
     let there = named_is_there s seat g (nat_le (2 ^ k) (slice_index s.pending g)) may in
     let enough = leb-true (2 ^ k) (slice_index s.pending g) (both-right (may_zone_act s seat && has_group s.groups g) (nat_le (2 ^ k) (slice_index s.pending g)) may) in
-    same_raises_none s t (λ m. ap (λ (t : State). current_in t m) c.2 ∙ current-placed s g k b t.areas sound there inside enough c.0 m (frames_below-with_block s.groups s.places b g m c.1))
+    same_raises_none s t (λ m. ap (λ (t : State). current_in t m) c.2 ∙ current-placed s g b t.areas sound there inside (subst (λ (j : ℕ). 2 ^ j ≤ slice_index s.pending g) (sym c.0) enough) m (frames_below-with_block s.groups s.places b g m c.1))
 Changes-usage s seat (PlaceBlock g k) NoFreeBlock t sound may c = same_raises_none s t (λ m. ap (λ (t : State). current_in t m) c.1)
 Changes-usage s seat (Make path) (Number n) t sound may c =
     let fits = make_is_free s seat path may in

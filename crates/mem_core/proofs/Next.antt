@@ -1,5 +1,5 @@
 -- For each answer that is allowed there is a state to go on with (for the laws of legal runs).
-use Rattle.std.proofs.Common.{◌≡◌, ◌≢◌, ℕ, ◌+◌, ◌-◌, ◌^◌, ◌≤◌, ◌==◌, ◌&&◌, nat_le, Bool, true, false, None, Some, is_some, List, length, map, get_or, refl, sym, ◌∙◌, ap, subst, arith, inl, inr, length-set}
+use Rattle.std.proofs.Common.{◌≡◌, ◌≢◌, ℕ, ◌^◌, ◌≤◌, ◌==◌, ◌&&◌, nat_le, Bool, true, false, None, Some, is_some, List, length, map, get_or, refl, sym, ◌∙◌, ap, subst, arith, inl, inr, length-set}
 use Rattle.std.specs.Prelude.{slice_index, slice_set, All}
 use Rattle.std.specs.List.{list_all, range_with_len}
 use Rattle.std.proofs.lemmas.Bool.{cases_lt, false≢true, false_from_ne_true, eqb-true}
@@ -21,7 +21,7 @@ use Rattle.mem_core.specs.Legal.{is_processor, is_held_by, IsAnswer, Allows}
 use Rattle.group_tree.specs.Room.{PathHasRoom, IsLowestOver}
 use Rattle.mem_core.specs.Events.{Account, new_account}
 use Rattle.mem_core.specs.Shown.{State, account_in, current_in, free_in, IsSound, Shows}
-use Rattle.mem_core.specs.Steps.{may_zone_act, may_remove, may_act, with_block, counted, peaked, noted, Changes, Makes}
+use Rattle.mem_core.specs.Steps.{may_zone_act, may_remove, may_act, with_block, with_less, with_more, with_placed, counted, peaked, noted, Changes, Makes}
 use Rattle.mem_core.proofs.Parts.{HasSizes-IsSound, Matches-Shows, free_frames-Matches}
 use Rattle.mem_core.proofs.Showing.{may_act-Shows, by_state, both-left, both-right}
 use Rattle.mem_core.proofs.Effects.{make_is_free}
@@ -139,7 +139,7 @@ noted_past s g m sound there past = noted-absent s.groups g m (account_in s m) t
 granted : (s : State) (seat g n : ℕ) → IsSound s → (may_zone_act s seat && has_group s.groups g) ≡ true → PathHasRoom s.groups (current_in s) g n → Changed s seat (Grant g n) Granted
 granted s seat g n sound may room =
     let there : has_group s.groups g ≡ true = both-right (may_zone_act s seat) (has_group s.groups g) may in
-    let pending = slice_set s.pending g (slice_index s.pending g + n) in
+    let pending = with_more s.pending g n in
     let after : State = record (counted s) { pending = pending } in
     let raised : ℕ → Account = λ m. peaked s.groups (current_in after) g m (account_in s m) in
     record {
@@ -150,7 +150,7 @@ granted s seat g n sound may room =
 
 taken_back : (s : State) (seat g n : ℕ) → IsSound s → (may_zone_act s seat && has_group s.groups g && nat_le n (slice_index s.pending g)) ≡ true → Changed s seat (Ungrant g n) Done
 taken_back s seat g n sound may =
-    let pending = slice_set s.pending g (slice_index s.pending g - n) in
+    let pending = with_less s.pending g n in
     let held = zone_acts_held s seat (has_group s.groups g) (both-left (may_zone_act s seat && has_group s.groups g) (nat_le n (slice_index s.pending g)) may) in
     record {
       state = record (counted s) { pending = pending };
@@ -158,17 +158,20 @@ taken_back s seat g n sound may =
       sound = IsSound-kept s pending s.accounts (length-set s.pending g _ ∙ sound.pending) sound.accounts (NoneAbsent-less s.groups s.pending g _ (omega arith) sound.absent) held sound;
     }
 
-placed : (s : State) (seat g k : ℕ) (b : Block) → IsSound s → (may_zone_act s seat && has_group s.groups g && nat_le (2 ^ k) (slice_index s.pending g)) ≡ true → b.order ≡ k → IsFreeBlock (free_in s.places) b → Changed s seat (PlaceBlock g k) (Placed b)
+placed : (s : State) (seat g k : ℕ) (b : Block) → IsSound s
+    → (may_zone_act s seat && has_group s.groups g && nat_le (2 ^ k) (slice_index s.pending g)) ≡ true
+    → b.order ≡ k → IsFreeBlock (free_in s.places) b → Changed s seat (PlaceBlock g k) (Placed b)
 placed s seat g k b sound may order free =
     let both = both-left (may_zone_act s seat && has_group s.groups g) (nat_le (2 ^ k) (slice_index s.pending g)) may in
     let there : has_group s.groups g ≡ true = both-right (may_zone_act s seat) (has_group s.groups g) both in
     let held = zone_acts_held s seat (has_group s.groups g) both in
-    let pending = slice_set s.pending g (slice_index s.pending g - 2 ^ k) in
+    let pending = with_less s.pending g (2 ^ b.order) in
     let areas = maximal_blocks (free_in (with_block s.places b (Charged g))) in
+    let absent = NoneAbsent-less s.groups s.pending g _ (omega arith) sound.absent in
     record {
-      state = record (counted s) { places = with_block s.places b (Charged g); pending = pending; areas = areas.0 };
+      state = with_placed s g b areas.0;
       changes = (order, free, refl);
-      sound = IsSound-placed s b g pending areas.0 free there (length-set s.pending g _ ∙ sound.pending) (NoneAbsent-less s.groups s.pending g _ (omega arith) sound.absent) held areas.1 sound;
+      sound = IsSound-placed s b g pending areas.0 free there (length-set s.pending g _ ∙ sound.pending) absent held areas.1 sound;
     }
 
 noted_at : (s : State) (seat g : ℕ) → IsSound s → (may_zone_act s seat && has_group s.groups g) ≡ true → Changed s seat (NoteMax g) Done

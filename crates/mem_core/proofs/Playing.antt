@@ -3,6 +3,7 @@ use Rattle.std.proofs.Common.{◌≡◌, ℕ, ◌+◌, ◌<◌, ◌≤◌, List,
 use Rattle.std.specs.List.{zip}
 use Rattle.std.proofs.lemmas.List.{take_more, take_all, length-take-le}
 use Rattle.zone_blocks.specs.declared.block.Block.{Block}
+use Rattle.zone_blocks.specs.Areas.{IsFrontOfSmallest}
 use Rattle.zone_blocks.proofs.Unique.{unique_blocks}
 use Rattle.mem_core.specs.declared.config.Config.{Config}
 use Rattle.mem_core.specs.declared.step.Step.{Step}
@@ -13,7 +14,7 @@ use Rattle.mem_core.specs.declared.step.Answer.TheVariants.{Placed}
 use Rattle.mem_core.specs.Run.{Run, free_frames}
 use Rattle.mem_core.specs.Shown.{State, IsSound, Shows}
 use Rattle.mem_core.specs.Promise.{PlacesFirst, AlwaysPlacesFirst}
-use Rattle.mem_core.specs.Steps.{IsFrontOfSmallest, PlacesSmallest}
+use Rattle.mem_core.specs.Steps.{PlacesSmallest}
 use Rattle.mem_core.proofs.Runs.{pushed, each_step_push}
 use Rattle.mem_core.proofs.Parts.{HasSizes-IsSound}
 use Rattle.mem_core.proofs.ShownRuns.{free_areas-Shows}
@@ -33,7 +34,7 @@ zip-take_more steps answers i step answer h len =
 PlacesFirst-Shows : (s : State) (run : Run) (action : Action) (answer : Answer) → IsSound s → Shows s run → PlacesSmallest s action answer → PlacesFirst s.config run action answer
 PlacesFirst-Shows s run (PlaceBlock g k) (Placed b) sound shows smallest = λ areas maximal.
     let own = free_areas-Shows s run (HasSizes-IsSound s sound) sound shows in
-    subst (λ (l : List Block). IsFrontOfSmallest l b) (unique_blocks (free_frames s.config run) s.areas areas own maximal) smallest
+    subst (λ (l : List Block). IsFrontOfSmallest l k b) (unique_blocks (free_frames s.config run) s.areas areas own maximal) smallest
 PlacesFirst-Shows s run action answer sound shows smallest = tt
 
 -- what has been said of the run so far

@@ -23,7 +23,7 @@ use Rattle.mem_core.specs.Run.{Run, holder_after, groups_of, groups_after, place
 use Rattle.mem_core.specs.Legal.{is_removable, is_legal_action, IsAnswer, Allows}
 use Rattle.group_tree.specs.Room.{PathHasRoom, IsLowestOver}
 use Rattle.mem_core.specs.Shown.{State, is_at, free_in, current_in, IsSound, Shows}
-use Rattle.mem_core.specs.Steps.{may_zone_act, may_remove, may_act, with_block, counted, Changes, Makes}
+use Rattle.mem_core.specs.Steps.{may_zone_act, may_remove, may_act, with_block, with_placed, counted, Changes, Makes}
 use Rattle.mem_core.proofs.Runs.{pushed}
 use Rattle.mem_core.proofs.Parts.{HasSizes, HasSizes-IsSound, Matches, Matches-Shows, pending_of-Matches, free_frames-Matches, is_settled-Matches}
 use Rattle.mem_core.proofs.ShownRuns.{current_in-Shows}
@@ -223,8 +223,10 @@ Changes-advance s seat (Ungrant g n) Done t sizes may c =
 Changes-advance s seat (PlaceBlock g k) (Placed b) t sizes may c =
     let inside = group_inside s seat g (nat_le (2 ^ k) (slice_index s.pending g)) sizes may in
     let enough = leb-true (2 ^ k) (slice_index s.pending g) (both-right (may_zone_act s seat && has_group s.groups g) (nat_le (2 ^ k) (slice_index s.pending g)) may) in
+    let fits : 2 ^ b.order ≤ slice_index s.pending g = subst (λ (j : ℕ). 2 ^ j ≤ slice_index s.pending g) (sym c.0) enough in
     subst (λ (t : State). Advances s seat (PlaceBlock g k) (Placed b) t) (sym c.2)
-    (record { config = refl; steps = refl; holder = refl; groups = refl; places = places_after-with_block s.places b g c.1; pending = λ h. zero-add _ ∙ taken s.pending g (2 ^ k) h inside enough })
+    (subst (λ (j : ℕ). Advances s seat (PlaceBlock g j) (Placed b) (with_placed s g b t.areas)) c.0
+    (record { config = refl; steps = refl; holder = refl; groups = refl; places = places_after-with_block s.places b g c.1; pending = λ h. zero-add _ ∙ taken s.pending g (2 ^ b.order) h inside fits }))
 Changes-advance s seat (PlaceBlock g k) NoFreeBlock t sizes may c =
     subst (λ (t : State). Advances s seat (PlaceBlock g k) NoFreeBlock t) (sym c.1)
     (record { config = refl; steps = refl; holder = refl; groups = refl; places = λ f p. refl; pending = λ g. refl })

@@ -1,5 +1,6 @@
 -- Which steps may be made after a run, and which answers each of them may get.
-use Rattle.std.specs.Prelude.{◌≡◌, ℕ, ◌^◌, ◌==◌, ◌&&◌, nat_le, not, Bool, true, false, Option, Some, None, is_none, is_some, take, slice_get, IfSome}
+use Rattle.std.specs.Prelude.{◌≡◌, ℕ, ◌^◌, ◌==◌, ◌&&◌, not, Bool, true, false}
+use Rattle.std.specs.Prelude.{nat_le, Option, Some, None, is_none, is_some, take, slice_get, IfSome}
 use Rattle.std.specs.List.{list_all, range_with_len}
 use Rattle.zone_blocks.specs.declared.block.Block.{Block}
 use Rattle.zone_blocks.specs.Areas.{IsFreeBlock}

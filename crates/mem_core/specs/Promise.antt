@@ -1,13 +1,12 @@
 -- What a core promises of the run that it shows.
 use Rattle.std.specs.Prelude.{◌≡◌, ℕ, List, take, slice_get, IfSome}
 use Rattle.zone_blocks.specs.declared.block.Block.{Block}
-use Rattle.zone_blocks.specs.Areas.{AreMaximalBlocks}
+use Rattle.zone_blocks.specs.Areas.{AreMaximalBlocks, IsFrontOfSmallest}
 use Rattle.mem_core.specs.declared.config.Config.{Config}
 use Rattle.mem_core.specs.declared.step.Action.{Action}
 use Rattle.mem_core.specs.declared.step.Action.TheVariants.{PlaceBlock}
 use Rattle.mem_core.specs.declared.step.Answer.{Answer}
 use Rattle.mem_core.specs.declared.step.Answer.TheVariants.{Placed}
-use Rattle.mem_core.specs.Steps.{IsFrontOfSmallest}
 use Rattle.mem_core.specs.Run.{Run, usage_of, free_frames}
 use Rattle.mem_core.specs.Shown.{State, Shows, IsSound, current_in}
 
@@ -21,7 +20,7 @@ pub record AgreesWith (s : State) (run : Run) : Type 0 where
 -- (Knuth: the least sufficient order is split)
 abbrev pub PlacesFirst : Config → Run → Action → Answer → Type 0
 PlacesFirst config run (PlaceBlock g k) (Placed b) =
-    (areas : List Block) → AreMaximalBlocks (free_frames config run) areas → IsFrontOfSmallest areas b
+    (areas : List Block) → AreMaximalBlocks (free_frames config run) areas → IsFrontOfSmallest areas k b
 PlacesFirst config run action answer = Unit {0}
 
 -- that block is placed in each step of the run

@@ -1,7 +1,8 @@
 -- A run is the list of the steps that were made, each with its answer. What stands where after it is
 -- counted over that list alone. A pair whose answer is Illegal counts
 -- only as a step.
-use Rattle.std.specs.Prelude.{ℕ, ◌+◌, ◌-◌, ◌^◌, ◌==◌, ◌&&◌, Bool, Option, Some, None, List, map, fold, sum_by, count_by, if◌then◌else◌}
+use Rattle.std.specs.Prelude.{ℕ, ◌+◌, ◌-◌, ◌^◌, ◌==◌, ◌&&◌, Bool, if◌then◌else◌}
+use Rattle.std.specs.Prelude.{Option, Some, None, List, map, fold, sum_by, count_by}
 use Rattle.std.specs.List.{list_any, range_with_len}
 use Rattle.group_tree.specs.declared.group.Group.{Group}
 use Rattle.group_tree.specs.Groups.{initial_groups, in_subtree, with_group, with_limit, without_group}

@@ -1,5 +1,6 @@
 -- What a core shows, and of which runs it shows the state.
-use Rattle.std.specs.Prelude.{◌≡◌, ℕ, ◌+◌, Bool, true, false, Option, Some, None, List, length, map, slice_get, slice_index, sum_by, count_by, All, if◌then◌else◌}
+use Rattle.std.specs.Prelude.{◌≡◌, ℕ, ◌+◌, Bool, true, false, Option, Some, None, if◌then◌else◌}
+use Rattle.std.specs.Prelude.{List, length, map, slice_get, slice_index, sum_by, count_by, All}
 use Rattle.std.specs.List.{slice_index_or}
 use Rattle.zone_blocks.specs.declared.block.Block.{Block}
 use Rattle.zone_blocks.specs.Areas.{AreMaximalBlocks}
@@ -27,9 +28,13 @@ pub record State : Type 0 where
   pub areas : List Block
   pub steps : ℕ
 
+-- the account that a list has for the group; beyond its end a new one
+abbrev pub account_of : List Account → ℕ → Account
+account_of accounts g = slice_index_or accounts g new_account
+
 -- the account of the group
 abbrev pub account_in : State → ℕ → Account
-account_in s g = slice_index_or s.accounts g new_account
+account_in s g = account_of s.accounts g
 
 -- there is a place, and it is this one
 abbrev pub is_some_place : Option Place → Place → Bool

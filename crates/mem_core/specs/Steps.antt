@@ -1,8 +1,9 @@
 -- How one step changes what a core shows.
-use Rattle.std.specs.Prelude.{◌≡◌, ℕ, ◌+◌, ◌-◌, ◌^◌, ◌==◌, ◌&&◌, ◌++◌, ◌≤◌, nat_le, not, Bool, true, false, Some, None, is_none, is_some, List, take, drop, replicate, slice_index, slice_set}
+use Rattle.std.specs.Prelude.{◌≡◌, ℕ, ◌+◌, ◌-◌, ◌^◌, ◌==◌, ◌&&◌, ◌++◌, ◌≤◌, not, Bool, true, false}
+use Rattle.std.specs.Prelude.{nat_le, Some, None, is_none, is_some, List, take, drop, replicate, slice_index, slice_set}
 use Rattle.std.specs.List.{list_all}
 use Rattle.zone_blocks.specs.declared.block.Block.{Block}
-use Rattle.zone_blocks.specs.Areas.{IsFreeBlock, IsSmallestFrom}
+use Rattle.zone_blocks.specs.Areas.{IsFreeBlock, IsFrontOfSmallest}
 use Rattle.group_tree.specs.declared.group.Group.{Group}
 use Rattle.group_tree.specs.Groups.{has_group, has_child, in_subtree, limit_of, make_fault, with_group, with_limit, without_group, IsLeastFreeNumber}
 use Rattle.group_tree.specs.Room.{at_group, fits_limit, on_path, peak_after, PathHasRoom, IsLowestOver}
@@ -15,7 +16,7 @@ use Rattle.mem_core.specs.declared.step.Answer.{Answer}
 use Rattle.mem_core.specs.declared.step.Answer.TheVariants.{Illegal, Done, Granted, Over, Placed, NoFreeBlock, Number}
 use Rattle.mem_core.specs.Legal.{is_processor, is_held_by}
 use Rattle.mem_core.specs.Events.{Account, new_account, with_max}
-use Rattle.mem_core.specs.Shown.{State, account_in, free_in, current_in}
+use Rattle.mem_core.specs.Shown.{State, account_of, free_in, current_in}
 
 -- the zone's own seat acts while a processor holds the lock
 abbrev pub may_zone_act : State → ℕ → Bool
@@ -60,38 +61,53 @@ noted groups g m account = record account {
 abbrev pub counted : State → State
 counted s = record s { steps = s.steps + 1 }
 
--- the block begins where the smallest area does: the area of the least sufficient order, and there of the least
--- address (Knuth)
-abbrev pub IsFrontOfSmallest : List Block → Block → Type 0
-IsFrontOfSmallest areas b = (area : Block) × IsSmallestFrom areas b.order area × (b.at ≡ area.at)
-
--- which of the free blocks the core places
+-- which of the free blocks the core places: the front of its smallest sufficient area (Knuth)
 abbrev pub PlacesSmallest : State → Action → Answer → Type 0
-PlacesSmallest s (PlaceBlock g k) (Placed b) = IsFrontOfSmallest s.areas b
+PlacesSmallest s (PlaceBlock g k) (Placed b) = IsFrontOfSmallest s.areas k b
 PlacesSmallest s action answer = Unit {0}
 
 -- the peaks of the group and of its ancestors rise to the usage where it is greater, and nothing else of any
 -- account changes
-abbrev pub RaisesPeaks : State → State → ℕ → Type 0
-RaisesPeaks s t g = (m : ℕ) → account_in t m ≡ peaked s.groups (current_in t) g m (account_in s m)
+abbrev pub RaisesPeaks : List Group → (ℕ → ℕ) → ℕ → List Account → List Account → Type 0
+RaisesPeaks groups usage g old new = (m : ℕ) → account_of new m ≡ peaked groups usage g m (account_of old m)
 
 -- one `max` more in the events of the group and of each of its ancestors, and in the group's own
-abbrev pub CountsMax : State → State → ℕ → Type 0
-CountsMax s t g = (m : ℕ) → account_in t m ≡ noted s.groups g m (account_in s m)
+abbrev pub CountsMax : List Group → ℕ → List Account → List Account → Type 0
+CountsMax groups g old new = (m : ℕ) → account_of new m ≡ noted groups g m (account_of old m)
+
+-- n pages more are pending for the group
+abbrev pub with_more : List ℕ → ℕ → ℕ → List ℕ
+with_more pending g n = slice_set pending g (slice_index pending g + n)
+
+-- n pages less are pending for the group
+abbrev pub with_less : List ℕ → ℕ → ℕ → List ℕ
+with_less pending g n = slice_set pending g (slice_index pending g - n)
+
+-- the state with one step more that places the group's pages on the block, and leaves these free areas
+abbrev pub with_placed : State → ℕ → Block → List Block → State
+with_placed s g b areas = record (counted s) {
+  places = with_block s.places b (Charged g);
+  pending = with_less s.pending g (2 ^ b.order);
+  areas = areas;
+}
 
 -- how a step that is made, and is answered so, changes the state, whichever free block is placed
 abbrev pub Changes : State → ℕ → Action → Answer → State → Type 0
 Changes s seat Lock Done t = t ≡ record (counted s) { holder = Some seat }
 Changes s seat Unlock Done t = t ≡ record (counted s) { holder = None }
-Changes s seat (Grant g n) Granted t = PathHasRoom s.groups (current_in s) g n × (t ≡ record (counted s) { pending = slice_set s.pending g (slice_index s.pending g + n); accounts = t.accounts }) × RaisesPeaks s t g
+Changes s seat (Grant g n) Granted t =
+    PathHasRoom s.groups (current_in s) g n ×
+    (t ≡ record (counted s) { pending = with_more s.pending g n; accounts = t.accounts }) ×
+    RaisesPeaks s.groups (current_in t) g s.accounts t.accounts
 Changes s seat (Grant g n) (Over m) t = IsLowestOver s.groups (current_in s) g n m × (t ≡ counted s)
-Changes s seat (Ungrant g n) Done t = t ≡ record (counted s) { pending = slice_set s.pending g (slice_index s.pending g - n) }
-Changes s seat (PlaceBlock g k) (Placed b) t = (b.order ≡ k) × IsFreeBlock (free_in s.places) b ×
-    (t ≡ record (counted s) { places = with_block s.places b (Charged g); pending = slice_set s.pending g (slice_index s.pending g - 2 ^ k); areas = t.areas })
+Changes s seat (Ungrant g n) Done t = t ≡ record (counted s) { pending = with_less s.pending g n }
+Changes s seat (PlaceBlock g k) (Placed b) t = (b.order ≡ k) × IsFreeBlock (free_in s.places) b × (t ≡ with_placed s g b t.areas)
 Changes s seat (PlaceBlock g k) NoFreeBlock t = ((b : Block) → b.order ≡ k → ¬ IsFreeBlock (free_in s.places) b) × (t ≡ counted s)
-Changes s seat (Make path) (Number n) t = IsLeastFreeNumber s.groups n × (t ≡ record (counted s) { groups = with_group s.groups n path; accounts = slice_set s.accounts n new_account })
+Changes s seat (Make path) (Number n) t =
+    IsLeastFreeNumber s.groups n ×
+    (t ≡ record (counted s) { groups = with_group s.groups n path; accounts = slice_set s.accounts n new_account })
 Changes s seat (SetMax g limit) Done t = t ≡ record (counted s) { groups = with_limit s.groups g limit }
-Changes s seat (NoteMax g) Done t = (t ≡ record (counted s) { accounts = t.accounts }) × CountsMax s t g
+Changes s seat (NoteMax g) Done t = (t ≡ record (counted s) { accounts = t.accounts }) × CountsMax s.groups g s.accounts t.accounts
 Changes s seat (Remove g) Done t = t ≡ record (counted s) { groups = without_group s.groups g }
 Changes s seat action answer t = ⊥
 

@@ -1,11 +1,9 @@
 //! Peaks and events along a path.
 
 ghost use Rattle.std.specs.Prelude.{◌≡◌, ◌^◌, ◌<◌, ◌≤◌, ℕ, IsTrue, length, vec_len, All};
-ghost use Rattle.std.specs.List.{slice_index_or};
 ghost use Rattle.group_tree.specs.Groups.{has_group};
-ghost use Rattle.mem_core.specs.Events.{new_account};
 ghost use Rattle.mem_core.specs.Shown.{KeeperIsThere, usage_below};
-ghost use Rattle.mem_core.specs.Steps.{noted, peaked};
+ghost use Rattle.mem_core.specs.Steps.{noted, peaked, CountsMax, RaisesPeaks};
 
 use crate::account::Account;
 use crate::step::Place;
@@ -29,7 +27,7 @@ pub(crate) fn raise_peaks(
     requires few { All (λ a. a.peak < 2 ^ 104) accounts.old.items }
     ensures length { vec_len accounts.new ≡ 64 }
     ensures few { All (λ a. a.peak < 2 ^ 104) accounts.new.items }
-    ensures peaks { (m : ℕ) → slice_index_or accounts.new.items m new_account ≡ peaked tree.now (usage_below tree.now places.now pending.now) group m (slice_index_or accounts.old.items m new_account) }
+    ensures peaks { RaisesPeaks tree.now (usage_below tree.now places.now pending.now) group accounts.old.items accounts.new.items }
 {
     for row in tree.groups() {
         let place = row.number.number() as usize;
@@ -73,7 +71,7 @@ pub(crate) fn note_max(tree: &Tree, accounts: &mut Vec<Account>, group: GroupId)
     requires few { All (λ a. a.peak < 2 ^ 104) accounts.old.items }
     ensures length { vec_len accounts.new ≡ 64 }
     ensures few { All (λ a. a.peak < 2 ^ 104) accounts.new.items }
-    ensures events { (m : ℕ) → slice_index_or accounts.new.items m new_account ≡ noted tree.now group m (slice_index_or accounts.old.items m new_account) }
+    ensures events { CountsMax tree.now group accounts.old.items accounts.new.items }
 {
     for row in tree.groups() {
         let place = row.number.number() as usize;

@@ -1,6 +1,7 @@
 //! Sums over a group and its descendants.
 
-ghost use Rattle.std.specs.Prelude.{◌≡◌, ◌+◌, ◌*◌, ◌^◌, ◌<◌, ◌≤◌, IsTrue, length, slice_index, sum_by, count_by, if◌then◌else◌, All};
+ghost use Rattle.std.specs.Prelude.{◌≡◌, ◌+◌, ◌*◌, ◌^◌, ◌<◌, ◌≤◌, if◌then◌else◌};
+ghost use Rattle.std.specs.Prelude.{IsTrue, length, slice_index, sum_by, count_by, All};
 ghost use Rattle.group_tree.specs.Groups.{has_group, in_subtree};
 ghost use Rattle.mem_core.specs.Shown.{frames_below, is_charged_below, KeeperIsThere, pages_below, usage_below};
 

@@ -1,9 +1,10 @@
 //! The core: what stands behind the zone's lock, and how a step changes it.
 
-ghost use Rattle.std.specs.Prelude.{◌≡◌, ℕ, ◌+◌, ◌-◌, ◌^◌, ◌<◌, ◌≤◌, ◌↔◌, ◌&&◌, ◌≢◌, ◌++◌, ◌∷◌, [], true, false, Some, None, is_some, is_none, IsTrue, IfOk, OnOk, MatchOption, IfNone, IfSome, length, slice_get, slice_index, slice_set, map, All, ◌==◌};
+ghost use Rattle.std.specs.Prelude.{◌≡◌, ℕ, ◌+◌, ◌-◌, ◌^◌, ◌<◌, ◌≤◌, ◌↔◌, ◌&&◌, ◌≢◌, ◌++◌, ◌∷◌, [], true, false, ◌==◌};
+ghost use Rattle.std.specs.Prelude.{Some, None, is_some, is_none, IsTrue, IfOk, OnOk, MatchOption, IfNone, IfSome, length, slice_get, slice_index, slice_set, map, All};
 ghost use Rattle.std.specs.List.{list_all};
 ghost use Rattle.zone_blocks.specs.declared.block.Block.{Block};
-ghost use Rattle.zone_blocks.specs.Areas.{IsFreeBlock, AreMaximalBlocks};
+ghost use Rattle.zone_blocks.specs.Areas.{IsFreeBlock, IsFrontOfSmallest, AreMaximalBlocks};
 ghost use Rattle.group_tree.specs.Groups.{has_child, has_group, make_fault, with_group, with_limit, without_group, IsLeastFreeNumber};
 ghost use Rattle.group_tree.specs.Room.{has_room, IsLowestOver, PathHasRoom};
 ghost use Rattle.mem_core.specs.declared.step.Place.{Place};
@@ -12,7 +13,8 @@ ghost use Rattle.mem_core.specs.Places.{is_same_place};
 ghost use Rattle.mem_core.specs.Run.{Run, groups_of, places_of, usage_of, free_frames};
 ghost use Rattle.mem_core.specs.Legal.{is_held_by};
 ghost use Rattle.mem_core.specs.Shown.{State, Shows, IsSound, free_in, current_in};
-ghost use Rattle.mem_core.specs.Steps.{may_act, may_remove, may_zone_act, counted, with_block, CountsMax, IsFrontOfSmallest, MovesUsage, PlacesSmallest, RaisesPeaks, Changes, Makes};
+ghost use Rattle.mem_core.specs.Steps.{may_act, may_remove, may_zone_act, counted, with_less, with_more, with_placed};
+ghost use Rattle.mem_core.specs.Steps.{CountsMax, MovesUsage, PlacesSmallest, RaisesPeaks, Changes, Makes};
 
 mod readers;
 
@@ -232,7 +234,8 @@ impl Core {
     // The lowest group, from this one up to the root, whose limit has no room for the pages.
     fn lowest_over(&self, group: GroupId, pages: u32) -> Option<GroupId>
         requires there { has_group self.now.groups group ≡ true }
-        ensures { MatchOption result (PathHasRoom self.now.groups (current_in self.now) group pages) (IsLowestOver self.now.groups (current_in self.now) group pages) }
+        ensures none { IfNone result (PathHasRoom self.now.groups (current_in self.now) group pages) }
+        ensures some { IfSome result (IsLowestOver self.now.groups (current_in self.now) group pages) }
     {
         let mut lowest = group;
         while self.has_room(lowest, pages) {
@@ -271,8 +274,8 @@ impl Core {
         requires room { self.old.steps + 1 < 2 ^ 64 }
         requires held { is_some self.old.holder ≡ true }
         requires there { has_group self.old.groups group ≡ true }
-        ensures state { self.new ≡ record (counted self.old) { pending = slice_set self.old.pending group (slice_index self.old.pending group + pages); accounts = self.new.accounts } }
-        ensures peaks { RaisesPeaks self.old self.new group }
+        ensures state { self.new ≡ record (counted self.old) { pending = with_more self.old.pending group pages; accounts = self.new.accounts } }
+        ensures peaks { RaisesPeaks self.old.groups (current_in self.new) group self.old.accounts self.new.accounts }
     {
         self.steps += 1;
         self.pending[group.number() as usize] += u128::from(pages);
@@ -291,7 +294,7 @@ impl Core {
         requires held { is_some self.old.holder ≡ true }
         requires enough { pages ≤ slice_index self.old.pending group }
         ensures answer { result ≡ Answer.Done }
-        ensures state { self.new ≡ record (counted self.old) { pending = slice_set self.old.pending group (slice_index self.old.pending group - pages) } }
+        ensures state { self.new ≡ record (counted self.old) { pending = with_less self.old.pending group pages } }
     {
         self.steps += 1;
         self.pending[group.number() as usize] -= u128::from(pages);
@@ -322,8 +325,8 @@ impl Core {
     // The free block of the order that is placed next: the lower part of the smallest area.
     fn free_block(&self, order: Order) -> Option<Block>
         ensures none { IfNone result ((b : Block) → b.order ≡ order → ¬ IsFreeBlock (free_in self.now.places) b) }
-        ensures some { IfSome result (λ b. (b.order ≡ order) × IsFreeBlock (free_in self.now.places) b) }
-        ensures smallest { IfSome result (IsFrontOfSmallest self.now.areas) }
+        ensures some { IfSome result (IsFreeBlock (free_in self.now.places)) }
+        ensures smallest { IfSome result (IsFrontOfSmallest self.now.areas order) }
     {
         let area = self.areas.smallest_from(order)?;
         Some(Block { at: area.at, order })
@@ -336,7 +339,7 @@ impl Core {
         requires there { has_group self.old.groups group ≡ true }
         requires enough { 2 ^ block.now.order ≤ slice_index self.old.pending group }
         requires free { IsFreeBlock (free_in self.old.places) block.now }
-        ensures { self.new ≡ record (counted self.old) { places = with_block self.old.places block.now (Place.Charged group); pending = slice_set self.old.pending group (slice_index self.old.pending group - 2 ^ block.now.order); areas = self.new.areas } }
+        ensures { self.new ≡ with_placed self.old group block.now self.new.areas }
     {
         self.steps += 1;
         let at = block.at as usize;

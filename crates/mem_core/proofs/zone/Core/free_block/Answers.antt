@@ -1,5 +1,5 @@
 -- The lower part of the smallest area is a free block, and without an area there is none.
-use Rattle.std.proofs.Common.{◌≡◌, refl, subst}
+use Rattle.std.proofs.Common.{◌≡◌, subst}
 use Rattle.zone_blocks.specs.declared.block.Block.{Block}
 use Rattle.zone_blocks.specs.Areas.{IsFreeBlock}
 use Rattle.mem_core.specs.Shown.{State, free_in}
@@ -15,8 +15,6 @@ pub returns-clause-some : goal.returns-clause-some
 returns-clause-some c =
     let sound = c.self.invariant.sound in
     let smallest = c.in_ok-area.ensures in
-    let area = sound.areas.each c.in_ok-area.area smallest.there in (
-      refl,
-      subst (λ (s : State). IsFreeBlock (free_in s.places) (record { at = c.in_ok-area.area.at; order = c.args.order })) c.self.view_is
-          (lower_part_is_free (free_in c.self.inside.places.items) c.in_ok-area.area c.args.order area.is_free smallest.sufficient),
-    )
+    let area = sound.areas.each c.in_ok-area.area smallest.there in
+    subst (λ (s : State). IsFreeBlock (free_in s.places) (record { at = c.in_ok-area.area.at; order = c.args.order })) c.self.view_is
+    (lower_part_is_free (free_in c.self.inside.places.items) c.in_ok-area.area c.args.order area.is_free smallest.sufficient)

@@ -29,13 +29,13 @@ loop-self-preserved c =
     let up = ap (λ (s : State). parent_of s.groups c.loop-self.lowest) (sym c.self.view_is) ∙ sym c.in-Some.ensures.value in
     walked_up c.args.self.now.groups (λ m. has_room c.args.self.now.groups (current_in c.args.self.now) m c.args.pages) c.args.group c.loop-self.lowest c.in-Some.parent facts c.loop-self.invariant (sym c.has_room.ensures ∙ c.loop-self-test.true) up
 
-pub returns-in-None : goal.returns-in-None
-returns-in-None c =
+pub returns-in-None-clause-none : goal.returns-in-None-clause-none
+returns-in-None-clause-none c =
     let facts = subst (λ (s : State). AreGroups s.groups) c.self.view_is c.self.invariant.sound.groups in
     walked_all c.args.self.now.groups (λ m. has_room c.args.self.now.groups (current_in c.args.self.now) m c.args.pages) c.args.group c.loop-self.lowest facts c.loop-self.invariant (sym c.has_room.ensures ∙ c.loop-self-test.true) (c.in-None.ensures.root.0 refl)
 
-pub returns : goal.returns
-returns c = record {
+pub returns-clause-some : goal.returns-clause-some
+returns-clause-some c = record {
   on_path = c.loop-self.invariant.on_path;
   over = sym c.has_room.ensures ∙ c.loop-self-test.false;
   lowest = walked_lowest c.args.self.now.groups (λ m. has_room c.args.self.now.groups (current_in c.args.self.now) m c.args.pages) c.args.group c.loop-self.lowest c.loop-self.invariant;
