@@ -113,6 +113,32 @@ with_group_limit l g limit = record l { groups = with_limit l.groups g limit }
 abbrev pub UsageRises : Ledger → Ledger → ℕ → ℕ → Type 0
 UsageRises l k g n = (m : ℕ) → current_of k m ≡ on_path l.groups g (λ pages. pages + n) m (current_of l m)
 
+-- the second ledger has n pages more charged to g itself, and the same to each other group
+abbrev pub PagesRise : Ledger → Ledger → ℕ → ℕ → Type 0
+PagesRise l k g n = (m : ℕ) → pages_of k m ≡ pages_of l m + (if m == g then n else 0)
+
+-- each group has the same pages of its own in both
+abbrev pub SamePages : Ledger → Ledger → Type 0
+SamePages l k = (m : ℕ) → pages_of k m ≡ pages_of l m
+
+-- the peak of g and of each of its ancestors is the greater of the old peak and its usage now, and each other is the same
+abbrev pub PeaksRise : Ledger → Ledger → ℕ → Type 0
+PeaksRise l k g = (m : ℕ) → peak_of k m ≡ peak_after l.groups (current_of k) g m (peak_of l m)
+
+-- each group has the same peak in both
+abbrev pub SamePeaks : Ledger → Ledger → Type 0
+SamePeaks l k = (m : ℕ) → peak_of k m ≡ peak_of l m
+
+-- each group has the same counts in both, with and without what is below it
+pub record SameEvents (l k : Ledger) : Type 0 where
+  pub events : (m : ℕ) → events_of k m ≡ events_of l m
+  pub events_local : (m : ℕ) → events_local_of k m ≡ events_local_of l m
+
+-- one `max` more in the events of g and of each of its ancestors, and in the local events of g alone
+pub record CountsMax (l k : Ledger) (g : ℕ) : Type 0 where
+  pub events : (m : ℕ) → events_of k m ≡ on_path l.groups g with_max m (events_of l m)
+  pub events_local : (m : ℕ) → events_local_of k m ≡ at_group g with_max m (events_local_of l m)
+
 -- what holds of every ledger: the groups are a tree's, each has an account, all pages fit 32 bits, and no
 -- peak is below the usage
 pub record AreCharges (l : Ledger) : Type 0 where

@@ -1,7 +1,8 @@
 //! The core: what stands behind the zone's lock, and how a step changes it.
 
 ghost use Rattle.std.specs.Prelude.{◌≡◌, ℕ, ◌+◌, ◌-◌, ◌^◌, ◌<◌, ◌≤◌, ◌↔◌, ◌&&◌, ◌≢◌, ◌++◌, ◌∷◌, [], true, false, ◌==◌};
-ghost use Rattle.std.specs.Prelude.{Some, None, is_some, is_none, IsTrue, IfOk, OnOk, MatchOption, IfNone, IfSome, length, slice_get, slice_index, slice_set, map, All};
+ghost use Rattle.std.specs.Prelude.{Some, None, is_some, is_none, IsTrue, IfOk, OnOk, MatchOption, IfNone, IfSome, length};
+ghost use Rattle.std.specs.Prelude.{slice_get, slice_index, slice_set, map, All};
 ghost use Rattle.std.specs.List.{list_all};
 ghost use Rattle.zone_blocks.specs.declared.block.Block.{Block};
 ghost use Rattle.zone_blocks.specs.Areas.{IsFreeBlock, IsFrontOfSmallest, AreMaximalBlocks};
@@ -237,14 +238,12 @@ impl Core {
         ensures none { IfNone result (PathHasRoom self.now.groups (current_in self.now) group pages) }
         ensures some { IfSome result (IsLowestOver self.now.groups (current_in self.now) group pages) }
     {
-        let mut lowest = group;
-        while self.has_room(lowest, pages) {
-            match self.tree.parent(lowest) {
-                Some(parent) => lowest = parent,
-                None => return None,
+        for above in self.tree.ancestors(group) {
+            if !self.has_room(above, pages) {
+                return Some(above);
             }
         }
-        Some(lowest)
+        None
     }
 
     // Whether the usage with so many pages more is at most the group's own limit.
