@@ -1,4 +1,4 @@
--- A list with one element more, or one less: its members and its order.
+-- A list with one element more, or one less, its members and its order: for `insert` and `remove`.
 use Rattle.std.proofs.Common.{◌≡◌, ◌≢◌, ℕ, ◌+◌, ◌-◌, ◌<◌, ◌≤◌, ◌⊎◌, List, length, get_or, sym, ◌∙◌, inl, inr, arith}
 use Rattle.std.specs.List.{AllPairs, Contains, insert, remove}
 use Rattle.std.proofs.lemmas.List.{get_or_default}

@@ -1,4 +1,4 @@
--- The blocks of all lists, told by those of each.
+-- The blocks of all lists, told by those of each: for `new`, `set_from` and the order of `walk`.
 use Rattle.std.proofs.Common.{◌≡◌, ℕ, zero, suc, ◌+◌, ◌-◌, ◌/◌, ◌^◌, ◌<◌, ◌≤◌, Bool, List, [], ◌∷◌, ◌++◌, length, get_or, set, refl, inl, inr, arith, Vec, Global, length-append}
 use Rattle.std.specs.List.{AllPairs, Contains, flat_map}
 use Rattle.std.specs.Vec.{vec_capacity}

@@ -1,4 +1,4 @@
--- Blocks are nested or apart, so two maximal free blocks that share a frame are one.
+-- Blocks are nested or apart, so two maximal free blocks that share a frame are one: for the laws, for `set_from` and for callers.
 use Rattle.std.proofs.Common.{◌≡◌, ℕ, ◌+◌, ◌-◌, ◌*◌, ◌/◌, ◌^◌, ◌%◌, ◌<◌, ◌≤◌, Bool, List, length, sym, ap, ◌∙◌, inl, inr, arith}
 use Rattle.std.proofs.lemmas.Bool.{cases_lt, cases_order}
 use Rattle.std.proofs.lemmas.Nat.{div-add-mod', pow_pos, pow-add, mod-pow-add, mod_below}

@@ -1,4 +1,4 @@
--- A list for each order: what their blocks are, and what they become when one list is changed.
+-- A list for each order, what their blocks are, and what they become when one list is changed: for each call of `FreeAreas`.
 use Rattle.std.proofs.Common.{◌≡◌, ◌≢◌, ℕ, zero, suc, ◌+◌, ◌-◌, ◌*◌, ◌/◌, ◌^◌, ◌%◌, ◌<◌, ◌≤◌, ◌⊎◌, List, [], ◌∷◌, length, get_or, set, refl, sym, ap, ◌∙◌, subst, inl, inr, arith, Vec, Global, Option, Some, None, length-set}
 use Rattle.std.specs.List.{AllPairs, Contains, insert, remove, slice_get}
 use Rattle.std.specs.Vec.{vec_capacity}

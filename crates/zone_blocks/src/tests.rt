@@ -14,6 +14,25 @@ fn walk_of(alloc: Global, areas: &FreeAreas) -> Result<Vec<(u32, u32)>, AllocErr
     Ok(pairs)
 }
 
+// The lines that the README shows.
+#[test]
+fn areas_of_eleven_frames(rt: HostRuntime) -> Result<(), Fail> {
+    let mut areas = FreeAreas::new(rt.alloc(), 11)?;
+    areas.set_from(&[true; 11]);
+    let order = Order::of(1).ok_or("order 1")?;
+    assert_eq!(rt; areas.first(order), Some(Block { at: 8, order }));
+    if areas.contains(Block { at: 8, order }) {
+        areas.remove(Block { at: 8, order });
+    }
+    assert!(rt; !areas.contains(Block { at: 8, order }));
+    let rest = Order::of(3).ok_or("order 3")?;
+    assert_eq!(rt;
+        areas.smallest_from(order),
+        Some(Block { at: 0, order: rest })
+    );
+    Ok(())
+}
+
 #[test]
 fn orders_end_at_ten(rt: HostRuntime) -> Result<(), Fail> {
     let greatest = Order::of(10).ok_or("order 10")?;

@@ -1,4 +1,4 @@
--- The frames of free areas, when a block is put in or taken out.
+-- The frames of free areas, when a block is put in or taken out: for each call of `Buddy`.
 use Rattle.std.proofs.Common.{◌≡◌, ℕ, ◌+◌, ◌^◌, ◌<◌, Bool, true, false, List, length, get_or, leb, ltb, sym, ◌∙◌, subst, inl, inr, arith}
 use Rattle.std.specs.List.{Contains, list_any}
 use Rattle.std.proofs.lemmas.Bool.{cases_lt, cases_Bool, false≢true, and_parts, and_from, leb-true, ltb-true, le-leb, lt-ltb}

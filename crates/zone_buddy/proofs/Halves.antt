@@ -1,4 +1,4 @@
--- A block and its halves, and a block and its buddy.
+-- A block and its halves, for `free_upper_halves`, and a block and its buddy, for `take_buddy`.
 use Rattle.std.proofs.Common.{◌≡◌, ◌≢◌, ℕ, zero, suc, ◌+◌, ◌-◌, ◌*◌, ◌/◌, ◌^◌, ◌%◌, ◌<◌, ◌⊎◌, Bool, eqb, List, refl, sym, ◌∙◌, subst, inl, inr, arith, eq-eqb}
 use Rattle.std.specs.List.{Contains}
 use Rattle.std.proofs.lemmas.Bool.{cases_lt, cases_eq, ne_eqb, cond-true, cond-false}

@@ -1,4 +1,4 @@
--- A block that is merged with its buddy before it is put in.
+-- A block that is merged with its buddy before it is put in: for `take_buddy` and `insert_merged`.
 use Rattle.std.proofs.Common.{◌≡◌, ◌≢◌, ℕ, ◌+◌, ◌-◌, ◌^◌, ◌%◌, ◌<◌, ◌≤◌, ◌⊎◌, min, eqb, eq-eqb, Bool, List, length, refl, sym, ap, ◌∙◌, subst, inl, inr, arith}
 use Rattle.std.specs.List.{Contains}
 use Rattle.std.proofs.lemmas.Bool.{cases_lt, ne_eqb, cond-true, cond-false}

@@ -1,4 +1,4 @@
--- Sets of free frames that differ by one block, and their maximal free blocks.
+-- Sets of free frames that differ by one block, and their maximal free blocks: for `take` and `give`.
 use Rattle.std.proofs.Common.{◌≡◌, ℕ, ◌+◌, ◌^◌, ◌⊎◌, Bool, List, length, sym, subst, inl, inr, arith}
 use Rattle.std.specs.List.{Contains}
 use Rattle.std.proofs.lemmas.Bool.{cases_lt}

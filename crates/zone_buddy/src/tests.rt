@@ -18,6 +18,21 @@ fn pairs_of(alloc: Global, walk: Walk<'_>) -> Result<Vec<(u32, u32)>, AllocError
     Ok(pairs)
 }
 
+// The lines that the README shows.
+#[test]
+fn a_block_is_taken_and_given_back(rt: HostRuntime) -> Result<(), Fail> {
+    let mut zone = Buddy::new(rt.alloc(), 16)?;
+    let order = Order::of(2).ok_or("order 2")?;
+    assert_eq!(rt; zone.take(order), Some(Block { at: 0, order }));
+    if zone.is_in_use(Block { at: 0, order }) {
+        zone.give(Block { at: 0, order });
+    }
+    for block in zone.blocks() {
+        assert_eq!(rt; block.order.frames(), 16);
+    }
+    Ok(())
+}
+
 #[test]
 fn sixteen_frames_one_by_one(rt: HostRuntime) -> Result<(), Fail> {
     let single = Order::of(0).ok_or("order 0")?;
@@ -35,10 +50,45 @@ fn sixteen_frames_one_by_one(rt: HostRuntime) -> Result<(), Fail> {
     Ok(())
 }
 
-// Marks so many frames from `at` on as free or in use.
-fn mark(free: &mut [bool], at: u32, frames: u32, is_free: bool) {
-    let start = at as usize;
-    let end = start + frames as usize;
+#[test]
+fn the_greatest_zone_is_taken_and_given_back(rt: HostRuntime) -> Result<(), Fail> {
+    let order = Order::of(10).ok_or("order 10")?;
+    let single = Order::of(0).ok_or("order 0")?;
+    let mut zone = Buddy::new(rt.alloc(), 65_536)?;
+    for index in 0..64_u32 {
+        let at = index * 1024;
+        assert_eq!(rt; zone.take(order), Some(Block { at, order }));
+    }
+    assert!(rt; zone.take(single).is_none());
+    for index in 0..64_u32 {
+        let at = index * 1024;
+        assert!(rt; zone.is_in_use(Block { at, order }));
+        zone.give(Block { at, order });
+    }
+    let front = Block {
+        at: 0,
+        order: single,
+    };
+    assert_eq!(rt; zone.take(single), Some(front));
+    assert_eq!(rt; pairs_of(rt.alloc(), zone.blocks())?.len(), 73);
+    assert!(rt;
+        zone.is_in_use(Block {
+            at: 0,
+            order: single
+        })
+    );
+    zone.give(Block {
+        at: 0,
+        order: single,
+    });
+    assert_eq!(rt; pairs_of(rt.alloc(), zone.blocks())?.len(), 64);
+    Ok(())
+}
+
+// Marks the frames of a block as free or in use.
+fn mark(free: &mut [bool], block: &Block, is_free: bool) {
+    let start = block.at as usize;
+    let end = start + block.order.frames() as usize;
     for (number, frame) in free.iter_mut().enumerate() {
         if start <= number && number < end {
             *frame = is_free;
@@ -50,22 +100,23 @@ fn mark(free: &mut [bool], at: u32, frames: u32, is_free: bool) {
 fn take_or_give(
     rt: &impl Abort,
     zone: &mut Buddy,
-    held: &mut Vec<(u32, Order)>,
+    held: &mut Vec<Block>,
     free: &mut [bool],
     word: u32,
 ) -> Result<(), AllocError> {
     if word % 2 == 0 || held.is_empty() {
         let order = Order::of(word / 2 % 7).unwrap();
         if let Some(block) = zone.take(order) {
-            mark(free, block.at, order.frames(), false);
-            held.push((block.at, order))?;
+            mark(free, &block, false);
+            held.push(block)?;
         }
     } else {
         let index = word as usize / 2 % held.len();
-        let (at, order) = held.swap_remove(index);
-        assert!(rt; zone.is_in_use(Block { at, order }));
-        zone.give(Block { at, order });
-        mark(free, at, order.frames(), true);
+        let block = held.swap_remove(index);
+        mark(free, &block, true);
+        let given = block;
+        assert!(rt; zone.is_in_use(block));
+        zone.give(given);
     }
     Ok(())
 }
