@@ -1,4 +1,5 @@
--- What a step does to the account of each group: its peak follows the usage, and its events are counted.
+-- What a step does to the account of each group: its peak follows the usage, and its events are counted (for the clause
+-- `shows` of `Core::step`).
 use Rattle.std.proofs.Common.{◌≡◌, ◌≢◌, ℕ, ◌+◌, ◌≤◌, ◌==◌, max, Option, Bool, true, false, cond, List, length, get_or, refl, sym, ◌∙◌, ap, subst, arith, inl, inr}
 use Rattle.std.specs.Prelude.{slice_set}
 use Rattle.std.proofs.lemmas.Bool.{cases_lt, cases_eq, false≢true}

@@ -1,4 +1,4 @@
--- Free blocks of an order, found by the maximal free blocks.
+-- Free blocks of an order, found by the maximal free blocks (for `Core::free_block`).
 use Rattle.std.proofs.Common.{◌≡◌, ℕ, ◌+◌, ◌-◌, ◌%◌, ◌^◌, ◌≤◌, Bool, List, sym, ◌∙◌, ap, subst, arith}
 use Rattle.std.proofs.Math.Pow.{pow_mono, mod-mod-pow}
 use Rattle.std.proofs.Math.Nat.{zero-mod}

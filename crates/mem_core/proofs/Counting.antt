@@ -1,4 +1,4 @@
--- The events of a group after one more step.
+-- The events of a group after one more step (for the clause `shows` of `Core::step`).
 use Rattle.std.proofs.Common.{◌≡◌, ℕ, List, [], ◌∷◌, refl, ◌∙◌, ap}
 use Rattle.std.specs.List.{fold}
 use Rattle.std.proofs.lemmas.List.Sums.{fold_push}

@@ -1,4 +1,5 @@
--- What a step does to the numbers that are kept for each group, and to the accounts.
+-- What a step does to the numbers that are kept for each group, and to the accounts (for the clauses `usage` and `shows`
+-- of `Core::step`).
 use Rattle.std.proofs.Common.{◌≡◌, ℕ, ◌+◌, ◌-◌, ◌^◌, ◌==◌, ◌&&◌, ◌<◌, ◌≤◌, not, nat_le, Bool, true, false, cond, Option, Some, None, is_none, List, length, refl, sym, ◌∙◌, ap, subst, arith, if◌then◌else◌}
 use Rattle.std.specs.Prelude.{slice_index, slice_set}
 use Rattle.std.proofs.lemmas.Bool.{false≢true, leb-true}

@@ -40,24 +40,36 @@ pub IsShown-Shows : (s : State) (run : Run) → IsSound s → Shows s run → Is
 IsShown-Shows s run sound shows = record { state = s; sizes = refl; shows = shows; sound = sound; agrees = AgreesWith-Shows s run sound shows }
 
 pub IsAccounted-IsShown : (config : Config) (run : Run) → IsShown config run → IsAccounted config run
-IsAccounted-IsShown config run shown = subst (λ (c : Config). IsAccounted c run) shown.sizes (IsAccounted-Shows shown.state run (HasSizes-IsSound shown.state shown.sound) shown.sound shown.shows)
+IsAccounted-IsShown config run shown =
+    subst (λ (c : Config). IsAccounted c run) shown.sizes (IsAccounted-Shows shown.state run
+    (HasSizes-IsSound shown.state shown.sound) shown.sound shown.shows)
 
 -- what a step does to the numbers that are kept is what it does to the usage that the run defines
-RespectsLimits-Shows : (config : Config) (s t : State) (run : Run) (step : Step) (answer : Answer) → s.config ≡ config → t.config ≡ config → IsSound s → IsSound t → Shows s run → Shows t (pushed run step answer) → MovesUsage s step.action answer t → RespectsLimits config run (pushed run step answer) step.action answer
+RespectsLimits-Shows : (config : Config) (s t : State) (run : Run) (step : Step) (answer : Answer) → s.config ≡ config → t.config ≡ config
+    → IsSound s → IsSound t → Shows s run → Shows t (pushed run step answer) → MovesUsage s step.action answer t
+    → RespectsLimits config run (pushed run step answer) step.action answer
 RespectsLimits-Shows config s t run step answer before after sound sound_after shows shows_after moves =
-    let usage : (m : ℕ) → current_in s m ≡ usage_of config run m = λ m. current_in-Shows s run m (HasSizes-IsSound s sound) sound shows ∙ ap (λ (c : Config). usage_of c run m) before in
-    let usage_after : (m : ℕ) → current_in t m ≡ usage_of config (pushed run step answer) m = λ m. current_in-Shows t (pushed run step answer) m (HasSizes-IsSound t sound_after) sound_after shows_after ∙ ap (λ (c : Config). usage_of c (pushed run step answer) m) after in
+    let usage : (m : ℕ) → current_in s m ≡ usage_of config run m = λ m. current_in-Shows s run m (HasSizes-IsSound s sound) sound shows ∙ ap
+    (λ (c : Config). usage_of c run m) before in
+    let usage_after : (m : ℕ) → current_in t m ≡ usage_of config (pushed run step answer) m = λ m. current_in-Shows t (pushed run step answer) m
+    (HasSizes-IsSound t sound_after) sound_after shows_after ∙ ap (λ (c : Config). usage_of c (pushed run step answer) m) after in
     respects step.action answer moves usage usage_after
   where
-    raises_none : ((m : ℕ) → current_in t m ≤ current_in s m) → ((m : ℕ) → current_in s m ≡ usage_of config run m) → ((m : ℕ) → current_in t m ≡ usage_of config (pushed run step answer) m) → (m : ℕ) → usage_of config (pushed run step answer) m ≤ usage_of config run m
+    raises_none : ((m : ℕ) → current_in t m ≤ current_in s m) → ((m : ℕ) → current_in s m ≡ usage_of config run m)
+        → ((m : ℕ) → current_in t m ≡ usage_of config (pushed run step answer) m) → (m : ℕ)
+        → usage_of config (pushed run step answer) m ≤ usage_of config run m
     raises_none less usage usage_after m = let a = less m in let b = usage m in let c = usage_after m in omega (arith, a, b, c)
 
-    respects : (action : Action) (a : Answer) → MovesUsage s action a t → ((m : ℕ) → current_in s m ≡ usage_of config run m) → ((m : ℕ) → current_in t m ≡ usage_of config (pushed run step answer) m) → RespectsLimits config run (pushed run step answer) action a
+    respects : (action : Action) (a : Answer) → MovesUsage s action a t → ((m : ℕ) → current_in s m ≡ usage_of config run m)
+        → ((m : ℕ) → current_in t m ≡ usage_of config (pushed run step answer) m)
+        → RespectsLimits config run (pushed run step answer) action a
     respects (Grant g n) Granted moves usage usage_after = (
-      λ m. sym (usage_after m) ∙ moves.0 m ∙ ap (on_path s.groups g (λ pages. pages + n) m) (usage m) ∙ ap (λ (groups : List Group). on_path groups g (λ pages. pages + n) m (usage_of config run m)) shows.groups,
+      λ m. sym (usage_after m) ∙ moves.0 m ∙ ap (on_path s.groups g (λ pages. pages + n) m) (usage m) ∙ ap
+          (λ (groups : List Group). on_path groups g (λ pages. pages + n) m (usage_of config run m)) shows.groups,
       λ m on_path.
           let here : in_subtree t.groups m g ≡ true = subst (λ (groups : List Group). in_subtree groups m g ≡ true) (sym shows_after.groups) on_path in
-          subst (λ (groups : List Group). fits_limit (limit_of groups m) (usage_of config (pushed run step answer) m) ≡ true) shows_after.groups (subst (λ (k : ℕ). fits_limit (limit_of t.groups m) k ≡ true) (usage_after m) (moves.1 m here)),
+          subst (λ (groups : List Group). fits_limit (limit_of groups m) (usage_of config (pushed run step answer) m) ≡ true) shows_after.groups
+          (subst (λ (k : ℕ). fits_limit (limit_of t.groups m) k ≡ true) (usage_after m) (moves.1 m here)),
     )
     respects action a moves usage usage_after = raises_none moves usage usage_after
 
@@ -67,7 +79,8 @@ record Goes (config : Config) (run : Run) (step : Step) (answer : Answer) : Type
   shown : IsShown config (pushed run step answer)
   respects : RespectsLimits config run (pushed run step answer) step.action answer
 
-goes_on : (config : Config) (run : Run) (step : Step) (answer : Answer) → IsShown config run → Allows config run step answer → Goes config run step answer
+goes_on : (config : Config) (run : Run) (step : Step) (answer : Answer) → IsShown config run → Allows config run step answer
+    → Goes config run step answer
 goes_on config run step answer shown allowed =
     let s = shown.state in
     let n = next s run step answer shown.sound shown.shows (subst (λ (c : Config). Allows c run step answer) (sym shown.sizes) allowed) in
@@ -76,7 +89,8 @@ goes_on config run step answer shown allowed =
     let sizes : t.config ≡ config = (Makes-advance s step answer t (HasSizes-IsSound s shown.sound) n.makes).config ∙ shown.sizes in
     record {
       shown = subst (λ (c : Config). IsShown c (pushed run step answer)) sizes (IsShown-Shows t (pushed run step answer) n.sound shows);
-      respects = RespectsLimits-Shows config s t run step answer shown.sizes sizes shown.sound n.sound shown.shows shows (Makes-usage s step answer t shown.sound n.makes);
+      respects = RespectsLimits-Shows config s t run step answer shown.sizes sizes shown.sound n.sound shown.shows shows
+          (Makes-usage s step answer t shown.sound n.makes);
     }
 
 -- ---- whole runs
@@ -86,7 +100,8 @@ start_is_shown config valid =
     IsShown-Shows (start_of config areas.0) [] (IsSound-start config areas.0 valid areas.1) (Shows-start config areas.0)
 
 -- the pair at place k, where there is one
-goes_at : (config : Config) (run : Run) (k : ℕ) → IsLegalRun config run → IsShown config (take k run) → IfSome (slice_get run k) (λ e. IsShown config (take (k + 1) run) × RespectsLimits config (take k run) (take (k + 1) run) e.0.action e.1)
+goes_at : (config : Config) (run : Run) (k : ℕ) → IsLegalRun config run → IsShown config (take k run)
+    → IfSome (slice_get run k) (λ e. IsShown config (take (k + 1) run) × RespectsLimits config (take k run) (take (k + 1) run) e.0.action e.1)
 goes_at config run k legal shown =
     let allowed : IfSome (slice_get run k) (λ e. Allows config (take k run) e.0 e.1) = legal k in
     elim (slice_get_cases run k).1 [
@@ -94,7 +109,8 @@ goes_at config run k legal shown =
       | inl w ↦
           let e = w.0 in
           let here : Allows config (take k run) e.0 e.1 = (rw w.2 at allowed) in
-          let more : take (k + 1) run ≡ pushed (take k run) e.0 e.1 = take_more run k e w.1 ∙ ap (λ (x : Step × Answer). pushed (take k run) x.0 x.1) w.3 in
+          let more : take (k + 1) run ≡ pushed (take k run) e.0 e.1 = take_more run k e w.1 ∙ ap
+          (λ (x : Step × Answer). pushed (take k run) x.0 x.1) w.3 in
           let goes = goes_on config (take k run) e.0 e.1 shown here in
           rw (w.2, more) (goes.shown, goes.respects)
     ]

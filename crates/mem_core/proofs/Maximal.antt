@@ -1,5 +1,6 @@
 -- Every set of free frames has its list of maximal free blocks (for the law that a legal run is shown by a state).
-use Rattle.std.proofs.Common.{◌≡◌, ℕ, zero, suc, ◌+◌, ◌*◌, ◌^◌, ◌%◌, ◌/◌, ◌<◌, ◌≤◌, ◌⊎◌, Bool, false, List, [], ◌∷◌, ◌++◌, length, refl, sym, ◌∙◌, subst, inl, inr, arith}
+use Rattle.std.proofs.Common.{◌≡◌, ℕ, zero, suc, ◌+◌, ◌*◌, ◌^◌, ◌%◌, ◌/◌, ◌<◌, ◌≤◌, ◌⊎◌, Bool, false, List, [], ◌∷◌, ◌++◌, length, refl}
+use Rattle.std.proofs.Common.{sym, ◌∙◌, subst, inl, inr, arith}
 use Rattle.std.specs.List.{AllPairs, Contains, slice_index_or}
 use Rattle.std.proofs.lemmas.Bool.{cases_lt, cases_eq, cases_Bool, false≢true}
 use Rattle.std.proofs.lemmas.List.Elements.{Contains-append_left, Contains-append_right, Contains-append_cases}
@@ -65,8 +66,16 @@ filled_to free order (suc i) =
     let more : i + 1 ≡ suc i = omega arith in
     let b : Block = record { at = i * 2 ^ order; order = order } in
     elim (maximal_or_not free b) [
-      | inl is ↦ (before.0 ++ b ∷ [], subst (λ (n : ℕ). FilledTo free order n (before.0 ++ b ∷ [])) more (FilledTo-push free order i (i * 2 ^ order) before.0 refl is before.1))
-      | inr not ↦ (before.0, subst (λ (n : ℕ). FilledTo free order n before.0) more (FilledTo-skip free order i (i * 2 ^ order) before.0 refl not before.1))
+      | inl is ↦ (
+        before.0 ++ b ∷ [],
+        subst (λ (n : ℕ). FilledTo free order n (before.0 ++ b ∷ [])) more
+            (FilledTo-push free order i (i * 2 ^ order) before.0 refl is before.1),
+      )
+      | inr not ↦ (
+        before.0,
+        subst (λ (n : ℕ). FilledTo free order n before.0) more
+            (FilledTo-skip free order i (i * 2 ^ order) before.0 refl not before.1),
+      )
     ]
 
 of_order : (free : List Bool) (order : ℕ) → (list : List Block) × AreMaximalOfOrder free order list
@@ -82,7 +91,8 @@ none_contained : {X : Type 0} (x : X) → Contains [] x → ⊥
 none_contained x (k, l, e) = absurd (omega arith)
 
 below : (free : List Bool) (order : ℕ) → (list : List Block) × AreMaximalBelow free order list
-below free zero = ([], record { each = λ b h. absurd (none_contained b h); all = λ b h m. absurd (omega arith); ordered = λ i j d p q. absurd (omega arith) })
+below free zero =
+    ([], record { each = λ b h. absurd (none_contained b h); all = λ b h m. absurd (omega arith); ordered = λ i j d p q. absurd (omega arith) })
 below free (suc order) =
     let lower = below free order in
     let own = of_order free order in (

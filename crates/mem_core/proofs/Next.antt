@@ -1,5 +1,6 @@
 -- For each answer that is allowed there is a state to go on with (for the laws of legal runs).
-use Rattle.std.proofs.Common.{◌≡◌, ◌≢◌, ℕ, ◌^◌, ◌≤◌, ◌==◌, ◌&&◌, nat_le, Bool, true, false, None, Some, is_some, List, length, map, get_or, refl, sym, ◌∙◌, ap, subst, arith, inl, inr, length-set}
+use Rattle.std.proofs.Common.{◌≡◌, ◌≢◌, ℕ, ◌^◌, ◌≤◌, ◌==◌, ◌&&◌, nat_le, Bool, true, false, None, Some, is_some, List, length, map, get_or}
+use Rattle.std.proofs.Common.{refl, sym, ◌∙◌, ap, subst, arith, inl, inr, length-set}
 use Rattle.std.specs.Prelude.{slice_index, slice_set, All}
 use Rattle.std.specs.List.{list_all, range_with_len}
 use Rattle.std.proofs.lemmas.Bool.{cases_lt, false≢true, false_from_ne_true, eqb-true}
@@ -21,7 +22,8 @@ use Rattle.mem_core.specs.Legal.{is_processor, is_held_by, IsAnswer, Allows}
 use Rattle.group_tree.specs.Room.{PathHasRoom, IsLowestOver}
 use Rattle.mem_core.specs.Events.{Account, new_account}
 use Rattle.mem_core.specs.Shown.{State, account_in, current_in, free_in, IsSound, Shows}
-use Rattle.mem_core.specs.Steps.{may_zone_act, may_remove, may_act, with_block, with_less, with_more, with_placed, counted, peaked, noted, Changes, Makes}
+use Rattle.mem_core.specs.Steps.{may_zone_act, may_remove, may_act, with_block, with_less, with_more, with_placed, counted, peaked, noted}
+use Rattle.mem_core.specs.Steps.{Changes, Makes}
 use Rattle.mem_core.proofs.Parts.{HasSizes-IsSound, Matches-Shows, free_frames-Matches}
 use Rattle.mem_core.proofs.Showing.{may_act-Shows, by_state, both-left, both-right}
 use Rattle.mem_core.proofs.Effects.{make_is_free}
@@ -81,7 +83,9 @@ IsSound-unlocked s none sound = record {
   settled = λ free. none;
 }
 
-IsSound-kept : (s : State) (pending : List ℕ) (accounts : List Account) → length pending ≡ 64 → length accounts ≡ 64 → NoneAbsent s.groups pending → is_some s.holder ≡ true → IsSound s → IsSound (record (counted s) { pending = pending; accounts = accounts })
+IsSound-kept : (s : State) (pending : List ℕ) (accounts : List Account) → length pending ≡ 64 → length accounts ≡ 64
+    → NoneAbsent s.groups pending → is_some s.holder ≡ true → IsSound s
+    → IsSound (record (counted s) { pending = pending; accounts = accounts })
 IsSound-kept s pending accounts numbers kept absent held sound = record {
   config = sound.config;
   groups = sound.groups;
@@ -95,7 +99,8 @@ IsSound-kept s pending accounts numbers kept absent held sound = record {
 }
 
 -- pages of a group that is there are made more
-NoneAbsent-there : (groups : List Group) (pending : List ℕ) (g v : ℕ) → has_group groups g ≡ true → NoneAbsent groups pending → NoneAbsent groups (slice_set pending g v)
+NoneAbsent-there : (groups : List Group) (pending : List ℕ) (g v : ℕ) → has_group groups g ≡ true → NoneAbsent groups pending
+    → NoneAbsent groups (slice_set pending g v)
 NoneAbsent-there groups pending g v there none k absent =
     let other : k ≢ g = λ same. absurd (false≢true (sym absent ∙ ap (has_group groups) same ∙ there)) in
     get_or-set_other pending g k v 0 other ∙ none k absent
@@ -124,7 +129,8 @@ of_each-is f m new =
     ]
 
 no_group_past : (s : State) (m : ℕ) → IsSound s → 64 ≤ m → has_group s.groups m ≡ false
-no_group_past s m sound past = false_from_ne_true (has_group s.groups m) (λ there. let h = (HasSizes-IsSound s sound).numbers m there in absurd (omega arith))
+no_group_past s m sound past =
+    false_from_ne_true (has_group s.groups m) (λ there. let h = (HasSizes-IsSound s sound).numbers m there in absurd (omega arith))
 
 account_past : (s : State) (m : ℕ) → IsSound s → 64 ≤ m → account_in s m ≡ new_account
 account_past s m sound past = let len = sound.accounts in get_or_past s.accounts m new_account (omega arith)
@@ -136,7 +142,8 @@ noted_past : (s : State) (g m : ℕ) → IsSound s → has_group s.groups g ≡ 
 noted_past s g m sound there past = noted-absent s.groups g m (account_in s m) there (no_group_past s m sound past) ∙ account_past s m sound past
 
 -- ---- the state after each answer
-granted : (s : State) (seat g n : ℕ) → IsSound s → (may_zone_act s seat && has_group s.groups g) ≡ true → PathHasRoom s.groups (current_in s) g n → Changed s seat (Grant g n) Granted
+granted : (s : State) (seat g n : ℕ) → IsSound s → (may_zone_act s seat && has_group s.groups g) ≡ true
+    → PathHasRoom s.groups (current_in s) g n → Changed s seat (Grant g n) Granted
 granted s seat g n sound may room =
     let there : has_group s.groups g ≡ true = both-right (may_zone_act s seat) (has_group s.groups g) may in
     let pending = with_more s.pending g n in
@@ -145,17 +152,21 @@ granted s seat g n sound may room =
     record {
       state = record (counted s) { pending = pending; accounts = of_each raised };
       changes = (room, refl, λ m. of_each-is raised m (λ past. peaked_past s (current_in after) g m sound past));
-      sound = IsSound-kept s pending (of_each raised) (length-set s.pending g _ ∙ sound.pending) (length-of_each raised) (NoneAbsent-there s.groups s.pending g _ there sound.absent) (zone_acts_held s seat (has_group s.groups g) may) sound;
+      sound = IsSound-kept s pending (of_each raised) (length-set s.pending g _ ∙ sound.pending) (length-of_each raised)
+          (NoneAbsent-there s.groups s.pending g _ there sound.absent) (zone_acts_held s seat (has_group s.groups g) may) sound;
     }
 
-taken_back : (s : State) (seat g n : ℕ) → IsSound s → (may_zone_act s seat && has_group s.groups g && nat_le n (slice_index s.pending g)) ≡ true → Changed s seat (Ungrant g n) Done
+taken_back : (s : State) (seat g n : ℕ) → IsSound s
+    → (may_zone_act s seat && has_group s.groups g && nat_le n (slice_index s.pending g)) ≡ true → Changed s seat (Ungrant g n) Done
 taken_back s seat g n sound may =
     let pending = with_less s.pending g n in
-    let held = zone_acts_held s seat (has_group s.groups g) (both-left (may_zone_act s seat && has_group s.groups g) (nat_le n (slice_index s.pending g)) may) in
+    let held = zone_acts_held s seat (has_group s.groups g) (both-left (may_zone_act s seat && has_group s.groups g)
+    (nat_le n (slice_index s.pending g)) may) in
     record {
       state = record (counted s) { pending = pending };
       changes = refl;
-      sound = IsSound-kept s pending s.accounts (length-set s.pending g _ ∙ sound.pending) sound.accounts (NoneAbsent-less s.groups s.pending g _ (omega arith) sound.absent) held sound;
+      sound = IsSound-kept s pending s.accounts (length-set s.pending g _ ∙ sound.pending) sound.accounts
+          (NoneAbsent-less s.groups s.pending g _ (omega arith) sound.absent) held sound;
     }
 
 placed : (s : State) (seat g k : ℕ) (b : Block) → IsSound s
@@ -181,33 +192,48 @@ noted_at s seat g sound may =
     record {
       state = record (counted s) { accounts = of_each after };
       changes = (refl, λ m. of_each-is after m (λ past. noted_past s g m sound there past));
-      sound = IsSound-kept s s.pending (of_each after) sound.pending (length-of_each after) sound.absent (zone_acts_held s seat (has_group s.groups g) may) sound;
+      sound = IsSound-kept s s.pending (of_each after) sound.pending (length-of_each after) sound.absent
+          (zone_acts_held s seat (has_group s.groups g) may) sound;
     }
 
-changed : (s : State) (run : Run) (seat : ℕ) (action : Action) (answer : Answer) → IsSound s → Shows s run → may_act s seat action ≡ true → IsAnswer s.config run action answer → Changed s seat action answer
-changed s run seat Lock Done sound shown may is = record { state = record (counted s) { holder = Some seat }; changes = refl; sound = IsSound-locked s seat sound }
+changed : (s : State) (run : Run) (seat : ℕ) (action : Action) (answer : Answer) → IsSound s → Shows s run → may_act s seat action ≡ true
+    → IsAnswer s.config run action answer → Changed s seat action answer
+changed s run seat Lock Done sound shown may is =
+    record { state = record (counted s) { holder = Some seat }; changes = refl; sound = IsSound-locked s seat sound }
 changed s run seat Unlock Done sound shown may is =
     let none = all_zero s.pending (both-right (is_processor seat && is_held_by s.holder seat) (list_all (λ n. n == 0) s.pending) may) in
     record { state = record (counted s) { holder = None }; changes = refl; sound = IsSound-unlocked s none sound }
-changed s run seat (Grant g n) Granted sound shown may is = granted s seat g n sound may (by_state (λ groups usage. PathHasRoom groups usage g n) s run sound shown is)
+changed s run seat (Grant g n) Granted sound shown may is =
+    granted s seat g n sound may (by_state (λ groups usage. PathHasRoom groups usage g n) s run sound shown is)
 changed s run seat (Grant g n) (Over m) sound shown may is =
-    record { state = counted s; changes = (by_state (λ groups usage. IsLowestOver groups usage g n m) s run sound shown is, refl); sound = IsSound-counted s sound }
+    record {
+      state = counted s;
+      changes = (by_state (λ groups usage. IsLowestOver groups usage g n m) s run sound shown is, refl);
+      sound = IsSound-counted s sound;
+    }
 changed s run seat (Ungrant g n) Done sound shown may is = taken_back s seat g n sound may
 changed s run seat (PlaceBlock g k) (Placed b) sound shown may is =
-    placed s seat g k b sound may is.0 (subst (λ (free : List Bool). IsFreeBlock free b) (sym (free_frames-Matches s run (Matches-Shows s run shown) (HasSizes-IsSound s sound))) is.1)
+    placed s seat g k b sound may is.0 (subst (λ (free : List Bool). IsFreeBlock free b)
+    (sym (free_frames-Matches s run (Matches-Shows s run shown) (HasSizes-IsSound s sound))) is.1)
 changed s run seat (PlaceBlock g k) NoFreeBlock sound shown may is =
     let same = free_frames-Matches s run (Matches-Shows s run shown) (HasSizes-IsSound s sound) in
-    record { state = counted s; changes = (λ b order block. is b order (subst (λ (free : List Bool). IsFreeBlock free b) same block), refl); sound = IsSound-counted s sound }
+    record {
+      state = counted s;
+      changes = (λ b order block. is b order (subst (λ (free : List Bool). IsFreeBlock free b) same block), refl);
+      sound = IsSound-counted s sound;
+    }
 changed s run seat (Make path) (Number n) sound shown may is =
     let least : IsLeastFreeNumber s.groups n = subst (λ (groups : List Group). IsLeastFreeNumber groups n) (sym shown.groups) is in
     record { state = _; changes = (least, refl); sound = IsSound-step_made s n path new_account (make_is_free s seat path may) least sound }
 changed s run seat (SetMax g limit) Done sound shown may is = record { state = _; changes = refl; sound = IsSound-limited s g limit sound }
 changed s run seat (NoteMax g) Done sound shown may is = noted_at s seat g sound may
-changed s run seat (Remove g) Done sound shown may is = record { state = _; changes = refl; sound = IsSound-step_removed s g (both-right (may_zone_act s seat) (may_remove s g) may) sound }
+changed s run seat (Remove g) Done sound shown may is =
+    record { state = _; changes = refl; sound = IsSound-step_removed s g (both-right (may_zone_act s seat) (may_remove s g) may) sound }
 changed s run seat action answer sound shown may is = absurd is
 
 pub next : (s : State) (run : Run) (step : Step) (answer : Answer) → IsSound s → Shows s run → Allows s.config run step answer → Next s step answer
-next s run step Illegal sound shown allowed = record { state = counted s; makes = (may_act-Shows s run step.seat step.action sound shown ∙ allowed, refl); sound = IsSound-counted s sound }
+next s run step Illegal sound shown allowed =
+    record { state = counted s; makes = (may_act-Shows s run step.seat step.action sound shown ∙ allowed, refl); sound = IsSound-counted s sound }
 next s run step answer sound shown allowed =
     let may : may_act s step.seat step.action ≡ true = may_act-Shows s run step.seat step.action sound shown ∙ allowed.0 in
     let c = changed s run step.seat step.action answer sound shown may allowed.1 in

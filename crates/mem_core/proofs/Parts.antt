@@ -1,4 +1,4 @@
--- The parts of a state that a run leads to.
+-- The parts of a state that a run leads to (for the clause `shows` of `Core::step`, and for the readers).
 use Rattle.std.proofs.Common.{◌≡◌, ℕ, ◌+◌, ◌<◌, ◌==◌, false, true, List, length, map, sym, ◌∙◌, ap, arith, zero, suc, inl, inr, ◌∷◌, []}
 use Rattle.std.specs.Prelude.{slice_index, All}
 use Rattle.std.specs.List.{list_all, range_with_len}

@@ -1,4 +1,4 @@
--- One more pair at the end of a run.
+-- One more pair at the end of a run (for the clause `shows` of `Core::step`, and for `play`).
 use Rattle.std.proofs.Common.{◌≡◌, ℕ, ◌+◌, ◌<◌, Some, List, [], ◌∷◌, ◌++◌, length, take, refl, arith, inl, inr, length-append, IfSome, zero, suc}
 use Rattle.std.specs.List.{slice_get}
 use Rattle.std.proofs.lemmas.Bool.{cases_lt, cases_eq}

@@ -1,4 +1,5 @@
--- What a step may be answered, and what it does to each part of the state but the accounts.
+-- What a step may be answered, and what it does to each part of the state but the accounts (for the clause `shows` of
+-- `Core::step`).
 use Rattle.std.proofs.Common.{◌≡◌, ℕ, ◌+◌, ◌-◌, ◌^◌, ◌<◌, ◌≤◌, ◌&&◌, ◌||◌, not, ◌==◌, nat_le, Bool, true, false, None, is_some, List, length, get_or, refl, sym, ◌∙◌, ap, subst, arith, zero-add, inl, inr, ◌⊎◌, if◌then◌else◌}
 use Rattle.std.specs.Prelude.{slice_index, slice_set}
 use Rattle.std.proofs.lemmas.Bool.{cases_lt, cases_eq}

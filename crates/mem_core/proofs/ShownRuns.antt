@@ -1,4 +1,4 @@
--- What a core shows is what the run defines.
+-- What a core shows is what the run defines (for the readers, `play` and the laws of legal runs).
 use Rattle.std.proofs.Common.{◌≡◌, ℕ, ◌+◌, ◌<◌, ◌&&◌, ◌||◌, ◌==◌, Bool, true, false, List, [], ◌∷◌, length, map, get_or, refl, sym, ◌∙◌, ap, subst, arith, inl, inr, cond, if◌then◌else◌}
 use Rattle.std.specs.Prelude.{slice_index}
 use Rattle.std.specs.List.{fold, sum_by, count_by, list_any, range_with_len}

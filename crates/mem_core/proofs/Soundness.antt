@@ -1,4 +1,5 @@
--- Each change of the state keeps its parts in agreement.
+-- Each change of the state keeps its parts in agreement (for the clause `sound` of `Core::step`, and for the laws of legal
+-- runs).
 use Rattle.std.proofs.Common.{◌≡◌, ℕ, ◌+◌, ◌^◌, ◌≤◌, ◌==◌, ◌≢◌, Bool, true, false, cond, Option, Some, None, is_some, zero, suc, List, [], ◌∷◌, ◌++◌, length, take, drop, map, replicate, get_or, refl, sym, ◌∙◌, ap, subst, arith, inl, inr, length-set}
 use Rattle.std.specs.Prelude.{slice_index, slice_set, All}
 use Rattle.std.specs.List.{slice_index_or, find}

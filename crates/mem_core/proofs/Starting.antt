@@ -1,4 +1,4 @@
--- A core on which no step was made shows the empty run.
+-- A core on which no step was made shows the empty run (for the clause `empty` of `Core::new`).
 use Rattle.std.proofs.Common.{◌≡◌, ℕ, ◌+◌, nat_lt, Bool, true, false, List, [], ◌∷◌, take, replicate, get_or, refl, sym, ◌∙◌, ap, subst, arith, zero-add, inl, inr, if◌then◌else◌}
 use Rattle.std.specs.List.{count_by, range_with_len}
 use Rattle.std.proofs.lemmas.Bool.{cases_lt}

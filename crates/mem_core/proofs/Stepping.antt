@@ -1,4 +1,5 @@
--- The refinement: a state that shows a run shows, after a step, the run with this step and its answer.
+-- The refinement: a state that shows a run shows, after a step, the run with this step and its answer (for the clause
+-- `shows` of `Core::step`).
 use Rattle.std.proofs.Common.{◌≡◌, ℕ, ◌≤◌, max, true, false, List, [], ◌∷◌, sym, ◌∙◌, ap, subst, arith, inl, inr, length-append}
 use Rattle.std.proofs.lemmas.Bool.{cases_Bool}
 use Rattle.group_tree.specs.declared.group.Group.{Group}

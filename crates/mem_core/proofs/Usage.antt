@@ -1,4 +1,5 @@
--- What each change of a state's parts does to the frames and to the pages that a group's subtree uses.
+-- What each change of a state's parts does to the frames and to the pages that a group's subtree uses (for the clause
+-- `usage` of `Core::step`).
 use Rattle.std.proofs.Common.{◌≡◌, ◌≢◌, ℕ, suc, ◌+◌, ◌*◌, ◌^◌, ◌<◌, ◌≤◌, Bool, true, false, not, cond, min, ◌||◌, ◌==◌, Option, None, List, [], ◌∷◌, ◌++◌, length, take, drop, map, filter, replicate, get_or, All, AllPairs, refl, sym, ap, ◌∙◌, subst, arith, inl, inr, ⊎_elim, length-take, if◌then◌else◌}
 use Rattle.std.specs.Prelude.{slice_index, slice_set}
 use Rattle.std.specs.List.{sum_by, count_by, list_any}

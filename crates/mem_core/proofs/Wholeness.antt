@@ -1,4 +1,5 @@
--- What a core keeps stays whole when it starts, when a group is made and when a block is placed.
+-- What a core keeps stays whole when it starts, when a group is made and when a block is placed (for `Core::new` and the
+-- calls of `Core::step`).
 use Rattle.std.proofs.Common.{◌≡◌, ℕ, ◌+◌, ◌*◌, ◌^◌, ◌<◌, ◌≤◌, ◌==◌, ◌&&◌, ◌≢◌, not, false, Bool, true, false, None, is_some, List, length, replicate, get_or, sym, ◌∙◌, ap, subst, arith, inl, inr, nat_lt}
 use Rattle.std.specs.Prelude.{slice_index, slice_set, All}
 use Rattle.std.proofs.lemmas.Bool.{and_parts, not-true, eqb-true, eqb-false, cases_lt, cases_eq, lt-ltb}

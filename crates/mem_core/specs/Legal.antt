@@ -7,6 +7,7 @@ use Rattle.zone_blocks.specs.Areas.{IsFreeBlock}
 use Rattle.group_tree.specs.Groups.{has_group, has_child, make_fault, IsLeastFreeNumber}
 use Rattle.group_tree.specs.Room.{PathHasRoom, IsLowestOver}
 use Rattle.mem_core.specs.declared.config.Config.{Config}
+use Rattle.mem_core.specs.Config.{group_numbers}
 use Rattle.mem_core.specs.declared.step.Step.{Step}
 use Rattle.mem_core.specs.declared.step.Action.{Action}
 use Rattle.mem_core.specs.declared.step.Action.TheVariants.{Lock, Unlock, Grant, Ungrant, PlaceBlock, Make, SetMax, NoteMax, Remove}
@@ -29,7 +30,7 @@ is_held_by (Some holder) seat = holder == seat
 
 -- no page of any group is pending
 abbrev pub is_settled : Run → Bool
-is_settled run = list_all (λ g. pending_of run g == 0) (range_with_len 0 64)
+is_settled run = list_all (λ g. pending_of run g == 0) (range_with_len 0 group_numbers)
 
 -- the group is there, is not the root, has none below it, and its usage is 0
 abbrev pub is_removable : Config → Run → ℕ → Bool

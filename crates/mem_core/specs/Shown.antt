@@ -7,7 +7,7 @@ use Rattle.zone_blocks.specs.Areas.{AreMaximalBlocks}
 use Rattle.group_tree.specs.declared.group.Group.{Group}
 use Rattle.group_tree.specs.Groups.{has_group, in_subtree, AreGroups}
 use Rattle.mem_core.specs.declared.config.Config.{Config}
-use Rattle.mem_core.specs.Config.{IsValidConfig}
+use Rattle.mem_core.specs.Config.{group_numbers, IsValidConfig}
 use Rattle.mem_core.specs.declared.step.Place.{Place}
 use Rattle.mem_core.specs.declared.step.Place.TheVariants.{Free, Charged}
 use Rattle.mem_core.specs.Places.{is_same_place}
@@ -94,8 +94,8 @@ pub record IsSound (s : State) : Type 0 where
   pub config : IsValidConfig s.config
   pub groups : AreGroups s.groups
   pub places : length s.places ≡ s.config.frames
-  pub pending : length s.pending ≡ 64
-  pub accounts : length s.accounts ≡ 64
+  pub pending : length s.pending ≡ group_numbers
+  pub accounts : length s.accounts ≡ group_numbers
   pub absent : (g : ℕ) → has_group s.groups g ≡ false → slice_index s.pending g ≡ 0
   pub areas : AreMaximalBlocks (free_in s.places) s.areas
   pub keepers : All (KeeperIsThere s.groups) s.places

@@ -2,6 +2,7 @@
 
 ghost use Rattle.std.specs.Prelude.{◌≡◌, ◌^◌, ◌<◌, ◌≤◌, ℕ, IsTrue, length, vec_len, All};
 ghost use Rattle.group_tree.specs.Groups.{has_group};
+ghost use Rattle.mem_core.specs.Config.{group_numbers};
 ghost use Rattle.mem_core.specs.Shown.{KeeperIsThere, usage_below};
 ghost use Rattle.mem_core.specs.Steps.{noted, peaked, CountsMax, RaisesPeaks};
 
@@ -21,11 +22,11 @@ pub(crate) fn raise_peaks(
 )
     requires there { IsTrue (has_group tree.now group) }
     requires keepers { All (KeeperIsThere tree.now) places.now }
-    requires numbers { length pending.now ≡ 64 }
+    requires numbers { length pending.now ≡ group_numbers }
     requires bound { All (λ n. n ≤ 2 ^ 96) pending.now }
-    requires accounts { vec_len accounts.old ≡ 64 }
+    requires accounts { vec_len accounts.old ≡ group_numbers }
     requires few { All (λ a. a.peak < 2 ^ 104) accounts.old.items }
-    ensures length { vec_len accounts.new ≡ 64 }
+    ensures length { vec_len accounts.new ≡ group_numbers }
     ensures few { All (λ a. a.peak < 2 ^ 104) accounts.new.items }
     ensures peaks { RaisesPeaks tree.now (usage_below tree.now places.now pending.now) group accounts.old.items accounts.new.items }
 {
@@ -48,7 +49,7 @@ fn with_peak(
     requires there { IsTrue (has_group tree.now group) }
     requires above { IsTrue (has_group tree.now above) }
     requires keepers { All (KeeperIsThere tree.now) places.now }
-    requires numbers { length pending.now ≡ 64 }
+    requires numbers { length pending.now ≡ group_numbers }
     requires bound { All (λ n. n ≤ 2 ^ 96) pending.now }
     requires few { account.peak < 2 ^ 104 }
     ensures few { result.peak < 2 ^ 104 }
@@ -67,9 +68,9 @@ fn with_peak(
 /// Counts one more `max` at the group and at each of its ancestors, and for the group alone.
 pub(crate) fn note_max(tree: &Tree, accounts: &mut Vec<Account>, group: GroupId)
     requires there { IsTrue (has_group tree.now group) }
-    requires accounts { vec_len accounts.old ≡ 64 }
+    requires accounts { vec_len accounts.old ≡ group_numbers }
     requires few { All (λ a. a.peak < 2 ^ 104) accounts.old.items }
-    ensures length { vec_len accounts.new ≡ 64 }
+    ensures length { vec_len accounts.new ≡ group_numbers }
     ensures few { All (λ a. a.peak < 2 ^ 104) accounts.new.items }
     ensures events { CountsMax tree.now group accounts.old.items accounts.new.items }
 {

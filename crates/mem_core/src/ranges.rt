@@ -1,6 +1,7 @@
 //! Lists of one value, and writing one value over a range.
 
 ghost use Rattle.std.specs.Prelude.{◌≡◌, ◌+◌, ◌≤◌, true, IfOk, vec_len, replicate};
+ghost use Rattle.mem_core.specs.Config.{group_numbers};
 ghost use Rattle.mem_core.specs.Events.{new_account};
 ghost use Rattle.mem_core.specs.Steps.{with_range};
 
@@ -41,14 +42,14 @@ pub(crate) fn true_flags(alloc: Global, frames: usize) -> Result<Vec<bool>, Allo
 
 /// A count of 0 for each group number.
 pub(crate) fn zeros(alloc: Global) -> Result<Vec<u128>, AllocError>
-    ensures { IfOk result (λ counts. counts.items ≡ replicate 64 0) }
+    ensures { IfOk result (λ counts. counts.items ≡ replicate group_numbers 0) }
 {
     vec![in alloc; 0; MAX_GROUPS]
 }
 
 /// A new group's account for each group number.
 pub(crate) fn new_accounts(alloc: Global) -> Result<Vec<Account>, AllocError>
-    ensures { IfOk result (λ accounts. accounts.items ≡ replicate 64 new_account) }
+    ensures { IfOk result (λ accounts. accounts.items ≡ replicate group_numbers new_account) }
 {
     vec![in alloc; Account::new(); MAX_GROUPS]
 }

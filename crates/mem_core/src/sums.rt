@@ -3,6 +3,7 @@
 ghost use Rattle.std.specs.Prelude.{◌≡◌, ◌+◌, ◌*◌, ◌^◌, ◌<◌, ◌≤◌, if◌then◌else◌};
 ghost use Rattle.std.specs.Prelude.{IsTrue, length, slice_index, sum_by, count_by, All};
 ghost use Rattle.group_tree.specs.Groups.{has_group, in_subtree};
+ghost use Rattle.mem_core.specs.Config.{group_numbers};
 ghost use Rattle.mem_core.specs.Shown.{frames_below, is_charged_below, KeeperIsThere, pages_below, usage_below};
 
 use crate::step::Place;
@@ -13,7 +14,7 @@ use group_tree::tree::Tree;
 pub(crate) fn usage(tree: &Tree, places: &[Place], pending: &[u128], group: GroupId) -> u128
     requires there { IsTrue (has_group tree.now group) }
     requires keepers { All (KeeperIsThere tree.now) places.now }
-    requires numbers { length pending.now ≡ 64 }
+    requires numbers { length pending.now ≡ group_numbers }
     requires bound { All (λ n. n ≤ 2 ^ 96) pending.now }
     ensures usage { result ≡ usage_below tree.now places.now pending.now group }
     ensures few { result < 2 ^ 104 }
@@ -52,10 +53,10 @@ fn is_below(tree: &Tree, place: Place, group: GroupId) -> bool
 // How many pages are pending in the group's subtree.
 fn sum_pending(tree: &Tree, pending: &[u128], group: GroupId) -> u128
     requires there { IsTrue (has_group tree.now group) }
-    requires numbers { length pending.now ≡ 64 }
+    requires numbers { length pending.now ≡ group_numbers }
     requires bound { All (λ n. n ≤ 2 ^ 96) pending.now }
     ensures sum { result ≡ pages_below tree.now pending.now group }
-    ensures few { result ≤ 64 * 2 ^ 96 }
+    ensures few { result ≤ group_numbers * 2 ^ 96 }
 {
     let mut sum = 0u128;
     for below in tree.groups() {

@@ -93,3 +93,93 @@ fn core_shows_the_first_steps(rt: HostRuntime) -> Result<(), Fail> {
     );
     Ok(())
 }
+
+// The lines of the README.
+#[test]
+fn lines_of_the_readme(rt: HostRuntime) -> Result<(), Fail> {
+    let alloc = rt.alloc();
+    let config = Config {
+        frames: 16,
+        cpus: 1,
+        batch: 1,
+        high: 1,
+        stock: 1,
+    };
+    let path = PathText::of(b"/a").ok_or("short")?;
+    let group = GroupId::of(1).ok_or("a number")?;
+    let order = Order::of(1).ok_or("an order")?;
+    let mut steps = Vec::new(alloc);
+    steps.push(Step {
+        seat: 1,
+        action: Action::Lock,
+    })?;
+    steps.push(Step {
+        seat: 0,
+        action: Action::Make { path },
+    })?;
+    steps.push(Step {
+        seat: 0,
+        action: Action::Grant { group, pages: 2 },
+    })?;
+    steps.push(Step {
+        seat: 0,
+        action: Action::PlaceBlock { group, order },
+    })?;
+    assert!(rt; config.is_valid());
+    let Played { core, answers } = play(alloc, config, &steps)?;
+    assert_eq!(rt; answers.len(), 4);
+    assert_eq!(rt; answers[1], Answer::Number(group));
+    assert!(rt; core.tree().contains(group));
+    assert_eq!(rt; core.current(group), 2);
+    assert_eq!(rt; core.place(1), Place::Charged(group));
+    Ok(())
+}
+
+const GREATEST: Config = Config {
+    frames: 65_536,
+    cpus: 16,
+    batch: 64,
+    high: 256,
+    stock: 64,
+};
+
+// A zone of 65,536 frames, in which the group's blocks of 1,024 frames and of one are placed from 0 on.
+#[test]
+fn greatest_zone_answers(rt: HostRuntime) -> Result<(), Fail> {
+    let group = GroupId::of(1).ok_or("a number")?;
+    let path = PathText::of(b"/a").ok_or("short")?;
+    let greatest = Order::of(10).ok_or("an order")?;
+    let least = Order::of(0).ok_or("an order")?;
+    let mut actions = Vec::new(rt.alloc());
+    actions.push(Action::Make { path })?;
+    actions.push(Action::Grant { group, pages: 1025 })?;
+    actions.push(Action::PlaceBlock {
+        group,
+        order: greatest,
+    })?;
+    actions.push(Action::PlaceBlock {
+        group,
+        order: least,
+    })?;
+    actions.push(Action::PlaceBlock {
+        group,
+        order: least,
+    })?;
+    let steps = limits::under_lock(rt.alloc(), &actions)?;
+    assert!(rt; GREATEST.is_valid());
+    let Played { core, answers } = play(rt.alloc(), GREATEST, &steps)?;
+    assert_eq!(rt; answers.len(), 6);
+    for (answer, want) in [(answers[3], (10, 0)), (answers[4], (0, 1024))] {
+        assert!(rt; matches!(answer, Answer::Placed(_)));
+        if let Answer::Placed(block) = answer {
+            assert_eq!(rt; (block.order.exponent(), block.at), want);
+        }
+    }
+    assert_eq!(rt; answers[5], Answer::Illegal);
+    assert_eq!(rt; core.areas().walk().count(), 10 + 62);
+    assert_eq!(rt; core.place(1024), Place::Charged(group));
+    assert_eq!(rt; core.place(65_535), Place::Free);
+    assert!(rt; core.tree().contains(group));
+    assert_eq!(rt; core.current(group), 1025);
+    Ok(())
+}

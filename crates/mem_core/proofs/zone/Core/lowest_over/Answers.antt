@@ -14,7 +14,8 @@ pub loop-above-init : goal.loop-above-init
 loop-above-init c =
     let s = c.args.self.now in
     left_start s.groups (λ m. has_room s.groups (current_in s) m c.args.pages) c.args.group c.into_iter-above-iterator.result c.requires.there
-    (c.into_iter-above-iterator.ensures.into_iter_gives ∙ c.ancestors-above-items.ensures.value ∙ ap (λ (t : State). ancestors_of t.groups c.args.group) c.self.view_is)
+    (c.into_iter-above-iterator.ensures.into_iter_gives ∙ c.ancestors-above-items.ensures.value ∙ ap
+    (λ (t : State). ancestors_of t.groups c.args.group) c.self.view_is)
 
 pub has_room-requires : goal.has_room-requires
 has_room-requires c =
