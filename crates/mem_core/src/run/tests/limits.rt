@@ -25,7 +25,7 @@ fn once() -> Events {
 }
 
 // The processor takes the lock, and all actions but that are the zone's.
-pub(super) fn under_lock(alloc: Global, actions: &[Action]) -> Result<Vec<Step>, AllocError> {
+fn under_lock(alloc: Global, actions: &[Action]) -> Result<Vec<Step>, AllocError> {
     let mut steps = Vec::new(alloc);
     steps.push(Step {
         seat: 1,

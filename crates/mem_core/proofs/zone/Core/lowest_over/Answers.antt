@@ -1,5 +1,5 @@
 -- Each group that the walk to the root passes has room.
-use Rattle.std.proofs.Common.{◌≡◌, ℕ, Bool, IsTrue, sym, ap, ◌∙◌, subst}
+use Rattle.std.proofs.Common.{ℕ, Bool, IsTrue, sym, ap, ◌∙◌, subst}
 use Rattle.group_tree.specs.Ancestors.{ancestors_of}
 use Rattle.group_tree.specs.Groups.{has_group, AreGroups}
 use Rattle.group_tree.specs.Room.{has_room}
