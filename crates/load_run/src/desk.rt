@@ -114,7 +114,7 @@ impl Desk {
             Taken::Over(over) => {
                 let path = self.charges.tree().path_of(over);
                 self.charges.note_max(over);
-                Reply::OverLimit(path)
+                Reply::OverLimit { group: over, path }
             }
         }
     }
@@ -170,3 +170,6 @@ fn find_file(charges: &Charges, path: &[u8], name: &[u8]) -> Result<(GroupId, Fi
         _ => Err(Fault::NoFile),
     }
 }
+
+#[cfg(test)]
+mod tests;

@@ -9,8 +9,9 @@ mod number;
 pub mod program;
 pub mod replay;
 pub mod reply;
+#[cfg(test)]
+mod scarcity;
 pub mod script;
-pub mod settings;
 mod show;
 mod taking;
 mod verb;
