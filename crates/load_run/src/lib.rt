@@ -9,8 +9,6 @@ mod number;
 pub mod program;
 pub mod replay;
 pub mod reply;
-#[cfg(test)]
-mod scarcity;
 pub mod script;
 mod show;
 mod taking;
