@@ -12,6 +12,8 @@ use Rattle.group_charge.specs.Charges.{Ledger, current_of}
 use Rattle.mem_core.specs.declared.step.Place.{Place}
 use Rattle.mem_core.specs.declared.step.Place.TheVariants.{Free, Charged}
 use Rattle.mem_core.specs.Places.{is_same_place}
+use Rattle.group_tree.specs.declared.fault.Fault.{Fault}
+use Rattle.group_tree.specs.declared.fault.Fault.TheVariants as refused
 use Rattle.group_tree.specs.Faults.{name_of, number_of}
 use Rattle.load_run.specs.declared.line.Command.{Command}
 use Rattle.load_run.specs.declared.line.Command.TheVariants.{Mkdir, Alloc, Write, Read, Blocks, Show}
@@ -25,14 +27,18 @@ use Rattle.load_run.specs.Script.{IsScript}
 abbrev pub characters : List ℕ → List ℕ
 characters bytes = flat_map encode_utf8 bytes
 
+-- what is written for a refusal
+abbrev pub refusal_text : Fault → List ℕ
+refusal_text fault = codes "refused " ++ decimal (number_of fault) ++ codes " " ++ name_of fault
+
 -- what is written for a reply
 abbrev pub reply_text : Reply → List ℕ
 reply_text (Group n) = codes "group " ++ decimal n ++ codes "\n"
 reply_text (Frame n) = codes "frame " ++ decimal n ++ codes "\n"
 reply_text Done = codes "ok\n"
 reply_text (Text text) = characters text
-reply_text (OverLimit path) = codes "refused 15 OverLimit " ++ characters path ++ codes "\n"
-reply_text (Refused fault) = codes "refused " ++ decimal (number_of fault) ++ codes " " ++ name_of fault ++ codes "\n"
+reply_text (OverLimit g path) = refusal_text (refused.OverLimit g) ++ codes " " ++ characters path ++ codes "\n"
+reply_text (Refused fault) = refusal_text fault ++ codes "\n"
 
 -- a free block: its order and its first frame
 abbrev pub block_text : Block → List ℕ
@@ -94,7 +100,9 @@ Serves d Show text e = (e ≡ d) × (text ≡ show_text d)
 -- the lines are served one after the other, and their texts stand one after the other
 abbrev pub ServesAll : DeskState → List Line → List ℕ → DeskState → Type 0
 ServesAll d [] text e = (text ≡ []) × (e ≡ d)
-ServesAll d (line ∷ lines) text e = (first : List ℕ) × (rest : List ℕ) × (mid : DeskState) × Serves d line.command first mid × ServesAll mid lines rest e × (text ≡ first ++ rest)
+ServesAll d (line ∷ lines) text e =
+    (first : List ℕ) × (rest : List ℕ) × (mid : DeskState)
+    × Serves d line.command first mid × ServesAll mid lines rest e × (text ≡ first ++ rest)
 
 -- what a new desk with so many frames answers to the lines
 pub record AreAnswers (frames : ℕ) (lines : List Line) (text : List ℕ) : Type 0 where

@@ -1,5 +1,6 @@
 -- What stands on the desk, and how the commands of a script change it.
-use Rattle.std.specs.Prelude.{◌≡◌, ◌≢◌, ◌⊎◌, ℕ, ◌^◌, ◌<◌, ◌≤◌, Bool, true, false, Option, Some, None, IsSome, List, length, replicate, count_by, All}
+use Rattle.std.specs.Prelude.{◌≡◌, ◌≢◌, ◌⊎◌, ℕ, ◌^◌, ◌<◌, ◌≤◌, Bool, true, false, Option, Some, None, IsSome}
+use Rattle.std.specs.Prelude.{List, length, replicate, count_by, All}
 use Rattle.zone_blocks.specs.declared.block.Block.{Block}
 use Rattle.zone_blocks.specs.Areas.{AreMaximalBlocks, HasNoneFrom, IsFrontOfSmallest}
 use Rattle.zone_buddy.specs.Zone.{TakesFrames, Zone}
@@ -8,7 +9,8 @@ use Rattle.group_tree.specs.declared.fault.Fault.TheVariants.{BadLimit, BadNumbe
 use Rattle.group_tree.specs.declared.group.Group as tree
 use Rattle.group_tree.specs.Groups.{IsLeastFreeNumber, make_fault, number_at, path_of}
 use Rattle.group_tree.specs.Room.{IsLowestOver, PathHasRoom}
-use Rattle.group_charge.specs.Charges.{AreCharges, Ledger, current_of, initial_ledger, with_charge, with_group_limit, with_max_noted, with_new_group, with_uncharge}
+use Rattle.group_charge.specs.Charges.{AreCharges, Ledger, current_of, initial_ledger, with_charge, with_group_limit}
+use Rattle.group_charge.specs.Charges.{with_max_noted, with_new_group, with_uncharge}
 use Rattle.control_files.specs.declared.file.File.{File}
 use Rattle.control_files.specs.declared.file.File.TheVariants.{Max}
 use Rattle.control_files.specs.Files.{file_text, name_of}
@@ -52,7 +54,9 @@ pub record IsNewDesk (frames : ℕ) (d : DeskState) : Type 0 where
 -- ---- mkdir
 -- the group of the path was made, with the least number that no group had, or is refused as the tree says
 abbrev pub AnswersMkdir : DeskState → DeskState → List ℕ → Reply → Type 0
-AnswersMkdir d e path (Group n) = (make_fault d.charges.groups path ≡ None) × IsLeastFreeNumber d.charges.groups n × (e ≡ record d { charges = with_new_group d.charges n path })
+AnswersMkdir d e path (Group n) =
+    (make_fault d.charges.groups path ≡ None) × IsLeastFreeNumber d.charges.groups n
+    × (e ≡ record d { charges = with_new_group d.charges n path })
 AnswersMkdir d e path (Refused fault) = (make_fault d.charges.groups path ≡ Some fault) × (e ≡ d)
 AnswersMkdir d e path reply = ⊥
 
@@ -90,9 +94,8 @@ pub record TakesBlock (d : DeskState) (g k : ℕ) (b : Block) (e : DeskState) : 
   pub charged : TakesCharged d.zone d.charges g k b e.zone e.charges
   pub placed : e.places ≡ with_block d.places b (Charged g)
 
--- a group of the path of g has no room for the pages: the lowest such, which has this path, has noted it
-pub record IsOverLimit (d : DeskState) (g k : ℕ) (path : List ℕ) (e : DeskState) : Type 0 where
-  pub over : ℕ
+-- a group of the path of g has no room for the pages: `over`, the lowest such, which has this path, has noted it
+pub record IsOverLimit (d : DeskState) (g k over : ℕ) (path : List ℕ) (e : DeskState) : Type 0 where
   pub lowest : IsLowestOver d.charges.groups (current_of d.charges) g (2 ^ k) over
   pub path_is : path_of d.charges.groups over ≡ Some path
   pub noted : e ≡ record d { charges = with_max_noted d.charges over }
@@ -100,7 +103,7 @@ pub record IsOverLimit (d : DeskState) (g k : ℕ) (path : List ℕ) (e : DeskSt
 -- what a group that is there is answered, at an order of at most 10
 abbrev pub AnswersTake : DeskState → DeskState → ℕ → ℕ → Reply → Type 0
 AnswersTake d e g k (Frame f) = (b : Block) × (b.at ≡ f) × TakesBlock d g k b e
-AnswersTake d e g k (OverLimit path) = IsOverLimit d g k path e
+AnswersTake d e g k (OverLimit over path) = IsOverLimit d g k over path e
 AnswersTake d e g k (Refused NoFrames) = FindsNoFrames d.zone d.charges g k e.zone e.charges × (e.places ≡ d.places)
 AnswersTake d e g k reply = ⊥
 
@@ -133,8 +136,12 @@ RefusesValue file value fault = ⊥
 -- the limit that the value says was set; or there is no file to write, or the value is refused, and nothing
 -- changed
 abbrev pub AnswersWrite : DeskState → DeskState → List ℕ → List ℕ → List ℕ → Reply → Type 0
-AnswersWrite d e path name value Done = (g : ℕ) × (limit : Option ℕ) × IsFileOf d.charges.groups path name g Max × ReadsAs value limit × (e ≡ record d { charges = with_group_limit d.charges g limit })
-AnswersWrite d e path name value (Refused fault) = (e ≡ d) × (HasNoFile d.charges.groups path name fault ⊎ ((g : ℕ) × (file : File) × IsFileOf d.charges.groups path name g file × RefusesValue file value fault))
+AnswersWrite d e path name value Done =
+    (g : ℕ) × (limit : Option ℕ) × IsFileOf d.charges.groups path name g Max × ReadsAs value limit
+    × (e ≡ record d { charges = with_group_limit d.charges g limit })
+AnswersWrite d e path name value (Refused fault) =
+    (e ≡ d) × (HasNoFile d.charges.groups path name fault
+    ⊎ ((g : ℕ) × (file : File) × IsFileOf d.charges.groups path name g file × RefusesValue file value fault))
 AnswersWrite d e path name value reply = ⊥
 
 -- the text of the file, or there is no file to read

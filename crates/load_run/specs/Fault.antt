@@ -1,9 +1,15 @@
 -- How the program ends.
-use Rattle.std.specs.Prelude.{ℕ}
+use Rattle.std.specs.Prelude.{ℕ, ◌≤◌, List, ⊤}
 use Rattle.load_run.specs.declared.fault.LineFault.TheVariants as line
 use Rattle.load_run.specs.declared.fault.ScriptFault.TheVariants as script
 use Rattle.load_run.specs.declared.fault.ProgramFault.{ProgramFault}
+use Rattle.load_run.specs.Script.{IsFirstBadLine}
 use Rattle.load_run.specs.declared.fault.ProgramFault.TheVariants.{Line, Script, BadConfig, Input, Output, NoMemory}
+
+-- where the fault is a bad line, it is the first that isn't good of what was read, for so many processors as may be
+abbrev pub TellsFirstBadLine : List ℕ → ProgramFault → Type 0
+TellsFirstBadLine read (Script (script.BadLine n)) = (cpus : ℕ) × (1 ≤ cpus) × (cpus ≤ 16) × IsFirstBadLine cpus read n
+TellsFirstBadLine read fault = ⊤
 
 -- 2 where the program was used wrongly, 1 where it failed at its work
 abbrev pub status_of : ProgramFault → ℕ

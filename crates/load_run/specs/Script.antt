@@ -1,5 +1,6 @@
 -- The form of a script: lines that each end with a line feed, which the last may lack.
-use Rattle.std.specs.Prelude.{◌≡◌, ◌≢◌, ℕ, Bool, true, false, not, ◌==◌, ◌-◌, ◌^◌, ◌<◌, ◌≤◌, List, [], ◌∷◌, ◌++◌, All, codes, count_by, filter, length, slice_get, take, Some, ⊤}
+use Rattle.std.specs.Prelude.{◌≡◌, ◌≢◌, ℕ, Bool, true, false, not, ◌==◌, ◌-◌, ◌^◌, ◌<◌, ◌≤◌, List, [], ◌∷◌, ◌++◌, All, codes}
+use Rattle.std.specs.Prelude.{count_by, filter, length, slice_get, take, Some, ⊤}
 use Rattle.std.specs.List.{AllZip, slice_split}
 use Rattle.std.specs.Str.Parse.{IsNumeral, digits_value}
 use Rattle.load_run.specs.declared.line.Line.{Line}
@@ -52,7 +53,8 @@ pub record IsWriteText (path file value text : List ℕ) : Type 0 where
 abbrev pub IsCommandText : Command → List ℕ → Type 0
 IsCommandText (Mkdir path) text = IsPathText path.now × (text ≡ codes "mkdir" ++ 32 ∷ path.now)
 IsCommandText (Alloc path order) text = (arguments : List ℕ) × (text ≡ codes "alloc" ++ 32 ∷ arguments) × IsAllocText path.now order arguments
-IsCommandText (Write path file value) text = (arguments : List ℕ) × (text ≡ codes "write" ++ 32 ∷ arguments) × IsWriteText path.now file.now value.now arguments
+IsCommandText (Write path file value) text =
+    (arguments : List ℕ) × (text ≡ codes "write" ++ 32 ∷ arguments) × IsWriteText path.now file.now value.now arguments
 IsCommandText (Read path file) text = (arguments : List ℕ) × (text ≡ codes "read" ++ 32 ∷ arguments) × IsReadText path.now file.now arguments
 IsCommandText Blocks text = text ≡ codes "blocks"
 IsCommandText Show text = text ≡ codes "show"

@@ -9,7 +9,9 @@ use Rattle.load_run.specs.declared.verb.Verb.TheVariants.{Mkdir, Alloc, Write, R
 
 -- the names of the commands, each with its command
 abbrev pub named_commands : List (List ℕ × Verb)
-named_commands = (codes "mkdir", Mkdir) ∷ (codes "alloc", Alloc) ∷ (codes "write", Write) ∷ (codes "read", Read) ∷ (codes "blocks", Blocks) ∷ (codes "show", Show) ∷ []
+named_commands =
+    (codes "mkdir", Mkdir) ∷ (codes "alloc", Alloc) ∷ (codes "write", Write) ∷ (codes "read", Read)
+    ∷ (codes "blocks", Blocks) ∷ (codes "show", Show) ∷ []
 
 -- the command of this name
 abbrev pub verb_named : List ℕ → Option Verb

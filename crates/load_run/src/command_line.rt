@@ -4,7 +4,6 @@ ghost use Rattle.std.specs.Prelude.{◌≤◌, IfOk, IfSome};
 ghost use Rattle.load_run.specs.Settings.{HasSizesInRange};
 
 use crate::fault::LineFault;
-use crate::settings::Options;
 use clap::error::ErrorKind;
 use clap::{Arg, ArgMatches, Command, Error, value_parser};
 use mem_core::config::Config;
@@ -29,10 +28,12 @@ pub fn words<R: Env + AllocGlobal>(rt: &R) -> Result<Vec<String>, LineFault> {
 }
 
 /// Reads the words that follow the program's name: `replay`, and then any of `--frames`, `--cpus`, `--batch`,
-/// `--high` and `--stock`, each at most once, with a whole number in its range. One that is left out is 16, 2,
-/// 4, 8, 4 in turn. Anything else is a fault of the words, a request for help too.
-pub fn options<S: AsStr>(alloc: Global, words: &[S]) -> Result<Options, LineFault>
-    ensures in_range { IfOk result (λ options. HasSizesInRange options.config) }
+/// `--high` and `--stock`, each at most once, with a whole number in its own range: frames 1 to 65,536,
+/// processors 1 to 16, batch 1 to 64, high 1 to 256, stock 1 to 64. `Config::is_valid` asks more: high is at
+/// least batch. One that is left out is 16, 2, 4, 8, 4 in turn. Anything else is a fault of the words, a
+/// request for help too.
+pub fn options<S: AsStr>(alloc: Global, words: &[S]) -> Result<Config, LineFault>
+    ensures in_range { IfOk result HasSizesInRange }
 {
     let mut command = memcg(alloc)?;
     let found = match command.try_get_matches_from_mut(words) {
@@ -40,7 +41,7 @@ pub fn options<S: AsStr>(alloc: Global, words: &[S]) -> Result<Options, LineFaul
         Err(error) => return Err(fault_of(alloc, &error)),
     };
     match sizes(&found) {
-        Some(config) => Ok(Options { config }),
+        Some(config) => Ok(config),
         None => {
             let text = "an option has no value in its range";
             let error = command.error(ErrorKind::InvalidValue, text)?;
@@ -70,25 +71,31 @@ fn memcg<'a>(alloc: Global) -> Result<Command<'a>, AllocError> {
             65_536,
             "16",
         ))?
-        .arg(size_option(alloc, "cpus", "Processors, 1 to 16", 16, "2"))?
+        .arg(size_option(
+            alloc,
+            "cpus",
+            "Processors, 1 to 16; so far only 1 runs",
+            16,
+            "2",
+        ))?
         .arg(size_option(
             alloc,
             "batch",
-            "Frames by which a processor's list is refilled, 1 to 64",
+            "Frames by which a processor's list is refilled, 1 to 64; so far only 1 runs",
             64,
             "4",
         ))?
         .arg(size_option(
             alloc,
             "high",
-            "Frames at which a processor's list gives back, batch to 256",
+            "Frames at which a processor's list gives back, batch to 256; so far only 1 runs",
             256,
             "8",
         ))?
         .arg(size_option(
             alloc,
             "stock",
-            "Pages that a processor prepays, 1 to 64",
+            "Pages that a processor prepays, 1 to 64; so far only 1 runs",
             64,
             "4",
         ))?;

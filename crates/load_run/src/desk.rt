@@ -114,7 +114,7 @@ impl Desk {
             Taken::Over(over) => {
                 let path = self.charges.tree().path_of(over);
                 self.charges.note_max(over);
-                Reply::OverLimit(path)
+                Reply::OverLimit { group: over, path }
             }
         }
     }

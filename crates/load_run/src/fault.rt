@@ -3,6 +3,7 @@
 ghost use Rattle.std.specs.Prelude.{◌≡◌};
 ghost use Rattle.load_run.specs.declared.fault.ScriptFault.TheVariants.{NoMemory};
 
+use group_tree::fault::Fault;
 use std::alloc::{AllocError, AllocFailed};
 use thiserror::Error;
 
@@ -50,12 +51,12 @@ impl<T: Drop> From<AllocFailed<T>> for ScriptFault {
 pub enum ProgramFault {
     /// The words of the command line give no options.
     #[error("{0}")]
-    Line(#[from] LineFault),
+    Line(LineFault),
     /// The script gives no lines.
     #[error("{0}")]
-    Script(#[from] ScriptFault),
+    Script(ScriptFault),
     /// A size is out of its range, or so far other than 1.
-    #[error("refused 14 BadConfig")]
+    #[error("refused {number} {name}", number = Fault::BadConfig.number(), name = Fault::BadConfig.name())]
     BadConfig,
     /// The script can't be read.
     #[error("input failed")]
@@ -65,7 +66,7 @@ pub enum ProgramFault {
     Output,
     /// Memory ran out.
     #[error("no memory")]
-    NoMemory(#[from(alloc)] AllocError),
+    NoMemory(AllocError),
 }
 
 impl ProgramFault {

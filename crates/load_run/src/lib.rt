@@ -10,7 +10,6 @@ pub mod program;
 pub mod replay;
 pub mod reply;
 pub mod script;
-pub mod settings;
 mod show;
 mod taking;
 mod verb;

@@ -3,11 +3,13 @@
 ghost use Rattle.std.specs.Prelude.{◌≡◌, ◌≤◌, ◌↔◌, IfErr, IfOk, IfSome, IsTrue, OnOk, take};
 ghost use Rattle.std.specs.Io.KnownBytes.{Appends};
 ghost use Rattle.load_run.specs.Answers.{IsAnswered, IsReplayed};
-ghost use Rattle.load_run.specs.Fault.{status_of};
-ghost use Rattle.load_run.specs.Settings.{IsSingle};
+ghost use Rattle.load_run.specs.Fault.{TellsFirstBadLine, status_of};
+ghost use Rattle.load_run.specs.Script.{IsScript};
+ghost use Rattle.load_run.specs.Settings.{HasSizesInRange, IsSingle};
 
 use crate::command_line::options;
 use crate::fault::{LineFault, ProgramFault};
+use crate::line::Line;
 use crate::replay::replay_lines;
 use crate::script::{MOST_INPUT, parse_script};
 use mem_core::config::Config;
@@ -23,8 +25,7 @@ use std::io::{ErrorKind, Read, Write};
 /// is told in one line, those of the words in clap's text. The status is 0; 2 after a fault of the words,
 /// a bad line or a bad configuration; 1 where the script can't be read or the answers can't be written,
 /// and where memory runs out.
-pub fn drive<R, S: AsStr, I: Read, O: Write, F: Write>(
-    _rt: &R,
+pub fn drive<S: AsStr, I: Read, O: Write, F: Write>(
     alloc: Global,
     words: &[S],
     input: &mut I,
@@ -51,15 +52,32 @@ fn answers_to<S: AsStr, I: Read>(
     words: &[S],
     input: &mut I,
 ) -> Result<Vec<u8>, ProgramFault>
-    ensures { IfOk result (λ answers. IfSome (I.remaining input.old) (λ bytes. IsAnswered bytes answers.items)) }
+    ensures answered { IfOk result (λ answers. IfSome (I.remaining input.old) (λ bytes. IsAnswered bytes answers.items)) }
+    ensures bad_line { IfErr result (λ fault. IfSome (I.remaining input.old) (λ bytes. TellsFirstBadLine (take 1048577 bytes) fault)) }
 {
-    let config = options(alloc, words)?.config;
+    let config = options(alloc, words).map_err(ProgramFault::Line)?;
     let script = read_script(alloc, input)?;
-    let lines = parse_script(alloc, &script, &config)?;
+    let lines = lines_of(alloc, &script, &config)?;
     if !config.is_valid() || !is_single(&config) {
         return Err(ProgramFault::BadConfig);
     }
-    Ok(replay_lines(alloc, config, &lines)?)
+    replay_lines(alloc, config, &lines).map_err(ProgramFault::NoMemory)
+}
+
+// The lines of the script.
+fn lines_of<'a>(
+    alloc: Global,
+    script: &'a [u8],
+    config: &Config,
+) -> Result<Vec<Line<'a>>, ProgramFault>
+    requires { HasSizesInRange config.now }
+    ensures lines { IfOk result (λ lines. IsScript config.now.cpus script.now lines.items) }
+    ensures bad_line { IfErr result (TellsFirstBadLine script.now) }
+{
+    match parse_script(alloc, script, config) {
+        Ok(lines) => Ok(lines),
+        Err(fault) => Err(ProgramFault::Script(fault)),
+    }
 }
 
 // Whether there is one processor, whose list and stock take one at a time: the only configuration until
@@ -72,7 +90,8 @@ fn is_single(config: &Config) -> bool
 
 // Reads all of the script. Where it is longer than a script may be, one byte more tells so.
 fn read_script<I: Read>(alloc: Global, input: &mut I) -> Result<Vec<u8>, ProgramFault>
-    ensures { IfOk result (λ script. IfSome (I.remaining input.old) (λ bytes. script.items ≡ take 1048577 bytes)) }
+    ensures read { IfOk result (λ script. IfSome (I.remaining input.old) (λ bytes. script.items ≡ take 1048577 bytes)) }
+    ensures failed { IfErr result (λ fault. status_of fault ≡ 1) }
 {
     let mut script = Vec::new(alloc);
     let most = MOST_INPUT as u64 + 1;

@@ -33,7 +33,8 @@ pub fn replay_lines(
 
 // Serves a command and adds its answer.
 fn serve(desk: &mut Desk, command: &Command<'_>, answers: &mut String) -> Result<(), AllocError>
-    ensures { IfOk result (λ _. (text : List ℕ) × Serves desk.old command.now text desk.new × (string_bytes answers.new ≡ string_bytes answers.old ++ text)) }
+    ensures { IfOk result (λ _. (text : List ℕ) × Serves desk.old command.now text desk.new
+        × (string_bytes answers.new ≡ string_bytes answers.old ++ text)) }
 {
     let reply = match command {
         Command::Mkdir { path } => desk.make_group(path),

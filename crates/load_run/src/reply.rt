@@ -2,10 +2,11 @@
 
 ghost use Rattle.std.specs.Prelude.{◌≡◌, ◌++◌, IfOk};
 ghost use Rattle.std.specs.String.{string_bytes};
-ghost use Rattle.load_run.specs.Answers.{characters};
+ghost use Rattle.load_run.specs.Answers.{characters, refusal_text};
 
 use control_files::text::ArrayText;
 use group_tree::fault::Fault;
+use group_tree::group::GroupId;
 use group_tree::path::PathText;
 use std::alloc::AllocError;
 
@@ -20,8 +21,8 @@ pub enum Reply {
     Done,
     /// The text of the file, each of its lines with its line feed.
     Text(ArrayText),
-    /// The group of this path has no room for the charge.
-    OverLimit(PathText),
+    /// This group, which has this path, has no room for the charge.
+    OverLimit { group: GroupId, path: PathText },
     /// Nothing was done, for this reason.
     Refused(Fault),
 }
@@ -38,18 +39,27 @@ impl Reply {
             Reply::Frame(number) => writeln!(text, "frame {number}"),
             Reply::Done => text.push_str("ok\n"),
             Reply::Text(file) => push_characters(text, file.as_bytes()),
-            Reply::OverLimit(path) => {
-                text.push_str("refused 15 OverLimit ")?;
+            Reply::OverLimit { group, path } => {
+                push_refusal(text, &Fault::OverLimit { group: *group })?;
+                text.push_str(" ")?;
                 push_characters(text, path.as_bytes())?;
                 text.push_str("\n")
             }
             Reply::Refused(fault) => {
-                let number = fault.number();
-                let name = fault.name();
-                writeln!(text, "refused {number} {name}")
+                push_refusal(text, fault)?;
+                text.push_str("\n")
             }
         }
     }
+}
+
+// Adds the words of a refusal, without a line feed.
+fn push_refusal(text: &mut String, fault: &Fault) -> Result<(), AllocError>
+    ensures { IfOk result (λ _. string_bytes text.new ≡ string_bytes text.old ++ refusal_text fault.now) }
+{
+    let number = fault.number();
+    let name = fault.name();
+    write!(text, "refused {number} {name}")
 }
 
 /// Adds the characters that have these codes to a text.

@@ -12,14 +12,7 @@ fn main(rt: HostRuntime) -> ExitCode {
         Ok(words) => {
             let mut input = rt.stdin();
             let mut output = rt.stdout();
-            drive(
-                &rt,
-                rt.alloc(),
-                &words,
-                &mut input,
-                &mut output,
-                &mut faults,
-            )
+            drive(rt.alloc(), &words, &mut input, &mut output, &mut faults)
         }
         Err(fault) => tell(&mut faults, &ProgramFault::Line(fault)),
     };

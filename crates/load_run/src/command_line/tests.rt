@@ -13,7 +13,7 @@ fn has_defaults(rt: HostRuntime) -> Result<(), Fail> {
         high: 8,
         stock: 4,
     };
-    assert!(rt; found.config == defaults);
+    assert!(rt; found == defaults);
     Ok(())
 }
 
@@ -39,7 +39,7 @@ fn takes_the_greatest_values(rt: HostRuntime) -> Result<(), Fail> {
         high: 256,
         stock: 64,
     };
-    assert!(rt; found.config == greatest);
+    assert!(rt; found == greatest);
     Ok(())
 }
 

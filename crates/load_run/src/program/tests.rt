@@ -72,7 +72,7 @@ fn run<R: AllocGlobal>(rt: &R, words: &[&str], mut script: Script<'_>, room: usi
         at_once: 3,
         room: 10_000,
     };
-    let status = drive(rt, alloc, words, &mut script, &mut output, &mut faults);
+    let status = drive(alloc, words, &mut script, &mut output, &mut faults);
     Outcome {
         status,
         output: output.text,
