@@ -28,21 +28,26 @@ module _ {S : Type 0} (me : Me S (List FrameView)) (v : FrameView) (alone : me �
     pub adds_as : (seen : ℕ) → 1 ≤ seen → seen < 255 → (note_of v f).seen ≡ seen
         → Allows (rule_of frames cpus) slots id me f (λ n. either (eqb n seen) (seen + 1) n) (by_one adds (step slots f seen (seen + 1) none) me)
     adds_as seen low high is =
-        subst (λ (m : Me S (List FrameView)). Allows (rule_of frames cpus) slots id m f (λ n. either (eqb n seen) (seen + 1) n) (by_one adds (step slots f seen (seen + 1) none) m))
+        subst (λ (m : Me S (List FrameView)). Allows (rule_of frames cpus) slots id m f
+        (λ n. either (eqb n seen) (seen + 1) n) (by_one adds (step slots f seen (seen + 1) none) m))
         (sym alone) (adds_at frames cpus slots id v f inside seen low high is)
 
     pub freezes_as : (count : ℕ) → 1 ≤ count → count ≤ (note_of v f).references
         → Allows (rule_of frames cpus) slots id me f (λ n. either (eqb n count) 0 n) (by_one freezes (step slots f count 0 none) me)
     freezes_as count low high =
-        subst (λ (m : Me S (List FrameView)). Allows (rule_of frames cpus) slots id m f (λ n. either (eqb n count) 0 n) (by_one freezes (step slots f count 0 none) m))
+        subst (λ (m : Me S (List FrameView)). Allows (rule_of frames cpus) slots id m f
+        (λ n. either (eqb n count) 0 n) (by_one freezes (step slots f count 0 none) m))
         (sym alone) (freezes_at frames cpus slots id v f inside count low high)
 
-    pub puts_as : 1 ≤ (note_of v f).references → Allows (rule_of frames cpus) slots id me f (λ n. (n + (2 ^ 64 - 1)) % 2 ^ 64) (by_one puts (step slots f 1 0 none) me)
-    puts_as one = subst (λ (m : Me S (List FrameView)). Allows (rule_of frames cpus) slots id m f (λ n. (n + (2 ^ 64 - 1)) % 2 ^ 64) (by_one puts (step slots f 1 0 none) m))
+    pub puts_as : 1 ≤ (note_of v f).references → Allows (rule_of frames cpus) slots id me f
+        (λ n. (n + (2 ^ 64 - 1)) % 2 ^ 64) (by_one puts (step slots f 1 0 none) me)
+    puts_as one = subst (λ (m : Me S (List FrameView)). Allows (rule_of frames cpus) slots id m f
+        (λ n. (n + (2 ^ 64 - 1)) % 2 ^ 64) (by_one puts (step slots f 1 0 none) m))
         (sym alone) (puts_at frames cpus slots id v f inside one)
 
     pub unfreezes_as : (count : ℕ) → 1 ≤ count → count ≤ 255 → (note_of v f).own ≡ 1
         → Allows (rule_of frames cpus) slots id me f (λ _. count) (λ _. by_one unfreezes (step slots f count 0 none) me count)
     unfreezes_as count low high own =
-        subst (λ (m : Me S (List FrameView)). Allows (rule_of frames cpus) slots id m f (λ _. count) (λ _. by_one unfreezes (step slots f count 0 none) m count))
+        subst (λ (m : Me S (List FrameView)). Allows (rule_of frames cpus) slots id m f (λ _. count)
+        (λ _. by_one unfreezes (step slots f count 0 none) m count))
         (sym alone) (unfreezes_at frames cpus slots id v f inside count low high own)

@@ -24,9 +24,11 @@ one_hand cpus w r h (inr (inr d)) = let z = d.3 in omega arith
 two_parts : (a b : ℕ) (u : FrameView) (n : ℕ) → a ≢ b → only a u n + only b u n ≤ n
 two_parts a b u n apart = dite (ℕ_discrete u.number a)
     (λ e. let x = only_here a u n e in let y = only_else b u n (λ z. apart (sym e ∙ z)) in omega arith)
-    (λ ne. let x = only_else a u n ne in dite (ℕ_discrete u.number b) (λ e. let y = only_here b u n e in omega arith) (λ no. let y = only_else b u n no in omega arith))
+    (λ ne. let x = only_else a u n ne in dite (ℕ_discrete u.number b) (λ e. let y = only_here b u n e in omega arith)
+    (λ no. let y = only_else b u n no in omega arith))
 
-pub two_totals : (g : FrameView → ℕ) (a b : ℕ) (seats : List (List FrameView)) → a ≢ b → total_over (λ u. only a u (g u)) seats + total_over (λ u. only b u (g u)) seats ≤ total_over g seats
+pub two_totals : (g : FrameView → ℕ) (a b : ℕ) (seats : List (List FrameView)) → a ≢ b
+    → total_over (λ u. only a u (g u)) seats + total_over (λ u. only b u (g u)) seats ≤ total_over g seats
 two_totals g a b seats apart =
     let sums = total_plus (λ u. only a u (g u)) (λ u. only b u (g u)) seats in
     let below = total_below (λ u. only a u (g u) + only b u (g u)) g seats (λ u. two_parts a b u (g u) apart) in
@@ -64,7 +66,8 @@ own_not_lent frames cpus words seats rule f inside v zone is_v is_zone number ow
     let o = part_of (λ u. only v.number u (note_of u f).own) seats v is_v in let o1 = only_here v.number v (note_of v f).own refl in
     dite (ℕ_discrete l 0) (λ none. none) (λ some.
     let near = (fr.each_cpu l (omega arith) (omega arith)).lent_is_near in
-    let a = part_of (lent_in f l) seats zone is_zone in let a1 = only_here 0 zone (lent_count (note_of zone f) l) number in let a2 = lent_yes (note_of zone f) l refl in
+    let a = part_of (lent_in f l) seats zone is_zone in let a1 = only_here 0 zone (lent_count (note_of zone f) l) number in
+    let a2 = lent_yes (note_of zone f) l refl in
     let m = marked_else l w (λ e. absurd (omega arith)) in
     let few = total_below (borrowed_in f l) (λ u. (note_of u f).borrowed) seats (λ u. borrowed_below f l u) in
     absurd (omega arith))

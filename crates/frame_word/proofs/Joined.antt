@@ -26,7 +26,8 @@ module _ {S : Type 0} (frames cpus slots id : ℕ) (me : Me S (List FrameView)) 
         changed v f (passed_out_to (word - 256)) ∷ [],
         keeps,
         tt,
-        subst (λ (x : ℕ × ℕ). ReferenceRule frames cpus (set s.words f x.0) (set s.views id (changed v f (passed_out_to x.1) ∷ []))) (λ i. (sym is i, sym back i))
+        subst (λ (x : ℕ × ℕ). ReferenceRule frames cpus (set s.words f x.0) (set s.views id (changed v f (passed_out_to x.1) ∷ [])))
+            (λ i. (sym is i, sym back i))
             (passed_out_rule frames cpus s.views id (v ∷ []) 0 v at refl s.words f inside h q zone low high open_now own),
         (changed v f (passed_out_to (word - 256)), refl, (refl, r.1, r.2, not_lent frames cpus s.views id v at s.words f inside h zone own)),
       ))
@@ -43,7 +44,8 @@ module _ {S : Type 0} (frames cpus slots id : ℕ) (me : Me S (List FrameView)) 
             (z, changed v f took_in, refl, (refl, refl, none_of.0, none_of.1)),
           ))
 
-      pub passes_back_as : get_or z.opened v.number 0 ≡ 1 → in_hands (note_of v f) ≡ 1 → (word : ℕ) → word ≡ 256 + v.number → Stores (by_two passes_back) me f word
+      pub passes_back_as : get_or z.opened v.number 0 ≡ 1 → in_hands (note_of v f) ≡ 1 → (word : ℕ) → word ≡ 256 + v.number
+          → Stores (by_two passes_back) me f word
       passes_back_as open_now hand word is = subst (λ (m : Me S (List FrameView)). Stores (by_two passes_back) m f word) (sym both)
           (λ s h homes at small. let none_of = handed_over frames cpus s.views id z v at zone low high s.words h f inside hand in (
             z ∷ changed v f gave_back ∷ [],
@@ -100,7 +102,8 @@ module _ {S : Type 0} (frames cpus slots id : ℕ) (me : Me S (List FrameView)) 
         ))
 
     -- shut_visit: nothing passes, so no word is the mark
-    pub shuts_as : ((f : ℕ) → f < frames → begun z v f ≡ ended z v f) → (at_word : ℕ) → at_word ≡ visit_index frames v.number → Stores (by_two visits) me at_word 0
+    pub shuts_as : ((f : ℕ) → f < frames → begun z v f ≡ ended z v f) → (at_word : ℕ) → at_word ≡ visit_index frames v.number
+        → Stores (by_two visits) me at_word 0
     shuts_as nothing at_word is = subst (λ (x : ℕ × Me S (List FrameView)). Stores (by_two visits) x.1 x.0 0) (λ i. (sym is i, sym both i))
         (λ s h homes at small.
         let no_mark : (f : ℕ) → f < frames → get_or s.words f 0 ≢ mark v.number

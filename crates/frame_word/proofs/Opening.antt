@@ -29,7 +29,12 @@ none_of g empty p (suc n) = omega (arith, empty p, none_of g empty (p + 1) n)
 
 none_below : (k p n : ℕ) → k < p → sum_over (λ v. only k v 1) (cpu_views p n) ≡ 0
 none_below k p zero lt = refl
-none_below k p (suc n) lt = let other : p ≢ k = λ e. absurd (omega arith) in omega (arith, only_else k (first_cpu_view p) 1 other, none_below k (p + 1) n (omega arith))
+none_below k p (suc n) lt = let other : p ≢ k = λ e. absurd (omega arith) in omega (
+  arith,
+  only_else k (first_cpu_view p) 1 other,
+  none_below k (p + 1) n
+      (omega arith),
+)
 
 one_of : (k p n : ℕ) → p ≤ k → k < p + n → sum_over (λ v. only k v 1) (cpu_views p n) ≡ 1
 one_of k p zero low high = absurd (omega arith)
@@ -74,19 +79,25 @@ module _ (frames cpus : ℕ) where
     each_frame = λ f lt. let k = zone_note f lt in let w : get_or words f 0 ≡ 0 = get_or-replicate (frames + cpus) f 0 0 (omega arith) in record {
       one_case = inr (inl (w, total_first (references_in f) (λ p. refl) ∙ ap (λ n. n.references) k, total_first (hands_in f) (λ p. refl) ∙ ap in_hands k));
       each_cpu = λ p low high.
-          let b = total_first (begun_in f p) (λ r. both_none 0 p 0 0 (first_cpu_view r) refl refl) ∙ both_none 0 p _ _ zone (ap (λ (n : FrameNote). get_or n.passed_out p 0) k) (ap (λ (n : FrameNote). n.passed_back) k) in
-          let e = total_first (ended_in f p) (λ r. both_none 0 p 0 0 (first_cpu_view r) refl refl) ∙ both_none 0 p _ _ zone (ap (λ (n : FrameNote). get_or n.collected p 0) k) (ap (λ (n : FrameNote). n.taken_in) k) in
-          let l = total_first (lent_in f p) (λ r. ap (only 0 (first_cpu_view r)) (lent_no blank p (λ z. omega arith)) ∙ only_none 0 (first_cpu_view r)) ∙ ap (λ (n : FrameNote). only 0 zone (lent_count n p)) k ∙ ap (only 0 zone) (lent_no (record blank { own = 1 }) p (λ z. omega arith)) ∙ only_none 0 zone in
+          let b = total_first (begun_in f p) (λ r. both_none 0 p 0 0 (first_cpu_view r) refl refl)
+          ∙ both_none 0 p _ _ zone (ap (λ (n : FrameNote). get_or n.passed_out p 0) k) (ap (λ (n : FrameNote). n.passed_back) k) in
+          let e = total_first (ended_in f p) (λ r. both_none 0 p 0 0 (first_cpu_view r) refl refl)
+          ∙ both_none 0 p _ _ zone (ap (λ (n : FrameNote). get_or n.collected p 0) k) (ap (λ (n : FrameNote). n.taken_in) k) in
+          let l = total_first (lent_in f p) (λ r. ap (only 0 (first_cpu_view r)) (lent_no blank p (λ z. omega arith)) ∙ only_none 0 (first_cpu_view r))
+          ∙ ap (λ (n : FrameNote). only 0 zone (lent_count n p)) k ∙ ap (only 0 zone) (lent_no (record blank { own = 1 }) p (λ z. omega arith))
+          ∙ only_none 0 zone in
           let d = total_first (borrowed_in f p) (λ r. only_none p (first_cpu_view r)) ∙ ap (λ (n : FrameNote). only p zone n.borrowed) k ∙ only_none p zone in
           let m = marked_else p (get_or words f 0) (λ is. absurd (omega arith)) in
           record { passing = omega arith; borrowed_is_lent = omega arith; lent_is_near = omega arith };
-      lent_to_one = (let l = total_first (lent_number f) (λ r. only_none 0 (first_cpu_view r)) ∙ ap (λ (n : FrameNote). only 0 zone n.lent) k ∙ only_none 0 zone in omega arith);
+      lent_to_one = (let l = total_first (lent_number f) (λ r. only_none 0 (first_cpu_view r)) ∙ ap (λ (n : FrameNote). only 0 zone n.lent) k
+          ∙ only_none 0 zone in omega arith);
     };
-    each_visit = λ p low high. let w : get_or words (visit_index frames p) 0 ≡ 0 = get_or-replicate (frames + cpus) (visit_index frames p) 0 0 (omega arith) in record {
-      noted = total_first (opened_in p) (λ r. only_none 0 (first_cpu_view r)) ∙ only_none 0 zone ∙ sym w;
-      open_or_shut = omega arith;
-      shut = λ none f lt is. let v : get_or words f 0 ≡ 0 = get_or-replicate (frames + cpus) f 0 0 (omega arith) in absurd (omega arith);
-    };
+    each_visit = λ p low high. let w : get_or words (visit_index frames p) 0 ≡ 0 = get_or-replicate (frames + cpus) (visit_index frames p) 0 0
+        (omega arith) in record {
+          noted = total_first (opened_in p) (λ r. only_none 0 (first_cpu_view r)) ∙ only_none 0 zone ∙ sym w;
+          open_or_shut = omega arith;
+          shut = λ none f lt is. let v : get_or words f 0 ≡ 0 = get_or-replicate (frames + cpus) f 0 0 (omega arith) in absurd (omega arith);
+        };
   }
 
 -- the views that are left after i processors were dealt

@@ -24,7 +24,8 @@ use Rattle.frame_word.proofs.Consequences.{own_not_lent}
 abbrev hand_overs : FrameNote → List ℕ × List ℕ × ℕ × ℕ × ℕ × ℕ
 hand_overs k = (k.passed_out, k.collected, k.lent, k.passed_back, k.taken_in, k.borrowed)
 
-module _ (frames cpus : ℕ) (seats : List (List FrameView)) (id : ℕ) (v : FrameView) (at : get_elem? seats id ≡ some (v ∷ [])) (words : List ℕ) (f : ℕ) (inside : f < frames) (rule : ReferenceRule frames cpus words seats) where
+module _ (frames cpus : ℕ) (seats : List (List FrameView)) (id : ℕ) (v : FrameView) (at : get_elem? seats id ≡ some (v ∷ [])) (words : List ℕ) (f : ℕ)
+    (inside : f < frames) (rule : ReferenceRule frames cpus words seats) where
   abbrev note : FrameNote
   note = note_of v f
 
@@ -68,8 +69,10 @@ module _ (frames cpus : ℕ) (seats : List (List FrameView)) (id : ℕ) (v : Fra
             (total_swap (references_in f) seats id (v ∷ []) 0 v w at refl ∙ ap (λ (n : FrameNote). refs + n.references) k)
             (total_swap (hands_in f) seats id (v ∷ []) 0 v w at refl ∙ ap (λ (n : FrameNote). hands + in_hands n) k);
         each_cpu = λ p low high. let o = h.each_cpu p low high in let m = marks p low in
-            let b = stays (begun_in f p) w (ap (λ (n : FrameNote). only 0 v (get_or n.passed_out p 0) + only p v n.passed_back) k ∙ ap (λ t. only 0 v (get_or t.0 p 0) + only p v t.3) same) in
-            let e = stays (ended_in f p) w (ap (λ (n : FrameNote). only 0 v (get_or n.collected p 0) + only p v n.taken_in) k ∙ ap (λ t. only 0 v (get_or t.1 p 0) + only p v t.4) same) in
+            let b = stays (begun_in f p) w (ap (λ (n : FrameNote). only 0 v (get_or n.passed_out p 0) + only p v n.passed_back) k
+            ∙ ap (λ t. only 0 v (get_or t.0 p 0) + only p v t.3) same) in
+            let e = stays (ended_in f p) w (ap (λ (n : FrameNote). only 0 v (get_or n.collected p 0) + only p v n.taken_in) k
+            ∙ ap (λ t. only 0 v (get_or t.1 p 0) + only p v t.4) same) in
             let l = stays (lent_in f p) w (ap (λ (n : FrameNote). only 0 v (lent_count n p)) k ∙ ap (λ t. only 0 v (cond (eqb t.2 p) 1 0)) same) in
             let d = stays (borrowed_in f p) w (ap (λ (n : FrameNote). only p v n.borrowed) k ∙ ap (λ t. only p v t.5) same) in
             let o0 = o.passing in let o1 = o.borrowed_is_lent in let o2 = o.lent_is_near in
@@ -86,30 +89,41 @@ module _ (frames cpus : ℕ) (seats : List (List FrameView)) (id : ℕ) (v : Fra
   no_opens word a p low high is = absurd (omega arith)
 
   -- the word, the references and the hands stay
-  pub stays_same : (change : FrameNote → FrameNote) → hand_overs (change note) ≡ hand_overs note → (change note).references ≡ note.references → (change note).own ≡ note.own → (change note).borrowed ≡ note.borrowed
+  pub stays_same : (change : FrameNote → FrameNote) → hand_overs (change note) ≡ hand_overs note → (change note).references ≡ note.references
+      → (change note).own ≡ note.own → (change note).borrowed ≡ note.borrowed
       → ReferenceRule frames cpus (set words f found) (swapped seats id (v ∷ []) 0 v at refl (changed v f change))
-  stays_same change same r o b = short_step change found same (λ p low. refl) opens_same (λ r' h' er eh. case_same cpus found refs hands r' h' (omega arith) (omega arith) case_before)
+  stays_same change same r o b = short_step change found same (λ p low. refl) opens_same
+      (λ r' h' er eh. case_same cpus found refs hands r' h' (omega arith) (omega arith) case_before)
 
   -- one reference more
   pub held_rule : 1 ≤ found → found ≤ 254 → ReferenceRule frames cpus (set words f (found + 1)) (swapped seats id (v ∷ []) 0 v at refl (changed v f held))
   held_rule low high = let c = case_counted cpus found refs hands low (omega arith) case_before in
-      short_step held (found + 1) refl (no_marks (found + 1) (omega arith) (omega arith)) (no_opens (found + 1) (omega arith)) (λ r h er eh. inl (omega arith, omega arith, omega arith, omega arith))
+      short_step held (found + 1) refl (no_marks (found + 1) (omega arith) (omega arith)) (no_opens (found + 1) (omega arith))
+      (λ r h er eh. inl (omega arith, omega arith, omega arith, omega arith))
 
   -- n references, all of this seat, go, and the frame enters its own hand
-  pub frozen_rule : (change : FrameNote → FrameNote) → hand_overs (change note) ≡ hand_overs note → (change note).own ≡ 1 → (change note).borrowed ≡ note.borrowed
-      → 1 ≤ found → (change note).references + found ≡ note.references → ReferenceRule frames cpus (set words f 0) (swapped seats id (v ∷ []) 0 v at refl (changed v f change))
+  pub frozen_rule : (change : FrameNote → FrameNote) → hand_overs (change note) ≡ hand_overs note → (change note).own ≡ 1
+      → (change note).borrowed ≡ note.borrowed
+      → 1 ≤ found → (change note).references + found ≡ note.references → ReferenceRule frames cpus (set words f 0) (swapped seats id (v ∷ []) 0 v at refl
+      (changed v f change))
   frozen_rule change same own borrowed low all = let part = refs_part in let hpart = hands_part in
-      let c = case_referenced cpus found refs hands note.references (omega arith) refs_part case_before in let c0 = c.0 in let c1 = c.1 in let c2 = c.2 in let c3 = c.3 in
+      let c = case_referenced cpus found refs hands note.references (omega arith) refs_part case_before in let c0 = c.0 in let c1 = c.1 in
+      let c2 = c.2 in let c3 = c.3 in
       short_step change 0 same (no_marks 0 (omega arith) (omega arith)) (no_opens 0 (omega arith)) (λ r h er eh. inr (inl (refl, omega arith, omega arith)))
 
   -- one of several references goes
-  pub let_go_rule : 2 ≤ found → 1 ≤ note.references → ReferenceRule frames cpus (set words f (found - 1)) (swapped seats id (v ∷ []) 0 v at refl (changed v f (let_go (found - 1))))
-  let_go_rule two one = let part = refs_part in let c = case_referenced cpus found refs hands note.references one refs_part case_before in let c1 = c.1 in let c2 = c.2 in let c3 = c.3 in
-      short_step (let_go (found - 1)) (found - 1) refl (no_marks (found - 1) (omega arith) (omega arith)) (no_opens (found - 1) (omega arith)) (λ r h er eh. inl (omega arith, omega arith, omega arith, omega arith))
+  pub let_go_rule : 2 ≤ found → 1 ≤ note.references → ReferenceRule frames cpus (set words f (found - 1)) (swapped seats id (v ∷ []) 0 v at refl
+      (changed v f (let_go (found - 1))))
+  let_go_rule two one = let part = refs_part in let c = case_referenced cpus found refs hands note.references one refs_part case_before in
+      let c1 = c.1 in let c2 = c.2 in let c3 = c.3 in
+      short_step (let_go (found - 1)) (found - 1) refl (no_marks (found - 1) (omega arith) (omega arith)) (no_opens (found - 1) (omega arith))
+      (λ r h er eh. inl (omega arith, omega arith, omega arith, omega arith))
 
   -- n references, out of the own hand
-  pub unfrozen_rule : (n : ℕ) → 1 ≤ n → n ≤ 255 → note.own ≡ 1 → ReferenceRule frames cpus (set words f n) (swapped seats id (v ∷ []) 0 v at refl (changed v f (unfrozen n)))
-  unfrozen_rule n low high own = let part = refs_part in let hpart = hands_part in let c = case_handed cpus found refs hands (in_hands note) (omega arith) hands_part case_before in let c0 = c.0 in let c1 = c.1 in let c2 = c.2 in
+  pub unfrozen_rule : (n : ℕ) → 1 ≤ n → n ≤ 255 → note.own ≡ 1 → ReferenceRule frames cpus (set words f n) (swapped seats id (v ∷ []) 0 v at refl
+      (changed v f (unfrozen n)))
+  unfrozen_rule n low high own = let part = refs_part in let hpart = hands_part in
+      let c = case_handed cpus found refs hands (in_hands note) (omega arith) hands_part case_before in let c0 = c.0 in let c1 = c.1 in let c2 = c.2 in
       short_step (unfrozen n) n refl (no_marks n high (omega arith)) (no_opens n high) (λ r h er eh. inl (low, high, omega arith, omega arith))
 
   -- a seat with a reference: the word counts it, and the frame is in no hand
@@ -148,7 +162,8 @@ module _ {S : Type 0} (frames cpus slots id : ℕ) (v : FrameView) (f : ℕ) (in
   )
 
   pub adds_at : (seen : ℕ) → 1 ≤ seen → seen < 255 → (note_of v f).seen ≡ seen
-      → Allows (rule_of {S = S} frames cpus) slots id (v ∷ [], []) f (λ n. either (eqb n seen) (seen + 1) n) (by_one adds (step slots f seen (seen + 1) none) (v ∷ [], []))
+      → Allows (rule_of {S = S} frames cpus) slots id (v ∷ [], []) f (λ n. either (eqb n seen) (seen + 1) n) (by_one adds (step slots f seen
+      (seen + 1) none) (v ∷ [], []))
   adds_at seen low high is s h homes at small = let n : ℕ = get_or s.words f 0 in
       let F : ℕ → Type 0 = λ word. (w : List FrameView) × (a : Act S) × Valid s.homes [] a × rule_of frames cpus (stepped s f word id [] w a)
       × by_one adds (step slots f seen (seen + 1) none) (v ∷ [], []) n (w, carried_after [] a) in

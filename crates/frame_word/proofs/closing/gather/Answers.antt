@@ -38,5 +38,6 @@ returns-clause-views c =
     let gone = c.in-None.ensures.steps in
     let empty : into_iter_items at.seat-iterator ≡ [] = nothing_left _ (sym at.invariant.counted ∙ gone.0) in
     let items = c.into_iter-seat-iterator.ensures.into_iter_gives.0 in
-    let views = sym (append-nil at.all.seat.me.0) ∙ ap (λ l. at.all.seat.me.0 ++ map view_of l) (sym empty) ∙ at.invariant.views ∙ ap (λ l. c.args.all.now.seat.me.0 ++ map view_of l) items in
+    let views = sym (append-nil at.all.seat.me.0) ∙ ap (λ l. at.all.seat.me.0 ++ map view_of l) (sym empty) ∙ at.invariant.views
+    ∙ ap (λ l. c.args.all.now.seat.me.0 ++ map view_of l) items in
     λ i. (views i, at.invariant.no_slot i)

@@ -13,7 +13,8 @@ invariant_of-push c =
     let i = c.loop-i.i in
     let rest = c.loop-i.invariant.views ∙ ap (λ l. (l, [])) (views_next i c.args.cpus c.loop-i-test.true) in
     let split = c.cut-next.ensures in
-    sits c.replace-place.result.seat (first_cpu_view (i + 1)) (i + 1) (ap (λ s. s.seat.me) c.replace-place.ensures.value ∙ split.views.0 ∙ (λ j. (first_alone (rest j).0, (rest j).1))) refl
+    sits c.replace-place.result.seat (first_cpu_view (i + 1)) (i + 1) (ap (λ s. s.seat.me) c.replace-place.ensures.value ∙ split.views.0
+    ∙ (λ j. (first_alone (rest j).0, (rest j).1))) refl
 
 pub loop-i-preserved : goal.loop-i-preserved
 loop-i-preserved c =
@@ -25,5 +26,6 @@ loop-i-preserved c =
     let after = c.replace-place.ensures.after in record {
       seated = ap (λ s. s.seat.table_id) after ∙ (split.table.1 ∙ sym split.table.0) ∙ split.table.0 ∙ c.loop-i.invariant.seated;
       views = ap (λ s. s.seat.me) after ∙ split.views.1 ∙ (λ j. (but_first (rest j).0, []));
-      dealt = c.in_ok-push.ensures.items ∙ (λ j. c.loop-i.invariant.dealt j ++ known (id j) (me j).0 ∷ []) ∙ sym (seats_next c.args.board.now.table.shared.table_id i);
+      dealt = c.in_ok-push.ensures.items ∙ (λ j. c.loop-i.invariant.dealt j ++ known (id j) (me j).0 ∷ [])
+          ∙ sym (seats_next c.args.board.now.table.shared.table_id i);
     }

@@ -26,5 +26,6 @@ returns-clause-rule c =
     let views = ap (λ m. m.0) c.gather.ensures.views ∙ ap (λ (l : List FrameView). l ++ map view_of c.args.cpus.items) own in
     let frames = laid.frames_are ∙ ap (λ t. t.frames) c.self.view_is in
     let cpus = laid.cpus_are ∙ ap (λ t. t.cpus) c.self.view_is in
-    subst (λ (z : ℕ × ℕ). ReferenceRule z.0 z.1 (slots_items c.end.result.words) ((c.args.zone.view ∷ map view_of c.args.cpus.items) ∷ [])) (λ i. (frames i, cpus i))
+    subst (λ (z : ℕ × ℕ). ReferenceRule z.0 z.1 (slots_items c.end.result.words) ((c.args.zone.view ∷ map view_of c.args.cpus.items) ∷ []))
+    (λ i. (frames i, cpus i))
     (final_rule _ _ _ _ _ _ c.args.zone.view c.args.cpus.items c.end.ensures.rule views (c.requires.count ∙ sym cpus))

@@ -46,7 +46,8 @@ returns-else-found-seen-clause-answer c =
     let look = c.look-seen.ensures in
     let add = c.add-found.ensures in
     let seen_is = ap (λ (w : FrameView). (note_of w f).seen) look.kind.0 ∙ ap (λ (k : FrameNote). k.seen) (note_here v f (looked n)) in
-    let view = add.kind.1 (λ e. c.if-found-seen.false (e ∙ seen_is)) ∙ (λ i. changed (look.kind.0 i) f (raced found)) ∙ changed_twice v f (looked n) (raced found) in
+    let view = add.kind.1 (λ e. c.if-found-seen.false (e ∙ seen_is)) ∙ (λ i. changed (look.kind.0 i) f (raced found))
+    ∙ changed_twice v f (looked n) (raced found) in
     let table = add.table ∙ look.table in (
       n,
       omega arith,

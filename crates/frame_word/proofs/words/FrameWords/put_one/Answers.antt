@@ -10,5 +10,6 @@ pub fetch_sub-requires : goal.fetch_sub-requires
 fetch_sub-requires c = let frames = ap (λ t. t.frames) c.self.view_is in let word = c.word.ensures in (
   ap (λ s. s.table) c.seat.view_is ∙ c.requires.table ∙ sym (ap (λ t. t.table) c.self.view_is),
   omega arith,
-  puts_as _ _ c.seat.invariant.alone _ _ _ _ _ (omega arith) (subst (λ (z : KnownSeat × ℕ). 1 ≤ holds z.0 z.1) (λ i. (sym c.seat.view_is i, sym word i)) c.requires.held),
+  puts_as _ _ c.seat.invariant.alone _ _ _ _ _ (omega arith) (subst (λ (z : KnownSeat × ℕ). 1 ≤ holds z.0 z.1)
+      (λ i. (sym c.seat.view_is i, sym word i)) c.requires.held),
 )
