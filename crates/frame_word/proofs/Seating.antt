@@ -1,4 +1,4 @@
--- Seats are split and joined: the rule goes on.
+-- Serves `cut` and `pair`. Seats are split and joined: the rule goes on.
 use Rattle.std.proofs.Common.{◌≡◌, ℕ, List, [], ◌∷◌, ◌++◌, refl, ap, ◌∙◌}
 use mathlib.Core.Option.{some}
 use Rattle.atomic_table.specs.Table.{Splits, Joins}
@@ -15,5 +15,6 @@ pub splits : {S : Type 0} (frames cpus id : ℕ) (views : List FrameView) → Sp
 splits frames cpus id views s h at =
     rule_carries frames cpus s.words s.views _ (split_totals s.views id (first_alone views) (but_first views) (at ∙ ap some (first_and_rest views))) h
 
-pub joins : {S : Type 0} (frames cpus id : ℕ) (views : List FrameView) (other : ℕ) (taken : List FrameView) → Joins (rule_of {S = S} frames cpus) id views other taken (views ++ taken) []
+pub joins : {S : Type 0} (frames cpus id : ℕ) (views : List FrameView) (other : ℕ) (taken : List FrameView)
+    → Joins (rule_of {S = S} frames cpus) id views other taken (views ++ taken) []
 joins frames cpus id views other taken s h at apart there = rule_carries frames cpus s.words s.views _ (join_totals s.views id other views taken at there) h

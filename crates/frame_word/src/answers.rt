@@ -7,7 +7,7 @@ pub enum Get {
     Held,
     /// No one had a reference: the frame is in a hand, or passes.
     Zero,
-    /// Another seat changed the word in between, to this. Try again.
+    /// The exchange found this word and not the one that the load saw: another seat changed it in between. Try again.
     Raced(u64),
     /// The frame has 255 references already.
     Full,
@@ -16,7 +16,7 @@ pub enum Get {
 /// What a `put` answers.
 #[derive(Clone, Copy, PartialEq, Eq, Debug)]
 pub enum Put {
-    /// So many references are left, at least one.
+    /// So many references are left to all seats, at least one.
     Left(u64),
     /// That was the last reference. The frame is in the seat's own hand now.
     Last,

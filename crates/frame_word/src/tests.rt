@@ -36,6 +36,8 @@ fn frame_3_goes_to_processor_2_and_back(rt: HostRuntime) -> Result<(), Fail> {
     let (words, mut zone, mut cpus) = FrameWords::new(rt.alloc(), 8, 2)?;
     let frame = words.frame(3).ok_or("no frame")?;
     assert!(rt; words.frame(8).is_none());
+    assert_eq!(rt; words.frames(), 8);
+    assert_eq!(rt; words.cpus(), 2);
     let mut second = cpus.pop().ok_or("no seat")?;
     let mut first = cpus.pop().ok_or("no seat")?;
     assert_eq!(rt; second.number(), 2);

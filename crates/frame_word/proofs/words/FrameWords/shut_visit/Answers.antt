@@ -17,5 +17,6 @@ store-requires c =
       c.join.ensures.table.0 ∙ (ap (λ s. s.table) zone ∙ c.requires.zone.0 ∙ sym (ap (λ t. t.table) c.self.view_is)),
       omega arith,
       shuts_as _ _ _ _ _ _ _ both (ap number_of zone ∙ c.requires.zone.1) (omega arith) (omega arith)
-          (λ f lt. subst (λ (s : KnownSeat × KnownSeat). begun s.0.view s.1.view f ≡ ended s.0.view s.1.view f) (λ i. (sym zone i, sym cpu i)) (c.requires.nothing_passes f (omega arith))) _ (omega arith),
+          (λ f lt. subst (λ (s : KnownSeat × KnownSeat). begun s.0.view s.1.view f ≡ ended s.0.view s.1.view f)
+          (λ i. (sym zone i, sym cpu i)) (c.requires.nothing_passes f (omega arith))) _ (omega arith),
     )
