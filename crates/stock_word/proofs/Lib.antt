@@ -1,9 +1,12 @@
 pub mod Alike
 pub mod Only
 pub mod Stocks
+pub mod CallerLemmas
 pub mod Keeps
 pub mod Steps
 pub mod Told
 pub mod Deals
 pub mod Opens
 pub mod Gathers
+pub mod Closes
+pub mod Places

@@ -1,4 +1,4 @@
--- Which view is the only one of its number, as one seat's views change, and as seats are split and joined.
+-- Which view is the only one of its number, as one seat's views change, and as seats are split and joined. Serves Keeps.antt.
 use Rattle.std.proofs.Common.{◌≡◌, ◌≢◌, ℕ, List, [], ◌∷◌, set, Bool, cond, true, false, eqb, eq-eqb, ne_eqb, refl, ap, ◌∙◌, arith}
 use mathlib.Core.Option.{some}
 use lib.ListN.{get_elem?}
@@ -71,6 +71,12 @@ stays seats id old new at q k same only = λ f.
     let d = total_set (at_seat q f) seats id old new at in
     let s = same f in
     let t = only f in omega arith
+
+-- a seat that has as many views as before
+pub as_many : (seats : List (List StockView)) (id : ℕ) (old new : List StockView) → get_elem? seats id ≡ some old → (n : ℕ)
+    → sum_over (λ (v : StockView). 1) new ≡ sum_over (λ (v : StockView). 1) old
+    → total_over (λ (v : StockView). 1) seats ≡ n → total_over (λ (v : StockView). 1) (set seats id new) ≡ n
+as_many seats id old new at n same whole = let d = total_set (λ (v : StockView). 1) seats id old new at in omega arith
 
 -- equal totals
 pub same_only : (before after : List (List StockView)) → SameTotals before after → (q : ℕ) (k : StockView) → IsOnly before q k → IsOnly after q k

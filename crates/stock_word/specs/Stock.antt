@@ -1,7 +1,6 @@
 -- What a stock word says and its encoding, and what a seat knows of the stocks.
 use Rattle.std.specs.Prelude.{◌≡◌, ℕ, zero, suc, ◌+◌, ◌-◌, ◌*◌, ◌<◌, ◌≤◌, Bool, true, false, List, [], ◌∷◌, Option, Some, None}
 use Rattle.atomic_table.specs.Seated.{TableId}
-use Rattle.atomic_table.specs.Table.{Me}
 use Rattle.seat_sums.specs.Totals.{sum_over}
 use Rattle.stock_word.specs.declared.view.Stock.{Stock}
 use Rattle.stock_word.specs.declared.view.Stock.TheVariants.{NoGroup, HeldBy, DrainedOf}
@@ -66,6 +65,15 @@ pub record Seated : Type 0 where
   pub table : TableId
   pub view : StockView
 
+-- a table of 16 words for each of 1 to 64 processors, and a row before theirs, with no slot
+abbrev pub IsSized : TableId → ℕ → Type 0
+IsSized table cpus = (table.words ≡ 16 * (cpus + 1)) × (table.slots ≡ 0) × (1 ≤ cpus) × (cpus ≤ 64)
+
+-- A seat's place at the table: which table, and the views that it has: one, two where it is joined, none where it is spent
+pub record Placed : Type 0 where
+  pub table : TableId
+  pub views : List StockView
+
 -- the machine's account of processor p
 abbrev pub account_of : StockView → ℕ → Account
 account_of machine p = account_at machine.accounts p
@@ -109,12 +117,12 @@ abbrev pub first_seats : TableId → ℕ → ℕ → List Seated
 first_seats table p zero = []
 first_seats table p (suc count) = record { table = table; view = first_processor p } ∷ first_seats table (p + 1) count
 
--- the seats of the processors p, p + 1 and so on of one table, in order
-abbrev pub AreSeats : TableId → ℕ → List Seated → Type 0
-AreSeats table p [] = Unit {0}
-AreSeats table p (seat ∷ seats) = (seat.table ≡ table) × (seat.view.number ≡ p) × AreSeats table (p + 1) seats
+-- the seats are all of this table
+abbrev pub AreOf : TableId → List Seated → Type 0
+AreOf table [] = Unit {0}
+AreOf table (seat ∷ seats) = (seat.table ≡ table) × AreOf table seats
 
--- the view of the seat at k
+-- the view of the seat at place k of a list
 abbrev pub view_in : List Seated → ℕ → StockView
 view_in [] k = first_machine
 view_in (seat ∷ seats) zero = seat.view
@@ -143,13 +151,14 @@ account_for machine view = account_of machine view.number
 abbrev pub stocked : StockView → StockView → ℕ
 stocked machine view = (account_for machine view).book - view.fresh - (account_for machine view).noted
 
--- What a seat keeps beside its place in the table: it has one view, of which it keeps the number and the last stock; a processor that never saw a stock has no fresh page
-pub record IsKept {S : Type 0} (me : Me S (List StockView)) (number : ℕ) (last : Stock) : Type 0 where
-  pub one_view : me ≡ (first_of me.0 ∷ [], [])
-  pub same_number : number ≡ (first_of me.0).number
-  pub same_last : last ≡ (first_of me.0).last
+-- What a seat keeps beside its place in the table: it has one view, of which it keeps the number and the last stock;
+-- a processor that never saw a stock has no fresh page
+pub record IsKept (views : List StockView) (number : ℕ) (last : Stock) : Type 0 where
+  pub one_view : views ≡ first_of views ∷ []
+  pub same_number : number ≡ (first_of views).number
+  pub same_last : last ≡ (first_of views).last
   pub last_word : HasWord last
-  pub none_fresh : last ≡ NoGroup → (first_of me.0).fresh ≡ 0
+  pub none_fresh : last ≡ NoGroup → (first_of views).fresh ≡ 0
 
 -- the view is that of a processor's seat, or of the machine's
 abbrev pub IsProcessor : Words → StockView → Type 0

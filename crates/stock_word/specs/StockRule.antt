@@ -18,7 +18,8 @@ report_place p = 16 * p + 1
 abbrev pub at_seat : ℕ → (StockView → ℕ) → StockView → ℕ
 at_seat q f view = cond (view.number == q) (f view) 0
 
--- Among the views of all seats, joined ones and all, this is the only one of number q: whatever is summed over the views of number q comes to what it is of this one
+-- Among the views of all seats, joined ones and all, this is the only one of number q:
+-- whatever is summed over the views of number q comes to what it is of this one
 abbrev pub IsOnly : List (List StockView) → ℕ → StockView → Type 0
 IsOnly seats q view = (f : StockView → ℕ) → total_over (at_seat q f) seats ≡ f view
 
@@ -51,9 +52,10 @@ pub record HoldsAt (words : List ℕ) (seats : List (List StockView)) (machine :
   pub only : IsOnly seats p view
   pub stock : IsStockOf words p machine view
 
--- the machine has one seat, and each processor one
+-- the machine has one view, each processor one, and there is no other
 pub record StockRule (cpus : ℕ) (words : List ℕ) (seats : List (List StockView)) : Type 0 where
   pub rows : length words ≡ 16 * (cpus + 1)
   pub machine : StockView
   pub only : IsOnly seats 0 machine
   pub each : (p : ℕ) → 0 < p → p ≤ cpus → HoldsAt words seats machine p
+  pub no_more : total_over (λ (v : StockView). 1) seats ≡ cpus + 1

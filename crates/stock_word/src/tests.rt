@@ -19,16 +19,16 @@ fn drained_with_a_fresh_page(rt: HostRuntime) -> Result<(), Fail> {
     let (words, mut machine, mut seats) = StockWords::new(rt.alloc(), 1)?;
     let mut seat = seats.pop().expect(&rt, "the seat of processor 1");
     words.fill(&mut machine, &mut seat, 1, 4);
-    assert_eq!(rt; words.table.shared.peek(16), 131_076);
+    assert_eq!(rt; words.peek(16), 131_076);
     assert_eq!(rt; words.consume(&mut seat, 1), Consume::Took);
-    assert_eq!(rt; words.table.shared.peek(16), 131_075);
+    assert_eq!(rt; words.peek(16), 131_075);
     assert_eq!(rt; words.consume(&mut seat, 2), Consume::OtherGroup);
     assert_eq!(rt; words.drain(&mut machine, 1), 3);
-    assert_eq!(rt; words.table.shared.peek(16), 4_295_098_368);
+    assert_eq!(rt; words.peek(16), 4_295_098_368);
     assert_eq!(rt; words.consume(&mut seat, 1), Consume::Drained);
     assert_eq!(rt; words.credit(&mut seat), Credit::Drained);
     words.report(&mut machine, &mut seat, 1);
-    assert_eq!(rt; words.table.shared.peek(17), 1);
+    assert_eq!(rt; words.peek(17), 1);
     assert_eq!(rt; words.absorb(&mut machine, 1), 1);
     nothing_booked(&machine);
     Ok(())
@@ -83,7 +83,9 @@ fn round<R: Threads + Sync>(
         rt,
         move || -> (u32, StockSeat)
             requires { (machine.table ≡ words.now.table) × IsMachine machine.view × (1 ≤ words.now.cpus) }
-            ensures { (result.1.table ≡ words.entry.now.table) × (result.1.view ≡ draining machine.view 1 result.0) × (result.0 ≤ (account_of machine.view 1).book) }
+            ensures { (result.1.table ≡ words.entry.now.table)
+                × (result.1.view ≡ draining machine.view 1 result.0)
+                × (result.0 ≤ (account_of machine.view 1).book) }
         {
             let mut own = machine;
             (words.drain(&mut own, 1), own)
