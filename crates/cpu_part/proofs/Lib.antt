@@ -1,0 +1,4 @@
+pub mod Counts
+pub mod Notes
+pub mod Tied
+pub mod Answered
