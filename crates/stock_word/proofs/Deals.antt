@@ -1,10 +1,10 @@
 -- Seats are split off the first one, processor by processor.
-use Rattle.std.proofs.Common.{◌≡◌, ℕ, suc, ◌+◌, ◌-◌, ◌<◌, ◌≤◌, List, [], ◌∷◌, ◌++◌, append_assoc, ap, sym, ◌∙◌, arith}
+use Rattle.std.proofs.Common.{◌≡◌, ℕ, zero, suc, ◌+◌, ◌-◌, ◌<◌, ◌≤◌, List, [], ◌∷◌, ◌++◌, append_assoc, length, refl, subst, ap, sym, ◌∙◌, arith}
 use Rattle.std.proofs.lemmas.List.{append-nil}
 use Rattle.atomic_table.specs.Seated.{TableId}
 use Rattle.atomic_table.specs.Table.{Me}
 use Rattle.stock_word.specs.declared.view.StockView.{StockView}
-use Rattle.stock_word.specs.Stock.{Seated, first_machine, first_processor, first_processors, first_seats, first_of, without_second, second_alone}
+use Rattle.stock_word.specs.Stock.{Seated, first_machine, first_processor, first_processors, first_seats, first_of, view_in, AreOf, without_second, second_alone}
 
 -- one more of a count that is left
 pub one_more : (cpus p : ℕ) → p < cpus + 1 → cpus + 1 - p ≡ suc (cpus + 1 - (p + 1))
@@ -53,3 +53,29 @@ first_views {S} me cpus is = is ∙ (λ i. (first_machine ∷ first_processors 1
 
 pub no_seats : (table : TableId) (cpus : ℕ) (seats : List Seated) → seats ≡ [] → seats ++ first_seats table 1 (cpus + 1 - 1) ≡ first_seats table 1 cpus
 no_seats table cpus seats is = (λ i. is i ++ first_seats table 1 (sym (all_left cpus) i))
+
+-- ---- the seats at first: how many, of which table, and of which numbers
+
+count_first : (table : TableId) (p n : ℕ) → length (first_seats table p n) ≡ n
+count_first table p zero = refl
+count_first table p (suc n) = ap suc (count_first table (p + 1) n)
+
+tables_first : (table : TableId) (p n : ℕ) → AreOf table (first_seats table p n)
+tables_first table p zero = tt
+tables_first table p (suc n) = (refl, tables_first table (p + 1) n)
+
+numbers_first : (table : TableId) (p n k : ℕ) → k < n → (view_in (first_seats table p n) k).number ≡ p + k
+numbers_first table p zero k below = absurd (omega arith)
+numbers_first table p (suc n) zero below = omega arith
+numbers_first table p (suc n) (suc k) below = let rest = numbers_first table (p + 1) n k (omega arith) in omega arith
+
+pub new_count : (table : TableId) (cpus : ℕ) (seats : List Seated) → seats ≡ first_seats table 1 cpus → length seats ≡ cpus
+new_count table cpus seats is = ap length is ∙ count_first table 1 cpus
+
+pub new_tables : (table : TableId) (cpus : ℕ) (seats : List Seated) → seats ≡ first_seats table 1 cpus → AreOf table seats
+new_tables table cpus seats is = subst (AreOf table) (sym is) (tables_first table 1 cpus)
+
+pub new_numbers : (table : TableId) (cpus : ℕ) (seats : List Seated) → seats ≡ first_seats table 1 cpus → (k : ℕ) → k < cpus → (view_in seats k).number ≡ k + 1
+new_numbers table cpus seats is k below =
+    let first = numbers_first table 1 cpus k below in
+    ap (λ (l : List Seated). (view_in l k).number) is ∙ omega (arith, first)

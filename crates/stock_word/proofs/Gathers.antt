@@ -5,17 +5,17 @@ use Rattle.atomic_table.specs.Table.{Me}
 use Rattle.seat_sums.specs.Totals.{sum_over}
 use Rattle.seat_sums.proofs.Totals.{sum_append}
 use Rattle.stock_word.specs.declared.view.StockView.{StockView}
-use Rattle.stock_word.specs.Stock.{Seated, AreSeats, first_of, views_of}
+use Rattle.stock_word.specs.Stock.{Seated, AreOf, first_of, views_of}
 
-front_seats : (table : TableId) (p : ℕ) (seats : List Seated) (seat : Seated) → AreSeats table p (seats ++ seat ∷ []) → AreSeats table p seats × (seat.table ≡ table)
-front_seats table p [] seat are = (tt, are.0)
-front_seats table p (s ∷ seats) seat are = let rest = front_seats table (p + 1) seats seat are.2 in ((are.0, are.1, rest.0), rest.1)
+front_seats : (table : TableId) (seats : List Seated) (seat : Seated) → AreOf table (seats ++ seat ∷ []) → AreOf table seats × (seat.table ≡ table)
+front_seats table [] seat are = (tt, are.0)
+front_seats table (s ∷ seats) seat are = let rest = front_seats table seats seat are.1 in ((are.0, rest.0), rest.1)
 
-pub fewer_seats : (table : TableId) (p : ℕ) (before seats : List Seated) (seat : Seated) → before ≡ seats ++ seat ∷ [] → AreSeats table p before → AreSeats table p seats
-fewer_seats table p before seats seat is are = (front_seats table p seats seat (subst (AreSeats table p) is are)).0
+pub fewer_seats : (table : TableId) (before seats : List Seated) (seat : Seated) → before ≡ seats ++ seat ∷ [] → AreOf table before → AreOf table seats
+fewer_seats table before seats seat is are = (front_seats table seats seat (subst (AreOf table) is are)).0
 
-pub last_table : (table : TableId) (p : ℕ) (before seats : List Seated) (seat : Seated) → before ≡ seats ++ seat ∷ [] → AreSeats table p before → seat.table ≡ table
-last_table table p before seats seat is are = (front_seats table p seats seat (subst (AreSeats table p) is are)).1
+pub last_table : (table : TableId) (before seats : List Seated) (seat : Seated) → before ≡ seats ++ seat ∷ [] → AreOf table before → seat.table ≡ table
+last_table table before seats seat is are = (front_seats table seats seat (subst (AreOf table) is are)).1
 
 sum_last : (f : StockView → ℕ) (seats : List Seated) (seat : Seated) → sum_over f (views_of (seats ++ seat ∷ [])) ≡ sum_over f (views_of seats) + f seat.view
 sum_last f [] seat = omega arith

@@ -14,7 +14,7 @@ use Rattle.stock_word.specs.declared.view.StockView.{StockView}
 use Rattle.stock_word.specs.Stock.{account_at, with_account_at, account_of, with_account, IsSettled}
 use Rattle.stock_word.specs.Kinds.{after_report, noting, draining, absorbing}
 use Rattle.stock_word.specs.StockRule.{stock_place, report_place, at_seat, IsStock, HoldsAt, StockRule}
-use Rattle.stock_word.proofs.Only.{at_mine, at_other, known, turned, stays, same_only}
+use Rattle.stock_word.proofs.Only.{at_mine, at_other, known, turned, stays, as_many, same_only}
 
 -- ---- what one seat's views come to
 
@@ -139,6 +139,7 @@ module _ (cpus : ℕ) (words : List ℕ) (seats : List (List StockView)) (rule :
       rows = leaves.same_length ∙ rule.rows;
       machine = rule.machine;
       only = stays seats id (v ∷ []) (w ∷ []) at 0 rule.machine (λ f. none 0 w (λ e. omega (arith, e, named)) f ∙ sym (none 0 v (λ e. omega (arith, e)) f)) rule.only;
+      no_more = as_many seats id (v ∷ []) (w ∷ []) at (cpus + 1) refl rule.no_more;
       each = λ q low' high'. dite (ℕ_discrete q v.number)
           (λ e. subst (λ n. HoldsAt words' (set seats id (w ∷ [])) rule.machine n) (sym e) mine)
           (λ ne. beside (v ∷ []) (w ∷ []) at v.number x y leaves rule.machine q ne (λ f. none q w (λ e. ne (sym e ∙ named)) f ∙ sym (none q v (λ e. ne (sym e)) f)) refl low' high');
@@ -167,6 +168,7 @@ module _ (cpus : ℕ) (words : List ℕ) (seats : List (List StockView)) (rule :
       rows = leaves.same_length ∙ rule.rows;
       machine = m';
       only = turned seats id (m ∷ []) at 0 m (sole 0 m zeroth) rule.machine m' (m' ∷ []) (sole 0 m' named) rule.only;
+      no_more = as_many seats id (m ∷ []) (m' ∷ []) at (cpus + 1) refl rule.no_more;
       each = λ q low' high'. dite (ℕ_discrete q p)
           (λ e. subst (λ n. HoldsAt words' (set seats id (m' ∷ [])) m' n) (sym e) mine)
           (λ ne. beside (m ∷ []) (m' ∷ []) at p x y leaves m' q ne (unmoved q low') (others q ne ∙ ap (λ (u : StockView). account_of u q) (sym machine_known)) low' high');
@@ -199,6 +201,7 @@ module _ (cpus : ℕ) (words : List ℕ) (seats : List (List StockView)) (rule :
       rows = leaves.same_length ∙ rule.rows;
       machine = m';
       only = turned seats id (m ∷ v ∷ []) at 0 m (first 0 m v zeroth (λ e. omega (arith, e))) rule.machine m' (m' ∷ v' ∷ []) (first 0 m' v' named (λ e. omega (arith, e, named'))) rule.only;
+      no_more = as_many seats id (m ∷ v ∷ []) (m' ∷ v' ∷ []) at (cpus + 1) refl rule.no_more;
       each = λ q low' high'. dite (ℕ_discrete q v.number)
           (λ e. subst (λ n. HoldsAt words' (set seats id (m' ∷ v' ∷ [])) m' n) (sym e) mine)
           (λ ne. beside (m ∷ v ∷ []) (m' ∷ v' ∷ []) at v.number x y leaves m' q ne (unmoved q low' ne) (others q ne ∙ ap (λ (u : StockView). account_of u q) (sym joined_machine)) low' high');
@@ -222,6 +225,7 @@ same_keeps cpus words before after same rule = record {
   rows = rule.rows;
   machine = rule.machine;
   only = same_only before after same 0 rule.machine rule.only;
+  no_more = same (λ (v : StockView). 1) ∙ rule.no_more;
   each = λ q low high. let h = rule.each q low high in record { view = h.view; only = same_only before after same q h.view h.only; stock = h.stock };
 }
 

@@ -7,3 +7,4 @@ pub mod Told
 pub mod Deals
 pub mod Opens
 pub mod Gathers
+pub mod Closes

@@ -72,6 +72,12 @@ stays seats id old new at q k same only = λ f.
     let s = same f in
     let t = only f in omega arith
 
+-- a seat that has as many views as before
+pub as_many : (seats : List (List StockView)) (id : ℕ) (old new : List StockView) → get_elem? seats id ≡ some old → (n : ℕ)
+    → sum_over (λ (v : StockView). 1) new ≡ sum_over (λ (v : StockView). 1) old
+    → total_over (λ (v : StockView). 1) seats ≡ n → total_over (λ (v : StockView). 1) (set seats id new) ≡ n
+as_many seats id old new at n same whole = let d = total_set (λ (v : StockView). 1) seats id old new at in omega arith
+
 -- equal totals
 pub same_only : (before after : List (List StockView)) → SameTotals before after → (q : ℕ) (k : StockView) → IsOnly before q k → IsOnly after q k
 same_only before after same q k only = λ f. same (at_seat q f) ∙ only f

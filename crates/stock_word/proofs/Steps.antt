@@ -14,8 +14,8 @@ use Rattle.stock_word.specs.declared.view.Account.{Account}
 use Rattle.stock_word.specs.declared.view.StockView.{StockView}
 use Rattle.stock_word.specs.Stock.{word_of, pages_of, group_of, account_of, with_account, first_of, without_second, second_alone}
 use Rattle.stock_word.specs.StockRule.{stock_place, report_place, IsStock, StockRule}
-use Rattle.stock_word.specs.Kinds.{after_took, after_back, after_drained, after_report, noting, filling, after_fill, draining, absorbing, Drains, DrainsNone, LooksAt, Absorbs, Fills, Alone, Joined, consuming, crediting, looking, draining_step, absorbing_step, reporting_step, consuming_held, filling_step}
-use Rattle.stock_word.proofs.Stocks.{left_of, took, back, now_drained, sees_drained, reported, held_by_books, nothing_booked, filled, drained, drained_none, of_some_group, absorbed}
+use Rattle.stock_word.specs.Kinds.{after_took, after_back, after_drained, after_report, noting, filling, after_fill, draining, absorbing, Drains, DrainsNone, LooksAt, Absorbs, Fills, Alone, Joined, consuming, crediting, looking, draining_step, absorbing_step, reporting_step, consuming_held, filling_step, seeing_stock}
+use Rattle.stock_word.proofs.Stocks.{left_of, took, back, now_drained, sees_drained, last_group, reported, held_by_books, nothing_booked, filled, drained, drained_none, of_some_group, absorbed}
 use Rattle.stock_word.proofs.Keeps.{leaves_stock, leaves_report, account_of-with_account, account_of-with_account_other, processor_stock, processor_keeps, machine_stock, machine_keeps, joined_stock, joined_keeps, split_keeps}
 
 same_stock_place : (p q : ℕ) → stock_place p ≡ stock_place q → p ≡ q
@@ -253,7 +253,47 @@ module _ {S : Type 0} (cpus slots id : ℕ) where
         let sum : (found + n) % 2 ^ 64 ≡ found + n = small_mod (found + n) (omega (arith, stock.balanced, stock.bounded, fresh)) in
         subst (λ (x : ℕ). Owes s (m ∷ v ∷ [], []) place then x) (sym sum)
         (joined_report_owes s rule at (found + n) (record a { noted = a.noted + n }) (after_report v n) then refl (reported _ _ a v n stock fresh)
-        (noting m v.number n, after_report v n, refl, record { at_report = refl; word_after = refl; machine_after = refl; view_after = refl }))
+        (noting m v.number n, after_report v n, refl, record {
+          at_report = refl;
+          word_after = refl;
+          of_group = last_group _ _ a v stock;
+          enough = omega (arith, stock.balanced, stock.reported);
+          machine_after = refl;
+          view_after = refl;
+        }))
+
+    -- the look
+    seeing_allowed_at : Allows holds slots id (m ∷ v ∷ [], []) (stock_place v.number) (λ x. x)
+        (Joined seeing_stock (step slots (stock_place v.number) 0 0 none) (m ∷ v ∷ [], []))
+    seeing_allowed_at s rule homes at fits =
+        let place = stock_place v.number in
+        let found = slice_index s.words place in
+        let stock = joined_stock cpus s.words s.views rule s.words id m v at zeroth low high in (
+          m ∷ v ∷ [],
+          keeps,
+          tt,
+          joined_keeps cpus s.words s.views rule (set s.words place found) id m v at zeroth low high _ _ (leaves_stock cpus s.words v.number found rule.rows high)
+              m v zeroth refl (λ q ne. refl) stock,
+          (
+            m,
+            v,
+            refl,
+            record {
+              stock = stock.stock;
+              at_stock = refl;
+              has_word = stock.has_word;
+              word_before = stock.encoded;
+              word_after = refl;
+              balanced = omega (arith, stock.balanced, stock.reported);
+              bounded = stock.bounded;
+              of_group = stock.of_group;
+              held = stock.held;
+              last_seen = stock.last_seen;
+              machine_after = refl;
+              view_after = refl;
+            },
+          ),
+        )
 
     -- the store of a fill
     filling_allowed_at : (g n : ℕ) → g < 64 → n < 65536 → (account_of m v.number).filled ≡ false → v.fresh ≡ 0 → (account_of m v.number).noted ≡ 0
@@ -362,6 +402,16 @@ filling_allowed {S} cpus slots id me m v g n is zeroth low high group few off fr
     subst (λ (z : Me S (List StockView)). Allows (λ (s : State S (List StockView)). StockRule cpus s.words s.views) slots id z place (λ x. new) (λ x. Joined filling_step (step slots place new 0 none) z new)) (sym is)
     (subst (λ (y : ℕ × ℕ). Allows (λ (s : State S (List StockView)). StockRule cpus s.words s.views) slots id (m ∷ v ∷ [], []) y.0 (λ x. y.1) (λ x. Joined filling_step (step slots y.0 y.1 0 none) (m ∷ v ∷ [], []) y.1)) (λ i. (sym at_place i, sym at_new i))
     (filling_allowed_at cpus slots id m v zeroth low high g n group few off fresh noted))
+
+pub seeing_allowed : {S : Type 0} (cpus slots id : ℕ) (me : Me S (List StockView)) (m v : StockView) → me ≡ (m ∷ v ∷ [], []) → m.number ≡ 0
+    → 0 < v.number → v.number ≤ cpus → (place : ℕ) → place ≡ stock_place v.number
+    → Allows (λ (s : State S (List StockView)). StockRule cpus s.words s.views) slots id me place (λ x. x) (Joined seeing_stock (step slots place 0 0 none) me)
+seeing_allowed {S} cpus slots id me m v is zeroth low high place at_place =
+    subst (λ (z : Me S (List StockView)). Allows (λ (s : State S (List StockView)). StockRule cpus s.words s.views) slots id z place (λ x. x)
+        (Joined seeing_stock (step slots place 0 0 none) z)) (sym is)
+    (subst (λ (y : ℕ). Allows (λ (s : State S (List StockView)). StockRule cpus s.words s.views) slots id (m ∷ v ∷ [], []) y (λ x. x)
+        (Joined seeing_stock (step slots y 0 0 none) (m ∷ v ∷ [], []))) (sym at_place)
+    (seeing_allowed_at cpus slots id m v zeroth low high))
 
 pub consuming_held_allowed : {S : Type 0} (cpus slots id : ℕ) (me : Me S (List StockView)) (m v : StockView) (g : ℕ) → me ≡ (m ∷ v ∷ [], []) → m.number ≡ 0 → 0 < v.number → v.number ≤ cpus
     → (account_of m v.number).group ≡ Some g → v.fresh + (account_of m v.number).noted < (account_of m v.number).book → (place : ℕ) → place ≡ stock_place v.number

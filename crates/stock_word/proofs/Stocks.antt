@@ -88,6 +88,17 @@ sees_drained word report a v h ne = record {
   last_word = drained_has_word v.last h.last_word;
 }
 
+-- the stock that the processor saw last is of the group of the last fill
+drained_same_group : (s : Stock) → group_of (drained_of s) ≡ group_of s
+drained_same_group NoGroup = refl
+drained_same_group (HeldBy g n) = refl
+drained_same_group (DrainedOf g) = refl
+
+pub last_group : (word report : ℕ) (a : Account) (v : StockView) → IsStock word report a v → group_of v.last ≡ a.group
+last_group word report a v h =
+    ⊎_elim (λ (e : h.stock ≡ v.last). ap group_of (sym e)) (λ (e : h.stock ≡ drained_of v.last). sym (drained_same_group v.last) ∙ ap group_of (sym e)) h.last_seen
+    ∙ h.of_group
+
 -- a report of n fresh pages
 pub reported : (word report : ℕ) (a : Account) (v : StockView) (n : ℕ) → IsStock word report a v → n ≤ v.fresh → IsStock word (report + n) (record a { noted = a.noted + n }) (after_report v n)
 reported word report a v n h fresh = record {

@@ -1,6 +1,6 @@
 -- The kinds of atomic step. Each is a relation between the place of the word, the word before and after, and the views of the seats that make the step, before and after.
 -- A step changes one word and the views of its own seats, and nothing else: what is not named here stays.
-use Rattle.std.specs.Prelude.{◌≡◌, ◌≢◌, ℕ, ◌+◌, ◌-◌, ◌<◌, ◌≤◌, false, true, List, [], ◌∷◌, Some, None}
+use Rattle.std.specs.Prelude.{◌≡◌, ◌≢◌, ℕ, ◌+◌, ◌-◌, ◌<◌, ◌≤◌, ◌⊎◌, false, true, List, [], ◌∷◌, Some, None}
 use Rattle.atomic_table.specs.Table.{Me, Step}
 use Rattle.stock_word.specs.declared.view.Stock.{Stock}
 use Rattle.stock_word.specs.declared.view.Stock.TheVariants.{HeldBy, DrainedOf}
@@ -80,6 +80,8 @@ pub record SeesDrained (place before after : ℕ) (v w : StockView) : Type 0 whe
 pub record Reports (n place before after : ℕ) (m v m' v' : StockView) : Type 0 where
   pub at_report : place ≡ report_place v.number
   pub word_after : after ≡ before + n
+  pub of_group : group_of v.last ≡ (account_of m v.number).group
+  pub enough : v.fresh + (account_of m v.number).noted ≤ (account_of m v.number).book
   pub machine_after : m' ≡ noting m v.number n
   pub view_after : v' ≡ after_report v n
 
@@ -131,6 +133,21 @@ pub record LooksAt (p place before after : ℕ) (m m' : StockView) : Type 0 wher
   pub filled_for : (account_of m p).group ≡ Some group
   pub machine_after : m' ≡ m
 
+-- a look of the joined seats: p's stock word says the stock that the books tell, and stays
+pub record SeesStock (place before after : ℕ) (m v m' v' : StockView) : Type 0 where
+  pub stock : Stock
+  pub at_stock : place ≡ stock_place v.number
+  pub has_word : HasWord stock
+  pub word_before : before ≡ word_of stock
+  pub word_after : after ≡ before
+  pub balanced : (account_of m v.number).book ≡ pages_of stock + v.fresh + (account_of m v.number).noted
+  pub bounded : (account_of m v.number).book < 65536
+  pub of_group : group_of stock ≡ (account_of m v.number).group
+  pub held : is_held stock ≡ (account_of m v.number).filled
+  pub last_seen : (stock ≡ v.last) ⊎ (stock ≡ drained_of v.last)
+  pub machine_after : m' ≡ m
+  pub view_after : v' ≡ v
+
 -- absorb, by the machine's seat: p's report word, which is what was noted, to 0; the book is so many less
 pub record Absorbs (p place before after : ℕ) (m m' : StockView) : Type 0 where
   pub at_report : place ≡ report_place p
@@ -173,6 +190,10 @@ absorbing_step s found m m' = (p : ℕ) → s.word ≡ report_place p → Absorb
 -- the addition of a report
 abbrev pub reporting_step : {S : Type 0} → Step S → ℕ → StockView → StockView → StockView → StockView → Type 0
 reporting_step s found m v m' v' = Reports s.first s.word found (found + s.first) m v m' v'
+
+-- the look of the joined seats
+abbrev pub seeing_stock : {S : Type 0} → Step S → ℕ → StockView → StockView → StockView → StockView → Type 0
+seeing_stock s found m v m' v' = SeesStock s.word found found m v m' v'
 
 -- the subtraction of a consume that always takes
 abbrev pub consuming_held : {S : Type 0} → Step S → ℕ → StockView → StockView → StockView → StockView → Type 0

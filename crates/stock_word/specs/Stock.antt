@@ -109,12 +109,12 @@ abbrev pub first_seats : TableId → ℕ → ℕ → List Seated
 first_seats table p zero = []
 first_seats table p (suc count) = record { table = table; view = first_processor p } ∷ first_seats table (p + 1) count
 
--- the seats of the processors p, p + 1 and so on of one table, in order
-abbrev pub AreSeats : TableId → ℕ → List Seated → Type 0
-AreSeats table p [] = Unit {0}
-AreSeats table p (seat ∷ seats) = (seat.table ≡ table) × (seat.view.number ≡ p) × AreSeats table (p + 1) seats
+-- the seats are all of this table
+abbrev pub AreOf : TableId → List Seated → Type 0
+AreOf table [] = Unit {0}
+AreOf table (seat ∷ seats) = (seat.table ≡ table) × AreOf table seats
 
--- the view of the seat at k
+-- the view of the seat at place k of a list
 abbrev pub view_in : List Seated → ℕ → StockView
 view_in [] k = first_machine
 view_in (seat ∷ seats) zero = seat.view

@@ -51,9 +51,10 @@ pub record HoldsAt (words : List ℕ) (seats : List (List StockView)) (machine :
   pub only : IsOnly seats p view
   pub stock : IsStockOf words p machine view
 
--- the machine has one seat, and each processor one
+-- the machine has one view, each processor one, and there is no other
 pub record StockRule (cpus : ℕ) (words : List ℕ) (seats : List (List StockView)) : Type 0 where
   pub rows : length words ≡ 16 * (cpus + 1)
   pub machine : StockView
   pub only : IsOnly seats 0 machine
   pub each : (p : ℕ) → 0 < p → p ≤ cpus → HoldsAt words seats machine p
+  pub no_more : total_over (λ (v : StockView). 1) seats ≡ cpus + 1

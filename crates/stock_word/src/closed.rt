@@ -1,6 +1,6 @@
 //! The end of a stock table.
 ghost use Rattle.std.specs.Prelude.{◌≡◌, ◌+◌, ◌-◌, ◌*◌, ◌<◌, ◌≤◌, ℕ, [], ◌∷◌, length, slice_index};
-ghost use Rattle.stock_word.specs.Stock.{IsMachine, AreSeats, first_of, Gathers, account_of, view_in, word_of, HasWord};
+ghost use Rattle.stock_word.specs.Stock.{IsMachine, IsProcessor, AreOf, first_of, Gathers, view_in, word_of, HasWord};
 ghost use Rattle.stock_word.specs.declared.view.Stock.{Stock as AStock};
 ghost use Rattle.stock_word.specs.StockRule.{IsStockOf, stock_place as place_of_stock, report_place as place_of_report};
 
@@ -32,7 +32,7 @@ impl Model for ClosedWords {
 impl StockWords {
     // The machine's seat takes in all seats of the processors.
     fn gather(&self, seat0: &mut Seat<(), Views>, mut seats: Vec<StockSeat>)
-        requires table { (seat0.old.table_id ≡ self.now.table) × AreSeats self.now.table 1 seats.items }
+        requires table { (seat0.old.table_id ≡ self.now.table) × AreOf self.now.table seats.items }
         requires alone { seat0.old.me ≡ (first_of seat0.old.me.0 ∷ [], []) }
         ensures table { seat0.new.table_id ≡ self.now.table }
         ensures all { Gathers (first_of seat0.old.me.0) seats.items seat0.new.me.0 }
@@ -48,14 +48,18 @@ impl StockWords {
         }
     }
 
-    /// Ends the table, with all its seats: the machine's and those of the processors in their
-    /// order. For each processor its words are what the machine's account of it and its own seat
-    /// tell, so no page was lost or made.
+    /// Ends the table, with all its seats: the machine's and as many others as there are
+    /// processors, in any order. Each processor has one of them, and its words are what the
+    /// machine's account of it and that seat tell, so no page was lost or made.
     pub fn close(self, seat0: StockSeat, seats: Vec<StockSeat>) -> ClosedWords
         requires machine { (seat0.table ≡ self.table) × IsMachine seat0.view }
-        requires processors { AreSeats self.table 1 seats.items × (length seats.items ≡ self.cpus) }
+        requires processors { AreOf self.table seats.items × (length seats.items ≡ self.cpus) }
         ensures length { length result ≡ 16 * (self.cpus + 1) }
-        ensures stocks { (p : ℕ) → 0 < p → p ≤ self.cpus → IsStockOf result p seat0.view (view_in seats.items (p - 1)) }
+        ensures numbers { (k : ℕ) → k < length seats.items → IsProcessor self (view_in seats.items k) }
+        ensures each { (p : ℕ) → 0 < p → p ≤ self.cpus → (k : ℕ) × (k < length seats.items) × ((view_in seats.items k).number ≡ p) }
+        ensures stocks {
+            (k : ℕ) → k < length seats.items → IsStockOf result (view_in seats.items k).number seat0.view (view_in seats.items k)
+        }
     {
         let StockSeat {
             mut seat,

@@ -1,5 +1,5 @@
 // What each step on the table tells its seat. The table of kinds is specs/Kinds.antt.
-ghost use Rattle.stock_word.specs.Kinds.{Alone, Joined, consuming, crediting, looking, draining_step, absorbing_step, reporting_step, consuming_held, filling_step};
+ghost use Rattle.stock_word.specs.Kinds.{Alone, Joined, consuming, crediting, looking, draining_step, absorbing_step, reporting_step, consuming_held, filling_step, seeing_stock};
 
 use crate::view::StockView;
 use atomic_table::{Join, Play, Split};
@@ -54,6 +54,12 @@ pub(crate) struct Filling;
 
 impl Play<(), Views> for Filling {
     ghost then = { Joined filling_step };
+}
+
+pub(crate) struct SeeingStock;
+
+impl Play<(), Views> for SeeingStock {
+    ghost then = { Joined seeing_stock };
 }
 
 // An empty seat beside a seat that keeps its views.

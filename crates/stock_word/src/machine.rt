@@ -1,12 +1,13 @@
 //! The calls of the machine's seat, alone or joined with a processor's. Whoever has that seat has
 //! the zone's lock.
-ghost use Rattle.std.specs.Prelude.{◌≡◌, ◌+◌, ◌-◌, ◌<◌, ◌≤◌, [], ◌∷◌, false, Some};
-ghost use Rattle.stock_word.specs.Stock.{IsProcessor, IsMachine, account_of, account_for, stocked, first_of, second_of};
+ghost use Rattle.std.specs.Prelude.{◌≡◌, ◌+◌, ◌-◌, ◌<◌, ◌≤◌, ◌⊎◌, [], ◌∷◌, false, Some};
+ghost use Rattle.stock_word.specs.Stock.{IsProcessor, IsMachine, account_of, account_for, stocked, first_of, second_of, HasWord, pages_of, group_of, is_held, drained_of};
 ghost use Rattle.stock_word.specs.Kinds.{after_took, after_report, noting, filling, after_fill, draining, absorbing};
 ghost use Rattle.stock_word.specs.Calls.{with_view};
 
 use crate::kinds::{
-    Absorbing, Both, ConsumingHeld, Draining, Filling, Looking, Nothing, Reporting, Second, Views,
+    Absorbing, Both, ConsumingHeld, Draining, Filling, Looking, Nothing, Reporting, Second, SeeingStock,
+    Views,
 };
 use crate::seat::StockSeat;
 use crate::view::Stock;
@@ -45,6 +46,8 @@ impl StockWords {
         requires machine { IsMachine seat0.old.view }
         requires processor { IsProcessor self.now seat.old.view }
         requires fresh { n ≤ seat.old.view.fresh }
+        ensures booked { seat.old.view.fresh + (account_for seat0.old.view seat.old.view).noted ≤ (account_for seat0.old.view seat.old.view).book }
+        ensures group { group_of seat.old.view.last ≡ (account_for seat0.old.view seat.old.view).group }
         ensures machine { seat0.new ≡ with_view seat0.old (noting seat0.old.view seat.old.view.number n) }
         ensures processor { seat.new ≡ with_view seat.old (after_report seat.old.view n) }
     {
@@ -54,6 +57,33 @@ impl StockWords {
             .shared
             .fetch_add::<Reporting>(&mut seat0.seat, place, u64::from(n));
         self.part(&mut seat0.seat, &mut seat.seat);
+    }
+
+    /// What the processor's stock is by its word, and so by the books: one look, which changes
+    /// nothing. The book is the pages in the stock, the fresh ones and the reported ones.
+    pub fn look(&self, seat0: &mut StockSeat, seat: &mut StockSeat) -> Stock
+        requires tables { (seat0.old.table ≡ self.now.table) × (seat.old.table ≡ self.now.table) }
+        requires machine { IsMachine seat0.old.view }
+        requires processor { IsProcessor self.now seat.old.view }
+        ensures has_word { HasWord result }
+        ensures balanced {
+            (account_for seat0.old.view seat.old.view).book ≡ pages_of result + seat.old.view.fresh + (account_for seat0.old.view seat.old.view).noted
+        }
+        ensures bounded { (account_for seat0.old.view seat.old.view).book < 65536 }
+        ensures group { group_of result ≡ (account_for seat0.old.view seat.old.view).group }
+        ensures held { is_held result ≡ (account_for seat0.old.view seat.old.view).filled }
+        ensures last { (result ≡ seat.old.view.last) ⊎ (result ≡ drained_of seat.old.view.last) }
+        ensures machine { seat0.new ≡ seat0.old }
+        ensures processor { seat.new ≡ seat.old }
+    {
+        self.join(&mut seat0.seat, &mut seat.seat);
+        let place = stock_place(seat.number);
+        let found = self
+            .table
+            .shared
+            .load::<SeeingStock>(&mut seat0.seat, place);
+        self.part(&mut seat0.seat, &mut seat.seat);
+        Stock::of_word(found)
     }
 
     /// A `consume` that always takes. By the books the processor's stock, which is of group `g`
@@ -135,6 +165,8 @@ impl StockWords {
         requires machine { IsMachine seat0.old.view }
         requires processor { (0 < p) × (p ≤ self.now.cpus) }
         ensures reported { result ≡ (account_of seat0.old.view p).noted }
+        ensures booked { result ≤ (account_of seat0.old.view p).book }
+        ensures bounded { (account_of seat0.old.view p).book < 65536 }
         ensures machine { seat0.new ≡ with_view seat0.old (absorbing seat0.old.view p) }
     {
         let place = report_place(p);

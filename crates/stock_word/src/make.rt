@@ -1,6 +1,6 @@
 //! A new stock table.
-ghost use Rattle.std.specs.Prelude.{◌≡◌, ◌<◌, ◌≤◌, [], ◌∷◌, IfOk, OnOk};
-ghost use Rattle.stock_word.specs.Stock.{first_machine, first_processor, first_processors, first_seats, first_of, StartsAs};
+ghost use Rattle.std.specs.Prelude.{◌≡◌, ◌+◌, ◌<◌, ◌≤◌, ℕ, [], ◌∷◌, length, IfOk, OnOk};
+ghost use Rattle.stock_word.specs.Stock.{first_machine, first_processor, first_processors, first_seats, first_of, view_in, AreOf, StartsAs};
 
 use crate::kinds::{Second, Views};
 use crate::seat::StockSeat;
@@ -33,6 +33,9 @@ impl StockWords {
         ensures cpus { IfOk result (λ r. r.0.cpus ≡ cpus) }
         ensures machine { IfOk result (λ r. r.1 ≡ record { table = r.0.table; view = first_machine }) }
         ensures processors { IfOk result (λ r. r.2.items ≡ first_seats r.0.table 1 cpus) }
+        ensures count { IfOk result (λ r. length r.2.items ≡ cpus) }
+        ensures tables { IfOk result (λ r. AreOf r.0.table r.2.items) }
+        ensures numbers { IfOk result (λ r. (k : ℕ) → k < cpus → (view_in r.2.items k).number ≡ k + 1) }
     {
         let words = vec![in alloc; 0u64; 16 * (cpus as usize + 1)]?;
         let (table, mut seat) = Table::of_words(alloc, words.as_slice(), &cpus)?;

@@ -29,10 +29,23 @@ impl Model for StockSeat {
 }
 
 impl StockSeat {
+    ghost use Rattle.stock_word.specs.declared.view.Stock.TheVariants.{NoGroup};
+    ghost use Rattle.stock_word.specs.Stock.{HasWord};
+
     /// 0 for the machine's seat, else the processor's number.
     pub fn number(&self) -> u32
         ensures { result ≡ self.now.view.number }
     {
         self.number
+    }
+
+    /// The stock that the processor saw last: its group is one of 64, and its pages are at most
+    /// 65,535. A processor that saw no stock yet has no fresh page.
+    pub fn last(&self) -> Stock
+        ensures last { result ≡ self.now.view.last }
+        ensures has_word { HasWord result }
+        ensures none_fresh { result ≡ NoGroup → self.now.view.fresh ≡ 0 }
+    {
+        self.last
     }
 }

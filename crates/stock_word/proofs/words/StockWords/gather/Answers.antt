@@ -16,7 +16,7 @@ loop-seat-init c = record {
 pub join_seat-requires : goal.join_seat-requires
 join_seat-requires c = (
   search rules,
-  ap (λ (s : Seated). s.table) c.seat.view_is ∙ last_table _ 1 _ _ _ c.in-Some.ensures.items c.loop-seat.invariant.seats ∙ sym (ap (λ (w : Words). w.table) c.self.view_is),
+  ap (λ (s : Seated). s.table) c.seat.view_is ∙ last_table _ _ _ _ c.in-Some.ensures.items c.loop-seat.invariant.seats ∙ sym (ap (λ (w : Words). w.table) c.self.view_is),
   ap (λ (z : List StockView × List (ℕ × Unit {0})). z.1) c.seat.invariant.one_view,
   omega arith,
   join_keeps _ _ _ _ _,
@@ -26,7 +26,7 @@ pub loop-seat-preserved : goal.loop-seat-preserved
 loop-seat-preserved c = record {
   table = search rules;
   slots = ap (λ (z : List StockView × List (ℕ × Unit {0})). z.1) c.join_seat.ensures.2 ∙ c.loop-seat.invariant.slots;
-  seats = fewer_seats _ 1 _ _ _ c.in-Some.ensures.items c.loop-seat.invariant.seats;
+  seats = fewer_seats _ _ _ _ c.in-Some.ensures.items c.loop-seat.invariant.seats;
   all = (λ f. one_gathered c.loop-seat.seat0.me c.seat.inside.seat.me c.join_seat.new.seat.me _ _ _ c.in-Some.ensures.items c.seat.invariant.one_view (ap (λ (s : Seated). s.view) c.seat.view_is) c.join_seat.ensures.2 f ∙ c.loop-seat.invariant.all f);
 }
 

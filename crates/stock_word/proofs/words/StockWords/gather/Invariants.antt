@@ -2,14 +2,14 @@ use Rattle.std.proofs.Common.{◌≡◌, ℕ, ◌+◌, []}
 use Rattle.std.proofs.Common.{vec_len}
 use Rattle.seat_sums.specs.Totals.{sum_over}
 use Rattle.stock_word.specs.declared.view.StockView.{StockView}
-use Rattle.stock_word.specs.Stock.{AreSeats, first_of, views_of}
+use Rattle.stock_word.specs.Stock.{AreOf, first_of, views_of}
 use Rattle.stock_word.proofs.words.StockWords.gather.Given as goal
 
 abbrev pub invariant-loop-seat : goal.invariant-loop-seat
 invariant-loop-seat l = record {
   table : l.seat0.table_id ≡ l.self.table;
   slots : l.seat0.me.1 ≡ [];
-  seats : AreSeats l.self.table 1 l.seats.items;
+  seats : AreOf l.self.table l.seats.items;
   all : (f : StockView → ℕ) → sum_over f l.seat0.me.0 + sum_over f (views_of l.seats.items) ≡ f (first_of l.fn.seat0.me.0) + sum_over f (views_of l.fn.seats.items);
 }
 
