@@ -1,6 +1,5 @@
 -- How often a frame stands in a list that grew, shrank or was parted.
-use Rattle.std.proofs.Common.{◌≡◌, ◌≢◌, ℕ, ◌+◌, ◌<◌, ◌≤◌, List, [], ◌∷◌, ◌++◌, length, get_or, drop, cond, eqb, sym, refl, ap, ◌∙◌, subst, eq-eqb, ne_eqb, arith}
-use Rattle.std.proofs.Math.Seq.{drop-cons}
+use Rattle.std.proofs.Common.{◌≡◌, ◌≢◌, ℕ, ◌+◌, ◌<◌, ◌≤◌, List, [], ◌∷◌, ◌++◌, length, get_or, cond, eqb, sym, refl, ap, ◌∙◌, subst, eq-eqb, ne_eqb, arith}
 use Rattle.std.proofs.lemmas.List.Sums.{sum_by-cons, sum_by_push, sum_by-remove}
 use Rattle.std.proofs.lemmas.List.{get_or_default}
 use Rattle.std.proofs.lemmas.List.Sorted.{sum_by-IsPermutation, IsPermutation-swap_remove}
@@ -28,11 +27,6 @@ times_without g xs i inside = sum_by-remove (test g) xs i 0 inside
 
 pub times_parted : (g f : ℕ) (xs ys : List ℕ) → IsPermutation xs (f ∷ ys) → times g xs ≡ test g f + times g ys
 times_parted g f xs ys same = sym (sum_by-IsPermutation (test g) xs (f ∷ ys) same) ∙ times_front g f ys
-
--- the search of a place, one entry further to the front
-pub times_behind : (f : ℕ) (xs : List ℕ) (i : ℕ) → i < length xs → get_or xs i 0 ≢ f → times f (drop (i + 1) xs) ≡ 0 → times f (drop i xs) ≡ 0
-times_behind f xs i inside not none =
-    let a = ap (times f) (drop-cons xs i 0 inside) ∙ times_front f (get_or xs i 0) (drop (i + 1) xs) in let b = test_other f (get_or xs i 0) not in omega (arith, a, b, none)
 
 -- what is left where the entry at the place of f went
 pub parted_at : (f i x : ℕ) (xs s ys : List ℕ) → s ≡ xs → i < length s → get_or s i 0 ≡ f → x ≡ get_or xs i x → ys ≡ swap_remove xs i x → IsPermutation xs (f ∷ ys)

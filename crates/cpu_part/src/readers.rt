@@ -1,11 +1,14 @@
 //! What a processor's part tells of itself.
 ghost use Rattle.std.specs.Prelude.{◌≡◌, ◌≤◌, ◌<◌, ◌+◌, ◌↔◌, [], length, IsTrue, MatchOption};
+ghost use Rattle.stock_word.specs.declared.view.Stock.TheVariants.{NoGroup};
+ghost use Rattle.stock_word.specs.Stock.{HasWord};
 ghost use Rattle.cpu_part.specs.Cpus.{IsTied, IsIdle, times};
 
 use crate::boot_name::BootName;
 use crate::cpu::Cpu;
 use crate::search::last_place;
 use frame_word::Frame;
+use stock_word::Stock;
 
 impl<N: BootName> Cpu<N> {
     /// The processor's number, from 1 up.
@@ -67,6 +70,16 @@ impl<N: BootName> Cpu<N> {
         ensures { result ≡ length self.now.back }
     {
         self.back.len()
+    }
+
+    /// The stock that the processor saw last, of which its fresh frames are. A drain may have come
+    /// since.
+    pub fn last_stock(&self) -> Stock
+        ensures last { result ≡ self.now.stock.view.last }
+        ensures has_word { HasWord result }
+        ensures none_fresh { result ≡ NoGroup → self.now.fresh ≡ [] }
+    {
+        self.stock.last()
     }
 
     /// How often a fresh frame went back to the list. Each is one drop and one return. The count

@@ -1,6 +1,6 @@
 //! What a processor prepays and pays inside a visit: with the machine's seat of the stocks beside.
-ghost use Rattle.std.specs.Prelude.{◌≡◌, ◌-◌, ◌<◌, ◌≤◌, [], Some, false, length};
-ghost use Rattle.stock_word.specs.Stock.{IsMachine, account_of, stocked};
+ghost use Rattle.std.specs.Prelude.{◌≡◌, ◌+◌, ◌-◌, ◌<◌, ◌≤◌, ◌⊎◌, [], Some, false, length};
+ghost use Rattle.stock_word.specs.Stock.{IsMachine, account_of, stocked, pages_of, group_of, is_held, drained_of};
 ghost use Rattle.stock_word.specs.Kinds.{filling, after_fill};
 ghost use Rattle.stock_word.specs.Calls.{with_view};
 ghost use Rattle.cpu_part.specs.Calls.{TakesFront};
@@ -9,7 +9,7 @@ use crate::boot_name::{BootName, Tables};
 use crate::cpu::Cpu;
 use crate::moves::freshen;
 use frame_word::Frame;
-use stock_word::StockSeat;
+use stock_word::{Stock, StockSeat};
 
 impl<N: BootName> Cpu<N> {
     /// Fills the processor's stock with `pages` pages (1 to 65,535) of group `group` (0 to 63). The
@@ -28,6 +28,21 @@ impl<N: BootName> Cpu<N> {
         tables
             .stocks
             .fill(machine, &mut self.stock, group, pages);
+    }
+
+    /// The processor's stock by its word, and so by the books: one look, which changes nothing. The
+    /// book is the pages in the stock, the fresh ones and the reported ones.
+    pub fn look(&mut self, tables: &Tables<N>, machine: &mut StockSeat) -> Stock
+        requires machine { (machine.old.table ≡ N.stocks.table) × IsMachine machine.old.view }
+        ensures balanced { (account_of machine.old.view self.old.number).book ≡ pages_of result + self.old.stock.view.fresh + (account_of machine.old.view self.old.number).noted }
+        ensures bounded { (account_of machine.old.view self.old.number).book < 65536 }
+        ensures group { group_of result ≡ (account_of machine.old.view self.old.number).group }
+        ensures held { is_held result ≡ (account_of machine.old.view self.old.number).filled }
+        ensures last { (result ≡ self.old.stock.view.last) ⊎ (result ≡ drained_of self.old.stock.view.last) }
+        ensures machine { machine.new ≡ machine.old }
+        ensures cpu { self.new ≡ self.old }
+    {
+        tables.stocks.look(machine, &mut self.stock)
     }
 
     /// Takes the front of the list for group `group` and pays for it, always. By the books the
