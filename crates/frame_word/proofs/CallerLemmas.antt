@@ -19,7 +19,7 @@ pub held_one_more : (s t : KnownSeat) (f : ℕ) (a : Get) → GetAnswers s f a t
 held_one_more s t f a answer is = let h = subst (λ b. GetAnswers s f b t) is answer in ap (λ k. k.references) (note_after s t f (λ (k : FrameNote). held (looked h.0 k)) h.3)
 
 pub last_one_less : (s t : KnownSeat) (f : ℕ) → PutAnswers s f Last t → (holds t f ≡ holds s f - 1) × IsInOwnHand t f
-last_one_less s t f answer = let k = note_after s t f let_go_last answer in (ap (λ n. n.references) k, ap (λ n. n.own) k)
+last_one_less s t f answer = let k = note_after s t f let_go_last answer.0 in (ap (λ n. n.references) k, ap (λ n. n.own) k)
 
 pub left_one_less : (s t : KnownSeat) (f n : ℕ) → PutAnswers s f (Left n) t → holds t f ≡ holds s f - 1
 left_one_less s t f n answer = ap (λ k. k.references) (note_after s t f (let_go n) answer.2)

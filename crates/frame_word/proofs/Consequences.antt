@@ -1,21 +1,21 @@
--- The laws of the reference rule.
+-- The laws of the reference rule: serves `laws`, and the steps that tell of hands and of what is lent.
 use Rattle.std.proofs.Common.{◌≡◌, ◌≢◌, ℕ, ◌+◌, ◌<◌, ◌≤◌, List, get_or, sym, refl, ◌∙◌, inl, inr, arith}
 use mathlib.Core.Logic.{dite}
 use native.Mathlib.Decide.{ℕ_discrete}
 use Rattle.seat_sums.specs.Totals.{total_over}
 use Rattle.seat_sums.proofs.Totals.{total_view, total_below, total_plus}
 use Rattle.frame_word.specs.declared.view.FrameView.{FrameView}
-use Rattle.frame_word.specs.Views.{note_of, in_hands}
-use Rattle.frame_word.specs.ReferenceRule.{mark, marked, only, hands_in, lent_in, borrowed_in}
-use Rattle.frame_word.specs.Laws.{IsViewOf, NoFrameInTwoHands, NoFrameLentTwice, OwnHandIsNotLent, WordsCountReferences, ShutVisitHasNoMark}
-use Rattle.frame_word.proofs.Notes.{only_here, only_else, marked_here, marked_else}
+use Rattle.frame_word.specs.Views.{note_of, in_hands, lent_count}
+use Rattle.frame_word.specs.ReferenceRule.{only, hands_in, lent_in, lent_number, borrowed_in}
+use Rattle.frame_word.specs.Laws.{IsViewOf, NoFrameInTwoHands, OwnHandIsNotLent, WordsCountReferences}
+use Rattle.frame_word.proofs.Notes.{only_here, only_else, marked_else, lent_yes}
 use Rattle.frame_word.proofs.Swap.{OneCase}
 use Rattle.frame_word.proofs.Cases.{case_handed}
 
 part_of : (g : FrameView → ℕ) (seats : List (List FrameView)) (v : FrameView) → IsViewOf seats v → g v ≤ total_over g seats
 part_of g seats v is = total_view g seats is.0 is.2 is.1 v is.3 is.4
 
-one_hand : (cpus w r h : ℕ) → OneCase cpus w r h → h ≤ 1
+pub one_hand : (cpus w r h : ℕ) → OneCase cpus w r h → h ≤ 1
 one_hand cpus w r h (inl a) = let z = a.3 in omega arith
 one_hand cpus w r h (inr (inl b)) = let z = b.2 in omega arith
 one_hand cpus w r h (inr (inr d)) = let z = d.3 in omega arith
@@ -26,7 +26,7 @@ two_parts a b u n apart = dite (ℕ_discrete u.number a)
     (λ e. let x = only_here a u n e in let y = only_else b u n (λ z. apart (sym e ∙ z)) in omega arith)
     (λ ne. let x = only_else a u n ne in dite (ℕ_discrete u.number b) (λ e. let y = only_here b u n e in omega arith) (λ no. let y = only_else b u n no in omega arith))
 
-two_totals : (g : FrameView → ℕ) (a b : ℕ) (seats : List (List FrameView)) → a ≢ b → total_over (λ u. only a u (g u)) seats + total_over (λ u. only b u (g u)) seats ≤ total_over g seats
+pub two_totals : (g : FrameView → ℕ) (a b : ℕ) (seats : List (List FrameView)) → a ≢ b → total_over (λ u. only a u (g u)) seats + total_over (λ u. only b u (g u)) seats ≤ total_over g seats
 two_totals g a b seats apart =
     let sums = total_plus (λ u. only a u (g u)) (λ u. only b u (g u)) seats in
     let below = total_below (λ u. only a u (g u) + only b u (g u)) g seats (λ u. two_parts a b u (g u) apart) in
@@ -40,47 +40,34 @@ two_hands frames cpus words seats rule f inside v u is_v is_u in_v in_u = dite (
     let b = part_of (λ x. only u.number x (hands_in f x)) seats u is_u in let b1 = only_here u.number u (hands_in f u) refl in
     absurd (omega arith))
 
-borrowed_twice : (f p q : ℕ) (seats : List (List FrameView)) → p ≢ q → total_over (borrowed_in f p) seats + total_over (borrowed_in f q) seats ≤ total_over (hands_in f) seats
-borrowed_twice f p q seats apart =
-    let both = two_totals (λ u. (note_of u f).borrowed) p q seats apart in
-    let below = total_below (λ u. (note_of u f).borrowed) (hands_in f) seats (λ u. omega arith) in
-    omega arith
+own_below : (f : ℕ) (v u : FrameView) → only v.number u (note_of u f).own + (note_of u f).borrowed ≤ hands_in f u
+own_below f v u = dite (ℕ_discrete u.number v.number)
+    (λ e. let x = only_here v.number u (note_of u f).own e in omega arith)
+    (λ ne. let x = only_else v.number u (note_of u f).own ne in omega arith)
 
-pub lent_twice : NoFrameLentTwice
-lent_twice frames cpus words seats rule f inside zone is number p q p_low p_high q_low q_high lent_p lent_q = dite (ℕ_discrete p q) (λ e. e) (λ apart.
-    let w : ℕ = get_or words f 0 in
-    let fr = rule.each_frame f inside in
-    let one = one_hand cpus w _ _ fr.one_case in
-    let near_p = (fr.each_cpu p p_low p_high).lent_is_near in let near_q = (fr.each_cpu q q_low q_high).lent_is_near in
-    let a = part_of (lent_in f p) seats zone is in let a1 = only_here 0 zone (get_or (note_of zone f).lent p 0) number in
-    let b = part_of (lent_in f q) seats zone is in let b1 = only_here 0 zone (get_or (note_of zone f).lent q 0) number in
-    let both = borrowed_twice f p q seats apart in
-    let marks : marked p w + marked q w ≤ 1 = dite (ℕ_discrete w (mark p))
-    (λ e. let x = marked_here p w e in let y = marked_else q w (λ z. apart (omega arith)) in omega arith)
-    (λ ne. let x = marked_else p w ne in dite (ℕ_discrete w (mark q)) (λ e. let y = marked_here q w e in omega arith) (λ no. let y = marked_else q w no in omega arith)) in
-    let free : (r : ℕ) → 1 ≤ marked r w → 1 ≤ total_over (hands_in f) seats → ⊥ = λ r m h. dite (ℕ_discrete w (mark r))
-    (λ e. let c = case_handed cpus w _ _ 1 (omega arith) h fr.one_case in let c0 = c.0 in absurd (omega arith)) (λ ne. let x = marked_else r w ne in absurd (omega arith)) in
-    dite (ℕ_discrete (marked p w) 0)
-    (λ none_p. dite (ℕ_discrete (marked q w) 0) (λ none_q. absurd (omega arith)) (λ some_q. absurd (free q (omega arith) (omega arith))))
-    (λ some_p. absurd (free p (omega arith) (omega arith))))
+borrowed_below : (f p : ℕ) (u : FrameView) → borrowed_in f p u ≤ (note_of u f).borrowed
+borrowed_below f p u = dite (ℕ_discrete u.number p)
+    (λ e. let x = only_here p u (note_of u f).borrowed e in omega arith)
+    (λ ne. let x = only_else p u (note_of u f).borrowed ne in omega arith)
 
 pub own_not_lent : OwnHandIsNotLent
-own_not_lent frames cpus words seats rule f inside v zone is_v is_zone number own p low high =
+own_not_lent frames cpus words seats rule f inside v zone is_v is_zone number own =
     let w : ℕ = get_or words f 0 in
     let fr = rule.each_frame f inside in
     let hand = part_of (hands_in f) seats v is_v in
     let c = case_handed cpus w _ _ (in_hands (note_of v f)) (omega arith) hand fr.one_case in let c0 = c.0 in let c2 = c.2 in
-    let near = (fr.each_cpu p low high).lent_is_near in
-    let a = part_of (lent_in f p) seats zone is_zone in let a1 = only_here 0 zone (get_or (note_of zone f).lent p 0) number in
-    let m = marked_else p w (λ e. absurd (omega arith)) in
+    let l : ℕ = (note_of zone f).lent in
+    let whole = part_of (lent_number f) seats zone is_zone in let whole1 = only_here 0 zone l number in let most = fr.lent_to_one in
     -- the own part of v's hands leaves none of the one hand for what is borrowed
-    let below = total_below (λ u. only v.number u (note_of u f).own + (note_of u f).borrowed) (hands_in f) seats
-    (λ u. dite (ℕ_discrete u.number v.number) (λ e. let x = only_here v.number u (note_of u f).own e in omega arith) (λ ne. let x = only_else v.number u (note_of u f).own ne in omega arith)) in
+    let below = total_below (λ u. only v.number u (note_of u f).own + (note_of u f).borrowed) (hands_in f) seats (λ u. own_below f v u) in
     let sums = total_plus (λ u. only v.number u (note_of u f).own) (λ u. (note_of u f).borrowed) seats in
     let o = part_of (λ u. only v.number u (note_of u f).own) seats v is_v in let o1 = only_here v.number v (note_of v f).own refl in
-    let few = total_below (borrowed_in f p) (λ u. (note_of u f).borrowed) seats
-    (λ u. dite (ℕ_discrete u.number p) (λ e. let x = only_here p u (note_of u f).borrowed e in omega arith) (λ ne. let x = only_else p u (note_of u f).borrowed ne in omega arith)) in
-    omega arith
+    dite (ℕ_discrete l 0) (λ none. none) (λ some.
+    let near = (fr.each_cpu l (omega arith) (omega arith)).lent_is_near in
+    let a = part_of (lent_in f l) seats zone is_zone in let a1 = only_here 0 zone (lent_count (note_of zone f) l) number in let a2 = lent_yes (note_of zone f) l refl in
+    let m = marked_else l w (λ e. absurd (omega arith)) in
+    let few = total_below (borrowed_in f l) (λ u. (note_of u f).borrowed) seats (λ u. borrowed_below f l u) in
+    absurd (omega arith))
 
 counted : (cpus w r h : ℕ) → OneCase cpus w r h → (w ≤ 255 → r ≡ w) × (255 < w → r ≡ 0)
 counted cpus w r h (inl a) = let a1 = a.1 in let a2 = a.2 in ((λ _. a2), (λ big. absurd (omega arith)))
@@ -89,6 +76,3 @@ counted cpus w r h (inr (inr d)) = let d0 = d.0 in let d2 = d.2 in ((λ small. a
 
 pub words_count : WordsCountReferences
 words_count frames cpus words seats rule f inside = counted cpus (get_or words f 0) _ _ (rule.each_frame f inside).one_case
-
-pub no_mark : ShutVisitHasNoMark
-no_mark frames cpus words seats rule p low high is_shut f inside = (rule.each_visit p low high).shut is_shut f inside

@@ -1,4 +1,4 @@
--- The table at the end: one seat has all views, and the rule speaks of these alone.
+-- Serves `close`. The table at the end: one seat has all views, and the rule speaks of these alone.
 use Rattle.std.proofs.Common.{◌≡◌, ℕ, suc, List, [], ◌∷◌, length, map, refl, ap, subst, arith}
 use Rattle.atomic_table.specs.Table.{Final, Seen}
 use Rattle.seat_sums.specs.Totals.{sum_over}
@@ -6,12 +6,8 @@ use Rattle.seat_sums.proofs.Totals.{total_whole}
 use Rattle.frame_word.specs.declared.view.FrameView.{FrameView}
 use Rattle.frame_word.specs.ReferenceRule.{ReferenceRule}
 use Rattle.frame_word.specs.Kinds.{rule_of}
-use Rattle.frame_word.specs.Seats.{KnownTable, KnownSeat, view_of, AreCpuSeats, AreSeatsAt}
+use Rattle.frame_word.specs.Seats.{KnownSeat, view_of}
 use Rattle.frame_word.proofs.Swap.{rule_carries}
-
-pub seats_at : (t : KnownTable) (p : ℕ) (seats : List KnownSeat) → AreCpuSeats t p seats → AreSeatsAt t.table seats
-seats_at t p [] are = tt
-seats_at t p (s ∷ rest) are = (are.0, seats_at t (suc p) rest are.2)
 
 ones : (seats : List KnownSeat) → sum_over (λ (v : FrameView). 1) (map view_of seats) ≡ length seats
 ones [] = refl

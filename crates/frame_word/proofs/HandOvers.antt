@@ -1,5 +1,6 @@
--- The kinds that hand a frame over, and the visits. The seat is the zone's, alone or joined with a processor's.
-use Rattle.std.proofs.Common.{◌≡◌, ◌≢◌, ℕ, ◌+◌, ◌<◌, ◌≤◌, List, [], ◌∷◌, length, get_or, set, sym, refl, ap, ◌∙◌, subst, inl, inr, arith, length-set, get_or-set_other, get_or-set_same}
+-- The kinds that hand a frame over, and the visits: serves `pass_out`, `take_in`, `pass_back`, `collect`, `open_visit` and `shut_visit`.
+-- The seat is the zone's, alone or joined with a processor's.
+use Rattle.std.proofs.Common.{◌≡◌, ◌≢◌, ◌⊎◌, ℕ, ◌+◌, ◌<◌, ◌≤◌, List, [], ◌∷◌, length, get_or, set, sym, refl, ap, ◌∙◌, subst, inl, inr, arith, length-set, get_or-set_other, get_or-set_same}
 use mathlib.Core.Option.{some}
 use mathlib.Core.Logic.{dite}
 use native.Mathlib.Decide.{ℕ_discrete}
@@ -8,11 +9,13 @@ use Rattle.seat_sums.specs.Totals.{total_over}
 use Rattle.seat_sums.proofs.Totals.{total_swap, total_view, total_below, total_plus}
 use Rattle.frame_word.specs.declared.view.FrameNote.{FrameNote}
 use Rattle.frame_word.specs.declared.view.FrameView.{FrameView}
-use Rattle.frame_word.specs.Views.{note_of, changed, with_visit, in_hands, begun, ended, passed_out_to, took_in, gave_back, collected_from}
-use Rattle.frame_word.specs.ReferenceRule.{mark, only, visit_index, references_in, hands_in, begun_in, ended_in, lent_in, borrowed_in, opened_in, HandOverRule, FrameRule, VisitRule, ReferenceRule}
-use Rattle.frame_word.proofs.Notes.{put_here, put_else, note_here, only_here, only_else, marked_here, marked_else}
+use Rattle.frame_word.specs.Views.{note_of, changed, with_visit, in_hands, lent_count, HasNone, IsSettledAt, begun, ended, passed_out_to, took_in, gave_back, collected_from}
+use Rattle.frame_word.specs.ReferenceRule.{mark, only, visit_index, references_in, hands_in, begun_in, ended_in, lent_in, lent_number, borrowed_in, opened_in, HandOverRule, FrameRule, VisitRule, ReferenceRule}
+use Rattle.frame_word.proofs.Notes.{lent_yes, lent_no, put_here, put_else, note_here, only_here, only_else, marked_here, marked_else}
 use Rattle.frame_word.proofs.Swap.{OneCase, swapped, same_total, alone, frame_carries, frame_step}
 use Rattle.frame_word.proofs.Cases.{case_handed, case_passing}
+use Rattle.frame_word.specs.Laws.{IsViewOf}
+use Rattle.frame_word.proofs.Consequences.{one_hand, two_totals, own_not_lent}
 
 -- what the processor p borrows is in hands
 borrowed_handed : (f p : ℕ) (u : FrameView) → borrowed_in f p u ≤ hands_in f u
@@ -45,8 +48,9 @@ module _ (frames cpus : ℕ) (seats : List (List FrameView)) (id : ℕ) (views :
       → ((p : ℕ) → 1 ≤ p → p ≤ cpus → word ≡ mark p → get_or words (visit_index frames p) 0 ≡ 1)
       → ((h : ℕ) → h + in_hands note ≡ hands + in_hands (change note) → OneCase cpus word refs h)
       → ((p : ℕ) → 1 ≤ p → p ≤ cpus → HandOverRule (swapped seats id views i v at within (changed v f change)) f word p)
+      → total_over (lent_number f) (swapped seats id views i v at within (changed v f change)) ≤ cpus
       → ReferenceRule frames cpus (set words f word) (swapped seats id views i v at within (changed v f change))
-  hand_step change word same opens case each =
+  hand_step change word same opens case each most =
       let w : FrameView = changed v f change in
       let k = note_here v f change in
       let after : List (List FrameView) = swapped seats id views i v at within w in
@@ -54,6 +58,7 @@ module _ (frames cpus : ℕ) (seats : List (List FrameView)) (id : ℕ) (views :
         one_case = subst (λ (r : ℕ). OneCase cpus word r (total_over (hands_in f) after)) (sym (same_total seats id views i v at within (references_in f) w (ap (λ n. n.references) k ∙ same)))
             (case (total_over (hands_in f) after) (total_swap (hands_in f) seats id views i v w at within ∙ ap (λ (n : FrameNote). hands + in_hands n) k));
         each_cpu = each;
+        lent_to_one = most;
       }
 
   -- what the swap does to a processor's sums
@@ -70,8 +75,11 @@ module _ (frames cpus : ℕ) (seats : List (List FrameView)) (id : ℕ) (views :
     ended_swap : total_over (ended_in f p) after + ended_in f p v ≡ total_over (ended_in f p) seats + (only 0 v (get_or (change note).collected p 0) + only p v (change note).taken_in)
     ended_swap = total_swap (ended_in f p) seats id views i v w at within ∙ ap (λ (n : FrameNote). total_over (ended_in f p) seats + (only 0 v (get_or n.collected p 0) + only p v n.taken_in)) (note_here v f change)
 
-    lent_swap : total_over (lent_in f p) after + lent_in f p v ≡ total_over (lent_in f p) seats + only 0 v (get_or (change note).lent p 0)
-    lent_swap = total_swap (lent_in f p) seats id views i v w at within ∙ ap (λ (n : FrameNote). total_over (lent_in f p) seats + only 0 v (get_or n.lent p 0)) (note_here v f change)
+    lent_swap : total_over (lent_in f p) after + lent_in f p v ≡ total_over (lent_in f p) seats + only 0 v (lent_count (change note) p)
+    lent_swap = total_swap (lent_in f p) seats id views i v w at within ∙ ap (λ (n : FrameNote). total_over (lent_in f p) seats + only 0 v (lent_count n p)) (note_here v f change)
+
+    number_swap : total_over (lent_number f) after + lent_number f v ≡ total_over (lent_number f) seats + only 0 v (change note).lent
+    number_swap = total_swap (lent_number f) seats id views i v w at within ∙ ap (λ (n : FrameNote). total_over (lent_number f) seats + only 0 v n.lent) (note_here v f change)
 
     borrowed_swap : total_over (borrowed_in f p) after + borrowed_in f p v ≡ total_over (borrowed_in f p) seats + only p v (change note).borrowed
     borrowed_swap = total_swap (borrowed_in f p) seats id views i v w at within ∙ ap (λ (n : FrameNote). total_over (borrowed_in f p) seats + only p v n.borrowed) (note_here v f change)
@@ -99,7 +107,7 @@ module _ (frames cpus : ℕ) (seats : List (List FrameView)) (id : ℕ) (views :
       let b = begun_swap ch q in let e = ended_swap ch q in let l = lent_swap ch q in let d = borrowed_swap ch q in let h = hands_swap ch q in let below = borrowed_below ch q in
       let m0 = marked_else q found (λ x. omega arith) in let m1 = marked_here q (mark q) refl in
       let n0 = only_here 0 v (get_or note.passed_out q 0) zone in let n1 = only_here 0 v (get_or (ch note).passed_out q 0) zone in let n2 = put_here 0 note.passed_out q (get_or note.passed_out q 0 + 1) in
-      let l0 = only_here 0 v (get_or note.lent q 0) zone in let l1 = only_here 0 v (get_or (ch note).lent q 0) zone in let l2 = put_here 0 note.lent q 1 in
+      let l0 = only_here 0 v (lent_count note q) zone in let l1 = only_here 0 v (lent_count (ch note) q) zone in let l2 = lent_yes (ch note) q refl in
       let lv = total_view (lent_in f q) seats id views i v at within in
       record { passing = omega arith; borrowed_is_lent = omega arith; lent_is_near = omega arith } in
       hand_step ch (mark q) refl (λ p lo hi is. subst (λ (x : ℕ). get_or words (visit_index frames x) 0 ≡ 1) (omega arith) visit) (λ h eh. inr (inr (omega arith, omega arith, omega arith, omega arith)))
@@ -108,8 +116,11 @@ module _ (frames cpus : ℕ) (seats : List (List FrameView)) (id : ℕ) (views :
       (λ not. let o = (rule.each_frame f inside).each_cpu p lo hi in let o0 = o.passing in let o1 = o.borrowed_is_lent in let o2 = o.lent_is_near in
       let b = begun_swap ch p in let e = ended_swap ch p in let l = lent_swap ch p in let d = borrowed_swap ch p in let h = hands_swap ch p in let below = borrowed_below ch p in
       let m0 = marked_else p found (λ x. omega arith) in let m1 = marked_else p (mark q) (λ x. not (omega arith)) in
-      let n2 = ap (only 0 v) (put_else 0 note.passed_out q p (get_or note.passed_out q 0 + 1) not) in let l2 = ap (only 0 v) (put_else 0 note.lent q p 1 not) in
+      let n2 = ap (only 0 v) (put_else 0 note.passed_out q p (get_or note.passed_out q 0 + 1) not) in
+      let l1 = only_here 0 v (lent_count (ch note) p) zone in let l2 = lent_no (ch note) p (λ x. not (sym x)) in
       record { passing = omega arith; borrowed_is_lent = omega arith; lent_is_near = omega arith }))
+      (let n = number_swap ch 0 in let whole = alone seats id views i v at within 0 (rule.one_view 0 (omega arith)) zone (lent_number f) (λ u x. only_else 0 u (note_of u f).lent x) in
+      let n1 = only_here 0 v q zone in omega arith)
 
 -- The zone's view z and a processor's view v, which stand side by side in one seat.
 module _ (frames cpus : ℕ) (seats : List (List FrameView)) (id : ℕ) (z v : FrameView) (at : get_elem? seats id ≡ some (z ∷ v ∷ [])) (zone : z.number ≡ 0) (low : 1 ≤ v.number) (high : v.number ≤ cpus)
@@ -135,8 +146,22 @@ module _ (frames cpus : ℕ) (seats : List (List FrameView)) (id : ℕ) (z v : F
   ended_here f = total_plus (λ u. only 0 u (get_or (note_of u f).collected q 0)) (λ u. only q u (note_of u f).taken_in) seats
       ∙ (λ i. of_zone (λ u. get_or (note_of u f).collected q 0) i + of_cpu (λ u. (note_of u f).taken_in) i)
 
-  lent_here : (f : ℕ) → total_over (lent_in f q) seats ≡ get_or (note_of z f).lent q 0
-  lent_here f = of_zone (λ u. get_or (note_of u f).lent q 0)
+  lent_here : (f p : ℕ) → total_over (lent_in f p) seats ≡ lent_count (note_of z f) p
+  lent_here f p = of_zone (λ u. lent_count (note_of u f) p)
+
+  number_here : (f : ℕ) → total_over (lent_number f) seats ≡ (note_of z f).lent
+  number_here f = of_zone (λ u. (note_of u f).lent)
+
+  -- where the two views stand
+  of_first : IsViewOf seats z
+  of_first = (id, 0, pair, at, refl)
+
+  of_second : IsViewOf seats v
+  of_second = (id, 1, pair, at, refl)
+
+  -- the hands of the two seats are among all hands
+  hands_both : (f : ℕ) → in_hands (note_of z f) + in_hands (note_of v f) ≤ total_over (hands_in f) seats
+  hands_both f = let some = two_totals (hands_in f) 0 q seats (λ e. absurd (omega arith)) in let a = of_zone (hands_in f) in let b = of_cpu (hands_in f) in omega arith
 
   borrowed_here : (f : ℕ) → total_over (borrowed_in f q) seats ≡ (note_of v f).borrowed
   borrowed_here f = of_cpu (λ u. (note_of u f).borrowed)
@@ -163,7 +188,7 @@ module _ (frames cpus : ℕ) (seats : List (List FrameView)) (id : ℕ) (z v : F
         dite (ℕ_discrete word_now (mark q)) (λ is. is) (λ not. let m = marked_else q word_now not in absurd (omega arith))
 
     -- take_in: the frame passes for the processor and is lent to it
-    pub took_in_rule : begun z v f ≡ ended z v f + 1 → get_or (note_of z f).lent q 0 ≡ 1
+    pub took_in_rule : begun z v f ≡ ended z v f + 1 → (note_of z f).lent ≡ q
         → ReferenceRule frames cpus (set words f 0) (swapped seats id pair 1 v at refl (changed v f took_in))
     took_in_rule passes is_lent =
         let was = passing_mark passes in
@@ -178,7 +203,7 @@ module _ (frames cpus : ℕ) (seats : List (List FrameView)) (id : ℕ) (z v : F
         let m0 = marked_here q word_now was in let m1 = marked_else q 0 (λ x. omega arith) in
         let e0 = only_here q v (note_of v f).taken_in refl in let e1 = only_here q v ((note_of v f).taken_in + 1) refl in
         let d0 = only_here q v (note_of v f).borrowed refl in let d1 = only_here q v 1 refl in
-        let lz = lent_here f in let db = below q in
+        let lz = lent_here f q in let ly = lent_yes (note_of z f) q is_lent in let db = below q in
         record { passing = omega arith; borrowed_is_lent = omega arith; lent_is_near = omega arith } in
         hand_step frames cpus seats id pair 1 v at refl words f inside rule took_in 0 refl (λ p lo hi is. absurd (omega arith)) (λ h eh. inr (inl (refl, c2, omega arith)))
         (λ p lo hi. dite (ℕ_discrete p q)
@@ -191,6 +216,7 @@ module _ (frames cpus : ℕ) (seats : List (List FrameView)) (id : ℕ) (z v : F
         let e0 = only_else p v (note_of v f).taken_in other in let e1 = only_else p v ((note_of v f).taken_in + 1) other in
         let d0 = only_else p v (note_of v f).borrowed other in let d1 = only_else p v 1 other in
         record { passing = omega arith; borrowed_is_lent = omega arith; lent_is_near = omega arith }))
+        (let n = number_swap frames cpus seats id pair 1 v at refl words f inside rule took_in 0 in let most = (rule.each_frame f inside).lent_to_one in omega arith)
 
     -- pass_back: out of the processor's hand, while its visit is open
     pub gave_back_rule : get_or z.opened q 0 ≡ 1 → in_hands (note_of v f) ≡ 1
@@ -222,6 +248,7 @@ module _ (frames cpus : ℕ) (seats : List (List FrameView)) (id : ℕ) (z v : F
         let b0 = only_else p v (note_of v f).passed_back other in let b1 = only_else p v ((note_of v f).passed_back + 1) other in
         let d0 = only_else p v (note_of v f).borrowed other in let d1 = only_else p v 0 other in
         record { passing = omega arith; borrowed_is_lent = omega arith; lent_is_near = omega arith }))
+        (let n = number_swap frames cpus seats id pair 1 v at refl words f inside rule gave_back 0 in let most = (rule.each_frame f inside).lent_to_one in omega arith)
 
     -- collect: into the zone's hand
     pub collected_rule : begun z v f ≡ ended z v f + 1 → ReferenceRule frames cpus (set words f 0) (swapped seats id pair 0 z at refl (changed z f (collected_from q)))
@@ -239,8 +266,8 @@ module _ (frames cpus : ℕ) (seats : List (List FrameView)) (id : ℕ) (z v : F
         let l = lent_swap frames cpus seats id pair 0 z at refl words f inside rule ch q in let d = borrowed_swap frames cpus seats id pair 0 z at refl words f inside rule ch q in
         let m0 = marked_here q word_now was in let m1 = marked_else q 0 (λ x. omega arith) in
         let e0 = only_here 0 z (get_or n.collected q 0) zone in let e1 = only_here 0 z (get_or (ch n).collected q 0) zone in let e2 = put_here 0 n.collected q (get_or n.collected q 0 + 1) in
-        let l0 = only_here 0 z (get_or n.lent q 0) zone in let l1 = only_here 0 z (get_or (ch n).lent q 0) zone in let l2 = put_here 0 n.lent q 0 in
-        let lz = lent_here f in let db = below q in
+        let l0 = only_here 0 z (lent_count n q) zone in let l1 = only_here 0 z (lent_count (ch n) q) zone in let l2 = lent_no (ch n) q (λ e. absurd (omega arith)) in
+        let lz = lent_here f q in let db = below q in
         record { passing = omega arith; borrowed_is_lent = omega arith; lent_is_near = omega arith } in
         hand_step frames cpus seats id pair 0 z at refl words f inside rule ch 0 refl (λ p lo hi is. absurd (omega arith)) (λ h eh. inr (inl (refl, c2, omega arith)))
         (λ p lo hi. dite (ℕ_discrete p q)
@@ -249,13 +276,63 @@ module _ (frames cpus : ℕ) (seats : List (List FrameView)) (id : ℕ) (z v : F
         let b = begun_swap frames cpus seats id pair 0 z at refl words f inside rule ch p in let e = ended_swap frames cpus seats id pair 0 z at refl words f inside rule ch p in
         let l = lent_swap frames cpus seats id pair 0 z at refl words f inside rule ch p in let d = borrowed_swap frames cpus seats id pair 0 z at refl words f inside rule ch p in
         let m0 = marked_else p word_now (λ x. not (omega arith)) in let m1 = marked_else p 0 (λ x. omega arith) in
-        let e2 = ap (only 0 z) (put_else 0 n.collected q p (get_or n.collected q 0 + 1) not) in let l2 = ap (only 0 z) (put_else 0 n.lent q p 0 not) in
+        let e2 = ap (only 0 z) (put_else 0 n.collected q p (get_or n.collected q 0 + 1) not) in let near = below p in
+        let l1 = only_here 0 z (lent_count (ch n) p) zone in let l2 = lent_no (ch n) p (λ x. absurd (omega arith)) in
         record { passing = omega arith; borrowed_is_lent = omega arith; lent_is_near = omega arith }))
+        (let x = number_swap frames cpus seats id pair 0 z at refl words f inside rule ch 0 in let x1 = only_here 0 z 0 zone in let most = (rule.each_frame f inside).lent_to_one in omega arith)
 
-  -- while the visit is shut, or nothing passes, no word is the processor's mark: nothing passes, and what is lent is borrowed
-  pub settled_where : (f : ℕ) → f < frames → get_or words f 0 ≢ mark q → (begun z v f ≡ ended z v f) × (get_or (note_of z f).lent q 0 ≡ (note_of v f).borrowed)
-  settled_where f inside not = let o = (rule.each_frame f inside).each_cpu q low high in let o0 = o.passing in let o1 = o.borrowed_is_lent in let o2 = o.lent_is_near in
-      let m = marked_else q (get_or words f 0) not in let b = begun_here f in let e = ended_here f in let l = lent_here f in let d = borrowed_here f in (omega arith, omega arith)
+    zone_refs : (note_of z f).references ≤ refs_now
+    zone_refs = total_view (references_in f) seats id pair 0 z at refl
+
+    cpu_refs : (note_of v f).references ≤ refs_now
+    cpu_refs = total_view (references_in f) seats id pair 1 v at refl
+
+    -- where the frame passes for the processor, neither seat has anything of it
+    pub both_have_none : begun z v f ≡ ended z v f + 1 → HasNone z f × HasNone v f
+    both_have_none passes = let was = passing_mark passes in let a = zone_refs in let b = cpu_refs in let both = hands_both f in
+        let c = case_passing cpus word_now refs_now hands_now (omega arith) now in let c2 = c.2 in let c3 = c.3 in
+        ((omega arith, omega arith), (omega arith, omega arith))
+
+    -- and it is lent to no one, or to the processor
+    pub lent_near : begun z v f ≡ ended z v f + 1 → ((note_of z f).lent ≡ 0) ⊎ ((note_of z f).lent ≡ q)
+    lent_near passes = let was = passing_mark passes in let l : ℕ = (note_of z f).lent in
+        let c = case_passing cpus word_now refs_now hands_now (omega arith) now in let c3 = c.3 in
+        let most = (rule.each_frame f inside).lent_to_one in let all = number_here f in
+        dite (ℕ_discrete l 0) (λ none. inl none) (λ some. dite (ℕ_discrete l q) (λ is. inr is) (λ not.
+        let near = ((rule.each_frame f inside).each_cpu l (omega arith) (omega arith)).lent_is_near in
+        let a = lent_here f l in let b = lent_yes (note_of z f) l refl in let m = marked_else l word_now (λ e. not (omega arith)) in
+        let few = borrowed_before frames cpus seats id pair 0 z at refl words f inside rule l in
+        absurd (omega arith)))
+
+    -- where the processor has the frame in a hand, neither seat has a reference, and the zone hasn't it in its own
+    pub handed_over : in_hands (note_of v f) ≡ 1 → HasNone z f × ((note_of v f).references ≡ 0)
+    handed_over hand = let a = zone_refs in let b = cpu_refs in let both = hands_both f in
+        let part = hands_part frames cpus seats id pair 1 v at refl words f inside rule in
+        let c = case_handed cpus word_now refs_now hands_now 1 (omega arith) (omega arith) now in let c1 = c.1 in let c2 = c.2 in
+        ((omega arith, omega arith), omega arith)
+
+    -- an own hand's frame is lent to no one
+    pub own_lent_to_none : (note_of v f).own ≡ 1 → (note_of z f).lent ≡ 0
+    own_lent_to_none own = own_not_lent frames cpus words seats rule f inside v z of_second of_first zone own
+
+    -- what the processor has borrowed is lent to it
+    pub borrowed_from_zone : (note_of v f).borrowed ≡ 1 → (note_of z f).lent ≡ q
+    borrowed_from_zone is = let l = lent_here f q in let d = borrowed_here f in let o1 = ((rule.each_frame f inside).each_cpu q low high).borrowed_is_lent in
+        dite (ℕ_discrete (note_of z f).lent q) (λ e. e) (λ ne. let x = lent_no (note_of z f) q ne in absurd (omega arith))
+
+    -- while the visit is shut, or nothing passes, no word is the processor's mark: the two seats are settled
+    pub settled_where : word_now ≢ mark q → IsSettledAt z v f
+    settled_where not = let o = (rule.each_frame f inside).each_cpu q low high in let o0 = o.passing in let o2 = o.lent_is_near in
+        let m = marked_else q word_now not in let b = begun_here f in let e = ended_here f in let l = lent_here f q in let d = borrowed_here f in
+        let both = hands_both f in let one = one_hand cpus word_now refs_now hands_now now in let r0 = zone_refs in let r1 = cpu_refs in record {
+          still = omega arith;
+          lent_is_borrowed = λ is. let y = lent_yes (note_of z f) q is in omega arith;
+          borrowed_is_lent = borrowed_from_zone;
+          one_hand = omega arith;
+          no_reference = λ some. let c = case_handed cpus word_now refs_now hands_now 1 (omega arith) (omega arith) now in let c1 = c.1 in omega arith;
+          own_is_not_lent = λ some. dite (ℕ_discrete (note_of v f).own 1) own_lent_to_none
+              (λ other. own_not_lent frames cpus words seats rule f inside z z of_first of_first zone (omega arith));
+        }
 
   pub no_mark_where : (f : ℕ) → f < frames → begun z v f ≡ ended z v f → get_or words f 0 ≢ mark q
   no_mark_where f inside same is = let o = ((rule.each_frame f inside).each_cpu q low high).passing in let m = marked_here q (get_or words f 0) is in let b = begun_here f in let e = ended_here f in absurd (omega arith)
@@ -285,7 +362,7 @@ module _ (frames cpus : ℕ) (seats : List (List FrameView)) (id : ℕ) (z v : F
         no_more = stays (λ (u : FrameView). 1) w refl ∙ rule.no_more;
         each_frame = λ f lt. subst (FrameRule cpus new f) (sym (frame_word f lt)) (frame_carries cpus seats new f (get_or words f 0)
             (stays (references_in f) w refl) (stays (hands_in f) w refl)
-            (λ p. (stays (begun_in f p) w refl, stays (ended_in f p) w refl, stays (lent_in f p) w refl, stays (borrowed_in f p) w refl)) (rule.each_frame f lt));
+            (λ p. (stays (begun_in f p) w refl, stays (ended_in f p) w refl, stays (lent_in f p) w refl, stays (borrowed_in f p) w refl)) (stays (lent_number f) w refl) (rule.each_frame f lt));
         each_visit = λ p lo hi. dite (ℕ_discrete p q)
             (λ is. subst (VisitRule frames (set words at_word state) new) (sym is) at_q)
             (λ not. let h = rule.each_visit p lo hi in let same = there (visit_index frames p) (λ e. not (omega arith)) in record {

@@ -1,6 +1,7 @@
 pub mod Notes
 pub mod Swap
 pub mod Cases
+pub mod Consequences
 pub mod ShortSteps
 pub mod Alone
 pub mod HandOvers
@@ -8,5 +9,4 @@ pub mod Joined
 pub mod Seating
 pub mod Opening
 pub mod Ending
-pub mod Consequences
 pub mod CallerLemmas

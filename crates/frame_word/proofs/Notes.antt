@@ -4,7 +4,7 @@ use mathlib.Core.Option.{some, some-ne-none, some-injective}
 use lib.ListN.{get_elem?}
 use Rattle.frame_word.specs.declared.view.FrameNote.{FrameNote}
 use Rattle.frame_word.specs.declared.view.FrameView.{FrameView}
-use Rattle.frame_word.specs.Views.{put_at, blank, note_of, changed}
+use Rattle.frame_word.specs.Views.{put_at, blank, note_of, changed, lent_count}
 use Rattle.frame_word.specs.ReferenceRule.{mark, only, marked}
 
 module _ {A : Type 0} (d : A) where
@@ -52,6 +52,12 @@ marked_here p word is = subst (λ b. ◌≡◌ {A = ℕ} (cond b 1 0) 1) (sym (e
 
 pub marked_else : (p word : ℕ) → word ≢ mark p → marked p word ≡ 0
 marked_else p word not = subst (λ b. ◌≡◌ {A = ℕ} (cond b 1 0) 0) (sym (ne_eqb word (mark p) not)) refl
+
+pub lent_yes : (k : FrameNote) (p : ℕ) → k.lent ≡ p → lent_count k p ≡ 1
+lent_yes k p is = subst (λ b. ◌≡◌ {A = ℕ} (cond b 1 0) 1) (sym (eq-eqb k.lent p is)) refl
+
+pub lent_no : (k : FrameNote) (p : ℕ) → k.lent ≢ p → lent_count k p ≡ 0
+lent_no k p not = subst (λ b. ◌≡◌ {A = ℕ} (cond b 1 0) 0) (sym (ne_eqb k.lent p not)) refl
 
 -- a number of a list, read the other way
 pub read_at : (xs : List ℕ) (i x : ℕ) → get_elem? xs i ≡ some x → x ≡ get_or xs i 0

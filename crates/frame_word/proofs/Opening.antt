@@ -1,5 +1,5 @@
 -- The table at the start: the rule holds of it, and the seats are dealt one by one.
-use Rattle.std.proofs.Common.{◌≡◌, ◌≢◌, ℕ, zero, suc, ◌+◌, ◌-◌, ◌<◌, ◌≤◌, Bool, true, false, cond, List, [], ◌∷◌, ◌++◌, get_or, replicate, sym, refl, ap, ◌∙◌, inl, inr, arith, eqb}
+use Rattle.std.proofs.Common.{◌≡◌, ◌≢◌, ℕ, zero, suc, ◌+◌, ◌-◌, ◌<◌, ◌≤◌, Bool, true, false, cond, List, [], ◌∷◌, ◌++◌, length, get_or, replicate, sym, refl, ap, ◌∙◌, inl, inr, arith, eqb}
 use mathlib.Core.Logic.{dite}
 use native.Mathlib.Decide.{ℕ_discrete}
 use Rattle.std.proofs.lemmas.List.{length-replicate, get_or-replicate}
@@ -7,11 +7,11 @@ use Rattle.atomic_table.specs.Seated.{TableId}
 use Rattle.seat_sums.specs.Totals.{sum_over, total_over}
 use Rattle.frame_word.specs.declared.view.FrameNote.{FrameNote}
 use Rattle.frame_word.specs.declared.view.FrameView.{FrameView}
-use Rattle.frame_word.specs.Views.{blank, note_of, in_hands}
-use Rattle.frame_word.specs.ReferenceRule.{only, visit_index, references_in, hands_in, begun_in, ended_in, lent_in, borrowed_in, opened_in, ReferenceRule}
-use Rattle.frame_word.specs.Seats.{first_zone_view, first_cpu_view, cpu_views, first_cpu_seats}
+use Rattle.frame_word.specs.Views.{blank, note_of, in_hands, lent_count}
+use Rattle.frame_word.specs.ReferenceRule.{only, visit_index, references_in, hands_in, begun_in, ended_in, lent_in, lent_number, borrowed_in, opened_in, ReferenceRule}
+use Rattle.frame_word.specs.Seats.{KnownTable, first_zone_view, first_cpu_view, cpu_views, first_cpu_seats, AreCpuSeats}
 use Rattle.frame_word.specs.Kinds.{first_views}
-use Rattle.frame_word.proofs.Notes.{only_here, only_else, marked_else}
+use Rattle.frame_word.proofs.Notes.{only_here, only_else, marked_else, lent_no}
 
 only_none : (k : ℕ) (v : FrameView) → only k v 0 ≡ 0
 only_none k v = both (eqb v.number k)
@@ -23,21 +23,21 @@ only_none k v = both (eqb v.number k)
 -- the processors' views have nothing of g, where the view of one that did nothing has not
 none_of : (g : FrameView → ℕ) → ((p : ℕ) → g (first_cpu_view p) ≡ 0) → (p n : ℕ) → sum_over g (cpu_views p n) ≡ 0
 none_of g empty p zero = refl
-none_of g empty p (suc n) = omega (arith, empty p, none_of g empty (suc p) n)
+none_of g empty p (suc n) = omega (arith, empty p, none_of g empty (p + 1) n)
 
 none_below : (k p n : ℕ) → k < p → sum_over (λ v. only k v 1) (cpu_views p n) ≡ 0
 none_below k p zero lt = refl
-none_below k p (suc n) lt = let other : p ≢ k = λ e. absurd (omega arith) in omega (arith, only_else k (first_cpu_view p) 1 other, none_below k (suc p) n (omega arith))
+none_below k p (suc n) lt = let other : p ≢ k = λ e. absurd (omega arith) in omega (arith, only_else k (first_cpu_view p) 1 other, none_below k (p + 1) n (omega arith))
 
 one_of : (k p n : ℕ) → p ≤ k → k < p + n → sum_over (λ v. only k v 1) (cpu_views p n) ≡ 1
 one_of k p zero low high = absurd (omega arith)
 one_of k p (suc n) low high = dite (ℕ_discrete p k)
-    (λ e. omega (arith, only_here k (first_cpu_view p) 1 e, none_below k (suc p) n (omega arith)))
-    (λ ne. omega (arith, only_else k (first_cpu_view p) 1 ne, one_of k (suc p) n (omega arith) (omega arith)))
+    (λ e. omega (arith, only_here k (first_cpu_view p) 1 e, none_below k (p + 1) n (omega arith)))
+    (λ ne. omega (arith, only_else k (first_cpu_view p) 1 ne, one_of k (p + 1) n (omega arith) (omega arith)))
 
 length_of : (p n : ℕ) → sum_over (λ (v : FrameView). 1) (cpu_views p n) ≡ n
 length_of p zero = refl
-length_of p (suc n) = omega (arith, length_of (suc p) n)
+length_of p (suc n) = omega (arith, length_of (p + 1) n)
 
 module _ (frames cpus : ℕ) where
   abbrev seats : List (List FrameView)
@@ -74,10 +74,11 @@ module _ (frames cpus : ℕ) where
       each_cpu = λ p low high.
           let b = total_first (begun_in f p) (λ r. both_none 0 p 0 0 (first_cpu_view r) refl refl) ∙ both_none 0 p _ _ zone (ap (λ (n : FrameNote). get_or n.passed_out p 0) k) (ap (λ (n : FrameNote). n.passed_back) k) in
           let e = total_first (ended_in f p) (λ r. both_none 0 p 0 0 (first_cpu_view r) refl refl) ∙ both_none 0 p _ _ zone (ap (λ (n : FrameNote). get_or n.collected p 0) k) (ap (λ (n : FrameNote). n.taken_in) k) in
-          let l = total_first (lent_in f p) (λ r. only_none 0 (first_cpu_view r)) ∙ ap (λ (n : FrameNote). only 0 zone (get_or n.lent p 0)) k ∙ only_none 0 zone in
+          let l = total_first (lent_in f p) (λ r. ap (only 0 (first_cpu_view r)) (lent_no blank p (λ z. omega arith)) ∙ only_none 0 (first_cpu_view r)) ∙ ap (λ (n : FrameNote). only 0 zone (lent_count n p)) k ∙ ap (only 0 zone) (lent_no (record blank { own = 1 }) p (λ z. omega arith)) ∙ only_none 0 zone in
           let d = total_first (borrowed_in f p) (λ r. only_none p (first_cpu_view r)) ∙ ap (λ (n : FrameNote). only p zone n.borrowed) k ∙ only_none p zone in
           let m = marked_else p (get_or words f 0) (λ is. absurd (omega arith)) in
           record { passing = omega arith; borrowed_is_lent = omega arith; lent_is_near = omega arith };
+      lent_to_one = (let l = total_first (lent_number f) (λ r. only_none 0 (first_cpu_view r)) ∙ ap (λ (n : FrameNote). only 0 zone n.lent) k ∙ only_none 0 zone in omega arith);
     };
     each_visit = λ p low high. let w : get_or words (visit_index frames p) 0 ≡ 0 = get_or-replicate (frames + cpus) (visit_index frames p) 0 0 (omega arith) in record {
       noted = total_first (opened_in p) (λ r. only_none 0 (first_cpu_view r)) ∙ only_none 0 zone ∙ sym w;
@@ -88,12 +89,19 @@ module _ (frames cpus : ℕ) where
 
 -- the views that are left after i processors were dealt
 pub views_next : (i n : ℕ) → i < n → cpu_views (i + 1) (n - i) ≡ first_cpu_view (i + 1) ∷ cpu_views ((i + 1) + 1) (n - (i + 1))
-views_next i n lt = ap (cpu_views (i + 1)) (let e : n - i ≡ suc (n - (i + 1)) = omega arith in e) ∙ ap (λ (p : ℕ). first_cpu_view (i + 1) ∷ cpu_views p (n - (i + 1))) (let e : suc (i + 1) ≡ (i + 1) + 1 = omega arith in e)
+views_next i n lt = ap (cpu_views (i + 1)) (let e : n - i ≡ suc (n - (i + 1)) = omega arith in e)
 
 seats_more : (id : TableId) (p n : ℕ) → first_cpu_seats id p (suc n) ≡ first_cpu_seats id p n ++ record { table = id; view = first_cpu_view (p + n) } ∷ []
 seats_more id p zero = ap (λ (m : ℕ). record { table = id; view = first_cpu_view m } ∷ []) (let e : p ≡ p + 0 = omega arith in e)
 seats_more id p (suc n) = ap (λ l. record { table = id; view = first_cpu_view p } ∷ l)
-    (seats_more id (suc p) n ∙ ap (λ (m : ℕ). first_cpu_seats id (suc p) n ++ record { table = id; view = first_cpu_view m } ∷ []) (let e : suc p + n ≡ p + suc n = omega arith in e))
+    (seats_more id (p + 1) n ∙ ap (λ (m : ℕ). first_cpu_seats id (p + 1) n ++ record { table = id; view = first_cpu_view m } ∷ [])
+    (let e : (p + 1) + n ≡ p + suc n = omega arith in e))
 
 pub seats_next : (id : TableId) (i : ℕ) → first_cpu_seats id 1 (i + 1) ≡ first_cpu_seats id 1 i ++ record { table = id; view = first_cpu_view (i + 1) } ∷ []
-seats_next id i = ap (first_cpu_seats id 1) (let e : i + 1 ≡ suc i = omega arith in e) ∙ seats_more id 1 i ∙ ap (λ (m : ℕ). first_cpu_seats id 1 i ++ record { table = id; view = first_cpu_view m } ∷ []) (let e : 1 + i ≡ i + 1 = omega arith in e)
+seats_next id i = ap (first_cpu_seats id 1) (let e : i + 1 ≡ suc i = omega arith in e) ∙ seats_more id 1 i
+    ∙ ap (λ (m : ℕ). first_cpu_seats id 1 i ++ record { table = id; view = first_cpu_view m } ∷ []) (let e : 1 + i ≡ i + 1 = omega arith in e)
+
+-- they are numbered in order
+pub seats_numbered : (t : KnownTable) (p n : ℕ) → (length (first_cpu_seats t.table p n) ≡ n) × AreCpuSeats t p (first_cpu_seats t.table p n)
+seats_numbered t p zero = (refl, tt)
+seats_numbered t p (suc n) = let more = seats_numbered t (p + 1) n in (ap suc more.0, (refl, refl, more.1))

@@ -8,8 +8,8 @@ use Rattle.seat_sums.specs.Totals.{total_over, SameTotals}
 use Rattle.seat_sums.proofs.Totals.{total_swap, total_absent}
 use Rattle.frame_word.specs.declared.view.FrameNote.{FrameNote}
 use Rattle.frame_word.specs.declared.view.FrameView.{FrameView}
-use Rattle.frame_word.specs.Views.{changed, in_hands}
-use Rattle.frame_word.specs.ReferenceRule.{mark, marked, only, visit_index, references_in, hands_in, begun_in, ended_in, lent_in, borrowed_in, opened_in, IsReferenced, IsInOneHand, IsPassing, FrameRule, ReferenceRule}
+use Rattle.frame_word.specs.Views.{changed, in_hands, lent_count}
+use Rattle.frame_word.specs.ReferenceRule.{mark, marked, only, visit_index, references_in, hands_in, begun_in, ended_in, lent_in, lent_number, borrowed_in, opened_in, IsReferenced, IsInOneHand, IsPassing, FrameRule, ReferenceRule}
 use Rattle.frame_word.proofs.Notes.{note_else, only_here, only_else}
 
 -- what the rule says of a word, its references and its hands
@@ -21,14 +21,15 @@ module _ (cpus : ℕ) (a b : List (List FrameView)) (f word : ℕ) where
   pub frame_carries : total_over (references_in f) b ≡ total_over (references_in f) a → total_over (hands_in f) b ≡ total_over (hands_in f) a
       → ((p : ℕ) → (total_over (begun_in f p) b ≡ total_over (begun_in f p) a) × (total_over (ended_in f p) b ≡ total_over (ended_in f p) a)
       × (total_over (lent_in f p) b ≡ total_over (lent_in f p) a) × (total_over (borrowed_in f p) b ≡ total_over (borrowed_in f p) a))
-      → FrameRule cpus a f word → FrameRule cpus b f word
-  frame_carries refs hands others rule = record {
+      → total_over (lent_number f) b ≡ total_over (lent_number f) a → FrameRule cpus a f word → FrameRule cpus b f word
+  frame_carries refs hands others number rule = record {
     one_case = subst (λ (r : ℕ). OneCase cpus word r (total_over (hands_in f) b)) (sym refs) (subst (λ (h : ℕ). OneCase cpus word (total_over (references_in f) a) h) (sym hands) rule.one_case);
     each_cpu = λ p low high. let o = others p in let h = rule.each_cpu p low high in record {
       passing = o.0 ∙ h.passing ∙ ap (λ (n : ℕ). n + marked p word) (sym o.1);
       borrowed_is_lent = (let o2 = o.2 in let o3 = o.3 in let h1 = h.borrowed_is_lent in omega arith);
       lent_is_near = (let o2 = o.2 in let o3 = o.3 in let h2 = h.lent_is_near in omega arith);
     };
+    lent_to_one = (let le = rule.lent_to_one in omega arith);
   }
 
 -- joined, split and moved seats: the rule reads totals alone
@@ -38,7 +39,7 @@ rule_carries frames cpus words a b same rule = record {
   one_view = λ k le. same (λ v. only k v 1) ∙ rule.one_view k le;
   no_more = same (λ (v : FrameView). 1) ∙ rule.no_more;
   each_frame = λ f lt. frame_carries cpus a b f (get_or words f 0) (same (references_in f)) (same (hands_in f))
-      (λ p. (same (begun_in f p), same (ended_in f p), same (lent_in f p), same (borrowed_in f p))) (rule.each_frame f lt);
+      (λ p. (same (begun_in f p), same (ended_in f p), same (lent_in f p), same (borrowed_in f p))) (same (lent_number f)) (rule.each_frame f lt);
   each_visit = λ p low high. let h = rule.each_visit p low high in record { noted = same (opened_in p) ∙ h.noted; open_or_shut = h.open_or_shut; shut = h.shut };
 }
 
@@ -85,9 +86,9 @@ module _ (seats : List (List FrameView)) (id : ℕ) (views : List FrameView) (i 
               (λ p. (
                 same_total (begun_in g p) next (ap (λ k. only 0 v (get_or k.passed_out p 0) + only p v k.passed_back) note),
                 same_total (ended_in g p) next (ap (λ k. only 0 v (get_or k.collected p 0) + only p v k.taken_in) note),
-                same_total (lent_in g p) next (ap (λ k. only 0 v (get_or k.lent p 0)) note),
+                same_total (lent_in g p) next (ap (λ k. only 0 v (lent_count k p)) note),
                 same_total (borrowed_in g p) next (ap (λ k. only p v k.borrowed) note),
-              )) (rule.each_frame g lt)));
+              )) (same_total (lent_number g) next (ap (λ k. only 0 v k.lent) note)) (rule.each_frame g lt)));
           each_visit = λ p low high. let h = rule.each_visit p low high in let same = there (visit_index frames p) (far p) in record {
             noted = same_total (opened_in p) next refl ∙ h.noted ∙ sym same;
             open_or_shut = subst (λ (n : ℕ). n ≤ 1) (sym same) h.open_or_shut;

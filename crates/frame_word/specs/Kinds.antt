@@ -1,12 +1,11 @@
 -- The table of kinds: what each atomic step tells of the word that it found and of the seat after it.
--- A seat's view is a list: its own view alone, or the zone's view and then a processor's while the two seats are joined.
-use Rattle.std.specs.Prelude.{◌≡◌, ◌≢◌, ◌⊎◌, ℕ, ◌+◌, ◌-◌, ◌<◌, ◌≤◌, List, [], ◌∷◌, slice_index}
+-- A seat's views are a list: its own view alone, or the zone's view and then a processor's while the two seats are joined.
+use Rattle.std.specs.Prelude.{◌≡◌, ◌≢◌, ◌⊎◌, ℕ, ◌+◌, ◌-◌, ◌<◌, ◌≤◌, List, [], ◌∷◌}
 use Rattle.atomic_table.specs.Table.{State, Step, Me}
-use Rattle.frame_word.specs.declared.view.FrameNote.{FrameNote}
 use Rattle.frame_word.specs.declared.view.FrameView.{FrameView}
-use Rattle.frame_word.specs.Views.{note_of, changed, with_visit, begun, ended, looked, held, raced, let_go, let_go_last, frozen, missed, unfrozen, passed_out_to, took_in, gave_back, collected_from}
-use Rattle.frame_word.specs.ReferenceRule.{ReferenceRule}
-use Rattle.frame_word.specs.Seats.{first_zone_view, cpu_views}
+use Rattle.frame_word.specs.Views.{note_of, changed, with_visit, in_hands, looked, held, raced, let_go, let_go_last, frozen, missed, unfrozen, passed_out_to, took_in, gave_back, collected_from, HasNone, IsSettledAt}
+use Rattle.frame_word.specs.ReferenceRule.{most_references, no_mark, ReferenceRule}
+use Rattle.frame_word.specs.Seats.{first_zone_view, first_cpu_view, cpu_views}
 
 -- the first seat has the views of all seats, and the others are split off
 abbrev pub first_views : ℕ → ℕ → List FrameView
@@ -22,83 +21,75 @@ abbrev pub but_first : List FrameView → List FrameView
 but_first [] = []
 but_first (v ∷ vs) = vs
 
--- the number of the processor whose view stands second
-abbrev pub second_number : List FrameView → ℕ
-second_number (z ∷ v ∷ vs) = v.number
-second_number _ = 0
+-- the first of a seat's views; where it has none, a view of number 0 without notes
+abbrev pub first_of : List FrameView → FrameView
+first_of [] = first_cpu_view 0
+first_of (v ∷ vs) = v
 
--- the views after this change of the first one's note of f
-abbrev pub first_changed : List FrameView → ℕ → (FrameNote → FrameNote) → List FrameView
-first_changed [] f change = []
-first_changed (v ∷ vs) f change = changed v f change ∷ vs
+-- the second of a joined seat's views
+abbrev pub second_of : List FrameView → FrameView
+second_of views = first_of (but_first views)
 
--- the views after this change of the second one's note of f, where there is a second
-abbrev pub second_changed : List FrameView → ℕ → (FrameNote → FrameNote) → List FrameView
-second_changed (z ∷ v ∷ vs) f change = z ∷ changed v f change ∷ vs
-second_changed other f change = other
+-- The kinds of a seat that isn't joined. Each takes its view before, the frame, the number that the step asks for or stores,
+-- the word that it found, and its view after.
+-- The load of a get: it saw the word, at most 255 or a mark, of at least the seat's references, and 0 of a frame in its hand.
+abbrev pub looks : FrameView → ℕ → ℕ → ℕ → FrameView → Type 0
+looks v f asked word w = (w ≡ changed v f (looked word)) × ((word ≤ most_references) ⊎ (no_mark < word))
+    × (1 ≤ (note_of v f).references → ((note_of v f).references ≤ word) × (word ≤ most_references)) × (1 ≤ in_hands (note_of v f) → word ≡ 0)
 
--- the views after the zone's, which is first, notes the visit of the second's processor: open (1) or shut (0)
-abbrev pub visit_changed : List FrameView → ℕ → List FrameView
-visit_changed (z ∷ v ∷ vs) state = with_visit z v.number state ∷ v ∷ vs
-visit_changed other state = other
+-- The exchange of a get, from the word that its load saw, as the view says, to one more: one reference more, or a race.
+abbrev pub adds : FrameView → ℕ → ℕ → ℕ → FrameView → Type 0
+adds v f asked found w = (found ≡ (note_of v f).seen → w ≡ changed v f held) × (found ≢ (note_of v f).seen → w ≡ changed v f (raced found))
 
--- the references that the first view has on f; 0 where there is no view
-abbrev pub first_references : List FrameView → ℕ → ℕ
-first_references [] f = 0
-first_references (v ∷ vs) f = (note_of v f).references
+-- put: one reference less; the last one brings the frame into the own hand. It was in none before.
+abbrev pub puts : FrameView → ℕ → ℕ → ℕ → FrameView → Type 0
+puts v f asked found w = ((note_of v f).references ≤ found) × (found ≤ most_references) × (in_hands (note_of v f) ≡ 0)
+    × (found ≡ 1 → w ≡ changed v f let_go_last) × (2 ≤ found → w ≡ changed v f (let_go (found - 1)))
 
--- nothing passes for the processor, and what is lent to it is its borrowed hand; its visit word is the one at `word`
-abbrev pub IsSettled : List FrameView → ℕ → Type 0
-IsSettled (z ∷ v ∷ vs) word = (f : ℕ) → f + (v.number - 1) < word
-    → (begun z v f ≡ ended z v f) × (slice_index (note_of z f).lent v.number ≡ (note_of v f).borrowed)
-IsSettled _ word = Unit {0}
+-- freeze: where the word is n, all n references are the seat's, and go; else a miss, which found another word. The frame was in no hand.
+abbrev pub freezes : FrameView → ℕ → ℕ → ℕ → FrameView → Type 0
+freezes v f n found w = (in_hands (note_of v f) ≡ 0) × (found ≡ n → (w ≡ changed v f (frozen n)) × ((note_of v f).references ≡ n))
+    × (found ≢ n → w ≡ changed v f (missed found))
+
+-- unfreeze: n references more, where there was none, out of the own hand; the frame is lent to no one, if this is the zone's seat
+abbrev pub unfreezes : FrameView → ℕ → ℕ → ℕ → FrameView → Type 0
+unfreezes v f n stored w = (w ≡ changed v f (unfrozen n)) × ((note_of v f).references ≡ 0) × (in_hands (note_of v f) ≡ 1)
+    × (v.number ≡ 0 → (note_of v f).lent ≡ 0)
+
+-- pass, by the zone's seat: out of its hand, lent to the processor whose mark is stored, and to no one before
+abbrev pub passes_out : FrameView → ℕ → ℕ → ℕ → FrameView → Type 0
+passes_out v f mark stored w = (w ≡ changed v f (passed_out_to (mark - no_mark))) × ((note_of v f).references ≡ 0) × (in_hands (note_of v f) ≡ 1)
+    × ((note_of v f).lent ≡ 0)
+
+-- The kinds of the zone's seat, joined with a processor's. Each takes the two views before, the frame (or the word) and the
+-- number stored, and the two views after.
+-- take, by a processor: into its borrowed hand, where neither seat had anything of the frame
+abbrev pub takes_in : FrameView → FrameView → ℕ → ℕ → FrameView → FrameView → Type 0
+takes_in z v f stored z' v' = (z' ≡ z) × (v' ≡ changed v f took_in) × HasNone z f × HasNone v f
+
+-- pass, by a processor: out of its hand; the zone had nothing of it, and lent it to no one (own hand) or to this processor (borrowed)
+abbrev pub passes_back : FrameView → FrameView → ℕ → ℕ → FrameView → FrameView → Type 0
+passes_back z v f stored z' v' = (z' ≡ z) × (v' ≡ changed v f gave_back) × HasNone z f × ((note_of v f).references ≡ 0)
+    × ((note_of v f).own ≡ 1 → (note_of z f).lent ≡ 0) × ((note_of v f).borrowed ≡ 1 → (note_of z f).lent ≡ v.number)
+
+-- take, by the zone's seat: into its hand, where neither seat had anything of the frame; it is lent to no one any more
+abbrev pub collects : FrameView → FrameView → ℕ → ℕ → FrameView → FrameView → Type 0
+collects z v f stored z' v' = (z' ≡ changed z f (collected_from v.number)) × (v' ≡ v) × HasNone z f × HasNone v f
+    × (((note_of z f).lent ≡ 0) ⊎ ((note_of z f).lent ≡ v.number))
+
+-- open_visit stores 1, shut_visit 0: the zone's seat notes it. Beside either the processor is settled with the zone at each
+-- frame; its visit word is the one at `word`, behind those of the frames.
+abbrev pub visits : FrameView → FrameView → ℕ → ℕ → FrameView → FrameView → Type 0
+visits z v word state z' v' = (z' ≡ with_visit z v.number state) × (v' ≡ v) × ((f : ℕ) → f + (v.number - 1) < word → IsSettledAt z v f)
 
 module _ {S : Type 0} where
   abbrev pub rule_of : ℕ → ℕ → State S (List FrameView) → Type 0
   rule_of frames cpus s = ReferenceRule frames cpus s.words s.views
 
-  -- Each of these takes the step, the seat before it, the word found (or stored), and the seat after it.
-  -- The load of a get: one look, which saw the word, at most 255 or a mark, and 1 to 255 where the seat has a reference.
-  abbrev pub looks : Step S → Me S (List FrameView) → ℕ → Me S (List FrameView) → Type 0
-  looks st m word m' = (m' ≡ (first_changed m.0 st.word (looked word), m.1))
-      × ((word ≤ 255) ⊎ (256 < word)) × (1 ≤ first_references m.0 st.word → (1 ≤ word) × (word ≤ 255))
+  -- a step of this kind, by a seat that has its own view alone
+  abbrev pub by_one : (FrameView → ℕ → ℕ → ℕ → FrameView → Type 0) → Step S → Me S (List FrameView) → ℕ → Me S (List FrameView) → Type 0
+  by_one kind st m found m' = (w : FrameView) × (m' ≡ (w ∷ [], [])) × kind (first_of m.0) st.word st.first found w
 
-  -- The exchange of a get, from the word that was seen to one more: one reference more, or a race.
-  abbrev pub adds : Step S → Me S (List FrameView) → ℕ → Me S (List FrameView) → Type 0
-  adds st m found m' = (found ≡ st.first → m' ≡ (first_changed m.0 st.word held, m.1))
-      × (found ≢ st.first → m' ≡ (first_changed m.0 st.word (raced found), m.1))
-
-  -- put: one reference less; the last one brings the frame into the own hand
-  abbrev pub puts : Step S → Me S (List FrameView) → ℕ → Me S (List FrameView) → Type 0
-  puts st m found m' = (1 ≤ found) × (found ≤ 255)
-      × (found ≡ 1 → m' ≡ (first_changed m.0 st.word let_go_last, m.1))
-      × (2 ≤ found → m' ≡ (first_changed m.0 st.word (let_go (found - 1)), m.1))
-
-  -- freeze: where the word is n, all n references are the seat's, and go; else a miss
-  abbrev pub freezes : Step S → Me S (List FrameView) → ℕ → Me S (List FrameView) → Type 0
-  freezes st m found m' = (found ≡ st.first → (m' ≡ (first_changed m.0 st.word (frozen st.first), m.1)) × (first_references m.0 st.word ≡ st.first))
-      × (found ≢ st.first → m' ≡ (first_changed m.0 st.word missed, m.1))
-
-  -- unfreeze: n references more, out of the own hand
-  abbrev pub unfreezes : Step S → Me S (List FrameView) → ℕ → Me S (List FrameView) → Type 0
-  unfreezes st m stored m' = m' ≡ (first_changed m.0 st.word (unfrozen st.first), m.1)
-
-  -- pass, by the zone's seat: out of its hand, lent to the processor whose mark is stored
-  abbrev pub passes_out : Step S → Me S (List FrameView) → ℕ → Me S (List FrameView) → Type 0
-  passes_out st m stored m' = m' ≡ (first_changed m.0 st.word (passed_out_to (st.first - 256)), m.1)
-
-  -- take, by a processor: into its borrowed hand
-  abbrev pub takes_in : Step S → Me S (List FrameView) → ℕ → Me S (List FrameView) → Type 0
-  takes_in st m stored m' = m' ≡ (second_changed m.0 st.word took_in, m.1)
-
-  -- pass, by a processor: out of its hand
-  abbrev pub passes_back : Step S → Me S (List FrameView) → ℕ → Me S (List FrameView) → Type 0
-  passes_back st m stored m' = m' ≡ (second_changed m.0 st.word gave_back, m.1)
-
-  -- take, by the zone's seat: into its hand, not lent any more
-  abbrev pub collects : Step S → Me S (List FrameView) → ℕ → Me S (List FrameView) → Type 0
-  collects st m stored m' = m' ≡ (first_changed m.0 st.word (collected_from (second_number m.0)), m.1)
-
-  -- open_visit stores 1, shut_visit 0: the zone's seat notes it. Beside either the processor is settled.
-  abbrev pub visits : Step S → Me S (List FrameView) → ℕ → Me S (List FrameView) → Type 0
-  visits st m stored m' = (m' ≡ (visit_changed m.0 st.first, m.1)) × IsSettled m.0 st.word
+  -- a step of this kind, by the zone's seat joined with a processor's
+  abbrev pub by_two : (FrameView → FrameView → ℕ → ℕ → FrameView → FrameView → Type 0) → Step S → Me S (List FrameView) → ℕ → Me S (List FrameView) → Type 0
+  by_two kind st m found m' = (z : FrameView) × (v : FrameView) × (m' ≡ (z ∷ v ∷ [], [])) × kind (first_of m.0) (second_of m.0) st.word st.first z v

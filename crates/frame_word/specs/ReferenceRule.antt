@@ -2,13 +2,22 @@
 -- Word f is frame f's: 0, 1 to 255 references, or 256 + p while the frame passes for processor p.
 -- Word frames + p - 1 is the visit word of processor p: 1 while its visit is open, else 0.
 use Rattle.std.specs.Prelude.{◌≡◌, ◌≢◌, ◌⊎◌, ℕ, ◌+◌, ◌-◌, ◌<◌, ◌≤◌, ◌==◌, cond, List, length, slice_index}
+use Rattle.frame_word.specs.declared.kinds.TheConstants.{MOST_REFERENCES, NO_MARK}
 use Rattle.seat_sums.specs.Totals.{total_over}
 use Rattle.frame_word.specs.declared.view.FrameView.{FrameView}
-use Rattle.frame_word.specs.Views.{note_of, in_hands}
+use Rattle.frame_word.specs.Views.{note_of, in_hands, lent_count}
+
+-- the most references that a frame can have
+abbrev pub most_references : ℕ
+most_references = MOST_REFERENCES
+
+-- above it stand the passing marks
+abbrev pub no_mark : ℕ
+no_mark = NO_MARK
 
 -- the passing mark of processor p
 abbrev pub mark : ℕ → ℕ
-mark p = 256 + p
+mark p = no_mark + p
 
 -- where the visit word of processor p stands: behind the words of all frames
 abbrev pub visit_index : ℕ → ℕ → ℕ
@@ -39,7 +48,11 @@ module _ (f : ℕ) where
   ended_in p v = only 0 v (slice_index (note_of v f).collected p) + only p v (note_of v f).taken_in
 
   abbrev pub lent_in : ℕ → FrameView → ℕ
-  lent_in p v = only 0 v (slice_index (note_of v f).lent p)
+  lent_in p v = only 0 v (lent_count (note_of v f) p)
+
+  -- the processor that the zone's seat lent the frame to; 0 where it is lent to none, and of any other view
+  abbrev pub lent_number : FrameView → ℕ
+  lent_number v = only 0 v (note_of v f).lent
 
   abbrev pub borrowed_in : ℕ → FrameView → ℕ
   borrowed_in p v = only p v (note_of v f).borrowed
@@ -51,7 +64,7 @@ opened_in p v = only 0 v (slice_index v.opened p)
 -- A frame's word, its references and its hands, over all seats: 1 to 255 references and in no hand,
 -- or no reference and in exactly one hand, or passing for one processor, with no reference and in no hand.
 abbrev pub IsReferenced : ℕ → ℕ → ℕ → Type 0
-IsReferenced word references hands = (1 ≤ word) × (word ≤ 255) × (references ≡ word) × (hands ≡ 0)
+IsReferenced word references hands = (1 ≤ word) × (word ≤ most_references) × (references ≡ word) × (hands ≡ 0)
 
 -- the word is 0: the frame has no reference and is in exactly one hand
 abbrev pub IsInOneHand : ℕ → ℕ → ℕ → Type 0
@@ -74,6 +87,8 @@ pub record FrameRule (cpus : ℕ) (seats : List (List FrameView)) (f word : ℕ)
       ⊎ (IsInOneHand word (total_over (references_in f) seats) (total_over (hands_in f) seats)
       ⊎ IsPassing cpus word (total_over (references_in f) seats) (total_over (hands_in f) seats))
   pub each_cpu : (p : ℕ) → 1 ≤ p → p ≤ cpus → HandOverRule seats f word p
+  -- it is lent to none, or to a processor, 1 to cpus
+  pub lent_to_one : total_over (lent_number f) seats ≤ cpus
 
 -- A visit word is what the zone's seat noted, and while it is 0 no frame passes for the processor.
 pub record VisitRule (frames : ℕ) (words : List ℕ) (seats : List (List FrameView)) (p : ℕ) : Type 0 where

@@ -3,12 +3,7 @@ use Rattle.std.specs.Prelude.{◌≡◌, ◌≤◌, ◌+◌, ℕ, List, [], ◌�
 use Rattle.atomic_table.specs.Seated.{TableId}
 use Rattle.atomic_table.specs.declared.shared.Seat.{Seat}
 use Rattle.frame_word.specs.declared.view.FrameView.{FrameView}
-use Rattle.frame_word.specs.Seats.{first_cpu_view}
-
--- the first of a seat's views; where it has none, a view of number 0 without notes
-abbrev pub first_of : List FrameView → FrameView
-first_of [] = first_cpu_view 0
-first_of (v ∷ vs) = v
+use Rattle.frame_word.specs.Kinds.{first_of}
 
 -- the seat has its own view alone, which bears its number
 pub record SitsAlone {S : Type 0} (place : Seat S (List FrameView)) (number : ℕ) : Type 0 where

@@ -1,5 +1,5 @@
 -- What one seat knows, as plain data, and how a step changes it.
-use Rattle.std.specs.Prelude.{ℕ, zero, suc, ◌+◌, ◌-◌, List, [], ◌∷◌, slice_index, slice_index_or}
+use Rattle.std.specs.Prelude.{◌≡◌, ◌≤◌, ℕ, zero, suc, ◌+◌, ◌-◌, ◌==◌, cond, List, [], ◌∷◌, slice_index, slice_index_or}
 use Rattle.frame_word.specs.declared.view.FrameNote.{FrameNote}
 use Rattle.frame_word.specs.declared.view.FrameView.{FrameView}
 
@@ -12,7 +12,24 @@ put_at d (y ∷ ys) (suc i) x = y ∷ put_at d ys i x
 
 -- the note of a seat that did nothing with the frame
 abbrev pub blank : FrameNote
-blank = record { references = 0; left = 0; misses = 0; looks = 0; seen = 0; races = 0; own = 0; borrowed = 0; passed_back = 0; taken_in = 0; passed_out = []; collected = []; lent = [] }
+blank = record {
+  steps = 0;
+  references = 0;
+  left = 0;
+  misses = 0;
+  missed_word = 0;
+  looks = 0;
+  seen = 0;
+  races = 0;
+  raced_from = 0;
+  own = 0;
+  borrowed = 0;
+  lent = 0;
+  passed_back = 0;
+  taken_in = 0;
+  passed_out = [];
+  collected = [];
+}
 
 -- the view's note of frame f; a blank one past the end of its notes
 abbrev pub note_of : FrameView → ℕ → FrameNote
@@ -24,7 +41,7 @@ changed v f change = record v { notes = put_at blank v.notes f (change (note_of 
 
 -- the zone's view with the visit of p open (1) or shut (0)
 abbrev pub with_visit : FrameView → ℕ → ℕ → FrameView
-with_visit v p state = record v { opened = put_at 0 v.opened p state }
+with_visit v p state = record v { opened = put_at 0 v.opened p state; turns = v.turns + 1 }
 
 -- the number of frames in the view's hands of this frame: 0 or 1
 abbrev pub in_hands : FrameNote → ℕ
@@ -38,50 +55,70 @@ begun zone cpu f = slice_index (note_of zone f).passed_out cpu.number + (note_of
 abbrev pub ended : FrameView → FrameView → ℕ → ℕ
 ended zone cpu f = slice_index (note_of zone f).collected cpu.number + (note_of cpu f).taken_in
 
--- get: one load, which saw this word; then one reference more, or a race that found another word
+-- the view has no reference on the frame and has it in no hand
+abbrev pub HasNone : FrameView → ℕ → Type 0
+HasNone v f = ((note_of v f).references ≡ 0) × (in_hands (note_of v f) ≡ 0)
+
+-- The zone and a processor are settled at the frame: it doesn't pass for the processor, and is lent to it exactly where the
+-- processor has borrowed it. What one of the two has in a hand, the other hasn't, and neither has a reference on it;
+-- what is in an own hand of theirs is lent to no one.
+pub record IsSettledAt (zone cpu : FrameView) (f : ℕ) : Type 0 where
+  pub still : begun zone cpu f ≡ ended zone cpu f
+  pub lent_is_borrowed : (note_of zone f).lent ≡ cpu.number → (note_of cpu f).borrowed ≡ 1
+  pub borrowed_is_lent : (note_of cpu f).borrowed ≡ 1 → (note_of zone f).lent ≡ cpu.number
+  pub one_hand : in_hands (note_of zone f) + in_hands (note_of cpu f) ≤ 1
+  pub no_reference : 1 ≤ in_hands (note_of zone f) + in_hands (note_of cpu f) → (note_of zone f).references + (note_of cpu f).references ≡ 0
+  pub own_is_not_lent : 1 ≤ (note_of zone f).own + (note_of cpu f).own → (note_of zone f).lent ≡ 0
+
+-- 1 where the frame is lent to p, else 0
+abbrev pub lent_count : FrameNote → ℕ → ℕ
+lent_count k p = cond (k.lent == p) 1 0
+
+-- The changes of a note. Each is that of one atomic step.
+-- the load of a get, which saw this word
 abbrev pub looked : ℕ → FrameNote → FrameNote
-looked word k = record k { looks = k.looks + 1; seen = word }
+looked word k = record k { steps = k.steps + 1; looks = k.looks + 1; seen = word }
 
--- one reference more
+-- the exchange of a get: one reference more
 abbrev pub held : FrameNote → FrameNote
-held k = record k { references = k.references + 1 }
+held k = record k { steps = k.steps + 1; references = k.references + 1 }
 
--- one race more, whose exchange found this word
+-- the exchange of a get that found this word in place of the one that its load saw: one race more
 abbrev pub raced : ℕ → FrameNote → FrameNote
-raced word k = record k { races = k.races + 1; seen = word }
+raced word k = record k { steps = k.steps + 1; races = k.races + 1; raced_from = k.seen; seen = word }
 
--- put: one reference less; n are left to all seats; the last one brings the frame into the own hand
+-- put: one reference less, and n are left to all seats
 abbrev pub let_go : ℕ → FrameNote → FrameNote
-let_go n k = record k { references = k.references - 1; left = n }
+let_go n k = record k { steps = k.steps + 1; references = k.references - 1; left = n }
 
--- one reference less, none left to any seat, and the frame comes into the own hand
+-- the last put: one reference less, none left to any seat, and the frame comes into the own hand
 abbrev pub let_go_last : FrameNote → FrameNote
-let_go_last k = record k { references = k.references - 1; left = 0; own = 1 }
+let_go_last k = record k { steps = k.steps + 1; references = k.references - 1; left = 0; own = 1 }
 
--- freeze: n references less, and the frame comes into the own hand; or a miss
+-- freeze: n references less, and the frame comes into the own hand
 abbrev pub frozen : ℕ → FrameNote → FrameNote
-frozen n k = record k { references = k.references - n; own = 1 }
+frozen n k = record k { steps = k.steps + 1; references = k.references - n; own = 1 }
 
--- one miss more: a freeze that found another number than it asked for
-abbrev pub missed : FrameNote → FrameNote
-missed k = record k { misses = k.misses + 1 }
+-- a freeze that found this word, which isn't the number that it asked for: one miss more
+abbrev pub missed : ℕ → FrameNote → FrameNote
+missed word k = record k { steps = k.steps + 1; misses = k.misses + 1; missed_word = word }
 
 -- unfreeze: the frame leaves the own hand, n references more
 abbrev pub unfrozen : ℕ → FrameNote → FrameNote
-unfrozen n k = record k { references = k.references + n; own = 0 }
+unfrozen n k = record k { steps = k.steps + 1; references = k.references + n; own = 0 }
 
 -- pass_out: the frame leaves the zone's hand, is lent to p, and a hand-over began
 abbrev pub passed_out_to : ℕ → FrameNote → FrameNote
-passed_out_to p k = record k { own = 0; passed_out = put_at 0 k.passed_out p (slice_index k.passed_out p + 1); lent = put_at 0 k.lent p 1 }
+passed_out_to p k = record k { steps = k.steps + 1; own = 0; lent = p; passed_out = put_at 0 k.passed_out p (slice_index k.passed_out p + 1) }
 
 -- take_in: the frame enters the processor's borrowed hand, and the hand-over ended
 abbrev pub took_in : FrameNote → FrameNote
-took_in k = record k { borrowed = 1; taken_in = k.taken_in + 1 }
+took_in k = record k { steps = k.steps + 1; borrowed = 1; taken_in = k.taken_in + 1 }
 
 -- pass_back: the frame leaves the processor's hand, and a hand-over began
 abbrev pub gave_back : FrameNote → FrameNote
-gave_back k = record k { own = 0; borrowed = 0; passed_back = k.passed_back + 1 }
+gave_back k = record k { steps = k.steps + 1; own = 0; borrowed = 0; passed_back = k.passed_back + 1 }
 
--- collect: the frame enters the zone's hand and is lent to p no more, and the hand-over ended
+-- collect: the frame enters the zone's hand and is lent to no one, and the hand-over ended
 abbrev pub collected_from : ℕ → FrameNote → FrameNote
-collected_from p k = record k { own = 1; collected = put_at 0 k.collected p (slice_index k.collected p + 1); lent = put_at 0 k.lent p 0 }
+collected_from p k = record k { steps = k.steps + 1; own = 1; lent = 0; collected = put_at 0 k.collected p (slice_index k.collected p + 1) }

@@ -1,11 +1,10 @@
 //! The end of a table.
 ghost use Rattle.std.specs.Prelude.{◌≡◌, ◌<◌, ◌≤◌, [], ◌∷◌, ◌++◌, map, slice_index, length};
 ghost use Rattle.frame_word.specs.ReferenceRule.{ReferenceRule, visit_index};
-ghost use Rattle.frame_word.specs.Seats.{view_of, IsZoneSeat, AreCpuSeats, AreSeatsAt};
+ghost use Rattle.frame_word.specs.Seats.{view_of, AreSeatsAt};
 
-use crate::board::{Place, Words};
 use crate::frame::Frame;
-use crate::kinds::Pair;
+use crate::kinds::{Board, Place};
 use crate::seat::FrameSeat;
 use crate::words::FrameWords;
 use atomic_table::Closed;
@@ -61,16 +60,17 @@ impl FinalWords {
 }
 
 impl FrameWords {
-    /// Ends the table with all its seats, the processors' in order. The reference rule holds of the
+    /// Ends the table with all its seats, the processors' in any order. The reference rule holds of the
     /// final words and these seats' views.
     pub fn close(self, zone: FrameSeat, cpus: Vec<FrameSeat>) -> FinalWords
-        requires zone { IsZoneSeat self zone }
-        requires cpus { (length cpus.items ≡ self.cpus) × AreCpuSeats self 1 cpus.items }
+        requires zone { zone.table ≡ self.table }
+        requires cpus { AreSeatsAt self.table cpus.items }
+        requires count { length cpus.items ≡ self.cpus }
         ensures sizes { (result.frames ≡ self.frames) × (result.cpus ≡ self.cpus) }
         ensures rule { ReferenceRule self.frames self.cpus result.words ((zone.view ∷ map view_of cpus.items) ∷ []) }
     {
         let FrameWords {
-            table,
+            board,
             frames,
             cpus: count,
         } = self;
@@ -78,9 +78,9 @@ impl FrameWords {
             mut place,
             number: _,
         } = zone;
-        gather(&table.shared, &mut place, cpus);
+        gather(&board, &mut place, cpus);
         FinalWords {
-            closed: table.close_with(place),
+            closed: board.end(place),
             frames,
             cpus: count,
         }
@@ -88,14 +88,14 @@ impl FrameWords {
 }
 
 // Joins all seats into one.
-fn gather(shared: &Words, all: &mut Place, seats: Vec<FrameSeat>)
-    requires table { (all.old.table_id ≡ shared.now.table_id) × (0 < shared.now.table_id.words) }
-    requires seats { AreSeatsAt shared.now.table_id seats.items }
-    ensures table { all.new.table_id ≡ all.old.table_id }
-    ensures views { all.new.me ≡ (all.old.me.0 ++ map view_of seats.items, all.old.me.1) }
+fn gather(board: &Board, all: &mut Place, seats: Vec<FrameSeat>)
+    requires table { (all.old.seat.table_id ≡ board.now.table.shared.table_id) × (0 < board.now.table.shared.table_id.words) }
+    requires seats { AreSeatsAt board.now.table.shared.table_id seats.items }
+    ensures table { all.new.seat.table_id ≡ all.old.seat.table_id }
+    ensures views { all.new.seat.me ≡ (all.old.seat.me.0 ++ map view_of seats.items, all.old.seat.me.1) }
 {
     for seat in seats {
         let FrameSeat { place, number: _ } = seat;
-        shared.join_seat::<Pair>(all, place);
+        board.pair(all, place);
     }
 }

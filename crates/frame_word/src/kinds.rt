@@ -1,68 +1,118 @@
-//! The kinds of atomic step. `specs/Kinds.antt` is their table.
-ghost use Rattle.std.specs.Prelude.{[], ◌++◌};
-ghost use Rattle.frame_word.specs.Kinds.{first_alone, but_first, looks, adds, puts, freezes, unfreezes, passes_out, takes_in, passes_back, collects, visits};
+//! **The table of kinds.** What a seat may do to a word, and what it learns from it, is told by this file and
+//! `specs/Kinds.antt`, read as one: both are definitions. The rule that stands between any two steps is named here,
+//! in one line: `holds` of `TableRule` for `Counting`, the rule of the type that `Board` wraps.
+//!
+//! The table and the seats' places are private to this file. It has one function for each kind of atomic step, whose
+//! contract is the kind: `get`, `put` and `freeze` are made of the first four, and no other file can make a step of
+//! a kind of its own. `cut` and `pair` part and join views and change none; `start` and `end` make and end a table.
+ghost use Rattle.std.specs.Prelude.{◌≡◌, ◌⊎◌, ◌<◌, ◌≤◌, ◌+◌, ◌++◌, [], ◌∷◌, length, IfOk};
+ghost use Rattle.std.specs.Mem.Slots.{slots_items, slots_len, IsFull};
+ghost use Rattle.atomic_table.specs.Table.{Final, Seen};
+ghost use Rattle.frame_word.specs.ReferenceRule.{visit_index, ReferenceRule};
+ghost use Rattle.frame_word.specs.Views.{note_of, unfrozen, passed_out_to, took_in, gave_back, collected_from};
+ghost use Rattle.frame_word.specs.Kinds.{first_views, first_alone, but_first, rule_of, by_one, by_two, looks, adds, puts, freezes, unfreezes, passes_out, takes_in, passes_back, collects, visits};
+ghost use Rattle.frame_word.specs.Seats.{number_of, holds, IsInOwnHand, IsInHand, IsInNoHand, IsBorrowed, HasNothingOf, IsLent, IsLentToNone, IsOpen, IsShut, Passes, NothingPasses, LentIsBorrowed, HandsAreApart, IsZoneSeat, IsCpuSeat, seat_with, seat_with_visit};
 
+use crate::frame::Frame;
+use crate::pairs::{join, part};
+use crate::seat::FrameSeat;
 use crate::view::FrameView;
-use atomic_table::{Join, Play, Split};
+use crate::words::FrameWords;
+use atomic_table::{Closed, Join, Play, Seat, Split, Table, TableRule};
+use std::alloc::{AllocError, Global};
+
+/// The most references that a frame can have.
+pub const MOST_REFERENCES: u64 = 255;
+
+/// Above it stand the passing marks: that of processor p is this number and p more.
+pub const NO_MARK: u64 = 256;
+
+/// How many frames and processors a table has. It is fixed when the table is made.
+#[derive(Clone, Copy)]
+pub struct Sizes {
+    pub frames: u32,
+    pub cpus: u32,
+}
+
+/// The reference rule, between any two steps.
+pub struct Counting;
+
+impl TableRule<(), [FrameView; 0], Sizes> for Counting {
+    ghost holds = { λ key. rule_of key.frames key.cpus };
+
+    ghost first = { λ key. first_views key.frames key.cpus };
+}
+
+/// The words, under the reference rule. It has no slots.
+#[derive(Drop)]
+pub(crate) struct Board {
+    table: Table<(), [FrameView; 0], Sizes, Counting, Global>,
+}
+
+/// A seat at the table. Its view is a list: one view, two where it took in another seat's, none where it is empty.
+#[derive(Drop)]
+pub(crate) struct Place {
+    seat: Seat<(), [FrameView; 0]>,
+}
 
 pub(crate) struct Look;
 
 impl Play<(), [FrameView; 0]> for Look {
-    ghost then = { looks };
+    ghost then = { by_one looks };
 }
 
 pub(crate) struct Add;
 
 impl Play<(), [FrameView; 0]> for Add {
-    ghost then = { adds };
+    ghost then = { by_one adds };
 }
 
 pub(crate) struct PutOne;
 
 impl Play<(), [FrameView; 0]> for PutOne {
-    ghost then = { puts };
+    ghost then = { by_one puts };
 }
 
 pub(crate) struct Freeze;
 
 impl Play<(), [FrameView; 0]> for Freeze {
-    ghost then = { freezes };
+    ghost then = { by_one freezes };
 }
 
 pub(crate) struct Unfreeze;
 
 impl Play<(), [FrameView; 0]> for Unfreeze {
-    ghost then = { unfreezes };
+    ghost then = { by_one unfreezes };
 }
 
 pub(crate) struct PassOut;
 
 impl Play<(), [FrameView; 0]> for PassOut {
-    ghost then = { passes_out };
+    ghost then = { by_one passes_out };
 }
 
 pub(crate) struct TakeIn;
 
 impl Play<(), [FrameView; 0]> for TakeIn {
-    ghost then = { takes_in };
+    ghost then = { by_two takes_in };
 }
 
 pub(crate) struct PassBack;
 
 impl Play<(), [FrameView; 0]> for PassBack {
-    ghost then = { passes_back };
+    ghost then = { by_two passes_back };
 }
 
 pub(crate) struct Collect;
 
 impl Play<(), [FrameView; 0]> for Collect {
-    ghost then = { collects };
+    ghost then = { by_two collects };
 }
 
 pub(crate) struct Visit;
 
 impl Play<(), [FrameView; 0]> for Visit {
-    ghost then = { visits };
+    ghost then = { by_two visits };
 }
 
 /// Cuts a seat behind its first view.
@@ -81,4 +131,255 @@ impl Join<[FrameView; 0]> for Pair {
     ghost both = { λ v w. v ++ w };
 
     ghost spent = { [] };
+}
+
+impl Board {
+    /// A table of these words, with one seat that has all views.
+    pub(crate) fn start(
+        alloc: Global,
+        words: &[u64],
+        sizes: &Sizes,
+    ) -> Result<(Board, Place), AllocError>
+        requires { ReferenceRule sizes.now.frames sizes.now.cpus words.now (first_views sizes.now.frames sizes.now.cpus ∷ []) }
+        ensures table { IfOk result (λ t. (t.0.table.shared.table_id.words ≡ length words.now) × (t.0.table.shared.table_id.slots ≡ 0) × (t.0.table.shared.key ≡ sizes.now)) }
+        ensures place { IfOk result (λ t. (t.1.seat.table_id ≡ t.0.table.shared.table_id) × (t.1.seat.me ≡ (first_views sizes.now.frames sizes.now.cpus, []))) }
+    {
+        let (table, seat) = Table::of_words(alloc, words, sizes)?;
+        Ok((Board { table }, Place { seat }))
+    }
+
+    /// The place keeps its first view. The others are the new place's.
+    pub(crate) fn cut(&self, place: &mut Place) -> Place
+        requires { (place.old.seat.table_id ≡ self.now.table.shared.table_id) × (0 < self.now.table.shared.table_id.words) }
+        ensures table { (place.new.seat.table_id ≡ place.old.seat.table_id) × (result.seat.table_id ≡ place.old.seat.table_id) }
+        ensures views { (place.new.seat.me ≡ (first_alone place.old.seat.me.0, place.old.seat.me.1)) × (result.seat.me ≡ (but_first place.old.seat.me.0, [])) }
+    {
+        Place {
+            seat: self.table.shared.split_seat::<Cut>(&mut place.seat),
+        }
+    }
+
+    /// The other place's views come behind the place's own.
+    pub(crate) fn pair(&self, place: &mut Place, other: Place)
+        requires table { (place.old.seat.table_id ≡ self.now.table.shared.table_id) × (0 < self.now.table.shared.table_id.words) }
+        requires other { (other.seat.table_id ≡ self.now.table.shared.table_id) × (other.seat.me.1 ≡ []) }
+        ensures table { place.new.seat.table_id ≡ place.old.seat.table_id }
+        ensures views { place.new.seat.me ≡ (place.old.seat.me.0 ++ other.seat.me.0, place.old.seat.me.1) }
+    {
+        let Place { seat } = other;
+        self.table.shared.join_seat::<Pair>(&mut place.seat, seat);
+    }
+
+    /// Ends the table. The rule holds of its words, and the place is one of its seats.
+    pub(crate) fn end(self, place: Place) -> Closed<(), Global>
+        requires { place.seat.table_id ≡ self.table.shared.table_id }
+        ensures counts { (slots_len result.words ≡ self.table.shared.table_id.words) × (slots_len result.slots ≡ self.table.shared.table_id.slots) }
+        ensures full { IsFull result.words }
+        ensures rule { Final (Seen (rule_of self.table.shared.key.frames self.table.shared.key.cpus) place.seat.id place.seat.me.0) (slots_items result.words) (slots_items result.slots) }
+    {
+        let Board { table } = self;
+        let Place { seat } = place;
+        table.close_with(seat)
+    }
+}
+
+// References. `get`, `put` and `freeze` are made of these four.
+impl FrameWords {
+    /// The load of a get. It tells the word.
+    pub(crate) fn look(&self, seat: &mut FrameSeat, frame: Frame) -> u64
+        requires table { seat.old.table ≡ self.now.table }
+        requires frame { frame < self.now.frames }
+        ensures table { seat.new.table ≡ seat.old.table }
+        ensures kind { looks seat.old.view frame 0 result seat.new.view }
+    {
+        let shared = &self.board.table.shared;
+        shared.load::<Look>(&mut seat.place.seat, frame.word())
+    }
+
+    /// The exchange of a get, from the word that its load saw to one more. It tells the word that it found.
+    pub(crate) fn add(&self, seat: &mut FrameSeat, frame: Frame, seen: u64) -> u64
+        requires table { seat.old.table ≡ self.now.table }
+        requires frame { frame < self.now.frames }
+        requires seen { (note_of seat.old.view frame).seen ≡ seen }
+        requires room { (1 ≤ seen) × (seen < MOST_REFERENCES) }
+        ensures table { seat.new.table ≡ seat.old.table }
+        ensures kind { adds seat.old.view frame seen result seat.new.view }
+    {
+        let shared = &self.board.table.shared;
+        let word = frame.word();
+        shared.compare_exchange::<Add>(&mut seat.place.seat, word, seen, seen + 1)
+    }
+
+    /// Takes one reference of the seat off the word. It tells the word that it found.
+    pub(crate) fn put_one(&self, seat: &mut FrameSeat, frame: Frame) -> u64
+        requires table { seat.old.table ≡ self.now.table }
+        requires frame { frame < self.now.frames }
+        requires held { 1 ≤ holds seat.old frame }
+        ensures table { seat.new.table ≡ seat.old.table }
+        ensures kind { puts seat.old.view frame 1 result seat.new.view }
+    {
+        let shared = &self.board.table.shared;
+        shared.fetch_sub::<PutOne>(&mut seat.place.seat, frame.word(), 1)
+    }
+
+    /// Exchanges `count` for 0. It tells the word that it found.
+    pub(crate) fn freeze_at(&self, seat: &mut FrameSeat, frame: Frame, count: u64) -> u64
+        requires table { seat.old.table ≡ self.now.table }
+        requires frame { frame < self.now.frames }
+        requires held { (1 ≤ count) × (count ≤ holds seat.old frame) }
+        ensures table { seat.new.table ≡ seat.old.table }
+        ensures kind { freezes seat.old.view frame count result seat.new.view }
+    {
+        let shared = &self.board.table.shared;
+        let word = frame.word();
+        shared.compare_exchange::<Freeze>(&mut seat.place.seat, word, count, 0)
+    }
+
+    /// Puts a frame of the seat's own hand into use, with `count` references, 1 to 255, all of this seat.
+    /// There were none before.
+    pub fn unfreeze(&self, seat: &mut FrameSeat, frame: Frame, count: u64)
+        requires table { seat.old.table ≡ self.now.table }
+        requires frame { frame < self.now.frames }
+        requires hand { IsInOwnHand seat.old frame }
+        requires count { (1 ≤ count) × (count ≤ MOST_REFERENCES) }
+        ensures seat { seat.new ≡ seat_with seat.old frame (unfrozen count) }
+        ensures no_reference { holds seat.old frame ≡ 0 }
+        ensures one_hand { IsInHand seat.old frame }
+        ensures not_lent { number_of seat.old ≡ 0 → IsLentToNone seat.old frame }
+    {
+        let shared = &self.board.table.shared;
+        shared.store::<Unfreeze>(&mut seat.place.seat, frame.word(), count);
+    }
+}
+
+// The hand-over of frames between the zone and the processors, inside a visit.
+impl FrameWords {
+    /// Passes a frame of the zone's hand to processor `cpu`, whose visit is open. It is lent to it from now on,
+    /// and was lent to no one.
+    pub fn pass_out(&self, zone: &mut FrameSeat, frame: Frame, cpu: u32)
+        requires zone { IsZoneSeat self.now zone.old }
+        requires frame { frame < self.now.frames }
+        requires cpu { (1 ≤ cpu) × (cpu ≤ self.now.cpus) }
+        requires open { IsOpen zone.old cpu }
+        requires hand { IsInOwnHand zone.old frame }
+        ensures zone { zone.new ≡ seat_with zone.old frame (passed_out_to cpu) }
+        ensures no_reference { holds zone.old frame ≡ 0 }
+        ensures one_hand { IsInHand zone.old frame }
+        ensures not_lent { IsLentToNone zone.old frame }
+    {
+        let shared = &self.board.table.shared;
+        let mark = NO_MARK + u64::from(cpu);
+        shared.store::<PassOut>(&mut zone.place.seat, frame.word(), mark);
+    }
+
+    /// Takes a frame that passes for this processor and is lent to it into its borrowed hand. Neither seat had a
+    /// reference on it or had it in a hand.
+    pub fn take_in(&self, zone: &mut FrameSeat, cpu: &mut FrameSeat, frame: Frame)
+        requires zone { IsZoneSeat self.now zone.old }
+        requires cpu { IsCpuSeat self.now cpu.old }
+        requires frame { frame < self.now.frames }
+        requires passes { Passes zone.old cpu.old frame }
+        requires lent { IsLent zone.old frame (number_of cpu.old) }
+        ensures cpu { cpu.new ≡ seat_with cpu.old frame took_in }
+        ensures zone { zone.new ≡ zone.old }
+        ensures nothing { HasNothingOf zone.old frame × HasNothingOf cpu.old frame }
+    {
+        let shared = &self.board.table.shared;
+        let word = frame.word();
+        join(&self.board, &mut zone.place, &mut cpu.place);
+        shared.store::<TakeIn>(&mut zone.place.seat, word, 0);
+        part(&self.board, &mut zone.place, &mut cpu.place);
+    }
+
+    /// Passes a frame of this processor's hand, own or borrowed, back to the zone. The processor's visit is open.
+    /// The zone had nothing of the frame. One of the own hand was lent to no one, a borrowed one to this processor.
+    pub fn pass_back(&self, zone: &mut FrameSeat, cpu: &mut FrameSeat, frame: Frame)
+        requires zone { IsZoneSeat self.now zone.old }
+        requires cpu { IsCpuSeat self.now cpu.old }
+        requires frame { frame < self.now.frames }
+        requires open { IsOpen zone.old (number_of cpu.old) }
+        requires hand { IsInHand cpu.old frame }
+        ensures cpu { cpu.new ≡ seat_with cpu.old frame gave_back }
+        ensures zone { zone.new ≡ zone.old }
+        ensures nothing { HasNothingOf zone.old frame }
+        ensures no_reference { holds cpu.old frame ≡ 0 }
+        ensures own { IsInOwnHand cpu.old frame → IsLentToNone zone.old frame }
+        ensures borrowed { IsBorrowed cpu.old frame → IsLent zone.old frame (number_of cpu.old) }
+    {
+        let shared = &self.board.table.shared;
+        let word = frame.word();
+        let mark = NO_MARK + u64::from(cpu.number);
+        join(&self.board, &mut zone.place, &mut cpu.place);
+        shared.store::<PassBack>(&mut zone.place.seat, word, mark);
+        part(&self.board, &mut zone.place, &mut cpu.place);
+    }
+
+    /// Takes a frame that passes for this processor into the zone's hand. It is lent to no one any more. Neither
+    /// seat had a reference on it or had it in a hand.
+    pub fn collect(&self, zone: &mut FrameSeat, cpu: &mut FrameSeat, frame: Frame)
+        requires zone { IsZoneSeat self.now zone.old }
+        requires cpu { IsCpuSeat self.now cpu.old }
+        requires frame { frame < self.now.frames }
+        requires passes { Passes zone.old cpu.old frame }
+        ensures zone { zone.new ≡ seat_with zone.old frame (collected_from (number_of cpu.old)) }
+        ensures cpu { cpu.new ≡ cpu.old }
+        ensures nothing { HasNothingOf zone.old frame × HasNothingOf cpu.old frame }
+        ensures lent { IsLentToNone zone.old frame ⊎ IsLent zone.old frame (number_of cpu.old) }
+    {
+        let shared = &self.board.table.shared;
+        let word = frame.word();
+        join(&self.board, &mut zone.place, &mut cpu.place);
+        shared.store::<Collect>(&mut zone.place.seat, word, 0);
+        part(&self.board, &mut zone.place, &mut cpu.place);
+    }
+}
+
+// The visits of the processors: frames are handed over only inside an open one.
+impl FrameWords {
+    // Where the visit word of a processor stands.
+    fn visit_word(&self, cpu: u32) -> usize
+        requires { 1 ≤ cpu }
+        ensures { result ≡ visit_index self.now.frames cpu }
+    {
+        self.frames as usize + (cpu as usize - 1)
+    }
+
+    /// Opens the visit of this processor, which isn't open. Nothing passes for it yet, and what is
+    /// lent to it is its borrowed hand.
+    pub fn open_visit(&self, zone: &mut FrameSeat, cpu: &mut FrameSeat)
+        requires zone { IsZoneSeat self.now zone.old }
+        requires cpu { IsCpuSeat self.now cpu.old }
+        requires shut { IsShut zone.old (number_of cpu.old) }
+        ensures zone { zone.new ≡ seat_with_visit zone.old (number_of cpu.old) 1 }
+        ensures cpu { cpu.new ≡ cpu.old }
+        ensures nothing_passes { NothingPasses self.now zone.new cpu.new }
+        ensures lent_is_borrowed { LentIsBorrowed self.now zone.new cpu.new }
+        ensures hands_apart { HandsAreApart self.now zone.new cpu.new }
+    {
+        let shared = &self.board.table.shared;
+        let word = self.visit_word(cpu.number);
+        join(&self.board, &mut zone.place, &mut cpu.place);
+        shared.store::<Visit>(&mut zone.place.seat, word, 1);
+        part(&self.board, &mut zone.place, &mut cpu.place);
+    }
+
+    /// Shuts the visit of this processor, which is open, and for which nothing passes any more.
+    /// What is lent to it is its borrowed hand.
+    pub fn shut_visit(&self, zone: &mut FrameSeat, cpu: &mut FrameSeat)
+        requires zone { IsZoneSeat self.now zone.old }
+        requires cpu { IsCpuSeat self.now cpu.old }
+        requires open { IsOpen zone.old (number_of cpu.old) }
+        requires nothing_passes { NothingPasses self.now zone.old cpu.old }
+        ensures zone { zone.new ≡ seat_with_visit zone.old (number_of cpu.old) 0 }
+        ensures cpu { cpu.new ≡ cpu.old }
+        ensures nothing_passes { NothingPasses self.now zone.new cpu.new }
+        ensures lent_is_borrowed { LentIsBorrowed self.now zone.new cpu.new }
+        ensures hands_apart { HandsAreApart self.now zone.new cpu.new }
+    {
+        let shared = &self.board.table.shared;
+        let word = self.visit_word(cpu.number);
+        join(&self.board, &mut zone.place, &mut cpu.place);
+        shared.store::<Visit>(&mut zone.place.seat, word, 0);
+        part(&self.board, &mut zone.place, &mut cpu.place);
+    }
 }

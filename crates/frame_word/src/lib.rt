@@ -7,10 +7,8 @@
 #![tactic(auto)]
 
 mod answers;
-mod board;
 mod closing;
 mod frame;
-mod handover;
 mod kinds;
 pub mod laws;
 mod pairs;
@@ -19,13 +17,11 @@ mod seat;
 #[cfg(test)]
 mod tests;
 mod view;
-mod visits;
 mod words;
 
 pub use answers::{Get, Put};
 pub use closing::FinalWords;
 pub use frame::Frame;
-pub use handover::NO_MARK;
-pub use references::MOST_REFERENCES;
+pub use kinds::{MOST_REFERENCES, NO_MARK};
 pub use seat::FrameSeat;
 pub use words::FrameWords;

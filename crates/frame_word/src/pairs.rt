@@ -2,30 +2,29 @@
 ghost use Rattle.std.specs.Prelude.{◌≡◌, ◌<◌, [], ◌∷◌, ◌++◌};
 ghost use Rattle.frame_word.specs.Kinds.{first_alone, but_first};
 
-use crate::board::{Place, Words};
-use crate::kinds::{Cut, Pair};
+use crate::kinds::{Board, Place};
 use std::mem;
 
-/// The first seat takes in the second's view. An empty seat stands in the second's place meanwhile.
-pub(crate) fn join(shared: &Words, zone: &mut Place, cpu: &mut Place)
-    requires table { (zone.old.table_id ≡ shared.now.table_id) × (cpu.old.table_id ≡ shared.now.table_id) × (0 < shared.now.table_id.words) }
-    requires zone { zone.old.me ≡ (first_alone zone.old.me.0, []) }
-    requires cpu { cpu.old.me.1 ≡ [] }
-    ensures table { (zone.new.table_id ≡ zone.old.table_id) × (cpu.new.table_id ≡ cpu.old.table_id) }
-    ensures views { zone.new.me ≡ (zone.old.me.0 ++ cpu.old.me.0, []) }
+/// The first place takes in the second's view. An empty one stands in the second's place meanwhile.
+pub(crate) fn join(board: &Board, zone: &mut Place, cpu: &mut Place)
+    requires table { (zone.old.seat.table_id ≡ board.now.table.shared.table_id) × (cpu.old.seat.table_id ≡ board.now.table.shared.table_id) × (0 < board.now.table.shared.table_id.words) }
+    requires zone { zone.old.seat.me ≡ (first_alone zone.old.seat.me.0, []) }
+    requires cpu { cpu.old.seat.me.1 ≡ [] }
+    ensures table { (zone.new.seat.table_id ≡ zone.old.seat.table_id) × (cpu.new.seat.table_id ≡ cpu.old.seat.table_id) }
+    ensures views { zone.new.seat.me ≡ (zone.old.seat.me.0 ++ cpu.old.seat.me.0, []) }
 {
-    let spare = shared.split_seat::<Cut>(zone);
+    let spare = board.cut(zone);
     let place = mem::replace(cpu, spare);
-    shared.join_seat::<Pair>(zone, place);
+    board.pair(zone, place);
 }
 
-/// The second seat gets its view again.
-pub(crate) fn part(shared: &Words, zone: &mut Place, cpu: &mut Place)
-    requires table { (zone.old.table_id ≡ shared.now.table_id) × (0 < shared.now.table_id.words) }
-    requires zone { zone.old.me.1 ≡ [] }
-    ensures table { (zone.new.table_id ≡ zone.old.table_id) × (cpu.new.table_id ≡ zone.old.table_id) }
-    ensures zone { zone.new.me ≡ (first_alone zone.old.me.0, []) }
-    ensures cpu { cpu.new.me ≡ (but_first zone.old.me.0, []) }
+/// The second place gets its view again.
+pub(crate) fn part(board: &Board, zone: &mut Place, cpu: &mut Place)
+    requires table { (zone.old.seat.table_id ≡ board.now.table.shared.table_id) × (0 < board.now.table.shared.table_id.words) }
+    requires zone { zone.old.seat.me.1 ≡ [] }
+    ensures table { (zone.new.seat.table_id ≡ zone.old.seat.table_id) × (cpu.new.seat.table_id ≡ zone.old.seat.table_id) }
+    ensures zone { zone.new.seat.me ≡ (first_alone zone.old.seat.me.0, []) }
+    ensures cpu { cpu.new.seat.me ≡ (but_first zone.old.seat.me.0, []) }
 {
-    *cpu = shared.split_seat::<Cut>(zone);
+    *cpu = board.cut(zone);
 }

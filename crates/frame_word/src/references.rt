@@ -1,38 +1,34 @@
-//! References: `get`, `put`, `freeze`, `unfreeze`. Each is one atomic step, `get` a load and at most one exchange.
+//! References: `get`, `put`, `freeze`, made of the kinds of step. `get` is a load and at most one exchange, the others one step.
 ghost use Rattle.std.specs.Prelude.{◌≡◌, ◌≢◌, ◌+◌, ◌<◌, ◌≤◌};
 ghost use Rattle.frame_word.specs.declared.answers.Get.TheVariants.{Held, Zero};
-ghost use Rattle.frame_word.specs.Views.{unfrozen};
-ghost use Rattle.frame_word.specs.Seats.{holds, IsInOwnHand, seat_with, GetAnswers, PutAnswers, FreezeAnswers};
+ghost use Rattle.frame_word.specs.Seats.{holds, IsInNoHand, GetAnswers, PutAnswers, FreezeAnswers};
 
 use crate::answers::{Get, Put};
 use crate::frame::Frame;
-use crate::kinds::{Add, Freeze, Look, PutOne, Unfreeze};
+use crate::kinds::MOST_REFERENCES;
 use crate::seat::FrameSeat;
 use crate::words::FrameWords;
 
-/// The most references that a frame can have.
-pub const MOST_REFERENCES: u64 = 255;
-
 impl FrameWords {
-    /// Takes a reference on the frame where someone has one: by one load and at most one exchange.
-    /// A seat that has a reference on the frame already never gets `Zero`.
+    /// Takes a reference on the frame where someone has one: by one load and at most one exchange, from the word
+    /// that the load saw. A seat that has a reference on the frame already never gets `Zero`; one that has the frame
+    /// in a hand gets `Zero`.
     pub fn get(&self, seat: &mut FrameSeat, frame: Frame) -> Get
         requires table { seat.old.table ≡ self.now.table }
         requires frame { frame < self.now.frames }
         ensures answer { GetAnswers seat.old frame result seat.new }
         ensures held { result ≡ Held → holds seat.new frame ≡ holds seat.old frame + 1 }
         ensures never_zero { 1 ≤ holds seat.old frame → result ≢ Zero }
+        ensures in_no_hand { result ≢ Zero → IsInNoHand seat.old frame }
     {
-        let shared = &self.table.shared;
-        let word = frame.word();
-        let seen = shared.load::<Look>(&mut seat.place, word);
+        let seen = self.look(seat, frame);
         if seen == 0 || seen > MOST_REFERENCES {
             return Get::Zero;
         }
         if seen == MOST_REFERENCES {
             return Get::Full;
         }
-        let found = shared.compare_exchange::<Add>(&mut seat.place, word, seen, seen + 1);
+        let found = self.add(seat, frame, seen);
         if found == seen {
             Get::Held
         } else {
@@ -40,17 +36,15 @@ impl FrameWords {
         }
     }
 
-    /// Gives a reference back. After the last one the frame is in the seat's own hand.
+    /// Gives a reference back. The frame was in no hand of the seat; after the last one it is in its own hand.
     pub fn put(&self, seat: &mut FrameSeat, frame: Frame) -> Put
         requires table { seat.old.table ≡ self.now.table }
         requires frame { frame < self.now.frames }
         requires held { 1 ≤ holds seat.old frame }
         ensures answer { PutAnswers seat.old frame result seat.new }
+        ensures in_no_hand { IsInNoHand seat.old frame }
     {
-        let found = self
-            .table
-            .shared
-            .fetch_sub::<PutOne>(&mut seat.place, frame.word(), 1);
+        let found = self.put_one(seat, frame);
         if found == 1 {
             Put::Last
         } else {
@@ -60,30 +54,14 @@ impl FrameWords {
 
     /// Takes the frame out of use where its references are these `count` alone, all of this seat:
     /// true exactly where the word is `count`. Then no one can get it, and it is in the seat's own
-    /// hand. False counts a miss and changes nothing else.
+    /// hand. False notes a miss, with the word that was found in place of `count`, and changes nothing else.
     pub fn freeze(&self, seat: &mut FrameSeat, frame: Frame, count: u64) -> bool
         requires table { seat.old.table ≡ self.now.table }
         requires frame { frame < self.now.frames }
         requires held { (1 ≤ count) × (count ≤ holds seat.old frame) }
         ensures answer { FreezeAnswers seat.old frame count result seat.new }
+        ensures in_no_hand { IsInNoHand seat.old frame }
     {
-        let found = self
-            .table
-            .shared
-            .compare_exchange::<Freeze>(&mut seat.place, frame.word(), count, 0);
-        found == count
-    }
-
-    /// Puts a frame of the seat's own hand into use, with `count` references, 1 to 255, all of this seat.
-    pub fn unfreeze(&self, seat: &mut FrameSeat, frame: Frame, count: u64)
-        requires table { seat.old.table ≡ self.now.table }
-        requires frame { frame < self.now.frames }
-        requires hand { IsInOwnHand seat.old frame }
-        requires count { (1 ≤ count) × (count ≤ 255) }
-        ensures { seat.new ≡ seat_with seat.old frame (unfrozen count) }
-    {
-        self.table
-            .shared
-            .store::<Unfreeze>(&mut seat.place, frame.word(), count);
+        self.freeze_at(seat, frame, count) == count
     }
 }

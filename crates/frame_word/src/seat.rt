@@ -1,5 +1,5 @@
 //! The seat of the zone (0) or of a processor.
-use crate::board::Place;
+use crate::kinds::Place;
 use std::marker::Model;
 
 /// A seat at the table of frame words: number 0 is the zone's, 1 and up are the processors'.
@@ -15,11 +15,12 @@ impl Model for FrameSeat {
 
     ghost Value = { KnownSeat };
 
-    ghost use Rattle.frame_word.specs.Sitting.{first_of, SitsAlone};
+    ghost use Rattle.frame_word.specs.Kinds.{first_of};
+    ghost use Rattle.frame_word.specs.Sitting.{SitsAlone};
 
-    ghost view = { λ s. record { table = s.place.table_id; view = first_of s.place.me.0 } };
+    ghost view = { λ s. record { table = s.place.seat.table_id; view = first_of s.place.seat.me.0 } };
 
-    ghost invariant = { λ s. SitsAlone s.place s.number };
+    ghost invariant = { λ s. SitsAlone s.place.seat s.number };
 }
 
 impl FrameSeat {

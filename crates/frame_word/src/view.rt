@@ -2,22 +2,30 @@
 
 /// What a seat knows of one frame.
 pub struct FrameNote {
+    /// The atomic steps on the frame's word that changed this note, each by one.
+    pub steps: u64,
     /// The references that the seat has on the frame.
     pub references: u64,
     /// The references that the seat's last put of the frame left to all seats.
     pub left: u64,
     /// The freezes of the seat that found another number than they asked for.
     pub misses: u64,
+    /// The word that the last of these freezes found.
+    pub missed_word: u64,
     /// The loads that the seat's gets made.
     pub looks: u64,
-    /// The word that the seat's last get found.
+    /// The word that the seat's last get found: that of its load, or of its exchange, where that failed.
     pub seen: u64,
     /// The gets of the seat whose exchange failed.
     pub races: u64,
+    /// The word that the load of the last of these gets saw.
+    pub raced_from: u64,
     /// 1 where the frame is in the seat's own hand, else 0.
     pub own: u64,
     /// 1 where the frame is in the seat's borrowed hand, else 0.
     pub borrowed: u64,
+    /// At the zone's seat: the processor that the frame is lent to, 0 where it is lent to none.
+    pub lent: u64,
     /// The hand-overs of the frame that a processor's seat began, by passing it back.
     pub passed_back: u64,
     /// The hand-overs of the frame that a processor's seat ended, by taking it in.
@@ -26,8 +34,6 @@ pub struct FrameNote {
     pub passed_out: [u64; 0],
     /// The hand-overs from each processor that the zone's seat ended, by collecting the frame.
     pub collected: [u64; 0],
-    /// By processor: 1 where the frame is lent to it, else 0.
-    pub lent: [u64; 0],
 }
 
 /// What a seat knows of all frames, and, at the zone's seat, of the visits.
@@ -38,4 +44,6 @@ pub struct FrameView {
     pub notes: [FrameNote; 0],
     /// By processor: 1 where its visit is open, else 0.
     pub opened: [u64; 0],
+    /// How often the seat opened or shut a visit.
+    pub turns: u64,
 }

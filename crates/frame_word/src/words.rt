@@ -1,10 +1,9 @@
 //! The table of frame words, and how it is made.
-ghost use Rattle.std.specs.Prelude.{◌≡◌, ℕ, ◌+◌, ◌<◌, [], ◌∷◌, IfOk, MatchOption, ◌≤◌};
-ghost use Rattle.frame_word.specs.Seats.{first_zone_view, first_cpu_seats, cpu_views};
+ghost use Rattle.std.specs.Prelude.{◌≡◌, ℕ, ◌+◌, ◌<◌, [], ◌∷◌, IfOk, MatchOption, ◌≤◌, length};
+ghost use Rattle.frame_word.specs.Seats.{first_zone_view, first_cpu_seats, cpu_views, IsZoneSeat, AreCpuSeats};
 
-use crate::board::{Board, Place, Sizes, Words};
 use crate::frame::Frame;
-use crate::kinds::Cut;
+use crate::kinds::{Board, Place, Sizes};
 use crate::seat::FrameSeat;
 use std::alloc::{AllocError, Global};
 use std::marker::Model;
@@ -13,7 +12,7 @@ use std::mem;
 /// One word for each frame of a zone, and one visit word for each processor.
 #[derive(Drop)]
 pub struct FrameWords {
-    pub(crate) table: Board,
+    pub(crate) board: Board,
     pub(crate) frames: u32,
     pub(crate) cpus: u32,
 }
@@ -25,9 +24,9 @@ impl Model for FrameWords {
 
     ghost use Rattle.frame_word.specs.Sitting.{IsLaidOut};
 
-    ghost view = { λ t. record { table = t.table.shared.table_id; frames = t.frames; cpus = t.cpus } };
+    ghost view = { λ t. record { table = t.board.table.shared.table_id; frames = t.frames; cpus = t.cpus } };
 
-    ghost invariant = { λ t. IsLaidOut t.table.shared.table_id t.table.shared.key.frames t.table.shared.key.cpus t.frames t.cpus };
+    ghost invariant = { λ t. IsLaidOut t.board.table.shared.table_id t.board.table.shared.key.frames t.board.table.shared.key.cpus t.frames t.cpus };
 }
 
 impl FrameWords {
@@ -43,19 +42,35 @@ impl FrameWords {
         ensures sizes { IfOk result (λ t. (t.0.frames ≡ frames) × (t.0.cpus ≡ cpus)) }
         ensures zone { IfOk result (λ t. t.1 ≡ record { table = t.0.table; view = first_zone_view frames }) }
         ensures cpus { IfOk result (λ t. t.2.items ≡ first_cpu_seats t.0.table 1 cpus) }
+        ensures zone_seat { IfOk result (λ t. IsZoneSeat t.0 t.1) }
+        ensures cpu_seats { IfOk result (λ t. (length t.2.items ≡ cpus) × AreCpuSeats t.0 1 t.2.items) }
     {
         let words = vec![in alloc; 0; frames as usize + cpus as usize]?;
         let sizes = Sizes { frames, cpus };
-        let (table, mut place) = Board::of_words(alloc, words.as_slice(), &sizes)?;
-        let rest = table.shared.split_seat::<Cut>(&mut place);
-        let seats = deal(alloc, &table.shared, rest, cpus)?;
+        let (board, mut place) = Board::start(alloc, words.as_slice(), &sizes)?;
+        let rest = board.cut(&mut place);
+        let seats = deal(alloc, &board, rest, cpus)?;
         let zone = FrameSeat { place, number: 0 };
         let words = FrameWords {
-            table,
+            board,
             frames,
             cpus,
         };
         Ok((words, zone, seats))
+    }
+
+    /// How many frames the zone has: at least one.
+    pub fn frames(&self) -> u32
+        ensures { (result ≡ self.now.frames) × (1 ≤ self.now.frames) }
+    {
+        self.frames
+    }
+
+    /// How many processors there are.
+    pub fn cpus(&self) -> u32
+        ensures { result ≡ self.now.cpus }
+    {
+        self.cpus
     }
 
     /// The frame of this number, or `None` where the zone has none.
@@ -73,17 +88,17 @@ impl FrameWords {
 // Splits off the seat of each processor.
 fn deal(
     alloc: Global,
-    shared: &Words,
+    board: &Board,
     mut rest: Place,
     cpus: u32,
 ) -> Result<Vec<FrameSeat>, AllocError>
-    requires table { (rest.table_id ≡ shared.now.table_id) × (0 < shared.now.table_id.words) }
-    requires views { rest.me ≡ (cpu_views 1 cpus, []) }
-    ensures { IfOk result (λ v. v.items ≡ first_cpu_seats shared.now.table_id 1 cpus) }
+    requires table { (rest.seat.table_id ≡ board.now.table.shared.table_id) × (0 < board.now.table.shared.table_id.words) }
+    requires views { rest.seat.me ≡ (cpu_views 1 cpus, []) }
+    ensures { IfOk result (λ v. v.items ≡ first_cpu_seats board.now.table.shared.table_id 1 cpus) }
 {
     let mut seats = Vec::with_capacity(alloc, cpus as usize)?;
     for i in 0..cpus {
-        let next = shared.split_seat::<Cut>(&mut rest);
+        let next = board.cut(&mut rest);
         let place = mem::replace(&mut rest, next);
         seats.push(FrameSeat {
             place,

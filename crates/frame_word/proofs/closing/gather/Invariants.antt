@@ -5,9 +5,9 @@ use Rattle.frame_word.proofs.closing.gather.Given as goal
 
 abbrev pub invariant-loop-seat : goal.invariant-loop-seat
 invariant-loop-seat l = record {
-  seated : l.all.table_id ≡ l.initial.all.table_id;
-  left : AreSeatsAt l.shared.table_id (into_iter_items l.seat-iterator);
+  seated : l.all.seat.table_id ≡ l.initial.all.seat.table_id;
+  left : AreSeatsAt l.board.table.shared.table_id (into_iter_items l.seat-iterator);
   counted : into_iter_len l.seat-iterator ≡ length (into_iter_items l.seat-iterator);
-  views : l.all.me.0 ++ map view_of (into_iter_items l.seat-iterator) ≡ l.initial.all.me.0 ++ map view_of (into_iter_items l.initial.seat-iterator);
-  no_slot : l.all.me.1 ≡ l.initial.all.me.1;
+  views : l.all.seat.me.0 ++ map view_of (into_iter_items l.seat-iterator) ≡ l.initial.all.seat.me.0 ++ map view_of (into_iter_items l.initial.seat-iterator);
+  no_slot : l.all.seat.me.1 ≡ l.initial.all.seat.me.1;
 }

@@ -3,28 +3,27 @@ use Rattle.frame_word.specs.Seats.{first_cpu_view}
 use Rattle.frame_word.specs.Kinds.{first_alone, but_first}
 use Rattle.frame_word.proofs.Alone.{known, sits}
 use Rattle.frame_word.proofs.Opening.{views_next, seats_next}
-use Rattle.frame_word.proofs.Seating.{splits}
 use Rattle.frame_word.proofs.words.deal.Goals as goal
 
-pub split_seat-next-requires : goal.split_seat-next-requires
-split_seat-next-requires c = (c.loop-i.invariant.seated, c.requires.table.1, splits _ _ _ _)
+pub cut-next-requires : goal.cut-next-requires
+cut-next-requires c = (c.loop-i.invariant.seated, c.requires.table.1)
 
 pub invariant_of-push : goal.invariant_of-push
 invariant_of-push c =
     let i = c.loop-i.i in
     let rest = c.loop-i.invariant.views ∙ ap (λ l. (l, [])) (views_next i c.args.cpus c.loop-i-test.true) in
-    let split = c.split_seat-next.ensures in
-    sits c.replace-place.result (first_cpu_view (i + 1)) (i + 1) (ap (λ s. s.me) c.replace-place.ensures.value ∙ split.2 ∙ (λ j. (first_alone (rest j).0, (rest j).1))) refl
+    let split = c.cut-next.ensures in
+    sits c.replace-place.result.seat (first_cpu_view (i + 1)) (i + 1) (ap (λ s. s.seat.me) c.replace-place.ensures.value ∙ split.views.0 ∙ (λ j. (first_alone (rest j).0, (rest j).1))) refl
 
 pub loop-i-preserved : goal.loop-i-preserved
 loop-i-preserved c =
     let i = c.loop-i.i in
     let rest = c.loop-i.invariant.views ∙ ap (λ l. (l, [])) (views_next i c.args.cpus c.loop-i-test.true) in
-    let split = c.split_seat-next.ensures in
-    let me = ap (λ s. s.me) c.replace-place.ensures.value ∙ split.2 ∙ (λ j. (first_alone (rest j).0, (rest j).1)) in
-    let id = ap (λ s. s.table_id) c.replace-place.ensures.value ∙ split.0 ∙ c.loop-i.invariant.seated in
+    let split = c.cut-next.ensures in
+    let me = ap (λ s. s.seat.me) c.replace-place.ensures.value ∙ split.views.0 ∙ (λ j. (first_alone (rest j).0, (rest j).1)) in
+    let id = ap (λ s. s.seat.table_id) c.replace-place.ensures.value ∙ split.table.0 ∙ c.loop-i.invariant.seated in
     let after = c.replace-place.ensures.after in record {
-      seated = ap (λ s. s.table_id) after ∙ split.3 ∙ c.loop-i.invariant.seated;
-      views = ap (λ s. s.me) after ∙ split.4 ∙ (λ j. (but_first (rest j).0, []));
-      dealt = c.in_ok-push.ensures.items ∙ (λ j. c.loop-i.invariant.dealt j ++ known (id j) (me j).0 ∷ []) ∙ sym (seats_next c.args.shared.now.table_id i);
+      seated = ap (λ s. s.seat.table_id) after ∙ (split.table.1 ∙ sym split.table.0) ∙ split.table.0 ∙ c.loop-i.invariant.seated;
+      views = ap (λ s. s.seat.me) after ∙ split.views.1 ∙ (λ j. (but_first (rest j).0, []));
+      dealt = c.in_ok-push.ensures.items ∙ (λ j. c.loop-i.invariant.dealt j ++ known (id j) (me j).0 ∷ []) ∙ sym (seats_next c.args.board.now.table.shared.table_id i);
     }

@@ -4,7 +4,7 @@ use Rattle.frame_word.proofs.words.deal.Given as goal
 
 abbrev pub invariant-loop-i : goal.invariant-loop-i
 invariant-loop-i l = record {
-  seated : l.rest.table_id ≡ l.shared.table_id;
-  views : l.rest.me ≡ (cpu_views (l.i + 1) (l.cpus - l.i), []);
-  dealt : l.seats.items ≡ first_cpu_seats l.shared.table_id 1 l.i;
+  seated : l.rest.seat.table_id ≡ l.board.table.shared.table_id;
+  views : l.rest.seat.me ≡ (cpu_views (l.i + 1) (l.cpus - l.i), []);
+  dealt : l.seats.items ≡ first_cpu_seats l.board.table.shared.table_id 1 l.i;
 }
