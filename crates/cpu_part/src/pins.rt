@@ -1,6 +1,7 @@
 //! Pins: the references of the processor.
-ghost use Rattle.std.specs.Prelude.{◌≡◌, ◌≢◌, ◌+◌, ◌<◌, ◌≤◌, length, MatchResult, Ok};
+ghost use Rattle.std.specs.Prelude.{◌≡◌, ◌≢◌, ◌+◌, ◌<◌, ◌≤◌, length, IfOk, MatchResult, Ok};
 ghost use Rattle.frame_word.specs.declared.answers.Get.TheVariants.{Zero};
+ghost use Rattle.frame_word.specs.Seats.{IsInNoHand};
 ghost use Rattle.group_tree.specs.declared.fault.Fault.TheVariants.{PinsFull};
 ghost use Rattle.cpu_part.specs.Cpus.{times};
 ghost use Rattle.cpu_part.specs.Calls.{PinAnswers, UnpinAnswers};
@@ -21,6 +22,7 @@ impl<N: BootName> Cpu<N> {
             (λ answer. (length self.old.back + length self.old.pins < 256) × PinAnswers frame answer self.old self.new)
             (λ fault. (fault ≡ PinsFull) × (length self.old.back + length self.old.pins ≡ 256) × (self.new ≡ self.old)) }
         ensures never_zero { 1 ≤ times frame self.old.pins → result ≢ Ok Zero }
+        ensures in_no_hand { IfOk result (λ answer. answer ≢ Zero → IsInNoHand self.old.seat frame) }
     {
         if self.back.len() + self.pins.len() == MOST_PINS {
             return Err(Fault::PinsFull);
@@ -37,7 +39,8 @@ impl<N: BootName> Cpu<N> {
     /// Takes one pin from the frame. After its last reference the frame is the newest back frame.
     pub fn put(&mut self, tables: &Tables<N>, frame: Frame) -> Put
         requires { 1 ≤ times frame self.old.pins }
-        ensures { UnpinAnswers frame result self.old self.new }
+        ensures answer { UnpinAnswers frame result self.old self.new }
+        ensures in_no_hand { IsInNoHand self.old.seat frame }
     {
         unpin(&mut self.pins, frame);
         match tables.frames.put(&mut self.seat, frame) {

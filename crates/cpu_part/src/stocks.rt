@@ -25,9 +25,7 @@ impl<N: BootName> Cpu<N> {
         ensures machine { machine.new ≡ with_view machine.old (filling machine.old.view self.old.number group pages) }
         ensures cpu { self.new ≡ record self.old { stock = with_view self.old.stock (after_fill self.old.stock.view group pages) } }
     {
-        tables
-            .stocks
-            .fill(machine, &mut self.stock, group, pages);
+        tables.stocks.fill(machine, &mut self.stock, group, pages);
     }
 
     /// The processor's stock by its word, and so by the books: one look, which changes nothing. The
@@ -47,12 +45,7 @@ impl<N: BootName> Cpu<N> {
 
     /// Takes the front of the list for group `group` and pays for it, always. By the books the
     /// processor's stock, which is of that group, has a page that is neither fresh nor reported.
-    pub fn take_front(
-        &mut self,
-        tables: &Tables<N>,
-        machine: &mut StockSeat,
-        group: u32,
-    ) -> Frame
+    pub fn take_front(&mut self, tables: &Tables<N>, machine: &mut StockSeat, group: u32) -> Frame
         requires machine { (machine.old.table ≡ N.stocks.table) × IsMachine machine.old.view }
         requires group { (account_of machine.old.view self.old.number).group ≡ Some group }
         requires page { 0 < stocked machine.old.view self.old.stock.view }
@@ -61,9 +54,7 @@ impl<N: BootName> Cpu<N> {
         ensures machine { machine.new ≡ machine.old }
         ensures cpu { TakesFront group (stocked machine.old.view self.old.stock.view - 1) result self.old self.new }
     {
-        tables
-            .stocks
-            .consume_held(machine, &mut self.stock, group);
+        tables.stocks.consume_held(machine, &mut self.stock, group);
         freshen(&mut self.list, &mut self.fresh)
     }
 }

@@ -1,7 +1,7 @@
 //! The hand-over of frames between a processor and the zone, inside a visit: with the zone's seat beside.
-ghost use Rattle.std.specs.Prelude.{◌≡◌, ◌+◌, ◌<◌, ◌≤◌, [], ◌∷◌, ◌++◌, length, IfSome, MatchOption};
+ghost use Rattle.std.specs.Prelude.{◌≡◌, ◌+◌, ◌<◌, ◌≤◌, ◌⊎◌, [], ◌∷◌, ◌++◌, length, IfSome, MatchOption};
 ghost use Rattle.frame_word.specs.Views.{took_in, collected_from};
-ghost use Rattle.frame_word.specs.Seats.{IsLent, IsOpen, IsShut, IsZoneSeat, LentIsBorrowed, NothingPasses, Passes, seat_with, seat_with_visit};
+ghost use Rattle.frame_word.specs.Seats.{HandsAreApart, HasNothingOf, IsLent, IsLentToNone, IsOpen, IsShut, IsZoneSeat, LentIsBorrowed, NothingPasses, Passes, seat_with, seat_with_visit};
 ghost use Rattle.stock_word.specs.Stock.{IsMachine, account_of, group_of};
 ghost use Rattle.stock_word.specs.Kinds.{noting};
 ghost use Rattle.stock_word.specs.Calls.{with_view};
@@ -22,6 +22,7 @@ impl<N: BootName> Cpu<N> {
         ensures cpu { self.new ≡ self.old }
         ensures nothing_passes { NothingPasses N.frames zone.new self.new.seat }
         ensures lent_is_borrowed { LentIsBorrowed N.frames zone.new self.new.seat }
+        ensures hands_apart { HandsAreApart N.frames zone.new self.new.seat }
     {
         tables.frames.open_visit(zone, &mut self.seat);
     }
@@ -35,6 +36,7 @@ impl<N: BootName> Cpu<N> {
         ensures cpu { self.new ≡ self.old }
         ensures nothing_passes { NothingPasses N.frames zone.new self.new.seat }
         ensures lent_is_borrowed { LentIsBorrowed N.frames zone.new self.new.seat }
+        ensures hands_apart { HandsAreApart N.frames zone.new self.new.seat }
     {
         tables.frames.shut_visit(zone, &mut self.seat);
     }
@@ -49,6 +51,7 @@ impl<N: BootName> Cpu<N> {
         requires room { length self.old.list + length self.old.fresh < 256 }
         ensures cpu { self.new ≡ record self.old { list = self.old.list ++ frame ∷ []; seat = seat_with self.old.seat frame took_in } }
         ensures zone { zone.new ≡ zone.old }
+        ensures nothing { HasNothingOf zone.old frame × HasNothingOf self.old.seat frame }
     {
         tables.frames.take_in(zone, &mut self.seat, frame);
         self.list.push_back_reserved(frame);
@@ -61,6 +64,7 @@ impl<N: BootName> Cpu<N> {
         requires open { IsOpen zone.old self.old.number }
         ensures answer { MatchOption result ((self.old.list ≡ []) × (self.new ≡ self.old)) (λ f. HandsFront f self.old self.new) }
         ensures zone { zone.new ≡ zone.old }
+        ensures borrowed { IfSome result (λ f. HasNothingOf zone.old f × IsLent zone.old f self.old.number) }
     {
         let frame = self.list.pop_front()?;
         tables.frames.pass_back(zone, &mut self.seat, frame);
@@ -80,6 +84,7 @@ impl<N: BootName> Cpu<N> {
         requires open { IsOpen zone.old self.old.number }
         ensures answer { MatchOption result ((self.old.fresh ≡ []) × (self.new ≡ self.old)) (λ f. HandsFresh f self.old self.new) }
         ensures zone { zone.new ≡ zone.old }
+        ensures borrowed { IfSome result (λ f. HasNothingOf zone.old f × IsLent zone.old f self.old.number) }
         ensures machine { MatchOption result (machine.new ≡ machine.old) (λ f. machine.new ≡ with_view machine.old (noting machine.old.view self.old.number 1)) }
         ensures booked { IfSome result (λ f. self.old.stock.view.fresh + (account_of machine.old.view self.old.number).noted ≤ (account_of machine.old.view self.old.number).book) }
         ensures group { IfSome result (λ f. group_of self.old.stock.view.last ≡ (account_of machine.old.view self.old.number).group) }
@@ -100,6 +105,7 @@ impl<N: BootName> Cpu<N> {
         requires open { IsOpen zone.old self.old.number }
         ensures answer { MatchOption result ((self.old.back ≡ []) × (self.new ≡ self.old)) (λ f. HandsBack f self.old self.new) }
         ensures zone { zone.new ≡ zone.old }
+        ensures own { IfSome result (λ f. HasNothingOf zone.old f × IsLentToNone zone.old f) }
     {
         let frame = self.back.pop_front()?;
         tables.frames.pass_back(zone, &mut self.seat, frame);
@@ -113,6 +119,8 @@ impl<N: BootName> Cpu<N> {
         requires passes { Passes zone.old self.old.seat frame }
         ensures zone { zone.new ≡ seat_with zone.old frame (collected_from self.old.number) }
         ensures cpu { self.new ≡ self.old }
+        ensures nothing { HasNothingOf zone.old frame × HasNothingOf self.old.seat frame }
+        ensures lent { IsLentToNone zone.old frame ⊎ IsLent zone.old frame self.old.number }
     {
         tables.frames.collect(zone, &mut self.seat, frame);
     }
