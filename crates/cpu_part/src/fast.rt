@@ -1,5 +1,6 @@
 //! The fast path: frames are paid for and given back without a lock.
-ghost use Rattle.std.specs.Prelude.{◌≡◌, ◌<◌, ◌≤◌};
+ghost use Rattle.std.specs.Prelude.{◌≡◌, ◌<◌, ◌≤◌, ℕ};
+ghost use Rattle.cpu_part.specs.declared.answers.Fast.TheVariants.{Got};
 ghost use Rattle.cpu_part.specs.Cpus.{times};
 ghost use Rattle.cpu_part.specs.Calls.{FastAnswers, DropAnswers};
 
@@ -16,7 +17,8 @@ impl<N: BootName> Cpu<N> {
     /// stock says; else the frame.
     pub fn alloc_fast(&mut self, tables: &Tables<N>, group: u32) -> Fast
         requires { group < 64 }
-        ensures { FastAnswers group result self.old self.new }
+        ensures answer { FastAnswers group result self.old self.new }
+        ensures frame { (f : ℕ) → result ≡ Got f → f < N.frames.frames }
     {
         if self.fresh.len() == MOST_FRESH {
             return Fast::FreshFull;

@@ -43,7 +43,7 @@ impl<N: BootName> Cpu<N> {
 
     /// A frame that is pinned, where there is one.
     pub fn first_pin(&self) -> Option<Frame>
-        ensures { MatchOption result (self.now.pins ≡ []) (λ f. 1 ≤ times f self.now.pins) }
+        ensures { MatchOption result (self.now.pins ≡ []) (λ f. (1 ≤ times f self.now.pins) × (f < N.frames.frames)) }
     {
         self.pins.first().copied()
     }

@@ -53,6 +53,7 @@ impl<N: BootName> Cpu<N> {
         requires room { length self.old.fresh < 32 }
         ensures machine { machine.new ≡ machine.old }
         ensures cpu { TakesFront group (stocked machine.old.view self.old.stock.view - 1) result self.old self.new }
+        ensures frame { result < N.frames.frames }
     {
         tables.stocks.consume_held(machine, &mut self.stock, group);
         freshen(&mut self.list, &mut self.fresh)

@@ -63,6 +63,7 @@ impl<N: BootName> Cpu<N> {
         requires zone { IsZoneSeat N.frames zone.old }
         requires open { IsOpen zone.old self.old.number }
         ensures answer { MatchOption result ((self.old.list ≡ []) × (self.new ≡ self.old)) (λ f. HandsFront f self.old self.new) }
+        ensures frame { IfSome result (λ f. f < N.frames.frames) }
         ensures zone { zone.new ≡ zone.old }
         ensures borrowed { IfSome result (λ f. HasNothingOf zone.old f × IsLent zone.old f self.old.number) }
     {
@@ -83,6 +84,7 @@ impl<N: BootName> Cpu<N> {
         requires machine { (machine.old.table ≡ N.stocks.table) × IsMachine machine.old.view }
         requires open { IsOpen zone.old self.old.number }
         ensures answer { MatchOption result ((self.old.fresh ≡ []) × (self.new ≡ self.old)) (λ f. HandsFresh f self.old self.new) }
+        ensures frame { IfSome result (λ f. f < N.frames.frames) }
         ensures zone { zone.new ≡ zone.old }
         ensures borrowed { IfSome result (λ f. HasNothingOf zone.old f × IsLent zone.old f self.old.number) }
         ensures machine { MatchOption result (machine.new ≡ machine.old) (λ f. machine.new ≡ with_view machine.old (noting machine.old.view self.old.number 1)) }
@@ -104,6 +106,7 @@ impl<N: BootName> Cpu<N> {
         requires zone { IsZoneSeat N.frames zone.old }
         requires open { IsOpen zone.old self.old.number }
         ensures answer { MatchOption result ((self.old.back ≡ []) × (self.new ≡ self.old)) (λ f. HandsBack f self.old self.new) }
+        ensures frame { IfSome result (λ f. f < N.frames.frames) }
         ensures zone { zone.new ≡ zone.old }
         ensures own { IfSome result (λ f. HasNothingOf zone.old f × IsLentToNone zone.old f) }
     {
