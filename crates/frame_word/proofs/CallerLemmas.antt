@@ -1,4 +1,5 @@
--- What a caller of `get`, `put`, `freeze` and the hand-over calls reads from their answers: the note of the frame after a change, and of other frames.
+-- Serves callers, and `get`. What a caller of `get`, `put`, `freeze` and the hand-over calls reads from their answers: the note of the
+-- frame after a change, and of other frames.
 use Rattle.std.proofs.Common.{◌≡◌, ◌≢◌, ℕ, ◌+◌, ◌-◌, ap, ◌∙◌, subst}
 use Rattle.frame_word.specs.declared.view.FrameNote.{FrameNote}
 use Rattle.frame_word.specs.declared.answers.Get.{Get}
@@ -6,7 +7,7 @@ use Rattle.frame_word.specs.declared.answers.Get.TheVariants.{Held}
 use Rattle.frame_word.specs.declared.answers.Put.TheVariants.{Left, Last}
 use Rattle.frame_word.specs.Views.{note_of, looked, held, let_go, let_go_last}
 use Rattle.frame_word.specs.Seats.{KnownSeat, holds, IsInOwnHand, seat_with, GetAnswers, PutAnswers}
-use Rattle.frame_word.proofs.Notes.{note_here, note_else}
+pub use Rattle.frame_word.proofs.Notes.{put_here, put_else, note_here, note_else, changed_twice}
 
 -- the note of the frame, and of another
 pub note_after : (s t : KnownSeat) (f : ℕ) (change : FrameNote → FrameNote) → t ≡ seat_with s f change → note_of t.view f ≡ change (note_of s.view f)

@@ -1,6 +1,7 @@
 -- The kinds that hand a frame over, and the visits: serves `pass_out`, `take_in`, `pass_back`, `collect`, `open_visit` and `shut_visit`.
 -- The seat is the zone's, alone or joined with a processor's.
-use Rattle.std.proofs.Common.{◌≡◌, ◌≢◌, ◌⊎◌, ℕ, ◌+◌, ◌<◌, ◌≤◌, List, [], ◌∷◌, length, get_or, set, sym, refl, ap, ◌∙◌, subst, inl, inr, arith, length-set, get_or-set_other, get_or-set_same}
+use Rattle.std.proofs.Common.{◌≡◌, ◌≢◌, ◌⊎◌, ℕ, ◌+◌, ◌<◌, ◌≤◌, List, [], ◌∷◌, length, get_or, set, sym, refl, ap, ◌∙◌, subst, inl, inr, arith}
+use Rattle.std.proofs.Common.{length-set, get_or-set_other, get_or-set_same}
 use mathlib.Core.Option.{some}
 use mathlib.Core.Logic.{dite}
 use native.Mathlib.Decide.{ℕ_discrete}
@@ -9,8 +10,10 @@ use Rattle.seat_sums.specs.Totals.{total_over}
 use Rattle.seat_sums.proofs.Totals.{total_swap, total_view, total_below, total_plus}
 use Rattle.frame_word.specs.declared.view.FrameNote.{FrameNote}
 use Rattle.frame_word.specs.declared.view.FrameView.{FrameView}
-use Rattle.frame_word.specs.Views.{note_of, changed, with_visit, in_hands, lent_count, HasNone, IsSettledAt, begun, ended, passed_out_to, took_in, gave_back, collected_from}
-use Rattle.frame_word.specs.ReferenceRule.{mark, only, visit_index, references_in, hands_in, begun_in, ended_in, lent_in, lent_number, borrowed_in, opened_in, HandOverRule, FrameRule, VisitRule, ReferenceRule}
+use Rattle.frame_word.specs.Views.{note_of, changed, with_visit, in_hands, lent_count, HasNone, IsSettledAt, begun, ended, passed_out_to, took_in}
+use Rattle.frame_word.specs.Views.{gave_back, collected_from}
+use Rattle.frame_word.specs.ReferenceRule.{mark, only, visit_index, references_in, hands_in, begun_in, ended_in, lent_in, lent_number, borrowed_in}
+use Rattle.frame_word.specs.ReferenceRule.{opened_in, HandOverRule, FrameRule, VisitRule, ReferenceRule}
 use Rattle.frame_word.proofs.Notes.{lent_yes, lent_no, put_here, put_else, note_here, only_here, only_else, marked_here, marked_else}
 use Rattle.frame_word.proofs.Swap.{OneCase, swapped, same_total, alone, frame_carries, frame_step}
 use Rattle.frame_word.proofs.Cases.{case_handed, case_passing}

@@ -8,7 +8,8 @@ use Rattle.frame_word.specs.Views.{note_of, changed, with_visit, in_hands, begun
 use Rattle.frame_word.specs.ReferenceRule.{mark, visit_index, ReferenceRule}
 use Rattle.frame_word.specs.Kinds.{rule_of, by_one, by_two, passes_out, takes_in, passes_back, collects, visits}
 use Rattle.frame_word.proofs.ShortSteps.{handed, not_lent}
-use Rattle.frame_word.proofs.HandOvers.{passed_out_rule, took_in_rule, gave_back_rule, collected_rule, both_have_none, lent_near, handed_over, own_lent_to_none, borrowed_from_zone, settled_where, no_mark_where, visit_rule, visit_here}
+use Rattle.frame_word.proofs.HandOvers.{passed_out_rule, took_in_rule, gave_back_rule, collected_rule, both_have_none, lent_near, handed_over}
+use Rattle.frame_word.proofs.HandOvers.{own_lent_to_none, borrowed_from_zone, settled_where, no_mark_where, visit_rule, visit_here}
 
 module _ {S : Type 0} (frames cpus slots id : ℕ) (me : Me S (List FrameView)) where
   -- a store by this seat

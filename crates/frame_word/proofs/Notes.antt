@@ -1,4 +1,4 @@
--- Reading what was written: lists of counts, notes, and the tests of numbers and marks.
+-- Serves all files of lemmas, and callers through `CallerLemmas`. Reading what was written: lists of counts, notes, and the tests of numbers and marks.
 use Rattle.std.proofs.Common.{◌≡◌, ◌≢◌, ℕ, zero, suc, List, [], ◌∷◌, get_or, sym, refl, ap, ◌∙◌, subst, eq-eqb, ne_eqb, cond}
 use mathlib.Core.Option.{some, some-ne-none, some-injective}
 use lib.ListN.{get_elem?}

@@ -1,5 +1,6 @@
--- The table at the start: the rule holds of it, and the seats are dealt one by one.
-use Rattle.std.proofs.Common.{◌≡◌, ◌≢◌, ℕ, zero, suc, ◌+◌, ◌-◌, ◌<◌, ◌≤◌, Bool, true, false, cond, List, [], ◌∷◌, ◌++◌, length, get_or, replicate, sym, refl, ap, ◌∙◌, inl, inr, arith, eqb}
+-- Serves `new` and `deal`. The table at the start: the rule holds of it, and the seats are dealt one by one.
+use Rattle.std.proofs.Common.{◌≡◌, ◌≢◌, ℕ, zero, suc, ◌+◌, ◌-◌, ◌<◌, ◌≤◌, Bool, true, false, cond, List, [], ◌∷◌, ◌++◌, length, get_or, replicate}
+use Rattle.std.proofs.Common.{sym, refl, ap, ◌∙◌, inl, inr, arith, eqb}
 use mathlib.Core.Logic.{dite}
 use native.Mathlib.Decide.{ℕ_discrete}
 use Rattle.std.proofs.lemmas.List.{length-replicate, get_or-replicate}
@@ -8,7 +9,8 @@ use Rattle.seat_sums.specs.Totals.{sum_over, total_over}
 use Rattle.frame_word.specs.declared.view.FrameNote.{FrameNote}
 use Rattle.frame_word.specs.declared.view.FrameView.{FrameView}
 use Rattle.frame_word.specs.Views.{blank, note_of, in_hands, lent_count}
-use Rattle.frame_word.specs.ReferenceRule.{only, visit_index, references_in, hands_in, begun_in, ended_in, lent_in, lent_number, borrowed_in, opened_in, ReferenceRule}
+use Rattle.frame_word.specs.ReferenceRule.{only, visit_index, references_in, hands_in, begun_in, ended_in, lent_in, lent_number, borrowed_in}
+use Rattle.frame_word.specs.ReferenceRule.{opened_in, ReferenceRule}
 use Rattle.frame_word.specs.Seats.{KnownTable, first_zone_view, first_cpu_view, cpu_views, first_cpu_seats, AreCpuSeats}
 use Rattle.frame_word.specs.Kinds.{first_views}
 use Rattle.frame_word.proofs.Notes.{only_here, only_else, marked_else, lent_no}

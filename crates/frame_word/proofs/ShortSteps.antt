@@ -12,7 +12,8 @@ use Rattle.seat_sums.proofs.Totals.{total_swap, total_view}
 use Rattle.frame_word.specs.declared.view.FrameNote.{FrameNote}
 use Rattle.frame_word.specs.declared.view.FrameView.{FrameView}
 use Rattle.frame_word.specs.Views.{note_of, changed, in_hands, lent_count, looked, held, raced, let_go, let_go_last, frozen, missed, unfrozen}
-use Rattle.frame_word.specs.ReferenceRule.{most_references, mark, marked, only, visit_index, references_in, hands_in, begun_in, ended_in, lent_in, lent_number, borrowed_in, ReferenceRule}
+use Rattle.frame_word.specs.ReferenceRule.{most_references, mark, marked, only, visit_index, references_in, hands_in, begun_in, ended_in, lent_in}
+use Rattle.frame_word.specs.ReferenceRule.{lent_number, borrowed_in, ReferenceRule}
 use Rattle.frame_word.specs.Kinds.{rule_of, by_one, looks, adds, puts, freezes, unfreezes}
 use Rattle.frame_word.proofs.Notes.{note_here, marked_else}
 use Rattle.frame_word.proofs.Swap.{OneCase, swapped, same_total, frame_step}

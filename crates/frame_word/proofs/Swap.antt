@@ -1,5 +1,6 @@
--- One view of one seat is replaced, by one with another note of one frame: how the rule goes on.
-use Rattle.std.proofs.Common.{◌≡◌, ◌≢◌, ◌⊎◌, ℕ, suc, ◌+◌, ◌<◌, ◌≤◌, List, length, get_or, set, sym, refl, ap, ◌∙◌, subst, arith, length-set, get_or-set_other, get_or-set_same}
+-- Serves every step of `kinds`, `cut`, `pair` and `close`. One view of one seat is replaced, by one with another note of one frame: how the rule goes on.
+use Rattle.std.proofs.Common.{◌≡◌, ◌≢◌, ◌⊎◌, ℕ, suc, ◌+◌, ◌<◌, ◌≤◌, List, length, get_or, set, sym, refl, ap, ◌∙◌, subst, arith, length-set}
+use Rattle.std.proofs.Common.{get_or-set_other, get_or-set_same}
 use mathlib.Core.Option.{some}
 use mathlib.Core.Logic.{dite}
 use native.Mathlib.Decide.{ℕ_discrete}
@@ -9,7 +10,8 @@ use Rattle.seat_sums.proofs.Totals.{total_swap, total_absent}
 use Rattle.frame_word.specs.declared.view.FrameNote.{FrameNote}
 use Rattle.frame_word.specs.declared.view.FrameView.{FrameView}
 use Rattle.frame_word.specs.Views.{changed, in_hands, lent_count}
-use Rattle.frame_word.specs.ReferenceRule.{mark, marked, only, visit_index, references_in, hands_in, begun_in, ended_in, lent_in, lent_number, borrowed_in, opened_in, IsReferenced, IsInOneHand, IsPassing, FrameRule, ReferenceRule}
+use Rattle.frame_word.specs.ReferenceRule.{mark, marked, only, visit_index, references_in, hands_in, begun_in, ended_in, lent_in, lent_number}
+use Rattle.frame_word.specs.ReferenceRule.{borrowed_in, opened_in, IsReferenced, IsInOneHand, IsPassing, FrameRule, ReferenceRule}
 use Rattle.frame_word.proofs.Notes.{note_else, only_here, only_else}
 
 -- what the rule says of a word, its references and its hands

@@ -1,9 +1,11 @@
--- The table of kinds: what each atomic step tells of the word that it found and of the seat after it.
+-- The table of kinds: what each atomic step tells of the word that it found and of the seat after it. It is a definition,
+-- read as one with `src/kinds.rt`, which has one function for each kind and lets no other file make a step.
 -- A seat's views are a list: its own view alone, or the zone's view and then a processor's while the two seats are joined.
 use Rattle.std.specs.Prelude.{◌≡◌, ◌≢◌, ◌⊎◌, ℕ, ◌+◌, ◌-◌, ◌<◌, ◌≤◌, List, [], ◌∷◌}
-use Rattle.atomic_table.specs.Table.{State, Step, Me}
+use Rattle.atomic_table.specs.Table.{State, Step, Me, Final, Seen}
 use Rattle.frame_word.specs.declared.view.FrameView.{FrameView}
-use Rattle.frame_word.specs.Views.{note_of, changed, with_visit, in_hands, looked, held, raced, let_go, let_go_last, frozen, missed, unfrozen, passed_out_to, took_in, gave_back, collected_from, HasNone, IsSettledAt}
+use Rattle.frame_word.specs.Views.{note_of, changed, with_visit, in_hands, looked, held, raced, let_go, let_go_last, frozen, missed, unfrozen}
+use Rattle.frame_word.specs.Views.{passed_out_to, took_in, gave_back, collected_from, HasNone, IsSettledAt}
 use Rattle.frame_word.specs.ReferenceRule.{most_references, no_mark, ReferenceRule}
 use Rattle.frame_word.specs.Seats.{first_zone_view, first_cpu_view, cpu_views}
 
@@ -85,6 +87,10 @@ visits z v word state z' v' = (z' ≡ with_visit z v.number state) × (v' ≡ v)
 module _ {S : Type 0} where
   abbrev pub rule_of : ℕ → ℕ → State S (List FrameView) → Type 0
   rule_of frames cpus s = ReferenceRule frames cpus s.words s.views
+
+  -- these are the words (and slots) of a table under the rule, at which the seat `id` has these views
+  abbrev pub EndsWith : ℕ → ℕ → ℕ → List FrameView → List ℕ → List S → Type 0
+  EndsWith frames cpus id views words slots = Final (Seen (rule_of frames cpus) id views) words slots
 
   -- a step of this kind, by a seat that has its own view alone
   abbrev pub by_one : (FrameView → ℕ → ℕ → ℕ → FrameView → Type 0) → Step S → Me S (List FrameView) → ℕ → Me S (List FrameView) → Type 0

@@ -26,4 +26,5 @@ OwnHandIsNotLent = (frames cpus : ℕ) (words : List ℕ) (seats : List (List Fr
 -- a word that is no mark is the number of all seats' references, and at a mark there is none
 abbrev pub WordsCountReferences : Type 0
 WordsCountReferences = (frames cpus : ℕ) (words : List ℕ) (seats : List (List FrameView)) → ReferenceRule frames cpus words seats → (f : ℕ) → f < frames
-    → (slice_index words f ≤ most_references → total_over (references_in f) seats ≡ slice_index words f) × (most_references < slice_index words f → total_over (references_in f) seats ≡ 0)
+    → (slice_index words f ≤ most_references → total_over (references_in f) seats ≡ slice_index words f)
+    × (most_references < slice_index words f → total_over (references_in f) seats ≡ 0)

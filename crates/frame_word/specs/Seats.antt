@@ -7,7 +7,8 @@ use Rattle.frame_word.specs.declared.answers.Get.{Get}
 use Rattle.frame_word.specs.declared.answers.Get.TheVariants.{Held, Zero, Raced, Full}
 use Rattle.frame_word.specs.declared.answers.Put.{Put}
 use Rattle.frame_word.specs.declared.answers.Put.TheVariants.{Left, Last}
-use Rattle.frame_word.specs.Views.{blank, note_of, changed, with_visit, in_hands, begun, ended, looked, held, raced, let_go, let_go_last, frozen, missed, HasNone}
+use Rattle.frame_word.specs.Views.{blank, note_of, changed, with_visit, in_hands, begun, ended, looked, held, raced, let_go, let_go_last, frozen}
+use Rattle.frame_word.specs.Views.{missed, HasNone}
 use Rattle.frame_word.specs.ReferenceRule.{most_references, no_mark}
 
 -- which table it is, and how many frames and processors it has

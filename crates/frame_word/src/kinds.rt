@@ -7,11 +7,12 @@
 //! a kind of its own. `cut` and `pair` part and join views and change none; `start` and `end` make and end a table.
 ghost use Rattle.std.specs.Prelude.{◌≡◌, ◌⊎◌, ◌<◌, ◌≤◌, ◌+◌, ◌++◌, [], ◌∷◌, length, IfOk};
 ghost use Rattle.std.specs.Mem.Slots.{slots_items, slots_len, IsFull};
-ghost use Rattle.atomic_table.specs.Table.{Final, Seen};
 ghost use Rattle.frame_word.specs.ReferenceRule.{visit_index, ReferenceRule};
 ghost use Rattle.frame_word.specs.Views.{note_of, unfrozen, passed_out_to, took_in, gave_back, collected_from};
-ghost use Rattle.frame_word.specs.Kinds.{first_views, first_alone, but_first, rule_of, by_one, by_two, looks, adds, puts, freezes, unfreezes, passes_out, takes_in, passes_back, collects, visits};
-ghost use Rattle.frame_word.specs.Seats.{number_of, holds, IsInOwnHand, IsInHand, IsInNoHand, IsBorrowed, HasNothingOf, IsLent, IsLentToNone, IsOpen, IsShut, Passes, NothingPasses, LentIsBorrowed, HandsAreApart, IsZoneSeat, IsCpuSeat, seat_with, seat_with_visit};
+ghost use Rattle.frame_word.specs.Kinds.{first_views, first_alone, but_first, rule_of, EndsWith, by_one, by_two, looks, adds, puts, freezes};
+ghost use Rattle.frame_word.specs.Kinds.{unfreezes, passes_out, takes_in, passes_back, collects, visits};
+ghost use Rattle.frame_word.specs.Seats.{number_of, holds, IsInOwnHand, IsInHand, IsBorrowed, HasNothingOf, IsLent, IsLentToNone, IsOpen, IsShut};
+ghost use Rattle.frame_word.specs.Seats.{Passes, NothingPasses, LentIsBorrowed, HandsAreApart, IsZoneSeat, IsCpuSeat, seat_with, seat_with_visit};
 
 use crate::frame::Frame;
 use crate::pairs::{join, part};
@@ -141,7 +142,8 @@ impl Board {
         sizes: &Sizes,
     ) -> Result<(Board, Place), AllocError>
         requires { ReferenceRule sizes.now.frames sizes.now.cpus words.now (first_views sizes.now.frames sizes.now.cpus ∷ []) }
-        ensures table { IfOk result (λ t. (t.0.table.shared.table_id.words ≡ length words.now) × (t.0.table.shared.table_id.slots ≡ 0) × (t.0.table.shared.key ≡ sizes.now)) }
+        ensures counts { IfOk result (λ t. (t.0.table.shared.table_id.words ≡ length words.now) × (t.0.table.shared.table_id.slots ≡ 0)) }
+        ensures key { IfOk result (λ t. t.0.table.shared.key ≡ sizes.now) }
         ensures place { IfOk result (λ t. (t.1.seat.table_id ≡ t.0.table.shared.table_id) × (t.1.seat.me ≡ (first_views sizes.now.frames sizes.now.cpus, []))) }
     {
         let (table, seat) = Table::of_words(alloc, words, sizes)?;
@@ -175,7 +177,7 @@ impl Board {
         requires { place.seat.table_id ≡ self.table.shared.table_id }
         ensures counts { (slots_len result.words ≡ self.table.shared.table_id.words) × (slots_len result.slots ≡ self.table.shared.table_id.slots) }
         ensures full { IsFull result.words }
-        ensures rule { Final (Seen (rule_of self.table.shared.key.frames self.table.shared.key.cpus) place.seat.id place.seat.me.0) (slots_items result.words) (slots_items result.slots) }
+        ensures rule { let key = self.table.shared.key in EndsWith key.frames key.cpus place.seat.id place.seat.me.0 (slots_items result.words) (slots_items result.slots) }
     {
         let Board { table } = self;
         let Place { seat } = place;

@@ -1,15 +1,14 @@
 -- What is true of the words of a table of which one seat has all views. Serves close.
-use Rattle.std.proofs.Common.{◌≡◌, ◌≢◌, ℕ, zero, suc, ◌+◌, ◌-◌, ◌<◌, ◌≤◌, List, [], ◌∷◌, length, refl, ap, sym, ◌∙◌, subst, arith}
-use Rattle.std.specs.Prelude.{slice_index}
+use Rattle.std.proofs.Common.{◌≡◌, ℕ, zero, suc, ◌+◌, ◌-◌, ◌<◌, ◌≤◌, List, [], ◌∷◌, length, refl, ap, sym, ◌∙◌, subst, arith}
 use mathlib.Core.Option.{some}
 use mathlib.Core.Logic.{dite}
 use native.Mathlib.Decide.{ℕ_discrete}
 use Rattle.std.proofs.Math.Decide.{dec_lt}
 use lib.ListN.{get_elem?}
-use Rattle.seat_sums.specs.Totals.{sum_over, total_over, SameTotals}
+use Rattle.seat_sums.specs.Totals.{sum_over, total_over}
 use Rattle.seat_sums.proofs.Totals.{sum_same, sum_plus, sum_one, total_whole}
 use Rattle.stock_word.specs.declared.view.StockView.{StockView}
-use Rattle.stock_word.specs.Stock.{Seated, Gathers, account_of, view_in, views_of}
+use Rattle.stock_word.specs.Stock.{Seated, Gathers, view_in, views_of}
 use Rattle.stock_word.specs.StockRule.{at_seat, IsOnly, IsStockOf, StockRule}
 use Rattle.stock_word.proofs.Alike.{alike_view}
 use Rattle.stock_word.proofs.Only.{at_mine, at_other}
@@ -141,9 +140,9 @@ module _ (cpus id : ℕ) (words : List ℕ) (all : List (List StockView)) (rule 
       let v = view_in seats k in
       let h = rule.each v.number (some_number k below) (low_number k below) in
       let is : v ≡ h.view = below_is v h.view (λ f.
-          let a = only_sum v.number h.view h.only f in
-          let b = seat_below (at_seat v.number f) seats k below in
-          let c = at_mine v.number f v refl in omega arith) in
+      let a = only_sum v.number h.view h.only f in
+      let b = seat_below (at_seat v.number f) seats k below in
+      let c = at_mine v.number f v refl in omega arith) in
       subst (λ (u : StockView). IsStockOf words v.number m u) (sym is) (subst (λ (u : StockView). IsStockOf words v.number u h.view) machine_is h.stock)
 
   pub closed_stocks : (final : List ℕ) → words ≡ final → (k : ℕ) → k < length seats → IsStockOf final (view_in seats k).number m (view_in seats k)

@@ -1,9 +1,9 @@
--- Seats are split off the first one, processor by processor.
+-- Seats are split off the first one, processor by processor. Serves new and deal.
 use Rattle.std.proofs.Common.{◌≡◌, ℕ, zero, suc, ◌+◌, ◌-◌, ◌<◌, ◌≤◌, List, [], ◌∷◌, ◌++◌, append_assoc, length, refl, subst, ap, sym, ◌∙◌, arith}
 use Rattle.std.proofs.lemmas.List.{append-nil}
 use Rattle.atomic_table.specs.Seated.{TableId}
-use Rattle.atomic_table.specs.Table.{Me}
 use Rattle.stock_word.specs.declared.view.StockView.{StockView}
+use Rattle.stock_word.specs.Kinds.{IsAlone}
 use Rattle.stock_word.specs.Stock.{Seated, first_machine, first_processor, first_processors, first_seats, first_of, view_in, AreOf, without_second, second_alone}
 
 -- one more of a count that is left
@@ -13,24 +13,27 @@ one_more cpus p h = omega arith
 pub none_more : (cpus p : ℕ) → cpus + 1 ≤ p → cpus + 1 - p ≡ 0
 none_more cpus p h = omega arith
 
-pub next_views : {S : Type 0} (me : Me S (List StockView)) (p n k : ℕ) → me ≡ (first_machine ∷ first_processors p n, []) → n ≡ suc k → me ≡ (first_machine ∷ first_processor p ∷ first_processors (p + 1) k, [])
-next_views {S} me p n k is more = is ∙ (λ i. (first_machine ∷ first_processors p (more i), []))
+pub next_views : (views : List StockView) (p n k : ℕ) → views ≡ first_machine ∷ first_processors p n → n ≡ suc k
+    → views ≡ first_machine ∷ first_processor p ∷ first_processors (p + 1) k
+next_views views p n k is more = is ∙ (λ i. first_machine ∷ first_processors p (more i))
 
-pub last_views : {S : Type 0} (me : Me S (List StockView)) (p n : ℕ) → me ≡ (first_machine ∷ first_processors p n, []) → n ≡ 0 → me ≡ (first_machine ∷ [], [])
-last_views {S} me p n is more = is ∙ (λ i. (first_machine ∷ first_processors p (more i), []))
+pub last_views : (views : List StockView) (p n : ℕ) → views ≡ first_machine ∷ first_processors p n → n ≡ 0 → views ≡ first_machine ∷ []
+last_views views p n is more = is ∙ (λ i. first_machine ∷ first_processors p (more i))
 
 -- what is split off, and what stays
-pub split_off : {S : Type 0} (me off : Me S (List StockView)) (p k : ℕ) → me ≡ (first_machine ∷ first_processor p ∷ first_processors (p + 1) k, []) → off ≡ (second_alone me.0, []) → off ≡ (first_processor p ∷ [], [])
-split_off {S} me off p k is cut = cut ∙ ap (λ (z : Me S (List StockView)). (second_alone z.0, [])) is
+pub split_off : (views off : List StockView) (p k : ℕ) → views ≡ first_machine ∷ first_processor p ∷ first_processors (p + 1) k → off ≡ second_alone views
+    → off ≡ first_processor p ∷ []
+split_off views off p k is cut = cut ∙ ap second_alone is
 
-pub split_rest : {S : Type 0} (me rest : Me S (List StockView)) (p k : ℕ) → me ≡ (first_machine ∷ first_processor p ∷ first_processors (p + 1) k, []) → rest ≡ (without_second me.0, me.1) → rest ≡ (first_machine ∷ first_processors (p + 1) k, [])
-split_rest {S} me rest p k is cut = cut ∙ ap (λ (z : Me S (List StockView)). (without_second z.0, z.1)) is
+pub split_rest : (views rest : List StockView) (p k : ℕ) → views ≡ first_machine ∷ first_processor p ∷ first_processors (p + 1) k → rest ≡ without_second views
+    → rest ≡ first_machine ∷ first_processors (p + 1) k
+split_rest views rest p k is cut = cut ∙ ap without_second is
 
-pub one_view_is : {S : Type 0} (me : Me S (List StockView)) (v : StockView) → me ≡ (v ∷ [], []) → me ≡ (first_of me.0 ∷ [], [])
-one_view_is {S} me v is = is ∙ (λ i. (sym (ap (λ (z : Me S (List StockView)). first_of z.0) is) i ∷ [], []))
+pub one_view_is : (views : List StockView) (v : StockView) → views ≡ v ∷ [] → IsAlone views
+one_view_is views v is = subst IsAlone (sym is) refl
 
-pub first_is : {S : Type 0} (me : Me S (List StockView)) (v : StockView) → me ≡ (v ∷ [], []) → first_of me.0 ≡ v
-first_is {S} me v is = ap (λ (z : Me S (List StockView)). first_of z.0) is
+pub first_is : (views : List StockView) (v : StockView) → views ≡ v ∷ [] → first_of views ≡ v
+first_is views v is = ap first_of is
 
 -- the seat of p stands behind those before it
 pub next_seats : (table : TableId) (p n k : ℕ) (seats seats' all : List Seated) (seat : Seated) → seats ++ first_seats table p n ≡ all → n ≡ suc k → seat ≡ record { table = table; view = first_processor p } → seats' ≡ seats ++ seat ∷ []
@@ -48,8 +51,8 @@ last_seats table p n seats all is more = sym (append-nil seats) ∙ ap (λ c. se
 pub all_left : (cpus : ℕ) → cpus ≡ cpus + 1 - 1
 all_left cpus = omega arith
 
-pub first_views : {S : Type 0} (me : Me S (List StockView)) (cpus : ℕ) → me ≡ (first_machine ∷ first_processors 1 cpus, []) → me ≡ (first_machine ∷ first_processors 1 (cpus + 1 - 1), [])
-first_views {S} me cpus is = is ∙ (λ i. (first_machine ∷ first_processors 1 (all_left cpus i), []))
+pub first_views : (views : List StockView) (cpus : ℕ) → views ≡ first_machine ∷ first_processors 1 cpus → views ≡ first_machine ∷ first_processors 1 (cpus + 1 - 1)
+first_views views cpus is = is ∙ (λ i. first_machine ∷ first_processors 1 (all_left cpus i))
 
 pub no_seats : (table : TableId) (cpus : ℕ) (seats : List Seated) → seats ≡ [] → seats ++ first_seats table 1 (cpus + 1 - 1) ≡ first_seats table 1 cpus
 no_seats table cpus seats is = (λ i. is i ++ first_seats table 1 (sym (all_left cpus) i))

@@ -1,10 +1,10 @@
--- The machine's seat takes in the processors' seats, from the last to the first.
+-- The machine's seat takes in the processors' seats, from the last to the first. Serves close and gather.
 use Rattle.std.proofs.Common.{◌≡◌, ℕ, ◌+◌, List, [], ◌∷◌, ◌++◌, length, refl, ap, subst, arith}
 use Rattle.atomic_table.specs.Seated.{TableId}
-use Rattle.atomic_table.specs.Table.{Me}
 use Rattle.seat_sums.specs.Totals.{sum_over}
 use Rattle.seat_sums.proofs.Totals.{sum_append}
 use Rattle.stock_word.specs.declared.view.StockView.{StockView}
+use Rattle.stock_word.specs.Kinds.{IsAlone}
 use Rattle.stock_word.specs.Stock.{Seated, AreOf, first_of, views_of}
 
 front_seats : (table : TableId) (seats : List Seated) (seat : Seated) → AreOf table (seats ++ seat ∷ []) → AreOf table seats × (seat.table ≡ table)
@@ -22,13 +22,14 @@ sum_last f [] seat = omega arith
 sum_last f (s ∷ seats) seat = omega (arith, sum_last f seats seat)
 
 -- one seat that was in the list is with the machine's now
-pub one_gathered : {S : Type 0} (me other next : Me S (List StockView)) (before seats : List Seated) (seat : Seated) → before ≡ seats ++ seat ∷ [] → other ≡ (first_of other.0 ∷ [], []) → first_of other.0 ≡ seat.view → next ≡ (me.0 ++ other.0, me.1)
-    → (f : StockView → ℕ) → sum_over f next.0 + sum_over f (views_of seats) ≡ sum_over f me.0 + sum_over f (views_of before)
-one_gathered {S} me other next before seats seat is alone view joined f =
-    let a : sum_over f next.0 ≡ sum_over f (me.0 ++ other.0) = ap (λ (z : Me S (List StockView)). sum_over f z.0) joined in
-    let b = sum_append f me.0 other.0 in
-    let c : sum_over f other.0 ≡ f (first_of other.0) + 0 = ap (λ (z : Me S (List StockView)). sum_over f z.0) alone in
-    let d : f (first_of other.0) ≡ f seat.view = ap f view in
+pub one_gathered : (have taken next : List StockView) (before seats : List Seated) (seat : Seated) → before ≡ seats ++ seat ∷ [] → IsAlone taken
+    → first_of taken ≡ seat.view → next ≡ have ++ taken
+    → (f : StockView → ℕ) → sum_over f next + sum_over f (views_of seats) ≡ sum_over f have + sum_over f (views_of before)
+one_gathered have taken next before seats seat is alone view joined f =
+    let a : sum_over f next ≡ sum_over f (have ++ taken) = ap (sum_over f) joined in
+    let b = sum_append f have taken in
+    let c : sum_over f taken ≡ f (first_of taken) + 0 = ap (sum_over f) alone in
+    let d : f (first_of taken) ≡ f seat.view = ap f view in
     let e : sum_over f (views_of before) ≡ sum_over f (views_of (seats ++ seat ∷ [])) = ap (λ (l : List Seated). sum_over f (views_of l)) is in
     let g = sum_last f seats seat in omega arith
 
@@ -39,5 +40,5 @@ none_left (s ∷ seats) e = absurd (omega (arith, e))
 pub all_gathered : (views : List StockView) (seats : List Seated) (total : ℕ) (f : StockView → ℕ) → length seats ≡ 0 → sum_over f views + sum_over f (views_of seats) ≡ total → sum_over f views ≡ total
 all_gathered views seats total f none e = let z : sum_over f (views_of seats) ≡ 0 = ap (λ (l : List Seated). sum_over f (views_of l)) (none_left seats none) in omega arith
 
-pub alone_sum : {S : Type 0} (me : Me S (List StockView)) (rest : ℕ) (f : StockView → ℕ) → me ≡ (first_of me.0 ∷ [], []) → sum_over f me.0 + rest ≡ f (first_of me.0) + rest
-alone_sum {S} me rest f is = let a : sum_over f me.0 ≡ f (first_of me.0) + 0 = ap (λ (z : Me S (List StockView)). sum_over f z.0) is in omega arith
+pub alone_sum : (views : List StockView) (rest : ℕ) (f : StockView → ℕ) → IsAlone views → sum_over f views + rest ≡ f (first_of views) + rest
+alone_sum views rest f is = let a : sum_over f views ≡ f (first_of views) + 0 = ap (sum_over f) is in omega arith

@@ -1,5 +1,5 @@
--- How the rule follows from what one step leaves of one processor's words.
-use Rattle.std.proofs.Common.{◌≡◌, ◌≢◌, ℕ, zero, suc, ◌+◌, ◌*◌, false, ◌<◌, ◌≤◌, List, [], ◌∷◌, ◌++◌, set, length, refl, ap, sym, ◌∙◌, subst, arith}
+-- How the rule follows from what one step leaves of one processor's words. Serves the steps of Steps.antt.
+use Rattle.std.proofs.Common.{◌≡◌, ◌≢◌, ℕ, ◌+◌, ◌*◌, ◌<◌, ◌≤◌, List, [], ◌∷◌, ◌++◌, set, length, refl, ap, sym, ◌∙◌, subst, arith}
 use Rattle.std.specs.Prelude.{slice_index}
 use Rattle.std.proofs.lemmas.List.{get_or-set_same, get_or-set_other, length-set}
 use mathlib.Core.Option.{some}
@@ -11,8 +11,7 @@ use Rattle.seat_sums.specs.Totals.{sum_over, SameTotals, join_of}
 use Rattle.seat_sums.proofs.Totals.{total_set, total_more, join_totals}
 use Rattle.stock_word.specs.declared.view.Account.{Account}
 use Rattle.stock_word.specs.declared.view.StockView.{StockView}
-use Rattle.stock_word.specs.Stock.{account_at, with_account_at, account_of, with_account, IsSettled}
-use Rattle.stock_word.specs.Kinds.{after_report, noting, draining, absorbing}
+use Rattle.stock_word.specs.Stock.{account_of}
 use Rattle.stock_word.specs.StockRule.{stock_place, report_place, at_seat, IsStock, HoldsAt, StockRule}
 use Rattle.stock_word.proofs.Only.{at_mine, at_other, known, turned, stays, as_many, same_only}
 
@@ -81,31 +80,6 @@ leaves_report cpus words p y rows below = record {
   stocks = λ q ne. stock_beside words y p q;
   reports = report_apart words y p;
 }
-
--- ---- the accounts
-
-place_set : (accounts : List Account) (p : ℕ) (a : Account) → account_at (with_account_at accounts p a) p ≡ a
-place_set [] zero a = refl
-place_set [] (suc p) a = place_set [] p a
-place_set (b ∷ accounts) zero a = refl
-place_set (b ∷ accounts) (suc p) a = place_set accounts p a
-
-place_else : (accounts : List Account) (p q : ℕ) (a : Account) → q ≢ p → account_at (with_account_at accounts p a) q ≡ account_at accounts q
-place_else [] zero zero a ne = absurd (ne refl)
-place_else [] zero (suc q) a ne = refl
-place_else [] (suc p) zero a ne = refl
-place_else [] (suc p) (suc q) a ne = place_else [] p q a (λ e. ne (ap suc e))
-place_else (b ∷ accounts) zero zero a ne = absurd (ne refl)
-place_else (b ∷ accounts) zero (suc q) a ne = refl
-place_else (b ∷ accounts) (suc p) zero a ne = refl
-place_else (b ∷ accounts) (suc p) (suc q) a ne = place_else accounts p q a (λ e. ne (ap suc e))
-
--- the account that was put at p, and the others
-pub account_of-with_account : (m : StockView) (p : ℕ) (a : Account) → account_of (with_account m p a) p ≡ a
-account_of-with_account m p a = place_set m.accounts p a
-
-pub account_of-with_account_other : (m : StockView) (p q : ℕ) (a : Account) → q ≢ p → account_of (with_account m p a) q ≡ account_of m q
-account_of-with_account_other m p q a ne = place_else m.accounts p q a ne
 
 -- ---- the rule
 
@@ -240,16 +214,3 @@ split_keeps cpus id old left right cut s rule at = same_keeps cpus s.words s.vie
 -- a seat takes in the views of another
 pub join_keeps : {S : Type 0} (cpus id other : ℕ) (views taken : List StockView) → Joins {S = S} (λ s. StockRule cpus s.words s.views) id views other taken (views ++ taken) []
 join_keeps cpus id other views taken s rule at apart there = same_keeps cpus s.words s.views (join_of s.views id views other taken) (join_totals s.views id other views taken at there) rule
-
--- ---- after a drain, a report of all fresh pages and an absorb the stock may be filled
-
-pub settled_after : (m0 m1 m2 m3 v v' : StockView) (n k : ℕ) → v.number ≡ 1 → v.fresh ≡ k → m1 ≡ draining m0 1 n → m2 ≡ noting m1 v.number k → m3 ≡ absorbing m2 1 → v' ≡ after_report v k → IsSettled m3 v'
-settled_after m0 m1 m2 m3 v v' n k one fresh drained noted absorbed reported =
-    let named : v'.number ≡ 1 = ap (λ (u : StockView). u.number) reported ∙ one in
-    let a1 : (account_of m1 1).filled ≡ false = ap (λ (u : StockView). (account_of u 1).filled) drained ∙ ap (λ (a : Account). a.filled) (account_of-with_account m0 1 _) in
-    let a2 : (account_of m2 1).filled ≡ false = ap (λ (u : StockView). (account_of u 1).filled) (noted ∙ ap (λ (p : ℕ). noting m1 p k) one) ∙ ap (λ (a : Account). a.filled) (account_of-with_account m1 1 _) ∙ a1 in
-    let a3 = ap (λ (u : StockView). account_of u 1) absorbed ∙ account_of-with_account m2 1 _ in (
-      ap (λ (p : ℕ). (account_of m3 p).filled) named ∙ ap (λ (a : Account). a.filled) a3 ∙ a2,
-      ap (λ (u : StockView). u.fresh) reported ∙ omega (arith, fresh),
-      ap (λ (p : ℕ). (account_of m3 p).noted) named ∙ ap (λ (a : Account). a.noted) a3,
-    )

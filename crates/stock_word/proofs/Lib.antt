@@ -1,6 +1,7 @@
 pub mod Alike
 pub mod Only
 pub mod Stocks
+pub mod CallerLemmas
 pub mod Keeps
 pub mod Steps
 pub mod Told
@@ -8,3 +9,4 @@ pub mod Deals
 pub mod Opens
 pub mod Gathers
 pub mod Closes
+pub mod Places

@@ -1,4 +1,4 @@
--- Which view is the only one of its number, as one seat's views change, and as seats are split and joined.
+-- Which view is the only one of its number, as one seat's views change, and as seats are split and joined. Serves Keeps.antt.
 use Rattle.std.proofs.Common.{◌≡◌, ◌≢◌, ℕ, List, [], ◌∷◌, set, Bool, cond, true, false, eqb, eq-eqb, ne_eqb, refl, ap, ◌∙◌, arith}
 use mathlib.Core.Option.{some}
 use lib.ListN.{get_elem?}

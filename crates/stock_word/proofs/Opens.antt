@@ -1,18 +1,16 @@
 -- The rule at first (serves new), and a word of the closed list (serves the readers of ClosedWords).
-use Rattle.std.proofs.Common.{◌≡◌, ℕ, zero, suc, ◌+◌, ◌-◌, ◌*◌, ◌<◌, ◌≤◌, List, [], ◌∷◌, replicate, length, get_or, refl, ap, sym, ◌∙◌, inl, subst, arith}
+use Rattle.std.proofs.Common.{◌≡◌, ℕ, zero, suc, ◌+◌, ◌*◌, ◌<◌, ◌≤◌, List, [], ◌∷◌, replicate, length, get_or, refl, ap, sym, inl, subst, arith}
 use Rattle.std.specs.Prelude.{slice_index}
 use mathlib.Core.Option.{some, some-injective, some-ne-none}
 use mathlib.Core.Logic.{dite}
 use native.Mathlib.Decide.{ℕ_discrete}
 use lib.ListN.{get_elem?}
-use Rattle.atomic_table.specs.Seated.{TableId}
-use Rattle.atomic_table.specs.Table.{State}
 use Rattle.seat_sums.specs.Totals.{sum_over}
 use Rattle.stock_word.specs.declared.view.Stock.TheVariants.{NoGroup}
 use Rattle.stock_word.specs.declared.view.StockView.{StockView}
 use Rattle.stock_word.specs.Stock.{no_account, first_machine, first_processor, first_processors}
 use Rattle.stock_word.specs.StockRule.{stock_place, report_place, at_seat, IsStock, StockRule}
-use Rattle.stock_word.proofs.Only.{at_mine, at_other, known}
+use Rattle.stock_word.proofs.Only.{at_mine, at_other}
 
 none_in : (q p n : ℕ) (f : StockView → ℕ) → q < p → sum_over (at_seat q f) (first_processors p n) ≡ 0
 none_in q p zero f below = refl

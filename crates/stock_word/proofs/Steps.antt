@@ -1,4 +1,4 @@
--- Each step keeps the rule, and tells what its kind says.
+-- Each step keeps the rule, and tells what its kind says. Serves the functions of kinds.rt.
 use Rattle.std.proofs.Common.{◌≡◌, ◌≢◌, ℕ, ◌+◌, ◌-◌, ◌*◌, ◌%◌, ◌^◌, ◌<◌, ◌≤◌, eqb, false, true, List, [], ◌∷◌, Some, set, refl, ap, sym, ◌∙◌, subst, arith}
 use Rattle.std.specs.Prelude.{slice_index}
 use mathlib.Core.Option.{some, none}
@@ -16,7 +16,8 @@ use Rattle.stock_word.specs.Stock.{word_of, pages_of, group_of, account_of, with
 use Rattle.stock_word.specs.StockRule.{stock_place, report_place, IsStock, StockRule}
 use Rattle.stock_word.specs.Kinds.{after_took, after_back, after_drained, after_report, noting, filling, after_fill, draining, absorbing, Drains, DrainsNone, LooksAt, Absorbs, Fills, Alone, Joined, consuming, crediting, looking, draining_step, absorbing_step, reporting_step, consuming_held, filling_step, seeing_stock}
 use Rattle.stock_word.proofs.Stocks.{left_of, took, back, now_drained, sees_drained, last_group, reported, held_by_books, nothing_booked, filled, drained, drained_none, of_some_group, absorbed}
-use Rattle.stock_word.proofs.Keeps.{leaves_stock, leaves_report, account_of-with_account, account_of-with_account_other, processor_stock, processor_keeps, machine_stock, machine_keeps, joined_stock, joined_keeps, split_keeps}
+use Rattle.stock_word.proofs.CallerLemmas.{account_of-with_account, account_of-with_account_other}
+use Rattle.stock_word.proofs.Keeps.{leaves_stock, leaves_report, processor_stock, processor_keeps, machine_stock, machine_keeps, joined_stock, joined_keeps, split_keeps}
 
 same_stock_place : (p q : ℕ) → stock_place p ≡ stock_place q → p ≡ q
 same_stock_place p q e = omega (arith, e)
@@ -252,15 +253,19 @@ module _ {S : Type 0} (cpus slots id : ℕ) where
         let a = account_of m v.number in
         let sum : (found + n) % 2 ^ 64 ≡ found + n = small_mod (found + n) (omega (arith, stock.balanced, stock.bounded, fresh)) in
         subst (λ (x : ℕ). Owes s (m ∷ v ∷ [], []) place then x) (sym sum)
-        (joined_report_owes s rule at (found + n) (record a { noted = a.noted + n }) (after_report v n) then refl (reported _ _ a v n stock fresh)
-        (noting m v.number n, after_report v n, refl, record {
-          at_report = refl;
-          word_after = refl;
-          of_group = last_group _ _ a v stock;
-          enough = omega (arith, stock.balanced, stock.reported);
-          machine_after = refl;
-          view_after = refl;
-        }))
+        (joined_report_owes s rule at (found + n) (record a { noted = a.noted + n }) (after_report v n) then refl (reported _ _ a v n stock fresh) (
+          noting m v.number n,
+          after_report v n,
+          refl,
+          record {
+            at_report = refl;
+            word_after = refl;
+            of_group = last_group _ _ a v stock;
+            enough = omega (arith, stock.balanced, stock.reported);
+            machine_after = refl;
+            view_after = refl;
+          },
+        ))
 
     -- the look
     seeing_allowed_at : Allows holds slots id (m ∷ v ∷ [], []) (stock_place v.number) (λ x. x)
@@ -408,9 +413,9 @@ pub seeing_allowed : {S : Type 0} (cpus slots id : ℕ) (me : Me S (List StockVi
     → Allows (λ (s : State S (List StockView)). StockRule cpus s.words s.views) slots id me place (λ x. x) (Joined seeing_stock (step slots place 0 0 none) me)
 seeing_allowed {S} cpus slots id me m v is zeroth low high place at_place =
     subst (λ (z : Me S (List StockView)). Allows (λ (s : State S (List StockView)). StockRule cpus s.words s.views) slots id z place (λ x. x)
-        (Joined seeing_stock (step slots place 0 0 none) z)) (sym is)
+    (Joined seeing_stock (step slots place 0 0 none) z)) (sym is)
     (subst (λ (y : ℕ). Allows (λ (s : State S (List StockView)). StockRule cpus s.words s.views) slots id (m ∷ v ∷ [], []) y (λ x. x)
-        (Joined seeing_stock (step slots y 0 0 none) (m ∷ v ∷ [], []))) (sym at_place)
+    (Joined seeing_stock (step slots y 0 0 none) (m ∷ v ∷ [], []))) (sym at_place)
     (seeing_allowed_at cpus slots id m v zeroth low high))
 
 pub consuming_held_allowed : {S : Type 0} (cpus slots id : ℕ) (me : Me S (List StockView)) (m v : StockView) (g : ℕ) → me ≡ (m ∷ v ∷ [], []) → m.number ≡ 0 → 0 < v.number → v.number ≤ cpus

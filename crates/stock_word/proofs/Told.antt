@@ -1,14 +1,12 @@
--- What the kinds of step tell, as the calls' contracts say it.
-use Rattle.std.proofs.Common.{◌≡◌, ◌≢◌, ℕ, ◌+◌, ◌-◌, ◌≤◌, ◌⊎◌, ⊎_elim, false, true≢false, [], ◌∷◌, List, None, Some, refl, ap, sym, ◌∙◌, arith}
+-- What the kinds of step tell, as the calls' contracts say it. Serves consume, drain, absorb and consume_held.
+use Rattle.std.proofs.Common.{◌≡◌, ◌≢◌, ℕ, ◌+◌, ◌-◌, ◌<◌, ◌≤◌, ◌⊎◌, ⊎_elim, false, true≢false, List, None, Some, refl, ap, sym, subst, ◌∙◌, arith}
 use native.Mathlib.Decide.{ℕ_discrete}
-use Rattle.atomic_table.specs.Seated.{TableId}
-use Rattle.atomic_table.specs.Table.{Me}
 use Rattle.stock_word.specs.declared.view.Stock.{Stock}
 use Rattle.stock_word.specs.declared.view.Stock.TheVariants.{NoGroup, HeldBy, DrainedOf}
 use Rattle.stock_word.specs.declared.view.StockView.{StockView}
 use Rattle.stock_word.specs.declared.words.Consume.TheVariants as consume
-use Rattle.stock_word.specs.Stock.{Seated, word_of, HasWord, pages_of, is_held, group_of, account_of, stocked, first_of, IsKept}
-use Rattle.stock_word.specs.Kinds.{Consumes, ConsumesHeld, Drains, DrainsNone, LooksAt, after_took, draining}
+use Rattle.stock_word.specs.Stock.{Seated, Placed, word_of, HasWord, pages_of, is_held, group_of, account_of, stocked, first_of, IsKept}
+use Rattle.stock_word.specs.Kinds.{IsAlone, Consumes, ConsumesHeld, Drains, DrainsNone, LooksAt, after_took}
 use Rattle.stock_word.specs.Calls.{Consumed, with_view}
 
 same_group : (a b : ℕ) → Some a ≡ Some b → a ≡ b
@@ -21,21 +19,20 @@ consumed_took g k n b u v w place found new kind before after last of =
     (kind.pages, ap (λ (x : StockView). x.last) (sym before) ∙ kind.from_held ∙ ap (λ (x : ℕ). HeldBy x (kind.pages + 1)) group, after ∙ kind.view_after ∙ (λ i. after_took (before i) (group i) kind.pages))
 
 -- a seat whose view changed in its accounts alone
-pub kept_as : {S : Type 0} (me next : Me S (List StockView)) (number : ℕ) (last : Stock) (w u : StockView) → IsKept me number last → next ≡ (w ∷ [], me.1) → w ≡ u → u.number ≡ (first_of me.0).number → u.last ≡ (first_of me.0).last → u.fresh ≡ (first_of me.0).fresh → IsKept next number last
-kept_as {S} me next number last w u kept is same number_is last_is fresh_is =
-    let now : first_of next.0 ≡ u = ap (λ (z : Me S (List StockView)). first_of z.0) is ∙ same in
-    record {
-      one_view = is ∙ (λ i. (sym (ap (λ (z : Me S (List StockView)). first_of z.0) is) i ∷ [], ap (λ (z : Me S (List StockView)). z.1) kept.one_view i));
-      same_number = kept.same_number ∙ sym number_is ∙ ap (λ (v : StockView). v.number) (sym now);
-      same_last = kept.same_last ∙ sym last_is ∙ ap (λ (v : StockView). v.last) (sym now);
-      last_word = kept.last_word;
-      none_fresh = (λ e. ap (λ (v : StockView). v.fresh) now ∙ fresh_is ∙ kept.none_fresh e);
-    }
+pub kept_as : (views next : List StockView) (number : ℕ) (last : Stock) (u : StockView) → IsKept views number last → IsAlone next → first_of next ≡ u
+    → u.number ≡ (first_of views).number → u.last ≡ (first_of views).last → u.fresh ≡ (first_of views).fresh → IsKept next number last
+kept_as views next number last u kept alone now number_is last_is fresh_is = record {
+  one_view = alone;
+  same_number = kept.same_number ∙ sym number_is ∙ ap (λ (v : StockView). v.number) (sym now);
+  same_last = kept.same_last ∙ sym last_is ∙ ap (λ (v : StockView). v.last) (sym now);
+  last_word = kept.last_word;
+  none_fresh = (λ e. ap (λ (v : StockView). v.fresh) now ∙ fresh_is ∙ kept.none_fresh e);
+}
 
 -- the seat that the caller has afterwards
-pub seat_after : {S : Type 0} (table after : TableId) (me next : Me S (List StockView)) (before : Seated) (w u : StockView) → record { table = table; view = first_of me.0 } ≡ before → after ≡ table → next ≡ (w ∷ [], me.1) → w ≡ u
-    → record { table = after; view = first_of next.0 } ≡ with_view before u
-seat_after {S} table after me next before w u seen table_is is same = λ i. record { table = (table_is ∙ ap (λ (s : Seated). s.table) seen) i; view = (ap (λ (z : Me S (List StockView)). first_of z.0) is ∙ same) i }
+pub seat_after : (place : Placed) (before : Seated) (u : StockView) → place.table ≡ before.table → first_of place.views ≡ u
+    → record { table = place.table; view = first_of place.views } ≡ with_view before u
+seat_after place before u table_is same = λ i. record { table = table_is i; view = same i }
 
 -- ---- drain
 
@@ -58,22 +55,20 @@ some_word : (found g : ℕ) (r : Stock) → Decodes found r → group_of r ≡ S
 some_word found g r decodes group e = let is : r ≡ NoGroup = decodes NoGroup tt e in
     let impossible : None ≡ Some g = sym (ap group_of is) ∙ group in absurd (cc)
 
+group_fits : (s : Stock) (g : ℕ) → HasWord s → group_of s ≡ Some g → g < 64
+group_fits NoGroup g fits group = absurd (cc)
+group_fits (HeldBy k n) g fits group = let same : k ≡ g = cc in subst (λ (x : ℕ). x < 64) same fits.0
+group_fits (DrainedOf k) g fits group = let same : k ≡ g = cc in subst (λ (x : ℕ). x < 64) same fits
+
 -- it saw the group to drain
-pub found_group : (p place found g : ℕ) (m w : StockView) (r : Stock) → Looked p place found m w → Decodes found r → group_of r ≡ Some g → ((account_of m p).group ≡ Some g) × (w ≡ m)
+pub found_group : (p place found g : ℕ) (m w : StockView) (r : Stock) → Looked p place found m w → Decodes found r → group_of r ≡ Some g
+    → ((account_of m p).group ≡ Some g) × (w ≡ m) × (g < 64)
 found_group p place found g m w r told decodes group =
     let kind = told.1 (some_word found g r decodes group) in
     let same = decodes kind.stock kind.has_word kind.word_before in
-    (kind.filled_for ∙ sym kind.of_group ∙ sym (ap group_of same) ∙ group, kind.machine_after)
+    (kind.filled_for ∙ sym kind.of_group ∙ sym (ap group_of same) ∙ group, kind.machine_after, group_fits kind.stock g kind.has_word (sym (ap group_of same) ∙ group))
 
 -- the swap took the pages of the stock that it found
-pub drained_told : {S : Type 0} (table after : TableId) (me next : Me S (List StockView)) (before : Seated) (p g place found new pages : ℕ) (w : StockView)
-    → table ≡ before.table → first_of me.0 ≡ before.view → after ≡ table → next ≡ (w ∷ [], me.1) → (kind : Drains p g place found new (first_of me.0) w) → pages ≡ pages_of kind.stock
-    → record { table = after; view = first_of next.0 } ≡ with_view before (draining before.view p pages)
-drained_told {S} table after me next before p g place found new pages w table_is view_is after_is is kind many = λ i. record {
-  table = (after_is ∙ table_is) i;
-  view = (ap (λ (z : Me S (List StockView)). first_of z.0) is ∙ kind.machine_after ∙ (λ j. draining (view_is j) p (sym many j))) i;
-}
-
 pub drained_booked : (before : StockView) (p g place found new pages : ℕ) (m w : StockView) → m ≡ before → (kind : Drains p g place found new m w) → pages ≡ pages_of kind.stock → pages ≤ (account_of before p).book
 drained_booked before p g place found new pages m w e kind many = let b = ap (λ (v : StockView). (account_of v p).book) e in omega (arith, kind.enough, b)
 
@@ -84,9 +79,6 @@ unheld_pages (DrainedOf g) e = refl
 
 pub drained_before : (before : StockView) (p g place found new pages : ℕ) (m w : StockView) → m ≡ before → (kind : Drains p g place found new m w) → pages ≡ pages_of kind.stock → (account_of before p).filled ≡ false → pages ≡ 0
 drained_before before p g place found new pages m w e kind many off = many ∙ unheld_pages kind.stock (kind.was_held ∙ ap (λ (v : StockView). (account_of v p).filled) e ∙ off)
-
-pub after_of : {S : Type 0} (me next : Me S (List StockView)) (w : StockView) → next ≡ (w ∷ [], me.1) → first_of next.0 ≡ w
-after_of {S} me next w is = ap (λ (z : Me S (List StockView)). first_of z.0) is
 
 pub either_group : (r : Stock) (g : ℕ) → ((n : ℕ) × (r ≡ HeldBy g n)) ⊎ (r ≡ DrainedOf g) → group_of r ≡ Some g
 either_group r g h = ⊎_elim (λ (x : (n : ℕ) × (r ≡ HeldBy g n)). ap group_of x.1) (λ (x : r ≡ DrainedOf g). ap group_of x) h

@@ -1,12 +1,15 @@
--- The kinds of atomic step. Each is a relation between the place of the word, the word before and after, and the views of the seats that make the step, before and after.
+-- The kinds of atomic step. This file and src/kinds.rt are the table of kinds, a definition to be read as one.
+-- Each kind is a relation between the place of the word, the word before and after, and the views of the seats that make the step, before and after.
 -- A step changes one word and the views of its own seats, and nothing else: what is not named here stays.
 use Rattle.std.specs.Prelude.{◌≡◌, ◌≢◌, ℕ, ◌+◌, ◌-◌, ◌<◌, ◌≤◌, ◌⊎◌, false, true, List, [], ◌∷◌, Some, None}
+use mathlib.Core.Option.{some}
+use lib.ListN.{get_elem?}
 use Rattle.atomic_table.specs.Table.{Me, Step}
 use Rattle.stock_word.specs.declared.view.Stock.{Stock}
 use Rattle.stock_word.specs.declared.view.Stock.TheVariants.{HeldBy, DrainedOf}
 use Rattle.stock_word.specs.declared.view.StockView.{StockView}
 use Rattle.stock_word.specs.Stock.{word_of, HasWord, pages_of, group_of, is_held, drained_of, account_of, with_account, first_of, second_of}
-use Rattle.stock_word.specs.StockRule.{stock_place, report_place}
+use Rattle.stock_word.specs.StockRule.{stock_place, report_place, StockRule}
 
 -- ---- the views after each kind
 
@@ -157,6 +160,20 @@ pub record Absorbs (p place before after : ℕ) (m m' : StockView) : Type 0 wher
   pub bounded : (account_of m p).book < 65536
   pub machine_after : m' ≡ absorbing m p
 
+-- ---- the views of a place, and the end
+
+-- a seat's place has one view
+abbrev pub IsAlone : List StockView → Type 0
+IsAlone views = views ≡ first_of views ∷ []
+
+-- the machine's place has taken in a processor's: its own view, then that one
+abbrev pub IsPair : List StockView → Type 0
+IsPair views = views ≡ first_of views ∷ second_of views ∷ []
+
+-- the words at the end of a table of which one seat has these views: the rule holds of them and of the views of all seats
+abbrev pub Ends : ℕ → List ℕ → List StockView → Type 0
+Ends cpus words views = (seats : List (List StockView)) × (id : ℕ) × (get_elem? seats id ≡ some views) × StockRule cpus words seats
+
 -- ---- how the steps of a table are read as kinds
 
 -- one seat, with one view
@@ -164,7 +181,8 @@ abbrev pub Alone : {S : Type 0} → (Step S → ℕ → StockView → StockView 
 Alone kind s me found next = (w : StockView) × (next ≡ (w ∷ [], me.1)) × kind s found (first_of me.0) w
 
 -- the machine's seat, joined with a processor's
-abbrev pub Joined : {S : Type 0} → (Step S → ℕ → StockView → StockView → StockView → StockView → Type 0) → Step S → Me S (List StockView) → ℕ → Me S (List StockView) → Type 0
+abbrev pub Joined : {S : Type 0} → (Step S → ℕ → StockView → StockView → StockView → StockView → Type 0) → Step S
+    → Me S (List StockView) → ℕ → Me S (List StockView) → Type 0
 Joined kind s me found next = (m : StockView) × (v : StockView) × (next ≡ (m ∷ v ∷ [], me.1)) × kind s found (first_of me.0) (second_of me.0) m v
 
 -- the exchange of a consume: it took, or found its stock drained

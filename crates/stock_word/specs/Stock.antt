@@ -1,7 +1,6 @@
 -- What a stock word says and its encoding, and what a seat knows of the stocks.
 use Rattle.std.specs.Prelude.{◌≡◌, ℕ, zero, suc, ◌+◌, ◌-◌, ◌*◌, ◌<◌, ◌≤◌, Bool, true, false, List, [], ◌∷◌, Option, Some, None}
 use Rattle.atomic_table.specs.Seated.{TableId}
-use Rattle.atomic_table.specs.Table.{Me}
 use Rattle.seat_sums.specs.Totals.{sum_over}
 use Rattle.stock_word.specs.declared.view.Stock.{Stock}
 use Rattle.stock_word.specs.declared.view.Stock.TheVariants.{NoGroup, HeldBy, DrainedOf}
@@ -65,6 +64,15 @@ with_account_at (a ∷ accounts) (suc p) b = a ∷ with_account_at accounts p b
 pub record Seated : Type 0 where
   pub table : TableId
   pub view : StockView
+
+-- a table of 16 words for each of 1 to 64 processors, and a row before theirs, with no slot
+abbrev pub IsSized : TableId → ℕ → Type 0
+IsSized table cpus = (table.words ≡ 16 * (cpus + 1)) × (table.slots ≡ 0) × (1 ≤ cpus) × (cpus ≤ 64)
+
+-- A seat's place at the table: which table, and the views that it has: one, two where it is joined, none where it is spent
+pub record Placed : Type 0 where
+  pub table : TableId
+  pub views : List StockView
 
 -- the machine's account of processor p
 abbrev pub account_of : StockView → ℕ → Account
@@ -143,13 +151,14 @@ account_for machine view = account_of machine view.number
 abbrev pub stocked : StockView → StockView → ℕ
 stocked machine view = (account_for machine view).book - view.fresh - (account_for machine view).noted
 
--- What a seat keeps beside its place in the table: it has one view, of which it keeps the number and the last stock; a processor that never saw a stock has no fresh page
-pub record IsKept {S : Type 0} (me : Me S (List StockView)) (number : ℕ) (last : Stock) : Type 0 where
-  pub one_view : me ≡ (first_of me.0 ∷ [], [])
-  pub same_number : number ≡ (first_of me.0).number
-  pub same_last : last ≡ (first_of me.0).last
+-- What a seat keeps beside its place in the table: it has one view, of which it keeps the number and the last stock;
+-- a processor that never saw a stock has no fresh page
+pub record IsKept (views : List StockView) (number : ℕ) (last : Stock) : Type 0 where
+  pub one_view : views ≡ first_of views ∷ []
+  pub same_number : number ≡ (first_of views).number
+  pub same_last : last ≡ (first_of views).last
   pub last_word : HasWord last
-  pub none_fresh : last ≡ NoGroup → (first_of me.0).fresh ≡ 0
+  pub none_fresh : last ≡ NoGroup → (first_of views).fresh ≡ 0
 
 -- the view is that of a processor's seat, or of the machine's
 abbrev pub IsProcessor : Words → StockView → Type 0

@@ -18,7 +18,8 @@ report_place p = 16 * p + 1
 abbrev pub at_seat : ℕ → (StockView → ℕ) → StockView → ℕ
 at_seat q f view = cond (view.number == q) (f view) 0
 
--- Among the views of all seats, joined ones and all, this is the only one of number q: whatever is summed over the views of number q comes to what it is of this one
+-- Among the views of all seats, joined ones and all, this is the only one of number q:
+-- whatever is summed over the views of number q comes to what it is of this one
 abbrev pub IsOnly : List (List StockView) → ℕ → StockView → Type 0
 IsOnly seats q view = (f : StockView → ℕ) → total_over (at_seat q f) seats ≡ f view
 

@@ -1,14 +1,14 @@
 //! The end of a stock table.
 ghost use Rattle.std.specs.Prelude.{◌≡◌, ◌+◌, ◌-◌, ◌*◌, ◌<◌, ◌≤◌, ℕ, [], ◌∷◌, length, slice_index};
+ghost use Rattle.stock_word.specs.Kinds.{IsAlone};
 ghost use Rattle.stock_word.specs.Stock.{IsMachine, IsProcessor, AreOf, first_of, Gathers, view_in, word_of, HasWord};
 ghost use Rattle.stock_word.specs.declared.view.Stock.{Stock as AStock};
 ghost use Rattle.stock_word.specs.StockRule.{IsStockOf, stock_place as place_of_stock, report_place as place_of_report};
 
-use crate::kinds::{Both, Views};
+use crate::kinds::{Place, StockWords, report_place, stock_place};
 use crate::seat::StockSeat;
 use crate::view::Stock;
-use crate::words::{StockWords, report_place, stock_place};
-use atomic_table::{Closed, Seat};
+use atomic_table::Closed;
 use std::alloc::Global;
 use std::marker::Model;
 
@@ -31,20 +31,19 @@ impl Model for ClosedWords {
 
 impl StockWords {
     // The machine's seat takes in all seats of the processors.
-    fn gather(&self, seat0: &mut Seat<(), Views>, mut seats: Vec<StockSeat>)
-        requires table { (seat0.old.table_id ≡ self.now.table) × AreOf self.now.table seats.items }
-        requires alone { seat0.old.me ≡ (first_of seat0.old.me.0 ∷ [], []) }
-        ensures table { seat0.new.table_id ≡ self.now.table }
-        ensures all { Gathers (first_of seat0.old.me.0) seats.items seat0.new.me.0 }
-        ensures slots { seat0.new.me.1 ≡ [] }
+    fn gather(&self, place0: &mut Place, mut seats: Vec<StockSeat>)
+        requires table { (place0.old.table ≡ self.now.table) × AreOf self.now.table seats.items }
+        requires alone { IsAlone place0.old.views }
+        ensures table { place0.new.table ≡ self.now.table }
+        ensures all { Gathers (first_of place0.old.views) seats.items place0.new.views }
     {
         while let Some(seat) = seats.pop() {
             let StockSeat {
-                seat,
+                place,
                 number: _,
                 last: _,
             } = seat;
-            self.table.shared.join_seat::<Both>(seat0, seat);
+            self.join_place(place0, place);
         }
     }
 
@@ -57,19 +56,16 @@ impl StockWords {
         ensures length { length result ≡ 16 * (self.cpus + 1) }
         ensures numbers { (k : ℕ) → k < length seats.items → IsProcessor self (view_in seats.items k) }
         ensures each { (p : ℕ) → 0 < p → p ≤ self.cpus → (k : ℕ) × (k < length seats.items) × ((view_in seats.items k).number ≡ p) }
-        ensures stocks {
-            (k : ℕ) → k < length seats.items → IsStockOf result (view_in seats.items k).number seat0.view (view_in seats.items k)
-        }
+        ensures stocks { (k : ℕ) → k < length seats.items → IsStockOf result (view_in seats.items k).number seat0.view (view_in seats.items k) }
     {
         let StockSeat {
-            mut seat,
+            mut place,
             number: _,
             last: _,
         } = seat0;
-        self.gather(&mut seat, seats);
-        let StockWords { table } = self;
+        self.gather(&mut place, seats);
         ClosedWords {
-            closed: table.close_with(seat),
+            closed: self.end(place),
         }
     }
 }

@@ -1,96 +1,431 @@
-// What each step on the table tells its seat. The table of kinds is specs/Kinds.antt.
-ghost use Rattle.stock_word.specs.Kinds.{Alone, Joined, consuming, crediting, looking, draining_step, absorbing_step, reporting_step, consuming_held, filling_step, seeing_stock};
+//! The table of kinds: every atomic step that this crate can make. This file and
+//! `specs/Kinds.antt` are a definition, read as one. The table's words and a seat's place at it are
+//! private to this file, which has one function for each kind of step, and a reader of the size. So
+//! `consume`, `credit`, `report`, `fill`, `drain`, `absorb` and `close` are made of these, and no
+//! code outside can make a step of another kind.
+//!
+//! Which rule holds between any two steps is told by one line: the field `table` of `StockWords`,
+//! whose type names `StockRule`. Of the public contracts only that of `close` tells it.
+//!
+//! A function here answers the word that its step found.
+ghost use Rattle.std.specs.Prelude.{◌≡◌, ◌≢◌, ◌*◌, ◌+◌, ◌-◌, ◌<◌, ◌≤◌, false, [], ◌∷◌, ◌++◌, Some, IfOk};
+ghost use Rattle.std.specs.Mem.Slots.{slots_items, slots_len, IsFull};
+ghost use Rattle.stock_word.specs.declared.view.Stock.TheVariants.{HeldBy, DrainedOf};
+ghost use Rattle.stock_word.specs.Stock.{Words, Placed, IsSized, HasWord, word_of, IsProcessor, IsMachine, account_of, account_for, stocked, IsSettled};
+ghost use Rattle.stock_word.specs.Stock.{first_of, second_of, first_machine, first_processors, without_second, second_alone};
+ghost use Rattle.stock_word.specs.Kinds.{IsAlone, IsPair, Ends, Consumes, Credits, SeesDrained, Reports, ConsumesHeld, Fills, SeesStock};
+ghost use Rattle.stock_word.specs.Kinds.{DrainsNone, LooksAt, Drains, Absorbs, Alone, Joined, consuming, crediting, looking, draining_step};
+ghost use Rattle.stock_word.specs.Kinds.{absorbing_step, reporting_step, consuming_held, filling_step, seeing_stock};
+ghost use Rattle.stock_word.specs.StockRule as rule;
+ghost use Rattle.stock_word.specs.StockRule.{stock_place as place_of_stock, report_place as place_of_report};
 
-use crate::view::StockView;
-use atomic_table::{Join, Play, Split};
+use crate::view::{Stock, StockView};
+use atomic_table::{Closed, Join, Play, Seat, Split, Table, TableRule};
+use std::alloc::{AllocError, Global};
 use std::collections::LinkedList;
+use std::marker::Model;
 
 /// What a seat of the table knows: one view, two where it is joined, none where it is spent.
 pub(crate) type Views = LinkedList<StockView>;
 
-pub(crate) struct Consuming;
+/// The rule of the table. Its key is the number of processors.
+pub struct StockRule;
+
+impl TableRule<(), Views, u32> for StockRule {
+    ghost holds = { λ cpus s. rule.StockRule cpus s.words s.views };
+
+    ghost first = { λ cpus. first_machine ∷ first_processors 1 cpus };
+}
+
+/// The stock words and report words of all processors, which are numbered from 1. A contract sees
+/// which table it is and the number of processors. Threads share it by `&`; no call waits.
+#[derive(Drop)]
+pub struct StockWords {
+    table: Table<(), Views, u32, StockRule, Global>,
+}
+
+impl Model for StockWords {
+    ghost Value = { Words };
+
+    ghost view = { λ t. record { table = t.table.shared.table_id; cpus = t.table.shared.key } };
+
+    ghost invariant = { λ t. IsSized t.table.shared.table_id t.table.shared.key };
+}
+
+/// A seat's place at the table. A contract sees the table that it belongs to and its views.
+#[derive(Drop)]
+pub(crate) struct Place {
+    seat: Seat<(), Views>,
+}
+
+impl Model for Place {
+    ghost Value = { Placed };
+
+    ghost view = { λ p. record { table = p.seat.table_id; views = p.seat.me.0 } };
+
+    ghost invariant = { λ p. p.seat.me.1 ≡ [] };
+}
+
+/// The place of a processor's stock word: word 0 of its row of sixteen.
+pub(crate) fn stock_place(number: u32) -> usize
+    ensures { result ≡ 16 * number }
+{
+    16 * number as usize
+}
+
+/// The place of a processor's report word: word 1 of its row of sixteen.
+pub(crate) fn report_place(number: u32) -> usize
+    ensures { result ≡ 16 * number + 1 }
+{
+    stock_place(number) + 1
+}
+
+// ---- what each step tells
+
+struct Consuming;
 
 impl Play<(), Views> for Consuming {
     ghost then = { Alone consuming };
 }
 
-pub(crate) struct Crediting;
+struct Crediting;
 
 impl Play<(), Views> for Crediting {
     ghost then = { Alone crediting };
 }
 
-pub(crate) struct Looking;
+struct Looking;
 
 impl Play<(), Views> for Looking {
     ghost then = { Alone looking };
 }
 
-pub(crate) struct Draining;
+struct Draining;
 
 impl Play<(), Views> for Draining {
     ghost then = { Alone draining_step };
 }
 
-pub(crate) struct Absorbing;
+struct Absorbing;
 
 impl Play<(), Views> for Absorbing {
     ghost then = { Alone absorbing_step };
 }
 
-pub(crate) struct Reporting;
+struct Reporting;
 
 impl Play<(), Views> for Reporting {
     ghost then = { Joined reporting_step };
 }
 
-pub(crate) struct ConsumingHeld;
+struct ConsumingHeld;
 
 impl Play<(), Views> for ConsumingHeld {
     ghost then = { Joined consuming_held };
 }
 
-pub(crate) struct Filling;
+struct Filling;
 
 impl Play<(), Views> for Filling {
     ghost then = { Joined filling_step };
 }
 
-pub(crate) struct SeeingStock;
+struct SeeingStock;
 
 impl Play<(), Views> for SeeingStock {
     ghost then = { Joined seeing_stock };
 }
 
 // An empty seat beside a seat that keeps its views.
-pub(crate) struct Nothing;
+struct Nothing;
 
 impl Split<Views> for Nothing {
-    ghost use Rattle.std.specs.Prelude.{[]};
-
     ghost left = { λ views. views };
 
     ghost right = { λ views. [] };
 }
 
 // The second view goes to a seat of its own.
-pub(crate) struct Second;
+struct Second;
 
 impl Split<Views> for Second {
-    ghost use Rattle.stock_word.specs.Stock.{without_second, second_alone};
-
     ghost left = { without_second };
 
     ghost right = { second_alone };
 }
 
 // Both seats' views in one, and an empty seat.
-pub(crate) struct Both;
+struct Both;
 
 impl Join<Views> for Both {
-    ghost use Rattle.std.specs.Prelude.{[], ◌++◌};
-
     ghost both = { λ views taken. views ++ taken };
 
     ghost spent = { [] };
+}
+
+impl StockWords {
+    /// The number of processors, 1 to 64.
+    pub fn cpus(&self) -> u32
+        ensures cpus { result ≡ self.now.cpus }
+        ensures few { (1 ≤ result) × (result ≤ 64) }
+    {
+        (self.table.word_count() / 16 - 1) as u32
+    }
+}
+
+// ---- a processor's steps
+
+impl StockWords {
+    /// Consume: the stock word of the processor, from the stock that it saw last to one page less;
+    /// or the word is found drained.
+    pub(crate) fn step_consume(&self, place: &mut Place, number: u32, group: u32, pages: u32) -> u64
+        requires table { place.old.table ≡ self.now.table }
+        requires alone { IsAlone place.old.views }
+        requires number { number ≡ (first_of place.old.views).number }
+        requires processor { IsProcessor self.now (first_of place.old.views) }
+        requires last { (first_of place.old.views).last ≡ HeldBy group pages }
+        requires page { 0 < pages }
+        requires has_word { HasWord (HeldBy group pages) }
+        ensures table { place.new.table ≡ place.old.table }
+        ensures alone { IsAlone place.new.views }
+        ensures took { result ≡ word_of (HeldBy group pages)
+            → Consumes (place_of_stock number) result (word_of (HeldBy group (pages - 1))) (first_of place.old.views) (first_of place.new.views) }
+        ensures drained { result ≢ word_of (HeldBy group pages)
+            → SeesDrained (place_of_stock number) result result (first_of place.old.views) (first_of place.new.views) }
+    {
+        let word = Stock::HeldBy { group, pages }.word();
+        let left = Stock::HeldBy {
+            group,
+            pages: pages - 1,
+        };
+        let at = stock_place(number);
+        self.table
+            .shared
+            .compare_exchange::<Consuming>(&mut place.seat, at, word, left.word())
+    }
+
+    /// Credit: the stock word of the processor, from the stock that it saw last to one page more;
+    /// or the word is found drained.
+    pub(crate) fn step_credit(&self, place: &mut Place, number: u32, group: u32, pages: u32) -> u64
+        requires table { place.old.table ≡ self.now.table }
+        requires alone { IsAlone place.old.views }
+        requires number { number ≡ (first_of place.old.views).number }
+        requires processor { IsProcessor self.now (first_of place.old.views) }
+        requires last { (first_of place.old.views).last ≡ HeldBy group pages }
+        requires fresh { 0 < (first_of place.old.views).fresh }
+        requires has_word { HasWord (HeldBy group pages) }
+        ensures table { place.new.table ≡ place.old.table }
+        ensures alone { IsAlone place.new.views }
+        ensures back { result ≡ word_of (HeldBy group pages)
+            → Credits (place_of_stock number) result (word_of (HeldBy group (pages + 1))) (first_of place.old.views) (first_of place.new.views) }
+        ensures drained { result ≢ word_of (HeldBy group pages)
+            → SeesDrained (place_of_stock number) result result (first_of place.old.views) (first_of place.new.views) }
+    {
+        let word = Stock::HeldBy { group, pages }.word();
+        let more = Stock::HeldBy {
+            group,
+            pages: pages + 1,
+        };
+        let at = stock_place(number);
+        self.table
+            .shared
+            .compare_exchange::<Crediting>(&mut place.seat, at, word, more.word())
+    }
+}
+
+// ---- the machine's steps
+
+impl StockWords {
+    /// The look of a drain: the stock was never filled, or is of the group of its last fill.
+    pub(crate) fn step_look(&self, place: &mut Place, p: u32) -> u64
+        requires table { place.old.table ≡ self.now.table }
+        requires alone { IsAlone place.old.views }
+        requires machine { IsMachine (first_of place.old.views) }
+        requires processor { (0 < p) × (p ≤ self.now.cpus) }
+        ensures table { place.new.table ≡ place.old.table }
+        ensures alone { IsAlone place.new.views }
+        ensures none { result ≡ 0 → DrainsNone p (place_of_stock p) result result (first_of place.old.views) (first_of place.new.views) }
+        ensures some { result ≢ 0 → LooksAt p (place_of_stock p) result result (first_of place.old.views) (first_of place.new.views) }
+    {
+        let at = stock_place(p);
+        self.table.shared.load::<Looking>(&mut place.seat, at)
+    }
+
+    /// Drain: the stock word, whatever it is, to drained of the group of the last fill.
+    pub(crate) fn step_drain(&self, place: &mut Place, p: u32, group: u32) -> u64
+        requires table { place.old.table ≡ self.now.table }
+        requires alone { IsAlone place.old.views }
+        requires machine { IsMachine (first_of place.old.views) }
+        requires processor { (0 < p) × (p ≤ self.now.cpus) }
+        requires group { (account_of (first_of place.old.views) p).group ≡ Some group }
+        requires fits { group < 64 }
+        ensures table { place.new.table ≡ place.old.table }
+        ensures alone { IsAlone place.new.views }
+        ensures kind { Drains p group (place_of_stock p) result (word_of (DrainedOf group)) (first_of place.old.views) (first_of place.new.views) }
+    {
+        let drained = Stock::DrainedOf { group };
+        let at = stock_place(p);
+        self.table
+            .shared
+            .swap::<Draining>(&mut place.seat, at, drained.word())
+    }
+
+    /// Absorb: the report word to 0.
+    pub(crate) fn step_absorb(&self, place: &mut Place, p: u32) -> u64
+        requires table { place.old.table ≡ self.now.table }
+        requires alone { IsAlone place.old.views }
+        requires machine { IsMachine (first_of place.old.views) }
+        requires processor { (0 < p) × (p ≤ self.now.cpus) }
+        ensures table { place.new.table ≡ place.old.table }
+        ensures alone { IsAlone place.new.views }
+        ensures kind { Absorbs p (place_of_report p) result 0 (first_of place.old.views) (first_of place.new.views) }
+    {
+        let at = report_place(p);
+        self.table.shared.swap::<Absorbing>(&mut place.seat, at, 0)
+    }
+}
+
+// ---- the steps of the machine's seat, joined with the seat of processor `number`
+
+impl StockWords {
+    /// Report: `n` pages more in the report word.
+    pub(crate) fn step_report(&self, place: &mut Place, number: u32, n: u32) -> u64
+        requires table { place.old.table ≡ self.now.table }
+        requires pair { IsPair place.old.views }
+        requires number { number ≡ (second_of place.old.views).number }
+        requires machine { IsMachine (first_of place.old.views) }
+        requires processor { IsProcessor self.now (second_of place.old.views) }
+        requires fresh { n ≤ (second_of place.old.views).fresh }
+        ensures table { place.new.table ≡ place.old.table }
+        ensures pair { IsPair place.new.views }
+        ensures kind { Reports n (place_of_report number) result (result + n)
+            (first_of place.old.views) (second_of place.old.views) (first_of place.new.views) (second_of place.new.views) }
+    {
+        let at = report_place(number);
+        self.table
+            .shared
+            .fetch_add::<Reporting>(&mut place.seat, at, u64::from(n))
+    }
+
+    /// A consume that always takes: one page less in the stock word.
+    pub(crate) fn step_consume_held(&self, place: &mut Place, number: u32, group: u32) -> u64
+        requires table { place.old.table ≡ self.now.table }
+        requires pair { IsPair place.old.views }
+        requires number { number ≡ (second_of place.old.views).number }
+        requires machine { IsMachine (first_of place.old.views) }
+        requires processor { IsProcessor self.now (second_of place.old.views) }
+        requires group { (account_for (first_of place.old.views) (second_of place.old.views)).group ≡ Some group }
+        requires page { 0 < stocked (first_of place.old.views) (second_of place.old.views) }
+        ensures table { place.new.table ≡ place.old.table }
+        ensures pair { IsPair place.new.views }
+        ensures kind { ConsumesHeld (place_of_stock number) result (result - 1)
+            (first_of place.old.views) (second_of place.old.views) (first_of place.new.views) (second_of place.new.views) }
+    {
+        let at = stock_place(number);
+        self.table
+            .shared
+            .fetch_sub::<ConsumingHeld>(&mut place.seat, at, 1)
+    }
+
+    /// Fill: the stock word, whose stock has no page, to held by `group` with `pages`.
+    pub(crate) fn step_fill(&self, place: &mut Place, number: u32, group: u32, pages: u32)
+        requires table { place.old.table ≡ self.now.table }
+        requires pair { IsPair place.old.views }
+        requires number { number ≡ (second_of place.old.views).number }
+        requires machine { IsMachine (first_of place.old.views) }
+        requires processor { IsProcessor self.now (second_of place.old.views) }
+        requires has_word { HasWord (HeldBy group pages) }
+        requires settled { IsSettled (first_of place.old.views) (second_of place.old.views) }
+        ensures table { place.new.table ≡ place.old.table }
+        ensures pair { IsPair place.new.views }
+        ensures kind { Fills group pages (place_of_stock number) (word_of (HeldBy group pages))
+            (first_of place.old.views) (second_of place.old.views) (first_of place.new.views) (second_of place.new.views) }
+    {
+        let held = Stock::HeldBy { group, pages };
+        let at = stock_place(number);
+        self.table
+            .shared
+            .store::<Filling>(&mut place.seat, at, held.word());
+    }
+
+    /// A look: the stock word says the stock that the books tell.
+    pub(crate) fn step_see(&self, place: &mut Place, number: u32) -> u64
+        requires table { place.old.table ≡ self.now.table }
+        requires pair { IsPair place.old.views }
+        requires number { number ≡ (second_of place.old.views).number }
+        requires machine { IsMachine (first_of place.old.views) }
+        requires processor { IsProcessor self.now (second_of place.old.views) }
+        ensures table { place.new.table ≡ place.old.table }
+        ensures pair { IsPair place.new.views }
+        ensures kind { SeesStock (place_of_stock number) result result
+            (first_of place.old.views) (second_of place.old.views) (first_of place.new.views) (second_of place.new.views) }
+    {
+        let at = stock_place(number);
+        self.table.shared.load::<SeeingStock>(&mut place.seat, at)
+    }
+}
+
+// ---- begin and end, split and join: no word changes, and no view but which seat has it
+
+impl StockWords {
+    /// A table of zeros for the processors 1 to `cpus`, and one seat that has all views.
+    pub(crate) fn begin(alloc: Global, cpus: u32) -> Result<(StockWords, Place), AllocError>
+        requires { (1 ≤ cpus) × (cpus ≤ 64) }
+        ensures cpus { IfOk result (λ r. r.0.cpus ≡ cpus) }
+        ensures all { IfOk result (λ r. r.1 ≡ record { table = r.0.table; views = first_machine ∷ first_processors 1 cpus }) }
+    {
+        let words = vec![in alloc; 0u64; 16 * (cpus as usize + 1)]?;
+        let (table, seat) = Table::of_words(alloc, words.as_slice(), &cpus)?;
+        Ok((StockWords { table }, Place { seat }))
+    }
+
+    /// The words at the end, of which the rule holds with the views of the seat among all.
+    pub(crate) fn end(self, place: Place) -> Closed<(), Global>
+        requires table { place.table ≡ self.table }
+        ensures full { IsFull result.words × (slots_len result.slots ≡ 0) }
+        ensures rule { Ends self.cpus (slots_items result.words) place.views }
+    {
+        let StockWords { table } = self;
+        let Place { seat } = place;
+        table.close_with(seat)
+    }
+
+    /// An empty seat, split off a seat that keeps its views.
+    pub(crate) fn split_empty(&self, place: &mut Place) -> Place
+        requires table { place.old.table ≡ self.now.table }
+        ensures kept { place.new ≡ place.old }
+        ensures empty { result ≡ record { table = self.now.table; views = [] } }
+    {
+        Place {
+            seat: self.table.shared.split_seat::<Nothing>(&mut place.seat),
+        }
+    }
+
+    /// The seat's second view, split off into a seat of its own.
+    pub(crate) fn split_second(&self, place: &mut Place) -> Place
+        requires table { place.old.table ≡ self.now.table }
+        ensures rest { place.new ≡ record { table = self.now.table; views = without_second place.old.views } }
+        ensures second { result ≡ record { table = self.now.table; views = second_alone place.old.views } }
+    {
+        Place {
+            seat: self.table.shared.split_seat::<Second>(&mut place.seat),
+        }
+    }
+
+    /// The seat takes in the views of another.
+    pub(crate) fn join_place(&self, place: &mut Place, other: Place)
+        requires tables { (place.old.table ≡ self.now.table) × (other.table ≡ self.now.table) }
+        ensures both { place.new ≡ record { table = self.now.table; views = place.old.views ++ other.views } }
+    {
+        let Place { seat } = other;
+        self.table.shared.join_seat::<Both>(&mut place.seat, seat);
+    }
+
+    /// A word as it is now. It tells nothing.
+    #[cfg(test)]
+    pub(crate) fn peek(&self, word: usize) -> u64
+        requires { word < 16 * (self.now.cpus + 1) }
+    {
+        self.table.shared.peek(word)
+    }
 }

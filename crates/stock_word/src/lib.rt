@@ -12,6 +12,11 @@
 //! | drained of group g | 2^32 + (g + 1) * 65536 |
 //!
 //! A report word is a number of pages.
+//!
+//! `src/kinds.rt` and `specs/Kinds.antt` are the table of kinds: every atomic step that this crate
+//! can make. They are a definition, read as one. Which rule holds between any two steps is told by
+//! one line, the field `table: Table<(), Views, u32, StockRule, Global>` of `StockWords` there. Of the
+//! public contracts only that of `close` tells it.
 #![tactic(auto)]
 
 mod closed;
@@ -25,6 +30,7 @@ mod view;
 mod words;
 
 pub use closed::ClosedWords;
+pub use kinds::{StockRule, StockWords};
 pub use seat::StockSeat;
 pub use view::{Account, Stock, StockView};
-pub use words::{Consume, Credit, StockRule, StockWords};
+pub use words::{Consume, Credit};

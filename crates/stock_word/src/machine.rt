@@ -1,42 +1,38 @@
 //! The calls of the machine's seat, alone or joined with a processor's. Whoever has that seat has
 //! the zone's lock.
 ghost use Rattle.std.specs.Prelude.{◌≡◌, ◌+◌, ◌-◌, ◌<◌, ◌≤◌, ◌⊎◌, [], ◌∷◌, false, Some};
-ghost use Rattle.stock_word.specs.Stock.{IsProcessor, IsMachine, account_of, account_for, stocked, first_of, second_of, HasWord, pages_of, group_of, is_held, drained_of};
-ghost use Rattle.stock_word.specs.Kinds.{after_took, after_report, noting, filling, after_fill, draining, absorbing};
+ghost use Rattle.stock_word.specs.Stock.{IsProcessor, IsMachine, account_of, account_for, stocked, first_of, second_of};
+ghost use Rattle.stock_word.specs.Stock.{HasWord, pages_of, group_of, is_held, drained_of};
+ghost use Rattle.stock_word.specs.Kinds.{IsAlone, IsPair, after_took, after_report, noting, filling, after_fill, draining, absorbing};
 ghost use Rattle.stock_word.specs.Calls.{with_view};
 
-use crate::kinds::{
-    Absorbing, Both, ConsumingHeld, Draining, Filling, Looking, Nothing, Reporting, Second, SeeingStock,
-    Views,
-};
+use crate::kinds::{Place, StockWords};
 use crate::seat::StockSeat;
 use crate::view::Stock;
-use crate::words::{StockWords, report_place, stock_place};
-use atomic_table::Seat;
 use std::mem;
 
 impl StockWords {
     // The machine's seat takes in the processor's, in the place of which an empty seat stands.
-    fn join(&self, seat0: &mut Seat<(), Views>, seat: &mut Seat<(), Views>)
-        requires tables { (seat0.old.table_id ≡ self.now.table) × (seat.old.table_id ≡ self.now.table) }
-        requires views { (seat0.old.me ≡ (first_of seat0.old.me.0 ∷ [], [])) × (seat.old.me ≡ (first_of seat.old.me.0 ∷ [], [])) }
-        ensures tables { (seat0.new.table_id ≡ self.now.table) × (seat.new.table_id ≡ self.now.table) }
-        ensures joined { seat0.new.me ≡ (first_of seat0.old.me.0 ∷ first_of seat.old.me.0 ∷ [], []) }
+    fn join(&self, place0: &mut Place, place: &mut Place)
+        requires tables { (place0.old.table ≡ self.now.table) × (place.old.table ≡ self.now.table) }
+        requires alone { IsAlone place0.old.views × IsAlone place.old.views }
+        ensures tables { (place0.new.table ≡ self.now.table) × (place.new.table ≡ self.now.table) }
+        ensures joined { place0.new.views ≡ first_of place0.old.views ∷ first_of place.old.views ∷ [] }
     {
-        let empty = self.table.shared.split_seat::<Nothing>(seat0);
-        let processor = mem::replace(seat, empty);
-        self.table.shared.join_seat::<Both>(seat0, processor);
+        let empty = self.split_empty(place0);
+        let processor = mem::replace(place, empty);
+        self.join_place(place0, processor);
     }
 
     // Parts joined seats again.
-    fn part(&self, seat0: &mut Seat<(), Views>, seat: &mut Seat<(), Views>)
-        requires table { seat0.old.table_id ≡ self.now.table }
-        requires joined { seat0.old.me ≡ (first_of seat0.old.me.0 ∷ second_of seat0.old.me.0 ∷ [], []) }
-        ensures tables { (seat0.new.table_id ≡ self.now.table) × (seat.new.table_id ≡ self.now.table) }
-        ensures machine { seat0.new.me ≡ (first_of seat0.old.me.0 ∷ [], []) }
-        ensures processor { seat.new.me ≡ (second_of seat0.old.me.0 ∷ [], []) }
+    fn part(&self, place0: &mut Place, place: &mut Place)
+        requires table { place0.old.table ≡ self.now.table }
+        requires pair { IsPair place0.old.views }
+        ensures tables { (place0.new.table ≡ self.now.table) × (place.new.table ≡ self.now.table) }
+        ensures machine { place0.new.views ≡ first_of place0.old.views ∷ [] }
+        ensures processor { place.new.views ≡ second_of place0.old.views ∷ [] }
     {
-        *seat = self.table.shared.split_seat::<Second>(seat0);
+        *place = self.split_second(place0);
     }
 
     /// Puts `n` fresh pages of the processor into its report word, from which an `absorb` takes
@@ -51,12 +47,9 @@ impl StockWords {
         ensures machine { seat0.new ≡ with_view seat0.old (noting seat0.old.view seat.old.view.number n) }
         ensures processor { seat.new ≡ with_view seat.old (after_report seat.old.view n) }
     {
-        self.join(&mut seat0.seat, &mut seat.seat);
-        let place = report_place(seat.number);
-        self.table
-            .shared
-            .fetch_add::<Reporting>(&mut seat0.seat, place, u64::from(n));
-        self.part(&mut seat0.seat, &mut seat.seat);
+        self.join(&mut seat0.place, &mut seat.place);
+        self.step_report(&mut seat0.place, seat.number, n);
+        self.part(&mut seat0.place, &mut seat.place);
     }
 
     /// What the processor's stock is by its word, and so by the books: one look, which changes
@@ -66,9 +59,7 @@ impl StockWords {
         requires machine { IsMachine seat0.old.view }
         requires processor { IsProcessor self.now seat.old.view }
         ensures has_word { HasWord result }
-        ensures balanced {
-            (account_for seat0.old.view seat.old.view).book ≡ pages_of result + seat.old.view.fresh + (account_for seat0.old.view seat.old.view).noted
-        }
+        ensures balanced { (account_for seat0.old.view seat.old.view).book ≡ pages_of result + seat.old.view.fresh + (account_for seat0.old.view seat.old.view).noted }
         ensures bounded { (account_for seat0.old.view seat.old.view).book < 65536 }
         ensures group { group_of result ≡ (account_for seat0.old.view seat.old.view).group }
         ensures held { is_held result ≡ (account_for seat0.old.view seat.old.view).filled }
@@ -76,13 +67,9 @@ impl StockWords {
         ensures machine { seat0.new ≡ seat0.old }
         ensures processor { seat.new ≡ seat.old }
     {
-        self.join(&mut seat0.seat, &mut seat.seat);
-        let place = stock_place(seat.number);
-        let found = self
-            .table
-            .shared
-            .load::<SeeingStock>(&mut seat0.seat, place);
-        self.part(&mut seat0.seat, &mut seat.seat);
+        self.join(&mut seat0.place, &mut seat.place);
+        let found = self.step_see(&mut seat0.place, seat.number);
+        self.part(&mut seat0.place, &mut seat.place);
         Stock::of_word(found)
     }
 
@@ -97,14 +84,10 @@ impl StockWords {
         ensures machine { seat0.new ≡ seat0.old }
         ensures processor { seat.new ≡ with_view seat.old (after_took seat.old.view g (stocked seat0.old.view seat.old.view - 1)) }
     {
-        self.join(&mut seat0.seat, &mut seat.seat);
-        let place = stock_place(seat.number);
-        let found = self
-            .table
-            .shared
-            .fetch_sub::<ConsumingHeld>(&mut seat0.seat, place, 1);
+        self.join(&mut seat0.place, &mut seat.place);
+        let found = self.step_consume_held(&mut seat0.place, seat.number, g);
         seat.last = Stock::of_word(found - 1);
-        self.part(&mut seat0.seat, &mut seat.seat);
+        self.part(&mut seat0.place, &mut seat.place);
     }
 
     /// Fills the processor's stock with `n` pages (1 to 65,535) of group `g` (0 to 63). The stock
@@ -122,14 +105,10 @@ impl StockWords {
         ensures machine { seat0.new ≡ with_view seat0.old (filling seat0.old.view seat.old.view.number g n) }
         ensures processor { seat.new ≡ with_view seat.old (after_fill seat.old.view g n) }
     {
-        self.join(&mut seat0.seat, &mut seat.seat);
-        let stock = Stock::HeldBy { group: g, pages: n };
-        let place = stock_place(seat.number);
-        self.table
-            .shared
-            .store::<Filling>(&mut seat0.seat, place, stock.word());
-        seat.last = stock;
-        self.part(&mut seat0.seat, &mut seat.seat);
+        self.join(&mut seat0.place, &mut seat.place);
+        self.step_fill(&mut seat0.place, seat.number, g, n);
+        seat.last = Stock::HeldBy { group: g, pages: n };
+        self.part(&mut seat0.place, &mut seat.place);
     }
 
     /// Takes all pages out of the stock of processor `p`, and tells how many they were. The stock
@@ -143,16 +122,11 @@ impl StockWords {
         ensures booked { result ≤ (account_of seat0.old.view p).book }
         ensures drained_before { (account_of seat0.old.view p).filled ≡ false → result ≡ 0 }
     {
-        let place = stock_place(p);
-        let seen = self.table.shared.load::<Looking>(&mut seat0.seat, place);
+        let seen = self.step_look(&mut seat0.place, p);
         match Stock::of_word(seen) {
             Stock::NoGroup => 0,
             Stock::HeldBy { group, pages: _ } | Stock::DrainedOf { group } => {
-                let drained = Stock::DrainedOf { group };
-                let found = self
-                    .table
-                    .shared
-                    .swap::<Draining>(&mut seat0.seat, place, drained.word());
+                let found = self.step_drain(&mut seat0.place, p, group);
                 Stock::of_word(found).pages()
             }
         }
@@ -169,9 +143,6 @@ impl StockWords {
         ensures bounded { (account_of seat0.old.view p).book < 65536 }
         ensures machine { seat0.new ≡ with_view seat0.old (absorbing seat0.old.view p) }
     {
-        let place = report_place(p);
-        self.table
-            .shared
-            .swap::<Absorbing>(&mut seat0.seat, place, 0) as u32
+        self.step_absorb(&mut seat0.place, p) as u32
     }
 }

@@ -1,22 +1,21 @@
 //! A new stock table.
 ghost use Rattle.std.specs.Prelude.{◌≡◌, ◌+◌, ◌<◌, ◌≤◌, ℕ, [], ◌∷◌, length, IfOk, OnOk};
+ghost use Rattle.stock_word.specs.Kinds.{IsAlone};
 ghost use Rattle.stock_word.specs.Stock.{first_machine, first_processor, first_processors, first_seats, first_of, view_in, AreOf, StartsAs};
 
-use crate::kinds::{Second, Views};
+use crate::kinds::{Place, StockWords};
 use crate::seat::StockSeat;
 use crate::view::Stock;
-use crate::words::StockWords;
-use atomic_table::{Seat, Table};
 use std::alloc::{AllocError, Global};
 
 // A seat as it is at first.
-fn seated(seat: Seat<(), Views>, number: u32) -> StockSeat
-    requires view { seat.me ≡ (first_of seat.me.0 ∷ [], []) }
-    requires first { StartsAs number (first_of seat.me.0) }
-    ensures { result ≡ record { table = seat.table_id; view = first_of seat.me.0 } }
+fn seated(place: Place, number: u32) -> StockSeat
+    requires view { IsAlone place.views }
+    requires first { StartsAs number (first_of place.views) }
+    ensures { result ≡ record { table = place.table; view = first_of place.views } }
 {
     StockSeat {
-        seat,
+        place,
         number,
         last: Stock::NoGroup,
     }
@@ -37,29 +36,27 @@ impl StockWords {
         ensures tables { IfOk result (λ r. AreOf r.0.table r.2.items) }
         ensures numbers { IfOk result (λ r. (k : ℕ) → k < cpus → (view_in r.2.items k).number ≡ k + 1) }
     {
-        let words = vec![in alloc; 0u64; 16 * (cpus as usize + 1)]?;
-        let (table, mut seat) = Table::of_words(alloc, words.as_slice(), &cpus)?;
-        let words = StockWords { table };
-        let seats = words.deal(alloc, &mut seat, cpus)?;
-        Ok((words, seated(seat, 0), seats))
+        let (words, mut place) = StockWords::begin(alloc, cpus)?;
+        let seats = words.deal(alloc, &mut place, cpus)?;
+        Ok((words, seated(place, 0), seats))
     }
 
     // Gives each processor its seat, out of the one that has all views.
     fn deal(
         &self,
         alloc: Global,
-        seat: &mut Seat<(), Views>,
+        place: &mut Place,
         cpus: u32,
     ) -> Result<Vec<StockSeat>, AllocError>
-        requires table { (seat.old.table_id ≡ self.now.table) × (cpus ≤ 64) }
-        requires views { seat.old.me ≡ (first_machine ∷ first_processors 1 cpus, []) }
-        ensures table { seat.new.table_id ≡ self.now.table }
-        ensures machine { OnOk result (seat.new.me ≡ (first_machine ∷ [], [])) }
+        requires table { (place.old.table ≡ self.now.table) × (cpus ≤ 64) }
+        requires views { place.old.views ≡ first_machine ∷ first_processors 1 cpus }
+        ensures table { place.new.table ≡ self.now.table }
+        ensures machine { OnOk result (place.new.views ≡ first_machine ∷ []) }
         ensures processors { IfOk result (λ seats. seats.items ≡ first_seats self.now.table 1 cpus) }
     {
         let mut seats = Vec::new(alloc);
         for p in 1..cpus + 1 {
-            let next = self.table.shared.split_seat::<Second>(seat);
+            let next = self.split_second(place);
             seats.push(seated(next, p))?;
         }
         Ok(seats)

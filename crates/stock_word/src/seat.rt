@@ -1,16 +1,15 @@
 //! A seat at the stock table.
 ghost use Rattle.std.specs.Prelude.{◌≡◌};
 
-use crate::kinds::Views;
+use crate::kinds::Place;
 use crate::view::Stock;
-use atomic_table::Seat;
 use std::marker::Model;
 
 /// The right to step for the machine (number 0) or for a processor (its number). A contract sees
 /// the table that it belongs to and what it knows. It takes a few bytes and no lock.
 #[derive(Drop)]
 pub struct StockSeat {
-    pub(crate) seat: Seat<(), Views>,
+    pub(crate) place: Place,
     pub(crate) number: u32,
     // The stock that a processor's seat saw last.
     pub(crate) last: Stock,
@@ -23,9 +22,9 @@ impl Model for StockSeat {
 
     ghost use Rattle.stock_word.specs.Stock.{first_of, IsKept};
 
-    ghost view = { λ s. record { table = s.seat.table_id; view = first_of s.seat.me.0 } };
+    ghost view = { λ s. record { table = s.place.table; view = first_of s.place.views } };
 
-    ghost invariant = { λ s. IsKept s.seat.me s.number s.last };
+    ghost invariant = { λ s. IsKept s.place.views s.number s.last };
 }
 
 impl StockSeat {

@@ -19,18 +19,58 @@ fn drained_with_a_fresh_page(rt: HostRuntime) -> Result<(), Fail> {
     let (words, mut machine, mut seats) = StockWords::new(rt.alloc(), 1)?;
     let mut seat = seats.pop().expect(&rt, "the seat of processor 1");
     words.fill(&mut machine, &mut seat, 1, 4);
-    assert_eq!(rt; words.table.shared.peek(16), 131_076);
+    assert_eq!(rt; words.peek(16), 131_076);
     assert_eq!(rt; words.consume(&mut seat, 1), Consume::Took);
-    assert_eq!(rt; words.table.shared.peek(16), 131_075);
+    assert_eq!(rt; words.peek(16), 131_075);
     assert_eq!(rt; words.consume(&mut seat, 2), Consume::OtherGroup);
     assert_eq!(rt; words.drain(&mut machine, 1), 3);
-    assert_eq!(rt; words.table.shared.peek(16), 4_295_098_368);
+    assert_eq!(rt; words.peek(16), 4_295_098_368);
     assert_eq!(rt; words.consume(&mut seat, 1), Consume::Drained);
     assert_eq!(rt; words.credit(&mut seat), Credit::Drained);
     words.report(&mut machine, &mut seat, 1);
-    assert_eq!(rt; words.table.shared.peek(17), 1);
+    assert_eq!(rt; words.peek(17), 1);
     assert_eq!(rt; words.absorb(&mut machine, 1), 1);
     nothing_booked(&machine);
+    Ok(())
+}
+
+// Takes a page of the stock, of whatever group it is, where one is left. Tells whether there was.
+fn take_left(words: &StockWords, machine: &mut StockSeat, seat: &mut StockSeat) -> bool
+    requires tables { (machine.old.table ≡ words.now.table) × (seat.old.table ≡ words.now.table) }
+    requires seats { IsMachine machine.old.view × IsProcessor words.now seat.old.view }
+    ensures tables { (machine.new.table ≡ words.now.table) × (seat.new.table ≡ words.now.table) }
+    ensures seats { IsMachine machine.new.view × IsProcessor words.now seat.new.view }
+{
+    match words.look(machine, seat) {
+        Stock::HeldBy { group, pages } if pages > 0 => {
+            words.consume_held(machine, seat, group);
+            true
+        }
+        _ => false,
+    }
+}
+
+#[test]
+fn taken_by_the_books(rt: HostRuntime) -> Result<(), Fail> {
+    let (words, mut machine, mut seats) = StockWords::new(rt.alloc(), 2)?;
+    let mut seat = seats.pop().expect(&rt, "the seat of processor 2");
+    assert_eq!(rt; words.cpus(), 2);
+    assert_eq!(rt; seat.number(), 2);
+    assert_eq!(rt; seat.last(), Stock::NoGroup);
+    assert_eq!(rt; words.look(&mut machine, &mut seat), Stock::NoGroup);
+    words.fill(&mut machine, &mut seat, 63, 2);
+    assert_eq!(rt; words.peek(32), 4_194_306);
+    assert_eq!(rt; take_left(&words, &mut machine, &mut seat), true);
+    assert_eq!(rt;
+        seat.last(),
+        Stock::HeldBy {
+            group: 63,
+            pages: 1
+        }
+    );
+    assert_eq!(rt; words.consume(&mut seat, 63), Consume::Took);
+    assert_eq!(rt; words.consume(&mut seat, 63), Consume::Empty);
+    assert_eq!(rt; words.look(&mut machine, &mut seat).pages(), 0);
     Ok(())
 }
 
@@ -83,7 +123,9 @@ fn round<R: Threads + Sync>(
         rt,
         move || -> (u32, StockSeat)
             requires { (machine.table ≡ words.now.table) × IsMachine machine.view × (1 ≤ words.now.cpus) }
-            ensures { (result.1.table ≡ words.entry.now.table) × (result.1.view ≡ draining machine.view 1 result.0) × (result.0 ≤ (account_of machine.view 1).book) }
+            ensures { (result.1.table ≡ words.entry.now.table)
+                × (result.1.view ≡ draining machine.view 1 result.0)
+                × (result.0 ≤ (account_of machine.view 1).book) }
         {
             let mut own = machine;
             (words.drain(&mut own, 1), own)

@@ -1,27 +1,11 @@
-//! The stock table, and the calls that a processor makes alone.
-ghost use Rattle.std.specs.Prelude.{◌≡◌, ◌*◌, ◌+◌, ◌<◌, ◌≤◌};
+//! The calls that a processor makes alone.
+ghost use Rattle.std.specs.Prelude.{◌≡◌, ◌<◌};
 ghost use Rattle.stock_word.specs.Stock.{IsProcessor};
 ghost use Rattle.stock_word.specs.Calls.{Consumed, Credited};
 
-use crate::kinds::{Consuming, Crediting, Views};
+use crate::kinds::StockWords;
 use crate::seat::StockSeat;
 use crate::view::Stock;
-use atomic_table::{Table, TableRule};
-use std::alloc::Global;
-use std::marker::Model;
-
-/// The rule of the table. Its key is the number of processors.
-pub struct StockRule;
-
-impl TableRule<(), Views, u32> for StockRule {
-    ghost use Rattle.std.specs.Prelude.{◌∷◌};
-    ghost use Rattle.stock_word.specs.Stock.{first_machine, first_processors};
-    ghost use Rattle.stock_word.specs.StockRule as rule;
-
-    ghost holds = { λ cpus s. rule.StockRule cpus s.words s.views };
-
-    ghost first = { λ cpus. first_machine ∷ first_processors 1 cpus };
-}
 
 /// What a `consume` found.
 #[derive(Clone, Copy, Debug, PartialEq, Eq)]
@@ -45,39 +29,6 @@ pub enum Credit {
     Drained,
 }
 
-/// The stock words and report words of all processors, which are numbered from 1. A contract sees
-/// which table it is and the number of processors. Threads share it by `&`; no call waits.
-#[derive(Drop)]
-pub struct StockWords {
-    pub(crate) table: Table<(), Views, u32, StockRule, Global>,
-}
-
-impl Model for StockWords {
-    ghost use Rattle.stock_word.specs.Stock.{Words};
-
-    ghost Value = { Words };
-
-    ghost use Rattle.std.specs.Prelude.{◌≡◌, ◌+◌, ◌*◌};
-
-    ghost view = { λ t. record { table = t.table.shared.table_id; cpus = t.table.shared.key } };
-
-    ghost invariant = { λ t. (t.table.shared.table_id.words ≡ 16 * (t.table.shared.key + 1)) × (t.table.shared.table_id.slots ≡ 0) };
-}
-
-/// The place of a processor's stock word: word 0 of its row of sixteen.
-pub(crate) fn stock_place(number: u32) -> usize
-    ensures { result ≡ 16 * number }
-{
-    16 * number as usize
-}
-
-/// The place of a processor's report word: word 1 of its row of sixteen.
-pub(crate) fn report_place(number: u32) -> usize
-    ensures { result ≡ 16 * number + 1 }
-{
-    stock_place(number) + 1
-}
-
 impl StockWords {
     /// Takes a page of group `g` (0 to 63) from the processor's stock, by one exchange. `Empty` and
     /// `OtherGroup` tell of the stock that the processor saw last, without a step. Only a drain
@@ -94,18 +45,12 @@ impl StockWords {
                 if pages == 0 {
                     return Consume::Empty;
                 }
-                let word = seat.last.word();
-                let left = Stock::HeldBy {
-                    group,
-                    pages: pages - 1,
-                };
-                let place = stock_place(seat.number);
-                let found = self
-                    .table
-                    .shared
-                    .compare_exchange::<Consuming>(&mut seat.seat, place, word, left.word());
-                if found == word {
-                    seat.last = left;
+                let found = self.step_consume(&mut seat.place, seat.number, group, pages);
+                if found == seat.last.word() {
+                    seat.last = Stock::HeldBy {
+                        group,
+                        pages: pages - 1,
+                    };
                     Consume::Took
                 } else {
                     seat.last = Stock::DrainedOf { group };
@@ -129,18 +74,12 @@ impl StockWords {
     {
         match seat.last {
             Stock::HeldBy { group, pages } => {
-                let word = seat.last.word();
-                let more = Stock::HeldBy {
-                    group,
-                    pages: pages + 1,
-                };
-                let place = stock_place(seat.number);
-                let found = self
-                    .table
-                    .shared
-                    .compare_exchange::<Crediting>(&mut seat.seat, place, word, more.word());
-                if found == word {
-                    seat.last = more;
+                let found = self.step_credit(&mut seat.place, seat.number, group, pages);
+                if found == seat.last.word() {
+                    seat.last = Stock::HeldBy {
+                        group,
+                        pages: pages + 1,
+                    };
                     Credit::Back
                 } else {
                     seat.last = Stock::DrainedOf { group };

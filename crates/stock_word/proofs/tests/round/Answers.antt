@@ -1,6 +1,6 @@
 use Rattle.std.proofs.Common.{rules, ap}
 use Rattle.stock_word.specs.Stock.{Seated}
-use Rattle.stock_word.proofs.Keeps.{settled_after}
+use Rattle.stock_word.proofs.CallerLemmas.{settled_after}
 use Rattle.stock_word.proofs.tests.round.Goals as goal
 
 pub returns-clause-settled : goal.returns-clause-settled

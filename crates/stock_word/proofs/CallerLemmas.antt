@@ -1,0 +1,53 @@
+-- Lemmas for callers: the accounts after a change, and what a fill and a drain leave. They serve the crates above, Steps.antt and the tests.
+use Rattle.std.proofs.Common.{◌≡◌, ◌≢◌, ℕ, zero, suc, ◌-◌, false, List, [], ◌∷◌, Some, refl, ap, ◌∙◌, arith}
+use Rattle.stock_word.specs.declared.view.Account.{Account}
+use Rattle.stock_word.specs.declared.view.StockView.{StockView}
+use Rattle.stock_word.specs.Stock.{account_at, with_account_at, account_of, account_for, stocked, with_account, IsSettled}
+use Rattle.stock_word.specs.Kinds.{after_report, noting, filling, after_fill, draining, absorbing}
+
+place_set : (accounts : List Account) (p : ℕ) (a : Account) → account_at (with_account_at accounts p a) p ≡ a
+place_set [] zero a = refl
+place_set [] (suc p) a = place_set [] p a
+place_set (b ∷ accounts) zero a = refl
+place_set (b ∷ accounts) (suc p) a = place_set accounts p a
+
+place_else : (accounts : List Account) (p q : ℕ) (a : Account) → q ≢ p → account_at (with_account_at accounts p a) q ≡ account_at accounts q
+place_else [] zero zero a ne = absurd (ne refl)
+place_else [] zero (suc q) a ne = refl
+place_else [] (suc p) zero a ne = refl
+place_else [] (suc p) (suc q) a ne = place_else [] p q a (λ e. ne (ap suc e))
+place_else (b ∷ accounts) zero zero a ne = absurd (ne refl)
+place_else (b ∷ accounts) zero (suc q) a ne = refl
+place_else (b ∷ accounts) (suc p) zero a ne = refl
+place_else (b ∷ accounts) (suc p) (suc q) a ne = place_else accounts p q a (λ e. ne (ap suc e))
+
+-- the account that was put at p, and the others
+pub account_of-with_account : (m : StockView) (p : ℕ) (a : Account) → account_of (with_account m p a) p ≡ a
+account_of-with_account m p a = place_set m.accounts p a
+
+pub account_of-with_account_other : (m : StockView) (p q : ℕ) (a : Account) → q ≢ p → account_of (with_account m p a) q ≡ account_of m q
+account_of-with_account_other m p q a ne = place_else m.accounts p q a ne
+
+-- after a fill with n pages of group g the books have n pages of g in the stock
+pub group_filled : (m v : StockView) (g n : ℕ) → (account_for (filling m v.number g n) (after_fill v g n)).group ≡ Some g
+group_filled m v g n = ap (λ (a : Account). a.group) (account_of-with_account m v.number _)
+
+pub stocked_filled : (m v : StockView) (g n : ℕ) → (account_for m v).book ≡ 0 → v.fresh ≡ 0 → (account_for m v).noted ≡ 0
+    → stocked (filling m v.number g n) (after_fill v g n) ≡ n
+stocked_filled m v g n book fresh noted =
+    let is = account_of-with_account m v.number _ in
+    ap (λ (a : Account). a.book - v.fresh - a.noted) is ∙ omega (arith, book, fresh, noted)
+
+-- after a drain, a report of all fresh pages and an absorb the stock may be filled
+pub settled_after : (m0 m1 m2 m3 v v' : StockView) (n k : ℕ) → v.number ≡ 1 → v.fresh ≡ k → m1 ≡ draining m0 1 n → m2 ≡ noting m1 v.number k
+    → m3 ≡ absorbing m2 1 → v' ≡ after_report v k → IsSettled m3 v'
+settled_after m0 m1 m2 m3 v v' n k one fresh drained noted absorbed reported =
+    let named : v'.number ≡ 1 = ap (λ (u : StockView). u.number) reported ∙ one in
+    let a1 : (account_of m1 1).filled ≡ false = ap (λ (u : StockView). (account_of u 1).filled) drained ∙ ap (λ (a : Account). a.filled) (account_of-with_account m0 1 _) in
+    let a2 : (account_of m2 1).filled ≡ false = ap (λ (u : StockView). (account_of u 1).filled) (noted ∙ ap (λ (p : ℕ). noting m1 p k) one)
+    ∙ ap (λ (a : Account). a.filled) (account_of-with_account m1 1 _) ∙ a1 in
+    let a3 = ap (λ (u : StockView). account_of u 1) absorbed ∙ account_of-with_account m2 1 _ in (
+      ap (λ (p : ℕ). (account_of m3 p).filled) named ∙ ap (λ (a : Account). a.filled) a3 ∙ a2,
+      ap (λ (u : StockView). u.fresh) reported ∙ omega (arith, fresh),
+      ap (λ (p : ℕ). (account_of m3 p).noted) named ∙ ap (λ (a : Account). a.noted) a3,
+    )
