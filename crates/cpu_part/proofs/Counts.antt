@@ -1,0 +1,41 @@
+-- How often a frame stands in a list that grew, shrank or was parted.
+use Rattle.std.proofs.Common.{◌≡◌, ◌≢◌, ℕ, ◌+◌, ◌<◌, ◌≤◌, List, [], ◌∷◌, ◌++◌, length, get_or, cond, eqb, sym, refl, ap, ◌∙◌, subst, eq-eqb, ne_eqb, arith}
+use Rattle.std.proofs.lemmas.List.Sums.{sum_by-cons, sum_by_push, sum_by-remove}
+use Rattle.std.proofs.lemmas.List.{get_or_default}
+use Rattle.std.proofs.lemmas.List.Sorted.{sum_by-IsPermutation, IsPermutation-swap_remove}
+use Rattle.std.specs.Prelude.{sum_by, remove, IsPermutation}
+use Rattle.std.specs.List.{swap_remove}
+use Rattle.cpu_part.specs.Cpus.{times}
+
+abbrev pub test : ℕ → ℕ → ℕ
+test g x = cond (eqb x g) 1 0
+
+pub test_here : (g : ℕ) → test g g ≡ 1
+test_here g = subst (λ b. ◌≡◌ {A = ℕ} (cond b 1 0) 1) (sym (eq-eqb g g refl)) refl
+
+pub test_other : (g x : ℕ) → x ≢ g → test g x ≡ 0
+test_other g x not = subst (λ b. ◌≡◌ {A = ℕ} (cond b 1 0) 0) (sym (ne_eqb x g not)) refl
+
+pub times_front : (g x : ℕ) (xs : List ℕ) → times g (x ∷ xs) ≡ test g x + times g xs
+times_front g x xs = sum_by-cons (test g) x xs
+
+pub times_end : (g x : ℕ) (xs : List ℕ) → times g (xs ++ x ∷ []) ≡ times g xs + test g x
+times_end g x xs = sum_by_push (test g) xs x
+
+pub times_without : (g : ℕ) (xs : List ℕ) (i : ℕ) → i < length xs → times g (remove xs i) + test g (get_or xs i 0) ≡ times g xs
+times_without g xs i inside = sum_by-remove (test g) xs i 0 inside
+
+pub times_parted : (g f : ℕ) (xs ys : List ℕ) → IsPermutation xs (f ∷ ys) → times g xs ≡ test g f + times g ys
+times_parted g f xs ys same = sym (sum_by-IsPermutation (test g) xs (f ∷ ys) same) ∙ times_front g f ys
+
+-- what is left where the entry at the place of f went
+pub parted_at : (f i x : ℕ) (xs s ys : List ℕ) → s ≡ xs → i < length s → get_or s i 0 ≡ f → x ≡ get_or xs i x → ys ≡ swap_remove xs i x → IsPermutation xs (f ∷ ys)
+parted_at f i x xs s ys same inside is value left =
+    let within : i < length xs = subst (λ (l : List ℕ). i < length l) same inside in
+    let e : x ≡ f = value ∙ get_or_default xs i x 0 within ∙ ap (λ (l : List ℕ). get_or l i 0) (sym same) ∙ is in
+    subst (λ (p : ℕ × List ℕ). IsPermutation xs (p.0 ∷ p.1)) (λ j. (e j, sym left j)) (IsPermutation-swap_remove xs i x within value)
+
+-- the front of a list that was removed
+pub front_removed : (x : ℕ) (xs rest : List ℕ) → 0 < length xs → x ≡ get_or xs 0 x → rest ≡ remove xs 0 → xs ≡ x ∷ rest
+front_removed x [] rest some is left = absurd (omega arith)
+front_removed x (y ∷ ys) rest some is left = λ i. sym is i ∷ sym left i

@@ -1,0 +1,11 @@
+use Rattle.std.proofs.Common.{rules, inl, inr}
+use Rattle.cpu_part.proofs.Tied.{tied_front_handed, front_inside}
+use Rattle.cpu_part.proofs.cpu.Cpu.hand_front.Goals as goal
+
+pub pass_back-requires-clause-frame : goal.pass_back-requires-clause-frame
+pass_back-requires-clause-frame g c =
+    let inside = front_inside _ _ _ c.self.invariant.0 c.in_ok-frame.frame c.pop_front.new.self.items (inl c.in_ok-frame.ensures.items) in search rules
+
+pub invariant_of-self-2 : goal.invariant_of-self-2
+invariant_of-self-2 g c =
+    (tied_front_handed _ _ _ c.self.invariant.0 c.in_ok-frame.frame c.pass_back.new.cpu c.pop_front.new.self.items c.pass_back.ensures.cpu c.in_ok-frame.ensures.items, search rules)

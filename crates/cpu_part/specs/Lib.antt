@@ -1,0 +1,2 @@
+pub mod Cpus
+pub mod Calls

@@ -1,0 +1,100 @@
+//! A processor's part, and how it is made.
+ghost use Rattle.std.specs.Prelude.{◌≡◌, ◌≤◌, IfOk};
+
+use crate::boot_name::BootName;
+use frame_word::{Frame, FrameSeat};
+use std::alloc::{AllocError, Global};
+use std::collections::VecDeque;
+use std::marker::{Model, PhantomData};
+use stock_word::StockSeat;
+
+/// The most frames of a processor, listed and fresh ones together.
+pub const MOST_LISTED: usize = 256;
+
+/// The most fresh frames of a processor.
+pub const MOST_FRESH: usize = 32;
+
+/// The most pins of a processor and back frames, together.
+pub const MOST_PINS: usize = 256;
+
+// Entries past the last one that is used: as many bytes as a line of the cache.
+const SPARE: usize = 16;
+
+/// What a processor has for itself. It is spent by `into_seats`. At its end lies a line of the cache
+/// that no one writes, so that no two processors write one.
+pub struct Cpu<N: BootName> {
+    pub(crate) number: u32,
+    pub(crate) list: VecDeque<Frame>,
+    pub(crate) fresh: Vec<Frame>,
+    pub(crate) back: VecDeque<Frame>,
+    pub(crate) pins: Vec<Frame>,
+    pub(crate) seat: FrameSeat,
+    pub(crate) stock: StockSeat,
+    pub(crate) drops: u64,
+    pub(crate) gap: [u64; 8],
+    pub(crate) of: PhantomData<N>,
+}
+
+impl<N: BootName> Model for Cpu<N> {
+    ghost use Rattle.std.specs.VecDeque.{deque_capacity};
+    ghost use Rattle.std.specs.Vec.{vec_capacity};
+    ghost use Rattle.cpu_part.specs.Cpus.{KnownCpu, IsTied, HasRoom};
+
+    ghost Value = { KnownCpu };
+
+    ghost view = { λ c. record { number = c.number; list = c.list.items; fresh = c.fresh.items; back = c.back.items; pins = c.pins.items; seat = c.seat; stock = c.stock; drops = c.drops } };
+
+    ghost invariant = { λ c. IsTied N.frames N.stocks (record { number = c.number; list = c.list.items; fresh = c.fresh.items; back = c.back.items; pins = c.pins.items; seat = c.seat; stock = c.stock; drops = c.drops }) × HasRoom (deque_capacity c.list) (vec_capacity c.fresh) (deque_capacity c.back) (vec_capacity c.pins) };
+}
+
+impl<N: BootName> Cpu<N> {
+    ghost use Rattle.frame_word.specs.Seats.{number_of, first_cpu_view, IsCpuSeat};
+    ghost use Rattle.stock_word.specs.Stock.{IsProcessor};
+    ghost use Rattle.cpu_part.specs.Cpus.{first_cpu, IsIdle};
+
+    /// The part of the processor whose seats these are, which did nothing yet. All room that its
+    /// calls need is reserved. `AllocError` comes where memory is wanting.
+    pub fn new(alloc: Global, seat: FrameSeat, stock: StockSeat) -> Result<Cpu<N>, AllocError>
+        requires seat { IsCpuSeat N.frames seat × (seat.view ≡ first_cpu_view (number_of seat)) }
+        requires stock { (stock.table ≡ N.stocks.table) × IsProcessor N.stocks stock.view × (stock.view.fresh ≡ 0) }
+        requires same { stock.view.number ≡ number_of seat }
+        ensures { IfOk result (λ c. c ≡ first_cpu seat stock) }
+    {
+        let list = VecDeque::with_capacity(alloc, MOST_LISTED)?;
+        let fresh = Vec::with_capacity(alloc, MOST_FRESH)?;
+        let back = VecDeque::with_capacity(alloc, MOST_PINS)?;
+        let pins = Vec::with_capacity(alloc, MOST_PINS + SPARE)?;
+        Ok(Cpu {
+            number: seat.number(),
+            list,
+            fresh,
+            back,
+            pins,
+            seat,
+            stock,
+            drops: 0,
+            gap: [0; 8],
+            of: PhantomData,
+        })
+    }
+
+    /// The two seats, where nothing is left: no frame on the lists and no pin.
+    pub fn into_seats(self) -> (FrameSeat, StockSeat)
+        requires { IsIdle self }
+        ensures { result ≡ (self.seat, self.stock) }
+    {
+        let Cpu {
+            number: _,
+            list: _,
+            fresh: _,
+            back: _,
+            pins: _,
+            seat,
+            stock,
+            drops: _,
+            gap: _,
+            of: _,
+        } = self;
+        (seat, stock)
+    }
+}

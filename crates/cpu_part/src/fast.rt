@@ -1,0 +1,53 @@
+//! The fast path: frames are paid for and given back without a lock.
+ghost use Rattle.std.specs.Prelude.{◌≡◌, ◌<◌, ◌≤◌, ℕ};
+ghost use Rattle.cpu_part.specs.declared.answers.Fast.TheVariants.{Got};
+ghost use Rattle.cpu_part.specs.Cpus.{times};
+ghost use Rattle.cpu_part.specs.Calls.{FastAnswers, DropAnswers};
+
+use crate::answers::{Dropped, Fast};
+use crate::boot_name::{BootName, Tables};
+use crate::cpu::{Cpu, MOST_FRESH};
+use crate::moves::{freshen, relist};
+use frame_word::Frame;
+use stock_word::{Consume, Credit};
+
+impl<N: BootName> Cpu<N> {
+    /// Takes the front of the list for group `group` (0 to 63), and pays for it from the processor's
+    /// stock. The answer is the first of these that holds: 32 fresh frames, an empty list, what the
+    /// stock says; else the frame.
+    pub fn alloc_fast(&mut self, tables: &Tables<N>, group: u32) -> Fast
+        requires { group < 64 }
+        ensures answer { FastAnswers group result self.old self.new }
+        ensures frame { (f : ℕ) → result ≡ Got f → f < N.frames.frames }
+    {
+        if self.fresh.len() == MOST_FRESH {
+            return Fast::FreshFull;
+        }
+        if self.list.is_empty() {
+            return Fast::ListEmpty;
+        }
+        match tables.stocks.consume(&mut self.stock, group) {
+            Consume::OtherGroup => Fast::OtherGroup,
+            Consume::Drained => Fast::Drained,
+            Consume::Empty => Fast::NoStock,
+            Consume::Took => Fast::Got(freshen(&mut self.list, &mut self.fresh)),
+        }
+    }
+
+    /// Gives a fresh frame back: its page to the stock, the frame to the end of the list. Where the
+    /// stock was drained, nothing changes but what the processor saw of it. A frame that is listed
+    /// again counts as one drop and one return; the count stays at 2^64 - 1.
+    pub fn drop_fresh(&mut self, tables: &Tables<N>, frame: Frame) -> Dropped
+        requires { 1 ≤ times frame self.old.fresh }
+        ensures { DropAnswers frame result self.old self.new }
+    {
+        match tables.stocks.credit(&mut self.stock) {
+            Credit::Drained => Dropped::NeedVisit,
+            Credit::Back => {
+                relist(&mut self.list, &mut self.fresh, frame);
+                self.drops = self.drops.saturating_add(1);
+                Dropped::Listed
+            }
+        }
+    }
+}

@@ -1,0 +1,50 @@
+//! Frames that move between a processor's lists.
+ghost use Rattle.std.specs.Prelude.{◌≡◌, ◌+◌, ◌<◌, ◌≤◌, ℕ, [], ◌∷◌, ◌++◌, length, remove, slice_index, IsPermutation, vec_len, vec_capacity};
+ghost use Rattle.std.specs.VecDeque.{deque_len, deque_capacity};
+ghost use Rattle.cpu_part.specs.Cpus.{times};
+
+use crate::search::last_place;
+use frame_word::Frame;
+use std::collections::VecDeque;
+
+/// The front of the list becomes the newest fresh frame.
+pub(crate) fn freshen(list: &mut VecDeque<Frame>, fresh: &mut Vec<Frame>) -> Frame
+    requires front { 0 < deque_len list.old }
+    requires room { vec_len fresh.old < vec_capacity fresh.old }
+    ensures front { list.old.items ≡ result ∷ list.new.items }
+    ensures fresh { fresh.new.items ≡ fresh.old.items ++ result ∷ [] }
+    ensures rooms { (deque_capacity list.new ≡ deque_capacity list.old) × (vec_capacity fresh.new ≡ vec_capacity fresh.old) }
+{
+    let Some(frame) = list.pop_front() else {
+        unreachable!()
+    };
+    fresh.push_reserved(frame);
+    frame
+}
+
+/// A fresh frame goes to the end of the list.
+pub(crate) fn relist(list: &mut VecDeque<Frame>, fresh: &mut Vec<Frame>, frame: Frame)
+    requires fresh { 1 ≤ times frame fresh.old.items }
+    requires room { deque_len list.old < deque_capacity list.old }
+    ensures list { list.new.items ≡ list.old.items ++ frame ∷ [] }
+    ensures fresh { (i : ℕ) × (i < length fresh.old.items) × (slice_index fresh.old.items i ≡ frame) × (fresh.new.items ≡ remove fresh.old.items i) }
+    ensures rooms { (deque_capacity list.new ≡ deque_capacity list.old) × (vec_capacity fresh.new ≡ vec_capacity fresh.old) }
+{
+    let Some(place) = last_place(fresh.as_slice(), frame) else {
+        unreachable!()
+    };
+    fresh.remove(place);
+    list.push_back_reserved(frame);
+}
+
+/// A pin goes.
+pub(crate) fn unpin(pins: &mut Vec<Frame>, frame: Frame)
+    requires { 1 ≤ times frame pins.old.items }
+    ensures pins { IsPermutation pins.old.items (frame ∷ pins.new.items) }
+    ensures room { vec_capacity pins.new ≡ vec_capacity pins.old }
+{
+    let Some(place) = last_place(pins.as_slice(), frame) else {
+        unreachable!()
+    };
+    pins.swap_remove(place);
+}

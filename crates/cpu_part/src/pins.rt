@@ -1,0 +1,54 @@
+//! Pins: the references of the processor.
+ghost use Rattle.std.specs.Prelude.{◌≡◌, ◌≢◌, ◌+◌, ◌<◌, ◌≤◌, length, IfOk, MatchResult, Ok};
+ghost use Rattle.frame_word.specs.declared.answers.Get.TheVariants.{Zero};
+ghost use Rattle.frame_word.specs.Seats.{IsInNoHand};
+ghost use Rattle.group_tree.specs.declared.fault.Fault.TheVariants.{PinsFull};
+ghost use Rattle.cpu_part.specs.Cpus.{times};
+ghost use Rattle.cpu_part.specs.Calls.{PinAnswers, UnpinAnswers};
+
+use crate::boot_name::{BootName, Tables};
+use crate::cpu::{Cpu, MOST_PINS};
+use crate::moves::unpin;
+use frame_word::{Frame, Get, Put};
+use group_tree::fault::Fault;
+
+impl<N: BootName> Cpu<N> {
+    /// Pins the frame where someone has a reference on it. `PinsFull` comes where pins and back
+    /// frames are 256 together, before the word is looked at. A processor that has a pin on the
+    /// frame never gets `Zero`.
+    pub fn get(&mut self, tables: &Tables<N>, frame: Frame) -> Result<Get, Fault>
+        requires { frame < N.frames.frames }
+        ensures answer { MatchResult result
+            (λ answer. (length self.old.back + length self.old.pins < 256) × PinAnswers frame answer self.old self.new)
+            (λ fault. (fault ≡ PinsFull) × (length self.old.back + length self.old.pins ≡ 256) × (self.new ≡ self.old)) }
+        ensures never_zero { 1 ≤ times frame self.old.pins → result ≢ Ok Zero }
+        ensures in_no_hand { IfOk result (λ answer. answer ≢ Zero → IsInNoHand self.old.seat frame) }
+    {
+        if self.back.len() + self.pins.len() == MOST_PINS {
+            return Err(Fault::PinsFull);
+        }
+        match tables.frames.get(&mut self.seat, frame) {
+            Get::Held => {
+                self.pins.push_reserved(frame);
+                Ok(Get::Held)
+            }
+            other => Ok(other),
+        }
+    }
+
+    /// Takes one pin from the frame. After its last reference the frame is the newest back frame.
+    pub fn put(&mut self, tables: &Tables<N>, frame: Frame) -> Put
+        requires { 1 ≤ times frame self.old.pins }
+        ensures answer { UnpinAnswers frame result self.old self.new }
+        ensures in_no_hand { IsInNoHand self.old.seat frame }
+    {
+        unpin(&mut self.pins, frame);
+        match tables.frames.put(&mut self.seat, frame) {
+            Put::Last => {
+                self.back.push_back_reserved(frame);
+                Put::Last
+            }
+            Put::Left(left) => Put::Left(left),
+        }
+    }
+}

@@ -1,0 +1,102 @@
+//! What a processor's part tells of itself.
+ghost use Rattle.std.specs.Prelude.{◌≡◌, ◌≤◌, ◌<◌, ◌+◌, ◌↔◌, [], length, IsTrue, MatchOption};
+ghost use Rattle.stock_word.specs.declared.view.Stock.TheVariants.{NoGroup};
+ghost use Rattle.stock_word.specs.Stock.{HasWord};
+ghost use Rattle.cpu_part.specs.Cpus.{IsTied, IsIdle, times};
+
+use crate::boot_name::BootName;
+use crate::cpu::Cpu;
+use crate::search::last_place;
+use frame_word::Frame;
+use stock_word::Stock;
+
+impl<N: BootName> Cpu<N> {
+    /// The processor's number, from 1 up.
+    pub fn number(&self) -> u32
+        ensures number { result ≡ self.now.number }
+        ensures tied { IsTied N.frames N.stocks self.now }
+    {
+        self.number
+    }
+
+    /// Whether the processor has a pin on the frame.
+    pub fn holds(&self, frame: Frame) -> bool
+        ensures { IsTrue result ↔ (1 ≤ times frame self.now.pins) }
+    {
+        last_place(self.pins.as_slice(), frame).is_some()
+    }
+
+    /// Whether the frame is one of the fresh frames.
+    pub fn has_fresh(&self, frame: Frame) -> bool
+        ensures { IsTrue result ↔ (1 ≤ times frame self.now.fresh) }
+    {
+        last_place(self.fresh.as_slice(), frame).is_some()
+    }
+
+    /// The number of pins, at most 256 with the back frames.
+    pub fn pins(&self) -> usize
+        ensures count { result ≡ length self.now.pins }
+        ensures bound { result + length self.now.back ≤ 256 }
+    {
+        self.pins.len()
+    }
+
+    /// A frame that is pinned, where there is one.
+    pub fn first_pin(&self) -> Option<Frame>
+        ensures { MatchOption result (self.now.pins ≡ []) (λ f. (1 ≤ times f self.now.pins) × (f < N.frames.frames)) }
+    {
+        self.pins.first().copied()
+    }
+
+    /// The number of frames on the list, at most 256 with the fresh frames.
+    pub fn list_len(&self) -> usize
+        ensures count { result ≡ length self.now.list }
+        ensures bound { result + length self.now.fresh ≤ 256 }
+    {
+        self.list.len()
+    }
+
+    /// The number of fresh frames, at most 32.
+    pub fn fresh_len(&self) -> usize
+        ensures count { result ≡ length self.now.fresh }
+        ensures bound { result ≤ 32 }
+        ensures pages { result ≡ self.now.stock.view.fresh }
+    {
+        self.fresh.len()
+    }
+
+    /// The number of back frames, at most 256 with the pins.
+    pub fn back_len(&self) -> usize
+        ensures { result ≡ length self.now.back }
+    {
+        self.back.len()
+    }
+
+    /// The stock that the processor saw last, of which its fresh frames are. A drain may have come
+    /// since.
+    pub fn last_stock(&self) -> Stock
+        ensures last { result ≡ self.now.stock.view.last }
+        ensures has_word { HasWord result }
+        ensures none_fresh { result ≡ NoGroup → self.now.fresh ≡ [] }
+    {
+        self.stock.last()
+    }
+
+    /// How often a fresh frame went back to the list. Each is one drop and one return. The count
+    /// stays at 2^64 - 1.
+    pub fn drops(&self) -> u64
+        ensures { result ≡ self.now.drops }
+    {
+        self.drops
+    }
+
+    /// Whether nothing is left: no frame on the lists and no pin.
+    pub fn is_idle(&self) -> bool
+        ensures { IsTrue result ↔ IsIdle self.now }
+    {
+        self.list.is_empty()
+            && self.fresh.is_empty()
+            && self.back.is_empty()
+            && self.pins.is_empty()
+    }
+}

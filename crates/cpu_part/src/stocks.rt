@@ -1,0 +1,61 @@
+//! What a processor prepays and pays inside a visit: with the machine's seat of the stocks beside.
+ghost use Rattle.std.specs.Prelude.{◌≡◌, ◌+◌, ◌-◌, ◌<◌, ◌≤◌, ◌⊎◌, [], Some, false, length};
+ghost use Rattle.stock_word.specs.Stock.{IsMachine, account_of, stocked, pages_of, group_of, is_held, drained_of};
+ghost use Rattle.stock_word.specs.Kinds.{filling, after_fill};
+ghost use Rattle.stock_word.specs.Calls.{with_view};
+ghost use Rattle.cpu_part.specs.Calls.{TakesFront};
+
+use crate::boot_name::{BootName, Tables};
+use crate::cpu::Cpu;
+use crate::moves::freshen;
+use frame_word::Frame;
+use stock_word::{Stock, StockSeat};
+
+impl<N: BootName> Cpu<N> {
+    /// Fills the processor's stock with `pages` pages (1 to 65,535) of group `group` (0 to 63). The
+    /// stock was never filled, or was drained after its last fill; there is no fresh frame, and no
+    /// reported page that was not taken in.
+    pub fn fill(&mut self, tables: &Tables<N>, machine: &mut StockSeat, group: u32, pages: u32)
+        requires machine { (machine.old.table ≡ N.stocks.table) × IsMachine machine.old.view }
+        requires group { group < 64 }
+        requires pages { (0 < pages) × (pages < 65536) }
+        requires drained { (account_of machine.old.view self.old.number).filled ≡ false }
+        requires settled { (self.old.fresh ≡ []) × ((account_of machine.old.view self.old.number).noted ≡ 0) }
+        ensures nothing_booked { (account_of machine.old.view self.old.number).book ≡ 0 }
+        ensures machine { machine.new ≡ with_view machine.old (filling machine.old.view self.old.number group pages) }
+        ensures cpu { self.new ≡ record self.old { stock = with_view self.old.stock (after_fill self.old.stock.view group pages) } }
+    {
+        tables.stocks.fill(machine, &mut self.stock, group, pages);
+    }
+
+    /// The processor's stock by its word, and so by the books: one look, which changes nothing. The
+    /// book is the pages in the stock, the fresh ones and the reported ones.
+    pub fn look(&mut self, tables: &Tables<N>, machine: &mut StockSeat) -> Stock
+        requires machine { (machine.old.table ≡ N.stocks.table) × IsMachine machine.old.view }
+        ensures balanced { (account_of machine.old.view self.old.number).book ≡ pages_of result + self.old.stock.view.fresh + (account_of machine.old.view self.old.number).noted }
+        ensures bounded { (account_of machine.old.view self.old.number).book < 65536 }
+        ensures group { group_of result ≡ (account_of machine.old.view self.old.number).group }
+        ensures held { is_held result ≡ (account_of machine.old.view self.old.number).filled }
+        ensures last { (result ≡ self.old.stock.view.last) ⊎ (result ≡ drained_of self.old.stock.view.last) }
+        ensures machine { machine.new ≡ machine.old }
+        ensures cpu { self.new ≡ self.old }
+    {
+        tables.stocks.look(machine, &mut self.stock)
+    }
+
+    /// Takes the front of the list for group `group` and pays for it, always. By the books the
+    /// processor's stock, which is of that group, has a page that is neither fresh nor reported.
+    pub fn take_front(&mut self, tables: &Tables<N>, machine: &mut StockSeat, group: u32) -> Frame
+        requires machine { (machine.old.table ≡ N.stocks.table) × IsMachine machine.old.view }
+        requires group { (account_of machine.old.view self.old.number).group ≡ Some group }
+        requires page { 0 < stocked machine.old.view self.old.stock.view }
+        requires front { 1 ≤ length self.old.list }
+        requires room { length self.old.fresh < 32 }
+        ensures machine { machine.new ≡ machine.old }
+        ensures cpu { TakesFront group (stocked machine.old.view self.old.stock.view - 1) result self.old self.new }
+        ensures frame { result < N.frames.frames }
+    {
+        tables.stocks.consume_held(machine, &mut self.stock, group);
+        freshen(&mut self.list, &mut self.fresh)
+    }
+}

@@ -1,0 +1,130 @@
+//! The hand-over of frames between a processor and the zone, inside a visit: with the zone's seat beside.
+ghost use Rattle.std.specs.Prelude.{◌≡◌, ◌+◌, ◌<◌, ◌≤◌, ◌⊎◌, [], ◌∷◌, ◌++◌, length, IfSome, MatchOption};
+ghost use Rattle.frame_word.specs.Views.{took_in, collected_from};
+ghost use Rattle.frame_word.specs.Seats.{HandsAreApart, HasNothingOf, IsLent, IsLentToNone, IsOpen, IsShut, IsZoneSeat, LentIsBorrowed, NothingPasses, Passes, seat_with, seat_with_visit};
+ghost use Rattle.stock_word.specs.Stock.{IsMachine, account_of, group_of};
+ghost use Rattle.stock_word.specs.Kinds.{noting};
+ghost use Rattle.stock_word.specs.Calls.{with_view};
+ghost use Rattle.cpu_part.specs.Calls.{HandsFront, HandsFresh, HandsBack};
+
+use crate::boot_name::{BootName, Tables};
+use crate::cpu::Cpu;
+use frame_word::{Frame, FrameSeat};
+use stock_word::StockSeat;
+
+impl<N: BootName> Cpu<N> {
+    /// Opens this processor's visit, which isn't open. Nothing passes for it yet, and what is lent
+    /// to it are its listed and fresh frames.
+    pub fn open(&mut self, tables: &Tables<N>, zone: &mut FrameSeat)
+        requires zone { IsZoneSeat N.frames zone.old }
+        requires shut { IsShut zone.old self.old.number }
+        ensures zone { zone.new ≡ seat_with_visit zone.old self.old.number 1 }
+        ensures cpu { self.new ≡ self.old }
+        ensures nothing_passes { NothingPasses N.frames zone.new self.new.seat }
+        ensures lent_is_borrowed { LentIsBorrowed N.frames zone.new self.new.seat }
+        ensures hands_apart { HandsAreApart N.frames zone.new self.new.seat }
+    {
+        tables.frames.open_visit(zone, &mut self.seat);
+    }
+
+    /// Shuts this processor's visit, which is open, and for which nothing passes any more.
+    pub fn shut(&mut self, tables: &Tables<N>, zone: &mut FrameSeat)
+        requires zone { IsZoneSeat N.frames zone.old }
+        requires open { IsOpen zone.old self.old.number }
+        requires nothing_passes { NothingPasses N.frames zone.old self.old.seat }
+        ensures zone { zone.new ≡ seat_with_visit zone.old self.old.number 0 }
+        ensures cpu { self.new ≡ self.old }
+        ensures nothing_passes { NothingPasses N.frames zone.new self.new.seat }
+        ensures lent_is_borrowed { LentIsBorrowed N.frames zone.new self.new.seat }
+        ensures hands_apart { HandsAreApart N.frames zone.new self.new.seat }
+    {
+        tables.frames.shut_visit(zone, &mut self.seat);
+    }
+
+    /// Takes a frame that passes for this processor and is lent to it to the end of the list, where
+    /// listed and fresh frames are fewer than 256.
+    pub fn accept(&mut self, tables: &Tables<N>, zone: &mut FrameSeat, frame: Frame)
+        requires zone { IsZoneSeat N.frames zone.old }
+        requires frame { frame < N.frames.frames }
+        requires passes { Passes zone.old self.old.seat frame }
+        requires lent { IsLent zone.old frame self.old.number }
+        requires room { length self.old.list + length self.old.fresh < 256 }
+        ensures cpu { self.new ≡ record self.old { list = self.old.list ++ frame ∷ []; seat = seat_with self.old.seat frame took_in } }
+        ensures zone { zone.new ≡ zone.old }
+        ensures nothing { HasNothingOf zone.old frame × HasNothingOf self.old.seat frame }
+    {
+        tables.frames.take_in(zone, &mut self.seat, frame);
+        self.list.push_back_reserved(frame);
+    }
+
+    /// Passes the front of the list back to the zone; `None` exactly where the list is empty. The
+    /// visit is open.
+    pub fn hand_front(&mut self, tables: &Tables<N>, zone: &mut FrameSeat) -> Option<Frame>
+        requires zone { IsZoneSeat N.frames zone.old }
+        requires open { IsOpen zone.old self.old.number }
+        ensures answer { MatchOption result ((self.old.list ≡ []) × (self.new ≡ self.old)) (λ f. HandsFront f self.old self.new) }
+        ensures frame { IfSome result (λ f. f < N.frames.frames) }
+        ensures zone { zone.new ≡ zone.old }
+        ensures borrowed { IfSome result (λ f. HasNothingOf zone.old f × IsLent zone.old f self.old.number) }
+    {
+        let frame = self.list.pop_front()?;
+        tables.frames.pass_back(zone, &mut self.seat, frame);
+        Some(frame)
+    }
+
+    /// Passes the oldest fresh frame back to the zone and reports its page; `None` exactly where
+    /// there is none. The visit is open.
+    pub fn hand_fresh(
+        &mut self,
+        tables: &Tables<N>,
+        zone: &mut FrameSeat,
+        machine: &mut StockSeat,
+    ) -> Option<Frame>
+        requires zone { IsZoneSeat N.frames zone.old }
+        requires machine { (machine.old.table ≡ N.stocks.table) × IsMachine machine.old.view }
+        requires open { IsOpen zone.old self.old.number }
+        ensures answer { MatchOption result ((self.old.fresh ≡ []) × (self.new ≡ self.old)) (λ f. HandsFresh f self.old self.new) }
+        ensures frame { IfSome result (λ f. f < N.frames.frames) }
+        ensures zone { zone.new ≡ zone.old }
+        ensures borrowed { IfSome result (λ f. HasNothingOf zone.old f × IsLent zone.old f self.old.number) }
+        ensures machine { MatchOption result (machine.new ≡ machine.old) (λ f. machine.new ≡ with_view machine.old (noting machine.old.view self.old.number 1)) }
+        ensures booked { IfSome result (λ f. self.old.stock.view.fresh + (account_of machine.old.view self.old.number).noted ≤ (account_of machine.old.view self.old.number).book) }
+        ensures group { IfSome result (λ f. group_of self.old.stock.view.last ≡ (account_of machine.old.view self.old.number).group) }
+    {
+        if self.fresh.is_empty() {
+            return None;
+        }
+        let frame = self.fresh.remove(0);
+        tables.frames.pass_back(zone, &mut self.seat, frame);
+        tables.stocks.report(machine, &mut self.stock, 1);
+        Some(frame)
+    }
+
+    /// Passes the oldest back frame back to the zone; `None` exactly where there is none. The visit
+    /// is open.
+    pub fn hand_back(&mut self, tables: &Tables<N>, zone: &mut FrameSeat) -> Option<Frame>
+        requires zone { IsZoneSeat N.frames zone.old }
+        requires open { IsOpen zone.old self.old.number }
+        ensures answer { MatchOption result ((self.old.back ≡ []) × (self.new ≡ self.old)) (λ f. HandsBack f self.old self.new) }
+        ensures frame { IfSome result (λ f. f < N.frames.frames) }
+        ensures zone { zone.new ≡ zone.old }
+        ensures own { IfSome result (λ f. HasNothingOf zone.old f × IsLentToNone zone.old f) }
+    {
+        let frame = self.back.pop_front()?;
+        tables.frames.pass_back(zone, &mut self.seat, frame);
+        Some(frame)
+    }
+
+    /// Takes a frame that passes for this processor into the zone's hand. It is lent to it no more.
+    pub fn collect(&mut self, tables: &Tables<N>, zone: &mut FrameSeat, frame: Frame)
+        requires zone { IsZoneSeat N.frames zone.old }
+        requires frame { frame < N.frames.frames }
+        requires passes { Passes zone.old self.old.seat frame }
+        ensures zone { zone.new ≡ seat_with zone.old frame (collected_from self.old.number) }
+        ensures cpu { self.new ≡ self.old }
+        ensures nothing { HasNothingOf zone.old frame × HasNothingOf self.old.seat frame }
+        ensures lent { IsLentToNone zone.old frame ⊎ IsLent zone.old frame self.old.number }
+    {
+        tables.frames.collect(zone, &mut self.seat, frame);
+    }
+}
