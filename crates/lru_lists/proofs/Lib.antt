@@ -1,0 +1,3 @@
+mod Linking
+mod Lists
+mod Records
