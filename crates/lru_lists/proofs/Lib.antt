@@ -1,3 +1,4 @@
 mod Linking
 mod Lists
+mod Pairs
 mod Records
