@@ -1,8 +1,8 @@
 -- Two lists of one owner, and those of others, after a push or an unlink on one of them.
 -- They serve the contracts of `Lru`.
-use Rattle.std.proofs.Common.{◌≡◌, ◌≢◌, ℕ, ◌+◌, ◌<◌, ◌==◌, ◌||◌, ◌⊎◌, Bool, true, false, Option, Some, None, List, [], ◌∷◌, ◌++◌, length, slice_set, map, cond, sym, ◌∙◌, ap, subst, inl, inr, arith, refl, eq-eqb}
+use Rattle.std.proofs.Common.{◌≡◌, ◌≢◌, ℕ, zero, suc, ◌+◌, ◌<◌, ◌==◌, ◌||◌, ◌⊎◌, Bool, true, false, Option, Some, None, List, [], ◌∷◌, ◌++◌, length, slice_set, map, take, drop, option_map, cond, sym, ◌∙◌, ap, subst, inl, inr, arith, refl, eq-eqb, add-one}
 use Rattle.std.proofs.lemmas.Bool.{cases_eq, ne_eqb, eqb-true, cases_Bool, true≢false, false≢true, both_ways, or_parts, false_from_ne_true}
-use Rattle.std.proofs.lemmas.List.{map-append, length-set}
+use Rattle.std.proofs.lemmas.List.{append_assoc, drop-drop, length-append, length-drop, length-map, length-set, map-append}
 use Rattle.lru_lists.specs.declared.record.Link.{Link}
 use Rattle.lru_lists.specs.declared.record.Home.{Home}
 use Rattle.lru_lists.specs.declared.record.Entry.{Entry}
@@ -10,8 +10,8 @@ use Rattle.lru_lists.specs.declared.record.LruList.{LruList}
 use Rattle.lru_lists.specs.declared.record.LruList.TheVariants.{Inactive, Active}
 use Rattle.lru_lists.specs.declared.lru.Lru.{Lru}
 use Rattle.lru_lists.specs.declared.queue.Queue.{Queue}
-use Rattle.lru_lists.specs.Queue.{link_at, nowhere, is_among, AreApart, without, IsLinked, units_of, StaysElsewhere, SameUse, newest_link, unlinked}
-use Rattle.lru_lists.specs.Lists.{KeepsUnits, OthersStand, changed_at, home_of, queue_of, with_queue, StandsIn, MovesOnly, entries_of, marked, entry_of, entries_without, place_of, list_of, ChangesOwn, IsOnNone}
+use Rattle.lru_lists.specs.Queue.{oldest_of, after, link_at, nowhere, is_among, AreApart, without, IsLinked, units_of, StaysElsewhere, SameUse, newest_link, unlinked}
+use Rattle.lru_lists.specs.Lists.{active_of, inactive_of, is_marked_by_touch, first_entry, entry_after, KeepsUnits, OthersStand, changed_at, home_of, queue_of, with_queue, StandsIn, MovesOnly, entries_of, marked, entry_of, entries_without, place_of, list_of, ChangesOwn, IsOnNone}
 use Rattle.lru_lists.proofs.Lists.{other_than_first}
 use Rattle.lru_lists.proofs.Linking.{units_are}
 use Rattle.lru_lists.proofs.Records.{set_same, set_other, part_set}
@@ -519,3 +519,102 @@ others_stand before after owner other c ne stands =
         ∙ entries_same before after xs (λ f i.
             ap (λ (k : Link). let w : Entry = record { number = f; is_marked = k.is_marked; is_dirty = k.is_dirty } in w)
               (others_same before after owner other m f c ne ((stands m).homes f i)))) )
+
+-- a pull takes the unit out of each list: of the other it changes nothing
+pub pulled_each : (before after : List Link) (lru new : Lru) (list : LruList) (unit : ℕ) → StandsIn before lru → (link_at before unit).home ≡ Some (home_of lru list)
+    → entries_of after new list ≡ entries_without unit (entries_of before lru list)
+    → ((m : LruList) → m ≢ list → entries_of after new m ≡ entries_of before lru m)
+    → (m : LruList) → entries_of after new m ≡ entries_without unit (entries_of before lru m)
+pulled_each before after lru new list unit stands there own other m = elim (cases_list m list) [
+  | inl e ↦ rw e own
+  | inr ne ↦
+      let away : (link_at before unit).home ≢ Some (home_of lru m) =
+        λ h. let k : Some (home_of lru list) ≡ Some (home_of lru m) = sym there ∙ h in
+          homes_differ lru list m ne (let w : home_of lru list ≡ home_of lru m = cc in w) in
+      other m ne ∙ sym (other_lacks before lru m unit stands away)
+  ]
+
+-- a unit that was taken out comes back as it was, unmarked
+pub entry_unlinked : (before after : List Link) (unit : ℕ) → link_at after unit ≡ unlinked (link_at before unit) → marked false (entry_of after unit) ≡ marked false (entry_of before unit)
+entry_unlinked before after unit e = ap (λ (k : Link). let w : Entry = record { number = unit; is_marked = false; is_dirty = k.is_dirty } in w) e
+
+-- the list that a unit isn't on has nothing to change
+pub other_unchanged : (links : List Link) (lru : Lru) (list m : LruList) (unit : ℕ) (change : Entry → Entry) → StandsIn links lru
+    → (link_at links unit).home ≡ Some (home_of lru list) → m ≢ list → changed_at unit change (entries_of links lru m) ≡ entries_of links lru m
+other_unchanged links lru list m unit change stands there ne =
+    let xs : List ℕ = units_of links (queue_of lru m) in
+    changed_lacks links unit change xs (false_from_ne_true (is_among xs unit) (λ i.
+      let k : Some (home_of lru list) ≡ Some (home_of lru m) = sym there ∙ (stands m).homes unit i in
+      homes_differ lru list m ne (let w : home_of lru list ≡ home_of lru m = cc in w)))
+
+-- ---- ends and neighbours, read
+
+pub oldest_read : (links : List Link) (xs : List ℕ) → option_map (entry_of links) (oldest_of xs) ≡ first_entry (map (entry_of links) xs)
+oldest_read links [] = refl
+oldest_read links (x ∷ xs) = refl
+
+pub after_read : (links : List Link) (unit : ℕ) (xs : List ℕ) → option_map (entry_of links) (after xs unit) ≡ entry_after unit (map (entry_of links) xs)
+after_read links unit [] = refl
+after_read links unit (x ∷ xs) = elim (cases_Bool (x == unit)) [
+  | inl t ↦ rw t (oldest_read links xs)
+  | inr t ↦ rw t (after_read links unit xs)
+  ]
+
+-- ---- the oldest unit moves
+
+pub oldest_first : (xs : List ℕ) (unit : ℕ) → oldest_of xs ≡ Some unit → (take 1 xs ≡ unit ∷ []) × (without unit xs ≡ drop 1 xs) × (is_among xs unit ≡ true)
+oldest_first [] unit e = cc
+oldest_first (x ∷ xs) unit e =
+    let q : x ≡ unit = cc in
+    let t : (x == unit) ≡ true = eq-eqb x unit q in
+    (ap (λ (v : ℕ). v ∷ []) q, rw t refl, rw t refl)
+
+pub entries_first : (links : List Link) (unit : ℕ) (xs : List ℕ) → oldest_of xs ≡ Some unit
+    → (entries_without unit (map (entry_of links) xs) ≡ drop 1 (map (entry_of links) xs)) × (take 1 (map (entry_of links) xs) ≡ entry_of links unit ∷ [])
+entries_first links unit [] e = cc
+entries_first links unit (x ∷ xs) e =
+    let q : x ≡ unit = cc in
+    let t : (x == unit) ≡ true = eq-eqb x unit q in
+    (rw t refl, ap (λ (v : ℕ). entry_of links v ∷ []) q)
+
+pub some_oldest : (xs : List ℕ) → 0 < length xs → oldest_of xs ≡ None → ⊥
+some_oldest [] lt e = omega arith
+some_oldest (x ∷ xs) lt e = cc
+
+pub marks_true : (o : Option LruList) (b : Bool) → is_marked_by_touch o b ≡ true → (o ≡ Some Inactive) × (b ≡ false)
+marks_true (Some Inactive) false h = (refl, refl)
+marks_true (Some Inactive) true h = absurd (false≢true h)
+marks_true (Some Active) b h = absurd (false≢true h)
+marks_true None b h = absurd (false≢true h)
+
+pub marks_false : (o : Option LruList) (b : Bool) → is_marked_by_touch o b ≡ false → o ≡ Some Inactive → b ≡ true
+marks_false (Some Inactive) false h e = absurd (true≢false h)
+marks_false (Some Inactive) true h e = refl
+marks_false (Some Active) b h e = cc
+marks_false None b h e = cc
+
+pub some_list : (o : Option LruList) → o ≢ None → (list : LruList) × (o ≡ Some list)
+some_list None h = absurd (h refl)
+some_list (Some list) h = (list, refl)
+
+-- ---- as many as there are, one by one
+
+pub len_is : (links : List Link) (lru : Lru) → StandsIn links lru → (m : LruList) → (queue_of lru m).length ≡ length (entries_of links lru m)
+len_is links lru stands m = (stands m).count ∙ sym (length-map (units_of links (queue_of lru m)) (entry_of links))
+
+pub take_step : (k : ℕ) (xs : List Entry) → take k xs ++ take 1 (drop k xs) ≡ take (suc k) xs
+take_step zero [] = refl
+take_step zero (x ∷ xs) = refl
+take_step (suc k) [] = refl
+take_step (suc k) (x ∷ xs) = ap (λ (ys : List Entry). x ∷ ys) (take_step k xs)
+
+pub ages_step : (before mid after : List Link) (old cur new : Lru) (k : ℕ)
+    → inactive_of mid cur ≡ inactive_of before old ++ map (marked false) (take k (active_of before old))
+    → inactive_of after new ≡ inactive_of mid cur ++ map (marked false) (take 1 (active_of mid cur))
+    → active_of mid cur ≡ drop k (active_of before old)
+    → inactive_of after new ≡ inactive_of before old ++ map (marked false) (take (k + 1) (active_of before old))
+ages_step before mid after old cur new k ik one ak =
+    let xs : List Entry = active_of before old in
+    let e : map (marked false) (take k xs) ++ map (marked false) (take 1 (drop k xs)) ≡ map (marked false) (take (k + 1) xs) =
+      sym (map-append (marked false) (take k xs) (take 1 (drop k xs))) ∙ ap (map (marked false)) (take_step k xs ∙ ap (λ (n : ℕ). take n xs) (sym (add-one k))) in
+    rw (one, ik, ak, append_assoc (inactive_of before old) (map (marked false) (take k xs)) (map (marked false) (take 1 (drop k xs))), e) refl

@@ -90,6 +90,11 @@ dirtied d e = record e { is_dirty = d }
 abbrev pub changed_at : ℕ → (Entry → Entry) → List Entry → List Entry
 changed_at f change entries = map (λ e. if e.number == f then change e else e) entries
 
+-- a touch marks the unit, and doesn't move it: it is on the inactive list, and isn't marked
+abbrev pub is_marked_by_touch : Option LruList → Bool → Bool
+is_marked_by_touch (Some Inactive) false = true
+is_marked_by_touch list mark = false
+
 -- a touch marks a unit on the inactive list that isn't marked; it moves a marked one, and one on the active list, to
 -- the newest end of the active list, unmarked
 abbrev pub Touches : List Link → Lru → ℕ → Touched → List Link → Lru → Type 0

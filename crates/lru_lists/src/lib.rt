@@ -2,6 +2,7 @@
 //! list. All lists are linked through one record for each frame, so that no list is walked to find a unit.
 #![tactic(auto)]
 
+pub mod laws;
 pub mod links;
 pub mod lru;
 mod queue;

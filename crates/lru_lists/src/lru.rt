@@ -1,9 +1,9 @@
 //! The two lists of one owner, as a group: its inactive and its active units, each from the oldest to the newest.
 
-ghost use Rattle.std.specs.Prelude.{◌≡◌, ◌≢◌, ◌<◌, ◌++◌, [], ◌∷◌, false, None, Some, length};
+ghost use Rattle.std.specs.Prelude.{◌≡◌, ◌≢◌, ◌<◌, ◌++◌, [], ◌∷◌, false, None, Some, IfSome, length, map, take, drop, option_map};
 ghost use Rattle.lru_lists.specs.Queue.{link_at, unlinked};
 ghost use Rattle.lru_lists.specs.declared.record.LruList.{LruList};
-ghost use Rattle.lru_lists.specs.Lists.{home_of, queue_of, with_queue, marked, MovesOnly, StandsIn, ChangesOwn, IsOnNone, Touches, Ages, inactive_of, active_of, entries_of, entries_without, changed_at, dirtied, list_of, entry_of};
+ghost use Rattle.lru_lists.specs.Lists.{is_marked_by_touch, home_of, queue_of, with_queue, marked, MovesOnly, KeepsUnits, first_entry, entry_after, StandsIn, ChangesOwn, IsOnNone, Touches, Ages, inactive_of, active_of, entries_of, entries_without, changed_at, dirtied, list_of, entry_of};
 
 use crate::links::Links;
 use crate::queue::Queue;
@@ -125,5 +125,157 @@ impl Lru {
     {
         links.forget(unit);
         self.push(links, LruList::Inactive, unit);
+    }
+
+    // The list of the two that the unit stands on.
+    fn list(&self, links: &Links, unit: u32) -> LruList
+        requires frame { unit < length links.now }
+        requires on { list_of links.now self.now.owner unit ≢ None }
+        ensures { list_of links.now self.now.owner unit ≡ Some result }
+    {
+        self.is_on(links, unit).unwrap()
+    }
+
+    // Moves a unit from the list that it stands on to the newest end of one of the two, unmarked.
+    fn move_to(&mut self, links: &mut Links, list: LruList, unit: u32)
+        requires frame { unit < length links.old }
+        requires on { list_of links.old self.old.owner unit ≢ None }
+        requires stands { StandsIn links.old self.old }
+        ensures stands { StandsIn links.new self.new }
+        ensures owner { self.new.owner ≡ self.old.owner }
+        ensures gained { entries_of links.new self.new list ≡ entries_without unit (entries_of links.old self.old list) ++ marked false (entry_of links.old unit) ∷ [] }
+        ensures lost { (m : LruList) → m ≢ list → entries_of links.new self.new m ≡ entries_without unit (entries_of links.old self.old m) }
+        ensures keeps { KeepsUnits links.old links.new self.old.owner }
+    {
+        let from = self.list(links, unit);
+        self.pull(links, from, unit);
+        self.push(links, list, unit);
+    }
+
+    /// Takes a unit out of the list of the two that it stands on.
+    pub fn take_off(&mut self, links: &mut Links, unit: u32)
+        requires frame { unit < length links.old }
+        requires on { list_of links.old self.old.owner unit ≢ None }
+        requires stands { StandsIn links.old self.old }
+        ensures stands { StandsIn links.new self.new }
+        ensures owner { self.new.owner ≡ self.old.owner }
+        ensures inactive { inactive_of links.new self.new ≡ entries_without unit (inactive_of links.old self.old) }
+        ensures active { active_of links.new self.new ≡ entries_without unit (active_of links.old self.old) }
+        ensures away { IsOnNone links.new unit }
+        ensures others { ChangesOwn links.old links.new self.old.owner }
+    {
+        let list = self.list(links, unit);
+        self.pull(links, list, unit);
+    }
+
+    // Whether a touch marks the unit, and doesn't move it.
+    fn is_marked_by_touch(&self, links: &Links, unit: u32) -> bool
+        requires frame { unit < length links.now }
+        requires on { list_of links.now self.now.owner unit ≢ None }
+        ensures { result ≡ is_marked_by_touch (list_of links.now self.now.owner unit) (link_at links.now unit).is_marked }
+    {
+        match self.list(links, unit) {
+            LruList::Inactive => !links.link(unit).is_marked,
+            LruList::Active => false,
+        }
+    }
+
+    /// Notes that a unit of the two lists was used: it is marked, or moves to the newest end of the active list.
+    pub fn touch(&mut self, links: &mut Links, unit: u32) -> Touched
+        requires frame { unit < length links.old }
+        requires on { list_of links.old self.old.owner unit ≢ None }
+        requires stands { StandsIn links.old self.old }
+        ensures stands { StandsIn links.new self.new }
+        ensures owner { self.new.owner ≡ self.old.owner }
+        ensures touches { Touches links.old self.old unit result links.new self.new }
+        ensures others { ChangesOwn links.old links.new self.old.owner }
+    {
+        if self.is_marked_by_touch(links, unit) {
+            links.mark(unit, true);
+            Touched::Marked
+        } else {
+            self.move_to(links, LruList::Active, unit);
+            Touched::Moved
+        }
+    }
+
+    /// Notes whether the pages of a unit of the two lists are dirty.
+    pub fn set_dirty(&self, links: &mut Links, unit: u32, is_dirty: bool)
+        requires frame { unit < length links.old }
+        requires on { list_of links.old self.now.owner unit ≢ None }
+        requires stands { StandsIn links.old self.now }
+        ensures stands { StandsIn links.new self.now }
+        ensures entries { (list : LruList) → entries_of links.new self.now list ≡ changed_at unit (dirtied is_dirty) (entries_of links.old self.now list) }
+        ensures others { ChangesOwn links.old links.new self.now.owner }
+    {
+        links.dirty(unit, is_dirty);
+    }
+
+    // The unit of this number as it stands on a list.
+    fn entry(links: &Links, unit: Option<u32>) -> Option<Entry>
+        requires { IfSome unit (λ u. u < length links.now) }
+        ensures { result ≡ option_map (entry_of links.now) unit }
+    {
+        let number = unit?;
+        let link = links.link(number);
+        Some(Entry {
+            number,
+            is_marked: link.is_marked,
+            is_dirty: link.is_dirty,
+        })
+    }
+
+    /// How many units stand on one of the lists.
+    pub fn len(&self, _links: &Links, list: LruList) -> u32
+        requires { StandsIn _links.now self.now }
+        ensures { result ≡ length (entries_of _links.now self.now list) }
+    {
+        self.queue(list).length
+    }
+
+    /// The oldest unit of one of the lists; None exactly where that is empty.
+    pub fn oldest(&self, links: &Links, list: LruList) -> Option<Entry>
+        requires { StandsIn links.now self.now }
+        ensures { result ≡ first_entry (entries_of links.now self.now list) }
+    {
+        Lru::entry(links, self.queue(list).oldest)
+    }
+
+    /// The unit just after this one on the list of the two that it stands on; None exactly where this is the newest.
+    pub fn newer(&self, links: &Links, unit: u32) -> Option<Entry>
+        requires frame { unit < length links.now }
+        requires on { list_of links.now self.now.owner unit ≢ None }
+        requires stands { StandsIn links.now self.now }
+        ensures { (list : LruList) → list_of links.now self.now.owner unit ≡ Some list → result ≡ entry_after unit (entries_of links.now self.now list) }
+    {
+        Lru::entry(links, links.link(unit).newer)
+    }
+
+    // Moves the oldest active unit to the newest end of the inactive list, unmarked.
+    fn demote(&mut self, links: &mut Links)
+        requires some { 0 < self.old.active.length }
+        requires stands { StandsIn links.old self.old }
+        ensures stands { StandsIn links.new self.new }
+        ensures owner { self.new.owner ≡ self.old.owner }
+        ensures inactive { inactive_of links.new self.new ≡ inactive_of links.old self.old ++ map (marked false) (take 1 (active_of links.old self.old)) }
+        ensures active { active_of links.new self.new ≡ drop 1 (active_of links.old self.old) }
+        ensures keeps { KeepsUnits links.old links.new self.old.owner }
+    {
+        let oldest = self.active.oldest.unwrap();
+        self.move_to(links, LruList::Inactive, oldest);
+    }
+
+    /// Moves the oldest active units to the newest end of the inactive list, unmarked, while the active list is the
+    /// longer one.
+    pub fn age(&mut self, links: &mut Links)
+        requires { StandsIn links.old self.old }
+        ensures stands { StandsIn links.new self.new }
+        ensures owner { self.new.owner ≡ self.old.owner }
+        ensures ages { Ages links.old self.old links.new self.new }
+        ensures others { ChangesOwn links.old links.new self.old.owner }
+    {
+        while self.inactive.length < self.active.length {
+            self.demote(links);
+        }
     }
 }
