@@ -1,0 +1,4 @@
+mod Linking
+mod Lists
+mod Pairs
+mod Records

@@ -1,0 +1,620 @@
+-- Two lists of one owner, and those of others, after a push or an unlink on one of them.
+-- They serve the contracts of `Lru`.
+use Rattle.std.proofs.Common.{◌≡◌, ◌≢◌, ℕ, zero, suc, ◌+◌, ◌<◌, ◌==◌, ◌||◌, ◌⊎◌, Bool, true, false, Option, Some, None, List, [], ◌∷◌, ◌++◌, length, slice_set, map, take, drop, option_map, cond, sym, ◌∙◌, ap, subst, inl, inr, arith, refl, eq-eqb, add-one}
+use Rattle.std.proofs.lemmas.Bool.{cases_eq, ne_eqb, eqb-true, cases_Bool, true≢false, false≢true, both_ways, or_parts, false_from_ne_true}
+use Rattle.std.proofs.lemmas.List.{append_assoc, drop-drop, length-append, length-drop, length-map, length-set, map-append}
+use Rattle.lru_lists.specs.declared.record.Link.{Link}
+use Rattle.lru_lists.specs.declared.record.Home.{Home}
+use Rattle.lru_lists.specs.declared.record.Entry.{Entry}
+use Rattle.lru_lists.specs.declared.record.LruList.{LruList}
+use Rattle.lru_lists.specs.declared.record.LruList.TheVariants.{Inactive, Active}
+use Rattle.lru_lists.specs.declared.lru.Lru.{Lru}
+use Rattle.lru_lists.specs.declared.queue.Queue.{Queue}
+use Rattle.lru_lists.specs.Queue.{oldest_of, after, link_at, nowhere, is_among, AreApart, without, IsLinked, units_of, StaysElsewhere, SameUse, newest_link, unlinked}
+use Rattle.lru_lists.specs.Lists.{active_of, inactive_of, is_marked_by_touch, first_entry, entry_after, KeepsUnits, OthersStand, changed_at, home_of, queue_of, with_queue, StandsIn, MovesOnly, entries_of, marked, entry_of, entries_without, place_of, list_of, ChangesOwn, IsOnNone}
+use Rattle.lru_lists.proofs.Lists.{other_than_first}
+use Rattle.lru_lists.proofs.Linking.{units_are}
+use Rattle.lru_lists.proofs.Records.{set_same, set_other, part_set}
+
+-- ---- a list whose units' records stay
+
+pub same_links : (before after : List Link) (home : Home) (q : Queue) (xs : List ℕ) → IsLinked before home q xs
+    → ((f : ℕ) → is_among xs f ≡ true → link_at after f ≡ link_at before f) → ((f : ℕ) → (link_at after f).home ≡ Some home → is_among xs f ≡ true)
+    → IsLinked after home q xs
+same_links before after home q xs l same homes = record {
+  apart = l.apart;
+  homes = λ f i. ap (λ (k : Link). k.home) (same f i) ∙ l.homes f i;
+  at_home = homes;
+  oldest = l.oldest;
+  newest = l.newest;
+  count = l.count;
+  older = λ f i. ap (λ (k : Link). k.older) (same f i) ∙ l.older f i;
+  newer = λ f i. ap (λ (k : Link). k.newer) (same f i) ∙ l.newer f i;
+}
+
+-- entries tell the marks alone
+pub entry_same : (before after : List Link) (f : ℕ) → (link_at after f).is_marked ≡ (link_at before f).is_marked → (link_at after f).is_dirty ≡ (link_at before f).is_dirty
+    → entry_of after f ≡ entry_of before f
+entry_same before after f m d = cc
+
+pub entries_same : (before after : List Link) (xs : List ℕ) → ((f : ℕ) → is_among xs f ≡ true → entry_of after f ≡ entry_of before f)
+    → map (entry_of after) xs ≡ map (entry_of before) xs
+entries_same before after [] h = refl
+entries_same before after (x ∷ xs) h =
+    let t : (x == x) ≡ true = eq-eqb x x refl in
+    let e : entry_of after x ≡ entry_of before x = h x (rw t refl) in
+    let r : map (entry_of after) xs ≡ map (entry_of before) xs =
+      entries_same before after xs (λ f i. h f (elim (cases_Bool (x == f)) [ inl a ↦ rw a refl | inr a ↦ rw a i ])) in
+    cc
+
+pub entries_out : (before after : List Link) (unit : ℕ) (xs : List ℕ) → AreApart xs
+    → ((f : ℕ) → f ≢ unit → entry_of after f ≡ entry_of before f)
+    → map (entry_of after) (without unit xs) ≡ entries_without unit (map (entry_of before) xs)
+entries_out before after unit [] apart h = refl
+entries_out before after unit (x ∷ xs) apart h = elim (cases_eq x unit) [
+  | inl e ↦
+      let t : (x == unit) ≡ true = eq-eqb x unit e in
+      rw t (entries_same before after xs (λ f i. h f (λ q. other_than_first x xs f apart.0 i (e ∙ sym q))))
+  | inr n ↦
+      let t : (x == unit) ≡ false = ne_eqb x unit n in
+      let e : entry_of after x ≡ entry_of before x = h x n in
+      let r : map (entry_of after) (without unit xs) ≡ entries_without unit (map (entry_of before) xs) = entries_out before after unit xs apart.1 h in
+      rw t (cc)
+  ]
+
+-- ---- the other lists than the one that changed
+
+pub elsewhere_same : (before after : List Link) (home there : Home) (q : Queue) (xs : List ℕ) (unit : ℕ) → IsLinked before there q xs
+    → StaysElsewhere before after home unit → home ≢ there → (link_at before unit).home ≢ Some there
+    → (f : ℕ) → is_among xs f ≡ true → link_at after f ≡ link_at before f
+elsewhere_same before after home there q xs unit l stays ne away f i =
+    let h : (link_at before f).home ≡ Some there = l.homes f i in
+    stays f (λ e. away (subst (λ (v : ℕ). (link_at before v).home ≡ Some there) e h)) (λ k. let j : Some there ≡ Some home = sym h ∙ k in ne (let w : home ≡ there = cc in w))
+
+pub elsewhere_linked : (before after : List Link) (home there : Home) (q : Queue) (xs : List ℕ) (unit : ℕ) → IsLinked before there q xs
+    → StaysElsewhere before after home unit → SameUse before after unit → home ≢ there
+    → (link_at before unit).home ≢ Some there → (link_at after unit).home ≢ Some there → IsLinked after there q xs
+elsewhere_linked before after home there q xs unit l stays used ne away out =
+    same_links before after there q xs l (elsewhere_same before after home there q xs unit l stays ne away)
+      (λ f h. elim (cases_eq f unit) [
+        | inl e ↦ absurd (out (subst (λ (v : ℕ). (link_at after v).home ≡ Some there) e h))
+        | inr n ↦ l.at_home f (sym (used.home f n) ∙ h)
+        ])
+
+-- ---- what a change of one unit does to the records
+
+pub place_here : (owner : ℕ) (list : LruList) → place_of (Some (record { owner = owner; list = list })) owner ≡ Some list
+place_here owner list = let t : (owner == owner) ≡ true = eq-eqb owner owner refl in rw t refl
+
+pub not_here : (home : Option Home) (owner : ℕ) (list : LruList) → place_of home owner ≡ None → home ≢ Some (record { owner = owner; list = list })
+not_here home owner list h e =
+    let k : Some list ≡ None = sym (place_here owner list) ∙ sym (ap (λ (o : Option Home). place_of o owner) e) ∙ h in
+    cc
+
+-- ---- a push and a pull on one of an owner's lists
+
+pub queue_same : (lru : Lru) (list : LruList) (q : Queue) → queue_of (with_queue lru list q) list ≡ q
+queue_same lru Inactive q = refl
+queue_same lru Active q = refl
+
+pub queue_other : (lru : Lru) (list m : LruList) (q : Queue) → m ≢ list → queue_of (with_queue lru list q) m ≡ queue_of lru m
+queue_other lru Inactive Inactive q ne = absurd (ne refl)
+queue_other lru Inactive Active q ne = refl
+queue_other lru Active Inactive q ne = refl
+queue_other lru Active Active q ne = absurd (ne refl)
+
+pub home_same : (lru : Lru) (list m : LruList) (q : Queue) → home_of (with_queue lru list q) m ≡ home_of lru m
+home_same lru Inactive m q = refl
+home_same lru Active m q = refl
+
+pub owner_same : (lru : Lru) (list : LruList) (q : Queue) → (with_queue lru list q).owner ≡ lru.owner
+owner_same lru Inactive q = refl
+owner_same lru Active q = refl
+
+pub cases_list : (m list : LruList) → (m ≡ list) ⊎ (m ≢ list)
+cases_list Inactive Inactive = inl refl
+cases_list Inactive Active = inr (λ e. cc)
+cases_list Active Inactive = inr (λ e. cc)
+cases_list Active Active = inl refl
+
+pub homes_differ : (lru : Lru) (list m : LruList) → m ≢ list → home_of lru list ≢ home_of lru m
+homes_differ lru list m ne e = ne (sym (ap (λ (h : Home). h.list) e))
+
+-- the list that didn't change, after a push or a pull on the other
+pub other_linked : (before after : List Link) (lru : Lru) (list m : LruList) (unit : ℕ) → StandsIn before lru → m ≢ list
+    → StaysElsewhere before after (home_of lru list) unit → SameUse before after unit
+    → (link_at before unit).home ≢ Some (home_of lru m) → (link_at after unit).home ≢ Some (home_of lru m)
+    → IsLinked after (home_of lru m) (queue_of lru m) (units_of before (queue_of lru m))
+other_linked before after lru list m unit stands ne stays used b a =
+    elsewhere_linked before after (home_of lru list) (home_of lru m) (queue_of lru m) (units_of before (queue_of lru m)) unit (stands m) stays used
+      (homes_differ lru list m ne) b a
+
+pub other_entries : (before after : List Link) (lru : Lru) (list m : LruList) (unit : ℕ) → StandsIn before lru → m ≢ list
+    → StaysElsewhere before after (home_of lru list) unit → SameUse before after unit
+    → (link_at before unit).home ≢ Some (home_of lru m) → (link_at after unit).home ≢ Some (home_of lru m)
+    → entries_of after lru m ≡ entries_of before lru m
+other_entries before after lru list m unit stands ne stays used b a =
+    let xs : List ℕ = units_of before (queue_of lru m) in
+    let same = elsewhere_same before after (home_of lru list) (home_of lru m) (queue_of lru m) xs unit (stands m) stays (homes_differ lru list m ne) b in
+    ap (λ (ys : List ℕ). map (entry_of after) ys)
+        (units_are after (home_of lru m) (queue_of lru m) xs (other_linked before after lru list m unit stands ne stays used b a))
+    ∙ entries_same before after xs (λ f i. ap (λ (k : Link). let e : Entry = record { number = f; is_marked = k.is_marked; is_dirty = k.is_dirty } in e) (same f i))
+
+-- both lists stand after a change of one of them
+pub stands_after : (before after : List Link) (lru : Lru) (list : LruList) (q : Queue) (unit : ℕ) → StandsIn before lru
+    → IsLinked after (home_of lru list) q (units_of after q)
+    → StaysElsewhere before after (home_of lru list) unit → SameUse before after unit
+    → ((m : LruList) → m ≢ list → (link_at before unit).home ≢ Some (home_of lru m)) → ((m : LruList) → m ≢ list → (link_at after unit).home ≢ Some (home_of lru m))
+    → StandsIn after (with_queue lru list q)
+stands_after before after lru list q unit stands linked stays used b a m = elim (cases_list m list) [
+  | inl e ↦ rw (e, home_same lru list list q, queue_same lru list q) linked
+  | inr ne ↦
+      let l = other_linked before after lru list m unit stands ne stays used (b m ne) (a m ne) in
+      rw (home_same lru list m q, queue_other lru list m q ne, units_are after (home_of lru m) (queue_of lru m) (units_of before (queue_of lru m)) l) l
+  ]
+
+pub moves_only : (before after : List Link) (lru : Lru) (list : LruList) (unit : ℕ) → StaysElsewhere before after (home_of lru list) unit
+    → SameUse before after unit → MovesOnly before after lru.owner unit
+moves_only before after lru list unit stays used = record {
+  frames = used.frames;
+  home = used.home;
+  kept = λ g ne n. stays g ne (not_here (link_at before g).home lru.owner list n);
+}
+
+-- the units of a list that isn't changed are walked alike
+pub entries_kept : (before after : List Link) (unit : ℕ) → SameUse before after unit → (f : ℕ) → f ≢ unit → entry_of after f ≡ entry_of before f
+entries_kept before after unit used f ne = entry_same before after f (used.marked f ne) (used.dirty f ne)
+
+pub among_other : (links : List Link) (home : Home) (q : Queue) (xs : List ℕ) (unit f : ℕ) → IsLinked links home q xs → (link_at links unit).home ≢ Some home
+    → is_among xs f ≡ true → f ≢ unit
+among_other links home q xs unit f l away i e = away (subst (λ (v : ℕ). (link_at links v).home ≡ Some home) e (l.homes f i))
+
+pub pushed_entries : (before after : List Link) (lru : Lru) (list : LruList) (q : Queue) (unit : ℕ) (older : Option ℕ) → StandsIn before lru → IsOnNone before unit
+    → units_of after q ≡ units_of before (queue_of lru list) ++ unit ∷ []
+    → link_at after unit ≡ newest_link (home_of lru list) older (link_at before unit).is_dirty → SameUse before after unit
+    → entries_of after (with_queue lru list q) list ≡ entries_of before lru list ++ marked false (entry_of before unit) ∷ []
+pushed_entries before after lru list q unit older stands away units at used =
+    let xs : List ℕ = units_of before (queue_of lru list) in
+    let out : (link_at before unit).home ≢ Some (home_of lru list) = λ e. let k : None ≡ Some (home_of lru list) = sym away ∙ e in cc in
+    let old : map (entry_of after) xs ≡ map (entry_of before) xs =
+      entries_same before after xs (λ f i. entries_kept before after unit used f (among_other before (home_of lru list) (queue_of lru list) xs unit f (stands list) out i)) in
+    let new : entry_of after unit ≡ marked false (entry_of before unit) =
+      ap (λ (k : Link). let e : Entry = record { number = unit; is_marked = k.is_marked; is_dirty = k.is_dirty } in e) at in
+    rw (queue_same lru list q, units, map-append (entry_of after) xs (unit ∷ []), old, new) refl
+
+pub pulled_entries : (before after : List Link) (lru : Lru) (list : LruList) (q : Queue) (unit : ℕ) → StandsIn before lru
+    → units_of after q ≡ without unit (units_of before (queue_of lru list)) → SameUse before after unit
+    → entries_of after (with_queue lru list q) list ≡ entries_without unit (entries_of before lru list)
+pulled_entries before after lru list q unit stands units used =
+    rw (queue_same lru list q, units)
+      (entries_out before after unit (units_of before (queue_of lru list)) ((stands list).apart) (entries_kept before after unit used))
+
+pub entries_of_other : (links : List Link) (lru : Lru) (list m : LruList) (q : Queue) → m ≢ list → entries_of links (with_queue lru list q) m ≡ entries_of links lru m
+entries_of_other links lru list m q ne = rw (queue_other lru list m q ne) refl
+
+-- ---- a frame that is forgotten, and stood on no list
+
+pub forgotten_linked : (links : List Link) (lru : Lru) (unit : ℕ) → StandsIn links lru → IsOnNone links unit → unit < length links
+    → (m : LruList) → IsLinked (slice_set links unit nowhere) (home_of lru m) (queue_of lru m) (units_of links (queue_of lru m))
+forgotten_linked links lru unit stands away lt m =
+    let out : (link_at links unit).home ≢ Some (home_of lru m) = λ e. let k : None ≡ Some (home_of lru m) = sym away ∙ e in cc in
+    let xs : List ℕ = units_of links (queue_of lru m) in
+    same_links links (slice_set links unit nowhere) (home_of lru m) (queue_of lru m) xs (stands m)
+      (λ f i. set_other links unit f nowhere (among_other links (home_of lru m) (queue_of lru m) xs unit f (stands m) out i))
+      (λ f h. elim (cases_eq f unit) [
+        | inl e ↦
+            let k : link_at (slice_set links unit nowhere) f ≡ nowhere = rw e (set_same links unit nowhere lt) in
+            let j : None ≡ Some (home_of lru m) = sym (ap (λ (v : Link). v.home) k) ∙ h in
+            cc
+        | inr n ↦ (stands m).at_home f (sym (ap (λ (v : Link). v.home) (set_other links unit f nowhere n)) ∙ h)
+        ])
+
+pub forgotten_stands : (links : List Link) (lru : Lru) (unit : ℕ) → StandsIn links lru → IsOnNone links unit → unit < length links
+    → StandsIn (slice_set links unit nowhere) lru
+forgotten_stands links lru unit stands away lt m =
+    let l = forgotten_linked links lru unit stands away lt m in
+    rw (units_are (slice_set links unit nowhere) (home_of lru m) (queue_of lru m) (units_of links (queue_of lru m)) l) l
+
+pub forgotten_entries : (links : List Link) (lru : Lru) (unit : ℕ) → StandsIn links lru → IsOnNone links unit → unit < length links
+    → (m : LruList) → entries_of (slice_set links unit nowhere) lru m ≡ entries_of links lru m
+forgotten_entries links lru unit stands away lt m =
+    let l = forgotten_linked links lru unit stands away lt m in
+    let out : (link_at links unit).home ≢ Some (home_of lru m) = λ e. let k : None ≡ Some (home_of lru m) = sym away ∙ e in cc in
+    let xs : List ℕ = units_of links (queue_of lru m) in
+    ap (λ (ys : List ℕ). map (entry_of (slice_set links unit nowhere)) ys) (units_are (slice_set links unit nowhere) (home_of lru m) (queue_of lru m) xs l)
+    ∙ entries_same links (slice_set links unit nowhere) xs (λ f i.
+        let e = set_other links unit f nowhere (among_other links (home_of lru m) (queue_of lru m) xs unit f (stands m) out i) in
+        ap (λ (k : Link). let e : Entry = record { number = f; is_marked = k.is_marked; is_dirty = k.is_dirty } in e) e)
+
+pub forgotten_moves : (links : List Link) (owner unit : ℕ) → MovesOnly links (slice_set links unit nowhere) owner unit
+forgotten_moves links owner unit = record {
+  frames = length-set links unit nowhere;
+  home = λ g ne. ap (λ (k : Link). k.home) (set_other links unit g nowhere ne);
+  kept = λ g ne n. set_other links unit g nowhere ne;
+}
+
+-- ---- changes of one unit, one after the other
+
+pub moves_both : (a b c : List Link) (owner unit : ℕ) → MovesOnly a b owner unit → MovesOnly b c owner unit → MovesOnly a c owner unit
+moves_both a b c owner unit p q = record {
+  frames = q.frames ∙ p.frames;
+  home = λ g ne. q.home g ne ∙ p.home g ne;
+  kept = λ g ne n. q.kept g ne (ap (λ (h : Option Home). place_of h owner) (p.home g ne) ∙ n) ∙ p.kept g ne n;
+}
+
+-- the records after a change of one unit that stands on a list of the owner before or after, or both
+pub changed_own : (before after : List Link) (owner unit : ℕ) → MovesOnly before after owner unit
+    → (list_of before owner unit ≡ None → list_of after owner unit ≡ None → ⊥) → (list_of before owner unit ≡ None → IsOnNone before unit)
+    → (list_of after owner unit ≡ None → IsOnNone after unit) → ChangesOwn before after owner
+changed_own before after owner unit m own came gone = record {
+  frames = m.frames;
+  kept = λ f b a. elim (cases_eq f unit) [
+    | inl e ↦ absurd (own (subst (λ (v : ℕ). list_of before owner v ≡ None) e b) (subst (λ (v : ℕ). list_of after owner v ≡ None) e a))
+    | inr n ↦ m.kept f n b
+    ];
+  joined = λ f b a. elim (cases_eq f unit) [
+    | inl e ↦ rw e (came (subst (λ (v : ℕ). list_of before owner v ≡ None) e b))
+    | inr n ↦ absurd (a (ap (λ (o : Option Home). place_of o owner) (m.home f n) ∙ b))
+    ];
+  left = λ f b a. elim (cases_eq f unit) [
+    | inl e ↦ rw e (gone (subst (λ (v : ℕ). list_of after owner v ≡ None) e a))
+    | inr n ↦ absurd (b (ap (λ (o : Option Home). place_of o owner) (sym (m.home f n)) ∙ a))
+    ];
+}
+
+-- whoever is at home on a list of the owner stands on it
+pub list_at_home : (links : List Link) (lru : Lru) (list : LruList) (f : ℕ) → (link_at links f).home ≡ Some (home_of lru list) → list_of links lru.owner f ≡ Some list
+list_at_home links lru list f h = ap (λ (o : Option Home). place_of o lru.owner) h ∙ place_here lru.owner list
+
+-- and whoever stands on it is at home there
+pub home_of_list : (h : Option Home) (lru : Lru) (list : LruList) → place_of h lru.owner ≡ Some list → h ≡ Some (home_of lru list)
+home_of_list None lru list e = cc
+home_of_list (Some h) lru list e = elim (cases_eq h.owner lru.owner) [
+  | inl q ↦
+      let t : (h.owner == lru.owner) ≡ true = eq-eqb h.owner lru.owner q in
+      let k : Some h.list ≡ Some list = rw t at e in
+      let j : h.list ≡ list = cc in
+      let w : h ≡ home_of lru list = rw (← q, ← j) refl in
+      ap Some w
+  | inr n ↦
+      let t : (h.owner == lru.owner) ≡ false = ne_eqb h.owner lru.owner n in
+      let k : None ≡ Some list = rw t at e in
+      cc
+  ]
+
+-- a unit that comes onto a list of the owner from none
+pub own_after_push : (before after : List Link) (lru : Lru) (list : LruList) (unit : ℕ) → MovesOnly before after lru.owner unit
+    → IsOnNone before unit → (link_at after unit).home ≡ Some (home_of lru list) → ChangesOwn before after lru.owner
+own_after_push before after lru list unit m away h =
+    let k : list_of after lru.owner unit ≡ Some list = list_at_home after lru list unit h in
+    changed_own before after lru.owner unit m (λ b a. let j : Some list ≡ None = sym k ∙ a in cc) (λ b. away) (λ a. let j : Some list ≡ None = sym k ∙ a in cc)
+
+-- a unit that left a list of the owner for none
+pub own_after_pull : (before after : List Link) (lru : Lru) (list : LruList) (unit : ℕ) → MovesOnly before after lru.owner unit
+    → (link_at before unit).home ≡ Some (home_of lru list) → IsOnNone after unit → ChangesOwn before after lru.owner
+own_after_pull before after lru list unit m h gone =
+    let k : list_of before lru.owner unit ≡ Some list = list_at_home before lru list unit h in
+    changed_own before after lru.owner unit m (λ b a. let j : Some list ≡ None = sym k ∙ b in cc) (λ b. let j : Some list ≡ None = sym k ∙ b in cc) (λ a. gone)
+
+-- ---- a whole push and a whole pull
+
+-- what a push on one of the lists leaves
+pub record AfterPush (before after : List Link) (lru : Lru) (list : LruList) (q : Queue) (unit : ℕ) : Type 0 where
+  pub stands : StandsIn after (with_queue lru list q)
+  pub entries : entries_of after (with_queue lru list q) list ≡ entries_of before lru list ++ marked false (entry_of before unit) ∷ []
+  pub other : (m : LruList) → m ≢ list → entries_of after (with_queue lru list q) m ≡ entries_of before lru m
+  pub moves : MovesOnly before after lru.owner unit
+
+pub after_push_is : (before after : List Link) (lru : Lru) (list : LruList) (q : Queue) (unit : ℕ) (home : Home) (old : Queue) (older : Option ℕ) → StandsIn before lru
+    → IsOnNone before unit → home ≡ home_of lru list → old ≡ queue_of lru list → units_of after q ≡ units_of before old ++ unit ∷ []
+    → IsLinked after home q (units_of after q) → link_at after unit ≡ newest_link home older (link_at before unit).is_dirty
+    → StaysElsewhere before after home unit → SameUse before after unit → AfterPush before after lru list q unit
+after_push_is before after lru list q unit home old older stands away h o units0 linked at stays used =
+    let units : units_of after q ≡ units_of before (queue_of lru list) ++ unit ∷ [] =
+      subst (λ (v : Queue). units_of after q ≡ units_of before v ++ unit ∷ []) o units0 in
+    let linked' : IsLinked after (home_of lru list) q (units_of after q) = subst (λ (v : Home). IsLinked after v q (units_of after q)) h linked in
+    let at' : link_at after unit ≡ newest_link (home_of lru list) older (link_at before unit).is_dirty =
+      subst (λ (v : Home). link_at after unit ≡ newest_link v older (link_at before unit).is_dirty) h at in
+    let stays' : StaysElsewhere before after (home_of lru list) unit = subst (λ (v : Home). StaysElsewhere before after v unit) h stays in
+    let there : (link_at after unit).home ≡ Some (home_of lru list) = ap (λ (k : Link). k.home) at' in
+    let b : (m : LruList) → m ≢ list → (link_at before unit).home ≢ Some (home_of lru m) =
+      λ m ne e. let k : None ≡ Some (home_of lru m) = sym away ∙ e in cc in
+    let a : (m : LruList) → m ≢ list → (link_at after unit).home ≢ Some (home_of lru m) =
+      λ m ne e. let k : Some (home_of lru list) ≡ Some (home_of lru m) = sym there ∙ e in
+        homes_differ lru list m ne (let w : home_of lru list ≡ home_of lru m = cc in w) in
+    record {
+      stands = stands_after before after lru list q unit stands linked' stays' used b a;
+      entries = pushed_entries before after lru list q unit older stands away units at' used;
+      other = λ m ne. entries_of_other after lru list m q ne ∙ other_entries before after lru list m unit stands ne stays' used (b m ne) (a m ne);
+      moves = moves_only before after lru list unit stays' used;
+    }
+
+-- what a pull from one of the lists leaves
+pub record AfterPull (before after : List Link) (lru : Lru) (list : LruList) (q : Queue) (unit : ℕ) : Type 0 where
+  pub stands : StandsIn after (with_queue lru list q)
+  pub entries : entries_of after (with_queue lru list q) list ≡ entries_without unit (entries_of before lru list)
+  pub other : (m : LruList) → m ≢ list → entries_of after (with_queue lru list q) m ≡ entries_of before lru m
+  pub moves : MovesOnly before after lru.owner unit
+
+pub after_pull_is : (before after : List Link) (lru : Lru) (list : LruList) (q : Queue) (unit : ℕ) (home : Home) (old : Queue) → StandsIn before lru
+    → (link_at before unit).home ≡ Some (home_of lru list) → home ≡ home_of lru list → old ≡ queue_of lru list
+    → units_of after q ≡ without unit (units_of before old)
+    → IsLinked after home q (units_of after q) → link_at after unit ≡ unlinked (link_at before unit)
+    → StaysElsewhere before after home unit → SameUse before after unit → AfterPull before after lru list q unit
+after_pull_is before after lru list q unit home old stands there h o units0 linked at stays used =
+    let units : units_of after q ≡ without unit (units_of before (queue_of lru list)) =
+      subst (λ (v : Queue). units_of after q ≡ without unit (units_of before v)) o units0 in
+    let linked' : IsLinked after (home_of lru list) q (units_of after q) = subst (λ (v : Home). IsLinked after v q (units_of after q)) h linked in
+    let stays' : StaysElsewhere before after (home_of lru list) unit = subst (λ (v : Home). StaysElsewhere before after v unit) h stays in
+    let b : (m : LruList) → m ≢ list → (link_at before unit).home ≢ Some (home_of lru m) =
+      λ m ne e. let k : Some (home_of lru list) ≡ Some (home_of lru m) = sym there ∙ e in
+        homes_differ lru list m ne (let w : home_of lru list ≡ home_of lru m = cc in w) in
+    let a : (m : LruList) → m ≢ list → (link_at after unit).home ≢ Some (home_of lru m) =
+      λ m ne e. let k : None ≡ Some (home_of lru m) = sym (ap (λ (v : Link). v.home) at) ∙ e in cc in
+    record {
+      stands = stands_after before after lru list q unit stands linked' stays' used b a;
+      entries = pulled_entries before after lru list q unit stands units used;
+      other = λ m ne. entries_of_other after lru list m q ne ∙ other_entries before after lru list m unit stands ne stays' used (b m ne) (a m ne);
+      moves = moves_only before after lru list unit stays' used;
+    }
+
+-- ---- a unit that isn't on a list
+
+pub entries_lack : (links : List Link) (unit : ℕ) (xs : List ℕ) → is_among xs unit ≡ false → entries_without unit (map (entry_of links) xs) ≡ map (entry_of links) xs
+entries_lack links unit [] out = refl
+entries_lack links unit (x ∷ xs) out =
+    let p = or_parts (x == unit) (is_among xs unit) out in
+    let r : entries_without unit (map (entry_of links) xs) ≡ map (entry_of links) xs = entries_lack links unit xs (p.1) in
+    rw (p.0, r) refl
+
+-- a list of the owner that the unit isn't on
+pub other_lacks : (links : List Link) (lru : Lru) (m : LruList) (unit : ℕ) → StandsIn links lru → (link_at links unit).home ≢ Some (home_of lru m)
+    → entries_without unit (entries_of links lru m) ≡ entries_of links lru m
+other_lacks links lru m unit stands away =
+    let xs : List ℕ = units_of links (queue_of lru m) in
+    entries_lack links unit xs (false_from_ne_true (is_among xs unit) (λ i. away ((stands m).homes unit i)))
+
+-- ---- a record of which the marks alone changed
+
+abbrev pub SameNeighbours : Link → Link → Type 0
+SameNeighbours k j = (k.home ≡ j.home) × (k.older ≡ j.older) × (k.newer ≡ j.newer)
+
+pub remarked_linked : (links : List Link) (home : Home) (q : Queue) (xs : List ℕ) (unit : ℕ) (k : Link) → IsLinked links home q xs
+    → SameNeighbours k (link_at links unit) → IsLinked (slice_set links unit k) home q xs
+remarked_linked links home q xs unit k l same = record {
+  apart = l.apart;
+  homes = λ f i. part_set (λ (v : Link). v.home) links unit f k (same.0) ∙ l.homes f i;
+  at_home = λ f h. l.at_home f (sym (part_set (λ (v : Link). v.home) links unit f k (same.0)) ∙ h);
+  oldest = l.oldest;
+  newest = l.newest;
+  count = l.count;
+  older = λ f i. part_set (λ (v : Link). v.older) links unit f k (same.1) ∙ l.older f i;
+  newer = λ f i. part_set (λ (v : Link). v.newer) links unit f k (same.2) ∙ l.newer f i;
+}
+
+pub remarked_stands : (links : List Link) (lru : Lru) (unit : ℕ) (k : Link) → StandsIn links lru → SameNeighbours k (link_at links unit) → StandsIn (slice_set links unit k) lru
+remarked_stands links lru unit k stands same m =
+    let l = remarked_linked links (home_of lru m) (queue_of lru m) (units_of links (queue_of lru m)) unit k (stands m) same in
+    rw (units_are (slice_set links unit k) (home_of lru m) (queue_of lru m) (units_of links (queue_of lru m)) l) l
+
+pub remarked_map : (links : List Link) (unit : ℕ) (k : Link) (change : Entry → Entry) (xs : List ℕ) → unit < length links
+    → (let e : Entry = record { number = unit; is_marked = k.is_marked; is_dirty = k.is_dirty } in e) ≡ change (entry_of links unit)
+    → map (entry_of (slice_set links unit k)) xs ≡ changed_at unit change (map (entry_of links) xs)
+remarked_map links unit k change [] lt e = refl
+remarked_map links unit k change (x ∷ xs) lt e =
+    let r : map (entry_of (slice_set links unit k)) xs ≡ changed_at unit change (map (entry_of links) xs) = remarked_map links unit k change xs lt e in
+    elim (cases_eq x unit) [
+      | inl q ↦
+          let t : (x == unit) ≡ true = eq-eqb x unit q in
+          let s : entry_of (slice_set links unit k) x ≡ change (entry_of links x) =
+            rw q (ap (λ (v : Link). let w : Entry = record { number = unit; is_marked = v.is_marked; is_dirty = v.is_dirty } in w) (set_same links unit k lt) ∙ e) in
+          rw t (cc)
+      | inr n ↦
+          let t : (x == unit) ≡ false = ne_eqb x unit n in
+          let s : entry_of (slice_set links unit k) x ≡ entry_of links x =
+            ap (λ (v : Link). let w : Entry = record { number = x; is_marked = v.is_marked; is_dirty = v.is_dirty } in w) (set_other links unit x k n) in
+          rw t (cc)
+      ]
+
+pub remarked_entries : (links : List Link) (lru : Lru) (unit : ℕ) (k : Link) (change : Entry → Entry) → StandsIn links lru → SameNeighbours k (link_at links unit)
+    → unit < length links → (let e : Entry = record { number = unit; is_marked = k.is_marked; is_dirty = k.is_dirty } in e) ≡ change (entry_of links unit)
+    → (m : LruList) → entries_of (slice_set links unit k) lru m ≡ changed_at unit change (entries_of links lru m)
+remarked_entries links lru unit k change stands same lt e m =
+    let xs : List ℕ = units_of links (queue_of lru m) in
+    let l = remarked_linked links (home_of lru m) (queue_of lru m) xs unit k (stands m) same in
+    ap (λ (ys : List ℕ). map (entry_of (slice_set links unit k)) ys) (units_are (slice_set links unit k) (home_of lru m) (queue_of lru m) xs l)
+    ∙ remarked_map links unit k change xs lt e
+
+-- no unit of this number is there to be changed
+pub changed_lacks : (links : List Link) (unit : ℕ) (change : Entry → Entry) (xs : List ℕ) → is_among xs unit ≡ false
+    → changed_at unit change (map (entry_of links) xs) ≡ map (entry_of links) xs
+changed_lacks links unit change [] out = refl
+changed_lacks links unit change (x ∷ xs) out =
+    let p = or_parts (x == unit) (is_among xs unit) out in
+    let r : changed_at unit change (map (entry_of links) xs) ≡ map (entry_of links) xs = changed_lacks links unit change xs (p.1) in
+    rw (p.0) (cc)
+
+pub remarked_keeps : (links : List Link) (owner unit : ℕ) (k : Link) → k.home ≡ (link_at links unit).home → list_of links owner unit ≢ None
+    → KeepsUnits links (slice_set links unit k) owner
+remarked_keeps links owner unit k same on = record {
+  frames = length-set links unit k;
+  others = λ f n. set_other links unit f k (λ e. on (subst (λ (v : ℕ). list_of links owner v ≡ None) e n));
+  units = λ f n h. n (sym (ap (λ (o : Option Home). place_of o owner) (part_set (λ (v : Link). v.home) links unit f k same)) ∙ h);
+}
+
+-- a unit that stands on a list of the owner before and after
+pub moved_keeps : (before after : List Link) (lru : Lru) (list : LruList) (unit : ℕ) → MovesOnly before after lru.owner unit → list_of before lru.owner unit ≢ None
+    → (link_at after unit).home ≡ Some (home_of lru list) → KeepsUnits before after lru.owner
+moved_keeps before after lru list unit m on there = record {
+  frames = m.frames;
+  others = λ f n. m.kept f (λ e. on (subst (λ (v : ℕ). list_of before lru.owner v ≡ None) e n)) n;
+  units = λ f n h. elim (cases_eq f unit) [
+    | inl e ↦
+        let k : list_of after lru.owner f ≡ Some list = list_at_home after lru list f (rw e there) in
+        let j : Some list ≡ None = sym k ∙ h in
+        cc
+    | inr d ↦ n (sym (ap (λ (o : Option Home). place_of o lru.owner) (m.home f d)) ∙ h)
+    ];
+}
+
+pub keeps_both : (a b c : List Link) (owner : ℕ) → KeepsUnits a b owner → KeepsUnits b c owner → KeepsUnits a c owner
+keeps_both a b c owner p q = record {
+  frames = q.frames ∙ p.frames;
+  others = λ f n. q.others f (ap (λ (v : Link). place_of v.home owner) (p.others f n) ∙ n) ∙ p.others f n;
+  units = λ f n. q.units f (p.units f n);
+}
+
+pub keeps_none : (a : List Link) (owner : ℕ) → KeepsUnits a a owner
+keeps_none a owner = record { frames = refl; others = λ f n. refl; units = λ f n. n }
+
+pub keeps_changes : (before after : List Link) (owner : ℕ) → KeepsUnits before after owner → ChangesOwn before after owner
+keeps_changes before after owner k = record {
+  frames = k.frames;
+  kept = λ f b a. k.others f b;
+  joined = λ f b a. absurd (a (ap (λ (v : Link). place_of v.home owner) (k.others f b) ∙ b));
+  left = λ f b a. absurd (k.units f b a);
+}
+
+-- ---- the lists of other owners
+
+pub other_homes : (other : Lru) (owner : ℕ) (m : LruList) → other.owner ≢ owner → place_of (Some (home_of other m)) owner ≡ None
+other_homes other owner m ne = let t : (other.owner == owner) ≡ false = ne_eqb other.owner owner ne in rw t refl
+
+pub cases_none : (o : Option LruList) → (o ≡ None) ⊎ (o ≢ None)
+cases_none None = inl refl
+cases_none (Some l) = inr (λ e. let k : Some l ≡ None = e in cc)
+
+pub others_same : (before after : List Link) (owner : ℕ) (other : Lru) (m : LruList) (f : ℕ) → ChangesOwn before after owner → other.owner ≢ owner
+    → (link_at before f).home ≡ Some (home_of other m) → link_at after f ≡ link_at before f
+others_same before after owner other m f c ne h =
+    let b : list_of before owner f ≡ None = ap (λ (o : Option Home). place_of o owner) h ∙ other_homes other owner m ne in
+    elim (cases_none (list_of after owner f)) [
+      | inl a ↦ c.kept f b a
+      | inr a ↦ let k : Some (home_of other m) ≡ None = sym h ∙ c.joined f b a in cc
+      ]
+
+pub others_home : (before after : List Link) (owner : ℕ) (other : Lru) (m : LruList) (f : ℕ) → ChangesOwn before after owner → other.owner ≢ owner
+    → (link_at after f).home ≡ Some (home_of other m) → (link_at before f).home ≡ Some (home_of other m)
+others_home before after owner other m f c ne h =
+    let a : list_of after owner f ≡ None = ap (λ (o : Option Home). place_of o owner) h ∙ other_homes other owner m ne in
+    elim (cases_none (list_of before owner f)) [
+      | inl b ↦ sym (ap (λ (v : Link). v.home) (c.kept f b a)) ∙ h
+      | inr b ↦ let k : Some (home_of other m) ≡ None = sym h ∙ c.left f b a in cc
+      ]
+
+pub others_linked : (before after : List Link) (owner : ℕ) (other : Lru) (m : LruList) → ChangesOwn before after owner → other.owner ≢ owner → StandsIn before other
+    → IsLinked after (home_of other m) (queue_of other m) (units_of before (queue_of other m))
+others_linked before after owner other m c ne stands =
+    same_links before after (home_of other m) (queue_of other m) (units_of before (queue_of other m)) (stands m)
+      (λ f i. others_same before after owner other m f c ne ((stands m).homes f i))
+      (λ f h. (stands m).at_home f (others_home before after owner other m f c ne h))
+
+pub others_stand : OthersStand
+others_stand before after owner other c ne stands =
+    ( (λ m. let l = others_linked before after owner other m c ne stands in
+        rw (units_are after (home_of other m) (queue_of other m) (units_of before (queue_of other m)) l) l)
+    , (λ m. let xs : List ℕ = units_of before (queue_of other m) in
+        ap (λ (ys : List ℕ). map (entry_of after) ys)
+          (units_are after (home_of other m) (queue_of other m) xs (others_linked before after owner other m c ne stands))
+        ∙ entries_same before after xs (λ f i.
+            ap (λ (k : Link). let w : Entry = record { number = f; is_marked = k.is_marked; is_dirty = k.is_dirty } in w)
+              (others_same before after owner other m f c ne ((stands m).homes f i)))) )
+
+-- a pull takes the unit out of each list: of the other it changes nothing
+pub pulled_each : (before after : List Link) (lru new : Lru) (list : LruList) (unit : ℕ) → StandsIn before lru → (link_at before unit).home ≡ Some (home_of lru list)
+    → entries_of after new list ≡ entries_without unit (entries_of before lru list)
+    → ((m : LruList) → m ≢ list → entries_of after new m ≡ entries_of before lru m)
+    → (m : LruList) → entries_of after new m ≡ entries_without unit (entries_of before lru m)
+pulled_each before after lru new list unit stands there own other m = elim (cases_list m list) [
+  | inl e ↦ rw e own
+  | inr ne ↦
+      let away : (link_at before unit).home ≢ Some (home_of lru m) =
+        λ h. let k : Some (home_of lru list) ≡ Some (home_of lru m) = sym there ∙ h in
+          homes_differ lru list m ne (let w : home_of lru list ≡ home_of lru m = cc in w) in
+      other m ne ∙ sym (other_lacks before lru m unit stands away)
+  ]
+
+-- a unit that was taken out comes back as it was, unmarked
+pub entry_unlinked : (before after : List Link) (unit : ℕ) → link_at after unit ≡ unlinked (link_at before unit) → marked false (entry_of after unit) ≡ marked false (entry_of before unit)
+entry_unlinked before after unit e = ap (λ (k : Link). let w : Entry = record { number = unit; is_marked = false; is_dirty = k.is_dirty } in w) e
+
+-- the list that a unit isn't on has nothing to change
+pub other_unchanged : (links : List Link) (lru : Lru) (list m : LruList) (unit : ℕ) (change : Entry → Entry) → StandsIn links lru
+    → (link_at links unit).home ≡ Some (home_of lru list) → m ≢ list → changed_at unit change (entries_of links lru m) ≡ entries_of links lru m
+other_unchanged links lru list m unit change stands there ne =
+    let xs : List ℕ = units_of links (queue_of lru m) in
+    changed_lacks links unit change xs (false_from_ne_true (is_among xs unit) (λ i.
+      let k : Some (home_of lru list) ≡ Some (home_of lru m) = sym there ∙ (stands m).homes unit i in
+      homes_differ lru list m ne (let w : home_of lru list ≡ home_of lru m = cc in w)))
+
+-- ---- ends and neighbours, read
+
+pub oldest_read : (links : List Link) (xs : List ℕ) → option_map (entry_of links) (oldest_of xs) ≡ first_entry (map (entry_of links) xs)
+oldest_read links [] = refl
+oldest_read links (x ∷ xs) = refl
+
+pub after_read : (links : List Link) (unit : ℕ) (xs : List ℕ) → option_map (entry_of links) (after xs unit) ≡ entry_after unit (map (entry_of links) xs)
+after_read links unit [] = refl
+after_read links unit (x ∷ xs) = elim (cases_Bool (x == unit)) [
+  | inl t ↦ rw t (oldest_read links xs)
+  | inr t ↦ rw t (after_read links unit xs)
+  ]
+
+-- ---- the oldest unit moves
+
+pub oldest_first : (xs : List ℕ) (unit : ℕ) → oldest_of xs ≡ Some unit → (take 1 xs ≡ unit ∷ []) × (without unit xs ≡ drop 1 xs) × (is_among xs unit ≡ true)
+oldest_first [] unit e = cc
+oldest_first (x ∷ xs) unit e =
+    let q : x ≡ unit = cc in
+    let t : (x == unit) ≡ true = eq-eqb x unit q in
+    (ap (λ (v : ℕ). v ∷ []) q, rw t refl, rw t refl)
+
+pub entries_first : (links : List Link) (unit : ℕ) (xs : List ℕ) → oldest_of xs ≡ Some unit
+    → (entries_without unit (map (entry_of links) xs) ≡ drop 1 (map (entry_of links) xs)) × (take 1 (map (entry_of links) xs) ≡ entry_of links unit ∷ [])
+entries_first links unit [] e = cc
+entries_first links unit (x ∷ xs) e =
+    let q : x ≡ unit = cc in
+    let t : (x == unit) ≡ true = eq-eqb x unit q in
+    (rw t refl, ap (λ (v : ℕ). entry_of links v ∷ []) q)
+
+pub some_oldest : (xs : List ℕ) → 0 < length xs → oldest_of xs ≡ None → ⊥
+some_oldest [] lt e = omega arith
+some_oldest (x ∷ xs) lt e = cc
+
+pub marks_true : (o : Option LruList) (b : Bool) → is_marked_by_touch o b ≡ true → (o ≡ Some Inactive) × (b ≡ false)
+marks_true (Some Inactive) false h = (refl, refl)
+marks_true (Some Inactive) true h = absurd (false≢true h)
+marks_true (Some Active) b h = absurd (false≢true h)
+marks_true None b h = absurd (false≢true h)
+
+pub marks_false : (o : Option LruList) (b : Bool) → is_marked_by_touch o b ≡ false → o ≡ Some Inactive → b ≡ true
+marks_false (Some Inactive) false h e = absurd (true≢false h)
+marks_false (Some Inactive) true h e = refl
+marks_false (Some Active) b h e = cc
+marks_false None b h e = cc
+
+pub some_list : (o : Option LruList) → o ≢ None → (list : LruList) × (o ≡ Some list)
+some_list None h = absurd (h refl)
+some_list (Some list) h = (list, refl)
+
+-- ---- as many as there are, one by one
+
+pub len_is : (links : List Link) (lru : Lru) → StandsIn links lru → (m : LruList) → (queue_of lru m).length ≡ length (entries_of links lru m)
+len_is links lru stands m = (stands m).count ∙ sym (length-map (units_of links (queue_of lru m)) (entry_of links))
+
+pub take_step : (k : ℕ) (xs : List Entry) → take k xs ++ take 1 (drop k xs) ≡ take (suc k) xs
+take_step zero [] = refl
+take_step zero (x ∷ xs) = refl
+take_step (suc k) [] = refl
+take_step (suc k) (x ∷ xs) = ap (λ (ys : List Entry). x ∷ ys) (take_step k xs)
+
+pub ages_step : (before mid after : List Link) (old cur new : Lru) (k : ℕ)
+    → inactive_of mid cur ≡ inactive_of before old ++ map (marked false) (take k (active_of before old))
+    → inactive_of after new ≡ inactive_of mid cur ++ map (marked false) (take 1 (active_of mid cur))
+    → active_of mid cur ≡ drop k (active_of before old)
+    → inactive_of after new ≡ inactive_of before old ++ map (marked false) (take (k + 1) (active_of before old))
+ages_step before mid after old cur new k ik one ak =
+    let xs : List Entry = active_of before old in
+    let e : map (marked false) (take k xs) ++ map (marked false) (take 1 (drop k xs)) ≡ map (marked false) (take (k + 1) xs) =
+      sym (map-append (marked false) (take k xs) (take 1 (drop k xs))) ∙ ap (map (marked false)) (take_step k xs ∙ ap (λ (n : ℕ). take n xs) (sym (add-one k))) in
+    rw (one, ik, ak, append_assoc (inactive_of before old) (map (marked false) (take k xs)) (map (marked false) (take 1 (drop k xs))), e) refl

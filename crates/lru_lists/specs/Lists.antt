@@ -1,0 +1,137 @@
+-- The two lists of an owner, as a contract sees them.
+use Rattle.std.specs.Prelude.{◌≡◌, ◌≢◌, ℕ, ◌+◌, ◌-◌, ◌<◌, ◌≤◌, ◌==◌, Bool, true, false, Option, Some, None, List, [], ◌∷◌, ◌++◌, length, map, take, drop, if◌then◌else◌}
+use Rattle.lru_lists.specs.declared.record.Link.{Link}
+use Rattle.lru_lists.specs.declared.record.Home.{Home}
+use Rattle.lru_lists.specs.declared.record.Entry.{Entry}
+use Rattle.lru_lists.specs.declared.record.LruList.{LruList}
+use Rattle.lru_lists.specs.declared.record.LruList.TheVariants.{Inactive, Active}
+use Rattle.lru_lists.specs.declared.lru.Lru.{Lru}
+use Rattle.lru_lists.specs.declared.lru.Touched.{Touched}
+use Rattle.lru_lists.specs.declared.lru.Touched.TheVariants.{Marked, Moved}
+use Rattle.lru_lists.specs.declared.queue.Queue.{Queue}
+use Rattle.lru_lists.specs.Queue.{link_at, units_of, IsLinked}
+
+-- where the units of one of the lists stand
+abbrev pub home_of : Lru → LruList → Home
+home_of lru list = record { owner = lru.owner; list = list }
+
+-- a unit as it stands on a list: its number, whether it is marked, whether it is dirty
+abbrev pub entry_of : List Link → ℕ → Entry
+entry_of links f = record { number = f; is_marked = (link_at links f).is_marked; is_dirty = (link_at links f).is_dirty }
+
+-- the ends and the length of one of the lists
+abbrev pub queue_of : Lru → LruList → Queue
+queue_of lru Inactive = lru.inactive
+queue_of lru Active = lru.active
+
+-- one of the lists, from the oldest unit to the newest
+abbrev pub entries_of : List Link → Lru → LruList → List Entry
+entries_of links lru list = map (entry_of links) (units_of links (queue_of lru list))
+
+-- the inactive list, from the oldest unit to the newest
+abbrev pub inactive_of : List Link → Lru → List Entry
+inactive_of links lru = entries_of links lru Inactive
+
+-- the active list, from the oldest unit to the newest
+abbrev pub active_of : List Link → Lru → List Entry
+active_of links lru = entries_of links lru Active
+
+-- both lists stand in these records
+abbrev pub StandsIn : List Link → Lru → Type 0
+StandsIn links lru = (list : LruList) → IsLinked links (home_of lru list) (queue_of lru list) (units_of links (queue_of lru list))
+
+-- the owner's lists with other ends of one of them
+abbrev pub with_queue : Lru → LruList → Queue → Lru
+with_queue lru Inactive q = record lru { inactive = q }
+with_queue lru Active q = record lru { active = q }
+
+-- which of the owner's lists a frame stands on
+abbrev pub place_of : Option Home → ℕ → Option LruList
+place_of None owner = None
+place_of (Some h) owner = if h.owner == owner then Some h.list else None
+
+-- the list of the owner that the frame stands on; None where it stands on none of them
+abbrev pub list_of : List Link → ℕ → ℕ → Option LruList
+list_of links owner f = place_of (link_at links f).home owner
+
+-- the frame stands on no list of any owner
+abbrev pub IsOnNone : List Link → ℕ → Type 0
+IsOnNone links f = (link_at links f).home ≡ None
+
+-- what a change of an owner's lists does to the records: whoever stands on none of them before nor after has its
+-- record as before, whoever came onto them stood on no list, and whoever left them stands on none
+pub record ChangesOwn (before after : List Link) (owner : ℕ) : Type 0 where
+  pub frames : length after ≡ length before
+  pub kept : (f : ℕ) → list_of before owner f ≡ None → list_of after owner f ≡ None → link_at after f ≡ link_at before f
+  pub joined : (f : ℕ) → list_of before owner f ≡ None → list_of after owner f ≢ None → IsOnNone before f
+  pub left : (f : ℕ) → list_of before owner f ≢ None → list_of after owner f ≡ None → IsOnNone after f
+
+-- what a change of one unit does to the records: every other frame stands on the list that it stood on, and has its
+-- record as before where that is none of the owner's
+pub record MovesOnly (before after : List Link) (owner f : ℕ) : Type 0 where
+  pub frames : length after ≡ length before
+  pub home : (g : ℕ) → g ≢ f → (link_at after g).home ≡ (link_at before g).home
+  pub kept : (g : ℕ) → g ≢ f → list_of before owner g ≡ None → link_at after g ≡ link_at before g
+
+-- the list without the unit of this number
+abbrev pub entries_without : ℕ → List Entry → List Entry
+entries_without f [] = []
+entries_without f (e ∷ es) = if e.number == f then es else e ∷ entries_without f es
+
+-- the unit marked, or not
+abbrev pub marked : Bool → Entry → Entry
+marked m e = record e { is_marked = m }
+
+-- the unit dirty, or not
+abbrev pub dirtied : Bool → Entry → Entry
+dirtied d e = record e { is_dirty = d }
+
+-- the list in which the unit of this number was changed so
+abbrev pub changed_at : ℕ → (Entry → Entry) → List Entry → List Entry
+changed_at f change entries = map (λ e. if e.number == f then change e else e) entries
+
+-- a touch marks the unit, and doesn't move it: it is on the inactive list, and isn't marked
+abbrev pub is_marked_by_touch : Option LruList → Bool → Bool
+is_marked_by_touch (Some Inactive) false = true
+is_marked_by_touch list mark = false
+
+-- a touch marks a unit on the inactive list that isn't marked; it moves a marked one, and one on the active list, to
+-- the newest end of the active list, unmarked
+abbrev pub Touches : List Link → Lru → ℕ → Touched → List Link → Lru → Type 0
+Touches before old f Marked after new =
+    (list_of before old.owner f ≡ Some Inactive) × ((link_at before f).is_marked ≡ false)
+    × (inactive_of after new ≡ changed_at f (marked true) (inactive_of before old)) × (active_of after new ≡ active_of before old)
+Touches before old f Moved after new =
+    (list_of before old.owner f ≡ Some Inactive → (link_at before f).is_marked ≡ true)
+    × (inactive_of after new ≡ entries_without f (inactive_of before old))
+    × (active_of after new ≡ entries_without f (active_of before old) ++ marked false (entry_of before f) ∷ [])
+
+-- the owner's lists hold the same units, and the records of all others are as before
+pub record KeepsUnits (before after : List Link) (owner : ℕ) : Type 0 where
+  pub frames : length after ≡ length before
+  pub others : (f : ℕ) → list_of before owner f ≡ None → link_at after f ≡ link_at before f
+  pub units : (f : ℕ) → list_of before owner f ≢ None → list_of after owner f ≢ None
+
+-- the first of a list; None where it is empty
+abbrev pub first_entry : List Entry → Option Entry
+first_entry [] = None
+first_entry (e ∷ es) = Some e
+
+-- the entry just after the unit of this number
+abbrev pub entry_after : ℕ → List Entry → Option Entry
+entry_after f [] = None
+entry_after f (e ∷ es) = if e.number == f then first_entry es else entry_after f es
+
+-- the oldest units of the active list, as few as leave it no longer than the inactive list, moved to the newest end
+-- of that, unmarked
+pub record Ages (before : List Link) (old : Lru) (after : List Link) (new : Lru) : Type 0 where
+  pub moved : ℕ
+  pub inactive : inactive_of after new ≡ inactive_of before old ++ map (marked false) (take moved (active_of before old))
+  pub active : active_of after new ≡ drop moved (active_of before old)
+  pub enough : length (active_of after new) ≤ length (inactive_of after new)
+  pub fewest : (k : ℕ) → k < moved → length (inactive_of before old) + k < length (active_of before old) - k
+
+-- the lists of every other owner stand as they stood, with the same units, marks and dirt
+abbrev pub OthersStand : Type 0
+OthersStand = (before after : List Link) (owner : ℕ) (other : Lru) → ChangesOwn before after owner → other.owner ≢ owner → StandsIn before other
+    → StandsIn after other × ((list : LruList) → entries_of after other list ≡ entries_of before other list)

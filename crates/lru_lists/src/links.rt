@@ -1,0 +1,96 @@
+//! The records of all frames, through which the lists of all owners are linked.
+
+ghost use Rattle.std.specs.Prelude.{◌≡◌, ◌<◌, ◌++◌, [], ◌∷◌, None, Some, IfOk, length, slice_set};
+ghost use Rattle.lru_lists.specs.Queue.{link_at, units_of, without, AreNowhere, IsLinked, StaysElsewhere, SameUse, newest_link, unlinked, nowhere};
+
+use crate::queue::{self, Queue};
+use crate::record::{Home, Link};
+use std::alloc::{AllocError, Global};
+use std::marker::Model;
+
+/// One record for each frame of a zone, seen as their list.
+#[derive(Debug, Drop)]
+pub struct Links {
+    pub(crate) records: Vec<Link>,
+}
+
+impl Model for Links {
+    ghost use Rattle.std.specs.Prelude.{List, ◌<◌, ◌^◌, length};
+    ghost use Rattle.lru_lists.specs.declared.record.Link.{Link};
+
+    ghost Value = { List Link };
+
+    ghost view = { λ l. l.records.items };
+
+    ghost invariant = { λ l. length l.records.items < 2 ^ 32 };
+}
+
+impl Links {
+    /// The records of this many frames, none of which stands on a list. No other call takes memory.
+    pub fn new(alloc: Global, frames: u32) -> Result<Links, AllocError>
+        ensures frames { IfOk result (λ links. length links ≡ frames) }
+        ensures nowhere { IfOk result (λ links. AreNowhere links) }
+    {
+        let records = vec![in alloc; Link::NOWHERE; frames as usize]?;
+        Ok(Links { records })
+    }
+
+    // Puts a unit that stands on no list behind the newest of this one, unmarked.
+    pub(crate) fn push_newest(&mut self, queue: &mut Queue, home: Home, unit: u32)
+        requires unit { unit < length self.old }
+        requires away { (link_at self.old unit).home ≡ None }
+        requires linked { IsLinked self.old home queue.old (units_of self.old queue.old) }
+        ensures units { units_of self.new queue.new ≡ units_of self.old queue.old ++ unit ∷ [] }
+        ensures linked { IsLinked self.new home queue.new (units_of self.new queue.new) }
+        ensures unit { link_at self.new unit ≡ newest_link home queue.old.newest (link_at self.old unit).is_dirty }
+        ensures others { StaysElsewhere self.old self.new home unit }
+        ensures used { SameUse self.old self.new unit }
+    {
+        queue::push_newest(self.records.as_mut_slice(), queue, home, unit);
+    }
+
+    // Takes a unit that stands on the list out of it.
+    pub(crate) fn unlink(&mut self, queue: &mut Queue, home: Home, unit: u32)
+        requires linked { IsLinked self.old home queue.old (units_of self.old queue.old) }
+        requires unit { (link_at self.old unit).home ≡ Some home }
+        ensures units { units_of self.new queue.new ≡ without unit (units_of self.old queue.old) }
+        ensures linked { IsLinked self.new home queue.new (units_of self.new queue.new) }
+        ensures unit { link_at self.new unit ≡ unlinked (link_at self.old unit) }
+        ensures others { StaysElsewhere self.old self.new home unit }
+        ensures used { SameUse self.old self.new unit }
+    {
+        queue::unlink(self.records.as_mut_slice(), queue, home, unit);
+    }
+
+    // Forgets what was kept of a frame.
+    pub(crate) fn forget(&mut self, frame: u32)
+        requires { frame < length self.old }
+        ensures { self.new ≡ slice_set self.old frame nowhere }
+    {
+        self.records[frame as usize] = Link::NOWHERE;
+    }
+
+    // Marks a unit, or not.
+    pub(crate) fn mark(&mut self, unit: u32, is_marked: bool)
+        requires { unit < length self.old }
+        ensures { self.new ≡ slice_set self.old unit (record (link_at self.old unit) { is_marked = is_marked }) }
+    {
+        self.records[unit as usize].is_marked = is_marked;
+    }
+
+    // Notes that a unit is dirty, or not.
+    pub(crate) fn dirty(&mut self, unit: u32, is_dirty: bool)
+        requires { unit < length self.old }
+        ensures { self.new ≡ slice_set self.old unit (record (link_at self.old unit) { is_dirty = is_dirty }) }
+    {
+        self.records[unit as usize].is_dirty = is_dirty;
+    }
+
+    // What is kept of a frame.
+    pub(crate) fn link(&self, frame: u32) -> Link
+        requires { frame < length self.now }
+        ensures { result ≡ link_at self.now frame }
+    {
+        self.records[frame as usize]
+    }
+}

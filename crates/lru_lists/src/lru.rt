@@ -1,0 +1,281 @@
+//! The two lists of one owner, as a group: its inactive and its active units, each from the oldest to the newest.
+
+ghost use Rattle.std.specs.Prelude.{◌≡◌, ◌≢◌, ◌<◌, ◌++◌, [], ◌∷◌, false, None, Some, IfSome, length, map, take, drop, option_map};
+ghost use Rattle.lru_lists.specs.Queue.{link_at, unlinked};
+ghost use Rattle.lru_lists.specs.declared.record.LruList.{LruList};
+ghost use Rattle.lru_lists.specs.Lists.{is_marked_by_touch, home_of, queue_of, with_queue, marked, MovesOnly, KeepsUnits, first_entry, entry_after, StandsIn, ChangesOwn, IsOnNone, Touches, Ages, inactive_of, active_of, entries_of, entries_without, changed_at, dirtied, list_of, entry_of};
+
+use crate::links::Links;
+use crate::queue::Queue;
+use crate::record::{Entry, Home, LruList};
+
+/// What a touch did.
+#[derive(Clone, Copy, Debug, PartialEq, Eq)]
+pub enum Touched {
+    /// The unit stays on the inactive list, and is marked now.
+    Marked,
+    /// The unit stands at the newest end of the active list now, unmarked.
+    Moved,
+}
+
+/// The ends and the lengths of an owner's two lists. The units themselves are linked through `Links`.
+#[derive(Clone, Copy, Debug, PartialEq, Eq)]
+pub struct Lru {
+    /// The number by which a frame's record names the owner.
+    pub owner: u32,
+    /// The inactive list.
+    pub inactive: Queue,
+    /// The active list.
+    pub active: Queue,
+}
+
+impl Lru {
+    /// The empty lists of an owner, of whom no record speaks yet.
+    pub fn new(owner: u32) -> Lru
+        ensures owner { result.owner ≡ owner }
+    {
+        Lru {
+            owner,
+            inactive: Queue::EMPTY,
+            active: Queue::EMPTY,
+        }
+    }
+
+    // Where a unit of one of the lists stands.
+    fn home(&self, list: LruList) -> Home
+        ensures { result ≡ home_of self.now list }
+    {
+        Home { owner: self.owner, list }
+    }
+
+    // The ends and the length of one of the lists.
+    fn queue(&self, list: LruList) -> Queue
+        ensures { result ≡ queue_of self.now list }
+    {
+        match list {
+            LruList::Inactive => self.inactive,
+            LruList::Active => self.active,
+        }
+    }
+
+    // Gives one of the lists other ends.
+    fn set_queue(&mut self, list: LruList, queue: Queue)
+        ensures { self.new ≡ with_queue self.old list queue }
+    {
+        match list {
+            LruList::Inactive => self.inactive = queue,
+            LruList::Active => self.active = queue,
+        }
+    }
+
+    // Puts a unit that stands on no list behind the newest of one of the two, unmarked.
+    fn push(&mut self, links: &mut Links, list: LruList, unit: u32)
+        requires frame { unit < length links.old }
+        requires away { IsOnNone links.old unit }
+        requires stands { StandsIn links.old self.old }
+        ensures stands { StandsIn links.new self.new }
+        ensures owner { self.new.owner ≡ self.old.owner }
+        ensures entries { entries_of links.new self.new list ≡ entries_of links.old self.old list ++ marked false (entry_of links.old unit) ∷ [] }
+        ensures other { (m : LruList) → m ≢ list → entries_of links.new self.new m ≡ entries_of links.old self.old m }
+        ensures unit { (link_at links.new unit).home ≡ Some (home_of self.old list) }
+        ensures moves { MovesOnly links.old links.new self.old.owner unit }
+    {
+        let mut queue = self.queue(list);
+        links.push_newest(&mut queue, self.home(list), unit);
+        self.set_queue(list, queue);
+    }
+
+    // Takes a unit out of the list of the two that it stands on.
+    fn pull(&mut self, links: &mut Links, list: LruList, unit: u32)
+        requires stands { StandsIn links.old self.old }
+        requires unit { (link_at links.old unit).home ≡ Some (home_of self.old list) }
+        ensures stands { StandsIn links.new self.new }
+        ensures owner { self.new.owner ≡ self.old.owner }
+        ensures entries { entries_of links.new self.new list ≡ entries_without unit (entries_of links.old self.old list) }
+        ensures other { (m : LruList) → m ≢ list → entries_of links.new self.new m ≡ entries_of links.old self.old m }
+        ensures unit { link_at links.new unit ≡ unlinked (link_at links.old unit) }
+        ensures moves { MovesOnly links.old links.new self.old.owner unit }
+    {
+        let mut queue = self.queue(list);
+        links.unlink(&mut queue, self.home(list), unit);
+        self.set_queue(list, queue);
+    }
+
+    /// Which of the two lists the frame stands on; None exactly where it stands on neither.
+    pub fn is_on(&self, links: &Links, frame: u32) -> Option<LruList>
+        requires { frame < length links.now }
+        ensures { result ≡ list_of links.now self.now.owner frame }
+    {
+        match links.link(frame).home {
+            Some(home) if home.owner == self.owner => Some(home.list),
+            _ => None,
+        }
+    }
+
+    /// Puts a unit that stands on no list behind the newest of the inactive list, clean and unmarked.
+    pub fn add(&mut self, links: &mut Links, unit: u32)
+        requires frame { unit < length links.old }
+        requires away { IsOnNone links.old unit }
+        requires stands { StandsIn links.old self.old }
+        ensures stands { StandsIn links.new self.new }
+        ensures owner { self.new.owner ≡ self.old.owner }
+        ensures inactive { inactive_of links.new self.new ≡ inactive_of links.old self.old ++ record { number = unit; is_marked = false; is_dirty = false } ∷ [] }
+        ensures active { active_of links.new self.new ≡ active_of links.old self.old }
+        ensures others { ChangesOwn links.old links.new self.old.owner }
+    {
+        links.forget(unit);
+        self.push(links, LruList::Inactive, unit);
+    }
+
+    // The list of the two that the unit stands on.
+    fn list(&self, links: &Links, unit: u32) -> LruList
+        requires frame { unit < length links.now }
+        requires on { list_of links.now self.now.owner unit ≢ None }
+        ensures { list_of links.now self.now.owner unit ≡ Some result }
+    {
+        self.is_on(links, unit).unwrap()
+    }
+
+    // Moves a unit from the list that it stands on to the newest end of one of the two, unmarked.
+    fn move_to(&mut self, links: &mut Links, list: LruList, unit: u32)
+        requires frame { unit < length links.old }
+        requires on { list_of links.old self.old.owner unit ≢ None }
+        requires stands { StandsIn links.old self.old }
+        ensures stands { StandsIn links.new self.new }
+        ensures owner { self.new.owner ≡ self.old.owner }
+        ensures gained { entries_of links.new self.new list ≡ entries_without unit (entries_of links.old self.old list) ++ marked false (entry_of links.old unit) ∷ [] }
+        ensures lost { (m : LruList) → m ≢ list → entries_of links.new self.new m ≡ entries_without unit (entries_of links.old self.old m) }
+        ensures keeps { KeepsUnits links.old links.new self.old.owner }
+    {
+        let from = self.list(links, unit);
+        self.pull(links, from, unit);
+        self.push(links, list, unit);
+    }
+
+    /// Takes a unit out of the list of the two that it stands on.
+    pub fn take_off(&mut self, links: &mut Links, unit: u32)
+        requires frame { unit < length links.old }
+        requires on { list_of links.old self.old.owner unit ≢ None }
+        requires stands { StandsIn links.old self.old }
+        ensures stands { StandsIn links.new self.new }
+        ensures owner { self.new.owner ≡ self.old.owner }
+        ensures inactive { inactive_of links.new self.new ≡ entries_without unit (inactive_of links.old self.old) }
+        ensures active { active_of links.new self.new ≡ entries_without unit (active_of links.old self.old) }
+        ensures away { IsOnNone links.new unit }
+        ensures others { ChangesOwn links.old links.new self.old.owner }
+    {
+        let list = self.list(links, unit);
+        self.pull(links, list, unit);
+    }
+
+    // Whether a touch marks the unit, and doesn't move it.
+    fn is_marked_by_touch(&self, links: &Links, unit: u32) -> bool
+        requires frame { unit < length links.now }
+        requires on { list_of links.now self.now.owner unit ≢ None }
+        ensures { result ≡ is_marked_by_touch (list_of links.now self.now.owner unit) (link_at links.now unit).is_marked }
+    {
+        match self.list(links, unit) {
+            LruList::Inactive => !links.link(unit).is_marked,
+            LruList::Active => false,
+        }
+    }
+
+    /// Notes that a unit of the two lists was used: it is marked, or moves to the newest end of the active list.
+    pub fn touch(&mut self, links: &mut Links, unit: u32) -> Touched
+        requires frame { unit < length links.old }
+        requires on { list_of links.old self.old.owner unit ≢ None }
+        requires stands { StandsIn links.old self.old }
+        ensures stands { StandsIn links.new self.new }
+        ensures owner { self.new.owner ≡ self.old.owner }
+        ensures touches { Touches links.old self.old unit result links.new self.new }
+        ensures others { ChangesOwn links.old links.new self.old.owner }
+    {
+        if self.is_marked_by_touch(links, unit) {
+            links.mark(unit, true);
+            Touched::Marked
+        } else {
+            self.move_to(links, LruList::Active, unit);
+            Touched::Moved
+        }
+    }
+
+    /// Notes whether the pages of a unit of the two lists are dirty.
+    pub fn set_dirty(&self, links: &mut Links, unit: u32, is_dirty: bool)
+        requires frame { unit < length links.old }
+        requires on { list_of links.old self.now.owner unit ≢ None }
+        requires stands { StandsIn links.old self.now }
+        ensures stands { StandsIn links.new self.now }
+        ensures entries { (list : LruList) → entries_of links.new self.now list ≡ changed_at unit (dirtied is_dirty) (entries_of links.old self.now list) }
+        ensures others { ChangesOwn links.old links.new self.now.owner }
+    {
+        links.dirty(unit, is_dirty);
+    }
+
+    // The unit of this number as it stands on a list.
+    fn entry(links: &Links, unit: Option<u32>) -> Option<Entry>
+        requires { IfSome unit (λ u. u < length links.now) }
+        ensures { result ≡ option_map (entry_of links.now) unit }
+    {
+        let number = unit?;
+        let link = links.link(number);
+        Some(Entry {
+            number,
+            is_marked: link.is_marked,
+            is_dirty: link.is_dirty,
+        })
+    }
+
+    /// How many units stand on one of the lists.
+    pub fn len(&self, _links: &Links, list: LruList) -> u32
+        requires { StandsIn _links.now self.now }
+        ensures { result ≡ length (entries_of _links.now self.now list) }
+    {
+        self.queue(list).length
+    }
+
+    /// The oldest unit of one of the lists; None exactly where that is empty.
+    pub fn oldest(&self, links: &Links, list: LruList) -> Option<Entry>
+        requires { StandsIn links.now self.now }
+        ensures { result ≡ first_entry (entries_of links.now self.now list) }
+    {
+        Lru::entry(links, self.queue(list).oldest)
+    }
+
+    /// The unit just after this one on the list of the two that it stands on; None exactly where this is the newest.
+    pub fn newer(&self, links: &Links, unit: u32) -> Option<Entry>
+        requires frame { unit < length links.now }
+        requires on { list_of links.now self.now.owner unit ≢ None }
+        requires stands { StandsIn links.now self.now }
+        ensures { (list : LruList) → list_of links.now self.now.owner unit ≡ Some list → result ≡ entry_after unit (entries_of links.now self.now list) }
+    {
+        Lru::entry(links, links.link(unit).newer)
+    }
+
+    // Moves the oldest active unit to the newest end of the inactive list, unmarked.
+    fn demote(&mut self, links: &mut Links)
+        requires some { 0 < self.old.active.length }
+        requires stands { StandsIn links.old self.old }
+        ensures stands { StandsIn links.new self.new }
+        ensures owner { self.new.owner ≡ self.old.owner }
+        ensures inactive { inactive_of links.new self.new ≡ inactive_of links.old self.old ++ map (marked false) (take 1 (active_of links.old self.old)) }
+        ensures active { active_of links.new self.new ≡ drop 1 (active_of links.old self.old) }
+        ensures keeps { KeepsUnits links.old links.new self.old.owner }
+    {
+        let oldest = self.active.oldest.unwrap();
+        self.move_to(links, LruList::Inactive, oldest);
+    }
+
+    /// Moves the oldest active units to the newest end of the inactive list, unmarked, while the active list is the
+    /// longer one.
+    pub fn age(&mut self, links: &mut Links)
+        requires { StandsIn links.old self.old }
+        ensures stands { StandsIn links.new self.new }
+        ensures owner { self.new.owner ≡ self.old.owner }
+        ensures ages { Ages links.old self.old links.new self.new }
+        ensures others { ChangesOwn links.old links.new self.old.owner }
+    {
+        while self.inactive.length < self.active.length {
+            self.demote(links);
+        }
+    }
+}

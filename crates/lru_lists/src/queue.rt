@@ -1,0 +1,133 @@
+//! One list: its ends and its length. Its units are linked through their records.
+
+ghost use Rattle.std.specs.Prelude.{◌≡◌, ◌<◌, ◌-◌, ◌^◌, ◌++◌, [], ◌∷◌, None, Some, IfSome, length};
+ghost use Rattle.lru_lists.specs.Queue.{link_at, units_of, without, IsLinked, StaysElsewhere, SameUse, newest_link, unlinked, with_newer, with_older, pushed_queue, queue_without};
+
+use crate::record::{Home, Link};
+
+/// The ends and the length of one list.
+#[derive(Clone, Copy, Debug, PartialEq, Eq)]
+pub struct Queue {
+    /// The oldest unit; None where the list is empty.
+    pub oldest: Option<u32>,
+    /// The newest unit; None where the list is empty.
+    pub newest: Option<u32>,
+    /// How many units are on the list.
+    pub length: u32,
+}
+
+impl Queue {
+    /// The empty list.
+    pub const EMPTY: Queue = Queue {
+        oldest: None,
+        newest: None,
+        length: 0,
+    };
+}
+
+// The unit just before `newer` now has it as its next, where there is such a unit.
+fn set_newer(links: &mut [Link], unit: Option<u32>, newer: Option<u32>)
+    requires { IfSome unit (λ u. u < length links.old) }
+    ensures { links.new ≡ with_newer links.old unit newer }
+{
+    if let Some(unit) = unit {
+        links[unit as usize].newer = newer;
+    }
+}
+
+// The unit just after `older` now has it as its previous, where there is such a unit.
+fn set_older(links: &mut [Link], unit: Option<u32>, older: Option<u32>)
+    requires { IfSome unit (λ u. u < length links.old) }
+    ensures { links.new ≡ with_older links.old unit older }
+{
+    if let Some(unit) = unit {
+        links[unit as usize].older = older;
+    }
+}
+
+impl Queue {
+    // The ends once a unit stands behind the newest.
+    fn pushed(self, unit: u32) -> Queue
+        requires { self.length < 2 ^ 32 - 1 }
+        ensures { result ≡ pushed_queue self unit }
+    {
+        let oldest = match self.newest {
+            Some(_) => self.oldest,
+            None => Some(unit),
+        };
+        Queue {
+            oldest,
+            newest: Some(unit),
+            length: self.length + 1,
+        }
+    }
+
+    // The ends once a unit between these two is out.
+    fn without(self, older: Option<u32>, newer: Option<u32>) -> Queue
+        requires { 0 < self.length }
+        ensures { result ≡ queue_without self older newer }
+    {
+        let oldest = match older {
+            Some(_) => self.oldest,
+            None => newer,
+        };
+        let newest = match newer {
+            Some(_) => self.newest,
+            None => older,
+        };
+        Queue {
+            oldest,
+            newest,
+            length: self.length - 1,
+        }
+    }
+}
+
+// Puts a unit that stands on no list behind the newest of this one, unmarked.
+pub(crate) fn push_newest(links: &mut [Link], queue: &mut Queue, home: Home, unit: u32)
+    requires frames { length links.old < 2 ^ 32 }
+    requires unit { unit < length links.old }
+    requires away { (link_at links.old unit).home ≡ None }
+    requires linked { IsLinked links.old home queue.old (units_of links.old queue.old) }
+    ensures units { units_of links.new queue.new ≡ units_of links.old queue.old ++ unit ∷ [] }
+    ensures linked { IsLinked links.new home queue.new (units_of links.new queue.new) }
+    ensures unit { link_at links.new unit ≡ newest_link home queue.old.newest (link_at links.old unit).is_dirty }
+    ensures others { StaysElsewhere links.old links.new home unit }
+    ensures used { SameUse links.old links.new unit }
+{
+    let is_dirty = links[unit as usize].is_dirty;
+    set_newer(links, queue.newest, Some(unit));
+    links[unit as usize] = Link {
+        home: Some(home),
+        older: queue.newest,
+        newer: None,
+        is_marked: false,
+        is_dirty,
+    };
+    *queue = queue.pushed(unit);
+}
+
+// Takes a unit that stands on the list out of it.
+pub(crate) fn unlink(links: &mut [Link], queue: &mut Queue, home: Home, unit: u32)
+    requires linked { IsLinked links.old home queue.old (units_of links.old queue.old) }
+    requires unit { (link_at links.old unit).home ≡ Some home }
+    ensures units { units_of links.new queue.new ≡ without unit (units_of links.old queue.old) }
+    ensures linked { IsLinked links.new home queue.new (units_of links.new queue.new) }
+    ensures unit { link_at links.new unit ≡ unlinked (link_at links.old unit) }
+    ensures others { StaysElsewhere links.old links.new home unit }
+    ensures used { SameUse links.old links.new unit }
+{
+    let link = links[unit as usize];
+    let older = link.older;
+    let newer = link.newer;
+    set_newer(links, older, newer);
+    set_older(links, newer, older);
+    links[unit as usize] = Link {
+        home: None,
+        older: None,
+        newer: None,
+        is_marked: link.is_marked,
+        is_dirty: link.is_dirty,
+    };
+    *queue = queue.without(older, newer);
+}
