@@ -3,3 +3,7 @@ pub mod Sums
 pub mod Lists
 pub mod Sound
 pub mod PhaseLemmas
+pub mod Referring
+pub mod Passing
+pub mod Placing
+pub mod SoundSteps

@@ -151,13 +151,24 @@ pub sound_references : (zone : Zone) (hold : Hold) (phases : ℕ → Phase) (ref
 sound_references zone hold phases references later parts f s m =
     subst (λ (ph : ℕ → Phase). Sound zone hold ph later parts) (at_itself phases f) (sound_phase zone hold phases references later parts f (phases f) (phases f) s refl m)
 
--- a part changes in its numbers alone
+-- a part changes in its numbers alone, and what is fresh stays paid
 pub sound_part : (zone : Zone) (hold : Hold) (phases : ℕ → Phase) (references : ℕ → ℕ → ℕ) (parts : ℕ → Part) (p : ℕ) (part : Part) →
-    Sound zone hold phases references parts → groups_in parts ≡ groups_in (with_at parts p part) → ((kind : Kind) → frames_of part kind ≡ frames_of (parts p) kind) → IsBooked part →
+    Sound zone hold phases references parts → ((f : ℕ) → PhasePaid zone.cpus (groups_in (with_at parts p part)) (phases f)) → ((kind : Kind) → frames_of part kind ≡ frames_of (parts p) kind) → IsBooked part →
     Sound zone hold phases references (with_at parts p part)
-sound_part zone hold phases references parts p part s groups lists booked = record {
-  frames = λ f. subst (λ (g : ℕ → Option ℕ). FrameFits zone hold g (λ seat. references seat f) f (phases f)) groups (s.frames f);
+sound_part zone hold phases references parts p part s paid lists booked = record {
+  frames = λ f.
+      let old = s.frames f in
+      record { out = old.out; returning = old.returning; unreferred = old.unreferred; seats = old.seats; paid = paid f; inside = old.inside };
   lists = λ q kind f. at_each parts p part (λ k part'. times f (frames_of part' kind) ≡ one_if (has_as kind k (phases f))) (ap (times f) (lists kind) ∙ s.lists p kind f) (λ k ne. s.lists k kind f) q;
   units = s.units;
   booked = at_each parts p part (λ k part'. IsBooked part') booked (λ k ne. s.booked k);
 }
+
+-- the same where the stock stays of its group
+pub sound_numbers : (zone : Zone) (hold : Hold) (phases : ℕ → Phase) (references : ℕ → ℕ → ℕ) (parts : ℕ → Part) (p : ℕ) (part : Part) →
+    Sound zone hold phases references parts → part.stock.group ≡ (parts p).stock.group → ((kind : Kind) → frames_of part kind ≡ frames_of (parts p) kind) → IsBooked part →
+    Sound zone hold phases references (with_at parts p part)
+sound_numbers zone hold phases references parts p part s group lists booked =
+    sound_part zone hold phases references parts p part s
+    (λ f. subst (λ (g : ℕ → Option ℕ). PhasePaid zone.cpus g (phases f)) (same_groups parts p part group) (s.frames f).paid)
+    lists booked
