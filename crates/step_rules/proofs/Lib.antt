@@ -7,3 +7,10 @@ pub mod Referring
 pub mod Passing
 pub mod Placing
 pub mod SoundSteps
+pub mod CoverPhases
+pub mod CoverParts
+pub mod CoverUsage
+pub mod Own
+pub mod Other
+pub mod Runs
+pub mod LocalLaws
