@@ -1,0 +1,16 @@
+pub mod Basics
+pub mod Sums
+pub mod Lists
+pub mod Sound
+pub mod PhaseLemmas
+pub mod Referring
+pub mod Passing
+pub mod Placing
+pub mod SoundSteps
+pub mod CoverPhases
+pub mod CoverParts
+pub mod CoverUsage
+pub mod Own
+pub mod Other
+pub mod Runs
+pub mod LocalLaws

@@ -1,0 +1,125 @@
+-- Every legal step keeps what holds of the state, and so does every legal run.
+use Rattle.std.proofs.Common.{◌≡◌, ℕ, ◌+◌, ◌-◌, ◌^◌, ◌<◌, ◌≤◌, ◌&&◌, ◌||◌, ◌==◌, Bool, true, false, Option, Some, None, List, [], ◌∷◌, ◌++◌, length, take, refl, sym, ◌∙◌, ap, subst, arith, inl, inr, cond, if◌then◌else◌, eq-eqb}
+use Rattle.std.specs.Prelude.{◌⊎◌, nat_le, nat_lt, not, IfSome}
+use Rattle.std.specs.List.{fold, slice_get}
+use Rattle.std.proofs.lemmas.Bool.{cases_eq, cases_lt, cases_Bool, ne_eqb, false≢true, true≢false, and_parts, leb-true, ltb-true, or_cases}
+use Rattle.group_tree.specs.Groups.{has_group}
+use Rattle.step_rules.specs.declared.phase.Hold.TheVariants.{Unheld, HeldBy, Visiting}
+use Rattle.step_rules.specs.declared.step.Step.{Step}
+use Rattle.step_rules.specs.declared.step.Action.{Action}
+use Rattle.step_rules.specs.declared.step.Action.TheVariants.{Lock, Unlock, OpenVisit, ShutVisit, Get, Put, Freeze, Unfreeze, PassOut, TakeIn, PassBack, Collect, Consume, Credit, Report, Absorb, Fill, DrainStock, Grant, Ungrant, PlaceBlock, Return, SetMax, Make, Remove, Kill}
+use Rattle.step_rules.specs.declared.step.Answer.{Answer}
+use Rattle.step_rules.specs.declared.step.Answer.TheVariants.{Illegal, Done, Held, Left, Last, Took, Back, Pages, Granted, Placed, Number}
+use Rattle.step_rules.specs.Phases.{Kind, Listed, Fresh, has_as, passes_out, passes_back, is_free, is_head_in_hand, may_return}
+use Rattle.step_rules.specs.Phases as kinds
+use Rattle.step_rules.specs.State.{Zone, State, at_boot, is_cpu, is_frame, is_unheld, is_held_by, visits, may_zone_act, front_of, one_if}
+use Rattle.step_rules.specs.Legal.{is_legal, IsAnswer, IsCounted, IsMade, Allows, nothing_passes, is_settled, may_pass_back, may_fill}
+use Rattle.step_rules.specs.After.{after, Run, state_of, IsLegalRun, with_phase, with_part, without_unit}
+use Rattle.step_rules.proofs.Sound.{FrameFits, Sound, IsSound}
+use Rattle.step_rules.proofs.PhaseLemmas.{Returns, AsEnded, AsDrop, returning_is, unheld_visit, held_visit, visited, held_live, by_kind, free_rests}
+use Rattle.step_rules.proofs.Referring.{live_from_references, live_from_one, seat_there, sound_referred, sound_frozen, sound_last, sound_unfrozen}
+use Rattle.step_rules.proofs.Passing.{sound_passed_out, sound_taken_in, sound_sent_listed, sound_sent_fresh, sound_sent_back, sound_collected, sound_consumed, sound_credited}
+use Rattle.step_rules.proofs.Placing.{sound_placed, sound_returned, sound_hold, visit_rests, sound_reported, sound_absorbed, sound_drained, sound_filled}
+
+pub below_frames : (zone : Zone) (f : ℕ) → is_frame zone f ≡ true → f < zone.frames
+below_frames zone f e = ltb-true f zone.frames e
+
+pub cpu_range : (zone : Zone) (p : ℕ) → is_cpu zone p ≡ true → (1 ≤ p) × (p ≤ zone.cpus)
+cpu_range zone p e = let both = and_parts (nat_le 1 p) (nat_le p zone.cpus) e in (leb-true 1 p both.0, leb-true p zone.cpus both.1)
+
+returned : (s : State) (f : ℕ) → IsSound s → Returns s.killed (s.phases f) → Sound s.zone s.hold (without_unit s.phases f) s.references s.parts
+returned s f sound (AsEnded u was) = sound_returned s f u _ sound was refl
+returned s f sound (AsDrop u was killed) = sound_returned s f u _ sound was refl
+
+-- each clause of a legal step
+abbrev IsLegalStep : State → ℕ → Action → Type 0
+IsLegalStep s seat action = is_legal s seat action ≡ true
+
+pub sound_step : (s : State) (seat : ℕ) (action : Action) (answer : Answer) → IsSound s → is_legal s seat action ≡ true → IsAnswer s seat action answer → IsCounted s action answer → IsSound (after s seat action answer)
+sound_step s seat Lock Done sound legal ok counted =
+    let free : is_unheld s.hold ≡ true = grind arith in
+    sound_hold s.zone s.hold (HeldBy seat) s.phases s.references s.parts sound (λ f q e. absurd (unheld_visit s.hold q free e))
+sound_step s seat Unlock Done sound legal ok counted =
+    let held : is_held_by seat s.hold ≡ true = grind arith in
+    sound_hold s.zone s.hold Unheld s.phases s.references s.parts sound (λ f q e. absurd (held_visit seat s.hold q held e))
+sound_step s seat (OpenVisit p) Done sound legal ok counted =
+    let held : is_held_by p s.hold ≡ true = grind arith in
+    sound_hold s.zone s.hold (Visiting p) s.phases s.references s.parts sound (λ f q e. absurd (held_visit p s.hold q held e))
+sound_step s seat (ShutVisit p) Done sound legal ok counted =
+    let visit : visits p s.hold ≡ true = grind arith in
+    let rest : nothing_passes s p ≡ true = grind arith in
+    sound_hold s.zone s.hold (HeldBy p) s.phases s.references s.parts sound (visit_rests s p sound (visited p s.hold visit) rest)
+sound_step s seat (Get f) Held sound legal ok counted =
+    let cpu : is_cpu s.zone seat ≡ true = grind arith in
+    sound_referred s seat f _ sound (live_from_references s f sound (held_live _ counted)) (cpu_range s.zone seat cpu).1
+sound_step s seat (Put f) (Left n) sound legal ok counted =
+    let some : nat_le 1 (s.references seat f) ≡ true = grind arith in
+    let one : 1 ≤ s.references seat f = leb-true 1 (s.references seat f) some in
+    sound_referred s seat f _ sound (live_from_one s seat f sound one) (seat_there s seat f sound one)
+sound_step s seat (Put f) Last sound legal ok counted =
+    let some : nat_le 1 (s.references seat f) ≡ true = grind arith in
+    let frame : is_frame s.zone f ≡ true = grind arith in
+    sound_last s seat f sound (below_frames s.zone f frame) (leb-true 1 (s.references seat f) some) counted
+sound_step s seat (Freeze f n) Done sound legal ok counted =
+    let frame : is_frame s.zone f ≡ true = grind arith in
+    let some : nat_le 1 n ≡ true = grind arith in
+    let holds : nat_le n (s.references 0 f) ≡ true = grind arith in
+    sound_frozen s f n sound (below_frames s.zone f frame) (leb-true 1 n some) (leb-true n (s.references 0 f) holds) counted
+sound_step s seat (Unfreeze f n) Done sound legal ok counted =
+    let frame : is_frame s.zone f ≡ true = grind arith in
+    let hand : is_head_in_hand (s.phases f) ≡ true = grind arith in
+    sound_unfrozen s f _ sound (below_frames s.zone f frame) hand
+sound_step s seat (PassOut f p) Done sound legal ok counted =
+    let frame : is_frame s.zone f ≡ true = grind arith in
+    let visit : visits p s.hold ≡ true = grind arith in
+    let free : is_free (s.phases f) ≡ true = grind arith in
+    sound_passed_out s f p sound (below_frames s.zone f frame) (visited p s.hold visit) free
+sound_step s seat (TakeIn f) Done sound legal ok counted =
+    let frame : is_frame s.zone f ≡ true = grind arith in
+    let passes : passes_out seat (s.phases f) ≡ true = grind arith in
+    sound_taken_in s f seat sound (below_frames s.zone f frame) passes
+sound_step s seat (PassBack f) Done sound legal ok counted =
+    let frame : is_frame s.zone f ≡ true = grind arith in
+    let visit : visits seat s.hold ≡ true = grind arith in
+    let may : may_pass_back s seat f ≡ true = grind arith in
+    let below = below_frames s.zone f frame in
+    let at = visited seat s.hold visit in
+    elim (or_cases (has_as Listed seat (s.phases f) && front_of (s.parts seat).list == f || has_as Fresh seat (s.phases f)) (has_as kinds.Back seat (s.phases f)) may) [
+      | inl first ↦ elim (or_cases (has_as Listed seat (s.phases f) && front_of (s.parts seat).list == f) (has_as Fresh seat (s.phases f)) first) [
+        | inl front ↦ sound_sent_listed s f seat sound below at (and_parts (has_as Listed seat (s.phases f)) (front_of (s.parts seat).list == f) front).0
+        | inr fresh ↦ sound_sent_fresh s f seat sound below at fresh
+      ]
+      | inr back ↦ sound_sent_back s f seat sound below at back
+    ]
+sound_step s seat (Collect f p) Done sound legal ok counted =
+    let frame : is_frame s.zone f ≡ true = grind arith in
+    let passes : passes_back p (s.phases f) ≡ true = grind arith in
+    sound_collected s f p sound (below_frames s.zone f frame) passes
+sound_step s seat (Consume g) Took sound legal ok counted =
+    let cpu : is_cpu s.zone seat ≡ true = grind arith in
+    let some : nat_le 1 (length (s.parts seat).list) ≡ true = grind arith in
+    let range = cpu_range s.zone seat cpu in
+    sound_consumed s seat g sound range.0 range.1 (leb-true 1 (length (s.parts seat).list) some) ok.0 ok.2
+sound_step s seat (Credit f) Back sound legal ok counted =
+    let frame : is_frame s.zone f ≡ true = grind arith in
+    let fresh : has_as Fresh seat (s.phases f) ≡ true = grind arith in
+    sound_credited s f seat sound (below_frames s.zone f frame) fresh
+sound_step s seat (Report n) Done sound legal ok counted =
+    let few : nat_le n (s.parts seat).unreported ≡ true = grind arith in
+    sound_reported s seat n sound (leb-true n (s.parts seat).unreported few)
+sound_step s seat (Absorb p) (Pages n) sound legal ok counted = sound_absorbed s p n sound ok
+sound_step s seat (Fill p g n) Done sound legal ok counted =
+    let may : may_fill (s.parts p) g ≡ true = grind arith in
+    sound_filled s p g n sound may
+sound_step s seat (DrainStock p) (Pages n) sound legal ok counted = sound_drained s p n sound counted
+sound_step s seat (Grant g n) Granted sound legal ok counted = sound
+sound_step s seat (Ungrant g n) Done sound legal ok counted = sound
+sound_step s seat (PlaceBlock g k) (Placed b) sound legal ok counted = sound_placed s g b sound ok.1
+sound_step s seat (Return f) Done sound legal ok counted =
+    let may : may_return s.killed (s.phases f) ≡ true = grind arith in
+    returned s f sound (returning_is s.killed (s.phases f) may)
+sound_step s seat (SetMax g limit) Done sound legal ok counted = sound
+sound_step s seat (Make path) (Number n) sound legal ok counted = sound
+sound_step s seat (Remove g) Done sound legal ok counted = sound
+sound_step s seat (Kill g) Done sound legal ok counted = sound
+sound_step s seat action answer sound legal ok counted = sound

@@ -1,0 +1,153 @@
+-- What a step changes, and the state that a list of steps leads to.
+use Rattle.std.specs.Prelude.{◌≡◌, ℕ, ◌+◌, ◌-◌, ◌^◌, ◌==◌, ◌&&◌, nat_le, nat_lt, Bool, true, false, Option, Some, None, is_some, List, drop, length, take, slice_get, IfSome, fold, if◌then◌else◌}
+use Rattle.zone_blocks.specs.declared.block.Block.{Block}
+use Rattle.group_tree.specs.Groups.{with_group, with_limit, without_group}
+use Rattle.step_rules.specs.declared.phase.ChargedUnit.{ChargedUnit}
+use Rattle.step_rules.specs.declared.phase.Hold.TheVariants.{Unheld, HeldBy, Visiting}
+use Rattle.step_rules.specs.declared.phase.Way.TheVariants.{PassingOut, OnList}
+use Rattle.step_rules.specs.declared.phase.Stage.TheVariants.{FreshAt, Bare, Live, Ended}
+use Rattle.step_rules.specs.declared.phase.Phase.{Phase}
+use Rattle.step_rules.specs.declared.phase.Phase.TheVariants.{InZone, Lent, Head, Tail}
+use Rattle.step_rules.specs.declared.step.Step.{Step}
+use Rattle.step_rules.specs.declared.step.Action.{Action}
+use Rattle.step_rules.specs.declared.step.Action.TheVariants.{Lock, Unlock, OpenVisit, ShutVisit, Get, Put, Freeze, Unfreeze, PassOut, TakeIn, PassBack, Collect, Consume, Credit, Report, Absorb, Fill, DrainStock, Grant, Ungrant, PlaceBlock, Return, SetMax, Make, Remove, Kill}
+use Rattle.step_rules.specs.declared.step.Answer.{Answer}
+use Rattle.step_rules.specs.declared.step.Answer.TheVariants.{Done, Held, Left, Last, Took, Back, Pages, Granted, Placed, Number}
+use Rattle.step_rules.specs.Phases.{Kind, Listed, Fresh, has_as, unit_of, at_stage, stage_after_last, passed_back, collected}
+use Rattle.step_rules.specs.Phases as kinds
+use Rattle.step_rules.specs.State.{Zone, Stock, Part, State, at_boot, with_at, one_if, without, with_last, put_if, front_of}
+use Rattle.step_rules.specs.Legal.{Allows}
+
+-- one frame is in another phase
+abbrev pub with_phase : State → ℕ → Phase → State
+with_phase s f phase = record s { phases = with_at s.phases f phase }
+
+-- one processor has another part
+abbrev pub with_part : State → ℕ → Part → State
+with_part s p part = record s { parts = with_at s.parts p part }
+
+-- the seat has so many references on the frame
+abbrev pub with_references : State → ℕ → ℕ → ℕ → State
+with_references s seat f n = record s { references = with_at s.references seat (with_at (s.references seat) f n) }
+
+-- so many pages are pending for the group
+abbrev pub with_pending : State → ℕ → ℕ → State
+with_pending s g n = record s { pending = with_at s.pending g n }
+
+-- the frame is one of so many from this one on
+abbrev pub is_within : ℕ → ℕ → ℕ → Bool
+is_within at n f = nat_le at f && nat_lt f (at + n)
+
+-- the phase of a frame of a block that is placed: its head, and the rest
+abbrev pub placed_phase : ℕ → Block → ℕ → Phase
+placed_phase g b f = if f == b.at then Head (record { group = g; order = b.order }) Bare else Tail g
+
+-- the phases with those of a block that is placed
+abbrev pub with_block : (ℕ → Phase) → ℕ → Block → ℕ → Phase
+with_block phases g b f = if is_within b.at (2 ^ b.order) f then placed_phase g b f else phases f
+
+-- how many frames come back with this one
+abbrev pub unit_size : Option ChargedUnit → ℕ
+unit_size None = 1
+unit_size (Some unit) = 2 ^ unit.order
+
+-- the phases with the frames of a unit free again
+abbrev pub without_unit : (ℕ → Phase) → ℕ → ℕ → Phase
+without_unit phases f x = if is_within f (unit_size (unit_of (phases f))) x then InZone else phases x
+
+-- the part without one of its frames that it passes back; the page of a fresh one is to be reported
+abbrev pub without_frame : Part → Phase → ℕ → ℕ → Part
+without_frame part phase p f = record part {
+  list = without f part.list;
+  fresh = without f part.fresh;
+  back = without f part.back;
+  unreported = part.unreported + one_if (has_as Fresh p phase);
+}
+
+-- the front of the list is fresh, paid with one page of the stock
+abbrev pub paid : Part → Part
+paid part = record part {
+  list = without (front_of part.list) part.list;
+  fresh = with_last part.fresh (front_of part.list);
+  stock = record (part.stock) { pages = part.stock.pages - 1 };
+}
+
+-- the fresh frame is at the end of the list, and its page in the stock
+abbrev pub credited : Part → ℕ → Part
+credited part f = record part {
+  list = with_last part.list f;
+  fresh = without f part.fresh;
+  stock = record (part.stock) { pages = part.stock.pages + 1 };
+}
+
+-- the last put was the processor's own: the frame is at the end of its back frames
+abbrev pub with_back : Part → ℕ → Part
+with_back part f = record part { back = with_last part.back f }
+
+-- so many pages were filled into the stock, for this group
+abbrev pub filled : Part → ℕ → ℕ → Part
+filled part g n = record part { stock = record { group = Some g; pages = n; is_drained = false }; book = part.book + n }
+
+-- so many pages were drained from the stock
+abbrev pub drained : Part → ℕ → Part
+drained part n = record part { stock = record (part.stock) { pages = part.stock.pages - n; is_drained = is_some part.stock.group }; book = part.book - n }
+
+-- the pages pending with n more for a group, if there is one
+abbrev pub with_more : (ℕ → ℕ) → Option ℕ → ℕ → ℕ → ℕ
+with_more pending None n = pending
+with_more pending (Some g) n = with_at pending g (pending g + n)
+
+-- the front of the list becomes fresh: its unit is of one frame, and of the group that paid
+abbrev pub consumed : ℕ → ℕ → Phase
+consumed p g = Head (record { group = g; order = 0 }) (FreshAt p)
+
+-- the state after a last put of the seat: at a processor the frame joins its back frames
+abbrev pub after_last : State → ℕ → ℕ → State
+after_last s seat f = record s {
+  references = with_at s.references seat (with_at (s.references seat) f (s.references seat f - 1));
+  phases = with_at s.phases f (at_stage (stage_after_last seat) (s.phases f));
+  parts = if seat == 0 then s.parts else with_at s.parts seat (with_back (s.parts seat) f);
+}
+
+-- what a step changes that is made, and is answered so; any other pair changes nothing
+abbrev pub after : State → ℕ → Action → Answer → State
+after s seat Lock Done = record s { hold = HeldBy seat }
+after s seat Unlock Done = record s { hold = Unheld }
+after s seat (OpenVisit p) Done = record s { hold = Visiting p }
+after s seat (ShutVisit p) Done = record s { hold = HeldBy p }
+after s seat (Get f) Held = with_references s seat f (s.references seat f + 1)
+after s seat (Put f) (Left n) = with_references s seat f (s.references seat f - 1)
+after s seat (Put f) Last = after_last s seat f
+after s seat (Freeze f n) Done = with_phase (with_references s 0 f (s.references 0 f - n)) f (at_stage Ended (s.phases f))
+after s seat (Unfreeze f n) Done = with_phase (with_references s 0 f (s.references 0 f + n)) f (at_stage Live (s.phases f))
+after s seat (PassOut f p) Done = with_phase s f (Lent p PassingOut)
+after s seat (TakeIn f) Done = with_part (with_phase s f (Lent seat OnList)) seat (record (s.parts seat) { list = with_last (s.parts seat).list f })
+after s seat (PassBack f) Done = with_part (with_phase s f (passed_back (s.phases f))) seat (without_frame (s.parts seat) (s.phases f) seat f)
+after s seat (Collect f p) Done = with_phase s f (collected (s.phases f))
+after s seat (Consume g) Took = with_part (with_phase s (front_of (s.parts seat).list) (consumed seat g)) seat (paid (s.parts seat))
+after s seat (Credit f) Back = with_part (with_phase s f (Lent seat OnList)) seat (credited (s.parts seat) f)
+after s seat (Report n) Done = with_part s seat (record (s.parts seat) { unreported = (s.parts seat).unreported - n; reported = (s.parts seat).reported + n })
+after s seat (Absorb p) (Pages n) = with_part s p (record (s.parts p) { book = (s.parts p).book - n; reported = (s.parts p).reported - n })
+after s seat (Fill p g n) Done = with_part (with_pending s g (s.pending g - n)) p (filled (s.parts p) g n)
+after s seat (DrainStock p) (Pages n) = record (with_part s p (drained (s.parts p) n)) { pending = with_more s.pending (s.parts p).stock.group n }
+after s seat (Grant g n) Granted = with_pending s g (s.pending g + n)
+after s seat (Ungrant g n) Done = with_pending s g (s.pending g - n)
+after s seat (PlaceBlock g k) (Placed b) = record (with_pending s g (s.pending g - 2 ^ k)) { phases = with_block s.phases g b }
+after s seat (Return f) Done = record s { phases = without_unit s.phases f }
+after s seat (SetMax g limit) Done = record s { groups = with_limit s.groups g limit }
+after s seat (Make path) (Number n) = record s { groups = with_group s.groups n path; killed = with_at s.killed n false }
+after s seat (Remove g) Done = record s { groups = without_group s.groups g }
+after s seat (Kill g) Done = record s { killed = with_at s.killed g true }
+after s seat action answer = s
+
+-- the steps that were made, in their order, each with its answer
+abbrev pub Run : Type 0
+Run = List (Step × Answer)
+
+-- the state that a run leads to
+abbrev pub state_of : Zone → Run → State
+state_of zone run = fold (λ s e. after s e.0.seat e.0.action e.1) (at_boot zone) run
+
+-- each answer is allowed after the beginning before it
+abbrev pub IsLegalRun : Zone → Run → Type 0
+IsLegalRun zone run = (k : ℕ) → IfSome (slice_get run k) (λ e. Allows (state_of zone (take k run)) e.0.seat e.0.action e.1)

@@ -1,0 +1,47 @@
+-- Laws of what a processor sees while it holds the lock.
+use Rattle.std.specs.Prelude.{◌≡◌, ◌≢◌, ℕ, ◌==◌, ◌&&◌, ◌||◌, ◌++◌, ◌⊎◌, not, Bool, true, false, List, [], ◌∷◌}
+use Rattle.step_rules.specs.declared.step.Step.{Step}
+use Rattle.step_rules.specs.declared.step.Action.{Action}
+use Rattle.step_rules.specs.declared.step.Action.TheVariants.{Lock, Unlock}
+use Rattle.step_rules.specs.declared.step.Answer.{Answer}
+use Rattle.step_rules.specs.declared.step.Answer.TheVariants.{Illegal}
+use Rattle.step_rules.specs.State.{Zone, State}
+use Rattle.step_rules.specs.Legal.{is_legal, IsAnswer, IsCounted, IsMade}
+use Rattle.step_rules.specs.After.{Run, after, state_of, IsLegalRun}
+use Rattle.step_rules.specs.Cover.{hide, holds_lock}
+
+-- the run shows p this local state: the run is legal, p holds the lock after it, and this is what it sees then
+pub record ShowsLocal (zone : Zone) (run : Run) (p : ℕ) (local : State) : Type 0 where
+  pub legal : IsLegalRun zone run
+  pub holds : holds_lock p (state_of zone run).hold ≡ true
+  pub sees : local ≡ hide p (state_of zone run)
+
+-- the step takes or gives back the lock
+abbrev pub is_of_lock : Action → Bool
+is_of_lock Lock = true
+is_of_lock Unlock = true
+is_of_lock _ = false
+
+-- a step that p or the zone's seat may make on the local state, with an answer that it may get there
+pub record IsLocalStep (local : State) (p seat : ℕ) (action : Action) (answer : Answer) : Type 0 where
+  pub own : (seat ≡ 0) ⊎ (seat ≡ p)
+  pub inside : is_of_lock action ≡ false
+  pub legal : is_legal local seat action ≡ true
+  pub answered : IsAnswer local seat action answer
+
+-- the run with one more pair
+abbrev pub pushed : Run → Step → Answer → Run
+pushed run step answer = run ++ (step, answer) ∷ []
+
+-- after a run that shows p a local state, a local step with an answer that the whole table allows there is legal, and the
+-- run then shows p the next local state
+abbrev pub OwnStepIsLegal : Type 0
+OwnStepIsLegal = (zone : Zone) (run : Run) (p : ℕ) (local : State) (step : Step) (answer : Answer) →
+    ShowsLocal zone run p local → IsLocalStep local p step.seat step.action answer → IsCounted (state_of zone run) step.action answer →
+    ShowsLocal zone (pushed run step answer) p (after local step.seat step.action answer)
+
+-- a legal step of another processor leaves the local state as it is
+abbrev pub OtherStepIsHidden : Type 0
+OtherStepIsHidden = (zone : Zone) (run : Run) (p : ℕ) (local : State) (step : Step) (answer : Answer) →
+    ShowsLocal zone run p local → step.seat ≢ 0 → step.seat ≢ p → IsMade (state_of zone run) step.seat step.action answer →
+    ShowsLocal zone (pushed run step answer) p local

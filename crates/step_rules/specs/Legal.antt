@@ -1,0 +1,147 @@
+-- Which steps may be made, and which answers each of them may get.
+use Rattle.std.specs.Prelude.{◌≡◌, ◌≢◌, ℕ, ◌+◌, ◌^◌, ◌<◌, ◌≤◌, ◌==◌, ◌&&◌, ◌||◌, nat_le, nat_lt, not, Bool, true, false, Option, Some, None, is_none, List, length, take, slice_get, IfSome, if◌then◌else◌}
+use Rattle.zone_blocks.specs.declared.block.Block.{Block}
+use Rattle.zone_blocks.specs.Areas.{IsFreeBlock}
+use Rattle.group_tree.specs.Groups.{has_group, has_child, make_fault, IsLeastFreeNumber}
+use Rattle.step_rules.specs.declared.step.Step.{Step}
+use Rattle.step_rules.specs.declared.step.Action.{Action}
+use Rattle.step_rules.specs.declared.step.Action.TheVariants.{Lock, Unlock, OpenVisit, ShutVisit, Get, Put, Freeze, Unfreeze, PassOut, TakeIn, PassBack, Collect, Consume, Credit, Report, Absorb, Fill, DrainStock, Grant, Ungrant, PlaceBlock, Publish, Return, NoteMax, NoteOom, SetMax, Make, Remove, Kill}
+use Rattle.step_rules.specs.declared.step.Answer.{Answer}
+use Rattle.step_rules.specs.declared.step.Answer.TheVariants.{Illegal, Done, Held, Zero, Full, Left, Last, Missed, Took, Empty, OtherGroup, Drained, Back, Pages, Granted, Over, Placed, NoFreeBlock, Number}
+use Rattle.step_rules.specs.Phases.{Kind, Listed, Fresh, is_free, is_head, has_as, passes_out, passes_back, is_head_in_hand, may_return}
+use Rattle.step_rules.specs.Phases as kinds
+use Rattle.step_rules.specs.State.{State, Part, sum_to, all_to, front_of, is_cpu, is_frame, is_unheld, is_held_by, visits, may_zone_act, live_references, pins_of, free_in}
+use Rattle.step_rules.specs.Usage.{usage_of, PathHasRoom, IsLowestOver}
+
+-- the frame does not pass for the processor
+abbrev pub rests : State → ℕ → ℕ → Bool
+rests s p f = not (passes_out p (s.phases f)) && not (passes_back p (s.phases f))
+
+-- no frame passes for the processor
+abbrev pub nothing_passes : State → ℕ → Bool
+nothing_passes s p = all_to s.zone.frames (rests s p)
+
+-- no page of any group is pending
+abbrev pub is_settled : State → Bool
+is_settled s = all_to 64 (λ g. s.pending g == 0)
+
+-- the frame is the front of the processor's list, fresh, or a back frame there
+abbrev pub may_pass_back : State → ℕ → ℕ → Bool
+may_pass_back s p f =
+    has_as Listed p (s.phases f) && front_of (s.parts p).list == f || has_as Fresh p (s.phases f) || has_as kinds.Back p (s.phases f)
+
+-- the stock is of this group
+abbrev pub is_of_group : Option ℕ → ℕ → Bool
+is_of_group None g = false
+is_of_group (Some h) g = h == g
+
+-- the stock has no page, and the book is 0 or of the group
+abbrev pub may_fill : Part → ℕ → Bool
+may_fill part g = part.stock.pages == 0 && (part.book == 0 || is_of_group part.stock.group g)
+
+-- the group is there, is not the root, has none below it, and its usage is 0
+abbrev pub is_removable : State → ℕ → Bool
+is_removable s g = has_group s.groups g && not (g == 0) && not (has_child s.groups g) && usage_of s g == 0
+
+-- whether the seat may make the step
+abbrev pub is_legal : State → ℕ → Action → Bool
+is_legal s seat Lock = is_cpu s.zone seat && is_unheld s.hold
+is_legal s seat Unlock = is_cpu s.zone seat && is_held_by seat s.hold && is_settled s && nothing_passes s seat
+is_legal s seat (OpenVisit p) = may_zone_act s.hold seat && is_held_by p s.hold
+is_legal s seat (ShutVisit p) = may_zone_act s.hold seat && visits p s.hold && nothing_passes s p && (s.parts p).unreported == 0 && (s.parts p).reported == 0
+is_legal s seat (Get f) = is_cpu s.zone seat && is_frame s.zone f && nat_lt (pins_of s seat + length (s.parts seat).back) 256
+is_legal s seat (Put f) = (is_cpu s.zone seat || may_zone_act s.hold seat) && is_frame s.zone f && nat_le 1 (s.references seat f)
+is_legal s seat (Freeze f n) = may_zone_act s.hold seat && is_frame s.zone f && nat_le 1 n && nat_le n (s.references 0 f)
+is_legal s seat (Unfreeze f n) = may_zone_act s.hold seat && is_frame s.zone f && is_head_in_hand (s.phases f) && nat_le 1 n && nat_le n 255
+is_legal s seat (PassOut f p) = may_zone_act s.hold seat && is_frame s.zone f && visits p s.hold && is_free (s.phases f)
+is_legal s seat (TakeIn f) = is_cpu s.zone seat && is_frame s.zone f && passes_out seat (s.phases f)
+is_legal s seat (PassBack f) = is_cpu s.zone seat && is_frame s.zone f && visits seat s.hold && may_pass_back s seat f
+is_legal s seat (Collect f p) = may_zone_act s.hold seat && is_frame s.zone f && is_cpu s.zone p && passes_back p (s.phases f)
+is_legal s seat (Consume g) = is_cpu s.zone seat && nat_le 1 (length (s.parts seat).list) && nat_lt (length (s.parts seat).fresh) 32
+is_legal s seat (Credit f) = is_cpu s.zone seat && is_frame s.zone f && has_as Fresh seat (s.phases f)
+is_legal s seat (Report n) = is_cpu s.zone seat && visits seat s.hold && nat_le n (s.parts seat).unreported
+is_legal s seat (Absorb p) = may_zone_act s.hold seat && visits p s.hold
+is_legal s seat (Fill p g n) = may_zone_act s.hold seat && visits p s.hold && has_group s.groups g && may_fill (s.parts p) g && nat_le n (s.pending g)
+is_legal s seat (DrainStock p) = may_zone_act s.hold seat && is_cpu s.zone p
+is_legal s seat (Grant g n) = may_zone_act s.hold seat && has_group s.groups g && not (s.killed g)
+is_legal s seat (Ungrant g n) = may_zone_act s.hold seat && has_group s.groups g && nat_le n (s.pending g)
+is_legal s seat (PlaceBlock g k) = may_zone_act s.hold seat && has_group s.groups g && nat_le (2 ^ k) (s.pending g)
+is_legal s seat (Publish f) = may_zone_act s.hold seat && is_frame s.zone f && is_head (s.phases f) && nat_le 1 (s.references 0 f)
+is_legal s seat (Return f) = may_zone_act s.hold seat && is_frame s.zone f && may_return s.killed (s.phases f)
+is_legal s seat (NoteMax g) = may_zone_act s.hold seat && has_group s.groups g
+is_legal s seat (NoteOom g) = may_zone_act s.hold seat && has_group s.groups g
+is_legal s seat (SetMax g limit) = may_zone_act s.hold seat && has_group s.groups g && not (g == 0)
+is_legal s seat (Make path) = may_zone_act s.hold seat && is_none (make_fault s.groups path)
+is_legal s seat (Remove g) = may_zone_act s.hold seat && is_removable s g
+is_legal s seat (Kill g) = may_zone_act s.hold seat && has_group s.groups g && not (s.killed g)
+
+-- which answers a step may get, where it may be made, but for what others' references and stocks decide: a stock pays
+-- where it is of the group, isn't drained and has a page; pages are granted exactly where every limit on the path has
+-- room for them; any free block of the order may be placed, and NoFreeBlock is answered only where there is none
+abbrev pub IsAnswer : State → ℕ → Action → Answer → Type 0
+IsAnswer s seat Lock Done = Unit {0}
+IsAnswer s seat Unlock Done = Unit {0}
+IsAnswer s seat (OpenVisit p) Done = Unit {0}
+IsAnswer s seat (ShutVisit p) Done = Unit {0}
+IsAnswer s seat (Get f) Held = Unit {0}
+IsAnswer s seat (Get f) Zero = Unit {0}
+IsAnswer s seat (Get f) Full = Unit {0}
+IsAnswer s seat (Put f) (Left n) = Unit {0}
+IsAnswer s seat (Put f) Last = Unit {0}
+IsAnswer s seat (Freeze f n) Done = Unit {0}
+IsAnswer s seat (Freeze f n) Missed = Unit {0}
+IsAnswer s seat (Unfreeze f n) Done = Unit {0}
+IsAnswer s seat (PassOut f p) Done = Unit {0}
+IsAnswer s seat (TakeIn f) Done = Unit {0}
+IsAnswer s seat (PassBack f) Done = Unit {0}
+IsAnswer s seat (Collect f p) Done = Unit {0}
+IsAnswer s seat (Consume g) Took = ((s.parts seat).stock.group ≡ Some g) × ((s.parts seat).stock.is_drained ≡ false) × (1 ≤ (s.parts seat).stock.pages)
+IsAnswer s seat (Consume g) Empty = ((s.parts seat).stock.group ≡ Some g) × ((s.parts seat).stock.is_drained ≡ false) × ((s.parts seat).stock.pages ≡ 0)
+IsAnswer s seat (Consume g) Drained = ((s.parts seat).stock.group ≡ Some g) × ((s.parts seat).stock.is_drained ≡ true)
+IsAnswer s seat (Consume g) OtherGroup = (s.parts seat).stock.group ≢ Some g
+IsAnswer s seat (Credit f) Back = (s.parts seat).stock.is_drained ≡ false
+IsAnswer s seat (Credit f) Drained = (s.parts seat).stock.is_drained ≡ true
+IsAnswer s seat (Report n) Done = Unit {0}
+IsAnswer s seat (Absorb p) (Pages n) = n ≡ (s.parts p).reported
+IsAnswer s seat (Fill p g n) Done = Unit {0}
+IsAnswer s seat (DrainStock p) (Pages n) = Unit {0}
+IsAnswer s seat (Grant g n) Granted = PathHasRoom s.groups (usage_of s) n g
+IsAnswer s seat (Grant g n) (Over m) = IsLowestOver s.groups (usage_of s) n g m
+IsAnswer s seat (Ungrant g n) Done = Unit {0}
+IsAnswer s seat (PlaceBlock g k) (Placed b) = (b.order ≡ k) × IsFreeBlock (free_in s.zone s.phases) b
+IsAnswer s seat (PlaceBlock g k) NoFreeBlock = (b : Block) → b.order ≡ k → ¬ IsFreeBlock (free_in s.zone s.phases) b
+IsAnswer s seat (Publish f) Done = Unit {0}
+IsAnswer s seat (Return f) Done = Unit {0}
+IsAnswer s seat (NoteMax g) Done = Unit {0}
+IsAnswer s seat (NoteOom g) Done = Unit {0}
+IsAnswer s seat (SetMax g limit) Done = Unit {0}
+IsAnswer s seat (Make path) (Number n) = IsLeastFreeNumber s.groups n
+IsAnswer s seat (Remove g) Done = Unit {0}
+IsAnswer s seat (Kill g) Done = Unit {0}
+IsAnswer s seat action answer = ⊥
+
+-- what a get is answered at so many references: Held at 1 to 254, Full at 255, else Zero
+abbrev pub get_answer : ℕ → Answer
+get_answer live = if nat_le 1 live && nat_le live 254 then Held else (if live == 255 then Full else Zero)
+
+-- what others' references and stocks decide: a get by all references on the frame, a put by how many are left, a freeze
+-- by whether they are exactly so many, and a drain by the pages of the stock
+abbrev pub IsCounted : State → Action → Answer → Type 0
+IsCounted s (Get f) answer = answer ≡ get_answer (live_references s f)
+IsCounted s (Put f) (Left n) = (live_references s f ≡ n + 1) × (1 ≤ n)
+IsCounted s (Put f) Last = live_references s f ≡ 1
+IsCounted s (Freeze f n) Done = live_references s f ≡ n
+IsCounted s (Freeze f n) Missed = live_references s f ≢ n
+IsCounted s (DrainStock p) (Pages n) = n ≡ (s.parts p).stock.pages
+IsCounted s action answer = Unit {0}
+
+-- the answer that a step may get: Illegal exactly where it may not be made
+pub record IsMade (s : State) (seat : ℕ) (action : Action) (answer : Answer) : Type 0 where
+  pub legal : is_legal s seat action ≡ true
+  pub answered : IsAnswer s seat action answer
+  pub counted : IsCounted s action answer
+
+-- the answer is allowed: Illegal exactly where the step may not be made
+abbrev pub Allows : State → ℕ → Action → Answer → Type 0
+Allows s seat action Illegal = is_legal s seat action ≡ false
+Allows s seat action answer = IsMade s seat action answer

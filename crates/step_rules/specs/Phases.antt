@@ -1,0 +1,160 @@
+-- Tests on the phase of a frame, and how a step moves it on.
+use Rattle.std.specs.Prelude.{ℕ, ◌==◌, ◌&&◌, Bool, true, false, Option, Some, None, if◌then◌else◌}
+use Rattle.step_rules.specs.declared.phase.ChargedUnit.{ChargedUnit}
+use Rattle.step_rules.specs.declared.phase.Way.{Way}
+use Rattle.step_rules.specs.declared.phase.Way.TheVariants.{PassingOut, OnList, PassingBack}
+use Rattle.step_rules.specs.declared.phase.Stage.{Stage}
+use Rattle.step_rules.specs.declared.phase.Stage.TheVariants.{FreshAt, FreshPassing, Collected, Bare, Live, BackAt, BackPassing, Ended}
+use Rattle.step_rules.specs.declared.phase.Phase.{Phase}
+use Rattle.step_rules.specs.declared.phase.Phase.TheVariants.{InZone, Lent, Head, Tail}
+
+-- a processor's frames are of three kinds: on its list, fresh, or with a last put of its own
+pub data Kind : Type 0 where
+  Listed : Kind
+  Fresh : Kind
+  Back : Kind
+
+-- the frame is in the zone's free areas
+abbrev pub is_free : Phase → Bool
+is_free InZone = true
+is_free _ = false
+
+-- the frame heads a charged unit
+abbrev pub is_head : Phase → Bool
+is_head (Head unit stage) = true
+is_head _ = false
+
+-- the unit that the frame heads
+abbrev pub unit_of : Phase → Option ChargedUnit
+unit_of (Head unit stage) = Some unit
+unit_of _ = None
+
+-- the group that keeps the frame
+abbrev pub keeper_of : Phase → Option ℕ
+keeper_of (Head unit stage) = Some unit.group
+keeper_of (Tail g) = Some g
+keeper_of _ = None
+
+-- the stage of a unit that has references
+abbrev pub is_live_stage : Stage → Bool
+is_live_stage Live = true
+is_live_stage _ = false
+
+-- the frame has references
+abbrev pub is_live : Phase → Bool
+is_live (Head unit stage) = is_live_stage stage
+is_live _ = false
+
+-- the processor has the unit's head as a frame of this kind
+abbrev pub has_stage : Kind → ℕ → Stage → Bool
+has_stage Fresh p (FreshAt q) = q == p
+has_stage Back p (BackAt q) = q == p
+has_stage _ _ _ = false
+
+-- the lent frame is on the processor's list
+abbrev pub has_lent : Kind → ℕ → ℕ → Way → Bool
+has_lent Listed p q OnList = q == p
+has_lent _ _ _ _ = false
+
+-- the processor has the frame as one of this kind
+abbrev pub has_as : Kind → ℕ → Phase → Bool
+has_as kind p (Lent q way) = has_lent kind p q way
+has_as kind p (Head unit stage) = has_stage kind p stage
+has_as _ _ _ = false
+
+-- the lent frame passes out
+abbrev pub is_out : Way → Bool
+is_out PassingOut = true
+is_out _ = false
+
+-- the frame passes out to the processor
+abbrev pub passes_out : ℕ → Phase → Bool
+passes_out p (Lent q way) = is_out way && q == p
+passes_out _ _ = false
+
+-- the lent frame passes back
+abbrev pub is_returning : Way → Bool
+is_returning PassingBack = true
+is_returning _ = false
+
+-- the unit's head passes back from the processor
+abbrev pub stage_passes_back : ℕ → Stage → Bool
+stage_passes_back p (FreshPassing q) = q == p
+stage_passes_back p (BackPassing q) = q == p
+stage_passes_back _ _ = false
+
+-- the frame passes back from the processor
+abbrev pub passes_back : ℕ → Phase → Bool
+passes_back p (Lent q way) = is_returning way && q == p
+passes_back p (Head unit stage) = stage_passes_back p stage
+passes_back _ _ = false
+
+-- the unit's head is in the zone's hand
+abbrev pub is_stage_in_hand : Stage → Bool
+is_stage_in_hand Collected = true
+is_stage_in_hand Bare = true
+is_stage_in_hand Ended = true
+is_stage_in_hand _ = false
+
+-- the frame heads a charged unit, and is in the zone's hand
+abbrev pub is_head_in_hand : Phase → Bool
+is_head_in_hand (Head unit stage) = is_stage_in_hand stage
+is_head_in_hand _ = false
+
+-- the unit may come back: its last reference is gone, or it was collected fresh and its group is killed
+abbrev pub may_stage_return : Bool → Stage → Bool
+may_stage_return is_killed Ended = true
+may_stage_return is_killed Collected = is_killed
+may_stage_return is_killed _ = false
+
+-- the frame heads a unit that may come back
+abbrev pub may_return : (ℕ → Bool) → Phase → Bool
+may_return killed (Head unit stage) = may_stage_return (killed unit.group) stage
+may_return killed _ = false
+
+-- the same unit at another stage
+abbrev pub at_stage : Stage → Phase → Phase
+at_stage stage (Head unit old) = Head unit stage
+at_stage stage InZone = InZone
+at_stage stage (Lent q way) = Lent q way
+at_stage stage (Tail g) = Tail g
+
+-- the stage after a last put: a processor has the frame as a back frame, and the zone has it in its hand
+abbrev pub stage_after_last : ℕ → Stage
+stage_after_last seat = if seat == 0 then Ended else BackAt seat
+
+-- the stage of a unit whose head is passed back
+abbrev pub stage_passed_back : Stage → Stage
+stage_passed_back (FreshAt p) = FreshPassing p
+stage_passed_back (BackAt p) = BackPassing p
+stage_passed_back (FreshPassing p) = FreshPassing p
+stage_passed_back Collected = Collected
+stage_passed_back Bare = Bare
+stage_passed_back Live = Live
+stage_passed_back (BackPassing p) = BackPassing p
+stage_passed_back Ended = Ended
+
+-- the phase of a frame that is passed back
+abbrev pub passed_back : Phase → Phase
+passed_back (Lent p way) = Lent p PassingBack
+passed_back (Head unit stage) = Head unit (stage_passed_back stage)
+passed_back InZone = InZone
+passed_back (Tail g) = Tail g
+
+-- the stage of a unit whose head is collected
+abbrev pub stage_collected : Stage → Stage
+stage_collected (FreshPassing p) = Collected
+stage_collected (BackPassing p) = Ended
+stage_collected (FreshAt p) = FreshAt p
+stage_collected Collected = Collected
+stage_collected Bare = Bare
+stage_collected Live = Live
+stage_collected (BackAt p) = BackAt p
+stage_collected Ended = Ended
+
+-- the phase of a frame that is collected: one of the list is free again
+abbrev pub collected : Phase → Phase
+collected (Lent p way) = InZone
+collected (Head unit stage) = Head unit (stage_collected stage)
+collected InZone = InZone
+collected (Tail g) = Tail g

@@ -1,0 +1,146 @@
+-- What stands where after a list of steps.
+use Rattle.std.specs.Prelude.{ℕ, ◌+◌, ◌-◌, ◌^◌, ◌==◌, ◌&&◌, ◌++◌, not, nat_le, nat_lt, zero, suc, Bool, true, false, Option, Some, None, is_some, List, [], ◌∷◌, length, map, filter, if◌then◌else◌}
+use Rattle.std.specs.List.{range_with_len, slice_index_or}
+use Rattle.group_tree.specs.declared.group.Group.{Group}
+use Rattle.group_tree.specs.Groups.{initial_groups}
+use Rattle.step_rules.specs.declared.phase.Hold.{Hold}
+use Rattle.step_rules.specs.declared.phase.Hold.TheVariants.{Unheld, HeldBy, Visiting}
+use Rattle.step_rules.specs.declared.phase.Phase.{Phase}
+use Rattle.step_rules.specs.declared.phase.Phase.TheVariants.{InZone}
+use Rattle.step_rules.specs.Phases.{Kind, Listed, Fresh, Back, is_free}
+
+-- the sizes of a zone: how many frames it has, and how many processors
+pub record Zone : Type 0 where
+  pub frames : ℕ
+  pub cpus : ℕ
+
+-- a processor's stock: the group of its last fill, the pages that it holds, and whether it was drained since
+pub record Stock : Type 0 where
+  pub group : Option ℕ
+  pub pages : ℕ
+  pub is_drained : Bool
+
+-- a processor's part: its list, its fresh frames, its back frames, its stock, and its book, the pages filled for it
+-- and neither drained nor absorbed; of these `unreported` were passed back, and `reported` are to be absorbed
+pub record Part : Type 0 where
+  pub list : List ℕ
+  pub fresh : List ℕ
+  pub back : List ℕ
+  pub stock : Stock
+  pub book : ℕ
+  pub unreported : ℕ
+  pub reported : ℕ
+
+-- what stands where: who holds the lock, the groups, which of them are killed, the phase of each frame, the references of
+-- each seat on each frame, each processor's part, and the pages that are pending for each group
+pub record State : Type 0 where
+  pub zone : Zone
+  pub hold : Hold
+  pub groups : List Group
+  pub killed : ℕ → Bool
+  pub phases : ℕ → Phase
+  pub references : ℕ → ℕ → ℕ
+  pub parts : ℕ → Part
+  pub pending : ℕ → ℕ
+
+-- a stock that was never filled
+abbrev pub no_stock : Stock
+no_stock = record { group = None; pages = 0; is_drained = false }
+
+-- a processor's part at first
+abbrev pub no_part : Part
+no_part = record { list = []; fresh = []; back = []; stock = no_stock; book = 0; unreported = 0; reported = 0 }
+
+-- at first the lock and each frame are free, there is the root alone, and nothing is referred to, lent or pending
+abbrev pub at_boot : Zone → State
+at_boot zone = record {
+  zone = zone;
+  hold = Unheld;
+  groups = initial_groups;
+  killed = λ g. false;
+  phases = λ f. InZone;
+  references = λ seat f. 0;
+  parts = λ p. no_part;
+  pending = λ g. 0;
+}
+
+-- the function with another value at one number
+abbrev pub with_at : {X : Type 0} → (ℕ → X) → ℕ → X → ℕ → X
+with_at h k x m = if m == k then x else h m
+
+-- 1 where the test is true, else 0
+abbrev pub one_if : Bool → ℕ
+one_if true = 1
+one_if false = 0
+
+-- the sum of h 0, h 1 and so on, n numbers in all
+unfoldable pub sum_to : ℕ → (ℕ → ℕ) → ℕ
+sum_to zero h = 0
+sum_to (suc n) h = sum_to n h + h n
+
+-- the test holds of each number below n
+unfoldable pub all_to : ℕ → (ℕ → Bool) → Bool
+all_to zero test = true
+all_to (suc n) test = all_to n test && test n
+
+-- the frames of a list without this one
+abbrev pub without : ℕ → List ℕ → List ℕ
+without f frames = filter (λ x. not (x == f)) frames
+
+-- the frames with this one at the end
+abbrev pub with_last : List ℕ → ℕ → List ℕ
+with_last frames f = frames ++ f ∷ []
+
+-- the frames with this one at the end, or without it
+abbrev pub put_if : Bool → ℕ → List ℕ → List ℕ
+put_if true f frames = with_last frames f
+put_if false f frames = frames
+
+-- the front of a list
+abbrev pub front_of : List ℕ → ℕ
+front_of frames = slice_index_or frames 0 0
+
+-- the processor's frames of one kind
+abbrev pub frames_of : Part → Kind → List ℕ
+frames_of part Listed = part.list
+frames_of part Fresh = part.fresh
+frames_of part Back = part.back
+
+-- the seat is that of a processor
+abbrev pub is_cpu : Zone → ℕ → Bool
+is_cpu zone p = nat_le 1 p && nat_le p zone.cpus
+
+-- the frame is there
+abbrev pub is_frame : Zone → ℕ → Bool
+is_frame zone f = nat_lt f zone.frames
+
+-- the lock is free
+abbrev pub is_unheld : Hold → Bool
+is_unheld Unheld = true
+is_unheld _ = false
+
+-- the processor holds the lock, and doesn't visit
+abbrev pub is_held_by : ℕ → Hold → Bool
+is_held_by p (HeldBy q) = q == p
+is_held_by p _ = false
+
+-- the processor visits: it holds the lock, and its visit is open
+abbrev pub visits : ℕ → Hold → Bool
+visits p (Visiting q) = q == p
+visits p _ = false
+
+-- the zone's own seat acts: a processor holds the lock
+abbrev pub may_zone_act : Hold → ℕ → Bool
+may_zone_act hold seat = seat == 0 && not (is_unheld hold)
+
+-- all references on the frame
+abbrev pub live_references : State → ℕ → ℕ
+live_references s f = sum_to (s.zone.cpus + 1) (λ seat. s.references seat f)
+
+-- the references of the seat on all frames: a processor's are its pins
+abbrev pub pins_of : State → ℕ → ℕ
+pins_of s seat = sum_to s.zone.frames (λ f. s.references seat f)
+
+-- which frames are free: for each frame of the zone whether it is in the free areas
+abbrev pub free_in : Zone → (ℕ → Phase) → List Bool
+free_in zone phases = map (λ f. is_free (phases f)) (range_with_len 0 zone.frames)
