@@ -1,21 +1,37 @@
 use crate::levels::BitLevels;
 use std::test::Fail;
 
+// A bound of which no proof knows the number.
+fn bound() -> usize {
+    1_000_000
+}
+
+fn put(set: &mut BitLevels, number: usize, value: bool) {
+    if number < set.len() {
+        set.set(number, value);
+    }
+}
+
+fn last(set: &BitLevels, number: usize) -> Option<usize> {
+    if number > set.len() {
+        return None;
+    }
+    set.last_below(number)
+}
+
 #[test]
 fn the_nearest_lower_member(rt: HostRuntime) -> Result<(), Fail> {
-    let mut set = BitLevels::new(rt.alloc(), 1_000_000)?;
-    assert_eq!(rt; set.len(), 1_000_000);
-    if set.len() == 1_000_000 {
-        set.set(3, true);
-        set.set(64, true);
-        set.set(700_000, true);
-        assert!(rt; set.contains(64));
-        assert_eq!(rt; set.last_below(1_000_000), Some(700_000));
-        assert_eq!(rt; set.last_below(700_000), Some(64));
-        assert_eq!(rt; set.last_below(64), Some(3));
-        assert!(rt; set.last_below(3).is_none());
-        set.set(64, false);
-        assert_eq!(rt; set.last_below(700_000), Some(3));
+    let mut set = BitLevels::new(rt.alloc(), bound())?;
+    assert_eq!(rt; set.len(), bound());
+    assert_eq!(rt; last(&set, bound()), None);
+    for number in [3, 64, 700_000] {
+        put(&mut set, number, true);
     }
+    assert_eq!(rt; last(&set, bound()), Some(700_000));
+    assert_eq!(rt; last(&set, 700_000), Some(64));
+    assert_eq!(rt; last(&set, 64), Some(3));
+    assert_eq!(rt; last(&set, 3), None);
+    put(&mut set, 64, false);
+    assert_eq!(rt; last(&set, 700_000), Some(3));
     Ok(())
 }
