@@ -5,3 +5,4 @@ pub mod Lists
 pub mod Nested
 pub mod OrderLists
 pub mod Unique
+pub mod Pairing

@@ -2,7 +2,7 @@
 use Rattle.std.specs.Prelude.{◌≡◌, ◌≢◌, ℕ, ◌<◌, ◌≤◌, ◌⊎◌, Bool, true, false, List, length}
 use Rattle.std.specs.List.{Contains, AllPairs, slice_index_or}
 use Rattle.zone_blocks.specs.declared.block.Block.{Block}
-use Rattle.zone_blocks.specs.Block.{IsBlock, Covers, enclosing}
+use Rattle.zone_blocks.specs.Block.{IsBlock, Covers, enclosing, buddy}
 
 -- f is a frame of the zone, and free
 abbrev pub IsFree : List Bool → ℕ → Type 0
@@ -42,6 +42,10 @@ pub record AreBlocksApart (frames : ℕ) (blocks : List Block) : Type 0 where
 -- a block of the list shares a frame with b
 abbrev pub Overlaps : List Block → Block → Type 0
 Overlaps blocks b = (c : Block) × Contains blocks c × ((f : ℕ) × Covers c f × Covers b f)
+
+-- exactly one of the block and its buddy is there
+abbrev pub IsOneOfPair : List Block → Block → Type 0
+IsOneOfPair blocks b = (Contains blocks b × ¬ Contains blocks (buddy b)) ⊎ ((¬ Contains blocks b) × Contains blocks (buddy b))
 
 -- no block is of exactly this order
 abbrev pub HasNoneOf : List Block → ℕ → Type 0

@@ -2,3 +2,4 @@ pub mod Areas
 pub mod Block
 pub mod Laws
 pub mod OrderLists
+pub mod PairBits

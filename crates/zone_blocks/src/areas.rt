@@ -2,15 +2,17 @@
 
 ghost use Rattle.std.specs.Prelude.{◌≡◌, ◌≤◌, ◌<◌, ◌↔◌, IsTrue, IfOk, MatchOption, ℕ, length, [], slice_index_or};
 ghost use Rattle.std.specs.List.{AllPairs, Contains};
-ghost use Rattle.zone_blocks.specs.Block.{IsBlock};
+ghost use Rattle.zone_blocks.specs.Block.{IsBlock, HasPairBit};
 ghost use Rattle.zone_blocks.specs.Areas.{AreMaximalBlocks, AreBlocksApart, HasNoneOf, HasNoneFrom};
-ghost use Rattle.zone_blocks.specs.Areas.{IsFirstOf, IsSmallestFrom, Inserts, Removes, Overlaps};
+ghost use Rattle.zone_blocks.specs.Areas.{IsFirstOf, IsSmallestFrom, Inserts, Removes, Overlaps, IsOneOfPair};
 ghost use Rattle.zone_blocks.specs.OrderLists.{IsLower, IsPlaceOf, MeetsRange};
 
 use crate::block::Block;
 use crate::maximal::fill_with_maximal;
 use crate::order::Order;
+use crate::pairs::{fill_pairs, new_pairs, read_pair, toggle_pair};
 use crate::walk::Walk;
+use bit_levels::bits::Bits;
 use std::alloc::{AllocError, Global};
 use std::marker::Model;
 
@@ -24,6 +26,8 @@ pub struct FreeAreas {
     frames: u32,
     // One list for each order, by address; there is room for all blocks that the zone has.
     lists: Vec<Vec<Block>>,
+    // For each order below 10 one bit for each pair of buddies: 1 where exactly one of them is there.
+    pairs: Vec<Bits>,
 }
 
 impl Model for FreeAreas {
@@ -32,10 +36,11 @@ impl Model for FreeAreas {
     ghost Value = { FreeBlocks };
 
     ghost use Rattle.zone_blocks.specs.OrderLists.{blocks_of, AreOrderLists};
+    ghost use Rattle.zone_blocks.specs.PairBits.{ArePairBits};
 
     ghost view = { λ a. record { frames = a.frames; blocks = blocks_of a.lists.items } };
 
-    ghost invariant = { λ a. AreOrderLists a.frames a.lists.items };
+    ghost invariant = { λ a. AreOrderLists a.frames a.lists.items × ArePairBits a.frames (blocks_of a.lists.items) a.pairs.items };
 }
 
 impl FreeAreas {
@@ -51,7 +56,12 @@ impl FreeAreas {
             let list = Vec::with_capacity(alloc, room as usize)?;
             lists.push_reserved(list);
         }
-        Ok(FreeAreas { frames, lists })
+        let pairs = new_pairs(alloc, frames)?;
+        Ok(FreeAreas {
+            frames,
+            lists,
+            pairs,
+        })
     }
 
     /// Makes the areas those of a set of free frames, of which `free` tells one by one.
@@ -64,6 +74,11 @@ impl FreeAreas {
             let order = Order::of(exponent).unwrap();
             let list = &mut self.lists[exponent as usize];
             fill_with_maximal(list, free, order);
+        }
+        for exponent in 0..Order::GREATEST {
+            let order = Order::of(exponent).unwrap();
+            let bits = &mut self.pairs[exponent as usize];
+            fill_pairs(bits, free, order);
         }
     }
 
@@ -135,6 +150,7 @@ impl FreeAreas {
         ensures blocks { Inserts self.old.blocks block self.new.blocks }
         ensures frames { self.new.frames ≡ self.old.frames }
     {
+        toggle_pair(&mut self.pairs, self.frames, &block);
         let at = block.at;
         let list = &mut self.lists[block.order.exponent() as usize];
         let place = place_of(list.as_slice(), at);
@@ -147,9 +163,19 @@ impl FreeAreas {
         ensures blocks { Removes self.old.blocks block self.new.blocks }
         ensures frames { self.new.frames ≡ self.old.frames }
     {
+        toggle_pair(&mut self.pairs, self.frames, &block);
         let list = &mut self.lists[block.order.exponent() as usize];
         let place = place_of(list.as_slice(), block.at);
         let _ = list.remove(place);
+    }
+
+    /// Whether exactly one of the block and its buddy is there, as the bit of the pair tells it
+    /// (Gorman, chapter 6). None exactly where the pair has no bit: at order 10, and where one of
+    /// the two isn't a block of the zone.
+    pub fn pair_bit(&self, block: Block) -> Option<bool>
+        ensures { MatchOption result (¬ HasPairBit self.now.frames block) (λ bit. HasPairBit self.now.frames block × (IsTrue bit ↔ IsOneOfPair self.now.blocks block)) }
+    {
+        read_pair(&self.pairs, self.frames, &block)
     }
 }
 

@@ -1,6 +1,6 @@
 //! Blocks of frames.
 
-ghost use Rattle.std.specs.Prelude.{◌↔◌, IsTrue};
+ghost use Rattle.std.specs.Prelude.{◌≡◌, ◌↔◌, IsTrue, MatchOption};
 
 use crate::order::Order;
 
@@ -15,7 +15,7 @@ pub struct Block {
 }
 
 impl Block {
-    ghost use Rattle.zone_blocks.specs.Block.{IsBlock};
+    ghost use Rattle.zone_blocks.specs.Block.{IsBlock, HasPairBit, buddy};
 
     /// Whether it is a block of a zone of this many frames: aligned, and inside.
     pub fn is_block_of(&self, frames: u32) -> bool
@@ -23,5 +23,28 @@ impl Block {
     {
         let size = self.order.frames();
         self.at % size == 0 && size <= frames && self.at <= frames - size
+    }
+
+    /// The buddy, with which it may be merged (Knuth). None exactly where the order is 10, or one
+    /// of the two isn't a block of a zone of this many frames.
+    pub fn buddy_in(&self, frames: u32) -> Option<Block>
+        ensures { MatchOption result (¬ HasPairBit frames self.now) (λ other. HasPairBit frames self.now × (other ≡ buddy self.now)) }
+    {
+        let order = self.order;
+        let next = Order::of(order.exponent() + 1)?;
+        if !self.is_block_of(frames) {
+            return None;
+        }
+        let size = order.frames();
+        let at = if self.at % next.frames() == 0 {
+            self.at + size
+        } else {
+            self.at - size
+        };
+        let other = Block { at, order };
+        if !other.is_block_of(frames) {
+            return None;
+        }
+        Some(Block { at, order })
     }
 }

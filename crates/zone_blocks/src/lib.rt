@@ -8,6 +8,7 @@ pub mod block;
 pub mod laws;
 mod maximal;
 pub mod order;
+mod pairs;
 #[cfg(test)]
 mod tests;
 pub mod walk;

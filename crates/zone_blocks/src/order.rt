@@ -26,6 +26,9 @@ impl Order {
     /// The greatest order: a block of order 10 has 1,024 frames.
     pub const GREATEST: u32 = 10;
 
+    /// How many orders there are.
+    pub const COUNT: u32 = Order::GREATEST + 1;
+
     /// The order with this exponent. None exactly where it is above 10.
     pub fn of(exponent: u32) -> Option<Order>
         ensures { MatchOption result (10 < exponent) (λ order. (order ≡ exponent) × (exponent ≤ 10)) }

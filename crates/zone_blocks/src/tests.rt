@@ -65,6 +65,43 @@ fn sixteen_frames_with_five_in_use(rt: HostRuntime) -> Result<(), Fail> {
     Ok(())
 }
 
+// Puts a block in, if that may be done.
+fn put(areas: &mut FreeAreas, at: u32, order: Order) {
+    let block = Block { at, order };
+    if block.is_block_of(areas.frames()) && !areas.overlaps(Block { at, order }) {
+        areas.insert(block);
+    }
+}
+
+// Takes a block out, if it is there.
+fn take(areas: &mut FreeAreas, at: u32, order: Order) {
+    if areas.contains(Block { at, order }) {
+        areas.remove(Block { at, order });
+    }
+}
+
+// Sixteen frames, of which a single frame is taken, and then four.
+#[test]
+fn bits_of_pairs(rt: HostRuntime) -> Result<(), Fail> {
+    let zero = Order::of(0).ok_or("order 0")?;
+    let one = Order::of(1).ok_or("order 1")?;
+    let two = Order::of(2).ok_or("order 2")?;
+    let three = Order::of(3).ok_or("order 3")?;
+    let four = Order::of(4).ok_or("order 4")?;
+    let mut areas = FreeAreas::new(rt.alloc(), 16)?;
+    areas.set_from(&[true; 16]);
+    take(&mut areas, 0, four);
+    for (at, order) in [(8, three), (4, two), (2, one), (1, zero)] {
+        put(&mut areas, at, order);
+    }
+    assert_eq!(rt; areas.pair_bit(Block { at: 0, order: two }), Some(true));
+    take(&mut areas, 4, two);
+    assert_eq!(rt; areas.pair_bit(Block { at: 0, order: zero }), Some(true));
+    assert_eq!(rt; areas.pair_bit(Block { at: 0, order: two }), Some(false));
+    assert_eq!(rt; areas.pair_bit(Block { at: 0, order: four }), None);
+    Ok(())
+}
+
 #[test]
 fn a_whole_zone_is_blocks_of_the_greatest_order(rt: HostRuntime) -> Result<(), Fail> {
     let free = vec![in rt.alloc(); true; 65_536]?;

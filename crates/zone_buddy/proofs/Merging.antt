@@ -5,11 +5,11 @@ use Rattle.std.proofs.lemmas.Bool.{cases_lt, ne_eqb, cond-true, cond-false}
 use Rattle.std.proofs.lemmas.Nat.{pow_pos}
 use Rattle.std.proofs.Math.Nat.{add-mod_right}
 use Rattle.zone_blocks.specs.declared.block.Block.{Block}
-use Rattle.zone_blocks.specs.Block.{IsBlock, Covers, enclosing}
-use Rattle.zone_blocks.specs.Areas.{IsFree, IsFreeBlock, FreeBlocks, Inserts, Removes}
+use Rattle.zone_blocks.specs.Block.{IsBlock, Covers, enclosing, HasPairBit, buddy}
+use Rattle.zone_blocks.specs.Areas.{IsFree, IsFreeBlock, FreeBlocks, Inserts, Removes, IsOneOfPair}
 use Rattle.zone_blocks.proofs.Filling.{same_block}
 use Rattle.zone_blocks.proofs.Nested.{covers_start, start_aligned, start_is}
-use Rattle.zone_buddy.specs.Zone.{block_at, set_of, buddy, AreKept, GivesFrames, HasNoBuddy, TakesBuddy}
+use Rattle.zone_buddy.specs.Zone.{block_at, set_of, AreKept, GivesFrames, HasNoBuddy, TakesBuddy}
 use Rattle.zone_buddy.proofs.Sets.{decide_covers, subset}
 use Rattle.zone_buddy.proofs.Frames.{length-set_of, takes_frames, gives_frames, kept_less, kept_more}
 use Rattle.zone_buddy.proofs.Halves.{double, next_aligned, Halving, HasBuddyAt, has_buddy}
@@ -226,47 +226,43 @@ last_given a b old new m in_use u h inserts same =
       );
     }
 
--- ---- the buddy as the code finds it
+-- ---- the buddy as the bit of the pair tells it
 
-buddy_of_test : (at order size twice x : ℕ) → size ≡ 2 ^ order → twice ≡ 2 ^ (order + 1)
-    → ((at % twice ≡ 0) × (x ≡ at + size)) ⊎ ((at % twice ≢ 0) × (x ≡ at - size)) → buddy (block_at at order) ≡ block_at x order
-buddy_of_test at order size twice x es et h =
-    let m : Block = block_at at order in
-    elim h [
-      | inl p ↦
-          let test = eq-eqb (at % 2 ^ (order + 1)) 0 (rw et at p.0) in
-          let y = cond-true (eqb (at % 2 ^ (order + 1)) 0) (at + 2 ^ order) (at - 2 ^ order) test in
-          let z = rw es at p.1 in
-          same_block (buddy m) (block_at x order) (y ∙ sym z) refl
-      | inr p ↦
-          let test = ne_eqb (at % 2 ^ (order + 1)) 0 (rw et at p.0) in
-          let y = cond-false (eqb (at % 2 ^ (order + 1)) 0) (at + 2 ^ order) (at - 2 ^ order) test in
-          let z = rw es at p.1 in
-          same_block (buddy m) (block_at x order) (y ∙ sym z) refl
-    ]
+-- a block in use is not there
+pub not_there : (a : FreeBlocks) (m : Block) → Halving a m.at m.order → Contains a.blocks m → ⊥
+not_there a m h q = h.in_use m.at (covers_start m) ((h.kept.maximal.each m q).is_free.all_free m.at (covers_start m))
 
-pub buddy_taken : (old new : FreeBlocks) (at order size twice next x low : ℕ) → IsBlock old.frames (block_at at order) → size ≡ 2 ^ order → next ≡ order + 1 → next ≤ 10
-    → twice ≡ 2 ^ next → ((at % twice ≡ 0) × (x ≡ at + size)) ⊎ ((at % twice ≢ 0) × (x ≡ at - size)) → low ≡ min at x
-    → Contains old.blocks (block_at x order) → Removes old.blocks (block_at x order) new.blocks → new.frames ≡ old.frames
-    → TakesBuddy old (block_at at order) new (block_at low next)
-buddy_taken old new at order size twice next x low block es en below et h el there removes same =
-    let m : Block = block_at at order in
-    let power : ℕ → ℕ = λ i. 2 ^ i in
-    let e = buddy_of_test at order size twice x es (et ∙ ap power en) h in
+-- without a bit there is no buddy to merge with
+pub no_bit : (a : FreeBlocks) (m : Block) → AreKept a → IsBlock a.frames m → ¬ HasPairBit a.frames m → HasNoBuddy a m a
+no_bit a m kept block none = record {
+  same = refl;
+  none = let order = block.order in elim (cases_lt m.order 10) [
+    | inl below ↦ inr (λ q. none record { order = below; block = block; buddy_too = rw (length-set_of a) at (kept.maximal.each (buddy m) q).is_free.block })
+    | inr top ↦ inl (omega arith)
+  ];
+}
+
+-- where the bit is 1 it is the buddy that is there
+pub bit_is_one : (a : FreeBlocks) (m : Block) → ¬ Contains a.blocks m → IsOneOfPair a.blocks m → Contains a.blocks (buddy m)
+bit_is_one a m alone (inl p) = absurd (alone p.0)
+bit_is_one a m alone (inr p) = p.1
+
+pub buddy_taken : (old new : FreeBlocks) (m other : Block) (next low : ℕ) → IsBlock old.frames m → other ≡ buddy m → next ≡ m.order + 1 → next ≤ 10 → low ≡ min m.at other.at
+    → Contains old.blocks (buddy m) → Removes old.blocks other new.blocks → new.frames ≡ old.frames → TakesBuddy old m new (block_at low next)
+buddy_taken old new m other next low block is en below el there removes same =
     let r = has_buddy old.frames m block in
     let address : Block → ℕ = λ z. z.at in
-    let is : r.0 ≡ x = ap address (sym r.1.buddy_is ∙ e) in
+    let e = ap address (is ∙ r.1.buddy_is) in
     let start : low ≡ (enclosing m).at = elim r.1.placed [
-      | inl p ↦ let d = pow_pos order in omega (arith, el, is, p.0, p.1)
-      | inr p ↦ let d = pow_pos order in omega (arith, el, is, p.0, p.1)
+      | inl p ↦ let d = pow_pos m.order in omega (arith, el, e, p.0, p.1)
+      | inr p ↦ let d = pow_pos m.order in omega (arith, el, e, p.0, p.1)
     ] in
-    let C : Block → Type 0 = λ z. Contains old.blocks z in
     let R : Block → Type 0 = λ z. Removes old.blocks z new.blocks in
     record {
-      there = subst C (sym e) there;
+      there = there;
       order_below = omega arith;
       same_frames = same;
-      taken = subst R (sym e) removes;
+      taken = subst R is removes;
       larger_is = same_block (block_at low next) (enclosing m) start en;
     }
 

@@ -1,8 +1,8 @@
 -- A zone whose frames are taken and given back in blocks, as in Knuth's buddy system (The Art of Computer Programming, 2.5).
-use Rattle.std.specs.Prelude.{◌≡◌, ◌+◌, ◌-◌, ◌%◌, ◌^◌, ℕ, ◌<◌, ◌↔◌, ◌⊎◌, ◌==◌, ◌&&◌, Bool, List, length, map, if◌then◌else◌, nat_le, nat_lt}
+use Rattle.std.specs.Prelude.{◌≡◌, ◌+◌, ◌^◌, ℕ, ◌<◌, ◌↔◌, ◌⊎◌, ◌&&◌, Bool, List, length, map, nat_le, nat_lt}
 use Rattle.std.specs.List.{Contains, list_any, range_with_len}
 use Rattle.zone_blocks.specs.declared.block.Block.{Block}
-use Rattle.zone_blocks.specs.Block.{IsBlock, Covers, enclosing}
+use Rattle.zone_blocks.specs.Block.{IsBlock, Covers, enclosing, buddy}
 use Rattle.zone_blocks.specs.Areas.{IsFree, AreMaximalBlocks, FreeBlocks, Removes}
 
 -- what a caller sees of a zone: for each frame whether it is free, and the maximal free blocks in walk order
@@ -48,10 +48,6 @@ zone_of areas = record { free = set_of areas; blocks = areas.blocks }
 pub record AreKept (areas : FreeBlocks) : Type 0 where
   pub maximal : AreMaximalBlocks (set_of areas) areas.blocks
   pub small : areas.frames < 2 ^ 32
-
--- the buddy of the block at x is at x + 2 ^ k if x is a multiple of 2 ^ (k + 1), else at x - 2 ^ k
-abbrev pub buddy : Block → Block
-buddy b = record { at = if b.at % 2 ^ (b.order + 1) == 0 then b.at + 2 ^ b.order else b.at - 2 ^ b.order; order = b.order }
 
 -- nothing changed, and there is no buddy to merge b with
 pub record HasNoBuddy (before : FreeBlocks) (b : Block) (after : FreeBlocks) : Type 0 where

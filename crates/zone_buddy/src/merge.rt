@@ -1,6 +1,7 @@
 //! The merging of a block with its buddy.
 
 ghost use Rattle.std.specs.Prelude.{◌≡◌, ◌≤◌, ◌<◌, ◌^◌, ℕ, MatchOption};
+ghost use Rattle.std.specs.List.{Contains};
 ghost use Rattle.zone_blocks.specs.Block.{IsBlock, Covers};
 ghost use Rattle.zone_blocks.specs.Areas.{IsFree};
 ghost use Rattle.zone_buddy.specs.Zone.{set_of, AreKept, GivesFrames, TakesBuddy, HasNoBuddy};
@@ -9,30 +10,24 @@ use zone_blocks::areas::FreeAreas;
 use zone_blocks::block::Block;
 use zone_blocks::order::Order;
 
-/// Takes the buddy of a block out of the areas, and answers the block of both. None, and nothing
-/// changed, exactly where the order is 10 or the buddy isn't there.
+/// Where the bit of the pair tells that the buddy of a block is there, takes it out, which makes the
+/// bit 0, and answers the block of both. None, and nothing changed, exactly where the pair has no
+/// bit or it is 0.
 fn take_buddy(areas: &mut FreeAreas, block: &Block) -> Option<Block>
+    requires kept { AreKept areas.old }
     requires block { IsBlock areas.old.frames block.now }
-    requires small { areas.old.frames < 2 ^ 32 }
+    requires alone { ¬ Contains areas.old.blocks block.now }
     ensures { MatchOption result (HasNoBuddy areas.old block.now areas.new) (TakesBuddy areas.old block.now areas.new) }
 {
-    let order = block.order;
-    let next = Order::of(order.exponent() + 1)?;
-    let size = order.frames();
-    let is_lower = block.at % next.frames() == 0;
-    let at = if is_lower {
-        block.at + size
-    } else {
-        block.at - size
-    };
-    if !areas.contains(Block { at, order }) {
+    let is_one = areas.pair_bit(*block)?;
+    if !is_one {
         return None;
     }
-    areas.remove(Block { at, order });
-    Some(Block {
-        at: block.at.min(at),
-        order: next,
-    })
+    let other = block.buddy_in(areas.frames())?;
+    let order = Order::of(block.order.exponent() + 1)?;
+    let at = block.at.min(other.at);
+    areas.remove(other);
+    Some(Block { at, order })
 }
 
 /// Puts a block that is in use into the areas, merged with its buddy as long as that is there.

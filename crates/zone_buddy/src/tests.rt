@@ -121,19 +121,33 @@ fn take_or_give(
     Ok(())
 }
 
-#[test]
-fn take_and_give_agree_with_the_areas_of_the_frames(rt: HostRuntime) -> Result<(), Fail> {
+// So many calls on a zone of so many frames, each compared with the areas of the frames that are free.
+fn compare(rt: &HostRuntime, free: &mut [bool], frames: u32, calls: u32) -> Result<(), AllocError> {
     let mut random = Pcg32::seed_from_u64(2_025);
-    let mut zone = Buddy::new(rt.alloc(), 1_000)?;
-    let mut plain = FreeAreas::new(rt.alloc(), 1_000)?;
+    let mut zone = Buddy::new(rt.alloc(), frames)?;
+    let mut plain = FreeAreas::new(rt.alloc(), frames)?;
     let mut held = Vec::new(rt.alloc());
-    let mut free = [true; 1_000];
-    for _ in 0..3_000 {
-        take_or_give(&rt, &mut zone, &mut held, &mut free, random.next_u32())?;
-        plain.set_from(&free);
+    for _ in 0..calls {
+        take_or_give(rt, &mut zone, &mut held, free, random.next_u32())?;
+        if plain.frames() as usize == free.len() {
+            plain.set_from(free);
+        }
         let found = pairs_of(rt.alloc(), zone.blocks())?;
         let wanted = pairs_of(rt.alloc(), plain.walk())?;
         assert!(rt; found.as_slice() == wanted.as_slice());
     }
+    Ok(())
+}
+
+#[test]
+fn take_and_give_agree_with_the_areas_of_a_thousand_frames(rt: HostRuntime) -> Result<(), Fail> {
+    compare(&rt, &mut [true; 1_000], 1_000, 10_000)?;
+    Ok(())
+}
+
+#[test]
+fn take_and_give_agree_with_the_areas_of_many_frames(rt: HostRuntime) -> Result<(), Fail> {
+    let mut free = vec![in rt.alloc(); true; 65_536]?;
+    compare(&rt, free.as_mut_slice(), 65_536, 1_000)?;
     Ok(())
 }

@@ -1,8 +1,11 @@
 use Rattle.std.proofs.Common.{◌∙◌}
 use Rattle.zone_buddy.specs.Zone.{set_of}
 use Rattle.zone_buddy.proofs.Frames.{apart_from_use}
-use Rattle.zone_buddy.proofs.Merging.{merge_step, last_kept, last_given, halving_same, union_same, none_same}
+use Rattle.zone_buddy.proofs.Merging.{not_there, merge_step, last_kept, last_given, halving_same, union_same, none_same}
 use Rattle.zone_buddy.proofs.merge.insert_merged.Goals as goal
+
+pub take_buddy-requires-clause-alone : goal.take_buddy-requires-clause-alone
+take_buddy-requires-clause-alone c = not_there c.loop-larger.areas c.loop-larger.merged c.loop-larger.invariant.halving
 
 pub loop-larger-preserved : goal.loop-larger-preserved
 loop-larger-preserved c =

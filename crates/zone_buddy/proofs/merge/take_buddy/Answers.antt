@@ -1,21 +1,21 @@
-use Rattle.std.proofs.Common.{◌≡◌, ◌≢◌, ◌+◌, ◌-◌, ◌%◌, ◌⊎◌, inl, inr, arith}
-use Rattle.zone_buddy.proofs.Merging.{buddy_taken}
+use Rattle.std.proofs.Common.{◌≡◌, sym, subst, arith}
+use Rattle.std.specs.List.{Contains}
+use Rattle.zone_blocks.specs.declared.block.Block.{Block}
+use Rattle.zone_buddy.proofs.Merging.{no_bit, bit_is_one, buddy_taken}
 use Rattle.zone_buddy.proofs.merge.take_buddy.Goals as goal
-use Rattle.zone_buddy.proofs.merge.take_buddy.Goals.{then-is_lower, else-is_lower}
+
+pub returns-in_err-is_one : goal.returns-in_err-is_one
+returns-in_err-is_one c = rw c.from_residual.ensures (no_bit c.args.areas.now c.args.block.now c.requires.kept c.requires.block c.in_err-is_one.ensures)
+
+pub remove-requires : goal.remove-requires
+remove-requires c =
+    let C : Block → Type 0 = λ z. Contains c.args.areas.now.blocks z in
+    subst C (sym c.in_ok-other.ensures.1) (bit_is_one c.args.areas.now c.args.block.now c.requires.alone (c.in_ok-is_one.ensures.1.0 c.if-not-is_one.false))
 
 pub returns : goal.returns
 returns c =
-    let at = c.args.block.now.at in
-    let twice = c.frames.result in
-    let size = c.frames-size.result in
-    let x = c.if-is_lower.at in
-    let n = c.in_ok-next.ensures in
+    let there = bit_is_one c.args.areas.now c.args.block.now c.requires.alone (c.in_ok-is_one.ensures.1.0 c.if-not-is_one.false) in
+    let next = c.in_ok-order.ensures in
     let e = c.exponent.ensures.exponent in
-    let side : ((at % twice ≡ 0) × (x ≡ at + size)) ⊎ ((at % twice ≢ 0) × (x ≡ at - size)) =
-    elim c.if-is_lower.branch [
-      | then-is_lower w ↦ inl (w.if-is_lower.true, w.at-is)
-      | else-is_lower w ↦ inr (w.if-is_lower.false, w.at-is)
-    ] in
-    buddy_taken c.args.areas.now c.remove.new.self at c.args.block.now.order size twice c.in_ok-next.next x c.min.result c.requires.block
-    c.frames-size.ensures.frames (omega (arith, n.0, e)) (omega (arith, n.0, n.1)) c.frames.ensures.frames side c.min.ensures
-    (c.contains.ensures.0 c.if-not-contains.false) c.remove.ensures.blocks c.remove.ensures.frames
+    buddy_taken c.args.areas.now c.remove.new.self c.args.block.now c.in_ok-other.other c.in_ok-order.order c.min-at.result c.requires.block c.in_ok-other.ensures.1
+    (omega (arith, next.0, e)) (omega (arith, next.0, next.1)) c.min-at.ensures there c.remove.ensures.blocks c.remove.ensures.frames

@@ -11,7 +11,7 @@ pub place_of-place-requires : goal.place_of-place-requires
 place_of-place-requires c =
     let at_most = c.exponent.ensures.at_most in
     rw c.as_slice.ensures.value
-    (sorted_in c.self.inside.frames c.self.inside.lists.items c.self.invariant c.exponent.result (omega arith) c.index-list.result.now c.index-list.ensures)
+    (sorted_in c.self.inside.frames c.self.inside.lists.items c.self.invariant.0 c.exponent.result (omega arith) c.index-list.result.now c.index-list.ensures)
 
 pub returns-then-place-len : goal.returns-then-place-len
 returns-then-place-len c =
@@ -22,7 +22,7 @@ returns-then-place-len c =
     let place = rw c.as_slice.ensures.value at c.place_of-place.ensures in
     let len = old.ok.0 in
     let len' = c.len.ensures in
-    let r = contains_in c.self.inside.frames c.self.inside.lists.items c.self.invariant c.args.block (omega arith) c.place_of-place.result old here place
+    let r = contains_in c.self.inside.frames c.self.inside.lists.items c.self.invariant.0 c.args.block (omega arith) c.place_of-place.result old here place
     c.index.result.now (omega arith) c.index.ensures in
     let P : FreeBlocks → Type 0 = λ v. Contains v.blocks c.args.block in (
       λ t. subst P c.self.view_is (r.0 (eqb-true _ _ t)),
@@ -40,6 +40,6 @@ returns-else-place-len c =
     let not = c.if-place-len.false in
     let P : FreeBlocks → Type 0 = λ v. Contains v.blocks c.args.block in (
       λ t. let lt = ltb-true _ _ t in absurd (omega arith),
-      λ h. let within = place_in c.self.inside.frames c.self.inside.lists.items c.self.invariant c.args.block (subst P (sym c.self.view_is) h)
+      λ h. let within = place_in c.self.inside.frames c.self.inside.lists.items c.self.invariant.0 c.args.block (subst P (sym c.self.view_is) h)
           c.place_of-place.result old here place in lt-ltb _ _ (omega arith),
     )

@@ -6,7 +6,7 @@ use Rattle.zone_blocks.proofs.areas.FreeAreas.first.Goals as goal
 
 pub returns : goal.returns
 returns c =
-    let lists = lists_of c.self.inside.frames c.self.inside.lists.items c.self.invariant in
+    let lists = lists_of c.self.inside.frames c.self.inside.lists.items c.self.invariant.0 in
     let at_most = c.exponent.ensures.at_most in
     let within : c.args.order < 11 = omega (arith, c.exponent.ensures.exponent) in
     let read = rw (c.deref.ensures.value, c.index-list.ensures, c.exponent.ensures.exponent) at (c.copied.ensures ∙ c.first.ensures.value) in

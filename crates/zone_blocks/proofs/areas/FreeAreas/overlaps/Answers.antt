@@ -10,11 +10,11 @@ use Rattle.zone_blocks.proofs.areas.FreeAreas.overlaps.Goals as goal
 pub overlaps_list-requires-clause-sorted : goal.overlaps_list-requires-clause-sorted
 overlaps_list-requires-clause-sorted c =
     rw c.as_slice.ensures.value
-    (sorted_in c.self.inside.frames c.self.inside.lists.items c.self.invariant c.loop-exponent.exponent (omega arith) c.index-list.result.now c.index-list.ensures)
+    (sorted_in c.self.inside.frames c.self.inside.lists.items c.self.invariant.0 c.loop-exponent.exponent (omega arith) c.index-list.result.now c.index-list.ensures)
 
 pub returns-then-overlaps_list : goal.returns-then-overlaps_list
 returns-then-overlaps_list c =
-    let lists = lists_of c.self.inside.frames c.self.inside.lists.items c.self.invariant in
+    let lists = lists_of c.self.inside.frames c.self.inside.lists.items c.self.invariant.0 in
     let o = rw c.unwrap-order.ensures at c.of.ensures in
     let old = c.index-list.result.now in
     let meets = rw (c.as_slice.ensures.value, o.0) at (c.overlaps_list.ensures.0 c.if-overlaps_list.true) in
@@ -30,7 +30,7 @@ pub loop-exponent-preserved : goal.loop-exponent-preserved
 loop-exponent-preserved c =
     let o = rw c.unwrap-order.ensures at c.of.ensures in
     let old = c.index-list.result.now in
-    let count = c.self.invariant.count in
+    let count = c.self.invariant.0.count in
     let M : Vec Block Global → Type 0 = λ v. MeetsRange v.items c.loop-exponent.exponent c.args.block.at (c.args.block.at + c.frames.result) in
     let none : MeetsRange old.items c.loop-exponent.exponent c.args.block.at (c.args.block.at + c.frames.result) → ⊥ =
     rw (c.as_slice.ensures.value, o.0) at (iff_false c.overlaps_list.ensures c.if-overlaps_list.false) in
@@ -43,7 +43,7 @@ loop-exponent-preserved c =
 
 pub returns : goal.returns
 returns c =
-    let lists = lists_of c.self.inside.frames c.self.inside.lists.items c.self.invariant in
+    let lists = lists_of c.self.inside.frames c.self.inside.lists.items c.self.invariant.0 in
     let P : FreeBlocks → Type 0 = λ v. Overlaps v.blocks c.args.block in
     let end : ℕ → ℕ = λ n. c.args.block.at + n in (
       λ t. absurd (false≢true t),
