@@ -96,7 +96,7 @@ fn take_under_lock(core: &mut Core, group: GroupId, order: Order) -> Result<Repl
             if !core.tree().contains(over) {
                 Err("the group over its limit is not there")?;
             }
-            Ok(Reply::OverLimit(core.tree().path_of(over)))
+            Ok(Reply::OverLimit(*core.tree().path_of(over)))
         }
         _ => Err("neither granted nor over")?,
     }
