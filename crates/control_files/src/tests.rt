@@ -14,6 +14,22 @@ fn refuses(rt: &impl Abort, text: &[u8], fault: Fault) {
     assert_eq!(rt; read_limit(text), Err(fault), "{text:?}");
 }
 
+// The lines of the README.
+#[test]
+fn the_first_lines_of_use(rt: HostRuntime) -> Result<(), Fail> {
+    let mut charges = Charges::new(rt.alloc())?;
+    let web = charges.make(b"/web")?;
+    charges.set_max(web, read_limit(b"1M\n")?);
+    assert!(rt; charges.fits(5));
+    charges.try_charge(web, 5)?;
+    let text = file_text(&charges, web, File::Max)?;
+    assert_eq!(rt; text.as_bytes(), b"1048576\n".as_slice());
+    let text = file_text(&charges, web, File::Current)?;
+    assert_eq!(rt; text.as_bytes(), b"20480\n".as_slice());
+    assert_eq!(rt; read_limit(b"1 M"), Err(Fault::BadLimit));
+    Ok(())
+}
+
 #[test]
 fn limits_are_rounded_up_to_whole_pages(rt: HostRuntime) {
     reads(&rt, b"5000", Some(2));

@@ -92,6 +92,7 @@ impl Charges {
         ensures unchanged { OnErr result (self.new ≡ self.old) }
         ensures pages { SamePages self.old self.new }
         ensures there { IfOk result (λ n. IsTrue (has_group self.new.groups n)) }
+        ensures kept { (m : ℕ) → IsTrue (has_group self.old.groups m) → IsTrue (has_group self.new.groups m) }
     {
         let g = self.tree.make(path)?;
         self.accounts.push(new_account(g)).unwrap();

@@ -449,3 +449,8 @@ parent_of-depth groups h p facts e =
 -- the root is there
 pub root_there : (groups : List Group) → AreGroups groups → IsTrue (has_group groups 0)
 root_there groups facts = has_group-path groups 0 root_path (root_path_of groups facts)
+
+-- whoever was there before a group was made is there still
+pub has_group-with_kept : (groups : List Group) (n k : ℕ) (path : List ℕ) → has_group groups n ≡ false → IsTrue (has_group groups k) → IsTrue (has_group (with_group groups n path) k)
+has_group-with_kept groups n k path free there =
+    has_group-with groups n k path (λ same. both_ways (has_group groups n) free (ap (has_group groups) (sym same) ∙ there)) ∙ there

@@ -1,6 +1,6 @@
 //! The tree of groups.
 
-ghost use Rattle.std.specs.Prelude.{◌≡◌, ◌≢◌, ◌↔◌, ◌<◌, ◌==◌, ◌&&◌, false, not, length, IfOk, IsNone, IsTrue, OnErr, Some};
+ghost use Rattle.std.specs.Prelude.{◌≡◌, ◌≢◌, ℕ, ◌↔◌, ◌<◌, ◌==◌, ◌&&◌, false, not, length, IfOk, IsNone, IsTrue, OnErr, Some};
 ghost use Rattle.std.specs.Option.{option_copied};
 ghost use Rattle.std.specs.Result.{result_err};
 ghost use Rattle.group_tree.specs.Ancestors.{depth_at};
@@ -11,12 +11,9 @@ ghost use Rattle.group_tree.specs.Groups.{AreGroups, IsLeastFreeNumber, group_at
 use crate::fault::Fault;
 use crate::group::{Group, GroupId, MAX_GROUPS};
 use crate::names;
-use crate::path::PathText;
+use crate::path::{MAX_DEPTH, PathText};
 use std::alloc::{AllocError, Global};
 use std::marker::Model;
-
-/// How many names a path may have.
-const MAX_DEPTH: usize = 8;
 
 /// The groups of a controller, seen as their list in order of making. Room for 64 is reserved when
 /// the tree is made, so that no later call takes memory.
@@ -39,13 +36,14 @@ struct Link {
 impl Model for Tree {
     ghost use Rattle.std.specs.Prelude.{◌≤◌, List, vec_capacity};
     ghost use Rattle.group_tree.specs.Groups.{AreGroups, Group};
+    ghost use Rattle.group_tree.specs.declared.group.TheConstants.{MAX_GROUPS};
     ghost use Rattle.group_tree.specs.Links.{AreLinks};
 
     ghost Value = { List Group };
 
     ghost view = { λ t. t.rows.items };
 
-    ghost invariant = { λ t. AreGroups t.rows.items × (64 ≤ vec_capacity t.rows) × AreLinks t.rows.items t.links };
+    ghost invariant = { λ t. AreGroups t.rows.items × (MAX_GROUPS ≤ vec_capacity t.rows) × AreLinks t.rows.items t.links };
 }
 
 impl Tree {
@@ -63,6 +61,7 @@ impl Tree {
     pub fn groups(&self) -> &[Group]
         ensures groups { result.now ≡ self.now }
         ensures legal { AreGroups self.now }
+        ensures root { IsTrue (has_group self.now 0) }
     {
         self.rows.as_slice()
     }
@@ -202,9 +201,9 @@ impl Tree {
 
     // The least number that no group has.
     fn least_free(&self) -> GroupId
-        requires { length self.now < 64 }
+        requires { length self.now < MAX_GROUPS }
         ensures number { IsLeastFreeNumber self.now result }
-        ensures below { result < 64 }
+        ensures below { result < MAX_GROUPS }
     {
         let mut number = 0;
         while self.is_taken(number) {
@@ -218,6 +217,8 @@ impl Tree {
     pub fn make(&mut self, path: &[u8]) -> Result<GroupId, Fault>
         ensures made { IfOk result (λ n. self.new ≡ with_group self.old n path.now) }
         ensures least { IfOk result (λ n. IsLeastFreeNumber self.old n) }
+        ensures there { IfOk result (λ n. IsTrue (has_group self.new n)) }
+        ensures kept { (m : ℕ) → IsTrue (has_group self.old m) → IsTrue (has_group self.new m) }
         ensures refused { result_err result ≡ make_fault self.old path.now }
         ensures unchanged { OnErr result (self.new ≡ self.old) }
     {

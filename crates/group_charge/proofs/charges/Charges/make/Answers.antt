@@ -5,7 +5,7 @@ use Rattle.group_charge.specs.Charges.{AreCharges, with_new_group}
 use Rattle.group_charge.proofs.ChargeLemmas.{AreCharges-new, as_many, same_ledger}
 use Rattle.std.proofs.Common.{IsTrue}
 use Rattle.group_tree.specs.Groups.{has_group}
-use Rattle.group_tree.proofs.CallerLemmas.{has_group-with_new}
+use Rattle.group_tree.proofs.CallerLemmas.{has_group-with_kept, has_group-with_new}
 use Rattle.group_charge.specs.Charges.{Ledger, SamePages}
 use Rattle.group_charge.proofs.ReaderLemmas.{new_pages}
 use Rattle.group_charge.proofs.charges.Charges.make.Goals as goal
@@ -36,3 +36,8 @@ pub returns-clause-there : goal.returns-clause-there
 returns-clause-there c =
     subst (λ (l : Ledger). IsTrue (has_group l.groups c.in_ok-g.g)) (sym (returns-clause-made c))
     (has_group-with_new c.args.self.now.groups c.in_ok-g.g c.args.path.now (ap (λ (l : Ledger). has_group l.groups c.in_ok-g.g) (sym c.self.view_is) ∙ c.in_ok-g.ensures.least.free))
+
+pub returns-clause-kept : goal.returns-clause-kept
+returns-clause-kept c = λ m there.
+    subst (λ (l : Ledger). IsTrue (has_group l.groups m)) (sym (returns-clause-made c))
+    (has_group-with_kept c.args.self.now.groups c.in_ok-g.g m c.args.path.now (ap (λ (l : Ledger). has_group l.groups c.in_ok-g.g) (sym c.self.view_is) ∙ c.in_ok-g.ensures.least.free) there)

@@ -1,10 +1,11 @@
-use Rattle.std.proofs.Common.{◌≡◌, ◌∷◌, [], sym, ap, ◌∙◌, subst, rules, None, is_some, set}
+use Rattle.std.proofs.Common.{◌≡◌, ◌∷◌, [], sym, ap, ◌∙◌, subst, rules, None, is_some, set, IsTrue}
 use Rattle.std.proofs.lemmas.Slice.{pushed}
 use Rattle.group_tree.specs.Path.{depth_of}
-use Rattle.group_tree.specs.Groups.{AreGroups, number_at, with_group}
+use Rattle.group_tree.specs.Groups.{AreGroups, has_group, number_at, with_group}
 use Rattle.group_tree.specs.Links.{AreLinks}
 use Rattle.group_tree.proofs.LinkLemmas.{AreLinks-with}
 use Rattle.group_tree.proofs.GroupLemmas.{AreGroups-with, can_make}
+use Rattle.group_tree.proofs.CallerLemmas.{has_group-with_kept, has_group-with_new}
 use Rattle.group_tree.proofs.tree.Tree.make.Goals as goal
 
 pub least_free-number-requires : goal.least_free-number-requires
@@ -42,3 +43,19 @@ unwrap-parent-requires c =
 
 pub depth-depth-requires : goal.depth-depth-requires
 depth-depth-requires c = (can_make c.args.self.now c.args.path.now (sym c.make_fault.ensures ∙ c.in_default.is)).formed
+
+pub returns-clause-made : goal.returns-clause-made
+returns-clause-made c =
+    let path : c.unwrap-path.result ≡ c.args.path.now = search rules in
+    let rows : c.push.new.self.items ≡ with_group c.args.self.now c.least_free-number.result c.unwrap-path.result = pushed (record { number = c.least_free-number.result; path = c.unwrap-path.result; limit = None } ∷ []) c.self.view_is c.unwrap.ensures c.push.ensures.items in
+    rows ∙ ap (with_group c.args.self.now c.least_free-number.result) path
+
+pub returns-clause-there : goal.returns-clause-there
+returns-clause-there c =
+    subst (λ rows. IsTrue (has_group rows c.least_free-number.result)) (sym (returns-clause-made c))
+    (has_group-with_new c.args.self.now c.least_free-number.result c.args.path.now c.least_free-number.ensures.number.free)
+
+pub returns-clause-kept : goal.returns-clause-kept
+returns-clause-kept c = λ m there.
+    subst (λ rows. IsTrue (has_group rows m)) (sym (returns-clause-made c))
+    (has_group-with_kept c.args.self.now c.least_free-number.result m c.args.path.now c.least_free-number.ensures.number.free there)
