@@ -19,19 +19,6 @@ fn last(set: &BitLevels, number: usize) -> Option<usize> {
     set.last_below(number)
 }
 
-// The lines that the README shows.
-#[test]
-fn a_hundred_numbers(rt: HostRuntime) -> Result<(), Fail> {
-    let mut set = BitLevels::new(rt.alloc(), 100)?;
-    set.set(3, true);
-    set.set(70, true);
-    assert!(rt; set.contains(70));
-    assert_eq!(rt; set.last_below(100), Some(70));
-    set.set(70, false);
-    assert_eq!(rt; set.last_below(100), Some(3));
-    Ok(())
-}
-
 #[test]
 fn the_nearest_lower_member(rt: HostRuntime) -> Result<(), Fail> {
     let mut set = BitLevels::new(rt.alloc(), bound())?;
