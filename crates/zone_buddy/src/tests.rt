@@ -122,7 +122,12 @@ fn take_or_give(
 }
 
 // So many calls on a zone of so many frames, each compared with the areas of the frames that are free.
-fn compare(rt: &HostRuntime, free: &mut [bool], frames: u32, calls: u32) -> Result<(), AllocError> {
+fn compare(
+    rt: &(impl Abort + AllocGlobal),
+    free: &mut [bool],
+    frames: u32,
+    calls: u32,
+) -> Result<(), AllocError> {
     let mut random = Pcg32::seed_from_u64(2_025);
     let mut zone = Buddy::new(rt.alloc(), frames)?;
     let mut plain = FreeAreas::new(rt.alloc(), frames)?;
