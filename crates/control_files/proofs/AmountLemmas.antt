@@ -1,4 +1,4 @@
--- The amount that a word writes, by its digits and its suffix.
+-- The amount that a word writes, by its digits and its suffix. Serves `read_amount` and `split_digits`.
 use Rattle.std.proofs.Common.{◌≡◌, ℕ, ◌*◌, ◌^◌, ◌<◌, ◌≤◌, true, not, List, [], ◌∷◌, length, take, drop, refl, sym, ◌∙◌, subst, arith}
 use Rattle.std.proofs.Math.Nat.{mul-le-mul_left}
 use Rattle.std.specs.Prelude.{IsTrue, Option, Some, None, Result, Err, IfNone, SomeIff, ok_or}

@@ -1,4 +1,4 @@
--- The files by their names.
+-- The files by their names. Serves `file_named`.
 use Rattle.std.proofs.Common.{◌≡◌, ℕ, Bool, true, false, List, [], ◌∷◌, refl, sym}
 use Rattle.std.specs.Prelude.{Some, ◌↔◌, cond}
 use Rattle.std.specs.List.{find}

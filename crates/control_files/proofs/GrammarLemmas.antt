@@ -1,4 +1,4 @@
--- The grammar of limits: each text has one value.
+-- The grammar of limits: each text has one value. Serves `one_value` and `read_limit`.
 use Rattle.std.proofs.Common.{◌≡◌, ◌≢◌, ℕ, ◌<◌, ◌≤◌, Bool, true, false, not, List, [], ◌∷◌, ◌++◌, length, refl, sym, ◌∙◌, ap, subst, arith}
 use Rattle.std.specs.Prelude.{IsTrue, Option, Some, None, codes}
 use Rattle.std.specs.Char.{is_ascii_digit, digit_value, to_ascii_uppercase}

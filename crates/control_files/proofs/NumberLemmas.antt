@@ -1,4 +1,4 @@
--- The number that digits write, read from the left.
+-- The number that digits write, read from the left. Serves `number_of`.
 use Rattle.std.proofs.Common.{◌≡◌, ℕ, ◌+◌, ◌-◌, ◌*◌, ◌<◌, ◌≤◌, List, length, take, get_or, refl, arith}
 use Rattle.std.specs.Char.{digit_value}
 use Rattle.std.specs.Int.{IsInRange}

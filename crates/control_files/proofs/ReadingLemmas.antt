@@ -1,4 +1,4 @@
--- What is read from a text, and that it is nothing else.
+-- What is read from a text, and that it is nothing else. Serves `read_limit`.
 use Rattle.std.proofs.Common.{◌≡◌, ◌≢◌, ℕ, ◌^◌, ◌<◌, List, refl, sym, ◌∙◌, ap, subst, arith, inl, inr}
 use Rattle.std.specs.Prelude.{Option, Some, None, Result, Ok, Err, codes, ◌↔◌, ◌⊎◌, IfErr, ok_or, option_copied}
 use Rattle.std.specs.Borrow.{Bor}

@@ -1,4 +1,4 @@
--- The bytes at the front of a list that pass a test, and the bytes behind them.
+-- The bytes at the front of a list that pass a test, and the bytes behind them. Serves `only_word` and `split_digits`.
 use Rattle.std.proofs.Common.{◌≡◌, ℕ, ◌&&◌, Bool, true, false, not, List, [], ◌∷◌, ◌++◌, length, take, drop, refl, sym, ◌∙◌, ap, arith, one-add}
 use Rattle.control_files.specs.Reading.{BeginsOutside}
 use Rattle.std.specs.Prelude.{◌<◌, ◌≤◌, IsTrue, Option, Some, None, cond, nat_lt, unwrap_or}

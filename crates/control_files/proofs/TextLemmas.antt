@@ -1,4 +1,4 @@
--- A text to which bytes are written.
+-- A text to which bytes are written. Serves the contracts of `ArrayText`.
 use Rattle.std.proofs.Common.{◌≡◌, ℕ, ◌+◌, ◌-◌, ◌≤◌, ◌++◌, List, length, take, drop, replicate, ap, sym, ◌∙◌, arith, length-append, length-drop, drop-drop, append_assoc}
 use Rattle.std.proofs.lemmas.List.{drop-replicate, drop_at, length-take-le}
 use Rattle.control_files.specs.Text.{IsPadded}

@@ -1,4 +1,4 @@
--- What is written of a limit is read back.
+-- What is written of a limit is read back. Serves `write_limit`.
 use Rattle.std.proofs.Common.{◌≡◌, ℕ, ◌*◌, ◌^◌, ◌<◌, [], refl, sym, arith, append-nil}
 use Rattle.std.specs.Prelude.{Some, None, codes}
 use Rattle.std.specs.Fmt.{decimal}

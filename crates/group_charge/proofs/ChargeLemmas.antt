@@ -1,4 +1,5 @@
--- What holds of the charges of a tree, and how a change keeps it.
+-- What holds of the charges of a tree, and how a change keeps it. Serves the invariant of `Charges` and the clauses that
+-- name the whole ledger.
 use Rattle.std.proofs.Common.{◌≡◌, ◌≢◌, ℕ, ◌||◌, ◌+◌, ◌^◌, ◌<◌, ◌≤◌, Bool, false, not, cond, ◌==◌, IsTrue, All, Contains, Option, Some, None, List, [], ◌∷◌, ◌++◌, length, map, filter, get_or, refl, sym, ap, ◌∙◌, subst, arith, lit<, ⊎_elim}
 use Rattle.std.specs.List.{find, list_any}
 use Rattle.std.specs.Option.{option_map_or}

@@ -1,4 +1,5 @@
--- Sums of pages over accounts, and lists of accounts that are changed one after another.
+-- Sums of pages over accounts, and lists of accounts that are changed one after another. Serves `current`, `try_charge`
+-- and `uncharge`.
 use Rattle.std.proofs.Common.{◌≡◌, ◌≢◌, ℕ, suc, ◌||◌, AllPairs, add-zero, ◌+◌, ◌-◌, ◌<◌, ◌≤◌, true, false, cond, max, IsTrue, ◌==◌, List, [], ◌∷◌, ◌++◌, length, take, drop, map, get_or, All, refl, sym, ap, ◌∙◌, subst, arith, ⊎_elim}
 use Rattle.std.specs.List.{sum_by, list_any}
 use Rattle.std.proofs.lemmas.Bool.{cond-true, cond-false, cases_Bool, cond_both, or_parts, false_from_ne_true, false≢true, eqb-true}

@@ -1,4 +1,5 @@
--- How the usage of a group changes with a list of accounts, and that peaks cover it.
+-- How the usage of a group changes with a list of accounts, and that peaks cover it. Serves the usage clauses of
+-- `try_charge` and `uncharge`, and the invariant of `Charges`.
 use Rattle.std.proofs.Common.{◌≡◌, ◌≢◌, ℕ, ◌+◌, ◌-◌, ◌≤◌, Bool, true, false, not, cond, max, ◌==◌, IsTrue, All, Option, List, [], ◌∷◌, ◌++◌, map, filter, get_or, refl, sym, ap, ◌∙◌, subst, arith, ⊎_elim}
 use Rattle.std.specs.List.{sum_by, list_any}
 use Rattle.std.proofs.lemmas.Bool.{cond-true, cond-false, cases_Bool, cond_both, eqb-true, eqb-false, not-true, both_ways, false_from_ne_true}

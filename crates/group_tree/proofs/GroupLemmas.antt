@@ -1,4 +1,4 @@
--- What holds of the groups of a tree, and how a change keeps it.
+-- What holds of the groups of a tree, and how a change keeps it. Serves the invariant of `Tree` and the contracts of its calls.
 use Rattle.std.proofs.Common.{◌≡◌, ◌≢◌, ℕ, zero, suc, ◌+◌, ◌<◌, ◌≤◌, Bool, true, false, not, cond, leb, ◌&&◌, ◌||◌, ◌==◌, nat_eq, nat_le, nat_lt, IsTrue, IsSomeAnd, Option, Some, None, is_some, is_none, IsNone, List, [], ◌∷◌, ◌++◌, length, take, drop, get_or, slice_get, map, filter, All, AllPairs, Contains, refl, sym, ap, ◌∙◌, subst, arith, ⊎_elim, lit≤, lit<}
 use Rattle.std.specs.List.{find, list_all, list_any, starts_with}
 use Rattle.std.specs.Option.{option_map, option_and_then, option_or}

@@ -1,15 +1,15 @@
 -- What a tree keeps by number beside its rows, and how a change keeps it. Serves the contracts of `Tree::new`, `make`,
 -- `set_max`, `remove`, `parent` and `depth`.
-use Rattle.std.proofs.Common.{◌≡◌, ◌≢◌, ℕ, ◌+◌, ◌<◌, false, not, ◌==◌, IsTrue, All, Option, Some, None, List, [], ◌∷◌, ◌++◌, length, map, filter, get_or, set, replicate, Contains, is_some, true, refl, sym, ap, ◌∙◌, subst, arith, ⊎_elim, lit<, length-append}
-use Rattle.std.specs.Option.{option_map_or}
-use Rattle.std.proofs.lemmas.Bool.{both_ways}
+use Rattle.std.proofs.Common.{◌≡◌, ◌≢◌, ℕ, ◌+◌, ◌<◌, false, not, cond, ◌==◌, IsTrue, All, Option, Some, None, List, [], ◌∷◌, ◌++◌, length, map, filter, get_or, set, replicate, Contains, is_some, true, refl, sym, ap, ◌∙◌, subst, arith, ⊎_elim, lit<, length-append}
+use Rattle.std.specs.Option.{option_and_then, option_map_or}
+use Rattle.std.proofs.lemmas.Bool.{both_ways, cases_Bool, cases_eq, cond-false, cond-true, eq-eqb, ne_eqb}
 use Rattle.std.proofs.lemmas.List.{get_or_default, get_or-set_other, get_or-set_same, get_or-replicate, length-set, length-replicate}
 use Rattle.std.proofs.lemmas.List.Elements.{All-contains, All-filter, All-map, Contains-get_or, Contains-push_cases}
 use Rattle.std.proofs.lemmas.Option.{same_Some}
 use Rattle.group_tree.specs.declared.group.Group.{Group}
 use Rattle.group_tree.specs.declared.tree.Link.{Link}
 use Rattle.group_tree.specs.Path.{depth_of, names_of, parent_path}
-use Rattle.group_tree.specs.Groups.{the_root, initial_groups, has_group, number_at, parent_of, path_of, with_group, with_limit, without_group, limited, AreGroups}
+use Rattle.group_tree.specs.Groups.{the_root, initial_groups, has_group, limit_of, number_at, parent_of, path_of, with_group, with_limit, without_group, limited, AreGroups}
 use Rattle.group_tree.specs.Links.{AreLinks, link_at, root_link}
 use Rattle.group_tree.specs.Ancestors.{depth_at}
 use Rattle.group_tree.proofs.PathLemmas.{names_parent}
@@ -23,6 +23,9 @@ one_depth : (x : Group) → Contains initial_groups x → depth_of x.path ≡ 0
 unfolding names_of
 one_depth x h = All-contains (λ (y : Group). depth_of y.path ≡ 0) initial_groups x (All-one (λ (y : Group). depth_of y.path ≡ 0) the_root refl) h
 
+one_limit : (x : Group) → Contains initial_groups x → x.limit ≡ None
+one_limit x h = All-contains (λ (y : Group). y.limit ≡ None) initial_groups x (All-one (λ (y : Group). y.limit ≡ None) the_root refl) h
+
 pub AreLinks-initial : (links : List Link) → links ≡ replicate 64 root_link → AreLinks initial_groups links
 AreLinks-initial links e =
     let first : link_at links 0 ≡ root_link = ap (λ ls. link_at ls 0) e ∙ get_or-replicate 64 0 root_link root_link (lit< tt) in
@@ -30,6 +33,7 @@ AreLinks-initial links e =
       size = ap length e ∙ length-replicate 64 root_link;
       parents = λ x y hx hy same. ap (λ n. (link_at links n).parent) (one_number x hx) ∙ ap (λ (l : Link). l.parent) first ∙ sym (one_number y hy);
       depths = λ x hx. ap (λ n. (link_at links n).depth) (one_number x hx) ∙ ap (λ (l : Link). l.depth) first ∙ sym (one_depth x hx);
+      limits = λ x hx. ap (λ n. (link_at links n).limit) (one_number x hx) ∙ ap (λ (l : Link). l.limit) first ∙ sym (one_limit x hx);
     }
 
 -- ---- one more group
@@ -50,10 +54,10 @@ no_new_parent : (groups : List Group) (path : List ℕ) (x : Group) → AreGroup
 no_new_parent groups path x facts can here e =
     both_ways (is_some (number_at groups path)) can.fresh (ap (λ q. is_some (number_at groups q)) e ∙ All-contains (λ (y : Group). IsTrue (is_some (number_at groups (parent_path y.path)))) groups x facts.parents here)
 
-pub AreLinks-with : (groups : List Group) (links : List Link) (n p : ℕ) (path : List ℕ) → AreGroups groups → AreLinks groups links → CanMake groups path → n < 64 → has_group groups n ≡ false → number_at groups (parent_path path) ≡ Some p → AreLinks (with_group groups n path) (set links n (record { parent = p; depth = depth_of path }))
+pub AreLinks-with : (groups : List Group) (links : List Link) (n p : ℕ) (path : List ℕ) → AreGroups groups → AreLinks groups links → CanMake groups path → n < 64 → has_group groups n ≡ false → number_at groups (parent_path path) ≡ Some p → AreLinks (with_group groups n path) (set links n (record { parent = p; depth = depth_of path; limit = None }))
 AreLinks-with groups links n p path facts are can below free up =
     let row : Group = record { number = n; path = path; limit = None } in
-    let link : Link = record { parent = p; depth = depth_of path } in
+    let link : Link = record { parent = p; depth = depth_of path; limit = None } in
     let new : List Link = set links n link in
     let within : n < length links = omega (arith, are.size) in
     let here : link_at new n ≡ link = get_or-set_same links n link root_link within in
@@ -76,29 +80,90 @@ AreLinks-with groups links n p path facts are can below free up =
           (λ old_x. ap (λ (l : Link). l.depth) (get_or-set_other links n x.number link root_link (apart groups n x free old_x)) ∙ are.depths x old_x)
           (λ new_x. ap (λ (g : Group). (link_at new g.number).depth) (sym new_x) ∙ ap (λ (l : Link). l.depth) here ∙ ap (λ (g : Group). depth_of g.path) new_x)
           (Contains-push_cases groups row x hx);
+      limits = λ x hx. ⊎_elim
+          (λ old_x. ap (λ (l : Link). l.limit) (get_or-set_other links n x.number link root_link (apart groups n x free old_x)) ∙ are.limits x old_x)
+          (λ new_x. ap (λ (g : Group). (link_at new g.number).limit) (sym new_x) ∙ ap (λ (l : Link). l.limit) here ∙ ap (λ (g : Group). g.limit) new_x)
+          (Contains-push_cases groups row x hx);
     }
 
 -- ---- another limit
 -- a row that has another limit was there before
-was_row : (groups : List Group) (n : ℕ) (limit : Option ℕ) (x : Group) → Contains (with_limit groups n limit) x → (y : Group) × Contains groups y × (y.number ≡ x.number) × (y.path ≡ x.path)
+pub record WasRow (groups : List Group) (n : ℕ) (limit : Option ℕ) (x : Group) : Type 0 where
+  pub row : Group
+  pub here : Contains groups row
+  pub number : row.number ≡ x.number
+  pub path : row.path ≡ x.path
+  pub limit_is : x.limit ≡ cond (row.number == n) limit row.limit
+
+limited-limit : (n : ℕ) (limit : Option ℕ) (y : Group) → (limited n limit y).limit ≡ cond (y.number == n) limit y.limit
+limited-limit n limit y =
+    ⊎_elim
+    (λ t. ap (λ (g : Group). g.limit) (cond-true (y.number == n) (record y { limit = limit }) y t) ∙ sym (cond-true (y.number == n) limit y.limit t))
+    (λ f. ap (λ (g : Group). g.limit) (cond-false (y.number == n) (record y { limit = limit }) y f) ∙ sym (cond-false (y.number == n) limit y.limit f))
+    (cases_Bool (y.number == n))
+
+was_row : (groups : List Group) (n : ℕ) (limit : Option ℕ) (x : Group) → Contains (with_limit groups n limit) x → WasRow groups n limit x
 unfolding with_limit
 was_row groups n limit x h =
-    All-contains (λ (z : Group). (y : Group) × Contains groups y × (y.number ≡ z.number) × (y.path ≡ z.path)) (map (limited n limit) groups) x
-    (All-map (λ (z : Group). (y : Group) × Contains groups y × (y.number ≡ z.number) × (y.path ≡ z.path)) (limited n limit) groups
-    (λ k d lt. let y = get_or groups k d in (y, Contains-get_or groups k d lt, sym (limited-number n limit y), sym (limited-path n limit y))))
+    All-contains (λ (z : Group). WasRow groups n limit z) (map (limited n limit) groups) x
+    (All-map (λ (z : Group). WasRow groups n limit z) (limited n limit) groups
+    (λ k d lt.
+    let y = get_or groups k d in
+    record { row = y; here = Contains-get_or groups k d lt; number = sym (limited-number n limit y); path = sym (limited-path n limit y); limit_is = limited-limit n limit y }))
     h
 
-pub AreLinks-limited : (groups : List Group) (links : List Link) (n : ℕ) (limit : Option ℕ) → AreLinks groups links → AreLinks (with_limit groups n limit) links
-AreLinks-limited groups links n limit are = record {
-  size = are.size;
-  parents = λ x y hx hy e.
-      let u = was_row groups n limit x hx in
-      let v = was_row groups n limit y hy in
-      ap (λ k. (link_at links k).parent) (sym u.2) ∙ are.parents u.0 v.0 u.1 v.1 (v.3 ∙ e ∙ ap parent_path (sym u.3)) ∙ v.2;
-  depths = λ x hx.
-      let u = was_row groups n limit x hx in
-      ap (λ k. (link_at links k).depth) (sym u.2) ∙ are.depths u.0 u.1 ∙ ap (λ q. depth_of q) u.3;
-}
+-- the link of one group has another limit, and nothing else changes
+abbrev pub limit_set : List Link → ℕ → Option ℕ → List Link
+limit_set links n limit = set links n (record (link_at links n) { limit = limit })
+
+module _ (links : List Link) (n : ℕ) (limit : Option ℕ) (within : n < length links) where
+  limit_set-here : link_at (limit_set links n limit) n ≡ record (link_at links n) { limit = limit }
+  limit_set-here = get_or-set_same links n (record (link_at links n) { limit = limit }) root_link within
+
+  limit_set-other : (k : ℕ) → k ≢ n → link_at (limit_set links n limit) k ≡ link_at links k
+  limit_set-other k other = get_or-set_other links n k (record (link_at links n) { limit = limit }) root_link other
+
+  limit_set-parent : (k : ℕ) → (link_at (limit_set links n limit) k).parent ≡ (link_at links k).parent
+  limit_set-parent k =
+      ⊎_elim
+      (λ same. ap (λ j. (link_at (limit_set links n limit) j).parent) same ∙ ap (λ (l : Link). l.parent) limit_set-here ∙ ap (λ j. (link_at links j).parent) (sym same))
+      (λ other. ap (λ (l : Link). l.parent) (limit_set-other k other))
+      (cases_eq k n)
+
+  limit_set-depth : (k : ℕ) → (link_at (limit_set links n limit) k).depth ≡ (link_at links k).depth
+  limit_set-depth k =
+      ⊎_elim
+      (λ same. ap (λ j. (link_at (limit_set links n limit) j).depth) same ∙ ap (λ (l : Link). l.depth) limit_set-here ∙ ap (λ j. (link_at links j).depth) (sym same))
+      (λ other. ap (λ (l : Link). l.depth) (limit_set-other k other))
+      (cases_eq k n)
+
+pub AreLinks-limited : (groups : List Group) (links : List Link) (n : ℕ) (limit : Option ℕ) → n < 64 → AreLinks groups links → AreLinks (with_limit groups n limit) (limit_set links n limit)
+AreLinks-limited groups links n limit below are =
+    let within : n < length links = omega (arith, are.size) in
+    record {
+      size = length-set links n (record (link_at links n) { limit = limit }) ∙ are.size;
+      parents = λ x y hx hy e.
+          let u = was_row groups n limit x hx in
+          let v = was_row groups n limit y hy in
+          limit_set-parent links n limit within x.number
+          ∙ ap (λ k. (link_at links k).parent) (sym u.number) ∙ are.parents u.row v.row u.here v.here (v.path ∙ e ∙ ap parent_path (sym u.path)) ∙ v.number;
+      depths = λ x hx.
+          let u = was_row groups n limit x hx in
+          limit_set-depth links n limit within x.number
+          ∙ ap (λ k. (link_at links k).depth) (sym u.number) ∙ are.depths u.row u.here ∙ ap (λ q. depth_of q) u.path;
+      limits = λ x hx.
+          let u = was_row groups n limit x hx in
+          ⊎_elim
+          (λ same.
+          let here : (link_at (limit_set links n limit) u.row.number).limit ≡ limit = ap (λ j. (link_at (limit_set links n limit) j).limit) same ∙ ap (λ (l : Link). l.limit) (limit_set-here links n limit within) in
+          ap (λ j. (link_at (limit_set links n limit) j).limit) (sym u.number) ∙ here
+          ∙ sym (u.limit_is ∙ cond-true (u.row.number == n) limit u.row.limit (eq-eqb u.row.number n same)))
+          (λ other.
+          ap (λ j. (link_at (limit_set links n limit) j).limit) (sym u.number)
+          ∙ ap (λ (l : Link). l.limit) (limit_set-other links n limit within u.row.number other) ∙ are.limits u.row u.here
+          ∙ sym (u.limit_is ∙ cond-false (u.row.number == n) limit u.row.limit (ne_eqb u.row.number n other)))
+          (cases_eq u.row.number n);
+    }
 
 -- ---- one group less
 still_row : (groups : List Group) (n : ℕ) (x : Group) → Contains (without_group groups n) x → Contains groups x
@@ -113,6 +178,7 @@ AreLinks-without groups links n are = record {
   size = are.size;
   parents = λ x y hx hy e. are.parents x y (still_row groups n x hx) (still_row groups n y hy) e;
   depths = λ x hx. are.depths x (still_row groups n x hx);
+  limits = λ x hx. are.limits x (still_row groups n x hx);
 }
 
 -- ---- what a link tells
@@ -133,6 +199,14 @@ depth-link groups links g are there =
     let x = w.0 in
     let c = group_at-contains groups g x w.1 in
     ap (λ k. (link_at links k).depth) (sym c.1) ∙ are.depths x c.0 ∙ sym (ap (λ o. option_map_or (λ q. depth_of q) o 0) (path_of-at groups g x w.1))
+
+pub limit-link : (groups : List Group) (links : List Link) (g : ℕ) → AreLinks groups links → IsTrue (has_group groups g) → (link_at links g).limit ≡ limit_of groups g
+unfolding limit_of
+limit-link groups links g are there =
+    let w = has_group-is groups g there in
+    let x = w.0 in
+    let c = group_at-contains groups g x w.1 in
+    ap (λ k. (link_at links k).limit) (sym c.1) ∙ are.limits x c.0 ∙ sym (ap (option_and_then (λ (y : Group). y.limit)) w.1)
 
 -- a link is read at the group's number
 pub link_read : (links : List Link) (i g : ℕ) (d : Link) → length links ≡ 64 → i < 64 → i ≡ g → get_or links i d ≡ link_at links g

@@ -1,4 +1,4 @@
--- The names of a path and its bytes.
+-- The names of a path and its bytes. Serves `src/names.rt` and what the tree says of paths.
 use Rattle.std.proofs.Common.{◌≡◌, ℕ, suc, ◌<◌, ◌≤◌, true, false, not, eqb, leb, get_or, Option, Some, None, MatchOption, Bor, ◌+◌, ◌-◌, length-append, nat_eq, List, [], ◌∷◌, ◌++◌, length, take, drop, refl, sym, ap, ◌∙◌, subst, arith, ⊎_elim, ◌&&◌}
 use Rattle.std.specs.List.{slice_split, list_any, before_last, suffix_len, count_by, onto_first, flat_map, starts_with, list_all}
 use Rattle.std.specs.Cmp.Lexicographic.{pointwise}

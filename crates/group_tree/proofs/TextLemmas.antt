@@ -1,4 +1,4 @@
--- A text that is written over zeros.
+-- A text that is written over zeros. Serves `PathText::of`.
 use Rattle.std.proofs.Common.{◌≡◌, ℕ, ◌-◌, ◌≤◌, ◌++◌, List, length, drop, replicate, arith, length-append}
 use Rattle.std.proofs.lemmas.List.{drop-replicate, drop_at, length-replicate}
 use Rattle.std.proofs.Common.{refl}

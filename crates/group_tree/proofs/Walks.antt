@@ -1,11 +1,11 @@
 -- A walk from a group up to the root, past the groups that pass a test. Serves callers that walk by `Tree::parent` or by
 -- `Tree::ancestors`.
-use Rattle.std.proofs.Common.{◌≡◌, ℕ, ◌<◌, Bool, true, false, Option, Some, None, List, [], ◌∷◌, refl, sym, ap, ◌∙◌, subst, arith, ⊎_elim, ◌⊎◌, inl, inr}
+use Rattle.std.proofs.Common.{◌≡◌, ◌≢◌, ℕ, ◌<◌, Bool, true, false, not, ◌&&◌, Option, Some, None, List, [], ◌∷◌, refl, sym, ap, ◌∙◌, subst, arith, ⊎_elim, ◌⊎◌, inl, inr}
 use Rattle.std.specs.Option.{option_map_or}
 use Rattle.std.proofs.lemmas.Option.{none-some, same_Some}
-use Rattle.group_tree.specs.Ancestors.{depth_at, ancestors_of, ancestors_from}
+use Rattle.group_tree.specs.Ancestors.{depth_at, ancestors_of, ancestors_from, is_ahead, is_passed}
 use Rattle.group_tree.proofs.AncestorLemmas.{ancestors_of-step, parent_of-none_root}
-use Rattle.std.proofs.lemmas.Bool.{both_ways}
+use Rattle.std.proofs.lemmas.Bool.{both_ways, cases_Bool, false_from_ne_true}
 use Rattle.group_tree.specs.declared.group.Group.{Group}
 use Rattle.group_tree.specs.Path.{depth_of}
 use Rattle.group_tree.specs.Groups.{has_group, in_subtree, path_of, parent_of, AreGroups}
@@ -128,3 +128,119 @@ end_from groups test g (Some m) facts e on passed k h =
 
 pub left_end : (groups : List Group) (test : ℕ → Bool) (g : ℕ) (left : List ℕ) → AreGroups groups → WalkLeft groups test g left → left ≡ [] → (k : ℕ) → in_subtree groups k g ≡ true → test k ≡ true
 left_end groups test g left facts w e = end_from groups test g w.next facts (sym w.left_is ∙ e) w.on_path w.passed
+
+-- ---- the same walk, with where it goes on
+-- the walk from g goes on at `next`, these are left of it, and all groups of the path below them pass the test
+pub record WalkAt (groups : List Group) (test : ℕ → Bool) (g : ℕ) (next : Option ℕ) (left : List ℕ) : Type 0 where
+  pub left_is : left ≡ ancestors_from groups next
+  pub on_path : (m : ℕ) → next ≡ Some m → in_subtree groups m g ≡ true
+  pub passed : (k : ℕ) → in_subtree groups k g ≡ true → (test k ≡ true) ⊎ IsAhead groups k next
+
+pub at_start : (groups : List Group) (test : ℕ → Bool) (g : ℕ) (left : List ℕ) → has_group groups g ≡ true → left ≡ ancestors_of groups g → WalkAt groups test g (Some g) left
+at_start groups test g left there e = record {
+  left_is = e;
+  on_path = λ m same. subst (λ k. in_subtree groups k g ≡ true) (same_Some g m same) (in_subtree-refl groups g there);
+  passed = λ k h. inr h;
+}
+
+pub at_turn : (groups : List Group) (test : ℕ → Bool) (g m : ℕ) (next : Option ℕ) (left rest : List ℕ) → AreGroups groups → WalkAt groups test g next left → left ≡ m ∷ rest → TurnAt groups test g m rest
+at_turn groups test g m next left rest facts w e = turn_from groups test g m left rest next facts w.left_is w.on_path w.passed e
+
+-- where something is left, its first is where the walk goes on
+next_from : (groups : List Group) (g m : ℕ) (left rest : List ℕ) (o : Option ℕ) → AreGroups groups → left ≡ ancestors_from groups o → ((k : ℕ) → o ≡ Some k → in_subtree groups k g ≡ true) → left ≡ m ∷ rest → o ≡ Some m
+next_from groups g m left rest None facts is on e = absurd (let bad : m ∷ rest ≡ [] = sym e ∙ is in cc)
+next_from groups g m left rest (Some k) facts is on e =
+    let both : m ∷ rest ≡ k ∷ ancestors_from groups (parent_of groups k) = sym e ∙ is ∙ ancestors_of-step groups k facts (in_subtree-above groups k g (on k refl)) in
+    let same : k ≡ m = cc in
+    ap Some same
+
+pub at_next : (groups : List Group) (test : ℕ → Bool) (g m : ℕ) (next : Option ℕ) (left rest : List ℕ) → AreGroups groups → WalkAt groups test g next left → left ≡ m ∷ rest → next ≡ Some m
+at_next groups test g m next left rest facts w e = next_from groups g m left rest next facts w.left_is w.on_path e
+
+pub at_on : (groups : List Group) (test : ℕ → Bool) (g m : ℕ) (rest : List ℕ) → AreGroups groups → TurnAt groups test g m rest → test m ≡ true → WalkAt groups test g (parent_of groups m) rest
+at_on groups test g m rest facts turn passes = at_from (parent_of groups m) refl
+  where
+    at_from : (o : Option ℕ) → parent_of groups m ≡ o → WalkAt groups test g o rest
+    at_from None e = record {
+      left_is = turn.rest_is ∙ ap (ancestors_from groups) e;
+      on_path = λ k same. absurd (none-some k same);
+      passed = λ k h. inl (walked_all groups test g m facts turn.walked passes (parent_of-none_root groups m facts turn.there e) k h);
+    }
+    at_from (Some p) e =
+        let up = walked_up groups test g m p facts turn.walked passes e in
+        record {
+          left_is = turn.rest_is ∙ ap (ancestors_from groups) e;
+          on_path = λ k same. subst (λ j. in_subtree groups j g ≡ true) (same_Some p k same) up.on_path;
+          passed = up.passed;
+        }
+
+-- a walk of which nothing is left is over
+pub at_end : (groups : List Group) (test : ℕ → Bool) (g : ℕ) (next : Option ℕ) (left : List ℕ) → AreGroups groups → WalkAt groups test g next left → left ≡ [] → next ≡ None
+at_end groups test g next left facts w e = over next (sym w.left_is ∙ e) w.on_path
+  where
+    over : (o : Option ℕ) → ancestors_from groups o ≡ [] → ((m : ℕ) → o ≡ Some m → in_subtree groups m g ≡ true) → o ≡ None
+    over None h on = refl
+    over (Some m) h on =
+        let both : m ∷ ancestors_from groups (parent_of groups m) ≡ [] = sym (ancestors_of-step groups m facts (in_subtree-above groups m g (on m refl))) ∙ h in
+        absurd (cc)
+
+pub at_end_passed : (groups : List Group) (test : ℕ → Bool) (g : ℕ) (next : Option ℕ) (left : List ℕ) → AreGroups groups → WalkAt groups test g next left → left ≡ [] → (k : ℕ) → in_subtree groups k g ≡ true → test k ≡ true
+at_end_passed groups test g next left facts w e = end_from groups test g next facts (sym w.left_is ∙ e) w.on_path w.passed
+
+-- ---- whom the walk has passed
+-- at first nobody was passed
+pub passed_none : (groups : List Group) (g k : ℕ) → is_passed groups g (Some g) k ≡ false
+passed_none groups g k =
+    ⊎_elim
+    (λ t. rw t refl)
+    (λ f. rw f refl)
+    (cases_Bool (in_subtree groups k g))
+
+-- at the end the whole path
+pub passed_all : (groups : List Group) (g k : ℕ) → is_passed groups g None k ≡ in_subtree groups k g
+passed_all groups g k =
+    ⊎_elim
+    (λ t. rw t refl)
+    (λ f. rw f refl)
+    (cases_Bool (in_subtree groups k g))
+
+-- who comes next was not passed
+pub passed_here : (groups : List Group) (g m : ℕ) → has_group groups m ≡ true → is_passed groups g (Some m) m ≡ false
+passed_here groups g m there =
+    ⊎_elim
+    (λ t. ap (λ b. b && not (in_subtree groups m m)) t ∙ ap not (in_subtree-refl groups m there))
+    (λ f. ap (λ b. b && not (in_subtree groups m m)) f)
+    (cases_Bool (in_subtree groups m g))
+
+-- and is passed then
+ahead_of_own_parent : (groups : List Group) (m : ℕ) (o : Option ℕ) → AreGroups groups → parent_of groups m ≡ o → is_ahead groups m o ≡ false
+ahead_of_own_parent groups m None facts e = refl
+ahead_of_own_parent groups m (Some p) facts e =
+    false_from_ne_true (in_subtree groups m p) (λ t.
+    let same : m ≡ p = in_subtree-antisym groups m p facts t (in_subtree-parent_of groups m p facts e) in
+    let lower = parent_depth groups m p facts e in
+    let equal : depth_at groups m ≡ depth_at groups p = ap (depth_at groups) same in
+    absurd (omega arith))
+
+pub passed_on : (groups : List Group) (g m : ℕ) → AreGroups groups → in_subtree groups m g ≡ true → is_passed groups g (parent_of groups m) m ≡ true
+passed_on groups g m facts on = rw (on, ahead_of_own_parent groups m (parent_of groups m) facts refl) refl
+
+-- and nobody else is
+ahead_others : (groups : List Group) (m k : ℕ) (o : Option ℕ) → AreGroups groups → has_group groups m ≡ true → parent_of groups m ≡ o → k ≢ m → in_subtree groups k m ≡ is_ahead groups k o
+ahead_others groups m k None facts there e other =
+    false_from_ne_true (in_subtree groups k m) (λ t.
+    let root : m ≡ 0 = parent_of-none_root groups m facts there e in
+    let up : in_subtree groups k 0 ≡ true = ap (in_subtree groups k) (sym root) ∙ t in
+    other (in_subtree-antisym groups k 0 facts up (in_subtree-root groups k facts (in_subtree-above groups k 0 up)) ∙ sym root))
+ahead_others groups m k (Some p) facts there e other =
+    ⊎_elim
+    (λ t. ⊎_elim
+    (λ same. absurd (other same))
+    (λ up. t ∙ sym up)
+    (in_subtree-above_parent groups k m p facts e t))
+    (λ f. f ∙ sym (false_from_ne_true (in_subtree groups k p) (λ up. both_ways (in_subtree groups k m) f (in_subtree-trans groups k p m up (in_subtree-parent_of groups m p facts e)))))
+    (cases_Bool (in_subtree groups k m))
+
+pub passed_other : (groups : List Group) (g m k : ℕ) → AreGroups groups → has_group groups m ≡ true → k ≢ m → is_passed groups g (Some m) k ≡ is_passed groups g (parent_of groups m) k
+passed_other groups g m k facts there other =
+    ap (λ b. in_subtree groups k g && not b) (ahead_others groups m k (parent_of groups m) facts there refl other)

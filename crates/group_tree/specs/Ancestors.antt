@@ -1,9 +1,9 @@
 -- The walk from a group up to the root.
-use Rattle.std.specs.Prelude.{◌≡◌, ℕ, zero, suc, ◌+◌, Bool, true, IsTrue, IfSome, Option, Some, None, List, [], ◌∷◌, slice_get}
+use Rattle.std.specs.Prelude.{◌≡◌, ℕ, zero, suc, ◌+◌, ◌&&◌, Bool, true, false, not, IsTrue, IfSome, Option, Some, None, List, [], ◌∷◌, slice_get}
 use Rattle.std.specs.Option.{option_map_or}
 use Rattle.group_tree.specs.declared.group.Group.{Group}
 use Rattle.group_tree.specs.Path.{depth_of}
-use Rattle.group_tree.specs.Groups.{has_group, path_of, parent_of, AreGroups}
+use Rattle.group_tree.specs.Groups.{has_group, in_subtree, path_of, parent_of, AreGroups}
 
 -- how many names the group's path has: how far below the root it lies
 abbrev pub depth_at : List Group → ℕ → ℕ
@@ -37,3 +37,13 @@ is_there groups (Some g) = has_group groups g
 pub record IsWalk (groups : List Group) (next : Option ℕ) : Type 0 where
   pub groups_are : AreGroups groups
   pub there : IsTrue (is_there groups next)
+
+-- ---- how far a walk has come
+-- k is where the walk goes on, or an ancestor of that
+abbrev pub is_ahead : List Group → ℕ → Option ℕ → Bool
+is_ahead groups k None = false
+is_ahead groups k (Some m) = in_subtree groups k m
+
+-- k is on the path of g, and the walk has passed it
+abbrev pub is_passed : List Group → ℕ → Option ℕ → ℕ → Bool
+is_passed groups g next k = in_subtree groups k g && not (is_ahead groups k next)

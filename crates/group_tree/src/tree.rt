@@ -20,7 +20,7 @@ use std::marker::Model;
 #[derive(Debug, Drop)]
 pub struct Tree {
     rows: Vec<Group>,
-    // By number: where the walk to the root goes on.
+    // By number: what a walk to the root reads of each group.
     links: [Link; MAX_GROUPS],
 }
 
@@ -31,6 +31,8 @@ struct Link {
     parent: GroupId,
     // How many names the path has.
     depth: usize,
+    // The limit, as the row has it.
+    limit: Option<u32>,
 }
 
 impl Model for Tree {
@@ -105,12 +107,14 @@ impl Tree {
     }
 
     /// The limit of a group that is there, in pages; None for no limit.
-    #[tactic(auto, unfolding(crate::specs::Groups::has_group, crate::specs::Groups::limit_of))]
+    #[inline]
     pub fn limit(&self, g: GroupId) -> Option<u32>
         requires { IsTrue (has_group self.now g) }
         ensures { result ≡ limit_of self.now g }
     {
-        self.row(g).unwrap().limit
+        let _ = &self.rows;
+        let link = self.links[g.number() as usize];
+        link.limit
     }
 
     /// The group just above one that is there; None exactly for the root.
@@ -235,7 +239,11 @@ impl Tree {
             limit: None,
         };
         self.rows.push(row).unwrap();
-        self.links[number.number() as usize] = Link { parent, depth };
+        self.links[number.number() as usize] = Link {
+            parent,
+            depth,
+            limit: None,
+        };
         Ok(number)
     }
 
@@ -245,6 +253,7 @@ impl Tree {
         ensures { self.new ≡ with_limit self.old g limit }
     {
         set_limit(self.rows.as_mut_slice(), g, limit);
+        self.links[g.number() as usize].limit = limit;
     }
 
     /// Takes out a group that is there, other than the root, with no group below it. Its number is
@@ -278,6 +287,7 @@ fn root_link() -> Link
     Link {
         parent: GroupId::root(),
         depth: 0,
+        limit: None,
     }
 }
 

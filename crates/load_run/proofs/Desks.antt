@@ -18,8 +18,7 @@ use Rattle.group_tree.proofs.GroupLemmas.{can_make, has_group-any, has_group-con
 use Rattle.group_tree.proofs.CallerLemmas.{in_subtree-root}
 use Rattle.group_charge.specs.declared.account.Account.{Account}
 use Rattle.group_charge.specs.Charges.{AreCharges, Ledger, account_at, added, charged, current_of, empty_account, initial_ledger, noted, pages_of, peaked, with_charge, with_group_limit, with_max_noted, with_new_group, with_uncharge}
-use Rattle.group_charge.proofs.SumLemmas.{added-group, peaked-group, peaked-pages, sum-map_same}
-use Rattle.group_charge.proofs.ChargeLemmas.{AreCharges-charged, AreCharges-initial, AreCharges-limited, AreCharges-new, AreCharges-noted, AreCharges-taken, charge_rises, has_account, root_usage, uncharge_falls}
+use Rattle.group_charge.proofs.CallerLemmas.{AreCharges-charged, AreCharges-initial, AreCharges-limited, AreCharges-new, AreCharges-noted, AreCharges-taken, added-group, charge_rises, has_account, peaked-group, peaked-pages, root_usage, sum-map_same, uncharge_falls}
 use Rattle.mem_core.specs.declared.step.Place.{Place}
 use Rattle.mem_core.specs.declared.step.Place.TheVariants.{Free, Charged}
 use Rattle.mem_core.specs.Places.{is_same_place}
