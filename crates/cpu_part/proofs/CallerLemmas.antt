@@ -7,45 +7,59 @@ use Rattle.frame_word.specs.Views.{note_of, changed, begun, ended, passed_out_to
 use Rattle.frame_word.specs.Seats.{KnownTable, KnownSeat, number_of, Passes, NothingPasses, seat_with}
 use Rattle.frame_word.proofs.Notes.{put_here, note_here, note_else}
 
-module _ (t : KnownTable) (zone cpu : KnownSeat) (f : ℕ) (still : NothingPasses t zone cpu) where
+module _ (t : KnownTable) (zone cpu : KnownSeat) (p : ℕ) (named : number_of cpu ≡ p) (f : ℕ) (still : NothingPasses t zone cpu) where
   -- a frame that the processor handed passes for it
   pub handed_passes : (after : KnownSeat) → after ≡ seat_with cpu f gave_back → f < t.frames → Passes zone after f
   handed_passes after is inside = subst (λ (s : KnownSeat). Passes zone s f) (sym is)
-      (let k = note_here cpu.view f gave_back in let a = ap (λ (n : FrameNote). n.passed_back) k in let b = ap (λ (n : FrameNote). n.taken_in) k in let e = still f inside in omega (arith, a, b, e))
+      (let k = note_here cpu.view f gave_back in let a = ap (λ (n : FrameNote). n.passed_back) k in let b = ap (λ (n : FrameNote). n.taken_in) k in
+      let e = still f inside in omega (arith, a, b, e))
 
   -- a frame that the zone passed out to the processor passes for it
-  pub passed_out_passes : (after : KnownSeat) → after ≡ seat_with zone f (passed_out_to (number_of cpu)) → f < t.frames → Passes after cpu f
-  passed_out_passes after is inside = subst (λ (s : KnownSeat). Passes s cpu f) (sym is)
-      (let p = number_of cpu in let z = note_of zone.view f in let k = note_here zone.view f (passed_out_to p) in
-      let a = ap (λ (n : FrameNote). get_or n.passed_out p 0) k ∙ put_here 0 z.passed_out p (get_or z.passed_out p 0 + 1) in
-      let b = ap (λ (n : FrameNote). get_or n.collected p 0) k in let e = still f inside in omega (arith, a, b, e))
+  pub passed_out_passes : (after : KnownSeat) → after ≡ seat_with zone f (passed_out_to p) → f < t.frames → Passes after cpu f
+  passed_out_passes after is inside = subst (λ (s : KnownSeat). Passes s cpu f) (sym (is ∙ ap (λ (q : ℕ). seat_with zone f (passed_out_to q)) (sym named)))
+      (let q = number_of cpu in let z = note_of zone.view f in let k = note_here zone.view f (passed_out_to q) in
+      let a = ap (λ (n : FrameNote). get_or n.passed_out q 0) k ∙ put_here 0 z.passed_out q (get_or z.passed_out q 0 + 1) in
+      let b = ap (λ (n : FrameNote). get_or n.collected q 0) k in let e = still f inside in omega (arith, a, b, e))
 
   -- after the collecting of a frame that was handed nothing passes again
-  pub collected_is_still : (handed collected : KnownSeat) → handed ≡ seat_with cpu f gave_back → collected ≡ seat_with zone f (collected_from (number_of cpu)) → NothingPasses t collected handed
-  collected_is_still handed collected is_handed is_collected = subst (λ (s : KnownSeat × KnownSeat). NothingPasses t s.0 s.1) (λ i. (sym is_collected i, sym is_handed i))
+  pub collected_is_still : (handed collected : KnownSeat) → handed ≡ seat_with cpu f gave_back → collected ≡ seat_with zone f (collected_from p)
+      → NothingPasses t collected handed
+  collected_is_still handed collected is_handed is_collected = subst (λ (s : KnownSeat
+      × KnownSeat). NothingPasses t s.0 s.1) (λ i. (sym (is_collected ∙ ap (λ (q : ℕ). seat_with zone f (collected_from q)) (sym named)) i, sym is_handed i))
       (λ g inside. elim (eqb_tells f g) [
-        | inl same ↦ subst (λ (h : ℕ). begun (changed zone.view f (collected_from (number_of cpu))) (changed cpu.view f gave_back) h ≡ ended (changed zone.view f (collected_from (number_of cpu))) (changed cpu.view f gave_back) h) same.1
-            (let p = number_of cpu in let z = note_of zone.view f in let k = note_here zone.view f (collected_from p) in let j = note_here cpu.view f gave_back in
-            let a = ap (λ (n : FrameNote). get_or n.collected p 0) k ∙ put_here 0 z.collected p (get_or z.collected p 0 + 1) in let b = ap (λ (n : FrameNote). get_or n.passed_out p 0) k in
+        | inl same ↦ subst (λ (h : ℕ). begun (changed zone.view f (collected_from (number_of cpu))) (changed cpu.view f gave_back) h ≡ ended
+            (changed zone.view f (collected_from (number_of cpu))) (changed cpu.view f gave_back) h) same.1
+            (let q = number_of cpu in let z = note_of zone.view f in let k = note_here zone.view f (collected_from q) in
+            let j = note_here cpu.view f gave_back in
+            let a = ap (λ (n : FrameNote). get_or n.collected q 0) k ∙ put_here 0 z.collected q (get_or z.collected q 0 + 1) in
+            let b = ap (λ (n : FrameNote). get_or n.passed_out q 0) k in
             let c = ap (λ (n : FrameNote). n.passed_back) j in let d = ap (λ (n : FrameNote). n.taken_in) j in
             let e = still f (subst (λ (h : ℕ). h < t.frames) (sym same.1) inside) in omega (arith, a, b, c, d, e))
         | inr not ↦
-            (let p = number_of cpu in let k = note_else zone.view f g (collected_from p) (λ q. not.1 (sym q)) in let j = note_else cpu.view f g gave_back (λ q. not.1 (sym q)) in
-            let a = ap (λ (n : FrameNote). get_or n.collected p 0) k in let b = ap (λ (n : FrameNote). get_or n.passed_out p 0) k in
-            let c = ap (λ (n : FrameNote). n.passed_back) j in let d = ap (λ (n : FrameNote). n.taken_in) j in let e = still g inside in omega (arith, a, b, c, d, e))
+            (let q = number_of cpu in let k = note_else zone.view f g (collected_from q) (λ q. not.1 (sym q)) in
+            let j = note_else cpu.view f g gave_back (λ q. not.1 (sym q)) in
+            let a = ap (λ (n : FrameNote). get_or n.collected q 0) k in let b = ap (λ (n : FrameNote). get_or n.passed_out q 0) k in
+            let c = ap (λ (n : FrameNote). n.passed_back) j in let d = ap (λ (n : FrameNote). n.taken_in) j in
+            let e = still g inside in omega (arith, a, b, c, d, e))
       ])
 
   -- after the taking in of a frame that was passed out nothing passes again
-  pub accepted_is_still : (passed taken : KnownSeat) → passed ≡ seat_with zone f (passed_out_to (number_of cpu)) → taken ≡ seat_with cpu f took_in → NothingPasses t passed taken
-  accepted_is_still passed taken is_passed is_taken = subst (λ (s : KnownSeat × KnownSeat). NothingPasses t s.0 s.1) (λ i. (sym is_passed i, sym is_taken i))
+  pub accepted_is_still : (passed taken : KnownSeat) → passed ≡ seat_with zone f (passed_out_to p) → taken ≡ seat_with cpu f took_in
+      → NothingPasses t passed taken
+  accepted_is_still passed taken is_passed is_taken = subst (λ (s : KnownSeat
+      × KnownSeat). NothingPasses t s.0 s.1) (λ i. (sym (is_passed ∙ ap (λ (q : ℕ). seat_with zone f (passed_out_to q)) (sym named)) i, sym is_taken i))
       (λ g inside. elim (eqb_tells f g) [
-        | inl same ↦ subst (λ (h : ℕ). begun (changed zone.view f (passed_out_to (number_of cpu))) (changed cpu.view f took_in) h ≡ ended (changed zone.view f (passed_out_to (number_of cpu))) (changed cpu.view f took_in) h) same.1
-            (let p = number_of cpu in let z = note_of zone.view f in let k = note_here zone.view f (passed_out_to p) in let j = note_here cpu.view f took_in in
-            let a = ap (λ (n : FrameNote). get_or n.passed_out p 0) k ∙ put_here 0 z.passed_out p (get_or z.passed_out p 0 + 1) in let b = ap (λ (n : FrameNote). get_or n.collected p 0) k in
+        | inl same ↦ subst (λ (h : ℕ). begun (changed zone.view f (passed_out_to (number_of cpu))) (changed cpu.view f took_in) h ≡ ended
+            (changed zone.view f (passed_out_to (number_of cpu))) (changed cpu.view f took_in) h) same.1
+            (let q = number_of cpu in let z = note_of zone.view f in let k = note_here zone.view f (passed_out_to q) in let j = note_here cpu.view f took_in in
+            let a = ap (λ (n : FrameNote). get_or n.passed_out q 0) k ∙ put_here 0 z.passed_out q (get_or z.passed_out q 0 + 1) in
+            let b = ap (λ (n : FrameNote). get_or n.collected q 0) k in
             let c = ap (λ (n : FrameNote). n.passed_back) j in let d = ap (λ (n : FrameNote). n.taken_in) j in
             let e = still f (subst (λ (h : ℕ). h < t.frames) (sym same.1) inside) in omega (arith, a, b, c, d, e))
         | inr not ↦
-            (let p = number_of cpu in let k = note_else zone.view f g (passed_out_to p) (λ q. not.1 (sym q)) in let j = note_else cpu.view f g took_in (λ q. not.1 (sym q)) in
-            let a = ap (λ (n : FrameNote). get_or n.collected p 0) k in let b = ap (λ (n : FrameNote). get_or n.passed_out p 0) k in
-            let c = ap (λ (n : FrameNote). n.passed_back) j in let d = ap (λ (n : FrameNote). n.taken_in) j in let e = still g inside in omega (arith, a, b, c, d, e))
+            (let q = number_of cpu in let k = note_else zone.view f g (passed_out_to q) (λ q. not.1 (sym q)) in
+            let j = note_else cpu.view f g took_in (λ q. not.1 (sym q)) in
+            let a = ap (λ (n : FrameNote). get_or n.collected q 0) k in let b = ap (λ (n : FrameNote). get_or n.passed_out q 0) k in
+            let c = ap (λ (n : FrameNote). n.passed_back) j in let d = ap (λ (n : FrameNote). n.taken_in) j in
+            let e = still g inside in omega (arith, a, b, c, d, e))
       ])

@@ -29,7 +29,8 @@ pub times_parted : (g f : ℕ) (xs ys : List ℕ) → IsPermutation xs (f ∷ ys
 times_parted g f xs ys same = sym (sum_by-IsPermutation (test g) xs (f ∷ ys) same) ∙ times_front g f ys
 
 -- what is left where the entry at the place of f went
-pub parted_at : (f i x : ℕ) (xs s ys : List ℕ) → s ≡ xs → i < length s → get_or s i 0 ≡ f → x ≡ get_or xs i x → ys ≡ swap_remove xs i x → IsPermutation xs (f ∷ ys)
+pub parted_at : (f i x : ℕ) (xs s ys : List ℕ) → s ≡ xs → i < length s → get_or s i 0 ≡ f → x ≡ get_or xs i x → ys ≡ swap_remove xs i x
+    → IsPermutation xs (f ∷ ys)
 parted_at f i x xs s ys same inside is value left =
     let within : i < length xs = subst (λ (l : List ℕ). i < length l) same inside in
     let e : x ≡ f = value ∙ get_or_default xs i x 0 within ∙ ap (λ (l : List ℕ). get_or l i 0) (sym same) ∙ is in

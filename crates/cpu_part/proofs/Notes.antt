@@ -40,17 +40,26 @@ module _ (frames f : ℕ) (list fresh back pins list' fresh' back' pins' : List 
   noted_changed change here else = λ g. elim (eqb_tells f g) [
     | inl is ↦ subst (λ h. IsNoted frames h (times h list' + times h fresh') (times h back') (times h pins') (note_of (changed v f change) h)) is.1
         (noted_along frames f _ _ _ _ _ _ (change (note_of v f)) (note_of (changed v f change) f) (note_here v f change) refl refl refl here)
-    | inr not ↦ noted_along frames g _ _ _ _ _ _ (note_of v g) (note_of (changed v f change) g) (note_else v f g change (λ e. not.1 (sym e))) (else g not.1).borrowed (else g not.1).own (else g not.1).references (noted g)
+    | inr not ↦ noted_along frames g _ _ _ _ _ _ (note_of v g) (note_of (changed v f change) g) (note_else v f g change (λ e. not.1 (sym e)))
+        (else g not.1).borrowed (else g not.1).own (else g not.1).references (noted g)
   ]
 
 -- one note changed in nothing that the lists tell
 pub noted_looked : (frames f : ℕ) (list fresh back pins : List ℕ) (v : FrameView) (change : FrameNote → FrameNote)
-    → (change (note_of v f)).own ≡ (note_of v f).own → (change (note_of v f)).borrowed ≡ (note_of v f).borrowed → (change (note_of v f)).references ≡ (note_of v f).references
+    → (change (note_of v f)).own ≡ (note_of v f).own → (change (note_of v f)).borrowed ≡ (note_of v f).borrowed
+    → (change (note_of v f)).references ≡ (note_of v f).references
     → AreNoted frames list fresh back pins v → AreNoted frames list fresh back pins (changed v f change)
 noted_looked frames f list fresh back pins v change own borrowed references noted =
     let n = noted f in
     noted_changed frames f list fresh back pins list fresh back pins v noted change
-    (record { borrowed_is = borrowed ∙ n.borrowed_is; own_is = own ∙ n.own_is; references_are = references ∙ n.references_are; once = n.once; in_table = n.in_table })
+    (record {
+      borrowed_is = borrowed ∙ n.borrowed_is;
+      own_is = own ∙ n.own_is;
+      references_are = references ∙ n.references_are;
+      once = n.once;
+      in_table =
+          n.in_table;
+    })
     (λ g not. record { borrowed = refl; own = refl; references = refl })
 
 module _ (frames f : ℕ) (list fresh back pins : List ℕ) (v : FrameView) (noted : AreNoted frames list fresh back pins v) where
@@ -65,64 +74,126 @@ module _ (frames f : ℕ) (list fresh back pins : List ℕ) (v : FrameView) (not
   -- the front of the list became fresh
   pub noted_freshened : (rest fresh' : List ℕ) → list ≡ f ∷ rest → fresh' ≡ fresh ++ f ∷ [] → AreNoted frames rest fresh' back pins v
   noted_freshened rest fresh' front end = noted_same frames f list fresh back pins rest fresh' back pins v noted
-      (λ g. let a = ap (times g) front ∙ times_front g f rest in let b = ap (times g) end ∙ times_end g f fresh in record { borrowed = omega (arith, a, b); own = refl; references = refl })
+      (λ g. let a = ap (times g) front ∙ times_front g f rest in let b = ap (times g) end ∙ times_end g f fresh in
+      record { borrowed = omega (arith, a, b); own = refl; references = refl })
 
   -- a fresh frame went to the end of the list
-  pub noted_relisted : (list' fresh' : List ℕ) (i : ℕ) → list' ≡ list ++ f ∷ [] → i < length fresh → get_or fresh i 0 ≡ f → fresh' ≡ remove fresh i → AreNoted frames list' fresh' back pins v
+  pub noted_relisted : (list' fresh' : List ℕ) (i : ℕ) → list' ≡ list ++ f ∷ [] → i < length fresh → get_or fresh i 0 ≡ f → fresh' ≡ remove fresh i
+      → AreNoted frames list' fresh' back pins v
   noted_relisted list' fresh' i end inside is rest = noted_same frames f list fresh back pins list' fresh' back pins v noted
       (λ g. let a = ap (times g) end ∙ times_end g f list in let b = ap (times g) rest in let c = times_without g fresh i inside in let d = ap (test g) is in
       record { borrowed = omega (arith, a, b, c, d); own = refl; references = refl })
 
   -- the frame was taken in, to the end of the list
-  pub noted_accepted : (list' : List ℕ) → list' ≡ list ++ f ∷ [] → in_hands (note_of v f) ≡ 0 → f < frames → AreNoted frames list' fresh back pins (changed v f took_in)
+  pub noted_accepted : (list' : List ℕ) → list' ≡ list ++ f ∷ [] → in_hands (note_of v f) ≡ 0 → f < frames
+      → AreNoted frames list' fresh back pins (changed v f took_in)
   noted_accepted list' end none inside =
       let n = noted f in let a = n.borrowed_is in let b = n.own_is in let e = ap (times f) end ∙ times_end f f list in let t = test_here f in
       noted_changed frames f list fresh back pins list' fresh back pins v noted took_in
-      (record { borrowed_is = omega (arith, a, b, e, t, none); own_is = n.own_is; references_are = n.references_are; once = omega (arith, a, b, e, t, none); in_table = λ past. absurd (omega arith) })
-      (λ g not. let s = ap (times g) end ∙ times_end g f list in let o = test_other g f not in record { borrowed = omega (arith, s, o); own = refl; references = refl })
+      (record {
+        borrowed_is = omega (arith, a, b, e, t, none);
+        own_is = n.own_is;
+        references_are = n.references_are;
+        once =
+            omega (arith, a, b, e, t, none);
+        in_table = λ past. absurd (omega arith);
+      })
+      (λ g not. let s = ap (times g) end ∙ times_end g f list in let o = test_other g f not in
+      record { borrowed = omega (arith, s, o); own = refl; references = refl })
 
   -- the frame went back to the zone from the list, from the fresh frames, or from the back frames
   pub noted_front_handed : (rest : List ℕ) → list ≡ f ∷ rest → AreNoted frames rest fresh back pins (changed v f gave_back)
   noted_front_handed rest front =
       let n = noted f in let h = n.once in let e = ap (times f) front ∙ times_front f f rest in let t = test_here f in
       noted_changed frames f list fresh back pins rest fresh back pins v noted gave_back
-      (record { borrowed_is = omega (arith, h, e, t); own_is = omega (arith, h, e, t); references_are = n.references_are; once = omega (arith, h, e, t); in_table = λ past. let z = n.in_table past in omega (arith, z, e, t) })
-      (λ g not. let s = ap (times g) front ∙ times_front g f rest in let o = test_other g f not in record { borrowed = omega (arith, s, o); own = refl; references = refl })
+      (record {
+        borrowed_is = omega (arith, h, e, t);
+        own_is = omega (arith, h, e, t);
+        references_are = n.references_are;
+        once =
+            omega (arith, h, e, t);
+        in_table = λ past. let z = n.in_table past in omega (arith, z, e, t);
+      })
+      (λ g not. let s = ap (times g) front ∙ times_front g f rest in let o = test_other g f not in
+      record { borrowed = omega (arith, s, o); own = refl; references = refl })
 
   pub noted_fresh_handed : (rest : List ℕ) → fresh ≡ f ∷ rest → AreNoted frames list rest back pins (changed v f gave_back)
   noted_fresh_handed rest front =
       let n = noted f in let h = n.once in let e = ap (times f) front ∙ times_front f f rest in let t = test_here f in
       noted_changed frames f list fresh back pins list rest back pins v noted gave_back
-      (record { borrowed_is = omega (arith, h, e, t); own_is = omega (arith, h, e, t); references_are = n.references_are; once = omega (arith, h, e, t); in_table = λ past. let z = n.in_table past in omega (arith, z, e, t) })
-      (λ g not. let s = ap (times g) front ∙ times_front g f rest in let o = test_other g f not in record { borrowed = omega (arith, s, o); own = refl; references = refl })
+      (record {
+        borrowed_is = omega (arith, h, e, t);
+        own_is = omega (arith, h, e, t);
+        references_are = n.references_are;
+        once =
+            omega (arith, h, e, t);
+        in_table = λ past. let z = n.in_table past in omega (arith, z, e, t);
+      })
+      (λ g not. let s = ap (times g) front ∙ times_front g f rest in let o = test_other g f not in
+      record { borrowed = omega (arith, s, o); own = refl; references = refl })
 
   pub noted_back_handed : (rest : List ℕ) → back ≡ f ∷ rest → AreNoted frames list fresh rest pins (changed v f gave_back)
   noted_back_handed rest front =
       let n = noted f in let h = n.once in let e = ap (times f) front ∙ times_front f f rest in let t = test_here f in
       noted_changed frames f list fresh back pins list fresh rest pins v noted gave_back
-      (record { borrowed_is = omega (arith, h, e, t); own_is = omega (arith, h, e, t); references_are = n.references_are; once = omega (arith, h, e, t); in_table = λ past. let z = n.in_table past in omega (arith, z, e, t) })
-      (λ g not. let s = ap (times g) front ∙ times_front g f rest in let o = test_other g f not in record { borrowed = refl; own = omega (arith, s, o); references = refl })
+      (record {
+        borrowed_is = omega (arith, h, e, t);
+        own_is = omega (arith, h, e, t);
+        references_are = n.references_are;
+        once =
+            omega (arith, h, e, t);
+        in_table = λ past. let z = n.in_table past in omega (arith, z, e, t);
+      })
+      (λ g not. let s = ap (times g) front ∙ times_front g f rest in let o = test_other g f not in
+      record { borrowed = refl; own = omega (arith, s, o); references = refl })
 
   -- the frame was pinned
-  pub noted_pinned : (pins' : List ℕ) (seen : ℕ) → pins' ≡ pins ++ f ∷ [] → f < frames → AreNoted frames list fresh back pins' (changed v f (λ (k : FrameNote). held (looked seen k)))
+  pub noted_pinned : (pins' : List ℕ) (seen : ℕ) → pins' ≡ pins ++ f ∷ [] → f < frames
+      → AreNoted frames list fresh back pins' (changed v f (λ (k : FrameNote). held (looked seen k)))
   noted_pinned pins' seen end inside =
       let n = noted f in let r = n.references_are in let e = ap (times f) end ∙ times_end f f pins in let t = test_here f in
       noted_changed frames f list fresh back pins list fresh back pins' v noted (λ (k : FrameNote). held (looked seen k))
-      (record { borrowed_is = n.borrowed_is; own_is = n.own_is; references_are = omega (arith, r, e, t); once = n.once; in_table = λ past. absurd (omega arith) })
-      (λ g not. let s = ap (times g) end ∙ times_end g f pins in let o = test_other g f not in record { borrowed = refl; own = refl; references = omega (arith, s, o) })
+      (record {
+        borrowed_is = n.borrowed_is;
+        own_is = n.own_is;
+        references_are = omega (arith, r, e, t);
+        once = n.once;
+        in_table =
+            λ past. absurd (omega arith);
+      })
+      (λ g not. let s = ap (times g) end ∙ times_end g f pins in let o = test_other g f not in
+      record { borrowed = refl; own = refl; references = omega (arith, s, o) })
 
   -- one pin went, and references of others are left
   pub noted_unpinned : (pins' : List ℕ) (left : ℕ) → IsPermutation pins (f ∷ pins') → AreNoted frames list fresh back pins' (changed v f (let_go left))
   noted_unpinned pins' left parts =
       let n = noted f in let r = n.references_are in let e = times_parted f f pins pins' parts in let t = test_here f in
       noted_changed frames f list fresh back pins list fresh back pins' v noted (let_go left)
-      (record { borrowed_is = n.borrowed_is; own_is = n.own_is; references_are = omega (arith, r, e, t); once = n.once; in_table = λ past. let z = n.in_table past in omega (arith, z, e, t) })
-      (λ g not. let s = times_parted g f pins pins' parts in let o = test_other g f not in record { borrowed = refl; own = refl; references = omega (arith, s, o) })
+      (record {
+        borrowed_is = n.borrowed_is;
+        own_is = n.own_is;
+        references_are = omega (arith, r, e, t);
+        once = n.once;
+        in_table = λ past. let z =
+            n.in_table past in omega (arith, z, e, t);
+      })
+      (λ g not. let s = times_parted g f pins pins' parts in let o = test_other g f not in
+      record { borrowed = refl; own = refl; references = omega (arith, s, o) })
 
   -- the last reference went, and the frame is a back frame
-  pub noted_last_unpinned : (pins' back' : List ℕ) → IsPermutation pins (f ∷ pins') → back' ≡ back ++ f ∷ [] → in_hands (note_of v f) ≡ 0 → AreNoted frames list fresh back' pins' (changed v f let_go_last)
+  pub noted_last_unpinned : (pins' back' : List ℕ) → IsPermutation pins (f ∷ pins') → back' ≡ back ++ f ∷ [] → in_hands (note_of v f) ≡ 0
+      → AreNoted frames list fresh back' pins' (changed v f let_go_last)
   noted_last_unpinned pins' back' parts end none =
-      let n = noted f in let a = n.borrowed_is in let b = n.own_is in let r = n.references_are in let e = times_parted f f pins pins' parts in let u = ap (times f) end ∙ times_end f f back in let t = test_here f in
+      let n = noted f in let a = n.borrowed_is in let b = n.own_is in let r = n.references_are in let e = times_parted f f pins pins' parts in
+      let u = ap (times f) end ∙ times_end f f back in let t = test_here f in
       noted_changed frames f list fresh back pins list fresh back' pins' v noted let_go_last
-      (record { borrowed_is = n.borrowed_is; own_is = omega (arith, a, b, u, t, none); references_are = omega (arith, r, e, t); once = omega (arith, a, b, u, t, none); in_table = λ past. let z = n.in_table past in absurd (omega (arith, z, e, t)) })
-      (λ g not. let s = times_parted g f pins pins' parts in let w = ap (times g) end ∙ times_end g f back in let o = test_other g f not in record { borrowed = refl; own = omega (arith, w, o); references = omega (arith, s, o) })
+      (record {
+        borrowed_is = n.borrowed_is;
+        own_is = omega (arith, a, b, u, t, none);
+        references_are = omega (arith, r, e, t);
+        once =
+            omega (arith, a, b, u, t, none);
+        in_table = λ past. let z = n.in_table past in absurd (omega (arith, z, e, t));
+      })
+      (λ g not. let s = times_parted g f pins pins' parts in let w = ap (times g) end ∙ times_end g f back in
+      let o = test_other g f not in record { borrowed = refl; own = omega (arith, w, o); references = omega (arith, s, o) })

@@ -13,7 +13,8 @@ use Rattle.stock_word.specs.Kinds.{after_report}
 use Rattle.stock_word.specs.Calls.{with_view}
 use Rattle.cpu_part.specs.Cpus.{KnownCpu, AreItsSeats, AreWithin, IsTied, times}
 use Rattle.cpu_part.proofs.Counts.{test_here, times_front}
-use Rattle.cpu_part.proofs.Notes.{frame_inside, noted_looked, noted_accepted, noted_front_handed, noted_fresh_handed, noted_back_handed, noted_pinned, noted_unpinned, noted_last_unpinned}
+use Rattle.cpu_part.proofs.Notes.{frame_inside, noted_looked, noted_accepted, noted_front_handed, noted_fresh_handed, noted_back_handed, noted_pinned}
+use Rattle.cpu_part.proofs.Notes.{noted_unpinned, noted_last_unpinned}
 
 pub length_end : (f : ℕ) (xs ys : List ℕ) → ys ≡ xs ++ f ∷ [] → length ys ≡ length xs + 1
 length_end f xs ys is = ap length is ∙ length-append xs (f ∷ [])
@@ -41,7 +42,12 @@ module _ (t : KnownTable) (w : Words) (c : KnownCpu) (tied : IsTied t w c) (f : 
       → (change (note_of c.seat.view f)).own ≡ (note_of c.seat.view f).own → (change (note_of c.seat.view f)).borrowed ≡ (note_of c.seat.view f).borrowed
       → (change (note_of c.seat.view f)).references ≡ (note_of c.seat.view f).references → IsTied t w (record c { seat = seat })
   tied_looked change seat is own borrowed references = subst (λ (s : KnownSeat). IsTied t w (record c { seat = s })) (sym is)
-      (record { seats = seats_with change; noted = noted_looked t.frames f c.list c.fresh c.back c.pins c.seat.view change own borrowed references tied.noted; within = tied.within })
+      (record {
+        seats = seats_with change;
+        noted = noted_looked t.frames f c.list c.fresh c.back c.pins c.seat.view change own borrowed references
+            tied.noted;
+        within = tied.within;
+      })
 
   pub tied_not_held : (answer : Get) (seat : KnownSeat) → answer ≢ Held → GetAnswers c.seat f answer seat → IsTied t w (record c { seat = seat })
   tied_not_held Held seat not got = absurd (not refl)
@@ -49,7 +55,8 @@ module _ (t : KnownTable) (w : Words) (c : KnownCpu) (tied : IsTied t w c) (f : 
   tied_not_held (Raced found) seat not got = tied_looked (λ (k : FrameNote). raced found (looked got.0 k)) seat got.4 refl refl refl
   tied_not_held Full seat not got = tied_looked (looked 255) seat got refl refl refl
 
-  pub tied_held : (seat : KnownSeat) (pins : List ℕ) → GetAnswers c.seat f Held seat → pins ≡ c.pins ++ f ∷ [] → f < t.frames → length c.back + length c.pins < 256
+  pub tied_held : (seat : KnownSeat) (pins : List ℕ) → GetAnswers c.seat f Held seat → pins ≡ c.pins ++ f ∷ [] → f < t.frames
+      → length c.back + length c.pins < 256
       → IsTied t w (record c { pins = pins; seat = seat })
   tied_held seat pins got end inside room = subst (λ (s : KnownSeat). IsTied t w (record c { pins = pins; seat = s })) (sym got.3)
       (record {
@@ -59,7 +66,8 @@ module _ (t : KnownTable) (w : Words) (c : KnownCpu) (tied : IsTied t w c) (f : 
             record { list_bound = b.list_bound; fresh_bound = b.fresh_bound; pin_bound = omega (arith, e, room); pages_are = b.pages_are };
       })
 
-  pub tied_left : (n : ℕ) (seat : KnownSeat) (pins : List ℕ) → PutAnswers c.seat f (Left n) seat → IsPermutation c.pins (f ∷ pins) → IsTied t w (record c { pins = pins; seat = seat })
+  pub tied_left : (n : ℕ) (seat : KnownSeat) (pins : List ℕ) → PutAnswers c.seat f (Left n) seat → IsPermutation c.pins (f ∷ pins)
+      → IsTied t w (record c { pins = pins; seat = seat })
   tied_left n seat pins put parts = subst (λ (s : KnownSeat). IsTied t w (record c { pins = pins; seat = s })) (sym put.2)
       (record {
         seats = seats_with (let_go n);
@@ -78,7 +86,8 @@ module _ (t : KnownTable) (w : Words) (c : KnownCpu) (tied : IsTied t w c) (f : 
             record { list_bound = b.list_bound; fresh_bound = b.fresh_bound; pin_bound = omega (arith, e, p, u); pages_are = b.pages_are };
       })
 
-  pub tied_accepted : (seat : KnownSeat) (list : List ℕ) → seat ≡ seat_with c.seat f took_in → list ≡ c.list ++ f ∷ [] → in_hands (note_of c.seat.view f) ≡ 0 → f < t.frames
+  pub tied_accepted : (seat : KnownSeat) (list : List ℕ) → seat ≡ seat_with c.seat f took_in → list ≡ c.list ++ f ∷ []
+      → in_hands (note_of c.seat.view f) ≡ 0 → f < t.frames
       → length c.list + length c.fresh < 256 → IsTied t w (record c { list = list; seat = seat })
   tied_accepted seat list is end none inside room = subst (λ (s : KnownSeat). IsTied t w (record c { list = list; seat = s })) (sym is)
       (record {
@@ -88,7 +97,8 @@ module _ (t : KnownTable) (w : Words) (c : KnownCpu) (tied : IsTied t w c) (f : 
             record { list_bound = omega (arith, e, room); fresh_bound = b.fresh_bound; pin_bound = b.pin_bound; pages_are = b.pages_are };
       })
 
-  pub tied_front_handed : (seat : KnownSeat) (rest : List ℕ) → seat ≡ seat_with c.seat f gave_back → c.list ≡ f ∷ rest → IsTied t w (record c { list = rest; seat = seat })
+  pub tied_front_handed : (seat : KnownSeat) (rest : List ℕ) → seat ≡ seat_with c.seat f gave_back → c.list ≡ f ∷ rest
+      → IsTied t w (record c { list = rest; seat = seat })
   tied_front_handed seat rest is front = subst (λ (s : KnownSeat). IsTied t w (record c { list = rest; seat = s })) (sym is)
       (record {
         seats = seats_with gave_back;
@@ -97,7 +107,8 @@ module _ (t : KnownTable) (w : Words) (c : KnownCpu) (tied : IsTied t w c) (f : 
             record { list_bound = omega (arith, e, p); fresh_bound = b.fresh_bound; pin_bound = b.pin_bound; pages_are = b.pages_are };
       })
 
-  pub tied_back_handed : (seat : KnownSeat) (rest : List ℕ) → seat ≡ seat_with c.seat f gave_back → c.back ≡ f ∷ rest → IsTied t w (record c { back = rest; seat = seat })
+  pub tied_back_handed : (seat : KnownSeat) (rest : List ℕ) → seat ≡ seat_with c.seat f gave_back → c.back ≡ f ∷ rest
+      → IsTied t w (record c { back = rest; seat = seat })
   tied_back_handed seat rest is front = subst (λ (s : KnownSeat). IsTied t w (record c { back = rest; seat = s })) (sym is)
       (record {
         seats = seats_with gave_back;
@@ -106,9 +117,15 @@ module _ (t : KnownTable) (w : Words) (c : KnownCpu) (tied : IsTied t w c) (f : 
             record { list_bound = b.list_bound; fresh_bound = b.fresh_bound; pin_bound = omega (arith, e, p); pages_are = b.pages_are };
       })
 
-  pub tied_fresh_handed : (seat : KnownSeat) (stock : Seated) (rest : List ℕ) → seat ≡ seat_with c.seat f gave_back → stock ≡ with_view c.stock (after_report c.stock.view 1) → c.fresh ≡ f ∷ rest
+  pub tied_fresh_handed : (seat : KnownSeat) (stock : Seated) (rest : List ℕ) → seat ≡ seat_with c.seat f gave_back
+      → stock ≡ with_view c.stock (after_report c.stock.view 1) → c.fresh ≡ f ∷ rest
       → IsTied t w (record c { fresh = rest; seat = seat; stock = stock })
-  tied_fresh_handed seat stock rest is paid front = subst (λ (s : KnownSeat × Seated). IsTied t w (record c { fresh = rest; seat = s.0; stock = s.1 })) (λ i. (sym is i, sym paid i))
+  tied_fresh_handed seat stock rest is paid front = subst (λ (s : KnownSeat × Seated). IsTied t w (record c {
+    fresh = rest;
+    seat = s.0;
+    stock =
+        s.1;
+  })) (λ i. (sym is i, sym paid i))
       (record {
         seats = let s = tied.seats in record {
           frame_table = s.frame_table;

@@ -26,7 +26,8 @@ CanTake c = (length c.fresh < 32) × (1 ≤ length c.list)
 abbrev pub OnlyConsumes : ℕ → Consume → KnownCpu → KnownCpu → Type 0
 OnlyConsumes g answer c d = (seen : StockView) × Consumed g answer c.stock.view seen × (d ≡ record c { stock = with_view c.stock seen })
 
--- What alloc_fast answers for group g, in this order: 32 fresh frames; an empty list; what a consume answers. Where it took a page, the front of the list is now the newest fresh frame
+-- What alloc_fast answers for group g, in this order: 32 fresh frames; an empty list; what a consume answers.
+-- Where it took a page, the front of the list is now the newest fresh frame.
 abbrev pub FastAnswers : ℕ → Fast → KnownCpu → KnownCpu → Type 0
 FastAnswers g FreshFull c d = (length c.fresh ≡ 32) × (d ≡ c)
 FastAnswers g ListEmpty c d = (length c.fresh < 32) × (c.list ≡ []) × (d ≡ c)
@@ -36,7 +37,13 @@ FastAnswers g NoStock c d = CanTake c × OnlyConsumes g consume.Empty c d
 FastAnswers g (Got f) c d = (length c.fresh < 32) × (rest : List ℕ) × (c.list ≡ f ∷ rest) × (seen : StockView) × Consumed g consume.Took c.stock.view seen
     × (d ≡ record c { list = rest; fresh = c.fresh ++ f ∷ []; stock = with_view c.stock seen })
 
--- What drop_fresh answers: the page was credited, and the frame went from its place among the fresh frames to the end of the list; or the stock was drained by now
+-- this holds of the frame that an alloc_fast got, if it got one
+abbrev pub IfGot : Fast → (ℕ → Type 0) → Type 0
+IfGot (Got f) P = P f
+IfGot other P = Unit {0}
+
+-- What drop_fresh answers: the page was credited, and the frame went from its place among the fresh frames to the end of the list;
+-- or the stock was drained by now.
 abbrev pub DropAnswers : ℕ → Dropped → KnownCpu → KnownCpu → Type 0
 DropAnswers f Listed c d = (i : ℕ) × (i < length c.fresh) × (slice_index c.fresh i ≡ f) × (seen : StockView) × Credited credit.Back c.stock.view seen
     × (d ≡ record c { list = c.list ++ f ∷ []; fresh = remove c.fresh i; stock = with_view c.stock seen; drops = min (c.drops + 1) (2 ^ 64 - 1) })
@@ -49,7 +56,8 @@ PinAnswers f other c d = (seat : KnownSeat) × GetAnswers c.seat f other seat ×
 
 -- What a put of f answers, and the seat after it: one pin less, and after the last reference f is the newest back frame
 abbrev pub UnpinAnswers : ℕ → Put → KnownCpu → KnownCpu → Type 0
-UnpinAnswers f (Left n) c d = IsPermutation c.pins (f ∷ d.pins) × (seat : KnownSeat) × PutAnswers c.seat f (Left n) seat × (d ≡ record c { pins = d.pins; seat = seat })
+UnpinAnswers f (Left n) c d = IsPermutation c.pins (f ∷ d.pins) × (seat : KnownSeat) × PutAnswers c.seat f (Left n) seat
+    × (d ≡ record c { pins = d.pins; seat = seat })
 UnpinAnswers f Last c d = IsPermutation c.pins (f ∷ d.pins) × (seat : KnownSeat) × PutAnswers c.seat f Last seat
     × (d ≡ record c { pins = d.pins; back = c.back ++ f ∷ []; seat = seat })
 
@@ -68,4 +76,5 @@ HandsBack f c d = (rest : List ℕ) × (c.back ≡ f ∷ rest) × (d ≡ record 
 
 -- f, the front of the list, is now the newest fresh frame, and a page of the stock of g is taken, which leaves n
 abbrev pub TakesFront : ℕ → ℕ → ℕ → KnownCpu → KnownCpu → Type 0
-TakesFront g n f c d = (rest : List ℕ) × (c.list ≡ f ∷ rest) × (d ≡ record c { list = rest; fresh = c.fresh ++ f ∷ []; stock = with_view c.stock (after_took c.stock.view g n) })
+TakesFront g n f c d = (rest : List ℕ) × (c.list ≡ f ∷ rest)
+    × (d ≡ record c { list = rest; fresh = c.fresh ++ f ∷ []; stock = with_view c.stock (after_took c.stock.view g n) })

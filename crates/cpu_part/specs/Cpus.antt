@@ -11,7 +11,8 @@ use Rattle.stock_word.specs.Stock.{Words, Seated}
 abbrev pub no_table : TableId
 no_table = record { words = 0; slots = 0; views_name = 0; atom = 0; block = 0; offset = 0; slot_names = [] }
 
--- A processor's part: its number, its listed, fresh and back frames, its pins (an entry for each), its seats at the two tables, and how often a fresh frame went back to its list
+-- A processor's part: its number, its listed, fresh and back frames, its pins (an entry for each), its seats at the two tables,
+-- and how often a fresh frame went back to its list
 pub record KnownCpu : Type 0 where
   pub number : ℕ
   pub list : List ℕ

@@ -60,3 +60,13 @@ impl<N: BootName> Tables<N> {
         (frames, stocks)
     }
 }
+
+impl<N: BootName> Drop for Tables<N> {
+    fn drop(self) {
+        let Tables {
+            frames: _,
+            stocks: _,
+            of: _,
+        } = self;
+    }
+}

@@ -42,9 +42,27 @@ impl<N: BootName> Model for Cpu<N> {
 
     ghost Value = { KnownCpu };
 
-    ghost view = { λ c. record { number = c.number; list = c.list.items; fresh = c.fresh.items; back = c.back.items; pins = c.pins.items; seat = c.seat; stock = c.stock; drops = c.drops } };
+    ghost view = { λ c. record {
+      number = c.number;
+      list = c.list.items;
+      fresh = c.fresh.items;
+      back = c.back.items;
+      pins = c.pins.items;
+      seat = c.seat;
+      stock = c.stock;
+      drops = c.drops;
+    } };
 
-    ghost invariant = { λ c. IsTied N.frames N.stocks (record { number = c.number; list = c.list.items; fresh = c.fresh.items; back = c.back.items; pins = c.pins.items; seat = c.seat; stock = c.stock; drops = c.drops }) × HasRoom (deque_capacity c.list) (vec_capacity c.fresh) (deque_capacity c.back) (vec_capacity c.pins) };
+    ghost invariant = { λ c. IsTied N.frames N.stocks (record {
+      number = c.number;
+      list = c.list.items;
+      fresh = c.fresh.items;
+      back = c.back.items;
+      pins = c.pins.items;
+      seat = c.seat;
+      stock = c.stock;
+      drops = c.drops;
+    }) × HasRoom (deque_capacity c.list) (vec_capacity c.fresh) (deque_capacity c.back) (vec_capacity c.pins) };
 }
 
 impl<N: BootName> Cpu<N> {

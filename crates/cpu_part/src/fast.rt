@@ -1,8 +1,7 @@
 //! The fast path: frames are paid for and given back without a lock.
-ghost use Rattle.std.specs.Prelude.{◌≡◌, ◌<◌, ◌≤◌, ℕ};
-ghost use Rattle.cpu_part.specs.declared.answers.Fast.TheVariants.{Got};
+ghost use Rattle.std.specs.Prelude.{◌≡◌, ◌<◌, ◌≤◌};
 ghost use Rattle.cpu_part.specs.Cpus.{times};
-ghost use Rattle.cpu_part.specs.Calls.{FastAnswers, DropAnswers};
+ghost use Rattle.cpu_part.specs.Calls.{FastAnswers, IfGot, DropAnswers};
 
 use crate::answers::{Dropped, Fast};
 use crate::boot_name::{BootName, Tables};
@@ -18,7 +17,7 @@ impl<N: BootName> Cpu<N> {
     pub fn alloc_fast(&mut self, tables: &Tables<N>, group: u32) -> Fast
         requires { group < 64 }
         ensures answer { FastAnswers group result self.old self.new }
-        ensures frame { (f : ℕ) → result ≡ Got f → f < N.frames.frames }
+        ensures frame { IfGot result (λ f. f < N.frames.frames) }
     {
         if self.fresh.len() == MOST_FRESH {
             return Fast::FreshFull;

@@ -32,7 +32,8 @@ impl<N: BootName> Cpu<N> {
     /// book is the pages in the stock, the fresh ones and the reported ones.
     pub fn look(&mut self, tables: &Tables<N>, machine: &mut StockSeat) -> Stock
         requires machine { (machine.old.table ≡ N.stocks.table) × IsMachine machine.old.view }
-        ensures balanced { (account_of machine.old.view self.old.number).book ≡ pages_of result + self.old.stock.view.fresh + (account_of machine.old.view self.old.number).noted }
+        ensures balanced { (account_of machine.old.view self.old.number).book
+            ≡ pages_of result + self.old.stock.view.fresh + (account_of machine.old.view self.old.number).noted }
         ensures bounded { (account_of machine.old.view self.old.number).book < 65536 }
         ensures group { group_of result ≡ (account_of machine.old.view self.old.number).group }
         ensures held { is_held result ≡ (account_of machine.old.view self.old.number).filled }

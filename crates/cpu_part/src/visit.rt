@@ -1,7 +1,8 @@
 //! The hand-over of frames between a processor and the zone, inside a visit: with the zone's seat beside.
 ghost use Rattle.std.specs.Prelude.{◌≡◌, ◌+◌, ◌<◌, ◌≤◌, ◌⊎◌, [], ◌∷◌, ◌++◌, length, IfSome, MatchOption};
 ghost use Rattle.frame_word.specs.Views.{took_in, collected_from};
-ghost use Rattle.frame_word.specs.Seats.{HandsAreApart, HasNothingOf, IsLent, IsLentToNone, IsOpen, IsShut, IsZoneSeat, LentIsBorrowed, NothingPasses, Passes, seat_with, seat_with_visit};
+ghost use Rattle.frame_word.specs.Seats.{HandsAreApart, HasNothingOf, IsLent, IsLentToNone};
+ghost use Rattle.frame_word.specs.Seats.{IsOpen, IsShut, IsZoneSeat, LentIsBorrowed, NothingPasses, Passes, seat_with, seat_with_visit};
 ghost use Rattle.stock_word.specs.Stock.{IsMachine, account_of, group_of};
 ghost use Rattle.stock_word.specs.Kinds.{noting};
 ghost use Rattle.stock_word.specs.Calls.{with_view};
@@ -87,8 +88,10 @@ impl<N: BootName> Cpu<N> {
         ensures frame { IfSome result (λ f. f < N.frames.frames) }
         ensures zone { zone.new ≡ zone.old }
         ensures borrowed { IfSome result (λ f. HasNothingOf zone.old f × IsLent zone.old f self.old.number) }
-        ensures machine { MatchOption result (machine.new ≡ machine.old) (λ f. machine.new ≡ with_view machine.old (noting machine.old.view self.old.number 1)) }
-        ensures booked { IfSome result (λ f. self.old.stock.view.fresh + (account_of machine.old.view self.old.number).noted ≤ (account_of machine.old.view self.old.number).book) }
+        ensures machine { MatchOption result (machine.new ≡ machine.old)
+            (λ f. machine.new ≡ with_view machine.old (noting machine.old.view self.old.number 1)) }
+        ensures booked { IfSome result (λ f. self.old.stock.view.fresh + (account_of machine.old.view self.old.number).noted
+            ≤ (account_of machine.old.view self.old.number).book) }
         ensures group { IfSome result (λ f. group_of self.old.stock.view.last ≡ (account_of machine.old.view self.old.number).group) }
     {
         if self.fresh.is_empty() {

@@ -5,5 +5,8 @@ use Rattle.cpu_part.proofs.cpu.Cpu.accept.Goals as goal
 
 pub invariant_of-self : goal.invariant_of-self
 invariant_of-self g c =
-    let room = subst (λ (k : KnownCpu). length k.list + length k.fresh < 256) (sym c.self.view_is) c.requires.room in
-    (tied_accepted _ _ _ c.self.invariant.0 c.args.frame c.take_in.new.cpu c.push_back_reserved.new.self.items c.take_in.ensures.cpu c.push_back_reserved.ensures.items c.take_in.ensures.nothing.1.1 c.requires.frame room, search rules)
+    let room = subst (λ (k : KnownCpu). length k.list + length k.fresh < 256) (sym c.self.view_is) c.requires.room in (
+      tied_accepted _ _ _ c.self.invariant.0 c.args.frame c.take_in.new.cpu c.push_back_reserved.new.self.items c.take_in.ensures.cpu
+          c.push_back_reserved.ensures.items c.take_in.ensures.nothing.1.1 c.requires.frame room,
+      search rules,
+    )

@@ -7,12 +7,17 @@ use Rattle.cpu_part.proofs.cpu.Cpu.hand_fresh.Goals as goal
 pub pass_back-requires-clause-frame : goal.pass_back-requires-clause-frame
 pass_back-requires-clause-frame g c =
     let some : 0 < length c.self.inside.fresh.items = search rules in
-    let front = front_removed c.remove-frame.result c.self.inside.fresh.items c.remove-frame.new.self.items some c.remove-frame.ensures.value c.remove-frame.ensures.items in
+    let front = front_removed c.remove-frame.result c.self.inside.fresh.items c.remove-frame.new.self.items some c.remove-frame.ensures.value
+    c.remove-frame.ensures.items in
     let inside = front_inside _ _ _ c.self.invariant.0 c.remove-frame.result c.remove-frame.new.self.items (inr (inl front)) in
     search rules
 
 pub invariant_of-self : goal.invariant_of-self
 invariant_of-self g c =
     let some : 0 < length c.self.inside.fresh.items = search rules in
-    let front = front_removed c.remove-frame.result c.self.inside.fresh.items c.remove-frame.new.self.items some c.remove-frame.ensures.value c.remove-frame.ensures.items in
-    (tied_fresh_handed _ _ _ c.self.invariant.0 c.remove-frame.result c.pass_back.new.cpu c.report.new.seat c.remove-frame.new.self.items c.pass_back.ensures.cpu c.report.ensures.processor front, search rules)
+    let front = front_removed c.remove-frame.result c.self.inside.fresh.items c.remove-frame.new.self.items some c.remove-frame.ensures.value
+    c.remove-frame.ensures.items in (
+      tied_fresh_handed _ _ _ c.self.invariant.0 c.remove-frame.result c.pass_back.new.cpu c.report.new.seat c.remove-frame.new.self.items
+          c.pass_back.ensures.cpu c.report.ensures.processor front,
+      search rules,
+    )

@@ -7,5 +7,8 @@ pass_back-requires-clause-frame g c =
     let inside = front_inside _ _ _ c.self.invariant.0 c.in_ok-frame.frame c.pop_front.new.self.items (inl c.in_ok-frame.ensures.items) in search rules
 
 pub invariant_of-self-2 : goal.invariant_of-self-2
-invariant_of-self-2 g c =
-    (tied_front_handed _ _ _ c.self.invariant.0 c.in_ok-frame.frame c.pass_back.new.cpu c.pop_front.new.self.items c.pass_back.ensures.cpu c.in_ok-frame.ensures.items, search rules)
+invariant_of-self-2 g c = (
+  tied_front_handed _ _ _ c.self.invariant.0 c.in_ok-frame.frame c.pass_back.new.cpu c.pop_front.new.self.items c.pass_back.ensures.cpu
+      c.in_ok-frame.ensures.items,
+  search rules,
+)
