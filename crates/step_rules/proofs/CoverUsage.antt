@@ -47,12 +47,14 @@ fresh_counts groups g p cpus stocks u r paid =
     (λ i. cond (r == p) 0 (cond (same i) (mine i) 0)) in
     splits (r == p) (is_below groups g (Some u.group)) refl ∙ ap (λ n. one_if (is_below groups g (keeper_of (cond (r == p) (Head u (FreshAt r)) (Lent r OnList)))) + n) (sym (one ∙ counted))
   where
-    splits : (a b : Bool) → b ≡ is_below groups g (Some u.group) → one_if b ≡ one_if (is_below groups g (keeper_of (cond a (Head u (FreshAt r)) (Lent r OnList)))) + cond a 0 (cond b 1 0)
+    splits : (a b : Bool) → b ≡ is_below groups g (Some u.group) →
+        one_if b ≡ one_if (is_below groups g (keeper_of (cond a (Head u (FreshAt r)) (Lent r OnList)))) + cond a 0 (cond b 1 0)
     splits true b e = ap one_if e ∙ (omega arith)
     splits false true e = refl
     splits false false e = refl
 
-other_counts : (groups : List Group) (g p cpus : ℕ) (stocks : ℕ → Option ℕ) (x : Phase) → keeper_of (hide_phase p x) ≡ keeper_of x → ((q : ℕ) → has_as Fresh q x ≡ false) →
+other_counts : (groups : List Group) (g p cpus : ℕ) (stocks : ℕ → Option ℕ) (x : Phase) → keeper_of (hide_phase p x) ≡ keeper_of x →
+    ((q : ℕ) → has_as Fresh q x ≡ false) →
     one_if (is_below groups g (keeper_of x)) ≡ one_if (is_below groups g (keeper_of (hide_phase p x))) + sum_to (cpus + 1) (λ q. covered groups g p stocks q x)
 other_counts groups g p cpus stocks x same nobody =
     let none = sum_none (cpus + 1) (λ q. covered groups g p stocks q x) (λ q below. covered_not groups g p stocks q x (nobody q)) in
@@ -74,7 +76,8 @@ stock_counts : (groups : List Group) (g p : ℕ) (parts : ℕ → Part) (q : ℕ
     stock_below groups g (hide_parts p parts q) ≡ stock_below groups g (parts q) + cond (q == p) 0 (cond (is_below groups g (parts q).stock.group) (length (parts q).fresh) 0)
 stock_counts groups g p parts q = counts (q == p) (is_below groups g (parts q).stock.group) refl
   where
-    counts : (a b : Bool) → is_below groups g (parts q).stock.group ≡ b → stock_below groups g (cond a (parts q) (hide_part (parts q))) ≡ stock_below groups g (parts q) + cond a 0 (cond b (length (parts q).fresh) 0)
+    counts : (a b : Bool) → is_below groups g (parts q).stock.group ≡ b →
+        stock_below groups g (cond a (parts q) (hide_part (parts q))) ≡ stock_below groups g (parts q) + cond a 0 (cond b (length (parts q).fresh) 0)
     counts true b e = omega arith
     counts false true e = rw e refl
     counts false false e = rw e refl
@@ -102,7 +105,8 @@ usage_seen s p sound g =
     let f : sum_to m (λ q. stock_below groups g (s.parts q) + lent q) ≡ pages_prepaid groups s.parts s.zone.cpus g + sum_to m lent = sum_both m (λ q. stock_below groups g (s.parts q)) lent in
     omega arith
   where
-    column : (a b : Bool) (q : ℕ) → sum_to s.zone.frames (λ f. cond a 0 (cond b (one_if (has_as Fresh q (s.phases f))) 0)) ≡ cond a 0 (cond b (length (s.parts q).fresh) 0)
+    column : (a b : Bool) (q : ℕ) →
+        sum_to s.zone.frames (λ f. cond a 0 (cond b (one_if (has_as Fresh q (s.phases f))) 0)) ≡ cond a 0 (cond b (length (s.parts q).fresh) 0)
     column true b q = sum_none s.zone.frames (λ f. 0) (λ f below. refl)
     column false true q = fresh_length s q sound
     column false false q = sum_none s.zone.frames (λ f. 0) (λ f below. refl)

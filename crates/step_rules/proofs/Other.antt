@@ -47,7 +47,8 @@ not_held p q (HeldBy r) ne holds held = ne (sym (equal_test r q held) ∙ is_it 
 not_held p q hold ne holds held = false≢true held
 
 -- a frame in a phase that looks the same under the cover leaves the phases there as they are
-covered_phase : (p : ℕ) (phases : ℕ → Phase) (f : ℕ) (y : Phase) → hide_phase p y ≡ hide_phase p (phases f) → ◌≡◌ {A = ℕ → Phase} (λ m. hide_phase p (with_at phases f y m)) (λ m. hide_phase p (phases m))
+covered_phase : (p : ℕ) (phases : ℕ → Phase) (f : ℕ) (y : Phase) → hide_phase p y ≡ hide_phase p (phases f) →
+    ◌≡◌ {A = ℕ → Phase} (λ m. hide_phase p (with_at phases f y m)) (λ m. hide_phase p (phases m))
 covered_phase p phases f y same = λ i. λ m. at_each phases f y (λ n x. hide_phase p x ≡ hide_phase p (phases n)) same (λ n ne. refl) m i
 
 last_hidden : (s : State) (p q f : ℕ) → IsSound s → (q ≡ 0 → ⊥) → (q ≡ p → ⊥) → 1 ≤ s.references q f → hide p (after_last s q f) ≡ hide p s
@@ -59,7 +60,8 @@ last_hidden s p q f sound ne other some =
     same_state s (covered_phase p s.phases f (at_stage (stage_after_last q) (s.phases f)) same) (other_referred p s.references q f (s.references q f - 1) ne other)
     (ap (hide_parts p) (cond-false (q == 0) s.parts (with_at s.parts q (with_back (s.parts q) f)) (ne_eqb q 0 ne)) ∙ other_changed p s.parts q (with_back (s.parts q) f) other refl)
 
-consume_hidden : (s : State) (p q g : ℕ) → IsSound s → (q ≡ p → ⊥) → 1 ≤ length (s.parts q).list → 1 ≤ (s.parts q).stock.pages → hide p (after s q (Consume g) Took) ≡ hide p s
+consume_hidden : (s : State) (p q g : ℕ) → IsSound s → (q ≡ p → ⊥) → 1 ≤ length (s.parts q).list → 1 ≤ (s.parts q).stock.pages →
+    hide p (after s q (Consume g) Took) ≡ hide p s
 consume_hidden s p q g sound other some pages =
     let f = front_of (s.parts q).list in
     let was = listed_is q (s.phases f) (front_listed s q sound some) in

@@ -55,7 +55,8 @@ seat_there s seat f sound some =
     ]
 
 -- a live frame keeps what holds under other references of a seat that is there
-live_fits : (s : State) (seat f n : ℕ) → IsSound s → is_live (s.phases f) ≡ true → seat ≤ s.zone.cpus → FrameFits s.zone s.hold (groups_in s.parts) (λ q. changed s.references seat f n q f) f (s.phases f)
+live_fits : (s : State) (seat f n : ℕ) → IsSound s → is_live (s.phases f) ≡ true → seat ≤ s.zone.cpus →
+    FrameFits s.zone s.hold (groups_in s.parts) (λ q. changed s.references seat f n q f) f (s.phases f)
 live_fits s seat f n sound live there =
     let old = sound.frames f in
     record {
@@ -83,7 +84,8 @@ sound_referred s seat f n sound live there =
     })
 
 -- where a seat takes all references off, none is left
-pub none_left : (s : State) (seat f : ℕ) → IsSound s → seat ≤ s.zone.cpus → live_references s f ≤ s.references seat f → (q : ℕ) → changed s.references seat f 0 q f ≡ 0
+pub none_left : (s : State) (seat f : ℕ) → IsSound s → seat ≤ s.zone.cpus → live_references s f ≤ s.references seat f → (q : ℕ) →
+    changed s.references seat f 0 q f ≡ 0
 none_left s seat f sound there all q =
     elim (cases_eq q seat) [
       | inl e ↦ ap (λ (k : ℕ). changed s.references seat f 0 k f) e ∙ changed_here s.references seat f 0
@@ -94,7 +96,8 @@ none_left s seat f sound there all q =
     ]
 
 -- what holds of a frame without references that doesn't pass and wasn't paid
-pub bare_fits : (zone : Zone) (hold : Hold) (groups : ℕ → Option ℕ) (references : ℕ → ℕ) (f : ℕ) (u : ChargedUnit) → ((q : ℕ) → references q ≡ 0) → f < zone.frames → FrameFits zone hold groups references f (Head u Ended)
+pub bare_fits : (zone : Zone) (hold : Hold) (groups : ℕ → Option ℕ) (references : ℕ → ℕ) (f : ℕ) (u : ChargedUnit) → ((q : ℕ) → references q ≡ 0) →
+    f < zone.frames → FrameFits zone hold groups references f (Head u Ended)
 bare_fits zone hold groups references f u none below = record {
   out = λ q e. absurd (false≢true e);
   returning = λ q e. absurd (false≢true e);
@@ -105,7 +108,8 @@ bare_fits zone hold groups references f u none below = record {
 }
 
 -- the zone takes the last references off
-sound_ended : (s : State) (f : ℕ) → IsSound s → f < s.zone.frames → 1 ≤ s.references 0 f → live_references s f ≤ s.references 0 f → IsSound (with_phase (with_references s 0 f 0) f (at_stage Ended (s.phases f)))
+sound_ended : (s : State) (f : ℕ) → IsSound s → f < s.zone.frames → 1 ≤ s.references 0 f → live_references s f ≤ s.references 0 f →
+    IsSound (with_phase (with_references s 0 f 0) f (at_stage Ended (s.phases f)))
 sound_ended s f sound below some all =
     let is = live_is (s.phases f) (live_from_one s 0 f sound some) in
     let later = changed s.references 0 f 0 in
@@ -121,7 +125,8 @@ sound_ended s f sound below some all =
       booked = sound.booked 0;
     }))
 
-pub sound_frozen : (s : State) (f n : ℕ) → IsSound s → f < s.zone.frames → 1 ≤ n → n ≤ s.references 0 f → live_references s f ≡ n → IsSound (with_phase (with_references s 0 f (s.references 0 f - n)) f (at_stage Ended (s.phases f)))
+pub sound_frozen : (s : State) (f n : ℕ) → IsSound s → f < s.zone.frames → 1 ≤ n → n ≤ s.references 0 f → live_references s f ≡ n →
+    IsSound (with_phase (with_references s 0 f (s.references 0 f - n)) f (at_stage Ended (s.phases f)))
 sound_frozen s f n sound below some holds all =
     let part = sum_part (s.zone.cpus + 1) (λ seat. s.references seat f) 0 (omega arith) in
     let none : 0 ≡ s.references 0 f - n = omega arith in
@@ -169,7 +174,8 @@ sound_last s seat f sound below some one =
     ]
 
 -- the zone puts references on a unit's head in its hand
-sound_woken : (s : State) (f n : ℕ) (x : Phase) (u : ChargedUnit) → IsSound s → f < s.zone.frames → s.phases f ≡ x → unit_of x ≡ Some u → at_stage Live x ≡ Head u Live →
+sound_woken : (s : State) (f n : ℕ) (x : Phase) (u : ChargedUnit) → IsSound s → f < s.zone.frames → s.phases f ≡ x → unit_of x ≡ Some u →
+    at_stage Live x ≡ Head u Live →
     ((q : ℕ) (kind : Kind) → has_as kind q x ≡ false) → ((g : ℕ) → x ≡ Tail g → ⊥) →
     IsSound (with_phase (with_references s 0 f n) f (at_stage Live (s.phases f)))
 sound_woken s f n x u sound below was unit live nobody no_tail =
@@ -193,7 +199,8 @@ sound_woken s f n x u sound below was unit live nobody no_tail =
       booked = sound.booked 0;
     }))
 
-pub sound_unfrozen : (s : State) (f n : ℕ) → IsSound s → f < s.zone.frames → is_head_in_hand (s.phases f) ≡ true → IsSound (with_phase (with_references s 0 f n) f (at_stage Live (s.phases f)))
+pub sound_unfrozen : (s : State) (f n : ℕ) → IsSound s → f < s.zone.frames → is_head_in_hand (s.phases f) ≡ true →
+    IsSound (with_phase (with_references s 0 f n) f (at_stage Live (s.phases f)))
 sound_unfrozen s f n sound below hand = woken (in_hand (s.phases f) hand)
   where
     woken : InHand (s.phases f) → IsSound (with_phase (with_references s 0 f n) f (at_stage Live (s.phases f)))

@@ -77,7 +77,8 @@ sound_run zone run legal = (kept_along (λ (x : ℕ) e. x) (λ s x. Unit {0}) (�
 abbrev pub one_more : Run → Step → Answer → Run
 one_more run step answer = run ++ (step, answer) ∷ []
 
-pub state_more : (zone : Zone) (run : Run) (step : Step) (answer : Answer) → state_of zone (one_more run step answer) ≡ after (state_of zone run) step.seat step.action answer
+pub state_more : (zone : Zone) (run : Run) (step : Step) (answer : Answer) →
+    state_of zone (one_more run step answer) ≡ after (state_of zone run) step.seat step.action answer
 state_more zone run step answer = fold_push next (at_boot zone) run (step, answer)
 
 get_before : {X : Type 0} (xs : List X) (x : X) (k : ℕ) → k < length xs → slice_get (xs ++ x ∷ []) k ≡ slice_get xs k
@@ -89,7 +90,8 @@ get_last : {X : Type 0} (xs : List X) (x : X) → slice_get (xs ++ x ∷ []) (le
 get_last [] x = refl
 get_last (y ∷ ys) x = get_last ys x
 
-pub legal_more : (zone : Zone) (run : Run) (step : Step) (answer : Answer) → IsLegalRun zone run → Allows (state_of zone run) step.seat step.action answer → IsLegalRun zone (one_more run step answer)
+pub legal_more : (zone : Zone) (run : Run) (step : Step) (answer : Answer) → IsLegalRun zone run →
+    Allows (state_of zone run) step.seat step.action answer → IsLegalRun zone (one_more run step answer)
 legal_more zone run step answer legal last k =
     elim (cases_lt k (length run)) [
       | inl before ↦

@@ -35,7 +35,8 @@ returned s f sound (AsDrop u was killed) = sound_returned s f u _ sound was refl
 abbrev IsLegalStep : State → ℕ → Action → Type 0
 IsLegalStep s seat action = is_legal s seat action ≡ true
 
-pub sound_step : (s : State) (seat : ℕ) (action : Action) (answer : Answer) → IsSound s → is_legal s seat action ≡ true → IsAnswer s seat action answer → IsCounted s action answer → IsSound (after s seat action answer)
+pub sound_step : (s : State) (seat : ℕ) (action : Action) (answer : Answer) → IsSound s → is_legal s seat action ≡ true →
+    IsAnswer s seat action answer → IsCounted s action answer → IsSound (after s seat action answer)
 sound_step s seat Lock Done sound legal ok counted =
     let free : is_unheld s.hold ≡ true = grind arith in
     sound_hold s.zone s.hold (HeldBy seat) s.phases s.references s.parts sound (λ f q e. absurd (unheld_visit s.hold q free e))
