@@ -89,6 +89,7 @@ own_referred p references seat f n own = λ i. λ q. λ x. referred q x i
   where
     here : (x : ℕ) → with_at (references seat) f n x ≡ with_at (hide_references p references seat) f n x
     here x = ap (λ (y : ℕ). cond (x == f) n y) (sym (own_reference p references seat x own))
+
     referred : (q x : ℕ) → hide_references p (changed references seat f n) q x ≡ changed (hide_references p references) seat f n q x
     referred q x = elim (cases_eq q seat) [
       | inl e ↦

@@ -42,6 +42,7 @@ not_held p q (HeldBy r) ne holds held = ne (sym (equal_test r q held) ∙ is_it 
     or_false : (b : Bool) → (b || false) ≡ true → b ≡ true
     or_false true e = refl
     or_false false e = e
+
     is_it : (r == p) ≡ true → r ≡ p
     is_it e = equal_test r p e
 not_held p q hold ne holds held = false≢true held

@@ -278,6 +278,7 @@ nothing_fresh s p sound none f =
     no_frames : (xs : List ℕ) → length xs ≡ 0 → times f xs ≡ 0
     no_frames [] e = refl
     no_frames (x ∷ xs) e = absurd (omega arith)
+
     zero_test : (b : Bool) → one_if b ≡ 0 → b ≡ false
     zero_test true e = absurd (omega arith)
     zero_test false e = refl

@@ -142,13 +142,13 @@ sound_backed s p f sound below there some all =
     let goal = λ (y : Phase). Sound s.zone s.hold (with_at s.phases f y) later (with_at s.parts p (with_back (s.parts p) f)) in
     subst goal (sym (ap (at_stage (BackAt p)) is.1)) (sound_one s.zone s.hold s.phases s.references later s.parts f p (Head is.0 Live) (Head is.0 (BackAt p)) (with_back (s.parts p) f) sound is.1 (record {
       fits = record {
-          out = λ q e. absurd (false≢true e);
-          returning = λ q e. absurd (false≢true e);
-          unreferred = λ dead seat. none seat;
-          seats = λ seat beyond. none seat;
-          paid = tt;
-          inside = λ beyond. absurd (omega arith);
-        };
+        out = λ q e. absurd (false≢true e);
+        returning = λ q e. absurd (false≢true e);
+        unreferred = λ dead seat. none seat;
+        seats = λ seat beyond. none seat;
+        paid = tt;
+        inside = λ beyond. absurd (omega arith);
+      };
       others = λ m ne. changed_others s.references p f 0 m ne;
       group = refl;
       lists = by_kind (λ k. ListMoves f (frames_of (s.parts p) k) (frames_of (with_back (s.parts p) f) k) (has_as k p (Head is.0 Live)) (has_as k p (Head is.0 (BackAt p)))) (Stays refl refl) (Stays refl refl) (Joins refl refl (eq-eqb p p refl));
@@ -183,13 +183,13 @@ sound_woken s f n x u sound below was unit live nobody no_tail =
     let goal = λ (y : Phase). Sound s.zone s.hold (with_at s.phases f y) later s.parts in
     subst goal (sym (ap (at_stage Live) was ∙ live)) (sound_phase s.zone s.hold s.phases s.references later s.parts f x (Head u Live) sound was (record {
       fits = record {
-          out = λ q e. absurd (false≢true e);
-          returning = λ q e. absurd (false≢true e);
-          unreferred = λ dead. absurd (true≢false dead);
-          seats = λ q beyond. changed_seats s.references 0 f n q (λ e. absurd (omega arith)) ∙ (sound.frames f).seats q beyond;
-          paid = tt;
-          inside = λ beyond. absurd (omega arith);
-        };
+        out = λ q e. absurd (false≢true e);
+        returning = λ q e. absurd (false≢true e);
+        unreferred = λ dead. absurd (true≢false dead);
+        seats = λ q beyond. changed_seats s.references 0 f n q (λ e. absurd (omega arith)) ∙ (sound.frames f).seats q beyond;
+        paid = tt;
+        inside = λ beyond. absurd (omega arith);
+      };
       others = λ m ne. changed_others s.references 0 f n m ne;
       group = refl;
       lists = λ kind. Stays refl (nobody_has_live u 0 kind ∙ sym (nobody 0 kind));

@@ -167,6 +167,7 @@ unit_closes s f m u stage sound was =
     one_of : (b : Bool) → one_if b + one_if (not b) ≡ 1
     one_of true = refl
     one_of false = refl
+
     self : 1 ≤ unit_size (unit_of (s.phases f)) → is_within f (unit_size (unit_of (s.phases f))) f ≡ true
     self some = elim (within_cases f (unit_size (unit_of (s.phases f))) f) [ inl w ↦ w.0 | inr o ↦ absurd (o.1 (omega arith) (omega arith)) ]
 

@@ -41,13 +41,13 @@ sound_allowed s seat action answer sound ok =
 pub sound_boot : (zone : Zone) → IsSound (at_boot zone)
 sound_boot zone = record {
   frames = λ f. record {
-      out = λ q e. absurd (false≢true e);
-      returning = λ q e. absurd (false≢true e);
-      unreferred = λ dead seat. refl;
-      seats = λ seat beyond. refl;
-      paid = tt;
-      inside = λ beyond. refl;
-    };
+    out = λ q e. absurd (false≢true e);
+    returning = λ q e. absurd (false≢true e);
+    unreferred = λ dead seat. refl;
+    seats = λ seat beyond. refl;
+    paid = tt;
+    inside = λ beyond. refl;
+  };
   lists = λ q kind f. by_kind (λ k. times f (frames_of no_part k) ≡ 0) refl refl refl kind;
   units = λ f unit e. absurd (none_some unit e);
   booked = λ q. refl;

@@ -50,65 +50,151 @@ front_block free size first = record {
 
 pub life_is_legal : IsLegalRun small_zone life_of_a_frame
 unfolding has_group group_at sum_to all_to
-life_is_legal = legal_each (at_boot small_zone) life_of_a_frame
-    (record { legal = refl; answered = tt; counted = tt },
-    (record { legal = refl; answered = tt; counted = tt },
-    (record { legal = refl; answered = tt; counted = tt },
-    (record { legal = refl; answered = tt; counted = tt },
-    (record { legal = refl; answered = root_has_room _ 2; counted = tt },
-    (record { legal = refl; answered = tt; counted = tt },
-    (record { legal = refl; answered = (refl, refl, omega arith); counted = tt },
-    (record { legal = refl; answered = tt; counted = tt },
-    (record { legal = refl; answered = tt; counted = tt },
-    (record { legal = refl; answered = tt; counted = tt },
-    (record { legal = refl; answered = tt; counted = tt },
-    (record { legal = refl; answered = tt; counted = tt },
-    (record { legal = refl; answered = refl; counted = tt },
-    (record { legal = refl; answered = tt; counted = tt },
-    (record { legal = refl; answered = tt; counted = tt },
-    (record { legal = refl; answered = tt; counted = refl },
-    (record { legal = refl; answered = tt; counted = tt },
-    (record { legal = refl; answered = tt; counted = (refl, omega arith) },
-    (record { legal = refl; answered = tt; counted = refl },
-    (record { legal = refl; answered = tt; counted = tt },
-    (record { legal = refl; answered = tt; counted = tt },
-    (record { legal = refl; answered = tt; counted = tt },
-    (record { legal = refl; answered = tt; counted = tt },
-    (record { legal = refl; answered = tt; counted = tt },
-    (record { legal = refl; answered = tt; counted = tt },
-    (record { legal = refl; answered = tt; counted = tt },
-    (record { legal = refl; answered = tt; counted = refl },
-    (record { legal = refl; answered = tt; counted = tt },
-    (record { legal = refl; answered = tt; counted = tt }, tt)))))))))))))))))))))))))))))
+life_is_legal = legal_each (at_boot small_zone) life_of_a_frame (
+  record { legal = refl; answered = tt; counted = tt },
+  (
+    record { legal = refl; answered = tt; counted = tt },
+    (
+      record { legal = refl; answered = tt; counted = tt },
+      (
+        record { legal = refl; answered = tt; counted = tt },
+        (
+          record { legal = refl; answered = root_has_room _ 2; counted = tt },
+          (
+            record { legal = refl; answered = tt; counted = tt },
+            (
+              record { legal = refl; answered = (refl, refl, omega arith); counted = tt },
+              (
+                record { legal = refl; answered = tt; counted = tt },
+                (
+                  record { legal = refl; answered = tt; counted = tt },
+                  (
+                    record { legal = refl; answered = tt; counted = tt },
+                    (
+                      record { legal = refl; answered = tt; counted = tt },
+                      (
+                        record { legal = refl; answered = tt; counted = tt },
+                        (
+                          record { legal = refl; answered = refl; counted = tt },
+                          (
+                            record { legal = refl; answered = tt; counted = tt },
+                            (
+                              record { legal = refl; answered = tt; counted = tt },
+                              (
+                                record { legal = refl; answered = tt; counted = refl },
+                                (
+                                  record { legal = refl; answered = tt; counted = tt },
+                                  (
+                                    record { legal = refl; answered = tt; counted = (refl, omega arith) },
+                                    (
+                                      record { legal = refl; answered = tt; counted = refl },
+                                      (
+                                        record { legal = refl; answered = tt; counted = tt },
+                                        (
+                                          record { legal = refl; answered = tt; counted = tt },
+                                          (
+                                            record { legal = refl; answered = tt; counted = tt },
+                                            (
+                                              record { legal = refl; answered = tt; counted = tt },
+                                              (
+                                                record { legal = refl; answered = tt; counted = tt },
+                                                (
+                                                  record { legal = refl; answered = tt; counted = tt },
+                                                  (
+                                                    record { legal = refl; answered = tt; counted = tt },
+                                                    (
+                                                      record { legal = refl; answered = tt; counted = refl },
+                                                      (
+                                                        record { legal = refl; answered = tt; counted = tt },
+                                                        (record { legal = refl; answered = tt; counted = tt }, tt),
+                                                      ),
+                                                    ),
+                                                  ),
+                                                ),
+                                              ),
+                                            ),
+                                          ),
+                                        ),
+                                      ),
+                                    ),
+                                  ),
+                                ),
+                              ),
+                            ),
+                          ),
+                        ),
+                      ),
+                    ),
+                  ),
+                ),
+              ),
+            ),
+          ),
+        ),
+      ),
+    ),
+  ),
+)
 
 pub credited_twice_is_refused : IsLegalRun small_zone credited_twice
 unfolding has_group group_at sum_to all_to
-credited_twice_is_refused = legal_each (at_boot small_zone) credited_twice
-    (record { legal = refl; answered = tt; counted = tt },
-    (record { legal = refl; answered = tt; counted = tt },
-    (record { legal = refl; answered = tt; counted = tt },
-    (record { legal = refl; answered = tt; counted = tt },
-    (record { legal = refl; answered = root_has_room _ 2; counted = tt },
-    (record { legal = refl; answered = tt; counted = tt },
-    (record { legal = refl; answered = (refl, refl, omega arith); counted = tt },
-    (record { legal = refl; answered = refl; counted = tt },
-    (refl, tt)))))))))
+credited_twice_is_refused = legal_each (at_boot small_zone) credited_twice (
+  record { legal = refl; answered = tt; counted = tt },
+  (
+    record { legal = refl; answered = tt; counted = tt },
+    (
+      record { legal = refl; answered = tt; counted = tt },
+      (
+        record { legal = refl; answered = tt; counted = tt },
+        (
+          record { legal = refl; answered = root_has_room _ 2; counted = tt },
+          (
+            record { legal = refl; answered = tt; counted = tt },
+            (
+              record { legal = refl; answered = (refl, refl, omega arith); counted = tt },
+              (
+                record { legal = refl; answered = refl; counted = tt },
+                (refl, tt),
+              ),
+            ),
+          ),
+        ),
+      ),
+    ),
+  ),
+)
 
 pub returned_twice_is_refused : IsLegalRun small_zone returned_twice
 unfolding has_group group_at sum_to all_to
-returned_twice_is_refused = legal_each (at_boot small_zone) returned_twice
-    (record { legal = refl; answered = tt; counted = tt },
-    (record { legal = refl; answered = root_has_room _ 2; counted = tt },
-    (record { legal = refl; answered = (refl, front_block _ refl refl); counted = tt },
-    (record { legal = refl; answered = tt; counted = tt },
-    (record { legal = refl; answered = tt; counted = refl },
-    (record { legal = refl; answered = tt; counted = tt },
-    (record { legal = refl; answered = (refl, front_block _ refl refl); counted = tt },
-    (refl, tt))))))))
+returned_twice_is_refused = legal_each (at_boot small_zone) returned_twice (
+  record { legal = refl; answered = tt; counted = tt },
+  (
+    record { legal = refl; answered = root_has_room _ 2; counted = tt },
+    (
+      record { legal = refl; answered = (refl, front_block _ refl refl); counted = tt },
+      (
+        record { legal = refl; answered = tt; counted = tt },
+        (
+          record { legal = refl; answered = tt; counted = refl },
+          (
+            record { legal = refl; answered = tt; counted = tt },
+            (
+              record { legal = refl; answered = (refl, front_block _ refl refl); counted = tt },
+              (refl, tt),
+            ),
+          ),
+        ),
+      ),
+    ),
+  ),
+)
 
 pub unlocked_too_soon_is_refused : IsLegalRun small_zone unlocked_too_soon
 unfolding has_group group_at sum_to all_to
-unlocked_too_soon_is_refused = legal_each (at_boot small_zone) unlocked_too_soon
-    (record { legal = refl; answered = tt; counted = tt },
-    (record { legal = refl; answered = root_has_room _ 2; counted = tt },
-    (refl, tt)))
+unlocked_too_soon_is_refused = legal_each (at_boot small_zone) unlocked_too_soon (
+  record { legal = refl; answered = tt; counted = tt },
+  (
+    record { legal = refl; answered = root_has_room _ 2; counted = tt },
+    (refl, tt),
+  ),
+)
