@@ -1,22 +1,22 @@
 -- References, stocks and books are what a run counts.
-use Rattle.std.proofs.Common.{◌≡◌, ℕ, ◌+◌, ◌-◌, ◌^◌, ◌<◌, ◌≤◌, ◌&&◌, ◌||◌, ◌==◌, Bool, true, false, Option, Some, None, List, [], ◌∷◌, length, refl, sym, ◌∙◌, ap, subst, arith, inl, inr, cond, if◌then◌else◌, eq-eqb}
-use Rattle.std.specs.Prelude.{◌⊎◌, nat_le, nat_lt, not}
+use Rattle.std.proofs.Common.{◌≡◌, ℕ, ◌+◌, ◌-◌, ◌≤◌, ◌&&◌, ◌||◌, ◌==◌, Bool, true, false, [], ◌∷◌, refl, sym, ◌∙◌, ap, subst, arith, inl, inr, cond, eq-eqb}
+use Rattle.std.specs.Prelude.{nat_le}
 use Rattle.std.specs.List.{fold}
-use Rattle.std.proofs.lemmas.Bool.{cases_eq, cases_Bool, ne_eqb, false≢true, true≢false, and_parts, leb-true, cond-true, cond-false}
+use Rattle.std.proofs.lemmas.Bool.{cases_eq, ne_eqb, and_parts, leb-true}
 use Rattle.step_rules.specs.declared.step.Step.{Step}
 use Rattle.step_rules.specs.declared.step.Action.{Action}
-use Rattle.step_rules.specs.declared.step.Action.TheVariants.{Lock, Unlock, OpenVisit, ShutVisit, Get, Put, Freeze, Unfreeze, PassOut, TakeIn, PassBack, Collect, Consume, Credit, Report, Absorb, Fill, DrainStock, Grant, Ungrant, PlaceBlock, Return, SetMax, Make, Remove, Kill}
+use Rattle.step_rules.specs.declared.step.Action.TheVariants.{Lock, Get, Put, Freeze, Unfreeze, TakeIn, PassBack, Consume, Credit, Report, Absorb, Fill, DrainStock}
 use Rattle.step_rules.specs.declared.step.Answer.{Answer}
-use Rattle.step_rules.specs.declared.step.Answer.TheVariants.{Illegal, Done, Held, Left, Last, Took, Back, Pages, Granted, Placed, Number}
-use Rattle.step_rules.specs.State.{Zone, Part, State, at_boot, with_at, visits}
-use Rattle.step_rules.specs.Legal.{is_legal, IsAnswer, IsCounted, IsMade, Allows, may_fill, is_of_group}
-use Rattle.step_rules.specs.After.{Run, after, state_of, IsLegalRun, with_back, paid, credited, filled, drained, without_frame}
+use Rattle.step_rules.specs.declared.step.Answer.TheVariants.{Illegal, Done, Held, Left, Last, Took, Back, Pages}
+use Rattle.step_rules.specs.State.{Zone, Part, State, at_boot, with_at}
+use Rattle.step_rules.specs.Legal.{is_legal, IsAnswer, IsCounted, Allows, may_fill, is_of_group}
+use Rattle.step_rules.specs.After.{Run, after, state_of, IsLegalRun, with_back, paid, credited, filled, drained}
 use Rattle.step_rules.specs.Counts.{count_at, references_in, references_out, stock_in, stock_out, book_in, book_out, counted_over, ReferencesAreCounted, StocksAreCounted, BooksAreCounted}
-use Rattle.step_rules.proofs.Basics.{at_same, at_other, at_each}
-use Rattle.step_rules.proofs.Sound.{Sound, IsSound, IsBooked}
+use Rattle.step_rules.proofs.Basics.{at_same, at_other}
+use Rattle.step_rules.proofs.Sound.{IsSound}
 use Rattle.step_rules.proofs.PhaseLemmas.{equal_test}
-use Rattle.step_rules.proofs.Referring.{Referring, changed, changed_others, changed_seats, changed_here}
-use Rattle.step_rules.proofs.Runs.{next, after_illegal, allowed, kept_along, sound_boot}
+use Rattle.step_rules.proofs.Referring.{Referring, changed, changed_others, changed_here}
+use Rattle.step_rules.proofs.Runs.{after_illegal, allowed, kept_along, sound_boot}
 
 -- two sums told at once are told each
 pair_first : (f g : Step × Answer → ℕ) (run : Run) (t : ℕ × ℕ) →

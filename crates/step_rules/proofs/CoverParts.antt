@@ -1,11 +1,11 @@
 -- Parts and references under the cover.
-use Rattle.std.proofs.Common.{◌≡◌, ℕ, ◌+◌, ◌-◌, ◌^◌, ◌<◌, ◌≤◌, ◌&&◌, ◌||◌, ◌==◌, Bool, true, false, Option, Some, None, List, [], ◌∷◌, length, refl, sym, ◌∙◌, ap, subst, arith, inl, inr, cond, if◌then◌else◌, eq-eqb}
+use Rattle.std.proofs.Common.{◌≡◌, ℕ, ◌||◌, ◌==◌, Bool, true, false, refl, sym, ◌∙◌, ap, inl, inr, cond, if◌then◌else◌, eq-eqb}
 use Rattle.std.specs.Prelude.{◌⊎◌}
-use Rattle.std.proofs.lemmas.Bool.{cases_eq, cases_Bool, ne_eqb, false≢true, true≢false, cond-true, cond-false, or_left, or_right, or_from}
+use Rattle.std.proofs.lemmas.Bool.{cases_eq, ne_eqb, cond-true, cond-false, or_left, or_right, or_from}
 use Rattle.step_rules.specs.State.{Part, with_at}
 use Rattle.step_rules.specs.Cover.{hide_part, hide_parts, hide_references}
-use Rattle.step_rules.proofs.Basics.{at_same, at_other, at_each}
-use Rattle.step_rules.proofs.Referring.{Referring, changed, changed_seats}
+use Rattle.step_rules.proofs.Basics.{at_same, at_other}
+use Rattle.step_rules.proofs.Referring.{Referring, changed}
 
 pub own_part : (p : ℕ) (parts : ℕ → Part) (q : ℕ) → q ≡ p → hide_parts p parts q ≡ parts q
 own_part p parts q e = cond-true (q == p) (parts q) (hide_part (parts q)) (eq-eqb q p e)

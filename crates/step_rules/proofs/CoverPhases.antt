@@ -1,21 +1,19 @@
 -- Phases under the cover.
-use Rattle.std.proofs.Common.{◌≡◌, ℕ, ◌+◌, ◌-◌, ◌^◌, ◌<◌, ◌≤◌, ◌&&◌, ◌||◌, ◌==◌, Bool, true, false, Option, Some, None, List, [], ◌∷◌, length, map, refl, sym, ◌∙◌, ap, subst, arith, inl, inr, cond, if◌then◌else◌, eq-eqb}
-use Rattle.std.specs.Prelude.{◌⊎◌}
+use Rattle.std.proofs.Common.{◌≡◌, ℕ, ◌^◌, ◌==◌, Bool, true, false, map, refl, sym, ◌∙◌, ap, subst, cond, eq-eqb}
 use Rattle.std.specs.List.{range_with_len}
-use Rattle.std.proofs.lemmas.Bool.{cases_eq, cases_Bool, ne_eqb, false≢true, true≢false}
+use Rattle.std.proofs.lemmas.Bool.{ne_eqb}
 use Rattle.zone_blocks.specs.declared.block.Block.{Block}
 use Rattle.step_rules.specs.declared.phase.ChargedUnit.{ChargedUnit}
-use Rattle.step_rules.specs.declared.phase.Way.TheVariants.{PassingOut, OnList, PassingBack}
-use Rattle.step_rules.specs.declared.phase.Stage.{Stage}
+use Rattle.step_rules.specs.declared.phase.Way.TheVariants.{OnList, PassingBack}
 use Rattle.step_rules.specs.declared.phase.Stage.TheVariants.{FreshAt, FreshPassing, Collected, Bare, Live, BackAt, BackPassing, Ended}
 use Rattle.step_rules.specs.declared.phase.Phase.{Phase}
 use Rattle.step_rules.specs.declared.phase.Phase.TheVariants.{InZone, Lent, Head, Tail}
-use Rattle.step_rules.specs.Phases.{Kind, Listed, Fresh, Back, is_free, is_head, is_live, has_as, passes_out, passes_back, is_head_in_hand, may_return, unit_of, at_stage, passed_back, collected}
+use Rattle.step_rules.specs.Phases.{Kind, Listed, Fresh, Back, is_free, has_as, passes_out, passes_back, is_head_in_hand, may_return, unit_of, at_stage, passed_back, collected}
 use Rattle.step_rules.specs.State.{Zone, with_at, free_in}
 use Rattle.step_rules.specs.After.{with_block, placed_phase, is_within, without_unit, unit_size}
-use Rattle.step_rules.specs.Cover.{hide_phase, hide_stage}
+use Rattle.step_rules.specs.Cover.{hide_phase}
 use Rattle.step_rules.proofs.Basics.{at_through, cond-ap}
-use Rattle.step_rules.proofs.PhaseLemmas.{by_kind, InHand, WasCollected, WasBare, WasEnded, in_hand, CameBack, FromList, FromFresh, FromBack, came_back, Returns, AsEnded, AsDrop, listed_is, fresh_is, back_is}
+use Rattle.step_rules.proofs.PhaseLemmas.{by_kind, InHand, WasCollected, WasBare, WasEnded, CameBack, FromList, FromFresh, FromBack, Returns, AsEnded, AsDrop, listed_is, fresh_is, back_is}
 
 at_cond : {Y : Type 0} (T : Phase → Y) (b : Bool) (x y : Phase) → T y ≡ T x → T (cond b x y) ≡ T x
 at_cond T true x y e = refl

@@ -1,20 +1,18 @@
 -- Grants keep to the limits, and pending pages are what a run counts.
-use Rattle.std.proofs.Common.{◌≡◌, ℕ, ◌+◌, ◌-◌, ◌^◌, ◌<◌, ◌≤◌, ◌&&◌, ◌==◌, Bool, true, false, Option, Some, None, refl, sym, ◌∙◌, ap, subst, arith, inl, inr, cond, if◌then◌else◌, eq-eqb, zero, suc}
-use Rattle.std.specs.Prelude.{◌⊎◌, nat_le, not}
-use Rattle.std.proofs.lemmas.Bool.{cases_eq, ne_eqb, false≢true, true≢false, leb-true, le-leb}
-use Rattle.group_tree.specs.declared.group.Group.{Group}
+use Rattle.std.proofs.Common.{◌≡◌, ℕ, ◌+◌, ◌-◌, ◌^◌, ◌≤◌, ◌==◌, Bool, true, false, Option, Some, None, refl, sym, ◌∙◌, ap, subst, arith, inl, inr, cond, if◌then◌else◌, eq-eqb, zero, suc}
+use Rattle.std.specs.Prelude.{nat_le}
+use Rattle.std.proofs.lemmas.Bool.{cases_eq, ne_eqb, leb-true, le-leb}
 use Rattle.group_tree.specs.Groups.{in_subtree, limit_of}
 use Rattle.step_rules.specs.declared.step.Action.{Action}
 use Rattle.step_rules.specs.declared.step.Action.TheVariants.{Lock, Fill, DrainStock, Grant, Ungrant, PlaceBlock}
 use Rattle.step_rules.specs.declared.step.Answer.{Answer}
 use Rattle.step_rules.specs.declared.step.Answer.TheVariants.{Illegal, Done, Pages, Granted, Placed}
-use Rattle.step_rules.specs.State.{Zone, State, at_boot, with_at, sum_to}
+use Rattle.step_rules.specs.State.{State, with_at, sum_to}
 use Rattle.step_rules.specs.Usage.{pages_pending, usage_of, fits_limit}
 use Rattle.step_rules.specs.Legal.{is_legal, Allows, is_of_group}
-use Rattle.step_rules.specs.After.{Run, after, state_of, IsLegalRun, with_more}
+use Rattle.step_rules.specs.After.{after, state_of, with_more}
 use Rattle.step_rules.specs.Grants.{NoGrantPassesALimit, pending_in, pending_out, PendingIsCounted}
 use Rattle.step_rules.proofs.Basics.{at_same, at_other}
-use Rattle.step_rules.proofs.Sums.{sum_same}
 use Rattle.step_rules.proofs.Sound.{IsSound}
 use Rattle.step_rules.proofs.Runs.{allowed}
 use Rattle.step_rules.proofs.Returning.{counted_so}

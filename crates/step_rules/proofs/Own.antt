@@ -1,32 +1,32 @@
 -- Steps of p and of the zone's seat, under p's cover.
-use Rattle.std.proofs.Common.{◌≡◌, ℕ, ◌+◌, ◌-◌, ◌^◌, ◌<◌, ◌≤◌, ◌&&◌, ◌||◌, ◌==◌, Bool, true, false, Option, Some, None, List, [], ◌∷◌, length, refl, sym, ◌∙◌, ap, subst, arith, inl, inr, cond, if◌then◌else◌, eq-eqb}
+use Rattle.std.proofs.Common.{◌≡◌, ℕ, ◌+◌, ◌-◌, ◌^◌, ◌≤◌, ◌&&◌, ◌||◌, ◌==◌, Bool, true, false, Option, Some, List, length, refl, sym, ◌∙◌, ap, subst, arith, inl, inr, cond, eq-eqb}
 use Rattle.std.specs.Prelude.{◌⊎◌, nat_le, nat_lt, not}
 use Rattle.std.proofs.lemmas.Bool.{cases_eq, cases_Bool, ne_eqb, false≢true, true≢false, and_parts, leb-true, or_cases, cond-true, cond-false}
 use Rattle.group_tree.specs.Groups.{has_group, has_child}
 use Rattle.zone_blocks.specs.declared.block.Block.{Block}
 use Rattle.zone_blocks.specs.Areas.{IsFreeBlock}
 use Rattle.step_rules.specs.declared.phase.Hold.{Hold}
-use Rattle.step_rules.specs.declared.phase.Hold.TheVariants.{Unheld, HeldBy, Visiting}
+use Rattle.step_rules.specs.declared.phase.Hold.TheVariants.{Visiting}
 use Rattle.step_rules.specs.declared.phase.Way.TheVariants.{PassingOut, OnList}
-use Rattle.step_rules.specs.declared.phase.Stage.TheVariants.{FreshAt, Live, BackAt, Ended}
+use Rattle.step_rules.specs.declared.phase.Stage.TheVariants.{Live, BackAt, Ended}
 use Rattle.step_rules.specs.declared.phase.Phase.{Phase}
-use Rattle.step_rules.specs.declared.phase.Phase.TheVariants.{InZone, Lent, Head, Tail}
+use Rattle.step_rules.specs.declared.phase.Phase.TheVariants.{Lent}
 use Rattle.step_rules.specs.declared.step.Action.{Action}
 use Rattle.step_rules.specs.declared.step.Action.TheVariants.{Lock, Unlock, OpenVisit, ShutVisit, Get, Put, Freeze, Unfreeze, PassOut, TakeIn, PassBack, Collect, Consume, Credit, Report, Absorb, Fill, DrainStock, Grant, Ungrant, PlaceBlock, Publish, Return, NoteMax, NoteOom, SetMax, Make, Remove, Kill}
 use Rattle.step_rules.specs.declared.step.Answer.{Answer}
-use Rattle.step_rules.specs.declared.step.Answer.TheVariants.{Illegal, Done, Held, Left, Last, Took, Empty, Drained, OtherGroup, Back, Pages, Granted, Over, Placed, NoFreeBlock, Number}
+use Rattle.step_rules.specs.declared.step.Answer.TheVariants.{Done, Held, Left, Last, Took, Empty, Drained, OtherGroup, Back, Pages, Granted, Over, Placed, NoFreeBlock, Number}
 use Rattle.step_rules.specs.Phases.{Kind, Listed, Fresh, has_as, passes_out, passes_back, is_free, is_head, is_live, is_head_in_hand, may_return, passed_back, collected, at_stage, stage_after_last}
 use Rattle.step_rules.specs.Phases as kinds
-use Rattle.step_rules.specs.State.{Zone, Part, State, with_at, sum_to, is_cpu, is_frame, is_unheld, is_held_by, visits, may_zone_act, front_of, free_in, pins_of, with_last}
+use Rattle.step_rules.specs.State.{Zone, Part, State, with_at, sum_to, is_cpu, is_frame, visits, may_zone_act, front_of, pins_of, with_last}
 use Rattle.step_rules.specs.Usage.{usage_of, PathHasRoom, IsLowestOver}
 use Rattle.step_rules.specs.Legal.{is_legal, IsAnswer, IsCounted, nothing_passes, rests, may_pass_back, may_fill}
-use Rattle.step_rules.specs.After.{after, after_last, with_references, with_phase, with_part, with_more, without_frame, paid, credited, filled, drained, with_back, consumed, with_block, without_unit}
+use Rattle.step_rules.specs.After.{after, after_last, with_phase, with_part, with_more, without_frame, paid, credited, filled, drained, with_back, consumed}
 use Rattle.step_rules.specs.Cover.{hide, hide_phase, hide_part, hide_parts, hide_references, holds_lock}
 use Rattle.step_rules.specs.Laws.{is_of_lock}
 use Rattle.step_rules.proofs.Basics.{at_through, same_state}
 use Rattle.step_rules.proofs.Sums.{all_same}
-use Rattle.step_rules.proofs.Sound.{Sound, IsSound}
-use Rattle.step_rules.proofs.PhaseLemmas.{live_is, in_hand, came_back, returning_is, visited, equal_test}
+use Rattle.step_rules.proofs.Sound.{IsSound}
+use Rattle.step_rules.proofs.PhaseLemmas.{live_is, in_hand, came_back, returning_is, equal_test}
 use Rattle.step_rules.proofs.Referring.{changed, live_from_one}
 use Rattle.step_rules.proofs.SoundSteps.{cpu_range}
 use Rattle.step_rules.proofs.CoverPhases.{out_seen, back_seen, free_seen, hand_seen, return_seen, frees_seen, own_seen, gone_on, woken_goes, ended_goes, backed_goes, collected_goes, listed_goes, fresh_goes, back_goes, block_seen, unit_seen, GoesOn}

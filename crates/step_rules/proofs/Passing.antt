@@ -1,20 +1,18 @@
 -- Steps that hand a frame over keep what holds of the state.
-use Rattle.std.proofs.Common.{◌≡◌, ℕ, ◌+◌, ◌-◌, ◌<◌, ◌≤◌, ◌&&◌, ◌||◌, ◌==◌, Bool, true, false, Option, Some, None, List, [], ◌∷◌, length, refl, sym, ◌∙◌, ap, subst, arith, inl, inr, cond, if◌then◌else◌, eq-eqb}
-use Rattle.std.specs.Prelude.{◌⊎◌}
-use Rattle.std.proofs.lemmas.Bool.{cases_eq, cases_lt, cases_Bool, ne_eqb, false≢true, true≢false}
+use Rattle.std.proofs.Common.{◌≡◌, ℕ, ◌<◌, ◌≤◌, true, false, Option, Some, length, refl, sym, ◌∙◌, ap, subst, arith, inl, inr, eq-eqb}
+use Rattle.std.proofs.lemmas.Bool.{cases_lt, false≢true, true≢false}
 use Rattle.step_rules.specs.declared.phase.Hold.{Hold}
 use Rattle.step_rules.specs.declared.phase.Hold.TheVariants.{Visiting}
 use Rattle.step_rules.specs.declared.phase.ChargedUnit.{ChargedUnit}
 use Rattle.step_rules.specs.declared.phase.Way.TheVariants.{PassingOut, OnList, PassingBack}
-use Rattle.step_rules.specs.declared.phase.Stage.TheVariants.{FreshAt, FreshPassing, Collected, Live, BackAt, BackPassing, Ended}
+use Rattle.step_rules.specs.declared.phase.Stage.TheVariants.{FreshAt, FreshPassing, Collected, BackAt, BackPassing, Ended}
 use Rattle.step_rules.specs.declared.phase.Phase.{Phase}
 use Rattle.step_rules.specs.declared.phase.Phase.TheVariants.{InZone, Lent, Head, Tail}
 use Rattle.step_rules.specs.Phases.{Kind, Listed, Fresh, Back, is_live, is_free, has_as, unit_of, passed_back, collected, passes_out, passes_back}
-use Rattle.step_rules.specs.State.{Zone, Part, State, with_at, sum_to, one_if, frames_of, with_last, without, front_of}
+use Rattle.step_rules.specs.State.{Zone, State, with_at, one_if, frames_of, with_last, front_of}
 use Rattle.step_rules.specs.After.{with_phase, with_part, without_frame, paid, credited, consumed}
-use Rattle.step_rules.proofs.Basics.{at_same, at_other, at_each, at_itself}
 use Rattle.step_rules.proofs.Lists.{times, length_without, length_last, front_stands, one_if_true}
-use Rattle.step_rules.proofs.Sound.{FrameFits, IsPaid, PhasePaid, Sound, IsSound, Moves, ListMoves, Stays, Joins, Leaves, groups_in, sound_one, sound_phase, IsBooked}
+use Rattle.step_rules.proofs.Sound.{FrameFits, PhasePaid, Sound, IsSound, ListMoves, Stays, Joins, Leaves, groups_in, sound_one, sound_phase, IsBooked}
 use Rattle.step_rules.proofs.PhaseLemmas.{by_kind, free_is, out_is, listed_is, fresh_is, back_is, came_back, CameBack, FromList, FromFresh, FromBack, nobody_has, nobody_has_stage, nobody_has_out, nobody_has_returning, nobody_has_fresh_passing, nobody_has_back_passing, only_listed, only_fresh, only_back, none_some, equal_test}
 
 -- what holds of a frame that was not live and is not live now

@@ -1,13 +1,12 @@
 -- Every frame has exactly one place, the one that its phase tells.
-use Rattle.std.proofs.Common.{◌≡◌, ℕ, ◌+◌, ◌-◌, ◌^◌, ◌<◌, ◌≤◌, ◌&&◌, ◌||◌, ◌==◌, Bool, true, false, Option, Some, None, List, [], ◌∷◌, length, refl, sym, ◌∙◌, ap, subst, arith, inl, inr, cond, if◌then◌else◌, eq-eqb}
-use Rattle.std.specs.Prelude.{◌⊎◌, nat_le, nat_lt, not}
-use Rattle.std.specs.List.{fold}
-use Rattle.std.proofs.lemmas.Bool.{cases_eq, cases_lt, cases_Bool, ne_eqb, false≢true, true≢false, and_parts, leb-true, or_cases, cond-true, cond-false, lt-ltb, eqb-true}
+use Rattle.std.proofs.Common.{◌≡◌, ℕ, ◌+◌, ◌^◌, ◌<◌, ◌≤◌, ◌&&◌, ◌||◌, ◌==◌, Bool, true, false, Option, Some, length, refl, sym, ◌∙◌, ap, subst, arith, inl, inr, cond, if◌then◌else◌, eq-eqb}
+use Rattle.std.specs.Prelude.{nat_le, not}
+use Rattle.std.proofs.lemmas.Bool.{cases_eq, false≢true, true≢false, leb-true, cond-true, cond-false, lt-ltb, eqb-true}
 use Rattle.zone_blocks.specs.declared.block.Block.{Block}
 use Rattle.step_rules.specs.declared.phase.ChargedUnit.{ChargedUnit}
-use Rattle.step_rules.specs.declared.phase.Way.TheVariants.{PassingOut, OnList, PassingBack}
+use Rattle.step_rules.specs.declared.phase.Way.TheVariants.{PassingOut, OnList}
 use Rattle.step_rules.specs.declared.phase.Stage.{Stage}
-use Rattle.step_rules.specs.declared.phase.Stage.TheVariants.{FreshAt, FreshPassing, Collected, Bare, Live, BackPassing, Ended}
+use Rattle.step_rules.specs.declared.phase.Stage.TheVariants.{Collected, Bare, Live, Ended}
 use Rattle.step_rules.specs.declared.phase.Phase.{Phase}
 use Rattle.step_rules.specs.declared.phase.Phase.TheVariants.{InZone, Lent, Head, Tail}
 use Rattle.step_rules.specs.declared.step.Place.{Place}
@@ -17,18 +16,16 @@ use Rattle.step_rules.specs.declared.step.Action.{Action}
 use Rattle.step_rules.specs.declared.step.Action.TheVariants.{Lock, Put, Freeze, Unfreeze, PassOut, TakeIn, PassBack, Collect, Consume, Credit, PlaceBlock, Return}
 use Rattle.step_rules.specs.declared.step.Answer.{Answer}
 use Rattle.step_rules.specs.declared.step.Answer.TheVariants.{Illegal, Done, Last, Took, Back, Placed}
-use Rattle.step_rules.specs.Phases.{Kind, Fresh, has_as, is_free, passes_out, passes_back, unit_of, at_stage, stage_after_last, passed_back, collected, may_return}
-use Rattle.step_rules.specs.Phases as kinds
-use Rattle.step_rules.specs.State.{Zone, State, at_boot, with_at, front_of, is_frame, is_cpu}
-use Rattle.step_rules.specs.Legal.{is_legal, IsAnswer, IsCounted, IsMade, Allows}
-use Rattle.step_rules.specs.After.{Run, after, state_of, IsLegalRun, is_within, placed_phase, with_block, unit_size, without_unit, consumed}
-use Rattle.step_rules.specs.Places.{Places, is_same_place, places_at_boot, moved, returned, credited_place, places_after, places_of, HasOnePlace, place_in, PlacesAreTold, EveryFrameHasOnePlace}
+use Rattle.step_rules.specs.Phases.{Fresh, has_as, is_free, passes_out, passes_back, unit_of, at_stage, stage_after_last, passed_back, collected, may_return}
+use Rattle.step_rules.specs.State.{Zone, State, at_boot, with_at, front_of, is_frame}
+use Rattle.step_rules.specs.Legal.{is_legal, IsAnswer, Allows}
+use Rattle.step_rules.specs.After.{after, state_of, is_within, placed_phase, with_block, unit_size, without_unit, consumed}
+use Rattle.step_rules.specs.Places.{Places, is_same_place, places_at_boot, moved, returned, credited_place, places_after, place_in, EveryFrameHasOnePlace}
 use Rattle.step_rules.proofs.Basics.{at_same, at_other, at_each}
-use Rattle.step_rules.proofs.Sound.{FrameFits, Sound, IsSound}
+use Rattle.step_rules.proofs.Sound.{IsSound}
 use Rattle.step_rules.proofs.PhaseLemmas.{free_is, out_is, listed_is, fresh_is, came_back, CameBack, FromList, FromFresh, FromBack, returning_is, Returns, AsEnded, AsDrop}
 use Rattle.step_rules.proofs.Passing.{front_listed, in_zone}
 use Rattle.step_rules.proofs.Placing.{within_cases, block_free, in_block, off_block, in_unit, off_unit}
-use Rattle.step_rules.proofs.SoundSteps.{below_frames}
 use Rattle.step_rules.proofs.Runs.{next, after_illegal, allowed, kept_along, sound_boot}
 
 pub same_place_itself : (p : Place) → is_same_place p p ≡ true

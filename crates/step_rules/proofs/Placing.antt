@@ -1,28 +1,26 @@
 -- Steps that place a block, return a unit, move pages, or change who holds the lock keep what holds of the state.
-use Rattle.std.proofs.Common.{◌≡◌, ℕ, ◌+◌, ◌-◌, ◌^◌, ◌<◌, ◌≤◌, ◌&&◌, ◌||◌, ◌==◌, Bool, true, false, Option, Some, None, List, [], ◌∷◌, length, map, refl, sym, ◌∙◌, ap, subst, arith, inl, inr, cond, if◌then◌else◌, eq-eqb, get_or}
-use Rattle.std.specs.Prelude.{◌⊎◌, nat_le, nat_lt, not, is_some}
-use Rattle.std.specs.List.{range_with_len, slice_index_or}
-use Rattle.std.proofs.lemmas.Bool.{cases_eq, cases_lt, cases_Bool, ne_eqb, false≢true, true≢false, and_parts, leb-true, ltb-true, le-leb, lt-ltb, or_cases, eqb-true}
+use Rattle.std.proofs.Common.{◌≡◌, ℕ, ◌+◌, ◌-◌, ◌^◌, ◌<◌, ◌≤◌, ◌&&◌, ◌||◌, ◌==◌, Bool, true, false, Option, Some, None, List, [], ◌∷◌, length, refl, sym, ◌∙◌, ap, subst, arith, inl, inr, cond, eq-eqb}
+use Rattle.std.specs.Prelude.{◌⊎◌, nat_le, nat_lt, not}
+use Rattle.std.proofs.lemmas.Bool.{cases_eq, cases_lt, cases_Bool, ne_eqb, false≢true, true≢false, and_parts, leb-true, ltb-true, le-leb, lt-ltb, or_cases}
 use Rattle.std.proofs.lemmas.List.FromFn.{get_or-map-range_with_len, length-map-range_with_len}
 use Rattle.zone_blocks.specs.declared.block.Block.{Block}
 use Rattle.zone_blocks.specs.Areas.{IsFreeBlock, IsFree}
-use Rattle.zone_blocks.specs.Block.{Covers}
 use Rattle.step_rules.specs.declared.phase.Hold.{Hold}
-use Rattle.step_rules.specs.declared.phase.Hold.TheVariants.{Unheld, HeldBy, Visiting}
+use Rattle.step_rules.specs.declared.phase.Hold.TheVariants.{Visiting}
 use Rattle.step_rules.specs.declared.phase.ChargedUnit.{ChargedUnit}
 use Rattle.step_rules.specs.declared.phase.Stage.{Stage}
 use Rattle.step_rules.specs.declared.phase.Stage.TheVariants.{FreshAt, Collected, Bare, Ended}
 use Rattle.step_rules.specs.declared.phase.Phase.{Phase}
 use Rattle.step_rules.specs.declared.phase.Phase.TheVariants.{InZone, Lent, Head, Tail}
-use Rattle.step_rules.specs.Phases.{Kind, Listed, Fresh, Back, is_live, is_free, has_as, unit_of, passes_out, passes_back}
-use Rattle.step_rules.specs.State.{Zone, Stock, Part, State, with_at, one_if, frames_of, free_in}
+use Rattle.step_rules.specs.Phases.{Fresh, is_live, is_free, has_as, unit_of, passes_out, passes_back}
+use Rattle.step_rules.specs.State.{Zone, Part, State, with_at, one_if, frames_of, free_in}
 use Rattle.step_rules.specs.Legal.{nothing_passes, rests, may_fill, is_of_group}
 use Rattle.step_rules.specs.After.{is_within, placed_phase, with_block, unit_size, without_unit, filled, drained}
-use Rattle.step_rules.proofs.Basics.{at_same, at_other, at_each}
+use Rattle.step_rules.proofs.Basics.{at_other}
 use Rattle.step_rules.proofs.Sums.{all_at}
 use Rattle.step_rules.proofs.Lists.{times}
-use Rattle.step_rules.proofs.Sound.{FrameFits, IsPaid, PhasePaid, Sound, IsSound, AreUnits, groups_in, IsBooked, sound_part, sound_numbers, same_groups}
-use Rattle.step_rules.proofs.PhaseLemmas.{free_is, by_kind, is_quiet, is_quiet_stage, nobody_has, free_rests, none_some, equal_test, same_visitor, visited}
+use Rattle.step_rules.proofs.Sound.{FrameFits, PhasePaid, Sound, IsSound, AreUnits, groups_in, sound_part, sound_numbers, same_groups}
+use Rattle.step_rules.proofs.PhaseLemmas.{by_kind, is_quiet, is_quiet_stage, nobody_has, free_rests, none_some, equal_test, same_visitor}
 
 quiet_rests : (x : Phase) → is_quiet x ≡ true → (q : ℕ) → (passes_out q x ≡ false) × (passes_back q x ≡ false)
 quiet_rests InZone e q = (refl, refl)

@@ -1,18 +1,17 @@
 -- Steps that change references keep what holds of the state.
-use Rattle.std.proofs.Common.{◌≡◌, ℕ, ◌+◌, ◌-◌, ◌<◌, ◌≤◌, ◌&&◌, ◌||◌, ◌==◌, Bool, true, false, Option, Some, None, List, [], ◌∷◌, length, refl, sym, ◌∙◌, ap, subst, arith, inl, inr, cond, if◌then◌else◌, eq-eqb}
-use Rattle.std.specs.Prelude.{◌⊎◌}
+use Rattle.std.proofs.Common.{◌≡◌, ℕ, ◌+◌, ◌-◌, ◌<◌, ◌≤◌, ◌==◌, Bool, true, false, Option, Some, refl, sym, ◌∙◌, ap, subst, arith, inl, inr, cond, eq-eqb}
 use Rattle.std.proofs.lemmas.Bool.{cases_eq, cases_lt, cases_Bool, ne_eqb, false≢true, true≢false}
 use Rattle.step_rules.specs.declared.phase.Hold.{Hold}
 use Rattle.step_rules.specs.declared.phase.ChargedUnit.{ChargedUnit}
 use Rattle.step_rules.specs.declared.phase.Stage.TheVariants.{Live, BackAt, Ended}
 use Rattle.step_rules.specs.declared.phase.Phase.{Phase}
-use Rattle.step_rules.specs.declared.phase.Phase.TheVariants.{InZone, Lent, Head, Tail}
-use Rattle.step_rules.specs.Phases.{Kind, Listed, Fresh, Back, is_live, is_free, has_as, unit_of, at_stage, stage_after_last, is_head_in_hand}
-use Rattle.step_rules.specs.State.{Zone, Part, State, with_at, sum_to, one_if, live_references, frames_of, with_last}
+use Rattle.step_rules.specs.declared.phase.Phase.TheVariants.{Head, Tail}
+use Rattle.step_rules.specs.Phases.{Kind, is_live, has_as, unit_of, at_stage, is_head_in_hand}
+use Rattle.step_rules.specs.State.{Zone, State, with_at, live_references, frames_of}
 use Rattle.step_rules.specs.After.{with_references, with_phase, with_back, after_last}
-use Rattle.step_rules.proofs.Basics.{at_same, at_other, at_each, at_itself}
+use Rattle.step_rules.proofs.Basics.{at_same, at_other, at_each}
 use Rattle.step_rules.proofs.Sums.{sum_none, sum_part, sum_alone}
-use Rattle.step_rules.proofs.Sound.{FrameFits, Sound, IsSound, Moves, ListMoves, Stays, Joins, Leaves, groups_in, sound_one, sound_phase, sound_references, IsBooked}
+use Rattle.step_rules.proofs.Sound.{FrameFits, Sound, IsSound, ListMoves, Stays, Joins, groups_in, sound_one, sound_phase, sound_references}
 use Rattle.step_rules.proofs.PhaseLemmas.{by_kind, live_is, in_hand, InHand, WasCollected, WasBare, WasEnded, nobody_has_live, nobody_has_stage, only_back}
 
 abbrev pub Referring : Type 0

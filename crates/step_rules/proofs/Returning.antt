@@ -1,33 +1,33 @@
 -- Every frame comes back once for each use that ended.
-use Rattle.std.proofs.Common.{◌≡◌, ℕ, ◌+◌, ◌-◌, ◌^◌, ◌<◌, ◌≤◌, ◌&&◌, ◌==◌, Bool, true, false, Option, Some, None, List, [], ◌∷◌, length, refl, sym, ◌∙◌, ap, subst, arith, inl, inr, cond, if◌then◌else◌, eq-eqb}
-use Rattle.std.specs.Prelude.{◌⊎◌, nat_le, not}
+use Rattle.std.proofs.Common.{◌≡◌, ℕ, ◌+◌, ◌^◌, ◌<◌, ◌≤◌, ◌==◌, Bool, true, false, Some, [], ◌∷◌, length, refl, sym, ◌∙◌, ap, subst, arith, inl, inr, cond, eq-eqb}
+use Rattle.std.specs.Prelude.{nat_le, not}
 use Rattle.std.specs.List.{fold}
-use Rattle.std.proofs.lemmas.Bool.{cases_eq, ne_eqb, false≢true, true≢false, leb-true}
+use Rattle.std.proofs.lemmas.Bool.{cases_eq, ne_eqb, leb-true}
 use Rattle.std.proofs.lemmas.Nat.{pow_pos}
 use Rattle.zone_blocks.specs.declared.block.Block.{Block}
 use Rattle.step_rules.specs.declared.phase.ChargedUnit.{ChargedUnit}
-use Rattle.step_rules.specs.declared.phase.Way.TheVariants.{PassingOut, OnList, PassingBack}
+use Rattle.step_rules.specs.declared.phase.Way.TheVariants.{PassingOut, OnList}
 use Rattle.step_rules.specs.declared.phase.Stage.{Stage}
 use Rattle.step_rules.specs.declared.phase.Stage.TheVariants.{FreshAt, FreshPassing, Collected, Bare, Live, BackAt, BackPassing, Ended}
 use Rattle.step_rules.specs.declared.phase.Phase.{Phase}
-use Rattle.step_rules.specs.declared.phase.Phase.TheVariants.{InZone, Lent, Head, Tail}
+use Rattle.step_rules.specs.declared.phase.Phase.TheVariants.{Lent, Head, Tail}
 use Rattle.step_rules.specs.declared.step.Step.{Step}
 use Rattle.step_rules.specs.declared.step.Action.{Action}
 use Rattle.step_rules.specs.declared.step.Action.TheVariants.{Lock, Put, Freeze, Unfreeze, PassOut, TakeIn, PassBack, Collect, Consume, Credit, PlaceBlock, Return}
 use Rattle.step_rules.specs.declared.step.Answer.{Answer}
 use Rattle.step_rules.specs.declared.step.Answer.TheVariants.{Illegal, Done, Last, Took, Back, Placed}
-use Rattle.step_rules.specs.Phases.{Kind, Fresh, has_as, is_free, passes_out, passes_back, unit_of, at_stage, stage_after_last, passed_back, collected, is_head_in_hand, may_return}
+use Rattle.step_rules.specs.Phases.{Fresh, has_as, is_free, passes_out, passes_back, unit_of, at_stage, stage_after_last, passed_back, collected, is_head_in_hand, may_return}
 use Rattle.step_rules.specs.State.{Zone, State, at_boot, with_at, one_if, front_of}
-use Rattle.step_rules.specs.Legal.{is_legal, IsAnswer, IsCounted, IsMade, Allows}
+use Rattle.step_rules.specs.Legal.{is_legal, IsAnswer, Allows}
 use Rattle.step_rules.specs.After.{Run, after, state_of, IsLegalRun, is_within, placed_phase, with_block, unit_size, without_unit, consumed}
-use Rattle.step_rules.specs.Returns.{is_open, is_open_stage, uses_ended, uses_closed, counted_beside, ReturnsOnce, EveryFrameReturnsOnce}
+use Rattle.step_rules.specs.Returns.{is_open, uses_ended, uses_closed, counted_beside, EveryFrameReturnsOnce}
 use Rattle.step_rules.proofs.Basics.{at_same, at_other}
-use Rattle.step_rules.proofs.Sound.{Sound, IsSound}
+use Rattle.step_rules.proofs.Sound.{IsSound}
 use Rattle.step_rules.proofs.PhaseLemmas.{live_is, free_is, out_is, listed_is, fresh_is, in_hand, InHand, WasCollected, WasBare, WasEnded, came_back, CameBack, FromList, FromFresh, FromBack, returning_is, Returns, AsEnded, AsDrop}
 use Rattle.step_rules.proofs.Referring.{live_from_one}
 use Rattle.step_rules.proofs.Passing.{front_listed}
 use Rattle.step_rules.proofs.Placing.{within_cases, block_free, in_block, off_block, in_unit, off_unit}
-use Rattle.step_rules.proofs.Runs.{next, after_illegal, allowed, kept_along, sound_boot, sound_run}
+use Rattle.step_rules.proofs.Runs.{allowed, kept_along, sound_boot, sound_run}
 
 abbrev Count : Type 0
 Count = State → ℕ → Action → Answer → ℕ

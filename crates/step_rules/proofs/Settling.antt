@@ -1,6 +1,6 @@
 -- While the lock is free nothing is pending.
-use Rattle.std.proofs.Common.{◌≡◌, ℕ, ◌+◌, ◌<◌, ◌≤◌, ◌&&◌, ◌==◌, Bool, true, false, refl, sym, ◌∙◌, ap, subst, arith, inl, inr, cond, if◌then◌else◌}
-use Rattle.std.specs.Prelude.{◌⊎◌, not}
+use Rattle.std.proofs.Common.{◌≡◌, ℕ, ◌<◌, ◌==◌, Bool, true, false, refl, sym, ◌∙◌, ap, subst, arith, inl, inr, cond, if◌then◌else◌}
+use Rattle.std.specs.Prelude.{not}
 use Rattle.std.proofs.lemmas.Bool.{false≢true, true≢false, and_parts}
 use Rattle.group_tree.specs.Groups.{in_subtree}
 use Rattle.step_rules.specs.declared.phase.Hold.{Hold}
@@ -9,15 +9,14 @@ use Rattle.step_rules.specs.declared.step.Action.{Action}
 use Rattle.step_rules.specs.declared.step.Action.TheVariants.{Lock, Unlock, OpenVisit, ShutVisit, Fill, DrainStock, Grant, Ungrant, PlaceBlock}
 use Rattle.step_rules.specs.declared.step.Answer.{Answer}
 use Rattle.step_rules.specs.declared.step.Answer.TheVariants.{Illegal, Done, Pages, Granted, Placed}
-use Rattle.step_rules.specs.State.{Zone, State, at_boot, sum_to, all_to, is_unheld, may_zone_act}
-use Rattle.step_rules.specs.Usage.{pages_pending, usage_of}
+use Rattle.step_rules.specs.State.{Zone, State, at_boot, all_to, is_unheld, may_zone_act}
+use Rattle.step_rules.specs.Usage.{pages_pending}
 use Rattle.step_rules.specs.Legal.{is_legal, Allows, is_settled}
-use Rattle.step_rules.specs.After.{Run, after, state_of, IsLegalRun}
+use Rattle.step_rules.specs.After.{after, state_of}
 use Rattle.step_rules.specs.Returns.{IsAllPlaced, NothingPendsWhileTheLockIsFree}
 use Rattle.step_rules.proofs.Sums.{sum_none, all_at}
-use Rattle.step_rules.proofs.Sound.{IsSound}
 use Rattle.step_rules.proofs.PhaseLemmas.{equal_test}
-use Rattle.step_rules.proofs.Runs.{next, after_illegal, allowed, kept_along, sound_boot}
+use Rattle.step_rules.proofs.Runs.{after_illegal, allowed, kept_along, sound_boot}
 
 not_free : (hold : Hold) (seat : ℕ) → may_zone_act hold seat ≡ true → is_unheld hold ≡ true → ⊥
 not_free hold seat may free = true≢false (sym (and_parts (seat == 0) (not (is_unheld hold)) may).1 ∙ ap not free)

@@ -1,20 +1,13 @@
 -- The small runs are legal, each step in turn.
-use Rattle.std.proofs.Common.{◌≡◌, ℕ, ◌+◌, ◌<◌, ◌≤◌, ◌==◌, Bool, true, false, Option, Some, None, List, [], ◌∷◌, ◌++◌, length, take, refl, sym, ◌∙◌, ap, subst, arith, inl, inr, zero, suc}
-use Rattle.std.specs.Prelude.{IfSome}
-use Rattle.std.specs.List.{fold, slice_get, slice_index_or}
-use Rattle.std.proofs.lemmas.Bool.{cases_eq, eq-eqb, ne_eqb}
-use Rattle.std.proofs.lemmas.Option.{slice_get_past}
-use Rattle.zone_blocks.specs.declared.block.Block.{Block}
-use Rattle.zone_blocks.specs.Areas.{IsFreeBlock, IsFree}
-use Rattle.zone_blocks.specs.Block.{IsBlock, Covers}
-use Rattle.group_tree.specs.Groups.{has_group, group_at, in_subtree, path_of, limit_of, initial_groups}
-use Rattle.group_tree.specs.Path.{names_of}
-use Rattle.step_rules.specs.declared.step.Step.{Step}
-use Rattle.step_rules.specs.declared.step.Answer.{Answer}
-use Rattle.step_rules.specs.State.{Zone, State, at_boot, sum_to, all_to, free_in}
+use Rattle.std.proofs.Common.{◌≡◌, ℕ, Bool, true, false, List, [], ◌∷◌, length, refl, subst, arith, inl, inr, zero, suc}
+use Rattle.std.specs.List.{slice_index_or}
+use Rattle.std.proofs.lemmas.Bool.{cases_eq, ne_eqb}
+use Rattle.zone_blocks.specs.Areas.{IsFreeBlock}
+use Rattle.group_tree.specs.Groups.{has_group, group_at, limit_of, initial_groups}
+use Rattle.step_rules.specs.State.{State, at_boot, sum_to, all_to}
 use Rattle.step_rules.specs.Usage.{PathHasRoom, has_room}
-use Rattle.step_rules.specs.Legal.{Allows, IsMade}
-use Rattle.step_rules.specs.After.{Run, after, state_of, IsLegalRun}
+use Rattle.step_rules.specs.Legal.{Allows}
+use Rattle.step_rules.specs.After.{Run, IsLegalRun}
 use Rattle.step_rules.specs.Examples.{small_zone, life_of_a_frame, credited_twice, returned_twice, unlocked_too_soon}
 use Rattle.step_rules.proofs.Runs.{next, IsLegalFrom}
 

@@ -1,5 +1,5 @@
 -- Grants and the limits (memory.max of cgroup-v2.rst), and the pages that are pending, counted over a run.
-use Rattle.std.specs.Prelude.{◌≡◌, ℕ, ◌+◌, ◌^◌, ◌==◌, Bool, true, false, Option, Some, None, if◌then◌else◌}
+use Rattle.std.specs.Prelude.{◌≡◌, ℕ, ◌+◌, ◌^◌, ◌==◌, true, if◌then◌else◌}
 use Rattle.group_tree.specs.Groups.{in_subtree, limit_of}
 use Rattle.step_rules.specs.declared.step.Action.{Action}
 use Rattle.step_rules.specs.declared.step.Action.TheVariants.{Fill, DrainStock, Grant, Ungrant, PlaceBlock}
