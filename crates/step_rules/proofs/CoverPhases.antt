@@ -1,28 +1,27 @@
 -- Phases under the cover.
-use Rattle.std.proofs.Common.{◌≡◌, ℕ, ◌+◌, ◌-◌, ◌^◌, ◌<◌, ◌≤◌, ◌&&◌, ◌||◌, ◌==◌, Bool, true, false, Option, Some, None, List, [], ◌∷◌, length, map, refl, sym, ◌∙◌, ap, subst, arith, inl, inr, cond, if◌then◌else◌, eq-eqb}
-use Rattle.std.specs.Prelude.{◌⊎◌}
+use Rattle.std.proofs.Common.{◌≡◌, ℕ, ◌^◌, ◌==◌, Bool, true, false, map, refl, sym, ◌∙◌, ap, subst, cond, eq-eqb}
 use Rattle.std.specs.List.{range_with_len}
-use Rattle.std.proofs.lemmas.Bool.{cases_eq, cases_Bool, ne_eqb, false≢true, true≢false}
+use Rattle.std.proofs.lemmas.Bool.{ne_eqb}
 use Rattle.zone_blocks.specs.declared.block.Block.{Block}
 use Rattle.step_rules.specs.declared.phase.ChargedUnit.{ChargedUnit}
-use Rattle.step_rules.specs.declared.phase.Way.TheVariants.{PassingOut, OnList, PassingBack}
-use Rattle.step_rules.specs.declared.phase.Stage.{Stage}
+use Rattle.step_rules.specs.declared.phase.Way.TheVariants.{OnList, PassingBack}
 use Rattle.step_rules.specs.declared.phase.Stage.TheVariants.{FreshAt, FreshPassing, Collected, Bare, Live, BackAt, BackPassing, Ended}
 use Rattle.step_rules.specs.declared.phase.Phase.{Phase}
 use Rattle.step_rules.specs.declared.phase.Phase.TheVariants.{InZone, Lent, Head, Tail}
-use Rattle.step_rules.specs.Phases.{Kind, Listed, Fresh, Back, is_free, is_head, is_live, has_as, passes_out, passes_back, is_head_in_hand, may_return, unit_of, at_stage, passed_back, collected}
+use Rattle.step_rules.specs.Phases.{Kind, Listed, Fresh, Back, is_free, has_as, passes_out, passes_back, is_head_in_hand, may_return, unit_of, at_stage, passed_back, collected}
 use Rattle.step_rules.specs.State.{Zone, with_at, free_in}
 use Rattle.step_rules.specs.After.{with_block, placed_phase, is_within, without_unit, unit_size}
-use Rattle.step_rules.specs.Cover.{hide_phase, hide_stage}
+use Rattle.step_rules.specs.Cover.{hide_phase}
 use Rattle.step_rules.proofs.Basics.{at_through, cond-ap}
-use Rattle.step_rules.proofs.PhaseLemmas.{by_kind, InHand, WasCollected, WasBare, WasEnded, in_hand, CameBack, FromList, FromFresh, FromBack, came_back, Returns, AsEnded, AsDrop, listed_is, fresh_is, back_is}
+use Rattle.step_rules.proofs.PhaseLemmas.{by_kind, InHand, WasCollected, WasBare, WasEnded, CameBack, FromList, FromFresh, FromBack, Returns, AsEnded, AsDrop, listed_is, fresh_is, back_is}
 
 at_cond : {Y : Type 0} (T : Phase → Y) (b : Bool) (x y : Phase) → T y ≡ T x → T (cond b x y) ≡ T x
 at_cond T true x y e = refl
 at_cond T false x y e = e
 
 -- what doesn't tell a fresh frame from one of a list, nor a back frame from a live one, is seen under the cover
-pub seen_through : {Y : Type 0} (T : Phase → Y) (p : ℕ) → ((u : ChargedUnit) (q : ℕ) → T (Lent q OnList) ≡ T (Head u (FreshAt q))) → ((u : ChargedUnit) (q : ℕ) → T (Head u Live) ≡ T (Head u (BackAt q))) →
+pub seen_through : {Y : Type 0} (T : Phase → Y) (p : ℕ) → ((u : ChargedUnit) (q : ℕ) → T (Lent q OnList) ≡ T (Head u (FreshAt q))) →
+    ((u : ChargedUnit) (q : ℕ) → T (Head u Live) ≡ T (Head u (BackAt q))) →
     (x : Phase) → T (hide_phase p x) ≡ T x
 seen_through T p fresh back InZone = refl
 seen_through T p fresh back (Lent q way) = refl
@@ -49,11 +48,13 @@ return_seen p killed x = seen_through (may_return killed) p (λ u r. refl) (λ u
 pub frees_seen : (p : ℕ) (zone : Zone) (phases : ℕ → Phase) → free_in zone (λ f. hide_phase p (phases f)) ≡ free_in zone phases
 frees_seen p zone phases = ap (λ (test : ℕ → Bool). map test (range_with_len 0 zone.frames)) (λ i. λ f. free_seen p (phases f) i)
 
-fresh_own : (u : ChargedUnit) (p q : ℕ) (kind : Kind) (b : Bool) → (q == p) ≡ b → has_as kind p (cond b (Head u (FreshAt q)) (Lent q OnList)) ≡ has_as kind p (Head u (FreshAt q))
+fresh_own : (u : ChargedUnit) (p q : ℕ) (kind : Kind) (b : Bool) → (q == p) ≡ b →
+    has_as kind p (cond b (Head u (FreshAt q)) (Lent q OnList)) ≡ has_as kind p (Head u (FreshAt q))
 fresh_own u p q kind true e = refl
 fresh_own u p q kind false e = by_kind (λ k. has_as k p (Lent q OnList) ≡ has_as k p (Head u (FreshAt q))) e (sym e) refl kind
 
-back_own : (u : ChargedUnit) (p q : ℕ) (kind : Kind) (b : Bool) → (q == p) ≡ b → has_as kind p (cond b (Head u (BackAt q)) (Head u Live)) ≡ has_as kind p (Head u (BackAt q))
+back_own : (u : ChargedUnit) (p q : ℕ) (kind : Kind) (b : Bool) → (q == p) ≡ b →
+    has_as kind p (cond b (Head u (BackAt q)) (Head u Live)) ≡ has_as kind p (Head u (BackAt q))
 back_own u p q kind true e = refl
 back_own u p q kind false e = by_kind (λ k. has_as k p (Head u Live) ≡ has_as k p (Head u (BackAt q))) refl refl (sym e) kind
 
@@ -84,7 +85,8 @@ pub record GoesOn (p : ℕ) (move : Phase → Phase) (x : Phase) : Type 0 where
   pub after : hide_phase p (move x) ≡ move x
 
 -- the phases under the cover after a frame went on
-pub gone_on : (p : ℕ) (phases : ℕ → Phase) (f : ℕ) (move : Phase → Phase) → GoesOn p move (phases f) → (λ (m : ℕ). hide_phase p (with_at phases f (move (phases f)) m)) ≡ with_at (λ m. hide_phase p (phases m)) f (move (hide_phase p (phases f)))
+pub gone_on : (p : ℕ) (phases : ℕ → Phase) (f : ℕ) (move : Phase → Phase) → GoesOn p move (phases f) →
+    (λ (m : ℕ). hide_phase p (with_at phases f (move (phases f)) m)) ≡ with_at (λ m. hide_phase p (phases m)) f (move (hide_phase p (phases f)))
 gone_on p phases f move goes = at_through (hide_phase p) phases f (move (phases f)) ∙ ap (with_at (λ m. hide_phase p (phases m)) f) (goes.after ∙ ap move (sym goes.before))
 
 at_phase : (p : ℕ) (move : Phase → Phase) (x y : Phase) → x ≡ y → GoesOn p move y → GoesOn p move x
@@ -122,13 +124,15 @@ placed_seen p g b x = placed (x == b.at)
     placed true = refl
     placed false = refl
 
-pub block_seen : (p : ℕ) (phases : ℕ → Phase) (g : ℕ) (b : Block) → (λ (x : ℕ). hide_phase p (with_block phases g b x)) ≡ with_block (λ x. hide_phase p (phases x)) g b
+pub block_seen : (p : ℕ) (phases : ℕ → Phase) (g : ℕ) (b : Block) →
+    (λ (x : ℕ). hide_phase p (with_block phases g b x)) ≡ with_block (λ x. hide_phase p (phases x)) g b
 block_seen p phases g b = λ i. λ x. (cond-ap (hide_phase p) (is_within b.at (2 ^ b.order) x) (placed_phase g b x) (phases x) ∙ ap (λ y. cond (is_within b.at (2 ^ b.order) x) y (hide_phase p (phases x))) (placed_seen p g b x)) i
 
 returned_unit : (p : ℕ) (killed : ℕ → Bool) (x : Phase) → Returns killed x → unit_of (hide_phase p x) ≡ unit_of x
 returned_unit p killed x (AsEnded u e) = ap (λ y. unit_of (hide_phase p y)) e ∙ sym (ap unit_of e)
 returned_unit p killed x (AsDrop u e k) = ap (λ y. unit_of (hide_phase p y)) e ∙ sym (ap unit_of e)
 
-pub unit_seen : (p : ℕ) (killed : ℕ → Bool) (phases : ℕ → Phase) (f : ℕ) → Returns killed (phases f) → (λ (x : ℕ). hide_phase p (without_unit phases f x)) ≡ without_unit (λ x. hide_phase p (phases x)) f
+pub unit_seen : (p : ℕ) (killed : ℕ → Bool) (phases : ℕ → Phase) (f : ℕ) → Returns killed (phases f) →
+    (λ (x : ℕ). hide_phase p (without_unit phases f x)) ≡ without_unit (λ x. hide_phase p (phases x)) f
 unit_seen p killed phases f returns = λ i. λ x. (cond-ap (hide_phase p) (is_within f (unit_size (unit_of (phases f))) x) InZone (phases x)
     ∙ ap (λ u. cond (is_within f (unit_size u) x) InZone (hide_phase p (phases x))) (sym (returned_unit p killed (phases f) returns))) i

@@ -1,22 +1,19 @@
 -- Usage is the same under the cover.
-use Rattle.std.proofs.Common.{◌≡◌, ℕ, ◌+◌, ◌-◌, ◌^◌, ◌<◌, ◌≤◌, ◌&&◌, ◌||◌, ◌==◌, Bool, true, false, Option, Some, None, List, [], ◌∷◌, length, refl, sym, ◌∙◌, ap, subst, arith, inl, inr, cond, if◌then◌else◌, eq-eqb}
-use Rattle.std.specs.Prelude.{◌⊎◌}
-use Rattle.std.proofs.lemmas.Bool.{cases_eq, cases_Bool, ne_eqb, false≢true, true≢false, cond-true, cond-false}
+use Rattle.std.proofs.Common.{◌≡◌, ℕ, ◌+◌, ◌<◌, ◌==◌, Bool, true, false, Option, Some, List, length, refl, sym, ◌∙◌, ap, arith, cond, if◌then◌else◌, eq-eqb}
+use Rattle.std.proofs.lemmas.Bool.{ne_eqb}
 use Rattle.group_tree.specs.declared.group.Group.{Group}
-use Rattle.group_tree.specs.Groups.{in_subtree}
 use Rattle.step_rules.specs.declared.phase.ChargedUnit.{ChargedUnit}
-use Rattle.step_rules.specs.declared.phase.Stage.{Stage}
 use Rattle.step_rules.specs.declared.phase.Stage.TheVariants.{FreshAt, BackAt, Live}
 use Rattle.step_rules.specs.declared.phase.Phase.{Phase}
-use Rattle.step_rules.specs.declared.phase.Phase.TheVariants.{InZone, Lent, Head, Tail}
+use Rattle.step_rules.specs.declared.phase.Phase.TheVariants.{Lent, Head}
 use Rattle.step_rules.specs.declared.phase.Way.TheVariants.{OnList}
-use Rattle.step_rules.specs.Phases.{Kind, Fresh, has_as, keeper_of, is_free}
+use Rattle.step_rules.specs.Phases.{Fresh, has_as, keeper_of}
 use Rattle.step_rules.specs.State.{State, Part, one_if, sum_to}
 use Rattle.step_rules.specs.Usage.{is_below, frames_kept, stock_below, pages_prepaid, usage_of}
 use Rattle.step_rules.specs.Cover.{hide_phase, hide_part, hide_parts, hide}
 use Rattle.step_rules.proofs.Sums.{sum_same, sum_none, sum_both, sum_swap, sum_only}
 use Rattle.step_rules.proofs.Lists.{times, count_length}
-use Rattle.step_rules.proofs.Sound.{FrameFits, IsPaid, PhasePaid, Sound, IsSound, groups_in}
+use Rattle.step_rules.proofs.Sound.{IsPaid, PhasePaid, IsSound, groups_in}
 use Rattle.step_rules.proofs.PhaseLemmas.{free_is}
 
 -- 1 where another processor than p, whose stock is of the subtree, has the frame fresh
@@ -47,12 +44,14 @@ fresh_counts groups g p cpus stocks u r paid =
     (λ i. cond (r == p) 0 (cond (same i) (mine i) 0)) in
     splits (r == p) (is_below groups g (Some u.group)) refl ∙ ap (λ n. one_if (is_below groups g (keeper_of (cond (r == p) (Head u (FreshAt r)) (Lent r OnList)))) + n) (sym (one ∙ counted))
   where
-    splits : (a b : Bool) → b ≡ is_below groups g (Some u.group) → one_if b ≡ one_if (is_below groups g (keeper_of (cond a (Head u (FreshAt r)) (Lent r OnList)))) + cond a 0 (cond b 1 0)
+    splits : (a b : Bool) → b ≡ is_below groups g (Some u.group) →
+        one_if b ≡ one_if (is_below groups g (keeper_of (cond a (Head u (FreshAt r)) (Lent r OnList)))) + cond a 0 (cond b 1 0)
     splits true b e = ap one_if e ∙ (omega arith)
     splits false true e = refl
     splits false false e = refl
 
-other_counts : (groups : List Group) (g p cpus : ℕ) (stocks : ℕ → Option ℕ) (x : Phase) → keeper_of (hide_phase p x) ≡ keeper_of x → ((q : ℕ) → has_as Fresh q x ≡ false) →
+other_counts : (groups : List Group) (g p cpus : ℕ) (stocks : ℕ → Option ℕ) (x : Phase) → keeper_of (hide_phase p x) ≡ keeper_of x →
+    ((q : ℕ) → has_as Fresh q x ≡ false) →
     one_if (is_below groups g (keeper_of x)) ≡ one_if (is_below groups g (keeper_of (hide_phase p x))) + sum_to (cpus + 1) (λ q. covered groups g p stocks q x)
 other_counts groups g p cpus stocks x same nobody =
     let none = sum_none (cpus + 1) (λ q. covered groups g p stocks q x) (λ q below. covered_not groups g p stocks q x (nobody q)) in
@@ -74,7 +73,8 @@ stock_counts : (groups : List Group) (g p : ℕ) (parts : ℕ → Part) (q : ℕ
     stock_below groups g (hide_parts p parts q) ≡ stock_below groups g (parts q) + cond (q == p) 0 (cond (is_below groups g (parts q).stock.group) (length (parts q).fresh) 0)
 stock_counts groups g p parts q = counts (q == p) (is_below groups g (parts q).stock.group) refl
   where
-    counts : (a b : Bool) → is_below groups g (parts q).stock.group ≡ b → stock_below groups g (cond a (parts q) (hide_part (parts q))) ≡ stock_below groups g (parts q) + cond a 0 (cond b (length (parts q).fresh) 0)
+    counts : (a b : Bool) → is_below groups g (parts q).stock.group ≡ b →
+        stock_below groups g (cond a (parts q) (hide_part (parts q))) ≡ stock_below groups g (parts q) + cond a 0 (cond b (length (parts q).fresh) 0)
     counts true b e = omega arith
     counts false true e = rw e refl
     counts false false e = rw e refl
@@ -102,7 +102,8 @@ usage_seen s p sound g =
     let f : sum_to m (λ q. stock_below groups g (s.parts q) + lent q) ≡ pages_prepaid groups s.parts s.zone.cpus g + sum_to m lent = sum_both m (λ q. stock_below groups g (s.parts q)) lent in
     omega arith
   where
-    column : (a b : Bool) (q : ℕ) → sum_to s.zone.frames (λ f. cond a 0 (cond b (one_if (has_as Fresh q (s.phases f))) 0)) ≡ cond a 0 (cond b (length (s.parts q).fresh) 0)
+    column : (a b : Bool) (q : ℕ) →
+        sum_to s.zone.frames (λ f. cond a 0 (cond b (one_if (has_as Fresh q (s.phases f))) 0)) ≡ cond a 0 (cond b (length (s.parts q).fresh) 0)
     column true b q = sum_none s.zone.frames (λ f. 0) (λ f below. refl)
     column false true q = fresh_length s q sound
     column false false q = sum_none s.zone.frames (λ f. 0) (λ f below. refl)

@@ -14,3 +14,9 @@ pub mod Own
 pub mod Other
 pub mod Runs
 pub mod LocalLaws
+pub mod Counting
+pub mod Placed
+pub mod Settling
+pub mod Returning
+pub mod Granting
+pub mod SmallRuns

@@ -1,11 +1,10 @@
 -- How often a frame stands in a list.
-use Rattle.std.proofs.Common.{◌≡◌, ℕ, ◌+◌, ◌<◌, ◌≤◌, ◌==◌, Bool, true, false, List, [], ◌∷◌, ◌++◌, length, refl, sym, ◌∙◌, ap, subst, arith, inl, inr, cond, if◌then◌else◌, not, eq-eqb}
-use Rattle.std.specs.List.{filter}
+use Rattle.std.proofs.Common.{◌≡◌, ℕ, ◌+◌, ◌<◌, ◌≤◌, ◌==◌, Bool, true, false, List, [], ◌∷◌, length, refl, sym, ◌∙◌, ap, arith, inl, inr, eq-eqb}
 use Rattle.std.proofs.lemmas.Bool.{cases_eq, cases_lt, ne_eqb}
 use Rattle.std.specs.Prelude.{◌⊎◌}
 use Rattle.std.proofs.lemmas.List.{length-append}
 use Rattle.step_rules.specs.State.{one_if, without, with_last, front_of, sum_to}
-use Rattle.step_rules.proofs.Sums.{sum_none, sum_both, sum_only, sum_same}
+use Rattle.step_rules.proofs.Sums.{sum_none, sum_both, sum_only}
 
 abbrev pub times : ℕ → List ℕ → ℕ
 times f [] = 0

@@ -1,20 +1,18 @@
 -- What a processor sees while it holds the lock goes on by its own steps, and by no other's.
-use Rattle.std.proofs.Common.{◌≡◌, ℕ, ◌+◌, Bool, true, false, refl, sym, ◌∙◌, ap, subst, arith, inl, inr, eq-eqb}
-use Rattle.std.specs.Prelude.{◌⊎◌, ◌&&◌, ◌||◌, ◌==◌}
-use Rattle.std.proofs.lemmas.Bool.{false≢true, true≢false, or_cases, or_left, or_right}
+use Rattle.std.proofs.Common.{◌≡◌, ℕ, Bool, true, false, refl, sym, ◌∙◌, ap, subst, arith, eq-eqb}
+use Rattle.std.specs.Prelude.{◌||◌, ◌==◌}
+use Rattle.std.proofs.lemmas.Bool.{false≢true, true≢false, or_left}
 use Rattle.step_rules.specs.declared.phase.Hold.{Hold}
-use Rattle.step_rules.specs.declared.phase.Hold.TheVariants.{Unheld, HeldBy, Visiting}
-use Rattle.step_rules.specs.declared.step.Step.{Step}
+use Rattle.step_rules.specs.declared.phase.Hold.TheVariants.{HeldBy, Visiting}
 use Rattle.step_rules.specs.declared.step.Action.{Action}
 use Rattle.step_rules.specs.declared.step.Action.TheVariants.{Lock, Unlock, OpenVisit, ShutVisit}
 use Rattle.step_rules.specs.declared.step.Answer.{Answer}
 use Rattle.step_rules.specs.declared.step.Answer.TheVariants.{Illegal, Done}
-use Rattle.step_rules.specs.State.{Zone, State, is_held_by, visits}
-use Rattle.step_rules.specs.Legal.{is_legal, IsAnswer, IsCounted, IsMade, Allows}
-use Rattle.step_rules.specs.After.{Run, after, state_of, IsLegalRun}
+use Rattle.step_rules.specs.State.{State, is_held_by, visits}
+use Rattle.step_rules.specs.Legal.{is_legal, IsAnswer, IsMade, Allows}
+use Rattle.step_rules.specs.After.{after, state_of}
 use Rattle.step_rules.specs.Cover.{hide, holds_lock}
-use Rattle.step_rules.specs.Laws.{ShowsLocal, IsLocalStep, is_of_lock, pushed, OwnStepIsLegal, OtherStepIsHidden}
-use Rattle.step_rules.proofs.Sound.{IsSound}
+use Rattle.step_rules.specs.Laws.{is_of_lock, OwnStepIsLegal, OtherStepIsHidden}
 use Rattle.step_rules.proofs.PhaseLemmas.{equal_test}
 use Rattle.step_rules.proofs.Runs.{after_illegal, sound_run, state_more, legal_more}
 use Rattle.step_rules.proofs.Own.{own_legal, own_answer, own_after, only_visit}
@@ -41,7 +39,8 @@ visit_own : (p q : ℕ) (hold : Hold) → holds_lock p hold ≡ true → visits 
 visit_own p q hold holds visit = or_left _ false (eq-eqb q p (only_visit p q hold holds visit))
 
 -- a step of p or the zone leaves the lock with p
-own_holds : (s : State) (p seat : ℕ) (action : Action) (answer : Answer) → is_of_lock action ≡ false → holds_lock p s.hold ≡ true → is_legal s seat action ≡ true → holds_lock p (after s seat action answer).hold ≡ true
+own_holds : (s : State) (p seat : ℕ) (action : Action) (answer : Answer) → is_of_lock action ≡ false → holds_lock p s.hold ≡ true →
+    is_legal s seat action ≡ true → holds_lock p (after s seat action answer).hold ≡ true
 own_holds s p seat action Illegal inside holds legal = ap (λ (t : State). holds_lock p t.hold) (after_illegal s seat action) ∙ holds
 own_holds s p seat Lock answer inside holds legal = absurd (true≢false inside)
 own_holds s p seat Unlock answer inside holds legal = absurd (true≢false inside)

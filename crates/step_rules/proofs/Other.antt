@@ -1,28 +1,27 @@
 -- Steps of another processor, under p's cover.
-use Rattle.std.proofs.Common.{◌≡◌, ℕ, ◌+◌, ◌-◌, ◌^◌, ◌<◌, ◌≤◌, ◌&&◌, ◌||◌, ◌==◌, Bool, true, false, Option, Some, None, List, [], ◌∷◌, length, refl, sym, ◌∙◌, ap, subst, arith, inl, inr, cond, if◌then◌else◌, eq-eqb}
-use Rattle.std.specs.Prelude.{◌⊎◌, nat_le, nat_lt, not}
-use Rattle.std.proofs.lemmas.Bool.{cases_eq, cases_Bool, ne_eqb, false≢true, true≢false, and_parts, leb-true, cond-true, cond-false}
+use Rattle.std.proofs.Common.{◌≡◌, ℕ, ◌+◌, ◌-◌, ◌≤◌, ◌||◌, ◌==◌, Bool, true, false, length, refl, sym, ◌∙◌, ap, arith, eq-eqb}
+use Rattle.std.specs.Prelude.{nat_le, not}
+use Rattle.std.proofs.lemmas.Bool.{ne_eqb, false≢true, and_parts, leb-true, cond-false}
 use Rattle.step_rules.specs.declared.phase.Hold.{Hold}
 use Rattle.step_rules.specs.declared.phase.Hold.TheVariants.{Unheld, HeldBy, Visiting}
-use Rattle.step_rules.specs.declared.phase.Way.TheVariants.{PassingOut, OnList}
-use Rattle.step_rules.specs.declared.phase.Stage.TheVariants.{FreshAt, Live, BackAt, Ended}
+use Rattle.step_rules.specs.declared.phase.Way.TheVariants.{OnList}
+use Rattle.step_rules.specs.declared.phase.Stage.TheVariants.{BackAt, Ended}
 use Rattle.step_rules.specs.declared.phase.Phase.{Phase}
-use Rattle.step_rules.specs.declared.phase.Phase.TheVariants.{InZone, Lent, Head, Tail}
+use Rattle.step_rules.specs.declared.phase.Phase.TheVariants.{Lent}
 use Rattle.step_rules.specs.declared.step.Action.{Action}
-use Rattle.step_rules.specs.declared.step.Action.TheVariants.{Lock, Unlock, OpenVisit, ShutVisit, Get, Put, Freeze, Unfreeze, PassOut, TakeIn, PassBack, Collect, Consume, Credit, Report, Absorb, Fill, DrainStock, Grant, Ungrant, PlaceBlock, Publish, Return, NoteMax, NoteOom, SetMax, Make, Remove, Kill}
+use Rattle.step_rules.specs.declared.step.Action.TheVariants.{Lock, Unlock, OpenVisit, ShutVisit, Get, Put, Freeze, Unfreeze, PassOut, TakeIn, PassBack, Collect, Consume, Credit, Report, Absorb, Fill, DrainStock, Grant, Ungrant, PlaceBlock, Return, SetMax, Make, Remove, Kill}
 use Rattle.step_rules.specs.declared.step.Answer.{Answer}
-use Rattle.step_rules.specs.declared.step.Answer.TheVariants.{Illegal, Done, Held, Left, Last, Took, Back, Pages, Granted, Placed, Number}
-use Rattle.step_rules.specs.Phases.{Kind, Listed, Fresh, has_as, passes_out, at_stage, stage_after_last}
-use Rattle.step_rules.specs.Phases as kinds
-use Rattle.step_rules.specs.State.{Zone, Part, State, with_at, one_if, is_cpu, is_frame, is_unheld, is_held_by, visits, may_zone_act, front_of, without}
-use Rattle.step_rules.specs.Legal.{is_legal, IsAnswer, IsCounted}
+use Rattle.step_rules.specs.declared.step.Answer.TheVariants.{Done, Held, Left, Last, Took, Back, Pages, Granted, Placed, Number}
+use Rattle.step_rules.specs.Phases.{Fresh, has_as, passes_out, at_stage, stage_after_last}
+use Rattle.step_rules.specs.State.{State, with_at, one_if, is_unheld, is_held_by, visits, may_zone_act, front_of, without}
+use Rattle.step_rules.specs.Legal.{is_legal, IsAnswer}
 use Rattle.step_rules.specs.After.{after, after_last, paid, credited, with_back, consumed}
-use Rattle.step_rules.specs.Cover.{hide, hide_phase, hide_part, hide_parts, hide_references, holds_lock}
-use Rattle.step_rules.proofs.Basics.{at_through, at_each, same_state}
+use Rattle.step_rules.specs.Cover.{hide, hide_phase, hide_part, hide_parts, holds_lock}
+use Rattle.step_rules.proofs.Basics.{at_each, same_state}
 use Rattle.step_rules.proofs.Lists.{times, length_last, length_without}
-use Rattle.step_rules.proofs.Sound.{FrameFits, Sound, IsSound}
+use Rattle.step_rules.proofs.Sound.{IsSound}
 use Rattle.step_rules.proofs.PhaseLemmas.{live_is, listed_is, fresh_is, equal_test}
-use Rattle.step_rules.proofs.Referring.{changed, live_from_one}
+use Rattle.step_rules.proofs.Referring.{live_from_one}
 use Rattle.step_rules.proofs.Passing.{front_listed}
 use Rattle.step_rules.proofs.CoverPhases.{other_fresh, other_back}
 use Rattle.step_rules.proofs.CoverParts.{other_changed, other_referred}
@@ -42,12 +41,14 @@ not_held p q (HeldBy r) ne holds held = ne (sym (equal_test r q held) ∙ is_it 
     or_false : (b : Bool) → (b || false) ≡ true → b ≡ true
     or_false true e = refl
     or_false false e = e
+
     is_it : (r == p) ≡ true → r ≡ p
     is_it e = equal_test r p e
 not_held p q hold ne holds held = false≢true held
 
 -- a frame in a phase that looks the same under the cover leaves the phases there as they are
-covered_phase : (p : ℕ) (phases : ℕ → Phase) (f : ℕ) (y : Phase) → hide_phase p y ≡ hide_phase p (phases f) → ◌≡◌ {A = ℕ → Phase} (λ m. hide_phase p (with_at phases f y m)) (λ m. hide_phase p (phases m))
+covered_phase : (p : ℕ) (phases : ℕ → Phase) (f : ℕ) (y : Phase) → hide_phase p y ≡ hide_phase p (phases f) →
+    ◌≡◌ {A = ℕ → Phase} (λ m. hide_phase p (with_at phases f y m)) (λ m. hide_phase p (phases m))
 covered_phase p phases f y same = λ i. λ m. at_each phases f y (λ n x. hide_phase p x ≡ hide_phase p (phases n)) same (λ n ne. refl) m i
 
 last_hidden : (s : State) (p q f : ℕ) → IsSound s → (q ≡ 0 → ⊥) → (q ≡ p → ⊥) → 1 ≤ s.references q f → hide p (after_last s q f) ≡ hide p s
@@ -59,7 +60,8 @@ last_hidden s p q f sound ne other some =
     same_state s (covered_phase p s.phases f (at_stage (stage_after_last q) (s.phases f)) same) (other_referred p s.references q f (s.references q f - 1) ne other)
     (ap (hide_parts p) (cond-false (q == 0) s.parts (with_at s.parts q (with_back (s.parts q) f)) (ne_eqb q 0 ne)) ∙ other_changed p s.parts q (with_back (s.parts q) f) other refl)
 
-consume_hidden : (s : State) (p q g : ℕ) → IsSound s → (q ≡ p → ⊥) → 1 ≤ length (s.parts q).list → 1 ≤ (s.parts q).stock.pages → hide p (after s q (Consume g) Took) ≡ hide p s
+consume_hidden : (s : State) (p q g : ℕ) → IsSound s → (q ≡ p → ⊥) → 1 ≤ length (s.parts q).list → 1 ≤ (s.parts q).stock.pages →
+    hide p (after s q (Consume g) Took) ≡ hide p s
 consume_hidden s p q g sound other some pages =
     let f = front_of (s.parts q).list in
     let was = listed_is q (s.phases f) (front_listed s q sound some) in

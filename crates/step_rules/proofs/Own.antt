@@ -1,32 +1,32 @@
 -- Steps of p and of the zone's seat, under p's cover.
-use Rattle.std.proofs.Common.{◌≡◌, ℕ, ◌+◌, ◌-◌, ◌^◌, ◌<◌, ◌≤◌, ◌&&◌, ◌||◌, ◌==◌, Bool, true, false, Option, Some, None, List, [], ◌∷◌, length, refl, sym, ◌∙◌, ap, subst, arith, inl, inr, cond, if◌then◌else◌, eq-eqb}
+use Rattle.std.proofs.Common.{◌≡◌, ℕ, ◌+◌, ◌-◌, ◌^◌, ◌≤◌, ◌&&◌, ◌||◌, ◌==◌, Bool, true, false, Option, Some, List, length, refl, sym, ◌∙◌, ap, subst, arith, inl, inr, cond, eq-eqb}
 use Rattle.std.specs.Prelude.{◌⊎◌, nat_le, nat_lt, not}
 use Rattle.std.proofs.lemmas.Bool.{cases_eq, cases_Bool, ne_eqb, false≢true, true≢false, and_parts, leb-true, or_cases, cond-true, cond-false}
 use Rattle.group_tree.specs.Groups.{has_group, has_child}
 use Rattle.zone_blocks.specs.declared.block.Block.{Block}
 use Rattle.zone_blocks.specs.Areas.{IsFreeBlock}
 use Rattle.step_rules.specs.declared.phase.Hold.{Hold}
-use Rattle.step_rules.specs.declared.phase.Hold.TheVariants.{Unheld, HeldBy, Visiting}
+use Rattle.step_rules.specs.declared.phase.Hold.TheVariants.{Visiting}
 use Rattle.step_rules.specs.declared.phase.Way.TheVariants.{PassingOut, OnList}
-use Rattle.step_rules.specs.declared.phase.Stage.TheVariants.{FreshAt, Live, BackAt, Ended}
+use Rattle.step_rules.specs.declared.phase.Stage.TheVariants.{Live, BackAt, Ended}
 use Rattle.step_rules.specs.declared.phase.Phase.{Phase}
-use Rattle.step_rules.specs.declared.phase.Phase.TheVariants.{InZone, Lent, Head, Tail}
+use Rattle.step_rules.specs.declared.phase.Phase.TheVariants.{Lent}
 use Rattle.step_rules.specs.declared.step.Action.{Action}
 use Rattle.step_rules.specs.declared.step.Action.TheVariants.{Lock, Unlock, OpenVisit, ShutVisit, Get, Put, Freeze, Unfreeze, PassOut, TakeIn, PassBack, Collect, Consume, Credit, Report, Absorb, Fill, DrainStock, Grant, Ungrant, PlaceBlock, Publish, Return, NoteMax, NoteOom, SetMax, Make, Remove, Kill}
 use Rattle.step_rules.specs.declared.step.Answer.{Answer}
-use Rattle.step_rules.specs.declared.step.Answer.TheVariants.{Illegal, Done, Held, Left, Last, Took, Empty, Drained, OtherGroup, Back, Pages, Granted, Over, Placed, NoFreeBlock, Number}
+use Rattle.step_rules.specs.declared.step.Answer.TheVariants.{Done, Held, Left, Last, Took, Empty, Drained, OtherGroup, Back, Pages, Granted, Over, Placed, NoFreeBlock, Number}
 use Rattle.step_rules.specs.Phases.{Kind, Listed, Fresh, has_as, passes_out, passes_back, is_free, is_head, is_live, is_head_in_hand, may_return, passed_back, collected, at_stage, stage_after_last}
 use Rattle.step_rules.specs.Phases as kinds
-use Rattle.step_rules.specs.State.{Zone, Part, State, with_at, sum_to, is_cpu, is_frame, is_unheld, is_held_by, visits, may_zone_act, front_of, free_in, pins_of, with_last}
+use Rattle.step_rules.specs.State.{Zone, Part, State, with_at, sum_to, is_cpu, is_frame, visits, may_zone_act, front_of, pins_of, with_last}
 use Rattle.step_rules.specs.Usage.{usage_of, PathHasRoom, IsLowestOver}
 use Rattle.step_rules.specs.Legal.{is_legal, IsAnswer, IsCounted, nothing_passes, rests, may_pass_back, may_fill}
-use Rattle.step_rules.specs.After.{after, after_last, with_references, with_phase, with_part, with_more, without_frame, paid, credited, filled, drained, with_back, consumed, with_block, without_unit}
+use Rattle.step_rules.specs.After.{after, after_last, with_phase, with_part, with_more, without_frame, paid, credited, filled, drained, with_back, consumed}
 use Rattle.step_rules.specs.Cover.{hide, hide_phase, hide_part, hide_parts, hide_references, holds_lock}
 use Rattle.step_rules.specs.Laws.{is_of_lock}
 use Rattle.step_rules.proofs.Basics.{at_through, same_state}
 use Rattle.step_rules.proofs.Sums.{all_same}
-use Rattle.step_rules.proofs.Sound.{Sound, IsSound}
-use Rattle.step_rules.proofs.PhaseLemmas.{live_is, in_hand, came_back, returning_is, visited, equal_test}
+use Rattle.step_rules.proofs.Sound.{IsSound}
+use Rattle.step_rules.proofs.PhaseLemmas.{live_is, in_hand, came_back, returning_is, equal_test}
 use Rattle.step_rules.proofs.Referring.{changed, live_from_one}
 use Rattle.step_rules.proofs.SoundSteps.{cpu_range}
 use Rattle.step_rules.proofs.CoverPhases.{out_seen, back_seen, free_seen, hand_seen, return_seen, frees_seen, own_seen, gone_on, woken_goes, ended_goes, backed_goes, collected_goes, listed_goes, fresh_goes, back_goes, block_seen, unit_seen, GoesOn}
@@ -62,11 +62,13 @@ regroup4 : (a b c d : Bool) → (a && b && c && d) ≡ (a && (b && c && d))
 regroup4 true b c d = refl
 regroup4 false b c d = refl
 
-at_cpu3 : (zone : Zone) (p seat : ℕ) (b b' c c' : Bool) → IsOwn p seat → (seat ≡ p → b ≡ b') → (seat ≡ p → c ≡ c') → (is_cpu zone seat && b && c) ≡ (is_cpu zone seat && b' && c')
+at_cpu3 : (zone : Zone) (p seat : ℕ) (b b' c c' : Bool) → IsOwn p seat → (seat ≡ p → b ≡ b') → (seat ≡ p → c ≡ c') →
+    (is_cpu zone seat && b && c) ≡ (is_cpu zone seat && b' && c')
 at_cpu3 zone p seat b b' c c' own same same' =
     regroup3 (is_cpu zone seat) b c ∙ at_cpu zone p seat (b && c) (b' && c') own (λ e. (λ i. same e i && same' e i)) ∙ sym (regroup3 (is_cpu zone seat) b' c')
 
-at_cpu4 : (zone : Zone) (p seat : ℕ) (b c d d' : Bool) → IsOwn p seat → (seat ≡ p → d ≡ d') → (is_cpu zone seat && b && c && d) ≡ (is_cpu zone seat && b && c && d')
+at_cpu4 : (zone : Zone) (p seat : ℕ) (b c d d' : Bool) → IsOwn p seat → (seat ≡ p → d ≡ d') →
+    (is_cpu zone seat && b && c && d) ≡ (is_cpu zone seat && b && c && d')
 at_cpu4 zone p seat b c d d' own same =
     regroup4 (is_cpu zone seat) b c d ∙ at_cpu zone p seat (b && c && d) (b && c && d') own (λ e. ap (λ x. b && c && x) (same e)) ∙ sym (regroup4 (is_cpu zone seat) b c d')
 
@@ -77,7 +79,8 @@ own_pins : (s : State) (p seat : ℕ) → IsOwn p seat → pins_of (hide p s) se
 own_pins s p seat own = ap (sum_to s.zone.frames) (λ i. λ f. own_reference p s.references seat f own i)
 
 -- only the head of a live unit has references
-head_seen : (s : State) (p f : ℕ) → IsSound s → (a : Bool) → (a && is_head (hide_phase p (s.phases f)) && nat_le 1 (s.references 0 f)) ≡ (a && is_head (s.phases f) && nat_le 1 (s.references 0 f))
+head_seen : (s : State) (p f : ℕ) → IsSound s → (a : Bool) →
+    (a && is_head (hide_phase p (s.phases f)) && nat_le 1 (s.references 0 f)) ≡ (a && is_head (s.phases f) && nat_le 1 (s.references 0 f))
 head_seen s p f sound a =
     elim (cases_Bool (nat_le 1 (s.references 0 f))) [
       | inl some ↦
@@ -106,7 +109,8 @@ fill_seen s p q g n a holds =
     no_visit false b c d e = refl
 
 -- a step of p or the zone is legal under the cover exactly where it is
-pub own_legal : (s : State) (p seat : ℕ) (action : Action) → IsSound s → IsOwn p seat → is_of_lock action ≡ false → holds_lock p s.hold ≡ true → is_legal (hide p s) seat action ≡ is_legal s seat action
+pub own_legal : (s : State) (p seat : ℕ) (action : Action) → IsSound s → IsOwn p seat → is_of_lock action ≡ false → holds_lock p s.hold ≡ true →
+    is_legal (hide p s) seat action ≡ is_legal s seat action
 own_legal s p seat Lock sound own inside holds = absurd (true≢false inside)
 own_legal s p seat Unlock sound own inside holds = absurd (true≢false inside)
 own_legal s p seat (OpenVisit q) sound own inside holds = refl
@@ -155,7 +159,8 @@ cpu_seat : (s : State) (p seat : ℕ) (rest : Bool) → IsOwn p seat → (is_cpu
 cpu_seat s p seat rest own legal = cpu_own s.zone p seat own (and_parts (is_cpu s.zone seat) rest legal).0
 
 -- an answer under the cover is one of the whole state
-pub own_answer : (s : State) (p seat : ℕ) (action : Action) (answer : Answer) → IsSound s → IsOwn p seat → is_legal s seat action ≡ true → IsAnswer (hide p s) seat action answer → IsAnswer s seat action answer
+pub own_answer : (s : State) (p seat : ℕ) (action : Action) (answer : Answer) → IsSound s → IsOwn p seat → is_legal s seat action ≡ true →
+    IsAnswer (hide p s) seat action answer → IsAnswer s seat action answer
 own_answer s p seat (Consume g) Took sound own legal ok =
     let cpu : is_cpu s.zone seat ≡ true = grind arith in
     subst (λ (part : Part). (part.stock.group ≡ Some g) × (part.stock.is_drained ≡ false) × (1 ≤ part.stock.pages)) (own_part p s.parts seat (cpu_own s.zone p seat own cpu)) ok
@@ -182,7 +187,8 @@ own_answer s p seat (PlaceBlock g k) NoFreeBlock sound own legal ok = subst (λ 
 own_answer s p seat action answer sound own legal ok = ok
 
 -- a reference more or less, or another phase with it
-referred_seen : (s : State) (p seat f : ℕ) (F : ℕ → ℕ) → IsOwn p seat → hide_references p (changed s.references seat f (F (s.references seat f))) ≡ changed (hide_references p s.references) seat f (F (hide_references p s.references seat f))
+referred_seen : (s : State) (p seat f : ℕ) (F : ℕ → ℕ) → IsOwn p seat →
+    hide_references p (changed s.references seat f (F (s.references seat f))) ≡ changed (hide_references p s.references) seat f (F (hide_references p s.references seat f))
 referred_seen s p seat f F own = own_referred p s.references seat f (F (s.references seat f)) own ∙ ap (λ (n : ℕ). changed (hide_references p s.references) seat f (F n)) (sym (own_reference p s.references seat f own))
 
 last_seen : (s : State) (p seat f : ℕ) → IsSound s → IsOwn p seat → 1 ≤ s.references seat f → hide p (after_last s seat f) ≡ after_last (hide p s) seat f
@@ -216,7 +222,8 @@ drained_seen part n is =
     ap (λ (k : ℕ). record (hide_part (drained part n)) { stock = record ((drained part n).stock) { pages = k } }) e
 
 -- what a step of p or the zone changes is the same under the cover
-pub own_after : (s : State) (p seat : ℕ) (action : Action) (answer : Answer) → IsSound s → IsOwn p seat → is_of_lock action ≡ false → holds_lock p s.hold ≡ true →
+pub own_after : (s : State) (p seat : ℕ) (action : Action) (answer : Answer) → IsSound s → IsOwn p seat → is_of_lock action ≡ false →
+    holds_lock p s.hold ≡ true →
     is_legal s seat action ≡ true → IsAnswer s seat action answer → IsCounted s action answer → hide p (after s seat action answer) ≡ after (hide p s) seat action answer
 own_after s p seat Lock Done sound own inside holds legal ok counted = refl
 own_after s p seat Unlock Done sound own inside holds legal ok counted = refl

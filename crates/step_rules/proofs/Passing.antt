@@ -1,24 +1,23 @@
 -- Steps that hand a frame over keep what holds of the state.
-use Rattle.std.proofs.Common.{◌≡◌, ℕ, ◌+◌, ◌-◌, ◌<◌, ◌≤◌, ◌&&◌, ◌||◌, ◌==◌, Bool, true, false, Option, Some, None, List, [], ◌∷◌, length, refl, sym, ◌∙◌, ap, subst, arith, inl, inr, cond, if◌then◌else◌, eq-eqb}
-use Rattle.std.specs.Prelude.{◌⊎◌}
-use Rattle.std.proofs.lemmas.Bool.{cases_eq, cases_lt, cases_Bool, ne_eqb, false≢true, true≢false}
+use Rattle.std.proofs.Common.{◌≡◌, ℕ, ◌<◌, ◌≤◌, true, false, Option, Some, length, refl, sym, ◌∙◌, ap, subst, arith, inl, inr, eq-eqb}
+use Rattle.std.proofs.lemmas.Bool.{cases_lt, false≢true, true≢false}
 use Rattle.step_rules.specs.declared.phase.Hold.{Hold}
 use Rattle.step_rules.specs.declared.phase.Hold.TheVariants.{Visiting}
 use Rattle.step_rules.specs.declared.phase.ChargedUnit.{ChargedUnit}
 use Rattle.step_rules.specs.declared.phase.Way.TheVariants.{PassingOut, OnList, PassingBack}
-use Rattle.step_rules.specs.declared.phase.Stage.TheVariants.{FreshAt, FreshPassing, Collected, Live, BackAt, BackPassing, Ended}
+use Rattle.step_rules.specs.declared.phase.Stage.TheVariants.{FreshAt, FreshPassing, Collected, BackAt, BackPassing, Ended}
 use Rattle.step_rules.specs.declared.phase.Phase.{Phase}
 use Rattle.step_rules.specs.declared.phase.Phase.TheVariants.{InZone, Lent, Head, Tail}
 use Rattle.step_rules.specs.Phases.{Kind, Listed, Fresh, Back, is_live, is_free, has_as, unit_of, passed_back, collected, passes_out, passes_back}
-use Rattle.step_rules.specs.State.{Zone, Part, State, with_at, sum_to, one_if, frames_of, with_last, without, front_of}
+use Rattle.step_rules.specs.State.{Zone, State, with_at, one_if, frames_of, with_last, front_of}
 use Rattle.step_rules.specs.After.{with_phase, with_part, without_frame, paid, credited, consumed}
-use Rattle.step_rules.proofs.Basics.{at_same, at_other, at_each, at_itself}
 use Rattle.step_rules.proofs.Lists.{times, length_without, length_last, front_stands, one_if_true}
-use Rattle.step_rules.proofs.Sound.{FrameFits, IsPaid, PhasePaid, Sound, IsSound, Moves, ListMoves, Stays, Joins, Leaves, groups_in, sound_one, sound_phase, IsBooked}
+use Rattle.step_rules.proofs.Sound.{FrameFits, PhasePaid, Sound, IsSound, ListMoves, Stays, Joins, Leaves, groups_in, sound_one, sound_phase, IsBooked}
 use Rattle.step_rules.proofs.PhaseLemmas.{by_kind, free_is, out_is, listed_is, fresh_is, back_is, came_back, CameBack, FromList, FromFresh, FromBack, nobody_has, nobody_has_stage, nobody_has_out, nobody_has_returning, nobody_has_fresh_passing, nobody_has_back_passing, only_listed, only_fresh, only_back, none_some, equal_test}
 
 -- what holds of a frame that was not live and is not live now
-dead_fits : (zone : Zone) (hold : Hold) (groups : ℕ → Option ℕ) (references : ℕ → ℕ) (f : ℕ) (x y : Phase) → FrameFits zone hold groups references f x → is_live x ≡ false → f < zone.frames →
+dead_fits : (zone : Zone) (hold : Hold) (groups : ℕ → Option ℕ) (references : ℕ → ℕ) (f : ℕ) (x y : Phase) →
+    FrameFits zone hold groups references f x → is_live x ≡ false → f < zone.frames →
     ((q : ℕ) → passes_out q y ≡ true → hold ≡ Visiting q) → ((q : ℕ) → passes_back q y ≡ true → hold ≡ Visiting q) → PhasePaid zone.cpus groups y →
     FrameFits zone hold groups references f y
 dead_fits zone hold groups references f x y old dead below out back paid = record {
@@ -33,7 +32,8 @@ dead_fits zone hold groups references f x y old dead below out back paid = recor
 was_fits : (s : State) (f : ℕ) (x : Phase) → IsSound s → s.phases f ≡ x → FrameFits s.zone s.hold (groups_in s.parts) (λ seat. s.references seat f) f x
 was_fits s f x sound was = subst (λ (z : Phase). FrameFits s.zone s.hold (groups_in s.parts) (λ seat. s.references seat f) f z) was (sound.frames f)
 
-pub sound_passed_out : (s : State) (f p : ℕ) → IsSound s → f < s.zone.frames → s.hold ≡ Visiting p → is_free (s.phases f) ≡ true → IsSound (with_phase s f (Lent p PassingOut))
+pub sound_passed_out : (s : State) (f p : ℕ) → IsSound s → f < s.zone.frames → s.hold ≡ Visiting p → is_free (s.phases f) ≡ true →
+    IsSound (with_phase s f (Lent p PassingOut))
 sound_passed_out s f p sound below visit free =
     let was = free_is (s.phases f) free in
     sound_phase s.zone s.hold s.phases s.references s.references s.parts f InZone (Lent p PassingOut) sound was (record {
@@ -74,7 +74,8 @@ booked_back s f p sound =
     omega arith
 
 -- a frame of the processor's list, its fresh or its back frames is passed back
-sound_sent : (s : State) (f p : ℕ) (x y : Phase) → IsSound s → f < s.zone.frames → s.hold ≡ Visiting p → s.phases f ≡ x → passed_back x ≡ y → is_live x ≡ false →
+sound_sent : (s : State) (f p : ℕ) (x y : Phase) → IsSound s → f < s.zone.frames → s.hold ≡ Visiting p → s.phases f ≡ x → passed_back x ≡ y →
+    is_live x ≡ false →
     ((q : ℕ) → passes_out q y ≡ true → q ≡ p) → ((q : ℕ) → passes_back q y ≡ true → q ≡ p) → PhasePaid s.zone.cpus (groups_in s.parts) y →
     ((q : ℕ) (kind : Kind) → has_as kind q y ≡ false) → ((q : ℕ) (kind : Kind) → (q ≡ p → ⊥) → has_as kind q x ≡ false) →
     ((u : ChargedUnit) → unit_of y ≡ Some u → unit_of x ≡ Some u) → ((g : ℕ) → x ≡ Tail g → ⊥) →
@@ -134,7 +135,8 @@ sound_got s f p x y sound below was is dead out back paid nobody before unit no_
       booked = sound.booked 0;
     }))
 
-pub sound_collected : (s : State) (f p : ℕ) → IsSound s → f < s.zone.frames → passes_back p (s.phases f) ≡ true → IsSound (with_phase s f (collected (s.phases f)))
+pub sound_collected : (s : State) (f p : ℕ) → IsSound s → f < s.zone.frames → passes_back p (s.phases f) ≡ true →
+    IsSound (with_phase s f (collected (s.phases f)))
 sound_collected s f p sound below passes = got (came_back p (s.phases f) passes)
   where
     got : CameBack p (s.phases f) → IsSound (with_phase s f (collected (s.phases f)))
@@ -153,7 +155,8 @@ front_listed s p sound some =
 pub in_zone : (s : State) (f : ℕ) → IsSound s → is_free (s.phases f) ≡ false → f < s.zone.frames
 in_zone s f sound busy = elim (cases_lt f s.zone.frames) [ inl below ↦ below | inr beyond ↦ absurd (true≢false (sym ((sound.frames f).inside beyond) ∙ busy)) ]
 
-pub sound_consumed : (s : State) (p g : ℕ) → IsSound s → 1 ≤ p → p ≤ s.zone.cpus → 1 ≤ length (s.parts p).list → (s.parts p).stock.group ≡ Some g → 1 ≤ (s.parts p).stock.pages →
+pub sound_consumed : (s : State) (p g : ℕ) → IsSound s → 1 ≤ p → p ≤ s.zone.cpus → 1 ≤ length (s.parts p).list → (s.parts p).stock.group ≡ Some g →
+    1 ≤ (s.parts p).stock.pages →
     IsSound (with_part (with_phase s (front_of (s.parts p).list) (consumed p g)) p (paid (s.parts p)))
 sound_consumed s p g sound low high some group pages =
     let f = front_of (s.parts p).list in

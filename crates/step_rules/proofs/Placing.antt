@@ -1,28 +1,26 @@
 -- Steps that place a block, return a unit, move pages, or change who holds the lock keep what holds of the state.
-use Rattle.std.proofs.Common.{◌≡◌, ℕ, ◌+◌, ◌-◌, ◌^◌, ◌<◌, ◌≤◌, ◌&&◌, ◌||◌, ◌==◌, Bool, true, false, Option, Some, None, List, [], ◌∷◌, length, map, refl, sym, ◌∙◌, ap, subst, arith, inl, inr, cond, if◌then◌else◌, eq-eqb, get_or}
-use Rattle.std.specs.Prelude.{◌⊎◌, nat_le, nat_lt, not, is_some}
-use Rattle.std.specs.List.{range_with_len, slice_index_or}
-use Rattle.std.proofs.lemmas.Bool.{cases_eq, cases_lt, cases_Bool, ne_eqb, false≢true, true≢false, and_parts, leb-true, ltb-true, le-leb, lt-ltb, or_cases, eqb-true}
+use Rattle.std.proofs.Common.{◌≡◌, ℕ, ◌+◌, ◌-◌, ◌^◌, ◌<◌, ◌≤◌, ◌&&◌, ◌||◌, ◌==◌, Bool, true, false, Option, Some, None, List, [], ◌∷◌, length, refl, sym, ◌∙◌, ap, subst, arith, inl, inr, cond, eq-eqb}
+use Rattle.std.specs.Prelude.{◌⊎◌, nat_le, nat_lt, not}
+use Rattle.std.proofs.lemmas.Bool.{cases_eq, cases_lt, cases_Bool, ne_eqb, false≢true, true≢false, and_parts, leb-true, ltb-true, le-leb, lt-ltb, or_cases}
 use Rattle.std.proofs.lemmas.List.FromFn.{get_or-map-range_with_len, length-map-range_with_len}
 use Rattle.zone_blocks.specs.declared.block.Block.{Block}
 use Rattle.zone_blocks.specs.Areas.{IsFreeBlock, IsFree}
-use Rattle.zone_blocks.specs.Block.{Covers}
 use Rattle.step_rules.specs.declared.phase.Hold.{Hold}
-use Rattle.step_rules.specs.declared.phase.Hold.TheVariants.{Unheld, HeldBy, Visiting}
+use Rattle.step_rules.specs.declared.phase.Hold.TheVariants.{Visiting}
 use Rattle.step_rules.specs.declared.phase.ChargedUnit.{ChargedUnit}
 use Rattle.step_rules.specs.declared.phase.Stage.{Stage}
 use Rattle.step_rules.specs.declared.phase.Stage.TheVariants.{FreshAt, Collected, Bare, Ended}
 use Rattle.step_rules.specs.declared.phase.Phase.{Phase}
 use Rattle.step_rules.specs.declared.phase.Phase.TheVariants.{InZone, Lent, Head, Tail}
-use Rattle.step_rules.specs.Phases.{Kind, Listed, Fresh, Back, is_live, is_free, has_as, unit_of, passes_out, passes_back}
-use Rattle.step_rules.specs.State.{Zone, Stock, Part, State, with_at, one_if, frames_of, free_in}
+use Rattle.step_rules.specs.Phases.{Fresh, is_live, is_free, has_as, unit_of, passes_out, passes_back}
+use Rattle.step_rules.specs.State.{Zone, Part, State, with_at, one_if, frames_of, free_in}
 use Rattle.step_rules.specs.Legal.{nothing_passes, rests, may_fill, is_of_group}
 use Rattle.step_rules.specs.After.{is_within, placed_phase, with_block, unit_size, without_unit, filled, drained}
-use Rattle.step_rules.proofs.Basics.{at_same, at_other, at_each}
+use Rattle.step_rules.proofs.Basics.{at_other}
 use Rattle.step_rules.proofs.Sums.{all_at}
 use Rattle.step_rules.proofs.Lists.{times}
-use Rattle.step_rules.proofs.Sound.{FrameFits, IsPaid, PhasePaid, Sound, IsSound, AreUnits, groups_in, IsBooked, sound_part, sound_numbers, same_groups}
-use Rattle.step_rules.proofs.PhaseLemmas.{free_is, by_kind, is_quiet, is_quiet_stage, nobody_has, free_rests, none_some, equal_test, same_visitor, visited}
+use Rattle.step_rules.proofs.Sound.{FrameFits, PhasePaid, Sound, IsSound, AreUnits, groups_in, sound_part, sound_numbers, same_groups}
+use Rattle.step_rules.proofs.PhaseLemmas.{by_kind, is_quiet, is_quiet_stage, nobody_has, free_rests, none_some, equal_test, same_visitor}
 
 quiet_rests : (x : Phase) → is_quiet x ≡ true → (q : ℕ) → (passes_out q x ≡ false) × (passes_back q x ≡ false)
 quiet_rests InZone e q = (refl, refl)
@@ -54,7 +52,8 @@ pub record IsQuietly (zone : Zone) (f : ℕ) (x y : Phase) : Type 0 where
   pub after : is_quiet y ≡ true
   pub inside : zone.frames ≤ f → is_free y ≡ true
 
-quiet_fits : (zone : Zone) (hold : Hold) (groups : ℕ → Option ℕ) (references : ℕ → ℕ) (f : ℕ) (x y : Phase) → IsQuietly zone f x y → FrameFits zone hold groups references f x → FrameFits zone hold groups references f y
+quiet_fits : (zone : Zone) (hold : Hold) (groups : ℕ → Option ℕ) (references : ℕ → ℕ) (f : ℕ) (x y : Phase) → IsQuietly zone f x y →
+    FrameFits zone hold groups references f x → FrameFits zone hold groups references f y
 quiet_fits zone hold groups references f x y quiet old = record {
   out = λ q e. absurd (false≢true (sym (quiet_rests y quiet.after q).0 ∙ e));
   returning = λ q e. absurd (false≢true (sym (quiet_rests y quiet.after q).1 ∙ e));
@@ -99,7 +98,8 @@ within_cases at n f =
 pub free_in_at : (zone : Zone) (phases : ℕ → Phase) (f : ℕ) → f < zone.frames → IsFree (free_in zone phases) f → is_free (phases f) ≡ true
 free_in_at zone phases f below e = sym (get_or-map-range_with_len (λ x. is_free (phases x)) 0 zone.frames f f false below (omega arith)) ∙ e
 
-block_free : (zone : Zone) (phases : ℕ → Phase) (b : Block) → IsFreeBlock (free_in zone phases) b → (x : ℕ) → b.at ≤ x → x < b.at + 2 ^ b.order → (x < zone.frames) × (is_free (phases x) ≡ true)
+pub block_free : (zone : Zone) (phases : ℕ → Phase) (b : Block) → IsFreeBlock (free_in zone phases) b → (x : ℕ) → b.at ≤ x → x < b.at + 2 ^ b.order →
+    (x < zone.frames) × (is_free (phases x) ≡ true)
 block_free zone phases b free x low high =
     let size : length (free_in zone phases) ≡ zone.frames = length-map-range_with_len (λ f. is_free (phases f)) 0 zone.frames in
     let inside = free.block.inside in
@@ -113,10 +113,10 @@ placed_quiet g b x = placed (x == b.at)
     placed true = refl
     placed false = refl
 
-in_block : (phases : ℕ → Phase) (g : ℕ) (b : Block) (x : ℕ) → is_within b.at (2 ^ b.order) x ≡ true → with_block phases g b x ≡ placed_phase g b x
+pub in_block : (phases : ℕ → Phase) (g : ℕ) (b : Block) (x : ℕ) → is_within b.at (2 ^ b.order) x ≡ true → with_block phases g b x ≡ placed_phase g b x
 in_block phases g b x e = rw e
 
-off_block : (phases : ℕ → Phase) (g : ℕ) (b : Block) (x : ℕ) → is_within b.at (2 ^ b.order) x ≡ false → with_block phases g b x ≡ phases x
+pub off_block : (phases : ℕ → Phase) (g : ℕ) (b : Block) (x : ℕ) → is_within b.at (2 ^ b.order) x ≡ false → with_block phases g b x ≡ phases x
 off_block phases g b x e = rw e
 
 placed_head : (g : ℕ) (b : Block) (x : ℕ) (u : ChargedUnit) → unit_of (placed_phase g b x) ≡ Some u → (x ≡ b.at) × (u ≡ record { group = g; order = b.order })
@@ -129,7 +129,8 @@ placed_head g b x u e =
 placed_tail : (g : ℕ) (b : Block) (x : ℕ) → (x ≡ b.at → ⊥) → placed_phase g b x ≡ Tail g
 placed_tail g b x ne = rw (ne_eqb x b.at ne)
 
-placed_units : (phases : ℕ → Phase) (g : ℕ) (b : Block) → AreUnits phases → ((x : ℕ) → b.at ≤ x → x < b.at + 2 ^ b.order → is_free (phases x) ≡ true) → AreUnits (with_block phases g b)
+placed_units : (phases : ℕ → Phase) (g : ℕ) (b : Block) → AreUnits phases →
+    ((x : ℕ) → b.at ≤ x → x < b.at + 2 ^ b.order → is_free (phases x) ≡ true) → AreUnits (with_block phases g b)
 placed_units phases g b units free f u is z low high =
     elim (within_cases b.at (2 ^ b.order) f) [
       | inl within ↦
@@ -150,7 +151,8 @@ placed_units phases g b units free f u is z low high =
           ]
     ]
 
-pub sound_placed : (s : State) (g : ℕ) (b : Block) → IsSound s → IsFreeBlock (free_in s.zone s.phases) b → Sound s.zone s.hold (with_block s.phases g b) s.references s.parts
+pub sound_placed : (s : State) (g : ℕ) (b : Block) → IsSound s → IsFreeBlock (free_in s.zone s.phases) b →
+    Sound s.zone s.hold (with_block s.phases g b) s.references s.parts
 sound_placed s g b sound free =
     sound_quiet s.zone s.hold s.phases (with_block s.phases g b) s.references s.parts sound
     (λ x. elim (within_cases b.at (2 ^ b.order) x) [
@@ -166,14 +168,15 @@ sound_placed s g b sound free =
     ])
     (placed_units s.phases g b sound.units (λ x low high. (block_free s.zone s.phases b free x low high).1))
 
-in_unit : (phases : ℕ → Phase) (f x : ℕ) → is_within f (unit_size (unit_of (phases f))) x ≡ true → without_unit phases f x ≡ InZone
+pub in_unit : (phases : ℕ → Phase) (f x : ℕ) → is_within f (unit_size (unit_of (phases f))) x ≡ true → without_unit phases f x ≡ InZone
 in_unit phases f x e = rw e
 
-off_unit : (phases : ℕ → Phase) (f x : ℕ) → is_within f (unit_size (unit_of (phases f))) x ≡ false → without_unit phases f x ≡ phases x
+pub off_unit : (phases : ℕ → Phase) (f x : ℕ) → is_within f (unit_size (unit_of (phases f))) x ≡ false → without_unit phases f x ≡ phases x
 off_unit phases f x e = rw e
 
 -- a unit in the zone's hand comes back
-pub sound_returned : (s : State) (f : ℕ) (u : ChargedUnit) (stage : Stage) → IsSound s → s.phases f ≡ Head u stage → is_quiet_stage stage ≡ true → Sound s.zone s.hold (without_unit s.phases f) s.references s.parts
+pub sound_returned : (s : State) (f : ℕ) (u : ChargedUnit) (stage : Stage) → IsSound s → s.phases f ≡ Head u stage → is_quiet_stage stage ≡ true →
+    Sound s.zone s.hold (without_unit s.phases f) s.references s.parts
 sound_returned s f u stage sound was quiet =
     let size : unit_size (unit_of (s.phases f)) ≡ 2 ^ u.order = ap (λ (x : Phase). unit_size (unit_of x)) was in
     let later = without_unit s.phases f in
@@ -236,7 +239,8 @@ not_parts true b e = absurd (false≢true e)
 not_parts false true e = absurd (false≢true e)
 
 -- nothing passes for the processor that is visited
-pub visit_rests : (s : State) (p : ℕ) → IsSound s → s.hold ≡ Visiting p → nothing_passes s p ≡ true → (f q : ℕ) → s.hold ≡ Visiting q → (passes_out q (s.phases f) ≡ false) × (passes_back q (s.phases f) ≡ false)
+pub visit_rests : (s : State) (p : ℕ) → IsSound s → s.hold ≡ Visiting p → nothing_passes s p ≡ true → (f q : ℕ) → s.hold ≡ Visiting q →
+    (passes_out q (s.phases f) ≡ false) × (passes_back q (s.phases f) ≡ false)
 visit_rests s p sound visit rest f q at =
     let same : p ≡ q = same_visitor p q (sym visit ∙ at) in
     elim (cases_lt f s.zone.frames) [
@@ -252,7 +256,8 @@ pub sound_absorbed : (s : State) (p n : ℕ) → IsSound s → n ≡ (s.parts p)
 sound_absorbed s p n sound is =
     sound_numbers s.zone s.hold s.phases s.references s.parts p _ sound refl (by_kind (λ k. frames_of (record (s.parts p) { book = (s.parts p).book - n; reported = (s.parts p).reported - n }) k ≡ frames_of (s.parts p) k) refl refl refl) (let a = sound.booked p in omega arith)
 
-pub sound_drained : (s : State) (p n : ℕ) → IsSound s → n ≡ (s.parts p).stock.pages → Sound s.zone s.hold s.phases s.references (with_at s.parts p (drained (s.parts p) n))
+pub sound_drained : (s : State) (p n : ℕ) → IsSound s → n ≡ (s.parts p).stock.pages →
+    Sound s.zone s.hold s.phases s.references (with_at s.parts p (drained (s.parts p) n))
 sound_drained s p n sound is =
     sound_numbers s.zone s.hold s.phases s.references s.parts p (drained (s.parts p) n) sound refl (by_kind (λ k. frames_of (drained (s.parts p) n) k ≡ frames_of (s.parts p) k) refl refl refl) (let a = sound.booked p in omega arith)
 
@@ -271,12 +276,14 @@ nothing_fresh s p sound none f =
     no_frames : (xs : List ℕ) → length xs ≡ 0 → times f xs ≡ 0
     no_frames [] e = refl
     no_frames (x ∷ xs) e = absurd (omega arith)
+
     zero_test : (b : Bool) → one_if b ≡ 0 → b ≡ false
     zero_test true e = absurd (omega arith)
     zero_test false e = refl
 
 -- what is fresh stays paid where the stock of a processor with nothing fresh changes its group
-still_paid : (cpus : ℕ) (parts : ℕ → Part) (p : ℕ) (part : Part) (x : Phase) → has_as Fresh p x ≡ false → PhasePaid cpus (groups_in parts) x → PhasePaid cpus (groups_in (with_at parts p part)) x
+still_paid : (cpus : ℕ) (parts : ℕ → Part) (p : ℕ) (part : Part) (x : Phase) → has_as Fresh p x ≡ false → PhasePaid cpus (groups_in parts) x →
+    PhasePaid cpus (groups_in (with_at parts p part)) x
 still_paid cpus parts p part (Head u (FreshAt q)) not_here paid =
     let ne : q ≡ p → ⊥ = λ e. true≢false (sym (eq-eqb q p e) ∙ not_here) in
     record { group = ap (λ (z : Part). z.stock.group) (at_other parts p part q ne) ∙ paid.group; order = paid.order; low = paid.low; high = paid.high }
@@ -285,7 +292,8 @@ still_paid cpus parts p part (Lent q way) not_here paid = tt
 still_paid cpus parts p part (Tail g) not_here paid = tt
 still_paid cpus parts p part (Head u stage) not_here paid = paid
 
-pub sound_filled : (s : State) (p g n : ℕ) → IsSound s → may_fill (s.parts p) g ≡ true → Sound s.zone s.hold s.phases s.references (with_at s.parts p (filled (s.parts p) g n))
+pub sound_filled : (s : State) (p g n : ℕ) → IsSound s → may_fill (s.parts p) g ≡ true →
+    Sound s.zone s.hold s.phases s.references (with_at s.parts p (filled (s.parts p) g n))
 sound_filled s p g n sound may =
     let both = and_parts ((s.parts p).stock.pages == 0) ((s.parts p).book == 0 || is_of_group (s.parts p).stock.group g) may in
     let empty : (s.parts p).stock.pages ≡ 0 = equal_test (s.parts p).stock.pages 0 both.0 in

@@ -1,18 +1,17 @@
 -- Steps that change references keep what holds of the state.
-use Rattle.std.proofs.Common.{◌≡◌, ℕ, ◌+◌, ◌-◌, ◌<◌, ◌≤◌, ◌&&◌, ◌||◌, ◌==◌, Bool, true, false, Option, Some, None, List, [], ◌∷◌, length, refl, sym, ◌∙◌, ap, subst, arith, inl, inr, cond, if◌then◌else◌, eq-eqb}
-use Rattle.std.specs.Prelude.{◌⊎◌}
+use Rattle.std.proofs.Common.{◌≡◌, ℕ, ◌+◌, ◌-◌, ◌<◌, ◌≤◌, ◌==◌, Bool, true, false, Option, Some, refl, sym, ◌∙◌, ap, subst, arith, inl, inr, cond, eq-eqb}
 use Rattle.std.proofs.lemmas.Bool.{cases_eq, cases_lt, cases_Bool, ne_eqb, false≢true, true≢false}
 use Rattle.step_rules.specs.declared.phase.Hold.{Hold}
 use Rattle.step_rules.specs.declared.phase.ChargedUnit.{ChargedUnit}
 use Rattle.step_rules.specs.declared.phase.Stage.TheVariants.{Live, BackAt, Ended}
 use Rattle.step_rules.specs.declared.phase.Phase.{Phase}
-use Rattle.step_rules.specs.declared.phase.Phase.TheVariants.{InZone, Lent, Head, Tail}
-use Rattle.step_rules.specs.Phases.{Kind, Listed, Fresh, Back, is_live, is_free, has_as, unit_of, at_stage, stage_after_last, is_head_in_hand}
-use Rattle.step_rules.specs.State.{Zone, Part, State, with_at, sum_to, one_if, live_references, frames_of, with_last}
+use Rattle.step_rules.specs.declared.phase.Phase.TheVariants.{Head, Tail}
+use Rattle.step_rules.specs.Phases.{Kind, is_live, has_as, unit_of, at_stage, is_head_in_hand}
+use Rattle.step_rules.specs.State.{Zone, State, with_at, live_references, frames_of}
 use Rattle.step_rules.specs.After.{with_references, with_phase, with_back, after_last}
-use Rattle.step_rules.proofs.Basics.{at_same, at_other, at_each, at_itself}
+use Rattle.step_rules.proofs.Basics.{at_same, at_other, at_each}
 use Rattle.step_rules.proofs.Sums.{sum_none, sum_part, sum_alone}
-use Rattle.step_rules.proofs.Sound.{FrameFits, Sound, IsSound, Moves, ListMoves, Stays, Joins, Leaves, groups_in, sound_one, sound_phase, sound_references, IsBooked}
+use Rattle.step_rules.proofs.Sound.{FrameFits, Sound, IsSound, ListMoves, Stays, Joins, groups_in, sound_one, sound_phase, sound_references}
 use Rattle.step_rules.proofs.PhaseLemmas.{by_kind, live_is, in_hand, InHand, WasCollected, WasBare, WasEnded, nobody_has_live, nobody_has_stage, only_back}
 
 abbrev pub Referring : Type 0
@@ -55,7 +54,8 @@ seat_there s seat f sound some =
     ]
 
 -- a live frame keeps what holds under other references of a seat that is there
-live_fits : (s : State) (seat f n : ℕ) → IsSound s → is_live (s.phases f) ≡ true → seat ≤ s.zone.cpus → FrameFits s.zone s.hold (groups_in s.parts) (λ q. changed s.references seat f n q f) f (s.phases f)
+live_fits : (s : State) (seat f n : ℕ) → IsSound s → is_live (s.phases f) ≡ true → seat ≤ s.zone.cpus →
+    FrameFits s.zone s.hold (groups_in s.parts) (λ q. changed s.references seat f n q f) f (s.phases f)
 live_fits s seat f n sound live there =
     let old = sound.frames f in
     record {
@@ -83,7 +83,8 @@ sound_referred s seat f n sound live there =
     })
 
 -- where a seat takes all references off, none is left
-pub none_left : (s : State) (seat f : ℕ) → IsSound s → seat ≤ s.zone.cpus → live_references s f ≤ s.references seat f → (q : ℕ) → changed s.references seat f 0 q f ≡ 0
+pub none_left : (s : State) (seat f : ℕ) → IsSound s → seat ≤ s.zone.cpus → live_references s f ≤ s.references seat f → (q : ℕ) →
+    changed s.references seat f 0 q f ≡ 0
 none_left s seat f sound there all q =
     elim (cases_eq q seat) [
       | inl e ↦ ap (λ (k : ℕ). changed s.references seat f 0 k f) e ∙ changed_here s.references seat f 0
@@ -94,7 +95,8 @@ none_left s seat f sound there all q =
     ]
 
 -- what holds of a frame without references that doesn't pass and wasn't paid
-pub bare_fits : (zone : Zone) (hold : Hold) (groups : ℕ → Option ℕ) (references : ℕ → ℕ) (f : ℕ) (u : ChargedUnit) → ((q : ℕ) → references q ≡ 0) → f < zone.frames → FrameFits zone hold groups references f (Head u Ended)
+pub bare_fits : (zone : Zone) (hold : Hold) (groups : ℕ → Option ℕ) (references : ℕ → ℕ) (f : ℕ) (u : ChargedUnit) → ((q : ℕ) → references q ≡ 0) →
+    f < zone.frames → FrameFits zone hold groups references f (Head u Ended)
 bare_fits zone hold groups references f u none below = record {
   out = λ q e. absurd (false≢true e);
   returning = λ q e. absurd (false≢true e);
@@ -105,7 +107,8 @@ bare_fits zone hold groups references f u none below = record {
 }
 
 -- the zone takes the last references off
-sound_ended : (s : State) (f : ℕ) → IsSound s → f < s.zone.frames → 1 ≤ s.references 0 f → live_references s f ≤ s.references 0 f → IsSound (with_phase (with_references s 0 f 0) f (at_stage Ended (s.phases f)))
+sound_ended : (s : State) (f : ℕ) → IsSound s → f < s.zone.frames → 1 ≤ s.references 0 f → live_references s f ≤ s.references 0 f →
+    IsSound (with_phase (with_references s 0 f 0) f (at_stage Ended (s.phases f)))
 sound_ended s f sound below some all =
     let is = live_is (s.phases f) (live_from_one s 0 f sound some) in
     let later = changed s.references 0 f 0 in
@@ -121,7 +124,8 @@ sound_ended s f sound below some all =
       booked = sound.booked 0;
     }))
 
-pub sound_frozen : (s : State) (f n : ℕ) → IsSound s → f < s.zone.frames → 1 ≤ n → n ≤ s.references 0 f → live_references s f ≡ n → IsSound (with_phase (with_references s 0 f (s.references 0 f - n)) f (at_stage Ended (s.phases f)))
+pub sound_frozen : (s : State) (f n : ℕ) → IsSound s → f < s.zone.frames → 1 ≤ n → n ≤ s.references 0 f → live_references s f ≡ n →
+    IsSound (with_phase (with_references s 0 f (s.references 0 f - n)) f (at_stage Ended (s.phases f)))
 sound_frozen s f n sound below some holds all =
     let part = sum_part (s.zone.cpus + 1) (λ seat. s.references seat f) 0 (omega arith) in
     let none : 0 ≡ s.references 0 f - n = omega arith in
@@ -137,13 +141,13 @@ sound_backed s p f sound below there some all =
     let goal = λ (y : Phase). Sound s.zone s.hold (with_at s.phases f y) later (with_at s.parts p (with_back (s.parts p) f)) in
     subst goal (sym (ap (at_stage (BackAt p)) is.1)) (sound_one s.zone s.hold s.phases s.references later s.parts f p (Head is.0 Live) (Head is.0 (BackAt p)) (with_back (s.parts p) f) sound is.1 (record {
       fits = record {
-          out = λ q e. absurd (false≢true e);
-          returning = λ q e. absurd (false≢true e);
-          unreferred = λ dead seat. none seat;
-          seats = λ seat beyond. none seat;
-          paid = tt;
-          inside = λ beyond. absurd (omega arith);
-        };
+        out = λ q e. absurd (false≢true e);
+        returning = λ q e. absurd (false≢true e);
+        unreferred = λ dead seat. none seat;
+        seats = λ seat beyond. none seat;
+        paid = tt;
+        inside = λ beyond. absurd (omega arith);
+      };
       others = λ m ne. changed_others s.references p f 0 m ne;
       group = refl;
       lists = by_kind (λ k. ListMoves f (frames_of (s.parts p) k) (frames_of (with_back (s.parts p) f) k) (has_as k p (Head is.0 Live)) (has_as k p (Head is.0 (BackAt p)))) (Stays refl refl) (Stays refl refl) (Joins refl refl (eq-eqb p p refl));
@@ -169,7 +173,8 @@ sound_last s seat f sound below some one =
     ]
 
 -- the zone puts references on a unit's head in its hand
-sound_woken : (s : State) (f n : ℕ) (x : Phase) (u : ChargedUnit) → IsSound s → f < s.zone.frames → s.phases f ≡ x → unit_of x ≡ Some u → at_stage Live x ≡ Head u Live →
+sound_woken : (s : State) (f n : ℕ) (x : Phase) (u : ChargedUnit) → IsSound s → f < s.zone.frames → s.phases f ≡ x → unit_of x ≡ Some u →
+    at_stage Live x ≡ Head u Live →
     ((q : ℕ) (kind : Kind) → has_as kind q x ≡ false) → ((g : ℕ) → x ≡ Tail g → ⊥) →
     IsSound (with_phase (with_references s 0 f n) f (at_stage Live (s.phases f)))
 sound_woken s f n x u sound below was unit live nobody no_tail =
@@ -177,13 +182,13 @@ sound_woken s f n x u sound below was unit live nobody no_tail =
     let goal = λ (y : Phase). Sound s.zone s.hold (with_at s.phases f y) later s.parts in
     subst goal (sym (ap (at_stage Live) was ∙ live)) (sound_phase s.zone s.hold s.phases s.references later s.parts f x (Head u Live) sound was (record {
       fits = record {
-          out = λ q e. absurd (false≢true e);
-          returning = λ q e. absurd (false≢true e);
-          unreferred = λ dead. absurd (true≢false dead);
-          seats = λ q beyond. changed_seats s.references 0 f n q (λ e. absurd (omega arith)) ∙ (sound.frames f).seats q beyond;
-          paid = tt;
-          inside = λ beyond. absurd (omega arith);
-        };
+        out = λ q e. absurd (false≢true e);
+        returning = λ q e. absurd (false≢true e);
+        unreferred = λ dead. absurd (true≢false dead);
+        seats = λ q beyond. changed_seats s.references 0 f n q (λ e. absurd (omega arith)) ∙ (sound.frames f).seats q beyond;
+        paid = tt;
+        inside = λ beyond. absurd (omega arith);
+      };
       others = λ m ne. changed_others s.references 0 f n m ne;
       group = refl;
       lists = λ kind. Stays refl (nobody_has_live u 0 kind ∙ sym (nobody 0 kind));
@@ -193,7 +198,8 @@ sound_woken s f n x u sound below was unit live nobody no_tail =
       booked = sound.booked 0;
     }))
 
-pub sound_unfrozen : (s : State) (f n : ℕ) → IsSound s → f < s.zone.frames → is_head_in_hand (s.phases f) ≡ true → IsSound (with_phase (with_references s 0 f n) f (at_stage Live (s.phases f)))
+pub sound_unfrozen : (s : State) (f n : ℕ) → IsSound s → f < s.zone.frames → is_head_in_hand (s.phases f) ≡ true →
+    IsSound (with_phase (with_references s 0 f n) f (at_stage Live (s.phases f)))
 sound_unfrozen s f n sound below hand = woken (in_hand (s.phases f) hand)
   where
     woken : InHand (s.phases f) → IsSound (with_phase (with_references s 0 f n) f (at_stage Live (s.phases f)))

@@ -1,12 +1,11 @@
 -- What holds of the state after every legal run, and one more step.
-use Rattle.std.proofs.Common.{◌≡◌, ℕ, ◌+◌, ◌<◌, ◌≤◌, Bool, true, false, Option, Some, None, List, [], ◌∷◌, ◌++◌, length, take, refl, sym, ◌∙◌, ap, subst, arith, inl, inr, zero, suc, length-append}
+use Rattle.std.proofs.Common.{◌≡◌, ℕ, ◌<◌, Some, List, [], ◌∷◌, ◌++◌, length, take, refl, sym, ◌∙◌, ap, subst, arith, inl, inr, zero, suc, length-append}
 use Rattle.std.specs.Prelude.{◌⊎◌, IfSome}
 use Rattle.std.specs.List.{fold, slice_get}
-use Rattle.std.proofs.lemmas.Bool.{cases_lt, cases_eq, false≢true, true≢false}
+use Rattle.std.proofs.lemmas.Bool.{cases_lt, cases_eq, false≢true}
 use Rattle.std.proofs.lemmas.List.{take-append-le, take_at}
 use Rattle.std.proofs.lemmas.List.Sums.{fold_push}
 use Rattle.std.proofs.lemmas.Option.{slice_get_past}
-use Rattle.step_rules.specs.declared.phase.Phase.TheVariants.{InZone}
 use Rattle.step_rules.specs.declared.step.Step.{Step}
 use Rattle.step_rules.specs.declared.step.Action.{Action}
 use Rattle.step_rules.specs.declared.step.Action.TheVariants.{Lock}
@@ -17,7 +16,7 @@ use Rattle.step_rules.specs.Legal.{Allows, IsMade}
 use Rattle.step_rules.specs.After.{Run, after, state_of, IsLegalRun}
 use Rattle.step_rules.proofs.PhaseLemmas.{by_kind, none_some}
 use Rattle.step_rules.proofs.Lists.{times}
-use Rattle.step_rules.proofs.Sound.{FrameFits, Sound, IsSound}
+use Rattle.step_rules.proofs.Sound.{IsSound}
 use Rattle.step_rules.proofs.SoundSteps.{sound_step}
 
 -- an illegal step changes nothing
@@ -41,13 +40,13 @@ sound_allowed s seat action answer sound ok =
 pub sound_boot : (zone : Zone) → IsSound (at_boot zone)
 sound_boot zone = record {
   frames = λ f. record {
-      out = λ q e. absurd (false≢true e);
-      returning = λ q e. absurd (false≢true e);
-      unreferred = λ dead seat. refl;
-      seats = λ seat beyond. refl;
-      paid = tt;
-      inside = λ beyond. refl;
-    };
+    out = λ q e. absurd (false≢true e);
+    returning = λ q e. absurd (false≢true e);
+    unreferred = λ dead seat. refl;
+    seats = λ seat beyond. refl;
+    paid = tt;
+    inside = λ beyond. refl;
+  };
   lists = λ q kind f. by_kind (λ k. times f (frames_of no_part k) ≡ 0) refl refl refl kind;
   units = λ f unit e. absurd (none_some unit e);
   booked = λ q. refl;
@@ -77,7 +76,8 @@ sound_run zone run legal = (kept_along (λ (x : ℕ) e. x) (λ s x. Unit {0}) (�
 abbrev pub one_more : Run → Step → Answer → Run
 one_more run step answer = run ++ (step, answer) ∷ []
 
-pub state_more : (zone : Zone) (run : Run) (step : Step) (answer : Answer) → state_of zone (one_more run step answer) ≡ after (state_of zone run) step.seat step.action answer
+pub state_more : (zone : Zone) (run : Run) (step : Step) (answer : Answer) →
+    state_of zone (one_more run step answer) ≡ after (state_of zone run) step.seat step.action answer
 state_more zone run step answer = fold_push next (at_boot zone) run (step, answer)
 
 get_before : {X : Type 0} (xs : List X) (x : X) (k : ℕ) → k < length xs → slice_get (xs ++ x ∷ []) k ≡ slice_get xs k
@@ -89,7 +89,8 @@ get_last : {X : Type 0} (xs : List X) (x : X) → slice_get (xs ++ x ∷ []) (le
 get_last [] x = refl
 get_last (y ∷ ys) x = get_last ys x
 
-pub legal_more : (zone : Zone) (run : Run) (step : Step) (answer : Answer) → IsLegalRun zone run → Allows (state_of zone run) step.seat step.action answer → IsLegalRun zone (one_more run step answer)
+pub legal_more : (zone : Zone) (run : Run) (step : Step) (answer : Answer) → IsLegalRun zone run →
+    Allows (state_of zone run) step.seat step.action answer → IsLegalRun zone (one_more run step answer)
 legal_more zone run step answer legal last k =
     elim (cases_lt k (length run)) [
       | inl before ↦

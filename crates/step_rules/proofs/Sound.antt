@@ -1,17 +1,16 @@
 -- What holds of the state after every legal run.
-use Rattle.std.proofs.Common.{◌≡◌, ℕ, ◌+◌, ◌^◌, ◌<◌, ◌≤◌, ◌&&◌, ◌||◌, ◌==◌, Bool, true, false, Option, Some, None, List, [], ◌∷◌, length, refl, sym, ◌∙◌, ap, subst, arith, inl, inr, cond, if◌then◌else◌}
+use Rattle.std.proofs.Common.{◌≡◌, ℕ, ◌+◌, ◌^◌, ◌<◌, ◌≤◌, Bool, true, false, Option, Some, List, length, refl, sym, ◌∙◌, ap, subst, arith, inl, inr}
 use Rattle.std.specs.Prelude.{◌⊎◌}
-use Rattle.std.proofs.lemmas.Bool.{cases_eq, false≢true}
 use Rattle.step_rules.specs.declared.phase.Hold.{Hold}
 use Rattle.step_rules.specs.declared.phase.Hold.TheVariants.{Visiting}
 use Rattle.step_rules.specs.declared.phase.ChargedUnit.{ChargedUnit}
 use Rattle.step_rules.specs.declared.phase.Stage.{Stage}
 use Rattle.step_rules.specs.declared.phase.Stage.TheVariants.{FreshAt}
 use Rattle.step_rules.specs.declared.phase.Phase.{Phase}
-use Rattle.step_rules.specs.declared.phase.Phase.TheVariants.{InZone, Lent, Head, Tail}
+use Rattle.step_rules.specs.declared.phase.Phase.TheVariants.{Head, Tail}
 use Rattle.step_rules.specs.Phases.{Kind, is_free, is_live, has_as, passes_out, passes_back, unit_of}
-use Rattle.step_rules.specs.State.{Zone, Part, State, with_at, one_if, without, with_last, frames_of, is_cpu}
-use Rattle.step_rules.proofs.Basics.{at_same, at_other, at_each, at_itself}
+use Rattle.step_rules.specs.State.{Zone, Part, State, with_at, one_if, without, with_last, frames_of}
+use Rattle.step_rules.proofs.Basics.{at_other, at_each, at_itself}
 use Rattle.step_rules.proofs.Lists.{times, times_same, times_other, times_last, times_without, times_without_other}
 
 -- a fresh frame is one that a processor paid from a stock of its group

@@ -1,22 +1,19 @@
 -- Every legal step keeps what holds of the state, and so does every legal run.
-use Rattle.std.proofs.Common.{◌≡◌, ℕ, ◌+◌, ◌-◌, ◌^◌, ◌<◌, ◌≤◌, ◌&&◌, ◌||◌, ◌==◌, Bool, true, false, Option, Some, None, List, [], ◌∷◌, ◌++◌, length, take, refl, sym, ◌∙◌, ap, subst, arith, inl, inr, cond, if◌then◌else◌, eq-eqb}
-use Rattle.std.specs.Prelude.{◌⊎◌, nat_le, nat_lt, not, IfSome}
-use Rattle.std.specs.List.{fold, slice_get}
-use Rattle.std.proofs.lemmas.Bool.{cases_eq, cases_lt, cases_Bool, ne_eqb, false≢true, true≢false, and_parts, leb-true, ltb-true, or_cases}
-use Rattle.group_tree.specs.Groups.{has_group}
+use Rattle.std.proofs.Common.{◌≡◌, ℕ, ◌<◌, ◌≤◌, ◌&&◌, ◌||◌, ◌==◌, true, length, refl, arith, inl, inr}
+use Rattle.std.specs.Prelude.{nat_le}
+use Rattle.std.proofs.lemmas.Bool.{and_parts, leb-true, ltb-true, or_cases}
 use Rattle.step_rules.specs.declared.phase.Hold.TheVariants.{Unheld, HeldBy, Visiting}
-use Rattle.step_rules.specs.declared.step.Step.{Step}
 use Rattle.step_rules.specs.declared.step.Action.{Action}
 use Rattle.step_rules.specs.declared.step.Action.TheVariants.{Lock, Unlock, OpenVisit, ShutVisit, Get, Put, Freeze, Unfreeze, PassOut, TakeIn, PassBack, Collect, Consume, Credit, Report, Absorb, Fill, DrainStock, Grant, Ungrant, PlaceBlock, Return, SetMax, Make, Remove, Kill}
 use Rattle.step_rules.specs.declared.step.Answer.{Answer}
-use Rattle.step_rules.specs.declared.step.Answer.TheVariants.{Illegal, Done, Held, Left, Last, Took, Back, Pages, Granted, Placed, Number}
+use Rattle.step_rules.specs.declared.step.Answer.TheVariants.{Done, Held, Left, Last, Took, Back, Pages, Granted, Placed, Number}
 use Rattle.step_rules.specs.Phases.{Kind, Listed, Fresh, has_as, passes_out, passes_back, is_free, is_head_in_hand, may_return}
 use Rattle.step_rules.specs.Phases as kinds
-use Rattle.step_rules.specs.State.{Zone, State, at_boot, is_cpu, is_frame, is_unheld, is_held_by, visits, may_zone_act, front_of, one_if}
-use Rattle.step_rules.specs.Legal.{is_legal, IsAnswer, IsCounted, IsMade, Allows, nothing_passes, is_settled, may_pass_back, may_fill}
-use Rattle.step_rules.specs.After.{after, Run, state_of, IsLegalRun, with_phase, with_part, without_unit}
-use Rattle.step_rules.proofs.Sound.{FrameFits, Sound, IsSound}
-use Rattle.step_rules.proofs.PhaseLemmas.{Returns, AsEnded, AsDrop, returning_is, unheld_visit, held_visit, visited, held_live, by_kind, free_rests}
+use Rattle.step_rules.specs.State.{Zone, State, is_cpu, is_frame, is_unheld, is_held_by, visits, front_of}
+use Rattle.step_rules.specs.Legal.{is_legal, IsAnswer, IsCounted, nothing_passes, may_pass_back, may_fill}
+use Rattle.step_rules.specs.After.{after, without_unit}
+use Rattle.step_rules.proofs.Sound.{Sound, IsSound}
+use Rattle.step_rules.proofs.PhaseLemmas.{Returns, AsEnded, AsDrop, returning_is, unheld_visit, held_visit, visited, held_live}
 use Rattle.step_rules.proofs.Referring.{live_from_references, live_from_one, seat_there, sound_referred, sound_frozen, sound_last, sound_unfrozen}
 use Rattle.step_rules.proofs.Passing.{sound_passed_out, sound_taken_in, sound_sent_listed, sound_sent_fresh, sound_sent_back, sound_collected, sound_consumed, sound_credited}
 use Rattle.step_rules.proofs.Placing.{sound_placed, sound_returned, sound_hold, visit_rests, sound_reported, sound_absorbed, sound_drained, sound_filled}
@@ -35,7 +32,8 @@ returned s f sound (AsDrop u was killed) = sound_returned s f u _ sound was refl
 abbrev IsLegalStep : State → ℕ → Action → Type 0
 IsLegalStep s seat action = is_legal s seat action ≡ true
 
-pub sound_step : (s : State) (seat : ℕ) (action : Action) (answer : Answer) → IsSound s → is_legal s seat action ≡ true → IsAnswer s seat action answer → IsCounted s action answer → IsSound (after s seat action answer)
+pub sound_step : (s : State) (seat : ℕ) (action : Action) (answer : Answer) → IsSound s → is_legal s seat action ≡ true →
+    IsAnswer s seat action answer → IsCounted s action answer → IsSound (after s seat action answer)
 sound_step s seat Lock Done sound legal ok counted =
     let free : is_unheld s.hold ≡ true = grind arith in
     sound_hold s.zone s.hold (HeldBy seat) s.phases s.references s.parts sound (λ f q e. absurd (unheld_visit s.hold q free e))

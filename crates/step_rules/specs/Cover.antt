@@ -1,6 +1,6 @@
 -- What a processor sees while it holds the lock: the state as if each other processor had given its fresh frames back to
 -- its list and their pages to its stock. Others' lists, references and back frames are covered.
-use Rattle.std.specs.Prelude.{◌≡◌, ℕ, ◌+◌, ◌==◌, ◌||◌, Bool, true, false, List, [], length, if◌then◌else◌}
+use Rattle.std.specs.Prelude.{ℕ, ◌+◌, ◌==◌, ◌||◌, Bool, [], length, if◌then◌else◌}
 use Rattle.step_rules.specs.declared.phase.Hold.{Hold}
 use Rattle.step_rules.specs.declared.phase.Way.TheVariants.{OnList}
 use Rattle.step_rules.specs.declared.phase.ChargedUnit.{ChargedUnit}

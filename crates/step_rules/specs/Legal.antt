@@ -1,16 +1,15 @@
 -- Which steps may be made, and which answers each of them may get.
-use Rattle.std.specs.Prelude.{◌≡◌, ◌≢◌, ℕ, ◌+◌, ◌^◌, ◌<◌, ◌≤◌, ◌==◌, ◌&&◌, ◌||◌, nat_le, nat_lt, not, Bool, true, false, Option, Some, None, is_none, List, length, take, slice_get, IfSome, if◌then◌else◌}
+use Rattle.std.specs.Prelude.{◌≡◌, ◌≢◌, ℕ, ◌+◌, ◌^◌, ◌≤◌, ◌==◌, ◌&&◌, ◌||◌, nat_le, nat_lt, not, Bool, true, false, Option, Some, None, is_none, length, if◌then◌else◌}
 use Rattle.zone_blocks.specs.declared.block.Block.{Block}
 use Rattle.zone_blocks.specs.Areas.{IsFreeBlock}
 use Rattle.group_tree.specs.Groups.{has_group, has_child, make_fault, IsLeastFreeNumber}
-use Rattle.step_rules.specs.declared.step.Step.{Step}
 use Rattle.step_rules.specs.declared.step.Action.{Action}
 use Rattle.step_rules.specs.declared.step.Action.TheVariants.{Lock, Unlock, OpenVisit, ShutVisit, Get, Put, Freeze, Unfreeze, PassOut, TakeIn, PassBack, Collect, Consume, Credit, Report, Absorb, Fill, DrainStock, Grant, Ungrant, PlaceBlock, Publish, Return, NoteMax, NoteOom, SetMax, Make, Remove, Kill}
 use Rattle.step_rules.specs.declared.step.Answer.{Answer}
 use Rattle.step_rules.specs.declared.step.Answer.TheVariants.{Illegal, Done, Held, Zero, Full, Left, Last, Missed, Took, Empty, OtherGroup, Drained, Back, Pages, Granted, Over, Placed, NoFreeBlock, Number}
-use Rattle.step_rules.specs.Phases.{Kind, Listed, Fresh, is_free, is_head, has_as, passes_out, passes_back, is_head_in_hand, may_return}
+use Rattle.step_rules.specs.Phases.{Kind, Listed, Fresh, is_free, is_head, has_as, passes_out, passes_back, is_passing, is_head_in_hand, may_return}
 use Rattle.step_rules.specs.Phases as kinds
-use Rattle.step_rules.specs.State.{State, Part, sum_to, all_to, front_of, is_cpu, is_frame, is_unheld, is_held_by, visits, may_zone_act, live_references, pins_of, free_in}
+use Rattle.step_rules.specs.State.{State, Part, all_to, front_of, is_cpu, is_frame, is_unheld, is_held_by, visits, may_zone_act, live_references, pins_of, free_in}
 use Rattle.step_rules.specs.Usage.{usage_of, PathHasRoom, IsLowestOver}
 
 -- the frame does not pass for the processor
@@ -20,6 +19,10 @@ rests s p f = not (passes_out p (s.phases f)) && not (passes_back p (s.phases f)
 -- no frame passes for the processor
 abbrev pub nothing_passes : State → ℕ → Bool
 nothing_passes s p = all_to s.zone.frames (rests s p)
+
+-- no frame passes for any processor
+abbrev pub no_frame_passes : State → Bool
+no_frame_passes s = all_to s.zone.frames (λ f. not (is_passing (s.phases f)))
 
 -- no page of any group is pending
 abbrev pub is_settled : State → Bool
@@ -46,7 +49,7 @@ is_removable s g = has_group s.groups g && not (g == 0) && not (has_child s.grou
 -- whether the seat may make the step
 abbrev pub is_legal : State → ℕ → Action → Bool
 is_legal s seat Lock = is_cpu s.zone seat && is_unheld s.hold
-is_legal s seat Unlock = is_cpu s.zone seat && is_held_by seat s.hold && is_settled s && nothing_passes s seat
+is_legal s seat Unlock = is_cpu s.zone seat && is_held_by seat s.hold && is_settled s && no_frame_passes s
 is_legal s seat (OpenVisit p) = may_zone_act s.hold seat && is_held_by p s.hold
 is_legal s seat (ShutVisit p) = may_zone_act s.hold seat && visits p s.hold && nothing_passes s p && (s.parts p).unreported == 0 && (s.parts p).reported == 0
 is_legal s seat (Get f) = is_cpu s.zone seat && is_frame s.zone f && nat_lt (pins_of s seat + length (s.parts seat).back) 256
@@ -135,13 +138,13 @@ IsCounted s (Freeze f n) Missed = live_references s f ≢ n
 IsCounted s (DrainStock p) (Pages n) = n ≡ (s.parts p).stock.pages
 IsCounted s action answer = Unit {0}
 
--- the answer that a step may get: Illegal exactly where it may not be made
+-- the step may be made, and may be answered so
 pub record IsMade (s : State) (seat : ℕ) (action : Action) (answer : Answer) : Type 0 where
   pub legal : is_legal s seat action ≡ true
   pub answered : IsAnswer s seat action answer
   pub counted : IsCounted s action answer
 
--- the answer is allowed: Illegal exactly where the step may not be made
+-- the answer that a step may get: Illegal exactly where the step may not be made
 abbrev pub Allows : State → ℕ → Action → Answer → Type 0
 Allows s seat action Illegal = is_legal s seat action ≡ false
 Allows s seat action answer = IsMade s seat action answer

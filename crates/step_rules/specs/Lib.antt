@@ -5,3 +5,8 @@ pub mod Legal
 pub mod After
 pub mod Cover
 pub mod Laws
+pub mod Counts
+pub mod Places
+pub mod Returns
+pub mod Grants
+pub mod Examples

@@ -1,5 +1,5 @@
 -- Tests on the phase of a frame, and how a step moves it on.
-use Rattle.std.specs.Prelude.{ℕ, ◌==◌, ◌&&◌, Bool, true, false, Option, Some, None, if◌then◌else◌}
+use Rattle.std.specs.Prelude.{ℕ, ◌==◌, ◌&&◌, ◌||◌, Bool, true, false, Option, Some, None, if◌then◌else◌}
 use Rattle.step_rules.specs.declared.phase.ChargedUnit.{ChargedUnit}
 use Rattle.step_rules.specs.declared.phase.Way.{Way}
 use Rattle.step_rules.specs.declared.phase.Way.TheVariants.{PassingOut, OnList, PassingBack}
@@ -88,6 +88,18 @@ abbrev pub passes_back : ℕ → Phase → Bool
 passes_back p (Lent q way) = is_returning way && q == p
 passes_back p (Head unit stage) = stage_passes_back p stage
 passes_back _ _ = false
+
+-- the unit's head passes back
+abbrev pub is_stage_passing : Stage → Bool
+is_stage_passing (FreshPassing p) = true
+is_stage_passing (BackPassing p) = true
+is_stage_passing _ = false
+
+-- the frame passes between the zone and a processor
+abbrev pub is_passing : Phase → Bool
+is_passing (Lent q way) = is_out way || is_returning way
+is_passing (Head unit stage) = is_stage_passing stage
+is_passing _ = false
 
 -- the unit's head is in the zone's hand
 abbrev pub is_stage_in_hand : Stage → Bool

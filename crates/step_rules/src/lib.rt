@@ -2,6 +2,7 @@
 //! it is legal, what it may be answered, what it changes, and what follows for every list of steps.
 #![tactic(auto)]
 
+pub mod examples;
 pub mod laws;
 pub mod phase;
 pub mod step;

@@ -35,63 +35,127 @@ pub enum Action {
     /// The processor that holds the lock gives it back: no page is pending, no frame passes, no visit is open.
     Unlock,
     /// The zone opens a visit of the processor that holds the lock.
-    OpenVisit { cpu: u32 },
+    OpenVisit {
+        cpu: u32,
+    },
     /// The zone shuts that visit: no frame passes, and no page of the processor is unreported or unabsorbed.
-    ShutVisit { cpu: u32 },
+    ShutVisit {
+        cpu: u32,
+    },
     /// A processor whose pins and back frames are below 256 asks for one reference more.
-    Get { frame: u32 },
+    Get {
+        frame: u32,
+    },
     /// A seat gives one of its references up.
-    Put { frame: u32 },
+    Put {
+        frame: u32,
+    },
     /// The zone takes all references off a frame at once, if they are its own and as many as it says.
-    Freeze { frame: u32, count: u32 },
+    Freeze {
+        frame: u32,
+        count: u32,
+    },
     /// The zone puts 1 to 255 references on the head of a charged unit that is in its hand.
-    Unfreeze { frame: u32, count: u32 },
+    Unfreeze {
+        frame: u32,
+        count: u32,
+    },
     /// The zone passes a free frame to the processor that is visited.
-    PassOut { frame: u32, cpu: u32 },
+    PassOut {
+        frame: u32,
+        cpu: u32,
+    },
     /// The processor takes the frame that passes for it to the end of its list.
-    TakeIn { frame: u32 },
+    TakeIn {
+        frame: u32,
+    },
     /// The visited processor passes back the front of its list, a fresh frame or a back frame.
-    PassBack { frame: u32 },
+    PassBack {
+        frame: u32,
+    },
     /// The zone takes the frame that was passed back.
-    Collect { frame: u32, cpu: u32 },
+    Collect {
+        frame: u32,
+        cpu: u32,
+    },
     /// A processor pays the front of its list from its stock for a group: fewer than 32 frames are fresh.
-    Consume { group: GroupId },
+    Consume {
+        group: GroupId,
+    },
     /// A processor gives a fresh frame back to the end of its list, and its page to its stock.
-    Credit { frame: u32 },
+    Credit {
+        frame: u32,
+    },
     /// The visited processor reports so many of the pages of the fresh frames that it passed back.
-    Report { pages: u32 },
+    Report {
+        pages: u32,
+    },
     /// The zone takes what the visited processor reported off its book.
-    Absorb { cpu: u32 },
+    Absorb {
+        cpu: u32,
+    },
     /// The zone fills the visited processor's stock, which has no page, with pending pages of a group: the one
     /// that its book is of, or any where the book is 0.
-    Fill { cpu: u32, group: GroupId, pages: u32 },
+    Fill {
+        cpu: u32,
+        group: GroupId,
+        pages: u32,
+    },
     /// The zone takes all pages out of a processor's stock; they are pending then.
-    DrainStock { cpu: u32 },
+    DrainStock {
+        cpu: u32,
+    },
     /// Pages are granted to a group that isn't killed, where the limits of the group and of each of its ancestors
     /// have room for all of them. They are pending then.
-    Grant { group: GroupId, pages: u32 },
+    Grant {
+        group: GroupId,
+        pages: u32,
+    },
     /// Pending pages are taken back, no more than the group has.
-    Ungrant { group: GroupId, pages: u32 },
+    Ungrant {
+        group: GroupId,
+        pages: u32,
+    },
     /// Pending pages, as many as the block has frames, are placed on a free block, whose frames the group keeps
     /// from then on.
-    PlaceBlock { group: GroupId, order: Order },
+    PlaceBlock {
+        group: GroupId,
+        order: Order,
+    },
     /// The head of a charged unit, on which the zone has a reference, is kept for its group.
-    Publish { frame: u32 },
+    Publish {
+        frame: u32,
+    },
     /// The frames of a unit come back: its last put was settled by the zone, or it is a fresh frame that was
     /// passed back and whose group is killed by now.
-    Return { frame: u32 },
+    Return {
+        frame: u32,
+    },
     /// It is noted that the usage of a group was about to go over its limit.
-    NoteMax { group: GroupId },
+    NoteMax {
+        group: GroupId,
+    },
     /// It is noted that a group's limit could not be kept by reclaim.
-    NoteOom { group: GroupId },
+    NoteOom {
+        group: GroupId,
+    },
     /// A group other than the root is given another limit, in pages; None for no limit. It binds later grants alone.
-    SetMax { group: GroupId, limit: Option<u32> },
+    SetMax {
+        group: GroupId,
+        limit: Option<u32>,
+    },
     /// A group is made, which the tree doesn't refuse (`Tree::make_fault`).
-    Make { path: PathText },
+    Make {
+        path: PathText,
+    },
     /// A group other than the root is taken out, which has none below it and whose usage is 0.
-    Remove { group: GroupId },
+    Remove {
+        group: GroupId,
+    },
     /// A group that isn't killed is killed: it gets no grant any more.
-    Kill { group: GroupId },
+    Kill {
+        group: GroupId,
+    },
 }
 
 /// What a step is answered.

@@ -1,0 +1,245 @@
+-- Every frame has exactly one place, the one that its phase tells.
+use Rattle.std.proofs.Common.{◌≡◌, ℕ, ◌+◌, ◌^◌, ◌<◌, ◌≤◌, ◌&&◌, ◌||◌, ◌==◌, Bool, true, false, Option, Some, length, refl, sym, ◌∙◌, ap, subst, arith, inl, inr, cond, if◌then◌else◌, eq-eqb}
+use Rattle.std.specs.Prelude.{nat_le, not}
+use Rattle.std.proofs.lemmas.Bool.{cases_eq, false≢true, true≢false, leb-true, cond-true, cond-false, lt-ltb, eqb-true}
+use Rattle.zone_blocks.specs.declared.block.Block.{Block}
+use Rattle.step_rules.specs.declared.phase.ChargedUnit.{ChargedUnit}
+use Rattle.step_rules.specs.declared.phase.Way.TheVariants.{PassingOut, OnList}
+use Rattle.step_rules.specs.declared.phase.Stage.{Stage}
+use Rattle.step_rules.specs.declared.phase.Stage.TheVariants.{Collected, Bare, Live, Ended}
+use Rattle.step_rules.specs.declared.phase.Phase.{Phase}
+use Rattle.step_rules.specs.declared.phase.Phase.TheVariants.{InZone, Lent, Head, Tail}
+use Rattle.step_rules.specs.declared.step.Place.{Place}
+use Rattle.step_rules.specs.declared.step.Place.TheVariants.{Free, Listed, Charged}
+use Rattle.step_rules.specs.declared.step.Step.{Step}
+use Rattle.step_rules.specs.declared.step.Action.{Action}
+use Rattle.step_rules.specs.declared.step.Action.TheVariants.{Lock, Put, Freeze, Unfreeze, PassOut, TakeIn, PassBack, Collect, Consume, Credit, PlaceBlock, Return}
+use Rattle.step_rules.specs.declared.step.Answer.{Answer}
+use Rattle.step_rules.specs.declared.step.Answer.TheVariants.{Illegal, Done, Last, Took, Back, Placed}
+use Rattle.step_rules.specs.Phases.{Fresh, has_as, is_free, passes_out, passes_back, unit_of, at_stage, stage_after_last, passed_back, collected, may_return}
+use Rattle.step_rules.specs.State.{Zone, State, at_boot, with_at, front_of, is_frame}
+use Rattle.step_rules.specs.Legal.{is_legal, IsAnswer, Allows}
+use Rattle.step_rules.specs.After.{after, state_of, is_within, placed_phase, with_block, unit_size, without_unit, consumed}
+use Rattle.step_rules.specs.Places.{Places, is_same_place, places_at_boot, moved, returned, credited_place, places_after, place_in, EveryFrameHasOnePlace}
+use Rattle.step_rules.proofs.Basics.{at_same, at_other, at_each}
+use Rattle.step_rules.proofs.Sound.{IsSound}
+use Rattle.step_rules.proofs.PhaseLemmas.{free_is, out_is, listed_is, fresh_is, came_back, CameBack, FromList, FromFresh, FromBack, returning_is, Returns, AsEnded, AsDrop}
+use Rattle.step_rules.proofs.Passing.{front_listed, in_zone}
+use Rattle.step_rules.proofs.Placing.{within_cases, block_free, in_block, off_block, in_unit, off_unit}
+use Rattle.step_rules.proofs.Runs.{next, after_illegal, allowed, kept_along, sound_boot}
+
+pub same_place_itself : (p : Place) → is_same_place p p ≡ true
+same_place_itself Free = refl
+same_place_itself (Listed p) = eq-eqb p p refl
+same_place_itself (Charged g) = eq-eqb g g refl
+
+pub same_place_is : (p q : Place) → is_same_place p q ≡ true → p ≡ q
+same_place_is Free Free e = refl
+same_place_is (Listed p) (Listed q) e = ap Listed (eqb-true p q e)
+same_place_is (Charged g) (Charged h) e = ap Charged (eqb-true g h e)
+same_place_is p q e = absurd (false≢true e)
+
+-- the set of pairs has for each frame of the zone the place that its phase tells, and no other pair
+abbrev pub AreTold : Zone → (ℕ → Phase) → Places → Type 0
+AreTold zone phases places = (f : ℕ) (p : Place) → places f p ≡ (is_frame zone f && is_same_place p (place_in (phases f)))
+
+-- frames of one place go to another
+moves_told : (zone : Zone) (phases later : ℕ → Phase) (places : Places) (at n : ℕ) (old new : Place) → AreTold zone phases places →
+    ((x : ℕ) → at ≤ x → x < at + n → is_within at n x ≡ true → (is_frame zone x ≡ true) × (place_in (phases x) ≡ old) × (place_in (later x) ≡ new)) →
+    ((x : ℕ) → is_within at n x ≡ false → place_in (later x) ≡ place_in (phases x)) →
+    AreTold zone later (moved places at n old new)
+moves_told zone phases later places at n old new told inside outside f p =
+    elim (within_cases at n f) [
+      | inl within ↦
+          let known = inside f within.1 within.2 within.0 in
+          let before : places f p ≡ is_same_place p old = told f p ∙ (λ i. known.0 i && is_same_place p (known.1 i)) in
+          let after_it : (is_frame zone f && is_same_place p (place_in (later f))) ≡ is_same_place p new = (λ i. known.0 i && is_same_place p (known.2 i)) in
+          cond-true (is_within at n f) (is_same_place p new || (places f p && not (is_same_place p old))) (places f p) within.0
+          ∙ ap (λ b. is_same_place p new || (b && not (is_same_place p old))) before
+          ∙ neither (is_same_place p new) (is_same_place p old)
+          ∙ sym after_it
+      | inr without ↦
+          cond-false (is_within at n f) (is_same_place p new || (places f p && not (is_same_place p old))) (places f p) without.0
+          ∙ told f p ∙ ap (λ q. is_frame zone f && is_same_place p q) (sym (outside f without.0))
+    ]
+  where
+    neither : (a b : Bool) → (a || (b && not b)) ≡ a
+    neither true b = refl
+    neither false true = refl
+    neither false false = refl
+
+-- one frame goes to another place
+one_told : (zone : Zone) (phases : ℕ → Phase) (places : Places) (f : ℕ) (y : Phase) (old new : Place) → AreTold zone phases places →
+    is_frame zone f ≡ true → place_in (phases f) ≡ old → place_in y ≡ new →
+    AreTold zone (with_at phases f y) (moved places f 1 old new)
+one_told zone phases places f y old new told frame was is =
+    moves_told zone phases (with_at phases f y) places f 1 old new told
+    (λ x low high within.
+    let e : f ≡ x = omega arith in
+    subst (λ (k : ℕ). (is_frame zone k ≡ true) × (place_in (phases k) ≡ old) × (place_in (with_at phases f y k) ≡ new)) e (frame, was, ap place_in (at_same phases f y) ∙ is))
+    (λ x off. ap place_in (at_other phases f y x (λ e. true≢false (sym (self x (sym e)) ∙ off))))
+  where
+    self : (x : ℕ) → f ≡ x → is_within f 1 x ≡ true
+    self x e = elim (within_cases f 1 x) [ inl w ↦ w.0 | inr o ↦ absurd (o.1 (omega arith) (omega arith)) ]
+
+-- one frame changes its phase and stays where it is
+stays_told : (zone : Zone) (phases : ℕ → Phase) (places : Places) (f : ℕ) (y : Phase) → AreTold zone phases places →
+    place_in y ≡ place_in (phases f) → AreTold zone (with_at phases f y) places
+stays_told zone phases places f y told same x p =
+    told x p ∙ ap (λ q. is_frame zone x && is_same_place p q) (sym (at_each phases f y (λ k z. place_in z ≡ place_in (phases k)) same (λ k ne. refl) x))
+
+staged : (stage : Stage) (x : Phase) → place_in (at_stage stage x) ≡ place_in x
+staged stage InZone = refl
+staged stage (Lent p way) = refl
+staged stage (Head u old) = refl
+staged stage (Tail g) = refl
+
+sent : (x : Phase) → place_in (passed_back x) ≡ place_in x
+sent InZone = refl
+sent (Lent p way) = refl
+sent (Head u old) = refl
+sent (Tail g) = refl
+
+-- a collected frame of the list is free, and any other stays with its group
+collects_told : (zone : Zone) (phases : ℕ → Phase) (places : Places) (f p : ℕ) → AreTold zone phases places → is_frame zone f ≡ true → CameBack p (phases f) →
+    AreTold zone (with_at phases f (collected (phases f))) (if places f (Listed p) then moved places f 1 (Listed p) Free else places)
+collects_told zone phases places f p told frame (FromList was) =
+    let there : places f (Listed p) ≡ true = told f (Listed p) ∙ (λ i. frame i && is_same_place (Listed p) (place_in (was i))) ∙ same_place_itself (Listed p) in
+    subst (AreTold zone (with_at phases f (collected (phases f)))) (sym (cond-true (places f (Listed p)) (moved places f 1 (Listed p) Free) places there))
+    (one_told zone phases places f (collected (phases f)) (Listed p) Free told frame (ap place_in was) (ap (λ x. place_in (collected x)) was))
+collects_told zone phases places f p told frame (FromFresh u was) =
+    let not_there : places f (Listed p) ≡ false = told f (Listed p) ∙ (λ i. frame i && is_same_place (Listed p) (place_in (was i))) in
+    subst (AreTold zone (with_at phases f (collected (phases f)))) (sym (cond-false (places f (Listed p)) (moved places f 1 (Listed p) Free) places not_there))
+    (stays_told zone phases places f (collected (phases f)) told (ap (λ x. place_in (collected x)) was ∙ sym (ap place_in was)))
+collects_told zone phases places f p told frame (FromBack u was) =
+    let not_there : places f (Listed p) ≡ false = told f (Listed p) ∙ (λ i. frame i && is_same_place (Listed p) (place_in (was i))) in
+    subst (AreTold zone (with_at phases f (collected (phases f)))) (sym (cond-false (places f (Listed p)) (moved places f 1 (Listed p) Free) places not_there))
+    (stays_told zone phases places f (collected (phases f)) told (ap (λ x. place_in (collected x)) was ∙ sym (ap place_in was)))
+
+-- a unit in the zone's hand comes back
+returns_told : (s : State) (places : Places) (f : ℕ) (u : ChargedUnit) (stage : Stage) → IsSound s → AreTold s.zone s.phases places →
+    s.phases f ≡ Head u stage →
+    AreTold s.zone (without_unit s.phases f) (returned places f (unit_of (s.phases f)))
+returns_told s places f u stage sound told was =
+    let unit : unit_of (s.phases f) ≡ Some u = ap unit_of was in
+    let size : unit_size (unit_of (s.phases f)) ≡ 2 ^ u.order = ap unit_size unit in
+    subst (λ (o : Option ChargedUnit). AreTold s.zone (without_unit s.phases f) (returned places f o)) (sym unit)
+    (moves_told s.zone s.phases (without_unit s.phases f) places f (2 ^ u.order) (Charged u.group) Free told
+    (λ x low high within.
+    let in_it : is_within f (unit_size (unit_of (s.phases f))) x ≡ true = ap (λ n. is_within f n x) size ∙ within in
+    let kept : (place_in (s.phases x) ≡ Charged u.group) × (is_free (s.phases x) ≡ false) = elim (cases_eq x f) [
+      | inl e ↦ (ap (λ (k : ℕ). place_in (s.phases k)) e ∙ ap place_in was, ap (λ (k : ℕ). is_free (s.phases k)) e ∙ ap is_free was)
+      | inr ne ↦ let tail = sound.units f u unit x (omega arith) high in (ap place_in tail, ap is_free tail)
+    ] in
+    (lt-ltb x s.zone.frames (in_zone s x sound kept.1), kept.0, ap place_in (in_unit s.phases f x in_it)))
+    (λ x off. ap place_in (off_unit s.phases f x (ap (λ n. is_within f n x) size ∙ off))))
+
+any_return_told : (s : State) (places : Places) (f : ℕ) → IsSound s → AreTold s.zone s.phases places → Returns s.killed (s.phases f) →
+    AreTold s.zone (without_unit s.phases f) (returned places f (unit_of (s.phases f)))
+any_return_told s places f sound told (AsEnded u was) = returns_told s places f u Ended sound told was
+any_return_told s places f sound told (AsDrop u was killed) = returns_told s places f u Collected sound told was
+
+placed_place : (g : ℕ) (b : Block) (x : ℕ) → place_in (placed_phase g b x) ≡ Charged g
+placed_place g b x = by_head (x == b.at)
+  where
+    by_head : (t : Bool) → place_in (cond t (Head (record { group = g; order = b.order }) Bare) (Tail g)) ≡ Charged g
+    by_head true = refl
+    by_head false = refl
+
+-- an illegal step moves nothing
+places_unchanged : (s : State) (places : Places) (seat : ℕ) (action : Action) → AreTold s.zone s.phases places →
+    AreTold s.zone (after s seat action Illegal).phases (places_after s places seat action Illegal)
+places_unchanged s places seat Lock told = told
+places_unchanged s places seat action told = told
+
+places_made : (s : State) (places : Places) (seat : ℕ) (action : Action) (answer : Answer) → IsSound s → AreTold s.zone s.phases places →
+    is_legal s seat action ≡ true → IsAnswer s seat action answer →
+    AreTold s.zone (after s seat action answer).phases (places_after s places seat action answer)
+places_made s places seat action Illegal sound told legal ok = places_unchanged s places seat action told
+places_made s places seat (Put f) Last sound told legal ok = stays_told s.zone s.phases places f (at_stage (stage_after_last seat) (s.phases f)) told (staged (stage_after_last seat) (s.phases f))
+places_made s places seat (Freeze f n) Done sound told legal ok = stays_told s.zone s.phases places f (at_stage Ended (s.phases f)) told (staged Ended (s.phases f))
+places_made s places seat (Unfreeze f n) Done sound told legal ok = stays_told s.zone s.phases places f (at_stage Live (s.phases f)) told (staged Live (s.phases f))
+places_made s places seat (PassOut f p) Done sound told legal ok =
+    let frame : is_frame s.zone f ≡ true = grind arith in
+    let free : is_free (s.phases f) ≡ true = grind arith in
+    one_told s.zone s.phases places f (Lent p PassingOut) Free (Listed p) told frame (ap place_in (free_is (s.phases f) free)) refl
+places_made s places seat (TakeIn f) Done sound told legal ok =
+    let passes : passes_out seat (s.phases f) ≡ true = grind arith in
+    stays_told s.zone s.phases places f (Lent seat OnList) told (sym (ap place_in (out_is seat (s.phases f) passes)))
+places_made s places seat (PassBack f) Done sound told legal ok = stays_told s.zone s.phases places f (passed_back (s.phases f)) told (sent (s.phases f))
+places_made s places seat (Collect f p) Done sound told legal ok =
+    let frame : is_frame s.zone f ≡ true = grind arith in
+    let passes : passes_back p (s.phases f) ≡ true = grind arith in
+    collects_told s.zone s.phases places f p told frame (came_back p (s.phases f) passes)
+places_made s places seat (Consume g) Took sound told legal ok =
+    let some : nat_le 1 (length (s.parts seat).list) ≡ true = grind arith in
+    let f = front_of (s.parts seat).list in
+    let was : s.phases f ≡ Lent seat OnList = listed_is seat (s.phases f) (front_listed s seat sound (leb-true 1 (length (s.parts seat).list) some)) in
+    one_told s.zone s.phases places f (consumed seat g) (Listed seat) (Charged g) told (lt-ltb f s.zone.frames (in_zone s f sound (ap is_free was))) (ap place_in was) refl
+places_made s places seat (Credit f) Back sound told legal ok =
+    let frame : is_frame s.zone f ≡ true = grind arith in
+    let fresh : has_as Fresh seat (s.phases f) ≡ true = grind arith in
+    let is = fresh_is seat (s.phases f) fresh in
+    subst (λ (o : Option ChargedUnit). AreTold s.zone (with_at s.phases f (Lent seat OnList)) (credited_place places seat f o)) (sym (ap unit_of is.1))
+    (one_told s.zone s.phases places f (Lent seat OnList) (Charged (is.0).group) (Listed seat) told frame (ap place_in is.1) refl)
+places_made s places seat (PlaceBlock g k) (Placed b) sound told legal ok =
+    moves_told s.zone s.phases (with_block s.phases g b) places b.at (2 ^ b.order) Free (Charged g) told
+    (λ x low high within.
+    let known = block_free s.zone s.phases b ok.1 x low high in
+    (lt-ltb x s.zone.frames known.0, ap place_in (free_is (s.phases x) known.1), ap place_in (in_block s.phases g b x within) ∙ placed_place g b x))
+    (λ x off. ap place_in (off_block s.phases g b x off))
+places_made s places seat (Return f) Done sound told legal ok =
+    let may : may_return s.killed (s.phases f) ≡ true = grind arith in
+    any_return_told s places f sound told (returning_is s.killed (s.phases f) may)
+places_made s places seat Lock answer sound told legal ok = told
+places_made s places seat action answer sound told legal ok = told
+
+pub zone_kept : (s : State) (seat : ℕ) (action : Action) (answer : Answer) → (after s seat action answer).zone ≡ s.zone
+zone_kept s seat action Illegal = ap (λ (t : State). t.zone) (after_illegal s seat action)
+zone_kept s seat Lock answer = refl
+zone_kept s seat action answer = refl
+
+places_allowed : (s : State) (places : Places) (seat : ℕ) (action : Action) (answer : Answer) → IsSound s → AreTold s.zone s.phases places →
+    Allows s seat action answer →
+    AreTold s.zone (after s seat action answer).phases (places_after s places seat action answer)
+places_allowed s places seat action answer sound told ok =
+    elim (allowed s seat action answer ok) [
+      | inl illegal ↦ subst (λ (a : Answer). AreTold s.zone (after s seat action a).phases (places_after s places seat action a)) (sym illegal) (places_unchanged s places seat action told)
+      | inr made ↦ places_made s places seat action answer sound told made.legal made.answered
+    ]
+
+-- the state that is told beside the places is the run's
+record Tells (zone : Zone) (s : State) (t : State × Places) : Type 0 where
+  state : t.0 ≡ s
+  zone_is : s.zone ≡ zone
+  told : AreTold zone s.phases t.1
+
+pub every_frame_has_one_place : EveryFrameHasOnePlace
+every_frame_has_one_place zone run legal =
+    let tell : State × Places → Step × Answer → State × Places = λ t e. (after t.0 e.0.seat e.0.action e.1, places_after t.0 t.1 e.0.seat e.0.action e.1) in
+    let kept = kept_along tell (Tells zone) keep (at_boot zone) (at_boot zone, places_at_boot zone) run (sound_boot zone)
+    (record { state = refl; zone_is = refl; told = λ f p. refl }) legal in
+    let told = kept.1.told in
+    record {
+      one = λ f below.
+          let place = place_in ((state_of zone run).phases f) in
+          let frame : is_frame zone f ≡ true = lt-ltb f zone.frames below in
+          record {
+            place = place;
+            there = told f place ∙ (λ i. frame i && is_same_place place place) ∙ same_place_itself place;
+            only = λ p e. same_place_is p place (sym (told f p ∙ (λ i. frame i && is_same_place p place)) ∙ e);
+          };
+      told = told;
+    }
+  where
+    keep : (s : State) (t : State × Places) (e : Step × Answer) → IsSound s → Tells zone s t → Allows s e.0.seat e.0.action e.1 →
+        Tells zone (next s e) (after t.0 e.0.seat e.0.action e.1, places_after t.0 t.1 e.0.seat e.0.action e.1)
+    keep s t e sound tells ok =
+        let here : AreTold s.zone s.phases t.1 = subst (λ (z : Zone). AreTold z s.phases t.1) (sym tells.zone_is) tells.told in
+        let later = places_allowed s t.1 e.0.seat e.0.action e.1 sound here ok in
+        record {
+          state = ap (λ (r : State). after r e.0.seat e.0.action e.1) tells.state;
+          zone_is = zone_kept s e.0.seat e.0.action e.1 ∙ tells.zone_is;
+          told = subst (λ (r : State). AreTold zone (next s e).phases (places_after r t.1 e.0.seat e.0.action e.1)) (sym tells.state)
+              (subst (λ (z : Zone). AreTold z (next s e).phases (places_after s t.1 e.0.seat e.0.action e.1)) tells.zone_is later);
+        }

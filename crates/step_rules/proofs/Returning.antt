@@ -1,0 +1,265 @@
+-- Every frame comes back once for each use that ended.
+use Rattle.std.proofs.Common.{◌≡◌, ℕ, ◌+◌, ◌^◌, ◌<◌, ◌≤◌, ◌==◌, Bool, true, false, Some, [], ◌∷◌, length, refl, sym, ◌∙◌, ap, subst, arith, inl, inr, cond, eq-eqb}
+use Rattle.std.specs.Prelude.{nat_le, not}
+use Rattle.std.specs.List.{fold}
+use Rattle.std.proofs.lemmas.Bool.{cases_eq, ne_eqb, leb-true}
+use Rattle.std.proofs.lemmas.Nat.{pow_pos}
+use Rattle.zone_blocks.specs.declared.block.Block.{Block}
+use Rattle.step_rules.specs.declared.phase.ChargedUnit.{ChargedUnit}
+use Rattle.step_rules.specs.declared.phase.Way.TheVariants.{PassingOut, OnList}
+use Rattle.step_rules.specs.declared.phase.Stage.{Stage}
+use Rattle.step_rules.specs.declared.phase.Stage.TheVariants.{FreshAt, FreshPassing, Collected, Bare, Live, BackAt, BackPassing, Ended}
+use Rattle.step_rules.specs.declared.phase.Phase.{Phase}
+use Rattle.step_rules.specs.declared.phase.Phase.TheVariants.{Lent, Head, Tail}
+use Rattle.step_rules.specs.declared.step.Step.{Step}
+use Rattle.step_rules.specs.declared.step.Action.{Action}
+use Rattle.step_rules.specs.declared.step.Action.TheVariants.{Lock, Put, Freeze, Unfreeze, PassOut, TakeIn, PassBack, Collect, Consume, Credit, PlaceBlock, Return}
+use Rattle.step_rules.specs.declared.step.Answer.{Answer}
+use Rattle.step_rules.specs.declared.step.Answer.TheVariants.{Illegal, Done, Last, Took, Back, Placed}
+use Rattle.step_rules.specs.Phases.{Fresh, has_as, is_free, passes_out, passes_back, unit_of, at_stage, stage_after_last, passed_back, collected, is_head_in_hand, may_return}
+use Rattle.step_rules.specs.State.{Zone, State, at_boot, with_at, one_if, front_of}
+use Rattle.step_rules.specs.Legal.{is_legal, IsAnswer, Allows}
+use Rattle.step_rules.specs.After.{Run, after, state_of, IsLegalRun, is_within, placed_phase, with_block, unit_size, without_unit, consumed}
+use Rattle.step_rules.specs.Returns.{is_open, uses_ended, uses_closed, counted_beside, EveryFrameReturnsOnce}
+use Rattle.step_rules.proofs.Basics.{at_same, at_other}
+use Rattle.step_rules.proofs.Sound.{IsSound}
+use Rattle.step_rules.proofs.PhaseLemmas.{live_is, free_is, out_is, listed_is, fresh_is, in_hand, InHand, WasCollected, WasBare, WasEnded, came_back, CameBack, FromList, FromFresh, FromBack, returning_is, Returns, AsEnded, AsDrop}
+use Rattle.step_rules.proofs.Referring.{live_from_one}
+use Rattle.step_rules.proofs.Passing.{front_listed}
+use Rattle.step_rules.proofs.Placing.{within_cases, block_free, in_block, off_block, in_unit, off_unit}
+use Rattle.step_rules.proofs.Runs.{allowed, kept_along, sound_boot, sound_run}
+
+abbrev Count : Type 0
+Count = State → ℕ → Action → Answer → ℕ
+
+abbrev Told : Type 0
+Told = State × (ℕ × ℕ)
+
+tell_both : Count → Count → Told → Step × Answer → Told
+tell_both f g t e = (after t.0 e.0.seat e.0.action e.1, (t.1.0 + f t.0 e.0.seat e.0.action e.1, t.1.1 + g t.0 e.0.seat e.0.action e.1))
+
+tell_one : Count → State × ℕ → Step × Answer → State × ℕ
+tell_one f t e = (after t.0 e.0.seat e.0.action e.1, t.1 + f t.0 e.0.seat e.0.action e.1)
+
+both_first : (f g : Count) (run : Run) (t : Told) → (fold (tell_both f g) t run).1.0 ≡ (fold (tell_one f) (t.0, t.1.0) run).1
+unfolding tell_both tell_one
+both_first f g [] t = refl
+both_first f g (e ∷ run) t = both_first f g run (tell_both f g t e)
+
+both_last : (f g : Count) (run : Run) (t : Told) → (fold (tell_both f g) t run).1.1 ≡ (fold (tell_one g) (t.0, t.1.1) run).1
+unfolding tell_both tell_one
+both_last f g [] t = refl
+both_last f g (e ∷ run) t = both_last f g run (tell_both f g t e)
+
+-- what is told beside the state is what each step changes
+record Tells (F : State → ℕ) (s : State) (t : Told) : Type 0 where
+  state : t.0 ≡ s
+  sum : t.1.0 ≡ F s + t.1.1
+
+pub counted_so : (gain loss : Count) (F : State → ℕ) → ((zone : Zone) → F (at_boot zone) ≡ 0) →
+    ((s : State) (seat : ℕ) (action : Action) (answer : Answer) → IsSound s → Allows s seat action answer → F s + gain s seat action answer ≡ F (after s seat action answer) + loss s seat action answer) →
+    (zone : Zone) (run : Run) → IsLegalRun zone run → counted_beside gain zone run ≡ F (state_of zone run) + counted_beside loss zone run
+unfolding tell_both tell_one
+counted_so gain loss F boot each zone run legal =
+    let start : Told = (at_boot zone, (0, 0)) in
+    let kept = kept_along (tell_both gain loss) (Tells F)
+    (λ s t e sound tells ok.
+    let change = each s e.0.seat e.0.action e.1 sound ok in
+    let sums = tells.sum in
+    let a : gain t.0 e.0.seat e.0.action e.1 ≡ gain s e.0.seat e.0.action e.1 = ap (λ r. gain r e.0.seat e.0.action e.1) tells.state in
+    let b : loss t.0 e.0.seat e.0.action e.1 ≡ loss s e.0.seat e.0.action e.1 = ap (λ r. loss r e.0.seat e.0.action e.1) tells.state in
+    record { state = ap (λ r. after r e.0.seat e.0.action e.1) tells.state; sum = omega arith })
+    (at_boot zone) start run (sound_boot zone) (record { state = refl; sum = let z = boot zone in omega arith }) legal in
+    sym (both_first gain loss run start) ∙ kept.1.sum ∙ ap (λ n. F (state_of zone run) + n) (both_last gain loss run start)
+
+-- 1 where an end of the frame is open
+abbrev opens : Phase → ℕ
+opens x = one_if (is_open x)
+
+-- one frame changes its phase
+phase_changes : (phases : ℕ → Phase) (f m : ℕ) (y : Phase) (i o : ℕ) → opens (phases f) + i ≡ opens y + o →
+    opens (phases m) + cond (f == m) i 0 ≡ opens (with_at phases f y m) + cond (f == m) o 0
+phase_changes phases f m y i o e =
+    elim (cases_eq f m) [
+      | inl same ↦
+          let a : opens (with_at phases f y m) ≡ opens y = ap (λ (k : ℕ). opens (with_at phases f y k)) (sym same) ∙ ap opens (at_same phases f y) in
+          let b : opens (phases m) ≡ opens (phases f) = ap (λ (k : ℕ). opens (phases k)) (sym same) in
+          rw (eq-eqb f m same) (omega arith)
+      | inr ne ↦
+          let a : opens (with_at phases f y m) ≡ opens (phases m) = ap opens (at_other phases f y m (λ d. ne (sym d))) in
+          rw (ne_eqb f m ne) (omega arith)
+    ]
+
+none_if : (b : Bool) → ◌≡◌ {A = ℕ} (cond b 0 0) 0
+none_if true = refl
+none_if false = refl
+
+stays : (phases : ℕ → Phase) (f m : ℕ) (y : Phase) → opens (phases f) ≡ opens y → opens (phases m) + 0 ≡ opens (with_at phases f y m) + 0
+stays phases f m y e = let a = phase_changes phases f m y 0 0 (omega arith) in let b = none_if (f == m) in omega arith
+
+opened : (phases : ℕ → Phase) (f m : ℕ) (y : Phase) → opens (phases f) ≡ 0 → opens y ≡ 1 →
+    opens (phases m) + cond (f == m) 1 0 ≡ opens (with_at phases f y m) + 0
+opened phases f m y e d = let a = phase_changes phases f m y 1 0 (omega arith) in let b = none_if (f == m) in omega arith
+
+undone : (phases : ℕ → Phase) (f m : ℕ) (y : Phase) → opens y ≡ 0 → opens (phases m) + 0 ≡ opens (with_at phases f y m) + cond (f == m) (opens (phases f)) 0
+undone phases f m y e = let a = phase_changes phases f m y 0 (opens (phases f)) (omega arith) in let b = none_if (f == m) in omega arith
+
+last_opens : (seat : ℕ) (u : ChargedUnit) → opens (at_stage (stage_after_last seat) (Head u Live)) ≡ 1
+last_opens seat u = by_seat (seat == 0)
+  where
+    by_seat : (b : Bool) → opens (Head u (cond b Ended (BackAt seat))) ≡ 1
+    by_seat true = refl
+    by_seat false = refl
+
+sent_stage : (stage : Stage) (u : ChargedUnit) → opens (Head u stage) ≡ opens (passed_back (Head u stage))
+sent_stage (FreshAt p) u = refl
+sent_stage (BackAt p) u = refl
+sent_stage (FreshPassing p) u = refl
+sent_stage (BackPassing p) u = refl
+sent_stage stage u = refl
+
+sent_opens : (x : Phase) → opens x ≡ opens (passed_back x)
+sent_opens (Head u stage) = sent_stage stage u
+sent_opens x = refl
+
+got_opens : (p : ℕ) (x : Phase) → CameBack p x → opens x ≡ opens (collected x)
+got_opens p x (FromList e) = ap opens e ∙ sym (ap (λ y. opens (collected y)) e)
+got_opens p x (FromFresh u e) = ap opens e ∙ sym (ap (λ y. opens (collected y)) e)
+got_opens p x (FromBack u e) = ap opens e ∙ sym (ap (λ y. opens (collected y)) e)
+
+woken_opens : (x : Phase) → InHand x → opens (at_stage Live x) ≡ 0
+woken_opens x (WasCollected u e) = ap (λ y. opens (at_stage Live y)) e
+woken_opens x (WasBare u e) = ap (λ y. opens (at_stage Live y)) e
+woken_opens x (WasEnded u e) = ap (λ y. opens (at_stage Live y)) e
+
+placed_opens : (g : ℕ) (b : Block) (m : ℕ) → opens (placed_phase g b m) ≡ 0
+placed_opens g b m = by_head (m == b.at)
+  where
+    by_head : (t : Bool) → opens (cond t (Head (record { group = g; order = b.order }) Bare) (Tail g)) ≡ 0
+    by_head true = refl
+    by_head false = refl
+
+-- a unit comes back: its head closes its use, and its tails had none
+unit_closes : (s : State) (f m : ℕ) (u : ChargedUnit) (stage : Stage) → IsSound s → s.phases f ≡ Head u stage →
+    opens (s.phases m) + cond (f == m) (one_if (not (is_open (s.phases f)))) 0 ≡ opens (without_unit s.phases f m) + cond (f == m) 1 0
+unit_closes s f m u stage sound was =
+    let unit : unit_of (s.phases f) ≡ Some u = ap unit_of was in
+    let size : unit_size (unit_of (s.phases f)) ≡ 2 ^ u.order = ap unit_size unit in
+    elim (cases_eq f m) [
+      | inl same ↦
+          let back : opens (without_unit s.phases f m) ≡ 0 = ap (λ (k : ℕ). opens (without_unit s.phases f k)) (sym same) ∙ ap opens (in_unit s.phases f f (self (let p = pow_pos u.order in omega arith))) in
+          let a : opens (s.phases m) ≡ opens (s.phases f) = ap (λ (k : ℕ). opens (s.phases k)) (sym same) in
+          let b = one_of (is_open (s.phases f)) in
+          rw (eq-eqb f m same) (omega arith)
+      | inr ne ↦ elim (within_cases f (unit_size (unit_of (s.phases f))) m) [
+        | inl within ↦
+            let low = within.1 in
+            let high = within.2 in
+            let tail : opens (s.phases m) ≡ 0 = ap opens (sound.units f u unit m (omega arith) (omega arith)) in
+            let back : opens (without_unit s.phases f m) ≡ 0 = ap opens (in_unit s.phases f m within.0) in
+            rw (ne_eqb f m ne) (omega arith)
+        | inr without ↦
+            let back : opens (without_unit s.phases f m) ≡ opens (s.phases m) = ap opens (off_unit s.phases f m without.0) in
+            rw (ne_eqb f m ne) (omega arith)
+      ]
+    ]
+  where
+    one_of : (b : Bool) → one_if b + one_if (not b) ≡ 1
+    one_of true = refl
+    one_of false = refl
+
+    self : 1 ≤ unit_size (unit_of (s.phases f)) → is_within f (unit_size (unit_of (s.phases f))) f ≡ true
+    self some = elim (within_cases f (unit_size (unit_of (s.phases f))) f) [ inl w ↦ w.0 | inr o ↦ absurd (o.1 (omega arith) (omega arith)) ]
+
+any_unit_closes : (s : State) (f m : ℕ) → IsSound s → Returns s.killed (s.phases f) →
+    opens (s.phases m) + cond (f == m) (one_if (not (is_open (s.phases f)))) 0 ≡ opens (without_unit s.phases f m) + cond (f == m) 1 0
+any_unit_closes s f m sound (AsEnded u was) = unit_closes s f m u Ended sound was
+any_unit_closes s f m sound (AsDrop u was killed) = unit_closes s f m u Collected sound was
+
+block_stays : (s : State) (g : ℕ) (b : Block) (m : ℕ) → ((x : ℕ) → b.at ≤ x → x < b.at + 2 ^ b.order → is_free (s.phases x) ≡ true) →
+    opens (s.phases m) + 0 ≡ opens (with_block s.phases g b m) + 0
+block_stays s g b m free =
+    elim (within_cases b.at (2 ^ b.order) m) [
+      | inl within ↦
+          let a : opens (s.phases m) ≡ 0 = ap opens (free_is (s.phases m) (free m within.1 within.2)) in
+          let c : opens (with_block s.phases g b m) ≡ 0 = ap opens (in_block s.phases g b m within.0) ∙ placed_opens g b m in
+          omega arith
+      | inr without ↦ let a : opens (with_block s.phases g b m) ≡ opens (s.phases m) = ap opens (off_block s.phases g b m without.0) in omega arith
+    ]
+
+-- an illegal step ends and closes nothing
+uses_unchanged : (m : ℕ) (s : State) (seat : ℕ) (action : Action) →
+    opens (s.phases m) + uses_ended m s seat action Illegal ≡ opens ((after s seat action Illegal).phases m) + uses_closed m s seat action Illegal
+uses_unchanged m s seat Lock = refl
+uses_unchanged m s seat action = refl
+
+uses_made : (m : ℕ) (s : State) (seat : ℕ) (action : Action) (answer : Answer) → IsSound s → is_legal s seat action ≡ true → IsAnswer s seat action answer →
+    opens (s.phases m) + uses_ended m s seat action answer ≡ opens ((after s seat action answer).phases m) + uses_closed m s seat action answer
+uses_made m s seat action Illegal sound legal ok = uses_unchanged m s seat action
+uses_made m s seat (Put f) Last sound legal ok =
+    let some : nat_le 1 (s.references seat f) ≡ true = grind arith in
+    let is = live_is (s.phases f) (live_from_one s seat f sound (leb-true 1 (s.references seat f) some)) in
+    opened s.phases f m (at_stage (stage_after_last seat) (s.phases f)) (ap opens is.1) (ap (λ x. opens (at_stage (stage_after_last seat) x)) is.1 ∙ last_opens seat is.0)
+uses_made m s seat (Freeze f n) Done sound legal ok =
+    let one : nat_le 1 n ≡ true = grind arith in
+    let some : nat_le n (s.references 0 f) ≡ true = grind arith in
+    let low : 1 ≤ n = leb-true 1 n one in
+    let high : n ≤ s.references 0 f = leb-true n (s.references 0 f) some in
+    let is = live_is (s.phases f) (live_from_one s 0 f sound (omega arith)) in
+    opened s.phases f m (at_stage Ended (s.phases f)) (ap opens is.1) (ap (λ x. opens (at_stage Ended x)) is.1)
+uses_made m s seat (Unfreeze f n) Done sound legal ok =
+    let hand : is_head_in_hand (s.phases f) ≡ true = grind arith in
+    undone s.phases f m (at_stage Live (s.phases f)) (woken_opens (s.phases f) (in_hand (s.phases f) hand))
+uses_made m s seat (PassOut f p) Done sound legal ok =
+    let free : is_free (s.phases f) ≡ true = grind arith in
+    stays s.phases f m (Lent p PassingOut) (ap opens (free_is (s.phases f) free))
+uses_made m s seat (TakeIn f) Done sound legal ok =
+    let passes : passes_out seat (s.phases f) ≡ true = grind arith in
+    stays s.phases f m (Lent seat OnList) (ap opens (out_is seat (s.phases f) passes))
+uses_made m s seat (PassBack f) Done sound legal ok = stays s.phases f m (passed_back (s.phases f)) (sent_opens (s.phases f))
+uses_made m s seat (Collect f p) Done sound legal ok =
+    let passes : passes_back p (s.phases f) ≡ true = grind arith in
+    stays s.phases f m (collected (s.phases f)) (got_opens p (s.phases f) (came_back p (s.phases f) passes))
+uses_made m s seat (Consume g) Took sound legal ok =
+    let some : nat_le 1 (length (s.parts seat).list) ≡ true = grind arith in
+    let f = front_of (s.parts seat).list in
+    stays s.phases f m (consumed seat g) (ap opens (listed_is seat (s.phases f) (front_listed s seat sound (leb-true 1 (length (s.parts seat).list) some))))
+uses_made m s seat (Credit f) Back sound legal ok =
+    let fresh : has_as Fresh seat (s.phases f) ≡ true = grind arith in
+    phase_changes s.phases f m (Lent seat OnList) 1 1 (ap (λ n. n + 1) (ap opens (fresh_is seat (s.phases f) fresh).1))
+uses_made m s seat (PlaceBlock g k) (Placed b) sound legal ok = block_stays s g b m (λ x low high. (block_free s.zone s.phases b ok.1 x low high).1)
+uses_made m s seat (Return f) Done sound legal ok =
+    let may : may_return s.killed (s.phases f) ≡ true = grind arith in
+    any_unit_closes s f m sound (returning_is s.killed (s.phases f) may)
+uses_made m s seat Lock answer sound legal ok = refl
+uses_made m s seat action answer sound legal ok = refl
+
+uses_allowed : (m : ℕ) (s : State) (seat : ℕ) (action : Action) (answer : Answer) → IsSound s → Allows s seat action answer →
+    opens (s.phases m) + uses_ended m s seat action answer ≡ opens ((after s seat action answer).phases m) + uses_closed m s seat action answer
+uses_allowed m s seat action answer sound ok =
+    elim (allowed s seat action answer ok) [
+      | inl illegal ↦ subst (λ (a : Answer). opens (s.phases m) + uses_ended m s seat action a ≡ opens ((after s seat action a).phases m) + uses_closed m s seat action a) (sym illegal) (uses_unchanged m s seat action)
+      | inr made ↦ uses_made m s seat action answer sound made.legal made.answered
+    ]
+
+pub every_frame_returns_once : EveryFrameReturnsOnce
+unfolding tell_one
+every_frame_returns_once zone run legal f =
+    let s = state_of zone run in
+    let sound = sound_run zone run legal in
+    record {
+      once = counted_so (uses_ended f) (uses_closed f) (λ t. opens (t.phases f)) (λ z. refl) (uses_allowed f) zone run legal;
+      none_open_at_put = λ seat made.
+          let ok = made.legal in
+          let some : nat_le 1 (s.references seat f) ≡ true = grind arith in
+          let is = live_is (s.phases f) (live_from_one s seat f sound (leb-true 1 (s.references seat f) some)) in
+          ap is_open is.1;
+      none_open_at_freeze = λ seat n made.
+          let ok = made.legal in
+          let one : nat_le 1 n ≡ true = grind arith in
+          let some : nat_le n (s.references 0 f) ≡ true = grind arith in
+          let low : 1 ≤ n = leb-true 1 n one in
+          let high : n ≤ s.references 0 f = leb-true n (s.references 0 f) some in
+          let is = live_is (s.phases f) (live_from_one s 0 f sound (omega arith)) in
+          ap is_open is.1;
+    }

@@ -1,0 +1,193 @@
+-- The small runs are legal, each step in turn.
+use Rattle.std.proofs.Common.{◌≡◌, ℕ, Bool, true, false, List, [], ◌∷◌, length, refl, subst, arith, inl, inr, zero, suc}
+use Rattle.std.specs.List.{slice_index_or}
+use Rattle.std.proofs.lemmas.Bool.{cases_eq, ne_eqb}
+use Rattle.zone_blocks.specs.Areas.{IsFreeBlock}
+use Rattle.group_tree.specs.Groups.{has_group, group_at, limit_of, initial_groups}
+use Rattle.step_rules.specs.State.{State, at_boot, sum_to, all_to}
+use Rattle.step_rules.specs.Usage.{PathHasRoom, has_room}
+use Rattle.step_rules.specs.Legal.{Allows}
+use Rattle.step_rules.specs.After.{Run, IsLegalRun}
+use Rattle.step_rules.specs.Examples.{small_zone, life_of_a_frame, credited_twice, returned_twice, unlocked_too_soon}
+use Rattle.step_rules.proofs.Runs.{next, IsLegalFrom}
+
+-- each step is allowed after those before it
+abbrev AreAllowed : State → Run → Type 0
+AreAllowed s [] = Unit {0}
+AreAllowed s (e ∷ run) = Allows s e.0.seat e.0.action e.1 × AreAllowed (next s e) run
+
+legal_each : (s : State) (run : Run) → AreAllowed s run → IsLegalFrom s run
+legal_each s [] each k = tt
+legal_each s (e ∷ run) each zero = each.0
+legal_each s (e ∷ run) each (suc k) = legal_each (next s e) run each.1 k
+
+-- the root has no limit
+root_has_room : (usage : ℕ → ℕ) (n : ℕ) → PathHasRoom initial_groups usage n 0
+unfolding limit_of group_at
+root_has_room usage n m below =
+    elim (cases_eq 0 m) [
+      | inl e ↦ subst (λ (k : ℕ). has_room initial_groups usage n k ≡ true) e refl
+      | inr ne ↦ rw (ne_eqb 0 m ne) refl
+    ]
+
+-- frame 0 of the small zone is a free block where it is free
+front_block : (free : List Bool) → length free ≡ 2 → slice_index_or free 0 false ≡ true → IsFreeBlock free (record { at = 0; order = 0 })
+front_block free size first = record {
+  block = record { order = omega arith; aligned = refl; inside = omega arith };
+  all_free = λ f covers.
+      let low = covers.from in
+      let high = covers.before in
+      let e : 0 ≡ f = omega arith in
+      subst (λ (k : ℕ). slice_index_or free k false ≡ true) e first;
+}
+
+pub life_is_legal : IsLegalRun small_zone life_of_a_frame
+unfolding has_group group_at sum_to all_to
+life_is_legal = legal_each (at_boot small_zone) life_of_a_frame (
+  record { legal = refl; answered = tt; counted = tt },
+  (
+    record { legal = refl; answered = tt; counted = tt },
+    (
+      record { legal = refl; answered = tt; counted = tt },
+      (
+        record { legal = refl; answered = tt; counted = tt },
+        (
+          record { legal = refl; answered = root_has_room _ 2; counted = tt },
+          (
+            record { legal = refl; answered = tt; counted = tt },
+            (
+              record { legal = refl; answered = (refl, refl, omega arith); counted = tt },
+              (
+                record { legal = refl; answered = tt; counted = tt },
+                (
+                  record { legal = refl; answered = tt; counted = tt },
+                  (
+                    record { legal = refl; answered = tt; counted = tt },
+                    (
+                      record { legal = refl; answered = tt; counted = tt },
+                      (
+                        record { legal = refl; answered = tt; counted = tt },
+                        (
+                          record { legal = refl; answered = refl; counted = tt },
+                          (
+                            record { legal = refl; answered = tt; counted = tt },
+                            (
+                              record { legal = refl; answered = tt; counted = tt },
+                              (
+                                record { legal = refl; answered = tt; counted = refl },
+                                (
+                                  record { legal = refl; answered = tt; counted = tt },
+                                  (
+                                    record { legal = refl; answered = tt; counted = (refl, omega arith) },
+                                    (
+                                      record { legal = refl; answered = tt; counted = refl },
+                                      (
+                                        record { legal = refl; answered = tt; counted = tt },
+                                        (
+                                          record { legal = refl; answered = tt; counted = tt },
+                                          (
+                                            record { legal = refl; answered = tt; counted = tt },
+                                            (
+                                              record { legal = refl; answered = tt; counted = tt },
+                                              (
+                                                record { legal = refl; answered = tt; counted = tt },
+                                                (
+                                                  record { legal = refl; answered = tt; counted = tt },
+                                                  (
+                                                    record { legal = refl; answered = tt; counted = tt },
+                                                    (
+                                                      record { legal = refl; answered = tt; counted = refl },
+                                                      (
+                                                        record { legal = refl; answered = tt; counted = tt },
+                                                        (record { legal = refl; answered = tt; counted = tt }, tt),
+                                                      ),
+                                                    ),
+                                                  ),
+                                                ),
+                                              ),
+                                            ),
+                                          ),
+                                        ),
+                                      ),
+                                    ),
+                                  ),
+                                ),
+                              ),
+                            ),
+                          ),
+                        ),
+                      ),
+                    ),
+                  ),
+                ),
+              ),
+            ),
+          ),
+        ),
+      ),
+    ),
+  ),
+)
+
+pub credited_twice_is_refused : IsLegalRun small_zone credited_twice
+unfolding has_group group_at sum_to all_to
+credited_twice_is_refused = legal_each (at_boot small_zone) credited_twice (
+  record { legal = refl; answered = tt; counted = tt },
+  (
+    record { legal = refl; answered = tt; counted = tt },
+    (
+      record { legal = refl; answered = tt; counted = tt },
+      (
+        record { legal = refl; answered = tt; counted = tt },
+        (
+          record { legal = refl; answered = root_has_room _ 2; counted = tt },
+          (
+            record { legal = refl; answered = tt; counted = tt },
+            (
+              record { legal = refl; answered = (refl, refl, omega arith); counted = tt },
+              (
+                record { legal = refl; answered = refl; counted = tt },
+                (refl, tt),
+              ),
+            ),
+          ),
+        ),
+      ),
+    ),
+  ),
+)
+
+pub returned_twice_is_refused : IsLegalRun small_zone returned_twice
+unfolding has_group group_at sum_to all_to
+returned_twice_is_refused = legal_each (at_boot small_zone) returned_twice (
+  record { legal = refl; answered = tt; counted = tt },
+  (
+    record { legal = refl; answered = root_has_room _ 2; counted = tt },
+    (
+      record { legal = refl; answered = (refl, front_block _ refl refl); counted = tt },
+      (
+        record { legal = refl; answered = tt; counted = tt },
+        (
+          record { legal = refl; answered = tt; counted = refl },
+          (
+            record { legal = refl; answered = tt; counted = tt },
+            (
+              record { legal = refl; answered = (refl, front_block _ refl refl); counted = tt },
+              (refl, tt),
+            ),
+          ),
+        ),
+      ),
+    ),
+  ),
+)
+
+pub unlocked_too_soon_is_refused : IsLegalRun small_zone unlocked_too_soon
+unfolding has_group group_at sum_to all_to
+unlocked_too_soon_is_refused = legal_each (at_boot small_zone) unlocked_too_soon (
+  record { legal = refl; answered = tt; counted = tt },
+  (
+    record { legal = refl; answered = root_has_room _ 2; counted = tt },
+    (refl, tt),
+  ),
+)

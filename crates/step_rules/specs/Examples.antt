@@ -1,0 +1,62 @@
+-- Small runs, to be read beside the table: one of the life of a frame, and three whose last step is refused.
+use Rattle.std.specs.Prelude.{ℕ, [], ◌∷◌, ◌++◌}
+use Rattle.step_rules.specs.declared.step.Step.{Step}
+use Rattle.step_rules.specs.declared.step.Action.{Action}
+use Rattle.step_rules.specs.declared.step.Action.TheVariants.{Lock, Unlock, OpenVisit, ShutVisit, Get, Put, Freeze, Unfreeze, PassOut, TakeIn, PassBack, Collect, Consume, Credit, Report, Absorb, Fill, DrainStock, Grant, Ungrant, PlaceBlock, Publish, Return}
+use Rattle.step_rules.specs.declared.step.Answer.{Answer}
+use Rattle.step_rules.specs.declared.step.Answer.TheVariants.{Illegal, Done, Held, Left, Last, Took, Back, Pages, Granted, Placed}
+use Rattle.step_rules.specs.State.{Zone}
+use Rattle.step_rules.specs.After.{Run}
+
+-- a zone of two frames and two processors
+abbrev pub small_zone : Zone
+small_zone = record { frames = 2; cpus = 2 }
+
+-- one step with its answer
+abbrev pub made : ℕ → Action → Answer → Step × Answer
+made seat action answer = (record { seat = seat; action = action }, answer)
+
+-- processor 1 gets frame 0 to its list, and a stock of two pages of the root
+abbrev pub first_visit : Run
+first_visit =
+    made 1 Lock Done ∷ made 0 (OpenVisit 1) Done ∷ made 0 (PassOut 0 1) Done ∷ made 1 (TakeIn 0) Done ∷
+    made 0 (Grant 0 2) Granted ∷ made 0 (Fill 1 0 2) Done ∷ []
+
+-- it pays for the frame, which becomes fresh, hands it over to the zone, which keeps it, and reports the page
+abbrev pub hand_over : Run
+hand_over =
+    made 1 (Consume 0) Took ∷ made 1 (PassBack 0) Done ∷ made 0 (Collect 0 1) Done ∷ made 0 (Unfreeze 0 1) Done ∷
+    made 0 (Publish 0) Done ∷ made 1 (Report 1) Done ∷ made 0 (Absorb 1) (Pages 1) ∷ made 0 (ShutVisit 1) Done ∷ made 1 Unlock Done ∷ []
+
+-- processor 2 pins the frame, the zone gives its own reference up, and the last put is processor 2's
+abbrev pub last_put : Run
+last_put =
+    made 2 (Get 0) Held ∷ made 1 Lock Done ∷ made 0 (Put 0) (Left 1) ∷ made 2 (Put 0) Last ∷ made 1 Unlock Done ∷ []
+
+-- processor 2 hands the back frame over, it comes back, and the stock is drained
+abbrev pub second_visit : Run
+second_visit =
+    made 2 Lock Done ∷ made 0 (OpenVisit 2) Done ∷ made 2 (PassBack 0) Done ∷ made 0 (Collect 0 2) Done ∷ made 0 (Return 0) Done ∷
+    made 0 (ShutVisit 2) Done ∷ made 0 (DrainStock 1) (Pages 1) ∷ made 0 (Ungrant 0 1) Done ∷ made 2 Unlock Done ∷ []
+
+-- the life of a frame
+abbrev pub life_of_a_frame : Run
+life_of_a_frame = first_visit ++ hand_over ++ last_put ++ second_visit
+
+-- a frame is credited twice
+abbrev pub credited_twice : Run
+credited_twice = first_visit ++ made 1 (Consume 0) Took ∷ made 1 (Credit 0) Back ∷ made 1 (Credit 0) Illegal ∷ []
+
+-- a frame is placed, frozen, returned and placed again
+abbrev pub placed_again : Run
+placed_again =
+    made 1 Lock Done ∷ made 0 (Grant 0 2) Granted ∷ made 0 (PlaceBlock 0 0) (Placed (record { at = 0; order = 0 })) ∷ made 0 (Unfreeze 0 1) Done ∷
+    made 0 (Freeze 0 1) Done ∷ made 0 (Return 0) Done ∷ made 0 (PlaceBlock 0 0) (Placed (record { at = 0; order = 0 })) ∷ []
+
+-- it is returned twice for one end
+abbrev pub returned_twice : Run
+returned_twice = placed_again ++ made 0 (Return 0) Illegal ∷ []
+
+-- the lock is given back while two pages are pending
+abbrev pub unlocked_too_soon : Run
+unlocked_too_soon = made 1 Lock Done ∷ made 0 (Grant 0 2) Granted ∷ made 1 Unlock Illegal ∷ []

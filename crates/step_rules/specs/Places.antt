@@ -1,0 +1,88 @@
+-- Where the frames are after a run: a set of pairs of a frame and a place. A step that moves a frame adds its new pair and
+-- takes out only the old pair that it names.
+use Rattle.std.specs.Prelude.{◌≡◌, ℕ, ◌^◌, ◌<◌, ◌==◌, ◌&&◌, ◌||◌, not, Bool, true, false, Option, Some, None, fold, if◌then◌else◌}
+use Rattle.step_rules.specs.declared.phase.ChargedUnit.{ChargedUnit}
+use Rattle.step_rules.specs.declared.phase.Phase.{Phase}
+use Rattle.step_rules.specs.declared.phase.Phase.TheVariants.{InZone, Lent, Head, Tail}
+use Rattle.step_rules.specs.declared.step.Place.{Place}
+use Rattle.step_rules.specs.declared.step.Place.TheVariants.{Free, Listed, Charged}
+use Rattle.step_rules.specs.declared.step.Step.{Step}
+use Rattle.step_rules.specs.declared.step.Action.{Action}
+use Rattle.step_rules.specs.declared.step.Action.TheVariants.{PassOut, Collect, Consume, Credit, PlaceBlock, Return}
+use Rattle.step_rules.specs.declared.step.Answer.{Answer}
+use Rattle.step_rules.specs.declared.step.Answer.TheVariants.{Done, Took, Back, Placed}
+use Rattle.step_rules.specs.Phases.{unit_of}
+use Rattle.step_rules.specs.State.{Zone, State, at_boot, front_of, is_frame}
+use Rattle.step_rules.specs.After.{Run, after, state_of, IsLegalRun, is_within}
+
+-- a set of pairs of a frame and a place: the test whether a pair is in it
+abbrev pub Places : Type 0
+Places = ℕ → Place → Bool
+
+-- the two places are one
+abbrev pub is_same_place : Place → Place → Bool
+is_same_place Free Free = true
+is_same_place (Listed p) (Listed q) = p == q
+is_same_place (Charged g) (Charged h) = g == h
+is_same_place _ _ = false
+
+-- at first each frame of the zone is free
+abbrev pub places_at_boot : Zone → Places
+places_at_boot zone f p = is_frame zone f && is_same_place p Free
+
+-- each of n frames from this one on gains its new place and loses the old one that is named, and no other
+abbrev pub moved : Places → ℕ → ℕ → Place → Place → Places
+moved places at n old new f p =
+    if is_within at n f then is_same_place p new || (places f p && not (is_same_place p old)) else places f p
+
+-- the frames of a unit that comes back lose the place at its group
+abbrev pub returned : Places → ℕ → Option ChargedUnit → Places
+returned places f None = places
+returned places f (Some unit) = moved places f (2 ^ unit.order) (Charged unit.group) Free
+
+-- a fresh frame that is credited loses the place at its group
+abbrev pub credited_place : Places → ℕ → ℕ → Option ChargedUnit → Places
+credited_place places p f None = places
+credited_place places p f (Some unit) = moved places f 1 (Charged unit.group) (Listed p)
+
+-- the places after one more step: a frame passed out goes from Free to Listed, and one of the list that is collected back
+-- to Free; the front of the list that is consumed goes to the group that pays, and a credit takes it back; a block that is
+-- placed goes from Free to its group, and a unit that comes back from there to Free
+abbrev pub places_after : State → Places → ℕ → Action → Answer → Places
+places_after s places seat (PassOut f p) Done = moved places f 1 Free (Listed p)
+places_after s places seat (Collect f p) Done = if places f (Listed p) then moved places f 1 (Listed p) Free else places
+places_after s places seat (Consume g) Took = moved places (front_of (s.parts seat).list) 1 (Listed seat) (Charged g)
+places_after s places seat (Credit f) Back = credited_place places seat f (unit_of (s.phases f))
+places_after s places seat (PlaceBlock g k) (Placed b) = moved places b.at (2 ^ b.order) Free (Charged g)
+places_after s places seat (Return f) Done = returned places f (unit_of (s.phases f))
+places_after s places seat action answer = places
+
+-- the state, and the places beside it, after one more pair
+abbrev pub with_places : State × Places → Step × Answer → State × Places
+with_places t e = (after t.0 e.0.seat e.0.action e.1, places_after t.0 t.1 e.0.seat e.0.action e.1)
+
+-- the set of pairs after a run
+abbrev pub places_of : Zone → Run → Places
+places_of zone run = (fold with_places (at_boot zone, places_at_boot zone) run).1
+
+-- the frame has one place, and no other
+pub record HasOnePlace (places : Places) (f : ℕ) : Type 0 where
+  pub place : Place
+  pub there : places f place ≡ true
+  pub only : (p : Place) → places f p ≡ true → p ≡ place
+
+-- the place of a frame in this phase
+abbrev pub place_in : Phase → Place
+place_in InZone = Free
+place_in (Lent p way) = Listed p
+place_in (Head unit stage) = Charged unit.group
+place_in (Tail g) = Charged g
+
+-- after a legal run every frame of the zone has exactly one place, the one that its phase tells, and no other frame has any
+pub record PlacesAreTold (zone : Zone) (run : Run) : Type 0 where
+  pub one : (f : ℕ) → f < zone.frames → HasOnePlace (places_of zone run) f
+  pub told : (f : ℕ) (p : Place) → places_of zone run f p ≡ (is_frame zone f && is_same_place p (place_in ((state_of zone run).phases f)))
+
+-- every legal run tells a place of each frame, and one alone
+abbrev pub EveryFrameHasOnePlace : Type 0
+EveryFrameHasOnePlace = (zone : Zone) (run : Run) → IsLegalRun zone run → PlacesAreTold zone run

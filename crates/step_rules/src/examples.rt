@@ -1,0 +1,32 @@
+//! Small runs that are checked by evaluation: what each function ensures is that the table allows every answer of the
+//! run as it stands, refused steps included.
+
+ghost use Rattle.std.specs.Prelude.{◌≡◌};
+ghost use Rattle.step_rules.specs.After.{IsLegalRun, state_of};
+ghost use Rattle.step_rules.specs.Examples.{small_zone, life_of_a_frame, credited_twice, returned_twice, unlocked_too_soon};
+ghost use Rattle.step_rules.specs.declared.phase.Phase.TheVariants.{InZone};
+ghost use Rattle.step_rules.specs.declared.phase.Hold.TheVariants.{Unheld};
+
+/// The life of a frame, in 29 steps of two processors and the zone: lent, consumed, handed over, kept, pinned by
+/// another processor, put for the last time there, handed back and returned. At its end the lock and the frame are free.
+pub fn the_life_of_a_frame_is_legal()
+    ensures legal { IsLegalRun small_zone life_of_a_frame }
+    ensures frame_free { (state_of small_zone life_of_a_frame).phases 0 ≡ InZone }
+    ensures lock_free { (state_of small_zone life_of_a_frame).hold ≡ Unheld }
+{}
+
+/// A frame that was credited is not credited again: the second credit is answered Illegal.
+pub fn a_second_credit_is_illegal()
+    ensures { IsLegalRun small_zone credited_twice }
+{}
+
+/// A unit that came back and was placed again comes back no second time for the first end: the second return is
+/// answered Illegal.
+pub fn a_second_return_is_illegal()
+    ensures { IsLegalRun small_zone returned_twice }
+{}
+
+/// The lock is not given back while pages are pending.
+pub fn an_early_unlock_is_illegal()
+    ensures { IsLegalRun small_zone unlocked_too_soon }
+{}
