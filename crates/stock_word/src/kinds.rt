@@ -4,8 +4,9 @@
 //! `consume`, `credit`, `report`, `fill`, `drain`, `absorb` and `close` are made of these, and no
 //! code outside can make a step of another kind.
 //!
-//! Which rule holds between any two steps is told by one line: the field `table` of `StockWords`,
-//! whose type names `StockRule`. Of the public contracts only that of `close` tells it.
+//! The rule that stands between any two steps is that of one line: `holds` of `TableRule` for
+//! `StockRule`, which the type of the field `table` of `StockWords` names. Of the public contracts
+//! only that of `close` tells of it, for the final words.
 //!
 //! A function here answers the word that its step found.
 ghost use Rattle.std.specs.Prelude.{◌≡◌, ◌≢◌, ◌*◌, ◌+◌, ◌-◌, ◌<◌, ◌≤◌, false, [], ◌∷◌, ◌++◌, Some, IfOk};

@@ -14,9 +14,9 @@
 //! A report word is a number of pages.
 //!
 //! `src/kinds.rt` and `specs/Kinds.antt` are the table of kinds: every atomic step that this crate
-//! can make. They are a definition, read as one. Which rule holds between any two steps is told by
-//! one line, the field `table: Table<(), Views, u32, StockRule, Global>` of `StockWords` there. Of the
-//! public contracts only that of `close` tells it.
+//! can make. They are a definition, read as one. The rule that stands between any two steps is that
+//! of one line there: `holds` of `TableRule` for `StockRule`, which the type of the field `table` of
+//! `StockWords` names. Of the public contracts only that of `close` tells of it, for the final words.
 #![tactic(auto)]
 
 mod closed;

@@ -59,7 +59,8 @@ impl StockWords {
         requires machine { IsMachine seat0.old.view }
         requires processor { IsProcessor self.now seat.old.view }
         ensures has_word { HasWord result }
-        ensures balanced { (account_for seat0.old.view seat.old.view).book ≡ pages_of result + seat.old.view.fresh + (account_for seat0.old.view seat.old.view).noted }
+        ensures balanced { (account_for seat0.old.view seat.old.view).book
+            ≡ pages_of result + seat.old.view.fresh + (account_for seat0.old.view seat.old.view).noted }
         ensures bounded { (account_for seat0.old.view seat.old.view).book < 65536 }
         ensures group { group_of result ≡ (account_for seat0.old.view seat.old.view).group }
         ensures held { is_held result ≡ (account_for seat0.old.view seat.old.view).filled }

@@ -34,6 +34,46 @@ fn drained_with_a_fresh_page(rt: HostRuntime) -> Result<(), Fail> {
     Ok(())
 }
 
+// Takes a page of the stock, of whatever group it is, where one is left. Tells whether there was.
+fn take_left(words: &StockWords, machine: &mut StockSeat, seat: &mut StockSeat) -> bool
+    requires tables { (machine.old.table ≡ words.now.table) × (seat.old.table ≡ words.now.table) }
+    requires seats { IsMachine machine.old.view × IsProcessor words.now seat.old.view }
+    ensures tables { (machine.new.table ≡ words.now.table) × (seat.new.table ≡ words.now.table) }
+    ensures seats { IsMachine machine.new.view × IsProcessor words.now seat.new.view }
+{
+    match words.look(machine, seat) {
+        Stock::HeldBy { group, pages } if pages > 0 => {
+            words.consume_held(machine, seat, group);
+            true
+        }
+        _ => false,
+    }
+}
+
+#[test]
+fn taken_by_the_books(rt: HostRuntime) -> Result<(), Fail> {
+    let (words, mut machine, mut seats) = StockWords::new(rt.alloc(), 2)?;
+    let mut seat = seats.pop().expect(&rt, "the seat of processor 2");
+    assert_eq!(rt; words.cpus(), 2);
+    assert_eq!(rt; seat.number(), 2);
+    assert_eq!(rt; seat.last(), Stock::NoGroup);
+    assert_eq!(rt; words.look(&mut machine, &mut seat), Stock::NoGroup);
+    words.fill(&mut machine, &mut seat, 63, 2);
+    assert_eq!(rt; words.peek(32), 4_194_306);
+    assert_eq!(rt; take_left(&words, &mut machine, &mut seat), true);
+    assert_eq!(rt;
+        seat.last(),
+        Stock::HeldBy {
+            group: 63,
+            pages: 1
+        }
+    );
+    assert_eq!(rt; words.consume(&mut seat, 63), Consume::Took);
+    assert_eq!(rt; words.consume(&mut seat, 63), Consume::Empty);
+    assert_eq!(rt; words.look(&mut machine, &mut seat).pages(), 0);
+    Ok(())
+}
+
 // Takes and gives back pages of group 1 until it is told that the stock is drained, or for 100
 // steps. Tells how many pages it kept.
 fn work(words: &StockWords, seat: &mut StockSeat) -> u32
