@@ -177,7 +177,8 @@ impl Board {
         requires { place.seat.table_id ≡ self.table.shared.table_id }
         ensures counts { (slots_len result.words ≡ self.table.shared.table_id.words) × (slots_len result.slots ≡ self.table.shared.table_id.slots) }
         ensures full { IsFull result.words }
-        ensures rule { let key = self.table.shared.key in EndsWith key.frames key.cpus place.seat.id place.seat.me.0 (slots_items result.words) (slots_items result.slots) }
+        ensures rule { let key = self.table.shared.key in
+            EndsWith key.frames key.cpus place.seat.id place.seat.me.0 (slots_items result.words) (slots_items result.slots) }
     {
         let Board { table } = self;
         let Place { seat } = place;

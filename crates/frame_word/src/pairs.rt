@@ -7,7 +7,8 @@ use std::mem;
 
 /// The first place takes in the second's view. An empty one stands in the second's place meanwhile.
 pub(crate) fn join(board: &Board, zone: &mut Place, cpu: &mut Place)
-    requires table { (zone.old.seat.table_id ≡ board.now.table.shared.table_id) × (cpu.old.seat.table_id ≡ board.now.table.shared.table_id) × (0 < board.now.table.shared.table_id.words) }
+    requires table { (zone.old.seat.table_id ≡ board.now.table.shared.table_id) × (cpu.old.seat.table_id ≡ board.now.table.shared.table_id)
+        × (0 < board.now.table.shared.table_id.words) }
     requires zone { zone.old.seat.me ≡ (first_alone zone.old.seat.me.0, []) }
     requires cpu { cpu.old.seat.me.1 ≡ [] }
     ensures table { (zone.new.seat.table_id ≡ zone.old.seat.table_id) × (cpu.new.seat.table_id ≡ cpu.old.seat.table_id) }

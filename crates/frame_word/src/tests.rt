@@ -9,6 +9,8 @@ use std::thread;
 #[test]
 fn get_is_full_at_255_references(rt: HostRuntime) -> Result<(), Fail> {
     let (words, mut zone, _) = FrameWords::new(rt.alloc(), 8, 1)?;
+    assert_eq!(rt; words.frames(), 8);
+    assert_eq!(rt; words.cpus(), 1);
     let frame = words.frame(3).ok_or("no frame")?;
     words.unfreeze(&mut zone, frame, 255);
     assert_eq!(rt; words.get(&mut zone, frame), Get::Full);
@@ -32,12 +34,27 @@ fn freeze_waits_for_the_other_seat(rt: HostRuntime) -> Result<(), Fail> {
 }
 
 #[test]
+fn the_last_put_has_the_frame_in_hand(rt: HostRuntime) -> Result<(), Fail> {
+    let (words, mut zone, mut cpus) = FrameWords::new(rt.alloc(), 8, 1)?;
+    let frame = words.frame(3).ok_or("no frame")?;
+    let mut cpu = cpus.pop().ok_or("no seat")?;
+    words.unfreeze(&mut zone, frame, 1);
+    let got = words.get(&mut cpu, frame);
+    assert_eq!(rt; got, Get::Held);
+    assert_eq!(rt; words.put(&mut zone, frame), Put::Left(1));
+    let last = words.put(&mut cpu, frame);
+    assert_eq!(rt; last, Put::Last);
+    assert_eq!(rt; words.get(&mut zone, frame), Get::Zero);
+    words.unfreeze(&mut cpu, frame, 1);
+    assert_eq!(rt; words.get(&mut zone, frame), Get::Held);
+    Ok(())
+}
+
+#[test]
 fn frame_3_goes_to_processor_2_and_back(rt: HostRuntime) -> Result<(), Fail> {
     let (words, mut zone, mut cpus) = FrameWords::new(rt.alloc(), 8, 2)?;
     let frame = words.frame(3).ok_or("no frame")?;
     assert!(rt; words.frame(8).is_none());
-    assert_eq!(rt; words.frames(), 8);
-    assert_eq!(rt; words.cpus(), 2);
     let mut second = cpus.pop().ok_or("no seat")?;
     let mut first = cpus.pop().ok_or("no seat")?;
     assert_eq!(rt; second.number(), 2);
