@@ -58,6 +58,10 @@ list_of links owner f = place_of (link_at links f).home owner
 abbrev pub IsOnNone : List Link → ℕ → Type 0
 IsOnNone links f = (link_at links f).home ≡ None
 
+-- no frame stands on a list of this owner
+abbrev pub HasNoUnits : List Link → ℕ → Type 0
+HasNoUnits links owner = (f : ℕ) → list_of links owner f ≡ None
+
 -- what a change of an owner's lists does to the records: whoever stands on none of them before nor after has its
 -- record as before, whoever came onto them stood on no list, and whoever left them stands on none
 pub record ChangesOwn (before after : List Link) (owner : ℕ) : Type 0 where
