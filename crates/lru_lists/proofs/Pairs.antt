@@ -1,6 +1,6 @@
 -- Two lists of one owner, and those of others, after a push or an unlink on one of them.
 -- They serve the contracts of `Lru`.
-use Rattle.std.proofs.Common.{◌≡◌, ◌≢◌, ℕ, zero, suc, ◌+◌, ◌<◌, ◌==◌, ◌⊎◌, Bool, true, false, Option, Some, None, List, [], ◌∷◌, ◌++◌, length, slice_set, map, take, drop, option_map, sym, ◌∙◌, ap, subst, inl, inr, arith, refl, eq-eqb, add-one}
+use Rattle.std.proofs.Common.{◌≡◌, ◌≢◌, ℕ, zero, suc, ◌+◌, ◌<◌, ◌==◌, ◌⊎◌, Bool, true, false, Option, Some, None, List, [], ◌∷◌, ◌++◌, length, slice_index_or, slice_set, get_or-set_same, get_or-set_other, map, take, drop, option_map, sym, ◌∙◌, ap, subst, inl, inr, arith, refl, eq-eqb, add-one}
 use Rattle.std.proofs.lemmas.Bool.{cases_eq, ne_eqb, cases_Bool, true≢false, false≢true, or_parts, false_from_ne_true}
 use Rattle.std.proofs.lemmas.List.{append_assoc, length-map, length-set, map-append}
 use Rattle.lru_lists.specs.declared.record.Link.{Link}
@@ -11,7 +11,7 @@ use Rattle.lru_lists.specs.declared.record.LruList.TheVariants.{Inactive, Active
 use Rattle.lru_lists.specs.declared.lru.Lru.{Lru}
 use Rattle.lru_lists.specs.declared.queue.Queue.{Queue}
 use Rattle.lru_lists.specs.Queue.{oldest_of, after, link_at, nowhere, is_among, AreApart, without, IsLinked, units_of, StaysElsewhere, SameUse, newest_link, unlinked}
-use Rattle.lru_lists.specs.Lists.{active_of, inactive_of, is_marked_by_touch, first_entry, entry_after, KeepsUnits, OthersStand, changed_at, home_of, queue_of, with_queue, StandsIn, MovesOnly, entries_of, marked, entry_of, entries_without, place_of, list_of, ChangesOwn, IsOnNone}
+use Rattle.lru_lists.specs.Lists.{active_of, inactive_of, is_marked_by_touch, first_entry, entry_after, KeepsUnits, OthersStand, OneOfAllChanges, changed_at, home_of, queue_of, with_queue, StandsIn, MovesOnly, entries_of, marked, entry_of, entries_without, place_of, list_of, ChangesOwn, IsOnNone}
 use Rattle.lru_lists.proofs.Lists.{other_than_first}
 use Rattle.lru_lists.proofs.Linking.{units_are}
 use Rattle.lru_lists.proofs.Records.{set_same, set_other, part_set}
@@ -519,6 +519,20 @@ others_stand before after owner other c ne stands =
         ∙ entries_same before after xs (λ f i.
             ap (λ (k : Link). let w : Entry = record { number = f; is_marked = k.is_marked; is_dirty = k.is_dirty } in w)
               (others_same before after owner other m f c ne ((stands m).homes f i)))) )
+
+pub one_of_all_changes : OneOfAllChanges
+one_of_all_changes before after lists new all lt stands c k any lk = elim (cases_eq k new.owner) [
+  | inl e ↦
+      let got : slice_index_or (slice_set lists new.owner new) k any ≡ new =
+        rw e (get_or-set_same lists new.owner new any lt) in
+      rw got (sym e, stands)
+  | inr n ↦
+      let got : slice_index_or (slice_set lists new.owner new) k any ≡ slice_index_or lists k any =
+        get_or-set_other lists new.owner k new any n in
+      let old = all k any (rw (← length-set lists new.owner new) lk) in
+      let ne : (slice_index_or lists k any).owner ≢ new.owner = λ q. n (sym (old.0) ∙ q) in
+      rw got (old.0, (others_stand before after new.owner (slice_index_or lists k any) c ne (old.1)).0)
+  ]
 
 -- a pull takes the unit out of each list: of the other it changes nothing
 pub pulled_each : (before after : List Link) (lru new : Lru) (list : LruList) (unit : ℕ) → StandsIn before lru → (link_at before unit).home ≡ Some (home_of lru list)
