@@ -1,15 +1,15 @@
 -- What the records link after a push behind the newest, and after a unit was taken out.
 -- They serve the contracts of `queue::push_newest` and `queue::unlink`.
-use Rattle.std.proofs.Common.{◌≡◌, ◌≢◌, ℕ, zero, suc, ◌+◌, ◌-◌, ◌<◌, ◌≤◌, ◌^◌, ◌==◌, ◌||◌, ◌⊎◌, Bool, true, false, Option, Some, None, List, [], ◌∷◌, ◌++◌, length, get_or, slice_set, sym, ◌∙◌, ap, subst, inl, inr, arith, refl, eq-eqb, get_or-set_same, get_or-set_other}
-use Rattle.std.proofs.lemmas.Bool.{cases_eq, cases_lt, ne_eqb, eqb-true, cases_Bool, true≢false, false≢true, or_parts, or_cases, both_ways, false_from_ne_true}
-use Rattle.std.proofs.lemmas.List.{get_or_past, length_push, length-set, set_past}
+use Rattle.std.proofs.Common.{◌≡◌, ◌≢◌, ℕ, ◌+◌, ◌<◌, ◌≤◌, ◌==◌, ◌⊎◌, true, false, Option, Some, None, List, [], ◌∷◌, ◌++◌, length, sym, ◌∙◌, ap, subst, inl, inr, arith, refl, eq-eqb}
+use Rattle.std.proofs.lemmas.Bool.{cases_eq, cases_lt, ne_eqb, eqb-true, cases_Bool, false≢true, or_parts, or_cases, both_ways}
+use Rattle.std.proofs.lemmas.List.{get_or_past, length_push}
 use Rattle.std.specs.List.{IsDistinct, AllByRecursion, list_any}
 use Rattle.std.proofs.lemmas.Map.Steps.{length-le_from_distinct_below}
 use Rattle.lru_lists.specs.declared.record.Link.{Link}
 use Rattle.lru_lists.specs.declared.record.Home.{Home}
 use Rattle.lru_lists.specs.declared.queue.Queue.{Queue}
-use Rattle.lru_lists.specs.Queue.{link_at, nowhere, is_among, AreApart, oldest_of, newest_of, after, before_from, before, without, IsLinked, units_from, units_of, newest_link, unlinked, with_newer, with_older, end_or, pushed_queue, queue_without, StaysElsewhere, SameUse}
-use Rattle.lru_lists.proofs.Lists.{among_without, gone_without, apart_without, length_without, after_among, after_other, before_none, before_among, before_other, oldest_gone, oldest_stays, newest_gone, newest_stays, after_gone, after_stays, before_gone, before_stays, among_push, apart_push, oldest_push, newest_none, newest_push, newest_among, after_push_newest, after_push_other, after_push_last, before_push_other, before_push_last, other_than_first}
+use Rattle.lru_lists.specs.Queue.{link_at, nowhere, is_among, AreApart, oldest_of, newest_of, after, before_from, before, without, IsLinked, units_from, units_of, end_or, pushed_queue, queue_without}
+use Rattle.lru_lists.proofs.Lists.{among_without, gone_without, apart_without, length_without, before_none, before_among, oldest_gone, oldest_stays, newest_gone, newest_stays, after_gone, after_stays, before_gone, before_stays, among_push, apart_push, oldest_push, newest_none, newest_push, after_push_newest, after_push_other, after_push_last, before_push_other, before_push_last, other_than_first}
 
 -- ---- the list that is linked is the one that is walked
 

@@ -1,7 +1,7 @@
 -- Lists of units without repetition: who stands where once a unit was taken out, or was put behind the newest.
 -- They serve the contracts of `queue::push_newest` and `queue::unlink`.
-use Rattle.std.proofs.Common.{◌≡◌, ◌≢◌, ℕ, suc, ◌+◌, ◌==◌, ◌||◌, ◌⊎◌, Bool, true, false, Option, Some, None, List, [], ◌∷◌, ◌++◌, length, sym, ◌∙◌, ap, subst, inl, inr, arith, refl, eq-eqb}
-use Rattle.std.proofs.lemmas.Bool.{cases_eq, ne_eqb, eqb-true, cases_Bool, true≢false, false≢true, or_parts, or_cases, both_ways}
+use Rattle.std.proofs.Common.{◌≡◌, ◌≢◌, ℕ, ◌+◌, ◌==◌, ◌||◌, true, false, Some, None, List, [], ◌∷◌, ◌++◌, length, sym, ◌∙◌, ap, subst, inl, inr, arith, refl, eq-eqb}
+use Rattle.std.proofs.lemmas.Bool.{cases_eq, ne_eqb, cases_Bool, false≢true, or_parts, both_ways}
 use Rattle.lru_lists.specs.Queue.{is_among, AreApart, oldest_of, newest_of, after, before_from, before, without}
 
 -- ---- one taken out

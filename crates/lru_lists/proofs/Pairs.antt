@@ -1,8 +1,8 @@
 -- Two lists of one owner, and those of others, after a push or an unlink on one of them.
 -- They serve the contracts of `Lru`.
-use Rattle.std.proofs.Common.{◌≡◌, ◌≢◌, ℕ, zero, suc, ◌+◌, ◌<◌, ◌==◌, ◌||◌, ◌⊎◌, Bool, true, false, Option, Some, None, List, [], ◌∷◌, ◌++◌, length, slice_set, map, take, drop, option_map, cond, sym, ◌∙◌, ap, subst, inl, inr, arith, refl, eq-eqb, add-one}
-use Rattle.std.proofs.lemmas.Bool.{cases_eq, ne_eqb, eqb-true, cases_Bool, true≢false, false≢true, both_ways, or_parts, false_from_ne_true}
-use Rattle.std.proofs.lemmas.List.{append_assoc, drop-drop, length-append, length-drop, length-map, length-set, map-append}
+use Rattle.std.proofs.Common.{◌≡◌, ◌≢◌, ℕ, zero, suc, ◌+◌, ◌<◌, ◌==◌, ◌⊎◌, Bool, true, false, Option, Some, None, List, [], ◌∷◌, ◌++◌, length, slice_index_or, slice_set, get_or-set_same, get_or-set_other, map, take, drop, option_map, sym, ◌∙◌, ap, subst, inl, inr, arith, refl, eq-eqb, add-one}
+use Rattle.std.proofs.lemmas.Bool.{cases_eq, ne_eqb, cases_Bool, true≢false, false≢true, or_parts, false_from_ne_true}
+use Rattle.std.proofs.lemmas.List.{append_assoc, length-map, length-set, map-append}
 use Rattle.lru_lists.specs.declared.record.Link.{Link}
 use Rattle.lru_lists.specs.declared.record.Home.{Home}
 use Rattle.lru_lists.specs.declared.record.Entry.{Entry}
@@ -11,7 +11,7 @@ use Rattle.lru_lists.specs.declared.record.LruList.TheVariants.{Inactive, Active
 use Rattle.lru_lists.specs.declared.lru.Lru.{Lru}
 use Rattle.lru_lists.specs.declared.queue.Queue.{Queue}
 use Rattle.lru_lists.specs.Queue.{oldest_of, after, link_at, nowhere, is_among, AreApart, without, IsLinked, units_of, StaysElsewhere, SameUse, newest_link, unlinked}
-use Rattle.lru_lists.specs.Lists.{active_of, inactive_of, is_marked_by_touch, first_entry, entry_after, KeepsUnits, OthersStand, changed_at, home_of, queue_of, with_queue, StandsIn, MovesOnly, entries_of, marked, entry_of, entries_without, place_of, list_of, ChangesOwn, IsOnNone}
+use Rattle.lru_lists.specs.Lists.{active_of, inactive_of, is_marked_by_touch, first_entry, entry_after, KeepsUnits, OthersStand, OneOfAllChanges, changed_at, home_of, queue_of, with_queue, StandsIn, MovesOnly, entries_of, marked, entry_of, entries_without, place_of, list_of, ChangesOwn, IsOnNone}
 use Rattle.lru_lists.proofs.Lists.{other_than_first}
 use Rattle.lru_lists.proofs.Linking.{units_are}
 use Rattle.lru_lists.proofs.Records.{set_same, set_other, part_set}
@@ -520,6 +520,20 @@ others_stand before after owner other c ne stands =
             ap (λ (k : Link). let w : Entry = record { number = f; is_marked = k.is_marked; is_dirty = k.is_dirty } in w)
               (others_same before after owner other m f c ne ((stands m).homes f i)))) )
 
+pub one_of_all_changes : OneOfAllChanges
+one_of_all_changes before after lists new all lt stands c k any lk = elim (cases_eq k new.owner) [
+  | inl e ↦
+      let got : slice_index_or (slice_set lists new.owner new) k any ≡ new =
+        rw e (get_or-set_same lists new.owner new any lt) in
+      rw got (sym e, stands)
+  | inr n ↦
+      let got : slice_index_or (slice_set lists new.owner new) k any ≡ slice_index_or lists k any =
+        get_or-set_other lists new.owner k new any n in
+      let old = all k any (rw (← length-set lists new.owner new) lk) in
+      let ne : (slice_index_or lists k any).owner ≢ new.owner = λ q. n (sym (old.0) ∙ q) in
+      rw got (old.0, (others_stand before after new.owner (slice_index_or lists k any) c ne (old.1)).0)
+  ]
+
 -- a pull takes the unit out of each list: of the other it changes nothing
 pub pulled_each : (before after : List Link) (lru new : Lru) (list : LruList) (unit : ℕ) → StandsIn before lru → (link_at before unit).home ≡ Some (home_of lru list)
     → entries_of after new list ≡ entries_without unit (entries_of before lru list)
@@ -618,3 +632,25 @@ ages_step before mid after old cur new k ik one ak =
     let e : map (marked false) (take k xs) ++ map (marked false) (take 1 (drop k xs)) ≡ map (marked false) (take (k + 1) xs) =
       sym (map-append (marked false) (take k xs) (take 1 (drop k xs))) ∙ ap (map (marked false)) (take_step k xs ∙ ap (λ (n : ℕ). take n xs) (sym (add-one k))) in
     rw (one, ik, ak, append_assoc (inactive_of before old) (map (marked false) (take k xs)) (map (marked false) (take 1 (drop k xs))), e) refl
+
+-- ---- a unit taken out and forgotten
+
+-- what taking the unit out and forgetting it leaves
+pub record AfterTakeOff (before after : List Link) (lru new : Lru) (unit : ℕ) : Type 0 where
+  pub stands : StandsIn after new
+  pub entries : (m : LruList) → entries_of after new m ≡ entries_without unit (entries_of before lru m)
+
+pub after_take_off : (before mid : List Link) (lru new : Lru) (list : LruList) (unit : ℕ) → StandsIn before lru
+    → list_of before lru.owner unit ≡ Some list → StandsIn mid new
+    → entries_of mid new list ≡ entries_without unit (entries_of before lru list)
+    → ((m : LruList) → m ≢ list → entries_of mid new m ≡ entries_of before lru m)
+    → link_at mid unit ≡ unlinked (link_at before unit) → unit < length mid
+    → AfterTakeOff before (slice_set mid unit nowhere) lru new unit
+after_take_off before mid lru new list unit stands on mid_stands entries other gone lt =
+    let away : IsOnNone mid unit = ap (λ (k : Link). k.home) gone in
+    let there = home_of_list (link_at before unit).home lru list on in
+    record {
+      stands = forgotten_stands mid new unit mid_stands away lt;
+      entries = λ m. forgotten_entries mid new unit mid_stands away lt m
+        ∙ pulled_each before mid lru new list unit stands there entries other m;
+    }

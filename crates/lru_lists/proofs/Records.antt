@@ -1,12 +1,12 @@
 -- What the writes of a push and of an unlink leave in each record.
 -- They serve the contracts of `queue::push_newest` and `queue::unlink`.
-use Rattle.std.proofs.Common.{◌≡◌, ◌≢◌, ℕ, ◌+◌, ◌<◌, ◌≤◌, ◌^◌, ◌⊎◌, Bool, true, false, Option, Some, None, IfSome, List, [], ◌∷◌, ◌++◌, length, slice_set, sym, ◌∙◌, ap, subst, inl, inr, arith, refl, get_or-set_same, get_or-set_other}
-use Rattle.std.proofs.lemmas.Bool.{cases_eq, cases_lt, false_from_ne_true, true≢false}
+use Rattle.std.proofs.Common.{◌≡◌, ◌≢◌, ℕ, ◌<◌, Bool, true, false, Option, Some, None, IfSome, List, [], ◌∷◌, ◌++◌, length, slice_set, sym, ◌∙◌, ap, inl, inr, arith, refl, get_or-set_same, get_or-set_other}
+use Rattle.std.proofs.lemmas.Bool.{cases_eq, cases_lt, false_from_ne_true}
 use Rattle.std.proofs.lemmas.List.{length-set, set_past}
 use Rattle.lru_lists.specs.declared.record.Link.{Link}
 use Rattle.lru_lists.specs.declared.record.Home.{Home}
 use Rattle.lru_lists.specs.declared.queue.Queue.{Queue}
-use Rattle.lru_lists.specs.Queue.{link_at, nowhere, is_among, after, before, without, IsLinked, newest_of, units_of, newest_link, unlinked, with_newer, with_older, pushed_queue, queue_without, StaysElsewhere, SameUse}
+use Rattle.lru_lists.specs.Queue.{link_at, nowhere, is_among, after, before, without, IsLinked, units_of, newest_link, unlinked, with_newer, with_older, pushed_queue, queue_without, StaysElsewhere, SameUse}
 use Rattle.lru_lists.proofs.Lists.{after_among, before_among, newest_among}
 use Rattle.lru_lists.proofs.Linking.{Pushed, Unlinked, within, units_are, links_pushed, links_unlinked, few}
 

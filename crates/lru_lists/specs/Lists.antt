@@ -1,5 +1,5 @@
 -- The two lists of an owner, as a contract sees them.
-use Rattle.std.specs.Prelude.{◌≡◌, ◌≢◌, ℕ, ◌+◌, ◌-◌, ◌<◌, ◌≤◌, ◌==◌, Bool, true, false, Option, Some, None, List, [], ◌∷◌, ◌++◌, length, map, take, drop, if◌then◌else◌}
+use Rattle.std.specs.Prelude.{◌≡◌, ◌≢◌, ℕ, ◌+◌, ◌-◌, ◌<◌, ◌≤◌, ◌==◌, Bool, true, false, Option, Some, None, List, [], ◌∷◌, ◌++◌, length, map, take, drop, slice_index_or, slice_set, if◌then◌else◌}
 use Rattle.lru_lists.specs.declared.record.Link.{Link}
 use Rattle.lru_lists.specs.declared.record.Home.{Home}
 use Rattle.lru_lists.specs.declared.record.Entry.{Entry}
@@ -57,6 +57,10 @@ list_of links owner f = place_of (link_at links f).home owner
 -- the frame stands on no list of any owner
 abbrev pub IsOnNone : List Link → ℕ → Type 0
 IsOnNone links f = (link_at links f).home ≡ None
+
+-- no frame stands on a list of this owner
+abbrev pub HasNoUnits : List Link → ℕ → Type 0
+HasNoUnits links owner = (f : ℕ) → list_of links owner f ≡ None
 
 -- what a change of an owner's lists does to the records: whoever stands on none of them before nor after has its
 -- record as before, whoever came onto them stood on no list, and whoever left them stands on none
@@ -135,3 +139,13 @@ pub record Ages (before : List Link) (old : Lru) (after : List Link) (new : Lru)
 abbrev pub OthersStand : Type 0
 OthersStand = (before after : List Link) (owner : ℕ) (other : Lru) → ChangesOwn before after owner → other.owner ≢ owner → StandsIn before other
     → StandsIn after other × ((list : LruList) → entries_of after other list ≡ entries_of before other list)
+
+-- the lists of several owners, numbered from 0 on in this order, all stand in these records
+abbrev pub AllStand : List Link → List Lru → Type 0
+AllStand links lists = (k : ℕ) (any : Lru) → k < length lists
+    → ((slice_index_or lists k any).owner ≡ k) × StandsIn links (slice_index_or lists k any)
+
+-- where the lists of several owners stand, and those of one of them change, they all stand again
+abbrev pub OneOfAllChanges : Type 0
+OneOfAllChanges = (before after : List Link) (lists : List Lru) (new : Lru) → AllStand before lists → new.owner < length lists
+    → StandsIn after new → ChangesOwn before after new.owner → AllStand after (slice_set lists new.owner new)

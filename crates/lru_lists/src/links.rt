@@ -35,6 +35,22 @@ impl Links {
         Ok(Links { records })
     }
 
+    /// How many frames there are.
+    pub fn frames(&self) -> u32
+        ensures { result ≡ length self.now }
+    {
+        self.records.len() as u32
+    }
+
+    /// The list that the frame stands on, whoever owns it; None exactly where the frame stands on none. By this a caller
+    /// learns whether a unit may be added.
+    pub fn home(&self, frame: u32) -> Option<Home>
+        requires { frame < length self.now }
+        ensures { result ≡ (link_at self.now frame).home }
+    {
+        self.records[frame as usize].home
+    }
+
     // Puts a unit that stands on no list behind the newest of this one, unmarked.
     pub(crate) fn push_newest(&mut self, queue: &mut Queue, home: Home, unit: u32)
         requires unit { unit < length self.old }

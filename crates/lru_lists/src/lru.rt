@@ -1,9 +1,10 @@
 //! The two lists of one owner, as a group: its inactive and its active units, each from the oldest to the newest.
 
-ghost use Rattle.std.specs.Prelude.{◌≡◌, ◌≢◌, ◌<◌, ◌++◌, [], ◌∷◌, false, None, Some, IfSome, length, map, take, drop, option_map};
-ghost use Rattle.lru_lists.specs.Queue.{link_at, unlinked};
+ghost use Rattle.std.specs.Prelude.{◌≡◌, ◌≢◌, ◌<◌, ◌++◌, [], ◌∷◌, false, List, None, Some, IfSome, length, map, take, drop, option_map};
+ghost use Rattle.lru_lists.specs.Queue.{link_at, nowhere, unlinked};
+ghost use Rattle.lru_lists.specs.declared.record.Link.{Link};
 ghost use Rattle.lru_lists.specs.declared.record.LruList.{LruList};
-ghost use Rattle.lru_lists.specs.Lists.{is_marked_by_touch, home_of, queue_of, with_queue, marked, MovesOnly, KeepsUnits, first_entry, entry_after, StandsIn, ChangesOwn, IsOnNone, Touches, Ages, inactive_of, active_of, entries_of, entries_without, changed_at, dirtied, list_of, entry_of};
+ghost use Rattle.lru_lists.specs.Lists.{is_marked_by_touch, home_of, queue_of, with_queue, marked, MovesOnly, KeepsUnits, HasNoUnits, first_entry, entry_after, StandsIn, ChangesOwn, IsOnNone, Touches, Ages, inactive_of, active_of, entries_of, entries_without, changed_at, dirtied, list_of, entry_of};
 
 use crate::links::Links;
 use crate::queue::Queue;
@@ -30,9 +31,12 @@ pub struct Lru {
 }
 
 impl Lru {
-    /// The empty lists of an owner, of whom no record speaks yet.
+    /// The empty lists of an owner. They stand in any records of which none names this owner as its home: in those that
+    /// `Links::new` made, and where each of the owner's units was taken off.
     pub fn new(owner: u32) -> Lru
         ensures owner { result.owner ≡ owner }
+        ensures stands { (links : List Link) → HasNoUnits links owner → StandsIn links result }
+        ensures empty { (links : List Link) (list : LruList) → entries_of links result list ≡ [] }
     {
         Lru {
             owner,
@@ -161,11 +165,12 @@ impl Lru {
         ensures owner { self.new.owner ≡ self.old.owner }
         ensures inactive { inactive_of links.new self.new ≡ entries_without unit (inactive_of links.old self.old) }
         ensures active { active_of links.new self.new ≡ entries_without unit (active_of links.old self.old) }
-        ensures away { IsOnNone links.new unit }
+        ensures forgotten { link_at links.new unit ≡ nowhere }
         ensures others { ChangesOwn links.old links.new self.old.owner }
     {
         let list = self.list(links, unit);
         self.pull(links, list, unit);
+        links.forget(unit);
     }
 
     // Whether a touch marks the unit, and doesn't move it.
@@ -225,10 +230,9 @@ impl Lru {
         })
     }
 
-    /// How many units stand on one of the lists.
-    pub fn len(&self, _links: &Links, list: LruList) -> u32
-        requires { StandsIn _links.now self.now }
-        ensures { result ≡ length (entries_of _links.now self.now list) }
+    /// How many units stand on one of the lists, by the records in which both lists stand.
+    pub fn len(&self, list: LruList) -> u32
+        ensures { (links : List Link) → StandsIn links self.now → result ≡ length (entries_of links self.now list) }
     {
         self.queue(list).length
     }

@@ -1,9 +1,8 @@
-use Rattle.std.proofs.Common.{◌≡◌, ◌≢◌, false, None, Some, sym, ◌∙◌, ap, refl}
+use Rattle.std.proofs.Common.{◌≢◌, false, ◌∙◌, ap, refl}
 use Rattle.lru_lists.specs.declared.record.Link.{Link}
 use Rattle.lru_lists.specs.declared.record.Entry.{Entry}
-use Rattle.lru_lists.specs.declared.record.LruList.{LruList}
 use Rattle.lru_lists.specs.declared.record.LruList.TheVariants.{Inactive, Active}
-use Rattle.lru_lists.specs.Queue.{nowhere, link_at}
+use Rattle.lru_lists.specs.Queue.{nowhere}
 use Rattle.lru_lists.proofs.Records.{set_same}
 use Rattle.lru_lists.proofs.Pairs.{forgotten_stands, forgotten_entries, forgotten_moves, moves_both, own_after_push}
 use Rattle.lru_lists.proofs.lru.Lru.add.Goals as goal

@@ -1,10 +1,9 @@
-use Rattle.std.proofs.Common.{◌≡◌, ◌<◌, ◌≤◌, ◌+◌, ◌-◌, ◌⊎◌, ℕ, zero, false, length, map, take, drop, min, arith, sym, ◌∙◌, ap, refl, inl, inr}
+use Rattle.std.proofs.Common.{◌≡◌, ◌<◌, ◌≤◌, ◌+◌, ◌-◌, ℕ, false, length, map, take, drop, arith, ◌∙◌, ap, inl, inr}
 use Rattle.std.proofs.lemmas.Bool.{cases_lt}
 use Rattle.std.proofs.lemmas.List.{drop-drop, length-append, length-drop, length-map, length-take-le}
-use Rattle.lru_lists.specs.declared.record.Entry.{Entry}
 use Rattle.lru_lists.specs.declared.record.LruList.TheVariants.{Inactive, Active}
 use Rattle.lru_lists.specs.Lists.{inactive_of, active_of, marked}
-use Rattle.lru_lists.proofs.Pairs.{len_is, ages_step, keeps_both, keeps_none, keeps_changes}
+use Rattle.lru_lists.proofs.Pairs.{len_is, ages_step, keeps_both}
 use Rattle.lru_lists.proofs.lru.Lru.age.Goals as goal
 
 pub loop-self-smaller : goal.loop-self-smaller

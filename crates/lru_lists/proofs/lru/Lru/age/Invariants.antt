@@ -1,4 +1,4 @@
-use Rattle.std.proofs.Common.{◌≡◌, ◌≤◌, ◌<◌, ◌+◌, ◌-◌, ◌++◌, ℕ, false, length, map, take, drop}
+use Rattle.std.proofs.Common.{◌≡◌, ◌<◌, ◌+◌, ◌-◌, ◌++◌, ℕ, false, length, map, take, drop}
 use Rattle.lru_lists.specs.Lists.{StandsIn, KeepsUnits, inactive_of, active_of, marked}
 use Rattle.lru_lists.proofs.lru.Lru.age.Given as goal
 

@@ -1,9 +1,8 @@
-use Rattle.std.proofs.Common.{◌≡◌, ◌≢◌, ◌+◌, ◌∙◌, ℕ, List, None, Some, Option, length, arith, rules, refl, sym, ap}
-use Rattle.lru_lists.specs.declared.record.LruList.{LruList}
+use Rattle.std.proofs.Common.{◌≡◌, ◌≢◌, ◌∙◌, ℕ, List, None, Some, Option, arith, rules, refl, sym}
 use Rattle.lru_lists.specs.declared.record.LruList.TheVariants.{Inactive, Active}
-use Rattle.lru_lists.specs.Queue.{link_at, units_of, oldest_of, is_among}
+use Rattle.lru_lists.specs.Queue.{link_at, units_of}
 use Rattle.lru_lists.specs.Lists.{home_of, list_of}
-use Rattle.lru_lists.proofs.Linking.{within, none_or_some}
+use Rattle.lru_lists.proofs.Linking.{within}
 use Rattle.lru_lists.proofs.Pairs.{oldest_first, entries_first, some_oldest, list_at_home, other_lacks, homes_differ}
 use Rattle.std.specs.Option.{IsSome}
 use Rattle.lru_lists.proofs.lru.Lru.demote.Goals as goal

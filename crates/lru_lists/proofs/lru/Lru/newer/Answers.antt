@@ -1,9 +1,6 @@
-use Rattle.std.proofs.Common.{◌≡◌, Some, None, IfSome, Option, length, ap, sym, ◌∙◌}
-use Rattle.lru_lists.specs.declared.record.Entry.{Entry}
-use Rattle.lru_lists.specs.declared.record.LruList.{LruList}
+use Rattle.std.proofs.Common.{◌∙◌}
 use Rattle.lru_lists.specs.Queue.{link_at, units_of}
-use Rattle.lru_lists.specs.Lists.{home_of, queue_of, entry_of, list_of}
-use Rattle.std.specs.Prelude.{option_map}
+use Rattle.lru_lists.specs.Lists.{home_of, queue_of, list_of}
 use Rattle.lru_lists.proofs.Records.{newer_frame}
 use Rattle.lru_lists.proofs.Pairs.{home_of_list, after_read, some_list}
 use Rattle.lru_lists.proofs.lru.Lru.newer.Goals as goal

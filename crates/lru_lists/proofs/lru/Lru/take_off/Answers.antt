@@ -1,14 +1,29 @@
+use Rattle.std.proofs.Common.{slice_set}
 use Rattle.lru_lists.specs.declared.record.LruList.TheVariants.{Inactive, Active}
-use Rattle.lru_lists.specs.Queue.{link_at}
-use Rattle.lru_lists.proofs.Pairs.{pulled_each, home_of_list}
+use Rattle.lru_lists.specs.Queue.{nowhere}
+use Rattle.lru_lists.proofs.Pairs.{AfterTakeOff, after_take_off}
 use Rattle.lru_lists.proofs.lru.Lru.take_off.Goals as goal
+
+pub returns-clause-stands : goal.returns-clause-stands
+returns-clause-stands c =
+    let p = c.pull.ensures in
+    let all : AfterTakeOff c.args.links.now (slice_set c.pull.new.links c.args.unit nowhere) c.args.self.now c.pull.new.self c.args.unit =
+      after_take_off c.args.links.now c.pull.new.links c.args.self.now c.pull.new.self c.list-list.result c.args.unit
+        c.requires.stands c.list-list.ensures p.stands p.entries p.other p.unit (rw p.moves.frames c.requires.frame) in
+    rw c.forget.ensures all.stands
 
 pub returns-clause-inactive : goal.returns-clause-inactive
 returns-clause-inactive c =
-    pulled_each c.args.links.now c.pull.new.links c.args.self.now c.pull.new.self c.list-list.result c.args.unit c.requires.stands
-      (home_of_list (link_at c.args.links.now c.args.unit).home c.args.self.now c.list-list.result c.list-list.ensures) c.pull.ensures.entries c.pull.ensures.other Inactive
+    let p = c.pull.ensures in
+    let all : AfterTakeOff c.args.links.now (slice_set c.pull.new.links c.args.unit nowhere) c.args.self.now c.pull.new.self c.args.unit =
+      after_take_off c.args.links.now c.pull.new.links c.args.self.now c.pull.new.self c.list-list.result c.args.unit
+        c.requires.stands c.list-list.ensures p.stands p.entries p.other p.unit (rw p.moves.frames c.requires.frame) in
+    rw c.forget.ensures (all.entries Inactive)
 
 pub returns-clause-active : goal.returns-clause-active
 returns-clause-active c =
-    pulled_each c.args.links.now c.pull.new.links c.args.self.now c.pull.new.self c.list-list.result c.args.unit c.requires.stands
-      (home_of_list (link_at c.args.links.now c.args.unit).home c.args.self.now c.list-list.result c.list-list.ensures) c.pull.ensures.entries c.pull.ensures.other Active
+    let p = c.pull.ensures in
+    let all : AfterTakeOff c.args.links.now (slice_set c.pull.new.links c.args.unit nowhere) c.args.self.now c.pull.new.self c.args.unit =
+      after_take_off c.args.links.now c.pull.new.links c.args.self.now c.pull.new.self c.list-list.result c.args.unit
+        c.requires.stands c.list-list.ensures p.stands p.entries p.other p.unit (rw p.moves.frames c.requires.frame) in
+    rw c.forget.ensures (all.entries Active)
