@@ -5,7 +5,9 @@ ghost use Rattle.std.specs.Option.{option_copied};
 ghost use Rattle.std.specs.Result.{result_err};
 ghost use Rattle.group_tree.specs.Groups.{IsLeastFreeNumber, has_child, has_group, limit_of, make_fault};
 ghost use Rattle.group_tree.specs.Room.{IsLowestOver, PathHasRoom, has_room};
-ghost use Rattle.group_charge.specs.Charges.{AreCharges, CountsMax, PagesRise, PeaksRise, SameEvents, SamePages, SamePeaks, UsageRises, account_at, current_of, empty_account, events_local_of, events_of, initial_ledger, pages_of, peak_of, total_pages, with_charge, with_group_limit, with_group_removed, with_max_noted, with_new_group, with_uncharge};
+ghost use Rattle.group_charge.specs.Charges.{AreCharges, CountsMax, PagesRise, PeaksRise, SameEvents, SamePages, SamePeaks, UsageRises, account_at};
+ghost use Rattle.group_charge.specs.Charges.{current_of, empty_account, events_local_of, events_of, initial_ledger, pages_of, peak_of, total_pages};
+ghost use Rattle.group_charge.specs.Charges.{with_charge, with_group_limit, with_group_removed, with_max_noted, with_new_group, with_uncharge};
 
 use crate::account::{Account, Counts};
 use crate::sums;

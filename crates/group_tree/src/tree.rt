@@ -6,7 +6,8 @@ ghost use Rattle.std.specs.Result.{result_err};
 ghost use Rattle.group_tree.specs.Ancestors.{depth_at};
 ghost use Rattle.group_tree.specs.Links.{root_link};
 ghost use Rattle.group_tree.specs.Path.{IsWellFormed};
-ghost use Rattle.group_tree.specs.Groups.{AreGroups, IsLeastFreeNumber, group_at, has_child, has_group, in_subtree, initial_groups, limit_of, limited, make_fault, number_at, parent_of, path_of, the_root, with_group, with_limit, without_group};
+ghost use Rattle.group_tree.specs.Groups.{AreGroups, IsLeastFreeNumber, group_at, has_child, has_group, in_subtree, initial_groups, limit_of, limited};
+ghost use Rattle.group_tree.specs.Groups.{make_fault, number_at, parent_of, path_of, the_root, with_group, with_limit, without_group};
 
 use crate::fault::Fault;
 use crate::group::{Group, GroupId, MAX_GROUPS};

@@ -1,5 +1,6 @@
 -- What a step changes, and the state that a list of steps leads to.
-use Rattle.std.specs.Prelude.{ℕ, ◌+◌, ◌-◌, ◌^◌, ◌==◌, ◌&&◌, nat_le, nat_lt, Bool, true, false, Option, Some, None, is_some, List, take, slice_get, IfSome, fold, if◌then◌else◌}
+use Rattle.std.specs.Prelude.{ℕ, ◌+◌, ◌-◌, ◌^◌, ◌==◌, ◌&&◌, nat_le, nat_lt, Bool, true, false, Option, Some, None, is_some, List, take, slice_get, IfSome}
+use Rattle.std.specs.Prelude.{fold, if◌then◌else◌}
 use Rattle.zone_blocks.specs.declared.block.Block.{Block}
 use Rattle.group_tree.specs.Groups.{with_group, with_limit, without_group}
 use Rattle.step_rules.specs.declared.phase.ChargedUnit.{ChargedUnit}
@@ -10,7 +11,9 @@ use Rattle.step_rules.specs.declared.phase.Phase.{Phase}
 use Rattle.step_rules.specs.declared.phase.Phase.TheVariants.{InZone, Lent, Head, Tail}
 use Rattle.step_rules.specs.declared.step.Step.{Step}
 use Rattle.step_rules.specs.declared.step.Action.{Action}
-use Rattle.step_rules.specs.declared.step.Action.TheVariants.{Lock, Unlock, OpenVisit, ShutVisit, Get, Put, Freeze, Unfreeze, PassOut, TakeIn, PassBack, Collect, Consume, Credit, Report, Absorb, Fill, DrainStock, Grant, Ungrant, PlaceBlock, Return, SetMax, Make, Remove, Kill}
+use Rattle.step_rules.specs.declared.step.Action.TheVariants.{Lock, Unlock, OpenVisit, ShutVisit, Get, Put, Freeze, Unfreeze, PassOut, TakeIn, PassBack}
+use Rattle.step_rules.specs.declared.step.Action.TheVariants.{Collect, Consume, Credit, Report, Absorb, Fill, DrainStock, Grant, Ungrant, PlaceBlock}
+use Rattle.step_rules.specs.declared.step.Action.TheVariants.{Return, SetMax, Make, Remove, Kill}
 use Rattle.step_rules.specs.declared.step.Answer.{Answer}
 use Rattle.step_rules.specs.declared.step.Answer.TheVariants.{Done, Held, Left, Last, Took, Back, Pages, Granted, Placed, Number}
 use Rattle.step_rules.specs.Phases.{Fresh, has_as, unit_of, at_stage, stage_after_last, passed_back, collected}

@@ -1,15 +1,20 @@
 -- Which steps may be made, and which answers each of them may get.
-use Rattle.std.specs.Prelude.{◌≡◌, ◌≢◌, ℕ, ◌+◌, ◌^◌, ◌≤◌, ◌==◌, ◌&&◌, ◌||◌, nat_le, nat_lt, not, Bool, true, false, Option, Some, None, is_none, length, if◌then◌else◌}
+use Rattle.std.specs.Prelude.{◌≡◌, ◌≢◌, ℕ, ◌+◌, ◌^◌, ◌≤◌, ◌==◌, ◌&&◌, ◌||◌, nat_le, nat_lt, not, Bool, true, false, Option, Some, None, is_none, length}
+use Rattle.std.specs.Prelude.{if◌then◌else◌}
 use Rattle.zone_blocks.specs.declared.block.Block.{Block}
 use Rattle.zone_blocks.specs.Areas.{IsFreeBlock}
 use Rattle.group_tree.specs.Groups.{has_group, has_child, make_fault, IsLeastFreeNumber}
 use Rattle.step_rules.specs.declared.step.Action.{Action}
-use Rattle.step_rules.specs.declared.step.Action.TheVariants.{Lock, Unlock, OpenVisit, ShutVisit, Get, Put, Freeze, Unfreeze, PassOut, TakeIn, PassBack, Collect, Consume, Credit, Report, Absorb, Fill, DrainStock, Grant, Ungrant, PlaceBlock, Publish, Return, NoteMax, NoteOom, SetMax, Make, Remove, Kill}
+use Rattle.step_rules.specs.declared.step.Action.TheVariants.{Lock, Unlock, OpenVisit, ShutVisit, Get, Put, Freeze, Unfreeze, PassOut, TakeIn, PassBack}
+use Rattle.step_rules.specs.declared.step.Action.TheVariants.{Collect, Consume, Credit, Report, Absorb, Fill, DrainStock, Grant, Ungrant, PlaceBlock}
+use Rattle.step_rules.specs.declared.step.Action.TheVariants.{Publish, Return, NoteMax, NoteOom, SetMax, Make, Remove, Kill}
 use Rattle.step_rules.specs.declared.step.Answer.{Answer}
-use Rattle.step_rules.specs.declared.step.Answer.TheVariants.{Illegal, Done, Held, Zero, Full, Left, Last, Missed, Took, Empty, OtherGroup, Drained, Back, Pages, Granted, Over, Placed, NoFreeBlock, Number}
+use Rattle.step_rules.specs.declared.step.Answer.TheVariants.{Illegal, Done, Held, Zero, Full, Left, Last, Missed, Took, Empty, OtherGroup, Drained, Back}
+use Rattle.step_rules.specs.declared.step.Answer.TheVariants.{Pages, Granted, Over, Placed, NoFreeBlock, Number}
 use Rattle.step_rules.specs.Phases.{Kind, Listed, Fresh, is_free, is_head, has_as, passes_out, passes_back, is_passing, is_head_in_hand, may_return}
 use Rattle.step_rules.specs.Phases as kinds
-use Rattle.step_rules.specs.State.{State, Part, all_to, front_of, is_cpu, is_frame, is_unheld, is_held_by, visits, may_zone_act, live_references, pins_of, free_in}
+use Rattle.step_rules.specs.State.{State, Part, all_to, front_of, is_cpu, is_frame, is_unheld, is_held_by, visits, may_zone_act, live_references, pins_of}
+use Rattle.step_rules.specs.State.{free_in}
 use Rattle.step_rules.specs.Usage.{usage_of, PathHasRoom, IsLowestOver}
 
 -- the frame does not pass for the processor

@@ -1,5 +1,6 @@
 -- What stands where after a list of steps.
-use Rattle.std.specs.Prelude.{ℕ, ◌+◌, ◌==◌, ◌&&◌, ◌++◌, not, nat_le, nat_lt, zero, suc, Bool, true, false, Option, None, List, [], ◌∷◌, map, filter, if◌then◌else◌}
+use Rattle.std.specs.Prelude.{ℕ, ◌+◌, ◌==◌, ◌&&◌, ◌++◌, not, nat_le, nat_lt, zero, suc, Bool, true, false, Option, None, List, [], ◌∷◌, map, filter}
+use Rattle.std.specs.Prelude.{if◌then◌else◌}
 use Rattle.std.specs.List.{range_with_len, slice_index_or}
 use Rattle.group_tree.specs.declared.group.Group.{Group}
 use Rattle.group_tree.specs.Groups.{initial_groups}

@@ -173,7 +173,8 @@ impl FreeAreas {
     /// (Gorman, chapter 6). None exactly where the pair has no bit: at order 10, and where one of
     /// the two isn't a block of the zone.
     pub fn pair_bit(&self, block: Block) -> Option<bool>
-        ensures { MatchOption result (¬ HasPairBit self.now.frames block) (λ bit. HasPairBit self.now.frames block × (IsTrue bit ↔ IsOneOfPair self.now.blocks block)) }
+        ensures { MatchOption result (¬ HasPairBit self.now.frames block)
+            (λ bit. HasPairBit self.now.frames block × (IsTrue bit ↔ IsOneOfPair self.now.blocks block)) }
     {
         read_pair(&self.pairs, self.frames, &block)
     }
