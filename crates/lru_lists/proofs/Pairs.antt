@@ -1,8 +1,8 @@
 -- Two lists of one owner, and those of others, after a push or an unlink on one of them.
 -- They serve the contracts of `Lru`.
 use Rattle.std.proofs.Common.{◌≡◌, ◌≢◌, ℕ, zero, suc, ◌+◌, ◌<◌, ◌==◌, ◌⊎◌, Bool, true, false, Option, Some, None, List, [], ◌∷◌, ◌++◌, length, slice_index_or, slice_set, get_or-set_same, get_or-set_other, map, take, drop, option_map, sym, ◌∙◌, ap, subst, inl, inr, arith, refl, eq-eqb, add-one}
-use Rattle.std.proofs.lemmas.Bool.{cases_eq, ne_eqb, cases_Bool, true≢false, false≢true, or_parts, false_from_ne_true}
-use Rattle.std.proofs.lemmas.List.{append_assoc, length-map, length-set, map-append}
+use Rattle.std.proofs.lemmas.Bool.{cases_eq, cases_lt, ne_eqb, cases_Bool, true≢false, false≢true, or_parts, false_from_ne_true}
+use Rattle.std.proofs.lemmas.List.{length-append, get_or_append_left, get_or_push, append_assoc, length-map, length-set, map-append}
 use Rattle.lru_lists.specs.declared.record.Link.{Link}
 use Rattle.lru_lists.specs.declared.record.Home.{Home}
 use Rattle.lru_lists.specs.declared.record.Entry.{Entry}
@@ -11,7 +11,7 @@ use Rattle.lru_lists.specs.declared.record.LruList.TheVariants.{Inactive, Active
 use Rattle.lru_lists.specs.declared.lru.Lru.{Lru}
 use Rattle.lru_lists.specs.declared.queue.Queue.{Queue}
 use Rattle.lru_lists.specs.Queue.{oldest_of, after, link_at, nowhere, is_among, AreApart, without, IsLinked, units_of, StaysElsewhere, SameUse, newest_link, unlinked}
-use Rattle.lru_lists.specs.Lists.{active_of, inactive_of, is_marked_by_touch, first_entry, entry_after, KeepsUnits, OthersStand, OneOfAllChanges, changed_at, home_of, queue_of, with_queue, StandsIn, MovesOnly, entries_of, marked, entry_of, entries_without, place_of, list_of, ChangesOwn, IsOnNone}
+use Rattle.lru_lists.specs.Lists.{active_of, inactive_of, is_marked_by_touch, first_entry, entry_after, KeepsUnits, AllStand, OthersStand, OneOfAllChanges, changed_at, home_of, queue_of, with_queue, StandsIn, MovesOnly, entries_of, marked, entry_of, entries_without, place_of, list_of, ChangesOwn, IsOnNone}
 use Rattle.lru_lists.proofs.Lists.{other_than_first}
 use Rattle.lru_lists.proofs.Linking.{units_are}
 use Rattle.lru_lists.proofs.Records.{set_same, set_other, part_set}
@@ -532,6 +532,27 @@ one_of_all_changes before after lists new all lt stands c k any lk = elim (cases
       let old = all k any (rw (← length-set lists new.owner new) lk) in
       let ne : (slice_index_or lists k any).owner ≢ new.owner = λ q. n (sym (old.0) ∙ q) in
       rw got (old.0, (others_stand before after new.owner (slice_index_or lists k any) c ne (old.1)).0)
+  ]
+
+-- the same, for the lists at a place of a slice that are written back there
+pub one_written_back : (before after : List Link) (lists : List Lru) (k : ℕ) (new : Lru) (any : Lru) → AllStand before lists
+    → k < length lists → new.owner ≡ (slice_index_or lists k any).owner → StandsIn after new
+    → ChangesOwn before after (slice_index_or lists k any).owner → AllStand after (slice_set lists k new)
+one_written_back before after lists k new any all lt same stands c =
+    let e : new.owner ≡ k = same ∙ (all k any lt).0 in
+    rw (← e) (one_of_all_changes before after lists new all (rw e lt) stands (rw same c))
+
+-- one more owner's lists behind those that stand
+pub all_pushed : (links : List Link) (lists : List Lru) (new : Lru) → AllStand links lists → new.owner ≡ length lists
+    → StandsIn links new → AllStand links (lists ++ new ∷ [])
+all_pushed links lists new all e stands k any lt = elim (cases_lt k (length lists)) [
+  | inl l ↦
+      let got : slice_index_or (lists ++ new ∷ []) k any ≡ slice_index_or lists k any = get_or_append_left lists (new ∷ []) any k l in
+      rw got (all k any l)
+  | inr g ↦
+      let q : length lists ≡ k = (let lt' : k < length lists + 1 = rw (length-append lists (new ∷ [])) at lt in omega arith) in
+      let got : slice_index_or (lists ++ new ∷ []) k any ≡ new = get_or_push lists new any k q in
+      rw got (e ∙ q, stands)
   ]
 
 -- a pull takes the unit out of each list: of the other it changes nothing
