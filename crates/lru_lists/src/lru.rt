@@ -51,7 +51,10 @@ impl Lru {
     fn home(&self, list: LruList) -> Home
         ensures { result ≡ home_of self.now list }
     {
-        Home { owner: self.owner, list }
+        Home {
+            owner: self.owner,
+            list,
+        }
     }
 
     // The ends and the length of one of the lists.
@@ -126,10 +129,8 @@ impl Lru {
         requires stands { StandsIn links.old self.old }
         ensures stands { StandsIn links.new self.new }
         ensures owner { self.new.owner ≡ self.old.owner }
-        ensures inactive {
-            inactive_of links.new self.new
-                ≡ inactive_of links.old self.old ++ record { number = unit; is_marked = false; is_dirty = false } ∷ []
-        }
+        ensures inactive { inactive_of links.new self.new
+            ≡ inactive_of links.old self.old ++ record { number = unit; is_marked = false; is_dirty = false } ∷ [] }
         ensures active { active_of links.new self.new ≡ active_of links.old self.old }
         ensures others { ChangesOwn links.old links.new self.old.owner }
     {
@@ -153,10 +154,8 @@ impl Lru {
         requires stands { StandsIn links.old self.old }
         ensures stands { StandsIn links.new self.new }
         ensures owner { self.new.owner ≡ self.old.owner }
-        ensures gained {
-            entries_of links.new self.new list
-                ≡ entries_without unit (entries_of links.old self.old list) ++ marked false (entry_of links.old unit) ∷ []
-        }
+        ensures gained { entries_of links.new self.new list
+            ≡ entries_without unit (entries_of links.old self.old list) ++ marked false (entry_of links.old unit) ∷ [] }
         ensures lost { (m : LruList) → m ≢ list → entries_of links.new self.new m ≡ entries_without unit (entries_of links.old self.old m) }
         ensures keeps { KeepsUnits links.old links.new self.old.owner }
     {
@@ -262,10 +261,8 @@ impl Lru {
         requires frame { unit < length links.now }
         requires on { list_of links.now self.now.owner unit ≢ None }
         requires stands { StandsIn links.now self.now }
-        ensures {
-            (list : LruList) → list_of links.now self.now.owner unit ≡ Some list
-                → result ≡ entry_after unit (entries_of links.now self.now list)
-        }
+        ensures { (list : LruList) → list_of links.now self.now.owner unit ≡ Some list
+            → result ≡ entry_after unit (entries_of links.now self.now list) }
     {
         Lru::entry(links, links.link(unit).newer)
     }

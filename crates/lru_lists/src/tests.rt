@@ -12,6 +12,7 @@ use std::process::Abort;
 use std::test::Fail;
 
 const FRAMES: u32 = 256;
+
 const OWNERS: u32 = 16;
 
 // The two lists of one owner as plain vectors, each from the oldest unit to the newest.
@@ -157,8 +158,20 @@ fn compare(rt: &impl Abort, links: &Links, lists: &[Lru], plain: &[Plain])
     assert_eq!(rt; lists.len(), plain.len());
     for index in 0..lists.len() {
         let lru = lists[index];
-        walk(rt, &lru, links, LruList::Inactive, plain[index].inactive.as_slice());
-        walk(rt, &lru, links, LruList::Active, plain[index].active.as_slice());
+        walk(
+            rt,
+            &lru,
+            links,
+            LruList::Inactive,
+            plain[index].inactive.as_slice(),
+        );
+        walk(
+            rt,
+            &lru,
+            links,
+            LruList::Active,
+            plain[index].active.as_slice(),
+        );
     }
 }
 
@@ -222,7 +235,14 @@ fn the_lists_agree_with_plain_vectors(rt: HostRuntime) -> Result<(), Fail> {
     for turn in 0..10_000 {
         let unit = random.next_u32() % FRAMES;
         let word = random.next_u32();
-        step(&rt, &mut links, lists.as_mut_slice(), plain.as_mut_slice(), unit, word)?;
+        step(
+            &rt,
+            &mut links,
+            lists.as_mut_slice(),
+            plain.as_mut_slice(),
+            unit,
+            word,
+        )?;
         if turn % 50 == 49 {
             compare(&rt, &links, lists.as_slice(), plain.as_slice());
         }
