@@ -1,6 +1,7 @@
 -- What the records link after a push behind the newest, and after a unit was taken out.
 -- They serve the contracts of `queue::push_newest` and `queue::unlink`.
-use Rattle.std.proofs.Common.{◌≡◌, ◌≢◌, ℕ, ◌+◌, ◌<◌, ◌≤◌, ◌==◌, ◌⊎◌, true, false, Option, Some, None, List, [], ◌∷◌, ◌++◌, length, sym, ◌∙◌, ap, subst, inl, inr, arith, refl, eq-eqb}
+use Rattle.std.proofs.Common.{◌≡◌, ◌≢◌, ℕ, ◌+◌, ◌<◌, ◌≤◌, ◌==◌, ◌⊎◌, true, false, Option, Some, None, List, [], ◌∷◌, ◌++◌, length, sym, ◌∙◌, ap}
+use Rattle.std.proofs.Common.{subst, inl, inr, arith, refl, eq-eqb}
 use Rattle.std.proofs.lemmas.Bool.{cases_eq, cases_lt, ne_eqb, eqb-true, cases_Bool, false≢true, or_parts, or_cases, both_ways}
 use Rattle.std.proofs.lemmas.List.{get_or_past, length_push}
 use Rattle.std.specs.List.{IsDistinct, AllByRecursion, list_any}
@@ -8,8 +9,12 @@ use Rattle.std.proofs.lemmas.Map.Steps.{length-le_from_distinct_below}
 use Rattle.lru_lists.specs.declared.record.Link.{Link}
 use Rattle.lru_lists.specs.declared.record.Home.{Home}
 use Rattle.lru_lists.specs.declared.queue.Queue.{Queue}
-use Rattle.lru_lists.specs.Queue.{link_at, nowhere, is_among, AreApart, oldest_of, newest_of, after, before_from, before, without, IsLinked, units_from, units_of, end_or, pushed_queue, queue_without}
-use Rattle.lru_lists.proofs.Lists.{among_without, gone_without, apart_without, length_without, before_none, before_among, oldest_gone, oldest_stays, newest_gone, newest_stays, after_gone, after_stays, before_gone, before_stays, among_push, apart_push, oldest_push, newest_none, newest_push, after_push_newest, after_push_other, after_push_last, before_push_other, before_push_last, other_than_first}
+use Rattle.lru_lists.specs.Queue.{link_at, nowhere, is_among, AreApart, oldest_of, newest_of, after, before_from, before, without, IsLinked}
+use Rattle.lru_lists.specs.Queue.{units_from, units_of, end_or, pushed_queue, queue_without}
+use Rattle.lru_lists.proofs.Lists.{among_without, gone_without, apart_without, length_without, before_none, before_among, oldest_gone, oldest_stays}
+use Rattle.lru_lists.proofs.Lists.{newest_gone, newest_stays, after_gone, after_stays, before_gone, before_stays, among_push, apart_push, oldest_push}
+use Rattle.lru_lists.proofs.Lists.{newest_none, newest_push, after_push_newest, after_push_other, after_push_last, before_push_other}
+use Rattle.lru_lists.proofs.Lists.{before_push_last, other_than_first}
 
 -- ---- the list that is linked is the one that is walked
 
@@ -20,10 +25,10 @@ walked links (y ∷ ys) apart h =
     let t : (y == y) ≡ true = eq-eqb y y refl in
     let e : (link_at links y).newer ≡ oldest_of ys = h y (rw t refl) ∙ rw t refl in
     rw e (ap (λ (zs : List ℕ). y ∷ zs) (walked links ys apart.1 (λ f i.
-        let u : (y == f) ≡ false = ne_eqb y f (other_than_first y ys f apart.0 i) in
-        let j : is_among (y ∷ ys) f ≡ true = rw u i in
-        let k : (link_at links f).newer ≡ after (y ∷ ys) f = h f j in
-        k ∙ rw u refl)))
+    let u : (y == f) ≡ false = ne_eqb y f (other_than_first y ys f apart.0 i) in
+    let j : is_among (y ∷ ys) f ≡ true = rw u i in
+    let k : (link_at links f).newer ≡ after (y ∷ ys) f = h f j in
+    k ∙ rw u refl)))
 
 pub units_are : (links : List Link) (home : Home) (queue : Queue) (units : List ℕ) → IsLinked links home queue units → units_of links queue ≡ units
 units_are links home queue units linked = rw (linked.oldest, linked.count) (walked links units linked.apart linked.newer)
@@ -39,14 +44,14 @@ within links home queue units f linked i = elim (cases_lt f (length links)) [
       let h : (link_at links f).home ≡ Some home = linked.homes f i in
       let k : None ≡ Some home = sym (ap (λ (v : Link). v.home) e) ∙ h in
       cc
-  ]
+]
 
 pub any_is_among : (xs : List ℕ) (q : ℕ) → list_any (λ x. q == x) xs ≡ is_among xs q
 any_is_among [] q = refl
 any_is_among (x ∷ xs) q = elim (cases_eq x q) [
   | inl e ↦ let t : (x == q) ≡ true = eq-eqb x q e in let u : (q == x) ≡ true = eq-eqb q x (sym e) in rw (t, u) refl
   | inr n ↦ let t : (x == q) ≡ false = ne_eqb x q n in let u : (q == x) ≡ false = ne_eqb q x (λ e. n (sym e)) in rw (t, u) (any_is_among xs q)
-  ]
+]
 
 pub others_differ : (x : ℕ) (xs : List ℕ) → is_among xs x ≡ false → AllByRecursion (λ y. (x == y) ≡ false) xs
 others_differ x [] out = tt
@@ -64,10 +69,10 @@ pub few : (links : List Link) (home : Home) (queue : Queue) (units : List ℕ) (
 few links home queue units f linked out lt =
     let apart : AreApart (f ∷ units) = (out, linked.apart) in
     let all : (q : ℕ) → list_any (λ x. q == x) (f ∷ units) ≡ true → q < length links = λ q h.
-        elim (or_cases (f == q) (is_among units q) (sym (any_is_among (f ∷ units) q) ∙ h)) [
-          | inl e ↦ subst (λ (v : ℕ). v < length links) (eqb-true f q e) lt
-          | inr i ↦ within links home queue units q linked i
-          ] in
+    elim (or_cases (f == q) (is_among units q) (sym (any_is_among (f ∷ units) q) ∙ h)) [
+      | inl e ↦ subst (λ (v : ℕ). v < length links) (eqb-true f q e) lt
+      | inr i ↦ within links home queue units q linked i
+    ] in
     let le : length (f ∷ units) ≤ length links = length-le_from_distinct_below (f ∷ units) (length links) (distinct (f ∷ units) apart) all in
     omega arith
 
@@ -78,7 +83,7 @@ is_some_of None f = inr (λ h. let k : None ≡ Some f = h in cc)
 is_some_of (Some u) f = elim (cases_eq u f) [
   | inl e ↦ inl (ap Some e)
   | inr n ↦ inr (λ h. let k : Some u ≡ Some f = h in n (let j : u ≡ f = cc in j))
-  ]
+]
 
 pub none_or_some : (o : Option ℕ) → (o ≡ None) ⊎ ((u : ℕ) × (o ≡ Some u))
 none_or_some None = inl refl
@@ -113,11 +118,14 @@ before_pushed_other (x ∷ xs) unit g ne i = before_push_other x xs unit g ne
 pub pushed_cases : (xs : List ℕ) (unit g : ℕ) → is_among (xs ++ unit ∷ []) g ≡ true → (g ≡ unit) ⊎ ((g ≢ unit) × (is_among xs g ≡ true))
 pushed_cases xs unit g i = elim (cases_eq g unit) [
   | inl e ↦ inl e
-  | inr n ↦ inr (n, elim (or_cases (is_among xs g) (unit == g) (sym (among_push xs unit g) ∙ i)) [
+  | inr n ↦ inr (
+    n,
+    elim (or_cases (is_among xs g) (unit == g) (sym (among_push xs unit g) ∙ i)) [
       | inl h ↦ h
       | inr h ↦ absurd (n (sym (eqb-true unit g h)))
-      ])
-  ]
+    ],
+  )
+]
 
 pub pushed_among : (xs : List ℕ) (unit : ℕ) → is_among (xs ++ unit ∷ []) unit ≡ true
 pushed_among xs unit =
@@ -134,25 +142,25 @@ links_pushed before after home q r unit xs l out p = record {
   homes = λ f i. elim (pushed_cases xs unit f i) [
     | inl e ↦ rw e p.unit_home
     | inr n ↦ p.homes f n.0 ∙ l.homes f n.1
-    ];
+  ];
   at_home = λ f h. elim (cases_eq f unit) [
     | inl e ↦ rw e (pushed_among xs unit)
     | inr n ↦ pushed_among_old xs unit f (l.at_home f (sym (p.homes f n) ∙ h))
-    ];
+  ];
   oldest = rw (p.queue, l.oldest) (oldest_pushed q.newest xs unit l.newest);
   newest = rw p.queue (sym (newest_push xs unit));
   count = rw (p.queue, l.count) (sym (length_push xs unit));
   older = λ f i. elim (pushed_cases xs unit f i) [
     | inl e ↦ rw e (p.unit_older ∙ l.newest ∙ sym (before_pushed xs unit out))
     | inr n ↦ p.olders f n.0 ∙ l.older f n.1 ∙ sym (before_pushed_other xs unit f n.0 n.1)
-    ];
+  ];
   newer = λ f i. elim (pushed_cases xs unit f i) [
     | inl e ↦ rw e (p.unit_newer ∙ sym (after_push_last xs unit out))
     | inr n ↦ elim (is_some_of q.newest f) [
       | inl t ↦ p.newest_newer f n.0 t ∙ sym (after_push_newest xs unit f l.apart (sym l.newest ∙ t))
       | inr t ↦ p.newers f n.0 t ∙ l.newer f n.1 ∙ sym (after_push_other xs unit f n.1 (λ h. t (l.newest ∙ h)))
-      ]
-    ];
+    ]
+  ];
 }
 
 -- ---- a unit taken out
@@ -197,11 +205,12 @@ newest_out (x ∷ xs) unit n apart i e = elim (cases_eq x unit) [
       let j : is_among xs unit ≡ true = rw t at i in
       let k : n ≡ after xs unit = e ∙ rw t refl in
       rw t (newest_out_later x xs unit n apart j k)
-  ]
+]
 
 -- who stays is another than who is out
 pub stays_other : (xs : List ℕ) (unit f : ℕ) → AreApart xs → is_among (without unit xs) f ≡ true → f ≢ unit
-stays_other xs unit f apart h e = both_ways (is_among (without unit xs) unit) (gone_without unit xs apart) (subst (λ (v : ℕ). is_among (without unit xs) v ≡ true) e h)
+stays_other xs unit f apart h e =
+    both_ways (is_among (without unit xs) unit) (gone_without unit xs apart) (subst (λ (v : ℕ). is_among (without unit xs) v ≡ true) e h)
 
 -- the oldest unit has none before it
 pub first_has_none : (xs : List ℕ) (n : ℕ) → AreApart xs → oldest_of xs ≡ Some n → before xs n ≡ None
@@ -238,7 +247,7 @@ before_out_after (x ∷ xs) unit n apart a = elim (cases_eq x unit) [
       let t : (x == unit) ≡ false = ne_eqb x unit d in
       let k : after xs unit ≡ Some n = rw t at a in
       rw t (before_gone x xs unit n apart k)
-  ]
+]
 
 pub before_out_other : (xs : List ℕ) (unit g : ℕ) → AreApart xs → g ≢ unit → after xs unit ≢ Some g → before (without unit xs) g ≡ before xs g
 before_out_other [] unit g apart ne na = refl
@@ -249,7 +258,7 @@ before_out_other (x ∷ xs) unit g apart ne na = elim (cases_eq x unit) [
   | inr d ↦
       let t : (x == unit) ≡ false = ne_eqb x unit d in
       rw t (before_stays x xs unit g apart ne (rw t at na))
-  ]
+]
 
 pub links_unlinked : (old new : List Link) (home : Home) (q r : Queue) (unit : ℕ) (o n : Option ℕ) (xs : List ℕ) → IsLinked old home q xs
     → is_among xs unit ≡ true → o ≡ before xs unit → n ≡ after xs unit → Unlinked old new home q r unit o n
@@ -260,25 +269,25 @@ links_unlinked old new home q r unit o n xs l i eo en p = record {
   at_home = λ f h. elim (cases_eq f unit) [
     | inl e ↦ let k : None ≡ Some home = sym p.unit_home ∙ rw e at h in cc
     | inr ne ↦ among_without unit f xs ne ∙ l.at_home f (sym (p.homes f ne) ∙ h)
-    ];
+  ];
   oldest = rw (p.queue, l.oldest, en) (oldest_out xs unit o l.apart i eo);
   newest = rw (p.queue, l.newest, eo) (newest_out xs unit n l.apart i en);
   count =
-    let k : length (without unit xs) + 1 ≡ length xs = length_without unit xs i in
-    let e : q.length ≡ length xs = l.count in
-    rw p.queue (omega arith);
+      let k : length (without unit xs) + 1 ≡ length xs = length_without unit xs i in
+      let e : q.length ≡ length xs = l.count in
+      rw p.queue (omega arith);
   older = λ f h.
-    let ne = stays_other xs unit f l.apart h in
-    let j : is_among xs f ≡ true = sym (among_without unit f xs ne) ∙ h in
-    elim (is_some_of n f) [
-      | inl t ↦ p.newer_older f ne t ∙ eo ∙ sym (before_out_after xs unit f l.apart (sym en ∙ t))
-      | inr t ↦ p.olders f ne t ∙ l.older f j ∙ sym (before_out_other xs unit f l.apart ne (λ a. t (en ∙ a)))
+      let ne = stays_other xs unit f l.apart h in
+      let j : is_among xs f ≡ true = sym (among_without unit f xs ne) ∙ h in
+      elim (is_some_of n f) [
+        | inl t ↦ p.newer_older f ne t ∙ eo ∙ sym (before_out_after xs unit f l.apart (sym en ∙ t))
+        | inr t ↦ p.olders f ne t ∙ l.older f j ∙ sym (before_out_other xs unit f l.apart ne (λ a. t (en ∙ a)))
       ];
   newer = λ f h.
-    let ne = stays_other xs unit f l.apart h in
-    let j : is_among xs f ≡ true = sym (among_without unit f xs ne) ∙ h in
-    elim (is_some_of o f) [
-      | inl t ↦ p.older_newer f ne t ∙ en ∙ sym (after_out_before xs unit f l.apart (sym eo ∙ t))
-      | inr t ↦ p.newers f ne t ∙ l.newer f j ∙ sym (after_stays xs unit f l.apart ne (λ a. t (eo ∙ a)))
+      let ne = stays_other xs unit f l.apart h in
+      let j : is_among xs f ≡ true = sym (among_without unit f xs ne) ∙ h in
+      elim (is_some_of o f) [
+        | inl t ↦ p.older_newer f ne t ∙ en ∙ sym (after_out_before xs unit f l.apart (sym eo ∙ t))
+        | inr t ↦ p.newers f ne t ∙ l.newer f j ∙ sym (after_stays xs unit f l.apart ne (λ a. t (eo ∙ a)))
       ];
 }

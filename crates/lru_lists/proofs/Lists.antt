@@ -1,6 +1,7 @@
 -- Lists of units without repetition: who stands where once a unit was taken out, or was put behind the newest.
 -- They serve the contracts of `queue::push_newest` and `queue::unlink`.
-use Rattle.std.proofs.Common.{◌≡◌, ◌≢◌, ℕ, ◌+◌, ◌==◌, ◌||◌, true, false, Some, None, List, [], ◌∷◌, ◌++◌, length, sym, ◌∙◌, ap, subst, inl, inr, arith, refl, eq-eqb}
+use Rattle.std.proofs.Common.{◌≡◌, ◌≢◌, ℕ, ◌+◌, ◌==◌, ◌||◌, true, false, Some, None, List, [], ◌∷◌, ◌++◌, length, sym, ◌∙◌, ap, subst, inl, inr}
+use Rattle.std.proofs.Common.{arith, refl, eq-eqb}
 use Rattle.std.proofs.lemmas.Bool.{cases_eq, ne_eqb, cases_Bool, false≢true, or_parts, both_ways}
 use Rattle.lru_lists.specs.Queue.{is_among, AreApart, oldest_of, newest_of, after, before_from, before, without}
 
@@ -11,21 +12,21 @@ among_without f g [] ne = refl
 among_without f g (x ∷ xs) ne = elim (cases_eq x f) [
   | inl e ↦ let t : (x == f) ≡ true = eq-eqb x f e in let u : (x == g) ≡ false = ne_eqb x g (λ h. ne (sym h ∙ e)) in rw (t, u) refl
   | inr n ↦ let t : (x == f) ≡ false = ne_eqb x f n in rw t (ap (λ b. (x == g) || b) (among_without f g xs ne))
-  ]
+]
 
 pub gone_without : (f : ℕ) (xs : List ℕ) → AreApart xs → is_among (without f xs) f ≡ false
 gone_without f [] apart = refl
 gone_without f (x ∷ xs) apart = elim (cases_eq x f) [
   | inl e ↦ let t : (x == f) ≡ true = eq-eqb x f e in rw t (subst (λ (v : ℕ). is_among xs v ≡ false) e apart.0)
   | inr n ↦ let t : (x == f) ≡ false = ne_eqb x f n in rw (t, t) (gone_without f xs apart.1)
-  ]
+]
 
 pub apart_without : (f : ℕ) (xs : List ℕ) → AreApart xs → AreApart (without f xs)
 apart_without f [] apart = tt
 apart_without f (x ∷ xs) apart = elim (cases_eq x f) [
   | inl e ↦ let t : (x == f) ≡ true = eq-eqb x f e in rw t (apart.1)
   | inr n ↦ let t : (x == f) ≡ false = ne_eqb x f n in rw t (among_without f x xs n ∙ apart.0, apart_without f xs apart.1)
-  ]
+]
 
 pub length_without : (f : ℕ) (xs : List ℕ) → is_among xs f ≡ true → length (without f xs) + 1 ≡ length xs
 length_without f [] h = absurd (false≢true h)
@@ -36,7 +37,7 @@ length_without f (x ∷ xs) h = elim (cases_eq x f) [
       let k : is_among xs f ≡ true = rw t at h in
       let i : length (without f xs) + 1 ≡ length xs = length_without f xs k in
       rw t (omega arith)
-  ]
+]
 
 -- ---- neighbours
 
@@ -45,7 +46,7 @@ after_among [] f n h = cc
 after_among (x ∷ []) f n h = elim (cases_eq x f) [
   | inl e ↦ let t : (x == f) ≡ true = eq-eqb x f e in let k : None ≡ Some n = rw t at h in cc
   | inr d ↦ let t : (x == f) ≡ false = ne_eqb x f d in let k : None ≡ Some n = rw t at h in cc
-  ]
+]
 after_among (x ∷ y ∷ ys) f n h = elim (cases_eq x f) [
   | inl e ↦
       let t : (x == f) ≡ true = eq-eqb x f e in
@@ -58,7 +59,7 @@ after_among (x ∷ y ∷ ys) f n h = elim (cases_eq x f) [
       let k : after (y ∷ ys) f ≡ Some n = rw t at h in
       let i : is_among (y ∷ ys) n ≡ true = after_among (y ∷ ys) f n k in
       elim (cases_Bool (x == n)) [ inl a ↦ rw a refl | inr a ↦ rw a i ]
-  ]
+]
 
 -- whoever stands in a list whose first unit stands nowhere else in it is another unit than the first
 pub other_than_first : (x : ℕ) (xs : List ℕ) (n : ℕ) → is_among xs x ≡ false → is_among xs n ≡ true → x ≢ n
@@ -69,7 +70,7 @@ after_other [] f n apart h = cc
 after_other (x ∷ []) f n apart h = elim (cases_eq x f) [
   | inl e ↦ let t : (x == f) ≡ true = eq-eqb x f e in let k : None ≡ Some n = rw t at h in cc
   | inr d ↦ let t : (x == f) ≡ false = ne_eqb x f d in let k : None ≡ Some n = rw t at h in cc
-  ]
+]
 after_other (x ∷ y ∷ ys) f n apart h = elim (cases_eq x f) [
   | inl e ↦
       let t : (x == f) ≡ true = eq-eqb x f e in
@@ -81,7 +82,7 @@ after_other (x ∷ y ∷ ys) f n apart h = elim (cases_eq x f) [
   | inr d ↦
       let t : (x == f) ≡ false = ne_eqb x f d in
       after_other (y ∷ ys) f n apart.1 (rw t at h)
-  ]
+]
 
 pub before_none : (x : ℕ) (xs : List ℕ) (f : ℕ) → is_among xs f ≡ false → before_from x xs f ≡ None
 before_none x [] f h = refl
@@ -102,7 +103,7 @@ before_among x (y ∷ ys) f p h = elim (cases_eq y f) [
       let t : (y == f) ≡ false = ne_eqb y f d in
       let i = before_among y ys f p (rw t at h) in
       (elim (cases_Bool (x == p)) [ inl a ↦ rw a refl | inr a ↦ rw a (i.0) ], rw t (i.1))
-  ]
+]
 
 -- the unit before f is another than f
 pub before_other : (x : ℕ) (xs : List ℕ) (f p : ℕ) → AreApart (x ∷ xs) → before_from x xs f ≡ Some p → p ≢ f
@@ -117,7 +118,7 @@ before_other x (y ∷ ys) f p apart h = elim (cases_eq y f) [
   | inr d ↦
       let t : (y == f) ≡ false = ne_eqb y f d in
       before_other y ys f p apart.1 (rw t at h)
-  ]
+]
 
 -- ---- the ends once f is out
 
@@ -128,7 +129,7 @@ before_some x (y ∷ ys) f h b = elim (cases_eq y f) [
   | inr d ↦
       let t : (y == f) ≡ false = ne_eqb y f d in
       before_some y ys f (rw t at h) (rw t at b)
-  ]
+]
 
 pub oldest_gone : (xs : List ℕ) (f : ℕ) → AreApart xs → is_among xs f ≡ true → before xs f ≡ None → oldest_of (without f xs) ≡ after xs f
 oldest_gone [] f apart h b = absurd (false≢true h)
@@ -138,7 +139,7 @@ oldest_gone (x ∷ xs) f apart h b = elim (cases_eq x f) [
       let t : (x == f) ≡ false = ne_eqb x f d in
       let k : is_among xs f ≡ true = rw t at h in
       absurd (before_some x xs f k b)
-  ]
+]
 
 pub oldest_stays : (xs : List ℕ) (f p : ℕ) → AreApart xs → before xs f ≡ Some p → oldest_of (without f xs) ≡ oldest_of xs
 oldest_stays [] f p apart b = refl
@@ -147,12 +148,13 @@ oldest_stays (x ∷ xs) f p apart b =
     let t : (x == f) ≡ false = ne_eqb x f (other_than_first x xs f apart.0 (i.1)) in
     rw t refl
 
-pub newest_gone : (x : ℕ) (xs : List ℕ) (f : ℕ) → AreApart (x ∷ xs) → is_among xs f ≡ true → after xs f ≡ None → newest_of (x ∷ without f xs) ≡ before_from x xs f
+pub newest_gone : (x : ℕ) (xs : List ℕ) (f : ℕ) → AreApart (x ∷ xs) → is_among xs f ≡ true → after xs f ≡ None
+    → newest_of (x ∷ without f xs) ≡ before_from x xs f
 newest_gone x [] f apart h a = absurd (false≢true h)
 newest_gone x (y ∷ []) f apart h a = elim (cases_eq y f) [
   | inl e ↦ let t : (y == f) ≡ true = eq-eqb y f e in rw t refl
   | inr d ↦ let t : (y == f) ≡ false = ne_eqb y f d in absurd (false≢true (rw t at h))
-  ]
+]
 newest_gone x (y ∷ z ∷ zs) f apart h a = elim (cases_eq y f) [
   | inl e ↦ let t : (y == f) ≡ true = eq-eqb y f e in let k : Some z ≡ None = rw t at a in cc
   | inr d ↦
@@ -160,21 +162,21 @@ newest_gone x (y ∷ z ∷ zs) f apart h a = elim (cases_eq y f) [
       let k : is_among (z ∷ zs) f ≡ true = rw t at h in
       let j : after (z ∷ zs) f ≡ None = rw t at a in
       rw t (newest_gone y (z ∷ zs) f (apart.1) k j)
-  ]
+]
 
 pub newest_stays : (x : ℕ) (xs : List ℕ) (f n : ℕ) → AreApart (x ∷ xs) → after xs f ≡ Some n → newest_of (x ∷ without f xs) ≡ newest_of (x ∷ xs)
 newest_stays x [] f n apart a = refl
 newest_stays x (y ∷ []) f n apart a = elim (cases_eq y f) [
   | inl e ↦ let t : (y == f) ≡ true = eq-eqb y f e in let k : None ≡ Some n = rw t at a in cc
   | inr d ↦ let t : (y == f) ≡ false = ne_eqb y f d in let k : None ≡ Some n = rw t at a in cc
-  ]
+]
 newest_stays x (y ∷ z ∷ zs) f n apart a = elim (cases_eq y f) [
   | inl e ↦ let t : (y == f) ≡ true = eq-eqb y f e in rw t refl
   | inr d ↦
       let t : (y == f) ≡ false = ne_eqb y f d in
       let j : after (z ∷ zs) f ≡ Some n = rw t at a in
       rw t (newest_stays y (z ∷ zs) f n (apart.1) j)
-  ]
+]
 
 -- ---- neighbours once f is out
 
@@ -194,7 +196,7 @@ after_gone x (y ∷ ys) f p apart b = elim (cases_eq y f) [
       let in_it = before_among y ys f p k in
       let u : (x == p) ≡ false = ne_eqb x p (other_than_first x (y ∷ ys) p apart.0 (in_it.0)) in
       rw (t, u) (after_gone y ys f p (apart.1) k)
-  ]
+]
 
 -- the unit after the first stays, where the first isn't just before f
 pub first_stays : (x : ℕ) (xs : List ℕ) (f : ℕ) → before_from x xs f ≢ Some x → oldest_of (without f xs) ≡ oldest_of xs
@@ -202,7 +204,7 @@ first_stays x [] f nb = refl
 first_stays x (y ∷ ys) f nb = elim (cases_eq y f) [
   | inl e ↦ let t : (y == f) ≡ true = eq-eqb y f e in absurd (nb (rw t refl))
   | inr d ↦ let t : (y == f) ≡ false = ne_eqb y f d in rw t refl
-  ]
+]
 
 -- what isn't just before f in the whole list isn't in the list behind the first
 pub not_before : (x : ℕ) (xs : List ℕ) (f g : ℕ) → AreApart xs → x ≢ g → before_from x xs f ≢ Some g → before xs f ≢ Some g
@@ -213,7 +215,7 @@ not_before x (y ∷ ys) f g apart ne nb b = elim (cases_eq y f) [
       let k : before_from y ys f ≡ None = before_none y ys f out in
       cc
   | inr d ↦ let t : (y == f) ≡ false = ne_eqb y f d in nb (rw t b)
-  ]
+]
 
 -- another unit than the one before f has its next as before
 pub after_stays : (xs : List ℕ) (f g : ℕ) → AreApart xs → g ≢ f → before xs f ≢ Some g → after (without f xs) g ≡ after xs g
@@ -229,7 +231,7 @@ after_stays (x ∷ xs) f g apart ne nb = elim (cases_eq x f) [
         | inl e ↦ let u : (x == g) ≡ true = eq-eqb x g e in rw (t, u) (first_stays x xs f (λ q. nb (q ∙ ap Some e)))
         | inr o ↦ let u : (x == g) ≡ false = ne_eqb x g o in rw (t, u) (after_stays xs f g apart.1 ne (not_before x xs f g apart.1 o nb))
       ]
-  ]
+]
 
 -- the unit after f has the one before it as its previous
 pub before_gone : (x : ℕ) (xs : List ℕ) (f n : ℕ) → AreApart (x ∷ xs) → after xs f ≡ Some n → before_from x (without f xs) n ≡ before_from x xs f
@@ -237,7 +239,7 @@ before_gone x [] f n apart a = cc
 before_gone x (y ∷ []) f n apart a = elim (cases_eq y f) [
   | inl e ↦ let t : (y == f) ≡ true = eq-eqb y f e in let k : None ≡ Some n = rw t at a in cc
   | inr d ↦ let t : (y == f) ≡ false = ne_eqb y f d in let k : None ≡ Some n = rw t at a in cc
-  ]
+]
 before_gone x (y ∷ z ∷ zs) f n apart a = elim (cases_eq y f) [
   | inl e ↦
       let t : (y == f) ≡ true = eq-eqb y f e in
@@ -250,7 +252,7 @@ before_gone x (y ∷ z ∷ zs) f n apart a = elim (cases_eq y f) [
       let k : after (z ∷ zs) f ≡ Some n = rw t at a in
       let u : (y == n) ≡ false = ne_eqb y n (other_than_first y (z ∷ zs) n (apart.1.0) (after_among (z ∷ zs) f n k)) in
       rw (t, u) (before_gone y (z ∷ zs) f n (apart.1) k)
-  ]
+]
 
 -- the unit after the first of two, which isn't the second's next, has as its previous what it had
 pub second_stays : (x y : ℕ) (ys : List ℕ) (g : ℕ) → oldest_of ys ≢ Some g → before_from x ys g ≡ before_from y ys g
@@ -273,7 +275,7 @@ before_stays x (y ∷ ys) f g apart ne na = elim (cases_eq y f) [
         | inl e ↦ let u : (y == g) ≡ true = eq-eqb y g e in rw (t, u) refl
         | inr o ↦ let u : (y == g) ≡ false = ne_eqb y g o in rw (t, u) (before_stays y ys f g apart.1 ne (rw t at na))
       ]
-  ]
+]
 
 -- ---- one put behind the newest
 
@@ -321,11 +323,11 @@ after_push_other [] f g h nn = absurd (false≢true h)
 after_push_other (x ∷ []) f g h nn = elim (cases_eq x g) [
   | inl e ↦ absurd (nn (ap Some e))
   | inr d ↦ let u : (x == g) ≡ false = ne_eqb x g d in absurd (false≢true (rw u at h))
-  ]
+]
 after_push_other (x ∷ y ∷ ys) f g h nn = elim (cases_eq x g) [
   | inl e ↦ let u : (x == g) ≡ true = eq-eqb x g e in rw u refl
   | inr d ↦ let u : (x == g) ≡ false = ne_eqb x g d in rw u (after_push_other (y ∷ ys) f g (rw u at h) nn)
-  ]
+]
 
 pub after_push_last : (xs : List ℕ) (f : ℕ) → is_among xs f ≡ false → after (xs ++ f ∷ []) f ≡ None
 after_push_last [] f out = let u : (f == f) ≡ true = eq-eqb f f refl in rw u refl
@@ -338,7 +340,7 @@ before_push_other x [] f g ne = let u : (f == g) ≡ false = ne_eqb f g (λ q. n
 before_push_other x (y ∷ ys) f g ne = elim (cases_Bool (y == g)) [
   | inl t ↦ rw t refl
   | inr t ↦ rw t (before_push_other y ys f g ne)
-  ]
+]
 
 pub before_push_last : (x : ℕ) (xs : List ℕ) (f : ℕ) → is_among xs f ≡ false → before_from x (xs ++ f ∷ []) f ≡ newest_of (x ∷ xs)
 before_push_last x [] f out = let u : (f == f) ≡ true = eq-eqb f f refl in rw u refl

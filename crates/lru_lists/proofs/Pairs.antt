@@ -1,8 +1,10 @@
 -- Two lists of one owner, and those of others, after a push or an unlink on one of them.
 -- They serve the contracts of `Lru`.
-use Rattle.std.proofs.Common.{◌≡◌, ◌≢◌, ℕ, zero, suc, ◌+◌, ◌<◌, ◌==◌, ◌⊎◌, Bool, true, false, Option, Some, None, List, [], ◌∷◌, ◌++◌, length, slice_index_or, slice_set, get_or-set_same, get_or-set_other, map, take, drop, option_map, sym, ◌∙◌, ap, subst, inl, inr, arith, refl, eq-eqb, add-one}
-use Rattle.std.proofs.lemmas.Bool.{cases_eq, ne_eqb, cases_Bool, true≢false, false≢true, or_parts, false_from_ne_true}
-use Rattle.std.proofs.lemmas.List.{append_assoc, length-map, length-set, map-append}
+use Rattle.std.proofs.Common.{◌≡◌, ◌≢◌, ℕ, zero, suc, ◌+◌, ◌<◌, ◌==◌, ◌⊎◌, Bool, true, false, Option, Some, None, List, [], ◌∷◌, ◌++◌, length}
+use Rattle.std.proofs.Common.{slice_index_or, slice_set, get_or-set_same, get_or-set_other, map, take, drop, option_map, sym, ◌∙◌, ap, subst, inl}
+use Rattle.std.proofs.Common.{inr, arith, refl, eq-eqb, add-one}
+use Rattle.std.proofs.lemmas.Bool.{cases_eq, cases_lt, ne_eqb, cases_Bool, true≢false, false≢true, or_parts, false_from_ne_true}
+use Rattle.std.proofs.lemmas.List.{length-append, get_or_append_left, get_or_push, append_assoc, length-map, length-set, map-append}
 use Rattle.lru_lists.specs.declared.record.Link.{Link}
 use Rattle.lru_lists.specs.declared.record.Home.{Home}
 use Rattle.lru_lists.specs.declared.record.Entry.{Entry}
@@ -10,8 +12,11 @@ use Rattle.lru_lists.specs.declared.record.LruList.{LruList}
 use Rattle.lru_lists.specs.declared.record.LruList.TheVariants.{Inactive, Active}
 use Rattle.lru_lists.specs.declared.lru.Lru.{Lru}
 use Rattle.lru_lists.specs.declared.queue.Queue.{Queue}
-use Rattle.lru_lists.specs.Queue.{oldest_of, after, link_at, nowhere, is_among, AreApart, without, IsLinked, units_of, StaysElsewhere, SameUse, newest_link, unlinked}
-use Rattle.lru_lists.specs.Lists.{active_of, inactive_of, is_marked_by_touch, first_entry, entry_after, KeepsUnits, OthersStand, OneOfAllChanges, changed_at, home_of, queue_of, with_queue, StandsIn, MovesOnly, entries_of, marked, entry_of, entries_without, place_of, list_of, ChangesOwn, IsOnNone}
+use Rattle.lru_lists.specs.Queue.{oldest_of, after, link_at, nowhere, is_among, AreApart, without, IsLinked, units_of, StaysElsewhere, SameUse}
+use Rattle.lru_lists.specs.Queue.{newest_link, unlinked}
+use Rattle.lru_lists.specs.Lists.{active_of, inactive_of, is_marked_by_touch, first_entry, entry_after, KeepsUnits, AllStand, OthersStand}
+use Rattle.lru_lists.specs.Lists.{OneOfAllChanges, changed_at, home_of, queue_of, with_queue, StandsIn, MovesOnly, entries_of, marked, entry_of}
+use Rattle.lru_lists.specs.Lists.{entries_without, place_of, list_of, ChangesOwn, IsOnNone}
 use Rattle.lru_lists.proofs.Lists.{other_than_first}
 use Rattle.lru_lists.proofs.Linking.{units_are}
 use Rattle.lru_lists.proofs.Records.{set_same, set_other, part_set}
@@ -33,7 +38,8 @@ same_links before after home q xs l same homes = record {
 }
 
 -- entries tell the marks alone
-pub entry_same : (before after : List Link) (f : ℕ) → (link_at after f).is_marked ≡ (link_at before f).is_marked → (link_at after f).is_dirty ≡ (link_at before f).is_dirty
+pub entry_same : (before after : List Link) (f : ℕ) → (link_at after f).is_marked ≡ (link_at before f).is_marked
+    → (link_at after f).is_dirty ≡ (link_at before f).is_dirty
     → entry_of after f ≡ entry_of before f
 entry_same before after f m d = cc
 
@@ -44,7 +50,7 @@ entries_same before after (x ∷ xs) h =
     let t : (x == x) ≡ true = eq-eqb x x refl in
     let e : entry_of after x ≡ entry_of before x = h x (rw t refl) in
     let r : map (entry_of after) xs ≡ map (entry_of before) xs =
-      entries_same before after xs (λ f i. h f (elim (cases_Bool (x == f)) [ inl a ↦ rw a refl | inr a ↦ rw a i ])) in
+    entries_same before after xs (λ f i. h f (elim (cases_Bool (x == f)) [ inl a ↦ rw a refl | inr a ↦ rw a i ])) in
     cc
 
 pub entries_out : (before after : List Link) (unit : ℕ) (xs : List ℕ) → AreApart xs
@@ -60,7 +66,7 @@ entries_out before after unit (x ∷ xs) apart h = elim (cases_eq x unit) [
       let e : entry_of after x ≡ entry_of before x = h x n in
       let r : map (entry_of after) (without unit xs) ≡ entries_without unit (map (entry_of before) xs) = entries_out before after unit xs apart.1 h in
       rw t (cc)
-  ]
+]
 
 -- ---- the other lists than the one that changed
 
@@ -69,17 +75,18 @@ pub elsewhere_same : (before after : List Link) (home there : Home) (q : Queue) 
     → (f : ℕ) → is_among xs f ≡ true → link_at after f ≡ link_at before f
 elsewhere_same before after home there q xs unit l stays ne away f i =
     let h : (link_at before f).home ≡ Some there = l.homes f i in
-    stays f (λ e. away (subst (λ (v : ℕ). (link_at before v).home ≡ Some there) e h)) (λ k. let j : Some there ≡ Some home = sym h ∙ k in ne (let w : home ≡ there = cc in w))
+    stays f (λ e. away (subst (λ (v : ℕ). (link_at before v).home ≡ Some there) e h))
+        (λ k. let j : Some there ≡ Some home = sym h ∙ k in ne (let w : home ≡ there = cc in w))
 
 pub elsewhere_linked : (before after : List Link) (home there : Home) (q : Queue) (xs : List ℕ) (unit : ℕ) → IsLinked before there q xs
     → StaysElsewhere before after home unit → SameUse before after unit → home ≢ there
     → (link_at before unit).home ≢ Some there → (link_at after unit).home ≢ Some there → IsLinked after there q xs
 elsewhere_linked before after home there q xs unit l stays used ne away out =
     same_links before after there q xs l (elsewhere_same before after home there q xs unit l stays ne away)
-      (λ f h. elim (cases_eq f unit) [
-        | inl e ↦ absurd (out (subst (λ (v : ℕ). (link_at after v).home ≡ Some there) e h))
-        | inr n ↦ l.at_home f (sym (used.home f n) ∙ h)
-        ])
+    (λ f h. elim (cases_eq f unit) [
+      | inl e ↦ absurd (out (subst (λ (v : ℕ). (link_at after v).home ≡ Some there) e h))
+      | inr n ↦ l.at_home f (sym (used.home f n) ∙ h)
+    ])
 
 -- ---- what a change of one unit does to the records
 
@@ -127,7 +134,7 @@ pub other_linked : (before after : List Link) (lru : Lru) (list m : LruList) (un
     → IsLinked after (home_of lru m) (queue_of lru m) (units_of before (queue_of lru m))
 other_linked before after lru list m unit stands ne stays used b a =
     elsewhere_linked before after (home_of lru list) (home_of lru m) (queue_of lru m) (units_of before (queue_of lru m)) unit (stands m) stays used
-      (homes_differ lru list m ne) b a
+    (homes_differ lru list m ne) b a
 
 pub other_entries : (before after : List Link) (lru : Lru) (list m : LruList) (unit : ℕ) → StandsIn before lru → m ≢ list
     → StaysElsewhere before after (home_of lru list) unit → SameUse before after unit
@@ -137,21 +144,23 @@ other_entries before after lru list m unit stands ne stays used b a =
     let xs : List ℕ = units_of before (queue_of lru m) in
     let same = elsewhere_same before after (home_of lru list) (home_of lru m) (queue_of lru m) xs unit (stands m) stays (homes_differ lru list m ne) b in
     ap (λ (ys : List ℕ). map (entry_of after) ys)
-        (units_are after (home_of lru m) (queue_of lru m) xs (other_linked before after lru list m unit stands ne stays used b a))
-    ∙ entries_same before after xs (λ f i. ap (λ (k : Link). let e : Entry = record { number = f; is_marked = k.is_marked; is_dirty = k.is_dirty } in e) (same f i))
+    (units_are after (home_of lru m) (queue_of lru m) xs (other_linked before after lru list m unit stands ne stays used b a))
+    ∙ entries_same before after xs (λ f i. ap
+        (λ (k : Link). let e : Entry = record { number = f; is_marked = k.is_marked; is_dirty = k.is_dirty } in e) (same f i))
 
 -- both lists stand after a change of one of them
 pub stands_after : (before after : List Link) (lru : Lru) (list : LruList) (q : Queue) (unit : ℕ) → StandsIn before lru
     → IsLinked after (home_of lru list) q (units_of after q)
     → StaysElsewhere before after (home_of lru list) unit → SameUse before after unit
-    → ((m : LruList) → m ≢ list → (link_at before unit).home ≢ Some (home_of lru m)) → ((m : LruList) → m ≢ list → (link_at after unit).home ≢ Some (home_of lru m))
+    → ((m : LruList) → m ≢ list → (link_at before unit).home ≢ Some (home_of lru m)) →
+        ((m : LruList) → m ≢ list → (link_at after unit).home ≢ Some (home_of lru m))
     → StandsIn after (with_queue lru list q)
 stands_after before after lru list q unit stands linked stays used b a m = elim (cases_list m list) [
   | inl e ↦ rw (e, home_same lru list list q, queue_same lru list q) linked
   | inr ne ↦
       let l = other_linked before after lru list m unit stands ne stays used (b m ne) (a m ne) in
       rw (home_same lru list m q, queue_other lru list m q ne, units_are after (home_of lru m) (queue_of lru m) (units_of before (queue_of lru m)) l) l
-  ]
+]
 
 pub moves_only : (before after : List Link) (lru : Lru) (list : LruList) (unit : ℕ) → StaysElsewhere before after (home_of lru list) unit
     → SameUse before after unit → MovesOnly before after lru.owner unit
@@ -169,7 +178,8 @@ pub among_other : (links : List Link) (home : Home) (q : Queue) (xs : List ℕ) 
     → is_among xs f ≡ true → f ≢ unit
 among_other links home q xs unit f l away i e = away (subst (λ (v : ℕ). (link_at links v).home ≡ Some home) e (l.homes f i))
 
-pub pushed_entries : (before after : List Link) (lru : Lru) (list : LruList) (q : Queue) (unit : ℕ) (older : Option ℕ) → StandsIn before lru → IsOnNone before unit
+pub pushed_entries : (before after : List Link) (lru : Lru) (list : LruList) (q : Queue) (unit : ℕ) (older : Option ℕ) → StandsIn before lru
+    → IsOnNone before unit
     → units_of after q ≡ units_of before (queue_of lru list) ++ unit ∷ []
     → link_at after unit ≡ newest_link (home_of lru list) older (link_at before unit).is_dirty → SameUse before after unit
     → entries_of after (with_queue lru list q) list ≡ entries_of before lru list ++ marked false (entry_of before unit) ∷ []
@@ -177,9 +187,10 @@ pushed_entries before after lru list q unit older stands away units at used =
     let xs : List ℕ = units_of before (queue_of lru list) in
     let out : (link_at before unit).home ≢ Some (home_of lru list) = λ e. let k : None ≡ Some (home_of lru list) = sym away ∙ e in cc in
     let old : map (entry_of after) xs ≡ map (entry_of before) xs =
-      entries_same before after xs (λ f i. entries_kept before after unit used f (among_other before (home_of lru list) (queue_of lru list) xs unit f (stands list) out i)) in
+    entries_same before after xs (λ f i. entries_kept before after unit used f
+        (among_other before (home_of lru list) (queue_of lru list) xs unit f (stands list) out i)) in
     let new : entry_of after unit ≡ marked false (entry_of before unit) =
-      ap (λ (k : Link). let e : Entry = record { number = unit; is_marked = k.is_marked; is_dirty = k.is_dirty } in e) at in
+    ap (λ (k : Link). let e : Entry = record { number = unit; is_marked = k.is_marked; is_dirty = k.is_dirty } in e) at in
     rw (queue_same lru list q, units, map-append (entry_of after) xs (unit ∷ []), old, new) refl
 
 pub pulled_entries : (before after : List Link) (lru : Lru) (list : LruList) (q : Queue) (unit : ℕ) → StandsIn before lru
@@ -187,9 +198,10 @@ pub pulled_entries : (before after : List Link) (lru : Lru) (list : LruList) (q 
     → entries_of after (with_queue lru list q) list ≡ entries_without unit (entries_of before lru list)
 pulled_entries before after lru list q unit stands units used =
     rw (queue_same lru list q, units)
-      (entries_out before after unit (units_of before (queue_of lru list)) ((stands list).apart) (entries_kept before after unit used))
+    (entries_out before after unit (units_of before (queue_of lru list)) ((stands list).apart) (entries_kept before after unit used))
 
-pub entries_of_other : (links : List Link) (lru : Lru) (list m : LruList) (q : Queue) → m ≢ list → entries_of links (with_queue lru list q) m ≡ entries_of links lru m
+pub entries_of_other : (links : List Link) (lru : Lru) (list m : LruList) (q : Queue) → m ≢ list
+    → entries_of links (with_queue lru list q) m ≡ entries_of links lru m
 entries_of_other links lru list m q ne = rw (queue_other lru list m q ne) refl
 
 -- ---- a frame that is forgotten, and stood on no list
@@ -200,14 +212,14 @@ forgotten_linked links lru unit stands away lt m =
     let out : (link_at links unit).home ≢ Some (home_of lru m) = λ e. let k : None ≡ Some (home_of lru m) = sym away ∙ e in cc in
     let xs : List ℕ = units_of links (queue_of lru m) in
     same_links links (slice_set links unit nowhere) (home_of lru m) (queue_of lru m) xs (stands m)
-      (λ f i. set_other links unit f nowhere (among_other links (home_of lru m) (queue_of lru m) xs unit f (stands m) out i))
-      (λ f h. elim (cases_eq f unit) [
-        | inl e ↦
-            let k : link_at (slice_set links unit nowhere) f ≡ nowhere = rw e (set_same links unit nowhere lt) in
-            let j : None ≡ Some (home_of lru m) = sym (ap (λ (v : Link). v.home) k) ∙ h in
-            cc
-        | inr n ↦ (stands m).at_home f (sym (ap (λ (v : Link). v.home) (set_other links unit f nowhere n)) ∙ h)
-        ])
+    (λ f i. set_other links unit f nowhere (among_other links (home_of lru m) (queue_of lru m) xs unit f (stands m) out i))
+    (λ f h. elim (cases_eq f unit) [
+      | inl e ↦
+          let k : link_at (slice_set links unit nowhere) f ≡ nowhere = rw e (set_same links unit nowhere lt) in
+          let j : None ≡ Some (home_of lru m) = sym (ap (λ (v : Link). v.home) k) ∙ h in
+          cc
+      | inr n ↦ (stands m).at_home f (sym (ap (λ (v : Link). v.home) (set_other links unit f nowhere n)) ∙ h)
+    ])
 
 pub forgotten_stands : (links : List Link) (lru : Lru) (unit : ℕ) → StandsIn links lru → IsOnNone links unit → unit < length links
     → StandsIn (slice_set links unit nowhere) lru
@@ -223,8 +235,8 @@ forgotten_entries links lru unit stands away lt m =
     let xs : List ℕ = units_of links (queue_of lru m) in
     ap (λ (ys : List ℕ). map (entry_of (slice_set links unit nowhere)) ys) (units_are (slice_set links unit nowhere) (home_of lru m) (queue_of lru m) xs l)
     ∙ entries_same links (slice_set links unit nowhere) xs (λ f i.
-        let e = set_other links unit f nowhere (among_other links (home_of lru m) (queue_of lru m) xs unit f (stands m) out i) in
-        ap (λ (k : Link). let e : Entry = record { number = f; is_marked = k.is_marked; is_dirty = k.is_dirty } in e) e)
+    let e = set_other links unit f nowhere (among_other links (home_of lru m) (queue_of lru m) xs unit f (stands m) out i) in
+    ap (λ (k : Link). let e : Entry = record { number = f; is_marked = k.is_marked; is_dirty = k.is_dirty } in e) e)
 
 pub forgotten_moves : (links : List Link) (owner unit : ℕ) → MovesOnly links (slice_set links unit nowhere) owner unit
 forgotten_moves links owner unit = record {
@@ -251,19 +263,20 @@ changed_own before after owner unit m own came gone = record {
   kept = λ f b a. elim (cases_eq f unit) [
     | inl e ↦ absurd (own (subst (λ (v : ℕ). list_of before owner v ≡ None) e b) (subst (λ (v : ℕ). list_of after owner v ≡ None) e a))
     | inr n ↦ m.kept f n b
-    ];
+  ];
   joined = λ f b a. elim (cases_eq f unit) [
     | inl e ↦ rw e (came (subst (λ (v : ℕ). list_of before owner v ≡ None) e b))
     | inr n ↦ absurd (a (ap (λ (o : Option Home). place_of o owner) (m.home f n) ∙ b))
-    ];
+  ];
   left = λ f b a. elim (cases_eq f unit) [
     | inl e ↦ rw e (gone (subst (λ (v : ℕ). list_of after owner v ≡ None) e a))
     | inr n ↦ absurd (b (ap (λ (o : Option Home). place_of o owner) (sym (m.home f n)) ∙ a))
-    ];
+  ];
 }
 
 -- whoever is at home on a list of the owner stands on it
-pub list_at_home : (links : List Link) (lru : Lru) (list : LruList) (f : ℕ) → (link_at links f).home ≡ Some (home_of lru list) → list_of links lru.owner f ≡ Some list
+pub list_at_home : (links : List Link) (lru : Lru) (list : LruList) (f : ℕ) → (link_at links f).home ≡ Some (home_of lru list)
+    → list_of links lru.owner f ≡ Some list
 list_at_home links lru list f h = ap (λ (o : Option Home). place_of o lru.owner) h ∙ place_here lru.owner list
 
 -- and whoever stands on it is at home there
@@ -280,7 +293,7 @@ home_of_list (Some h) lru list e = elim (cases_eq h.owner lru.owner) [
       let t : (h.owner == lru.owner) ≡ false = ne_eqb h.owner lru.owner n in
       let k : None ≡ Some list = rw t at e in
       cc
-  ]
+]
 
 -- a unit that comes onto a list of the owner from none
 pub own_after_push : (before after : List Link) (lru : Lru) (list : LruList) (unit : ℕ) → MovesOnly before after lru.owner unit
@@ -305,23 +318,24 @@ pub record AfterPush (before after : List Link) (lru : Lru) (list : LruList) (q 
   pub other : (m : LruList) → m ≢ list → entries_of after (with_queue lru list q) m ≡ entries_of before lru m
   pub moves : MovesOnly before after lru.owner unit
 
-pub after_push_is : (before after : List Link) (lru : Lru) (list : LruList) (q : Queue) (unit : ℕ) (home : Home) (old : Queue) (older : Option ℕ) → StandsIn before lru
+pub after_push_is : (before after : List Link) (lru : Lru) (list : LruList) (q : Queue) (unit : ℕ) (home : Home) (old : Queue) (older : Option ℕ)
+    → StandsIn before lru
     → IsOnNone before unit → home ≡ home_of lru list → old ≡ queue_of lru list → units_of after q ≡ units_of before old ++ unit ∷ []
     → IsLinked after home q (units_of after q) → link_at after unit ≡ newest_link home older (link_at before unit).is_dirty
     → StaysElsewhere before after home unit → SameUse before after unit → AfterPush before after lru list q unit
 after_push_is before after lru list q unit home old older stands away h o units0 linked at stays used =
     let units : units_of after q ≡ units_of before (queue_of lru list) ++ unit ∷ [] =
-      subst (λ (v : Queue). units_of after q ≡ units_of before v ++ unit ∷ []) o units0 in
+    subst (λ (v : Queue). units_of after q ≡ units_of before v ++ unit ∷ []) o units0 in
     let linked' : IsLinked after (home_of lru list) q (units_of after q) = subst (λ (v : Home). IsLinked after v q (units_of after q)) h linked in
     let at' : link_at after unit ≡ newest_link (home_of lru list) older (link_at before unit).is_dirty =
-      subst (λ (v : Home). link_at after unit ≡ newest_link v older (link_at before unit).is_dirty) h at in
+    subst (λ (v : Home). link_at after unit ≡ newest_link v older (link_at before unit).is_dirty) h at in
     let stays' : StaysElsewhere before after (home_of lru list) unit = subst (λ (v : Home). StaysElsewhere before after v unit) h stays in
     let there : (link_at after unit).home ≡ Some (home_of lru list) = ap (λ (k : Link). k.home) at' in
     let b : (m : LruList) → m ≢ list → (link_at before unit).home ≢ Some (home_of lru m) =
-      λ m ne e. let k : None ≡ Some (home_of lru m) = sym away ∙ e in cc in
+    λ m ne e. let k : None ≡ Some (home_of lru m) = sym away ∙ e in cc in
     let a : (m : LruList) → m ≢ list → (link_at after unit).home ≢ Some (home_of lru m) =
-      λ m ne e. let k : Some (home_of lru list) ≡ Some (home_of lru m) = sym there ∙ e in
-        homes_differ lru list m ne (let w : home_of lru list ≡ home_of lru m = cc in w) in
+    λ m ne e. let k : Some (home_of lru list) ≡ Some (home_of lru m) = sym there ∙ e in
+    homes_differ lru list m ne (let w : home_of lru list ≡ home_of lru m = cc in w) in
     record {
       stands = stands_after before after lru list q unit stands linked' stays' used b a;
       entries = pushed_entries before after lru list q unit older stands away units at' used;
@@ -343,14 +357,14 @@ pub after_pull_is : (before after : List Link) (lru : Lru) (list : LruList) (q :
     → StaysElsewhere before after home unit → SameUse before after unit → AfterPull before after lru list q unit
 after_pull_is before after lru list q unit home old stands there h o units0 linked at stays used =
     let units : units_of after q ≡ without unit (units_of before (queue_of lru list)) =
-      subst (λ (v : Queue). units_of after q ≡ without unit (units_of before v)) o units0 in
+    subst (λ (v : Queue). units_of after q ≡ without unit (units_of before v)) o units0 in
     let linked' : IsLinked after (home_of lru list) q (units_of after q) = subst (λ (v : Home). IsLinked after v q (units_of after q)) h linked in
     let stays' : StaysElsewhere before after (home_of lru list) unit = subst (λ (v : Home). StaysElsewhere before after v unit) h stays in
     let b : (m : LruList) → m ≢ list → (link_at before unit).home ≢ Some (home_of lru m) =
-      λ m ne e. let k : Some (home_of lru list) ≡ Some (home_of lru m) = sym there ∙ e in
-        homes_differ lru list m ne (let w : home_of lru list ≡ home_of lru m = cc in w) in
+    λ m ne e. let k : Some (home_of lru list) ≡ Some (home_of lru m) = sym there ∙ e in
+    homes_differ lru list m ne (let w : home_of lru list ≡ home_of lru m = cc in w) in
     let a : (m : LruList) → m ≢ list → (link_at after unit).home ≢ Some (home_of lru m) =
-      λ m ne e. let k : None ≡ Some (home_of lru m) = sym (ap (λ (v : Link). v.home) at) ∙ e in cc in
+    λ m ne e. let k : None ≡ Some (home_of lru m) = sym (ap (λ (v : Link). v.home) at) ∙ e in cc in
     record {
       stands = stands_after before after lru list q unit stands linked' stays' used b a;
       entries = pulled_entries before after lru list q unit stands units used;
@@ -360,7 +374,8 @@ after_pull_is before after lru list q unit home old stands there h o units0 link
 
 -- ---- a unit that isn't on a list
 
-pub entries_lack : (links : List Link) (unit : ℕ) (xs : List ℕ) → is_among xs unit ≡ false → entries_without unit (map (entry_of links) xs) ≡ map (entry_of links) xs
+pub entries_lack : (links : List Link) (unit : ℕ) (xs : List ℕ) → is_among xs unit ≡ false
+    → entries_without unit (map (entry_of links) xs) ≡ map (entry_of links) xs
 entries_lack links unit [] out = refl
 entries_lack links unit (x ∷ xs) out =
     let p = or_parts (x == unit) (is_among xs unit) out in
@@ -392,7 +407,8 @@ remarked_linked links home q xs unit k l same = record {
   newer = λ f i. part_set (λ (v : Link). v.newer) links unit f k (same.2) ∙ l.newer f i;
 }
 
-pub remarked_stands : (links : List Link) (lru : Lru) (unit : ℕ) (k : Link) → StandsIn links lru → SameNeighbours k (link_at links unit) → StandsIn (slice_set links unit k) lru
+pub remarked_stands : (links : List Link) (lru : Lru) (unit : ℕ) (k : Link) → StandsIn links lru → SameNeighbours k (link_at links unit)
+    → StandsIn (slice_set links unit k) lru
 remarked_stands links lru unit k stands same m =
     let l = remarked_linked links (home_of lru m) (queue_of lru m) (units_of links (queue_of lru m)) unit k (stands m) same in
     rw (units_are (slice_set links unit k) (home_of lru m) (queue_of lru m) (units_of links (queue_of lru m)) l) l
@@ -407,16 +423,18 @@ remarked_map links unit k change (x ∷ xs) lt e =
       | inl q ↦
           let t : (x == unit) ≡ true = eq-eqb x unit q in
           let s : entry_of (slice_set links unit k) x ≡ change (entry_of links x) =
-            rw q (ap (λ (v : Link). let w : Entry = record { number = unit; is_marked = v.is_marked; is_dirty = v.is_dirty } in w) (set_same links unit k lt) ∙ e) in
+          rw q (ap (λ (v : Link). let w : Entry = record { number = unit; is_marked = v.is_marked; is_dirty = v.is_dirty } in w)
+              (set_same links unit k lt) ∙ e) in
           rw t (cc)
       | inr n ↦
           let t : (x == unit) ≡ false = ne_eqb x unit n in
           let s : entry_of (slice_set links unit k) x ≡ entry_of links x =
-            ap (λ (v : Link). let w : Entry = record { number = x; is_marked = v.is_marked; is_dirty = v.is_dirty } in w) (set_other links unit x k n) in
+          ap (λ (v : Link). let w : Entry = record { number = x; is_marked = v.is_marked; is_dirty = v.is_dirty } in w) (set_other links unit x k n) in
           rw t (cc)
-      ]
+    ]
 
-pub remarked_entries : (links : List Link) (lru : Lru) (unit : ℕ) (k : Link) (change : Entry → Entry) → StandsIn links lru → SameNeighbours k (link_at links unit)
+pub remarked_entries : (links : List Link) (lru : Lru) (unit : ℕ) (k : Link) (change : Entry → Entry) → StandsIn links lru
+    → SameNeighbours k (link_at links unit)
     → unit < length links → (let e : Entry = record { number = unit; is_marked = k.is_marked; is_dirty = k.is_dirty } in e) ≡ change (entry_of links unit)
     → (m : LruList) → entries_of (slice_set links unit k) lru m ≡ changed_at unit change (entries_of links lru m)
 remarked_entries links lru unit k change stands same lt e m =
@@ -443,7 +461,8 @@ remarked_keeps links owner unit k same on = record {
 }
 
 -- a unit that stands on a list of the owner before and after
-pub moved_keeps : (before after : List Link) (lru : Lru) (list : LruList) (unit : ℕ) → MovesOnly before after lru.owner unit → list_of before lru.owner unit ≢ None
+pub moved_keeps : (before after : List Link) (lru : Lru) (list : LruList) (unit : ℕ) → MovesOnly before after lru.owner unit
+    → list_of before lru.owner unit ≢ None
     → (link_at after unit).home ≡ Some (home_of lru list) → KeepsUnits before after lru.owner
 moved_keeps before after lru list unit m on there = record {
   frames = m.frames;
@@ -454,7 +473,7 @@ moved_keeps before after lru list unit m on there = record {
         let j : Some list ≡ None = sym k ∙ h in
         cc
     | inr d ↦ n (sym (ap (λ (o : Option Home). place_of o lru.owner) (m.home f d)) ∙ h)
-    ];
+  ];
 }
 
 pub keeps_both : (a b c : List Link) (owner : ℕ) → KeepsUnits a b owner → KeepsUnits b c owner → KeepsUnits a c owner
@@ -491,7 +510,7 @@ others_same before after owner other m f c ne h =
     elim (cases_none (list_of after owner f)) [
       | inl a ↦ c.kept f b a
       | inr a ↦ let k : Some (home_of other m) ≡ None = sym h ∙ c.joined f b a in cc
-      ]
+    ]
 
 pub others_home : (before after : List Link) (owner : ℕ) (other : Lru) (m : LruList) (f : ℕ) → ChangesOwn before after owner → other.owner ≢ owner
     → (link_at after f).home ≡ Some (home_of other m) → (link_at before f).home ≡ Some (home_of other m)
@@ -500,42 +519,66 @@ others_home before after owner other m f c ne h =
     elim (cases_none (list_of before owner f)) [
       | inl b ↦ sym (ap (λ (v : Link). v.home) (c.kept f b a)) ∙ h
       | inr b ↦ let k : Some (home_of other m) ≡ None = sym h ∙ c.left f b a in cc
-      ]
+    ]
 
-pub others_linked : (before after : List Link) (owner : ℕ) (other : Lru) (m : LruList) → ChangesOwn before after owner → other.owner ≢ owner → StandsIn before other
+pub others_linked : (before after : List Link) (owner : ℕ) (other : Lru) (m : LruList) → ChangesOwn before after owner → other.owner ≢ owner
+    → StandsIn before other
     → IsLinked after (home_of other m) (queue_of other m) (units_of before (queue_of other m))
 others_linked before after owner other m c ne stands =
     same_links before after (home_of other m) (queue_of other m) (units_of before (queue_of other m)) (stands m)
-      (λ f i. others_same before after owner other m f c ne ((stands m).homes f i))
-      (λ f h. (stands m).at_home f (others_home before after owner other m f c ne h))
+    (λ f i. others_same before after owner other m f c ne ((stands m).homes f i))
+    (λ f h. (stands m).at_home f (others_home before after owner other m f c ne h))
 
 pub others_stand : OthersStand
-others_stand before after owner other c ne stands =
-    ( (λ m. let l = others_linked before after owner other m c ne stands in
-        rw (units_are after (home_of other m) (queue_of other m) (units_of before (queue_of other m)) l) l)
-    , (λ m. let xs : List ℕ = units_of before (queue_of other m) in
-        ap (λ (ys : List ℕ). map (entry_of after) ys)
-          (units_are after (home_of other m) (queue_of other m) xs (others_linked before after owner other m c ne stands))
-        ∙ entries_same before after xs (λ f i.
-            ap (λ (k : Link). let w : Entry = record { number = f; is_marked = k.is_marked; is_dirty = k.is_dirty } in w)
-              (others_same before after owner other m f c ne ((stands m).homes f i)))) )
+others_stand before after owner other c ne stands = (
+  (λ m. let l = others_linked before after owner other m c ne stands in
+      rw (units_are after (home_of other m) (queue_of other m) (units_of before (queue_of other m)) l) l),
+  (λ m. let xs : List ℕ = units_of before (queue_of other m) in
+      ap (λ (ys : List ℕ). map (entry_of after) ys)
+      (units_are after (home_of other m) (queue_of other m) xs (others_linked before after owner other m c ne stands))
+      ∙ entries_same before after xs (λ f i.
+      ap (λ (k : Link). let w : Entry = record { number = f; is_marked = k.is_marked; is_dirty = k.is_dirty } in w)
+      (others_same before after owner other m f c ne ((stands m).homes f i)))),
+)
 
 pub one_of_all_changes : OneOfAllChanges
 one_of_all_changes before after lists new all lt stands c k any lk = elim (cases_eq k new.owner) [
   | inl e ↦
       let got : slice_index_or (slice_set lists new.owner new) k any ≡ new =
-        rw e (get_or-set_same lists new.owner new any lt) in
+      rw e (get_or-set_same lists new.owner new any lt) in
       rw got (sym e, stands)
   | inr n ↦
       let got : slice_index_or (slice_set lists new.owner new) k any ≡ slice_index_or lists k any =
-        get_or-set_other lists new.owner k new any n in
+      get_or-set_other lists new.owner k new any n in
       let old = all k any (rw (← length-set lists new.owner new) lk) in
       let ne : (slice_index_or lists k any).owner ≢ new.owner = λ q. n (sym (old.0) ∙ q) in
       rw got (old.0, (others_stand before after new.owner (slice_index_or lists k any) c ne (old.1)).0)
-  ]
+]
+
+-- the same, for the lists at a place of a slice that are written back there
+pub one_written_back : (before after : List Link) (lists : List Lru) (k : ℕ) (new : Lru) (any : Lru) → AllStand before lists
+    → k < length lists → new.owner ≡ (slice_index_or lists k any).owner → StandsIn after new
+    → ChangesOwn before after (slice_index_or lists k any).owner → AllStand after (slice_set lists k new)
+one_written_back before after lists k new any all lt same stands c =
+    let e : new.owner ≡ k = same ∙ (all k any lt).0 in
+    rw (← e) (one_of_all_changes before after lists new all (rw e lt) stands (rw same c))
+
+-- one more owner's lists behind those that stand
+pub all_pushed : (links : List Link) (lists : List Lru) (new : Lru) → AllStand links lists → new.owner ≡ length lists
+    → StandsIn links new → AllStand links (lists ++ new ∷ [])
+all_pushed links lists new all e stands k any lt = elim (cases_lt k (length lists)) [
+  | inl l ↦
+      let got : slice_index_or (lists ++ new ∷ []) k any ≡ slice_index_or lists k any = get_or_append_left lists (new ∷ []) any k l in
+      rw got (all k any l)
+  | inr g ↦
+      let q : length lists ≡ k = (let lt' : k < length lists + 1 = rw (length-append lists (new ∷ [])) at lt in omega arith) in
+      let got : slice_index_or (lists ++ new ∷ []) k any ≡ new = get_or_push lists new any k q in
+      rw got (e ∙ q, stands)
+]
 
 -- a pull takes the unit out of each list: of the other it changes nothing
-pub pulled_each : (before after : List Link) (lru new : Lru) (list : LruList) (unit : ℕ) → StandsIn before lru → (link_at before unit).home ≡ Some (home_of lru list)
+pub pulled_each : (before after : List Link) (lru new : Lru) (list : LruList) (unit : ℕ) → StandsIn before lru
+    → (link_at before unit).home ≡ Some (home_of lru list)
     → entries_of after new list ≡ entries_without unit (entries_of before lru list)
     → ((m : LruList) → m ≢ list → entries_of after new m ≡ entries_of before lru m)
     → (m : LruList) → entries_of after new m ≡ entries_without unit (entries_of before lru m)
@@ -543,13 +586,14 @@ pulled_each before after lru new list unit stands there own other m = elim (case
   | inl e ↦ rw e own
   | inr ne ↦
       let away : (link_at before unit).home ≢ Some (home_of lru m) =
-        λ h. let k : Some (home_of lru list) ≡ Some (home_of lru m) = sym there ∙ h in
-          homes_differ lru list m ne (let w : home_of lru list ≡ home_of lru m = cc in w) in
+      λ h. let k : Some (home_of lru list) ≡ Some (home_of lru m) = sym there ∙ h in
+      homes_differ lru list m ne (let w : home_of lru list ≡ home_of lru m = cc in w) in
       other m ne ∙ sym (other_lacks before lru m unit stands away)
-  ]
+]
 
 -- a unit that was taken out comes back as it was, unmarked
-pub entry_unlinked : (before after : List Link) (unit : ℕ) → link_at after unit ≡ unlinked (link_at before unit) → marked false (entry_of after unit) ≡ marked false (entry_of before unit)
+pub entry_unlinked : (before after : List Link) (unit : ℕ) → link_at after unit ≡ unlinked (link_at before unit)
+    → marked false (entry_of after unit) ≡ marked false (entry_of before unit)
 entry_unlinked before after unit e = ap (λ (k : Link). let w : Entry = record { number = unit; is_marked = false; is_dirty = k.is_dirty } in w) e
 
 -- the list that a unit isn't on has nothing to change
@@ -558,8 +602,8 @@ pub other_unchanged : (links : List Link) (lru : Lru) (list m : LruList) (unit :
 other_unchanged links lru list m unit change stands there ne =
     let xs : List ℕ = units_of links (queue_of lru m) in
     changed_lacks links unit change xs (false_from_ne_true (is_among xs unit) (λ i.
-      let k : Some (home_of lru list) ≡ Some (home_of lru m) = sym there ∙ (stands m).homes unit i in
-      homes_differ lru list m ne (let w : home_of lru list ≡ home_of lru m = cc in w)))
+    let k : Some (home_of lru list) ≡ Some (home_of lru m) = sym there ∙ (stands m).homes unit i in
+    homes_differ lru list m ne (let w : home_of lru list ≡ home_of lru m = cc in w)))
 
 -- ---- ends and neighbours, read
 
@@ -572,7 +616,7 @@ after_read links unit [] = refl
 after_read links unit (x ∷ xs) = elim (cases_Bool (x == unit)) [
   | inl t ↦ rw t (oldest_read links xs)
   | inr t ↦ rw t (after_read links unit xs)
-  ]
+]
 
 -- ---- the oldest unit moves
 
@@ -630,7 +674,7 @@ pub ages_step : (before mid after : List Link) (old cur new : Lru) (k : ℕ)
 ages_step before mid after old cur new k ik one ak =
     let xs : List Entry = active_of before old in
     let e : map (marked false) (take k xs) ++ map (marked false) (take 1 (drop k xs)) ≡ map (marked false) (take (k + 1) xs) =
-      sym (map-append (marked false) (take k xs) (take 1 (drop k xs))) ∙ ap (map (marked false)) (take_step k xs ∙ ap (λ (n : ℕ). take n xs) (sym (add-one k))) in
+    sym (map-append (marked false) (take k xs) (take 1 (drop k xs))) ∙ ap (map (marked false)) (take_step k xs ∙ ap (λ (n : ℕ). take n xs) (sym (add-one k))) in
     rw (one, ik, ak, append_assoc (inactive_of before old) (map (marked false) (take k xs)) (map (marked false) (take 1 (drop k xs))), e) refl
 
 -- ---- a unit taken out and forgotten
@@ -652,5 +696,5 @@ after_take_off before mid lru new list unit stands on mid_stands entries other g
     record {
       stands = forgotten_stands mid new unit mid_stands away lt;
       entries = λ m. forgotten_entries mid new unit mid_stands away lt m
-        ∙ pulled_each before mid lru new list unit stands there entries other m;
+          ∙ pulled_each before mid lru new list unit stands there entries other m;
     }

@@ -1,12 +1,14 @@
 -- What the writes of a push and of an unlink leave in each record.
 -- They serve the contracts of `queue::push_newest` and `queue::unlink`.
-use Rattle.std.proofs.Common.{◌≡◌, ◌≢◌, ℕ, ◌<◌, Bool, true, false, Option, Some, None, IfSome, List, [], ◌∷◌, ◌++◌, length, slice_set, sym, ◌∙◌, ap, inl, inr, arith, refl, get_or-set_same, get_or-set_other}
+use Rattle.std.proofs.Common.{◌≡◌, ◌≢◌, ℕ, ◌<◌, Bool, true, false, Option, Some, None, IfSome, List, [], ◌∷◌, ◌++◌, length, slice_set, sym, ◌∙◌, ap}
+use Rattle.std.proofs.Common.{inl, inr, arith, refl, get_or-set_same, get_or-set_other}
 use Rattle.std.proofs.lemmas.Bool.{cases_eq, cases_lt, false_from_ne_true}
 use Rattle.std.proofs.lemmas.List.{length-set, set_past}
 use Rattle.lru_lists.specs.declared.record.Link.{Link}
 use Rattle.lru_lists.specs.declared.record.Home.{Home}
 use Rattle.lru_lists.specs.declared.queue.Queue.{Queue}
-use Rattle.lru_lists.specs.Queue.{link_at, nowhere, is_among, after, before, without, IsLinked, units_of, newest_link, unlinked, with_newer, with_older, pushed_queue, queue_without, StaysElsewhere, SameUse}
+use Rattle.lru_lists.specs.Queue.{link_at, nowhere, is_among, after, before, without, IsLinked, units_of, newest_link, unlinked, with_newer}
+use Rattle.lru_lists.specs.Queue.{with_older, pushed_queue, queue_without, StaysElsewhere, SameUse}
 use Rattle.lru_lists.proofs.Lists.{after_among, before_among, newest_among}
 use Rattle.lru_lists.proofs.Linking.{Pushed, Unlinked, within, units_are, links_pushed, links_unlinked, few}
 
@@ -17,14 +19,15 @@ pub set_other : (links : List Link) (i g : ℕ) (v : Link) → g ≢ i → link_
 set_other links i g v ne = get_or-set_other links i g v nowhere ne
 
 -- a part of the records that a write leaves alone
-pub part_set : {X : Type 0} (h : Link → X) (links : List Link) (i g : ℕ) (v : Link) → h v ≡ h (link_at links i) → h (link_at (slice_set links i v) g) ≡ h (link_at links g)
+pub part_set : {X : Type 0} (h : Link → X) (links : List Link) (i g : ℕ) (v : Link) → h v ≡ h (link_at links i)
+    → h (link_at (slice_set links i v) g) ≡ h (link_at links g)
 part_set h links i g v e = elim (cases_eq g i) [
   | inl q ↦ elim (cases_lt i (length links)) [
     | inl lt ↦ rw q (ap h (set_same links i v lt) ∙ e)
     | inr le ↦ ap (λ (ls : List Link). h (link_at ls g)) (set_past links i v le)
-    ]
-  | inr n ↦ ap h (set_other links i g v n)
   ]
+  | inr n ↦ ap h (set_other links i g v n)
+]
 
 pub length_newer : (links : List Link) (o n : Option ℕ) → length (with_newer links o n) ≡ length links
 length_newer links None n = refl
@@ -67,7 +70,8 @@ older_other links None n g ne = refl
 older_other links (Some u) n g ne = set_other links u g _ (λ e. ne (ap Some (sym e)))
 
 -- a unit that stands on no list isn't among those of a list
-pub away_out : (links : List Link) (home : Home) (q : Queue) (xs : List ℕ) (unit : ℕ) → IsLinked links home q xs → (link_at links unit).home ≡ None → is_among xs unit ≡ false
+pub away_out : (links : List Link) (home : Home) (q : Queue) (xs : List ℕ) (unit : ℕ) → IsLinked links home q xs → (link_at links unit).home ≡ None
+    → is_among xs unit ≡ false
 away_out links home q xs unit l away = false_from_ne_true (is_among xs unit) (λ i. let k : None ≡ Some home = sym away ∙ l.homes unit i in cc)
 
 -- the newest unit is a frame, and stands on the list
@@ -88,7 +92,7 @@ pushed links home q xs unit dirty l lt =
     let mid : List Link = with_newer links q.newest (Some unit) in
     let e : length mid ≡ length links = length_newer links q.newest (Some unit) in
     let here : link_at (after_push links home q unit dirty) unit ≡ newest_link home q.newest dirty =
-      set_same mid unit (newest_link home q.newest dirty) (omega (arith, e, lt)) in
+    set_same mid unit (newest_link home q.newest dirty) (omega (arith, e, lt)) in
     record {
       unit_home = ap (λ (k : Link). k.home) here;
       unit_older = ap (λ (k : Link). k.older) here;
@@ -96,7 +100,7 @@ pushed links home q xs unit dirty l lt =
       homes = λ g ne. ap (λ (k : Link). k.home) (set_other mid unit g _ ne) ∙ part_newer (λ k. k.home) (λ _ _. refl) links q.newest (Some unit) g;
       olders = λ g ne. ap (λ (k : Link). k.older) (set_other mid unit g _ ne) ∙ part_newer (λ k. k.older) (λ _ _. refl) links q.newest (Some unit) g;
       newest_newer = λ t ne h. ap (λ (k : Link). k.newer) (set_other mid unit t _ ne)
-        ∙ newer_at links q.newest (Some unit) t ((newest_within links home q xs t l h).1) h;
+          ∙ newer_at links q.newest (Some unit) t ((newest_within links home q xs t l h).1) h;
       newers = λ g ne h. ap (λ (k : Link). k.newer) (set_other mid unit g _ ne) ∙ ap (λ (k : Link). k.newer) (newer_other links q.newest (Some unit) g h);
       queue = refl;
     }
@@ -148,15 +152,15 @@ unlinks links home q xs unit o n k l lt eo en =
     record {
       unit_home = ap (λ (v : Link). v.home) here;
       homes = λ g ne. ap (λ (v : Link). v.home) (set_other two unit g _ ne)
-        ∙ part_older (λ v. v.home) (λ _ _. refl) one n o g ∙ part_newer (λ v. v.home) (λ _ _. refl) links o n g;
+          ∙ part_older (λ v. v.home) (λ _ _. refl) one n o g ∙ part_newer (λ v. v.home) (λ _ _. refl) links o n g;
       older_newer = λ t ne h. ap (λ (v : Link). v.newer) (set_other two unit t _ ne)
-        ∙ part_older (λ v. v.newer) (λ _ _. refl) one n o t ∙ newer_at links o n t ((older_within links home q xs unit t l (sym eo ∙ h)).1) h;
+          ∙ part_older (λ v. v.newer) (λ _ _. refl) one n o t ∙ newer_at links o n t ((older_within links home q xs unit t l (sym eo ∙ h)).1) h;
       newer_older = λ t ne h. ap (λ (v : Link). v.older) (set_other two unit t _ ne)
-        ∙ older_at one n o t (let w : t < length links = (newer_within links home q xs unit t l (sym en ∙ h)).1 in omega (arith, e1, w)) h;
+          ∙ older_at one n o t (let w : t < length links = (newer_within links home q xs unit t l (sym en ∙ h)).1 in omega (arith, e1, w)) h;
       olders = λ g ne h. ap (λ (v : Link). v.older) (set_other two unit g _ ne)
-        ∙ ap (λ (v : Link). v.older) (older_other one n o g h) ∙ part_newer (λ v. v.older) (λ _ _. refl) links o n g;
+          ∙ ap (λ (v : Link). v.older) (older_other one n o g h) ∙ part_newer (λ v. v.older) (λ _ _. refl) links o n g;
       newers = λ g ne h. ap (λ (v : Link). v.newer) (set_other two unit g _ ne)
-        ∙ part_older (λ v. v.newer) (λ _ _. refl) one n o g ∙ ap (λ (v : Link). v.newer) (newer_other links o n g h);
+          ∙ part_older (λ v. v.newer) (λ _ _. refl) one n o g ∙ ap (λ (v : Link). v.newer) (newer_other links o n g h);
       queue = refl;
     }
 
@@ -174,11 +178,11 @@ unlink_use links unit o n k =
     record {
       frames = length-set two unit _ ∙ length_older one n o ∙ length_newer links o n;
       home = λ g ne. ap (λ (v : Link). v.home) (set_other two unit g _ ne)
-        ∙ part_older (λ v. v.home) (λ _ _. refl) one n o g ∙ part_newer (λ v. v.home) (λ _ _. refl) links o n g;
+          ∙ part_older (λ v. v.home) (λ _ _. refl) one n o g ∙ part_newer (λ v. v.home) (λ _ _. refl) links o n g;
       marked = λ g ne. ap (λ (v : Link). v.is_marked) (set_other two unit g _ ne)
-        ∙ part_older (λ v. v.is_marked) (λ _ _. refl) one n o g ∙ part_newer (λ v. v.is_marked) (λ _ _. refl) links o n g;
+          ∙ part_older (λ v. v.is_marked) (λ _ _. refl) one n o g ∙ part_newer (λ v. v.is_marked) (λ _ _. refl) links o n g;
       dirty = λ g ne. ap (λ (v : Link). v.is_dirty) (set_other two unit g _ ne)
-        ∙ part_older (λ v. v.is_dirty) (λ _ _. refl) one n o g ∙ part_newer (λ v. v.is_dirty) (λ _ _. refl) links o n g;
+          ∙ part_older (λ v. v.is_dirty) (λ _ _. refl) one n o g ∙ part_newer (λ v. v.is_dirty) (λ _ _. refl) links o n g;
     }
 
 -- ---- whole calls
@@ -188,7 +192,7 @@ pub pushed_linked : (links : List Link) (home : Home) (q : Queue) (unit : ℕ) (
     → IsLinked (after_push links home q unit dirty) home (pushed_queue q unit) (units_of links q ++ unit ∷ [])
 pushed_linked links home q unit dirty l lt away =
     links_pushed links (after_push links home q unit dirty) home q (pushed_queue q unit) unit (units_of links q) l
-      (away_out links home q (units_of links q) unit l away) (pushed links home q (units_of links q) unit dirty l lt)
+    (away_out links home q (units_of links q) unit l away) (pushed links home q (units_of links q) unit dirty l lt)
 
 pub pushed_units : (links : List Link) (home : Home) (q : Queue) (unit : ℕ) (dirty : Bool) → IsLinked links home q (units_of links q)
     → unit < length links → (link_at links unit).home ≡ None
@@ -211,17 +215,19 @@ out_linked links home q unit l h =
     let eo = l.older unit i in
     let en = l.newer unit i in
     links_unlinked links (after_out links unit) home q (queue_out links q unit) unit (link_at links unit).older (link_at links unit).newer xs l i eo en
-      (unlinks links home q xs unit (link_at links unit).older (link_at links unit).newer (link_at links unit) l (within links home q xs unit l i) eo en)
+    (unlinks links home q xs unit (link_at links unit).older (link_at links unit).newer (link_at links unit) l (within links home q xs unit l i) eo en)
 
 pub out_units : (links : List Link) (home : Home) (q : Queue) (unit : ℕ) → IsLinked links home q (units_of links q) → (link_at links unit).home ≡ Some home
     → units_of (after_out links unit) (queue_out links q unit) ≡ without unit (units_of links q)
-out_units links home q unit l h = units_are (after_out links unit) home (queue_out links q unit) (without unit (units_of links q)) (out_linked links home q unit l h)
+out_units links home q unit l h =
+    units_are (after_out links unit) home (queue_out links q unit) (without unit (units_of links q)) (out_linked links home q unit l h)
 
 pub out_others : (links : List Link) (home : Home) (q : Queue) (unit : ℕ) → IsLinked links home q (units_of links q) → (link_at links unit).home ≡ Some home
     → StaysElsewhere links (after_out links unit) home unit
 out_others links home q unit l h =
     let i : is_among (units_of links q) unit ≡ true = l.at_home unit h in
-    unlink_others links home q (units_of links q) unit (link_at links unit).older (link_at links unit).newer (link_at links unit) l (l.older unit i) (l.newer unit i)
+    unlink_others links home q (units_of links q) unit (link_at links unit).older (link_at links unit).newer (link_at links unit) l (l.older unit i)
+        (l.newer unit i)
 
 -- a neighbour that a record tells is a frame
 pub some_within : (links : List Link) (home : Home) (q : Queue) (xs : List ℕ) (o : Option ℕ) → IsLinked links home q xs

@@ -7,3 +7,5 @@ pub mod links;
 pub mod lru;
 mod queue;
 pub mod record;
+#[cfg(test)]
+mod tests;

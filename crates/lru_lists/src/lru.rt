@@ -4,7 +4,9 @@ ghost use Rattle.std.specs.Prelude.{◌≡◌, ◌≢◌, ◌<◌, ◌++◌, [],
 ghost use Rattle.lru_lists.specs.Queue.{link_at, nowhere, unlinked};
 ghost use Rattle.lru_lists.specs.declared.record.Link.{Link};
 ghost use Rattle.lru_lists.specs.declared.record.LruList.{LruList};
-ghost use Rattle.lru_lists.specs.Lists.{is_marked_by_touch, home_of, queue_of, with_queue, marked, MovesOnly, KeepsUnits, HasNoUnits, first_entry, entry_after, StandsIn, ChangesOwn, IsOnNone, Touches, Ages, inactive_of, active_of, entries_of, entries_without, changed_at, dirtied, list_of, entry_of};
+ghost use Rattle.lru_lists.specs.Lists.{StandsIn, HasNoUnits, IsOnNone, ChangesOwn, MovesOnly, KeepsUnits, Touches, Ages};
+ghost use Rattle.lru_lists.specs.Lists.{inactive_of, active_of, entries_of, entries_without, changed_at, dirtied, marked, list_of, entry_of};
+ghost use Rattle.lru_lists.specs.Lists.{is_marked_by_touch, home_of, queue_of, with_queue, first_entry, entry_after};
 
 use crate::links::Links;
 use crate::queue::Queue;
@@ -49,7 +51,10 @@ impl Lru {
     fn home(&self, list: LruList) -> Home
         ensures { result ≡ home_of self.now list }
     {
-        Home { owner: self.owner, list }
+        Home {
+            owner: self.owner,
+            list,
+        }
     }
 
     // The ends and the length of one of the lists.
@@ -116,14 +121,16 @@ impl Lru {
         }
     }
 
-    /// Puts a unit that stands on no list behind the newest of the inactive list, clean and unmarked.
+    /// Puts a unit that stands on no list of any owner behind the newest of the inactive list, clean and unmarked. The
+    /// unit goes by the number of its first frame, which is below `Links::frames`; `Links::home` tells whether it may come.
     pub fn add(&mut self, links: &mut Links, unit: u32)
         requires frame { unit < length links.old }
         requires away { IsOnNone links.old unit }
         requires stands { StandsIn links.old self.old }
         ensures stands { StandsIn links.new self.new }
         ensures owner { self.new.owner ≡ self.old.owner }
-        ensures inactive { inactive_of links.new self.new ≡ inactive_of links.old self.old ++ record { number = unit; is_marked = false; is_dirty = false } ∷ [] }
+        ensures inactive { inactive_of links.new self.new
+            ≡ inactive_of links.old self.old ++ record { number = unit; is_marked = false; is_dirty = false } ∷ [] }
         ensures active { active_of links.new self.new ≡ active_of links.old self.old }
         ensures others { ChangesOwn links.old links.new self.old.owner }
     {
@@ -147,7 +154,8 @@ impl Lru {
         requires stands { StandsIn links.old self.old }
         ensures stands { StandsIn links.new self.new }
         ensures owner { self.new.owner ≡ self.old.owner }
-        ensures gained { entries_of links.new self.new list ≡ entries_without unit (entries_of links.old self.old list) ++ marked false (entry_of links.old unit) ∷ [] }
+        ensures gained { entries_of links.new self.new list
+            ≡ entries_without unit (entries_of links.old self.old list) ++ marked false (entry_of links.old unit) ∷ [] }
         ensures lost { (m : LruList) → m ≢ list → entries_of links.new self.new m ≡ entries_without unit (entries_of links.old self.old m) }
         ensures keeps { KeepsUnits links.old links.new self.old.owner }
     {
@@ -156,7 +164,7 @@ impl Lru {
         self.push(links, list, unit);
     }
 
-    /// Takes a unit out of the list of the two that it stands on.
+    /// Takes a unit out of the list of the two that it stands on. Nothing of it is kept, neither its mark nor its dirt.
     pub fn take_off(&mut self, links: &mut Links, unit: u32)
         requires frame { unit < length links.old }
         requires on { list_of links.old self.old.owner unit ≢ None }
@@ -185,7 +193,9 @@ impl Lru {
         }
     }
 
-    /// Notes that a unit of the two lists was used: it is marked, or moves to the newest end of the active list.
+    /// Notes that a unit of the two lists was used. On the inactive list it is marked, if it isn't yet; else it moves to
+    /// the newest end of the active list, unmarked. In Linux (Gorman, "Understanding the Linux Virtual Memory Manager",
+    /// chapter 10) a unit comes from the inactive list to the active one by two touches, too.
     pub fn touch(&mut self, links: &mut Links, unit: u32) -> Touched
         requires frame { unit < length links.old }
         requires on { list_of links.old self.old.owner unit ≢ None }
@@ -246,11 +256,13 @@ impl Lru {
     }
 
     /// The unit just after this one on the list of the two that it stands on; None exactly where this is the newest.
+    /// A walk over a list is `oldest`, and then this from each unit to the next.
     pub fn newer(&self, links: &Links, unit: u32) -> Option<Entry>
         requires frame { unit < length links.now }
         requires on { list_of links.now self.now.owner unit ≢ None }
         requires stands { StandsIn links.now self.now }
-        ensures { (list : LruList) → list_of links.now self.now.owner unit ≡ Some list → result ≡ entry_after unit (entries_of links.now self.now list) }
+        ensures { (list : LruList) → list_of links.now self.now.owner unit ≡ Some list
+            → result ≡ entry_after unit (entries_of links.now self.now list) }
     {
         Lru::entry(links, links.link(unit).newer)
     }
@@ -269,8 +281,8 @@ impl Lru {
         self.move_to(links, LruList::Inactive, oldest);
     }
 
-    /// Moves the oldest active units to the newest end of the inactive list, unmarked, while the active list is the
-    /// longer one.
+    /// Moves the oldest active unit to the newest end of the inactive list, unmarked, as long as the active list has more
+    /// units than the inactive one.
     pub fn age(&mut self, links: &mut Links)
         requires { StandsIn links.old self.old }
         ensures stands { StandsIn links.new self.new }

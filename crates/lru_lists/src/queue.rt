@@ -1,7 +1,8 @@
 //! One list: its ends and its length. Its units are linked through their records.
 
 ghost use Rattle.std.specs.Prelude.{◌≡◌, ◌<◌, ◌-◌, ◌^◌, ◌++◌, [], ◌∷◌, None, Some, IfSome, length};
-ghost use Rattle.lru_lists.specs.Queue.{link_at, units_of, without, IsLinked, StaysElsewhere, SameUse, newest_link, unlinked, with_newer, with_older, pushed_queue, queue_without};
+ghost use Rattle.lru_lists.specs.Queue.{link_at, units_of, without, IsLinked, StaysElsewhere, SameUse, newest_link, unlinked};
+ghost use Rattle.lru_lists.specs.Queue.{with_newer, with_older, pushed_queue, queue_without};
 
 use crate::record::{Home, Link};
 

@@ -13,21 +13,24 @@ pushed-requires c = omega (arith, room c.args.links.now c.args.home c.args.queue
 pub returns-clause-units : goal.returns-clause-units
 returns-clause-units c =
     rw (c.set_newer.ensures, c.pushed.ensures)
-      (pushed_units c.args.links.now c.args.home c.args.queue.now c.args.unit (link_at c.args.links.now c.args.unit).is_dirty
-        c.requires.linked c.requires.unit c.requires.away)
+    (pushed_units c.args.links.now c.args.home c.args.queue.now c.args.unit (link_at c.args.links.now c.args.unit).is_dirty
+    c.requires.linked c.requires.unit c.requires.away)
 
 pub returns-clause-linked : goal.returns-clause-linked
 returns-clause-linked c =
     let l = c.requires.linked in
-    rw (c.set_newer.ensures, c.pushed.ensures,
-      pushed_units c.args.links.now c.args.home c.args.queue.now c.args.unit (link_at c.args.links.now c.args.unit).is_dirty l c.requires.unit c.requires.away)
-      (pushed_linked c.args.links.now c.args.home c.args.queue.now c.args.unit (link_at c.args.links.now c.args.unit).is_dirty l c.requires.unit c.requires.away)
+    rw (
+      c.set_newer.ensures,
+      c.pushed.ensures,
+      pushed_units c.args.links.now c.args.home c.args.queue.now c.args.unit (link_at c.args.links.now c.args.unit).is_dirty l c.requires.unit c.requires.away,
+    )
+    (pushed_linked c.args.links.now c.args.home c.args.queue.now c.args.unit (link_at c.args.links.now c.args.unit).is_dirty l c.requires.unit c.requires.away)
 
 pub returns-clause-others : goal.returns-clause-others
 returns-clause-others c =
     rw c.set_newer.ensures
-      (push_others c.args.links.now c.args.home c.args.queue.now (units_of c.args.links.now c.args.queue.now) c.args.unit
-        (link_at c.args.links.now c.args.unit).is_dirty c.requires.linked)
+    (push_others c.args.links.now c.args.home c.args.queue.now (units_of c.args.links.now c.args.queue.now) c.args.unit
+    (link_at c.args.links.now c.args.unit).is_dirty c.requires.linked)
 
 pub returns-clause-used : goal.returns-clause-used
 returns-clause-used c =

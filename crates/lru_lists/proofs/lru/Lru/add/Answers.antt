@@ -8,7 +8,8 @@ use Rattle.lru_lists.proofs.Pairs.{forgotten_stands, forgotten_entries, forgotte
 use Rattle.lru_lists.proofs.lru.Lru.add.Goals as goal
 
 pub push-requires-clause-stands : goal.push-requires-clause-stands
-push-requires-clause-stands c = rw c.forget.ensures (forgotten_stands c.args.links.now c.args.self.now c.args.unit c.requires.stands c.requires.away c.requires.frame)
+push-requires-clause-stands c =
+    rw c.forget.ensures (forgotten_stands c.args.links.now c.args.self.now c.args.unit c.requires.stands c.requires.away c.requires.frame)
 
 pub returns-clause-inactive : goal.returns-clause-inactive
 returns-clause-inactive c =
@@ -26,6 +27,6 @@ returns-clause-active c =
 pub returns-clause-others : goal.returns-clause-others
 returns-clause-others c =
     own_after_push c.args.links.now c.push.new.links c.args.self.now Inactive c.args.unit
-      (moves_both c.args.links.now c.forget.new.self c.push.new.links c.args.self.now.owner c.args.unit
-        (rw c.forget.ensures (forgotten_moves c.args.links.now c.args.self.now.owner c.args.unit)) c.push.ensures.moves)
-      c.requires.away c.push.ensures.unit
+    (moves_both c.args.links.now c.forget.new.self c.push.new.links c.args.self.now.owner c.args.unit
+    (rw c.forget.ensures (forgotten_moves c.args.links.now c.args.self.now.owner c.args.unit)) c.push.ensures.moves)
+    c.requires.away c.push.ensures.unit

@@ -10,10 +10,12 @@ pub loop-self-smaller : goal.loop-self-smaller
 loop-self-smaller c =
     let d = c.demote.ensures in
     let inv = c.loop-self.invariant in
-    let e1 : c.demote.new.self.active.length ≡ length (active_of c.demote.new.links c.demote.new.self) = len_is c.demote.new.links c.demote.new.self d.stands Active in
-    let e2 : c.loop-self.self.active.length ≡ length (active_of c.loop-self.links c.loop-self.self) = len_is c.loop-self.links c.loop-self.self inv.stands Active in
+    let e1 : c.demote.new.self.active.length ≡ length (active_of c.demote.new.links c.demote.new.self) = len_is c.demote.new.links c.demote.new.self
+        d.stands Active in
+    let e2 : c.loop-self.self.active.length ≡ length (active_of c.loop-self.links c.loop-self.self) = len_is c.loop-self.links c.loop-self.self
+        inv.stands Active in
     let e3 : length (active_of c.demote.new.links c.demote.new.self) ≡ length (active_of c.loop-self.links c.loop-self.self) - 1 =
-      ap length d.active ∙ length-drop 1 (active_of c.loop-self.links c.loop-self.self) in
+    ap length d.active ∙ length-drop 1 (active_of c.loop-self.links c.loop-self.self) in
     let t : c.loop-self.self.inactive.length < c.loop-self.self.active.length = c.loop-self-test.true in
     omega arith
 
@@ -23,25 +25,29 @@ loop-self-preserved c =
     let inv = c.loop-self.invariant in
     let k : ℕ = inv.moved.0 in
     let a0 = active_of c.args.links.now c.args.self.now in
-    let e1 : c.loop-self.self.inactive.length ≡ length (inactive_of c.loop-self.links c.loop-self.self) = len_is c.loop-self.links c.loop-self.self inv.stands Inactive in
-    let e2 : c.loop-self.self.active.length ≡ length (active_of c.loop-self.links c.loop-self.self) = len_is c.loop-self.links c.loop-self.self inv.stands Active in
+    let e1 : c.loop-self.self.inactive.length ≡ length (inactive_of c.loop-self.links c.loop-self.self) = len_is c.loop-self.links c.loop-self.self
+        inv.stands Inactive in
+    let e2 : c.loop-self.self.active.length ≡ length (active_of c.loop-self.links c.loop-self.self) = len_is c.loop-self.links c.loop-self.self
+        inv.stands Active in
     let e3 : length (active_of c.loop-self.links c.loop-self.self) ≡ length a0 - k = ap length inv.moved.2 ∙ length-drop k a0 in
     let t : c.loop-self.self.inactive.length < c.loop-self.self.active.length = c.loop-self-test.true in
     let lt : k < length a0 = omega arith in
     let e4 : length (inactive_of c.loop-self.links c.loop-self.self) ≡ length (inactive_of c.args.links.now c.args.self.now) + k =
-      ap length inv.moved.1
-      ∙ length-append (inactive_of c.args.links.now c.args.self.now) (map (marked false) (take k a0))
-      ∙ ap (λ (n : ℕ). length (inactive_of c.args.links.now c.args.self.now) + n)
-          (length-map (take k a0) (marked false) ∙ length-take-le k a0 (let le : k ≤ length a0 = omega arith in le)) in
+    ap length inv.moved.1
+    ∙ length-append (inactive_of c.args.links.now c.args.self.now) (map (marked false) (take k a0))
+    ∙ ap (λ (n : ℕ). length (inactive_of c.args.links.now c.args.self.now) + n)
+    (length-map (take k a0) (marked false) ∙ length-take-le k a0 (let le : k ≤ length a0 = omega arith in le)) in
     record {
       stands = d.stands;
       owner = d.owner ∙ inv.owner;
       keeps = keeps_both c.args.links.now c.loop-self.links c.demote.new.links c.args.self.now.owner inv.keeps
-        (rw (← inv.owner) d.keeps);
-      moved = (k + 1,
+          (rw (← inv.owner) d.keeps);
+      moved = (
+        k + 1,
         ages_step c.args.links.now c.loop-self.links c.demote.new.links c.args.self.now c.loop-self.self c.demote.new.self k inv.moved.1 d.inactive inv.moved.2,
         d.active ∙ ap (drop 1) inv.moved.2 ∙ drop-drop 1 k a0,
-        λ j lt'. elim (cases_lt j k) [ inl l ↦ inv.moved.3 j l | inr g ↦ let q : j ≡ k = omega arith in rw q (omega arith) ]);
+        λ j lt'. elim (cases_lt j k) [ inl l ↦ inv.moved.3 j l | inr g ↦ let q : j ≡ k = omega arith in rw q (omega arith) ],
+      );
     }
 
 pub returns-clause-ages : goal.returns-clause-ages

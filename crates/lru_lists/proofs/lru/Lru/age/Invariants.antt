@@ -11,6 +11,6 @@ invariant-loop-self l = record {
   owner : l.self.owner ≡ l.fn.self.owner;
   keeps : KeepsUnits l.fn.links l.links l.fn.self.owner;
   moved : (k : ℕ) × (inactive_of l.links l.self ≡ inactive_of l.fn.links l.fn.self ++ map (marked false) (take k (active_of l.fn.links l.fn.self)))
-    × (active_of l.links l.self ≡ drop k (active_of l.fn.links l.fn.self))
-    × ((j : ℕ) → j < k → length (inactive_of l.fn.links l.fn.self) + j < length (active_of l.fn.links l.fn.self) - j);
+      × (active_of l.links l.self ≡ drop k (active_of l.fn.links l.fn.self))
+      × ((j : ℕ) → j < k → length (inactive_of l.fn.links l.fn.self) + j < length (active_of l.fn.links l.fn.self) - j);
 }

@@ -8,22 +8,22 @@ pub returns-clause-stands : goal.returns-clause-stands
 returns-clause-stands c =
     let p = c.pull.ensures in
     let all : AfterTakeOff c.args.links.now (slice_set c.pull.new.links c.args.unit nowhere) c.args.self.now c.pull.new.self c.args.unit =
-      after_take_off c.args.links.now c.pull.new.links c.args.self.now c.pull.new.self c.list-list.result c.args.unit
-        c.requires.stands c.list-list.ensures p.stands p.entries p.other p.unit (rw p.moves.frames c.requires.frame) in
+    after_take_off c.args.links.now c.pull.new.links c.args.self.now c.pull.new.self c.list-list.result c.args.unit
+    c.requires.stands c.list-list.ensures p.stands p.entries p.other p.unit (rw p.moves.frames c.requires.frame) in
     rw c.forget.ensures all.stands
 
 pub returns-clause-inactive : goal.returns-clause-inactive
 returns-clause-inactive c =
     let p = c.pull.ensures in
     let all : AfterTakeOff c.args.links.now (slice_set c.pull.new.links c.args.unit nowhere) c.args.self.now c.pull.new.self c.args.unit =
-      after_take_off c.args.links.now c.pull.new.links c.args.self.now c.pull.new.self c.list-list.result c.args.unit
-        c.requires.stands c.list-list.ensures p.stands p.entries p.other p.unit (rw p.moves.frames c.requires.frame) in
+    after_take_off c.args.links.now c.pull.new.links c.args.self.now c.pull.new.self c.list-list.result c.args.unit
+    c.requires.stands c.list-list.ensures p.stands p.entries p.other p.unit (rw p.moves.frames c.requires.frame) in
     rw c.forget.ensures (all.entries Inactive)
 
 pub returns-clause-active : goal.returns-clause-active
 returns-clause-active c =
     let p = c.pull.ensures in
     let all : AfterTakeOff c.args.links.now (slice_set c.pull.new.links c.args.unit nowhere) c.args.self.now c.pull.new.self c.args.unit =
-      after_take_off c.args.links.now c.pull.new.links c.args.self.now c.pull.new.self c.list-list.result c.args.unit
-        c.requires.stands c.list-list.ensures p.stands p.entries p.other p.unit (rw p.moves.frames c.requires.frame) in
+    after_take_off c.args.links.now c.pull.new.links c.args.self.now c.pull.new.self c.list-list.result c.args.unit
+    c.requires.stands c.list-list.ensures p.stands p.entries p.other p.unit (rw p.moves.frames c.requires.frame) in
     rw c.forget.ensures (all.entries Active)
