@@ -3,7 +3,7 @@ use Rattle.std.specs.Prelude.{ℕ, ◌*◌, Option, Some, None, List, ◌++◌, 
 use Rattle.std.specs.Fmt.{decimal}
 use Rattle.group_tree.specs.Groups.{limit_of}
 use Rattle.group_charge.specs.declared.account.Counts.{Counts}
-use Rattle.group_charge.specs.Charges.{Ledger, current_of, peak_of, events_of, local_events_of}
+use Rattle.group_charge.specs.Charges.{Ledger, current_of, peak_of, events_of, events_local_of}
 use Rattle.control_files.specs.declared.file.File.{File}
 use Rattle.control_files.specs.declared.file.File.TheVariants.{Current, Max, Peak, Events, EventsLocal}
 
@@ -40,4 +40,4 @@ file_text ledger g Current = pages_text (current_of ledger g)
 file_text ledger g Max = limit_text (limit_of ledger.groups g)
 file_text ledger g Peak = pages_text (peak_of ledger g)
 file_text ledger g Events = events_text (events_of ledger g)
-file_text ledger g EventsLocal = events_text (local_events_of ledger g)
+file_text ledger g EventsLocal = events_text (events_local_of ledger g)

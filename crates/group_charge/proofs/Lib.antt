@@ -1,3 +1,4 @@
 pub mod ChargeLemmas
+pub mod ReaderLemmas
 pub mod SumLemmas
 pub mod UsageLemmas

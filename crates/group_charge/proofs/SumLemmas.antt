@@ -48,15 +48,15 @@ module _ {X : Type 0} (F : X → ℕ) (f : X → X) (same : (x : X) → F (f x) 
 
 -- a raised peak changes no pages
 pub peaked-pages : (groups : List Group) (all : List Account) (g : ℕ) (a : Account) → (peaked groups all g a).pages ≡ a.pages
-peaked-pages groups all g a = cond_both (in_subtree groups a.group g) (record a { peak = max a.peak (usage_of groups all a.group) }) a (λ (x : Account). x.pages ≡ a.pages) (λ _. refl) (λ _. refl)
+peaked-pages groups all g a = refl
 
 -- nor the group's number
 pub peaked-group : (groups : List Group) (all : List Account) (g : ℕ) (a : Account) → (peaked groups all g a).group ≡ a.group
-peaked-group groups all g a = cond_both (in_subtree groups a.group g) (record a { peak = max a.peak (usage_of groups all a.group) }) a (λ (x : Account). x.group ≡ a.group) (λ _. refl) (λ _. refl)
+peaked-group groups all g a = refl
 
 -- nor what the account adds to a usage
 pub peaked-share : (groups : List Group) (all : List Account) (g m : ℕ) (a : Account) → share groups m (peaked groups all g a) ≡ share groups m a
-peaked-share groups all g m a = cond_both (in_subtree groups a.group g) (record a { peak = max a.peak (usage_of groups all a.group) }) a (λ (x : Account). share groups m x ≡ share groups m a) (λ _. refl) (λ _. refl)
+peaked-share groups all g m a = refl
 
 -- peaks that are raised change no usage
 pub usage-in_place : (groups : List Group) (all xs : List Account) (g m i : ℕ) → usage_of groups (map (peaked groups all g) (take i xs) ++ drop i xs) m ≡ usage_of groups xs m
@@ -77,7 +77,7 @@ known-in_place groups all xs g i h =
 
 -- the same usages raise the same peaks
 pub peaked-as : (groups : List Group) (all others : List Account) (g : ℕ) (a : Account) → usage_of groups all a.group ≡ usage_of groups others a.group → peaked groups all g a ≡ peaked groups others g a
-peaked-as groups all others g a e = ap (λ n. cond (in_subtree groups a.group g) (record a { peak = max a.peak n }) a) e
+peaked-as groups all others g a e = ap (λ n. record a { peak = cond (in_subtree groups a.group g) (max a.peak n) a.peak }) e
 
 -- without accounts there is no usage
 pub usage_none : (groups : List Group) (g : ℕ) → usage_of groups [] g ≡ 0

@@ -143,10 +143,10 @@ cover_charged groups xs g n distinct there cover =
     let rise : usage_of groups more a.group ≡ usage_of groups xs a.group + part groups a.group g n = usage-added groups xs g n a.group distinct there in
     ⊎_elim
     (λ t.
-    let top : (peaked groups more g y).peak ≡ max y.peak (usage_of groups more y.group) = ap (λ (x : Account). x.peak) (cond-true (in_subtree groups y.group g) (record y { peak = max y.peak (usage_of groups more y.group) }) y t) in
+    let top : (peaked groups more g y).peak ≡ max y.peak (usage_of groups more y.group) = cond-true (in_subtree groups y.group g) (max y.peak (usage_of groups more y.group)) y.peak t in
     omega arith)
     (λ f.
-    let top : (peaked groups more g y).peak ≡ y.peak = ap (λ (x : Account). x.peak) (cond-false (in_subtree groups y.group g) (record y { peak = max y.peak (usage_of groups more y.group) }) y f) in
+    let top : (peaked groups more g y).peak ≡ y.peak = cond-false (in_subtree groups y.group g) (max y.peak (usage_of groups more y.group)) y.peak f in
     let none : part groups a.group g n ≡ 0 = cond-false (in_subtree groups a.group g) n 0 (ap (λ h. in_subtree groups h g) (sym (added-group g n a)) ∙ f) in
     omega arith)
     (cases_Bool (in_subtree groups y.group g))))

@@ -1,9 +1,10 @@
 -- The charges of a tree of groups: for each group its own pages, its peak and its event counts.
-use Rattle.std.specs.Prelude.{All, ◌≡◌, ℕ, ◌+◌, ◌-◌, ◌^◌, ◌<◌, ◌≤◌, ◌==◌, Bool, true, false, not, max, min, nat_le, IsTrue, Option, Some, None, List, [], ◌∷◌, ◌++◌, map, filter, sum_by, if◌then◌else◌}
+use Rattle.std.specs.Prelude.{All, ◌≡◌, ℕ, ◌+◌, ◌-◌, ◌^◌, ◌<◌, ◌≤◌, ◌==◌, not, Option, List, [], ◌∷◌, ◌++◌, map, filter, sum_by, if◌then◌else◌}
 use Rattle.std.specs.List.{find}
 use Rattle.std.specs.Option.{option_map_or}
 use Rattle.group_tree.specs.declared.group.Group.{Group}
-use Rattle.group_tree.specs.Groups.{initial_groups, in_subtree, limit_of, with_group, without_group, with_limit, AreGroups}
+use Rattle.group_tree.specs.Groups.{initial_groups, in_subtree, with_group, without_group, with_limit, AreGroups}
+use Rattle.group_tree.specs.Room.{at_group, on_path, one_more, peak_after}
 use Rattle.group_charge.specs.declared.account.Counts.{Counts}
 -- an account has a group's number, its own pages, its peak and its event counts
 pub use Rattle.group_charge.specs.declared.account.Account.{Account}
@@ -42,8 +43,8 @@ unfoldable pub events_of : Ledger → ℕ → Counts
 events_of l g = option_map_or (λ a. a.events) (account_at l g) no_events
 
 -- memory.events.local: counts of the group alone
-unfoldable pub local_events_of : Ledger → ℕ → Counts
-local_events_of l g = option_map_or (λ a. a.events_local) (account_at l g) no_events
+unfoldable pub events_local_of : Ledger → ℕ → Counts
+events_local_of l g = option_map_or (λ a. a.events_local) (account_at l g) no_events
 
 -- all pages that are charged
 abbrev pub total_pages : List Account → ℕ
@@ -57,25 +58,6 @@ usage_of groups accounts g = sum_by (λ a. if in_subtree groups g a.group then a
 abbrev pub current_of : Ledger → ℕ → ℕ
 current_of l g = usage_of l.groups l.accounts g
 
--- a usage is at most the limit, if there is one
-abbrev pub is_within : Option ℕ → ℕ → Bool
-is_within None usage = true
-is_within (Some limit) usage = nat_le usage limit
-
--- with n pages more the group's usage is at most its own limit
-unfoldable pub has_room : Ledger → ℕ → ℕ → Bool
-has_room l n g = is_within (limit_of l.groups g) (current_of l g + n)
-
--- so it is at the group and at each of its ancestors
-abbrev pub PathHasRoom : Ledger → ℕ → ℕ → Type 0
-PathHasRoom l n g = (m : ℕ) → IsTrue (in_subtree l.groups m g) → IsTrue (has_room l n m)
-
--- m is g or an ancestor and has no room, and whoever else of these has none is an ancestor of m
-pub record IsLowestOver (l : Ledger) (n g m : ℕ) : Type 0 where
-  pub on_path : IsTrue (in_subtree l.groups m g)
-  pub over : has_room l n m ≡ false
-  pub lowest : (k : ℕ) → IsTrue (in_subtree l.groups k g) → has_room l n k ≡ false → IsTrue (in_subtree l.groups k m)
-
 -- the account with n pages more, if it is the group's
 abbrev pub added : ℕ → ℕ → Account → Account
 added g n a = if a.group == g then record a { pages = a.pages + n } else a
@@ -84,20 +66,19 @@ added g n a = if a.group == g then record a { pages = a.pages + n } else a
 abbrev pub taken : ℕ → ℕ → Account → Account
 taken g n a = if a.group == g then record a { pages = a.pages - n } else a
 
--- the account's peak is at least its usage, if it is the group's or an ancestor's
+-- the account with a peak that is at least its usage, if it is the group's or an ancestor's
 abbrev pub peaked : List Group → List Account → ℕ → Account → Account
-peaked groups accounts g a =
-    if in_subtree groups a.group g then record a { peak = max a.peak (usage_of groups accounts a.group) } else a
+peaked groups accounts g a = record a { peak = peak_after groups (usage_of groups accounts) g a.group a.peak }
 
--- one more `max`, and 2^64 - 1 at most
+-- one more `max`
 abbrev pub with_max : Counts → Counts
-with_max c = record c { max = min (c.max + 1) (2 ^ 64 - 1) }
+with_max c = record c { max = one_more c.max }
 
 -- one more `max` at the group itself, and at each group above it for all below that
 abbrev pub noted : List Group → ℕ → Account → Account
 noted groups g a = record a {
-  events = if in_subtree groups a.group g then with_max a.events else a.events;
-  events_local = if a.group == g then with_max a.events_local else a.events_local;
+  events = on_path groups g with_max a.group a.events;
+  events_local = at_group g with_max a.group a.events_local;
 }
 
 -- the accounts with n pages more for the group, where the peaks of it and of its ancestors follow
@@ -130,7 +111,33 @@ with_group_limit l g limit = record l { groups = with_limit l.groups g limit }
 
 -- the second ledger has n pages more in the usage of g and of each of its ancestors, and the same in all others
 abbrev pub UsageRises : Ledger → Ledger → ℕ → ℕ → Type 0
-UsageRises l k g n = (m : ℕ) → current_of k m ≡ (if in_subtree l.groups m g then current_of l m + n else current_of l m)
+UsageRises l k g n = (m : ℕ) → current_of k m ≡ on_path l.groups g (λ pages. pages + n) m (current_of l m)
+
+-- the second ledger has n pages more charged to g itself, and the same to each other group
+abbrev pub PagesRise : Ledger → Ledger → ℕ → ℕ → Type 0
+PagesRise l k g n = (m : ℕ) → pages_of k m ≡ pages_of l m + (if m == g then n else 0)
+
+-- each group has the same pages of its own in both
+abbrev pub SamePages : Ledger → Ledger → Type 0
+SamePages l k = (m : ℕ) → pages_of k m ≡ pages_of l m
+
+-- the peak of g and of each of its ancestors is the greater of the old peak and its usage now, and each other is the same
+abbrev pub PeaksRise : Ledger → Ledger → ℕ → Type 0
+PeaksRise l k g = (m : ℕ) → peak_of k m ≡ peak_after l.groups (current_of k) g m (peak_of l m)
+
+-- each group has the same peak in both
+abbrev pub SamePeaks : Ledger → Ledger → Type 0
+SamePeaks l k = (m : ℕ) → peak_of k m ≡ peak_of l m
+
+-- each group has the same counts in both, with and without what is below it
+pub record SameEvents (l k : Ledger) : Type 0 where
+  pub events : (m : ℕ) → events_of k m ≡ events_of l m
+  pub events_local : (m : ℕ) → events_local_of k m ≡ events_local_of l m
+
+-- one `max` more in the events of g and of each of its ancestors, and in the local events of g alone
+pub record CountsMax (l k : Ledger) (g : ℕ) : Type 0 where
+  pub events : (m : ℕ) → events_of k m ≡ on_path l.groups g with_max m (events_of l m)
+  pub events_local : (m : ℕ) → events_local_of k m ≡ at_group g with_max m (events_local_of l m)
 
 -- what holds of every ledger: the groups are a tree's, each has an account, all pages fit 32 bits, and no
 -- peak is below the usage

@@ -1,10 +1,11 @@
 //! The charges of a tree of groups.
 
-ghost use Rattle.std.specs.Prelude.{◌≡◌, ◌≢◌, ◌↔◌, ◌+◌, ◌^◌, ◌<◌, ◌≤◌, false, IfErr, IfOk, IsOk, IsTrue, MatchOption, OnErr, OnOk, Some};
+ghost use Rattle.std.specs.Prelude.{◌≡◌, ◌≢◌, ℕ, ◌↔◌, ◌+◌, ◌^◌, ◌<◌, ◌≤◌, false, IfErr, IfOk, IsOk, IsTrue, MatchOption, OnErr, OnOk, Some};
 ghost use Rattle.std.specs.Option.{option_copied};
 ghost use Rattle.std.specs.Result.{result_err};
 ghost use Rattle.group_tree.specs.Groups.{IsLeastFreeNumber, has_child, has_group, limit_of, make_fault};
-ghost use Rattle.group_charge.specs.Charges.{AreCharges, IsLowestOver, PathHasRoom, UsageRises, account_at, current_of, empty_account, events_of, has_room, initial_ledger, local_events_of, pages_of, peak_of, with_charge, with_group_limit, with_group_removed, with_max_noted, with_new_group, with_uncharge};
+ghost use Rattle.group_tree.specs.Room.{IsLowestOver, PathHasRoom, has_room};
+ghost use Rattle.group_charge.specs.Charges.{AreCharges, CountsMax, PagesRise, PeaksRise, SameEvents, SamePages, SamePeaks, UsageRises, account_at, current_of, empty_account, events_local_of, events_of, initial_ledger, pages_of, peak_of, total_pages, with_charge, with_group_limit, with_group_removed, with_max_noted, with_new_group, with_uncharge};
 
 use crate::account::{Account, Counts};
 use crate::sums;
@@ -56,8 +57,20 @@ impl Charges {
     pub fn tree(&self) -> &Tree
         ensures tree { result.now ≡ self.now.groups }
         ensures legal { AreCharges self.now }
+        ensures root { IsTrue (has_group result.now 0) }
+        ensures total { current_of self.now 0 ≡ total_pages self.now.accounts }
+        ensures fits { current_of self.now 0 < 2 ^ 32 }
     {
         &self.tree
+    }
+
+    /// Whether n pages more can be charged at all: the usage of the root with them is at most 2^32 - 1
+    /// pages, as `try_charge` asks.
+    pub fn fits(&self, n: u32) -> bool
+        ensures { IsTrue result ↔ (current_of self.now 0 + n < 2 ^ 32) }
+    {
+        let _ = self.tree();
+        self.current(GroupId::root()) <= u32::MAX - n
     }
 
     // The account of a group that is there.
@@ -77,6 +90,9 @@ impl Charges {
         ensures least { IfOk result (λ n. IsLeastFreeNumber self.old.groups n) }
         ensures refused { result_err result ≡ make_fault self.old.groups path.now }
         ensures unchanged { OnErr result (self.new ≡ self.old) }
+        ensures pages { SamePages self.old self.new }
+        ensures there { IfOk result (λ n. IsTrue (has_group self.new.groups n)) }
+        ensures kept { (m : ℕ) → IsTrue (has_group self.old.groups m) → IsTrue (has_group self.new.groups m) }
     {
         let g = self.tree.make(path)?;
         self.accounts.push(new_account(g)).unwrap();
@@ -87,7 +103,9 @@ impl Charges {
     /// alone.
     pub fn set_max(&mut self, g: GroupId, limit: Option<u32>)
         requires { IsTrue (has_group self.old.groups g) }
-        ensures { self.new ≡ with_group_limit self.old g limit }
+        ensures limited { self.new ≡ with_group_limit self.old g limit }
+        ensures there { (m : ℕ) → has_group self.new.groups m ≡ has_group self.old.groups m }
+        ensures pages { SamePages self.old self.new }
     {
         self.tree.set_max(g, limit);
     }
@@ -98,7 +116,8 @@ impl Charges {
         requires leaf { has_child self.old.groups g ≡ false }
         requires below_root { g ≢ 0 }
         requires empty { current_of self.old g ≡ 0 }
-        ensures { self.new ≡ with_group_removed self.old g }
+        ensures removed { self.new ≡ with_group_removed self.old g }
+        ensures pages { SamePages self.old self.new }
     {
         self.tree.remove(g);
         let number = g.number();
@@ -151,10 +170,10 @@ impl Charges {
     }
 
     /// What happened to the group itself (memory.events.local).
-    #[tactic(auto, unfolding(crate::specs::Charges::local_events_of))]
+    #[tactic(auto, unfolding(crate::specs::Charges::events_local_of))]
     pub fn events_local(&self, g: GroupId) -> Counts
         requires { IsTrue (has_group self.now.groups g) }
-        ensures { result ≡ local_events_of self.now g }
+        ensures { result ≡ events_local_of self.now g }
     {
         let account = self.account(g);
         account.events_local
@@ -164,7 +183,7 @@ impl Charges {
     fn has_room(&self, g: GroupId, n: u32) -> bool
         requires there { IsTrue (has_group self.now.groups g) }
         requires fits { current_of self.now 0 + n < 2 ^ 32 }
-        ensures { result ≡ has_room self.now n g }
+        ensures { result ≡ has_room self.now.groups (current_of self.now) g n }
     {
         match self.tree().limit(g) {
             None => true,
@@ -176,16 +195,14 @@ impl Charges {
     fn lowest_over(&self, g: GroupId, n: u32) -> Option<GroupId>
         requires there { IsTrue (has_group self.now.groups g) }
         requires fits { current_of self.now 0 + n < 2 ^ 32 }
-        ensures { MatchOption result (PathHasRoom self.now n g) (λ m. IsLowestOver self.now n g m) }
+        ensures { MatchOption result (PathHasRoom self.now.groups (current_of self.now) g n) (IsLowestOver self.now.groups (current_of self.now) g n) }
     {
-        let mut m = g;
-        while self.has_room(m, n) {
-            match self.tree.parent(m) {
-                Some(parent) => m = parent,
-                None => return None,
+        for m in self.tree.ancestors(g) {
+            if !self.has_room(m, n) {
+                return Some(m);
             }
         }
-        Some(m)
+        None
     }
 
     /// Charges n pages to the group, where it and each of its ancestors has room for all of them. Else
@@ -193,11 +210,15 @@ impl Charges {
     pub fn try_charge(&mut self, g: GroupId, n: u32) -> Result<(), Over>
         requires there { IsTrue (has_group self.old.groups g) }
         requires fits { current_of self.old 0 + n < 2 ^ 32 }
-        ensures granted { IsOk result ↔ PathHasRoom self.old n g }
+        ensures granted { IsOk result ↔ PathHasRoom self.old.groups (current_of self.old) g n }
         ensures charged { OnOk result (self.new ≡ with_charge self.old g n) }
         ensures usage { OnOk result (UsageRises self.old self.new g n) }
-        ensures over { IfErr result (λ e. IsLowestOver self.old n g e.group) }
+        ensures pages { OnOk result (PagesRise self.old self.new g n) }
+        ensures peaks { OnOk result (PeaksRise self.old self.new g) }
+        ensures events { OnOk result (SameEvents self.old self.new) }
+        ensures over { IfErr result (λ e. IsLowestOver self.old.groups (current_of self.old) g n e.group) }
         ensures unchanged { OnErr result (self.new ≡ self.old) }
+        ensures groups { self.new.groups ≡ self.old.groups }
     {
         if let Some(group) = self.lowest_over(g, n) {
             return Err(Over { group });
@@ -212,6 +233,10 @@ impl Charges {
         requires charged { n ≤ pages_of self.old g }
         ensures uncharged { self.new ≡ with_uncharge self.old g n }
         ensures usage { UsageRises self.new self.old g n }
+        ensures groups { self.new.groups ≡ self.old.groups }
+        ensures pages { PagesRise self.new self.old g n }
+        ensures peaks { SamePeaks self.old self.new }
+        ensures events { SameEvents self.old self.new }
     {
         sums::take_pages(self.accounts.as_mut_slice(), g, n);
     }
@@ -220,7 +245,11 @@ impl Charges {
     /// for it and each of its ancestors. A count stays at 2^64 - 1.
     pub fn note_max(&mut self, g: GroupId)
         requires { IsTrue (has_group self.old.groups g) }
-        ensures { self.new ≡ with_max_noted self.old g }
+        ensures noted { self.new ≡ with_max_noted self.old g }
+        ensures groups { self.new.groups ≡ self.old.groups }
+        ensures counts { CountsMax self.old self.new g }
+        ensures pages { SamePages self.old self.new }
+        ensures peaks { SamePeaks self.old self.new }
     {
         sums::note_max(&self.tree, self.accounts.as_mut_slice(), g);
     }

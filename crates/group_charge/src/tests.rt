@@ -30,6 +30,23 @@ fn max_counts(rt: &impl Abort, charges: &Charges, g: GroupId) -> (u64, u64) {
     (charges.events(g).max, charges.events_local(g).max)
 }
 
+// The lines of the README.
+#[test]
+fn the_first_lines_of_use(rt: HostRuntime) -> Result<(), Fail> {
+    let mut charges = Charges::new(rt.alloc())?;
+    let web = charges.make(b"/web")?;
+    charges.set_max(web, Some(8));
+    assert!(rt; charges.fits(5));
+    assert_eq!(rt; charges.try_charge(web, 5), Ok(()));
+    assert!(rt; charges.fits(4));
+    assert_eq!(rt; charges.try_charge(web, 4), Err(Over { group: web }));
+    charges.note_max(web);
+    assert_eq!(rt; charges.current(web), 5);
+    assert_eq!(rt; charges.peak(web), 5);
+    assert_eq!(rt; charges.events(web).max, 1);
+    Ok(())
+}
+
 #[test]
 fn a_charge_counts_in_each_ancestor(rt: HostRuntime) -> Result<(), Fail> {
     let mut charges = Charges::new(rt.alloc())?;

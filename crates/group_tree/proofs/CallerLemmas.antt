@@ -179,7 +179,7 @@ no_some : {X : Type 0} (o : Option X) → is_some o ≡ false → o ≡ None
 no_some None e = refl
 no_some (Some x) e = absurd (true≢false e)
 
-find-map : {X : Type 0} (p : X → Bool) (f : X → X) → ((x : X) → p (f x) ≡ p x) → (xs : List X) → find p (map f xs) ≡ option_map f (find p xs)
+pub find-map : {X : Type 0} (p : X → Bool) (f : X → X) → ((x : X) → p (f x) ≡ p x) → (xs : List X) → find p (map f xs) ≡ option_map f (find p xs)
 find-map p f same [] = refl
 find-map p f same (x ∷ xs) =
     ⊎_elim
@@ -445,3 +445,12 @@ parent_of-depth groups h p facts e =
     let n = names_parent w.0 (path_of-formed groups h w.0 facts.paths w.1) below in
     (w.0, parent_path w.0, w.1, above, ap length n.1 ∙ length-append (names_of (parent_path w.0)) (n.0 ∷ [])))
     (cases_Bool (is_root w.0))
+
+-- the root is there
+pub root_there : (groups : List Group) → AreGroups groups → IsTrue (has_group groups 0)
+root_there groups facts = has_group-path groups 0 root_path (root_path_of groups facts)
+
+-- whoever was there before a group was made is there still
+pub has_group-with_kept : (groups : List Group) (n k : ℕ) (path : List ℕ) → has_group groups n ≡ false → IsTrue (has_group groups k) → IsTrue (has_group (with_group groups n path) k)
+has_group-with_kept groups n k path free there =
+    has_group-with groups n k path (λ same. both_ways (has_group groups n) free (ap (has_group groups) (sym same) ∙ there)) ∙ there

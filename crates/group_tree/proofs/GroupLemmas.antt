@@ -145,7 +145,7 @@ filter-some p (x ∷ xs) e =
     (filter-some p xs (subst (λ b. (b || list_any p xs) ≡ true) f e)))
     (cases_Bool (p x))
 
-find-filter : {X : Type 0} (p q : X → Bool) (xs : List X) → All (λ x. p x ≡ true → q x ≡ true) xs → find p (filter q xs) ≡ find p xs
+pub find-filter : {X : Type 0} (p q : X → Bool) (xs : List X) → All (λ x. p x ≡ true → q x ≡ true) xs → find p (filter q xs) ≡ find p xs
 find-filter p q [] h = refl
 find-filter p q (x ∷ xs) h =
     let rest = find-filter p q xs (All-tail (λ x. p x ≡ true → q x ≡ true) x xs h) in
@@ -187,7 +187,7 @@ length-full groups (suc n) all =
 pub group-formed : (groups : List Group) (n : ℕ) (g : Group) → AreGroups groups → group_at groups n ≡ Some g → IsWellFormed g.path
 group-formed groups n g facts e = All-contains (λ x. IsWellFormed x.path) groups g facts.paths (group_at-contains groups n g e).0
 
-All-one : {X : Type 0} (P : X → Type 0) (x : X) → P x → All P (x ∷ [])
+pub All-one : {X : Type 0} (P : X → Type 0) (x : X) → P x → All P (x ∷ [])
 All-one P x h = All-cons P x [] h (All-nil P)
 
 root-formed : IsWellFormed root_path
@@ -299,7 +299,7 @@ in_subtree-parent groups g n facts h above =
     in_subtree-paths groups n g.number (parent_path g.path) g.path above own ∙ begins_parent g.path formed
 
 -- a path is that of a group still, where it isn't that of the group that was taken out
-number_at-without : (groups : List Group) (n : ℕ) (path : List ℕ) → AreGroups groups → (path_of groups n ≡ Some path → ⊥) → number_at (without_group groups n) path ≡ number_at groups path
+pub number_at-without : (groups : List Group) (n : ℕ) (path : List ℕ) → AreGroups groups → (path_of groups n ≡ Some path → ⊥) → number_at (without_group groups n) path ≡ number_at groups path
 unfolding number_at without_group
 number_at-without groups n path facts other =
     ap (option_map (λ (x : Group). x.number))

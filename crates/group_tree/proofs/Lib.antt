@@ -1,5 +1,7 @@
+pub mod AncestorLemmas
 pub mod CallerLemmas
 pub mod GroupLemmas
+pub mod LinkLemmas
 pub mod PathLemmas
 pub mod TextLemmas
 pub mod Walks

@@ -1,19 +1,18 @@
--- A walk from a group up to the root, past the groups that pass a test.
-use Rattle.std.proofs.Common.{◌≡◌, ℕ, ◌<◌, Bool, true, false, Some, List, sym, ap, ◌∙◌, arith, ⊎_elim, ◌⊎◌, inl, inr}
+-- A walk from a group up to the root, past the groups that pass a test. Serves callers that walk by `Tree::parent` or by
+-- `Tree::ancestors`.
+use Rattle.std.proofs.Common.{◌≡◌, ℕ, ◌<◌, Bool, true, false, Option, Some, None, List, [], ◌∷◌, refl, sym, ap, ◌∙◌, subst, arith, ⊎_elim, ◌⊎◌, inl, inr}
 use Rattle.std.specs.Option.{option_map_or}
+use Rattle.std.proofs.lemmas.Option.{none-some, same_Some}
+use Rattle.group_tree.specs.Ancestors.{depth_at, ancestors_of, ancestors_from}
+use Rattle.group_tree.proofs.AncestorLemmas.{ancestors_of-step, parent_of-none_root}
 use Rattle.std.proofs.lemmas.Bool.{both_ways}
 use Rattle.group_tree.specs.declared.group.Group.{Group}
 use Rattle.group_tree.specs.Path.{depth_of}
 use Rattle.group_tree.specs.Groups.{has_group, in_subtree, path_of, parent_of, AreGroups}
 use Rattle.group_tree.proofs.CallerLemmas.{in_subtree-root, in_subtree-refl, in_subtree-trans, in_subtree-above, in_subtree-antisym, in_subtree-parent_of, in_subtree-above_parent, parent_of-depth}
 
--- how many names the group's path has
-pub depth_at : List Group → ℕ → ℕ
-depth_at groups g = option_map_or (λ p. depth_of p) (path_of groups g) 0
-
 -- a parent's path has fewer names, so the walk ends
 pub parent_depth : (groups : List Group) (m p : ℕ) → AreGroups groups → parent_of groups m ≡ Some p → depth_at groups p < depth_at groups m
-unfolding depth_at
 parent_depth groups m p facts e =
     let w = parent_of-depth groups m p facts e in
     let low : depth_at groups m ≡ depth_of w.0 = ap (λ o. option_map_or (λ q. depth_of q) o 0) w.2 in
@@ -55,3 +54,77 @@ walked_all groups test g m facts w passes root k h =
 -- where m fails, each other group of the path that fails is an ancestor of m
 pub walked_lowest : (groups : List Group) (test : ℕ → Bool) (g m : ℕ) → WalkedTo groups test g m → (k : ℕ) → in_subtree groups k g ≡ true → test k ≡ false → in_subtree groups k m ≡ true
 walked_lowest groups test g m w k h fails = ⊎_elim (λ r. absurd (both_ways (test k) fails r)) (λ above. above) (w.passed k h)
+
+-- ---- the same walk, as a loop over `Tree::ancestors` makes it
+-- k is where the walk goes on, or an ancestor of that
+abbrev pub IsAhead : List Group → ℕ → Option ℕ → Type 0
+IsAhead groups k None = ⊥
+IsAhead groups k (Some m) = in_subtree groups k m ≡ true
+
+-- these are left of the walk from g, and all groups of the path below them pass the test
+pub record WalkLeft (groups : List Group) (test : ℕ → Bool) (g : ℕ) (left : List ℕ) : Type 0 where
+  pub next : Option ℕ
+  pub left_is : left ≡ ancestors_from groups next
+  pub on_path : (m : ℕ) → next ≡ Some m → in_subtree groups m g ≡ true
+  pub passed : (k : ℕ) → in_subtree groups k g ≡ true → (test k ≡ true) ⊎ IsAhead groups k next
+
+-- at first all is left
+pub left_start : (groups : List Group) (test : ℕ → Bool) (g : ℕ) (left : List ℕ) → has_group groups g ≡ true → left ≡ ancestors_of groups g → WalkLeft groups test g left
+left_start groups test g left there e = record {
+  next = Some g;
+  left_is = e;
+  on_path = λ m same. subst (λ k. in_subtree groups k g ≡ true) (same_Some g m same) (in_subtree-refl groups g there);
+  passed = λ k h. inr h;
+}
+
+-- what comes next is where the walk has come to, and its parent is next
+pub record TurnAt (groups : List Group) (test : ℕ → Bool) (g m : ℕ) (rest : List ℕ) : Type 0 where
+  pub walked : WalkedTo groups test g m
+  pub there : has_group groups m ≡ true
+  pub rest_is : rest ≡ ancestors_from groups (parent_of groups m)
+
+turn_from : (groups : List Group) (test : ℕ → Bool) (g m : ℕ) (left rest : List ℕ) (o : Option ℕ) → AreGroups groups → left ≡ ancestors_from groups o → ((k : ℕ) → o ≡ Some k → in_subtree groups k g ≡ true) → ((k : ℕ) → in_subtree groups k g ≡ true → (test k ≡ true) ⊎ IsAhead groups k o) → left ≡ m ∷ rest → TurnAt groups test g m rest
+turn_from groups test g m left rest None facts is on passed e = absurd (let bad : m ∷ rest ≡ [] = sym e ∙ is in cc)
+turn_from groups test g m left rest (Some k) facts is on passed e =
+    let there : has_group groups k ≡ true = in_subtree-above groups k g (on k refl) in
+    let both : m ∷ rest ≡ k ∷ ancestors_from groups (parent_of groups k) = sym e ∙ is ∙ ancestors_of-step groups k facts there in
+    let same : k ≡ m = cc in
+    let others : rest ≡ ancestors_from groups (parent_of groups k) = cc in
+    record {
+      walked = subst (WalkedTo groups test g) same (record { on_path = on k refl; passed = passed });
+      there = subst (λ j. has_group groups j ≡ true) same there;
+      rest_is = others ∙ ap (λ j. ancestors_from groups (parent_of groups j)) same;
+    }
+
+pub left_turn : (groups : List Group) (test : ℕ → Bool) (g m : ℕ) (left rest : List ℕ) → AreGroups groups → WalkLeft groups test g left → left ≡ m ∷ rest → TurnAt groups test g m rest
+left_turn groups test g m left rest facts w e = turn_from groups test g m left rest w.next facts w.left_is w.on_path w.passed e
+
+-- where it passes, the walk goes on
+on_from : (groups : List Group) (test : ℕ → Bool) (g m : ℕ) (rest : List ℕ) (o : Option ℕ) → AreGroups groups → TurnAt groups test g m rest → test m ≡ true → parent_of groups m ≡ o → WalkLeft groups test g rest
+on_from groups test g m rest None facts turn passes e = record {
+  next = None;
+  left_is = turn.rest_is ∙ ap (ancestors_from groups) e;
+  on_path = λ k same. absurd (none-some k same);
+  passed = λ k h. inl (walked_all groups test g m facts turn.walked passes (parent_of-none_root groups m facts turn.there e) k h);
+}
+on_from groups test g m rest (Some p) facts turn passes e =
+    let up = walked_up groups test g m p facts turn.walked passes e in
+    record {
+      next = Some p;
+      left_is = turn.rest_is ∙ ap (ancestors_from groups) e;
+      on_path = λ k same. subst (λ j. in_subtree groups j g ≡ true) (same_Some p k same) up.on_path;
+      passed = up.passed;
+    }
+
+pub left_on : (groups : List Group) (test : ℕ → Bool) (g m : ℕ) (rest : List ℕ) → AreGroups groups → TurnAt groups test g m rest → test m ≡ true → WalkLeft groups test g rest
+left_on groups test g m rest facts turn passes = on_from groups test g m rest (parent_of groups m) facts turn passes refl
+
+-- at the end all groups of the path have passed
+end_from : (groups : List Group) (test : ℕ → Bool) (g : ℕ) (o : Option ℕ) → AreGroups groups → ancestors_from groups o ≡ [] → ((m : ℕ) → o ≡ Some m → in_subtree groups m g ≡ true) → ((k : ℕ) → in_subtree groups k g ≡ true → (test k ≡ true) ⊎ IsAhead groups k o) → (k : ℕ) → in_subtree groups k g ≡ true → test k ≡ true
+end_from groups test g None facts e on passed k h = ⊎_elim (λ t. t) (λ bad. absurd bad) (passed k h)
+end_from groups test g (Some m) facts e on passed k h =
+    let both : m ∷ ancestors_from groups (parent_of groups m) ≡ [] = sym (ancestors_of-step groups m facts (in_subtree-above groups m g (on m refl))) ∙ e in
+    absurd (cc)
+
+pub left_end : (groups : List Group) (test : ℕ → Bool) (g : ℕ) (left : List ℕ) → AreGroups groups → WalkLeft groups test g left → left ≡ [] → (k : ℕ) → in_subtree groups k g ≡ true → test k ≡ true
+left_end groups test g left facts w e = end_from groups test g w.next facts (sym w.left_is ∙ e) w.on_path w.passed

@@ -4,6 +4,8 @@ use Rattle.std.specs.List.{find, list_any, starts_with}
 use Rattle.std.specs.Option.{option_map, option_and_then}
 use Rattle.std.specs.Str.{bytes_eq}
 use Rattle.group_tree.specs.Path.{root_path, is_root, names_of, depth_of, parent_path, is_well_formed, IsWellFormed}
+use Rattle.group_tree.specs.declared.group.TheConstants.{MAX_GROUPS}
+use Rattle.group_tree.specs.declared.path.TheConstants.{MAX_DEPTH}
 use Rattle.group_tree.specs.declared.fault.Fault.{Fault}
 use Rattle.group_tree.specs.declared.fault.Fault.TheVariants.{NoParent, Exists, BadName, TreeFull, TooDeep}
 -- a group has a number, a path and a limit in pages
@@ -64,10 +66,10 @@ pub record IsLeastFreeNumber (groups : List Group) (n : ℕ) : Type 0 where
 unfoldable pub make_fault : List Group → List ℕ → Option Fault
 make_fault groups path =
     if not (is_well_formed path) || is_root path then Some BadName
-    else (if nat_lt 8 (depth_of path) then Some TooDeep
+    else (if nat_lt MAX_DEPTH (depth_of path) then Some TooDeep
     else (if is_some (number_at groups path) then Some Exists
     else (if is_none (number_at groups (parent_path path)) then Some NoParent
-    else (if nat_le 64 (length groups) then Some TreeFull
+    else (if nat_le MAX_GROUPS (length groups) then Some TreeFull
     else None))))
 
 -- one more group, with no limit
@@ -89,11 +91,11 @@ with_limit groups n limit = map (limited n limit) groups
 -- what holds of the groups of every tree: at most 64 of them, each with a number below 64 and a path of at
 -- most 8 names, no two with one number or one path; the root is the first, and each one's parent is there
 pub record AreGroups (groups : List Group) : Type 0 where
-  pub few : length groups ≤ 64
+  pub few : length groups ≤ MAX_GROUPS
   pub root : IsSomeAnd (slice_get groups 0) (λ g. (g.number ≡ 0) × (g.path ≡ root_path))
-  pub numbers : All (λ g. g.number < 64) groups
+  pub numbers : All (λ g. g.number < MAX_GROUPS) groups
   pub paths : All (λ g. IsWellFormed g.path) groups
-  pub depths : All (λ g. depth_of g.path ≤ 8) groups
+  pub depths : All (λ g. depth_of g.path ≤ MAX_DEPTH) groups
   pub numbers_distinct : AllPairs (λ g h. g.number ≢ h.number) groups
   pub paths_distinct : AllPairs (λ g h. g.path ≢ h.path) groups
   pub parents : All (λ g. IsTrue (is_some (number_at groups (parent_path g.path)))) groups

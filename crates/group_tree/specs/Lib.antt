@@ -1,4 +1,7 @@
+pub mod Ancestors
 pub mod Faults
 pub mod Groups
+pub mod Links
 pub mod Path
+pub mod Room
 pub mod Text

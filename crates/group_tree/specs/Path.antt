@@ -2,6 +2,7 @@
 use Rattle.std.specs.Prelude.{ℕ, ◌==◌, ◌&&◌, ◌||◌, Bool, not, nat_eq, nat_le, nat_lt, IsTrue, List, [], ◌∷◌, length, drop, if◌then◌else◌, codes}
 use Rattle.std.specs.List.{slice_split, list_all, before_last, starts_with}
 use Rattle.std.specs.Str.{bytes_eq}
+use Rattle.group_tree.specs.declared.path.TheConstants.{MAX_NAME, MAX_PATH}
 
 -- the byte that stands before each name
 abbrev pub is_slash : ℕ → Bool
@@ -42,7 +43,7 @@ is_dots name = bytes_eq name (codes ".") || bytes_eq name (codes "..")
 
 -- a name is 1 to 255 such bytes, and neither `.` nor `..`
 unfoldable pub is_name : List ℕ → Bool
-is_name name = nat_le 1 (length name) && nat_le (length name) 255 && list_all is_name_byte name && not (is_dots name)
+is_name name = nat_le 1 (length name) && nat_le (length name) MAX_NAME && list_all is_name_byte name && not (is_dots name)
 
 -- the same as a fact
 abbrev pub IsName : List ℕ → Type 0
@@ -50,7 +51,7 @@ IsName name = IsTrue (is_name name)
 
 -- a path has at most 512 bytes, begins with a slash, and has names alone between its slashes
 unfoldable pub is_well_formed : List ℕ → Bool
-is_well_formed path = nat_le (length path) 512 && starts_with nat_eq path root_path && list_all is_name (names_of path)
+is_well_formed path = nat_le (length path) MAX_PATH && starts_with nat_eq path root_path && list_all is_name (names_of path)
 
 -- the same as a fact
 abbrev pub IsWellFormed : List ℕ → Type 0

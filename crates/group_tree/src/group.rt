@@ -21,7 +21,9 @@ impl Model for GroupId {
 
     ghost view = { λ g. g.number };
 
-    ghost invariant = { λ g. g.number < 64 };
+    ghost use Rattle.group_tree.specs.declared.group.TheConstants.{MAX_GROUPS};
+
+    ghost invariant = { λ g. g.number < MAX_GROUPS };
 
     ghost inverse = { λ n. record { number = n } };
 }
@@ -29,9 +31,9 @@ impl Model for GroupId {
 impl GroupId {
     /// The group of this number; None where the number is 64 or above.
     pub fn of(number: u32) -> Option<GroupId>
-        ensures { SomeIff result (number < 64) number }
+        ensures { SomeIff result (number < MAX_GROUPS) number }
     {
-        if number < 64 {
+        if (number as usize) < MAX_GROUPS {
             Some(GroupId { number })
         } else {
             None
@@ -48,7 +50,7 @@ impl GroupId {
     /// The group's number, 0 to 63.
     pub fn number(self) -> u32
         ensures value { result ≡ self }
-        ensures below { result < 64 }
+        ensures below { result < MAX_GROUPS }
     {
         self.number
     }

@@ -4,6 +4,7 @@
 //! callers as the list of its groups, in order of making.
 #![tactic(auto)]
 
+pub mod ancestors;
 pub mod fault;
 pub mod group;
 mod names;

@@ -5,7 +5,7 @@ ghost use Rattle.std.specs.List.{count_by, list_all, slice_split, starts_with};
 ghost use Rattle.std.specs.Str.{bytes_eq};
 ghost use Rattle.group_tree.specs.Path.{IsWellFormed, depth_of, is_dots, is_name, is_name_byte, is_root, is_slash, is_well_formed, names_of, parent_path, root_path};
 
-use crate::path::MAX_PATH;
+use crate::path::{MAX_NAME, MAX_PATH};
 
 /// Whether the path is that of the root.
 pub fn is_root(path: &[u8]) -> bool
@@ -40,7 +40,7 @@ fn has_name_bytes(name: &[u8]) -> bool
 fn is_name(name: &[u8]) -> bool
     ensures { result ≡ is_name name.now }
 {
-    1 <= name.len() && name.len() <= 255 && has_name_bytes(name) && !is_dots(name)
+    1 <= name.len() && name.len() <= MAX_NAME && has_name_bytes(name) && !is_dots(name)
 }
 
 // Whether there are names alone between the slashes.

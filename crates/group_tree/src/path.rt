@@ -7,6 +7,12 @@ use std::marker::Model;
 /// How many bytes a path may have.
 pub const MAX_PATH: usize = 512;
 
+/// How many bytes a name may have (NAME_MAX of Linux).
+pub const MAX_NAME: usize = 255;
+
+/// How many names a path may have.
+pub const MAX_DEPTH: usize = 8;
+
 /// A text of at most 512 bytes, kept without memory of its own. Behind the text stand zeros.
 #[derive(Clone, Copy, Debug, PartialEq, Eq)]
 pub struct PathText {
@@ -33,7 +39,7 @@ impl Model for PathText {
 impl PathText {
     /// The text of these bytes; None exactly where there are more than 512.
     pub fn of(text: &[u8]) -> Option<PathText>
-        ensures { SomeIff result (length text.now ≤ 512) text.now }
+        ensures { SomeIff result (length text.now ≤ MAX_PATH) text.now }
     {
         if text.len() > MAX_PATH {
             return None;
@@ -49,7 +55,7 @@ impl PathText {
     /// The bytes of the text.
     pub fn as_bytes(&self) -> &[u8]
         ensures text { result.now ≡ self.now }
-        ensures short { length result.now ≤ 512 }
+        ensures short { length result.now ≤ MAX_PATH }
     {
         &self.bytes[..self.len]
     }

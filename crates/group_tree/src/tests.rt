@@ -76,6 +76,25 @@ fn readers_tell_of_a_group(rt: HostRuntime) -> Result<(), Fail> {
     Ok(())
 }
 
+// The lines of the README.
+#[test]
+fn the_first_lines_of_use(rt: HostRuntime) -> Result<(), Fail> {
+    let mut tree = Tree::new(rt.alloc())?;
+    let web = tree.make(b"/web")?;
+    let one = tree.make(b"/web/one")?;
+    assert_eq!(rt; tree.find(b"/web/one"), Some(one));
+    assert_eq!(rt; tree.parent(one), Some(web));
+    assert_eq!(rt; tree.path_of(one).as_bytes(), b"/web/one".as_slice());
+    assert_eq!(rt; tree.depth(one), 2);
+    let mut walk = tree.ancestors(one);
+    assert_eq!(rt; walk.next(), Some(one));
+    assert_eq!(rt; walk.next(), Some(web));
+    assert_eq!(rt; walk.next(), Some(GroupId::root()));
+    assert_eq!(rt; walk.next(), None);
+    assert_eq!(rt; tree.make(b"/other/one"), Err(Fault::NoParent));
+    Ok(())
+}
+
 #[test]
 fn a_text_has_at_most_512_bytes(rt: HostRuntime) -> Result<(), Fail> {
     let long = [b'x'; 513];
@@ -85,14 +104,43 @@ fn a_text_has_at_most_512_bytes(rt: HostRuntime) -> Result<(), Fail> {
     Ok(())
 }
 
+// Number, name and text of each refusal.
+fn refusals(group: GroupId) -> [(Fault, u32, &'static str, &'static str); 22] {
+    [
+        (Fault::NoParent, 1, "NoParent", "the parent group is not there"),
+        (Fault::Exists, 2, "Exists", "the group is there already"),
+        (Fault::BadName, 3, "BadName", "the path is malformed or that of the root"),
+        (Fault::TreeFull, 4, "TreeFull", "there is no room for one more group"),
+        (Fault::TooDeep, 5, "TooDeep", "the path has more than 8 names"),
+        (Fault::NoGroup, 6, "NoGroup", "the group is not there"),
+        (Fault::HasChildren, 7, "HasChildren", "the group has children"),
+        (Fault::Busy, 8, "Busy", "the group still has pages"),
+        (Fault::PinsFull, 9, "PinsFull", "the processor holds too many references"),
+        (Fault::NoFile, 10, "NoFile", "the group has no such file"),
+        (Fault::ReadOnly, 11, "ReadOnly", "the file cannot be written"),
+        (Fault::BadLimit, 12, "BadLimit", "the text is no limit"),
+        (Fault::BadNumber, 13, "BadNumber", "the limit is too great a number"),
+        (Fault::BadConfig, 14, "BadConfig", "the configuration is out of range"),
+        (Fault::OverLimit { group }, 15, "OverLimit", "the charge goes over the limit of a group"),
+        (Fault::NoFrames, 16, "NoFrames", "the zone has no free block that is great enough"),
+        (Fault::Again, 17, "Again", "fewer pages were given back than asked"),
+        (Fault::Killed, 18, "Killed", "the group was killed"),
+        (Fault::BadOrder, 19, "BadOrder", "the order is above 10"),
+        (Fault::NotKept, 20, "NotKept", "the frame is not the head of a kept unit"),
+        (Fault::NotPinned, 21, "NotPinned", "the processor holds no reference on the frame"),
+        (Fault::WriteOnly, 22, "WriteOnly", "the file cannot be read"),
+    ]
+}
+
 #[test]
-fn a_refusal_has_its_number_and_name(rt: HostRuntime) -> Result<(), Fail> {
+fn each_refusal_has_its_number_name_and_text(rt: HostRuntime) -> Result<(), Fail> {
     let group = GroupId::of(63).ok_or("no group")?;
-    let over = Fault::OverLimit { group };
-    assert_eq!(rt; over.number(), 15);
-    assert_eq!(rt; over.name(), "OverLimit");
-    let text = format!(in rt.alloc(); "{}", Fault::Busy)?;
-    assert_eq!(rt; text.as_str(), "the group still has pages");
+    for (fault, number, name, expected) in refusals(group) {
+        assert_eq!(rt; fault.number(), number, "{name}");
+        assert_eq!(rt; fault.name(), name);
+        let text = format!(in rt.alloc(); "{fault}")?;
+        assert_eq!(rt; text.as_str(), expected, "{name}");
+    }
     assert!(rt; GroupId::of(64).is_none());
     Ok(())
 }

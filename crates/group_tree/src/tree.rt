@@ -1,37 +1,49 @@
 //! The tree of groups.
 
-ghost use Rattle.std.specs.Prelude.{◌≡◌, ◌≢◌, ◌↔◌, ◌<◌, ◌==◌, ◌&&◌, false, not, length, IfOk, IsNone, IsTrue, OnErr, Some};
+ghost use Rattle.std.specs.Prelude.{◌≡◌, ◌≢◌, ℕ, ◌↔◌, ◌<◌, ◌==◌, ◌&&◌, false, not, length, IfOk, IsNone, IsTrue, OnErr, Some};
 ghost use Rattle.std.specs.Option.{option_copied};
 ghost use Rattle.std.specs.Result.{result_err};
+ghost use Rattle.group_tree.specs.Ancestors.{depth_at};
+ghost use Rattle.group_tree.specs.Links.{root_link};
 ghost use Rattle.group_tree.specs.Path.{IsWellFormed};
 ghost use Rattle.group_tree.specs.Groups.{AreGroups, IsLeastFreeNumber, group_at, has_child, has_group, in_subtree, initial_groups, limit_of, limited, make_fault, number_at, parent_of, path_of, the_root, with_group, with_limit, without_group};
 
 use crate::fault::Fault;
 use crate::group::{Group, GroupId, MAX_GROUPS};
 use crate::names;
-use crate::path::PathText;
+use crate::path::{MAX_DEPTH, PathText};
 use std::alloc::{AllocError, Global};
 use std::marker::Model;
-
-/// How many names a path may have.
-const MAX_DEPTH: usize = 8;
 
 /// The groups of a controller, seen as their list in order of making. Room for 64 is reserved when
 /// the tree is made, so that no later call takes memory.
 #[derive(Debug, Drop)]
 pub struct Tree {
     rows: Vec<Group>,
+    // By number: where the walk to the root goes on.
+    links: [Link; MAX_GROUPS],
+}
+
+// What is kept of a group by its number, beside its row.
+#[derive(Clone, Copy, Debug, PartialEq, Eq)]
+struct Link {
+    // The group just above; the root's own number at the root.
+    parent: GroupId,
+    // How many names the path has.
+    depth: usize,
 }
 
 impl Model for Tree {
     ghost use Rattle.std.specs.Prelude.{◌≤◌, List, vec_capacity};
     ghost use Rattle.group_tree.specs.Groups.{AreGroups, Group};
+    ghost use Rattle.group_tree.specs.declared.group.TheConstants.{MAX_GROUPS};
+    ghost use Rattle.group_tree.specs.Links.{AreLinks};
 
     ghost Value = { List Group };
 
     ghost view = { λ t. t.rows.items };
 
-    ghost invariant = { λ t. AreGroups t.rows.items × (64 ≤ vec_capacity t.rows) };
+    ghost invariant = { λ t. AreGroups t.rows.items × (MAX_GROUPS ≤ vec_capacity t.rows) × AreLinks t.rows.items t.links };
 }
 
 impl Tree {
@@ -41,13 +53,15 @@ impl Tree {
     {
         let mut rows = Vec::with_capacity(alloc, MAX_GROUPS)?;
         rows.push(root_group()).unwrap();
-        Ok(Tree { rows })
+        let links = [root_link(); MAX_GROUPS];
+        Ok(Tree { rows, links })
     }
 
     /// The groups, in order of making; the root is the first.
     pub fn groups(&self) -> &[Group]
         ensures groups { result.now ≡ self.now }
         ensures legal { AreGroups self.now }
+        ensures root { IsTrue (has_group self.now 0) }
     {
         self.rows.as_slice()
     }
@@ -81,13 +95,13 @@ impl Tree {
 
     /// The path of a group that is there.
     #[tactic(auto, unfolding(crate::specs::Groups::has_group, crate::specs::Groups::path_of))]
-    pub fn path_of(&self, g: GroupId) -> PathText
+    pub fn path_of(&self, g: GroupId) -> &PathText
         requires { IsTrue (has_group self.now g) }
-        ensures value { path_of self.now g ≡ Some result }
-        ensures formed { IsWellFormed result }
+        ensures value { path_of self.now g ≡ Some result.now }
+        ensures formed { IsWellFormed result.now }
     {
         let _ = &self.rows;
-        self.row(g).unwrap().path
+        &self.row(g).unwrap().path
     }
 
     /// The limit of a group that is there, in pages; None for no limit.
@@ -100,6 +114,7 @@ impl Tree {
     }
 
     /// The group just above one that is there; None exactly for the root.
+    #[inline]
     pub fn parent(&self, g: GroupId) -> Option<GroupId>
         requires { IsTrue (has_group self.now g) }
         ensures value { result ≡ parent_of self.now g }
@@ -109,8 +124,18 @@ impl Tree {
             return None;
         }
         let _ = &self.rows;
-        let path = self.path_of(g);
-        self.find(names::parent_path(path.as_bytes()))
+        let link = self.links[g.number() as usize];
+        Some(link.parent)
+    }
+
+    /// How many names the path of a group that is there has; 0 exactly for the root, 8 at most.
+    pub fn depth(&self, g: GroupId) -> usize
+        requires { IsTrue (has_group self.now g) }
+        ensures { result ≡ depth_at self.now g }
+    {
+        let _ = &self.rows;
+        let link = self.links[g.number() as usize];
+        link.depth
     }
 
     /// Whether the second group is the first or lies below it; both are there.
@@ -176,9 +201,9 @@ impl Tree {
 
     // The least number that no group has.
     fn least_free(&self) -> GroupId
-        requires { length self.now < 64 }
+        requires { length self.now < MAX_GROUPS }
         ensures number { IsLeastFreeNumber self.now result }
-        ensures below { result < 64 }
+        ensures below { result < MAX_GROUPS }
     {
         let mut number = 0;
         while self.is_taken(number) {
@@ -192,6 +217,8 @@ impl Tree {
     pub fn make(&mut self, path: &[u8]) -> Result<GroupId, Fault>
         ensures made { IfOk result (λ n. self.new ≡ with_group self.old n path.now) }
         ensures least { IfOk result (λ n. IsLeastFreeNumber self.old n) }
+        ensures there { IfOk result (λ n. IsTrue (has_group self.new n)) }
+        ensures kept { (m : ℕ) → IsTrue (has_group self.old m) → IsTrue (has_group self.new m) }
         ensures refused { result_err result ≡ make_fault self.old path.now }
         ensures unchanged { OnErr result (self.new ≡ self.old) }
     {
@@ -199,6 +226,8 @@ impl Tree {
             return Err(fault);
         }
         let number = self.least_free();
+        let parent = self.find(names::parent_path(path)).unwrap();
+        let depth = names::depth(path);
         let path = PathText::of(path).unwrap();
         let row = Group {
             number,
@@ -206,6 +235,7 @@ impl Tree {
             limit: None,
         };
         self.rows.push(row).unwrap();
+        self.links[number.number() as usize] = Link { parent, depth };
         Ok(number)
     }
 
@@ -238,6 +268,16 @@ fn root_group() -> Group
         number: GroupId::root(),
         path: PathText::of(b"/").unwrap(),
         limit: None,
+    }
+}
+
+// The root's link, which the numbers of no group have at first.
+fn root_link() -> Link
+    ensures { result ≡ root_link }
+{
+    Link {
+        parent: GroupId::root(),
+        depth: 0,
     }
 }
 

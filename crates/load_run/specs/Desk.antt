@@ -8,8 +8,9 @@ use Rattle.group_tree.specs.declared.fault.Fault.{Fault}
 use Rattle.group_tree.specs.declared.fault.Fault.TheVariants.{BadLimit, BadNumber, BadOrder, NoFile, NoFrames, NoGroup, ReadOnly}
 use Rattle.group_tree.specs.declared.group.Group as tree
 use Rattle.group_tree.specs.Groups.{IsLeastFreeNumber, make_fault, number_at, path_of}
-use Rattle.group_charge.specs.Charges.{AreCharges, IsLowestOver, Ledger, PathHasRoom, current_of, initial_ledger, with_charge, with_group_limit}
-use Rattle.group_charge.specs.Charges.{with_max_noted, with_new_group, with_uncharge}
+use Rattle.group_tree.specs.Room.{IsLowestOver, PathHasRoom}
+use Rattle.group_charge.specs.Charges.{AreCharges, Ledger, current_of, initial_ledger, with_charge, with_group_limit, with_max_noted, with_new_group}
+use Rattle.group_charge.specs.Charges.{with_uncharge}
 use Rattle.control_files.specs.declared.file.File.{File}
 use Rattle.control_files.specs.declared.file.File.TheVariants.{Max}
 use Rattle.control_files.specs.Files.{file_text, name_of}
@@ -62,7 +63,7 @@ AnswersMkdir d e path reply = ⊥
 -- ---- alloc
 -- a block of 2 ^ k pages was charged to g and taken from the zone
 pub record TakesCharged (z : Zone) (l : Ledger) (g k : ℕ) (b : Block) (y : Zone) (m : Ledger) : Type 0 where
-  pub room : PathHasRoom l (2 ^ k) g
+  pub room : PathHasRoom l.groups (current_of l) g (2 ^ k)
   pub smallest : IsFrontOfSmallest z.blocks k b
   pub taken : TakesFrames z.free b y.free
   pub areas : AreMaximalBlocks y.free y.blocks
@@ -71,14 +72,14 @@ pub record TakesCharged (z : Zone) (l : Ledger) (g k : ℕ) (b : Block) (y : Zon
 -- the path of g has room for the pages, and no block of this order or above is free: the charge was taken
 -- back, and the peaks that it moved stand
 pub record FindsNoFrames (z : Zone) (l : Ledger) (g k : ℕ) (y : Zone) (m : Ledger) : Type 0 where
-  pub room : PathHasRoom l (2 ^ k) g
+  pub room : PathHasRoom l.groups (current_of l) g (2 ^ k)
   pub none : HasNoneFrom z.blocks k
   pub same_zone : y ≡ z
   pub uncharged : m ≡ with_uncharge (with_charge l g (2 ^ k)) g (2 ^ k)
 
 -- a group of the path of g has no room for the pages: `over` is the lowest such, and nothing changed
 pub record IsRefusedAt (z : Zone) (l : Ledger) (g k over : ℕ) (y : Zone) (m : Ledger) : Type 0 where
-  pub lowest : IsLowestOver l (2 ^ k) g over
+  pub lowest : IsLowestOver l.groups (current_of l) g (2 ^ k) over
   pub same_zone : y ≡ z
   pub same_charges : m ≡ l
 
@@ -95,7 +96,7 @@ pub record TakesBlock (d : DeskState) (g k : ℕ) (b : Block) (e : DeskState) : 
 
 -- a group of the path of g has no room for the pages: `over`, the lowest such, which has this path, has noted it
 pub record IsOverLimit (d : DeskState) (g k over : ℕ) (path : List ℕ) (e : DeskState) : Type 0 where
-  pub lowest : IsLowestOver d.charges (2 ^ k) g over
+  pub lowest : IsLowestOver d.charges.groups (current_of d.charges) g (2 ^ k) over
   pub path_is : path_of d.charges.groups over ≡ Some path
   pub noted : e ≡ record d { charges = with_max_noted d.charges over }
 

@@ -112,7 +112,7 @@ impl Desk {
             }
             Taken::NoBlock => Reply::Refused(Fault::NoFrames),
             Taken::Over(over) => {
-                let path = self.charges.tree().path_of(over);
+                let path = *self.charges.tree().path_of(over);
                 self.charges.note_max(over);
                 Reply::OverLimit { group: over, path }
             }

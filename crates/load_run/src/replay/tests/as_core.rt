@@ -98,7 +98,7 @@ fn take_under_lock(core: &mut Core, group: GroupId, order: Order) -> Result<Repl
             }
             Ok(Reply::OverLimit {
                 group: over,
-                path: core.tree().path_of(over),
+                path: *core.tree().path_of(over),
             })
         }
         _ => Err("neither granted nor over")?,

@@ -3,6 +3,8 @@ use Rattle.group_tree.specs.Groups.{has_group}
 use Rattle.group_tree.proofs.GroupLemmas.{take_new}
 use Rattle.group_charge.specs.Charges.{Account, AreCharges, UsageRises, Ledger, charged, current_of, total_pages, with_charge}
 use Rattle.group_charge.proofs.ChargeLemmas.{AreCharges-charged, all_distinct, all_known, length-charged, charge_rises, root_usage, same_ledger}
+use Rattle.group_charge.specs.Charges.{PagesRise, PeaksRise, SameEvents}
+use Rattle.group_charge.proofs.ReaderLemmas.{charge_pages, charge_peaks, charge_events}
 use Rattle.group_charge.proofs.charges.Charges.try_charge.Goals as goal
 
 pub charge-requires-clause-known : goal.charge-requires-clause-known
@@ -38,3 +40,16 @@ pub returns-clause-usage : goal.returns-clause-usage
 returns-clause-usage c =
     subst (λ l. UsageRises c.args.self.now l c.args.g c.args.n) (sym (returns-clause-charged c))
     (charge_rises c.args.self.now c.args.g c.args.n (subst AreCharges c.self.view_is c.self.invariant.0) c.requires.there)
+
+pub returns-clause-pages : goal.returns-clause-pages
+returns-clause-pages c =
+    subst (λ l. PagesRise c.args.self.now l c.args.g c.args.n) (sym (returns-clause-charged c))
+    (charge_pages c.args.self.now c.args.g c.args.n (subst AreCharges c.self.view_is c.self.invariant.0) c.requires.there)
+
+pub returns-clause-peaks : goal.returns-clause-peaks
+returns-clause-peaks c =
+    subst (λ l. PeaksRise c.args.self.now l c.args.g) (sym (returns-clause-charged c))
+    (charge_peaks c.args.self.now c.args.g c.args.n (subst AreCharges c.self.view_is c.self.invariant.0))
+
+pub returns-clause-events : goal.returns-clause-events
+returns-clause-events c = subst (SameEvents c.args.self.now) (sym (returns-clause-charged c)) (charge_events c.args.self.now c.args.g c.args.n)

@@ -3,6 +3,8 @@ use Rattle.std.proofs.lemmas.List.{length-map}
 use Rattle.group_tree.proofs.GroupLemmas.{take_new}
 use Rattle.group_charge.specs.Charges.{Account, AreCharges, UsageRises, pages_of, taken, with_uncharge}
 use Rattle.group_charge.proofs.ChargeLemmas.{uncharge_falls, AreCharges-taken, pages-there, same_ledger}
+use Rattle.group_charge.specs.Charges.{PagesRise, SameEvents, SamePeaks}
+use Rattle.group_charge.proofs.ReaderLemmas.{uncharge_pages, uncharge_peaks, uncharge_events}
 use Rattle.group_charge.proofs.charges.Charges.uncharge.Goals as goal
 
 pub take_pages-requires : goal.take_pages-requires
@@ -30,3 +32,13 @@ pub returns-clause-usage : goal.returns-clause-usage
 returns-clause-usage c =
     subst (λ l. UsageRises l c.args.self.now c.args.g c.args.n) (sym (returns-clause-uncharged c))
     (uncharge_falls c.args.self.now c.args.g c.args.n (subst AreCharges c.self.view_is c.self.invariant.0) c.requires.there c.requires.charged)
+
+pub returns-clause-pages : goal.returns-clause-pages
+returns-clause-pages c =
+    subst (λ l. PagesRise l c.args.self.now c.args.g c.args.n) (sym (returns-clause-uncharged c)) (uncharge_pages c.args.self.now c.args.g c.args.n c.requires.charged)
+
+pub returns-clause-peaks : goal.returns-clause-peaks
+returns-clause-peaks c = subst (SamePeaks c.args.self.now) (sym (returns-clause-uncharged c)) (uncharge_peaks c.args.self.now c.args.g c.args.n)
+
+pub returns-clause-events : goal.returns-clause-events
+returns-clause-events c = subst (SameEvents c.args.self.now) (sym (returns-clause-uncharged c)) (uncharge_events c.args.self.now c.args.g c.args.n)

@@ -1,7 +1,11 @@
-use Rattle.std.proofs.Common.{◌≡◌, ◌∷◌, [], sym, ap, ◌∙◌, subst, rules, None}
+use Rattle.std.proofs.Common.{◌≡◌, ◌∷◌, [], sym, ap, ◌∙◌, subst, rules, None, is_some, set, IsTrue}
 use Rattle.std.proofs.lemmas.Slice.{pushed}
-use Rattle.group_tree.specs.Groups.{AreGroups, with_group}
+use Rattle.group_tree.specs.Path.{depth_of}
+use Rattle.group_tree.specs.Groups.{AreGroups, has_group, number_at, with_group}
+use Rattle.group_tree.specs.Links.{AreLinks}
+use Rattle.group_tree.proofs.LinkLemmas.{AreLinks-with}
 use Rattle.group_tree.proofs.GroupLemmas.{AreGroups-with, can_make}
+use Rattle.group_tree.proofs.CallerLemmas.{has_group-with_kept, has_group-with_new}
 use Rattle.group_tree.proofs.tree.Tree.make.Goals as goal
 
 pub least_free-number-requires : goal.least_free-number-requires
@@ -24,4 +28,34 @@ invariant_of-self c =
     let path : c.unwrap-path.result ≡ c.args.path.now = search rules in
     let rows : c.push.new.self.items ≡ with_group c.args.self.now c.least_free-number.result c.unwrap-path.result = pushed (record { number = c.least_free-number.result; path = c.unwrap-path.result; limit = None } ∷ []) c.self.view_is c.unwrap.ensures c.push.ensures.items in
     let new = AreGroups-with c.args.self.now c.least_free-number.result c.args.path.now old can c.least_free-number.ensures.below c.least_free-number.ensures.number.free in
-    (subst AreGroups (sym (rows ∙ ap (with_group c.args.self.now c.least_free-number.result) path)) new, search (rules, c.self.invariant))
+    (subst AreGroups (sym (rows ∙ ap (with_group c.args.self.now c.least_free-number.result) path)) new, search (rules, c.self.invariant.1),
+    subst (λ r. AreLinks r (set c.self.inside.links c.number.result (record { parent = c.unwrap-parent.result; depth = c.depth-depth.result }))) (sym (rows ∙ ap (with_group c.args.self.now c.least_free-number.result) path))
+    (subst (AreLinks (with_group c.args.self.now c.least_free-number.result c.args.path.now))
+    (ap (λ n. set c.self.inside.links n (record { parent = c.unwrap-parent.result; depth = depth_of c.args.path.now })) (sym c.number.ensures.value)
+    ∙ ap (λ d. set c.self.inside.links c.number.result (record { parent = c.unwrap-parent.result; depth = d })) (sym c.depth-depth.ensures))
+    (AreLinks-with c.args.self.now c.self.inside.links c.least_free-number.result c.unwrap-parent.result c.args.path.now old
+    (subst (λ r. AreLinks r c.self.inside.links) c.self.view_is c.self.invariant.2) can c.least_free-number.ensures.below c.least_free-number.ensures.number.free (sym (ap (number_at c.args.self.now) c.parent_path.ensures) ∙ sym c.find.ensures ∙ c.unwrap-parent.ensures))))
+
+pub unwrap-parent-requires : goal.unwrap-parent-requires
+unwrap-parent-requires c =
+    ap is_some (c.find.ensures ∙ ap (number_at c.args.self.now) c.parent_path.ensures)
+    ∙ (can_make c.args.self.now c.args.path.now (sym c.make_fault.ensures ∙ c.in_default.is)).parent
+
+pub depth-depth-requires : goal.depth-depth-requires
+depth-depth-requires c = (can_make c.args.self.now c.args.path.now (sym c.make_fault.ensures ∙ c.in_default.is)).formed
+
+pub returns-clause-made : goal.returns-clause-made
+returns-clause-made c =
+    let path : c.unwrap-path.result ≡ c.args.path.now = search rules in
+    let rows : c.push.new.self.items ≡ with_group c.args.self.now c.least_free-number.result c.unwrap-path.result = pushed (record { number = c.least_free-number.result; path = c.unwrap-path.result; limit = None } ∷ []) c.self.view_is c.unwrap.ensures c.push.ensures.items in
+    rows ∙ ap (with_group c.args.self.now c.least_free-number.result) path
+
+pub returns-clause-there : goal.returns-clause-there
+returns-clause-there c =
+    subst (λ rows. IsTrue (has_group rows c.least_free-number.result)) (sym (returns-clause-made c))
+    (has_group-with_new c.args.self.now c.least_free-number.result c.args.path.now c.least_free-number.ensures.number.free)
+
+pub returns-clause-kept : goal.returns-clause-kept
+returns-clause-kept c = λ m there.
+    subst (λ rows. IsTrue (has_group rows m)) (sym (returns-clause-made c))
+    (has_group-with_kept c.args.self.now c.least_free-number.result m c.args.path.now c.least_free-number.ensures.number.free there)

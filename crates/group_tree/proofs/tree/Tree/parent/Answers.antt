@@ -1,7 +1,9 @@
-use Rattle.std.proofs.Common.{◌≡◌, is_some, true, sym, ap, ◌∙◌, subst}
-use Rattle.group_tree.specs.Path.{parent_path}
-use Rattle.group_tree.specs.Groups.{AreGroups, number_at}
-use Rattle.group_tree.proofs.GroupLemmas.{parent_of-root, parent_of-below, parent-there, none_is_no_some}
+use Rattle.std.proofs.Common.{◌≡◌, Some, sym, ap, ◌∙◌, subst}
+use Rattle.std.proofs.lemmas.Bool.{true≢false}
+use Rattle.group_tree.specs.Groups.{AreGroups, parent_of}
+use Rattle.group_tree.specs.Links.{AreLinks, link_at}
+use Rattle.group_tree.proofs.GroupLemmas.{parent_of-root}
+use Rattle.group_tree.proofs.LinkLemmas.{parent-link, link_read}
 use Rattle.group_tree.proofs.tree.Tree.parent.Goals as goal
 
 pub returns-then-number-eq0-clause-value : goal.returns-then-number-eq0-clause-value
@@ -10,14 +12,11 @@ returns-then-number-eq0-clause-value c =
 
 pub returns-clause-value : goal.returns-clause-value
 returns-clause-value c =
-    let path = c.parent_path.ensures ∙ ap parent_path c.as_bytes.ensures.text in
-    c.find.ensures ∙ ap (number_at c.args.self.now) path
-    ∙ sym (parent_of-below c.args.self.now c.args.g c.path_of-path.result (λ e. c.if-number-eq0.false (c.number.ensures.value ∙ e)) c.path_of-path.ensures.value)
+    let groups = subst AreGroups c.self.view_is c.self.invariant.0 in
+    let links = subst (λ rows. AreLinks rows c.self.inside.links) c.self.view_is c.self.invariant.2 in
+    let same = link_read c.self.inside.links c.number-2.result c.args.g c.index-self-number.result links.size c.number-2.ensures.below c.number-2.ensures.value in
+    ap (λ l. Some l.parent) same
+    ∙ sym (parent-link c.args.self.now c.self.inside.links c.args.g groups links c.requires (λ e. c.if-number-eq0.false (c.number.ensures.value ∙ e)))
 
 pub returns-clause-root : goal.returns-clause-root
-returns-clause-root c =
-    let path = c.parent_path.ensures ∙ ap parent_path c.as_bytes.ensures.text in
-    let there : is_some c.find.result ≡ true =
-    ap is_some (c.find.ensures ∙ ap (number_at c.args.self.now) path)
-    ∙ parent-there c.args.self.now c.args.g c.path_of-path.result (subst AreGroups c.self.view_is c.self.invariant.0) c.path_of-path.ensures.value in
-    (λ none. absurd (none_is_no_some c.find.result none there), λ e. absurd (c.if-number-eq0.false (c.number.ensures.value ∙ e)))
+returns-clause-root c = (λ none. absurd (true≢false none), λ e. absurd (c.if-number-eq0.false (c.number.ensures.value ∙ e)))

@@ -2,6 +2,8 @@ use Rattle.std.proofs.Common.{◌==◌, not, sym, ap, ◌∙◌, subst, rules, t
 use Rattle.std.proofs.lemmas.Fn.{filter_same}
 use Rattle.group_tree.specs.Groups.{Group, AreGroups, without_group}
 use Rattle.group_tree.proofs.GroupLemmas.{AreGroups-without}
+use Rattle.group_tree.specs.Links.{AreLinks}
+use Rattle.group_tree.proofs.LinkLemmas.{AreLinks-without}
 use Rattle.group_tree.proofs.tree.Tree.remove.Goals as goal
 
 pub returns : goal.returns
@@ -11,4 +13,4 @@ returns c = filter_same _ (λ (g : Group). not (g.number == c.args.g)) _ (λ x b
 pub invariant_of-self : goal.invariant_of-self
 invariant_of-self c =
     let old = subst AreGroups c.self.view_is c.self.invariant.0 in
-    (subst AreGroups (sym (returns c)) (AreGroups-without c.args.self.now c.args.g old c.requires.leaf c.requires.below_root), search (rules, c.self.invariant))
+    (subst AreGroups (sym (returns c)) (AreGroups-without c.args.self.now c.args.g old c.requires.leaf c.requires.below_root), search (rules, c.self.invariant.1), subst (λ rows. AreLinks rows c.self.inside.links) (sym (returns c)) (AreLinks-without c.args.self.now c.self.inside.links c.args.g (subst (λ rows. AreLinks rows c.self.inside.links) c.self.view_is c.self.invariant.2)))

@@ -1,6 +1,8 @@
 use Rattle.std.proofs.Common.{◌≡◌, ◌++◌, take, drop, length, sym, ap, ◌∙◌, subst, rules}
 use Rattle.group_tree.specs.Groups.{AreGroups, with_limit}
 use Rattle.group_tree.proofs.GroupLemmas.{AreGroups-limited, length-limited, take_new}
+use Rattle.group_tree.specs.Links.{AreLinks}
+use Rattle.group_tree.proofs.LinkLemmas.{AreLinks-limited}
 use Rattle.group_tree.proofs.tree.Tree.set_max.Goals as goal
 
 pub invariant_of-self : goal.invariant_of-self
@@ -10,4 +12,4 @@ invariant_of-self c =
     let size : length c.set_limit.new.rows ≡ length old = ap length new ∙ length-limited old c.args.g c.args.limit in
     let whole : take c.self.inside.rows.len (c.set_limit.new.rows ++ drop (length c.set_limit.new.rows) old) ≡ c.set_limit.new.rows =
     take_new c.self.inside.rows.len old c.set_limit.new.rows size (search rules) in
-    (subst AreGroups (sym (whole ∙ new)) (AreGroups-limited old c.args.g c.args.limit c.self.invariant.0), c.self.invariant.1)
+    (subst AreGroups (sym (whole ∙ new)) (AreGroups-limited old c.args.g c.args.limit c.self.invariant.0), c.self.invariant.1, subst (λ rows. AreLinks rows c.self.inside.links) (sym (whole ∙ new)) (AreLinks-limited old c.self.inside.links c.args.g c.args.limit c.self.invariant.2))

@@ -55,6 +55,6 @@ pub invariant_of-self-in-Over : goal.invariant_of-self-in-Over
 invariant_of-self-in-Over c =
     let d : DeskState = record { zone = c.self.inside.zone; charges = c.self.inside.charges; places = c.self.inside.places.items } in
     let is = c.in-Over.ensures in
-    let noted : c.note_max.new.self ≡ with_max_noted c.self.inside.charges c.in-Over.over = c.note_max.ensures ∙ ap (λ (l : Ledger). with_max_noted l c.in-Over.over) is.same_charges in
+    let noted : c.note_max.new.self ≡ with_max_noted c.self.inside.charges c.in-Over.over = c.note_max.ensures.noted ∙ ap (λ (l : Ledger). with_max_noted l c.in-Over.over) is.same_charges in
     subst (λ (zone : Zone). IsConsistent (record { zone = zone; charges = c.note_max.new.self; places = c.self.inside.places.items })) (sym is.same_zone)
     (noted_still d c.in-Over.over c.note_max.new.self c.self.invariant noted)

@@ -16,7 +16,7 @@ set_max-requires c = found_there _ _ _ c.in-Ok.ensures.number
 pub invariant_of-self : goal.invariant_of-self
 invariant_of-self c =
     let d : DeskState = record { zone = c.self.inside.zone; charges = c.self.inside.charges; places = c.self.inside.places.items } in
-    limited_still d c.in-Ok.found.0 c.in-Ok-read_limit.limit c.set_max.new.self c.self.invariant c.set_max.ensures
+    limited_still d c.in-Ok.found.0 c.in-Ok-read_limit.limit c.set_max.new.self c.self.invariant c.set_max.ensures.limited
 
 pub returns-in-Ok-read_limit : goal.returns-in-Ok-read_limit
 returns-in-Ok-read_limit c =
@@ -29,7 +29,7 @@ returns-in-Ok-read_limit c =
       limit,
       subst (λ (file : File). IsFileOf c.args.self.now.charges.groups c.args.path.now c.args.name.now g file) is_max is,
       (c.in-Ok-read_limit.ensures.ok limit).0 refl,
-      limited_view d c.args.self.now g limit c.set_max.new.self c.self.view_is c.set_max.ensures,
+      limited_view d c.args.self.now g limit c.set_max.new.self c.self.view_is c.set_max.ensures.limited,
     )
 
 pub returns-in-Err-read_limit : goal.returns-in-Err-read_limit

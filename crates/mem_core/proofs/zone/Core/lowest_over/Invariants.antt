@@ -1,5 +1,6 @@
 -- The walk goes up the path, past groups with room.
-use Rattle.group_tree.proofs.Walks.{WalkedTo, depth_at}
+use Rattle.group_tree.specs.Ancestors.{depth_at}
+use Rattle.group_tree.proofs.Walks.{WalkedTo}
 use Rattle.mem_core.specs.Steps.{has_room_in}
 use Rattle.mem_core.proofs.zone.Core.lowest_over.Given as goal
 

@@ -1,0 +1,60 @@
+//! The walk from a group up to the root.
+
+ghost use Rattle.std.specs.Prelude.{◌≡◌, IsTrue};
+ghost use Rattle.std.specs.Iterator.{YieldsFirst, item_count};
+ghost use Rattle.group_tree.specs.Groups.{has_group};
+ghost use Rattle.group_tree.specs.Ancestors.{IsPathUp, ancestors_of};
+
+use crate::group::GroupId;
+use crate::tree::Tree;
+use std::marker::Model;
+
+/// A walk up the tree, seen as the list of the groups that are left to be visited.
+#[derive(Drop)]
+pub struct Ancestors<'a> {
+    tree: &'a Tree,
+    next: Option<GroupId>,
+}
+
+impl<'a> Model for Ancestors<'a> {
+    ghost use Rattle.std.specs.Prelude.{ℕ, List};
+    ghost use Rattle.group_tree.specs.Ancestors.{IsWalk, ancestors_from};
+
+    ghost Value = { List ℕ };
+
+    ghost view = { λ a. ancestors_from a.tree.now a.next };
+
+    ghost invariant = { λ a. IsWalk a.tree.now a.next };
+}
+
+impl<'a> Iterator for Ancestors<'a> {
+    type Item = GroupId;
+
+    ghost next_gives = { YieldsFirst (λ rest. rest) };
+
+    ghost remaining = { item_count (λ rest. rest) };
+
+    #[inline]
+    fn next(&mut self) -> Option<GroupId> {
+        let group = self.next?;
+        self.next = self.tree.parent(group);
+        Some(group)
+    }
+}
+
+impl Tree {
+    /// The walk from a group that is there up to the root: the group first, then its parent, and the
+    /// root last. It is as long as the group is deep, and one more; no call of it takes memory.
+    #[inline]
+    pub fn ancestors(&self, g: GroupId) -> Ancestors<'_>
+        requires { IsTrue (has_group self.now g) }
+        ensures value { result ≡ ancestors_of self.now g }
+        ensures path { IsPathUp self.now g result }
+    {
+        let _ = self.groups();
+        Ancestors {
+            tree: self,
+            next: Some(g),
+        }
+    }
+}
