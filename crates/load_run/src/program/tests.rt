@@ -388,9 +388,11 @@ fn ends_well_or_quietly(
 #[test]
 fn tells_each_refused_allocation(rt: HostRuntime) -> Result<(), Fail> {
     let alloc = rt.alloc();
+    // The comments make the script itself want more memory than the words did before it.
     let mut script = b"1 mkdir /a\n1 write /a memory.max 1M\n".to_vec(alloc)?;
-    for _ in 0..900 {
-        script.extend_from_slice(b"1 read /a memory.max\n1 blocks\n".as_slice())?;
+    for _ in 0..12 {
+        script.extend_from_slice(vec![in alloc; b'#'; 1_000]?.as_slice())?;
+        script.extend_from_slice(b"\n1 read /a memory.max\n1 blocks\n1 show\n".as_slice())?;
     }
     let words = words_for("--frames=1100");
     let first = Script {
