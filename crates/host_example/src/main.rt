@@ -72,14 +72,15 @@ fn give_block(charges: &mut Charges, zone: &mut Buddy, group: GroupId, block: Bl
     ensures kept { OnFalse result (zone.new ≡ zone.old) }
     ensures groups { charges.new.groups ≡ charges.old.groups }
 {
-    let pages = block.order.frames();
+    let order = block.order;
+    let pages = order.frames();
     if charges.pages(group) < pages {
         return false;
     }
-    if !zone.is_in_use(block) {
-        return false;
+    let can_give = zone.is_in_use(block);
+    if can_give {
+        zone.give(block);
+        charges.uncharge(group, pages);
     }
-    zone.give(block);
-    charges.uncharge(group, pages);
-    true
+    can_give
 }
