@@ -26,7 +26,7 @@ fn main(rt: HostRuntime) -> Result<()> {
     println!(rt; "two pages, with a limit of three: the block at frame {at}")?;
     let refused = take_block(&mut charges, &mut zone, web, pair).is_none();
     println!(rt; "two pages more are refused: {refused}")?;
-    let given = give_block(&mut charges, &mut zone, web, first);
+    let given = give_block(&mut charges, &mut zone, web, &first);
     println!(rt; "the block is given back: {given}")?;
     let again = take_block(&mut charges, &mut zone, web, pair).context("no room")?;
     let at = again.at;
@@ -65,21 +65,20 @@ fn take_block(
 
 // Gives a block back that the group was charged for. False, and nothing changed, where the block isn't in use or
 // the group has fewer pages.
-fn give_block(charges: &mut Charges, zone: &mut Buddy, group: GroupId, block: Block) -> bool
+fn give_block(charges: &mut Charges, zone: &mut Buddy, group: GroupId, block: &Block) -> bool
     requires { IsTrue (has_group charges.old.groups group) }
-    ensures given { OnTrue result (GivesFrames zone.old.free block zone.new.free) }
-    ensures uncharged { OnTrue result (charges.new ≡ with_uncharge charges.old group (2 ^ block.order)) }
+    ensures given { OnTrue result (GivesFrames zone.old.free block.now zone.new.free) }
+    ensures uncharged { OnTrue result (charges.new ≡ with_uncharge charges.old group (2 ^ block.now.order)) }
     ensures kept { OnFalse result (zone.new ≡ zone.old) }
     ensures groups { charges.new.groups ≡ charges.old.groups }
 {
-    let order = block.order;
-    let pages = order.frames();
+    let pages = block.order.frames();
     if charges.pages(group) < pages {
         return false;
     }
-    let can_give = zone.is_in_use(block);
+    let can_give = zone.is_in_use(*block);
     if can_give {
-        zone.give(block);
+        zone.give(*block);
         charges.uncharge(group, pages);
     }
     can_give
