@@ -170,3 +170,6 @@ fn find_file(charges: &Charges, path: &[u8], name: &[u8]) -> Result<(GroupId, Fi
         _ => Err(Fault::NoFile),
     }
 }
+
+#[cfg(test)]
+mod tests;

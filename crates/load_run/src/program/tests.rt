@@ -1,4 +1,5 @@
 use crate::program::drive;
+use std::alloc::{AllocError, Global};
 use std::cmp::min;
 use std::io;
 use std::io::{ErrorKind, Read, Write};
@@ -24,12 +25,23 @@ impl Read for Script<'_> {
     }
 }
 
-// A writer that takes a few bytes at a time, and fails after so many.
+// A writer that takes a few bytes at a time, and fails after so many, or where it is flushed.
 #[derive(Drop)]
 struct Paper {
     text: Vec<u8>,
     at_once: usize,
     room: usize,
+    keeps: bool,
+}
+
+// A writer with room for so many bytes, which has all of its memory.
+fn new_paper(alloc: Global, room: usize) -> Result<Paper, AllocError> {
+    Ok(Paper {
+        text: Vec::with_capacity(alloc, room)?,
+        at_once: 3,
+        room,
+        keeps: true,
+    })
 }
 
 impl Write for Paper {
@@ -44,7 +56,11 @@ impl Write for Paper {
     }
 
     fn flush(&mut self) -> io::Result<()> {
-        Ok(())
+        if self.keeps {
+            Ok(())
+        } else {
+            Err(io::Error::from(ErrorKind::BrokenPipe))
+        }
     }
 }
 
@@ -60,24 +76,29 @@ const SINGLE: [&str; 9] = [
     "replay", "--cpus", "1", "--batch", "1", "--high", "1", "--stock", "1",
 ];
 
-fn run<R: AllocGlobal>(rt: &R, words: &[&str], mut script: Script<'_>, room: usize) -> Outcome {
-    let alloc = rt.alloc();
-    let mut output = Paper {
-        text: Vec::new(alloc),
-        at_once: 3,
-        room,
-    };
-    let mut faults = Paper {
-        text: Vec::new(alloc),
-        at_once: 3,
-        room: 10_000,
-    };
+fn run<R: AllocGlobal>(
+    rt: &R,
+    words: &[&str],
+    script: Script<'_>,
+    room: usize,
+) -> Result<Outcome, AllocError> {
+    run_on(rt.alloc(), words, script, new_paper(rt.alloc(), room)?)
+}
+
+// The same with this writer for the answers.
+fn run_on(
+    alloc: Global,
+    words: &[&str],
+    mut script: Script<'_>,
+    mut output: Paper,
+) -> Result<Outcome, AllocError> {
+    let mut faults = new_paper(alloc, 10_000)?;
     let status = drive(alloc, words, &mut script, &mut output, &mut faults);
-    Outcome {
+    Ok(Outcome {
         status,
         output: output.text,
         faults: faults.text,
-    }
+    })
 }
 
 fn whole(rest: &[u8]) -> Script<'_> {
@@ -90,8 +111,51 @@ fn whole(rest: &[u8]) -> Script<'_> {
 
 // Whether the script is run to the end and answered so.
 fn answers<R: AllocGlobal>(rt: &R, script: &[u8], expected: &[u8]) -> bool {
-    let outcome = run(rt, &SINGLE, whole(script), 10_000);
-    outcome.status == 0 && outcome.output.as_slice() == expected && outcome.faults.is_empty()
+    match run(rt, &SINGLE, whole(script), 10_000) {
+        Ok(outcome) => {
+            outcome.status == 0
+                && outcome.output.as_slice() == expected
+                && outcome.faults.is_empty()
+        }
+        Err(_) => false,
+    }
+}
+
+// Whether the words and the script are told this status and these faults, and no answer.
+fn is_refused<R: AllocGlobal>(
+    rt: &R,
+    words: &[&str],
+    script: Script<'_>,
+    status: u8,
+    faults: &[u8],
+) -> Result<bool, AllocError> {
+    let outcome = run(rt, words, script, 10_000)?;
+    let told = outcome.faults.starts_with(faults);
+    Ok(outcome.status == status && outcome.output.is_empty() && told)
+}
+
+// The words for one processor and a zone of so many frames, which the first word says.
+fn words_for<'a>(frames: &'a str) -> [&'a str; 6] {
+    [
+        "replay",
+        frames,
+        "--cpus=1",
+        "--batch=1",
+        "--high=1",
+        "--stock=1",
+    ]
+}
+
+// Whether the script is answered so in a zone of so many frames.
+fn answers_in<R: AllocGlobal>(
+    rt: &R,
+    frames: &str,
+    script: &[u8],
+    expected: &[u8],
+) -> Result<bool, AllocError> {
+    let words = words_for(frames);
+    let outcome = run(rt, words.as_slice(), whole(script), 10_000)?;
+    Ok(outcome.status == 0 && outcome.output.as_slice() == expected && outcome.faults.is_empty())
 }
 
 #[test]
@@ -110,39 +174,53 @@ fn takes_blocks_of_every_order(rt: HostRuntime) {
 }
 
 #[test]
-fn refuses_orders_before_frames(rt: HostRuntime) {
-    let words = [
-        "replay",
-        "--frames=11",
-        "--cpus=1",
-        "--batch=1",
-        "--high=1",
-        "--stock=1",
-    ];
+fn refuses_orders_before_frames(rt: HostRuntime) -> Result<(), Fail> {
     let script =
-        b"1 mkdir /a\n1 alloc /a 4\n1 alloc /a 11\n1 alloc /b 11\n1 alloc /a 4294967295\n1 blocks\n1 show\n";
-    let outcome = run(&rt, &words, whole(script.as_slice()), 10_000);
-    let refused =
-        b"group 1\nrefused 16 NoFrames\nrefused 19 BadOrder\nrefused 6 NoGroup\nrefused 19 BadOrder\n";
-    let shown = b"0:10 1:8 3:0\n0-10 free\ncurrent /a 0\n";
-    assert!(rt; outcome.output.starts_with(refused.as_slice()));
-    assert!(rt; outcome.output.ends_with(shown.as_slice()));
-    assert_eq!(rt; outcome.output.len(), refused.len() + shown.len());
+        b"1 mkdir /a\n1 alloc /a 4\n1 alloc /a 11\n1 alloc /b 11\n1 alloc /a 4294967295\n1 show\n";
+    let expected =
+        b"group 1\nrefused 16 NoFrames\nrefused 19 BadOrder\nrefused 6 NoGroup\nrefused 19 BadOrder\n0-10 free\ncurrent /a 0\n";
+    assert!(rt; answers_in(&rt, "--frames=11", script.as_slice(), expected.as_slice())?);
+    let script = b"1 blocks\n";
+    assert!(rt;
+        answers_in(
+            &rt,
+            "--frames=11",
+            script.as_slice(),
+            b"0:10 1:8 3:0\n".as_slice()
+        )?
+    );
+    Ok(())
 }
 
 #[test]
-fn has_blocks_of_order_ten(rt: HostRuntime) {
-    let words = [
-        "replay",
-        "--frames=1024",
-        "--cpus=1",
-        "--batch=1",
-        "--high=1",
-        "--stock=1",
-    ];
+fn has_blocks_of_order_ten(rt: HostRuntime) -> Result<(), Fail> {
     let script = b"1 alloc / 10\n1 blocks\n1 alloc / 0\n";
-    let outcome = run(&rt, &words, whole(script.as_slice()), 10_000);
-    assert!(rt; outcome.output.as_slice() == b"frame 0\nnone\nrefused 16 NoFrames\n".as_slice());
+    let expected = b"frame 0\nnone\nrefused 16 NoFrames\n";
+    assert!(rt; answers_in(&rt, "--frames=1024", script.as_slice(), expected.as_slice())?);
+    Ok(())
+}
+
+#[test]
+fn has_frames_above_1024(rt: HostRuntime) -> Result<(), Fail> {
+    let script = b"1 alloc / 10\n1 alloc / 10\n1 alloc / 6\n1 alloc / 2\n1 blocks\n1 show\n";
+    let expected =
+        b"frame 0\nrefused 16 NoFrames\nframe 1024\nframe 1088\n2:1092 3:1096\n0-1091 /\n1092-1103 free\n";
+    assert!(rt; answers_in(&rt, "--frames=1104", script.as_slice(), expected.as_slice())?);
+    Ok(())
+}
+
+#[test]
+fn tells_the_64_blocks_of_the_greatest_zone(rt: HostRuntime) -> Result<(), Fail> {
+    let mut expected = String::from_str(rt.alloc(), "10:0")?;
+    for number in 1..64u32 {
+        let at = number * 1_024;
+        write!(expected, " 10:{at}")?;
+    }
+    expected.push_str("\n")?;
+    assert!(rt; expected.as_str().ends_with(" 10:63488 10:64512\n"));
+    let text = expected.as_bytes();
+    assert!(rt; answers_in(&rt, "--frames=65536", b"1 blocks\n".as_slice(), text)?);
+    Ok(())
 }
 
 #[test]
@@ -162,109 +240,83 @@ fn refuses_a_path_of_more_than_512_bytes(rt: HostRuntime) -> Result<(), Fail> {
     script.extend_from_slice(b"\n1 alloc ".as_slice())?;
     script.extend_from_slice(&path)?;
     script.extend_from_slice(b" 0\n".as_slice())?;
-    assert!(rt;
-        answers(
-            &rt,
-            &script,
-            b"refused 3 BadName\nrefused 6 NoGroup\n".as_slice()
-        )
-    );
+    let expected = b"refused 3 BadName\nrefused 6 NoGroup\n";
+    assert!(rt; answers(&rt, &script, expected.as_slice()));
     Ok(())
 }
 
 #[test]
-fn refuses_a_frame_where_none_is_free(rt: HostRuntime) {
-    let words = [
-        "replay",
-        "--frames=1",
-        "--cpus=1",
-        "--batch=1",
-        "--high=1",
-        "--stock=1",
-    ];
+fn refuses_a_frame_where_none_is_free(rt: HostRuntime) -> Result<(), Fail> {
     let script = b"1 alloc / 0\n1 alloc / 0\n1 alloc /a 0\n1 show\n";
-    let outcome = run(&rt, &words, whole(script.as_slice()), 10_000);
     let expected = b"frame 0\nrefused 16 NoFrames\nrefused 6 NoGroup\n0 /\n";
-    assert!(rt; outcome.output.as_slice() == expected.as_slice());
+    assert!(rt; answers_in(&rt, "--frames=1", script.as_slice(), expected.as_slice())?);
+    Ok(())
+}
+
+// A script that fails as soon as it is read.
+const BROKEN: Script<'static> = Script {
+    rest: &[],
+    at_once: 1,
+    fails: true,
+};
+
+#[test]
+fn judges_the_words_then_the_script_then_the_configuration(rt: HostRuntime) -> Result<(), Fail> {
+    let bad_words = ["replay", "--frames=0"];
+    let clap = b"error: invalid value '0' for '--frames <N>'".as_slice();
+    assert!(rt; is_refused(&rt, &bad_words, BROKEN, 2, clap)?);
+    assert!(rt; is_refused(&rt, &["replay"], BROKEN, 1, b"input failed\n".as_slice())?);
+    let cut = whole(b"1 mkdir /a\n1 alloc /a".as_slice());
+    assert!(rt; is_refused(&rt, &SINGLE, cut, 2, b"bad line 2\n".as_slice())?);
+    let bad = whole(b"1 mkdir /a\ngo\n".as_slice());
+    assert!(rt; is_refused(&rt, &["replay"], bad, 2, b"bad line 2\n".as_slice())?);
+    Ok(())
 }
 
 #[test]
-fn tells_a_script_that_is_cut(rt: HostRuntime) {
-    let outcome = run(
-        &rt,
-        &SINGLE,
-        whole(b"1 mkdir /a\n1 alloc /a".as_slice()),
-        10_000,
-    );
-    assert_eq!(rt; outcome.status, 2);
-    assert!(rt; outcome.output.is_empty());
-    assert!(rt; outcome.faults.as_slice() == b"bad line 2\n".as_slice());
+fn refuses_each_size_other_than_one_so_far(rt: HostRuntime) -> Result<(), Fail> {
+    let refused = b"refused 14 BadConfig\n".as_slice();
+    for (index, other) in ["--cpus=2", "--batch=2", "--high=2", "--stock=2"]
+        .iter()
+        .enumerate()
+    {
+        // With `--batch=2` alone, `--high` is below it, so that this is no configuration at all.
+        let mut words = words_for("--frames=16");
+        words[index + 2] = other;
+        let script = whole(b"1 show\n".as_slice());
+        assert!(rt;
+            is_refused(&rt, words.as_slice(), script, 2, refused)?,
+            "{other}"
+        );
+    }
+    let both = ["replay", "--cpus=1", "--batch=2", "--high=2", "--stock=1"];
+    assert!(rt; is_refused(&rt, &both, whole(b"".as_slice()), 2, refused)?);
+    Ok(())
 }
 
 #[test]
-fn tells_a_bad_line_before_a_bad_configuration(rt: HostRuntime) {
-    let outcome = run(
-        &rt,
-        &["replay"],
-        whole(b"1 mkdir /a\ngo\n".as_slice()),
-        10_000,
-    );
-    assert_eq!(rt; outcome.status, 2);
-    assert!(rt; outcome.output.is_empty());
-    assert!(rt; outcome.faults.as_slice() == b"bad line 2\n".as_slice());
-}
-
-#[test]
-fn refuses_a_configuration_after_the_script(rt: HostRuntime) {
-    let words = ["replay", "--cpus=1", "--batch=4", "--high=2", "--stock=1"];
-    let outcome = run(&rt, &words, whole(b"".as_slice()), 10_000);
-    assert_eq!(rt; outcome.status, 2);
-    assert!(rt; outcome.output.is_empty());
-    assert!(rt; outcome.faults.as_slice() == b"refused 14 BadConfig\n".as_slice());
-}
-
-#[test]
-fn refuses_more_than_one_processor_so_far(rt: HostRuntime) {
-    let outcome = run(&rt, &["replay"], whole(b"".as_slice()), 10_000);
-    assert_eq!(rt; outcome.status, 2);
-    assert!(rt; outcome.faults.as_slice() == b"refused 14 BadConfig\n".as_slice());
-}
-
-#[test]
-fn refuses_words(rt: HostRuntime) {
-    let outcome = run(
-        &rt,
-        &["replay", "--frames=0"],
-        whole(b"".as_slice()),
-        10_000,
-    );
-    assert_eq!(rt; outcome.status, 2);
-    assert!(rt; outcome.output.is_empty());
-    assert!(rt;
-        outcome
-            .faults
-            .starts_with(b"error: invalid value '0' for '--frames <N>'")
-    );
-}
-
-#[test]
-fn tells_that_the_input_failed(rt: HostRuntime) {
+fn tells_that_the_input_failed(rt: HostRuntime) -> Result<(), Fail> {
     let script = Script {
         rest: b"1 show\n".as_slice(),
         at_once: 2,
         fails: true,
     };
-    let outcome = run(&rt, &SINGLE, script, 10_000);
-    assert_eq!(rt; outcome.status, 1);
-    assert!(rt; outcome.output.is_empty());
-    assert!(rt; outcome.faults.as_slice() == b"input failed\n".as_slice());
+    assert!(rt; is_refused(&rt, &SINGLE, script, 1, b"input failed\n".as_slice())?);
+    Ok(())
 }
 
 #[test]
-fn tells_that_the_output_failed(rt: HostRuntime) {
-    let outcome = run(&rt, &SINGLE, whole(b"1 show\n".as_slice()), 4);
+fn tells_that_the_output_failed(rt: HostRuntime) -> Result<(), Fail> {
+    let outcome = run(&rt, &SINGLE, whole(b"1 show\n".as_slice()), 4)?;
     assert_eq!(rt; outcome.status, 1);
     assert!(rt; outcome.faults.as_slice() == b"output failed\n".as_slice());
+    let mut output = new_paper(rt.alloc(), 100)?;
+    output.keeps = false;
+    let script = whole(b"1 show\n".as_slice());
+    let outcome = run_on(rt.alloc(), &SINGLE, script, output)?;
+    assert_eq!(rt; outcome.status, 1);
+    assert!(rt; outcome.faults.as_slice() == b"output failed\n".as_slice());
+    Ok(())
 }
 
 #[test]
@@ -280,15 +332,29 @@ fn takes_scripts_of_1048576_bytes_alone(rt: HostRuntime) -> Result<(), Fail> {
         at_once: 100_000,
         fails: false,
     };
-    assert_eq!(rt; run(&rt, &SINGLE, good, 0).status, 0);
+    assert_eq!(rt; run(&rt, &SINGLE, good, 0)?.status, 0);
     script.push(b'#')?;
     let long = Script {
         rest: &script,
         at_once: 100_000,
         fails: false,
     };
-    let outcome = run(&rt, &SINGLE, long, 0);
-    assert_eq!(rt; outcome.status, 2);
-    assert!(rt; outcome.faults.as_slice() == b"bad line 1025\n".as_slice());
+    assert!(rt; is_refused(&rt, &SINGLE, long, 2, b"bad line 1025\n".as_slice())?);
+    Ok(())
+}
+
+#[test]
+fn tells_a_bad_line_far_behind(rt: HostRuntime) -> Result<(), Fail> {
+    let mut script = Vec::new(rt.alloc());
+    for _ in 0..3_000 {
+        script.extend_from_slice(b"1 blocks\n".as_slice())?;
+    }
+    script.extend_from_slice(b"1 block\n1 bloc\n".as_slice())?;
+    let bad = Script {
+        rest: &script,
+        at_once: 100,
+        fails: false,
+    };
+    assert!(rt; is_refused(&rt, &SINGLE, bad, 2, b"bad line 3001\n".as_slice())?);
     Ok(())
 }
