@@ -1,15 +1,15 @@
 //! Worked rows: what the answers are when calls of processors meet, which no clause says.
 ghost use Rattle.std.specs.Prelude.{◌≡◌, ◌≤◌};
 ghost use Rattle.frame_word.specs.Seats.{IsOpen, IsZoneSeat, NothingPasses, first_zone_view, first_cpu_view};
-ghost use Rattle.stock_word.specs.Stock.{first_machine, first_processor};
+ghost use Rattle.stock_word.specs.Stock.{account_of, first_machine, first_processor};
 
-use crate::{BootName, Cpu, Tables};
+use crate::{BootName, Cpu, Dropped, Fast, Tables};
 use frame_word::{Frame, FrameSeat, FrameWords, Get};
 use std::alloc::{AllocError, Global};
 use std::marker::Brand;
 use std::process::Abort;
 use std::test::Fail;
-use stock_word::{StockSeat, StockWords};
+use stock_word::{Stock, StockSeat, StockWords};
 
 // The tables of F frames and 2 processors, and all seats, as they are at first.
 #[derive(Drop)]
@@ -104,5 +104,63 @@ fn hands_over<N: BootName>(rt: &impl Abort, alloc: Global, parts: Parts<8>)
 fn frame_3_goes_to_processor_2_and_back(rt: HostRuntime) -> Result<(), Fail> {
     let parts = make_parts::<8>(&rt, rt.alloc())?;
     hands_over::<Brand>(&rt, rt.alloc(), parts);
+    Ok(())
+}
+
+// By the books of the machine's seat, nothing is booked to the stock of processor 1.
+fn nothing_booked(machine: &StockSeat)
+    requires { (account_of machine.now.view 1).book ≡ 0 }
+{
+    let _ = machine;
+}
+
+// Frames 0 and 1 are given to processor 1, whose stock is filled with 4 pages of group 1, and drained.
+fn pays<N: BootName>(rt: &impl Abort, alloc: Global, parts: Parts<8>)
+    requires { (parts.frames ≡ N.frames) × (parts.stocks ≡ N.stocks) }
+{
+    let Parts {
+        frames,
+        stocks,
+        mut zone,
+        mut machine,
+        seats,
+        payers,
+    } = parts;
+    let tables = Tables::<N>::new(frames, stocks);
+    let mut cpu = Cpu::<N>::new(alloc, seats.0, payers.0).expect(rt, "memory");
+    let paid = tables.frames.frame(0).expect(rt, "frame 0");
+    let listed = tables.frames.frame(1).expect(rt, "frame 1");
+    cpu.open(&tables, &mut zone);
+    tables.frames.pass_out(&mut zone, paid, 1);
+    cpu.accept(&tables, &mut zone, paid);
+    tables.frames.pass_out(&mut zone, listed, 1);
+    cpu.accept(&tables, &mut zone, listed);
+    cpu.fill(&tables, &mut machine, 1, 4);
+    assert_eq!(rt; cpu.last_stock(), Stock::HeldBy { group: 1, pages: 4 });
+    assert_eq!(rt; cpu.alloc_fast(&tables, 1), Fast::Got(paid));
+    assert_eq!(rt; cpu.look(&tables, &mut machine).pages(), 3);
+    assert_eq!(rt; cpu.alloc_fast(&tables, 2), Fast::OtherGroup);
+    assert_eq!(rt; tables.stocks.drain(&mut machine, 1), 3);
+    assert_eq!(rt; cpu.alloc_fast(&tables, 1), Fast::Drained);
+    assert!(rt; cpu.has_fresh(paid));
+    assert_eq!(rt; cpu.drop_fresh(&tables, paid), Dropped::NeedVisit);
+    let fresh = cpu.hand_fresh(&tables, &mut zone, &mut machine);
+    assert_eq!(rt; fresh, Some(paid));
+    cpu.collect(&tables, &mut zone, paid);
+    assert_eq!(rt; tables.stocks.absorb(&mut machine, 1), 1);
+    nothing_booked(&machine);
+    let front = cpu.hand_front(&tables, &mut zone);
+    assert_eq!(rt; front, Some(listed));
+    cpu.collect(&tables, &mut zone, listed);
+    assert_eq!(rt; cpu.drops(), 0);
+    assert!(rt; cpu.is_idle());
+    let _ = cpu.into_seats();
+    let _ = tables.into_tables();
+}
+
+#[test]
+fn group_1_pays_and_is_drained(rt: HostRuntime) -> Result<(), Fail> {
+    let parts = make_parts::<8>(&rt, rt.alloc())?;
+    pays::<Brand>(&rt, rt.alloc(), parts);
     Ok(())
 }
