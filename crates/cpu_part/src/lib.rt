@@ -13,6 +13,8 @@ mod pins;
 mod readers;
 mod search;
 mod stocks;
+#[cfg(test)]
+mod tests;
 mod visit;
 
 pub use answers::{Dropped, Fast};

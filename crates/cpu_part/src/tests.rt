@@ -1,0 +1,166 @@
+//! Worked rows: what the answers are when calls of processors meet, which no clause says.
+ghost use Rattle.std.specs.Prelude.{◌≡◌, ◌≤◌};
+ghost use Rattle.frame_word.specs.Seats.{IsOpen, IsZoneSeat, NothingPasses, first_zone_view, first_cpu_view};
+ghost use Rattle.stock_word.specs.Stock.{account_of, first_machine, first_processor};
+
+use crate::{BootName, Cpu, Dropped, Fast, Tables};
+use frame_word::{Frame, FrameSeat, FrameWords, Get};
+use std::alloc::{AllocError, Global};
+use std::marker::Brand;
+use std::process::Abort;
+use std::test::Fail;
+use stock_word::{Stock, StockSeat, StockWords};
+
+// The tables of F frames and 2 processors, and all seats, as they are at first.
+#[derive(Drop)]
+struct Parts<const F: u32> {
+    frames: FrameWords,
+    stocks: StockWords,
+    zone: FrameSeat,
+    machine: StockSeat,
+    seats: (FrameSeat, FrameSeat),
+    payers: (StockSeat, StockSeat),
+    ghost sizes: { (frames.frames ≡ F) × (frames.cpus ≡ 2) × (stocks.cpus ≡ 2) },
+    ghost zone_is: { (zone.table ≡ frames.table) × (zone.view ≡ first_zone_view F) },
+    ghost machine_is: { (machine.table ≡ stocks.table) × (machine.view ≡ first_machine) },
+    ghost first_is: { (seats.0.table ≡ frames.table) × (seats.0.view ≡ first_cpu_view 1) },
+    ghost second_is: { (seats.1.table ≡ frames.table) × (seats.1.view ≡ first_cpu_view 2) },
+    ghost first_pays: { (payers.0.table ≡ stocks.table) × (payers.0.view ≡ first_processor 1) },
+    ghost second_pays: { (payers.1.table ≡ stocks.table) × (payers.1.view ≡ first_processor 2) },
+}
+
+fn make_parts<const F: u32>(rt: &impl Abort, alloc: Global) -> Result<Parts<F>, AllocError>
+    requires { 1 ≤ F }
+{
+    let (frames, zone, mut seats) = FrameWords::new(alloc, F, 2)?;
+    let (stocks, machine, mut payers) = StockWords::new(alloc, 2)?;
+    let second = seats.pop().expect(rt, "the second seat");
+    let first = seats.pop().expect(rt, "the first seat");
+    let payer = payers.pop().expect(rt, "the second stock seat");
+    Ok(Parts {
+        frames,
+        stocks,
+        zone,
+        machine,
+        seats: (first, second),
+        payers: (payers.pop().expect(rt, "the first stock seat"), payer),
+    })
+}
+
+// Hands the front of the list over, and the zone collects it.
+fn take_back<N: BootName>(
+    tables: &Tables<N>,
+    zone: &mut FrameSeat,
+    cpu: &mut Cpu<N>,
+) -> Option<Frame>
+    requires zone { IsZoneSeat N.frames zone.old × IsOpen zone.old cpu.old.number }
+    requires still { NothingPasses N.frames zone.old cpu.old.seat }
+    ensures zone { IsZoneSeat N.frames zone.new × IsOpen zone.new cpu.new.number }
+    ensures still { NothingPasses N.frames zone.new cpu.new.seat }
+    ensures number { cpu.new.number ≡ cpu.old.number }
+{
+    // Whoever asks for the number learns what always holds of the processor's part.
+    let _ = cpu.number();
+    let frame = cpu.hand_front(tables, zone)?;
+    cpu.collect(tables, zone, frame);
+    Some(frame)
+}
+
+// Frame 3 goes to processor 2 and comes back.
+fn hands_over<N: BootName>(rt: &impl Abort, alloc: Global, parts: Parts<8>)
+    requires { (parts.frames ≡ N.frames) × (parts.stocks ≡ N.stocks) }
+{
+    let Parts {
+        frames,
+        stocks,
+        mut zone,
+        machine: _,
+        seats,
+        payers,
+    } = parts;
+    let tables = Tables::<N>::new(frames, stocks);
+    let mut first = Cpu::<N>::new(alloc, seats.0, payers.0).expect(rt, "memory");
+    let mut second = Cpu::<N>::new(alloc, seats.1, payers.1).expect(rt, "memory");
+    let frame = tables.frames.frame(3).expect(rt, "frame 3");
+    second.open(&tables, &mut zone);
+    tables.frames.pass_out(&mut zone, frame, 2);
+    assert_eq!(rt; first.get(&tables, frame), Ok(Get::Zero));
+    second.accept(&tables, &mut zone, frame);
+    assert_eq!(rt; second.list_len(), 1);
+    second.shut(&tables, &mut zone);
+    second.open(&tables, &mut zone);
+    let front = take_back(&tables, &mut zone, &mut second);
+    assert_eq!(rt; front, Some(frame));
+    second.shut(&tables, &mut zone);
+    assert_eq!(rt; second.list_len(), 0);
+    assert!(rt; first.is_idle());
+    assert!(rt; second.is_idle());
+    let _ = first.into_seats();
+    let _ = second.into_seats();
+    let _ = tables.into_tables();
+}
+
+#[test]
+fn frame_3_goes_to_processor_2_and_back(rt: HostRuntime) -> Result<(), Fail> {
+    let parts = make_parts::<8>(&rt, rt.alloc())?;
+    hands_over::<Brand>(&rt, rt.alloc(), parts);
+    Ok(())
+}
+
+// By the books of the machine's seat, nothing is booked to the stock of processor 1.
+fn nothing_booked(machine: &StockSeat)
+    requires { (account_of machine.now.view 1).book ≡ 0 }
+{
+    let _ = machine;
+}
+
+// Frames 0 and 1 are given to processor 1, whose stock is filled with 4 pages of group 1, and drained.
+fn pays<N: BootName>(rt: &impl Abort, alloc: Global, parts: Parts<8>)
+    requires { (parts.frames ≡ N.frames) × (parts.stocks ≡ N.stocks) }
+{
+    let Parts {
+        frames,
+        stocks,
+        mut zone,
+        mut machine,
+        seats,
+        payers,
+    } = parts;
+    let tables = Tables::<N>::new(frames, stocks);
+    let mut cpu = Cpu::<N>::new(alloc, seats.0, payers.0).expect(rt, "memory");
+    let paid = tables.frames.frame(0).expect(rt, "frame 0");
+    let listed = tables.frames.frame(1).expect(rt, "frame 1");
+    cpu.open(&tables, &mut zone);
+    tables.frames.pass_out(&mut zone, paid, 1);
+    cpu.accept(&tables, &mut zone, paid);
+    tables.frames.pass_out(&mut zone, listed, 1);
+    cpu.accept(&tables, &mut zone, listed);
+    cpu.fill(&tables, &mut machine, 1, 4);
+    assert_eq!(rt; cpu.last_stock(), Stock::HeldBy { group: 1, pages: 4 });
+    assert_eq!(rt; cpu.alloc_fast(&tables, 1), Fast::Got(paid));
+    assert_eq!(rt; cpu.look(&tables, &mut machine).pages(), 3);
+    assert_eq!(rt; cpu.alloc_fast(&tables, 2), Fast::OtherGroup);
+    assert_eq!(rt; tables.stocks.drain(&mut machine, 1), 3);
+    assert_eq!(rt; cpu.alloc_fast(&tables, 1), Fast::Drained);
+    assert!(rt; cpu.has_fresh(paid));
+    assert_eq!(rt; cpu.drop_fresh(&tables, paid), Dropped::NeedVisit);
+    let fresh = cpu.hand_fresh(&tables, &mut zone, &mut machine);
+    assert_eq!(rt; fresh, Some(paid));
+    cpu.collect(&tables, &mut zone, paid);
+    assert_eq!(rt; tables.stocks.absorb(&mut machine, 1), 1);
+    nothing_booked(&machine);
+    let front = cpu.hand_front(&tables, &mut zone);
+    assert_eq!(rt; front, Some(listed));
+    cpu.collect(&tables, &mut zone, listed);
+    assert_eq!(rt; cpu.drops(), 0);
+    assert!(rt; cpu.is_idle());
+    let _ = cpu.into_seats();
+    let _ = tables.into_tables();
+}
+
+#[test]
+fn group_1_pays_and_is_drained(rt: HostRuntime) -> Result<(), Fail> {
+    let parts = make_parts::<8>(&rt, rt.alloc())?;
+    pays::<Brand>(&rt, rt.alloc(), parts);
+    Ok(())
+}
