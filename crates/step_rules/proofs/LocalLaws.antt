@@ -76,7 +76,7 @@ other_step_is_hidden zone run p local step answer shows who ok =
     let sound = sound_run zone run shows.legal in
     let more = state_more zone run step answer in
     let nothing : answer ≡ Illegal → hide p (after s step.seat step.action answer) ≡ hide p s =
-        λ illegal. ap (hide p) (ap (after s step.seat step.action) illegal ∙ after_illegal s step.seat step.action) in
+    λ illegal. ap (hide p) (ap (after s step.seat step.action) illegal ∙ after_illegal s step.seat step.action) in
     let hidden : hide p (after s step.seat step.action answer) ≡ hide p s = elim (allowed s step.seat step.action answer ok) [
       | inl illegal ↦ nothing illegal
       | inr made ↦ elim who [

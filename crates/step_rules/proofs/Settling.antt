@@ -89,7 +89,8 @@ times_are f (x ∷ xs) =
 all_placed : (s : State) → IsSound s → is_unheld s.hold ≡ true → is_settled s ≡ true → IsAllPlaced s
 all_placed s sound free settled =
     let rests : (f : ℕ) → is_passing (s.phases f) ≡ false = λ f.
-        still_phase (s.phases f) (λ q out. unheld_visit s.hold q free ((sound.frames f).out q out)) (λ q back. unheld_visit s.hold q free ((sound.frames f).returning q back)) in
+    still_phase (s.phases f) (λ q out. unheld_visit s.hold q free ((sound.frames f).out q out))
+    (λ q back. unheld_visit s.hold q free ((sound.frames f).returning q back)) in
     let none : (g : ℕ) → g < 64 → s.pending g ≡ 0 = λ g below. equal_test (s.pending g) 0 (all_at 64 (λ g. s.pending g == 0) settled g below) in
     record {
       pending = none;
