@@ -1,5 +1,5 @@
 -- What a processor sees while it holds the lock goes on by its own steps, and by no other's.
-use Rattle.std.proofs.Common.{◌≡◌, ℕ, Bool, true, false, refl, sym, ◌∙◌, ap, subst, arith, eq-eqb}
+use Rattle.std.proofs.Common.{◌≡◌, ℕ, Bool, true, false, refl, sym, ◌∙◌, ap, subst, arith, inl, inr, eq-eqb}
 use Rattle.std.specs.Prelude.{◌||◌, ◌==◌}
 use Rattle.std.proofs.lemmas.Bool.{false≢true, true≢false, or_left}
 use Rattle.step_rules.specs.declared.phase.Hold.{Hold}
@@ -14,7 +14,7 @@ use Rattle.step_rules.specs.After.{after, state_of}
 use Rattle.step_rules.specs.Cover.{hide, holds_lock}
 use Rattle.step_rules.specs.Laws.{is_of_lock, OwnStepIsLegal, OtherStepIsHidden}
 use Rattle.step_rules.proofs.PhaseLemmas.{equal_test}
-use Rattle.step_rules.proofs.Runs.{after_illegal, sound_run, state_more, legal_more}
+use Rattle.step_rules.proofs.Runs.{after_illegal, allowed, sound_run, state_more, legal_more}
 use Rattle.step_rules.proofs.Own.{own_legal, own_answer, own_after, only_visit}
 use Rattle.step_rules.proofs.Other.{other_after}
 
@@ -71,13 +71,21 @@ own_step_is_legal zone run p local step answer shows is_step counted =
     }
 
 pub other_step_is_hidden : OtherStepIsHidden
-other_step_is_hidden zone run p local step answer shows ne other made =
+other_step_is_hidden zone run p local step answer shows who ok =
     let s = state_of zone run in
     let sound = sound_run zone run shows.legal in
     let more = state_more zone run step answer in
-    let hidden = other_after s p step.seat step.action answer sound ne other shows.holds made.legal made.answered in
+    let nothing : answer ≡ Illegal → hide p (after s step.seat step.action answer) ≡ hide p s =
+    λ illegal. ap (hide p) (ap (after s step.seat step.action) illegal ∙ after_illegal s step.seat step.action) in
+    let hidden : hide p (after s step.seat step.action answer) ≡ hide p s = elim (allowed s step.seat step.action answer ok) [
+      | inl illegal ↦ nothing illegal
+      | inr made ↦ elim who [
+        | inl other ↦ other_after s p step.seat step.action answer sound other.0 other.1 shows.holds made.legal made.answered
+        | inr illegal ↦ nothing illegal
+      ]
+    ] in
     record {
-      legal = legal_more zone run step answer shows.legal (made_allows s step.seat step.action answer made);
+      legal = legal_more zone run step answer shows.legal ok;
       holds = ap (λ (t : State). holds_lock p t.hold) more ∙ ap (λ (t : State). holds_lock p t.hold) hidden ∙ shows.holds;
       sees = shows.sees ∙ sym hidden ∙ sym (ap (hide p) more);
     }

@@ -1,6 +1,6 @@
 -- Every frame comes back once for each use that ended.
 use Rattle.std.proofs.Common.{◌≡◌, ℕ, ◌+◌, ◌^◌, ◌<◌, ◌≤◌, ◌==◌, Bool, true, false, Some, [], ◌∷◌, length, refl, sym, ◌∙◌, ap, subst, arith, inl, inr, cond, eq-eqb}
-use Rattle.std.specs.Prelude.{nat_le, not}
+use Rattle.std.specs.Prelude.{nat_le}
 use Rattle.std.specs.List.{fold}
 use Rattle.std.proofs.lemmas.Bool.{cases_eq, ne_eqb, leb-true}
 use Rattle.std.proofs.lemmas.Nat.{pow_pos}
@@ -20,7 +20,7 @@ use Rattle.step_rules.specs.Phases.{Fresh, has_as, is_free, passes_out, passes_b
 use Rattle.step_rules.specs.State.{Zone, State, at_boot, with_at, one_if, front_of}
 use Rattle.step_rules.specs.Legal.{is_legal, IsAnswer, Allows}
 use Rattle.step_rules.specs.After.{Run, after, state_of, IsLegalRun, is_within, placed_phase, with_block, unit_size, without_unit, consumed}
-use Rattle.step_rules.specs.Returns.{is_open, uses_ended, uses_closed, counted_beside, EveryFrameReturnsOnce}
+use Rattle.step_rules.specs.Returns.{is_open, is_drop, uses_ended, uses_closed, counted_beside, EveryFrameReturnsOnce}
 use Rattle.step_rules.proofs.Basics.{at_same, at_other}
 use Rattle.step_rules.proofs.Sound.{IsSound}
 use Rattle.step_rules.proofs.PhaseLemmas.{live_is, free_is, out_is, listed_is, fresh_is, in_hand, InHand, WasCollected, WasBare, WasEnded, came_back, CameBack, FromList, FromFresh, FromBack, returning_is, Returns, AsEnded, AsDrop}
@@ -139,17 +139,20 @@ placed_opens g b m = by_head (m == b.at)
     by_head true = refl
     by_head false = refl
 
+-- 1 where a return of the frame is a drop
+abbrev drops : State → ℕ → ℕ
+drops s f = one_if (is_drop s.killed (s.phases f))
+
 -- a unit comes back: its head closes its use, and its tails had none
-unit_closes : (s : State) (f m : ℕ) (u : ChargedUnit) (stage : Stage) → IsSound s → s.phases f ≡ Head u stage →
-    opens (s.phases m) + cond (f == m) (one_if (not (is_open (s.phases f)))) 0 ≡ opens (without_unit s.phases f m) + cond (f == m) 1 0
-unit_closes s f m u stage sound was =
+unit_closes : (s : State) (f m : ℕ) (u : ChargedUnit) (stage : Stage) → IsSound s → s.phases f ≡ Head u stage → opens (s.phases f) + drops s f ≡ 1 →
+    opens (s.phases m) + cond (f == m) (drops s f) 0 ≡ opens (without_unit s.phases f m) + cond (f == m) 1 0
+unit_closes s f m u stage sound was one =
     let unit : unit_of (s.phases f) ≡ Some u = ap unit_of was in
     let size : unit_size (unit_of (s.phases f)) ≡ 2 ^ u.order = ap unit_size unit in
     elim (cases_eq f m) [
       | inl same ↦
           let back : opens (without_unit s.phases f m) ≡ 0 = ap (λ (k : ℕ). opens (without_unit s.phases f k)) (sym same) ∙ ap opens (in_unit s.phases f f (self (let p = pow_pos u.order in omega arith))) in
           let a : opens (s.phases m) ≡ opens (s.phases f) = ap (λ (k : ℕ). opens (s.phases k)) (sym same) in
-          let b = one_of (is_open (s.phases f)) in
           rw (eq-eqb f m same) (omega arith)
       | inr ne ↦ elim (within_cases f (unit_size (unit_of (s.phases f))) m) [
         | inl within ↦
@@ -164,17 +167,19 @@ unit_closes s f m u stage sound was =
       ]
     ]
   where
-    one_of : (b : Bool) → one_if b + one_if (not b) ≡ 1
-    one_of true = refl
-    one_of false = refl
-
     self : 1 ≤ unit_size (unit_of (s.phases f)) → is_within f (unit_size (unit_of (s.phases f))) f ≡ true
     self some = elim (within_cases f (unit_size (unit_of (s.phases f))) f) [ inl w ↦ w.0 | inr o ↦ absurd (o.1 (omega arith) (omega arith)) ]
 
 any_unit_closes : (s : State) (f m : ℕ) → IsSound s → Returns s.killed (s.phases f) →
-    opens (s.phases m) + cond (f == m) (one_if (not (is_open (s.phases f)))) 0 ≡ opens (without_unit s.phases f m) + cond (f == m) 1 0
-any_unit_closes s f m sound (AsEnded u was) = unit_closes s f m u Ended sound was
-any_unit_closes s f m sound (AsDrop u was killed) = unit_closes s f m u Collected sound was
+    opens (s.phases m) + cond (f == m) (drops s f) 0 ≡ opens (without_unit s.phases f m) + cond (f == m) 1 0
+any_unit_closes s f m sound (AsEnded u was) =
+    let a : opens (s.phases f) ≡ 1 = ap opens was in
+    let b : drops s f ≡ 0 = ap (λ (x : Phase). one_if (is_drop s.killed x)) was in
+    unit_closes s f m u Ended sound was (omega arith)
+any_unit_closes s f m sound (AsDrop u was killed) =
+    let a : opens (s.phases f) ≡ 0 = ap opens was in
+    let b : drops s f ≡ 1 = ap (λ (x : Phase). one_if (is_drop s.killed x)) was ∙ ap one_if killed in
+    unit_closes s f m u Collected sound was (omega arith)
 
 block_stays : (s : State) (g : ℕ) (b : Block) (m : ℕ) → ((x : ℕ) → b.at ≤ x → x < b.at + 2 ^ b.order → is_free (s.phases x) ≡ true) →
     opens (s.phases m) + 0 ≡ opens (with_block s.phases g b m) + 0

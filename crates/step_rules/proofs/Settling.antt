@@ -1,21 +1,30 @@
--- While the lock is free nothing is pending.
-use Rattle.std.proofs.Common.{◌≡◌, ℕ, ◌<◌, ◌==◌, Bool, true, false, refl, sym, ◌∙◌, ap, subst, arith, inl, inr, cond, if◌then◌else◌}
+-- While the lock is free nothing is pending, and nothing passes.
+use Rattle.std.proofs.Common.{◌≡◌, ℕ, ◌<◌, ◌==◌, Bool, true, false, List, [], ◌∷◌, refl, sym, ◌∙◌, ap, subst, arith, inl, inr, cond, if◌then◌else◌, eq-eqb}
 use Rattle.std.specs.Prelude.{not}
-use Rattle.std.proofs.lemmas.Bool.{false≢true, true≢false, and_parts}
+use Rattle.std.proofs.lemmas.Bool.{false≢true, true≢false, and_parts, cases_eq, ne_eqb}
 use Rattle.group_tree.specs.Groups.{in_subtree}
 use Rattle.step_rules.specs.declared.phase.Hold.{Hold}
+use Rattle.step_rules.specs.declared.phase.Way.TheVariants.{PassingOut, PassingBack}
+use Rattle.step_rules.specs.declared.phase.Stage.TheVariants.{FreshPassing, BackPassing}
+use Rattle.step_rules.specs.declared.phase.Phase.{Phase}
+use Rattle.step_rules.specs.declared.phase.Phase.TheVariants.{Lent, Head}
+use Rattle.step_rules.specs.declared.step.Place.TheVariants as place
 use Rattle.step_rules.specs.declared.step.Step.{Step}
 use Rattle.step_rules.specs.declared.step.Action.{Action}
 use Rattle.step_rules.specs.declared.step.Action.TheVariants.{Lock, Unlock, OpenVisit, ShutVisit, Fill, DrainStock, Grant, Ungrant, PlaceBlock}
 use Rattle.step_rules.specs.declared.step.Answer.{Answer}
 use Rattle.step_rules.specs.declared.step.Answer.TheVariants.{Illegal, Done, Pages, Granted, Placed}
-use Rattle.step_rules.specs.State.{Zone, State, at_boot, all_to, is_unheld, may_zone_act}
+use Rattle.step_rules.specs.Phases.{Listed, has_as, passes_out, passes_back, is_passing}
+use Rattle.step_rules.specs.State.{Zone, State, at_boot, all_to, one_if, is_unheld, may_zone_act}
 use Rattle.step_rules.specs.Usage.{pages_pending}
 use Rattle.step_rules.specs.Legal.{is_legal, Allows, is_settled}
+use Rattle.step_rules.specs.Places.{is_same_place, place_in}
 use Rattle.step_rules.specs.After.{after, state_of}
-use Rattle.step_rules.specs.Returns.{IsAllPlaced, NothingPendsWhileTheLockIsFree}
-use Rattle.step_rules.proofs.Sums.{sum_none, all_at}
-use Rattle.step_rules.proofs.PhaseLemmas.{equal_test}
+use Rattle.step_rules.specs.Returns.{times_in, IsAllPlaced, NothingPendsWhileTheLockIsFree}
+use Rattle.step_rules.proofs.Sums.{sum_none, all_at, all_each}
+use Rattle.step_rules.proofs.Lists.{times}
+use Rattle.step_rules.proofs.Sound.{IsSound}
+use Rattle.step_rules.proofs.PhaseLemmas.{equal_test, unheld_visit}
 use Rattle.step_rules.proofs.Runs.{after_illegal, allowed, kept_along, sound_boot}
 
 not_free : (hold : Hold) (seat : ℕ) → may_zone_act hold seat ≡ true → is_unheld hold ≡ true → ⊥
@@ -54,15 +63,43 @@ none_below : (b : Bool) (n : ℕ) → n ≡ 0 → cond b n 0 ≡ 0
 none_below true n e = e
 none_below false n e = refl
 
-all_placed : (s : State) → is_settled s ≡ true → IsAllPlaced s
-all_placed s settled =
+-- a frame that passes for nobody and from nobody does not pass
+still_phase : (x : Phase) → ((q : ℕ) → passes_out q x ≡ true → ⊥) → ((q : ℕ) → passes_back q x ≡ true → ⊥) → is_passing x ≡ false
+still_phase (Lent q PassingOut) out back = absurd (out q (eq-eqb q q refl))
+still_phase (Lent q PassingBack) out back = absurd (back q (eq-eqb q q refl))
+still_phase (Head u (FreshPassing q)) out back = absurd (back q (eq-eqb q q refl))
+still_phase (Head u (BackPassing q)) out back = absurd (back q (eq-eqb q q refl))
+still_phase x out back = refl
+
+-- a frame that does not pass is on the list that it is lent to
+on_its_list : (p : ℕ) (x : Phase) → is_passing x ≡ false → has_as Listed p x ≡ is_same_place (place_in x) (place.Listed p)
+on_its_list p (Lent q PassingOut) still = absurd (true≢false still)
+on_its_list p (Lent q PassingBack) still = absurd (true≢false still)
+on_its_list p (Head u stage) still = refl
+on_its_list p x still = refl
+
+times_are : (f : ℕ) (xs : List ℕ) → times_in f xs ≡ times f xs
+times_are f [] = refl
+times_are f (x ∷ xs) =
+    elim (cases_eq x f) [
+      | inl e ↦ rw (eq-eqb x f e) (let a = times_are f xs in omega arith)
+      | inr ne ↦ rw (ne_eqb x f ne) (let a = times_are f xs in omega arith)
+    ]
+
+all_placed : (s : State) → IsSound s → is_unheld s.hold ≡ true → is_settled s ≡ true → IsAllPlaced s
+all_placed s sound free settled =
+    let rests : (f : ℕ) → is_passing (s.phases f) ≡ false = λ f.
+    still_phase (s.phases f) (λ q out. unheld_visit s.hold q free ((sound.frames f).out q out))
+    (λ q back. unheld_visit s.hold q free ((sound.frames f).returning q back)) in
     let none : (g : ℕ) → g < 64 → s.pending g ≡ 0 = λ g below. equal_test (s.pending g) 0 (all_at 64 (λ g. s.pending g == 0) settled g below) in
     record {
       pending = none;
       usage = λ g. let a : pages_pending s.groups s.pending g ≡ 0 = sum_none 64 (λ h. if in_subtree s.groups g h then s.pending h else 0) (λ h below. none_below (in_subtree s.groups g h) (s.pending h) (none h below)) in omega arith;
+      still = all_each s.zone.frames (λ f. not (is_passing (s.phases f))) (λ f below. ap not (rests f));
+      listed = λ f p. times_are f (s.parts p).list ∙ sound.lists p Listed f ∙ ap one_if (on_its_list p (s.phases f) (rests f));
     }
 
 pub nothing_pends : NothingPendsWhileTheLockIsFree
 nothing_pends zone run legal free =
     let kept = kept_along (λ (x : ℕ) (e : Step × Answer). x) (λ s x. IsQuit s) (λ s x e sound quit ok. quit_allowed s e.0.seat e.0.action e.1 quit ok) (at_boot zone) 0 run (sound_boot zone) (quit_boot zone) legal in
-    all_placed (state_of zone run) (kept.1 free)
+    all_placed (state_of zone run) kept.0 free (kept.1 free)

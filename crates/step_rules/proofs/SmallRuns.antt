@@ -8,7 +8,7 @@ use Rattle.step_rules.specs.State.{State, at_boot, sum_to, all_to}
 use Rattle.step_rules.specs.Usage.{PathHasRoom, has_room}
 use Rattle.step_rules.specs.Legal.{Allows}
 use Rattle.step_rules.specs.After.{Run, IsLegalRun}
-use Rattle.step_rules.specs.Examples.{small_zone, life_of_a_frame, credited_twice, returned_twice, unlocked_too_soon}
+use Rattle.step_rules.specs.Examples.{small_zone, life_of_a_frame, credited_twice, returned_twice, unlocked_too_soon, returned_when_killed}
 use Rattle.step_rules.proofs.Runs.{next, IsLegalFrom}
 
 -- each step is allowed after those before it
@@ -189,5 +189,42 @@ unlocked_too_soon_is_refused = legal_each (at_boot small_zone) unlocked_too_soon
   (
     record { legal = refl; answered = root_has_room _ 2; counted = tt },
     (refl, tt),
+  ),
+)
+
+pub returned_when_killed_is_legal : IsLegalRun small_zone returned_when_killed
+unfolding has_group group_at sum_to all_to
+returned_when_killed_is_legal = legal_each (at_boot small_zone) returned_when_killed (
+  record { legal = refl; answered = tt; counted = tt },
+  (
+    record { legal = refl; answered = tt; counted = tt },
+    (
+      record { legal = refl; answered = tt; counted = tt },
+      (
+        record { legal = refl; answered = tt; counted = tt },
+        (
+          record { legal = refl; answered = root_has_room _ 2; counted = tt },
+          (
+            record { legal = refl; answered = tt; counted = tt },
+            (
+              record { legal = refl; answered = (refl, refl, omega arith); counted = tt },
+              (
+                record { legal = refl; answered = tt; counted = tt },
+                (
+                  record { legal = refl; answered = tt; counted = tt },
+                  (
+                    refl,
+                    (
+                      record { legal = refl; answered = tt; counted = tt },
+                      (record { legal = refl; answered = tt; counted = tt }, tt),
+                    ),
+                  ),
+                ),
+              ),
+            ),
+          ),
+        ),
+      ),
+    ),
   ),
 )

@@ -78,3 +78,8 @@ all_at (suc n) test all i below =
 
 pub all_same : (n : ℕ) (a b : ℕ → Bool) → ((i : ℕ) → a i ≡ b i) → all_to n a ≡ all_to n b
 all_same n a b each = ap (all_to n) (λ i. λ m. each m i)
+
+pub all_each : (n : ℕ) (test : ℕ → Bool) → ((i : ℕ) → i < n → test i ≡ true) → all_to n test ≡ true
+unfolding all_to
+all_each zero test each = refl
+all_each (suc n) test each = rw (all_each n test (λ i below. each i (omega arith)), each n (omega arith)) refl

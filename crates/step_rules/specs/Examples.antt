@@ -1,10 +1,10 @@
--- Small runs, to be read beside the table: one of the life of a frame, and three whose last step is refused.
+-- Small runs, to be read beside the table: one of the life of a frame, three whose last step is refused, and one of a drop.
 use Rattle.std.specs.Prelude.{ℕ, [], ◌∷◌, ◌++◌}
 use Rattle.step_rules.specs.declared.step.Step.{Step}
 use Rattle.step_rules.specs.declared.step.Action.{Action}
 use Rattle.step_rules.specs.declared.step.Action.TheVariants.{Lock, Unlock, OpenVisit, ShutVisit, Get, Put, Freeze, Unfreeze, PassOut, TakeIn, PassBack}
 use Rattle.step_rules.specs.declared.step.Action.TheVariants.{Collect, Consume, Credit, Report, Absorb, Fill, DrainStock, Grant, Ungrant, PlaceBlock}
-use Rattle.step_rules.specs.declared.step.Action.TheVariants.{Publish, Return}
+use Rattle.step_rules.specs.declared.step.Action.TheVariants.{Publish, Return, Kill}
 use Rattle.step_rules.specs.declared.step.Answer.{Answer}
 use Rattle.step_rules.specs.declared.step.Answer.TheVariants.{Illegal, Done, Held, Left, Last, Took, Back, Pages, Granted, Placed}
 use Rattle.step_rules.specs.State.{Zone}
@@ -62,3 +62,9 @@ returned_twice = placed_again ++ made 0 (Return 0) Illegal ∷ []
 -- the lock is given back while two pages are pending
 abbrev pub unlocked_too_soon : Run
 unlocked_too_soon = made 1 Lock Done ∷ made 0 (Grant 0 2) Granted ∷ made 1 Unlock Illegal ∷ []
+
+-- a fresh frame that the zone collected comes back only when its group, here the root, is killed
+abbrev pub returned_when_killed : Run
+returned_when_killed =
+    first_visit ++ made 1 (Consume 0) Took ∷ made 1 (PassBack 0) Done ∷ made 0 (Collect 0 1) Done ∷ made 0 (Return 0) Illegal ∷
+    made 0 (Kill 0) Done ∷ made 0 (Return 0) Done ∷ []

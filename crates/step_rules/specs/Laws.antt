@@ -4,8 +4,9 @@ use Rattle.step_rules.specs.declared.step.Step.{Step}
 use Rattle.step_rules.specs.declared.step.Action.{Action}
 use Rattle.step_rules.specs.declared.step.Action.TheVariants.{Lock, Unlock}
 use Rattle.step_rules.specs.declared.step.Answer.{Answer}
+use Rattle.step_rules.specs.declared.step.Answer.TheVariants.{Illegal}
 use Rattle.step_rules.specs.State.{Zone, State}
-use Rattle.step_rules.specs.Legal.{is_legal, IsAnswer, IsCounted, IsMade}
+use Rattle.step_rules.specs.Legal.{is_legal, IsAnswer, IsCounted, Allows}
 use Rattle.step_rules.specs.After.{Run, after, state_of, IsLegalRun}
 use Rattle.step_rules.specs.Cover.{hide, holds_lock}
 
@@ -39,8 +40,12 @@ OwnStepIsLegal = (zone : Zone) (run : Run) (p : ℕ) (local : State) (step : Ste
     ShowsLocal zone run p local → IsLocalStep local p step.seat step.action answer → IsCounted (state_of zone run) step.action answer →
     ShowsLocal zone (pushed run step answer) p (after local step.seat step.action answer)
 
--- a legal step of another processor leaves the local state as it is
+-- the step is another processor's, or any seat's that was answered Illegal
+abbrev pub IsOtherOrIllegal : ℕ → ℕ → Answer → Type 0
+IsOtherOrIllegal p seat answer = ((seat ≢ 0) × (seat ≢ p)) ⊎ (answer ≡ Illegal)
+
+-- a step of another processor, and any step that was answered Illegal, leaves the local state as it is
 abbrev pub OtherStepIsHidden : Type 0
 OtherStepIsHidden = (zone : Zone) (run : Run) (p : ℕ) (local : State) (step : Step) (answer : Answer) →
-    ShowsLocal zone run p local → step.seat ≢ 0 → step.seat ≢ p → IsMade (state_of zone run) step.seat step.action answer →
+    ShowsLocal zone run p local → IsOtherOrIllegal p step.seat answer → Allows (state_of zone run) step.seat step.action answer →
     ShowsLocal zone (pushed run step answer) p local

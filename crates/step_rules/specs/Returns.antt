@@ -1,9 +1,10 @@
 -- Every use of a frame comes back once, and nothing is pending while the lock is free.
-use Rattle.std.specs.Prelude.{◌≡◌, ℕ, ◌+◌, ◌<◌, ◌==◌, not, Bool, true, false, fold, if◌then◌else◌}
+use Rattle.std.specs.Prelude.{◌≡◌, ℕ, ◌+◌, ◌<◌, ◌==◌, Bool, true, false, List, fold, filter, length, if◌then◌else◌}
 use Rattle.step_rules.specs.declared.phase.Stage.{Stage}
-use Rattle.step_rules.specs.declared.phase.Stage.TheVariants.{BackAt, BackPassing, Ended}
+use Rattle.step_rules.specs.declared.phase.Stage.TheVariants.{Collected, BackAt, BackPassing, Ended}
 use Rattle.step_rules.specs.declared.phase.Phase.{Phase}
 use Rattle.step_rules.specs.declared.phase.Phase.TheVariants.{Head}
+use Rattle.step_rules.specs.declared.step.Place.TheVariants.{Listed}
 use Rattle.step_rules.specs.declared.step.Step.{Step}
 use Rattle.step_rules.specs.declared.step.Action.{Action}
 use Rattle.step_rules.specs.declared.step.Action.TheVariants.{Put, Freeze, Unfreeze, Credit, Return}
@@ -11,8 +12,9 @@ use Rattle.step_rules.specs.declared.step.Answer.{Answer}
 use Rattle.step_rules.specs.declared.step.Answer.TheVariants.{Done, Last, Back}
 use Rattle.step_rules.specs.State.{Zone, State, at_boot, one_if, is_unheld}
 use Rattle.step_rules.specs.Usage.{frames_kept, pages_prepaid, usage_of}
-use Rattle.step_rules.specs.Legal.{IsMade}
+use Rattle.step_rules.specs.Legal.{IsMade, no_frame_passes}
 use Rattle.step_rules.specs.After.{Run, after, state_of, IsLegalRun}
+use Rattle.step_rules.specs.Places.{is_same_place, place_in}
 
 -- the stage of a unit whose last reference is gone and that hasn't come back
 abbrev pub is_open_stage : Stage → Bool
@@ -26,13 +28,22 @@ abbrev pub is_open : Phase → Bool
 is_open (Head unit stage) = is_open_stage stage
 is_open _ = false
 
--- 1 where a step ends a use of frame f: a last put, a freeze of all references, or a drop, which is a credit or the return
--- of a frame that had no end
+-- the stage of a fresh frame that was collected, where its group is killed
+abbrev pub is_drop_stage : Bool → Stage → Bool
+is_drop_stage is_killed Collected = is_killed
+is_drop_stage _ _ = false
+
+-- a return of the frame is a drop: it was collected as a fresh frame, and its group is killed
+abbrev pub is_drop : (ℕ → Bool) → Phase → Bool
+is_drop killed (Head unit stage) = is_drop_stage (killed unit.group) stage
+is_drop _ _ = false
+
+-- 1 where a step ends a use of frame f: a last put, a freeze of all references, a credit, or a return that is a drop
 abbrev pub uses_ended : ℕ → State → ℕ → Action → Answer → ℕ
 uses_ended f s seat (Put g) Last = if g == f then 1 else 0
 uses_ended f s seat (Freeze g n) Done = if g == f then 1 else 0
 uses_ended f s seat (Credit g) Back = if g == f then 1 else 0
-uses_ended f s seat (Return g) Done = if g == f then one_if (not (is_open (s.phases g))) else 0
+uses_ended f s seat (Return g) Done = if g == f then one_if (is_drop s.killed (s.phases g)) else 0
 uses_ended f s seat action answer = 0
 
 -- 1 where a step closes one: the frame comes back by a return or a credit, or an unfreeze undoes the end
@@ -51,7 +62,7 @@ abbrev pub counted_beside : (State → ℕ → Action → Answer → ℕ) → Zo
 counted_beside count zone run = (fold (with_count count) (at_boot zone, 0) run).1
 
 -- each frame comes back once for each use that ended: of its ended uses all are closed but the one that is open, and no
--- use ends while one is open
+-- use ends while one is open; so a return that closes no open end is a drop
 pub record ReturnsOnce (zone : Zone) (run : Run) (f : ℕ) : Type 0 where
   pub once : counted_beside (uses_ended f) zone run ≡ one_if (is_open ((state_of zone run).phases f)) + counted_beside (uses_closed f) zone run
   pub none_open_at_put : (seat : ℕ) → IsMade (state_of zone run) seat (Put f) Last → is_open ((state_of zone run).phases f) ≡ false
@@ -61,11 +72,18 @@ pub record ReturnsOnce (zone : Zone) (run : Run) (f : ℕ) : Type 0 where
 abbrev pub EveryFrameReturnsOnce : Type 0
 EveryFrameReturnsOnce = (zone : Zone) (run : Run) → IsLegalRun zone run → (f : ℕ) → ReturnsOnce zone run f
 
--- while the lock is free no page is pending, and usage is the frames kept and the pages prepaid
+-- how often the frame stands in the list
+abbrev pub times_in : ℕ → List ℕ → ℕ
+times_in f frames = length (filter (λ x. x == f) frames)
+
+-- while the lock is free no page is pending, usage is the frames kept and the pages prepaid, no frame passes, and each
+-- frame stands once on the list of the processor that it is lent to, and on no other list
 pub record IsAllPlaced (s : State) : Type 0 where
   pub pending : (g : ℕ) → g < 64 → s.pending g ≡ 0
   pub usage : (g : ℕ) → usage_of s g ≡ frames_kept s.groups s.phases s.zone.frames g + pages_prepaid s.groups s.parts s.zone.cpus g
+  pub still : no_frame_passes s ≡ true
+  pub listed : (f p : ℕ) → times_in f (s.parts p).list ≡ one_if (is_same_place (place_in (s.phases f)) (Listed p))
 
--- every legal run that leaves the lock free leaves nothing pending
+-- every legal run that leaves the lock free leaves nothing pending or passing
 abbrev pub NothingPendsWhileTheLockIsFree : Type 0
 NothingPendsWhileTheLockIsFree = (zone : Zone) (run : Run) → IsLegalRun zone run → is_unheld (state_of zone run).hold ≡ true → IsAllPlaced (state_of zone run)

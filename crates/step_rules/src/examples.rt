@@ -3,7 +3,7 @@
 
 ghost use Rattle.std.specs.Prelude.{◌≡◌};
 ghost use Rattle.step_rules.specs.After.{IsLegalRun, state_of};
-ghost use Rattle.step_rules.specs.Examples.{small_zone, life_of_a_frame, credited_twice, returned_twice, unlocked_too_soon};
+ghost use Rattle.step_rules.specs.Examples.{small_zone, life_of_a_frame, credited_twice, returned_twice, unlocked_too_soon, returned_when_killed};
 ghost use Rattle.step_rules.specs.declared.phase.Phase.TheVariants.{InZone};
 ghost use Rattle.step_rules.specs.declared.phase.Hold.TheVariants.{Unheld};
 
@@ -29,4 +29,11 @@ pub fn a_second_return_is_illegal()
 /// The lock is not given back while pages are pending.
 pub fn an_early_unlock_is_illegal()
     ensures { IsLegalRun small_zone unlocked_too_soon }
+{}
+
+/// A fresh frame that the zone collected comes back without a last put only where its group is killed: the return
+/// is answered Illegal before the kill, and Done after it.
+pub fn a_killed_groups_fresh_frame_comes_back()
+    ensures legal { IsLegalRun small_zone returned_when_killed }
+    ensures frame_free { (state_of small_zone returned_when_killed).phases 0 ≡ InZone }
 {}

@@ -12,7 +12,8 @@ pub fn own_step()
     ensures { OwnStepIsLegal }
 {}
 
-/// While a processor holds the lock, a legal step of another one changes nothing of what it sees.
+/// While a processor holds the lock, no step of another one changes anything of what it sees, and no step of any
+/// seat that is answered Illegal.
 pub fn other_step()
     ensures { OtherStepIsHidden }
 {}
@@ -24,13 +25,14 @@ pub fn every_frame_has_one_place()
 {}
 
 /// After every legal run each use of a frame that ended is closed, but for one that is open; and no use ends while
-/// one is open.
+/// one is open. A return that closes no open end is of a killed group's fresh frame.
 pub fn every_frame_returns_once()
     ensures { EveryFrameReturnsOnce }
 {}
 
-/// After every legal run that leaves the lock free no page is pending, and the usage of each group is the frames that
-/// it keeps and the pages prepaid for it.
+/// After every legal run that leaves the lock free no page is pending (for the group numbers 0 to 63), the usage of
+/// each group is the frames that it keeps and the pages prepaid for it, no frame passes, and each frame stands once on
+/// the list of the processor that it is lent to and on no other list.
 pub fn nothing_pends_while_the_lock_is_free()
     ensures { NothingPendsWhileTheLockIsFree }
 {}

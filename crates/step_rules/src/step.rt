@@ -126,8 +126,8 @@ pub enum Action {
     Publish {
         frame: u32,
     },
-    /// The frames of a unit come back: its last put was settled by the zone, or it is a fresh frame that was
-    /// passed back and whose group is killed by now.
+    /// The frames of a unit that is in the zone's hand come back: its last reference is gone, or it is a fresh
+    /// frame that was passed back and collected, and whose group is killed by now.
     Return {
         frame: u32,
     },
