@@ -1,14 +1,17 @@
 //! Worked rows: what the answers are when calls of processors meet, which no clause says.
-ghost use Rattle.std.specs.Prelude.{◌≡◌, ◌≤◌};
-ghost use Rattle.frame_word.specs.Seats.{IsOpen, IsZoneSeat, NothingPasses, first_zone_view, first_cpu_view};
-ghost use Rattle.stock_word.specs.Stock.{account_of, first_machine, first_processor};
+ghost use Rattle.std.specs.Prelude.{◌≡◌, ◌<◌, ◌≤◌, []};
+ghost use Rattle.frame_word.specs.Seats.{IsOpen, IsShut, IsZoneSeat, NothingPasses, first_zone_view, first_cpu_view};
+ghost use Rattle.stock_word.specs.Stock.{IsMachine, account_of, first_machine, first_processor};
+ghost use Rattle.cpu_part.specs.Cpus.{IsIdle};
 
 use crate::{BootName, Cpu, Dropped, Fast, Tables};
-use frame_word::{Frame, FrameSeat, FrameWords, Get};
+use frame_word::{Frame, FrameSeat, FrameWords, Get, Put};
+use group_tree::fault::Fault;
 use std::alloc::{AllocError, Global};
 use std::marker::Brand;
 use std::process::Abort;
 use std::test::Fail;
+use std::thread::{Threads, join};
 use stock_word::{Stock, StockSeat, StockWords};
 
 // The tables of F frames and 2 processors, and all seats, as they are at first.
@@ -164,3 +167,90 @@ fn group_1_pays_and_is_drained(rt: HostRuntime) -> Result<(), Fail> {
     pays::<Brand>(&rt, rt.alloc(), parts);
     Ok(())
 }
+
+// Pins the frame so many times.
+fn pin<N: BootName>(rt: &impl Abort, tables: &Tables<N>, cpu: &mut Cpu<N>, frame: Frame, count: u64)
+    requires { frame < N.frames.frames }
+{
+    for _ in 0..count {
+        assert_eq!(rt; cpu.get(tables, frame), Ok(Get::Held));
+    }
+}
+
+// Takes all pins, which are so many, from their frames.
+fn unpin<N: BootName>(rt: &impl Abort, tables: &Tables<N>, cpu: &mut Cpu<N>, count: u64) {
+    for _ in 0..count {
+        let frame = cpu.first_pin().expect(rt, "a pin");
+        cpu.put(tables, frame);
+    }
+    assert!(rt; cpu.first_pin().is_none());
+}
+
+// Hands the oldest back frame over, and the zone collects it.
+fn take_last<N: BootName>(
+    tables: &Tables<N>,
+    zone: &mut FrameSeat,
+    cpu: &mut Cpu<N>,
+) -> Option<Frame>
+    requires zone { IsZoneSeat N.frames zone.old × IsOpen zone.old cpu.old.number }
+    requires still { NothingPasses N.frames zone.old cpu.old.seat }
+{
+    let frame = cpu.hand_back(tables, zone)?;
+    cpu.collect(tables, zone, frame);
+    Some(frame)
+}
+
+// 256 pins on two frames, of which the zone has a reference each; then 255 pins and a back frame.
+fn pins_run_out<N: BootName>(rt: &impl Abort, alloc: Global, parts: Parts<8>)
+    requires { (parts.frames ≡ N.frames) × (parts.stocks ≡ N.stocks) }
+{
+    let Parts {
+        frames,
+        stocks,
+        mut zone,
+        machine: _,
+        seats,
+        payers,
+    } = parts;
+    let tables = Tables::<N>::new(frames, stocks);
+    let mut cpu = Cpu::<N>::new(alloc, seats.0, payers.0).expect(rt, "memory");
+    let one = tables.frames.frame(1).expect(rt, "frame 1");
+    let other = tables.frames.frame(2).expect(rt, "frame 2");
+    let unused = tables.frames.frame(3).expect(rt, "frame 3");
+    let third = tables.frames.frame(4).expect(rt, "frame 4");
+    tables.frames.unfreeze(&mut zone, one, 1);
+    tables.frames.unfreeze(&mut zone, other, 1);
+    tables.frames.unfreeze(&mut zone, third, 1);
+    pin(rt, &tables, &mut cpu, one, 128);
+    pin(rt, &tables, &mut cpu, other, 128);
+    assert_eq!(rt; cpu.pins(), 256);
+    assert_eq!(rt; cpu.get(&tables, one), Err(Fault::PinsFull));
+    assert_eq!(rt; cpu.get(&tables, unused), Err(Fault::PinsFull));
+    assert!(rt; cpu.holds(one));
+    unpin(rt, &tables, &mut cpu, 256);
+    pin(rt, &tables, &mut cpu, one, 1);
+    assert_eq!(rt; tables.frames.put(&mut zone, one), Put::Left(1));
+    assert!(rt; cpu.holds(one));
+    assert_eq!(rt; cpu.put(&tables, one), Put::Last);
+    assert_eq!(rt; cpu.back_len(), 1);
+    pin(rt, &tables, &mut cpu, other, 254);
+    assert_eq!(rt; cpu.get(&tables, unused), Ok(Get::Zero));
+    pin(rt, &tables, &mut cpu, third, 1);
+    assert_eq!(rt; cpu.get(&tables, third), Err(Fault::PinsFull));
+    assert_eq!(rt; cpu.number(), 1);
+    cpu.open(&tables, &mut zone);
+    let back = take_last(&tables, &mut zone, &mut cpu);
+    assert_eq!(rt; back, Some(one));
+    unpin(rt, &tables, &mut cpu, 255);
+    assert!(rt; cpu.is_idle());
+    let _ = cpu.into_seats();
+    let _ = tables.into_tables();
+}
+
+#[test]
+fn pins_are_full_at_256(rt: HostRuntime) -> Result<(), Fail> {
+    let parts = make_parts::<8>(&rt, rt.alloc())?;
+    pins_run_out::<Brand>(&rt, rt.alloc(), parts);
+    Ok(())
+}
+
