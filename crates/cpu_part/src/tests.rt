@@ -254,3 +254,128 @@ fn pins_are_full_at_256(rt: HostRuntime) -> Result<(), Fail> {
     Ok(())
 }
 
+// Processor 1 takes and drops a page of group 1 so many times, and tells how often the page came back.
+fn rounds<N: BootName>(tables: &Tables<N>, cpu: &mut Cpu<N>) -> u64 {
+    let mut listed = 0;
+    for _ in 0..1000u64 {
+        if let Fast::Got(frame) = cpu.alloc_fast(tables, 1) {
+            if cpu.drop_fresh(tables, frame) == Dropped::Listed {
+                listed += 1;
+            }
+        }
+    }
+    listed
+}
+
+// Another processor gets and puts a frame so many times, and tells whether a put was the last.
+fn visits<N: BootName>(tables: &Tables<N>, cpu: &mut Cpu<N>, frame: Frame) -> bool
+    requires { frame < N.frames.frames }
+{
+    let mut last = false;
+    for _ in 0..1000u64 {
+        if let Ok(Get::Held) = cpu.get(tables, frame) {
+            if cpu.put(tables, frame) == Put::Last {
+                last = true;
+            }
+        }
+    }
+    last
+}
+
+// What the two threads of the next test did: pages that came back, and whether a put was the last.
+fn beside<N: BootName + Send + Sync, R: Threads + Sync>(
+    rt: &R,
+    tables: &Tables<N>,
+    first: &mut Cpu<N>,
+    second: &mut Cpu<N>,
+    frame: Frame,
+) -> (u64, bool)
+    requires { frame < N.frames.frames }
+{
+    join(
+        rt,
+        || rounds(tables, first),
+        || visits(tables, second, frame),
+    )
+}
+
+// Processor 1 takes and drops a page beside the pins of processor 2 on a frame in use.
+fn works_beside<N: BootName + Send + Sync, R: Threads + Abort + Sync>(
+    rt: &R,
+    alloc: Global,
+    parts: Parts<8>,
+)
+    requires { (parts.frames ≡ N.frames) × (parts.stocks ≡ N.stocks) }
+{
+    let Parts {
+        frames,
+        stocks,
+        mut zone,
+        mut machine,
+        seats,
+        payers,
+    } = parts;
+    let tables = Tables::<N>::new(frames, stocks);
+    let mut first = Cpu::<N>::new(alloc, seats.0, payers.0).expect(rt, "memory");
+    let mut second = Cpu::<N>::new(alloc, seats.1, payers.1).expect(rt, "memory");
+    let used = tables.frames.frame(5).expect(rt, "frame 5");
+    let listed = tables.frames.frame(6).expect(rt, "frame 6");
+    tables.frames.unfreeze(&mut zone, used, 1);
+    first.open(&tables, &mut zone);
+    tables.frames.pass_out(&mut zone, listed, 1);
+    first.accept(&tables, &mut zone, listed);
+    first.fill(&tables, &mut machine, 1, 4);
+    first.shut(&tables, &mut zone);
+    let (back, last) = beside(rt, &tables, &mut first, &mut second, used);
+    assert_eq!(rt; back, 1000);
+    assert!(rt; !last);
+    assert_eq!(rt; first.drops(), 1000);
+    assert_eq!(rt; first.number(), 1);
+    assert_eq!(rt; tables.stocks.drain(&mut machine, 1), 4);
+    first.open(&tables, &mut zone);
+    let front = take_back(&tables, &mut zone, &mut first);
+    assert_eq!(rt; front, Some(listed));
+    first.shut(&tables, &mut zone);
+    assert!(rt; first.is_idle());
+    assert!(rt; second.is_idle());
+    ends(rt, alloc, tables, (zone, machine), (first, second), used);
+}
+
+#[test]
+fn drops_beside_pins(rt: HostRuntime) -> Result<(), Fail> {
+    let parts = make_parts::<8>(&rt, rt.alloc())?;
+    works_beside::<Brand, _>(&rt, rt.alloc(), parts);
+    Ok(())
+}
+
+// The closed words: the frame in use has the zone's reference, every other frame none; no stock has a page.
+fn ends<N: BootName>(
+    rt: &impl Abort,
+    alloc: Global,
+    tables: Tables<N>,
+    zone: (FrameSeat, StockSeat),
+    cpus: (Cpu<N>, Cpu<N>),
+    used: Frame,
+)
+    requires zone { (zone.0.table ≡ N.frames.table) × (zone.1.table ≡ N.stocks.table) × IsMachine zone.1.view }
+    requires idle { IsIdle cpus.0 × IsIdle cpus.1 }
+    requires sizes { (N.frames.frames ≡ 8) × (N.frames.cpus ≡ 2) × (N.stocks.cpus ≡ 2) }
+    requires used { used < 8 }
+{
+    let (first, second) = cpus;
+    let (frames, stocks) = tables.into_tables();
+    let (first_seat, first_payer) = first.into_seats();
+    let (second_seat, second_payer) = second.into_seats();
+    let mut seats = Vec::new(alloc);
+    seats.push(first_seat).expect(rt, "memory");
+    seats.push(second_seat).expect(rt, "memory");
+    let mut payers = Vec::new(alloc);
+    payers.push(first_payer).expect(rt, "memory");
+    payers.push(second_payer).expect(rt, "memory");
+    let words = frames.close(zone.0, seats);
+    assert_eq!(rt; words.word(used), 1);
+    let books = stocks.close(zone.1, payers);
+    assert_eq!(rt; books.stock(1), Stock::DrainedOf { group: 1 });
+    assert_eq!(rt; books.reported(1), 0);
+}
+
