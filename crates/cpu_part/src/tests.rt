@@ -1,6 +1,6 @@
 //! Worked rows: what the answers are when calls of processors meet, which no clause says.
-ghost use Rattle.std.specs.Prelude.{◌≡◌, ◌<◌, ◌≤◌, []};
-ghost use Rattle.frame_word.specs.Seats.{IsOpen, IsShut, IsZoneSeat, NothingPasses, first_zone_view, first_cpu_view};
+ghost use Rattle.std.specs.Prelude.{◌≡◌, ◌≢◌, ◌+◌, ◌<◌, ◌≤◌, ℕ, [], length};
+ghost use Rattle.frame_word.specs.Seats.{IsInOwnHand, IsOpen, IsShut, IsZoneSeat, NothingPasses, first_zone_view, first_cpu_view};
 ghost use Rattle.stock_word.specs.Stock.{IsMachine, account_of, first_machine, first_processor};
 ghost use Rattle.cpu_part.specs.Cpus.{IsIdle};
 
@@ -379,3 +379,99 @@ fn ends<N: BootName>(
     assert_eq!(rt; books.reported(1), 0);
 }
 
+// Gives a frame of the zone's hand to a processor whose visit is open.
+fn give<N: BootName>(tables: &Tables<N>, zone: &mut FrameSeat, cpu: &mut Cpu<N>, frame: Frame)
+    requires zone { IsZoneSeat N.frames zone.old × IsOpen zone.old cpu.old.number }
+    requires still { NothingPasses N.frames zone.old cpu.old.seat }
+    requires frame { (frame < N.frames.frames) × IsInOwnHand zone.old frame }
+    requires room { length cpu.old.list + length cpu.old.fresh < 256 }
+    ensures zone { IsZoneSeat N.frames zone.new × IsOpen zone.new cpu.new.number }
+    ensures still { NothingPasses N.frames zone.new cpu.new.seat }
+    ensures others { (k : ℕ) → k ≢ frame → IsInOwnHand zone.old k → IsInOwnHand zone.new k }
+    ensures number { cpu.new.number ≡ cpu.old.number }
+    ensures list { (length cpu.new.list ≡ length cpu.old.list + 1) × (cpu.new.fresh ≡ cpu.old.fresh) }
+{
+    let number = cpu.number();
+    tables.frames.pass_out(zone, frame, number);
+    cpu.accept(tables, zone, frame);
+}
+
+// Gives the frames 0 to 32 to processor 1, which has none.
+fn give_33<N: BootName>(rt: &impl Abort, tables: &Tables<N>, zone: &mut FrameSeat, cpu: &mut Cpu<N>)
+    requires frames { 33 ≤ N.frames.frames }
+    requires zone { IsZoneSeat N.frames zone.old × (zone.old.view ≡ first_zone_view N.frames.frames) }
+    requires cpu { (cpu.old.number ≡ 1) × (cpu.old.list ≡ []) × (cpu.old.fresh ≡ []) }
+    ensures zone { IsZoneSeat N.frames zone.new }
+    ensures shut { IsShut zone.new 1 }
+{
+    cpu.open(tables, zone);
+    for n in 0..33u32 {
+        let frame = tables.frames.frame(n).expect(rt, "a frame");
+        give(tables, zone, cpu, frame);
+    }
+    cpu.shut(tables, zone);
+}
+
+// Takes so many frames for group 1.
+fn take<N: BootName>(rt: &impl Abort, tables: &Tables<N>, cpu: &mut Cpu<N>, count: u32) {
+    for n in 0..count {
+        let frame = tables.frames.frame(n).expect(rt, "a frame");
+        assert_eq!(rt; cpu.alloc_fast(tables, 1), Fast::Got(frame));
+    }
+}
+
+// Drops the frames below this number, which are fresh.
+fn drop_all<N: BootName>(rt: &impl Abort, tables: &Tables<N>, cpu: &mut Cpu<N>, count: u32) {
+    for n in 0..count {
+        let frame = tables.frames.frame(n).expect(rt, "a frame");
+        assert!(rt; cpu.has_fresh(frame));
+        assert_eq!(rt; cpu.drop_fresh(tables, frame), Dropped::Listed);
+    }
+}
+
+// Hands over all listed frames, and the zone collects them.
+fn give_back<N: BootName>(tables: &Tables<N>, zone: &mut FrameSeat, cpu: &mut Cpu<N>)
+    requires { IsZoneSeat N.frames zone.old × IsShut zone.old cpu.old.number }
+{
+    cpu.open(tables, zone);
+    for _ in 0..256u64 {
+        take_back(tables, zone, cpu);
+    }
+}
+
+// 33 frames are listed and 32 of them become fresh, but not the last.
+fn fresh_runs_out<N: BootName>(rt: &impl Abort, alloc: Global, parts: Parts<40>)
+    requires { (parts.frames ≡ N.frames) × (parts.stocks ≡ N.stocks) }
+{
+    let Parts {
+        frames,
+        stocks,
+        mut zone,
+        mut machine,
+        seats,
+        payers,
+    } = parts;
+    let tables = Tables::<N>::new(frames, stocks);
+    let mut cpu = Cpu::<N>::new(alloc, seats.0, payers.0).expect(rt, "memory");
+    assert_eq!(rt; cpu.alloc_fast(&tables, 1), Fast::ListEmpty);
+    cpu.fill(&tables, &mut machine, 1, 40);
+    give_33(rt, &tables, &mut zone, &mut cpu);
+    take(rt, &tables, &mut cpu, 32);
+    assert_eq!(rt; cpu.alloc_fast(&tables, 1), Fast::FreshFull);
+    assert_eq!(rt; cpu.fresh_len(), 32);
+    drop_all(rt, &tables, &mut cpu, 32);
+    assert_eq!(rt; cpu.list_len(), 33);
+    assert_eq!(rt; cpu.drops(), 32);
+    assert_eq!(rt; cpu.number(), 1);
+    give_back(&tables, &mut zone, &mut cpu);
+    assert!(rt; cpu.is_idle());
+    let _ = cpu.into_seats();
+    let _ = tables.into_tables();
+}
+
+#[test]
+fn fresh_frames_are_full_at_32(rt: HostRuntime) -> Result<(), Fail> {
+    let parts = make_parts::<40>(&rt, rt.alloc())?;
+    fresh_runs_out::<Brand>(&rt, rt.alloc(), parts);
+    Ok(())
+}
