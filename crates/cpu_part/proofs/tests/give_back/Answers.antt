@@ -1,4 +1,4 @@
-use Rattle.std.proofs.Common.{◌≡◌, ℕ, get_or, refl, ap, ◌∙◌}
+use Rattle.std.proofs.Common.{ℕ, get_or, refl, ap, ◌∙◌}
 use Rattle.frame_word.specs.Seats.{KnownSeat, number_of}
 use Rattle.frame_word.proofs.CallerLemmas.{put_here}
 use Rattle.cpu_part.specs.Cpus.{KnownCpu}
