@@ -1,5 +1,5 @@
 -- The answers of the calls, from what the calls below told. The part before is seen in two ways, which are equal.
-use Rattle.std.proofs.Common.{◌≡◌, ◌≢◌, ℕ, ◌+◌, ◌-◌, ◌^◌, ◌<◌, ◌≤◌, List, [], ◌∷◌, ◌++◌, length, get_or, refl, subst}
+use Rattle.std.proofs.Common.{◌≡◌, ◌≢◌, ℕ, ◌+◌, ◌-◌, ◌^◌, ◌<◌, List, [], ◌∷◌, ◌++◌, length, get_or, refl, subst}
 use Rattle.std.specs.Prelude.{min, remove}
 use Rattle.frame_word.specs.declared.answers.Get.{Get}
 use Rattle.frame_word.specs.declared.answers.Get.TheVariants.{Held, Zero, Raced, Full}

@@ -1,8 +1,7 @@
 -- What a caller of the visit's calls reads from their answers: which frames pass, and that afterwards nothing passes again.
-use Rattle.std.proofs.Common.{◌≡◌, ◌≢◌, ℕ, ◌+◌, ◌<◌, get_or, sym, ap, ◌∙◌, subst, inl, inr, arith}
+use Rattle.std.proofs.Common.{◌≡◌, ℕ, ◌+◌, ◌<◌, get_or, sym, ap, ◌∙◌, subst, inl, inr, arith}
 use Rattle.std.proofs.lemmas.Bool.Decides.{eqb_tells}
 use Rattle.frame_word.specs.declared.view.FrameNote.{FrameNote}
-use Rattle.frame_word.specs.declared.view.FrameView.{FrameView}
 use Rattle.frame_word.specs.Views.{note_of, changed, begun, ended, passed_out_to, took_in, gave_back, collected_from}
 use Rattle.frame_word.specs.Seats.{KnownTable, KnownSeat, number_of, Passes, NothingPasses, seat_with}
 use Rattle.frame_word.proofs.Notes.{put_here, note_here, note_else}

@@ -1,9 +1,9 @@
 -- How often a frame stands in a list that grew, shrank or was parted.
-use Rattle.std.proofs.Common.{◌≡◌, ◌≢◌, ℕ, ◌+◌, ◌<◌, ◌≤◌, List, [], ◌∷◌, ◌++◌, length, get_or, cond, eqb, sym, refl, ap, ◌∙◌, subst, eq-eqb, ne_eqb, arith}
+use Rattle.std.proofs.Common.{◌≡◌, ◌≢◌, ℕ, ◌+◌, ◌<◌, List, [], ◌∷◌, ◌++◌, length, get_or, cond, eqb, sym, refl, ap, ◌∙◌, subst, eq-eqb, ne_eqb, arith}
 use Rattle.std.proofs.lemmas.List.Sums.{sum_by-cons, sum_by_push, sum_by-remove}
 use Rattle.std.proofs.lemmas.List.{get_or_default}
 use Rattle.std.proofs.lemmas.List.Sorted.{sum_by-IsPermutation, IsPermutation-swap_remove}
-use Rattle.std.specs.Prelude.{sum_by, remove, IsPermutation}
+use Rattle.std.specs.Prelude.{remove, IsPermutation}
 use Rattle.std.specs.List.{swap_remove}
 use Rattle.cpu_part.specs.Cpus.{times}
 

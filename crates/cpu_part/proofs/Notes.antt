@@ -1,11 +1,11 @@
 -- What the seat notes of the frames, after a change of the note of one and of what the lists have of it.
-use Rattle.std.proofs.Common.{◌≡◌, ◌≢◌, ◌⊎◌, ℕ, ◌+◌, ◌<◌, ◌≤◌, List, [], ◌∷◌, ◌++◌, length, get_or, sym, refl, ap, ◌∙◌, subst, inl, inr, arith}
+use Rattle.std.proofs.Common.{◌≡◌, ◌≢◌, ℕ, ◌+◌, ◌<◌, ◌≤◌, List, [], ◌∷◌, ◌++◌, length, get_or, sym, refl, ap, ◌∙◌, subst, inl, inr, arith}
 use Rattle.std.proofs.lemmas.Bool.{cases_lt}
 use Rattle.std.proofs.lemmas.Bool.Decides.{eqb_tells}
 use Rattle.std.specs.Prelude.{remove, IsPermutation}
 use Rattle.frame_word.specs.declared.view.FrameNote.{FrameNote}
 use Rattle.frame_word.specs.declared.view.FrameView.{FrameView}
-use Rattle.frame_word.specs.Views.{note_of, changed, in_hands, looked, held, raced, let_go, let_go_last, took_in, gave_back}
+use Rattle.frame_word.specs.Views.{note_of, changed, in_hands, looked, held, let_go, let_go_last, took_in, gave_back}
 use Rattle.frame_word.proofs.Notes.{note_here, note_else}
 use Rattle.cpu_part.specs.Cpus.{times, IsNoted, AreNoted}
 use Rattle.cpu_part.proofs.Counts.{test, test_here, test_other, times_front, times_end, times_without, times_parted}

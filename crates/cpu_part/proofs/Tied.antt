@@ -1,17 +1,17 @@
 -- What always holds of a processor's part still holds after each change of its lists and its seats.
-use Rattle.std.proofs.Common.{◌≡◌, ◌≢◌, ◌⊎◌, ℕ, ◌+◌, ◌-◌, ◌<◌, ◌≤◌, List, [], ◌∷◌, ◌++◌, length, sym, refl, ap, ◌∙◌, subst, inl, inr, arith, length-append}
+use Rattle.std.proofs.Common.{◌≡◌, ◌≢◌, ◌⊎◌, ℕ, ◌+◌, ◌<◌, List, [], ◌∷◌, ◌++◌, length, sym, refl, ap, ◌∙◌, subst, inl, inr, arith, length-append}
 use Rattle.std.specs.Prelude.{IsPermutation}
 use Rattle.std.proofs.lemmas.List.Sorted.{length_permutation}
 use Rattle.frame_word.specs.declared.view.FrameNote.{FrameNote}
 use Rattle.frame_word.specs.declared.answers.Get.{Get}
 use Rattle.frame_word.specs.declared.answers.Get.TheVariants.{Held, Zero, Raced, Full}
-use Rattle.frame_word.specs.declared.answers.Put.TheVariants.{Left, Last}
+use Rattle.frame_word.specs.declared.answers.Put.TheVariants.{Left}
 use Rattle.frame_word.specs.Views.{note_of, in_hands, looked, held, raced, let_go, let_go_last, took_in, gave_back}
 use Rattle.frame_word.specs.Seats.{KnownTable, KnownSeat, seat_with, GetAnswers, PutAnswers}
 use Rattle.stock_word.specs.Stock.{Words, Seated}
 use Rattle.stock_word.specs.Kinds.{after_report}
 use Rattle.stock_word.specs.Calls.{with_view}
-use Rattle.cpu_part.specs.Cpus.{KnownCpu, AreItsSeats, AreWithin, IsTied, times}
+use Rattle.cpu_part.specs.Cpus.{KnownCpu, AreItsSeats, IsTied, times}
 use Rattle.cpu_part.proofs.Counts.{test_here, times_front}
 use Rattle.cpu_part.proofs.Notes.{frame_inside, noted_looked, noted_accepted, noted_front_handed, noted_fresh_handed, noted_back_handed, noted_pinned}
 use Rattle.cpu_part.proofs.Notes.{noted_unpinned, noted_last_unpinned}

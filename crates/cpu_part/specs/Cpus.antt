@@ -1,10 +1,10 @@
 -- What a contract sees of a processor's part, and what always holds of it.
-use Rattle.std.specs.Prelude.{◌≡◌, ℕ, ◌+◌, ◌<◌, ◌≤◌, ◌==◌, if◌then◌else◌, List, [], length, sum_by}
+use Rattle.std.specs.Prelude.{◌≡◌, ℕ, ◌+◌, ◌≤◌, ◌==◌, if◌then◌else◌, List, [], length, sum_by}
 use Rattle.atomic_table.specs.Seated.{TableId}
 use Rattle.frame_word.specs.declared.view.FrameNote.{FrameNote}
 use Rattle.frame_word.specs.declared.view.FrameView.{FrameView}
 use Rattle.frame_word.specs.Views.{note_of}
-use Rattle.frame_word.specs.Seats.{KnownTable, KnownSeat, number_of, first_cpu_view}
+use Rattle.frame_word.specs.Seats.{KnownTable, KnownSeat, number_of}
 use Rattle.stock_word.specs.Stock.{Words, Seated}
 
 -- the tables of no boot: no frame, no processor

@@ -1,4 +1,4 @@
-use Rattle.std.proofs.Common.{rules, inl, inr}
+use Rattle.std.proofs.Common.{rules, inr}
 use Rattle.cpu_part.proofs.Tied.{tied_back_handed, front_inside}
 use Rattle.cpu_part.proofs.cpu.Cpu.hand_back.Goals as goal
 

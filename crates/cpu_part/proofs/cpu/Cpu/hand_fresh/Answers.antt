@@ -1,5 +1,4 @@
-use Rattle.std.proofs.Common.{◌≡◌, ◌<◌, ◌∷◌, length, rules, arith, inl, inr, ap, ◌∙◌}
-use Rattle.frame_word.specs.Seats.{KnownTable}
+use Rattle.std.proofs.Common.{◌<◌, length, rules, inl, inr}
 use Rattle.cpu_part.proofs.Counts.{front_removed}
 use Rattle.cpu_part.proofs.Tied.{tied_fresh_handed, front_inside}
 use Rattle.cpu_part.proofs.cpu.Cpu.hand_fresh.Goals as goal

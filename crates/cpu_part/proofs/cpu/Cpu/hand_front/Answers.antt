@@ -1,4 +1,4 @@
-use Rattle.std.proofs.Common.{rules, inl, inr}
+use Rattle.std.proofs.Common.{rules, inl}
 use Rattle.cpu_part.proofs.Tied.{tied_front_handed, front_inside}
 use Rattle.cpu_part.proofs.cpu.Cpu.hand_front.Goals as goal
 
