@@ -76,7 +76,7 @@ pub elsewhere_same : (before after : List Link) (home there : Home) (q : Queue) 
 elsewhere_same before after home there q xs unit l stays ne away f i =
     let h : (link_at before f).home ≡ Some there = l.homes f i in
     stays f (λ e. away (subst (λ (v : ℕ). (link_at before v).home ≡ Some there) e h))
-        (λ k. let j : Some there ≡ Some home = sym h ∙ k in ne (let w : home ≡ there = cc in w))
+    (λ k. let j : Some there ≡ Some home = sym h ∙ k in ne (let w : home ≡ there = cc in w))
 
 pub elsewhere_linked : (before after : List Link) (home there : Home) (q : Queue) (xs : List ℕ) (unit : ℕ) → IsLinked before there q xs
     → StaysElsewhere before after home unit → SameUse before after unit → home ≢ there
@@ -146,14 +146,14 @@ other_entries before after lru list m unit stands ne stays used b a =
     ap (λ (ys : List ℕ). map (entry_of after) ys)
     (units_are after (home_of lru m) (queue_of lru m) xs (other_linked before after lru list m unit stands ne stays used b a))
     ∙ entries_same before after xs (λ f i. ap
-        (λ (k : Link). let e : Entry = record { number = f; is_marked = k.is_marked; is_dirty = k.is_dirty } in e) (same f i))
+    (λ (k : Link). let e : Entry = record { number = f; is_marked = k.is_marked; is_dirty = k.is_dirty } in e) (same f i))
 
 -- both lists stand after a change of one of them
 pub stands_after : (before after : List Link) (lru : Lru) (list : LruList) (q : Queue) (unit : ℕ) → StandsIn before lru
     → IsLinked after (home_of lru list) q (units_of after q)
     → StaysElsewhere before after (home_of lru list) unit → SameUse before after unit
     → ((m : LruList) → m ≢ list → (link_at before unit).home ≢ Some (home_of lru m)) →
-        ((m : LruList) → m ≢ list → (link_at after unit).home ≢ Some (home_of lru m))
+    ((m : LruList) → m ≢ list → (link_at after unit).home ≢ Some (home_of lru m))
     → StandsIn after (with_queue lru list q)
 stands_after before after lru list q unit stands linked stays used b a m = elim (cases_list m list) [
   | inl e ↦ rw (e, home_same lru list list q, queue_same lru list q) linked
@@ -188,7 +188,7 @@ pushed_entries before after lru list q unit older stands away units at used =
     let out : (link_at before unit).home ≢ Some (home_of lru list) = λ e. let k : None ≡ Some (home_of lru list) = sym away ∙ e in cc in
     let old : map (entry_of after) xs ≡ map (entry_of before) xs =
     entries_same before after xs (λ f i. entries_kept before after unit used f
-        (among_other before (home_of lru list) (queue_of lru list) xs unit f (stands list) out i)) in
+    (among_other before (home_of lru list) (queue_of lru list) xs unit f (stands list) out i)) in
     let new : entry_of after unit ≡ marked false (entry_of before unit) =
     ap (λ (k : Link). let e : Entry = record { number = unit; is_marked = k.is_marked; is_dirty = k.is_dirty } in e) at in
     rw (queue_same lru list q, units, map-append (entry_of after) xs (unit ∷ []), old, new) refl
@@ -424,7 +424,7 @@ remarked_map links unit k change (x ∷ xs) lt e =
           let t : (x == unit) ≡ true = eq-eqb x unit q in
           let s : entry_of (slice_set links unit k) x ≡ change (entry_of links x) =
           rw q (ap (λ (v : Link). let w : Entry = record { number = unit; is_marked = v.is_marked; is_dirty = v.is_dirty } in w)
-              (set_same links unit k lt) ∙ e) in
+          (set_same links unit k lt) ∙ e) in
           rw t (cc)
       | inr n ↦
           let t : (x == unit) ≡ false = ne_eqb x unit n in

@@ -227,7 +227,7 @@ pub out_others : (links : List Link) (home : Home) (q : Queue) (unit : ℕ) → 
 out_others links home q unit l h =
     let i : is_among (units_of links q) unit ≡ true = l.at_home unit h in
     unlink_others links home q (units_of links q) unit (link_at links unit).older (link_at links unit).newer (link_at links unit) l (l.older unit i)
-        (l.newer unit i)
+    (l.newer unit i)
 
 -- a neighbour that a record tells is a frame
 pub some_within : (links : List Link) (home : Home) (q : Queue) (xs : List ℕ) (o : Option ℕ) → IsLinked links home q xs

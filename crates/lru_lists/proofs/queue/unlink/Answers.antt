@@ -34,4 +34,4 @@ pub returns-clause-used : goal.returns-clause-used
 returns-clause-used c =
     rw (c.set_older.ensures, c.set_newer.ensures)
     (unlink_use c.args.links.now c.args.unit (link_at c.args.links.now c.args.unit).older (link_at c.args.links.now c.args.unit).newer
-        (link_at c.args.links.now c.args.unit))
+    (link_at c.args.links.now c.args.unit))

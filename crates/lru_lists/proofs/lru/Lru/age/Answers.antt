@@ -11,9 +11,9 @@ loop-self-smaller c =
     let d = c.demote.ensures in
     let inv = c.loop-self.invariant in
     let e1 : c.demote.new.self.active.length ≡ length (active_of c.demote.new.links c.demote.new.self) = len_is c.demote.new.links c.demote.new.self
-        d.stands Active in
+    d.stands Active in
     let e2 : c.loop-self.self.active.length ≡ length (active_of c.loop-self.links c.loop-self.self) = len_is c.loop-self.links c.loop-self.self
-        inv.stands Active in
+    inv.stands Active in
     let e3 : length (active_of c.demote.new.links c.demote.new.self) ≡ length (active_of c.loop-self.links c.loop-self.self) - 1 =
     ap length d.active ∙ length-drop 1 (active_of c.loop-self.links c.loop-self.self) in
     let t : c.loop-self.self.inactive.length < c.loop-self.self.active.length = c.loop-self-test.true in
@@ -26,9 +26,9 @@ loop-self-preserved c =
     let k : ℕ = inv.moved.0 in
     let a0 = active_of c.args.links.now c.args.self.now in
     let e1 : c.loop-self.self.inactive.length ≡ length (inactive_of c.loop-self.links c.loop-self.self) = len_is c.loop-self.links c.loop-self.self
-        inv.stands Inactive in
+    inv.stands Inactive in
     let e2 : c.loop-self.self.active.length ≡ length (active_of c.loop-self.links c.loop-self.self) = len_is c.loop-self.links c.loop-self.self
-        inv.stands Active in
+    inv.stands Active in
     let e3 : length (active_of c.loop-self.links c.loop-self.self) ≡ length a0 - k = ap length inv.moved.2 ∙ length-drop k a0 in
     let t : c.loop-self.self.inactive.length < c.loop-self.self.active.length = c.loop-self-test.true in
     let lt : k < length a0 = omega arith in

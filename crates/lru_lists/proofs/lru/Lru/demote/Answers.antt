@@ -15,14 +15,14 @@ pub unwrap-oldest-requires : goal.unwrap-oldest-requires
 unwrap-oldest-requires c =
     let l = c.requires.stands Active in
     unless_none c.args.self.now.active.oldest
-        (λ e. some_oldest (units_of c.args.links.now c.args.self.now.active) (omega (arith, l.count, c.requires.some)) (sym l.oldest ∙ e))
+    (λ e. some_oldest (units_of c.args.links.now c.args.self.now.active) (omega (arith, l.count, c.requires.some)) (sym l.oldest ∙ e))
 
 pub move_to-requires-clause-frame : goal.move_to-requires-clause-frame
 move_to-requires-clause-frame c =
     let l = c.requires.stands Active in
     let xs : List ℕ = units_of c.args.links.now c.args.self.now.active in
     within c.args.links.now (home_of c.args.self.now Active) c.args.self.now.active xs c.unwrap-oldest.result l
-        ((oldest_first xs c.unwrap-oldest.result (sym l.oldest ∙ c.unwrap-oldest.ensures)).2)
+    ((oldest_first xs c.unwrap-oldest.result (sym l.oldest ∙ c.unwrap-oldest.ensures)).2)
 
 pub move_to-requires-clause-on : goal.move_to-requires-clause-on
 move_to-requires-clause-on c e =
@@ -30,7 +30,7 @@ move_to-requires-clause-on c e =
     let xs : List ℕ = units_of c.args.links.now c.args.self.now.active in
     let i = (oldest_first xs c.unwrap-oldest.result (sym l.oldest ∙ c.unwrap-oldest.ensures)).2 in
     let k : list_of c.args.links.now c.args.self.now.owner c.unwrap-oldest.result ≡ Some Active = list_at_home c.args.links.now c.args.self.now Active
-        c.unwrap-oldest.result (l.homes c.unwrap-oldest.result i) in
+    c.unwrap-oldest.result (l.homes c.unwrap-oldest.result i) in
     let j : Some Active ≡ None = sym k ∙ e in
     cc
 
@@ -45,8 +45,11 @@ returns-clause-inactive c =
     let away : (link_at c.args.links.now c.unwrap-oldest.result).home ≢ Some (home_of c.args.self.now Inactive) =
     λ h. let k : Some (home_of c.args.self.now Active) ≡ Some (home_of c.args.self.now Inactive) = sym there ∙ h in
     homes_differ c.args.self.now Active Inactive ne (let w : home_of c.args.self.now Active ≡ home_of c.args.self.now Inactive = cc in w) in
-    rw (c.move_to.ensures.gained, other_lacks c.args.links.now c.args.self.now Inactive c.unwrap-oldest.result c.requires.stands away,
-        (entries_first c.args.links.now c.unwrap-oldest.result xs first).1) refl
+    rw (
+      c.move_to.ensures.gained,
+      other_lacks c.args.links.now c.args.self.now Inactive c.unwrap-oldest.result c.requires.stands away,
+      (entries_first c.args.links.now c.unwrap-oldest.result xs first).1,
+    ) refl
 
 pub returns-clause-active : goal.returns-clause-active
 returns-clause-active c =

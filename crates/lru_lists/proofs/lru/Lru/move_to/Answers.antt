@@ -7,7 +7,7 @@ pub returns-clause-gained : goal.returns-clause-gained
 returns-clause-gained c =
     let out = pulled_each c.args.links.now c.pull.new.links c.args.self.now c.pull.new.self c.list-from.result c.args.unit c.requires.stands
     (home_of_list (link_at c.args.links.now c.args.unit).home c.args.self.now c.list-from.result c.list-from.ensures) c.pull.ensures.entries
-        c.pull.ensures.other c.args.list in
+    c.pull.ensures.other c.args.list in
     rw (c.push.ensures.entries, out, entry_unlinked c.args.links.now c.pull.new.links c.args.unit c.pull.ensures.unit) refl
 
 pub returns-clause-lost : goal.returns-clause-lost
@@ -15,4 +15,4 @@ returns-clause-lost c m ne =
     c.push.ensures.other m ne
     ∙ pulled_each c.args.links.now c.pull.new.links c.args.self.now c.pull.new.self c.list-from.result c.args.unit c.requires.stands
     (home_of_list (link_at c.args.links.now c.args.unit).home c.args.self.now c.list-from.result c.list-from.ensures) c.pull.ensures.entries
-        c.pull.ensures.other m
+    c.pull.ensures.other m

@@ -10,7 +10,7 @@ entry-requires c =
     let p = some_list (list_of c.args.links.now c.args.self.now.owner c.args.unit) c.requires.on in
     rw c.link.ensures
     (newer_frame c.args.links.now (home_of c.args.self.now p.0) (queue_of c.args.self.now p.0) c.args.unit (c.requires.stands p.0)
-        (home_of_list (link_at c.args.links.now c.args.unit).home c.args.self.now p.0 p.1))
+    (home_of_list (link_at c.args.links.now c.args.unit).home c.args.self.now p.0 p.1))
 
 pub returns : goal.returns
 returns c list h =

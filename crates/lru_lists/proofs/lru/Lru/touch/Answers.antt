@@ -8,19 +8,24 @@ use Rattle.lru_lists.proofs.lru.Lru.touch.Goals as goal
 pub returns-then-is_marked_by_touch-clause-stands : goal.returns-then-is_marked_by_touch-clause-stands
 returns-then-is_marked_by_touch-clause-stands c =
     rw c.mark.ensures (remarked_stands c.args.links.now c.args.self.now c.args.unit
-        (record (link_at c.args.links.now c.args.unit) { is_marked = true }) c.requires.stands (refl, refl, refl))
+    (record (link_at c.args.links.now c.args.unit) { is_marked = true }) c.requires.stands (refl, refl, refl))
 
 pub returns-then-is_marked_by_touch-clause-touches : goal.returns-then-is_marked_by_touch-clause-touches
 returns-then-is_marked_by_touch-clause-touches c =
     let m = marks_true (list_of c.args.links.now c.args.self.now.owner c.args.unit) (link_at c.args.links.now c.args.unit).is_marked
-        (sym c.is_marked_by_touch.ensures ∙ c.if-is_marked_by_touch.true) in
+    (sym c.is_marked_by_touch.ensures ∙ c.if-is_marked_by_touch.true) in
     let there = home_of_list (link_at c.args.links.now c.args.unit).home c.args.self.now Inactive m.0 in
     let ne : Active ≢ Inactive = λ e. cc in
     let each = remarked_entries c.args.links.now c.args.self.now c.args.unit (record (link_at c.args.links.now c.args.unit) { is_marked = true })
-        (marked true) c.requires.stands
+    (marked true) c.requires.stands
     (refl, refl, refl) c.requires.frame refl in
-    rw c.mark.ensures (m.0, m.1, each Inactive, each Active ∙ other_unchanged c.args.links.now c.args.self.now Inactive Active c.args.unit
-        (marked true) c.requires.stands there ne)
+    rw c.mark.ensures (
+      m.0,
+      m.1,
+      each Inactive,
+      each Active ∙ other_unchanged c.args.links.now c.args.self.now Inactive Active c.args.unit
+          (marked true) c.requires.stands there ne,
+    )
 
 pub returns-else-is_marked_by_touch-clause-touches : goal.returns-else-is_marked_by_touch-clause-touches
 returns-else-is_marked_by_touch-clause-touches c =
