@@ -1,9 +1,8 @@
 //! Measures the words on this machine, in nanoseconds. It measures only where its command line asks
-//! for it, by the word `frames` or `stocks`: without a word it prints how to ask, so that its stored run never varies.
+//! for it, by the word `frames`: without a word it prints how to ask, so that its stored run never varies.
 #![tactic(auto)]
 
 mod frames;
-mod stocks;
 
 use std::env;
 
@@ -13,10 +12,7 @@ fn main(rt: HostRuntime) -> anyhow::Result<()> {
         if word.as_str() == "frames" {
             return frames::measure(&rt);
         }
-        if word.as_str() == "stocks" {
-            return stocks::measure(&rt);
-        }
     }
-    println!(rt; "usage: word_bench frames|stocks")?;
+    println!(rt; "usage: word_bench frames")?;
     Ok(())
 }
