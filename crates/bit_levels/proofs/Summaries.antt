@@ -1,5 +1,6 @@
 -- A set and its summary: for each call of `BitLevels`.
-use Rattle.std.proofs.Common.{◌≡◌, ◌≢◌, ℕ, ◌+◌, ◌-◌, ◌*◌, ◌/◌, ◌%◌, ◌<◌, ◌≤◌, ◌↔◌, ◌⊎◌, Bool, true, false, List, Option, Some, None, length, get_or, set, replicate, refl, sym, ap, ◌∙◌, subst, inl, inr, arith, length-set}
+use Rattle.std.proofs.Common.{◌≡◌, ◌≢◌, ℕ, ◌+◌, ◌-◌, ◌*◌, ◌/◌, ◌%◌, ◌<◌, ◌≤◌, ◌↔◌, ◌⊎◌, Bool, true, false, List, Option, Some, None, length}
+use Rattle.std.proofs.Common.{get_or, set, replicate, refl, sym, ap, ◌∙◌, subst, inl, inr, arith, length-set}
 use Rattle.std.specs.Option.{MatchOption}
 use Rattle.std.proofs.lemmas.List.{get_or_past, get_or-set_same, get_or-set_other, get_or-replicate, length-replicate}
 use Rattle.std.proofs.lemmas.Bool.{cases_lt, cases_eq, false≢true}
@@ -70,10 +71,12 @@ none_in_words : (lower upper : List Bool) → IsSummaryOf lower upper → (a b :
 none_in_words lower upper h a b none i from before is =
     none (i / 64) (omega arith) (omega arith) ((h.marks (i / 64)).1 record { number = i; from = omega arith; before = omega arith; there = is })
 
-pub none_below : (lower upper : List Bool) → IsSummaryOf lower upper → (n word : ℕ) → word ≡ n / 64 → HasNoneIn lower (word * 64) n → HasNoneIn upper 0 word → HasNoneIn lower 0 n
+pub none_below : (lower upper : List Bool) → IsSummaryOf lower upper → (n word : ℕ) → word ≡ n / 64
+    → HasNoneIn lower (word * 64) n → HasNoneIn upper 0 word → HasNoneIn lower 0 n
 none_below lower upper h n word e near none = joined_none lower 0 (word * 64) n (none_in_words lower upper h 0 word none) near
 
-pub last_below_is : (lower upper : List Bool) → IsSummaryOf lower upper → (n word w : ℕ) → word ≡ n / 64 → HasNoneIn lower (word * 64) n → IsLastIn upper 0 word w → (r : Option ℕ)
+pub last_below_is : (lower upper : List Bool) → IsSummaryOf lower upper → (n word w : ℕ) → word ≡ n / 64
+    → HasNoneIn lower (word * 64) n → IsLastIn upper 0 word w → (r : Option ℕ)
     → MatchOption r (HasNoneIn lower (w * 64) (w * 64 + 64)) (IsLastIn lower (w * 64) (w * 64 + 64)) → MatchOption r (HasNoneIn lower 0 n) (IsLastIn lower 0 n)
 last_below_is lower upper h n word w e near last None none = absurd (not_some lower (w * 64) (w * 64 + 64) none ((h.marks w).0 last.there))
 last_below_is lower upper h n word w e near last (Some y) is =

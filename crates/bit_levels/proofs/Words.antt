@@ -1,5 +1,7 @@
 -- The set that words of 64 bits tell: for each call of `Bits`.
-use Rattle.std.proofs.Common.{◌≡◌, ◌≢◌, ℕ, zero, suc, ◌+◌, ◌-◌, ◌*◌, ◌/◌, ◌%◌, ◌^◌, ◌<◌, ◌≤◌, ◌↔◌, ◌⊎◌, Bool, true, false, List, Option, Some, None, is_some, not, length, get_or, set, map, replicate, eqb, eq-eqb, refl, sym, ap, ◌∙◌, subst, inl, inr, arith, length-set}
+use Rattle.std.proofs.Common.{◌≡◌, ◌≢◌, ℕ, zero, suc, ◌+◌, ◌-◌, ◌*◌, ◌/◌, ◌%◌, ◌^◌, ◌<◌, ◌≤◌, ◌↔◌, ◌⊎◌, Bool, true, false, List, Option}
+use Rattle.std.proofs.Common.{Some, None, is_some, not, length, get_or, set, map, replicate, eqb, eq-eqb, refl, sym, ap, ◌∙◌, subst, inl}
+use Rattle.std.proofs.Common.{inr, arith, length-set}
 use Rattle.std.specs.List.{range_with_len}
 use Rattle.std.specs.Option.{MatchOption}
 use Rattle.std.specs.Int.{bit_at, w64, trailing_zeros}
@@ -130,7 +132,8 @@ last_in_word_is n words h k high w p within inside same l one none = record {
 }
 
 -- a word is 0 exactly where none of its numbers is a member
-pub some_in_word : (n : ℕ) (words : List ℕ) → AreWords n words → (k w : ℕ) → w ≡ get_or words k 0 → w < 2 ^ 64 → w ≢ 0 → HasSomeIn (set_of n words) (k * 64) (k * 64 + 64)
+pub some_in_word : (n : ℕ) (words : List ℕ) → AreWords n words → (k w : ℕ) → w ≡ get_or words k 0 → w < 2 ^ 64 → w ≢ 0
+    → HasSomeIn (set_of n words) (k * 64) (k * 64 + 64)
 some_in_word n words h k w e fits some =
     let t = bit_at-trailing_zeros w64 w (omega (arith, some)) fits in
     let one = rw e at t.1 in
@@ -166,7 +169,8 @@ joined_none xs a b c x y i from before is =
       | inr g ↦ y i g before is
     ]
 
-pub further : (xs : List Bool) (low mid high : ℕ) (r : Option ℕ) → mid ≤ high → HasNoneIn xs mid high → MatchOption r (HasNoneIn xs low mid) (IsLastIn xs low mid)
+pub further : (xs : List Bool) (low mid high : ℕ) (r : Option ℕ) → mid ≤ high → HasNoneIn xs mid high
+    → MatchOption r (HasNoneIn xs low mid) (IsLastIn xs low mid)
     → MatchOption r (HasNoneIn xs low high) (IsLastIn xs 0 high)
 further xs low mid high None le none h = joined_none xs low mid high h none
 further xs low mid high (Some y) le none h = let before = h.before in record {

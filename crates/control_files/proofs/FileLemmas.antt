@@ -11,7 +11,8 @@ use Rattle.control_files.specs.Files.{name_of}
 abbrev all_files : List File
 all_files = Current ∷ Max ∷ Peak ∷ Events ∷ EventsLocal ∷ []
 
-passes_by : (p : File → Bool) (x : File) (xs : List File) (y : File) (b : Bool) → b ≡ p x → (find p xs ≡ Some y → p y ≡ true) → cond b (Some x) (find p xs) ≡ Some y → p y ≡ true
+passes_by : (p : File → Bool) (x : File) (xs : List File) (y : File) (b : Bool) → b ≡ p x → (find p xs ≡ Some y → p y ≡ true) →
+    cond b (Some x) (find p xs) ≡ Some y → p y ≡ true
 passes_by p x xs y true passes rest found = let same : x ≡ y = cc in rw (← same) (sym passes)
 passes_by p x xs y false passes rest found = rest found
 

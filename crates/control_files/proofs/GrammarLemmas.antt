@@ -112,7 +112,16 @@ limit_word_no_space word (Some n) h = (
 pub has_only_word : (text : List ℕ) (v : Option ℕ) (h : IsLimitText text v) → HasOnlyWord text h.word
 has_only_word text v h =
     let clear : HasNoSpace h.word × (h.word ≢ []) = limit_word_no_space h.word v h.word_is in
-    record { before = h.before; after = h.after; parts = h.parts; spaces_before = h.spaces_before; spaces_after = h.spaces_after; no_space = clear.0; some_byte = clear.1 }
+    record {
+      before = h.before;
+      after = h.after;
+      parts = h.parts;
+      spaces_before = h.spaces_before;
+      spaces_after = h.spaces_after;
+      no_space =
+          clear.0;
+      some_byte = clear.1;
+    }
 
 pub spaces_outside : (bytes : List ℕ) → AreSpaces bytes → BeginsOutside (λ byte. not (is_space byte)) bytes
 spaces_outside [] h = tt
@@ -131,7 +140,8 @@ pub same_only_word : (text word other : List ℕ) → HasOnlyWord text word → 
 same_only_word text word other h k =
     let rest : (h.before ≡ k.before) × ((word ++ h.after) ≡ (other ++ k.after)) =
     same_front is_space (λ c. not (is_space c)) (λ c. double_not (is_space c)) h.before (word ++ h.after) k.before (other ++ k.after)
-    h.spaces_before (word_outside word h.after h.no_space h.some_byte) k.spaces_before (word_outside other k.after k.no_space k.some_byte) (sym h.parts ∙ k.parts) in
+    h.spaces_before (word_outside word h.after h.no_space h.some_byte) k.spaces_before (word_outside other k.after k.no_space k.some_byte)
+    (sym h.parts ∙ k.parts) in
     (same_front (λ c. not (is_space c)) is_space (λ c. refl) word h.after other k.after
     h.no_space (spaces_outside h.after h.spaces_after) k.no_space (spaces_outside k.after k.spaces_after) rest.1).0
 

@@ -13,7 +13,8 @@ digit_value-digit c low high = grind (arith, nat_tests)
 pub digit_low : (ds : List ℕ) (i : ℕ) → AllDigits 10 ds → i < length ds → 48 ≤ get_or ds i 0
 digit_low ds i digits h = (digit_at ds i digits h).0
 
-pub next_number : (ds : List ℕ) (i : ℕ) → AllDigits 10 ds → i < length ds → digits_value 10 (take (i + 1) ds) ≡ digits_value 10 (take i ds) * 10 + (get_or ds i 0 - 48)
+pub next_number : (ds : List ℕ) (i : ℕ) → AllDigits 10 ds → i < length ds →
+    digits_value 10 (take (i + 1) ds) ≡ digits_value 10 (take i ds) * 10 + (get_or ds i 0 - 48)
 next_number ds i digits h =
     let range : IsInRange 48 57 (get_or ds i 0) = digit_at ds i digits h in
     rw digits_value_more (rw (digit_value-digit (get_or ds i 0) range.0 range.1) refl)

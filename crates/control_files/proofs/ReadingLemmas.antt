@@ -9,7 +9,16 @@ use Rattle.control_files.specs.Limit.{IsAmount, IsLimitWord, IsLimitText, pages_
 use Rattle.control_files.specs.Reading.{HasOnlyWord, IsOnlyWord, IsAmountReading, IsReading}
 
 limit_text : (text word : List ℕ) (value : Option ℕ) → HasOnlyWord text word → IsLimitWord word value → IsLimitText text value
-limit_text text word value h word_is = record { before = h.before; word = word; after = h.after; parts = h.parts; spaces_before = h.spaces_before; spaces_after = h.spaces_after; word_is = word_is }
+limit_text text word value h word_is = record {
+  before = h.before;
+  word = word;
+  after = h.after;
+  parts = h.parts;
+  spaces_before =
+      h.spaces_before;
+  spaces_after = h.spaces_after;
+  word_is = word_is;
+}
 
 limit_word : (text word : List ℕ) (value : Option ℕ) → HasOnlyWord text word → IsLimitText text value → IsLimitWord word value
 limit_word text word value h t =
@@ -20,7 +29,8 @@ limit_word text word value h t =
 no_word_reading : (text : List ℕ) → ((word : List ℕ) → ¬ HasOnlyWord text word) → IsReading text (Err BadLimit)
 no_word_reading text missing value t = missing t.word (has_only_word text value t)
 
-pub word_refused : (text : List ℕ) (found : Option (Bor (List ℕ))) (fault : Fault) → IsOnlyWord text (option_copied found) → ◌≡◌ {A = Result (Bor (List ℕ)) Fault} (Err fault) (ok_or found BadLimit) → IsReading text (Err fault)
+pub word_refused : (text : List ℕ) (found : Option (Bor (List ℕ))) (fault : Fault) → IsOnlyWord text (option_copied found) →
+    ◌≡◌ {A = Result (Bor (List ℕ)) Fault} (Err fault) (ok_or found BadLimit) → IsReading text (Err fault)
 word_refused text None fault missing is = let same : fault ≡ BadLimit = cc in rw same (no_word_reading text missing)
 word_refused text (Some word) fault missing is = cc
 
@@ -30,11 +40,13 @@ max_reading text word h is_max = record { value = None; grammar = limit_text tex
 pub amount_reading : (text word : List ℕ) (amount : ℕ) → HasOnlyWord text word → IsAmountReading word (Ok amount) → IsReading text (Ok (pages_of (Some amount)))
 amount_reading text word amount h a = record { value = Some amount; grammar = limit_text text word (Some amount) h a.0; in_range = a.1; pages = refl }
 
-no_value : (text word : List ℕ) → HasOnlyWord text word → word ≢ codes "max" → ((amount : ℕ) → ¬ IsAmount word amount) → (value : Option ℕ) → ¬ IsLimitText text value
+no_value : (text word : List ℕ) → HasOnlyWord text word → word ≢ codes "max" → ((amount : ℕ) → ¬ IsAmount word amount) → (value : Option ℕ) →
+    ¬ IsLimitText text value
 no_value text word h other_word refused None t = other_word (limit_word text word None h t)
 no_value text word h other_word refused (Some amount) t = refused amount (limit_word text word (Some amount) h t)
 
-pub refused_reading : (text word : List ℕ) (fault : Fault) → HasOnlyWord text word → word ≢ codes "max" → IsAmountReading word (Err fault) → IsReading text (Err fault)
+pub refused_reading : (text word : List ℕ) (fault : Fault) → HasOnlyWord text word → word ≢ codes "max" → IsAmountReading word (Err fault) →
+    IsReading text (Err fault)
 refused_reading text word BadLimit h other_word refused = no_value text word h other_word refused
 refused_reading text word BadNumber h other_word refused = (refused.0, refused.1, limit_text text word (Some refused.0) h refused.2)
 refused_reading text word _ h other_word refused = absurd refused

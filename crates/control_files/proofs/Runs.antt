@@ -12,7 +12,8 @@ and_parts true b h = (refl, h)
 and_parts false b h = cc
 
 -- as many pass as stand before what does not
-pub position_or_len-append : (p q : ℕ → Bool) → ((x : ℕ) → not (q x) ≡ p x) → (xs ys : List ℕ) → IsTrue (list_all p xs) → BeginsOutside p ys → position_or_len q (xs ++ ys) ≡ length xs
+pub position_or_len-append : (p q : ℕ → Bool) → ((x : ℕ) → not (q x) ≡ p x) → (xs ys : List ℕ) → IsTrue (list_all p xs) → BeginsOutside p ys →
+    position_or_len q (xs ++ ys) ≡ length xs
 position_or_len-append p q opposite [] [] all outside = refl
 position_or_len-append p q opposite [] (y ∷ ys) all outside = rw (opposite y) (rw outside refl)
 position_or_len-append p q opposite (x ∷ xs) ys all outside =
@@ -21,9 +22,11 @@ position_or_len-append p q opposite (x ∷ xs) ys all outside =
     rw (opposite x) (rw first (omega (arith, rest)))
 
 -- a list has one front that passes with a rest that does not begin so
-pub same_front : (p q : ℕ → Bool) → ((x : ℕ) → not (q x) ≡ p x) → (xs ys us vs : List ℕ) → IsTrue (list_all p xs) → BeginsOutside p ys → IsTrue (list_all p us) → BeginsOutside p vs → (xs ++ ys) ≡ (us ++ vs) → (xs ≡ us) × (ys ≡ vs)
+pub same_front : (p q : ℕ → Bool) → ((x : ℕ) → not (q x) ≡ p x) → (xs ys us vs : List ℕ) → IsTrue (list_all p xs) → BeginsOutside p ys →
+    IsTrue (list_all p us) → BeginsOutside p vs → (xs ++ ys) ≡ (us ++ vs) → (xs ≡ us) × (ys ≡ vs)
 same_front p q opposite xs ys us vs xs_pass ys_outside us_pass vs_outside same =
-    let size : length xs ≡ length us = sym (position_or_len-append p q opposite xs ys xs_pass ys_outside) ∙ (ap (position_or_len q) same ∙ position_or_len-append p q opposite us vs us_pass vs_outside) in
+    let size : length xs ≡ length us = sym (position_or_len-append p q opposite xs ys xs_pass ys_outside)
+    ∙ (ap (position_or_len q) same ∙ position_or_len-append p q opposite us vs us_pass vs_outside) in
     let front : take (length xs) (xs ++ ys) ≡ take (length us) (us ++ vs) = rw same (ap (λ n. take n (us ++ vs)) size) in
     let rest : drop (length xs) (xs ++ ys) ≡ drop (length us) (us ++ vs) = rw same (ap (λ n. drop n (us ++ vs)) size) in
     (sym (take-append_seam xs ys) ∙ (front ∙ take-append_seam us vs), sym (drop-append_seam xs ys) ∙ (rest ∙ drop-append_seam us vs))
@@ -46,7 +49,8 @@ position-found p xs i h = chosen-Some (position_or_len p xs) (length xs) i h
 pub position-none : (p : ℕ → Bool) (xs : List ℕ) → position p xs ≡ None → length xs ≤ position_or_len p xs
 position-none p xs h = chosen-None (position_or_len p xs) (length xs) h
 
-front_passes_by : (p q : ℕ → Bool) → ((x : ℕ) → not (q x) ≡ p x) → (x : ℕ) (xs : List ℕ) (b : Bool) → b ≡ p x → IsTrue (list_all p (take (position_or_len q xs) xs)) → IsTrue (list_all p (take (position_or_len q (x ∷ xs)) (x ∷ xs)))
+front_passes_by : (p q : ℕ → Bool) → ((x : ℕ) → not (q x) ≡ p x) → (x : ℕ) (xs : List ℕ) (b : Bool) → b ≡ p x →
+    IsTrue (list_all p (take (position_or_len q xs) xs)) → IsTrue (list_all p (take (position_or_len q (x ∷ xs)) (x ∷ xs)))
 front_passes_by p q opposite x xs true h rest = rw (opposite x) (rw (← h) (rw one-add (rw (← h) rest)))
 front_passes_by p q opposite x xs false h rest = rw (opposite x) (rw (← h) refl)
 
@@ -55,7 +59,8 @@ pub front_passes : (p q : ℕ → Bool) → ((x : ℕ) → not (q x) ≡ p x) �
 front_passes p q opposite [] = refl
 front_passes p q opposite (x ∷ xs) = front_passes_by p q opposite x xs (p x) refl (front_passes p q opposite xs)
 
-rest_outside_by : (p q : ℕ → Bool) → ((x : ℕ) → not (q x) ≡ p x) → (x : ℕ) (xs : List ℕ) (b : Bool) → b ≡ p x → BeginsOutside p (drop (position_or_len q xs) xs) → BeginsOutside p (drop (position_or_len q (x ∷ xs)) (x ∷ xs))
+rest_outside_by : (p q : ℕ → Bool) → ((x : ℕ) → not (q x) ≡ p x) → (x : ℕ) (xs : List ℕ) (b : Bool) → b ≡ p x →
+    BeginsOutside p (drop (position_or_len q xs) xs) → BeginsOutside p (drop (position_or_len q (x ∷ xs)) (x ∷ xs))
 rest_outside_by p q opposite x xs true h rest = rw (opposite x) (rw (← h) (rw one-add rest))
 rest_outside_by p q opposite x xs false h rest = rw (opposite x) (rw (← h) (sym h))
 

@@ -1,5 +1,6 @@
 -- A text to which bytes are written. Serves the contracts of `ArrayText`.
-use Rattle.std.proofs.Common.{◌≡◌, ℕ, ◌+◌, ◌-◌, ◌≤◌, ◌++◌, List, length, take, drop, replicate, ap, sym, ◌∙◌, arith, length-append, length-drop, drop-drop, append_assoc}
+use Rattle.std.proofs.Common.{◌≡◌, ℕ, ◌+◌, ◌-◌, ◌≤◌, ◌++◌, List, length, take, drop, replicate, ap, sym, ◌∙◌, arith, length-append, length-drop}
+use Rattle.std.proofs.Common.{drop-drop, append_assoc}
 use Rattle.std.proofs.lemmas.List.{drop-replicate, drop_at, length-take-le}
 use Rattle.control_files.specs.Text.{IsPadded}
 
@@ -10,11 +11,13 @@ rest_zeros bytes len more h =
     sym (drop-drop more len bytes) ∙ (rest ∙ ap (λ n. replicate n 0) left)
 
 -- bytes written behind the text have zeros behind them
-pub IsPadded-written : (bytes new more : List ℕ) (len : ℕ) → IsPadded bytes len → len + length more ≤ 160 → new ≡ take len bytes ++ (more ++ drop (len + length more) bytes) → IsPadded new (len + length more)
+pub IsPadded-written : (bytes new more : List ℕ) (len : ℕ) → IsPadded bytes len → len + length more ≤ 160 →
+    new ≡ take len bytes ++ (more ++ drop (len + length more) bytes) → IsPadded new (len + length more)
 IsPadded-written bytes new more len h fits written = record {
   size = rw written (simp length-append (omega (arith, length-take-le len bytes (omega (arith, h.size)), length-drop (len + length more) bytes, h.size)));
   fits = fits;
   zeros = rw (written, ← append_assoc)
-      (drop_at (take len bytes ++ more) (drop (len + length more) bytes) (len + length more) (omega (arith, length-append (take len bytes) more, length-take-le len bytes (omega (arith, h.size))))
+      (drop_at (take len bytes ++ more) (drop (len + length more) bytes) (len + length more)
+      (omega (arith, length-append (take len bytes) more, length-take-le len bytes (omega (arith, h.size))))
       ∙ rest_zeros bytes len (length more) h);
 }

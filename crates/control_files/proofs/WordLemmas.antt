@@ -1,5 +1,6 @@
 -- The one word of a text, found from the left. Serves `only_word`.
-use Rattle.std.proofs.Common.{◌≡◌, ◌≢◌, ℕ, ◌+◌, ◌<◌, Bool, true, false, not, List, [], ◌∷◌, ◌++◌, length, take, drop, refl, sym, ◌∙◌, ap, arith, length-append, length-drop, one-add}
+use Rattle.std.proofs.Common.{◌≡◌, ◌≢◌, ℕ, ◌+◌, ◌<◌, Bool, true, false, not, List, [], ◌∷◌, ◌++◌, length, take, drop, refl, sym, ◌∙◌, ap, arith}
+use Rattle.std.proofs.Common.{length-append, length-drop, one-add}
 use Rattle.std.proofs.Math.Seq.{drop-append_seam, take-length}
 use Rattle.std.proofs.lemmas.List.{take-append-drop}
 use Rattle.std.specs.Prelude.{◌-◌, Some, None, option_copied, unwrap_or}
@@ -16,17 +17,20 @@ length_positive [] h = absurd (h refl)
 length_positive (x ∷ xs) h = omega arith
 
 -- where a text with a word has its first byte that is no white space
-word_start : (text word : List ℕ) (h : HasOnlyWord text word) → (position_or_len (λ byte. not (is_space byte)) text ≡ length h.before) × (length h.before < length text)
+word_start : (text word : List ℕ) (h : HasOnlyWord text word) →
+    (position_or_len (λ byte. not (is_space byte)) text ≡ length h.before) × (length h.before < length text)
 word_start text word h =
     let at : position_or_len (λ byte. not (is_space byte)) (h.before ++ (word ++ h.after)) ≡ length h.before =
-    position_or_len-append is_space (λ byte. not (is_space byte)) (λ byte. double_not (is_space byte)) h.before (word ++ h.after) h.spaces_before (word_outside word h.after h.no_space h.some_byte) in
+    position_or_len-append is_space (λ byte. not (is_space byte)) (λ byte. double_not (is_space byte)) h.before (word ++ h.after) h.spaces_before
+    (word_outside word h.after h.no_space h.some_byte) in
     (rw h.parts at, rw h.parts (simp length-append (omega (arith, length_positive word h.some_byte))))
 
 pub no_word : (text : List ℕ) → position (λ byte. not (is_space byte)) text ≡ None → (word : List ℕ) → ¬ HasOnlyWord text word
 no_word text h word found = omega (arith, word_start text word found, position-none (λ byte. not (is_space byte)) text h)
 
 -- the rest behind the white space in front begins with the word, and white space follows
-pub word_rest : (text word : List ℕ) (start : ℕ) → position (λ byte. not (is_space byte)) text ≡ Some start → (h : HasOnlyWord text word) → drop start text ≡ word ++ h.after
+pub word_rest : (text word : List ℕ) (start : ℕ) → position (λ byte. not (is_space byte)) text ≡ Some start → (h : HasOnlyWord text word) →
+    drop start text ≡ word ++ h.after
 word_rest text word start found h =
     let at : start ≡ length h.before = (position-found (λ byte. not (is_space byte)) text start found).0 ∙ (word_start text word h).0 in
     rw (at, h.parts) (drop-append_seam h.before (word ++ h.after))
@@ -36,7 +40,8 @@ pub word_missing : (text : List ℕ) (start : ℕ) → position (λ byte. not (i
 word_missing text start found other word h =
     let end : position_or_len is_space (word ++ h.after) ≡ length word =
     position_or_len-append (λ byte. not (is_space byte)) is_space (λ byte. refl) word h.after h.no_space (spaces_outside h.after h.spaces_after) in
-    let rest : list_all is_space (drop (position_or_len is_space (word ++ h.after)) (word ++ h.after)) ≡ false = rw (word_rest text word start found h) at other in
+    let rest : list_all is_space (drop (position_or_len is_space (word ++ h.after)) (word ++ h.after)) ≡ false =
+    rw (word_rest text word start found h) at other in
     let after : list_all is_space h.after ≡ false = rw (end, drop-append_seam word h.after) at rest in
     let clash : true ≡ false = sym h.spaces_after ∙ after in
     cc
@@ -49,11 +54,14 @@ begins_word (x ∷ xs) some outside same =
     cc
 
 pub word_found : (text : List ℕ) (start : ℕ) → position (λ byte. not (is_space byte)) text ≡ Some start →
-    AreSpaces (drop (position_or_len is_space (drop start text)) (drop start text)) → HasOnlyWord text (take (position_or_len is_space (drop start text)) (drop start text))
+    AreSpaces (drop (position_or_len is_space (drop start text)) (drop start text)) → HasOnlyWord text
+    (take (position_or_len is_space (drop start text)) (drop start text))
 word_found text start found spaces =
-    let at : (start ≡ position_or_len (λ byte. not (is_space byte)) text) × (start < length text) = position-found (λ byte. not (is_space byte)) text start found in
+    let at : (start ≡ position_or_len (λ byte. not (is_space byte)) text) × (start < length text) =
+    position-found (λ byte. not (is_space byte)) text start found in
     let front : AreSpaces (take start text) = rw at.0 (front_passes is_space (λ byte. not (is_space byte)) (λ byte. double_not (is_space byte)) text) in
-    let outside : BeginsOutside is_space (drop start text) = rw at.0 (rest_outside is_space (λ byte. not (is_space byte)) (λ byte. double_not (is_space byte)) text) in
+    let outside : BeginsOutside is_space (drop start text) =
+    rw at.0 (rest_outside is_space (λ byte. not (is_space byte)) (λ byte. double_not (is_space byte)) text) in
     record {
       before = take start text;
       after = drop (position_or_len is_space (drop start text)) (drop start text);

@@ -4,6 +4,7 @@ use Rattle.std.specs.Fmt.{decimal}
 use Rattle.group_tree.specs.Groups.{limit_of}
 use Rattle.group_charge.specs.declared.account.Counts.{Counts}
 use Rattle.group_charge.specs.Charges.{Ledger, current_of, peak_of, events_of, events_local_of}
+use Rattle.control_files.specs.declared.text.TheConstants.{PAGE_BYTES}
 use Rattle.control_files.specs.declared.file.File.{File}
 use Rattle.control_files.specs.declared.file.File.TheVariants.{Current, Max, Peak, Events, EventsLocal}
 
@@ -15,9 +16,9 @@ name_of Peak = codes "memory.peak"
 name_of Events = codes "memory.events"
 name_of EventsLocal = codes "memory.events.local"
 
--- so many pages of 4,096 bytes, told in bytes, on a line of their own
+-- so many pages of PAGE_BYTES, 4,096, told in bytes, on a line of their own
 abbrev pub pages_text : ℕ → List ℕ
-pages_text pages = decimal (pages * 4096) ++ codes "\n"
+pages_text pages = decimal (pages * PAGE_BYTES) ++ codes "\n"
 
 -- a limit in pages, where None is no limit
 abbrev pub limit_text : Option ℕ → List ℕ

@@ -9,6 +9,7 @@ use Rattle.std.specs.Char.{to_ascii_uppercase}
 use Rattle.std.specs.Int.{div_ceil}
 use Rattle.std.specs.List.{list_all}
 use Rattle.std.specs.Str.Parse.{IsNumeral, digits_value}
+use Rattle.control_files.specs.declared.text.TheConstants.{PAGE_BYTES}
 
 -- a space, or a tab, a line feed, a vertical tab, a form feed or a carriage return (9 to 13)
 abbrev pub is_space : ℕ → Bool
@@ -60,10 +61,11 @@ pub record IsLimitText (text : List ℕ) (value : Option ℕ) : Type 0 where
   pub spaces_after : AreSpaces after
   pub word_is : IsLimitWord word value
 
--- whole pages of 4,096 bytes, rounded up; 2^32 pages and more are no limit
+-- whole pages of PAGE_BYTES, 4,096, rounded up; 2^32 pages and more are no limit
 abbrev pub pages_of : Option ℕ → Option ℕ
 pages_of None = None
-pages_of (Some amount) = if nat_lt (div_ceil amount 4096) (2 ^ 32) then Some (div_ceil amount 4096) else None
+pages_of (Some amount) =
+    if nat_lt (div_ceil amount PAGE_BYTES) (2 ^ 32) then Some (div_ceil amount PAGE_BYTES) else None
 
 -- no limit, or an amount of at most 2^64 - 1 bytes
 abbrev pub IsInRange : Option ℕ → Type 0

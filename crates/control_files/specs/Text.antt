@@ -1,18 +1,19 @@
--- A text kept in a fixed array of 160 bytes.
+-- A text kept in a fixed array of MAX_TEXT bytes, 160.
 use Rattle.std.specs.Prelude.{◌≡◌, ℕ, ◌-◌, ◌≤◌, ◌++◌, List, length, take, drop, replicate}
 use Rattle.std.proofs.Common.{arith}
 use Rattle.std.proofs.lemmas.List.{take-append-drop, length-take-le}
+use Rattle.control_files.specs.declared.text.TheConstants.{MAX_TEXT}
 use Rattle.control_files.specs.declared.text.ArrayText.TheInside.{Inside}
 
--- the first `len` of the 160 bytes are the text, and the bytes behind it are zero
+-- the first `len` bytes are the text, and the bytes behind it are zero
 pub record IsPadded (bytes : List ℕ) (len : ℕ) : Type 0 where
-  pub size : length bytes ≡ 160
-  pub fits : len ≤ 160
-  pub zeros : drop len bytes ≡ replicate (160 - len) 0
+  pub size : length bytes ≡ MAX_TEXT
+  pub fits : len ≤ MAX_TEXT
+  pub zeros : drop len bytes ≡ replicate (MAX_TEXT - len) 0
 
--- a text with zeros behind it, 160 bytes in all
+-- a text with zeros behind it, MAX_TEXT bytes in all
 abbrev pub padded : List ℕ → List ℕ
-padded text = text ++ replicate (160 - length text) 0
+padded text = text ++ replicate (MAX_TEXT - length text) 0
 
 -- the first bytes with zeros behind them are all the bytes
 padded-bytes : (bytes : List ℕ) (len : ℕ) → IsPadded bytes len → padded (take len bytes) ≡ bytes
@@ -21,7 +22,8 @@ padded-bytes bytes len h =
     rw size (rw (← h.zeros) (take-append-drop len bytes))
 
 -- the fields come back from the text
-pub padded-view : (bytes : List ℕ) (len : ℕ) → IsPadded bytes len → ◌≡◌ {A = Inside} (record { bytes = padded (take len bytes); len = length (take len bytes) }) (record { bytes = bytes; len = len })
+pub padded-view : (bytes : List ℕ) (len : ℕ) → IsPadded bytes len →
+    ◌≡◌ {A = Inside} (record { bytes = padded (take len bytes); len = length (take len bytes) }) (record { bytes = bytes; len = len })
 padded-view bytes len h =
     let size : length (take len bytes) ≡ len = length-take-le len bytes (omega (arith, h.size, h.fits)) in
     let same : padded (take len bytes) ≡ bytes = padded-bytes bytes len h in

@@ -40,7 +40,7 @@ impl ArrayText {
     /// The bytes of the text.
     pub fn as_bytes(&self) -> &[u8]
         ensures text { result.now ≡ self.now }
-        ensures short { length result.now ≤ 160 }
+        ensures short { length result.now ≤ MAX_TEXT }
     {
         &self.bytes[..self.len]
     }
@@ -57,7 +57,7 @@ impl ArrayText {
 
     /// Writes more bytes at the end.
     pub(crate) fn push(&mut self, more: &[u8])
-        requires { length self.old + length more.now ≤ 160 }
+        requires { length self.old + length more.now ≤ MAX_TEXT }
         ensures { self.new ≡ self.old ++ more.now }
     {
         write_at(&mut self.bytes, self.len, more);
@@ -66,7 +66,7 @@ impl ArrayText {
 
     /// Writes a number at the end, in decimal.
     pub(crate) fn push_number(&mut self, number: u64)
-        requires { length self.old + 20 ≤ 160 }
+        requires { length self.old + 20 ≤ MAX_TEXT }
         ensures text { self.new ≡ self.old ++ decimal number }
         ensures short { length self.new ≤ length self.old + 20 }
     {
@@ -77,7 +77,7 @@ impl ArrayText {
 
 /// These bytes as a text.
 pub(crate) fn text_of(bytes: &[u8]) -> ArrayText
-    requires { length bytes.now ≤ 160 }
+    requires { length bytes.now ≤ MAX_TEXT }
     ensures { result ≡ bytes.now }
 {
     let mut text = ArrayText::new();

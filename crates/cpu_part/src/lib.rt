@@ -8,6 +8,8 @@ mod answers;
 mod boot_name;
 mod cpu;
 mod fast;
+#[cfg(test)]
+mod front_tests;
 mod moves;
 mod pins;
 mod readers;

@@ -33,8 +33,21 @@ pub(crate) fn relist(list: &mut VecDeque<Frame>, fresh: &mut Vec<Frame>, frame: 
     let Some(place) = last_place(fresh.as_slice(), frame) else {
         unreachable!()
     };
-    fresh.remove(place);
+    take_out(fresh, place);
     list.push_back_reserved(frame);
+}
+
+// What stands at the place goes. Where that is the end, nothing is moved.
+fn take_out(frames: &mut Vec<Frame>, place: usize)
+    requires { place < vec_len frames.old }
+    ensures out { frames.new.items ≡ remove frames.old.items place }
+    ensures room { vec_capacity frames.new ≡ vec_capacity frames.old }
+{
+    if place + 1 < frames.len() {
+        frames.remove(place);
+    } else {
+        frames.pop();
+    }
 }
 
 /// A pin goes.

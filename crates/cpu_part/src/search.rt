@@ -1,14 +1,28 @@
 //! Where a frame stands.
-ghost use Rattle.std.specs.Prelude.{◌≡◌, ◌<◌, MatchOption, length, slice_index};
+ghost use Rattle.std.specs.Prelude.{◌≡◌, ◌<◌, ◌≤◌, false, MatchOption, drop, length, slice_index};
 ghost use Rattle.cpu_part.specs.Cpus.{times};
 
 use frame_word::Frame;
 
-/// The last place of the frame, which is sought from the end.
+/// So many frames are compared at once.
+const BLOCK: usize = 16;
+
+/// The last place of the frame, which is sought from the end: the end itself before all others.
 pub(crate) fn last_place(frames: &[Frame], frame: Frame) -> Option<usize>
     ensures { MatchOption result (times frame frames.now ≡ 0) (λ i. (i < length frames.now) × (slice_index frames.now i ≡ frame)) }
 {
-    let mut end = frames.len();
+    let count = frames.len();
+    if count > 0 && frames[count - 1] == frame {
+        return Some(count - 1);
+    }
+    seek(frames, frame)
+}
+
+// The last place of the frame, of which many are passed over at once.
+fn seek(frames: &[Frame], frame: Frame) -> Option<usize>
+    ensures { MatchOption result (times frame frames.now ≡ 0) (λ i. (i < length frames.now) × (slice_index frames.now i ≡ frame)) }
+{
+    let mut end = pass_over(frames, frame);
     while end > 0 {
         end -= 1;
         if frames[end] == frame {
@@ -16,4 +30,30 @@ pub(crate) fn last_place(frames: &[Frame], frame: Frame) -> Option<usize>
         }
     }
     None
+}
+
+// How many frames are left where the blocks from the end are passed over that don't hold the frame.
+fn pass_over(frames: &[Frame], frame: Frame) -> usize
+    ensures inside { result ≤ length frames.now }
+    ensures absent { times frame (drop result frames.now) ≡ 0 }
+{
+    let mut end = frames.len();
+    while end >= BLOCK {
+        if holds(&frames[end - BLOCK..end], frame) {
+            return end;
+        }
+        end -= BLOCK;
+    }
+    end
+}
+
+// Whether the frame is one of these: all of them are compared, so that it is done for several at once.
+fn holds(block: &[Frame], frame: Frame) -> bool
+    ensures { result ≡ false → times frame block.now ≡ 0 }
+{
+    let mut is_there = false;
+    for other in block {
+        is_there |= *other == frame;
+    }
+    is_there
 }

@@ -16,23 +16,26 @@ use stock_word::{Stock, StockSeat, StockWords};
 
 // The tables of F frames and 2 processors, and all seats, as they are at first.
 #[derive(Drop)]
-struct Parts<const F: u32> {
-    frames: FrameWords,
-    stocks: StockWords,
-    zone: FrameSeat,
-    machine: StockSeat,
-    seats: (FrameSeat, FrameSeat),
-    payers: (StockSeat, StockSeat),
-    ghost sizes: { (frames.frames ≡ F) × (frames.cpus ≡ 2) × (stocks.cpus ≡ 2) },
-    ghost zone_is: { (zone.table ≡ frames.table) × (zone.view ≡ first_zone_view F) },
-    ghost machine_is: { (machine.table ≡ stocks.table) × (machine.view ≡ first_machine) },
-    ghost first_is: { (seats.0.table ≡ frames.table) × (seats.0.view ≡ first_cpu_view 1) },
-    ghost second_is: { (seats.1.table ≡ frames.table) × (seats.1.view ≡ first_cpu_view 2) },
-    ghost first_pays: { (payers.0.table ≡ stocks.table) × (payers.0.view ≡ first_processor 1) },
-    ghost second_pays: { (payers.1.table ≡ stocks.table) × (payers.1.view ≡ first_processor 2) },
+pub(crate) struct Parts<const F: u32> {
+    pub frames: FrameWords,
+    pub stocks: StockWords,
+    pub zone: FrameSeat,
+    pub machine: StockSeat,
+    pub seats: (FrameSeat, FrameSeat),
+    pub payers: (StockSeat, StockSeat),
+    pub ghost sizes: { (frames.frames ≡ F) × (frames.cpus ≡ 2) × (stocks.cpus ≡ 2) },
+    pub ghost zone_is: { (zone.table ≡ frames.table) × (zone.view ≡ first_zone_view F) },
+    pub ghost machine_is: { (machine.table ≡ stocks.table) × (machine.view ≡ first_machine) },
+    pub ghost first_is: { (seats.0.table ≡ frames.table) × (seats.0.view ≡ first_cpu_view 1) },
+    pub ghost second_is: { (seats.1.table ≡ frames.table) × (seats.1.view ≡ first_cpu_view 2) },
+    pub ghost first_pays: { (payers.0.table ≡ stocks.table) × (payers.0.view ≡ first_processor 1) },
+    pub ghost second_pays: { (payers.1.table ≡ stocks.table) × (payers.1.view ≡ first_processor 2) },
 }
 
-fn make_parts<const F: u32>(rt: &impl Abort, alloc: Global) -> Result<Parts<F>, AllocError>
+pub(crate) fn make_parts<const F: u32>(
+    rt: &impl Abort,
+    alloc: Global,
+) -> Result<Parts<F>, AllocError>
     requires { 1 ≤ F }
 {
     let (frames, zone, mut seats) = FrameWords::new(alloc, F, 2)?;
@@ -396,16 +399,23 @@ fn give<N: BootName>(tables: &Tables<N>, zone: &mut FrameSeat, cpu: &mut Cpu<N>,
     cpu.accept(tables, zone, frame);
 }
 
-// Gives the frames 0 to 32 to processor 1, which has none.
-fn give_33<N: BootName>(rt: &impl Abort, tables: &Tables<N>, zone: &mut FrameSeat, cpu: &mut Cpu<N>)
-    requires frames { 33 ≤ N.frames.frames }
+// Gives the first frames, so many, to processor 1, which has none.
+pub(crate) fn give_first<N: BootName>(
+    rt: &impl Abort,
+    tables: &Tables<N>,
+    zone: &mut FrameSeat,
+    cpu: &mut Cpu<N>,
+    count: u32,
+)
+    requires frames { (count ≤ N.frames.frames) × (count ≤ 256) }
     requires zone { IsZoneSeat N.frames zone.old × (zone.old.view ≡ first_zone_view N.frames.frames) }
     requires cpu { (cpu.old.number ≡ 1) × (cpu.old.list ≡ []) × (cpu.old.fresh ≡ []) }
     ensures zone { IsZoneSeat N.frames zone.new }
     ensures shut { IsShut zone.new 1 }
+    ensures cpu { (cpu.new.number ≡ 1) × (cpu.new.fresh ≡ []) }
 {
     cpu.open(tables, zone);
-    for n in 0..33u32 {
+    for n in 0..count {
         let frame = tables.frames.frame(n).expect(rt, "a frame");
         give(tables, zone, cpu, frame);
     }
@@ -430,7 +440,7 @@ fn drop_all<N: BootName>(rt: &impl Abort, tables: &Tables<N>, cpu: &mut Cpu<N>, 
 }
 
 // Hands over all listed frames, and the zone collects them.
-fn give_back<N: BootName>(tables: &Tables<N>, zone: &mut FrameSeat, cpu: &mut Cpu<N>)
+pub(crate) fn give_back<N: BootName>(tables: &Tables<N>, zone: &mut FrameSeat, cpu: &mut Cpu<N>)
     requires { IsZoneSeat N.frames zone.old × IsShut zone.old cpu.old.number }
 {
     cpu.open(tables, zone);
@@ -455,7 +465,7 @@ fn fresh_runs_out<N: BootName>(rt: &impl Abort, alloc: Global, parts: Parts<40>)
     let mut cpu = Cpu::<N>::new(alloc, seats.0, payers.0).expect(rt, "memory");
     assert_eq!(rt; cpu.alloc_fast(&tables, 1), Fast::ListEmpty);
     cpu.fill(&tables, &mut machine, 1, 40);
-    give_33(rt, &tables, &mut zone, &mut cpu);
+    give_first(rt, &tables, &mut zone, &mut cpu, 33);
     take(rt, &tables, &mut cpu, 32);
     assert_eq!(rt; cpu.alloc_fast(&tables, 1), Fast::FreshFull);
     assert_eq!(rt; cpu.fresh_len(), 32);

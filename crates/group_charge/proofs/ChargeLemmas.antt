@@ -1,20 +1,26 @@
 -- What holds of the charges of a tree, and how a change keeps it. Serves the invariant of `Charges` and the clauses that
 -- name the whole ledger.
-use Rattle.std.proofs.Common.{◌≡◌, ◌≢◌, ℕ, ◌||◌, ◌+◌, ◌^◌, ◌<◌, ◌≤◌, Bool, false, not, cond, ◌==◌, IsTrue, All, Contains, Option, Some, None, List, [], ◌∷◌, ◌++◌, length, map, filter, get_or, refl, sym, ap, ◌∙◌, subst, arith, lit<, ⊎_elim}
+use Rattle.std.proofs.Common.{◌≡◌, ◌≢◌, ℕ, ◌||◌, ◌+◌, ◌^◌, ◌<◌, ◌≤◌, Bool, false, not, cond, ◌==◌, IsTrue, All, Contains, Option, Some, None, List}
+use Rattle.std.proofs.Common.{[], ◌∷◌, ◌++◌, length, map, filter, get_or, refl, sym, ap, ◌∙◌, subst, arith, lit<, ⊎_elim}
 use Rattle.std.specs.List.{find, list_any}
 use Rattle.std.specs.Option.{option_map_or}
 use Rattle.std.proofs.lemmas.Bool.{eq-eqb, ne_eqb, cond-true, cond_both, cases_Bool}
 use Rattle.std.proofs.lemmas.List.{get_or-map, length-map, map-append}
-use Rattle.group_charge.proofs.UsageLemmas.{PeaksCover, cover_charged, cover_limited, cover_new, cover_noted, cover_removed, cover_taken, part-is, sum-same, usage-charged, usage-taken}
+use Rattle.group_charge.proofs.UsageLemmas.{PeaksCover, cover_charged, cover_limited, cover_new, cover_noted, cover_removed, cover_taken, part-is}
+use Rattle.group_charge.proofs.UsageLemmas.{sum-same, usage-charged, usage-taken}
 use Rattle.std.proofs.lemmas.List.Elements.{All-cons, All-nil, Contains-get_or}
 use Rattle.std.proofs.lemmas.List.Recursion.{found_at}
 use Rattle.std.proofs.lemmas.List.Sums.{sum_by-cons, sum_by_push}
 use Rattle.group_tree.specs.declared.group.Group.{Group}
 use Rattle.group_tree.specs.Groups.{the_root, IsLeastFreeNumber, has_group, in_subtree, has_child, without_group, with_limit, limited}
-use Rattle.group_tree.proofs.GroupLemmas.{CanMake, has_group-any, has_group-contains, length-full, AreGroups-initial, AreGroups-with, AreGroups-without, AreGroups-limited, limited-number}
+use Rattle.group_tree.proofs.GroupLemmas.{CanMake, has_group-any, has_group-contains, length-full, AreGroups-initial, AreGroups-with}
+use Rattle.group_tree.proofs.GroupLemmas.{AreGroups-without, AreGroups-limited, limited-number}
 use Rattle.group_tree.proofs.CallerLemmas.{in_subtree-root}
-use Rattle.group_charge.specs.Charges.{Account, Ledger, AreCharges, UsageRises, account_at, pages_of, current_of, usage_of, total_pages, added, taken, peaked, noted, charged, empty_account, initial_ledger, with_charge, with_uncharge, with_new_group, with_group_removed, with_group_limit}
-use Rattle.group_charge.proofs.SumLemmas.{AreDistinct, share, total-added, total-taken, usage-le-total, added-group, taken-group, peaked-group, peaked-pages, sum-map_same}
+use Rattle.group_charge.specs.Charges.{Account, Ledger, AreCharges, UsageRises, account_at, pages_of, current_of, usage_of, total_pages, added, taken}
+use Rattle.group_charge.specs.Charges.{peaked, noted, charged, empty_account, initial_ledger, with_charge, with_uncharge, with_new_group}
+use Rattle.group_charge.specs.Charges.{with_group_removed, with_group_limit}
+use Rattle.group_charge.proofs.SumLemmas.{AreDistinct, share, total-added, total-taken, usage-le-total, added-group, taken-group, peaked-group}
+use Rattle.group_charge.proofs.SumLemmas.{peaked-pages, sum-map_same}
 
 -- ---- each group has one account
 list_any-over : {X Y : Type 0} (p : Y → Bool) (f : X → Y) (xs : List X) → list_any p (map f xs) ≡ list_any (λ x. p (f x)) xs
@@ -35,13 +41,15 @@ as_many l facts = sym (length-map l.accounts (λ (a : Account). a.group)) ∙ ap
 account_number : (l : Ledger) (k : ℕ) (d : Account) → AreCharges l → k < length l.accounts → (get_or l.accounts k d).group ≡ (get_or l.groups k the_root).number
 account_number l k d facts lt =
     let also : k < length l.groups = omega (arith, as_many l facts) in
-    sym (get_or-map (λ (a : Account). a.group) l.accounts k d 0 lt) ∙ ap (λ ns. get_or ns k 0) facts.numbers ∙ get_or-map (λ (x : Group). x.number) l.groups k the_root 0 also
+    sym (get_or-map (λ (a : Account). a.group) l.accounts k d 0 lt) ∙ ap (λ ns. get_or ns k 0) facts.numbers
+    ∙ get_or-map (λ (x : Group). x.number) l.groups k the_root 0 also
 
 -- each account's group is there
 pub all_known : (l : Ledger) → AreCharges l → All (λ a. IsTrue (has_group l.groups a.group)) l.accounts
 all_known l facts = λ k d lt.
     let also : k < length l.groups = omega (arith, as_many l facts) in
-    subst (λ n. IsTrue (has_group l.groups n)) (sym (account_number l k d facts lt)) (has_group-contains l.groups (get_or l.groups k the_root) (Contains-get_or l.groups k the_root also))
+    subst (λ n. IsTrue (has_group l.groups n)) (sym (account_number l k d facts lt))
+    (has_group-contains l.groups (get_or l.groups k the_root) (Contains-get_or l.groups k the_root also))
 
 -- no group has two accounts
 pub all_distinct : (l : Ledger) → AreCharges l → AreDistinct l.accounts
@@ -75,18 +83,21 @@ pub root_usage : (l : Ledger) → AreCharges l → current_of l 0 ≡ total_page
 unfolding usage_of
 root_usage l facts =
     sum-same (share l.groups 0) (λ a. a.pages) l.accounts
-    (λ k d lt. let a = get_or l.accounts k d in cond-true (in_subtree l.groups 0 a.group) a.pages 0 (in_subtree-root l.groups a.group facts.groups (all_known l facts k d lt)))
+    (λ k d lt. let a = get_or l.accounts k d in
+    cond-true (in_subtree l.groups 0 a.group) a.pages 0 (in_subtree-root l.groups a.group facts.groups (all_known l facts k d lt)))
 
 -- no usage is above the root's
 pub usage-le-root : (l : Ledger) (g : ℕ) → AreCharges l → current_of l g ≤ current_of l 0
 usage-le-root l g facts = omega (arith, usage-le-total l.groups l.accounts g, root_usage l facts)
 
 -- ---- a change keeps the facts
-pub same_ledger : (g h : List Group) (a b : List Account) → g ≡ h → a ≡ b → ◌≡◌ {A = Ledger} (record { groups = g; accounts = a }) (record { groups = h; accounts = b })
+pub same_ledger : (g h : List Group) (a b : List Account) → g ≡ h → a ≡ b →
+    ◌≡◌ {A = Ledger} (record { groups = g; accounts = a }) (record { groups = h; accounts = b })
 same_ledger g h a b x y = cc
 
 -- a change that keeps each account's group keeps the list of groups
-same_groups : (f : Account → Account) → ((a : Account) → (f a).group ≡ a.group) → (xs : List Account) → map (λ (a : Account). a.group) (map f xs) ≡ map (λ (a : Account). a.group) xs
+pub same_groups : (f : Account → Account) → ((a : Account) → (f a).group ≡ a.group) → (xs : List Account) →
+    map (λ (a : Account). a.group) (map f xs) ≡ map (λ (a : Account). a.group) xs
 same_groups f same [] = refl
 same_groups f same (x ∷ xs) = ap (λ n. n ∷ map (λ (a : Account). a.group) (map f xs)) (same x) ∙ ap (λ ns. x.group ∷ ns) (same_groups f same xs)
 
@@ -101,8 +112,10 @@ map-filter : {X Y : Type 0} (f : X → Y) (p : Y → Bool) (xs : List X) → map
 map-filter f p [] = refl
 map-filter f p (x ∷ xs) =
     ⊎_elim
-    (λ t. subst (λ b. map f (cond b (x ∷ filter (λ y. p (f y)) xs) (filter (λ y. p (f y)) xs)) ≡ cond b (f x ∷ filter p (map f xs)) (filter p (map f xs))) (sym t) (ap (λ ys. f x ∷ ys) (map-filter f p xs)))
-    (λ n. subst (λ b. map f (cond b (x ∷ filter (λ y. p (f y)) xs) (filter (λ y. p (f y)) xs)) ≡ cond b (f x ∷ filter p (map f xs)) (filter p (map f xs))) (sym n) (map-filter f p xs))
+    (λ t. subst (λ b. map f (cond b (x ∷ filter (λ y. p (f y)) xs) (filter (λ y. p (f y)) xs)) ≡ cond b (f x ∷ filter p (map f xs))
+    (filter p (map f xs))) (sym t) (ap (λ ys. f x ∷ ys) (map-filter f p xs)))
+    (λ n. subst (λ b. map f (cond b (x ∷ filter (λ y. p (f y)) xs) (filter (λ y. p (f y)) xs)) ≡ cond b (f x ∷ filter p (map f xs))
+    (filter p (map f xs))) (sym n) (map-filter f p xs))
     (cases_Bool (p (f x)))
 
 -- fewer accounts have no more pages
@@ -155,11 +168,13 @@ AreCharges-taken l g n facts = record {
 }
 
 -- and after a charge that fits 32 bits
-pub AreCharges-charged : (l : Ledger) (g n : ℕ) → AreCharges l → IsTrue (has_group l.groups g) → current_of l 0 + n < 2 ^ 32 → AreCharges (record { groups = l.groups; accounts = charged l.groups l.accounts g n })
+pub AreCharges-charged : (l : Ledger) (g n : ℕ) → AreCharges l → IsTrue (has_group l.groups g) → current_of l 0 + n < 2 ^ 32 →
+    AreCharges (record { groups = l.groups; accounts = charged l.groups l.accounts g n })
 unfolding charged
 AreCharges-charged l g n facts there fits =
     let more = map (added g n) l.accounts in
-    let raised : total_pages (map (peaked l.groups more g) more) ≡ total_pages more = sum-map_same (λ (a : Account). a.pages) (peaked l.groups more g) (peaked-pages l.groups more g) more in
+    let raised : total_pages (map (peaked l.groups more g) more) ≡ total_pages more =
+    sum-map_same (λ (a : Account). a.pages) (peaked l.groups more g) (peaked-pages l.groups more g) more in
     record {
       groups = facts.groups;
       numbers = same_groups (peaked l.groups more g) (peaked-group l.groups more g) more ∙ same_groups (added g n) (added-group g n) l.accounts ∙ facts.numbers;
@@ -172,18 +187,21 @@ pub AreCharges-removed : (l : Ledger) (g : ℕ) → AreCharges l → has_child l
 unfolding without_group
 AreCharges-removed l g facts leaf below = record {
   groups = AreGroups-without l.groups g facts.groups leaf below;
-  numbers = map-filter (λ (a : Account). a.group) (λ n. not (n == g)) l.accounts ∙ ap (filter (λ n. not (n == g))) facts.numbers ∙ sym (map-filter (λ (x : Group). x.number) (λ n. not (n == g)) l.groups);
+  numbers = map-filter (λ (a : Account). a.group) (λ n. not (n == g)) l.accounts ∙ ap (filter (λ n. not (n == g))) facts.numbers
+      ∙ sym (map-filter (λ (x : Group). x.number) (λ n. not (n == g)) l.groups);
   fits = omega (arith, total-filter (λ a. not (a.group == g)) l.accounts, facts.fits);
   peaks = cover_removed l.groups l.accounts g facts.peaks;
 }
 
 -- and with a new group
-pub AreCharges-new : (l : Ledger) (n : ℕ) (path : List ℕ) → AreCharges l → CanMake l.groups path → IsLeastFreeNumber l.groups n → AreCharges (with_new_group l n path)
+pub AreCharges-new : (l : Ledger) (n : ℕ) (path : List ℕ) → AreCharges l → CanMake l.groups path → IsLeastFreeNumber l.groups n →
+    AreCharges (with_new_group l n path)
 AreCharges-new l n path facts can least =
     let few = length-full l.groups n least.least in
     record {
       groups = AreGroups-with l.groups n path facts.groups can (omega (arith, few, can.room)) least.free;
-      numbers = map-append (λ (a : Account). a.group) l.accounts (empty_account n ∷ []) ∙ ap (λ ns. ns ++ n ∷ []) facts.numbers ∙ sym (map-append (λ (x : Group). x.number) l.groups (record { number = n; path = path; limit = None } ∷ []));
+      numbers = map-append (λ (a : Account). a.group) l.accounts (empty_account n ∷ []) ∙ ap (λ ns. ns ++ n ∷ []) facts.numbers
+          ∙ sym (map-append (λ (x : Group). x.number) l.groups (record { number = n; path = path; limit = None } ∷ []));
       fits = omega (arith, sum_by_push (λ (a : Account). a.pages) l.accounts (empty_account n), facts.fits);
       peaks = cover_new l.groups l.accounts n path facts.groups can least.free (all_known l facts) facts.peaks;
     }

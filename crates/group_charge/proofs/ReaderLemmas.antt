@@ -1,25 +1,29 @@
 -- What the readers of a ledger tell after a change. Serves the clauses pages, peaks, events and counts of `Charges`.
-use Rattle.std.proofs.Common.{◌≡◌, ◌≢◌, ℕ, ◌+◌, ◌-◌, ◌<◌, ◌≤◌, ◌^◌, Bool, true, false, not, cond, max, ◌==◌, IsTrue, Option, Some, None, is_some, List, [], ◌∷◌, ◌++◌, length, map, filter, get_or, Contains, refl, sym, ap, ◌∙◌, subst, arith, ⊎_elim}
-use Rattle.std.specs.List.{find, list_any, sum_by}
+use Rattle.std.proofs.Common.{◌≡◌, ℕ, ◌+◌, ◌-◌, ◌<◌, ◌≤◌, true, false, not, cond, max, ◌==◌, IsTrue, Option, Some, None, is_some, List, [], ◌∷◌}
+use Rattle.std.proofs.Common.{length, map, filter, get_or, refl, sym, ap, ◌∙◌, subst, arith, ⊎_elim}
+use Rattle.std.specs.List.{find}
 use Rattle.std.specs.Option.{option_map, option_map_or, option_or}
-use Rattle.std.proofs.lemmas.Bool.{cond-true, cond-false, cases_Bool, cases_eq, eq-eqb, ne_eqb, eqb-true, both_ways, false_from_ne_true, false≢true, not_from_false}
+use Rattle.std.proofs.lemmas.Bool.{cond-true, cond-false, cases_Bool, cases_eq, ne_eqb, eqb-true, both_ways, false_from_ne_true, false≢true, not_from_false}
 use Rattle.std.proofs.lemmas.List.Folds.{find-append}
 use Rattle.std.proofs.lemmas.List.Sums.{sum_by_more_le_part}
-use Rattle.std.proofs.lemmas.List.{get_or_default}
+use Rattle.std.proofs.lemmas.List.Elements.{Contains-get_or}
 use Rattle.group_tree.specs.declared.group.Group.{Group}
-use Rattle.group_tree.specs.Groups.{AreGroups, has_group, in_subtree, with_limit}
+use Rattle.group_tree.specs.Groups.{group_at, has_group, in_subtree, without_group}
 use Rattle.group_tree.specs.Room.{at_group, on_path, peak_after}
 use Rattle.group_tree.proofs.GroupLemmas.{find-filter, found_in, found_passes, is_some-find}
 use Rattle.group_tree.proofs.CallerLemmas.{find-map, in_subtree-above, in_subtree-refl}
-use Rattle.group_charge.specs.declared.account.Counts.{Counts}
-use Rattle.group_charge.specs.Charges.{Account, Ledger, AreCharges, CountsMax, PagesRise, PeaksRise, SameEvents, SamePages, SamePeaks, account_at, pages_of, peak_of, events_of, events_local_of, current_of, usage_of, added, taken, peaked, noted, charged, with_max, empty_account, no_events, with_charge, with_uncharge, with_max_noted, with_new_group, with_group_limit, with_group_removed}
+use Rattle.group_charge.specs.Charges.{Account, Ledger, AreCharges, CountsMax, PagesRise, PeaksRise, SameEvents, SamePages, SamePeaks, account_at}
+use Rattle.group_charge.specs.Charges.{pages_of, peak_of, events_of, events_local_of, current_of, usage_of, added, taken, peaked, noted, charged}
+use Rattle.group_charge.specs.Charges.{with_max, empty_account, no_events, with_charge, with_uncharge, with_max_noted, with_new_group}
+use Rattle.group_charge.specs.Charges.{with_group_limit, with_group_removed}
 use Rattle.group_charge.proofs.SumLemmas.{share, added-group, taken-group}
-use Rattle.group_charge.proofs.UsageLemmas.{usage-peaked}
-use Rattle.group_charge.proofs.ChargeLemmas.{has_account}
+use Rattle.group_charge.proofs.UsageLemmas.{usage-absent, usage-peaked, usage-removed_other}
+use Rattle.group_charge.proofs.ChargeLemmas.{account_at-there, has_account}
 
 -- ---- a change of each account
 -- the account of m is changed, where there is one
-account_mapped : (l : Ledger) (f : Account → Account) (m : ℕ) → ((a : Account) → (f a).group ≡ a.group) → account_at (record l { accounts = map f l.accounts }) m ≡ option_map f (account_at l m)
+account_mapped : (l : Ledger) (f : Account → Account) (m : ℕ) → ((a : Account) → (f a).group ≡ a.group) →
+    account_at (record l { accounts = map f l.accounts }) m ≡ option_map f (account_at l m)
 unfolding account_at
 account_mapped l f m same = find-map (λ (a : Account). a.group == m) f (λ a. ap (λ n. n == m) (same a)) l.accounts
 
@@ -33,12 +37,15 @@ no_account : (l : Ledger) (m : ℕ) → AreCharges l → account_at l m ≡ None
 unfolding account_at
 no_account l m facts e = sym (has_account l m facts) ∙ sym (is_some-find (λ (a : Account). a.group == m) l.accounts) ∙ ap is_some e
 
-read_from : {X : Type 0} (r : Account → X) (d : X) (f : Account → Account) (h : X → X) (o : Option Account) → ((a : Account) → o ≡ Some a → r (f a) ≡ h (r a)) → (o ≡ None → d ≡ h d) → option_map_or r (option_map f o) d ≡ h (option_map_or r o d)
+read_from : {X : Type 0} (r : Account → X) (d : X) (f : Account → Account) (h : X → X) (o : Option Account) →
+    ((a : Account) → o ≡ Some a → r (f a) ≡ h (r a)) → (o ≡ None → d ≡ h d) → option_map_or r (option_map f o) d ≡ h (option_map_or r o d)
 read_from r d f h None some none = none refl
 read_from r d f h (Some a) some none = some a refl
 
 -- what a reader tells of m after the change, by what the change does to the account of m
-read_mapped : {X : Type 0} (r : Account → X) (d : X) (l : Ledger) (f : Account → Account) (h : X → X) (m : ℕ) → ((a : Account) → (f a).group ≡ a.group) → ((a : Account) → a.group ≡ m → r (f a) ≡ h (r a)) → (account_at l m ≡ None → d ≡ h d) → option_map_or r (account_at (record l { accounts = map f l.accounts }) m) d ≡ h (option_map_or r (account_at l m) d)
+read_mapped : {X : Type 0} (r : Account → X) (d : X) (l : Ledger) (f : Account → Account) (h : X → X) (m : ℕ) →
+    ((a : Account) → (f a).group ≡ a.group) → ((a : Account) → a.group ≡ m → r (f a) ≡ h (r a)) → (account_at l m ≡ None → d ≡ h d) →
+    option_map_or r (account_at (record l { accounts = map f l.accounts }) m) d ≡ h (option_map_or r (account_at l m) d)
 read_mapped r d l f h m same some none =
     ap (λ o. option_map_or r o d) (account_mapped l f m same) ∙ read_from r d f h (account_at l m) (λ a e. some a (account_is l m a e)) none
 
@@ -82,7 +89,8 @@ module _ {X : Type 0} (r : Account → X) (keeps : (a : Account) (n : ℕ) → r
 abbrev with_pages : Ledger → ℕ → ℕ → Ledger
 with_pages l g n = record l { accounts = map (added g n) l.accounts }
 
-charge_steps : (l : Ledger) (g n : ℕ) → with_charge l g n ≡ record (with_pages l g n) { accounts = map (peaked l.groups (map (added g n) l.accounts) g) (map (added g n) l.accounts) }
+charge_steps : (l : Ledger) (g n : ℕ) →
+    with_charge l g n ≡ record (with_pages l g n) { accounts = map (peaked l.groups (map (added g n) l.accounts) g) (map (added g n) l.accounts) }
 unfolding charged
 charge_steps l g n = refl
 
@@ -97,7 +105,8 @@ pub charge_pages : (l : Ledger) (g n : ℕ) → AreCharges l → IsTrue (has_gro
 unfolding pages_of
 charge_pages l g n facts there = λ m.
     ap (λ k. pages_of k m) (charge_steps l g n)
-    ∙ read_mapped (λ (a : Account). a.pages) 0 (with_pages l g n) (peaked l.groups (map (added g n) l.accounts) g) (λ x. x) m (λ a. refl) (λ a own. refl) (λ e. refl)
+    ∙ read_mapped (λ (a : Account). a.pages) 0 (with_pages l g n) (peaked l.groups (map (added g n) l.accounts) g) (λ x. x) m (λ a. refl)
+    (λ a own. refl) (λ e. refl)
     ∙ read_mapped (λ (a : Account). a.pages) 0 l (added g n) (λ x. x + cond (m == g) n 0) m (added-group g n) (added_pages g n m)
     (λ e. let none : cond (m == g) n 0 ≡ 0 = cond-false (m == g) n 0 (not_same l m g (no_account l m facts e) there) in omega arith)
 
@@ -109,10 +118,12 @@ charge_peaks l g n facts = λ m.
     (λ a own. ap (λ k. peak_after l.groups (usage_of l.groups more) g k a.peak) own)
     (λ e. sym (cond-false (in_subtree l.groups m g) _ 0 (not_on_path l m g (no_account l m facts (no_account_added l g n m e)))))
     ∙ ap (peak_after l.groups (usage_of l.groups more) g m)
-    (read_mapped (λ (a : Account). a.peak) 0 l (added g n) (λ x. x) m (added-group g n) (λ a own. added_keeps (λ (x : Account). x.peak) (λ a n. refl) g n a) (λ e. refl))
+    (read_mapped (λ (a : Account). a.peak) 0 l (added g n) (λ x. x) m (added-group g n)
+    (λ a own. added_keeps (λ (x : Account). x.peak) (λ a n. refl) g n a) (λ e. refl))
     ∙ ap (λ u. cond (in_subtree l.groups m g) (max (peak_of l m) u) (peak_of l m)) (sym (usage-peaked l.groups more more g m))
 
-charge_kept : {X : Type 0} (r : Account → X) (d : X) (l : Ledger) (g n m : ℕ) → ((a : Account) (n : ℕ) → r (record a { pages = n }) ≡ r a) → ((a : Account) (n : ℕ) → r (record a { peak = n }) ≡ r a) → option_map_or r (account_at (with_charge l g n) m) d ≡ option_map_or r (account_at l m) d
+charge_kept : {X : Type 0} (r : Account → X) (d : X) (l : Ledger) (g n m : ℕ) → ((a : Account) (n : ℕ) → r (record a { pages = n }) ≡ r a) →
+    ((a : Account) (n : ℕ) → r (record a { peak = n }) ≡ r a) → option_map_or r (account_at (with_charge l g n) m) d ≡ option_map_or r (account_at l m) d
 charge_kept r d l g n m keeps also =
     ap (λ k. option_map_or r (account_at k m) d) (charge_steps l g n)
     ∙ read_mapped r d (with_pages l g n) (peaked l.groups (map (added g n) l.accounts) g) (λ x. x) m (λ a. refl) (λ a own. also a _) (λ e. refl)
@@ -141,7 +152,8 @@ taken_pages g n m a own =
 pub uncharge_pages : (l : Ledger) (g n : ℕ) → n ≤ pages_of l g → PagesRise (with_uncharge l g n) l g n
 unfolding pages_of
 uncharge_pages l g n enough = λ m.
-    let less : pages_of (with_uncharge l g n) m ≡ pages_of l m - cond (m == g) n 0 = read_mapped (λ (a : Account). a.pages) 0 l (taken g n) (λ x. x - cond (m == g) n 0) m (taken-group g n) (taken_pages g n m) (λ e. sym (omega arith)) in
+    let less : pages_of (with_uncharge l g n) m ≡ pages_of l m - cond (m == g) n 0 =
+    read_mapped (λ (a : Account). a.pages) 0 l (taken g n) (λ x. x - cond (m == g) n 0) m (taken-group g n) (taken_pages g n m) (λ e. sym (omega arith)) in
     ⊎_elim
     (λ t.
     let part : cond (m == g) n 0 ≡ n = cond-true (m == g) n 0 t in
@@ -153,13 +165,16 @@ uncharge_pages l g n enough = λ m.
 pub uncharge_peaks : (l : Ledger) (g n : ℕ) → SamePeaks l (with_uncharge l g n)
 unfolding peak_of
 uncharge_peaks l g n = λ m.
-    read_mapped (λ (a : Account). a.peak) 0 l (taken g n) (λ x. x) m (taken-group g n) (λ a own. taken_keeps (λ (x : Account). x.peak) (λ a n. refl) g n a) (λ e. refl)
+    read_mapped (λ (a : Account). a.peak) 0 l (taken g n) (λ x. x) m (taken-group g n)
+    (λ a own. taken_keeps (λ (x : Account). x.peak) (λ a n. refl) g n a) (λ e. refl)
 
 pub uncharge_events : (l : Ledger) (g n : ℕ) → SameEvents l (with_uncharge l g n)
 unfolding events_of events_local_of
 uncharge_events l g n = record {
-  events = λ m. read_mapped (λ (a : Account). a.events) no_events l (taken g n) (λ x. x) m (taken-group g n) (λ a own. taken_keeps (λ (x : Account). x.events) (λ a n. refl) g n a) (λ e. refl);
-  events_local = λ m. read_mapped (λ (a : Account). a.events_local) no_events l (taken g n) (λ x. x) m (taken-group g n) (λ a own. taken_keeps (λ (x : Account). x.events_local) (λ a n. refl) g n a) (λ e. refl);
+  events = λ m. read_mapped (λ (a : Account). a.events) no_events l (taken g n) (λ x. x) m (taken-group g n)
+      (λ a own. taken_keeps (λ (x : Account). x.events) (λ a n. refl) g n a) (λ e. refl);
+  events_local = λ m. read_mapped (λ (a : Account). a.events_local) no_events l (taken g n) (λ x. x) m (taken-group g n)
+      (λ a own. taken_keeps (λ (x : Account). x.events_local) (λ a n. refl) g n a) (λ e. refl);
 }
 
 -- ---- a note
@@ -187,7 +202,8 @@ pub limit_pages : (l : Ledger) (g : ℕ) (limit : Option ℕ) → SamePages l (w
 unfolding pages_of account_at
 limit_pages l g limit = λ m. refl
 
-new_from : (n m : ℕ) (o : Option Account) → option_map_or (λ (a : Account). a.pages) (option_or o (cond (n == m) (Some (empty_account n)) None)) 0 ≡ option_map_or (λ (a : Account). a.pages) o 0
+new_from : (n m : ℕ) (o : Option Account) →
+    option_map_or (λ (a : Account). a.pages) (option_or o (cond (n == m) (Some (empty_account n)) None)) 0 ≡ option_map_or (λ (a : Account). a.pages) o 0
 new_from n m (Some a) = refl
 new_from n m None =
     ⊎_elim
@@ -202,13 +218,15 @@ new_pages l n path = λ m.
     ∙ new_from n m (find (λ (a : Account). a.group == m) l.accounts)
 
 -- a group's own pages are part of its usage
-pages_from : (l : Ledger) (g : ℕ) (o : Option Account) → IsTrue (has_group l.groups g) → account_at l g ≡ o → option_map_or (λ (a : Account). a.pages) o 0 ≤ current_of l g
+pages_from : (l : Ledger) (g : ℕ) (o : Option Account) → IsTrue (has_group l.groups g) → account_at l g ≡ o →
+    option_map_or (λ (a : Account). a.pages) o 0 ≤ current_of l g
 unfolding account_at usage_of
 pages_from l g None there e = omega arith
 pages_from l g (Some a) there e =
     let h = found_in (λ (x : Account). x.group == g) l.accounts a e in
     let own : a.group ≡ g = eqb-true a.group g (found_passes (λ (x : Account). x.group == g) l.accounts a e) in
-    let whole : share l.groups g a ≡ a.pages = cond-true (in_subtree l.groups g a.group) a.pages 0 (ap (in_subtree l.groups g) own ∙ in_subtree-refl l.groups g there) in
+    let whole : share l.groups g a ≡ a.pages =
+    cond-true (in_subtree l.groups g a.group) a.pages 0 (ap (in_subtree l.groups g) own ∙ in_subtree-refl l.groups g there) in
     let part = sum_by_more_le_part (share l.groups g) (share l.groups g) l.accounts h.0 a h.1 (λ x. omega arith) in
     let read : share l.groups g (get_or l.accounts h.0 a) ≡ share l.groups g a = ap (share l.groups g) h.2 in
     omega (arith, part, read, whole)
@@ -222,8 +240,10 @@ not_found : (g : ℕ) (xs : List Account) → find (λ (a : Account). a.group ==
 not_found g [] = refl
 not_found g (x ∷ xs) =
     ⊎_elim
-    (λ t. subst (λ b. find (λ (a : Account). a.group == g) (cond (not b) (x ∷ filter (λ a. not (a.group == g)) xs) (filter (λ a. not (a.group == g)) xs)) ≡ None) (sym t) (not_found g xs))
-    (λ f. subst (λ b. find (λ (a : Account). a.group == g) (cond (not b) (x ∷ filter (λ a. not (a.group == g)) xs) (filter (λ a. not (a.group == g)) xs)) ≡ None) (sym f)
+    (λ t. subst (λ b. find (λ (a : Account). a.group == g)
+    (cond (not b) (x ∷ filter (λ a. not (a.group == g)) xs) (filter (λ a. not (a.group == g)) xs)) ≡ None) (sym t) (not_found g xs))
+    (λ f. subst (λ b. find (λ (a : Account). a.group == g)
+    (cond (not b) (x ∷ filter (λ a. not (a.group == g)) xs) (filter (λ a. not (a.group == g)) xs)) ≡ None) (sym f)
     (cond-false (x.group == g) (Some x) (find (λ (a : Account). a.group == g) (filter (λ a. not (a.group == g)) xs)) f ∙ not_found g xs))
     (cases_Bool (x.group == g))
 
@@ -239,5 +259,44 @@ removed_pages l g there empty = λ m.
     (λ other.
     ap (λ o. option_map_or (λ (a : Account). a.pages) o 0)
     (find-filter (λ (a : Account). a.group == m) (λ a. not (a.group == g)) l.accounts
-    (λ k d lt t. not_from_false ((get_or l.accounts k d).group == g) (ne_eqb (get_or l.accounts k d).group g (λ e. other (sym (eqb-true (get_or l.accounts k d).group m t) ∙ e))))))
+    (λ k d lt t. not_from_false ((get_or l.accounts k d).group == g)
+    (ne_eqb (get_or l.accounts k d).group g (λ e. other (sym (eqb-true (get_or l.accounts k d).group m t) ∙ e))))))
+    (cases_eq m g)
+
+-- the pages of a group are those of its account
+own_pages : (l : Ledger) (g k : ℕ) (d : Account) → AreCharges l → k < length l.accounts → (get_or l.accounts k d).group ≡ g →
+    pages_of l g ≡ (get_or l.accounts k d).pages
+unfolding pages_of
+own_pages l g k d facts lt same =
+    let a = get_or l.accounts k d in
+    ap (λ o. option_map_or (λ (x : Account). x.pages) o 0) (ap (account_at l) (sym same) ∙ account_at-there l a facts (Contains-get_or l.accounts k d lt))
+
+-- who was filtered out is not there
+not_there : (g : ℕ) (xs : List Group) → find (λ (x : Group). x.number == g) (filter (λ (x : Group). not (x.number == g)) xs) ≡ None
+not_there g [] = refl
+not_there g (x ∷ xs) =
+    ⊎_elim
+    (λ t. subst (λ b. find (λ (y : Group). y.number == g)
+    (cond (not b) (x ∷ filter (λ (y : Group). not (y.number == g)) xs) (filter (λ (y : Group). not (y.number == g)) xs)) ≡ None) (sym t) (not_there g xs))
+    (λ f. subst (λ b. find (λ (y : Group). y.number == g)
+    (cond (not b) (x ∷ filter (λ (y : Group). not (y.number == g)) xs) (filter (λ (y : Group). not (y.number == g)) xs)) ≡ None) (sym f)
+    (cond-false (x.number == g) (Some x) (find (λ (y : Group). y.number == g) (filter (λ (y : Group). not (y.number == g)) xs)) f ∙ not_there g xs))
+    (cases_Bool (x.number == g))
+
+has_group-without_own : (groups : List Group) (g : ℕ) → has_group (without_group groups g) g ≡ false
+unfolding has_group group_at without_group
+has_group-without_own groups g = ap is_some (not_there g groups)
+
+-- a group that goes with nothing charged changes no usage, and its number has none then
+pub removed_usage : (l : Ledger) (g m : ℕ) → AreCharges l → IsTrue (has_group l.groups g) → current_of l g ≡ 0 →
+    current_of (with_group_removed l g) m ≡ current_of l m
+removed_usage l g m facts there empty =
+    ⊎_elim
+    (λ same.
+    ap (current_of (with_group_removed l g)) same
+    ∙ usage-absent (without_group l.groups g) (filter (λ (a : Account). not (a.group == g)) l.accounts) g (has_group-without_own l.groups g)
+    ∙ sym (ap (current_of l) same ∙ empty))
+    (λ other.
+    let none : pages_of l g ≡ 0 = let part = pages-le-current l g there in omega arith in
+    usage-removed_other l.groups l.accounts g m other (λ k d lt same. sym (own_pages l g k d facts lt same) ∙ none))
     (cases_eq m g)

@@ -1,6 +1,7 @@
 -- Sums of pages over accounts, and lists of accounts that are changed one after another. Serves `current`, `try_charge`
 -- and `uncharge`.
-use Rattle.std.proofs.Common.{◌≡◌, ◌≢◌, ℕ, suc, ◌||◌, AllPairs, add-zero, ◌+◌, ◌-◌, ◌<◌, ◌≤◌, true, false, cond, max, IsTrue, ◌==◌, List, [], ◌∷◌, ◌++◌, length, take, drop, map, get_or, All, refl, sym, ap, ◌∙◌, subst, arith, ⊎_elim}
+use Rattle.std.proofs.Common.{◌≡◌, ◌≢◌, ℕ, suc, ◌||◌, AllPairs, add-zero, ◌+◌, ◌-◌, ◌<◌, ◌≤◌, true, false, cond, max, IsTrue, ◌==◌, List, [], ◌∷◌}
+use Rattle.std.proofs.Common.{◌++◌, length, take, drop, map, get_or, All, refl, sym, ap, ◌∙◌, subst, arith, ⊎_elim}
 use Rattle.std.specs.List.{sum_by, list_any}
 use Rattle.std.proofs.lemmas.Bool.{cond-true, cond-false, cases_Bool, cond_both, or_parts, false_from_ne_true, false≢true, eqb-true}
 use Rattle.std.proofs.lemmas.List.Folds.{Any-from_list_any}
@@ -21,12 +22,14 @@ share-le : (groups : List Group) (g : ℕ) (a : Account) → share groups g a �
 share-le groups g a = cond_both (in_subtree groups g a.group) a.pages 0 (λ x. x ≤ a.pages) (λ _. omega arith) (λ _. omega arith)
 
 -- one account more adds its share
-pub usage_more : (groups : List Group) (xs : List Account) (g i : ℕ) (d : Account) → i < length xs → usage_of groups (take (i + 1) xs) g ≡ usage_of groups (take i xs) g + share groups g (get_or xs i d)
+pub usage_more : (groups : List Group) (xs : List Account) (g i : ℕ) (d : Account) → i < length xs →
+    usage_of groups (take (i + 1) xs) g ≡ usage_of groups (take i xs) g + share groups g (get_or xs i d)
 unfolding usage_of
 usage_more groups xs g i d lt = sum_by_more (share groups g) xs i d lt
 
 -- the usage so far and the next pages fit into all pages
-pub usage-part : (groups : List Group) (xs : List Account) (g i : ℕ) (d : Account) → i < length xs → usage_of groups (take i xs) g + (get_or xs i d).pages ≤ total_pages xs
+pub usage-part : (groups : List Group) (xs : List Account) (g i : ℕ) (d : Account) → i < length xs →
+    usage_of groups (take i xs) g + (get_or xs i d).pages ≤ total_pages xs
 unfolding usage_of
 usage-part groups xs g i d lt = sum_by_more_le_part (share groups g) (λ a. a.pages) xs i d lt (share-le groups g)
 
@@ -60,7 +63,8 @@ pub peaked-share : (groups : List Group) (all : List Account) (g m : ℕ) (a : A
 peaked-share groups all g m a = refl
 
 -- peaks that are raised change no usage
-pub usage-in_place : (groups : List Group) (all xs : List Account) (g m i : ℕ) → usage_of groups (map (peaked groups all g) (take i xs) ++ drop i xs) m ≡ usage_of groups xs m
+pub usage-in_place : (groups : List Group) (all xs : List Account) (g m i : ℕ) →
+    usage_of groups (map (peaked groups all g) (take i xs) ++ drop i xs) m ≡ usage_of groups xs m
 unfolding usage_of
 usage-in_place groups all xs g m i = sum-in_place (share groups m) (peaked groups all g) (peaked-share groups all g m) xs i
 
@@ -69,15 +73,18 @@ pub total-in_place : (groups : List Group) (all xs : List Account) (g i : ℕ) �
 total-in_place groups all xs g i = sum-in_place (λ a. a.pages) (peaked groups all g) (peaked-pages groups all g) xs i
 
 -- nor whose accounts these are
-pub known-in_place : (groups : List Group) (all xs : List Account) (g i : ℕ) → All (λ a. IsTrue (has_group groups a.group)) xs → All (λ a. IsTrue (has_group groups a.group)) (map (peaked groups all g) (take i xs) ++ drop i xs)
+pub known-in_place : (groups : List Group) (all xs : List Account) (g i : ℕ) → All (λ a. IsTrue (has_group groups a.group)) xs →
+    All (λ a. IsTrue (has_group groups a.group)) (map (peaked groups all g) (take i xs) ++ drop i xs)
 known-in_place groups all xs g i h =
     All-append (λ a. IsTrue (has_group groups a.group)) (map (peaked groups all g) (take i xs)) (drop i xs)
     (All-map (λ a. IsTrue (has_group groups a.group)) (peaked groups all g) (take i xs)
-    (λ k d lt. subst (λ n. IsTrue (has_group groups n)) (sym (peaked-group groups all g (get_or (take i xs) k d))) (All-take (λ a. IsTrue (has_group groups a.group)) i xs h k d lt)))
+    (λ k d lt. subst (λ n. IsTrue (has_group groups n)) (sym (peaked-group groups all g (get_or (take i xs) k d)))
+    (All-take (λ a. IsTrue (has_group groups a.group)) i xs h k d lt)))
     (All-drop (λ a. IsTrue (has_group groups a.group)) i xs h)
 
 -- the same usages raise the same peaks
-pub peaked-as : (groups : List Group) (all others : List Account) (g : ℕ) (a : Account) → usage_of groups all a.group ≡ usage_of groups others a.group → peaked groups all g a ≡ peaked groups others g a
+pub peaked-as : (groups : List Group) (all others : List Account) (g : ℕ) (a : Account) →
+    usage_of groups all a.group ≡ usage_of groups others a.group → peaked groups all g a ≡ peaked groups others g a
 peaked-as groups all others g a e = ap (λ n. record a { peak = cond (in_subtree groups a.group g) (max a.peak n) a.peak }) e
 
 -- without accounts there is no usage
@@ -140,7 +147,8 @@ extra-le g k xs h =
     (cases_Bool (list_any (λ a. a.group == g) xs))
 
 -- two sums that differ by a third
-pub sum-plus : (F G H : Account → ℕ) (f : Account → Account) (xs : List Account) → ((x : Account) → F (f x) ≡ G x + H x) → sum_by F (map f xs) ≡ sum_by G xs + sum_by H xs
+pub sum-plus : (F G H : Account → ℕ) (f : Account → Account) (xs : List Account) → ((x : Account) → F (f x) ≡ G x + H x) →
+    sum_by F (map f xs) ≡ sum_by G xs + sum_by H xs
 sum-plus F G H f [] each = refl
 sum-plus F G H f (x ∷ xs) each =
     omega (arith, sum-plus F G H f xs each, each x, sum_by-cons F (f x) (map f xs), sum_by-cons G x xs, sum_by-cons H x xs)
@@ -149,8 +157,10 @@ sum-plus F G H f (x ∷ xs) each =
 added-pages : (g n : ℕ) (a : Account) → (added g n a).pages ≡ a.pages + extra g n a
 added-pages g n a =
     ⊎_elim
-    (λ t. ap (λ (x : Account). x.pages) (cond-true (a.group == g) (record a { pages = a.pages + n }) a t) ∙ ap (λ k. a.pages + k) (sym (cond-true (a.group == g) n 0 t)))
-    (λ f. ap (λ (x : Account). x.pages) (cond-false (a.group == g) (record a { pages = a.pages + n }) a f) ∙ sym (ap (λ k. a.pages + k) (cond-false (a.group == g) n 0 f) ∙ add-zero a.pages))
+    (λ t. ap (λ (x : Account). x.pages) (cond-true (a.group == g) (record a { pages = a.pages + n }) a t)
+    ∙ ap (λ k. a.pages + k) (sym (cond-true (a.group == g) n 0 t)))
+    (λ f. ap (λ (x : Account). x.pages) (cond-false (a.group == g) (record a { pages = a.pages + n }) a f)
+    ∙ sym (ap (λ k. a.pages + k) (cond-false (a.group == g) n 0 f) ∙ add-zero a.pages))
     (cases_Bool (a.group == g))
 
 -- added pages change no group's number
@@ -171,11 +181,13 @@ total-added g n xs h =
 pub total-taken : (g n : ℕ) (xs : List Account) → total_pages (map (taken g n) xs) ≤ total_pages xs
 total-taken g n [] = omega arith
 total-taken g n (x ∷ xs) =
-    let here : (taken g n x).pages ≤ x.pages = cond_both (x.group == g) (record x { pages = x.pages - n }) x (λ (y : Account). y.pages ≤ x.pages) (λ _. omega arith) (λ _. omega arith) in
+    let here : (taken g n x).pages ≤ x.pages =
+    cond_both (x.group == g) (record x { pages = x.pages - n }) x (λ (y : Account). y.pages ≤ x.pages) (λ _. omega arith) (λ _. omega arith) in
     omega (arith, total-taken g n xs, sum_by-cons (λ (a : Account). a.pages) (taken g n x) (map (taken g n) xs), sum_by-cons (λ (a : Account). a.pages) x xs)
 
 -- added pages change nothing of whose accounts these are
-pub known-added : (groups : List Group) (g n : ℕ) (xs : List Account) → All (λ a. IsTrue (has_group groups a.group)) xs → All (λ a. IsTrue (has_group groups a.group)) (map (added g n) xs)
+pub known-added : (groups : List Group) (g n : ℕ) (xs : List Account) → All (λ a. IsTrue (has_group groups a.group)) xs →
+    All (λ a. IsTrue (has_group groups a.group)) (map (added g n) xs)
 known-added groups g n xs h =
     All-map (λ a. IsTrue (has_group groups a.group)) (added g n) xs
     (λ k d lt. subst (λ m. IsTrue (has_group groups m)) (sym (added-group g n (get_or xs k d))) (h k d lt))

@@ -1,14 +1,15 @@
 -- How the usage of a group changes with a list of accounts, and that peaks cover it. Serves the usage clauses of
 -- `try_charge` and `uncharge`, and the invariant of `Charges`.
-use Rattle.std.proofs.Common.{◌≡◌, ◌≢◌, ℕ, ◌+◌, ◌-◌, ◌≤◌, Bool, true, false, not, cond, max, ◌==◌, IsTrue, All, Option, List, [], ◌∷◌, ◌++◌, map, filter, get_or, refl, sym, ap, ◌∙◌, subst, arith, ⊎_elim}
+use Rattle.std.proofs.Common.{◌≡◌, ◌≢◌, ℕ, ◌+◌, ◌-◌, ◌≤◌, Bool, true, false, not, cond, max, ◌==◌, IsTrue, All, Option, List, [], ◌∷◌, ◌++◌, map}
+use Rattle.std.proofs.Common.{filter, get_or, refl, sym, ap, ◌∙◌, subst, arith, ⊎_elim}
 use Rattle.std.specs.List.{sum_by, list_any}
-use Rattle.std.proofs.lemmas.Bool.{cond-true, cond-false, cases_Bool, cond_both, eqb-true, eqb-false, not-true, both_ways, false_from_ne_true}
+use Rattle.std.proofs.lemmas.Bool.{cond-true, cond-false, cases_Bool, cond_both, eqb-true, eqb-false, not-false, not-true, both_ways, false_from_ne_true}
 use Rattle.std.proofs.lemmas.List.Elements.{All-map, All-head, All-tail, All-filter, All-push, filter_passes}
 use Rattle.std.proofs.lemmas.List.Sums.{sum_by-cons, sum_by_push}
 use Rattle.group_tree.specs.declared.group.Group.{Group}
 use Rattle.group_tree.specs.Groups.{AreGroups, has_group, in_subtree, with_group, with_limit, without_group}
 use Rattle.group_tree.proofs.GroupLemmas.{CanMake}
-use Rattle.group_tree.proofs.CallerLemmas.{in_subtree-limited, in_subtree-with, in_subtree-with_new, in_subtree-without}
+use Rattle.group_tree.proofs.CallerLemmas.{in_subtree-above, in_subtree-limited, in_subtree-with, in_subtree-with_new, in_subtree-without}
 use Rattle.group_charge.specs.Charges.{Account, usage_of, added, taken, peaked, noted, charged, empty_account}
 use Rattle.group_charge.proofs.SumLemmas.{share, extra, extra_once, AreDistinct, sum-plus, sum-map_same, peaked-group, peaked-share, added-group, taken-group}
 
@@ -19,10 +20,19 @@ sum-same F G (x ∷ xs) h =
     omega (arith, All-head (λ y. F y ≡ G y) x xs h, sum-same F G xs (All-tail (λ y. F y ≡ G y) x xs h), sum_by-cons F x xs, sum_by-cons G x xs)
 
 -- each item loses its part, so the sum loses the sum of the parts
-sum-minus : (F G H : Account → ℕ) (f : Account → Account) (xs : List Account) → All (λ x. G (f x) + H x ≡ F x) xs → sum_by G (map f xs) + sum_by H xs ≡ sum_by F xs
+sum-minus : (F G H : Account → ℕ) (f : Account → Account) (xs : List Account) → All (λ x. G (f x) + H x ≡ F x) xs →
+    sum_by G (map f xs) + sum_by H xs ≡ sum_by F xs
 sum-minus F G H f [] h = refl
 sum-minus F G H f (x ∷ xs) h =
-    omega (arith, All-head (λ y. G (f y) + H y ≡ F y) x xs h, sum-minus F G H f xs (All-tail (λ y. G (f y) + H y ≡ F y) x xs h), sum_by-cons F x xs, sum_by-cons G (f x) (map f xs), sum_by-cons H x xs)
+    omega (
+      arith,
+      All-head (λ y. G (f y) + H y ≡ F y) x xs h,
+      sum-minus F G H f xs
+          (All-tail (λ y. G (f y) + H y ≡ F y) x xs h),
+      sum_by-cons F x xs,
+      sum_by-cons G (f x) (map f xs),
+      sum_by-cons H x xs,
+    )
 
 -- what n pages of g are to m
 abbrev pub part : List Group → ℕ → ℕ → ℕ → ℕ
@@ -34,8 +44,10 @@ share-added groups m g n a =
     ⊎_elim
     (λ t.
     let same : a.group ≡ g = eqb-true a.group g t in
-    let new : share groups m (added g n a) ≡ cond (in_subtree groups m a.group) (a.pages + n) 0 = ap (share groups m) (cond-true (a.group == g) (record a { pages = a.pages + n }) a t) in
-    let more : extra g (part groups m g n) a ≡ part groups m a.group n = cond-true (a.group == g) (part groups m g n) 0 t ∙ ap (λ h. part groups m h n) (sym same) in
+    let new : share groups m (added g n a) ≡ cond (in_subtree groups m a.group) (a.pages + n) 0 =
+    ap (share groups m) (cond-true (a.group == g) (record a { pages = a.pages + n }) a t) in
+    let more : extra g (part groups m g n) a ≡ part groups m a.group n = cond-true (a.group == g) (part groups m g n) 0 t
+    ∙ ap (λ h. part groups m h n) (sym same) in
     ⊎_elim
     (λ below.
     let x : cond (in_subtree groups m a.group) (a.pages + n) 0 ≡ a.pages + n = cond-true _ (a.pages + n) 0 below in
@@ -55,14 +67,17 @@ share-added groups m g n a =
     (cases_Bool (a.group == g))
 
 -- and what is taken from g lowers it
-share-taken : (groups : List Group) (m g n : ℕ) (a : Account) → (a.group ≡ g → n ≤ a.pages) → share groups m (taken g n a) + extra g (part groups m g n) a ≡ share groups m a
+share-taken : (groups : List Group) (m g n : ℕ) (a : Account) → (a.group ≡ g → n ≤ a.pages) →
+    share groups m (taken g n a) + extra g (part groups m g n) a ≡ share groups m a
 share-taken groups m g n a enough =
     ⊎_elim
     (λ t.
     let same : a.group ≡ g = eqb-true a.group g t in
     let room : n ≤ a.pages = enough same in
-    let new : share groups m (taken g n a) ≡ cond (in_subtree groups m a.group) (a.pages - n) 0 = ap (share groups m) (cond-true (a.group == g) (record a { pages = a.pages - n }) a t) in
-    let more : extra g (part groups m g n) a ≡ part groups m a.group n = cond-true (a.group == g) (part groups m g n) 0 t ∙ ap (λ h. part groups m h n) (sym same) in
+    let new : share groups m (taken g n a) ≡ cond (in_subtree groups m a.group) (a.pages - n) 0 =
+    ap (share groups m) (cond-true (a.group == g) (record a { pages = a.pages - n }) a t) in
+    let more : extra g (part groups m g n) a ≡ part groups m a.group n = cond-true (a.group == g) (part groups m g n) 0 t
+    ∙ ap (λ h. part groups m h n) (sym same) in
     ⊎_elim
     (λ below.
     let x : cond (in_subtree groups m a.group) (a.pages - n) 0 ≡ a.pages - n = cond-true _ (a.pages - n) 0 below in
@@ -82,7 +97,8 @@ share-taken groups m g n a enough =
     (cases_Bool (a.group == g))
 
 -- so n pages of g raise the usage of m where g lies in its subtree
-pub usage-added : (groups : List Group) (xs : List Account) (g n m : ℕ) → AreDistinct xs → list_any (λ a. a.group == g) xs ≡ true → usage_of groups (map (added g n) xs) m ≡ usage_of groups xs m + part groups m g n
+pub usage-added : (groups : List Group) (xs : List Account) (g n m : ℕ) → AreDistinct xs → list_any (λ a. a.group == g) xs ≡ true →
+    usage_of groups (map (added g n) xs) m ≡ usage_of groups xs m + part groups m g n
 unfolding usage_of
 usage-added groups xs g n m distinct there =
     sum-plus (share groups m) (share groups m) (extra g (part groups m g n)) (added g n) xs (share-added groups m g n)
@@ -94,16 +110,19 @@ unfolding usage_of
 usage-peaked groups all xs g m = sum-map_same (share groups m) (peaked groups all g) (peaked-share groups all g m) xs
 
 -- a charge raises the usage of the group and of all above it
-pub usage-charged : (groups : List Group) (xs : List Account) (g n m : ℕ) → AreDistinct xs → list_any (λ a. a.group == g) xs ≡ true → usage_of groups (charged groups xs g n) m ≡ usage_of groups xs m + part groups m g n
+pub usage-charged : (groups : List Group) (xs : List Account) (g n m : ℕ) → AreDistinct xs → list_any (λ a. a.group == g) xs ≡ true →
+    usage_of groups (charged groups xs g n) m ≡ usage_of groups xs m + part groups m g n
 unfolding charged
 usage-charged groups xs g n m distinct there = usage-peaked groups (map (added g n) xs) (map (added g n) xs) g m ∙ usage-added groups xs g n m distinct there
 
 -- and what is taken back lowers it
-pub usage-taken : (groups : List Group) (xs : List Account) (g n m : ℕ) → AreDistinct xs → list_any (λ a. a.group == g) xs ≡ true → All (λ a. a.group ≡ g → n ≤ a.pages) xs → usage_of groups (map (taken g n) xs) m + part groups m g n ≡ usage_of groups xs m
+pub usage-taken : (groups : List Group) (xs : List Account) (g n m : ℕ) → AreDistinct xs → list_any (λ a. a.group == g) xs ≡ true →
+    All (λ a. a.group ≡ g → n ≤ a.pages) xs → usage_of groups (map (taken g n) xs) m + part groups m g n ≡ usage_of groups xs m
 unfolding usage_of
 usage-taken groups xs g n m distinct there enough =
     ap (λ k. sum_by (share groups m) (map (taken g n) xs) + k) (sym (extra_once g (part groups m g n) xs distinct there))
-    ∙ sum-minus (share groups m) (share groups m) (extra g (part groups m g n)) (taken g n) xs (λ k d lt. share-taken groups m g n (get_or xs k d) (enough k d lt))
+    ∙ sum-minus (share groups m) (share groups m) (extra g (part groups m g n)) (taken g n) xs
+    (λ k d lt. share-taken groups m g n (get_or xs k d) (enough k d lt))
 
 -- a usage and its part, by cases
 pub part-is : (groups : List Group) (m g n u : ℕ) → u + part groups m g n ≡ cond (in_subtree groups m g) (u + n) u
@@ -126,7 +145,8 @@ taken-peak : (g n : ℕ) (a : Account) → (taken g n a).peak ≡ a.peak
 taken-peak g n a = cond_both (a.group == g) (record a { pages = a.pages - n }) a (λ (x : Account). x.peak ≡ a.peak) (λ _. refl) (λ _. refl)
 
 -- peaks cover usage after a charge
-pub cover_charged : (groups : List Group) (xs : List Account) (g n : ℕ) → AreDistinct xs → list_any (λ a. a.group == g) xs ≡ true → PeaksCover groups xs → PeaksCover groups (charged groups xs g n)
+pub cover_charged : (groups : List Group) (xs : List Account) (g n : ℕ) → AreDistinct xs → list_any (λ a. a.group == g) xs ≡ true →
+    PeaksCover groups xs → PeaksCover groups (charged groups xs g n)
 unfolding charged
 cover_charged groups xs g n distinct there cover =
     let more = map (added g n) xs in
@@ -137,14 +157,16 @@ cover_charged groups xs g n distinct there cover =
     let a = get_or xs k d in
     let y = added g n a in
     let own : (peaked groups more g y).group ≡ a.group = peaked-group groups more g y ∙ added-group g n a in
-    let usage : usage_of groups new (peaked groups more g y).group ≡ usage_of groups more a.group = ap (usage_of groups new) own ∙ usage-peaked groups more more g a.group in
+    let usage : usage_of groups new (peaked groups more g y).group ≡ usage_of groups more a.group = ap (usage_of groups new) own
+    ∙ usage-peaked groups more more g a.group in
     let also : usage_of groups more y.group ≡ usage_of groups more a.group = ap (usage_of groups more) (added-group g n a) in
     let peak : y.peak ≡ a.peak = added-peak g n a in
     let old : usage_of groups xs a.group ≤ a.peak = cover k d lt in
     let rise : usage_of groups more a.group ≡ usage_of groups xs a.group + part groups a.group g n = usage-added groups xs g n a.group distinct there in
     ⊎_elim
     (λ t.
-    let top : (peaked groups more g y).peak ≡ max y.peak (usage_of groups more y.group) = cond-true (in_subtree groups y.group g) (max y.peak (usage_of groups more y.group)) y.peak t in
+    let top : (peaked groups more g y).peak ≡ max y.peak (usage_of groups more y.group) =
+    cond-true (in_subtree groups y.group g) (max y.peak (usage_of groups more y.group)) y.peak t in
     omega arith)
     (λ f.
     let top : (peaked groups more g y).peak ≡ y.peak = cond-false (in_subtree groups y.group g) (max y.peak (usage_of groups more y.group)) y.peak f in
@@ -173,7 +195,14 @@ usage-taken_le : (groups : List Group) (xs : List Account) (g n m : ℕ) → usa
 unfolding usage_of
 usage-taken_le groups [] g n m = omega arith
 usage-taken_le groups (x ∷ xs) g n m =
-    omega (arith, usage-taken_le groups xs g n m, share-taken_le groups m g n x, sum_by-cons (share groups m) (taken g n x) (map (taken g n) xs), sum_by-cons (share groups m) x xs)
+    omega (
+      arith,
+      usage-taken_le groups xs g n m,
+      share-taken_le groups m g n x,
+      sum_by-cons (share groups m) (taken g n x)
+          (map (taken g n) xs),
+      sum_by-cons (share groups m) x xs,
+    )
 
 -- peaks cover usage after pages were taken
 pub cover_taken : (groups : List Group) (xs : List Account) (g n : ℕ) → PeaksCover groups xs → PeaksCover groups (map (taken g n) xs)
@@ -183,20 +212,36 @@ cover_taken groups xs g n cover =
     (λ k d lt.
     let a = get_or xs k d in
     let less : usage_of groups (map (taken g n) xs) a.group ≤ usage_of groups xs a.group = usage-taken_le groups xs g n a.group in
-    let own : usage_of groups (map (taken g n) xs) (taken g n a).group ≡ usage_of groups (map (taken g n) xs) a.group = ap (usage_of groups (map (taken g n) xs)) (taken-group g n a) in
+    let own : usage_of groups (map (taken g n) xs) (taken g n a).group ≡ usage_of groups (map (taken g n) xs) a.group =
+    ap (usage_of groups (map (taken g n) xs)) (taken-group g n a) in
     omega (arith, less, own, cover k d lt, taken-peak g n a))
 
 -- ---- other trees
 -- where the same accounts lie in the subtree, the usage is the same
-usage_groups : (groups others : List Group) (xs : List Account) (m : ℕ) → All (λ a. in_subtree groups m a.group ≡ in_subtree others m a.group) xs → usage_of groups xs m ≡ usage_of others xs m
+usage_groups : (groups others : List Group) (xs : List Account) (m : ℕ) → All (λ a. in_subtree groups m a.group ≡ in_subtree others m a.group) xs →
+    usage_of groups xs m ≡ usage_of others xs m
 unfolding usage_of
 usage_groups groups others xs m h = sum-same (share groups m) (share others m) xs (λ k d lt. ap (λ b. cond b (get_or xs k d).pages 0) (h k d lt))
+
+-- another limit changes no usage
+pub usage-limited : (groups : List Group) (xs : List Account) (g m : ℕ) (limit : Option ℕ) → usage_of (with_limit groups g limit) xs m ≡ usage_of groups xs m
+usage-limited groups xs g m limit = usage_groups (with_limit groups g limit) groups xs m (λ j e h. in_subtree-limited groups g m (get_or xs j e).group limit)
+
+-- nor does a note
+pub usage-noted : (groups : List Group) (xs : List Account) (g m : ℕ) → usage_of groups (map (noted groups g) xs) m ≡ usage_of groups xs m
+unfolding usage_of
+usage-noted groups xs g m = sum-map_same (share groups m) (noted groups g) (λ x. refl) xs
 
 -- peaks cover usage under another limit
 pub cover_limited : (groups : List Group) (xs : List Account) (g : ℕ) (limit : Option ℕ) → PeaksCover groups xs → PeaksCover (with_limit groups g limit) xs
 cover_limited groups xs g limit cover = λ k d lt.
     let a = get_or xs k d in
-    omega (arith, cover k d lt, usage_groups (with_limit groups g limit) groups xs a.group (λ j e h. in_subtree-limited groups g a.group (get_or xs j e).group limit))
+    omega (
+      arith,
+      cover k d lt,
+      usage_groups (with_limit groups g limit) groups xs a.group
+          (λ j e h. in_subtree-limited groups g a.group (get_or xs j e).group limit),
+    )
 
 -- peaks cover usage after a note
 pub cover_noted : (groups : List Group) (xs : List Account) (g : ℕ) → PeaksCover groups xs → PeaksCover groups (map (noted groups g) xs)
@@ -220,7 +265,8 @@ sum-filter_le F G p (x ∷ xs) h =
     (cases_Bool (p x))
 
 -- peaks cover usage after a group went
-pub cover_removed : (groups : List Group) (xs : List Account) (g : ℕ) → PeaksCover groups xs → PeaksCover (without_group groups g) (filter (λ a. not (a.group == g)) xs)
+pub cover_removed : (groups : List Group) (xs : List Account) (g : ℕ) → PeaksCover groups xs →
+    PeaksCover (without_group groups g) (filter (λ a. not (a.group == g)) xs)
 unfolding usage_of
 cover_removed groups xs g cover =
     let test : Account → Bool = λ a. not (a.group == g) in
@@ -234,7 +280,8 @@ cover_removed groups xs g cover =
     (λ j e h t.
     let x = get_or xs j e in
     let other : x.group ≢ g = eqb-false x.group g (not-true (x.group == g) t) in
-    let same : share (without_group groups g) a.group x ≡ share groups a.group x = ap (λ b. cond b x.pages 0) (in_subtree-without groups g a.group x.group apart other) in
+    let same : share (without_group groups g) a.group x ≡ share groups a.group x =
+    ap (λ b. cond b x.pages 0) (in_subtree-without groups g a.group x.group apart other) in
     omega arith) in
     omega (arith, less, kept k d lt)
 
@@ -242,6 +289,48 @@ cover_removed groups xs g cover =
 sum-zero : (xs : List Account) → sum_by (λ _. 0) xs ≡ 0
 sum-zero [] = refl
 sum-zero (x ∷ xs) = omega (arith, sum-zero xs, sum_by-cons (λ (_ : Account). 0) x xs)
+
+-- a number of no group has no usage
+pub usage-absent : (groups : List Group) (xs : List Account) (m : ℕ) → has_group groups m ≡ false → usage_of groups xs m ≡ 0
+unfolding usage_of
+usage-absent groups xs m absent =
+    sum-same (share groups m) (λ _. 0) xs
+    (λ k d lt.
+    let a = get_or xs k d in
+    cond-false (in_subtree groups m a.group) a.pages 0
+    (false_from_ne_true (in_subtree groups m a.group) (λ t. both_ways (has_group groups m) absent (in_subtree-above groups m a.group t))))
+    ∙ sum-zero xs
+
+-- where what is left out counts nothing, what is left of a list sums to the same
+sum-filter_same : (F G : Account → ℕ) (p : Account → Bool) (xs : List Account) → All (λ x. p x ≡ true → F x ≡ G x) xs →
+    All (λ x. p x ≡ false → G x ≡ 0) xs → sum_by F (filter p xs) ≡ sum_by G xs
+sum-filter_same F G p [] same none = refl
+sum-filter_same F G p (x ∷ xs) same none =
+    let rest = sum-filter_same F G p xs (All-tail (λ y. p y ≡ true → F y ≡ G y) x xs same) (All-tail (λ y. p y ≡ false → G y ≡ 0) x xs none) in
+    let whole = sum_by-cons G x xs in
+    ⊎_elim
+    (λ t.
+    let here : F x ≡ G x = All-head (λ y. p y ≡ true → F y ≡ G y) x xs same t in
+    let sum = sum_by-cons F x (filter p xs) in
+    subst (λ b. sum_by F (cond b (x ∷ filter p xs) (filter p xs)) ≡ sum_by G (x ∷ xs)) (sym t) (omega arith))
+    (λ f.
+    let here : G x ≡ 0 = All-head (λ y. p y ≡ false → G y ≡ 0) x xs none f in
+    subst (λ b. sum_by F (cond b (x ∷ filter p xs) (filter p xs)) ≡ sum_by G (x ∷ xs)) (sym f) (omega arith))
+    (cases_Bool (p x))
+
+-- a group without pages of its own that goes changes no usage of the others
+pub usage-removed_other : (groups : List Group) (xs : List Account) (g m : ℕ) → m ≢ g → All (λ a. a.group ≡ g → a.pages ≡ 0) xs →
+    usage_of (without_group groups g) (filter (λ a. not (a.group == g)) xs) m ≡ usage_of groups xs m
+unfolding usage_of
+usage-removed_other groups xs g m other none =
+    sum-filter_same (share (without_group groups g) m) (share groups m) (λ a. not (a.group == g)) xs
+    (λ k d lt t.
+    let a = get_or xs k d in
+    ap (λ b. cond b a.pages 0) (in_subtree-without groups g m a.group other (eqb-false a.group g (not-true (a.group == g) t))))
+    (λ k d lt f.
+    let a = get_or xs k d in
+    let zero : a.pages ≡ 0 = none k d lt (eqb-true a.group g (not-false (a.group == g) f)) in
+    ap (λ n. cond (in_subtree groups m a.group) n 0) zero ∙ cond_both (in_subtree groups m a.group) 0 0 (λ n. n ≡ 0) (λ _. refl) (λ _. refl))
 
 -- an empty account adds to no usage
 usage-push_empty : (groups : List Group) (xs : List Account) (n m : ℕ) → usage_of groups (xs ++ empty_account n ∷ []) m ≡ usage_of groups xs m
@@ -251,7 +340,8 @@ usage-push_empty groups xs n m =
     omega (arith, sum_by_push (share groups m) xs (empty_account n))
 
 -- the usage of a new group is 0, and that of the others is as before
-pub usage-new : (groups : List Group) (xs : List Account) (n : ℕ) (path : List ℕ) → AreGroups groups → CanMake groups path → has_group groups n ≡ false → All (λ a. IsTrue (has_group groups a.group)) xs → usage_of (with_group groups n path) (xs ++ empty_account n ∷ []) n ≡ 0
+pub usage-new : (groups : List Group) (xs : List Account) (n : ℕ) (path : List ℕ) → AreGroups groups → CanMake groups path →
+    has_group groups n ≡ false → All (λ a. IsTrue (has_group groups a.group)) xs → usage_of (with_group groups n path) (xs ++ empty_account n ∷ []) n ≡ 0
 unfolding usage_of
 usage-new groups xs n path facts can free known =
     usage-push_empty (with_group groups n path) xs n n
@@ -265,7 +355,8 @@ usage-new groups xs n path facts can free known =
     ∙ sum-zero xs
 
 -- a new group changes no usage of the others
-pub usage-new_other : (groups : List Group) (xs : List Account) (n m : ℕ) (path : List ℕ) → has_group groups n ≡ false → All (λ a. IsTrue (has_group groups a.group)) xs → m ≢ n → usage_of (with_group groups n path) (xs ++ empty_account n ∷ []) m ≡ usage_of groups xs m
+pub usage-new_other : (groups : List Group) (xs : List Account) (n m : ℕ) (path : List ℕ) → has_group groups n ≡ false →
+    All (λ a. IsTrue (has_group groups a.group)) xs → m ≢ n → usage_of (with_group groups n path) (xs ++ empty_account n ∷ []) m ≡ usage_of groups xs m
 usage-new_other groups xs n m path free known other =
     usage-push_empty (with_group groups n path) xs n m
     ∙ usage_groups (with_group groups n path) groups xs m
@@ -273,7 +364,9 @@ usage-new_other groups xs n m path free known other =
     (λ same. both_ways (has_group groups n) free (ap (has_group groups) (sym same) ∙ known k d lt)))
 
 -- peaks cover usage with a new group
-pub cover_new : (groups : List Group) (xs : List Account) (n : ℕ) (path : List ℕ) → AreGroups groups → CanMake groups path → has_group groups n ≡ false → All (λ a. IsTrue (has_group groups a.group)) xs → PeaksCover groups xs → PeaksCover (with_group groups n path) (xs ++ empty_account n ∷ [])
+pub cover_new : (groups : List Group) (xs : List Account) (n : ℕ) (path : List ℕ) → AreGroups groups → CanMake groups path →
+    has_group groups n ≡ false → All (λ a. IsTrue (has_group groups a.group)) xs → PeaksCover groups xs →
+    PeaksCover (with_group groups n path) (xs ++ empty_account n ∷ [])
 cover_new groups xs n path facts can free known cover =
     All-push (λ a. usage_of (with_group groups n path) (xs ++ empty_account n ∷ []) a.group ≤ a.peak) xs (empty_account n)
     (λ k d lt.

@@ -1,1 +1,2 @@
 pub mod Charges
+pub mod Kept

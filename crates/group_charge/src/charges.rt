@@ -4,13 +4,13 @@ ghost use Rattle.std.specs.Prelude.{◌≡◌, ◌≢◌, ℕ, ◌↔◌, ◌+�
 ghost use Rattle.std.specs.Option.{option_copied};
 ghost use Rattle.std.specs.Result.{result_err};
 ghost use Rattle.group_tree.specs.Groups.{IsLeastFreeNumber, has_child, has_group, limit_of, make_fault};
-ghost use Rattle.group_tree.specs.Room.{IsLowestOver, PathHasRoom, has_room};
+ghost use Rattle.group_tree.specs.Room.{IsLowestOver, PathHasRoom};
 ghost use Rattle.group_charge.specs.Charges.{AreCharges, CountsMax, PagesRise, PeaksRise, SameEvents, SamePages, SamePeaks, UsageRises, account_at};
 ghost use Rattle.group_charge.specs.Charges.{current_of, empty_account, events_local_of, events_of, initial_ledger, pages_of, peak_of, total_pages};
 ghost use Rattle.group_charge.specs.Charges.{with_charge, with_group_limit, with_group_removed, with_max_noted, with_new_group, with_uncharge};
 
 use crate::account::{Account, Counts};
-use crate::sums;
+use crate::walks;
 use group_tree::fault::Fault;
 use group_tree::group::{GroupId, MAX_GROUPS};
 use group_tree::tree::Tree;
@@ -25,23 +25,25 @@ pub struct Over {
 }
 
 /// A tree of groups with its charges, in pages of 4,096 bytes. The usage of the root is at most
-/// 2^32 - 1 pages. Room for 64 groups is reserved, so that no later call takes memory.
+/// 2^32 - 1 pages. No call but `new` takes memory.
 #[derive(Debug, Drop)]
 pub struct Charges {
     tree: Tree,
-    accounts: Vec<Account>,
+    // By number: the account of each group.
+    accounts: [Account; MAX_GROUPS],
+    // By number: what is charged to each group and to all below it; 0 where there is no group.
+    usages: [u32; MAX_GROUPS],
 }
 
 impl Model for Charges {
-    ghost use Rattle.std.specs.Prelude.{◌≤◌, vec_capacity};
-    ghost use Rattle.group_charge.specs.Charges.{AreCharges, Ledger};
+    ghost use Rattle.group_charge.specs.Charges.{Ledger};
+    ghost use Rattle.group_charge.specs.Kept.{AreKept, ledger_of};
 
     ghost Value = { Ledger };
 
-    ghost view = { λ c. record { groups = c.tree; accounts = c.accounts.items } };
+    ghost view = { λ c. ledger_of c.tree c.accounts };
 
-    ghost invariant = { λ c.
-        AreCharges (record { groups = c.tree; accounts = c.accounts.items }) × (64 ≤ vec_capacity c.accounts) };
+    ghost invariant = { λ c. AreKept c.tree c.accounts c.usages };
 }
 
 impl Charges {
@@ -50,9 +52,13 @@ impl Charges {
         ensures { IfOk result (λ charges. charges ≡ initial_ledger) }
     {
         let tree = Tree::new(alloc)?;
-        let mut accounts = Vec::with_capacity(alloc, MAX_GROUPS)?;
-        accounts.push(new_account(GroupId::root())).unwrap();
-        Ok(Charges { tree, accounts })
+        let accounts = [new_account(GroupId::root()); MAX_GROUPS];
+        let usages = [0; MAX_GROUPS];
+        Ok(Charges {
+            tree,
+            accounts,
+            usages,
+        })
     }
 
     /// The tree.
@@ -80,10 +86,7 @@ impl Charges {
         requires { IsTrue (has_group self.now.groups g) }
         ensures { account_at self.now g ≡ Some result.now }
     {
-        self.accounts
-            .iter()
-            .find(|account| account.group == g)
-            .unwrap()
+        &self.accounts[g.number() as usize]
     }
 
     /// Makes a group, as `Tree::make` does, with no page, peak 0 and all counts 0.
@@ -97,7 +100,7 @@ impl Charges {
         ensures kept { (m : ℕ) → IsTrue (has_group self.old.groups m) → IsTrue (has_group self.new.groups m) }
     {
         let g = self.tree.make(path)?;
-        self.accounts.push(new_account(g)).unwrap();
+        self.accounts[g.number() as usize] = new_account(g);
         Ok(g)
     }
 
@@ -122,9 +125,6 @@ impl Charges {
         ensures pages { SamePages self.old self.new }
     {
         self.tree.remove(g);
-        let number = g.number();
-        self.accounts
-            .retain(|account| account.group.number() != number);
     }
 
     /// The usage of a group that is there, in pages (memory.current): what is charged to it and to all
@@ -133,7 +133,7 @@ impl Charges {
         requires { IsTrue (has_group self.now.groups g) }
         ensures { result ≡ current_of self.now g }
     {
-        sums::usage(&self.tree, self.accounts.as_slice(), g)
+        self.usages[g.number() as usize]
     }
 
     /// The pages charged to the group itself.
@@ -181,32 +181,6 @@ impl Charges {
         account.events_local
     }
 
-    // Whether the usage with n pages more is at most the group's own limit.
-    fn has_room(&self, g: GroupId, n: u32) -> bool
-        requires there { IsTrue (has_group self.now.groups g) }
-        requires fits { current_of self.now 0 + n < 2 ^ 32 }
-        ensures { result ≡ has_room self.now.groups (current_of self.now) g n }
-    {
-        match self.tree().limit(g) {
-            None => true,
-            Some(limit) => self.current(g) + n <= limit,
-        }
-    }
-
-    // The lowest group, from this one up to the root, that has no room.
-    fn lowest_over(&self, g: GroupId, n: u32) -> Option<GroupId>
-        requires there { IsTrue (has_group self.now.groups g) }
-        requires fits { current_of self.now 0 + n < 2 ^ 32 }
-        ensures { MatchOption result (PathHasRoom self.now.groups (current_of self.now) g n) (IsLowestOver self.now.groups (current_of self.now) g n) }
-    {
-        for m in self.tree.ancestors(g) {
-            if !self.has_room(m, n) {
-                return Some(m);
-            }
-        }
-        None
-    }
-
     /// Charges n pages to the group, where it and each of its ancestors has room for all of them. Else
     /// the error names the lowest that has none, and nothing has changed, peaks included.
     pub fn try_charge(&mut self, g: GroupId, n: u32) -> Result<(), Over>
@@ -222,10 +196,12 @@ impl Charges {
         ensures unchanged { OnErr result (self.new ≡ self.old) }
         ensures groups { self.new.groups ≡ self.old.groups }
     {
-        if let Some(group) = self.lowest_over(g, n) {
+        if let Some(group) = walks::add(&self.tree, &mut self.usages, g, n) {
+            walks::take_off(&self.tree, &mut self.usages, g, Some(group), n);
             return Err(Over { group });
         }
-        sums::charge(&self.tree, self.accounts.as_mut_slice(), g, n);
+        self.accounts[g.number() as usize].pages += n;
+        walks::raise_peaks(&self.tree, &mut self.accounts, &self.usages, g);
         Ok(())
     }
 
@@ -240,7 +216,8 @@ impl Charges {
         ensures peaks { SamePeaks self.old self.new }
         ensures events { SameEvents self.old self.new }
     {
-        sums::take_pages(self.accounts.as_mut_slice(), g, n);
+        self.accounts[g.number() as usize].pages -= n;
+        walks::take_off(&self.tree, &mut self.usages, g, None, n);
     }
 
     /// Notes that usage was about to go over the group's limit: one more `max` for the group itself, and
@@ -253,7 +230,8 @@ impl Charges {
         ensures pages { SamePages self.old self.new }
         ensures peaks { SamePeaks self.old self.new }
     {
-        sums::note_max(&self.tree, self.accounts.as_mut_slice(), g);
+        walks::count_max(&self.tree, &mut self.accounts, g);
+        walks::count_local_max(&mut self.accounts, g);
     }
 }
 

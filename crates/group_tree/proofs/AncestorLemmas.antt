@@ -1,5 +1,6 @@
 -- The walk from a group up to the root. Serves the contracts of `Tree::ancestors` and of the walk itself.
-use Rattle.std.proofs.Common.{◌≡◌, ℕ, zero, suc, ◌+◌, IsTrue, IfSome, Option, Some, None, is_some, true, false, List, [], ◌∷◌, slice_get, refl, sym, ap, ◌∙◌, subst, arith, ⊎_elim, add-one}
+use Rattle.std.proofs.Common.{◌≡◌, ℕ, zero, suc, ◌+◌, IsTrue, IfSome, Option, Some, None, is_some, true, false, List, [], ◌∷◌, slice_get, refl, sym}
+use Rattle.std.proofs.Common.{ap, ◌∙◌, subst, arith, ⊎_elim, add-one}
 use Rattle.std.specs.Option.{option_map_or}
 use Rattle.std.proofs.lemmas.Bool.{cases_eq, true≢false}
 use Rattle.std.proofs.lemmas.Option.{none-some, same_Some}
@@ -36,7 +37,8 @@ pub parent_of-there : (groups : List Group) (g p : ℕ) → AreGroups groups →
 parent_of-there groups g p facts e = in_subtree-above groups p g (in_subtree-parent_of groups g p facts e)
 
 -- a walk begins at its group, and goes on at the parent
-step_to : (groups : List Group) (g : ℕ) (o : Option ℕ) → AreGroups groups → IsTrue (has_group groups g) → parent_of groups g ≡ o → ancestors_of groups g ≡ g ∷ ancestors_from groups o
+step_to : (groups : List Group) (g : ℕ) (o : Option ℕ) → AreGroups groups → IsTrue (has_group groups g) → parent_of groups g ≡ o →
+    ancestors_of groups g ≡ g ∷ ancestors_from groups o
 unfolding ancestors_of
 step_to groups g None facts there e =
     let root = parent_of-none_root groups g facts there e in
@@ -44,7 +46,8 @@ step_to groups g None facts there e =
 step_to groups g (Some p) facts there e =
     ap (λ k. some_above k groups g) (parent-depth_at groups g p facts e) ∙ ap (λ o. g ∷ option_map_or (some_above (depth_at groups p) groups) o []) e
 
-pub ancestors_of-step : (groups : List Group) (g : ℕ) → AreGroups groups → IsTrue (has_group groups g) → ancestors_of groups g ≡ g ∷ ancestors_from groups (parent_of groups g)
+pub ancestors_of-step : (groups : List Group) (g : ℕ) → AreGroups groups → IsTrue (has_group groups g) →
+    ancestors_of groups g ≡ g ∷ ancestors_from groups (parent_of groups g)
 ancestors_of-step groups g facts there = step_to groups g (parent_of groups g) facts there refl
 
 -- where a walk goes on is there
@@ -72,7 +75,8 @@ path_more groups g p path up below = record { first = refl; rises = rises }
         let e : suc k + 1 ≡ suc (k + 1) = omega arith in
         subst (λ n. IfSome (slice_get path k) (λ m. slice_get (g ∷ path) n ≡ parent_of groups m)) (sym e) (below.rises k)
 
-path_from : (groups : List Group) (k g : ℕ) (o : Option ℕ) → AreGroups groups → IsTrue (has_group groups g) → depth_at groups g ≡ k → parent_of groups g ≡ o → IsPathUp groups g (ancestors_of groups g)
+path_from : (groups : List Group) (k g : ℕ) (o : Option ℕ) → AreGroups groups → IsTrue (has_group groups g) → depth_at groups g ≡ k →
+    parent_of groups g ≡ o → IsPathUp groups g (ancestors_of groups g)
 path_from groups k g None facts there depth e = subst (IsPathUp groups g) (sym (step_to groups g None facts there e)) (path_alone groups g e)
 path_from groups zero g (Some p) facts there depth e = absurd (let h = parent-depth_at groups g p facts e in omega arith)
 path_from groups (suc k) g (Some p) facts there depth e =

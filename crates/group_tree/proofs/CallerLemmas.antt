@@ -1,17 +1,24 @@
 -- Laws of the tree's definitions. Serves the walks, and crates above: what they cite first stands here.
-use Rattle.std.proofs.Common.{◌≡◌, ◌≢◌, ℕ, zero, suc, ◌+◌, ◌<◌, ◌≤◌, Bool, true, false, not, ◌&&◌, ◌==◌, IsTrue, Option, Some, None, is_some, List, [], ◌∷◌, ◌++◌, length, map, drop, slice_get, IsSomeAnd, Contains, refl, sym, ap, ◌∙◌, subst, arith, inl, inr, ⊎_elim, ◌⊎◌, length-append}
+use Rattle.std.proofs.Common.{◌≡◌, ◌≢◌, ℕ, zero, suc, ◌+◌, ◌<◌, ◌≤◌, Bool, true, false, not, ◌&&◌, ◌==◌, IsTrue, Option, Some, None, is_some, List}
+use Rattle.std.proofs.Common.{[], ◌∷◌, ◌++◌, length, map, drop, slice_get, IsSomeAnd, Contains, refl, sym, ap, ◌∙◌, subst, arith, inl, inr, ⊎_elim}
+use Rattle.std.proofs.Common.{◌⊎◌, length-append}
 use Rattle.std.specs.List.{find, starts_with}
 use Rattle.std.specs.Option.{option_map, option_and_then, option_or}
 use Rattle.std.specs.Str.{bytes_eq}
-use Rattle.std.proofs.lemmas.Bool.{eq-eqb, ne_eqb, and_from, both_ways, cases_Bool, cases_eq, cases_lt, true≢false, false≢true, false_from_ne_true, cond-true, cond-false, not_from_false}
+use Rattle.std.proofs.lemmas.Bool.{eq-eqb, ne_eqb, and_from, both_ways, cases_Bool, cases_eq, cases_lt, true≢false, false≢true, false_from_ne_true}
+use Rattle.std.proofs.lemmas.Bool.{cond-true, cond-false, not_from_false}
 use Rattle.std.proofs.lemmas.List.{append_assoc, append-nil, nil_from_length}
 use Rattle.std.proofs.lemmas.List.Elements.{All-contains}
 use Rattle.std.proofs.lemmas.List.Folds.{find-append}
 use Rattle.std.proofs.lemmas.Option.{none-some, same_Some}
 use Rattle.group_tree.specs.Path.{root_path, is_root, names_of, depth_of, parent_path, IsWellFormed}
-use Rattle.group_tree.specs.Groups.{Group, group_at, number_at, has_group, path_of, limit_of, begins, in_subtree, has_child, parent_of, with_group, without_group, with_limit, limited, AreGroups}
-use Rattle.group_tree.proofs.PathLemmas.{begins_names, begins_from_names, begins_from_well_formed, slashed, slashed-names, has_name, names-root, root-from_test, names_parent, begins_parent, begins_root}
-use Rattle.group_tree.proofs.GroupLemmas.{CanMake, some_is, none_contains, is_some-map, has_group-is, group_at-contains, group_at-there, number_at-contains, number_at-there, path_of-at, path_of-is, path_of-formed, in_subtree-paths, parent_of-below, parent_of-root, group_at-without, limited-number, limited-path}
+use Rattle.group_tree.specs.Groups.{Group, group_at, number_at, has_group, path_of, limit_of, begins, in_subtree, has_child, parent_of, with_group}
+use Rattle.group_tree.specs.Groups.{without_group, with_limit, limited, AreGroups}
+use Rattle.group_tree.proofs.PathLemmas.{begins_names, begins_from_names, begins_from_well_formed, slashed, slashed-names, has_name, names-root}
+use Rattle.group_tree.proofs.PathLemmas.{root-from_test, names_parent, begins_parent, begins_root}
+use Rattle.group_tree.proofs.GroupLemmas.{CanMake, some_is, none_contains, is_some-map, has_group-is, group_at-contains, group_at-there}
+use Rattle.group_tree.proofs.GroupLemmas.{number_at-contains, number_at-there, path_of-at, path_of-is, path_of-formed, in_subtree-paths}
+use Rattle.group_tree.proofs.GroupLemmas.{parent_of-below, parent_of-root, group_at-without, limited-number, limited-path}
 
 -- ---- who is in a subtree
 -- the two groups of a pair in the relation, with the names that the lower one has more
@@ -23,7 +30,8 @@ pub record Subtree (groups : List Group) (g h : ℕ) : Type 0 where
   pub path_below : path_of groups h ≡ Some below
   pub names : names_of below ≡ names_of above ++ more
 
-begins_both : (a b : Option (List ℕ)) → begins a b ≡ true → (x : List ℕ) × (y : List ℕ) × (a ≡ Some x) × (b ≡ Some y) × (starts_with bytes_eq (names_of y) (names_of x) ≡ true)
+begins_both : (a b : Option (List ℕ)) → begins a b ≡ true →
+    (x : List ℕ) × (y : List ℕ) × (a ≡ Some x) × (b ≡ Some y) × (starts_with bytes_eq (names_of y) (names_of x) ≡ true)
 begins_both None b e = absurd (false≢true e)
 begins_both (Some x) None e = absurd (false≢true e)
 begins_both (Some x) (Some y) e = (x, y, refl, refl, e)
@@ -32,7 +40,15 @@ pub in_subtree-is : (groups : List Group) (g h : ℕ) → in_subtree groups g h 
 unfolding in_subtree
 in_subtree-is groups g h e =
     let w = begins_both (path_of groups g) (path_of groups h) e in
-    record { above = w.0; below = w.1; more = drop (length (names_of w.0)) (names_of w.1); path_above = w.2; path_below = w.3; names = begins_names (names_of w.1) (names_of w.0) w.4 }
+    record {
+      above = w.0;
+      below = w.1;
+      more = drop (length (names_of w.0)) (names_of w.1);
+      path_above = w.2;
+      path_below = w.3;
+      names =
+          begins_names (names_of w.1) (names_of w.0) w.4;
+    }
 
 pub in_subtree-from : (groups : List Group) (g h : ℕ) → Subtree groups g h → in_subtree groups g h ≡ true
 in_subtree-from groups g h s =
@@ -72,7 +88,8 @@ in_subtree-trans groups f g h a b =
       names = t.names ∙ ap (λ p. names_of p ++ t.more) (sym same) ∙ ap (λ ns. ns ++ t.more) s.names ∙ append_assoc (names_of s.above) s.more t.more;
     })
 
-root-first : (groups : List Group) → IsSomeAnd (slice_get groups 0) (λ x. (x.number ≡ 0) × (x.path ≡ root_path)) → (g : Group) × Contains groups g × (g.number ≡ 0) × (g.path ≡ root_path)
+root-first : (groups : List Group) → IsSomeAnd (slice_get groups 0) (λ x. (x.number ≡ 0) × (x.path ≡ root_path)) →
+    (g : Group) × Contains groups g × (g.number ≡ 0) × (g.path ≡ root_path)
 root-first [] h = absurd h
 root-first (x ∷ xs) h = (x, (0, omega arith, refl), h.0, h.1)
 
@@ -110,10 +127,12 @@ names-injective a b x y e =
     ⊎_elim
     (λ ra. ⊎_elim
     (λ rb. root-from_test a ra ∙ sym (root-from_test b rb))
-    (λ nb. let some = has_name b nb (begins_from_well_formed b y) in let none : length (names_of b) ≡ 0 = ap length (sym e ∙ names-root a ra) in absurd (omega arith))
+    (λ nb. let some = has_name b nb (begins_from_well_formed b y) in let none : length (names_of b) ≡ 0 = ap length (sym e ∙ names-root a ra) in
+    absurd (omega arith))
     (cases_Bool (is_root b)))
     (λ na. ⊎_elim
-    (λ rb. let some = has_name a na (begins_from_well_formed a x) in let none : length (names_of a) ≡ 0 = ap length (e ∙ names-root b rb) in absurd (omega arith))
+    (λ rb. let some = has_name a na (begins_from_well_formed a x) in let none : length (names_of a) ≡ 0 = ap length (e ∙ names-root b rb) in
+    absurd (omega arith))
     (λ nb. sym (slashed-names a na (begins_from_well_formed a x)) ∙ ap slashed e ∙ slashed-names b nb (begins_from_well_formed b y))
     (cases_Bool (is_root b)))
     (cases_Bool (is_root a))
@@ -124,8 +143,10 @@ same_number groups g h path facts a b =
     let v = path_of-is groups h path b in
     let c = group_at-contains groups g u.0 u.1 in
     let d = group_at-contains groups h v.0 v.1 in
-    let first : number_at groups path ≡ Some g = subst (λ p. number_at groups p ≡ Some g) u.2 (number_at-there groups u.0 facts.paths_distinct c.0 ∙ ap Some c.1) in
-    let second : number_at groups path ≡ Some h = subst (λ p. number_at groups p ≡ Some h) v.2 (number_at-there groups v.0 facts.paths_distinct d.0 ∙ ap Some d.1) in
+    let first : number_at groups path ≡ Some g =
+    subst (λ p. number_at groups p ≡ Some g) u.2 (number_at-there groups u.0 facts.paths_distinct c.0 ∙ ap Some c.1) in
+    let second : number_at groups path ≡ Some h =
+    subst (λ p. number_at groups p ≡ Some h) v.2 (number_at-there groups v.0 facts.paths_distinct d.0 ∙ ap Some d.1) in
     same_Some g h (sym first ∙ second)
 
 -- two groups in one another's subtree are one
@@ -141,7 +162,8 @@ in_subtree-antisym groups g h facts a b =
     let four : length (names_of s.above) ≡ length (names_of t.below) = ap (λ p. length (names_of p)) down in
     let none : s.more ≡ [] = nil_from_length s.more (omega arith) in
     let names : names_of s.below ≡ names_of s.above = s.names ∙ ap (λ m. names_of s.above ++ m) none ∙ append-nil (names_of s.above) in
-    let same : s.below ≡ s.above = names-injective s.below s.above (path_of-formed groups h s.below facts.paths s.path_below) (path_of-formed groups g s.above facts.paths s.path_above) names in
+    let same : s.below ≡ s.above = names-injective s.below s.above (path_of-formed groups h s.below facts.paths s.path_below)
+    (path_of-formed groups g s.above facts.paths s.path_above) names in
     same_number groups g h s.above facts s.path_above (s.path_below ∙ ap Some same)
 
 le_or_lt : (a b : ℕ) → (a ≤ b) ⊎ (b < a)
@@ -157,7 +179,8 @@ front_front (n ∷ ns) (k ∷ ks) x y e h =
     let w = front_front ns ks x y tail (omega arith) in
     (w.0, ap (λ z. z ∷ ks) (sym head) ∙ ap (λ z. n ∷ z) w.1)
 
-pub in_subtree-line : (groups : List Group) (f g h : ℕ) → in_subtree groups f h ≡ true → in_subtree groups g h ≡ true → (in_subtree groups f g ≡ true) ⊎ (in_subtree groups g f ≡ true)
+pub in_subtree-line : (groups : List Group) (f g h : ℕ) → in_subtree groups f h ≡ true → in_subtree groups g h ≡ true →
+    (in_subtree groups f g ≡ true) ⊎ (in_subtree groups g f ≡ true)
 in_subtree-line groups f g h a b =
     let s = in_subtree-is groups f h a in
     let t = in_subtree-is groups g h b in
@@ -165,9 +188,25 @@ in_subtree-line groups f g h a b =
     let both : names_of s.above ++ s.more ≡ names_of t.above ++ t.more = sym s.names ∙ ap names_of same ∙ t.names in
     ⊎_elim
     (λ le. let w = front_front (names_of s.above) (names_of t.above) s.more t.more both le in
-    inl (in_subtree-from groups f g (record { above = s.above; below = t.above; more = w.0; path_above = s.path_above; path_below = t.path_above; names = w.1 })))
+    inl (in_subtree-from groups f g (record {
+      above = s.above;
+      below = t.above;
+      more = w.0;
+      path_above = s.path_above;
+      path_below =
+          t.path_above;
+      names = w.1;
+    })))
     (λ lt. let w = front_front (names_of t.above) (names_of s.above) t.more s.more (sym both) (omega arith) in
-    inr (in_subtree-from groups g f (record { above = t.above; below = s.above; more = w.0; path_above = t.path_above; path_below = s.path_above; names = w.1 })))
+    inr (in_subtree-from groups g f (record {
+      above = t.above;
+      below = s.above;
+      more = w.0;
+      path_above = t.path_above;
+      path_below =
+          s.path_above;
+      names = w.1;
+    })))
     (le_or_lt (length (names_of s.above)) (length (names_of t.above)))
 
 -- ---- what a change leaves
@@ -184,33 +223,41 @@ find-map p f same [] = refl
 find-map p f same (x ∷ xs) =
     ⊎_elim
     (λ t. cond-true (p (f x)) (Some (f x)) (find p (map f xs)) (same x ∙ t) ∙ ap (option_map f) (sym (cond-true (p x) (Some x) (find p xs) t)))
-    (λ n. cond-false (p (f x)) (Some (f x)) (find p (map f xs)) (same x ∙ n) ∙ find-map p f same xs ∙ ap (option_map f) (sym (cond-false (p x) (Some x) (find p xs) n)))
+    (λ n. cond-false (p (f x)) (Some (f x)) (find p (map f xs)) (same x ∙ n) ∙ find-map p f same xs
+    ∙ ap (option_map f) (sym (cond-false (p x) (Some x) (find p xs) n)))
     (cases_Bool (p x))
 
-map-same_path : (n : ℕ) (limit : Option ℕ) (o : Option Group) → option_map (λ (g : Group). g.path) (option_map (limited n limit) o) ≡ option_map (λ (g : Group). g.path) o
+map-same_path : (n : ℕ) (limit : Option ℕ) (o : Option Group) →
+    option_map (λ (g : Group). g.path) (option_map (limited n limit) o) ≡ option_map (λ (g : Group). g.path) o
 map-same_path n limit None = refl
 map-same_path n limit (Some g) = ap Some (limited-path n limit g)
 
-other_limit : (groups : List Group) (n k : ℕ) (limit : Option ℕ) (o : Option Group) → group_at groups k ≡ o → k ≢ n → option_and_then (λ (g : Group). g.limit) (option_map (limited n limit) o) ≡ option_and_then (λ (g : Group). g.limit) o
+other_limit : (groups : List Group) (n k : ℕ) (limit : Option ℕ) (o : Option Group) → group_at groups k ≡ o → k ≢ n →
+    option_and_then (λ (g : Group). g.limit) (option_map (limited n limit) o) ≡ option_and_then (λ (g : Group). g.limit) o
 other_limit groups n k limit None e other = refl
 other_limit groups n k limit (Some g) e other =
-    ap (λ (x : Group). x.limit) (cond-false (g.number == n) (record g { limit = limit }) g (ne_eqb g.number n (λ same. other (sym (group_at-contains groups k g e).1 ∙ same))))
+    ap (λ (x : Group). x.limit) (cond-false (g.number == n) (record g { limit = limit }) g
+    (ne_eqb g.number n (λ same. other (sym (group_at-contains groups k g e).1 ∙ same))))
 
 pub group_at-with : (groups : List Group) (n k : ℕ) (path : List ℕ) → k ≢ n → group_at (with_group groups n path) k ≡ group_at groups k
 unfolding group_at
 group_at-with groups n k path other =
     let new : Group = record { number = n; path = path; limit = None } in
     let none : find (λ (g : Group). g.number == k) (new ∷ []) ≡ None = cond-false (n == k) (Some new) None (ne_eqb n k (λ e. other (sym e))) in
-    find-append (λ (g : Group). g.number == k) groups (new ∷ []) ∙ ap (option_or (find (λ (g : Group). g.number == k) groups)) none ∙ or-none (find (λ (g : Group). g.number == k) groups)
+    find-append (λ (g : Group). g.number == k) groups (new ∷ []) ∙ ap (option_or (find (λ (g : Group). g.number == k) groups)) none
+    ∙ or-none (find (λ (g : Group). g.number == k) groups)
 
-pub group_at-with_new : (groups : List Group) (n : ℕ) (path : List ℕ) → has_group groups n ≡ false → group_at (with_group groups n path) n ≡ Some (record { number = n; path = path; limit = None })
+pub group_at-with_new : (groups : List Group) (n : ℕ) (path : List ℕ) → has_group groups n ≡ false →
+    group_at (with_group groups n path) n ≡ Some (record { number = n; path = path; limit = None })
 unfolding group_at has_group
 group_at-with_new groups n path free =
     let new : Group = record { number = n; path = path; limit = None } in
     let here : find (λ (g : Group). g.number == n) (new ∷ []) ≡ Some new = cond-true (n == n) (Some new) None (eq-eqb n n refl) in
-    find-append (λ (g : Group). g.number == n) groups (new ∷ []) ∙ ap (λ o. option_or o (find (λ (g : Group). g.number == n) (new ∷ []))) (no_some (find (λ (g : Group). g.number == n) groups) free) ∙ here
+    find-append (λ (g : Group). g.number == n) groups (new ∷ [])
+    ∙ ap (λ o. option_or o (find (λ (g : Group). g.number == n) (new ∷ []))) (no_some (find (λ (g : Group). g.number == n) groups) free) ∙ here
 
-pub group_at-limited : (groups : List Group) (n k : ℕ) (limit : Option ℕ) → group_at (with_limit groups n limit) k ≡ option_map (limited n limit) (group_at groups k)
+pub group_at-limited : (groups : List Group) (n k : ℕ) (limit : Option ℕ) →
+    group_at (with_limit groups n limit) k ≡ option_map (limited n limit) (group_at groups k)
 unfolding group_at with_limit
 group_at-limited groups n k limit = find-map (λ (g : Group). g.number == k) (limited n limit) (λ g. ap (λ m. m == k) (limited-number n limit g)) groups
 
@@ -226,7 +273,8 @@ has_group-as : (groups others : List Group) (k : ℕ) → group_at groups k ≡ 
 unfolding has_group
 has_group-as groups others k e = ap is_some e
 
-in_subtree-as : (groups others : List Group) (g h : ℕ) → path_of groups g ≡ path_of others g → path_of groups h ≡ path_of others h → in_subtree groups g h ≡ in_subtree others g h
+in_subtree-as : (groups others : List Group) (g h : ℕ) → path_of groups g ≡ path_of others g → path_of groups h ≡ path_of others h →
+    in_subtree groups g h ≡ in_subtree others g h
 unfolding in_subtree
 in_subtree-as groups others g h a b = ap (λ o. begins o (path_of groups h)) a ∙ ap (begins (path_of others g)) b
 
@@ -267,7 +315,8 @@ path_of-limited groups n k limit =
     ap (option_map (λ (g : Group). g.path)) (group_at-limited groups n k limit) ∙ map-same_path n limit (group_at groups k)
 
 pub in_subtree-limited : (groups : List Group) (n g h : ℕ) (limit : Option ℕ) → in_subtree (with_limit groups n limit) g h ≡ in_subtree groups g h
-in_subtree-limited groups n g h limit = in_subtree-as (with_limit groups n limit) groups g h (path_of-limited groups n g limit) (path_of-limited groups n h limit)
+in_subtree-limited groups n g h limit = in_subtree-as (with_limit groups n limit) groups g h (path_of-limited groups n g limit)
+    (path_of-limited groups n h limit)
 
 pub limit_of-limited_other : (groups : List Group) (n k : ℕ) (limit : Option ℕ) → k ≢ n → limit_of (with_limit groups n limit) k ≡ limit_of groups k
 unfolding limit_of
@@ -296,7 +345,8 @@ pub in_subtree-without : (groups : List Group) (n g h : ℕ) → g ≢ n → h �
 in_subtree-without groups n g h a b = in_subtree-as (without_group groups n) groups g h (path_of-without groups n g a) (path_of-without groups n h b)
 
 -- ---- the parent, and where a new group lies
-above_last : (a b more front : List (List ℕ)) (name : List ℕ) → b ≡ a ++ more → b ≡ front ++ name ∷ [] → (a ≡ b) ⊎ ((rest : List (List ℕ)) × (front ≡ a ++ rest))
+above_last : (a b more front : List (List ℕ)) (name : List ℕ) → b ≡ a ++ more → b ≡ front ++ name ∷ [] →
+    (a ≡ b) ⊎ ((rest : List (List ℕ)) × (front ≡ a ++ rest))
 above_last a b more front name x y =
     let one : length b ≡ length a + length more = ap length x ∙ length-append a more in
     let two : length b ≡ length front + 1 = ap length y ∙ length-append front (name ∷ []) in
@@ -310,11 +360,13 @@ unfolding parent_of
 parent_of-none groups h other e =
     cond-false (h == 0) _ _ (ne_eqb h 0 other) ∙ ap (option_and_then (λ p. number_at groups (parent_path p))) e
 
-parent_of-cases : (groups : List Group) (h p : ℕ) (o : Option (List ℕ)) → path_of groups h ≡ o → (h ≡ 0 → ⊥) → parent_of groups h ≡ Some p → (path : List ℕ) × (path_of groups h ≡ Some path) × (number_at groups (parent_path path) ≡ Some p)
+parent_of-cases : (groups : List Group) (h p : ℕ) (o : Option (List ℕ)) → path_of groups h ≡ o → (h ≡ 0 → ⊥) → parent_of groups h ≡ Some p →
+    (path : List ℕ) × (path_of groups h ≡ Some path) × (number_at groups (parent_path path) ≡ Some p)
 parent_of-cases groups h p None w other e = absurd (none-some p (sym (parent_of-none groups h other w) ∙ e))
 parent_of-cases groups h p (Some path) w other e = (path, w, sym (parent_of-below groups h path other w) ∙ e)
 
-parent_of-is : (groups : List Group) (h p : ℕ) → parent_of groups h ≡ Some p → (path : List ℕ) × (path_of groups h ≡ Some path) × (number_at groups (parent_path path) ≡ Some p)
+parent_of-is : (groups : List Group) (h p : ℕ) → parent_of groups h ≡ Some p →
+    (path : List ℕ) × (path_of groups h ≡ Some path) × (number_at groups (parent_path path) ≡ Some p)
 parent_of-is groups h p e =
     ⊎_elim
     (λ zero. absurd (none-some p (sym (parent_of-root groups h zero) ∙ e)))
@@ -335,7 +387,8 @@ in_subtree-parent_of groups h p facts e =
     in_subtree-paths groups p h (parent_path w.0) w.0 above w.1 ∙ begins_parent w.0 (path_of-formed groups h w.0 facts.paths w.1)
 
 -- who has a group in its subtree is the group or has its parent there
-pub in_subtree-above_parent : (groups : List Group) (g h p : ℕ) → AreGroups groups → parent_of groups h ≡ Some p → in_subtree groups g h ≡ true → (g ≡ h) ⊎ (in_subtree groups g p ≡ true)
+pub in_subtree-above_parent : (groups : List Group) (g h p : ℕ) → AreGroups groups → parent_of groups h ≡ Some p → in_subtree groups g h ≡ true →
+    (g ≡ h) ⊎ (in_subtree groups g p ≡ true)
 in_subtree-above_parent groups g h p facts e t =
     let w = parent_of-is groups h p e in
     let q = number_at-contains groups (parent_path w.0) p w.2 in
@@ -355,12 +408,15 @@ in_subtree-above_parent groups g h p facts e t =
     (λ whole.
     let path : s.above ≡ w.0 = names-injective s.above w.0 (path_of-formed groups g s.above facts.paths s.path_above) formed (whole ∙ ap names_of same) in
     inl (same_number groups g h w.0 facts (s.path_above ∙ ap Some path) w.1))
-    (λ front. inr (in_subtree-from groups g p (record { above = s.above; below = parent_path w.0; more = front.0; path_above = s.path_above; path_below = above; names = front.1 })))
+    (λ front. inr (in_subtree-from groups g p
+    (record { above = s.above; below = parent_path w.0; more = front.0; path_above = s.path_above; path_below = above; names = front.1 })))
     (above_last (names_of s.above) (names_of s.below) s.more (names_of (parent_path w.0)) n.0 s.names (ap names_of same ∙ n.1)))
     (cases_Bool (is_root w.0))
 
 -- no group lies below a path that no group has
-none_below : (groups : List Group) (path : List ℕ) → AreGroups groups → IsWellFormed path → is_root path ≡ false → is_some (number_at groups path) ≡ false → (k : ℕ) (r : Group) (more : List (List ℕ)) → Contains groups r → length (names_of r.path) ≤ k → names_of r.path ≡ names_of path ++ more → ⊥
+none_below : (groups : List Group) (path : List ℕ) → AreGroups groups → IsWellFormed path → is_root path ≡ false →
+    is_some (number_at groups path) ≡ false → (k : ℕ) (r : Group) (more : List (List ℕ)) → Contains groups r → length (names_of r.path) ≤ k →
+    names_of r.path ≡ names_of path ++ more → ⊥
 none_below groups path facts formed below fresh zero r more here le e =
     let some = has_name path below (begins_from_well_formed path formed) in
     let size : length (names_of r.path) ≡ length (names_of path) + length more = ap length e ∙ length-append (names_of path) more in
@@ -369,23 +425,28 @@ none_below groups path facts formed below fresh (suc k) r more here le e =
     let some = has_name path below (begins_from_well_formed path formed) in
     let size : length (names_of r.path) ≡ length (names_of path) + length more = ap length e ∙ length-append (names_of path) more in
     let own : IsWellFormed r.path = All-contains (λ x. IsWellFormed x.path) groups r facts.paths here in
-    let low : is_root r.path ≡ false = false_from_ne_true (is_root r.path) (λ t. let none : length (names_of r.path) ≡ 0 = ap length (names-root r.path t) in omega arith) in
+    let low : is_root r.path ≡ false = false_from_ne_true (is_root r.path)
+    (λ t. let none : length (names_of r.path) ≡ 0 = ap length (names-root r.path t) in omega arith) in
     let n = names_parent r.path own low in
     ⊎_elim
     (λ whole.
     let same : path ≡ r.path = names-injective path r.path formed own whole in
-    both_ways (is_some (number_at groups path)) fresh (ap (λ p. is_some (number_at groups p)) same ∙ ap is_some (number_at-there groups r facts.paths_distinct here)))
+    both_ways (is_some (number_at groups path)) fresh (ap (λ p. is_some (number_at groups p)) same
+    ∙ ap is_some (number_at-there groups r facts.paths_distinct here)))
     (λ front.
-    let up = some_is (number_at groups (parent_path r.path)) (All-contains (λ x. IsTrue (is_some (number_at groups (parent_path x.path)))) groups r facts.parents here) in
+    let up = some_is (number_at groups (parent_path r.path))
+    (All-contains (λ x. IsTrue (is_some (number_at groups (parent_path x.path)))) groups r facts.parents here) in
     let q = number_at-contains groups (parent_path r.path) up.0 up.1 in
     let names : names_of q.0.path ≡ names_of path ++ front.0 = ap names_of q.2 ∙ front.1 in
-    let shorter : length (names_of r.path) ≡ length (names_of (parent_path r.path)) + 1 = ap length n.1 ∙ length-append (names_of (parent_path r.path)) (n.0 ∷ []) in
+    let shorter : length (names_of r.path) ≡ length (names_of (parent_path r.path)) + 1 = ap length n.1
+    ∙ length-append (names_of (parent_path r.path)) (n.0 ∷ []) in
     let less : length (names_of q.0.path) ≡ length (names_of (parent_path r.path)) = ap (λ p. length (names_of p)) q.2 in
     none_below groups path facts formed below fresh k q.0 front.0 q.1 (omega arith) names)
     (above_last (names_of path) (names_of r.path) more (names_of (parent_path r.path)) n.0 e n.1)
 
 -- a new group has itself alone in its subtree
-pub in_subtree-with_new : (groups : List Group) (n h : ℕ) (path : List ℕ) → AreGroups groups → CanMake groups path → has_group groups n ≡ false → in_subtree (with_group groups n path) n h ≡ true → h ≡ n
+pub in_subtree-with_new : (groups : List Group) (n h : ℕ) (path : List ℕ) → AreGroups groups → CanMake groups path → has_group groups n ≡ false →
+    in_subtree (with_group groups n path) n h ≡ true → h ≡ n
 in_subtree-with_new groups n h path facts can free t =
     ⊎_elim (λ same. same)
     (λ other.
@@ -393,11 +454,13 @@ in_subtree-with_new groups n h path facts can free t =
     let above : s.above ≡ path = same_Some s.above path (sym s.path_above ∙ path_of-with_new groups n path free) in
     let w = path_of-is groups h s.below (sym (path_of-with groups n h path other) ∙ s.path_below) in
     let names : names_of w.0.path ≡ names_of path ++ s.more = ap names_of w.2 ∙ s.names ∙ ap (λ p. names_of p ++ s.more) above in
-    absurd (none_below groups path facts can.formed can.below_root can.fresh (length (names_of w.0.path)) w.0 s.more (group_at-contains groups h w.0 w.1).0 (omega arith) names))
+    absurd (none_below groups path facts can.formed can.below_root can.fresh (length (names_of w.0.path)) w.0 s.more
+    (group_at-contains groups h w.0 w.1).0 (omega arith) names))
     (cases_eq h n)
 
 -- a new group lies below its parent and those above that, and below no other
-pub in_subtree-with_new_above : (groups : List Group) (n g p : ℕ) (path : List ℕ) → AreGroups groups → CanMake groups path → has_group groups n ≡ false → number_at groups (parent_path path) ≡ Some p → g ≢ n → in_subtree (with_group groups n path) g n ≡ in_subtree groups g p
+pub in_subtree-with_new_above : (groups : List Group) (n g p : ℕ) (path : List ℕ) → AreGroups groups → CanMake groups path →
+    has_group groups n ≡ false → number_at groups (parent_path path) ≡ Some p → g ≢ n → in_subtree (with_group groups n path) g n ≡ in_subtree groups g p
 in_subtree-with_new_above groups n g p path facts can free e other =
     let q = number_at-contains groups (parent_path path) p e in
     let there = path_of-at groups q.0.number q.0 (group_at-there groups q.0 facts.numbers_distinct q.1) in
@@ -414,9 +477,18 @@ in_subtree-with_new_above groups n g p path facts can free e other =
     ⊎_elim
     (λ whole.
     let same : s.above ≡ path = names-injective s.above path (path_of-formed groups g s.above facts.paths above) can.formed (whole ∙ ap names_of below) in
-    let found : number_at groups path ≡ Some w.0.number = ap (number_at groups) (sym (w.2 ∙ same)) ∙ number_at-there groups w.0 facts.paths_distinct (group_at-contains groups g w.0 w.1).0 in
+    let found : number_at groups path ≡ Some w.0.number = ap (number_at groups) (sym (w.2 ∙ same))
+    ∙ number_at-there groups w.0 facts.paths_distinct (group_at-contains groups g w.0 w.1).0 in
     absurd (both_ways (is_some (number_at groups path)) can.fresh (ap is_some found)))
-    (λ front. in_subtree-from groups g p (record { above = s.above; below = parent_path path; more = front.0; path_above = above; path_below = parent; names = front.1 }))
+    (λ front. in_subtree-from groups g p (record {
+      above = s.above;
+      below = parent_path path;
+      more = front.0;
+      path_above = above;
+      path_below =
+          parent;
+      names = front.1;
+    }))
     (above_last (names_of s.above) (names_of s.below) s.more (names_of (parent_path path)) name.0 s.names (ap names_of below ∙ name.1)))
     (λ t.
     let s = in_subtree-is groups g p t in
@@ -427,11 +499,13 @@ in_subtree-with_new_above groups n g p path facts can free e other =
       more = s.more ++ name.0 ∷ [];
       path_above = old ∙ s.path_above;
       path_below = new;
-      names = name.1 ∙ ap (λ p. names_of p ++ name.0 ∷ []) (sym below) ∙ ap (λ ns. ns ++ name.0 ∷ []) s.names ∙ append_assoc (names_of s.above) s.more (name.0 ∷ []);
+      names = name.1 ∙ ap (λ p. names_of p ++ name.0 ∷ []) (sym below) ∙ ap (λ ns. ns ++ name.0 ∷ []) s.names
+          ∙ append_assoc (names_of s.above) s.more (name.0 ∷ []);
     }))
 
 -- a group lies one name below its parent
-pub parent_of-depth : (groups : List Group) (h p : ℕ) → AreGroups groups → parent_of groups h ≡ Some p → (below : List ℕ) × (above : List ℕ) × (path_of groups h ≡ Some below) × (path_of groups p ≡ Some above) × (depth_of below ≡ depth_of above + 1)
+pub parent_of-depth : (groups : List Group) (h p : ℕ) → AreGroups groups → parent_of groups h ≡ Some p →
+    (below : List ℕ) × (above : List ℕ) × (path_of groups h ≡ Some below) × (path_of groups p ≡ Some above) × (depth_of below ≡ depth_of above + 1)
 parent_of-depth groups h p facts e =
     let w = parent_of-is groups h p e in
     let q = number_at-contains groups (parent_path w.0) p w.2 in
@@ -451,6 +525,7 @@ pub root_there : (groups : List Group) → AreGroups groups → IsTrue (has_grou
 root_there groups facts = has_group-path groups 0 root_path (root_path_of groups facts)
 
 -- whoever was there before a group was made is there still
-pub has_group-with_kept : (groups : List Group) (n k : ℕ) (path : List ℕ) → has_group groups n ≡ false → IsTrue (has_group groups k) → IsTrue (has_group (with_group groups n path) k)
+pub has_group-with_kept : (groups : List Group) (n k : ℕ) (path : List ℕ) → has_group groups n ≡ false → IsTrue (has_group groups k) →
+    IsTrue (has_group (with_group groups n path) k)
 has_group-with_kept groups n k path free there =
     has_group-with groups n k path (λ same. both_ways (has_group groups n) free (ap (has_group groups) (sym same) ∙ there)) ∙ there

@@ -1,11 +1,15 @@
 -- What holds of the groups of a tree, and how a change keeps it. Serves the invariant of `Tree` and the contracts of its calls.
-use Rattle.std.proofs.Common.{◌≡◌, ◌≢◌, ℕ, zero, suc, ◌+◌, ◌<◌, ◌≤◌, Bool, true, false, not, cond, leb, ◌&&◌, ◌||◌, ◌==◌, nat_eq, nat_le, nat_lt, IsTrue, IsSomeAnd, Option, Some, None, is_some, is_none, IsNone, List, [], ◌∷◌, ◌++◌, length, take, drop, get_or, slice_get, map, filter, All, AllPairs, Contains, refl, sym, ap, ◌∙◌, subst, arith, ⊎_elim, lit≤, lit<}
+use Rattle.std.proofs.Common.{◌≡◌, ◌≢◌, ℕ, zero, suc, ◌+◌, ◌<◌, ◌≤◌, Bool, true, false, not, cond, leb, ◌&&◌, ◌||◌, ◌==◌, nat_eq, nat_le, nat_lt}
+use Rattle.std.proofs.Common.{IsTrue, IsSomeAnd, Option, Some, None, is_some, is_none, IsNone, List, [], ◌∷◌, ◌++◌, length, take, drop, get_or}
+use Rattle.std.proofs.Common.{slice_get, map, filter, All, AllPairs, Contains, refl, sym, ap, ◌∙◌, subst, arith, ⊎_elim, lit≤, lit<}
 use Rattle.std.specs.List.{find, list_all, list_any, starts_with}
 use Rattle.std.specs.Option.{option_map, option_and_then, option_or}
 use Rattle.std.specs.Str.{bytes_eq}
-use Rattle.std.proofs.lemmas.Bool.{eqb-true, eqb-false, eq-eqb, ne_eqb, leb-false, leb-true, ltb-false, and_from, and_parts, or_parts, cases_Bool, false≢true, true≢false, false_from_ne_true, not-false, not_from_false, both_ways, cond-true, cond-false, cond_both}
+use Rattle.std.proofs.lemmas.Bool.{eqb-true, eqb-false, eq-eqb, ne_eqb, leb-false, leb-true, ltb-false, and_from, and_parts, or_parts, cases_Bool}
+use Rattle.std.proofs.lemmas.Bool.{false≢true, true≢false, false_from_ne_true, not-false, not_from_false, both_ways, cond-true, cond-false, cond_both}
 use Rattle.std.proofs.lemmas.List.{take_at, length-map, get_or-map, length_push, at_drop_more, at_drop_all}
-use Rattle.std.proofs.lemmas.List.Elements.{All-push, All-map, filter_passes, All-cons, All-nil, Contains-get_or, All-head, All-tail, All-filter, All-contains, All-weaker}
+use Rattle.std.proofs.lemmas.List.Elements.{All-push, All-map, filter_passes, All-cons, All-nil, Contains-get_or, All-head, All-tail, All-filter}
+use Rattle.std.proofs.lemmas.List.Elements.{All-contains, All-weaker}
 use Rattle.std.proofs.lemmas.List.Folds.{find-append, list_any_at}
 use Rattle.std.proofs.lemmas.List.Filters.{length-filter_both}
 use Rattle.std.proofs.lemmas.List.Kept.{AllPairs-filter}
@@ -16,7 +20,8 @@ use Rattle.std.proofs.lemmas.List.Recursion.{found_at}
 use Rattle.std.proofs.lemmas.Option.{none-some, same_Some}
 use Rattle.std.proofs.lemmas.Slice.Eq.{bytes_eq-Decides}
 use Rattle.group_tree.specs.Path.{root_path, is_root, is_name, names_of, depth_of, parent_path, is_well_formed, IsWellFormed}
-use Rattle.group_tree.specs.Groups.{Group, the_root, group_at, number_at, has_group, path_of, begins, in_subtree, has_child, parent_of, make_fault, with_group, without_group, with_limit, limited, AreGroups}
+use Rattle.group_tree.specs.Groups.{Group, the_root, group_at, number_at, has_group, path_of, begins, in_subtree, has_child, parent_of, make_fault}
+use Rattle.group_tree.specs.Groups.{with_group, without_group, with_limit, limited, AreGroups}
 
 -- ---- finding
 module _ {X : Type 0} (p : X → Bool) where
@@ -103,17 +108,24 @@ number_at-there groups g distinct h =
     let test : Group → Bool = λ x. bytes_eq x.path g.path in
     let at : find test groups ≡ Some (get_or groups h.0 g) =
     found_at (find test) test Some None refl (λ _ _. refl) groups h.0 g h.1
-    (λ j below. false_from_ne_true (bytes_eq (get_or groups j g).path g.path) (λ e. distinct j h.0 g below h.1 ((bytes_eq-Decides (get_or groups j g).path g.path).0 e ∙ ap (λ (x : Group). x.path) (sym h.2))))
+    (λ j below. false_from_ne_true (bytes_eq (get_or groups j g).path g.path)
+    (λ e. distinct j h.0 g below h.1 ((bytes_eq-Decides (get_or groups j g).path g.path).0 e ∙ ap (λ (x : Group). x.path) (sym h.2))))
     ((bytes_eq-Decides (get_or groups h.0 g).path g.path).1 (ap (λ (x : Group). x.path) h.2)) in
     ap (option_map (λ (x : Group). x.number)) at ∙ ap (λ (x : Group). Some x.number) h.2
 
-pub number_at-contains : (groups : List Group) (path : List ℕ) (n : ℕ) → number_at groups path ≡ Some n → (g : Group) × Contains groups g × (g.path ≡ path) × (g.number ≡ n)
+pub number_at-contains : (groups : List Group) (path : List ℕ) (n : ℕ) → number_at groups path ≡ Some n →
+    (g : Group) × Contains groups g × (g.path ≡ path) × (g.number ≡ n)
 unfolding number_at
 number_at-contains groups path n e =
     let test : Group → Bool = λ x. bytes_eq x.path path in
     let some = some_is (find test groups) (sym (is_some-map (λ (x : Group). x.number) (find test groups)) ∙ ap is_some e) in
-    let g = some.0 in
-    (g, found_in test groups g some.1, (bytes_eq-Decides g.path path).0 (found_passes test groups g some.1), same_Some g.number n (ap (option_map (λ (x : Group). x.number)) (sym some.1) ∙ e))
+    let g = some.0 in (
+      g,
+      found_in test groups g some.1,
+      (bytes_eq-Decides g.path path).0 (found_passes test groups g some.1),
+      same_Some g.number n
+          (ap (option_map (λ (x : Group). x.number)) (sym some.1) ∙ e),
+    )
 
 pub path_of-at : (groups : List Group) (n : ℕ) (g : Group) → group_at groups n ≡ Some g → path_of groups n ≡ Some g.path
 unfolding path_of
@@ -131,7 +143,8 @@ path_of-formed groups n path formed e =
     let g = h.0 in
     subst IsWellFormed h.2 (All-contains (λ x. IsWellFormed x.path) groups g formed (group_at-contains groups n g h.1).0)
 
-pub in_subtree-paths : (groups : List Group) (g h : ℕ) (above below : List ℕ) → path_of groups g ≡ Some above → path_of groups h ≡ Some below → in_subtree groups g h ≡ starts_with bytes_eq (names_of below) (names_of above)
+pub in_subtree-paths : (groups : List Group) (g h : ℕ) (above below : List ℕ) → path_of groups g ≡ Some above → path_of groups h ≡ Some below →
+    in_subtree groups g h ≡ starts_with bytes_eq (names_of below) (names_of above)
 unfolding in_subtree
 in_subtree-paths groups g h above below a b = ap (λ o. begins o (path_of groups h)) a ∙ ap (λ o. begins (Some above) o) b
 
@@ -161,7 +174,8 @@ pub group_at-without : (groups : List Group) (n k : ℕ) → k ≢ n → group_a
 unfolding group_at without_group
 group_at-without groups n k other =
     find-filter (λ g. g.number == k) (λ g. not (g.number == n)) groups
-    (λ i d lt t. not_from_false ((get_or groups i d).number == n) (ne_eqb (get_or groups i d).number n (λ e. other (sym (eqb-true (get_or groups i d).number k t) ∙ e))))
+    (λ i d lt t. not_from_false ((get_or groups i d).number == n)
+    (ne_eqb (get_or groups i d).number n (λ e. other (sym (eqb-true (get_or groups i d).number k t) ∙ e))))
 
 -- ---- there are as many groups as numbers below n, where each of these is taken
 without-shorter : (groups : List Group) (n : ℕ) → IsTrue (has_group groups n) → length (without_group groups n) + 1 ≤ length groups
@@ -235,7 +249,8 @@ not_none (Some x) e = refl
 formed-short : (path : List ℕ) → IsWellFormed path → length path ≤ 512
 unfolding is_well_formed
 formed-short path h =
-    leb-true (length path) 512 (and_parts (leb (length path) 512) (starts_with nat_eq path root_path) (and_parts (leb (length path) 512 && starts_with nat_eq path root_path) (list_all is_name (names_of path)) h).0).0
+    leb-true (length path) 512 (and_parts (leb (length path) 512) (starts_with nat_eq path root_path)
+    (and_parts (leb (length path) 512 && starts_with nat_eq path root_path) (list_all is_name (names_of path)) h).0).0
 
 pub can_make : (groups : List Group) (path : List ℕ) → make_fault groups path ≡ None → CanMake groups path
 unfolding make_fault
@@ -263,16 +278,20 @@ find-with p xs x h =
     let some = some_is (find p xs) h in
     find-append p xs (x ∷ []) ∙ ap (λ o. option_or o (find p (x ∷ []))) some.1 ∙ sym some.1
 
-pub number_at-with : (groups : List Group) (g : Group) (path : List ℕ) → is_some (number_at groups path) ≡ true → number_at (groups ++ g ∷ []) path ≡ number_at groups path
+pub number_at-with : (groups : List Group) (g : Group) (path : List ℕ) → is_some (number_at groups path) ≡ true →
+    number_at (groups ++ g ∷ []) path ≡ number_at groups path
 unfolding number_at
 number_at-with groups g path h =
-    ap (option_map (λ (x : Group). x.number)) (find-with (λ x. bytes_eq x.path path) groups g (sym (is_some-map (λ (x : Group). x.number) (find (λ x. bytes_eq x.path path) groups)) ∙ h))
+    ap (option_map (λ (x : Group). x.number))
+    (find-with (λ x. bytes_eq x.path path) groups g (sym (is_some-map (λ (x : Group). x.number) (find (λ x. bytes_eq x.path path) groups)) ∙ h))
 
-root-with : (groups : List Group) (g : Group) → IsSomeAnd (slice_get groups 0) (λ x. (x.number ≡ 0) × (x.path ≡ root_path)) → IsSomeAnd (slice_get (groups ++ g ∷ []) 0) (λ x. (x.number ≡ 0) × (x.path ≡ root_path))
+root-with : (groups : List Group) (g : Group) → IsSomeAnd (slice_get groups 0) (λ x. (x.number ≡ 0) × (x.path ≡ root_path)) →
+    IsSomeAnd (slice_get (groups ++ g ∷ []) 0) (λ x. (x.number ≡ 0) × (x.path ≡ root_path))
 root-with [] g h = absurd h
 root-with (x ∷ xs) g h = h
 
-pub AreGroups-with : (groups : List Group) (n : ℕ) (path : List ℕ) → AreGroups groups → CanMake groups path → n < 64 → has_group groups n ≡ false → AreGroups (with_group groups n path)
+pub AreGroups-with : (groups : List Group) (n : ℕ) (path : List ℕ) → AreGroups groups → CanMake groups path → n < 64 → has_group groups n ≡ false →
+    AreGroups (with_group groups n path)
 AreGroups-with groups n path facts can below free =
     let g : Group = record { number = n; path = path; limit = None } in
     let more : length (groups ++ g ∷ []) ≡ length groups + 1 = length_push groups g in
@@ -283,23 +302,30 @@ AreGroups-with groups n path facts can below free =
       paths = All-push (λ x. IsWellFormed x.path) groups g facts.paths can.formed;
       depths = All-push (λ x. depth_of x.path ≤ 8) groups g facts.depths can.shallow;
       numbers_distinct = all_pairs_push (λ x y. x.number ≢ y.number) groups g facts.numbers_distinct
-          (λ k d lt e. eqb-false (get_or groups k d).number n (none_contains (λ x. x.number == n) groups (get_or groups k d) (sym (has_group-any groups n) ∙ free) (Contains-get_or groups k d lt)) e);
+          (λ k d lt e. eqb-false (get_or groups k d).number n
+          (none_contains (λ x. x.number == n) groups (get_or groups k d) (sym (has_group-any groups n) ∙ free) (Contains-get_or groups k d lt)) e);
       paths_distinct = all_pairs_push (λ x y. x.path ≢ y.path) groups g facts.paths_distinct
-          (λ k d lt e. both_ways (bytes_eq (get_or groups k d).path path) (none_contains (λ x. bytes_eq x.path path) groups (get_or groups k d) (sym (has_path-any groups path) ∙ can.fresh) (Contains-get_or groups k d lt)) ((bytes_eq-Decides (get_or groups k d).path path).1 e));
+          (λ k d lt e. both_ways (bytes_eq (get_or groups k d).path path)
+          (none_contains (λ x. bytes_eq x.path path) groups (get_or groups k d) (sym (has_path-any groups path) ∙ can.fresh)
+          (Contains-get_or groups k d lt)) ((bytes_eq-Decides (get_or groups k d).path path).1 e));
       parents = All-push (λ x. IsTrue (is_some (number_at (groups ++ g ∷ []) (parent_path x.path)))) groups g
-          (All-weaker (λ x. IsTrue (is_some (number_at groups (parent_path x.path)))) (λ x. IsTrue (is_some (number_at (groups ++ g ∷ []) (parent_path x.path)))) (λ x h. ap is_some (number_at-with groups g (parent_path x.path) h) ∙ h) groups facts.parents)
+          (All-weaker (λ x. IsTrue (is_some (number_at groups (parent_path x.path))))
+          (λ x. IsTrue (is_some (number_at (groups ++ g ∷ []) (parent_path x.path))))
+          (λ x h. ap is_some (number_at-with groups g (parent_path x.path) h) ∙ h) groups facts.parents)
           (ap is_some (number_at-with groups g (parent_path path) can.parent) ∙ can.parent);
     }
 
 -- ---- one group less
-pub in_subtree-parent : (groups : List Group) (g : Group) (n : ℕ) → AreGroups groups → Contains groups g → path_of groups n ≡ Some (parent_path g.path) → in_subtree groups n g.number ≡ true
+pub in_subtree-parent : (groups : List Group) (g : Group) (n : ℕ) → AreGroups groups → Contains groups g →
+    path_of groups n ≡ Some (parent_path g.path) → in_subtree groups n g.number ≡ true
 in_subtree-parent groups g n facts h above =
     let formed : IsWellFormed g.path = All-contains (λ x. IsWellFormed x.path) groups g facts.paths h in
     let own = path_of-at groups g.number g (group_at-there groups g facts.numbers_distinct h) in
     in_subtree-paths groups n g.number (parent_path g.path) g.path above own ∙ begins_parent g.path formed
 
 -- a path is that of a group still, where it isn't that of the group that was taken out
-pub number_at-without : (groups : List Group) (n : ℕ) (path : List ℕ) → AreGroups groups → (path_of groups n ≡ Some path → ⊥) → number_at (without_group groups n) path ≡ number_at groups path
+pub number_at-without : (groups : List Group) (n : ℕ) (path : List ℕ) → AreGroups groups → (path_of groups n ≡ Some path → ⊥) →
+    number_at (without_group groups n) path ≡ number_at groups path
 unfolding number_at without_group
 number_at-without groups n path facts other =
     ap (option_map (λ (x : Group). x.number))
@@ -307,22 +333,27 @@ number_at-without groups n path facts other =
     (λ i d lt t. let x = get_or groups i d in
     not_from_false (x.number == n) (ne_eqb x.number n (λ e.
     other (subst (λ m. path_of groups m ≡ Some path) e
-    (path_of-at groups x.number x (group_at-there groups x facts.numbers_distinct (Contains-get_or groups i d lt)) ∙ ap Some ((bytes_eq-Decides x.path path).0 t)))))))
+    (path_of-at groups x.number x (group_at-there groups x facts.numbers_distinct (Contains-get_or groups i d lt))
+    ∙ ap Some ((bytes_eq-Decides x.path path).0 t)))))))
 
-root-without : (groups : List Group) (n : ℕ) → n ≢ 0 → IsSomeAnd (slice_get groups 0) (λ x. (x.number ≡ 0) × (x.path ≡ root_path)) → IsSomeAnd (slice_get (without_group groups n) 0) (λ x. (x.number ≡ 0) × (x.path ≡ root_path))
+root-without : (groups : List Group) (n : ℕ) → n ≢ 0 → IsSomeAnd (slice_get groups 0) (λ x. (x.number ≡ 0) × (x.path ≡ root_path)) →
+    IsSomeAnd (slice_get (without_group groups n) 0) (λ x. (x.number ≡ 0) × (x.path ≡ root_path))
 unfolding without_group
 root-without [] n other h = absurd h
 root-without (x ∷ xs) n other h =
     let kept : not (x.number == n) ≡ true = not_from_false (x.number == n) (ne_eqb x.number n (λ e. other (sym e ∙ h.0))) in
-    subst (λ b. IsSomeAnd (slice_get (cond b (x ∷ filter (λ g. not (g.number == n)) xs) (filter (λ g. not (g.number == n)) xs)) 0) (λ y. (y.number ≡ 0) × (y.path ≡ root_path))) (sym kept) h
+    subst (λ b. IsSomeAnd (slice_get (cond b (x ∷ filter (λ g. not (g.number == n)) xs) (filter (λ g. not (g.number == n)) xs)) 0)
+    (λ y. (y.number ≡ 0) × (y.path ≡ root_path))) (sym kept) h
 
 -- the parent of each other group stays, since the one that is taken out has no child
-parents-without : (groups : List Group) (n : ℕ) → AreGroups groups → has_child groups n ≡ false → All (λ x. IsTrue (is_some (number_at (without_group groups n) (parent_path x.path)))) (without_group groups n)
+parents-without : (groups : List Group) (n : ℕ) → AreGroups groups → has_child groups n ≡ false →
+    All (λ x. IsTrue (is_some (number_at (without_group groups n) (parent_path x.path)))) (without_group groups n)
 unfolding without_group has_child
 parents-without groups n facts leaf =
     let test : Group → Bool = λ x. not (x.number == n) in
     let kept : All (λ x. (Contains groups x) × IsTrue (is_some (number_at groups (parent_path x.path)))) (filter test groups) =
-    All-filter test (λ x. (Contains groups x) × IsTrue (is_some (number_at groups (parent_path x.path)))) groups (λ k d lt. (Contains-get_or groups k d lt, facts.parents k d lt)) in
+    All-filter test (λ x. (Contains groups x) × IsTrue (is_some (number_at groups (parent_path x.path)))) groups
+    (λ k d lt. (Contains-get_or groups k d lt, facts.parents k d lt)) in
     let others : All (λ x. test x ≡ true) (filter test groups) = filter_passes test groups in
     λ k d lt.
     let x = get_or (filter test groups) k d in
@@ -353,12 +384,14 @@ pub parent_of-root : (groups : List Group) (n : ℕ) → n ≡ 0 → parent_of g
 unfolding parent_of
 parent_of-root groups n e = cond-true (n == 0) _ _ (eq-eqb n 0 e)
 
-pub parent_of-below : (groups : List Group) (n : ℕ) (path : List ℕ) → (n ≡ 0 → ⊥) → path_of groups n ≡ Some path → parent_of groups n ≡ number_at groups (parent_path path)
+pub parent_of-below : (groups : List Group) (n : ℕ) (path : List ℕ) → (n ≡ 0 → ⊥) → path_of groups n ≡ Some path →
+    parent_of groups n ≡ number_at groups (parent_path path)
 unfolding parent_of
 parent_of-below groups n path other e =
     cond-false (n == 0) _ _ (ne_eqb n 0 other) ∙ ap (option_and_then (λ p. number_at groups (parent_path p))) e
 
-pub parent-there : (groups : List Group) (n : ℕ) (path : List ℕ) → AreGroups groups → path_of groups n ≡ Some path → is_some (number_at groups (parent_path path)) ≡ true
+pub parent-there : (groups : List Group) (n : ℕ) (path : List ℕ) → AreGroups groups → path_of groups n ≡ Some path →
+    is_some (number_at groups (parent_path path)) ≡ true
 parent-there groups n path facts e =
     let h = path_of-is groups n path e in
     subst (λ p. is_some (number_at groups (parent_path p)) ≡ true) h.2
@@ -379,12 +412,14 @@ pub list_any-map : {X : Type 0} (p : X → Bool) (f : X → X) → ((x : X) → 
 list_any-map p f same [] = refl
 list_any-map p f same (x ∷ xs) = ap (λ b. b || list_any p (map f xs)) (same x) ∙ ap (λ b. p x || b) (list_any-map p f same xs)
 
-root-limited : (groups : List Group) (n : ℕ) (limit : Option ℕ) → IsSomeAnd (slice_get groups 0) (λ x. (x.number ≡ 0) × (x.path ≡ root_path)) → IsSomeAnd (slice_get (with_limit groups n limit) 0) (λ x. (x.number ≡ 0) × (x.path ≡ root_path))
+root-limited : (groups : List Group) (n : ℕ) (limit : Option ℕ) → IsSomeAnd (slice_get groups 0) (λ x. (x.number ≡ 0) × (x.path ≡ root_path)) →
+    IsSomeAnd (slice_get (with_limit groups n limit) 0) (λ x. (x.number ≡ 0) × (x.path ≡ root_path))
 unfolding with_limit
 root-limited [] n limit h = absurd h
 root-limited (x ∷ xs) n limit h = (limited-number n limit x ∙ h.0, limited-path n limit x ∙ h.1)
 
-has_path-limited : (groups : List Group) (n : ℕ) (limit : Option ℕ) (path : List ℕ) → is_some (number_at (with_limit groups n limit) path) ≡ is_some (number_at groups path)
+has_path-limited : (groups : List Group) (n : ℕ) (limit : Option ℕ) (path : List ℕ) →
+    is_some (number_at (with_limit groups n limit) path) ≡ is_some (number_at groups path)
 unfolding with_limit
 has_path-limited groups n limit path =
     has_path-any (map (limited n limit) groups) path
@@ -405,11 +440,16 @@ AreGroups-limited groups n limit facts =
     record {
       few = omega (arith, facts.few, length-map groups f);
       root = root-limited groups n limit facts.root;
-      numbers = All-map (λ (x : Group). x.number < 64) f groups (λ k d lt. subst (λ m. m < 64) (sym (limited-number n limit (get_or groups k d))) (facts.numbers k d lt));
-      paths = All-map (λ (x : Group). IsWellFormed x.path) f groups (λ k d lt. subst IsWellFormed (sym (limited-path n limit (get_or groups k d))) (facts.paths k d lt));
-      depths = All-map (λ (x : Group). depth_of x.path ≤ 8) f groups (λ k d lt. subst (λ p. depth_of p ≤ 8) (sym (limited-path n limit (get_or groups k d))) (facts.depths k d lt));
-      numbers_distinct = all_pairs_map (λ x y. x.number ≢ y.number) f groups (λ x y h e. h (sym (limited-number n limit x) ∙ e ∙ limited-number n limit y)) facts.numbers_distinct;
-      paths_distinct = all_pairs_map (λ x y. x.path ≢ y.path) f groups (λ x y h e. h (sym (limited-path n limit x) ∙ e ∙ limited-path n limit y)) facts.paths_distinct;
+      numbers = All-map (λ (x : Group). x.number < 64) f groups
+          (λ k d lt. subst (λ m. m < 64) (sym (limited-number n limit (get_or groups k d))) (facts.numbers k d lt));
+      paths = All-map (λ (x : Group). IsWellFormed x.path) f groups
+          (λ k d lt. subst IsWellFormed (sym (limited-path n limit (get_or groups k d))) (facts.paths k d lt));
+      depths = All-map (λ (x : Group). depth_of x.path ≤ 8) f groups
+          (λ k d lt. subst (λ p. depth_of p ≤ 8) (sym (limited-path n limit (get_or groups k d))) (facts.depths k d lt));
+      numbers_distinct = all_pairs_map (λ x y. x.number ≢ y.number) f groups
+          (λ x y h e. h (sym (limited-number n limit x) ∙ e ∙ limited-number n limit y)) facts.numbers_distinct;
+      paths_distinct = all_pairs_map (λ x y. x.path ≢ y.path) f groups
+          (λ x y h e. h (sym (limited-path n limit x) ∙ e ∙ limited-path n limit y)) facts.paths_distinct;
       parents = All-map (λ (x : Group). IsTrue (is_some (number_at (map f groups) (parent_path x.path)))) f groups
           (λ k d lt.
           ap (λ p. is_some (number_at (map f groups) (parent_path p))) (limited-path n limit (get_or groups k d))

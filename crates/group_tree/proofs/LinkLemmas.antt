@@ -1,6 +1,7 @@
 -- What a tree keeps by number beside its rows, and how a change keeps it. Serves the contracts of `Tree::new`, `make`,
 -- `set_max`, `remove`, `parent` and `depth`.
-use Rattle.std.proofs.Common.{◌≡◌, ◌≢◌, ℕ, ◌+◌, ◌<◌, false, not, cond, ◌==◌, IsTrue, All, Option, Some, None, List, [], ◌∷◌, ◌++◌, length, map, filter, get_or, set, replicate, Contains, is_some, true, refl, sym, ap, ◌∙◌, subst, arith, ⊎_elim, lit<, length-append}
+use Rattle.std.proofs.Common.{◌≡◌, ◌≢◌, ℕ, ◌+◌, ◌<◌, false, not, cond, ◌==◌, IsTrue, All, Option, Some, None, List, [], ◌∷◌, ◌++◌, length, map}
+use Rattle.std.proofs.Common.{filter, get_or, set, replicate, Contains, is_some, true, refl, sym, ap, ◌∙◌, subst, arith, ⊎_elim, lit<, length-append}
 use Rattle.std.specs.Option.{option_and_then, option_map_or}
 use Rattle.std.proofs.lemmas.Bool.{both_ways, cases_Bool, cases_eq, cond-false, cond-true, eq-eqb, ne_eqb}
 use Rattle.std.proofs.lemmas.List.{get_or_default, get_or-set_other, get_or-set_same, get_or-replicate, length-set, length-replicate}
@@ -9,11 +10,13 @@ use Rattle.std.proofs.lemmas.Option.{same_Some}
 use Rattle.group_tree.specs.declared.group.Group.{Group}
 use Rattle.group_tree.specs.declared.tree.Link.{Link}
 use Rattle.group_tree.specs.Path.{depth_of, names_of, parent_path}
-use Rattle.group_tree.specs.Groups.{the_root, initial_groups, has_group, limit_of, number_at, parent_of, path_of, with_group, with_limit, without_group, limited, AreGroups}
+use Rattle.group_tree.specs.Groups.{the_root, initial_groups, has_group, limit_of, number_at, parent_of, path_of, with_group, with_limit}
+use Rattle.group_tree.specs.Groups.{without_group, limited, AreGroups}
 use Rattle.group_tree.specs.Links.{AreLinks, link_at, root_link}
 use Rattle.group_tree.specs.Ancestors.{depth_at}
 use Rattle.group_tree.proofs.PathLemmas.{names_parent}
-use Rattle.group_tree.proofs.GroupLemmas.{CanMake, All-one, some_is, has_group-contains, has_group-is, group_at-contains, number_at-contains, number_at-there, path_of-at, path_of-is, parent_of-below, parent-there, limited-number, limited-path}
+use Rattle.group_tree.proofs.GroupLemmas.{CanMake, All-one, some_is, has_group-contains, has_group-is, group_at-contains, number_at-contains}
+use Rattle.group_tree.proofs.GroupLemmas.{number_at-there, path_of-at, path_of-is, parent_of-below, parent-there, limited-number, limited-path}
 
 -- ---- at first
 one_number : (x : Group) → Contains initial_groups x → x.number ≡ 0
@@ -52,9 +55,12 @@ no_own_parent groups path can e =
 -- the new path is no parent's
 no_new_parent : (groups : List Group) (path : List ℕ) (x : Group) → AreGroups groups → CanMake groups path → Contains groups x → path ≡ parent_path x.path → ⊥
 no_new_parent groups path x facts can here e =
-    both_ways (is_some (number_at groups path)) can.fresh (ap (λ q. is_some (number_at groups q)) e ∙ All-contains (λ (y : Group). IsTrue (is_some (number_at groups (parent_path y.path)))) groups x facts.parents here)
+    both_ways (is_some (number_at groups path)) can.fresh (ap (λ q. is_some (number_at groups q)) e
+    ∙ All-contains (λ (y : Group). IsTrue (is_some (number_at groups (parent_path y.path)))) groups x facts.parents here)
 
-pub AreLinks-with : (groups : List Group) (links : List Link) (n p : ℕ) (path : List ℕ) → AreGroups groups → AreLinks groups links → CanMake groups path → n < 64 → has_group groups n ≡ false → number_at groups (parent_path path) ≡ Some p → AreLinks (with_group groups n path) (set links n (record { parent = p; depth = depth_of path; limit = None }))
+pub AreLinks-with : (groups : List Group) (links : List Link) (n p : ℕ) (path : List ℕ) → AreGroups groups → AreLinks groups links →
+    CanMake groups path → n < 64 → has_group groups n ≡ false → number_at groups (parent_path path) ≡ Some p →
+    AreLinks (with_group groups n path) (set links n (record { parent = p; depth = depth_of path; limit = None }))
 AreLinks-with groups links n p path facts are can below free up =
     let row : Group = record { number = n; path = path; limit = None } in
     let link : Link = record { parent = p; depth = depth_of path; limit = None } in
@@ -65,7 +71,8 @@ AreLinks-with groups links n p path facts are can below free up =
       size = length-set links n link ∙ are.size;
       parents = λ x y hx hy e. ⊎_elim
           (λ old_x. ⊎_elim
-          (λ old_y. ap (λ (l : Link). l.parent) (get_or-set_other links n x.number link root_link (apart groups n x free old_x)) ∙ are.parents x y old_x old_y e)
+          (λ old_y. ap (λ (l : Link). l.parent) (get_or-set_other links n x.number link root_link (apart groups n x free old_x))
+          ∙ are.parents x y old_x old_y e)
           (λ new_y. absurd (no_new_parent groups path x facts can old_x (ap (λ (g : Group). g.path) new_y ∙ e)))
           (Contains-push_cases groups row y hy))
           (λ new_x.
@@ -109,7 +116,14 @@ was_row groups n limit x h =
     (All-map (λ (z : Group). WasRow groups n limit z) (limited n limit) groups
     (λ k d lt.
     let y = get_or groups k d in
-    record { row = y; here = Contains-get_or groups k d lt; number = sym (limited-number n limit y); path = sym (limited-path n limit y); limit_is = limited-limit n limit y }))
+    record {
+      row = y;
+      here = Contains-get_or groups k d lt;
+      number = sym (limited-number n limit y);
+      path = sym (limited-path n limit y);
+      limit_is =
+          limited-limit n limit y;
+    }))
     h
 
 -- the link of one group has another limit, and nothing else changes
@@ -126,18 +140,21 @@ module _ (links : List Link) (n : ℕ) (limit : Option ℕ) (within : n < length
   limit_set-parent : (k : ℕ) → (link_at (limit_set links n limit) k).parent ≡ (link_at links k).parent
   limit_set-parent k =
       ⊎_elim
-      (λ same. ap (λ j. (link_at (limit_set links n limit) j).parent) same ∙ ap (λ (l : Link). l.parent) limit_set-here ∙ ap (λ j. (link_at links j).parent) (sym same))
+      (λ same. ap (λ j. (link_at (limit_set links n limit) j).parent) same ∙ ap (λ (l : Link). l.parent) limit_set-here
+      ∙ ap (λ j. (link_at links j).parent) (sym same))
       (λ other. ap (λ (l : Link). l.parent) (limit_set-other k other))
       (cases_eq k n)
 
   limit_set-depth : (k : ℕ) → (link_at (limit_set links n limit) k).depth ≡ (link_at links k).depth
   limit_set-depth k =
       ⊎_elim
-      (λ same. ap (λ j. (link_at (limit_set links n limit) j).depth) same ∙ ap (λ (l : Link). l.depth) limit_set-here ∙ ap (λ j. (link_at links j).depth) (sym same))
+      (λ same. ap (λ j. (link_at (limit_set links n limit) j).depth) same ∙ ap (λ (l : Link). l.depth) limit_set-here
+      ∙ ap (λ j. (link_at links j).depth) (sym same))
       (λ other. ap (λ (l : Link). l.depth) (limit_set-other k other))
       (cases_eq k n)
 
-pub AreLinks-limited : (groups : List Group) (links : List Link) (n : ℕ) (limit : Option ℕ) → n < 64 → AreLinks groups links → AreLinks (with_limit groups n limit) (limit_set links n limit)
+pub AreLinks-limited : (groups : List Group) (links : List Link) (n : ℕ) (limit : Option ℕ) → n < 64 → AreLinks groups links →
+    AreLinks (with_limit groups n limit) (limit_set links n limit)
 AreLinks-limited groups links n limit below are =
     let within : n < length links = omega (arith, are.size) in
     record {
@@ -155,7 +172,8 @@ AreLinks-limited groups links n limit below are =
           let u = was_row groups n limit x hx in
           ⊎_elim
           (λ same.
-          let here : (link_at (limit_set links n limit) u.row.number).limit ≡ limit = ap (λ j. (link_at (limit_set links n limit) j).limit) same ∙ ap (λ (l : Link). l.limit) (limit_set-here links n limit within) in
+          let here : (link_at (limit_set links n limit) u.row.number).limit ≡ limit = ap (λ j. (link_at (limit_set links n limit) j).limit) same
+          ∙ ap (λ (l : Link). l.limit) (limit_set-here links n limit within) in
           ap (λ j. (link_at (limit_set links n limit) j).limit) (sym u.number) ∙ here
           ∙ sym (u.limit_is ∙ cond-true (u.row.number == n) limit u.row.limit (eq-eqb u.row.number n same)))
           (λ other.
@@ -182,7 +200,8 @@ AreLinks-without groups links n are = record {
 }
 
 -- ---- what a link tells
-pub parent-link : (groups : List Group) (links : List Link) (g : ℕ) → AreGroups groups → AreLinks groups links → IsTrue (has_group groups g) → (g ≡ 0 → ⊥) → parent_of groups g ≡ Some (link_at links g).parent
+pub parent-link : (groups : List Group) (links : List Link) (g : ℕ) → AreGroups groups → AreLinks groups links → IsTrue (has_group groups g) →
+    (g ≡ 0 → ⊥) → parent_of groups g ≡ Some (link_at links g).parent
 parent-link groups links g facts are there other =
     let w = has_group-is groups g there in
     let x = w.0 in
@@ -193,14 +212,16 @@ parent-link groups links g facts are there other =
     let up : (link_at links x.number).parent ≡ y.0.number = are.parents x y.0 c.0 y.1 y.2 in
     parent_of-below groups g x.path other own ∙ s.1 ∙ ap Some (sym (ap (λ k. (link_at links k).parent) (sym c.1) ∙ up ∙ y.3))
 
-pub depth-link : (groups : List Group) (links : List Link) (g : ℕ) → AreLinks groups links → IsTrue (has_group groups g) → (link_at links g).depth ≡ depth_at groups g
+pub depth-link : (groups : List Group) (links : List Link) (g : ℕ) → AreLinks groups links → IsTrue (has_group groups g) →
+    (link_at links g).depth ≡ depth_at groups g
 depth-link groups links g are there =
     let w = has_group-is groups g there in
     let x = w.0 in
     let c = group_at-contains groups g x w.1 in
     ap (λ k. (link_at links k).depth) (sym c.1) ∙ are.depths x c.0 ∙ sym (ap (λ o. option_map_or (λ q. depth_of q) o 0) (path_of-at groups g x w.1))
 
-pub limit-link : (groups : List Group) (links : List Link) (g : ℕ) → AreLinks groups links → IsTrue (has_group groups g) → (link_at links g).limit ≡ limit_of groups g
+pub limit-link : (groups : List Group) (links : List Link) (g : ℕ) → AreLinks groups links → IsTrue (has_group groups g) →
+    (link_at links g).limit ≡ limit_of groups g
 unfolding limit_of
 limit-link groups links g are there =
     let w = has_group-is groups g there in

@@ -1,9 +1,11 @@
 -- The names of a path and its bytes. Serves `src/names.rt` and what the tree says of paths.
-use Rattle.std.proofs.Common.{◌≡◌, ℕ, suc, ◌<◌, ◌≤◌, true, false, not, eqb, leb, get_or, Option, Some, None, MatchOption, Bor, ◌+◌, ◌-◌, length-append, nat_eq, List, [], ◌∷◌, ◌++◌, length, take, drop, refl, sym, ap, ◌∙◌, subst, arith, ⊎_elim, ◌&&◌}
+use Rattle.std.proofs.Common.{◌≡◌, ℕ, suc, ◌<◌, ◌≤◌, true, false, not, eqb, leb, get_or, Option, Some, None, MatchOption, Bor, ◌+◌, ◌-◌}
+use Rattle.std.proofs.Common.{length-append, nat_eq, List, [], ◌∷◌, ◌++◌, length, take, drop, refl, sym, ap, ◌∙◌, subst, arith, ⊎_elim, ◌&&◌}
 use Rattle.std.specs.List.{slice_split, list_any, before_last, suffix_len, count_by, onto_first, flat_map, starts_with, list_all}
 use Rattle.std.specs.Cmp.Lexicographic.{pointwise}
 use Rattle.std.specs.Str.{bytes_eq}
-use Rattle.std.proofs.lemmas.Bool.{eqb-true, eqb-false, eq-eqb, and_parts, cases_Bool, both_ways, or_cases, and_left, ne_eqb, not_from_true, not_from_false, false_from_ne_true, false≢true, cond-true, cond-false}
+use Rattle.std.proofs.lemmas.Bool.{eqb-true, eqb-false, eq-eqb, and_parts, cases_Bool, both_ways, or_cases, and_left, ne_eqb, not_from_true}
+use Rattle.std.proofs.lemmas.Bool.{not_from_false, false_from_ne_true, false≢true, cond-true, cond-false}
 use Rattle.std.proofs.lemmas.List.Splits.{slice_split-cons_yes, slice_split-cons_no, slice_split_none, length-slice_split}
 use Rattle.std.proofs.lemmas.List.{append_cancel_left, append-nil, get_or_at, get_or-append_right, take_at, length-take-le, take_rest}
 use Rattle.std.proofs.lemmas.List.Sums.{suffix_len_is}
@@ -120,7 +122,8 @@ has_name path e s =
     rw (names-below path s.0 e s.1, h.2) (omega arith)
 
 -- the names of one path begin those of another where its bytes do, up to a slash
-pub begins_from_bytes : (above below rest : List ℕ) → is_root above ≡ false → BeginsWithSlash above → below ≡ above ++ rest → AtSlash rest → starts_with bytes_eq (names_of below) (names_of above) ≡ true
+pub begins_from_bytes : (above below rest : List ℕ) → is_root above ≡ false → BeginsWithSlash above → below ≡ above ++ rest → AtSlash rest →
+    starts_with bytes_eq (names_of below) (names_of above) ≡ true
 begins_from_bytes above below [] e s b h =
     begins_from_names (names_of below) (names_of above) [] (ap names_of (b ∙ append-nil above) ∙ sym (append-nil (names_of above)))
 begins_from_bytes above below (x ∷ ys) e s b h =
@@ -129,12 +132,14 @@ begins_from_bytes above below (x ∷ ys) e s b h =
     begins_from_names (names_of below) (names_of above) (slice_split is_slash ys)
     (rw (names-below below (s.0 ++ 47 ∷ ys) (not_root-from_length below long) whole, names-below above s.0 e s.1) (split-append s.0 ys))
 
-pub bytes_from_begins : (above below : List ℕ) → is_root above ≡ false → BeginsWithSlash above → BeginsWithSlash below → starts_with bytes_eq (names_of below) (names_of above) ≡ true → (rest : List ℕ) × (below ≡ above ++ rest) × AtSlash rest
+pub bytes_from_begins : (above below : List ℕ) → is_root above ≡ false → BeginsWithSlash above → BeginsWithSlash below →
+    starts_with bytes_eq (names_of below) (names_of above) ≡ true → (rest : List ℕ) × (below ≡ above ++ rest) × AtSlash rest
 bytes_from_begins above below e s t h =
     let more = drop (length (names_of above)) (names_of below) in
     let names : names_of below ≡ names_of above ++ more = begins_names (names_of below) (names_of above) h in
     let some : 0 < length (names_of below) = rw names (omega (arith, length-append (names_of above) more, has_name above e s)) in
-    let bytes : slashed (names_of below) ≡ slashed (names_of above) ++ slashed more = ap slashed names ∙ flat_map-append (λ name. 47 ∷ name) (names_of above) more in (
+    let bytes : slashed (names_of below) ≡ slashed (names_of above) ++ slashed more = ap slashed names
+    ∙ flat_map-append (λ name. 47 ∷ name) (names_of above) more in (
       slashed more,
       sym (slashed-names below (not_root-from_names below some) t) ∙ bytes ∙ ap (λ x. x ++ slashed more) (slashed-names above e s),
       AtSlash-slashed more,
@@ -144,11 +149,13 @@ pub begins_root : (above below : List ℕ) → is_root above ≡ true → starts
 begins_root above below e = begins_from_names (names_of below) (names_of above) (names_of below) (sym (ap (λ x. x ++ names_of below) (names-root above e)))
 
 -- what is left of the one path behind the other decides it
-pub begins_empty : (above below rest : List ℕ) → is_root above ≡ false → BeginsWithSlash above → below ≡ above ++ rest → length rest ≡ 0 → starts_with bytes_eq (names_of below) (names_of above) ≡ true
+pub begins_empty : (above below rest : List ℕ) → is_root above ≡ false → BeginsWithSlash above → below ≡ above ++ rest → length rest ≡ 0 →
+    starts_with bytes_eq (names_of below) (names_of above) ≡ true
 begins_empty above below [] e s b h = begins_from_bytes above below [] e s b tt
 begins_empty above below (x ∷ xs) e s b h = absurd (omega arith)
 
-pub begins_byte : (above below rest : List ℕ) → is_root above ≡ false → BeginsWithSlash above → BeginsWithSlash below → below ≡ above ++ rest → 0 < length rest → eqb (get_or rest 0 0) 47 ≡ starts_with bytes_eq (names_of below) (names_of above)
+pub begins_byte : (above below rest : List ℕ) → is_root above ≡ false → BeginsWithSlash above → BeginsWithSlash below → below ≡ above ++ rest →
+    0 < length rest → eqb (get_or rest 0 0) 47 ≡ starts_with bytes_eq (names_of below) (names_of above)
 begins_byte above below [] e s t b h = absurd (omega arith)
 begins_byte above below (x ∷ xs) e s t b h =
     let named = starts_with bytes_eq (names_of below) (names_of above) in
@@ -160,7 +167,10 @@ begins_byte above below (x ∷ xs) e s t b h =
     eqb-false x 47 other (subst AtSlash (sym same) w.2))))
     (cases_Bool (eqb x 47))
 
-pub begins_nowhere : (above below : List ℕ) (r : Option (Bor (List ℕ))) → is_root above ≡ false → BeginsWithSlash above → BeginsWithSlash below → r ≡ None → MatchOption r (pointwise eqb (take (length above) below) above ≡ false) (λ x. (pointwise eqb (take (length above) below) above ≡ true) × (x.now ≡ drop (length above) below) × (length x.now + length above ≡ length below)) → false ≡ starts_with bytes_eq (names_of below) (names_of above)
+pub begins_nowhere : (above below : List ℕ) (r : Option (Bor (List ℕ))) → is_root above ≡ false → BeginsWithSlash above → BeginsWithSlash below →
+    r ≡ None → MatchOption r (pointwise eqb (take (length above) below) above ≡ false)
+    (λ x. (pointwise eqb (take (length above) below) above ≡ true) × (x.now ≡ drop (length above) below) × (length x.now + length above ≡ length below)) →
+    false ≡ starts_with bytes_eq (names_of below) (names_of above)
 begins_nowhere above below r e s t none h =
     let named = starts_with bytes_eq (names_of below) (names_of above) in
     let nowhere = strip_prefix_is Decides-eqb below above r h in
@@ -168,14 +178,20 @@ begins_nowhere above below r e s t none h =
     let w = bytes_from_begins above below e s t n in
     MatchOption-at_none _ _ none nowhere w.0 w.1))
 
-pub stripped : (above below : List ℕ) (r : Option (Bor (List ℕ))) (x : Bor (List ℕ)) → r ≡ Some x → MatchOption r (pointwise eqb (take (length above) below) above ≡ false) (λ x. (pointwise eqb (take (length above) below) above ≡ true) × (x.now ≡ drop (length above) below) × (length x.now + length above ≡ length below)) → below ≡ above ++ x.now
+pub stripped : (above below : List ℕ) (r : Option (Bor (List ℕ))) (x : Bor (List ℕ)) → r ≡ Some x →
+    MatchOption r (pointwise eqb (take (length above) below) above ≡ false)
+    (λ x. (pointwise eqb (take (length above) below) above ≡ true) × (x.now ≡ drop (length above) below) × (length x.now + length above ≡ length below)) →
+    below ≡ above ++ x.now
 stripped above below r x some h = MatchOption-at_some _ _ x some (strip_prefix_is Decides-eqb below above r h)
 
 -- what stands before the last slash, where that is found from the end
-before_last-at : (path : List ℕ) (end : ℕ) → end ≤ length path → ((k : ℕ) → end ≤ k → k < length path → get_or path k 0 ≡ 47 → ⊥) → (0 < end → get_or path (end - 1) 0 ≡ 47) → before_last is_slash path ≡ take (end - 1) path
+before_last-at : (path : List ℕ) (end : ℕ) → end ≤ length path → ((k : ℕ) → end ≤ k → k < length path → get_or path k 0 ≡ 47 → ⊥) →
+    (0 < end → get_or path (end - 1) 0 ≡ 47) → before_last is_slash path ≡ take (end - 1) path
 before_last-at path end fits others found =
     let behind : suffix_len (λ x. not (is_slash x)) path ≡ length path - end =
-    suffix_len_is (λ x. not (is_slash x)) path end 0 fits (λ k low high. not_from_false (is_slash (get_or path k 0)) (ne_eqb (get_or path k 0) 47 (others k low high))) (λ some. not_from_true (is_slash (get_or path (end - 1) 0)) (eq-eqb (get_or path (end - 1) 0) 47 (found some))) in
+    suffix_len_is (λ x. not (is_slash x)) path end 0 fits
+    (λ k low high. not_from_false (is_slash (get_or path k 0)) (ne_eqb (get_or path k 0) 47 (others k low high)))
+    (λ some. not_from_true (is_slash (get_or path (end - 1) 0)) (eq-eqb (get_or path (end - 1) 0) 47 (found some))) in
     let place : length path - suffix_len (λ x. not (is_slash x)) path - 1 ≡ end - 1 = omega arith in
     ap (λ n. take n path) place
 
@@ -183,13 +199,15 @@ pub or_root-some : (xs : List ℕ) → 0 < length xs → or_root xs ≡ xs
 or_root-some [] h = absurd (omega arith)
 or_root-some (x ∷ xs) h = refl
 
-pub parent_root : (path : List ℕ) (end : ℕ) → end ≤ length path → ((k : ℕ) → end ≤ k → k < length path → get_or path k 0 ≡ 47 → ⊥) → (0 < end → get_or path (end - 1) 0 ≡ 47) → end ≤ 1 → parent_path path ≡ 47 ∷ []
+pub parent_root : (path : List ℕ) (end : ℕ) → end ≤ length path → ((k : ℕ) → end ≤ k → k < length path → get_or path k 0 ≡ 47 → ⊥) →
+    (0 < end → get_or path (end - 1) 0 ≡ 47) → end ≤ 1 → parent_path path ≡ 47 ∷ []
 unfolding parent_path
 parent_root path end fits others found low =
     let none : end - 1 ≡ 0 = omega arith in
     ap or_root (before_last-at path end fits others found ∙ ap (λ n. take n path) none)
 
-pub parent_text : (path : List ℕ) (end : ℕ) → end ≤ length path → ((k : ℕ) → end ≤ k → k < length path → get_or path k 0 ≡ 47 → ⊥) → (0 < end → get_or path (end - 1) 0 ≡ 47) → 1 < end → parent_path path ≡ take (end - 1) path
+pub parent_text : (path : List ℕ) (end : ℕ) → end ≤ length path → ((k : ℕ) → end ≤ k → k < length path → get_or path k 0 ≡ 47 → ⊥) →
+    (0 < end → get_or path (end - 1) 0 ≡ 47) → 1 < end → parent_path path ≡ take (end - 1) path
 unfolding parent_path
 parent_text path end fits others found low =
     let size : length (take (end - 1) path) ≡ end - 1 = length-take-le (end - 1) path (omega arith) in
@@ -223,14 +241,16 @@ parent-split path above name e none =
     let size : length path ≡ length above + suc (length name) = ap length e ∙ length-append above (47 ∷ name) in
     let others : (k : ℕ) → length above + 1 ≤ k → k < length path → get_or path k 0 ≡ 47 → ⊥ =
     λ k low high at. no_slash-at name (k - (length above + 1)) none (omega arith)
-    (let behind : get_or (above ++ 47 ∷ name) k 0 ≡ get_or (47 ∷ name) (k - length above) 0 = get_or-append_right above (47 ∷ name) (length above) k 0 refl (omega arith) in
+    (let behind : get_or (above ++ 47 ∷ name) k 0 ≡ get_or (47 ∷ name) (k - length above) 0 =
+    get_or-append_right above (47 ∷ name) (length above) k 0 refl (omega arith) in
     let next : get_or (47 ∷ name) (k - length above) 0 ≡ get_or name (k - length above - 1) 0 = get_or_tail 47 name (k - length above) 0 (omega arith) in
     let same : k - length above - 1 ≡ k - (length above + 1) = omega arith in
     ap (λ j. get_or name j 0) (sym same) ∙ sym next ∙ sym behind ∙ ap (λ p. get_or p k 0) (sym e) ∙ at) in
     let place : length above + 1 - 1 ≡ length above = omega arith in
     let found : 0 < length above + 1 → get_or path (length above + 1 - 1) 0 ≡ 47 =
     λ _. ap (λ p. get_or p (length above + 1 - 1) 0) e ∙ get_or_at above 47 name 0 (length above + 1 - 1) (omega arith) in
-    ap or_root (before_last-at path (length above + 1) (omega arith) others found ∙ ap (λ p. take (length above + 1 - 1) p) e ∙ take_at above (47 ∷ name) (length above + 1 - 1) (omega arith))
+    ap or_root (before_last-at path (length above + 1) (omega arith) others found ∙ ap (λ p. take (length above + 1 - 1) p) e
+    ∙ take_at above (47 ∷ name) (length above + 1 - 1) (omega arith))
 
 pub all_names : (path : List ℕ) → IsWellFormed path → list_all is_name (names_of path) ≡ true
 unfolding is_well_formed
@@ -244,7 +264,8 @@ split_no_slash : (name : List ℕ) → list_any is_slash name ≡ false → slic
 split_no_slash name none =
     slice_split_none is_slash name (All-from_get_or (λ x. is_slash x ≡ false) name 0 (λ k lt. ne_eqb (get_or name k 0) 47 (no_slash-at name k none lt)))
 
-names_parent-at : (path rest above name : List ℕ) → IsWellFormed path → is_root path ≡ false → path ≡ 47 ∷ rest → path ≡ above ++ 47 ∷ name → list_any is_slash name ≡ false → names_of path ≡ names_of (parent_path path) ++ name ∷ []
+names_parent-at : (path rest above name : List ℕ) → IsWellFormed path → is_root path ≡ false → path ≡ 47 ∷ rest → path ≡ above ++ 47 ∷ name →
+    list_any is_slash name ≡ false → names_of path ≡ names_of (parent_path path) ++ name ∷ []
 names_parent-at path rest [] name formed e s p none =
     let one : names_of path ≡ name ∷ [] = names-below path name e p ∙ split_no_slash name none in
     let parent : parent_path path ≡ root_path = parent-split path [] name p none in
@@ -259,7 +280,8 @@ names_parent-at path rest (a ∷ as') name formed e s p none =
     (λ root.
     let empty : as' ≡ [] = cons_tail a 47 as' [] (root-from_test (a ∷ as') root) in
     let bad : names_of path ≡ [] ∷ name ∷ [] = names ∙ ap (λ b. slice_split is_slash b ++ name ∷ []) empty in
-    absurd (both_ways (list_all is_name (names_of path)) (ap (list_all is_name) bad ∙ and_left (is_name []) (list_all is_name (name ∷ [])) empty_is_no_name) (all_names path formed)))
+    absurd (both_ways (list_all is_name (names_of path)) (ap (list_all is_name) bad
+    ∙ and_left (is_name []) (list_all is_name (name ∷ [])) empty_is_no_name) (all_names path formed)))
     (λ below.
     let above : names_of (a ∷ as') ≡ slice_split is_slash as' = names-below (a ∷ as') as' below (ap (λ b. b ∷ as') slash) in
     names ∙ ap (λ ns. ns ++ name ∷ []) (sym above ∙ ap names_of (sym parent)))
@@ -282,6 +304,7 @@ begins_parent path formed =
     ⊎_elim
     (λ e.
     let parent : parent_path path ≡ root_path = ap parent_path (root-from_test path e) ∙ root_parent in
-    begins_from_names (names_of path) (names_of (parent_path path)) (names_of path) (sym (ap (λ p. names_of p ++ names_of path) parent ∙ ap (λ ns. ns ++ names_of path) (names-root root_path refl))))
+    begins_from_names (names_of path) (names_of (parent_path path)) (names_of path)
+    (sym (ap (λ p. names_of p ++ names_of path) parent ∙ ap (λ ns. ns ++ names_of path) (names-root root_path refl))))
     (λ e. let h = names_parent path formed e in begins_from_names (names_of path) (names_of (parent_path path)) (h.0 ∷ []) h.1)
     (cases_Bool (is_root path))

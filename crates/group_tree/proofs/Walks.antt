@@ -1,6 +1,7 @@
 -- A walk from a group up to the root, past the groups that pass a test. Serves callers that walk by `Tree::parent` or by
 -- `Tree::ancestors`.
-use Rattle.std.proofs.Common.{◌≡◌, ◌≢◌, ℕ, ◌<◌, Bool, true, false, not, ◌&&◌, Option, Some, None, List, [], ◌∷◌, refl, sym, ap, ◌∙◌, subst, arith, ⊎_elim, ◌⊎◌, inl, inr}
+use Rattle.std.proofs.Common.{◌≡◌, ◌≢◌, ℕ, ◌<◌, Bool, true, false, not, ◌&&◌, Option, Some, None, List, [], ◌∷◌, refl, sym, ap, ◌∙◌, subst, arith}
+use Rattle.std.proofs.Common.{⊎_elim, ◌⊎◌, inl, inr}
 use Rattle.std.specs.Option.{option_map_or}
 use Rattle.std.proofs.lemmas.Option.{none-some, same_Some}
 use Rattle.group_tree.specs.Ancestors.{depth_at, ancestors_of, ancestors_from, is_ahead, is_passed}
@@ -9,7 +10,8 @@ use Rattle.std.proofs.lemmas.Bool.{both_ways, cases_Bool, false_from_ne_true}
 use Rattle.group_tree.specs.declared.group.Group.{Group}
 use Rattle.group_tree.specs.Path.{depth_of}
 use Rattle.group_tree.specs.Groups.{has_group, in_subtree, path_of, parent_of, AreGroups}
-use Rattle.group_tree.proofs.CallerLemmas.{in_subtree-root, in_subtree-refl, in_subtree-trans, in_subtree-above, in_subtree-antisym, in_subtree-parent_of, in_subtree-above_parent, parent_of-depth}
+use Rattle.group_tree.proofs.CallerLemmas.{in_subtree-root, in_subtree-refl, in_subtree-trans, in_subtree-above, in_subtree-antisym}
+use Rattle.group_tree.proofs.CallerLemmas.{in_subtree-parent_of, in_subtree-above_parent, parent_of-depth}
 
 -- a parent's path has fewer names, so the walk ends
 pub parent_depth : (groups : List Group) (m p : ℕ) → AreGroups groups → parent_of groups m ≡ Some p → depth_at groups p < depth_at groups m
@@ -29,7 +31,8 @@ pub walked_start : (groups : List Group) (test : ℕ → Bool) (g : ℕ) → has
 walked_start groups test g there = record { on_path = in_subtree-refl groups g there; passed = λ k h. inr h }
 
 -- where m passes, the walk goes on to its parent
-pub walked_up : (groups : List Group) (test : ℕ → Bool) (g m p : ℕ) → AreGroups groups → WalkedTo groups test g m → test m ≡ true → parent_of groups m ≡ Some p → WalkedTo groups test g p
+pub walked_up : (groups : List Group) (test : ℕ → Bool) (g m p : ℕ) → AreGroups groups → WalkedTo groups test g m → test m ≡ true →
+    parent_of groups m ≡ Some p → WalkedTo groups test g p
 walked_up groups test g m p facts w passes e = record {
   on_path = in_subtree-trans groups p m g (in_subtree-parent_of groups m p facts e) w.on_path;
   passed = λ k h.
@@ -42,7 +45,8 @@ walked_up groups test g m p facts w passes e = record {
 }
 
 -- where the root passes, the whole path does
-pub walked_all : (groups : List Group) (test : ℕ → Bool) (g m : ℕ) → AreGroups groups → WalkedTo groups test g m → test m ≡ true → m ≡ 0 → (k : ℕ) → in_subtree groups k g ≡ true → test k ≡ true
+pub walked_all : (groups : List Group) (test : ℕ → Bool) (g m : ℕ) → AreGroups groups → WalkedTo groups test g m → test m ≡ true → m ≡ 0 → (k : ℕ) →
+    in_subtree groups k g ≡ true → test k ≡ true
 walked_all groups test g m facts w passes root k h =
     ⊎_elim (λ r. r)
     (λ above.
@@ -52,7 +56,8 @@ walked_all groups test g m facts w passes root k h =
     (w.passed k h)
 
 -- where m fails, each other group of the path that fails is an ancestor of m
-pub walked_lowest : (groups : List Group) (test : ℕ → Bool) (g m : ℕ) → WalkedTo groups test g m → (k : ℕ) → in_subtree groups k g ≡ true → test k ≡ false → in_subtree groups k m ≡ true
+pub walked_lowest : (groups : List Group) (test : ℕ → Bool) (g m : ℕ) → WalkedTo groups test g m → (k : ℕ) → in_subtree groups k g ≡ true →
+    test k ≡ false → in_subtree groups k m ≡ true
 walked_lowest groups test g m w k h fails = ⊎_elim (λ r. absurd (both_ways (test k) fails r)) (λ above. above) (w.passed k h)
 
 -- ---- the same walk, as a loop over `Tree::ancestors` makes it
@@ -69,7 +74,8 @@ pub record WalkLeft (groups : List Group) (test : ℕ → Bool) (g : ℕ) (left 
   pub passed : (k : ℕ) → in_subtree groups k g ≡ true → (test k ≡ true) ⊎ IsAhead groups k next
 
 -- at first all is left
-pub left_start : (groups : List Group) (test : ℕ → Bool) (g : ℕ) (left : List ℕ) → has_group groups g ≡ true → left ≡ ancestors_of groups g → WalkLeft groups test g left
+pub left_start : (groups : List Group) (test : ℕ → Bool) (g : ℕ) (left : List ℕ) → has_group groups g ≡ true → left ≡ ancestors_of groups g →
+    WalkLeft groups test g left
 left_start groups test g left there e = record {
   next = Some g;
   left_is = e;
@@ -83,7 +89,9 @@ pub record TurnAt (groups : List Group) (test : ℕ → Bool) (g m : ℕ) (rest 
   pub there : has_group groups m ≡ true
   pub rest_is : rest ≡ ancestors_from groups (parent_of groups m)
 
-turn_from : (groups : List Group) (test : ℕ → Bool) (g m : ℕ) (left rest : List ℕ) (o : Option ℕ) → AreGroups groups → left ≡ ancestors_from groups o → ((k : ℕ) → o ≡ Some k → in_subtree groups k g ≡ true) → ((k : ℕ) → in_subtree groups k g ≡ true → (test k ≡ true) ⊎ IsAhead groups k o) → left ≡ m ∷ rest → TurnAt groups test g m rest
+turn_from : (groups : List Group) (test : ℕ → Bool) (g m : ℕ) (left rest : List ℕ) (o : Option ℕ) → AreGroups groups →
+    left ≡ ancestors_from groups o → ((k : ℕ) → o ≡ Some k → in_subtree groups k g ≡ true) →
+    ((k : ℕ) → in_subtree groups k g ≡ true → (test k ≡ true) ⊎ IsAhead groups k o) → left ≡ m ∷ rest → TurnAt groups test g m rest
 turn_from groups test g m left rest None facts is on passed e = absurd (let bad : m ∷ rest ≡ [] = sym e ∙ is in cc)
 turn_from groups test g m left rest (Some k) facts is on passed e =
     let there : has_group groups k ≡ true = in_subtree-above groups k g (on k refl) in
@@ -96,11 +104,13 @@ turn_from groups test g m left rest (Some k) facts is on passed e =
       rest_is = others ∙ ap (λ j. ancestors_from groups (parent_of groups j)) same;
     }
 
-pub left_turn : (groups : List Group) (test : ℕ → Bool) (g m : ℕ) (left rest : List ℕ) → AreGroups groups → WalkLeft groups test g left → left ≡ m ∷ rest → TurnAt groups test g m rest
+pub left_turn : (groups : List Group) (test : ℕ → Bool) (g m : ℕ) (left rest : List ℕ) → AreGroups groups → WalkLeft groups test g left →
+    left ≡ m ∷ rest → TurnAt groups test g m rest
 left_turn groups test g m left rest facts w e = turn_from groups test g m left rest w.next facts w.left_is w.on_path w.passed e
 
 -- where it passes, the walk goes on
-on_from : (groups : List Group) (test : ℕ → Bool) (g m : ℕ) (rest : List ℕ) (o : Option ℕ) → AreGroups groups → TurnAt groups test g m rest → test m ≡ true → parent_of groups m ≡ o → WalkLeft groups test g rest
+on_from : (groups : List Group) (test : ℕ → Bool) (g m : ℕ) (rest : List ℕ) (o : Option ℕ) → AreGroups groups → TurnAt groups test g m rest →
+    test m ≡ true → parent_of groups m ≡ o → WalkLeft groups test g rest
 on_from groups test g m rest None facts turn passes e = record {
   next = None;
   left_is = turn.rest_is ∙ ap (ancestors_from groups) e;
@@ -116,17 +126,21 @@ on_from groups test g m rest (Some p) facts turn passes e =
       passed = up.passed;
     }
 
-pub left_on : (groups : List Group) (test : ℕ → Bool) (g m : ℕ) (rest : List ℕ) → AreGroups groups → TurnAt groups test g m rest → test m ≡ true → WalkLeft groups test g rest
+pub left_on : (groups : List Group) (test : ℕ → Bool) (g m : ℕ) (rest : List ℕ) → AreGroups groups → TurnAt groups test g m rest → test m ≡ true →
+    WalkLeft groups test g rest
 left_on groups test g m rest facts turn passes = on_from groups test g m rest (parent_of groups m) facts turn passes refl
 
 -- at the end all groups of the path have passed
-end_from : (groups : List Group) (test : ℕ → Bool) (g : ℕ) (o : Option ℕ) → AreGroups groups → ancestors_from groups o ≡ [] → ((m : ℕ) → o ≡ Some m → in_subtree groups m g ≡ true) → ((k : ℕ) → in_subtree groups k g ≡ true → (test k ≡ true) ⊎ IsAhead groups k o) → (k : ℕ) → in_subtree groups k g ≡ true → test k ≡ true
+end_from : (groups : List Group) (test : ℕ → Bool) (g : ℕ) (o : Option ℕ) → AreGroups groups → ancestors_from groups o ≡ [] →
+    ((m : ℕ) → o ≡ Some m → in_subtree groups m g ≡ true) → ((k : ℕ) → in_subtree groups k g ≡ true → (test k ≡ true) ⊎ IsAhead groups k o) →
+    (k : ℕ) → in_subtree groups k g ≡ true → test k ≡ true
 end_from groups test g None facts e on passed k h = ⊎_elim (λ t. t) (λ bad. absurd bad) (passed k h)
 end_from groups test g (Some m) facts e on passed k h =
     let both : m ∷ ancestors_from groups (parent_of groups m) ≡ [] = sym (ancestors_of-step groups m facts (in_subtree-above groups m g (on m refl))) ∙ e in
     absurd (cc)
 
-pub left_end : (groups : List Group) (test : ℕ → Bool) (g : ℕ) (left : List ℕ) → AreGroups groups → WalkLeft groups test g left → left ≡ [] → (k : ℕ) → in_subtree groups k g ≡ true → test k ≡ true
+pub left_end : (groups : List Group) (test : ℕ → Bool) (g : ℕ) (left : List ℕ) → AreGroups groups → WalkLeft groups test g left → left ≡ [] →
+    (k : ℕ) → in_subtree groups k g ≡ true → test k ≡ true
 left_end groups test g left facts w e = end_from groups test g w.next facts (sym w.left_is ∙ e) w.on_path w.passed
 
 -- ---- the same walk, with where it goes on
@@ -136,28 +150,34 @@ pub record WalkAt (groups : List Group) (test : ℕ → Bool) (g : ℕ) (next : 
   pub on_path : (m : ℕ) → next ≡ Some m → in_subtree groups m g ≡ true
   pub passed : (k : ℕ) → in_subtree groups k g ≡ true → (test k ≡ true) ⊎ IsAhead groups k next
 
-pub at_start : (groups : List Group) (test : ℕ → Bool) (g : ℕ) (left : List ℕ) → has_group groups g ≡ true → left ≡ ancestors_of groups g → WalkAt groups test g (Some g) left
+pub at_start : (groups : List Group) (test : ℕ → Bool) (g : ℕ) (left : List ℕ) → has_group groups g ≡ true → left ≡ ancestors_of groups g →
+    WalkAt groups test g (Some g) left
 at_start groups test g left there e = record {
   left_is = e;
   on_path = λ m same. subst (λ k. in_subtree groups k g ≡ true) (same_Some g m same) (in_subtree-refl groups g there);
   passed = λ k h. inr h;
 }
 
-pub at_turn : (groups : List Group) (test : ℕ → Bool) (g m : ℕ) (next : Option ℕ) (left rest : List ℕ) → AreGroups groups → WalkAt groups test g next left → left ≡ m ∷ rest → TurnAt groups test g m rest
+pub at_turn : (groups : List Group) (test : ℕ → Bool) (g m : ℕ) (next : Option ℕ) (left rest : List ℕ) → AreGroups groups →
+    WalkAt groups test g next left → left ≡ m ∷ rest → TurnAt groups test g m rest
 at_turn groups test g m next left rest facts w e = turn_from groups test g m left rest next facts w.left_is w.on_path w.passed e
 
 -- where something is left, its first is where the walk goes on
-next_from : (groups : List Group) (g m : ℕ) (left rest : List ℕ) (o : Option ℕ) → AreGroups groups → left ≡ ancestors_from groups o → ((k : ℕ) → o ≡ Some k → in_subtree groups k g ≡ true) → left ≡ m ∷ rest → o ≡ Some m
+next_from : (groups : List Group) (g m : ℕ) (left rest : List ℕ) (o : Option ℕ) → AreGroups groups → left ≡ ancestors_from groups o →
+    ((k : ℕ) → o ≡ Some k → in_subtree groups k g ≡ true) → left ≡ m ∷ rest → o ≡ Some m
 next_from groups g m left rest None facts is on e = absurd (let bad : m ∷ rest ≡ [] = sym e ∙ is in cc)
 next_from groups g m left rest (Some k) facts is on e =
-    let both : m ∷ rest ≡ k ∷ ancestors_from groups (parent_of groups k) = sym e ∙ is ∙ ancestors_of-step groups k facts (in_subtree-above groups k g (on k refl)) in
+    let both : m ∷ rest ≡ k ∷ ancestors_from groups (parent_of groups k) = sym e ∙ is
+    ∙ ancestors_of-step groups k facts (in_subtree-above groups k g (on k refl)) in
     let same : k ≡ m = cc in
     ap Some same
 
-pub at_next : (groups : List Group) (test : ℕ → Bool) (g m : ℕ) (next : Option ℕ) (left rest : List ℕ) → AreGroups groups → WalkAt groups test g next left → left ≡ m ∷ rest → next ≡ Some m
+pub at_next : (groups : List Group) (test : ℕ → Bool) (g m : ℕ) (next : Option ℕ) (left rest : List ℕ) → AreGroups groups →
+    WalkAt groups test g next left → left ≡ m ∷ rest → next ≡ Some m
 at_next groups test g m next left rest facts w e = next_from groups g m left rest next facts w.left_is w.on_path e
 
-pub at_on : (groups : List Group) (test : ℕ → Bool) (g m : ℕ) (rest : List ℕ) → AreGroups groups → TurnAt groups test g m rest → test m ≡ true → WalkAt groups test g (parent_of groups m) rest
+pub at_on : (groups : List Group) (test : ℕ → Bool) (g m : ℕ) (rest : List ℕ) → AreGroups groups → TurnAt groups test g m rest → test m ≡ true →
+    WalkAt groups test g (parent_of groups m) rest
 at_on groups test g m rest facts turn passes = at_from (parent_of groups m) refl
   where
     at_from : (o : Option ℕ) → parent_of groups m ≡ o → WalkAt groups test g o rest
@@ -175,7 +195,8 @@ at_on groups test g m rest facts turn passes = at_from (parent_of groups m) refl
         }
 
 -- a walk of which nothing is left is over
-pub at_end : (groups : List Group) (test : ℕ → Bool) (g : ℕ) (next : Option ℕ) (left : List ℕ) → AreGroups groups → WalkAt groups test g next left → left ≡ [] → next ≡ None
+pub at_end : (groups : List Group) (test : ℕ → Bool) (g : ℕ) (next : Option ℕ) (left : List ℕ) → AreGroups groups → WalkAt groups test g next left →
+    left ≡ [] → next ≡ None
 at_end groups test g next left facts w e = over next (sym w.left_is ∙ e) w.on_path
   where
     over : (o : Option ℕ) → ancestors_from groups o ≡ [] → ((m : ℕ) → o ≡ Some m → in_subtree groups m g ≡ true) → o ≡ None
@@ -184,7 +205,8 @@ at_end groups test g next left facts w e = over next (sym w.left_is ∙ e) w.on_
         let both : m ∷ ancestors_from groups (parent_of groups m) ≡ [] = sym (ancestors_of-step groups m facts (in_subtree-above groups m g (on m refl))) ∙ h in
         absurd (cc)
 
-pub at_end_passed : (groups : List Group) (test : ℕ → Bool) (g : ℕ) (next : Option ℕ) (left : List ℕ) → AreGroups groups → WalkAt groups test g next left → left ≡ [] → (k : ℕ) → in_subtree groups k g ≡ true → test k ≡ true
+pub at_end_passed : (groups : List Group) (test : ℕ → Bool) (g : ℕ) (next : Option ℕ) (left : List ℕ) → AreGroups groups →
+    WalkAt groups test g next left → left ≡ [] → (k : ℕ) → in_subtree groups k g ≡ true → test k ≡ true
 at_end_passed groups test g next left facts w e = end_from groups test g next facts (sym w.left_is ∙ e) w.on_path w.passed
 
 -- ---- whom the walk has passed
@@ -226,7 +248,8 @@ pub passed_on : (groups : List Group) (g m : ℕ) → AreGroups groups → in_su
 passed_on groups g m facts on = rw (on, ahead_of_own_parent groups m (parent_of groups m) facts refl) refl
 
 -- and nobody else is
-ahead_others : (groups : List Group) (m k : ℕ) (o : Option ℕ) → AreGroups groups → has_group groups m ≡ true → parent_of groups m ≡ o → k ≢ m → in_subtree groups k m ≡ is_ahead groups k o
+ahead_others : (groups : List Group) (m k : ℕ) (o : Option ℕ) → AreGroups groups → has_group groups m ≡ true → parent_of groups m ≡ o → k ≢ m →
+    in_subtree groups k m ≡ is_ahead groups k o
 ahead_others groups m k None facts there e other =
     false_from_ne_true (in_subtree groups k m) (λ t.
     let root : m ≡ 0 = parent_of-none_root groups m facts there e in
@@ -238,9 +261,11 @@ ahead_others groups m k (Some p) facts there e other =
     (λ same. absurd (other same))
     (λ up. t ∙ sym up)
     (in_subtree-above_parent groups k m p facts e t))
-    (λ f. f ∙ sym (false_from_ne_true (in_subtree groups k p) (λ up. both_ways (in_subtree groups k m) f (in_subtree-trans groups k p m up (in_subtree-parent_of groups m p facts e)))))
+    (λ f. f ∙ sym (false_from_ne_true (in_subtree groups k p)
+    (λ up. both_ways (in_subtree groups k m) f (in_subtree-trans groups k p m up (in_subtree-parent_of groups m p facts e)))))
     (cases_Bool (in_subtree groups k m))
 
-pub passed_other : (groups : List Group) (g m k : ℕ) → AreGroups groups → has_group groups m ≡ true → k ≢ m → is_passed groups g (Some m) k ≡ is_passed groups g (parent_of groups m) k
+pub passed_other : (groups : List Group) (g m k : ℕ) → AreGroups groups → has_group groups m ≡ true → k ≢ m →
+    is_passed groups g (Some m) k ≡ is_passed groups g (parent_of groups m) k
 passed_other groups g m k facts there other =
     ap (λ b. in_subtree groups k g && not b) (ahead_others groups m k (parent_of groups m) facts there refl other)

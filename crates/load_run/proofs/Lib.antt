@@ -1,7 +1,1 @@
-pub mod Cuts
-pub mod Desks
-pub mod Numerals
-pub mod Progress
-pub mod Readings
 pub mod Serving
-pub mod Verbs

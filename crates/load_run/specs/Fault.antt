@@ -1,9 +1,9 @@
 -- How the program ends.
 use Rattle.std.specs.Prelude.{ℕ, ◌≤◌, List, ⊤}
 use Rattle.load_run.specs.declared.fault.LineFault.TheVariants as line
-use Rattle.load_run.specs.declared.fault.ScriptFault.TheVariants as script
+use Rattle.script_lines.specs.declared.fault.ScriptFault.TheVariants as script
 use Rattle.load_run.specs.declared.fault.ProgramFault.{ProgramFault}
-use Rattle.load_run.specs.Script.{IsFirstBadLine}
+use Rattle.script_lines.specs.Script.{IsFirstBadLine}
 use Rattle.load_run.specs.declared.fault.ProgramFault.TheVariants.{Line, Script, BadConfig, Input, Output, NoMemory}
 
 -- where the fault is a bad line, it is the first that isn't good of what was read, for so many processors as may be

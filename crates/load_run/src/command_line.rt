@@ -62,7 +62,17 @@ fn fault_of(alloc: Global, error: &Error) -> LineFault {
 
 // The program as clap reads it.
 fn memcg<'a>(alloc: Global) -> Result<Command<'a>, AllocError> {
-    let replay = Command::new(alloc, "replay")
+    Command::new(alloc, "memcg")
+        .bin_name("memcg")?
+        .no_binary_name(true)
+        .about("Charges page frames to the groups of a tree")
+        .subcommand_required(true)
+        .subcommand(replay(alloc)?)
+}
+
+// Its one subcommand.
+fn replay<'a>(alloc: Global) -> Result<Command<'a>, AllocError> {
+    Command::new(alloc, "replay")
         .about("Runs the lines of a script, one after the other")
         .arg(size_option(
             alloc,
@@ -98,13 +108,7 @@ fn memcg<'a>(alloc: Global) -> Result<Command<'a>, AllocError> {
             "Pages that a processor prepays, 1 to 64; so far only 1 runs",
             64,
             "4",
-        ))?;
-    Command::new(alloc, "memcg")
-        .bin_name("memcg")?
-        .no_binary_name(true)
-        .about("Charges page frames to the groups of a tree")
-        .subcommand_required(true)
-        .subcommand(replay)
+        ))
 }
 
 // A number option from 1 to `most`.

@@ -1,10 +1,10 @@
 //! Why a command line, a script or a run of the program fails.
 
 ghost use Rattle.std.specs.Prelude.{◌≡◌};
-ghost use Rattle.load_run.specs.declared.fault.ScriptFault.TheVariants.{NoMemory};
 
 use group_tree::fault::Fault;
-use std::alloc::{AllocError, AllocFailed};
+use script_lines::fault::ScriptFault;
+use std::alloc::AllocError;
 use thiserror::Error;
 
 /// Why the words of the command line give no options.
@@ -17,33 +17,6 @@ pub enum LineFault {
     /// Memory ran out.
     #[error("no memory")]
     NoMemory(#[from(alloc)] AllocError),
-}
-
-/// Why a script gives no lines.
-#[derive(Clone, Copy, Debug, Error)]
-pub enum ScriptFault {
-    /// The first line that isn't in the grammar, counted from 1.
-    #[error("bad line {0}")]
-    BadLine(usize),
-    /// Memory ran out.
-    #[error("no memory")]
-    NoMemory,
-}
-
-impl From<AllocError> for ScriptFault {
-    ghost from_gives = { λ _ e. e ≡ NoMemory };
-
-    fn from(_error: AllocError) -> ScriptFault {
-        ScriptFault::NoMemory
-    }
-}
-
-impl<T: Drop> From<AllocFailed<T>> for ScriptFault {
-    ghost from_gives = { λ _ e. e ≡ NoMemory };
-
-    fn from(_error: AllocFailed<T>) -> ScriptFault {
-        ScriptFault::NoMemory
-    }
 }
 
 /// Why the program ends without its answers.

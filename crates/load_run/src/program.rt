@@ -4,15 +4,15 @@ ghost use Rattle.std.specs.Prelude.{◌≡◌, ◌≤◌, ◌↔◌, IfErr, IfOk
 ghost use Rattle.std.specs.Io.KnownBytes.{Appends};
 ghost use Rattle.load_run.specs.Answers.{IsAnswered, IsReplayed};
 ghost use Rattle.load_run.specs.Fault.{TellsFirstBadLine, status_of};
-ghost use Rattle.load_run.specs.Script.{IsScript};
+ghost use Rattle.script_lines.specs.Script.{IsScript};
 ghost use Rattle.load_run.specs.Settings.{HasSizesInRange, IsSingle};
 
 use crate::command_line::options;
 use crate::fault::{LineFault, ProgramFault};
-use crate::line::Line;
 use crate::replay::replay_lines;
-use crate::script::{MOST_INPUT, parse_script};
 use mem_core::config::Config;
+use script_lines::line::Line;
+use script_lines::script::{MOST_INPUT, parse_script};
 use std::alloc::{AllocError, Global};
 use std::convert::AsStr;
 use std::io::{ErrorKind, Read, Write};
@@ -74,7 +74,7 @@ fn lines_of<'a>(
     ensures lines { IfOk result (λ lines. IsScript config.now.cpus script.now lines.items) }
     ensures bad_line { IfErr result (TellsFirstBadLine script.now) }
 {
-    match parse_script(alloc, script, config) {
+    match parse_script(alloc, script, config.cpus) {
         Ok(lines) => Ok(lines),
         Err(fault) => Err(ProgramFault::Script(fault)),
     }

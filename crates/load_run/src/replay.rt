@@ -5,10 +5,10 @@ ghost use Rattle.std.specs.String.{string_bytes};
 ghost use Rattle.mem_core.specs.Config.{IsValidConfig};
 ghost use Rattle.load_run.specs.Answers.{AreAnswers, Serves};
 
-use crate::desk::Desk;
-use crate::line::{Command, Line};
-use crate::show::{write_blocks, write_show};
 use mem_core::config::Config;
+use script_desk::desk::Desk;
+use script_desk::show::{write_blocks, write_show};
+use script_lines::line::{Command, Line};
 use std::alloc::{AllocError, Global};
 
 /// Serves the lines at a new desk, in their order, and gives their answers, each of whose lines ends with

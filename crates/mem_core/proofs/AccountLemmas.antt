@@ -1,27 +1,28 @@
--- The accounts of the groups that are there change one after another (for `raise_peaks` and `note_max`).
-use Rattle.std.proofs.Common.{◌≡◌, ◌≢◌, ℕ, ◌+◌, ◌<◌, ◌||◌, Bool, true, false, cond, eqb, List, length, take, get_or, set, refl, sym, ◌∙◌, ap, subst, arith, inl, inr}
+-- The accounts of the groups that are there change one after another (for `follow`).
+use Rattle.std.proofs.Common.{◌≡◌, ◌≢◌, ℕ, ◌+◌, ◌<◌, ◌||◌, Bool, true, false, cond, eqb, List, length, take, get_or, set, refl, sym, ◌∙◌}
+use Rattle.std.proofs.Common.{ap, subst, arith, inl, inr}
 use Rattle.std.specs.Prelude.{AllPairs}
-use Rattle.std.proofs.lemmas.Bool.{cases_eq, cases_Bool, false≢true, eq-eqb, ne_eqb, false_from_ne_true}
+use Rattle.std.proofs.lemmas.Bool.{cases_eq, eq-eqb, ne_eqb}
 use Rattle.std.proofs.lemmas.List.{get_or-set_same, get_or-set_other, get_or_default, get_or-take, length-take-le}
 use Rattle.std.proofs.lemmas.List.Folds.{list_any_more, list_any_none}
 use Rattle.group_tree.specs.declared.group.Group.{Group}
-use Rattle.group_tree.specs.Groups.{has_group, in_subtree}
+use Rattle.group_tree.specs.Groups.{has_group}
 use Rattle.group_tree.proofs.GroupLemmas.{has_group-any}
-use Rattle.group_tree.proofs.CallerLemmas.{in_subtree-above}
-use Rattle.mem_core.specs.Events.{Account, new_account}
-use Rattle.mem_core.specs.Steps.{noted, peaked}
+use Rattle.mem_core.specs.Accounts.{Account, new_account}
 
 -- the account of each group that is there is changed, and no other
 abbrev pub AreChanged : List Group → (ℕ → Account → Account) → List Account → List Account → Type 0
 AreChanged groups f old new = (m : ℕ) → get_or new m new_account ≡ cond (has_group groups m) (f m (get_or old m new_account)) (get_or old m new_account)
 
-has_group-take_more : (groups : List Group) (i m : ℕ) (d : Group) → i < length groups → has_group (take (i + 1) groups) m ≡ (has_group (take i groups) m || eqb (get_or groups i d).number m)
+has_group-take_more : (groups : List Group) (i m : ℕ) (d : Group) → i < length groups
+    → has_group (take (i + 1) groups) m ≡ (has_group (take i groups) m || eqb (get_or groups i d).number m)
 has_group-take_more groups i m d h =
     has_group-any (take (i + 1) groups) m ∙ list_any_more (λ g. eqb g.number m) groups i d h
     ∙ ap (λ b. b || eqb (get_or groups i d).number m) (sym (has_group-any (take i groups) m))
 
 -- no group has the number of a later one
-not_yet : (groups : List Group) (i : ℕ) (d : Group) → AllPairs (λ x y. x.number ≢ y.number) groups → i < length groups → has_group (take i groups) (get_or groups i d).number ≡ false
+not_yet : (groups : List Group) (i : ℕ) (d : Group) → AllPairs (λ x y. x.number ≢ y.number) groups → i < length groups
+    → has_group (take i groups) (get_or groups i d).number ≡ false
 not_yet groups i d distinct h =
     has_group-any (take i groups) (get_or groups i d).number
     ∙ list_any_none (λ g. eqb g.number (get_or groups i d).number) (take i groups)
@@ -43,15 +44,20 @@ pub AreChanged-none : (groups : List Group) (f : ℕ → Account → Account) (o
 AreChanged-none groups f old m = ap (λ b. cond b (f m (get_or old m new_account)) (get_or old m new_account)) (sym (has_group-any (take 0 groups) m))
 
 -- one account more is changed
-AreChanged-more : (groups : List Group) (f : ℕ → Account → Account) (old new : List Account) (i : ℕ) (d : Group) (a : Account) → AllPairs (λ x y. x.number ≢ y.number) groups → i < length groups → (get_or groups i d).number < length new → AreChanged (take i groups) f old new → AreChanged (take (i + 1) groups) f old (set new (get_or groups i d).number (f (get_or groups i d).number (get_or new (get_or groups i d).number a)))
+AreChanged-more : (groups : List Group) (f : ℕ → Account → Account) (old new : List Account) (i : ℕ) (d : Group) (a : Account)
+    → AllPairs (λ x y. x.number ≢ y.number) groups → i < length groups → (get_or groups i d).number < length new
+    → AreChanged (take i groups) f old new
+    → AreChanged (take (i + 1) groups) f old (set new (get_or groups i d).number (f (get_or groups i d).number (get_or new (get_or groups i d).number a)))
 AreChanged-more groups f old new i d a distinct h inside changed m =
     let n : ℕ = (get_or groups i d).number in
     let v : Account = f n (get_or new n a) in
     let at : ℕ → Account = λ (k : ℕ). get_or old k new_account in
     elim (cases_eq m n) [
       | inl same ↦
-          let was : get_or new n a ≡ at n = get_or_default new n a new_account inside ∙ changed n ∙ ap (λ b. cond b (f n (at n)) (at n)) (not_yet groups i d distinct h) in
-          let now : has_group (take (i + 1) groups) n ≡ true = has_group-take_more groups i n d h ∙ or_true (has_group (take i groups) n) (eqb n n) (eq-eqb n n refl) in
+          let was : get_or new n a ≡ at n = get_or_default new n a new_account inside ∙ changed n
+          ∙ ap (λ b. cond b (f n (at n)) (at n)) (not_yet groups i d distinct h) in
+          let now : has_group (take (i + 1) groups) n ≡ true = has_group-take_more groups i n d h
+          ∙ or_true (has_group (take i groups) n) (eqb n n) (eq-eqb n n refl) in
           subst (λ (k : ℕ). get_or (set new n v) k new_account ≡ cond (has_group (take (i + 1) groups) k) (f k (at k)) (at k)) (sym same)
           (get_or-set_same new n v new_account inside ∙ ap (f n) was ∙ ap (λ b. cond b (f n (at n)) (at n)) (sym now))
       | inr other ↦
@@ -60,30 +66,20 @@ AreChanged-more groups f old new i d a distinct h inside changed m =
           get_or-set_other new n m v new_account other ∙ changed m ∙ ap (λ b. cond b (f m (at m)) (at m)) (sym now)
     ]
 
-pub AreChanged-step : (groups : List Group) (f : ℕ → Account → Account) (old new : List Account) (i n : ℕ) (d : Group) (a v : Account) → AllPairs (λ x y. x.number ≢ y.number) groups → i < length groups → n < length new → n ≡ (get_or groups i d).number → v ≡ f n (get_or new n a) → AreChanged (take i groups) f old new → AreChanged (take (i + 1) groups) f old (set new n v)
+pub AreChanged-step : (groups : List Group) (f : ℕ → Account → Account) (old new : List Account) (i n : ℕ) (d : Group) (a v : Account)
+    → AllPairs (λ x y. x.number ≢ y.number) groups → i < length groups → n < length new → n ≡ (get_or groups i d).number
+    → v ≡ f n (get_or new n a) → AreChanged (take i groups) f old new
+    → AreChanged (take (i + 1) groups) f old (set new n v)
 AreChanged-step groups f old new i n d a v distinct h inside number value changed =
     let k : ℕ = (get_or groups i d).number in
     let below : k < length new = omega arith in
     let here : v ≡ f k (get_or new k a) = value ∙ ap (λ (x : ℕ). f x (get_or new x a)) number in
     subst (λ (x : Account). AreChanged (take (i + 1) groups) f old (set new n x)) (sym here)
-    (subst (λ (x : ℕ). AreChanged (take (i + 1) groups) f old (set new x (f k (get_or new k a)))) (sym number) (AreChanged-more groups f old new i d a distinct h below changed))
+    (subst (λ (x : ℕ). AreChanged (take (i + 1) groups) f old (set new x (f k (get_or new k a)))) (sym number)
+    (AreChanged-more groups f old new i d a distinct h below changed))
 
--- all are changed, where the change leaves the accounts of numbers that no group has
-pub AreChanged-all : (groups : List Group) (f : ℕ → Account → Account) (old new : List Account) → ((m : ℕ) (a : Account) → has_group groups m ≡ false → f m a ≡ a) → AreChanged groups f old new → (m : ℕ) → get_or new m new_account ≡ f m (get_or old m new_account)
-AreChanged-all groups f old new absent changed m =
-    let a : Account = get_or old m new_account in
-    elim (cases_Bool (has_group groups m)) [
-      | inl there ↦ changed m ∙ ap (λ b. cond b (f m a) a) there
-      | inr not_there ↦ changed m ∙ ap (λ b. cond b (f m a) a) not_there ∙ sym (absent m a not_there)
-    ]
-
-not_above : (groups : List Group) (m g : ℕ) → has_group groups m ≡ false → in_subtree groups m g ≡ false
-not_above groups m g absent = false_from_ne_true (in_subtree groups m g) (λ t. false≢true (sym absent ∙ in_subtree-above groups m g t))
-
-pub peaked-absent : (groups : List Group) (usage : ℕ → ℕ) (g m : ℕ) (a : Account) → has_group groups m ≡ false → peaked groups usage g m a ≡ a
-peaked-absent groups usage g m a absent = rw (not_above groups m g absent) refl
-
-pub noted-absent : (groups : List Group) (g m : ℕ) (a : Account) → has_group groups g ≡ true → has_group groups m ≡ false → noted groups g m a ≡ a
-noted-absent groups g m a there absent =
-    let other : eqb m g ≡ false = ne_eqb m g (λ e. false≢true (sym absent ∙ ap (has_group groups) e ∙ there)) in
-    rw (not_above groups m g absent, other) refl
+-- all that are there are changed
+pub AreChanged-there : (groups : List Group) (f : ℕ → Account → Account) (old new : List Account)
+    → AreChanged groups f old new → (m : ℕ) → has_group groups m ≡ true
+    → get_or new m new_account ≡ f m (get_or old m new_account)
+AreChanged-there groups f old new changed m there = changed m ∙ ap (λ b. cond b (f m (get_or old m new_account)) (get_or old m new_account)) there

@@ -1,10 +1,6 @@
 -- The sizes that a zone may be booted with.
-use Rattle.std.specs.Prelude.{ℕ, ◌≤◌}
+use Rattle.std.specs.Prelude.{◌≤◌}
 use Rattle.mem_core.specs.declared.config.Config.{Config}
-
--- how many group numbers there are, from 0 on
-abbrev pub group_numbers : ℕ
-group_numbers = 64
 
 -- every size is in its range, and a processor's list holds a batch at least
 pub record IsValidConfig (c : Config) : Type 0 where

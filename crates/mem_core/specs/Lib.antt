@@ -1,12 +1,5 @@
+pub mod Accounts
 pub mod Config
-pub mod Places
-pub mod Run
-pub mod Limits
-pub mod Events
-pub mod Legal
-pub mod Headline
-pub mod Shown
-pub mod Steps
-pub mod Promise
-pub mod Laws
 pub mod Inside
+pub mod Promise
+pub mod Shown

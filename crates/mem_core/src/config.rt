@@ -7,7 +7,7 @@ ghost use Rattle.std.specs.Prelude.{◌↔◌, IsTrue};
 pub struct Config {
     /// Frames of the zone, numbered from 0: 1 to 65,536.
     pub frames: u32,
-    /// Processors, numbered from 1: 1 to 16. So far the core knows the first alone.
+    /// Processors, numbered from 1: 1 to 16.
     pub cpus: u32,
     /// Frames by which a processor's list is refilled or cut: 1 to 64.
     pub batch: u32,

@@ -51,7 +51,8 @@ module _ {V : Type 0} where
 
   -- a new seat
   pub total_more : (f : V → ℕ) (seats : List (List V)) (views : List V) → total_over f (seats ++ views ∷ []) ≡ total_over f seats + sum_over f views
-  total_more f seats views = sum_append (λ views. sum_over f views) seats (views ∷ []) ∙ ap (λ (n : ℕ). total_over f seats + n) (sum_one (λ views. sum_over f views) views)
+  total_more f seats views = sum_append (λ views. sum_over f views) seats (views ∷ [])
+      ∙ ap (λ (n : ℕ). total_over f seats + n) (sum_one (λ views. sum_over f views) views)
 
   pub total_same : (f g : V → ℕ) (seats : List (List V)) → ((v : V) → f v ≡ g v) → total_over f seats ≡ total_over g seats
   total_same f g seats same = sum_same (λ views. sum_over f views) (λ views. sum_over g views) seats (λ views. sum_same f g views same)
@@ -63,20 +64,33 @@ module _ {V : Type 0} where
   total_plus f g seats = sum_same (λ views. sum_over (λ v. f v + g v) views) (λ views. sum_over f views + sum_over g views) seats (λ views. sum_plus f g views)
       ∙ sum_plus (λ views. sum_over f views) (λ views. sum_over g views) seats
 
-  pub split_totals : (seats : List (List V)) (id : ℕ) (left right : List V) → get_elem? seats id ≡ some (left ++ right) → SameTotals seats (split_of seats id left right)
-  split_totals seats id left right is = λ f. omega (arith, total_more f (set seats id left) right, total_set f seats id (left ++ right) left is, sum_append f left right)
+  pub split_totals : (seats : List (List V)) (id : ℕ) (left right : List V) → get_elem? seats id ≡ some (left ++ right)
+      → SameTotals seats (split_of seats id left right)
+  split_totals seats id left right is = λ f. omega (
+    arith,
+    total_more f (set seats id left) right,
+    total_set f seats id (left ++ right) left is,
+    sum_append f left right,
+  )
 
   pub join_totals : (seats : List (List V)) (id other : ℕ) (views taken : List V) → get_elem? seats id ≡ some views
       → get_elem? (set seats id (views ++ taken)) other ≡ some taken → SameTotals seats (join_of seats id views other taken)
-  join_totals seats id other views taken is at = λ f. omega (arith, total_set f seats id views (views ++ taken) is, total_set f (set seats id (views ++ taken)) other taken [] at, sum_append f views taken)
+  join_totals seats id other views taken is at = λ f. omega (
+    arith,
+    total_set f seats id views (views ++ taken) is,
+    total_set f (set seats id (views ++ taken)) other taken [] at,
+    sum_append f views taken,
+  )
 
   -- one view of one seat is replaced
-  pub total_swap : (f : V → ℕ) (seats : List (List V)) (id : ℕ) (views : List V) (i : ℕ) (old new : V) → get_elem? seats id ≡ some views → get_elem? views i ≡ some old
+  pub total_swap : (f : V → ℕ) (seats : List (List V)) (id : ℕ) (views : List V) (i : ℕ) (old new : V) → get_elem? seats id
+      ≡ some views → get_elem? views i ≡ some old
       → total_over f (set seats id (set views i new)) + f old ≡ total_over f seats + f new
   total_swap f seats id views i old new at within = omega (arith, total_set f seats id views (set views i new) at, sum_set f views i old new within)
 
   -- one view of one seat is a part of all
-  pub total_view : (f : V → ℕ) (seats : List (List V)) (id : ℕ) (views : List V) (i : ℕ) (v : V) → get_elem? seats id ≡ some views → get_elem? views i ≡ some v → f v ≤ total_over f seats
+  pub total_view : (f : V → ℕ) (seats : List (List V)) (id : ℕ) (views : List V) (i : ℕ) (v : V) → get_elem? seats id ≡ some views
+      → get_elem? views i ≡ some v → f v ≤ total_over f seats
   total_view f seats id views i v at within = omega (arith, total_member f seats id views at, sum_member f views i v within)
 
   -- where the total of f is 0, so is that of g, which is 0 wherever f is

@@ -31,5 +31,6 @@ pub at_through : {X Y : Type 0} (H : X → Y) (h : ℕ → X) (k : ℕ) (x : X) 
 at_through H h k x = λ i. λ m. cond-ap H (m == k) x (h m) i
 
 -- states that differ in the phases, the references and the parts
-pub same_state : (s : State) {ph ph' : ℕ → Phase} {re re' : ℕ → ℕ → ℕ} {pa pa' : ℕ → Part} → ph ≡ ph' → re ≡ re' → pa ≡ pa' → ◌≡◌ {A = State} (record s { phases = ph; references = re; parts = pa }) (record s { phases = ph'; references = re'; parts = pa' })
+pub same_state : (s : State) {ph ph' : ℕ → Phase} {re re' : ℕ → ℕ → ℕ} {pa pa' : ℕ → Part} → ph ≡ ph' → re ≡ re' → pa ≡ pa' →
+    ◌≡◌ {A = State} (record s { phases = ph; references = re; parts = pa }) (record s { phases = ph'; references = re'; parts = pa' })
 same_state s a b c = λ i. record s { phases = a i; references = b i; parts = c i }

@@ -5,13 +5,15 @@ use Rattle.std.specs.List.{fold}
 use Rattle.std.proofs.lemmas.Bool.{cases_eq, ne_eqb, and_parts, leb-true}
 use Rattle.step_rules.specs.declared.step.Step.{Step}
 use Rattle.step_rules.specs.declared.step.Action.{Action}
-use Rattle.step_rules.specs.declared.step.Action.TheVariants.{Lock, Get, Put, Freeze, Unfreeze, TakeIn, PassBack, Consume, Credit, Report, Absorb, Fill, DrainStock}
+use Rattle.step_rules.specs.declared.step.Action.TheVariants.{Lock, Get, Put, Freeze, Unfreeze, TakeIn, PassBack, Consume, Credit, Report}
+use Rattle.step_rules.specs.declared.step.Action.TheVariants.{Absorb, Fill, DrainStock}
 use Rattle.step_rules.specs.declared.step.Answer.{Answer}
 use Rattle.step_rules.specs.declared.step.Answer.TheVariants.{Illegal, Done, Held, Left, Last, Took, Back, Pages}
 use Rattle.step_rules.specs.State.{Zone, Part, State, at_boot, with_at}
 use Rattle.step_rules.specs.Legal.{is_legal, IsAnswer, IsCounted, Allows, may_fill, is_of_group}
 use Rattle.step_rules.specs.After.{Run, after, state_of, IsLegalRun, with_back, paid, credited, filled, drained}
-use Rattle.step_rules.specs.Counts.{count_at, references_in, references_out, stock_in, stock_out, book_in, book_out, counted_over, ReferencesAreCounted, StocksAreCounted, BooksAreCounted}
+use Rattle.step_rules.specs.Counts.{count_at, references_in, references_out, stock_in, stock_out, book_in, book_out, counted_over}
+use Rattle.step_rules.specs.Counts.{ReferencesAreCounted, StocksAreCounted, BooksAreCounted}
 use Rattle.step_rules.proofs.Basics.{at_same, at_other}
 use Rattle.step_rules.proofs.Sound.{IsSound}
 use Rattle.step_rules.proofs.PhaseLemmas.{equal_test}
@@ -34,7 +36,8 @@ Count = ℕ → Action → Answer → ℕ
 
 -- a number of the state that each step changes by what it counts in and out is what the run counts
 counted : (gain loss : Count) (F : State → ℕ) → ((zone : Zone) → F (at_boot zone) ≡ 0) →
-    ((s : State) (seat : ℕ) (action : Action) (answer : Answer) → IsSound s → Allows s seat action answer → F s + gain seat action answer ≡ F (after s seat action answer) + loss seat action answer) →
+    ((s : State) (seat : ℕ) (action : Action) (answer : Answer) → IsSound s → Allows s seat action answer →
+    F s + gain seat action answer ≡ F (after s seat action answer) + loss seat action answer) →
     (zone : Zone) (run : Run) → IsLegalRun zone run → counted_over gain run ≡ F (state_of zone run) + counted_over loss run
 counted gain loss F boot each zone run legal =
     let f : Step × Answer → ℕ = λ e. gain e.0.seat e.0.action e.1 in
@@ -88,7 +91,8 @@ reference_changes references seat f n i o k m e =
         | inl here ↦
             let a = count_here seat f k m i same here in
             let b = count_here seat f k m o same here in
-            let c : changed references seat f n k m ≡ n = (λ j. changed references seat f n (same_back same j) (same_back here j)) ∙ changed_here references seat f n in
+            let c : changed references seat f n k m ≡ n = (λ j. changed references seat f n (same_back same j) (same_back here j))
+            ∙ changed_here references seat f n in
             let d : references k m ≡ references seat f = (λ j. references (same_back same j) (same_back here j)) in
             omega arith
         | inr not_here ↦
@@ -100,7 +104,8 @@ reference_changes references seat f n i o k m e =
       | inr other ↦
           let a = count_not seat f k m i (λ d _. other d) in
           let b = count_not seat f k m o (λ d _. other d) in
-          let c : changed references seat f n k m ≡ references k m = ap (λ (r : ℕ → ℕ). r m) (at_other references seat (with_at (references seat) f n) k (λ d. other (sym d))) in
+          let c : changed references seat f n k m ≡ references k m =
+          ap (λ (r : ℕ → ℕ). r m) (at_other references seat (with_at (references seat) f n) k (λ d. other (sym d))) in
           omega arith
     ]
   where
@@ -116,11 +121,13 @@ count_zero a b k m = same (a == k && b == m)
 
 -- references given, and references taken
 given : (references : Referring) (seat f n k m : ℕ) → references k m + count_at seat f k m n ≡ changed references seat f (references seat f + n) k m + 0
-given references seat f n k m = let a = reference_changes references seat f (references seat f + n) n 0 k m (omega arith) in let b = count_zero seat f k m in omega arith
+given references seat f n k m = let a = reference_changes references seat f (references seat f + n) n 0 k m (omega arith) in let b =
+    count_zero seat f k m in omega arith
 
 taken : (references : Referring) (seat f n k m : ℕ) → n ≤ references seat f →
     references k m + 0 ≡ changed references seat f (references seat f - n) k m + count_at seat f k m n
-taken references seat f n k m some = let a = reference_changes references seat f (references seat f - n) 0 n k m (omega arith) in let b = count_zero seat f k m in omega arith
+taken references seat f n k m some = let a = reference_changes references seat f (references seat f - n) 0 n k m (omega arith) in let b =
+    count_zero seat f k m in omega arith
 
 references_made : (k m : ℕ) (s : State) (seat : ℕ) (action : Action) (answer : Answer) → is_legal s seat action ≡ true →
     s.references k m + references_in k m seat action answer ≡ (after s seat action answer).references k m + references_out k m seat action answer
@@ -145,14 +152,16 @@ references_made k m s seat action answer legal = refl
 
 pub references_are_counted : ReferencesAreCounted
 references_are_counted zone run legal seat f =
-    counted (references_in seat f) (references_out seat f) (λ s. s.references seat f) (λ z. refl) (λ s k action answer sound ok. by_answer s k action answer ok) zone run legal
+    counted (references_in seat f) (references_out seat f) (λ s. s.references seat f) (λ z. refl)
+    (λ s k action answer sound ok. by_answer s k action answer ok) zone run legal
   where
     by_answer : (s : State) (k : ℕ) (action : Action) (answer : Answer) → Allows s k action answer →
         s.references seat f + references_in seat f k action answer ≡ (after s k action answer).references seat f + references_out seat f k action answer
     by_answer s k action answer ok =
         elim (allowed s k action answer ok) [
           | inl illegal ↦
-              subst (λ (a : Answer). s.references seat f + references_in seat f k action a ≡ (after s k action a).references seat f + references_out seat f k action a) (sym illegal)
+              subst (λ (a : Answer). s.references seat f + references_in seat f k action a ≡ (after s k action a).references seat f
+              + references_out seat f k action a) (sym illegal)
               (let a = no_references_in seat f k action in
               let b = no_references_out seat f k action in
               let c : (after s k action Illegal).references seat f ≡ s.references seat f = ap (λ (t : State). t.references seat f) (after_illegal s k action) in
@@ -218,7 +227,9 @@ stock_made p s seat (Report n) Done legal ok count = stayed pages_in s.parts sea
 stock_made p s seat (Absorb q) (Pages n) legal ok count = stayed pages_in s.parts q p _ refl
 stock_made p s seat (Fill q g n) Done legal ok count =
     let may : may_fill (s.parts q) g ≡ true = grind arith in
-    let none : (s.parts q).stock.pages ≡ 0 = equal_test (s.parts q).stock.pages 0 (and_parts ((s.parts q).stock.pages == 0) ((s.parts q).book == 0 || is_of_group (s.parts q).stock.group g) may).0 in
+    let none : (s.parts q).stock.pages ≡ 0 =
+    equal_test (s.parts q).stock.pages 0 (and_parts ((s.parts q).stock.pages == 0)
+    ((s.parts q).book == 0 || is_of_group (s.parts q).stock.group g) may).0 in
     gained pages_in s.parts q p (filled (s.parts q) g n) n (omega arith)
 stock_made p s seat (DrainStock q) (Pages n) legal ok count = lost pages_in s.parts q p (drained (s.parts q) n) n (omega arith)
 stock_made p s seat Lock answer legal ok count = refl
@@ -233,10 +244,12 @@ stocks_are_counted zone run legal p =
     by_answer s k action answer ok =
         elim (allowed s k action answer ok) [
           | inl illegal ↦
-              subst (λ (a : Answer). pages_in (s.parts p) + stock_in p k action a ≡ pages_in ((after s k action a).parts p) + stock_out p k action a) (sym illegal)
+              subst (λ (a : Answer). pages_in (s.parts p) + stock_in p k action a ≡ pages_in ((after s k action a).parts p) + stock_out p k action a)
+              (sym illegal)
               (let a = no_stock_in p k action in
               let b = no_stock_out p k action in
-              let c : pages_in ((after s k action Illegal).parts p) ≡ pages_in (s.parts p) = ap (λ (t : State). pages_in (t.parts p)) (after_illegal s k action) in
+              let c : pages_in ((after s k action Illegal).parts p) ≡ pages_in (s.parts p) =
+              ap (λ (t : State). pages_in (t.parts p)) (after_illegal s k action) in
               omega arith)
           | inr made ↦ stock_made p s k action answer made.legal made.answered made.counted
         ]
@@ -251,7 +264,8 @@ book_made : (p : ℕ) (s : State) (seat : ℕ) (action : Action) (answer : Answe
 book_made p s seat action Illegal sound legal ok count =
     let a = no_book_in p seat action in
     let b = no_book_out p seat action in
-    let c : book_in_part ((after s seat action Illegal).parts p) ≡ book_in_part (s.parts p) = ap (λ (t : State). book_in_part (t.parts p)) (after_illegal s seat action) in
+    let c : book_in_part ((after s seat action Illegal).parts p) ≡ book_in_part (s.parts p) =
+    ap (λ (t : State). book_in_part (t.parts p)) (after_illegal s seat action) in
     omega arith
 book_made p s seat (Put f) Last sound legal ok count = stayed_last book_in_part s.parts seat p f refl
 book_made p s seat (TakeIn f) Done sound legal ok count = stayed book_in_part s.parts seat p _ refl
@@ -278,10 +292,12 @@ books_are_counted zone run legal p =
     by_answer s k action answer sound ok =
         elim (allowed s k action answer ok) [
           | inl illegal ↦
-              subst (λ (a : Answer). book_in_part (s.parts p) + book_in p k action a ≡ book_in_part ((after s k action a).parts p) + book_out p k action a) (sym illegal)
+              subst (λ (a : Answer). book_in_part (s.parts p) + book_in p k action a ≡ book_in_part ((after s k action a).parts p)
+              + book_out p k action a) (sym illegal)
               (let a = no_book_in p k action in
               let b = no_book_out p k action in
-              let c : book_in_part ((after s k action Illegal).parts p) ≡ book_in_part (s.parts p) = ap (λ (t : State). book_in_part (t.parts p)) (after_illegal s k action) in
+              let c : book_in_part ((after s k action Illegal).parts p) ≡ book_in_part (s.parts p) =
+              ap (λ (t : State). book_in_part (t.parts p)) (after_illegal s k action) in
               omega arith)
           | inr made ↦ book_made p s k action answer sound made.legal made.answered made.counted
         ]

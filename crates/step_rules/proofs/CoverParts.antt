@@ -54,7 +54,8 @@ any_changed p parts q F same =
       | inl e ↦ own_changed p parts q F e
       | inr ne ↦
           part_changed p parts q (F (parts q))
-          ∙ ap (with_at (hide_parts p parts) q) (cond-false (q == p) (F (parts q)) (hide_part (F (parts q))) (ne_eqb q p ne) ∙ same ∙ ap F (sym (other_part p parts q ne)))
+          ∙ ap (with_at (hide_parts p parts) q) (cond-false (q == p) (F (parts q)) (hide_part (F (parts q))) (ne_eqb q p ne) ∙ same
+          ∙ ap F (sym (other_part p parts q ne)))
     ]
 
 -- another processor's change that the cover hides
@@ -81,7 +82,8 @@ own_reference p references seat f own =
     ])
 
 pub other_reference : (p : ℕ) (references : Referring) (seat f : ℕ) → (seat ≡ 0 → ⊥) → (seat ≡ p → ⊥) → hide_references p references seat f ≡ 0
-other_reference p references seat f ne other = cond-false (seat == 0 || seat == p) (references seat f) 0 (or_from (seat == 0) (seat == p) (ne_eqb seat 0 ne) (ne_eqb seat p other))
+other_reference p references seat f ne other =
+    cond-false (seat == 0 || seat == p) (references seat f) 0 (or_from (seat == 0) (seat == p) (ne_eqb seat 0 ne) (ne_eqb seat p other))
 
 pub own_referred : (p : ℕ) (references : Referring) (seat f n : ℕ) → (seat ≡ 0) ⊎ (seat ≡ p) →
     hide_references p (changed references seat f n) ≡ changed (hide_references p references) seat f n

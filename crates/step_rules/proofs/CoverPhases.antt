@@ -8,12 +8,14 @@ use Rattle.step_rules.specs.declared.phase.Way.TheVariants.{OnList, PassingBack}
 use Rattle.step_rules.specs.declared.phase.Stage.TheVariants.{FreshAt, FreshPassing, Collected, Bare, Live, BackAt, BackPassing, Ended}
 use Rattle.step_rules.specs.declared.phase.Phase.{Phase}
 use Rattle.step_rules.specs.declared.phase.Phase.TheVariants.{InZone, Lent, Head, Tail}
-use Rattle.step_rules.specs.Phases.{Kind, Listed, Fresh, Back, is_free, has_as, passes_out, passes_back, is_head_in_hand, may_return, unit_of, at_stage, passed_back, collected}
+use Rattle.step_rules.specs.Phases.{Kind, Listed, Fresh, Back, is_free, has_as, passes_out, passes_back, is_head_in_hand, may_return}
+use Rattle.step_rules.specs.Phases.{unit_of, at_stage, passed_back, collected}
 use Rattle.step_rules.specs.State.{Zone, with_at, free_in}
 use Rattle.step_rules.specs.After.{with_block, placed_phase, is_within, without_unit, unit_size}
 use Rattle.step_rules.specs.Cover.{hide_phase}
 use Rattle.step_rules.proofs.Basics.{at_through, cond-ap}
-use Rattle.step_rules.proofs.PhaseLemmas.{by_kind, InHand, WasCollected, WasBare, WasEnded, CameBack, FromList, FromFresh, FromBack, Returns, AsEnded, AsDrop, listed_is, fresh_is, back_is}
+use Rattle.step_rules.proofs.PhaseLemmas.{by_kind, InHand, WasCollected, WasBare, WasEnded, CameBack, FromList, FromFresh, FromBack}
+use Rattle.step_rules.proofs.PhaseLemmas.{Returns, AsEnded, AsDrop, listed_is, fresh_is, back_is}
 
 at_cond : {Y : Type 0} (T : Phase → Y) (b : Bool) (x y : Phase) → T y ≡ T x → T (cond b x y) ≡ T x
 at_cond T true x y e = refl
@@ -87,7 +89,8 @@ pub record GoesOn (p : ℕ) (move : Phase → Phase) (x : Phase) : Type 0 where
 -- the phases under the cover after a frame went on
 pub gone_on : (p : ℕ) (phases : ℕ → Phase) (f : ℕ) (move : Phase → Phase) → GoesOn p move (phases f) →
     (λ (m : ℕ). hide_phase p (with_at phases f (move (phases f)) m)) ≡ with_at (λ m. hide_phase p (phases m)) f (move (hide_phase p (phases f)))
-gone_on p phases f move goes = at_through (hide_phase p) phases f (move (phases f)) ∙ ap (with_at (λ m. hide_phase p (phases m)) f) (goes.after ∙ ap move (sym goes.before))
+gone_on p phases f move goes = at_through (hide_phase p) phases f (move (phases f))
+    ∙ ap (with_at (λ m. hide_phase p (phases m)) f) (goes.after ∙ ap move (sym goes.before))
 
 at_phase : (p : ℕ) (move : Phase → Phase) (x y : Phase) → x ≡ y → GoesOn p move y → GoesOn p move x
 at_phase p move x y e goes = subst (GoesOn p move) (sym e) goes
@@ -120,13 +123,15 @@ back_goes p x has = let is = back_is p x has in at_phase p passed_back x (Head i
 placed_seen : (p g : ℕ) (b : Block) (x : ℕ) → hide_phase p (placed_phase g b x) ≡ placed_phase g b x
 placed_seen p g b x = placed (x == b.at)
   where
-    placed : (t : Bool) → hide_phase p (cond t (Head (record { group = g; order = b.order }) Bare) (Tail g)) ≡ cond t (Head (record { group = g; order = b.order }) Bare) (Tail g)
+    placed : (t : Bool) → hide_phase p (cond t (Head (record { group = g; order = b.order }) Bare) (Tail g))
+        ≡ cond t (Head (record { group = g; order = b.order }) Bare) (Tail g)
     placed true = refl
     placed false = refl
 
 pub block_seen : (p : ℕ) (phases : ℕ → Phase) (g : ℕ) (b : Block) →
     (λ (x : ℕ). hide_phase p (with_block phases g b x)) ≡ with_block (λ x. hide_phase p (phases x)) g b
-block_seen p phases g b = λ i. λ x. (cond-ap (hide_phase p) (is_within b.at (2 ^ b.order) x) (placed_phase g b x) (phases x) ∙ ap (λ y. cond (is_within b.at (2 ^ b.order) x) y (hide_phase p (phases x))) (placed_seen p g b x)) i
+block_seen p phases g b = λ i. λ x. (cond-ap (hide_phase p) (is_within b.at (2 ^ b.order) x) (placed_phase g b x) (phases x)
+    ∙ ap (λ y. cond (is_within b.at (2 ^ b.order) x) y (hide_phase p (phases x))) (placed_seen p g b x)) i
 
 returned_unit : (p : ℕ) (killed : ℕ → Bool) (x : Phase) → Returns killed x → unit_of (hide_phase p x) ≡ unit_of x
 returned_unit p killed x (AsEnded u e) = ap (λ y. unit_of (hide_phase p y)) e ∙ sym (ap unit_of e)

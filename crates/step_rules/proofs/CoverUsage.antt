@@ -33,16 +33,19 @@ kept_as groups g x = one_if (is_below groups g (keeper_of x))
 
 -- a fresh frame counts at the cover or under it
 fresh_counts : (groups : List Group) (g p cpus : ℕ) (stocks : ℕ → Option ℕ) (u : ChargedUnit) (r : ℕ) → IsPaid cpus stocks u r →
-    one_if (is_below groups g (Some u.group)) ≡ one_if (is_below groups g (keeper_of (hide_phase p (Head u (FreshAt r))))) + sum_to (cpus + 1) (λ q. covered groups g p stocks q (Head u (FreshAt r)))
+    one_if (is_below groups g (Some u.group)) ≡ one_if (is_below groups g (keeper_of (hide_phase p (Head u (FreshAt r)))))
+    + sum_to (cpus + 1) (λ q. covered groups g p stocks q (Head u (FreshAt r)))
 fresh_counts groups g p cpus stocks u r paid =
     let below : r < cpus + 1 = let h = paid.high in omega arith in
     let one : sum_to (cpus + 1) (λ q. covered groups g p stocks q (Head u (FreshAt r))) ≡ covered groups g p stocks r (Head u (FreshAt r)) =
-    sum_only (cpus + 1) (λ q. covered groups g p stocks q (Head u (FreshAt r))) r below (λ q here ne. covered_not groups g p stocks q (Head u (FreshAt r)) (ne_eqb r q (λ e. ne (sym e)))) in
+    sum_only (cpus + 1) (λ q. covered groups g p stocks q (Head u (FreshAt r))) r below
+    (λ q here ne. covered_not groups g p stocks q (Head u (FreshAt r)) (ne_eqb r q (λ e. ne (sym e)))) in
     let mine : one_if (has_as Fresh r (Head u (FreshAt r))) ≡ 1 = ap one_if (eq-eqb r r refl) in
     let same : is_below groups g (stocks r) ≡ is_below groups g (Some u.group) = ap (is_below groups g) paid.group in
     let counted : covered groups g p stocks r (Head u (FreshAt r)) ≡ cond (r == p) 0 (cond (is_below groups g (Some u.group)) 1 0) =
     (λ i. cond (r == p) 0 (cond (same i) (mine i) 0)) in
-    splits (r == p) (is_below groups g (Some u.group)) refl ∙ ap (λ n. one_if (is_below groups g (keeper_of (cond (r == p) (Head u (FreshAt r)) (Lent r OnList)))) + n) (sym (one ∙ counted))
+    splits (r == p) (is_below groups g (Some u.group)) refl
+    ∙ ap (λ n. one_if (is_below groups g (keeper_of (cond (r == p) (Head u (FreshAt r)) (Lent r OnList)))) + n) (sym (one ∙ counted))
   where
     splits : (a b : Bool) → b ≡ is_below groups g (Some u.group) →
         one_if b ≡ one_if (is_below groups g (keeper_of (cond a (Head u (FreshAt r)) (Lent r OnList)))) + cond a 0 (cond b 1 0)
@@ -70,7 +73,8 @@ phase_counts groups g p cpus stocks x paid = other_counts groups g p cpus stocks
 
 -- the pages of a stock under the cover: others' fresh frames are among them
 stock_counts : (groups : List Group) (g p : ℕ) (parts : ℕ → Part) (q : ℕ) →
-    stock_below groups g (hide_parts p parts q) ≡ stock_below groups g (parts q) + cond (q == p) 0 (cond (is_below groups g (parts q).stock.group) (length (parts q).fresh) 0)
+    stock_below groups g (hide_parts p parts q) ≡ stock_below groups g (parts q)
+    + cond (q == p) 0 (cond (is_below groups g (parts q).stock.group) (length (parts q).fresh) 0)
 stock_counts groups g p parts q = counts (q == p) (is_below groups g (parts q).stock.group) refl
   where
     counts : (a b : Bool) → is_below groups g (parts q).stock.group ≡ b →
@@ -83,7 +87,8 @@ stock_counts groups g p parts q = counts (q == p) (is_below groups g (parts q).s
 fresh_length : (s : State) (q : ℕ) → IsSound s → sum_to s.zone.frames (λ f. one_if (has_as Fresh q (s.phases f))) ≡ length (s.parts q).fresh
 fresh_length s q sound =
     sum_same s.zone.frames (λ f. one_if (has_as Fresh q (s.phases f))) (λ f. times f (s.parts q).fresh) (λ f below. sym (sound.lists q Fresh f))
-    ∙ count_length s.zone.frames (s.parts q).fresh (λ f beyond. sound.lists q Fresh f ∙ ap (λ x. one_if (has_as Fresh q x)) (free_is (s.phases f) ((sound.frames f).inside beyond)))
+    ∙ count_length s.zone.frames (s.parts q).fresh (λ f beyond. sound.lists q Fresh f
+    ∙ ap (λ x. one_if (has_as Fresh q x)) (free_is (s.phases f) ((sound.frames f).inside beyond)))
 
 pub usage_seen : (s : State) (p : ℕ) → IsSound s → (g : ℕ) → usage_of (hide p s) g ≡ usage_of s g
 usage_seen s p sound g =
@@ -94,12 +99,17 @@ usage_seen s p sound g =
     let shown : ℕ → ℕ = λ f. one_if (is_below groups g (keeper_of (hide_phase p (s.phases f)))) in
     let hidden : ℕ → ℕ → ℕ = λ f q. covered groups g p stocks q (s.phases f) in
     let lent : ℕ → ℕ = λ q. cond (q == p) 0 (cond (is_below groups g (s.parts q).stock.group) (length (s.parts q).fresh) 0) in
-    let a : frames_kept groups s.phases n g ≡ sum_to n (λ f. shown f + sum_to m (hidden f)) = sum_same n _ _ (λ f below. phase_counts groups g p s.zone.cpus stocks (s.phases f) (sound.frames f).paid) in
-    let b : sum_to n (λ f. shown f + sum_to m (hidden f)) ≡ sum_to n shown + sum_to n (λ f. sum_to m (hidden f)) = sum_both n shown (λ f. sum_to m (hidden f)) in
+    let a : frames_kept groups s.phases n g ≡ sum_to n (λ f. shown f + sum_to m (hidden f)) =
+    sum_same n _ _ (λ f below. phase_counts groups g p s.zone.cpus stocks (s.phases f) (sound.frames f).paid) in
+    let b : sum_to n (λ f. shown f + sum_to m (hidden f)) ≡ sum_to n shown + sum_to n (λ f. sum_to m (hidden f)) =
+    sum_both n shown (λ f. sum_to m (hidden f)) in
     let c : sum_to n (λ f. sum_to m (hidden f)) ≡ sum_to m (λ q. sum_to n (λ f. hidden f q)) = sum_swap n m hidden in
-    let d : sum_to m (λ q. sum_to n (λ f. hidden f q)) ≡ sum_to m lent = sum_same m _ _ (λ q below. column (q == p) (is_below groups g (s.parts q).stock.group) q) in
-    let e : pages_prepaid groups (hide_parts p s.parts) s.zone.cpus g ≡ sum_to m (λ q. stock_below groups g (s.parts q) + lent q) = sum_same m _ _ (λ q below. stock_counts groups g p s.parts q) in
-    let f : sum_to m (λ q. stock_below groups g (s.parts q) + lent q) ≡ pages_prepaid groups s.parts s.zone.cpus g + sum_to m lent = sum_both m (λ q. stock_below groups g (s.parts q)) lent in
+    let d : sum_to m (λ q. sum_to n (λ f. hidden f q)) ≡ sum_to m lent =
+    sum_same m _ _ (λ q below. column (q == p) (is_below groups g (s.parts q).stock.group) q) in
+    let e : pages_prepaid groups (hide_parts p s.parts) s.zone.cpus g ≡ sum_to m (λ q. stock_below groups g (s.parts q) + lent q) =
+    sum_same m _ _ (λ q below. stock_counts groups g p s.parts q) in
+    let f : sum_to m (λ q. stock_below groups g (s.parts q) + lent q) ≡ pages_prepaid groups s.parts s.zone.cpus g + sum_to m lent =
+    sum_both m (λ q. stock_below groups g (s.parts q)) lent in
     omega arith
   where
     column : (a b : Bool) (q : ℕ) →

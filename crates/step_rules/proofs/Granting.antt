@@ -1,5 +1,6 @@
 -- Grants keep to the limits, and pending pages are what a run counts.
-use Rattle.std.proofs.Common.{◌≡◌, ℕ, ◌+◌, ◌-◌, ◌^◌, ◌≤◌, ◌==◌, Bool, true, false, Option, Some, None, refl, sym, ◌∙◌, ap, subst, arith, inl, inr, cond, if◌then◌else◌, eq-eqb, zero, suc}
+use Rattle.std.proofs.Common.{◌≡◌, ℕ, ◌+◌, ◌-◌, ◌^◌, ◌≤◌, ◌==◌, Bool, true, false, Option, Some, None, refl, sym, ◌∙◌, ap, subst, arith}
+use Rattle.std.proofs.Common.{inl, inr, cond, if◌then◌else◌, eq-eqb, zero, suc}
 use Rattle.std.specs.Prelude.{nat_le}
 use Rattle.std.proofs.lemmas.Bool.{cases_eq, ne_eqb, leb-true, le-leb}
 use Rattle.group_tree.specs.Groups.{in_subtree, limit_of}
@@ -49,7 +50,8 @@ fits_below (Some limit) a b below e = let within = leb-true b limit e in le-leb 
 pub no_grant_passes_a_limit : NoGrantPassesALimit
 no_grant_passes_a_limit zone run legal seat g n made m on_path =
     let s = state_of zone run in
-    let rises : pages_pending s.groups (with_at s.pending g (s.pending g + n)) m ≤ pages_pending s.groups s.pending m + n = (sum_rises 64 (in_subtree s.groups m) s.pending g n).0 in
+    let rises : pages_pending s.groups (with_at s.pending g (s.pending g + n)) m ≤ pages_pending s.groups s.pending m + n =
+    (sum_rises 64 (in_subtree s.groups m) s.pending g n).0 in
     let room : fits_limit (limit_of s.groups m) (usage_of s m + n) ≡ true = made.answered m on_path in
     fits_below (limit_of s.groups m) (usage_of (after s seat (Grant g n) Granted) m) (usage_of s m + n) (omega arith) room
 
@@ -106,7 +108,8 @@ pending_allowed : (g : ℕ) (s : State) (seat : ℕ) (action : Action) (answer :
     s.pending g + pending_in g s seat action answer ≡ (after s seat action answer).pending g + pending_out g s seat action answer
 pending_allowed g s seat action answer sound ok =
     elim (allowed s seat action answer ok) [
-      | inl illegal ↦ subst (λ (a : Answer). s.pending g + pending_in g s seat action a ≡ (after s seat action a).pending g + pending_out g s seat action a) (sym illegal) (pending_unchanged g s seat action)
+      | inl illegal ↦ subst (λ (a : Answer). s.pending g + pending_in g s seat action a ≡ (after s seat action a).pending g
+          + pending_out g s seat action a) (sym illegal) (pending_unchanged g s seat action)
       | inr made ↦ pending_made g s seat action answer made.legal
     ]
 

@@ -20,3 +20,16 @@ pub mod Settling
 pub mod Returning
 pub mod Granting
 pub mod SmallRuns
+pub mod Homes
+pub mod Keeping
+pub mod Moving
+pub mod Peaking
+pub mod Noting
+pub mod Interleaving
+pub mod Seeing
+pub mod Telling
+pub mod Publishing
+pub mod Freeing
+pub mod CallerLemmas
+pub mod Stocked
+pub mod Adding

@@ -18,7 +18,7 @@ use Rattle.step_rules.proofs.Runs.{after_illegal, allowed, sound_run, state_more
 use Rattle.step_rules.proofs.Own.{own_legal, own_answer, own_after, only_visit}
 use Rattle.step_rules.proofs.Other.{other_after}
 
-no_illegal : (s : State) (seat : ℕ) (action : Action) → IsAnswer s seat action Illegal → ⊥
+pub no_illegal : (s : State) (seat : ℕ) (action : Action) → IsAnswer s seat action Illegal → ⊥
 no_illegal s seat Lock h = h
 no_illegal s seat action h = h
 
@@ -62,7 +62,8 @@ own_step_is_legal zone run p local step answer shows is_step counted =
     let answered = own_answer s p step.seat step.action answer sound is_step.own legal seen in
     let more = state_more zone run step answer in
     record {
-      legal = legal_more zone run step answer shows.legal (made_allows s step.seat step.action answer (record { legal = legal; answered = answered; counted = counted }));
+      legal = legal_more zone run step answer shows.legal (made_allows s step.seat step.action answer
+          (record { legal = legal; answered = answered; counted = counted }));
       holds = ap (λ (t : State). holds_lock p t.hold) more ∙ own_holds s p step.seat step.action answer is_step.inside shows.holds legal;
       sees =
           ap (λ (l : State). after l step.seat step.action answer) shows.sees

@@ -9,7 +9,9 @@ use Rattle.step_rules.specs.declared.phase.Stage.TheVariants.{BackAt, Ended}
 use Rattle.step_rules.specs.declared.phase.Phase.{Phase}
 use Rattle.step_rules.specs.declared.phase.Phase.TheVariants.{Lent}
 use Rattle.step_rules.specs.declared.step.Action.{Action}
-use Rattle.step_rules.specs.declared.step.Action.TheVariants.{Lock, Unlock, OpenVisit, ShutVisit, Get, Put, Freeze, Unfreeze, PassOut, TakeIn, PassBack, Collect, Consume, Credit, Report, Absorb, Fill, DrainStock, Grant, Ungrant, PlaceBlock, Return, SetMax, Make, Remove, Kill}
+use Rattle.step_rules.specs.declared.step.Action.TheVariants.{Lock, Unlock, OpenVisit, ShutVisit, Get, Put, Freeze, Unfreeze, PassOut}
+use Rattle.step_rules.specs.declared.step.Action.TheVariants.{TakeIn, PassBack, Collect, Consume, Credit, Report, Absorb, Fill, DrainStock}
+use Rattle.step_rules.specs.declared.step.Action.TheVariants.{Grant, Ungrant, PlaceBlock, Return, SetMax, Make, Remove, Kill}
 use Rattle.step_rules.specs.declared.step.Answer.{Answer}
 use Rattle.step_rules.specs.declared.step.Answer.TheVariants.{Done, Held, Left, Last, Took, Back, Pages, Granted, Placed, Number}
 use Rattle.step_rules.specs.Phases.{Fresh, has_as, passes_out, at_stage, stage_after_last}
@@ -57,8 +59,10 @@ last_hidden s p q f sound ne other some =
     let stage : stage_after_last q ≡ BackAt q = cond-false (q == 0) Ended (BackAt q) (ne_eqb q 0 ne) in
     let same : hide_phase p (at_stage (stage_after_last q) (s.phases f)) ≡ hide_phase p (s.phases f) =
     (λ i. hide_phase p (at_stage (stage i) (is.1 i))) ∙ other_back is.0 p q other ∙ sym (ap (hide_phase p) is.1) in
-    same_state s (covered_phase p s.phases f (at_stage (stage_after_last q) (s.phases f)) same) (other_referred p s.references q f (s.references q f - 1) ne other)
-    (ap (hide_parts p) (cond-false (q == 0) s.parts (with_at s.parts q (with_back (s.parts q) f)) (ne_eqb q 0 ne)) ∙ other_changed p s.parts q (with_back (s.parts q) f) other refl)
+    same_state s (covered_phase p s.phases f (at_stage (stage_after_last q) (s.phases f)) same)
+    (other_referred p s.references q f (s.references q f - 1) ne other)
+    (ap (hide_parts p) (cond-false (q == 0) s.parts (with_at s.parts q (with_back (s.parts q) f)) (ne_eqb q 0 ne))
+    ∙ other_changed p s.parts q (with_back (s.parts q) f) other refl)
 
 consume_hidden : (s : State) (p q g : ℕ) → IsSound s → (q ≡ p → ⊥) → 1 ≤ length (s.parts q).list → 1 ≤ (s.parts q).stock.pages →
     hide p (after s q (Consume g) Took) ≡ hide p s
@@ -67,8 +71,10 @@ consume_hidden s p q g sound other some pages =
     let was = listed_is q (s.phases f) (front_listed s q sound some) in
     let longer = length_last f (s.parts q).fresh in
     let e : (s.parts q).stock.pages - 1 + length (paid (s.parts q)).fresh ≡ (s.parts q).stock.pages + length (s.parts q).fresh = omega arith in
-    let part : hide_part (paid (s.parts q)) ≡ hide_part (s.parts q) = ap (λ (k : ℕ). record (hide_part (s.parts q)) { stock = record ((s.parts q).stock) { pages = k } }) e in
-    same_state s (covered_phase p s.phases f (consumed q g) (other_fresh (record { group = g; order = 0 }) p q other ∙ sym (ap (hide_phase p) was))) refl (other_changed p s.parts q (paid (s.parts q)) other part)
+    let part : hide_part (paid (s.parts q)) ≡ hide_part (s.parts q) =
+    ap (λ (k : ℕ). record (hide_part (s.parts q)) { stock = record ((s.parts q).stock) { pages = k } }) e in
+    same_state s (covered_phase p s.phases f (consumed q g) (other_fresh (record { group = g; order = 0 }) p q other
+    ∙ sym (ap (hide_phase p) was))) refl (other_changed p s.parts q (paid (s.parts q)) other part)
 
 credit_hidden : (s : State) (p q f : ℕ) → IsSound s → (q ≡ p → ⊥) → has_as Fresh q (s.phases f) ≡ true → hide p (after s q (Credit f) Back) ≡ hide p s
 credit_hidden s p q f sound other has =
@@ -77,8 +83,10 @@ credit_hidden s p q f sound other has =
     let d : one_if (has_as Fresh q (s.phases f)) ≡ 1 = ap one_if has in
     let shorter = length_without f (s.parts q).fresh in
     let e : (s.parts q).stock.pages + 1 + length (without f (s.parts q).fresh) ≡ (s.parts q).stock.pages + length (s.parts q).fresh = omega arith in
-    let part : hide_part (credited (s.parts q) f) ≡ hide_part (s.parts q) = ap (λ (k : ℕ). record (hide_part (s.parts q)) { stock = record ((s.parts q).stock) { pages = k } }) e in
-    same_state s (covered_phase p s.phases f (Lent q OnList) (sym (ap (hide_phase p) is.1 ∙ other_fresh is.0 p q other))) refl (other_changed p s.parts q (credited (s.parts q) f) other part)
+    let part : hide_part (credited (s.parts q) f) ≡ hide_part (s.parts q) =
+    ap (λ (k : ℕ). record (hide_part (s.parts q)) { stock = record ((s.parts q).stock) { pages = k } }) e in
+    same_state s (covered_phase p s.phases f (Lent q OnList) (sym (ap (hide_phase p) is.1 ∙ other_fresh is.0 p q other))) refl
+    (other_changed p s.parts q (credited (s.parts q) f) other part)
 
 -- a legal step of another processor leaves what p sees as it is
 pub other_after : (s : State) (p q : ℕ) (action : Action) (answer : Answer) → IsSound s → (q ≡ 0 → ⊥) → (q ≡ p → ⊥) → holds_lock p s.hold ≡ true →
@@ -89,38 +97,54 @@ other_after s p q Lock Done sound ne other holds legal ok =
 other_after s p q Unlock Done sound ne other holds legal ok =
     let held : is_held_by q s.hold ≡ true = grind arith in
     absurd (not_held p q s.hold other holds held)
-other_after s p q (OpenVisit r) Done sound ne other holds legal ok = absurd (let may : may_zone_act s.hold q ≡ true = grind arith in not_zone s.hold q true ne may)
-other_after s p q (ShutVisit r) Done sound ne other holds legal ok = absurd (let may : may_zone_act s.hold q ≡ true = grind arith in not_zone s.hold q true ne may)
+other_after s p q (OpenVisit r) Done sound ne other holds legal ok =
+    absurd (let may : may_zone_act s.hold q ≡ true = grind arith in not_zone s.hold q true ne may)
+other_after s p q (ShutVisit r) Done sound ne other holds legal ok =
+    absurd (let may : may_zone_act s.hold q ≡ true = grind arith in not_zone s.hold q true ne may)
 other_after s p q (Get f) Held sound ne other holds legal ok = same_state s refl (other_referred p s.references q f (s.references q f + 1) ne other) refl
 other_after s p q (Put f) (Left n) sound ne other holds legal ok = same_state s refl (other_referred p s.references q f (s.references q f - 1) ne other) refl
 other_after s p q (Put f) Last sound ne other holds legal ok =
     let some : nat_le 1 (s.references q f) ≡ true = grind arith in
     last_hidden s p q f sound ne other (leb-true 1 (s.references q f) some)
-other_after s p q (Freeze f n) Done sound ne other holds legal ok = absurd (let may : may_zone_act s.hold q ≡ true = grind arith in not_zone s.hold q true ne may)
-other_after s p q (Unfreeze f n) Done sound ne other holds legal ok = absurd (let may : may_zone_act s.hold q ≡ true = grind arith in not_zone s.hold q true ne may)
-other_after s p q (PassOut f r) Done sound ne other holds legal ok = absurd (let may : may_zone_act s.hold q ≡ true = grind arith in not_zone s.hold q true ne may)
+other_after s p q (Freeze f n) Done sound ne other holds legal ok =
+    absurd (let may : may_zone_act s.hold q ≡ true = grind arith in not_zone s.hold q true ne may)
+other_after s p q (Unfreeze f n) Done sound ne other holds legal ok =
+    absurd (let may : may_zone_act s.hold q ≡ true = grind arith in not_zone s.hold q true ne may)
+other_after s p q (PassOut f r) Done sound ne other holds legal ok =
+    absurd (let may : may_zone_act s.hold q ≡ true = grind arith in not_zone s.hold q true ne may)
 other_after s p q (TakeIn f) Done sound ne other holds legal ok =
     let passes : passes_out q (s.phases f) ≡ true = grind arith in
     let visit : s.hold ≡ Visiting q = (sound.frames f).out q passes in
     absurd (other (only_visit p q s.hold holds (ap (visits q) visit ∙ eq-eqb q q refl)))
-other_after s p q (PassBack f) Done sound ne other holds legal ok = absurd (let visit : visits q s.hold ≡ true = grind arith in other (only_visit p q s.hold holds visit))
-other_after s p q (Collect f r) Done sound ne other holds legal ok = absurd (let may : may_zone_act s.hold q ≡ true = grind arith in not_zone s.hold q true ne may)
+other_after s p q (PassBack f) Done sound ne other holds legal ok =
+    absurd (let visit : visits q s.hold ≡ true = grind arith in other (only_visit p q s.hold holds visit))
+other_after s p q (Collect f r) Done sound ne other holds legal ok =
+    absurd (let may : may_zone_act s.hold q ≡ true = grind arith in not_zone s.hold q true ne may)
 other_after s p q (Consume g) Took sound ne other holds legal ok =
     let some : nat_le 1 (length (s.parts q).list) ≡ true = grind arith in
     consume_hidden s p q g sound other (leb-true 1 (length (s.parts q).list) some) ok.2
 other_after s p q (Credit f) Back sound ne other holds legal ok =
     let fresh : has_as Fresh q (s.phases f) ≡ true = grind arith in
     credit_hidden s p q f sound other fresh
-other_after s p q (Report n) Done sound ne other holds legal ok = absurd (let visit : visits q s.hold ≡ true = grind arith in other (only_visit p q s.hold holds visit))
-other_after s p q (Absorb r) (Pages n) sound ne other holds legal ok = absurd (let may : may_zone_act s.hold q ≡ true = grind arith in not_zone s.hold q true ne may)
-other_after s p q (Fill r g n) Done sound ne other holds legal ok = absurd (let may : may_zone_act s.hold q ≡ true = grind arith in not_zone s.hold q true ne may)
-other_after s p q (DrainStock r) (Pages n) sound ne other holds legal ok = absurd (let may : may_zone_act s.hold q ≡ true = grind arith in not_zone s.hold q true ne may)
-other_after s p q (Grant g n) Granted sound ne other holds legal ok = absurd (let may : may_zone_act s.hold q ≡ true = grind arith in not_zone s.hold q true ne may)
-other_after s p q (Ungrant g n) Done sound ne other holds legal ok = absurd (let may : may_zone_act s.hold q ≡ true = grind arith in not_zone s.hold q true ne may)
-other_after s p q (PlaceBlock g k) (Placed b) sound ne other holds legal ok = absurd (let may : may_zone_act s.hold q ≡ true = grind arith in not_zone s.hold q true ne may)
+other_after s p q (Report n) Done sound ne other holds legal ok =
+    absurd (let visit : visits q s.hold ≡ true = grind arith in other (only_visit p q s.hold holds visit))
+other_after s p q (Absorb r) (Pages n) sound ne other holds legal ok =
+    absurd (let may : may_zone_act s.hold q ≡ true = grind arith in not_zone s.hold q true ne may)
+other_after s p q (Fill r g n) Done sound ne other holds legal ok =
+    absurd (let may : may_zone_act s.hold q ≡ true = grind arith in not_zone s.hold q true ne may)
+other_after s p q (DrainStock r) (Pages n) sound ne other holds legal ok =
+    absurd (let may : may_zone_act s.hold q ≡ true = grind arith in not_zone s.hold q true ne may)
+other_after s p q (Grant g n) Granted sound ne other holds legal ok =
+    absurd (let may : may_zone_act s.hold q ≡ true = grind arith in not_zone s.hold q true ne may)
+other_after s p q (Ungrant g n) Done sound ne other holds legal ok =
+    absurd (let may : may_zone_act s.hold q ≡ true = grind arith in not_zone s.hold q true ne may)
+other_after s p q (PlaceBlock g k) (Placed b) sound ne other holds legal ok =
+    absurd (let may : may_zone_act s.hold q ≡ true = grind arith in not_zone s.hold q true ne may)
 other_after s p q (Return f) Done sound ne other holds legal ok = absurd (let may : may_zone_act s.hold q ≡ true = grind arith in not_zone s.hold q true ne may)
-other_after s p q (SetMax g limit) Done sound ne other holds legal ok = absurd (let may : may_zone_act s.hold q ≡ true = grind arith in not_zone s.hold q true ne may)
-other_after s p q (Make path) (Number n) sound ne other holds legal ok = absurd (let may : may_zone_act s.hold q ≡ true = grind arith in not_zone s.hold q true ne may)
+other_after s p q (SetMax g limit) Done sound ne other holds legal ok =
+    absurd (let may : may_zone_act s.hold q ≡ true = grind arith in not_zone s.hold q true ne may)
+other_after s p q (Make path) (Number n) sound ne other holds legal ok =
+    absurd (let may : may_zone_act s.hold q ≡ true = grind arith in not_zone s.hold q true ne may)
 other_after s p q (Remove g) Done sound ne other holds legal ok = absurd (let may : may_zone_act s.hold q ≡ true = grind arith in not_zone s.hold q true ne may)
 other_after s p q (Kill g) Done sound ne other holds legal ok = absurd (let may : may_zone_act s.hold q ≡ true = grind arith in not_zone s.hold q true ne may)
 other_after s p q action answer sound ne other holds legal ok = refl

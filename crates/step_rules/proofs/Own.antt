@@ -1,5 +1,6 @@
 -- Steps of p and of the zone's seat, under p's cover.
-use Rattle.std.proofs.Common.{◌≡◌, ℕ, ◌+◌, ◌-◌, ◌^◌, ◌≤◌, ◌&&◌, ◌||◌, ◌==◌, Bool, true, false, Option, Some, List, length, refl, sym, ◌∙◌, ap, subst, arith, inl, inr, cond, eq-eqb}
+use Rattle.std.proofs.Common.{◌≡◌, ℕ, ◌+◌, ◌-◌, ◌^◌, ◌≤◌, ◌&&◌, ◌||◌, ◌==◌, Bool, true, false, Option, Some, List, length, refl, sym, ◌∙◌}
+use Rattle.std.proofs.Common.{ap, subst, arith, inl, inr, cond, eq-eqb}
 use Rattle.std.specs.Prelude.{◌⊎◌, nat_le, nat_lt, not}
 use Rattle.std.proofs.lemmas.Bool.{cases_eq, cases_Bool, ne_eqb, false≢true, true≢false, and_parts, leb-true, or_cases, cond-true, cond-false}
 use Rattle.group_tree.specs.Groups.{has_group, has_child}
@@ -12,10 +13,15 @@ use Rattle.step_rules.specs.declared.phase.Stage.TheVariants.{Live, BackAt, Ende
 use Rattle.step_rules.specs.declared.phase.Phase.{Phase}
 use Rattle.step_rules.specs.declared.phase.Phase.TheVariants.{Lent}
 use Rattle.step_rules.specs.declared.step.Action.{Action}
-use Rattle.step_rules.specs.declared.step.Action.TheVariants.{Lock, Unlock, OpenVisit, ShutVisit, Get, Put, Freeze, Unfreeze, PassOut, TakeIn, PassBack, Collect, Consume, Credit, Report, Absorb, Fill, DrainStock, Grant, Ungrant, PlaceBlock, Publish, Return, NoteMax, NoteOom, SetMax, Make, Remove, Kill}
+use Rattle.step_rules.specs.declared.step.Action.TheVariants.{Lock, Unlock, OpenVisit, ShutVisit, Get, Put, Freeze, Unfreeze, PassOut}
+use Rattle.step_rules.specs.declared.step.Action.TheVariants.{TakeIn, PassBack, Collect, Consume, Credit, Report, Absorb, Fill, DrainStock}
+use Rattle.step_rules.specs.declared.step.Action.TheVariants.{Grant, Ungrant, PlaceBlock, Publish, Return, NoteMax, NoteOom, SetMax, Make}
+use Rattle.step_rules.specs.declared.step.Action.TheVariants.{Remove, Kill}
 use Rattle.step_rules.specs.declared.step.Answer.{Answer}
-use Rattle.step_rules.specs.declared.step.Answer.TheVariants.{Done, Held, Left, Last, Took, Empty, Drained, OtherGroup, Back, Pages, Granted, Over, Placed, NoFreeBlock, Number}
-use Rattle.step_rules.specs.Phases.{Kind, Listed, Fresh, has_as, passes_out, passes_back, is_free, is_head, is_live, is_head_in_hand, may_return, passed_back, collected, at_stage, stage_after_last}
+use Rattle.step_rules.specs.declared.step.Answer.TheVariants.{Done, Held, Left, Last, Took, Empty, Drained, OtherGroup, Back, Pages}
+use Rattle.step_rules.specs.declared.step.Answer.TheVariants.{Granted, Over, Placed, NoFreeBlock, Number}
+use Rattle.step_rules.specs.Phases.{Kind, Listed, Fresh, has_as, passes_out, passes_back, is_free, is_head, is_live, is_head_in_hand}
+use Rattle.step_rules.specs.Phases.{may_return, passed_back, collected, at_stage, stage_after_last}
 use Rattle.step_rules.specs.Phases as kinds
 use Rattle.step_rules.specs.State.{Zone, Part, State, with_at, sum_to, is_cpu, is_frame, visits, may_zone_act, front_of, pins_of, with_last}
 use Rattle.step_rules.specs.Usage.{usage_of, PathHasRoom, IsLowestOver}
@@ -29,7 +35,9 @@ use Rattle.step_rules.proofs.Sound.{IsSound}
 use Rattle.step_rules.proofs.PhaseLemmas.{live_is, in_hand, came_back, returning_is, equal_test}
 use Rattle.step_rules.proofs.Referring.{changed, live_from_one}
 use Rattle.step_rules.proofs.SoundSteps.{cpu_range}
-use Rattle.step_rules.proofs.CoverPhases.{out_seen, back_seen, free_seen, hand_seen, return_seen, frees_seen, own_seen, gone_on, woken_goes, ended_goes, backed_goes, collected_goes, listed_goes, fresh_goes, back_goes, block_seen, unit_seen, GoesOn}
+use Rattle.step_rules.proofs.CoverPhases.{out_seen, back_seen, free_seen, hand_seen, return_seen, frees_seen, own_seen, gone_on, woken_goes}
+use Rattle.step_rules.proofs.CoverPhases.{ended_goes, backed_goes, collected_goes, listed_goes, fresh_goes, back_goes, block_seen}
+use Rattle.step_rules.proofs.CoverPhases.{unit_seen, GoesOn}
 use Rattle.step_rules.proofs.CoverParts.{own_part, part_seen, own_changed, any_changed, own_reference, own_referred}
 use Rattle.step_rules.proofs.CoverUsage.{usage_seen}
 
@@ -70,7 +78,8 @@ at_cpu3 zone p seat b b' c c' own same same' =
 at_cpu4 : (zone : Zone) (p seat : ℕ) (b c d d' : Bool) → IsOwn p seat → (seat ≡ p → d ≡ d') →
     (is_cpu zone seat && b && c && d) ≡ (is_cpu zone seat && b && c && d')
 at_cpu4 zone p seat b c d d' own same =
-    regroup4 (is_cpu zone seat) b c d ∙ at_cpu zone p seat (b && c && d) (b && c && d') own (λ e. ap (λ x. b && c && x) (same e)) ∙ sym (regroup4 (is_cpu zone seat) b c d')
+    regroup4 (is_cpu zone seat) b c d ∙ at_cpu zone p seat (b && c && d) (b && c && d') own (λ e. ap (λ x. b && c && x) (same e))
+    ∙ sym (regroup4 (is_cpu zone seat) b c d')
 
 nothing_seen : (s : State) (p q : ℕ) → nothing_passes (hide p s) q ≡ nothing_passes s q
 nothing_seen s p q = all_same s.zone.frames (rests (hide p s) q) (rests s q) (λ f. λ i. not (out_seen p q (s.phases f) i) && not (back_seen p q (s.phases f) i))
@@ -97,10 +106,12 @@ head_seen s p f sound a =
 
 -- a fill is legal where p is visited alone
 fill_seen : (s : State) (p q g n : ℕ) (a : Bool) → holds_lock p s.hold ≡ true →
-    (a && visits q s.hold && has_group s.groups g && may_fill (hide_parts p s.parts q) g && nat_le n (s.pending g)) ≡ (a && visits q s.hold && has_group s.groups g && may_fill (s.parts q) g && nat_le n (s.pending g))
+    (a && visits q s.hold && has_group s.groups g && may_fill (hide_parts p s.parts q) g && nat_le n (s.pending g))
+    ≡ (a && visits q s.hold && has_group s.groups g && may_fill (s.parts q) g && nat_le n (s.pending g))
 fill_seen s p q g n a holds =
     elim (cases_Bool (visits q s.hold)) [
-      | inl visit ↦ ap (λ (part : Part). a && visits q s.hold && has_group s.groups g && may_fill part g && nat_le n (s.pending g)) (own_part p s.parts q (only_visit p q s.hold holds visit))
+      | inl visit ↦ ap (λ (part : Part). a && visits q s.hold && has_group s.groups g && may_fill part g && nat_le n (s.pending g))
+          (own_part p s.parts q (only_visit p q s.hold holds visit))
       | inr other ↦ rw other (no_visit a (has_group s.groups g) (may_fill (hide_parts p s.parts q) g) (may_fill (s.parts q) g) (nat_le n (s.pending g)))
     ]
   where
@@ -120,20 +131,27 @@ own_legal s p seat (ShutVisit q) sound own inside holds =
     (λ i. may_zone_act s.hold seat && visits q s.hold && nothing_seen s p q i && a i == 0 && b i == 0)
 own_legal s p seat (Get f) sound own inside holds =
     at_cpu3 s.zone p seat _ _ _ _ own (λ e. refl) (λ e. (λ i. nat_lt (own_pins s p seat own i + length (own_part p s.parts seat e i).back) 256))
-own_legal s p seat (Put f) sound own inside holds = (λ i. (is_cpu s.zone seat || may_zone_act s.hold seat) && is_frame s.zone f && nat_le 1 (own_reference p s.references seat f own i))
-own_legal s p seat (Freeze f n) sound own inside holds = (λ i. may_zone_act s.hold seat && is_frame s.zone f && nat_le 1 n && nat_le n (own_reference p s.references 0 f (inl refl) i))
-own_legal s p seat (Unfreeze f n) sound own inside holds = (λ i. may_zone_act s.hold seat && is_frame s.zone f && hand_seen p (s.phases f) i && nat_le 1 n && nat_le n 255)
+own_legal s p seat (Put f) sound own inside holds =
+    (λ i. (is_cpu s.zone seat || may_zone_act s.hold seat) && is_frame s.zone f && nat_le 1 (own_reference p s.references seat f own i))
+own_legal s p seat (Freeze f n) sound own inside holds =
+    (λ i. may_zone_act s.hold seat && is_frame s.zone f && nat_le 1 n && nat_le n (own_reference p s.references 0 f (inl refl) i))
+own_legal s p seat (Unfreeze f n) sound own inside holds =
+    (λ i. may_zone_act s.hold seat && is_frame s.zone f && hand_seen p (s.phases f) i && nat_le 1 n && nat_le n 255)
 own_legal s p seat (PassOut f q) sound own inside holds = (λ i. may_zone_act s.hold seat && is_frame s.zone f && visits q s.hold && free_seen p (s.phases f) i)
 own_legal s p seat (TakeIn f) sound own inside holds = (λ i. is_cpu s.zone seat && is_frame s.zone f && out_seen p seat (s.phases f) i)
 own_legal s p seat (PassBack f) sound own inside holds =
     at_cpu4 s.zone p seat _ _ _ _ own (λ e.
-    let k : (kind : Kind) → has_as kind seat (hide_phase p (s.phases f)) ≡ has_as kind seat (s.phases f) = λ kind. subst (λ (r : ℕ). has_as kind r (hide_phase p (s.phases f)) ≡ has_as kind r (s.phases f)) (sym e) (own_seen p kind (s.phases f)) in
+    let k : (kind : Kind) → has_as kind seat (hide_phase p (s.phases f)) ≡ has_as kind seat (s.phases f) =
+    λ kind. subst (λ (r : ℕ). has_as kind r (hide_phase p (s.phases f)) ≡ has_as kind r (s.phases f)) (sym e) (own_seen p kind (s.phases f)) in
     (λ i. k Listed i && front_of (own_part p s.parts seat e i).list == f || k Fresh i || k kinds.Back i))
-own_legal s p seat (Collect f q) sound own inside holds = (λ i. may_zone_act s.hold seat && is_frame s.zone f && is_cpu s.zone q && back_seen p q (s.phases f) i)
+own_legal s p seat (Collect f q) sound own inside holds =
+    (λ i. may_zone_act s.hold seat && is_frame s.zone f && is_cpu s.zone q && back_seen p q (s.phases f) i)
 own_legal s p seat (Consume g) sound own inside holds =
-    at_cpu3 s.zone p seat _ _ _ _ own (λ e. ap (λ (part : Part). nat_le 1 (length part.list)) (own_part p s.parts seat e)) (λ e. ap (λ (part : Part). nat_lt (length part.fresh) 32) (own_part p s.parts seat e))
+    at_cpu3 s.zone p seat _ _ _ _ own (λ e. ap (λ (part : Part). nat_le 1 (length part.list)) (own_part p s.parts seat e))
+    (λ e. ap (λ (part : Part). nat_lt (length part.fresh) 32) (own_part p s.parts seat e))
 own_legal s p seat (Credit f) sound own inside holds =
-    at_cpu3 s.zone p seat _ _ _ _ own (λ e. refl) (λ e. subst (λ (r : ℕ). has_as Fresh r (hide_phase p (s.phases f)) ≡ has_as Fresh r (s.phases f)) (sym e) (own_seen p Fresh (s.phases f)))
+    at_cpu3 s.zone p seat _ _ _ _ own (λ e. refl) (λ e. subst (λ (r : ℕ). has_as Fresh r (hide_phase p (s.phases f)) ≡ has_as Fresh r (s.phases f))
+    (sym e) (own_seen p Fresh (s.phases f)))
 own_legal s p seat (Report n) sound own inside holds =
     at_cpu3 s.zone p seat _ _ _ _ own (λ e. refl) (λ e. ap (λ (part : Part). nat_le n part.unreported) (own_part p s.parts seat e))
 own_legal s p seat (Absorb q) sound own inside holds = refl
@@ -148,7 +166,8 @@ own_legal s p seat (NoteMax g) sound own inside holds = refl
 own_legal s p seat (NoteOom g) sound own inside holds = refl
 own_legal s p seat (SetMax g limit) sound own inside holds = refl
 own_legal s p seat (Make path) sound own inside holds = refl
-own_legal s p seat (Remove g) sound own inside holds = (λ i. may_zone_act s.hold seat && (has_group s.groups g && not (g == 0) && not (has_child s.groups g) && usage_seen s p sound g i == 0))
+own_legal s p seat (Remove g) sound own inside holds =
+    (λ i. may_zone_act s.hold seat && (has_group s.groups g && not (g == 0) && not (has_child s.groups g) && usage_seen s p sound g i == 0))
 own_legal s p seat (Kill g) sound own inside holds = refl
 
 -- all usage at once
@@ -163,10 +182,12 @@ pub own_answer : (s : State) (p seat : ℕ) (action : Action) (answer : Answer) 
     IsAnswer (hide p s) seat action answer → IsAnswer s seat action answer
 own_answer s p seat (Consume g) Took sound own legal ok =
     let cpu : is_cpu s.zone seat ≡ true = grind arith in
-    subst (λ (part : Part). (part.stock.group ≡ Some g) × (part.stock.is_drained ≡ false) × (1 ≤ part.stock.pages)) (own_part p s.parts seat (cpu_own s.zone p seat own cpu)) ok
+    subst (λ (part : Part). (part.stock.group ≡ Some g) × (part.stock.is_drained ≡ false) × (1 ≤ part.stock.pages))
+    (own_part p s.parts seat (cpu_own s.zone p seat own cpu)) ok
 own_answer s p seat (Consume g) Empty sound own legal ok =
     let cpu : is_cpu s.zone seat ≡ true = grind arith in
-    subst (λ (part : Part). (part.stock.group ≡ Some g) × (part.stock.is_drained ≡ false) × (part.stock.pages ≡ 0)) (own_part p s.parts seat (cpu_own s.zone p seat own cpu)) ok
+    subst (λ (part : Part). (part.stock.group ≡ Some g) × (part.stock.is_drained ≡ false) × (part.stock.pages ≡ 0))
+    (own_part p s.parts seat (cpu_own s.zone p seat own cpu)) ok
 own_answer s p seat (Consume g) Drained sound own legal ok =
     let cpu : is_cpu s.zone seat ≡ true = grind arith in
     subst (λ (part : Part). (part.stock.group ≡ Some g) × (part.stock.is_drained ≡ true)) (own_part p s.parts seat (cpu_own s.zone p seat own cpu)) ok
@@ -182,14 +203,18 @@ own_answer s p seat (Credit f) Drained sound own legal ok =
 own_answer s p seat (Absorb q) (Pages n) sound own legal ok = ok ∙ part_seen (λ part. part.reported) (λ part. refl) p s.parts q
 own_answer s p seat (Grant g n) Granted sound own legal ok = subst (λ (usage : ℕ → ℕ). PathHasRoom s.groups usage n g) (usages_seen s p sound) ok
 own_answer s p seat (Grant g n) (Over m) sound own legal ok = subst (λ (usage : ℕ → ℕ). IsLowestOver s.groups usage n g m) (usages_seen s p sound) ok
-own_answer s p seat (PlaceBlock g k) (Placed b) sound own legal ok = (ok.0, subst (λ (free : List Bool). IsFreeBlock free b) (frees_seen p s.zone s.phases) ok.1)
-own_answer s p seat (PlaceBlock g k) NoFreeBlock sound own legal ok = subst (λ (free : List Bool). (b : Block) → b.order ≡ k → IsFreeBlock free b → ⊥) (frees_seen p s.zone s.phases) ok
+own_answer s p seat (PlaceBlock g k) (Placed b) sound own legal ok =
+    (ok.0, subst (λ (free : List Bool). IsFreeBlock free b) (frees_seen p s.zone s.phases) ok.1)
+own_answer s p seat (PlaceBlock g k) NoFreeBlock sound own legal ok =
+    subst (λ (free : List Bool). (b : Block) → b.order ≡ k → IsFreeBlock free b → ⊥) (frees_seen p s.zone s.phases) ok
 own_answer s p seat action answer sound own legal ok = ok
 
 -- a reference more or less, or another phase with it
 referred_seen : (s : State) (p seat f : ℕ) (F : ℕ → ℕ) → IsOwn p seat →
-    hide_references p (changed s.references seat f (F (s.references seat f))) ≡ changed (hide_references p s.references) seat f (F (hide_references p s.references seat f))
-referred_seen s p seat f F own = own_referred p s.references seat f (F (s.references seat f)) own ∙ ap (λ (n : ℕ). changed (hide_references p s.references) seat f (F n)) (sym (own_reference p s.references seat f own))
+    hide_references p (changed s.references seat f (F (s.references seat f)))
+    ≡ changed (hide_references p s.references) seat f (F (hide_references p s.references seat f))
+referred_seen s p seat f F own = own_referred p s.references seat f (F (s.references seat f)) own
+    ∙ ap (λ (n : ℕ). changed (hide_references p s.references) seat f (F n)) (sym (own_reference p s.references seat f own))
 
 last_seen : (s : State) (p seat f : ℕ) → IsSound s → IsOwn p seat → 1 ≤ s.references seat f → hide p (after_last s seat f) ≡ after_last (hide p s) seat f
 last_seen s p seat f sound own some =
@@ -200,17 +225,21 @@ last_seen s p seat f sound own some =
       | inr ne ↦
           let e : seat ≡ p = elim own [ inl z ↦ absurd (ne z) | inr e ↦ e ] in
           let stage : stage_after_last seat ≡ BackAt p = cond-false (seat == 0) Ended (BackAt seat) (ne_eqb seat 0 ne) ∙ ap BackAt e in
-          let goes : GoesOn p (at_stage (stage_after_last seat)) (s.phases f) = subst (λ z. GoesOn p (at_stage z) (s.phases f)) (sym stage) (backed_goes p (s.phases f) is.0 is.1) in
-          let parts : hide_parts p (cond (seat == 0) s.parts (with_at s.parts seat (with_back (s.parts seat) f))) ≡ cond (seat == 0) (hide_parts p s.parts) (with_at (hide_parts p s.parts) seat (with_back (hide_parts p s.parts seat) f)) =
+          let goes : GoesOn p (at_stage (stage_after_last seat)) (s.phases f) =
+          subst (λ z. GoesOn p (at_stage z) (s.phases f)) (sym stage) (backed_goes p (s.phases f) is.0 is.1) in
+          let parts : hide_parts p (cond (seat == 0) s.parts (with_at s.parts seat (with_back (s.parts seat) f)))
+          ≡ cond (seat == 0) (hide_parts p s.parts) (with_at (hide_parts p s.parts) seat (with_back (hide_parts p s.parts seat) f)) =
           ap (hide_parts p) (cond-false (seat == 0) s.parts (with_at s.parts seat (with_back (s.parts seat) f)) (ne_eqb seat 0 ne))
           ∙ own_changed p s.parts seat (λ part. with_back part f) e
-          ∙ sym (cond-false (seat == 0) (hide_parts p s.parts) (with_at (hide_parts p s.parts) seat (with_back (hide_parts p s.parts seat) f)) (ne_eqb seat 0 ne)) in
+          ∙ sym (cond-false (seat == 0) (hide_parts p s.parts) (with_at (hide_parts p s.parts) seat (with_back (hide_parts p s.parts seat) f))
+          (ne_eqb seat 0 ne)) in
           same_state s (gone_on p s.phases f (at_stage (stage_after_last seat)) goes) (referred_seen s p seat f (λ n. n - 1) own) parts
     ]
 
 -- a frame is passed back under the cover as it is
 sent_seen : (s : State) (p seat f : ℕ) → seat ≡ p → GoesOn p passed_back (s.phases f) →
-    hide p (with_part (with_phase s f (passed_back (s.phases f))) seat (without_frame (s.parts seat) (s.phases f) seat f)) ≡ after (hide p s) seat (PassBack f) Done
+    hide p (with_part (with_phase s f (passed_back (s.phases f))) seat (without_frame (s.parts seat) (s.phases f) seat f))
+    ≡ after (hide p s) seat (PassBack f) Done
 sent_seen s p seat f e goes =
     same_state s (gone_on p s.phases f passed_back goes) refl
     (own_changed p s.parts seat (λ part. without_frame part (s.phases f) seat f) e
@@ -224,7 +253,8 @@ drained_seen part n is =
 -- what a step of p or the zone changes is the same under the cover
 pub own_after : (s : State) (p seat : ℕ) (action : Action) (answer : Answer) → IsSound s → IsOwn p seat → is_of_lock action ≡ false →
     holds_lock p s.hold ≡ true →
-    is_legal s seat action ≡ true → IsAnswer s seat action answer → IsCounted s action answer → hide p (after s seat action answer) ≡ after (hide p s) seat action answer
+    is_legal s seat action ≡ true → IsAnswer s seat action answer → IsCounted s action answer → hide p (after s seat action answer)
+    ≡ after (hide p s) seat action answer
 own_after s p seat Lock Done sound own inside holds legal ok counted = refl
 own_after s p seat Unlock Done sound own inside holds legal ok counted = refl
 own_after s p seat (OpenVisit q) Done sound own inside holds legal ok counted = refl
@@ -243,17 +273,22 @@ own_after s p seat (Freeze f n) Done sound own inside holds legal ok counted =
     same_state s (gone_on p s.phases f (at_stage Ended) (ended_goes p (s.phases f) is.0 is.1)) (referred_seen s p 0 f (λ k. k - n) (inl refl)) refl
 own_after s p seat (Unfreeze f n) Done sound own inside holds legal ok counted =
     let hand : is_head_in_hand (s.phases f) ≡ true = grind arith in
-    same_state s (gone_on p s.phases f (at_stage Live) (woken_goes p (s.phases f) (in_hand (s.phases f) hand))) (referred_seen s p 0 f (λ k. k + n) (inl refl)) refl
-own_after s p seat (PassOut f q) Done sound own inside holds legal ok counted = same_state s (at_through (hide_phase p) s.phases f (Lent q PassingOut)) refl refl
+    same_state s (gone_on p s.phases f (at_stage Live) (woken_goes p (s.phases f) (in_hand (s.phases f) hand)))
+    (referred_seen s p 0 f (λ k. k + n) (inl refl)) refl
+own_after s p seat (PassOut f q) Done sound own inside holds legal ok counted =
+    same_state s (at_through (hide_phase p) s.phases f (Lent q PassingOut)) refl refl
 own_after s p seat (TakeIn f) Done sound own inside holds legal ok counted =
     let cpu : is_cpu s.zone seat ≡ true = grind arith in
-    same_state s (at_through (hide_phase p) s.phases f (Lent seat OnList)) refl (own_changed p s.parts seat (λ part. record part { list = with_last part.list f }) (cpu_own s.zone p seat own cpu))
+    same_state s (at_through (hide_phase p) s.phases f (Lent seat OnList)) refl
+    (own_changed p s.parts seat (λ part. record part { list = with_last part.list f }) (cpu_own s.zone p seat own cpu))
 own_after s p seat (PassBack f) Done sound own inside holds legal ok counted =
     let cpu : is_cpu s.zone seat ≡ true = grind arith in
     let e : seat ≡ p = cpu_own s.zone p seat own cpu in
     let may : may_pass_back s seat f ≡ true = grind arith in
-    let mine : (kind : Kind) → has_as kind seat (s.phases f) ≡ true → has_as kind p (s.phases f) ≡ true = λ kind. subst (λ (r : ℕ). has_as kind r (s.phases f) ≡ true) e in
-    sent_seen s p seat f e (elim (or_cases (has_as Listed seat (s.phases f) && front_of (s.parts seat).list == f || has_as Fresh seat (s.phases f)) (has_as kinds.Back seat (s.phases f)) may) [
+    let mine : (kind : Kind) → has_as kind seat (s.phases f) ≡ true → has_as kind p (s.phases f) ≡ true =
+    λ kind. subst (λ (r : ℕ). has_as kind r (s.phases f) ≡ true) e in
+    sent_seen s p seat f e (elim (or_cases (has_as Listed seat (s.phases f) && front_of (s.parts seat).list == f || has_as Fresh seat (s.phases f))
+    (has_as kinds.Back seat (s.phases f)) may) [
       | inl first ↦ elim (or_cases (has_as Listed seat (s.phases f) && front_of (s.parts seat).list == f) (has_as Fresh seat (s.phases f)) first) [
         | inl front ↦ listed_goes p (s.phases f) (mine Listed (and_parts (has_as Listed seat (s.phases f)) (front_of (s.parts seat).list == f) front).0)
         | inr fresh ↦ fresh_goes p (s.phases f) (mine Fresh fresh)
@@ -266,7 +301,8 @@ own_after s p seat (Collect f q) Done sound own inside holds legal ok counted =
 own_after s p seat (Consume g) Took sound own inside holds legal ok counted =
     let cpu : is_cpu s.zone seat ≡ true = grind arith in
     let e : seat ≡ p = cpu_own s.zone p seat own cpu in
-    let front : front_of (s.parts seat).list ≡ front_of (hide_parts p s.parts seat).list = ap (λ (part : Part). front_of part.list) (sym (own_part p s.parts seat e)) in
+    let front : front_of (s.parts seat).list ≡ front_of (hide_parts p s.parts seat).list =
+    ap (λ (part : Part). front_of part.list) (sym (own_part p s.parts seat e)) in
     let fresh : hide_phase p (consumed seat g) ≡ consumed seat g = cond-true (seat == p) (consumed seat g) (Lent seat OnList) (eq-eqb seat p e) in
     same_state s
     (at_through (hide_phase p) s.phases (front_of (s.parts seat).list) (consumed seat g)
@@ -274,19 +310,26 @@ own_after s p seat (Consume g) Took sound own inside holds legal ok counted =
     refl (own_changed p s.parts seat paid e)
 own_after s p seat (Credit f) Back sound own inside holds legal ok counted =
     let cpu : is_cpu s.zone seat ≡ true = grind arith in
-    same_state s (at_through (hide_phase p) s.phases f (Lent seat OnList)) refl (own_changed p s.parts seat (λ part. credited part f) (cpu_own s.zone p seat own cpu))
+    same_state s (at_through (hide_phase p) s.phases f (Lent seat OnList)) refl
+    (own_changed p s.parts seat (λ part. credited part f) (cpu_own s.zone p seat own cpu))
 own_after s p seat (Report n) Done sound own inside holds legal ok counted =
     let cpu : is_cpu s.zone seat ≡ true = grind arith in
-    same_state s refl refl (own_changed p s.parts seat (λ part. record part { unreported = part.unreported - n; reported = part.reported + n }) (cpu_own s.zone p seat own cpu))
+    same_state s refl refl (own_changed p s.parts seat (λ part. record part { unreported = part.unreported - n; reported = part.reported + n })
+    (cpu_own s.zone p seat own cpu))
 own_after s p seat (Absorb q) (Pages n) sound own inside holds legal ok counted =
     same_state s refl refl (any_changed p s.parts q (λ part. record part { book = part.book - n; reported = part.reported - n }) refl)
 own_after s p seat (Fill q g n) Done sound own inside holds legal ok counted =
     let visit : visits q s.hold ≡ true = grind arith in
-    same_state (record s { pending = with_at s.pending g (s.pending g - n) }) refl refl (own_changed p s.parts q (λ part. filled part g n) (only_visit p q s.hold holds visit))
+    same_state (record s { pending = with_at s.pending g (s.pending g - n) }) refl refl
+    (own_changed p s.parts q (λ part. filled part g n) (only_visit p q s.hold holds visit))
 own_after s p seat (DrainStock q) (Pages n) sound own inside holds legal ok counted =
     let group : (s.parts q).stock.group ≡ (hide_parts p s.parts q).stock.group = sym (part_seen (λ part. part.stock.group) (λ part. refl) p s.parts q) in
-    same_state (record s { pending = with_more s.pending (s.parts q).stock.group n }) refl refl (any_changed p s.parts q (λ part. drained part n) (drained_seen (s.parts q) n counted))
-    ∙ ap (λ (o : Option ℕ). record (hide p s) { parts = with_at (hide_parts p s.parts) q (drained (hide_parts p s.parts q) n); pending = with_more s.pending o n }) group
+    same_state (record s { pending = with_more s.pending (s.parts q).stock.group n }) refl refl
+    (any_changed p s.parts q (λ part. drained part n) (drained_seen (s.parts q) n counted))
+    ∙ ap (λ (o : Option ℕ). record (hide p s) {
+      parts = with_at (hide_parts p s.parts) q (drained (hide_parts p s.parts q) n);
+      pending = with_more s.pending o n;
+    }) group
 own_after s p seat (Grant g n) Granted sound own inside holds legal ok counted = refl
 own_after s p seat (Ungrant g n) Done sound own inside holds legal ok counted = refl
 own_after s p seat (PlaceBlock g k) (Placed b) sound own inside holds legal ok counted =

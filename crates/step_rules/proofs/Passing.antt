@@ -13,7 +13,10 @@ use Rattle.step_rules.specs.State.{Zone, State, with_at, one_if, frames_of, with
 use Rattle.step_rules.specs.After.{with_phase, with_part, without_frame, paid, credited, consumed}
 use Rattle.step_rules.proofs.Lists.{times, length_without, length_last, front_stands, one_if_true}
 use Rattle.step_rules.proofs.Sound.{FrameFits, PhasePaid, Sound, IsSound, ListMoves, Stays, Joins, Leaves, groups_in, sound_one, sound_phase, IsBooked}
-use Rattle.step_rules.proofs.PhaseLemmas.{by_kind, free_is, out_is, listed_is, fresh_is, back_is, came_back, CameBack, FromList, FromFresh, FromBack, nobody_has, nobody_has_stage, nobody_has_out, nobody_has_returning, nobody_has_fresh_passing, nobody_has_back_passing, only_listed, only_fresh, only_back, none_some, equal_test}
+use Rattle.step_rules.proofs.PhaseLemmas.{by_kind, free_is, out_is, listed_is, fresh_is, back_is, came_back, CameBack, FromList, FromFresh}
+use Rattle.step_rules.proofs.PhaseLemmas.{FromBack, nobody_has, nobody_has_stage, nobody_has_out, nobody_has_returning}
+use Rattle.step_rules.proofs.PhaseLemmas.{nobody_has_fresh_passing, nobody_has_back_passing, only_listed, only_fresh, only_back, none_some}
+use Rattle.step_rules.proofs.PhaseLemmas.{equal_test}
 
 -- what holds of a frame that was not live and is not live now
 dead_fits : (zone : Zone) (hold : Hold) (groups : ℕ → Option ℕ) (references : ℕ → ℕ) (f : ℕ) (x y : Phase) →
@@ -54,11 +57,13 @@ sound_taken_in s f p sound below passes =
     let was = out_is p (s.phases f) passes in
     let part = record (s.parts p) { list = with_last (s.parts p).list f } in
     sound_one s.zone s.hold s.phases s.references s.references s.parts f p (Lent p PassingOut) (Lent p OnList) part sound was (record {
-      fits = dead_fits s.zone s.hold (groups_in s.parts) (λ seat. s.references seat f) f (Lent p PassingOut) (Lent p OnList) (was_fits s f (Lent p PassingOut) sound was) refl below
+      fits = dead_fits s.zone s.hold (groups_in s.parts) (λ seat. s.references seat f) f (Lent p PassingOut) (Lent p OnList)
+          (was_fits s f (Lent p PassingOut) sound was) refl below
           (λ q e. absurd (false≢true e)) (λ q e. absurd (false≢true e)) tt;
       others = λ m ne seat. refl;
       group = refl;
-      lists = by_kind (λ k. ListMoves f (frames_of (s.parts p) k) (frames_of part k) (has_as k p (Lent p PassingOut)) (has_as k p (Lent p OnList))) (Joins refl refl (eq-eqb p p refl)) (Stays refl refl) (Stays refl refl);
+      lists = by_kind (λ k. ListMoves f (frames_of (s.parts p) k) (frames_of part k) (has_as k p (Lent p PassingOut)) (has_as k p (Lent p OnList)))
+          (Joins refl refl (eq-eqb p p refl)) (Stays refl refl) (Stays refl refl);
       elsewhere = λ q kind ne. only_listed p q kind ne ∙ sym (nobody_has_out p q kind);
       unit = λ u e. absurd (none_some u e);
       no_tail = λ g e. cc;
@@ -88,7 +93,8 @@ sound_sent s f p x y sound below visit was is dead out back paid nobody only uni
           (λ q e. visit ∙ ap Visiting (sym (out q e))) (λ q e. visit ∙ ap Visiting (sym (back q e))) paid;
       others = λ m ne seat. refl;
       group = refl;
-      lists = by_kind (λ k. ListMoves f (frames_of (s.parts p) k) (frames_of part k) (has_as k p x) (has_as k p y)) (Leaves refl (nobody p Listed)) (Leaves refl (nobody p Fresh)) (Leaves refl (nobody p Back));
+      lists = by_kind (λ k. ListMoves f (frames_of (s.parts p) k) (frames_of part k) (has_as k p x) (has_as k p y)) (Leaves refl (nobody p Listed))
+          (Leaves refl (nobody p Fresh)) (Leaves refl (nobody p Back));
       elsewhere = λ q kind ne. nobody q kind ∙ sym (only q kind ne);
       unit = λ u e. inr (unit u e);
       no_tail = no_tail;
@@ -140,15 +146,19 @@ pub sound_collected : (s : State) (f p : ℕ) → IsSound s → f < s.zone.frame
 sound_collected s f p sound below passes = got (came_back p (s.phases f) passes)
   where
     got : CameBack p (s.phases f) → IsSound (with_phase s f (collected (s.phases f)))
-    got (FromList was) = sound_got s f p (Lent p PassingBack) InZone sound below was refl refl (λ q. refl) (λ q. refl) tt (nobody_has InZone refl) (nobody_has_returning p) (λ u e. e) (λ g e. cc)
-    got (FromFresh u was) = sound_got s f p (Head u (FreshPassing p)) (Head u Collected) sound below was refl refl (λ q. refl) (λ q. refl) tt (nobody_has_stage u Collected refl) (nobody_has_fresh_passing u p) (λ v e. e) (λ g e. cc)
-    got (FromBack u was) = sound_got s f p (Head u (BackPassing p)) (Head u Ended) sound below was refl refl (λ q. refl) (λ q. refl) tt (nobody_has_stage u Ended refl) (nobody_has_back_passing u p) (λ v e. e) (λ g e. cc)
+    got (FromList was) = sound_got s f p (Lent p PassingBack) InZone sound below was refl refl (λ q. refl) (λ q. refl) tt (nobody_has InZone refl)
+        (nobody_has_returning p) (λ u e. e) (λ g e. cc)
+    got (FromFresh u was) = sound_got s f p (Head u (FreshPassing p)) (Head u Collected) sound below was refl refl (λ q. refl) (λ q. refl) tt
+        (nobody_has_stage u Collected refl) (nobody_has_fresh_passing u p) (λ v e. e) (λ g e. cc)
+    got (FromBack u was) = sound_got s f p (Head u (BackPassing p)) (Head u Ended) sound below was refl refl (λ q. refl) (λ q. refl) tt
+        (nobody_has_stage u Ended refl) (nobody_has_back_passing u p) (λ v e. e) (λ g e. cc)
 
 -- a frame of a list is on it
 pub front_listed : (s : State) (p : ℕ) → IsSound s → 1 ≤ length (s.parts p).list → has_as Listed p (s.phases (front_of (s.parts p).list)) ≡ true
 front_listed s p sound some =
     let a = front_stands (s.parts p).list some in
-    let b : times (front_of (s.parts p).list) (s.parts p).list ≡ one_if (has_as Listed p (s.phases (front_of (s.parts p).list))) = sound.lists p Listed (front_of (s.parts p).list) in
+    let b : times (front_of (s.parts p).list) (s.parts p).list ≡ one_if (has_as Listed p (s.phases (front_of (s.parts p).list))) =
+    sound.lists p Listed (front_of (s.parts p).list) in
     one_if_true (has_as Listed p (s.phases (front_of (s.parts p).list))) (omega arith)
 
 -- a frame of a list is in the zone
@@ -163,11 +173,13 @@ sound_consumed s p g sound low high some group pages =
     let was : s.phases f ≡ Lent p OnList = listed_is p (s.phases f) (front_listed s p sound some) in
     let below : f < s.zone.frames = in_zone s f sound (ap is_free was) in
     sound_one s.zone s.hold s.phases s.references s.references s.parts f p (Lent p OnList) (consumed p g) (paid (s.parts p)) sound was (record {
-      fits = dead_fits s.zone s.hold (groups_in s.parts) (λ seat. s.references seat f) f (Lent p OnList) (consumed p g) (was_fits s f (Lent p OnList) sound was) refl below
+      fits = dead_fits s.zone s.hold (groups_in s.parts) (λ seat. s.references seat f) f (Lent p OnList) (consumed p g)
+          (was_fits s f (Lent p OnList) sound was) refl below
           (λ q e. absurd (false≢true e)) (λ q e. absurd (false≢true e)) (record { group = group; order = refl; low = low; high = high });
       others = λ m ne seat. refl;
       group = refl;
-      lists = by_kind (λ k. ListMoves f (frames_of (s.parts p) k) (frames_of (paid (s.parts p)) k) (has_as k p (Lent p OnList)) (has_as k p (consumed p g))) (Leaves refl refl) (Joins refl refl (eq-eqb p p refl)) (Stays refl refl);
+      lists = by_kind (λ k. ListMoves f (frames_of (s.parts p) k) (frames_of (paid (s.parts p)) k) (has_as k p (Lent p OnList))
+          (has_as k p (consumed p g))) (Leaves refl refl) (Joins refl refl (eq-eqb p p refl)) (Stays refl refl);
       elsewhere = λ q kind ne. only_fresh (record { group = g; order = 0 }) p q kind ne ∙ sym (only_listed p q kind ne);
       unit = λ u e. inl (let same : record { group = g; order = 0 } ≡ u = cc in ap (λ (v : ChargedUnit). v.order) (sym same));
       no_tail = λ k e. cc;
@@ -179,11 +191,13 @@ pub sound_credited : (s : State) (f p : ℕ) → IsSound s → f < s.zone.frames
 sound_credited s f p sound below has =
     let is = fresh_is p (s.phases f) has in
     sound_one s.zone s.hold s.phases s.references s.references s.parts f p (Head is.0 (FreshAt p)) (Lent p OnList) (credited (s.parts p) f) sound is.1 (record {
-      fits = dead_fits s.zone s.hold (groups_in s.parts) (λ seat. s.references seat f) f (Head is.0 (FreshAt p)) (Lent p OnList) (was_fits s f (Head is.0 (FreshAt p)) sound is.1) refl below
+      fits = dead_fits s.zone s.hold (groups_in s.parts) (λ seat. s.references seat f) f (Head is.0 (FreshAt p)) (Lent p OnList)
+          (was_fits s f (Head is.0 (FreshAt p)) sound is.1) refl below
           (λ q e. absurd (false≢true e)) (λ q e. absurd (false≢true e)) tt;
       others = λ m ne seat. refl;
       group = refl;
-      lists = by_kind (λ k. ListMoves f (frames_of (s.parts p) k) (frames_of (credited (s.parts p) f) k) (has_as k p (Head is.0 (FreshAt p))) (has_as k p (Lent p OnList))) (Joins refl refl (eq-eqb p p refl)) (Leaves refl refl) (Stays refl refl);
+      lists = by_kind (λ k. ListMoves f (frames_of (s.parts p) k) (frames_of (credited (s.parts p) f) k) (has_as k p (Head is.0 (FreshAt p)))
+          (has_as k p (Lent p OnList))) (Joins refl refl (eq-eqb p p refl)) (Leaves refl refl) (Stays refl refl);
       elsewhere = λ q kind ne. only_listed p q kind ne ∙ sym (only_fresh is.0 p q kind ne);
       unit = λ u e. absurd (none_some u e);
       no_tail = λ g e. cc;

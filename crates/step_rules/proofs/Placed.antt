@@ -1,5 +1,6 @@
 -- Every frame has exactly one place, the one that its phase tells.
-use Rattle.std.proofs.Common.{◌≡◌, ℕ, ◌+◌, ◌^◌, ◌<◌, ◌≤◌, ◌&&◌, ◌||◌, ◌==◌, Bool, true, false, Option, Some, length, refl, sym, ◌∙◌, ap, subst, arith, inl, inr, cond, if◌then◌else◌, eq-eqb}
+use Rattle.std.proofs.Common.{◌≡◌, ℕ, ◌+◌, ◌^◌, ◌<◌, ◌≤◌, ◌&&◌, ◌||◌, ◌==◌, Bool, true, false, Option, Some, length, refl, sym, ◌∙◌, ap}
+use Rattle.std.proofs.Common.{subst, arith, inl, inr, cond, if◌then◌else◌, eq-eqb}
 use Rattle.std.specs.Prelude.{nat_le, not}
 use Rattle.std.proofs.lemmas.Bool.{cases_eq, false≢true, true≢false, leb-true, cond-true, cond-false, lt-ltb, eqb-true}
 use Rattle.zone_blocks.specs.declared.block.Block.{Block}
@@ -13,7 +14,8 @@ use Rattle.step_rules.specs.declared.step.Place.{Place}
 use Rattle.step_rules.specs.declared.step.Place.TheVariants.{Free, Listed, Charged}
 use Rattle.step_rules.specs.declared.step.Step.{Step}
 use Rattle.step_rules.specs.declared.step.Action.{Action}
-use Rattle.step_rules.specs.declared.step.Action.TheVariants.{Lock, Put, Freeze, Unfreeze, PassOut, TakeIn, PassBack, Collect, Consume, Credit, PlaceBlock, Return}
+use Rattle.step_rules.specs.declared.step.Action.TheVariants.{Lock, Put, Freeze, Unfreeze, PassOut, TakeIn, PassBack, Collect, Consume}
+use Rattle.step_rules.specs.declared.step.Action.TheVariants.{Credit, PlaceBlock, Return}
 use Rattle.step_rules.specs.declared.step.Answer.{Answer}
 use Rattle.step_rules.specs.declared.step.Answer.TheVariants.{Illegal, Done, Last, Took, Back, Placed}
 use Rattle.step_rules.specs.Phases.{Fresh, has_as, is_free, passes_out, passes_back, unit_of, at_stage, stage_after_last, passed_back, collected, may_return}
@@ -23,7 +25,8 @@ use Rattle.step_rules.specs.After.{after, state_of, is_within, placed_phase, wit
 use Rattle.step_rules.specs.Places.{Places, is_same_place, places_at_boot, moved, returned, credited_place, places_after, place_in, EveryFrameHasOnePlace}
 use Rattle.step_rules.proofs.Basics.{at_same, at_other, at_each}
 use Rattle.step_rules.proofs.Sound.{IsSound}
-use Rattle.step_rules.proofs.PhaseLemmas.{free_is, out_is, listed_is, fresh_is, came_back, CameBack, FromList, FromFresh, FromBack, returning_is, Returns, AsEnded, AsDrop}
+use Rattle.step_rules.proofs.PhaseLemmas.{free_is, out_is, listed_is, fresh_is, came_back, CameBack, FromList, FromFresh, FromBack}
+use Rattle.step_rules.proofs.PhaseLemmas.{returning_is, Returns, AsEnded, AsDrop}
 use Rattle.step_rules.proofs.Passing.{front_listed, in_zone}
 use Rattle.step_rules.proofs.Placing.{within_cases, block_free, in_block, off_block, in_unit, off_unit}
 use Rattle.step_rules.proofs.Runs.{next, after_illegal, allowed, kept_along, sound_boot}
@@ -76,7 +79,8 @@ one_told zone phases places f y old new told frame was is =
     moves_told zone phases (with_at phases f y) places f 1 old new told
     (λ x low high within.
     let e : f ≡ x = omega arith in
-    subst (λ (k : ℕ). (is_frame zone k ≡ true) × (place_in (phases k) ≡ old) × (place_in (with_at phases f y k) ≡ new)) e (frame, was, ap place_in (at_same phases f y) ∙ is))
+    subst (λ (k : ℕ). (is_frame zone k ≡ true) × (place_in (phases k) ≡ old) × (place_in (with_at phases f y k) ≡ new)) e
+    (frame, was, ap place_in (at_same phases f y) ∙ is))
     (λ x off. ap place_in (at_other phases f y x (λ e. true≢false (sym (self x (sym e)) ∙ off))))
   where
     self : (x : ℕ) → f ≡ x → is_within f 1 x ≡ true
@@ -156,9 +160,12 @@ places_made : (s : State) (places : Places) (seat : ℕ) (action : Action) (answ
     is_legal s seat action ≡ true → IsAnswer s seat action answer →
     AreTold s.zone (after s seat action answer).phases (places_after s places seat action answer)
 places_made s places seat action Illegal sound told legal ok = places_unchanged s places seat action told
-places_made s places seat (Put f) Last sound told legal ok = stays_told s.zone s.phases places f (at_stage (stage_after_last seat) (s.phases f)) told (staged (stage_after_last seat) (s.phases f))
-places_made s places seat (Freeze f n) Done sound told legal ok = stays_told s.zone s.phases places f (at_stage Ended (s.phases f)) told (staged Ended (s.phases f))
-places_made s places seat (Unfreeze f n) Done sound told legal ok = stays_told s.zone s.phases places f (at_stage Live (s.phases f)) told (staged Live (s.phases f))
+places_made s places seat (Put f) Last sound told legal ok =
+    stays_told s.zone s.phases places f (at_stage (stage_after_last seat) (s.phases f)) told (staged (stage_after_last seat) (s.phases f))
+places_made s places seat (Freeze f n) Done sound told legal ok =
+    stays_told s.zone s.phases places f (at_stage Ended (s.phases f)) told (staged Ended (s.phases f))
+places_made s places seat (Unfreeze f n) Done sound told legal ok =
+    stays_told s.zone s.phases places f (at_stage Live (s.phases f)) told (staged Live (s.phases f))
 places_made s places seat (PassOut f p) Done sound told legal ok =
     let frame : is_frame s.zone f ≡ true = grind arith in
     let free : is_free (s.phases f) ≡ true = grind arith in
@@ -175,7 +182,8 @@ places_made s places seat (Consume g) Took sound told legal ok =
     let some : nat_le 1 (length (s.parts seat).list) ≡ true = grind arith in
     let f = front_of (s.parts seat).list in
     let was : s.phases f ≡ Lent seat OnList = listed_is seat (s.phases f) (front_listed s seat sound (leb-true 1 (length (s.parts seat).list) some)) in
-    one_told s.zone s.phases places f (consumed seat g) (Listed seat) (Charged g) told (lt-ltb f s.zone.frames (in_zone s f sound (ap is_free was))) (ap place_in was) refl
+    one_told s.zone s.phases places f (consumed seat g) (Listed seat) (Charged g) told (lt-ltb f s.zone.frames (in_zone s f sound (ap is_free was)))
+    (ap place_in was) refl
 places_made s places seat (Credit f) Back sound told legal ok =
     let frame : is_frame s.zone f ≡ true = grind arith in
     let fresh : has_as Fresh seat (s.phases f) ≡ true = grind arith in
@@ -204,7 +212,8 @@ places_allowed : (s : State) (places : Places) (seat : ℕ) (action : Action) (a
     AreTold s.zone (after s seat action answer).phases (places_after s places seat action answer)
 places_allowed s places seat action answer sound told ok =
     elim (allowed s seat action answer ok) [
-      | inl illegal ↦ subst (λ (a : Answer). AreTold s.zone (after s seat action a).phases (places_after s places seat action a)) (sym illegal) (places_unchanged s places seat action told)
+      | inl illegal ↦ subst (λ (a : Answer). AreTold s.zone (after s seat action a).phases (places_after s places seat action a)) (sym illegal)
+          (places_unchanged s places seat action told)
       | inr made ↦ places_made s places seat action answer sound told made.legal made.answered
     ]
 

@@ -1,5 +1,6 @@
 -- Steps that place a block, return a unit, move pages, or change who holds the lock keep what holds of the state.
-use Rattle.std.proofs.Common.{◌≡◌, ℕ, ◌+◌, ◌-◌, ◌^◌, ◌<◌, ◌≤◌, ◌&&◌, ◌||◌, ◌==◌, Bool, true, false, Option, Some, None, List, [], ◌∷◌, length, refl, sym, ◌∙◌, ap, subst, arith, inl, inr, cond, eq-eqb}
+use Rattle.std.proofs.Common.{◌≡◌, ℕ, ◌+◌, ◌-◌, ◌^◌, ◌<◌, ◌≤◌, ◌&&◌, ◌||◌, ◌==◌, Bool, true, false, Option, Some, None, List, [], ◌∷◌}
+use Rattle.std.proofs.Common.{length, refl, sym, ◌∙◌, ap, subst, arith, inl, inr, cond, eq-eqb}
 use Rattle.std.specs.Prelude.{◌⊎◌, nat_le, nat_lt, not}
 use Rattle.std.proofs.lemmas.Bool.{cases_eq, cases_lt, cases_Bool, ne_eqb, false≢true, true≢false, and_parts, leb-true, ltb-true, le-leb, lt-ltb, or_cases}
 use Rattle.std.proofs.lemmas.List.FromFn.{get_or-map-range_with_len, length-map-range_with_len}
@@ -204,7 +205,8 @@ sound_returned s f u stage sound was quiet =
                 let above : f ≤ z = inside.1 in
                 let under : z < f + unit_size (unit_of (s.phases f)) = inside.2 in
                 elim (cases_lt m f) [
-                  | inl lower ↦ absurd (not_both (Head u stage) v.group (sym was ∙ sound.units m v head f lower (elim (cases_eq f z) [ inl e ↦ absurd (not_head e) | inr ne ↦ omega arith ])) refl)
+                  | inl lower ↦ absurd (not_both (Head u stage) v.group
+                      (sym was ∙ sound.units m v head f lower (elim (cases_eq f z) [ inl e ↦ absurd (not_head e) | inr ne ↦ omega arith ])) refl)
                   | inr higher ↦ absurd (without.1 higher (omega arith))
                 ]
             | inr outside ↦ off_unit s.phases f z outside.0 ∙ tail
@@ -244,22 +246,31 @@ pub visit_rests : (s : State) (p : ℕ) → IsSound s → s.hold ≡ Visiting p 
 visit_rests s p sound visit rest f q at =
     let same : p ≡ q = same_visitor p q (sym visit ∙ at) in
     elim (cases_lt f s.zone.frames) [
-      | inl below ↦ subst (λ (k : ℕ). (passes_out k (s.phases f) ≡ false) × (passes_back k (s.phases f) ≡ false)) same (not_parts (passes_out p (s.phases f)) (passes_back p (s.phases f)) (all_at s.zone.frames (rests s p) rest f below))
+      | inl below ↦ subst (λ (k : ℕ). (passes_out k (s.phases f) ≡ false) × (passes_back k (s.phases f) ≡ false)) same
+          (not_parts (passes_out p (s.phases f)) (passes_back p (s.phases f)) (all_at s.zone.frames (rests s p) rest f below))
       | inr beyond ↦ free_rests (s.phases f) ((sound.frames f).inside beyond) q
     ]
 
-pub sound_reported : (s : State) (p n : ℕ) → IsSound s → n ≤ (s.parts p).unreported → Sound s.zone s.hold s.phases s.references (with_at s.parts p (record (s.parts p) { unreported = (s.parts p).unreported - n; reported = (s.parts p).reported + n }))
+pub sound_reported : (s : State) (p n : ℕ) → IsSound s → n ≤ (s.parts p).unreported →
+    Sound s.zone s.hold s.phases s.references (with_at s.parts p
+    (record (s.parts p) { unreported = (s.parts p).unreported - n; reported = (s.parts p).reported + n }))
 sound_reported s p n sound few =
-    sound_numbers s.zone s.hold s.phases s.references s.parts p _ sound refl (by_kind (λ k. frames_of (record (s.parts p) { unreported = (s.parts p).unreported - n; reported = (s.parts p).reported + n }) k ≡ frames_of (s.parts p) k) refl refl refl) (let a = sound.booked p in omega arith)
+    sound_numbers s.zone s.hold s.phases s.references s.parts p _ sound refl
+    (by_kind (λ k. frames_of (record (s.parts p) { unreported = (s.parts p).unreported - n; reported = (s.parts p).reported + n }) k
+    ≡ frames_of (s.parts p) k) refl refl refl) (let a = sound.booked p in omega arith)
 
-pub sound_absorbed : (s : State) (p n : ℕ) → IsSound s → n ≡ (s.parts p).reported → Sound s.zone s.hold s.phases s.references (with_at s.parts p (record (s.parts p) { book = (s.parts p).book - n; reported = (s.parts p).reported - n }))
+pub sound_absorbed : (s : State) (p n : ℕ) → IsSound s → n ≡ (s.parts p).reported →
+    Sound s.zone s.hold s.phases s.references (with_at s.parts p (record (s.parts p) { book = (s.parts p).book - n; reported = (s.parts p).reported - n }))
 sound_absorbed s p n sound is =
-    sound_numbers s.zone s.hold s.phases s.references s.parts p _ sound refl (by_kind (λ k. frames_of (record (s.parts p) { book = (s.parts p).book - n; reported = (s.parts p).reported - n }) k ≡ frames_of (s.parts p) k) refl refl refl) (let a = sound.booked p in omega arith)
+    sound_numbers s.zone s.hold s.phases s.references s.parts p _ sound refl
+    (by_kind (λ k. frames_of (record (s.parts p) { book = (s.parts p).book - n; reported = (s.parts p).reported - n }) k
+    ≡ frames_of (s.parts p) k) refl refl refl) (let a = sound.booked p in omega arith)
 
 pub sound_drained : (s : State) (p n : ℕ) → IsSound s → n ≡ (s.parts p).stock.pages →
     Sound s.zone s.hold s.phases s.references (with_at s.parts p (drained (s.parts p) n))
 sound_drained s p n sound is =
-    sound_numbers s.zone s.hold s.phases s.references s.parts p (drained (s.parts p) n) sound refl (by_kind (λ k. frames_of (drained (s.parts p) n) k ≡ frames_of (s.parts p) k) refl refl refl) (let a = sound.booked p in omega arith)
+    sound_numbers s.zone s.hold s.phases s.references s.parts p (drained (s.parts p) n) sound refl
+    (by_kind (λ k. frames_of (drained (s.parts p) n) k ≡ frames_of (s.parts p) k) refl refl refl) (let a = sound.booked p in omega arith)
 
 of_group : (o : Option ℕ) (g : ℕ) → is_of_group o g ≡ true → o ≡ Some g
 of_group None g e = absurd (false≢true e)
@@ -301,7 +312,8 @@ sound_filled s p g n sound may =
     sound_part s.zone s.hold s.phases s.references s.parts p part sound
     (λ f. elim (or_cases ((s.parts p).book == 0) (is_of_group (s.parts p).stock.group g) both.1) [
       | inl none ↦ still_paid s.zone.cpus s.parts p part (s.phases f) (nothing_fresh s p sound (equal_test (s.parts p).book 0 none) f) (sound.frames f).paid
-      | inr same ↦ subst (λ (k : ℕ → Option ℕ). PhasePaid s.zone.cpus k (s.phases f)) (same_groups s.parts p part (sym (of_group (s.parts p).stock.group g same))) (sound.frames f).paid
+      | inr same ↦ subst (λ (k : ℕ → Option ℕ). PhasePaid s.zone.cpus k (s.phases f))
+          (same_groups s.parts p part (sym (of_group (s.parts p).stock.group g same))) (sound.frames f).paid
     ])
     (by_kind (λ k. frames_of part k ≡ frames_of (s.parts p) k) refl refl refl)
     (let a = sound.booked p in omega arith)

@@ -22,7 +22,8 @@ abbrev pub changed : Referring → ℕ → ℕ → ℕ → Referring
 changed references seat f n = with_at references seat (with_at (references seat) f n)
 
 pub changed_others : (references : Referring) (seat f n m : ℕ) → (m ≡ f → ⊥) → (q : ℕ) → changed references seat f n q m ≡ references q m
-changed_others references seat f n m ne = at_each references seat (with_at (references seat) f n) (λ q r. r m ≡ references q m) (at_other (references seat) f n m ne) (λ q other. refl)
+changed_others references seat f n m ne =
+    at_each references seat (with_at (references seat) f n) (λ q r. r m ≡ references q m) (at_other (references seat) f n m ne) (λ q other. refl)
 
 pub changed_seats : (references : Referring) (seat f n q : ℕ) → (q ≡ seat → ⊥) → changed references seat f n q f ≡ references q f
 changed_seats references seat f n q ne = ap (λ (r : ℕ → ℕ). r f) (at_other references seat (with_at (references seat) f n) q ne)
@@ -35,7 +36,8 @@ pub live_from_references : (s : State) (f : ℕ) → IsSound s → 1 ≤ live_re
 live_from_references s f sound some =
     elim (cases_Bool (is_live (s.phases f))) [
       | inl live ↦ live
-      | inr dead ↦ absurd (let a = sum_none (s.zone.cpus + 1) (λ seat. s.references seat f) (λ seat below. (sound.frames f).unreferred dead seat) in omega arith)
+      | inr dead ↦ absurd (let a =
+          sum_none (s.zone.cpus + 1) (λ seat. s.references seat f) (λ seat below. (sound.frames f).unreferred dead seat) in omega arith)
     ]
 
 pub live_from_one : (s : State) (seat f : ℕ) → IsSound s → 1 ≤ s.references seat f → is_live (s.phases f) ≡ true
@@ -113,7 +115,8 @@ sound_ended s f sound below some all =
     let is = live_is (s.phases f) (live_from_one s 0 f sound some) in
     let later = changed s.references 0 f 0 in
     let goal = λ (y : Phase). Sound s.zone s.hold (with_at s.phases f y) later s.parts in
-    subst goal (sym (ap (at_stage Ended) is.1)) (sound_phase s.zone s.hold s.phases s.references later s.parts f (Head is.0 Live) (Head is.0 Ended) sound is.1 (record {
+    subst goal (sym (ap (at_stage Ended) is.1)) (sound_phase s.zone s.hold s.phases s.references later s.parts f (Head is.0 Live)
+    (Head is.0 Ended) sound is.1 (record {
       fits = bare_fits s.zone s.hold (groups_in s.parts) (λ q. later q f) f is.0 (none_left s 0 f sound (omega arith) all) below;
       others = λ m ne. changed_others s.references 0 f 0 m ne;
       group = refl;
@@ -129,7 +132,8 @@ pub sound_frozen : (s : State) (f n : ℕ) → IsSound s → f < s.zone.frames �
 sound_frozen s f n sound below some holds all =
     let part = sum_part (s.zone.cpus + 1) (λ seat. s.references seat f) 0 (omega arith) in
     let none : 0 ≡ s.references 0 f - n = omega arith in
-    subst (λ (k : ℕ). IsSound (with_phase (with_references s 0 f k) f (at_stage Ended (s.phases f)))) none (sound_ended s f sound below (omega arith) (omega arith))
+    subst (λ (k : ℕ). IsSound (with_phase (with_references s 0 f k) f (at_stage Ended (s.phases f)))) none
+    (sound_ended s f sound below (omega arith) (omega arith))
 
 -- the last put of a processor
 sound_backed : (s : State) (p f : ℕ) → IsSound s → f < s.zone.frames → p ≤ s.zone.cpus → 1 ≤ s.references p f → live_references s f ≤ s.references p f →
@@ -139,7 +143,8 @@ sound_backed s p f sound below there some all =
     let later = changed s.references p f 0 in
     let none = none_left s p f sound there all in
     let goal = λ (y : Phase). Sound s.zone s.hold (with_at s.phases f y) later (with_at s.parts p (with_back (s.parts p) f)) in
-    subst goal (sym (ap (at_stage (BackAt p)) is.1)) (sound_one s.zone s.hold s.phases s.references later s.parts f p (Head is.0 Live) (Head is.0 (BackAt p)) (with_back (s.parts p) f) sound is.1 (record {
+    subst goal (sym (ap (at_stage (BackAt p)) is.1)) (sound_one s.zone s.hold s.phases s.references later s.parts f p (Head is.0 Live)
+    (Head is.0 (BackAt p)) (with_back (s.parts p) f) sound is.1 (record {
       fits = record {
         out = λ q e. absurd (false≢true e);
         returning = λ q e. absurd (false≢true e);
@@ -150,7 +155,8 @@ sound_backed s p f sound below there some all =
       };
       others = λ m ne. changed_others s.references p f 0 m ne;
       group = refl;
-      lists = by_kind (λ k. ListMoves f (frames_of (s.parts p) k) (frames_of (with_back (s.parts p) f) k) (has_as k p (Head is.0 Live)) (has_as k p (Head is.0 (BackAt p)))) (Stays refl refl) (Stays refl refl) (Joins refl refl (eq-eqb p p refl));
+      lists = by_kind (λ k. ListMoves f (frames_of (s.parts p) k) (frames_of (with_back (s.parts p) f) k) (has_as k p (Head is.0 Live))
+          (has_as k p (Head is.0 (BackAt p)))) (Stays refl refl) (Stays refl refl) (Joins refl refl (eq-eqb p p refl));
       elsewhere = λ q kind ne. only_back is.0 p q kind ne ∙ sym (nobody_has_live is.0 q kind);
       unit = λ u e. inr e;
       no_tail = λ g e. cc;
@@ -165,11 +171,14 @@ sound_last s seat f sound below some one =
     elim (cases_eq seat 0) [
       | inl zero_seat ↦ subst (λ (k : ℕ). IsSound (after_last s k f)) (sym zero_seat)
           (let e : s.references 0 f ≡ s.references seat f = ap (λ (k : ℕ). s.references k f) (sym zero_seat) in
-          subst (λ (k : ℕ). IsSound (with_phase (with_references s 0 f k) f (at_stage Ended (s.phases f)))) (let z : 0 ≡ s.references 0 f - 1 = omega arith in z) (sound_ended s f sound below (omega arith) (omega arith)))
+          subst (λ (k : ℕ). IsSound (with_phase (with_references s 0 f k) f (at_stage Ended (s.phases f))))
+          (let z : 0 ≡ s.references 0 f - 1 = omega arith in z) (sound_ended s f sound below (omega arith) (omega arith)))
       | inr ne ↦
           let other : (seat == 0) ≡ false = ne_eqb seat 0 ne in
-          let goal = λ (b : Bool) (k : ℕ). Sound s.zone s.hold (with_at s.phases f (at_stage (cond b Ended (BackAt seat)) (s.phases f))) (changed s.references seat f k) (cond b s.parts (with_at s.parts seat (with_back (s.parts seat) f))) in
-          subst (λ (b : Bool). goal b (s.references seat f - 1)) (sym other) (subst (goal false) none (sound_backed s seat f sound below there some (omega arith)))
+          let goal = λ (b : Bool) (k : ℕ). Sound s.zone s.hold (with_at s.phases f (at_stage (cond b Ended (BackAt seat)) (s.phases f)))
+          (changed s.references seat f k) (cond b s.parts (with_at s.parts seat (with_back (s.parts seat) f))) in
+          subst (λ (b : Bool). goal b (s.references seat f - 1)) (sym other)
+          (subst (goal false) none (sound_backed s seat f sound below there some (omega arith)))
     ]
 
 -- the zone puts references on a unit's head in its hand

@@ -1,5 +1,6 @@
 -- Every frame comes back once for each use that ended.
-use Rattle.std.proofs.Common.{◌≡◌, ℕ, ◌+◌, ◌^◌, ◌<◌, ◌≤◌, ◌==◌, Bool, true, false, Some, [], ◌∷◌, length, refl, sym, ◌∙◌, ap, subst, arith, inl, inr, cond, eq-eqb}
+use Rattle.std.proofs.Common.{◌≡◌, ℕ, ◌+◌, ◌^◌, ◌<◌, ◌≤◌, ◌==◌, Bool, true, false, Some, [], ◌∷◌, length, refl, sym, ◌∙◌, ap, subst, arith}
+use Rattle.std.proofs.Common.{inl, inr, cond, eq-eqb}
 use Rattle.std.specs.Prelude.{nat_le}
 use Rattle.std.specs.List.{fold}
 use Rattle.std.proofs.lemmas.Bool.{cases_eq, ne_eqb, leb-true}
@@ -13,17 +14,20 @@ use Rattle.step_rules.specs.declared.phase.Phase.{Phase}
 use Rattle.step_rules.specs.declared.phase.Phase.TheVariants.{Lent, Head, Tail}
 use Rattle.step_rules.specs.declared.step.Step.{Step}
 use Rattle.step_rules.specs.declared.step.Action.{Action}
-use Rattle.step_rules.specs.declared.step.Action.TheVariants.{Lock, Put, Freeze, Unfreeze, PassOut, TakeIn, PassBack, Collect, Consume, Credit, PlaceBlock, Return}
+use Rattle.step_rules.specs.declared.step.Action.TheVariants.{Lock, Put, Freeze, Unfreeze, PassOut, TakeIn, PassBack, Collect, Consume}
+use Rattle.step_rules.specs.declared.step.Action.TheVariants.{Credit, PlaceBlock, Return}
 use Rattle.step_rules.specs.declared.step.Answer.{Answer}
 use Rattle.step_rules.specs.declared.step.Answer.TheVariants.{Illegal, Done, Last, Took, Back, Placed}
-use Rattle.step_rules.specs.Phases.{Fresh, has_as, is_free, passes_out, passes_back, unit_of, at_stage, stage_after_last, passed_back, collected, is_head_in_hand, may_return}
+use Rattle.step_rules.specs.Phases.{Fresh, has_as, is_free, passes_out, passes_back, unit_of, at_stage, stage_after_last, passed_back}
+use Rattle.step_rules.specs.Phases.{collected, is_head_in_hand, may_return}
 use Rattle.step_rules.specs.State.{Zone, State, at_boot, with_at, one_if, front_of}
 use Rattle.step_rules.specs.Legal.{is_legal, IsAnswer, Allows}
 use Rattle.step_rules.specs.After.{Run, after, state_of, IsLegalRun, is_within, placed_phase, with_block, unit_size, without_unit, consumed}
 use Rattle.step_rules.specs.Returns.{is_open, is_drop, uses_ended, uses_closed, counted_beside, EveryFrameReturnsOnce}
 use Rattle.step_rules.proofs.Basics.{at_same, at_other}
 use Rattle.step_rules.proofs.Sound.{IsSound}
-use Rattle.step_rules.proofs.PhaseLemmas.{live_is, free_is, out_is, listed_is, fresh_is, in_hand, InHand, WasCollected, WasBare, WasEnded, came_back, CameBack, FromList, FromFresh, FromBack, returning_is, Returns, AsEnded, AsDrop}
+use Rattle.step_rules.proofs.PhaseLemmas.{live_is, free_is, out_is, listed_is, fresh_is, in_hand, InHand, WasCollected, WasBare, WasEnded}
+use Rattle.step_rules.proofs.PhaseLemmas.{came_back, CameBack, FromList, FromFresh, FromBack, returning_is, Returns, AsEnded, AsDrop}
 use Rattle.step_rules.proofs.Referring.{live_from_one}
 use Rattle.step_rules.proofs.Passing.{front_listed}
 use Rattle.step_rules.proofs.Placing.{within_cases, block_free, in_block, off_block, in_unit, off_unit}
@@ -57,7 +61,8 @@ record Tells (F : State → ℕ) (s : State) (t : Told) : Type 0 where
   sum : t.1.0 ≡ F s + t.1.1
 
 pub counted_so : (gain loss : Count) (F : State → ℕ) → ((zone : Zone) → F (at_boot zone) ≡ 0) →
-    ((s : State) (seat : ℕ) (action : Action) (answer : Answer) → IsSound s → Allows s seat action answer → F s + gain s seat action answer ≡ F (after s seat action answer) + loss s seat action answer) →
+    ((s : State) (seat : ℕ) (action : Action) (answer : Answer) → IsSound s → Allows s seat action answer →
+    F s + gain s seat action answer ≡ F (after s seat action answer) + loss s seat action answer) →
     (zone : Zone) (run : Run) → IsLegalRun zone run → counted_beside gain zone run ≡ F (state_of zone run) + counted_beside loss zone run
 unfolding tell_both tell_one
 counted_so gain loss F boot each zone run legal =
@@ -151,7 +156,8 @@ unit_closes s f m u stage sound was one =
     let size : unit_size (unit_of (s.phases f)) ≡ 2 ^ u.order = ap unit_size unit in
     elim (cases_eq f m) [
       | inl same ↦
-          let back : opens (without_unit s.phases f m) ≡ 0 = ap (λ (k : ℕ). opens (without_unit s.phases f k)) (sym same) ∙ ap opens (in_unit s.phases f f (self (let p = pow_pos u.order in omega arith))) in
+          let back : opens (without_unit s.phases f m) ≡ 0 = ap (λ (k : ℕ). opens (without_unit s.phases f k)) (sym same)
+          ∙ ap opens (in_unit s.phases f f (self (let p = pow_pos u.order in omega arith))) in
           let a : opens (s.phases m) ≡ opens (s.phases f) = ap (λ (k : ℕ). opens (s.phases k)) (sym same) in
           rw (eq-eqb f m same) (omega arith)
       | inr ne ↦ elim (within_cases f (unit_size (unit_of (s.phases f))) m) [
@@ -204,7 +210,8 @@ uses_made m s seat action Illegal sound legal ok = uses_unchanged m s seat actio
 uses_made m s seat (Put f) Last sound legal ok =
     let some : nat_le 1 (s.references seat f) ≡ true = grind arith in
     let is = live_is (s.phases f) (live_from_one s seat f sound (leb-true 1 (s.references seat f) some)) in
-    opened s.phases f m (at_stage (stage_after_last seat) (s.phases f)) (ap opens is.1) (ap (λ x. opens (at_stage (stage_after_last seat) x)) is.1 ∙ last_opens seat is.0)
+    opened s.phases f m (at_stage (stage_after_last seat) (s.phases f)) (ap opens is.1)
+    (ap (λ x. opens (at_stage (stage_after_last seat) x)) is.1 ∙ last_opens seat is.0)
 uses_made m s seat (Freeze f n) Done sound legal ok =
     let one : nat_le 1 n ≡ true = grind arith in
     let some : nat_le n (s.references 0 f) ≡ true = grind arith in
@@ -243,7 +250,8 @@ uses_allowed : (m : ℕ) (s : State) (seat : ℕ) (action : Action) (answer : An
     opens (s.phases m) + uses_ended m s seat action answer ≡ opens ((after s seat action answer).phases m) + uses_closed m s seat action answer
 uses_allowed m s seat action answer sound ok =
     elim (allowed s seat action answer ok) [
-      | inl illegal ↦ subst (λ (a : Answer). opens (s.phases m) + uses_ended m s seat action a ≡ opens ((after s seat action a).phases m) + uses_closed m s seat action a) (sym illegal) (uses_unchanged m s seat action)
+      | inl illegal ↦ subst (λ (a : Answer). opens (s.phases m) + uses_ended m s seat action a ≡ opens ((after s seat action a).phases m)
+          + uses_closed m s seat action a) (sym illegal) (uses_unchanged m s seat action)
       | inr made ↦ uses_made m s seat action answer sound made.legal made.answered
     ]
 

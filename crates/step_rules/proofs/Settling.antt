@@ -1,5 +1,5 @@
 -- While the lock is free nothing is pending, and nothing passes.
-use Rattle.std.proofs.Common.{◌≡◌, ℕ, ◌<◌, ◌==◌, Bool, true, false, List, [], ◌∷◌, refl, sym, ◌∙◌, ap, subst, arith, inl, inr, cond, if◌then◌else◌, eq-eqb}
+use Rattle.std.proofs.Common.{◌≡◌, ℕ, ◌==◌, Bool, true, false, List, [], ◌∷◌, refl, sym, ◌∙◌, ap, subst, arith, inl, inr, cond, if◌then◌else◌, eq-eqb}
 use Rattle.std.specs.Prelude.{not}
 use Rattle.std.proofs.lemmas.Bool.{false≢true, true≢false, and_parts, cases_eq, ne_eqb}
 use Rattle.group_tree.specs.Groups.{in_subtree}
@@ -21,10 +21,12 @@ use Rattle.step_rules.specs.Legal.{is_legal, Allows, is_settled}
 use Rattle.step_rules.specs.Places.{is_same_place, place_in}
 use Rattle.step_rules.specs.After.{after, state_of}
 use Rattle.step_rules.specs.Returns.{times_in, IsAllPlaced, NothingPendsWhileTheLockIsFree}
-use Rattle.step_rules.proofs.Sums.{sum_none, all_at, all_each}
+use Rattle.step_rules.proofs.Sums.{sum_none, all_each}
 use Rattle.step_rules.proofs.Lists.{times}
 use Rattle.step_rules.proofs.Sound.{IsSound}
-use Rattle.step_rules.proofs.PhaseLemmas.{equal_test, unheld_visit}
+use Rattle.step_rules.proofs.PhaseLemmas.{unheld_visit}
+use Rattle.step_rules.proofs.Homes.{IsHomed}
+use Rattle.step_rules.proofs.Keeping.{homed_run, settled_all}
 use Rattle.step_rules.proofs.Runs.{after_illegal, allowed, kept_along, sound_boot}
 
 not_free : (hold : Hold) (seat : ℕ) → may_zone_act hold seat ≡ true → is_unheld hold ≡ true → ⊥
@@ -44,7 +46,8 @@ quit_made s seat (Fill p g n) Done quit legal = λ free. absurd (let may : may_z
 quit_made s seat (DrainStock p) (Pages n) quit legal = λ free. absurd (let may : may_zone_act s.hold seat ≡ true = grind arith in not_free s.hold seat may free)
 quit_made s seat (Grant g n) Granted quit legal = λ free. absurd (let may : may_zone_act s.hold seat ≡ true = grind arith in not_free s.hold seat may free)
 quit_made s seat (Ungrant g n) Done quit legal = λ free. absurd (let may : may_zone_act s.hold seat ≡ true = grind arith in not_free s.hold seat may free)
-quit_made s seat (PlaceBlock g k) (Placed b) quit legal = λ free. absurd (let may : may_zone_act s.hold seat ≡ true = grind arith in not_free s.hold seat may free)
+quit_made s seat (PlaceBlock g k) (Placed b) quit legal =
+    λ free. absurd (let may : may_zone_act s.hold seat ≡ true = grind arith in not_free s.hold seat may free)
 quit_made s seat Lock answer quit legal = quit
 quit_made s seat action answer quit legal = quit
 
@@ -86,20 +89,23 @@ times_are f (x ∷ xs) =
       | inr ne ↦ rw (ne_eqb x f ne) (let a = times_are f xs in omega arith)
     ]
 
-all_placed : (s : State) → IsSound s → is_unheld s.hold ≡ true → is_settled s ≡ true → IsAllPlaced s
-all_placed s sound free settled =
+all_placed : (s : State) → IsSound s → IsHomed s → is_unheld s.hold ≡ true → is_settled s ≡ true → IsAllPlaced s
+all_placed s sound homed free settled =
     let rests : (f : ℕ) → is_passing (s.phases f) ≡ false = λ f.
     still_phase (s.phases f) (λ q out. unheld_visit s.hold q free ((sound.frames f).out q out))
     (λ q back. unheld_visit s.hold q free ((sound.frames f).returning q back)) in
-    let none : (g : ℕ) → g < 64 → s.pending g ≡ 0 = λ g below. equal_test (s.pending g) 0 (all_at 64 (λ g. s.pending g == 0) settled g below) in
+    let none : (g : ℕ) → s.pending g ≡ 0 = settled_all s homed settled in
     record {
       pending = none;
-      usage = λ g. let a : pages_pending s.groups s.pending g ≡ 0 = sum_none 64 (λ h. if in_subtree s.groups g h then s.pending h else 0) (λ h below. none_below (in_subtree s.groups g h) (s.pending h) (none h below)) in omega arith;
+      usage = λ g. let a : pages_pending s.groups s.pending g ≡ 0 =
+          sum_none 64 (λ h. if in_subtree s.groups g h then s.pending h else 0)
+          (λ h below. none_below (in_subtree s.groups g h) (s.pending h) (none h)) in omega arith;
       still = all_each s.zone.frames (λ f. not (is_passing (s.phases f))) (λ f below. ap not (rests f));
       listed = λ f p. times_are f (s.parts p).list ∙ sound.lists p Listed f ∙ ap one_if (on_its_list p (s.phases f) (rests f));
     }
 
 pub nothing_pends : NothingPendsWhileTheLockIsFree
 nothing_pends zone run legal free =
-    let kept = kept_along (λ (x : ℕ) (e : Step × Answer). x) (λ s x. IsQuit s) (λ s x e sound quit ok. quit_allowed s e.0.seat e.0.action e.1 quit ok) (at_boot zone) 0 run (sound_boot zone) (quit_boot zone) legal in
-    all_placed (state_of zone run) kept.0 free (kept.1 free)
+    let kept = kept_along (λ (x : ℕ) (e : Step × Answer). x) (λ s x. IsQuit s)
+    (λ s x e sound quit ok. quit_allowed s e.0.seat e.0.action e.1 quit ok) (at_boot zone) 0 run (sound_boot zone) (quit_boot zone) legal in
+    all_placed (state_of zone run) kept.0 (homed_run zone run legal).1 free (kept.1 free)

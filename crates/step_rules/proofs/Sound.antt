@@ -116,10 +116,12 @@ move_one zone hold phases references later parts f p y part s m =
           (λ k ne. s.lists k kind f ∙ ap one_if (sym (m.elsewhere k kind ne)))
           q)
           (λ n other. at_each parts p part (λ k part'. times n (frames_of part' kind) ≡ one_if (has_as kind k (phases n)))
-          (moved_other f n (frames_of (parts p) kind) (frames_of part kind) (has_as kind p (phases f)) (has_as kind p y) other (m.lists kind) ∙ s.lists p kind n)
+          (moved_other f n (frames_of (parts p) kind) (frames_of part kind) (has_as kind p (phases f)) (has_as kind p y) other (m.lists kind)
+          ∙ s.lists p kind n)
           (λ k ne. s.lists k kind n)
           q);
-      units = at_each phases f y (λ n x. (unit : ChargedUnit) → unit_of x ≡ Some unit → (z : ℕ) → n < z → z < n + 2 ^ unit.order → with_at phases f y z ≡ Tail unit.group)
+      units = at_each phases f y (λ n x. (unit : ChargedUnit) → unit_of x ≡ Some unit → (z : ℕ) → n < z → z < n
+          + 2 ^ unit.order → with_at phases f y z ≡ Tail unit.group)
           (λ unit e z low high. elim (m.unit unit e) [
             | inl one ↦ absurd (let a : 2 ^ unit.order ≡ 1 = ap (λ k. 2 ^ k) one in omega arith)
             | inr old ↦ at_other phases f y z (λ same. absurd (omega arith)) ∙ s.units f unit old z low high
@@ -141,31 +143,36 @@ pub sound_phase : (zone : Zone) (hold : Hold) (phases : ℕ → Phase) (referenc
     Sound zone hold phases references parts → phases f ≡ x → Moves zone hold references later parts f 0 x y (parts 0) →
     Sound zone hold (with_at phases f y) later parts
 sound_phase zone hold phases references later parts f x y s was m =
-    subst (λ (ps : ℕ → Part). Sound zone hold (with_at phases f y) later ps) (at_itself parts 0) (sound_one zone hold phases references later parts f 0 x y (parts 0) s was m)
+    subst (λ (ps : ℕ → Part). Sound zone hold (with_at phases f y) later ps) (at_itself parts 0)
+    (sound_one zone hold phases references later parts f 0 x y (parts 0) s was m)
 
 -- the same where no phase changes either
 pub sound_references : (zone : Zone) (hold : Hold) (phases : ℕ → Phase) (references later : ℕ → ℕ → ℕ) (parts : ℕ → Part) (f : ℕ) →
     Sound zone hold phases references parts → Moves zone hold references later parts f 0 (phases f) (phases f) (parts 0) →
     Sound zone hold phases later parts
 sound_references zone hold phases references later parts f s m =
-    subst (λ (ph : ℕ → Phase). Sound zone hold ph later parts) (at_itself phases f) (sound_phase zone hold phases references later parts f (phases f) (phases f) s refl m)
+    subst (λ (ph : ℕ → Phase). Sound zone hold ph later parts) (at_itself phases f)
+    (sound_phase zone hold phases references later parts f (phases f) (phases f) s refl m)
 
 -- a part changes in its numbers alone, and what is fresh stays paid
 pub sound_part : (zone : Zone) (hold : Hold) (phases : ℕ → Phase) (references : ℕ → ℕ → ℕ) (parts : ℕ → Part) (p : ℕ) (part : Part) →
-    Sound zone hold phases references parts → ((f : ℕ) → PhasePaid zone.cpus (groups_in (with_at parts p part)) (phases f)) → ((kind : Kind) → frames_of part kind ≡ frames_of (parts p) kind) → IsBooked part →
+    Sound zone hold phases references parts → ((f : ℕ) → PhasePaid zone.cpus (groups_in (with_at parts p part)) (phases f)) →
+    ((kind : Kind) → frames_of part kind ≡ frames_of (parts p) kind) → IsBooked part →
     Sound zone hold phases references (with_at parts p part)
 sound_part zone hold phases references parts p part s paid lists booked = record {
   frames = λ f.
       let old = s.frames f in
       record { out = old.out; returning = old.returning; unreferred = old.unreferred; seats = old.seats; paid = paid f; inside = old.inside };
-  lists = λ q kind f. at_each parts p part (λ k part'. times f (frames_of part' kind) ≡ one_if (has_as kind k (phases f))) (ap (times f) (lists kind) ∙ s.lists p kind f) (λ k ne. s.lists k kind f) q;
+  lists = λ q kind f. at_each parts p part (λ k part'. times f (frames_of part' kind) ≡ one_if (has_as kind k (phases f)))
+      (ap (times f) (lists kind) ∙ s.lists p kind f) (λ k ne. s.lists k kind f) q;
   units = s.units;
   booked = at_each parts p part (λ k part'. IsBooked part') booked (λ k ne. s.booked k);
 }
 
 -- the same where the stock stays of its group
 pub sound_numbers : (zone : Zone) (hold : Hold) (phases : ℕ → Phase) (references : ℕ → ℕ → ℕ) (parts : ℕ → Part) (p : ℕ) (part : Part) →
-    Sound zone hold phases references parts → part.stock.group ≡ (parts p).stock.group → ((kind : Kind) → frames_of part kind ≡ frames_of (parts p) kind) → IsBooked part →
+    Sound zone hold phases references parts → part.stock.group
+    ≡ (parts p).stock.group → ((kind : Kind) → frames_of part kind ≡ frames_of (parts p) kind) → IsBooked part →
     Sound zone hold phases references (with_at parts p part)
 sound_numbers zone hold phases references parts p part s group lists booked =
     sound_part zone hold phases references parts p part s

@@ -4,7 +4,9 @@ use Rattle.std.specs.Prelude.{nat_le}
 use Rattle.std.proofs.lemmas.Bool.{and_parts, leb-true, ltb-true, or_cases}
 use Rattle.step_rules.specs.declared.phase.Hold.TheVariants.{Unheld, HeldBy, Visiting}
 use Rattle.step_rules.specs.declared.step.Action.{Action}
-use Rattle.step_rules.specs.declared.step.Action.TheVariants.{Lock, Unlock, OpenVisit, ShutVisit, Get, Put, Freeze, Unfreeze, PassOut, TakeIn, PassBack, Collect, Consume, Credit, Report, Absorb, Fill, DrainStock, Grant, Ungrant, PlaceBlock, Return, SetMax, Make, Remove, Kill}
+use Rattle.step_rules.specs.declared.step.Action.TheVariants.{Lock, Unlock, OpenVisit, ShutVisit, Get, Put, Freeze, Unfreeze, PassOut}
+use Rattle.step_rules.specs.declared.step.Action.TheVariants.{TakeIn, PassBack, Collect, Consume, Credit, Report, Absorb, Fill, DrainStock}
+use Rattle.step_rules.specs.declared.step.Action.TheVariants.{Grant, Ungrant, PlaceBlock, Return, SetMax, Make, Remove, Kill}
 use Rattle.step_rules.specs.declared.step.Answer.{Answer}
 use Rattle.step_rules.specs.declared.step.Answer.TheVariants.{Done, Held, Left, Last, Took, Back, Pages, Granted, Placed, Number}
 use Rattle.step_rules.specs.Phases.{Kind, Listed, Fresh, has_as, passes_out, passes_back, is_free, is_head_in_hand, may_return}
@@ -15,7 +17,8 @@ use Rattle.step_rules.specs.After.{after, without_unit}
 use Rattle.step_rules.proofs.Sound.{Sound, IsSound}
 use Rattle.step_rules.proofs.PhaseLemmas.{Returns, AsEnded, AsDrop, returning_is, unheld_visit, held_visit, visited, held_live}
 use Rattle.step_rules.proofs.Referring.{live_from_references, live_from_one, seat_there, sound_referred, sound_frozen, sound_last, sound_unfrozen}
-use Rattle.step_rules.proofs.Passing.{sound_passed_out, sound_taken_in, sound_sent_listed, sound_sent_fresh, sound_sent_back, sound_collected, sound_consumed, sound_credited}
+use Rattle.step_rules.proofs.Passing.{sound_passed_out, sound_taken_in, sound_sent_listed, sound_sent_fresh, sound_sent_back}
+use Rattle.step_rules.proofs.Passing.{sound_collected, sound_consumed, sound_credited}
 use Rattle.step_rules.proofs.Placing.{sound_placed, sound_returned, sound_hold, visit_rests, sound_reported, sound_absorbed, sound_drained, sound_filled}
 
 pub below_frames : (zone : Zone) (f : ℕ) → is_frame zone f ≡ true → f < zone.frames
@@ -82,7 +85,8 @@ sound_step s seat (PassBack f) Done sound legal ok counted =
     let may : may_pass_back s seat f ≡ true = grind arith in
     let below = below_frames s.zone f frame in
     let at = visited seat s.hold visit in
-    elim (or_cases (has_as Listed seat (s.phases f) && front_of (s.parts seat).list == f || has_as Fresh seat (s.phases f)) (has_as kinds.Back seat (s.phases f)) may) [
+    elim (or_cases (has_as Listed seat (s.phases f) && front_of (s.parts seat).list == f || has_as Fresh seat (s.phases f))
+    (has_as kinds.Back seat (s.phases f)) may) [
       | inl first ↦ elim (or_cases (has_as Listed seat (s.phases f) && front_of (s.parts seat).list == f) (has_as Fresh seat (s.phases f)) first) [
         | inl front ↦ sound_sent_listed s f seat sound below at (and_parts (has_as Listed seat (s.phases f)) (front_of (s.parts seat).list == f) front).0
         | inr fresh ↦ sound_sent_fresh s f seat sound below at fresh

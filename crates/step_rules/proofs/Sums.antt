@@ -63,7 +63,12 @@ sum_alone n h k below all i here ne =
 pub sum_only : (n : ℕ) (h : ℕ → ℕ) (k : ℕ) → k < n → ((i : ℕ) → i < n → (i ≡ k → ⊥) → h i ≡ 0) → sum_to n h ≡ h k
 sum_only n h k below others =
     let a = sum_change n h k 0 below in
-    let b : sum_to n (with_at h k 0) ≡ 0 = sum_none n (with_at h k 0) (λ i here. elim (cases_eq i k) [ inl e ↦ ap (with_at h k 0) e ∙ at_same h k 0 | inr ne ↦ at_other h k 0 i ne ∙ others i here ne ]) in
+    let b : sum_to n (with_at h k 0) ≡ 0 =
+    sum_none n (with_at h k 0) (λ i here. elim (cases_eq i k) [
+      | inl e ↦ ap (with_at h k 0) e ∙ at_same h k 0
+      | inr ne ↦ at_other h k 0 i ne
+          ∙ others i here ne
+    ]) in
     omega arith
 
 pub all_at : (n : ℕ) (test : ℕ → Bool) → all_to n test ≡ true → (i : ℕ) → i < n → test i ≡ true

@@ -10,3 +10,12 @@ pub mod Places
 pub mod Returns
 pub mod Grants
 pub mod Examples
+pub mod Events
+pub mod Peaks
+pub mod Reaches
+pub mod Keepers
+pub mod Seen
+pub mod Folds
+pub mod Kept
+pub mod FreeAreas
+pub mod Current

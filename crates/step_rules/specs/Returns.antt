@@ -1,5 +1,5 @@
 -- Every use of a frame comes back once, and nothing is pending while the lock is free.
-use Rattle.std.specs.Prelude.{◌≡◌, ℕ, ◌+◌, ◌<◌, ◌==◌, Bool, true, false, List, fold, filter, length, if◌then◌else◌}
+use Rattle.std.specs.Prelude.{◌≡◌, ℕ, ◌+◌, ◌==◌, Bool, true, false, List, fold, filter, length, if◌then◌else◌}
 use Rattle.step_rules.specs.declared.phase.Stage.{Stage}
 use Rattle.step_rules.specs.declared.phase.Stage.TheVariants.{Collected, BackAt, BackPassing, Ended}
 use Rattle.step_rules.specs.declared.phase.Phase.{Phase}
@@ -79,7 +79,7 @@ times_in f frames = length (filter (λ x. x == f) frames)
 -- while the lock is free no page is pending, usage is the frames kept and the pages prepaid, no frame passes, and each
 -- frame stands once on the list of the processor that it is lent to, and on no other list
 pub record IsAllPlaced (s : State) : Type 0 where
-  pub pending : (g : ℕ) → g < 64 → s.pending g ≡ 0
+  pub pending : (g : ℕ) → s.pending g ≡ 0
   pub usage : (g : ℕ) → usage_of s g ≡ frames_kept s.groups s.phases s.zone.frames g + pages_prepaid s.groups s.parts s.zone.cpus g
   pub still : no_frame_passes s ≡ true
   pub listed : (f p : ℕ) → times_in f (s.parts p).list ≡ one_if (is_same_place (place_in (s.phases f)) (Listed p))

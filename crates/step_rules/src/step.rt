@@ -188,7 +188,7 @@ pub enum Answer {
     /// The page went back into the stock.
     Back,
     /// So many pages were reported and absorbed, or drained.
-    Pages(u32),
+    Pages(u128),
     /// The pages were granted.
     Granted,
     /// The lowest group on the path whose limit has no room for the pages. Nothing was granted.

@@ -43,7 +43,8 @@ pub settled_after : (m0 m1 m2 m3 v v' : StockView) (n k : ℕ) → v.number ≡ 
     → m3 ≡ absorbing m2 1 → v' ≡ after_report v k → IsSettled m3 v'
 settled_after m0 m1 m2 m3 v v' n k one fresh drained noted absorbed reported =
     let named : v'.number ≡ 1 = ap (λ (u : StockView). u.number) reported ∙ one in
-    let a1 : (account_of m1 1).filled ≡ false = ap (λ (u : StockView). (account_of u 1).filled) drained ∙ ap (λ (a : Account). a.filled) (account_of-with_account m0 1 _) in
+    let a1 : (account_of m1 1).filled ≡ false = ap (λ (u : StockView). (account_of u 1).filled) drained
+    ∙ ap (λ (a : Account). a.filled) (account_of-with_account m0 1 _) in
     let a2 : (account_of m2 1).filled ≡ false = ap (λ (u : StockView). (account_of u 1).filled) (noted ∙ ap (λ (p : ℕ). noting m1 p k) one)
     ∙ ap (λ (a : Account). a.filled) (account_of-with_account m1 1 _) ∙ a1 in
     let a3 = ap (λ (u : StockView). account_of u 1) absorbed ∙ account_of-with_account m2 1 _ in (

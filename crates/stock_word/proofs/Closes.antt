@@ -71,7 +71,8 @@ upto_count views (suc n) cpus few each =
 
 -- ---- the gathered views
 
-module _ (cpus id : ℕ) (words : List ℕ) (all : List (List StockView)) (rule : StockRule cpus words all) (views : List StockView) (at : get_elem? all id ≡ some views)
+module _ (cpus id : ℕ) (words : List ℕ) (all : List (List StockView)) (rule : StockRule cpus words all) (views : List StockView)
+    (at : get_elem? all id ≡ some views)
     (m : StockView) (zeroth : m.number ≡ 0) (seats : List Seated) (gathered : Gathers m seats views) (enough : length seats ≡ cpus) where
   -- they are all views
   every : (f : StockView → ℕ) → f m + sum_over f (views_of seats) ≡ total_over f all

@@ -4,7 +4,8 @@ use Rattle.std.proofs.lemmas.List.{append-nil}
 use Rattle.atomic_table.specs.Seated.{TableId}
 use Rattle.stock_word.specs.declared.view.StockView.{StockView}
 use Rattle.stock_word.specs.Kinds.{IsAlone}
-use Rattle.stock_word.specs.Stock.{Seated, first_machine, first_processor, first_processors, first_seats, first_of, view_in, AreOf, without_second, second_alone}
+use Rattle.stock_word.specs.Stock.{Seated, first_machine, first_processor, first_processors, first_seats, first_of, view_in, AreOf}
+use Rattle.stock_word.specs.Stock.{without_second, second_alone}
 
 -- one more of a count that is left
 pub one_more : (cpus p : ℕ) → p < cpus + 1 → cpus + 1 - p ≡ suc (cpus + 1 - (p + 1))
@@ -36,7 +37,9 @@ pub first_is : (views : List StockView) (v : StockView) → views ≡ v ∷ [] �
 first_is views v is = ap first_of is
 
 -- the seat of p stands behind those before it
-pub next_seats : (table : TableId) (p n k : ℕ) (seats seats' all : List Seated) (seat : Seated) → seats ++ first_seats table p n ≡ all → n ≡ suc k → seat ≡ record { table = table; view = first_processor p } → seats' ≡ seats ++ seat ∷ []
+pub next_seats : (table : TableId) (p n k : ℕ) (seats seats' all : List Seated) (seat : Seated)
+    → seats ++ first_seats table p n ≡ all → n ≡ suc k → seat ≡ record { table = table; view = first_processor p }
+    → seats' ≡ seats ++ seat ∷ []
     → seats' ++ first_seats table (p + 1) k ≡ all
 next_seats table p n k seats seats' all seat is more same pushed =
     ap (λ l. l ++ first_seats table (p + 1) k) pushed
@@ -51,7 +54,8 @@ last_seats table p n seats all is more = sym (append-nil seats) ∙ ap (λ c. se
 pub all_left : (cpus : ℕ) → cpus ≡ cpus + 1 - 1
 all_left cpus = omega arith
 
-pub first_views : (views : List StockView) (cpus : ℕ) → views ≡ first_machine ∷ first_processors 1 cpus → views ≡ first_machine ∷ first_processors 1 (cpus + 1 - 1)
+pub first_views : (views : List StockView) (cpus : ℕ) → views ≡ first_machine ∷ first_processors 1 cpus
+    → views ≡ first_machine ∷ first_processors 1 (cpus + 1 - 1)
 first_views views cpus is = is ∙ (λ i. first_machine ∷ first_processors 1 (all_left cpus i))
 
 pub no_seats : (table : TableId) (cpus : ℕ) (seats : List Seated) → seats ≡ [] → seats ++ first_seats table 1 (cpus + 1 - 1) ≡ first_seats table 1 cpus

@@ -37,8 +37,10 @@ none_left : (seats : List Seated) → length seats ≡ 0 → seats ≡ []
 none_left [] e = refl
 none_left (s ∷ seats) e = absurd (omega (arith, e))
 
-pub all_gathered : (views : List StockView) (seats : List Seated) (total : ℕ) (f : StockView → ℕ) → length seats ≡ 0 → sum_over f views + sum_over f (views_of seats) ≡ total → sum_over f views ≡ total
-all_gathered views seats total f none e = let z : sum_over f (views_of seats) ≡ 0 = ap (λ (l : List Seated). sum_over f (views_of l)) (none_left seats none) in omega arith
+pub all_gathered : (views : List StockView) (seats : List Seated) (total : ℕ) (f : StockView → ℕ) → length seats ≡ 0
+    → sum_over f views + sum_over f (views_of seats) ≡ total → sum_over f views ≡ total
+all_gathered views seats total f none e =
+    let z : sum_over f (views_of seats) ≡ 0 = ap (λ (l : List Seated). sum_over f (views_of l)) (none_left seats none) in omega arith
 
 pub alone_sum : (views : List StockView) (rest : ℕ) (f : StockView → ℕ) → IsAlone views → sum_over f views + rest ≡ f (first_of views) + rest
 alone_sum views rest f is = let a : sum_over f views ≡ f (first_of views) + 0 = ap (sum_over f) is in omega arith

@@ -63,7 +63,8 @@ pub record Leaves (words words' : List ℕ) (p x y : ℕ) : Type 0 where
   pub stocks : (q : ℕ) → q ≢ p → slice_index words' (stock_place q) ≡ slice_index words (stock_place q)
   pub reports : (q : ℕ) → q ≢ p → slice_index words' (report_place q) ≡ slice_index words (report_place q)
 
-pub leaves_stock : (cpus : ℕ) (words : List ℕ) (p x : ℕ) → length words ≡ 16 * (cpus + 1) → p ≤ cpus → Leaves words (set words (stock_place p) x) p x (slice_index words (report_place p))
+pub leaves_stock : (cpus : ℕ) (words : List ℕ) (p x : ℕ) → length words ≡ 16 * (cpus + 1) → p ≤ cpus
+    → Leaves words (set words (stock_place p) x) p x (slice_index words (report_place p))
 leaves_stock cpus words p x rows below = record {
   same_length = length-set words (stock_place p) x;
   stock = stock_set words x p (omega arith);
@@ -72,7 +73,8 @@ leaves_stock cpus words p x rows below = record {
   reports = λ q ne. report_beside words x p q;
 }
 
-pub leaves_report : (cpus : ℕ) (words : List ℕ) (p y : ℕ) → length words ≡ 16 * (cpus + 1) → p ≤ cpus → Leaves words (set words (report_place p) y) p (slice_index words (stock_place p)) y
+pub leaves_report : (cpus : ℕ) (words : List ℕ) (p y : ℕ) → length words ≡ 16 * (cpus + 1) → p ≤ cpus
+    → Leaves words (set words (report_place p) y) p (slice_index words (stock_place p)) y
 leaves_report cpus words p y rows below = record {
   same_length = length-set words (report_place p) y;
   stock = stock_beside words y p p;
@@ -87,7 +89,8 @@ abbrev Stocked : List ℕ → ℕ → Account → StockView → Type 0
 Stocked words q a v = IsStock (slice_index words (stock_place q)) (slice_index words (report_place q)) a v
 
 -- the words are other terms for the same numbers
-stocked : (words : List ℕ) (q x y : ℕ) (a : Account) (v : StockView) → slice_index words (stock_place q) ≡ x → slice_index words (report_place q) ≡ y → IsStock x y a v → Stocked words q a v
+stocked : (words : List ℕ) (q x y : ℕ) (a : Account) (v : StockView) → slice_index words (stock_place q) ≡ x
+    → slice_index words (report_place q) ≡ y → IsStock x y a v → Stocked words q a v
 stocked words q x y a v at_x at_y h = subst (λ n. IsStock n (slice_index words (report_place q)) a v) (sym at_x) (subst (λ n. IsStock x n a v) (sym at_y) h)
 
 module _ (cpus : ℕ) (words : List ℕ) (seats : List (List StockView)) (rule : StockRule cpus words seats) (words' : List ℕ) (id : ℕ) where
@@ -98,25 +101,30 @@ module _ (cpus : ℕ) (words : List ℕ) (seats : List (List StockView)) (rule :
   beside old new at p x y leaves m' q ne same account low high = let h = rule.each q low high in record {
     view = h.view;
     only = stays seats id old new at q h.view same h.only;
-    stock = stocked words' q _ _ (account_of m' q) h.view (leaves.stocks q ne) (leaves.reports q ne) (subst (λ a. Stocked words q a h.view) (sym account) h.stock);
+    stock = stocked words' q _ _ (account_of m' q) h.view (leaves.stocks q ne) (leaves.reports q ne)
+        (subst (λ a. Stocked words q a h.view) (sym account) h.stock);
   }
 
   -- ---- a processor's seat
   module _ (v : StockView) (at : get_elem? seats id ≡ some (v ∷ [])) (low : 0 < v.number) (high : v.number ≤ cpus) where
     pub processor_stock : Stocked words v.number (account_of rule.machine v.number) v
     processor_stock = let h = rule.each v.number low high in
-        subst (λ (u : StockView). Stocked words v.number (account_of rule.machine v.number) u) (known seats id (v ∷ []) at v.number v (sole v.number v refl) h.view h.only) h.stock
+        subst (λ (u : StockView). Stocked words v.number (account_of rule.machine v.number) u)
+        (known seats id (v ∷ []) at v.number v (sole v.number v refl) h.view h.only) h.stock
 
-    pub processor_keeps : (x y : ℕ) → Leaves words words' v.number x y → (w : StockView) → w.number ≡ v.number → IsStock x y (account_of rule.machine v.number) w
+    pub processor_keeps : (x y : ℕ) → Leaves words words' v.number x y → (w : StockView) → w.number ≡ v.number
+        → IsStock x y (account_of rule.machine v.number) w
         → StockRule cpus words' (set seats id (w ∷ []))
     processor_keeps x y leaves w named stock = record {
       rows = leaves.same_length ∙ rule.rows;
       machine = rule.machine;
-      only = stays seats id (v ∷ []) (w ∷ []) at 0 rule.machine (λ f. none 0 w (λ e. omega (arith, e, named)) f ∙ sym (none 0 v (λ e. omega (arith, e)) f)) rule.only;
+      only = stays seats id (v ∷ []) (w ∷ []) at 0 rule.machine (λ f. none 0 w (λ e. omega (arith, e, named)) f
+          ∙ sym (none 0 v (λ e. omega (arith, e)) f)) rule.only;
       no_more = as_many seats id (v ∷ []) (w ∷ []) at (cpus + 1) refl rule.no_more;
       each = λ q low' high'. dite (ℕ_discrete q v.number)
           (λ e. subst (λ n. HoldsAt words' (set seats id (w ∷ [])) rule.machine n) (sym e) mine)
-          (λ ne. beside (v ∷ []) (w ∷ []) at v.number x y leaves rule.machine q ne (λ f. none q w (λ e. ne (sym e ∙ named)) f ∙ sym (none q v (λ e. ne (sym e)) f)) refl low' high');
+          (λ ne. beside (v ∷ []) (w ∷ []) at v.number x y leaves rule.machine q ne (λ f. none q w (λ e. ne (sym e ∙ named)) f
+          ∙ sym (none q v (λ e. ne (sym e)) f)) refl low' high');
     }
       where
         mine : HoldsAt words' (set seats id (w ∷ [])) rule.machine v.number
@@ -145,7 +153,8 @@ module _ (cpus : ℕ) (words : List ℕ) (seats : List (List StockView)) (rule :
       no_more = as_many seats id (m ∷ []) (m' ∷ []) at (cpus + 1) refl rule.no_more;
       each = λ q low' high'. dite (ℕ_discrete q p)
           (λ e. subst (λ n. HoldsAt words' (set seats id (m' ∷ [])) m' n) (sym e) mine)
-          (λ ne. beside (m ∷ []) (m' ∷ []) at p x y leaves m' q ne (unmoved q low') (others q ne ∙ ap (λ (u : StockView). account_of u q) (sym machine_known)) low' high');
+          (λ ne. beside (m ∷ []) (m' ∷ []) at p x y leaves m' q ne (unmoved q low') (others q ne
+          ∙ ap (λ (u : StockView). account_of u q) (sym machine_known)) low' high');
     }
       where
         unmoved : (q : ℕ) → 0 < q → (f : StockView → ℕ) → sum_over (at_seat q f) (m' ∷ []) ≡ sum_over (at_seat q f) (m ∷ [])
@@ -166,7 +175,8 @@ module _ (cpus : ℕ) (words : List ℕ) (seats : List (List StockView)) (rule :
     pub joined_stock : Stocked words v.number (account_of m v.number) v
     joined_stock = let h = rule.each v.number low high in
         subst (λ (u : StockView). Stocked words v.number (account_of u v.number) v) joined_machine
-        (subst (λ (u : StockView). Stocked words v.number (account_of rule.machine v.number) u) (known seats id (m ∷ v ∷ []) at v.number v (second v.number m v (λ e. omega (arith, e, zeroth)) refl) h.view h.only) h.stock)
+        (subst (λ (u : StockView). Stocked words v.number (account_of rule.machine v.number) u)
+        (known seats id (m ∷ v ∷ []) at v.number v (second v.number m v (λ e. omega (arith, e, zeroth)) refl) h.view h.only) h.stock)
 
     pub joined_keeps : (x y : ℕ) → Leaves words words' v.number x y → (m' v' : StockView) → m'.number ≡ 0 → v'.number ≡ v.number
         → ((q : ℕ) → q ≢ v.number → account_of m' q ≡ account_of m q) → IsStock x y (account_of m' v.number) v'
@@ -174,27 +184,32 @@ module _ (cpus : ℕ) (words : List ℕ) (seats : List (List StockView)) (rule :
     joined_keeps x y leaves m' v' named named' others stock = record {
       rows = leaves.same_length ∙ rule.rows;
       machine = m';
-      only = turned seats id (m ∷ v ∷ []) at 0 m (first 0 m v zeroth (λ e. omega (arith, e))) rule.machine m' (m' ∷ v' ∷ []) (first 0 m' v' named (λ e. omega (arith, e, named'))) rule.only;
+      only = turned seats id (m ∷ v ∷ []) at 0 m (first 0 m v zeroth (λ e. omega (arith, e))) rule.machine m' (m' ∷ v' ∷ [])
+          (first 0 m' v' named (λ e. omega (arith, e, named'))) rule.only;
       no_more = as_many seats id (m ∷ v ∷ []) (m' ∷ v' ∷ []) at (cpus + 1) refl rule.no_more;
       each = λ q low' high'. dite (ℕ_discrete q v.number)
           (λ e. subst (λ n. HoldsAt words' (set seats id (m' ∷ v' ∷ [])) m' n) (sym e) mine)
-          (λ ne. beside (m ∷ v ∷ []) (m' ∷ v' ∷ []) at v.number x y leaves m' q ne (unmoved q low' ne) (others q ne ∙ ap (λ (u : StockView). account_of u q) (sym joined_machine)) low' high');
+          (λ ne. beside (m ∷ v ∷ []) (m' ∷ v' ∷ []) at v.number x y leaves m' q ne (unmoved q low' ne) (others q ne
+          ∙ ap (λ (u : StockView). account_of u q) (sym joined_machine)) low' high');
     }
       where
         unmoved : (q : ℕ) → 0 < q → q ≢ v.number → (f : StockView → ℕ) → sum_over (at_seat q f) (m' ∷ v' ∷ []) ≡ sum_over (at_seat q f) (m ∷ v ∷ [])
-        unmoved q above ne f = neither q m' v' (λ e. omega (arith, e, named)) (λ e. ne (sym e ∙ named')) f ∙ sym (neither q m v (λ e. omega (arith, e, zeroth)) (λ e. ne (sym e)) f)
+        unmoved q above ne f = neither q m' v' (λ e. omega (arith, e, named)) (λ e. ne (sym e ∙ named')) f
+            ∙ sym (neither q m v (λ e. omega (arith, e, zeroth)) (λ e. ne (sym e)) f)
 
         mine : HoldsAt words' (set seats id (m' ∷ v' ∷ [])) m' v.number
         mine = let h = rule.each v.number low high in record {
           view = v';
-          only = turned seats id (m ∷ v ∷ []) at v.number v (second v.number m v (λ e. omega (arith, e, zeroth)) refl) h.view v' (m' ∷ v' ∷ []) (second v.number m' v' (λ e. omega (arith, e, named)) named') h.only;
+          only = turned seats id (m ∷ v ∷ []) at v.number v (second v.number m v (λ e. omega (arith, e, zeroth)) refl) h.view v'
+              (m' ∷ v' ∷ []) (second v.number m' v' (λ e. omega (arith, e, named)) named') h.only;
           stock = stocked words' v.number x y (account_of m' v.number) v' leaves.stock leaves.report stock;
         }
 
 -- ---- splits and joins
 
 -- seats that all have the same totals keep the rule
-pub same_keeps : (cpus : ℕ) (words : List ℕ) (before after : List (List StockView)) → SameTotals before after → StockRule cpus words before → StockRule cpus words after
+pub same_keeps : (cpus : ℕ) (words : List ℕ) (before after : List (List StockView)) → SameTotals before after
+    → StockRule cpus words before → StockRule cpus words after
 same_keeps cpus words before after same rule = record {
   rows = rule.rows;
   machine = rule.machine;
@@ -212,5 +227,7 @@ split_keeps cpus id old left right cut s rule at = same_keeps cpus s.words s.vie
     let c = cut f in omega arith) rule
 
 -- a seat takes in the views of another
-pub join_keeps : {S : Type 0} (cpus id other : ℕ) (views taken : List StockView) → Joins {S = S} (λ s. StockRule cpus s.words s.views) id views other taken (views ++ taken) []
-join_keeps cpus id other views taken s rule at apart there = same_keeps cpus s.words s.views (join_of s.views id views other taken) (join_totals s.views id other views taken at there) rule
+pub join_keeps : {S : Type 0} (cpus id other : ℕ) (views taken : List StockView)
+    → Joins {S = S} (λ s. StockRule cpus s.words s.views) id views other taken (views ++ taken) []
+join_keeps cpus id other views taken s rule at apart there =
+    same_keeps cpus s.words s.views (join_of s.views id views other taken) (join_totals s.views id other views taken at there) rule

@@ -34,9 +34,12 @@ unfolding one
 none_at q f v h = none_if (eqb v.number q) 1 (f v) (λ e. omega (arith, e)) h
 
 total_zero : (q : ℕ) (f : StockView → ℕ) (seats : List (List StockView)) → total_over (at_seat q one) seats ≡ 0 → total_over (at_seat q f) seats ≡ 0
-total_zero q f seats h = sum_zero (λ views. sum_over (at_seat q one) views) (λ views. sum_over (at_seat q f) views) (λ views. sum_zero (at_seat q one) (at_seat q f) (none_at q f) views) seats h
+total_zero q f seats h =
+    sum_zero (λ views. sum_over (at_seat q one) views) (λ views. sum_over (at_seat q f) views)
+    (λ views. sum_zero (at_seat q one) (at_seat q f) (none_at q f) views) seats h
 
-module _ (seats : List (List StockView)) (id : ℕ) (old : List StockView) (at : get_elem? seats id ≡ some old) (q : ℕ) (v : StockView) (has : (f : StockView → ℕ) → sum_over (at_seat q f) old ≡ f v) where
+module _ (seats : List (List StockView)) (id : ℕ) (old : List StockView) (at : get_elem? seats id
+    ≡ some old) (q : ℕ) (v : StockView) (has : (f : StockView → ℕ) → sum_over (at_seat q f) old ≡ f v) where
   -- the other seats have no view of number q
   others : (k : StockView) → IsOnly seats q k → (f : StockView → ℕ) → total_over (at_seat q f) (set seats id []) ≡ 0
   unfolding one
@@ -55,7 +58,8 @@ module _ (seats : List (List StockView)) (id : ℕ) (old : List StockView) (at :
       let t = only f in omega arith)
 
   -- and where it changes that view, it has the only one again
-  pub turned : (k w : StockView) (new : List StockView) → ((f : StockView → ℕ) → sum_over (at_seat q f) new ≡ f w) → IsOnly seats q k → IsOnly (set seats id new) q w
+  pub turned : (k w : StockView) (new : List StockView) → ((f : StockView → ℕ) → sum_over (at_seat q f) new ≡ f w)
+      → IsOnly seats q k → IsOnly (set seats id new) q w
   turned k w new gets only = λ f.
       let e = total_set (at_seat q f) seats id old [] at in
       let d = total_set (at_seat q f) seats id old new at in

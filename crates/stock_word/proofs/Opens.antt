@@ -61,7 +61,8 @@ opens_at cpus = record {
   each = (λ p low high. record {
     view = first_processor p;
     only = (λ f. let a = at_other p f first_machine (λ e. omega (arith, e)) in let b = one_in p 1 cpus f low (omega arith) in omega arith);
-    stock = subst (λ x. IsStock x (slice_index (replicate (16 * (cpus + 1)) 0) (report_place p)) no_account (first_processor p)) (sym (zeros (16 * (cpus + 1)) (stock_place p)))
+    stock = subst (λ x. IsStock x (slice_index (replicate (16 * (cpus + 1)) 0) (report_place p)) no_account (first_processor p))
+        (sym (zeros (16 * (cpus + 1)) (stock_place p)))
         (subst (λ y. IsStock 0 y no_account (first_processor p)) (sym (zeros (16 * (cpus + 1)) (report_place p))) (no_stock p));
   });
 }

@@ -14,10 +14,14 @@ use Rattle.stock_word.specs.declared.view.Account.{Account}
 use Rattle.stock_word.specs.declared.view.StockView.{StockView}
 use Rattle.stock_word.specs.Stock.{word_of, pages_of, group_of, account_of, with_account, first_of, without_second, second_alone}
 use Rattle.stock_word.specs.StockRule.{stock_place, report_place, IsStock, StockRule}
-use Rattle.stock_word.specs.Kinds.{after_took, after_back, after_drained, after_report, noting, filling, after_fill, draining, absorbing, Drains, DrainsNone, LooksAt, Absorbs, Fills, Alone, Joined, consuming, crediting, looking, draining_step, absorbing_step, reporting_step, consuming_held, filling_step, seeing_stock}
-use Rattle.stock_word.proofs.Stocks.{left_of, took, back, now_drained, sees_drained, last_group, reported, held_by_books, nothing_booked, filled, drained, drained_none, of_some_group, absorbed}
+use Rattle.stock_word.specs.Kinds.{after_took, after_back, after_drained, after_report, noting, filling, after_fill, draining, absorbing}
+use Rattle.stock_word.specs.Kinds.{Drains, DrainsNone, LooksAt, Absorbs, Fills, Alone, Joined, consuming, crediting, looking, draining_step}
+use Rattle.stock_word.specs.Kinds.{absorbing_step, reporting_step, consuming_held, filling_step, seeing_stock}
+use Rattle.stock_word.proofs.Stocks.{left_of, took, back, now_drained, sees_drained, last_group, reported, held_by_books, nothing_booked}
+use Rattle.stock_word.proofs.Stocks.{filled, drained, drained_none, of_some_group, absorbed}
 use Rattle.stock_word.proofs.CallerLemmas.{account_of-with_account, account_of-with_account_other}
-use Rattle.stock_word.proofs.Keeps.{leaves_stock, leaves_report, processor_stock, processor_keeps, machine_stock, machine_keeps, joined_stock, joined_keeps, split_keeps}
+use Rattle.stock_word.proofs.Keeps.{leaves_stock, leaves_report, processor_stock, processor_keeps, machine_stock, machine_keeps}
+use Rattle.stock_word.proofs.Keeps.{joined_stock, joined_keeps, split_keeps}
 
 same_stock_place : (p q : ℕ) → stock_place p ≡ stock_place q → p ≡ q
 same_stock_place p q e = omega (arith, e)
@@ -55,11 +59,13 @@ module _ {S : Type 0} (cpus slots id : ℕ) where
 
   -- what a step owes where the word becomes x
   abbrev Owes : State S (List StockView) → Me S (List StockView) → ℕ → (ℕ → Me S (List StockView) → Type 0) → ℕ → Type 0
-  Owes s me i then x = (w : List StockView) × (a : Act S) × Valid s.homes me.1 a × holds (stepped s i x id me.1 w a) × then (slice_index s.words i) (w, carried_after me.1 a)
+  Owes s me i then x = (w : List StockView) × (a : Act S) × Valid s.homes me.1 a × holds (stepped s i x id me.1 w a)
+      × then (slice_index s.words i) (w, carried_after me.1 a)
 
   module _ (v : StockView) (low : 0 < v.number) (high : v.number ≤ cpus) where
     -- a step of a processor's seat that leaves its view as w and its stock word as x
-    processor_owes : (s : State S (List StockView)) (rule : holds s) → get_elem? s.views id ≡ some (v ∷ []) → (then : ℕ → Me S (List StockView) → Type 0) (x : ℕ) (w : StockView)
+    processor_owes : (s : State S (List StockView)) (rule : holds s) → get_elem? s.views id ≡ some (v ∷ [])
+        → (then : ℕ → Me S (List StockView) → Type 0) (x : ℕ) (w : StockView)
         → StockRule cpus (set s.words (stock_place v.number) x) (set s.views id (w ∷ []))
         → then (slice_index s.words (stock_place v.number)) (w ∷ [], []) → Owes s (v ∷ [], []) (stock_place v.number) then x
     processor_owes s rule at then x w kept told = (w ∷ [], keeps, tt, kept, told)
@@ -76,13 +82,42 @@ module _ {S : Type 0} (cpus slots id : ℕ) where
         let then = Alone consuming (step slots place old new none) (v ∷ [], []) in
         exchanged found old new (Owes s (v ∷ [], []) place then)
         (λ hit. processor_owes s rule at then new (after_took v g n)
-        (processor_keeps cpus s.words s.views rule (set s.words place new) id v at low high new _ (leaves_stock cpus s.words v.number new rule.rows high) (after_took v g n) refl (took _ _ _ v g n stock last hit))
-        (after_took v g n, refl, ((λ _. record { group = g; pages = n; at_stock = refl; from_held = last; word_before = hit; word_after = refl; view_after = refl }), (λ miss. absurd (miss hit)))))
+        (processor_keeps cpus s.words s.views rule (set s.words place new) id v at low high new _
+        (leaves_stock cpus s.words v.number new rule.rows high) (after_took v g n) refl (took _ _ _ v g n stock last hit)) (
+          after_took v g n,
+          refl,
+          (
+            (λ _. record {
+              group = g;
+              pages = n;
+              at_stock = refl;
+              from_held = last;
+              word_before =
+                  hit;
+              word_after = refl;
+              view_after = refl;
+            }),
+            (λ miss. absurd (miss hit)),
+          ),
+        ))
         (λ miss.
         let other : found ≢ word_of v.last = (λ e. miss (e ∙ ap word_of last)) in
         processor_owes s rule at then found (after_drained v)
-        (processor_keeps cpus s.words s.views rule (set s.words place found) id v at low high found _ (leaves_stock cpus s.words v.number found rule.rows high) (after_drained v) refl (sees_drained _ _ _ v stock other))
-        (after_drained v, refl, ((λ hit. absurd (miss hit)), (λ _. record { at_stock = refl; word_before = stock.encoded ∙ ap word_of (now_drained _ _ _ v stock other); word_after = refl; view_after = refl }))))
+        (processor_keeps cpus s.words s.views rule (set s.words place found) id v at low high found _
+        (leaves_stock cpus s.words v.number found rule.rows high) (after_drained v) refl (sees_drained _ _ _ v stock other)) (
+          after_drained v,
+          refl,
+          (
+            (λ hit. absurd (miss hit)),
+            (λ _. record {
+              at_stock = refl;
+              word_before = stock.encoded
+                  ∙ ap word_of (now_drained _ _ _ v stock other);
+              word_after = refl;
+              view_after = refl;
+            }),
+          ),
+        ))
 
     credit_allowed_at : (g n : ℕ) → v.last ≡ HeldBy g n → 0 < v.fresh
         → Allows holds slots id (v ∷ [], []) (stock_place v.number) (λ x. either (eqb x (word_of (HeldBy g n))) (word_of (HeldBy g (n + 1))) x)
@@ -98,49 +133,86 @@ module _ {S : Type 0} (cpus slots id : ℕ) where
         (λ hit.
         let after = back _ _ _ v g n stock fresh last hit in
         processor_owes s rule at then new (after_back v g (n + 1))
-        (processor_keeps cpus s.words s.views rule (set s.words place new) id v at low high new _ (leaves_stock cpus s.words v.number new rule.rows high) (after_back v g (n + 1)) refl after)
-        (after_back v g (n + 1), refl, ((λ _. record { group = g; pages = n; at_stock = refl; from_held = last; word_before = hit; word_after = refl; has_word = after.last_word; view_after = refl }), (λ miss. absurd (miss hit)))))
+        (processor_keeps cpus s.words s.views rule (set s.words place new) id v at low high new _
+        (leaves_stock cpus s.words v.number new rule.rows high) (after_back v g (n + 1)) refl after) (
+          after_back v g (n + 1),
+          refl,
+          (
+            (λ _. record {
+              group = g;
+              pages = n;
+              at_stock = refl;
+              from_held = last;
+              word_before =
+                  hit;
+              word_after = refl;
+              has_word = after.last_word;
+              view_after = refl;
+            }),
+            (λ miss. absurd (miss hit)),
+          ),
+        ))
         (λ miss.
         let other : found ≢ word_of v.last = (λ e. miss (e ∙ ap word_of last)) in
         processor_owes s rule at then found (after_drained v)
-        (processor_keeps cpus s.words s.views rule (set s.words place found) id v at low high found _ (leaves_stock cpus s.words v.number found rule.rows high) (after_drained v) refl (sees_drained _ _ _ v stock other))
-        (after_drained v, refl, ((λ hit. absurd (miss hit)), (λ _. record { at_stock = refl; word_before = stock.encoded ∙ ap word_of (now_drained _ _ _ v stock other); word_after = refl; view_after = refl }))))
+        (processor_keeps cpus s.words s.views rule (set s.words place found) id v at low high found _
+        (leaves_stock cpus s.words v.number found rule.rows high) (after_drained v) refl (sees_drained _ _ _ v stock other)) (
+          after_drained v,
+          refl,
+          (
+            (λ hit. absurd (miss hit)),
+            (λ _. record {
+              at_stock = refl;
+              word_before = stock.encoded
+                  ∙ ap word_of (now_drained _ _ _ v stock other);
+              word_after = refl;
+              view_after = refl;
+            }),
+          ),
+        ))
 
   -- ---- the machine's seat
 
-  module _ (m : StockView) (zeroth : m.number ≡ 0) (p : ℕ) (low : 0 < p) (high : p ≤ cpus) (s : State S (List StockView)) (rule : holds s) (at : get_elem? s.views id ≡ some (m ∷ [])) where
+  module _ (m : StockView) (zeroth : m.number ≡ 0) (p : ℕ) (low : 0 < p) (high : p
+      ≤ cpus) (s : State S (List StockView)) (rule : holds s) (at : get_elem? s.views id ≡ some (m ∷ [])) where
     -- a step of the machine's seat that leaves the account a of p, its stock word as x or its report word as y
-    stock_owes : (x : ℕ) (a : Account) (then : ℕ → Me S (List StockView) → Type 0) → IsStock x (slice_index s.words (report_place p)) a (rule.each p low high).view
+    stock_owes : (x : ℕ) (a : Account) (then : ℕ → Me S (List StockView) → Type 0)
+        → IsStock x (slice_index s.words (report_place p)) a (rule.each p low high).view
         → then (slice_index s.words (stock_place p)) (with_account m p a ∷ [], []) → Owes s (m ∷ [], []) (stock_place p) then x
     stock_owes x a then kept told = (
       with_account m p a ∷ [],
       keeps,
       tt,
-      machine_keeps cpus s.words s.views rule (set s.words (stock_place p) x) id m at zeroth p x _ low high (leaves_stock cpus s.words p x rule.rows high) (with_account m p a) zeroth
+      machine_keeps cpus s.words s.views rule (set s.words (stock_place p) x) id m at zeroth p x _ low high
+          (leaves_stock cpus s.words p x rule.rows high) (with_account m p a) zeroth
           (λ q ne. account_of-with_account_other m p q a ne)
           (subst (λ (b : Account). IsStock x (slice_index s.words (report_place p)) b (rule.each p low high).view) (sym (account_of-with_account m p a)) kept),
       told,
     )
 
-    report_owes : (y : ℕ) (a : Account) (then : ℕ → Me S (List StockView) → Type 0) → IsStock (slice_index s.words (stock_place p)) y a (rule.each p low high).view
+    report_owes : (y : ℕ) (a : Account) (then : ℕ → Me S (List StockView) → Type 0)
+        → IsStock (slice_index s.words (stock_place p)) y a (rule.each p low high).view
         → then (slice_index s.words (report_place p)) (with_account m p a ∷ [], []) → Owes s (m ∷ [], []) (report_place p) then y
     report_owes y a then kept told = (
       with_account m p a ∷ [],
       keeps,
       tt,
-      machine_keeps cpus s.words s.views rule (set s.words (report_place p) y) id m at zeroth p _ y low high (leaves_report cpus s.words p y rule.rows high) (with_account m p a) zeroth
+      machine_keeps cpus s.words s.views rule (set s.words (report_place p) y) id m at zeroth p _ y low high
+          (leaves_report cpus s.words p y rule.rows high) (with_account m p a) zeroth
           (λ q ne. account_of-with_account_other m p q a ne)
           (subst (λ (b : Account). IsStock (slice_index s.words (stock_place p)) y b (rule.each p low high).view) (sym (account_of-with_account m p a)) kept),
       told,
     )
 
     -- a look at the stock word that leaves the machine's view
-    look_owes : (then : ℕ → Me S (List StockView) → Type 0) → then (slice_index s.words (stock_place p)) (m ∷ [], []) → Owes s (m ∷ [], []) (stock_place p) then (slice_index s.words (stock_place p))
+    look_owes : (then : ℕ → Me S (List StockView) → Type 0) → then (slice_index s.words (stock_place p)) (m ∷ [], [])
+        → Owes s (m ∷ [], []) (stock_place p) then (slice_index s.words (stock_place p))
     look_owes then told = (
       m ∷ [],
       keeps,
       tt,
-      machine_keeps cpus s.words s.views rule (set s.words (stock_place p) (slice_index s.words (stock_place p))) id m at zeroth p _ _ low high (leaves_stock cpus s.words p _ rule.rows high) m zeroth
+      machine_keeps cpus s.words s.views rule (set s.words (stock_place p) (slice_index s.words (stock_place p))) id m at zeroth p
+          _ _ low high (leaves_stock cpus s.words p _ rule.rows high) m zeroth
           (λ q ne. refl)
           (machine_stock cpus s.words s.views rule s.words id m at zeroth p low high),
       told,
@@ -163,7 +235,8 @@ module _ {S : Type 0} (cpus slots id : ℕ) where
           draining m p 0,
           refl,
           (λ q is. (
-            (λ _. subst (λ (n : ℕ). DrainsNone n place found found m (draining m p 0)) (same_stock_place p q is) (record { at_stock = refl; word_before = zero_word; word_after = zero_word; never_filled = none_filled.0; machine_after = refl })),
+            (λ _. subst (λ (n : ℕ). DrainsNone n place found found m (draining m p 0)) (same_stock_place p q is)
+                (record { at_stock = refl; word_before = zero_word; word_after = zero_word; never_filled = none_filled.0; machine_after = refl })),
             (λ ne. absurd (ne zero_word)),
           )),
         ))
@@ -174,13 +247,26 @@ module _ {S : Type 0} (cpus slots id : ℕ) where
           refl,
           (λ q is. (
             (λ zero_word. absurd (some_word zero_word)),
-            (λ _. subst (λ (n : ℕ). LooksAt n place found found m m) (same_stock_place p q is) (record { stock = stock.stock; group = group.0; at_stock = refl; of_group = group.1; has_word = stock.has_word; word_before = stock.encoded; word_after = refl; filled_for = sym stock.of_group ∙ group.1; machine_after = refl })),
+            (λ _. subst (λ (n : ℕ). LooksAt n place found found m m) (same_stock_place p q is) (record {
+              stock =
+                  stock.stock;
+              group = group.0;
+              at_stock = refl;
+              of_group = group.1;
+              has_word = stock.has_word;
+              word_before =
+                  stock.encoded;
+              word_after = refl;
+              filled_for = sym stock.of_group ∙ group.1;
+              machine_after = refl;
+            })),
           )),
         ))
 
     -- the swap of a drain
     draining_allowed_at : (g : ℕ) → (account_of m p).group ≡ Some g
-        → Allows holds slots id (m ∷ [], []) (stock_place p) (λ x. word_of (DrainedOf g)) (Alone draining_step (step slots (stock_place p) (word_of (DrainedOf g)) 0 none) (m ∷ [], []))
+        → Allows holds slots id (m ∷ [], []) (stock_place p) (λ x. word_of (DrainedOf g))
+        (Alone draining_step (step slots (stock_place p) (word_of (DrainedOf g)) 0 none) (m ∷ [], []))
     draining_allowed_at g booked s rule homes at fits =
         let place = stock_place p in
         let found = slice_index s.words place in
@@ -189,16 +275,35 @@ module _ {S : Type 0} (cpus slots id : ℕ) where
         let then = Alone draining_step (step slots place (word_of (DrainedOf g)) 0 none) (m ∷ [], []) in
         let group : group_of stock.stock ≡ Some g = stock.of_group ∙ booked in
         let a = account_of m p in
-        stock_owes m zeroth p low high s rule at (word_of (DrainedOf g)) (record a { book = a.book - pages_of stock.stock; filled = false }) then (drained _ _ a view g stock group) (
+        stock_owes m zeroth p low high s rule at (word_of (DrainedOf g)) (record a {
+          book =
+              a.book - pages_of stock.stock;
+          filled = false;
+        }) then (drained _ _ a view g stock group) (
           draining m p (pages_of stock.stock),
           refl,
           (λ q k is of.
-              subst (λ (y : ℕ × ℕ). Drains y.0 y.1 place found (word_of (DrainedOf g)) m (draining m p (pages_of stock.stock))) (λ i. (same_stock_place p q is i, same_some g k (sym booked ∙ ap (λ (n : ℕ). (account_of m n).group) (same_stock_place p q is) ∙ of) i))
-              (record { stock = stock.stock; at_stock = refl; of_group = group; has_word = stock.has_word; word_before = stock.encoded; word_after = refl; enough = omega (arith, stock.balanced); was_held = stock.held; machine_after = refl })),
+              subst (λ (y : ℕ × ℕ). Drains y.0 y.1 place found (word_of (DrainedOf g)) m (draining m p (pages_of stock.stock)))
+              (λ i. (same_stock_place p q is i, same_some g k (sym booked ∙ ap (λ (n : ℕ). (account_of m n).group) (same_stock_place p q is) ∙ of) i))
+              (record {
+                stock = stock.stock;
+                at_stock = refl;
+                of_group = group;
+                has_word = stock.has_word;
+                word_before =
+                    stock.encoded;
+                word_after = refl;
+                enough = omega (arith, stock.balanced);
+                was_held = stock.held;
+                machine_after = refl;
+              })),
         )
 
     -- the swap of an absorb
-    absorbing_allowed_at : Allows holds slots id (m ∷ [], []) (report_place p) (λ x. 0) (Alone absorbing_step (step slots (report_place p) 0 0 none) (m ∷ [], []))
+    absorbing_allowed_at : Allows holds slots id (
+      m ∷ [],
+      [],
+    ) (report_place p) (λ x. 0) (Alone absorbing_step (step slots (report_place p) 0 0 none) (m ∷ [], []))
     absorbing_allowed_at s rule homes at fits =
         let place = report_place p in
         let found = slice_index s.words place in
@@ -211,40 +316,55 @@ module _ {S : Type 0} (cpus slots id : ℕ) where
           refl,
           (λ q is.
               subst (λ (n : ℕ). Absorbs n place found 0 m (absorbing m p)) (same_report_place p q is)
-              (record { at_report = refl; word_before = stock.reported; word_after = refl; enough = omega (arith, stock.balanced, stock.reported); bounded = stock.bounded; machine_after = refl })),
+              (record {
+                at_report = refl;
+                word_before = stock.reported;
+                word_after = refl;
+                enough =
+                    omega (arith, stock.balanced, stock.reported);
+                bounded = stock.bounded;
+                machine_after = refl;
+              })),
         )
 
   -- ---- the machine's seat, joined with a processor's
 
   module _ (m v : StockView) (zeroth : m.number ≡ 0) (low : 0 < v.number) (high : v.number ≤ cpus) where
-    joined_report_owes : (s : State S (List StockView)) (rule : holds s) (at : get_elem? s.views id ≡ some (m ∷ v ∷ [])) (y : ℕ) (a : Account) (v' : StockView) (then : ℕ → Me S (List StockView) → Type 0) → v'.number ≡ v.number
+    joined_report_owes : (s : State S (List StockView)) (rule : holds s) (at : get_elem? s.views id
+        ≡ some (m ∷ v ∷ [])) (y : ℕ) (a : Account) (v' : StockView) (then : ℕ → Me S (List StockView) → Type 0) → v'.number ≡ v.number
         → IsStock (slice_index s.words (stock_place v.number)) y a v'
         → then (slice_index s.words (report_place v.number)) (with_account m v.number a ∷ v' ∷ [], []) → Owes s (m ∷ v ∷ [], []) (report_place v.number) then y
     joined_report_owes s rule at y a v' then named kept told = (
       with_account m v.number a ∷ v' ∷ [],
       keeps,
       tt,
-      joined_keeps cpus s.words s.views rule (set s.words (report_place v.number) y) id m v at zeroth low high _ y (leaves_report cpus s.words v.number y rule.rows high) (with_account m v.number a) v' zeroth named
+      joined_keeps cpus s.words s.views rule (set s.words (report_place v.number) y) id m v at zeroth low high _ y
+          (leaves_report cpus s.words v.number y rule.rows high) (with_account m v.number a) v' zeroth named
           (λ q ne. account_of-with_account_other m v.number q a ne)
           (subst (λ (b : Account). IsStock (slice_index s.words (stock_place v.number)) y b v') (sym (account_of-with_account m v.number a)) kept),
       told,
     )
 
-    joined_stock_owes : (s : State S (List StockView)) (rule : holds s) (at : get_elem? s.views id ≡ some (m ∷ v ∷ [])) (x : ℕ) (a : Account) (v' : StockView) (then : ℕ → Me S (List StockView) → Type 0) → v'.number ≡ v.number
+    joined_stock_owes : (s : State S (List StockView)) (rule : holds s) (at : get_elem? s.views id
+        ≡ some (m ∷ v ∷ [])) (x : ℕ) (a : Account) (v' : StockView) (then : ℕ → Me S (List StockView) → Type 0) → v'.number ≡ v.number
         → IsStock x (slice_index s.words (report_place v.number)) a v'
         → then (slice_index s.words (stock_place v.number)) (with_account m v.number a ∷ v' ∷ [], []) → Owes s (m ∷ v ∷ [], []) (stock_place v.number) then x
     joined_stock_owes s rule at x a v' then named kept told = (
       with_account m v.number a ∷ v' ∷ [],
       keeps,
       tt,
-      joined_keeps cpus s.words s.views rule (set s.words (stock_place v.number) x) id m v at zeroth low high x _ (leaves_stock cpus s.words v.number x rule.rows high) (with_account m v.number a) v' zeroth named
+      joined_keeps cpus s.words s.views rule (set s.words (stock_place v.number) x) id m v at zeroth low high x _
+          (leaves_stock cpus s.words v.number x rule.rows high) (with_account m v.number a) v' zeroth named
           (λ q ne. account_of-with_account_other m v.number q a ne)
           (subst (λ (b : Account). IsStock x (slice_index s.words (report_place v.number)) b v') (sym (account_of-with_account m v.number a)) kept),
       told,
     )
 
     -- the addition of a report
-    reporting_allowed_at : (n : ℕ) → n ≤ v.fresh → Allows holds slots id (m ∷ v ∷ [], []) (report_place v.number) (λ x. (x + n) % 2 ^ 64) (Joined reporting_step (step slots (report_place v.number) n 0 none) (m ∷ v ∷ [], []))
+    reporting_allowed_at : (n : ℕ) → n ≤ v.fresh → Allows holds slots id (
+      m ∷ v ∷ [],
+      [],
+    ) (report_place v.number) (λ x. (x + n) % 2 ^ 64) (Joined reporting_step (step slots (report_place v.number) n 0 none) (m ∷ v ∷ [], []))
     reporting_allowed_at n fresh s rule homes at fits =
         let place = report_place v.number in
         let found = slice_index s.words place in
@@ -277,7 +397,8 @@ module _ {S : Type 0} (cpus slots id : ℕ) where
           m ∷ v ∷ [],
           keeps,
           tt,
-          joined_keeps cpus s.words s.views rule (set s.words place found) id m v at zeroth low high _ _ (leaves_stock cpus s.words v.number found rule.rows high)
+          joined_keeps cpus s.words s.views rule (set s.words place found) id m v at zeroth low high _ _
+              (leaves_stock cpus s.words v.number found rule.rows high)
               m v zeroth refl (λ q ne. refl) stock,
           (
             m,
@@ -302,25 +423,40 @@ module _ {S : Type 0} (cpus slots id : ℕ) where
 
     -- the store of a fill
     filling_allowed_at : (g n : ℕ) → g < 64 → n < 65536 → (account_of m v.number).filled ≡ false → v.fresh ≡ 0 → (account_of m v.number).noted ≡ 0
-        → Allows holds slots id (m ∷ v ∷ [], []) (stock_place v.number) (λ x. word_of (HeldBy g n)) (λ x. Joined filling_step (step slots (stock_place v.number) (word_of (HeldBy g n)) 0 none) (m ∷ v ∷ [], []) (word_of (HeldBy g n)))
+        → Allows holds slots id (m ∷ v ∷ [], []) (stock_place v.number) (λ x. word_of (HeldBy g n))
+        (λ x. Joined filling_step (step slots (stock_place v.number) (word_of (HeldBy g n)) 0 none) (m ∷ v ∷ [], []) (word_of (HeldBy g n)))
     filling_allowed_at g n group few off fresh noted s rule homes at fits =
         let place = stock_place v.number in
         let new = word_of (HeldBy g n) in
         let stock = joined_stock cpus s.words s.views rule s.words id m v at zeroth low high in
         let a = account_of m v.number in
-        joined_stock_owes s rule at new (record a { book = a.book + n; group = Some g; filled = true }) (after_fill v g n) (λ x. Joined filling_step (step slots place new 0 none) (m ∷ v ∷ [], []) new) refl
+        joined_stock_owes s rule at new (record a {
+          book = a.book + n;
+          group = Some g;
+          filled =
+              true;
+        }) (after_fill v g n) (λ x. Joined filling_step (step slots place new 0 none) (m ∷ v ∷ [], []) new) refl
         (filled _ _ a v g n stock group few off fresh noted) (
           filling m v.number g n,
           after_fill v g n,
           refl,
           (λ k j fit is.
-              subst (λ (y : ℕ × ℕ). Fills y.0 y.1 place new m v (filling m v.number g n) (after_fill v g n)) (λ i. (same_held_group g n k j few fit is i, same_held_pages g n k j few fit is i))
-              (record { at_stock = refl; word_after = refl; book_before = nothing_booked _ _ a v stock off fresh noted; machine_after = refl; view_after = refl })),
+              subst (λ (y : ℕ × ℕ). Fills y.0 y.1 place new m v (filling m v.number g n) (after_fill v g n))
+              (λ i. (same_held_group g n k j few fit is i, same_held_pages g n k j few fit is i))
+              (record {
+                at_stock = refl;
+                word_after = refl;
+                book_before =
+                    nothing_booked _ _ a v stock off fresh noted;
+                machine_after = refl;
+                view_after = refl;
+              })),
         )
 
     -- the subtraction of a consume that always takes
     consuming_held_allowed_at : (g : ℕ) → (account_of m v.number).group ≡ Some g → v.fresh + (account_of m v.number).noted < (account_of m v.number).book
-        → Allows holds slots id (m ∷ v ∷ [], []) (stock_place v.number) (λ x. (x + (2 ^ 64 - 1)) % 2 ^ 64) (Joined consuming_held (step slots (stock_place v.number) 1 0 none) (m ∷ v ∷ [], []))
+        → Allows holds slots id (m ∷ v ∷ [], []) (stock_place v.number) (λ x. (x + (2 ^ 64 - 1)) % 2 ^ 64)
+        (Joined consuming_held (step slots (stock_place v.number) 1 0 none) (m ∷ v ∷ [], []))
     consuming_held_allowed_at g booked more s rule homes at fits =
         let place = stock_place v.number in
         let found = slice_index s.words place in
@@ -338,13 +474,23 @@ module _ {S : Type 0} (cpus slots id : ℕ) where
           m ∷ after_took v g n ∷ [],
           keeps,
           tt,
-          joined_keeps cpus s.words s.views rule (set s.words place (word_of (HeldBy g n))) id m v at zeroth low high _ _ (leaves_stock cpus s.words v.number _ rule.rows high) m (after_took v g n) zeroth refl (λ q ne. refl) kept,
+          joined_keeps cpus s.words s.views rule (set s.words place (word_of (HeldBy g n))) id m v at zeroth low high _ _
+              (leaves_stock cpus s.words v.number _ rule.rows high) m (after_took v g n) zeroth refl (λ q ne. refl) kept,
           (
             m,
             after_took v g n,
             refl,
             record {
-              consumes = record { group = g; pages = n; at_stock = refl; from_held = last; word_before = is; word_after = minus_one found (word_of (HeldBy g n)) (is ∙ held_more g n); view_after = refl };
+              consumes = record {
+                group = g;
+                pages = n;
+                at_stock = refl;
+                from_held = last;
+                word_before = is;
+                word_after =
+                    minus_one found (word_of (HeldBy g n)) (is ∙ held_more g n);
+                view_after = refl;
+              };
               of_group = booked;
               has_word = kept.last_word;
               exact = exact_books a v (ap pages_of books.0) more;
@@ -355,57 +501,102 @@ module _ {S : Type 0} (cpus slots id : ℕ) where
 
 -- ---- the same at the seat that the caller has
 
-pub consume_allowed : {S : Type 0} (cpus slots id : ℕ) (me : Me S (List StockView)) (g n : ℕ) → me ≡ (first_of me.0 ∷ [], []) → 0 < (first_of me.0).number → (first_of me.0).number ≤ cpus → (first_of me.0).last ≡ HeldBy g (n + 1)
+pub consume_allowed : {S : Type 0} (cpus slots id : ℕ) (me : Me S (List StockView)) (g n : ℕ)
+    → me ≡ (first_of me.0 ∷ [], []) → 0 < (first_of me.0).number → (first_of me.0).number ≤ cpus
+    → (first_of me.0).last ≡ HeldBy g (n + 1)
     → (place old new : ℕ) → place ≡ stock_place (first_of me.0).number → old ≡ word_of (HeldBy g (n + 1)) → new ≡ word_of (HeldBy g n)
-    → Allows (λ (s : State S (List StockView)). StockRule cpus s.words s.views) slots id me place (λ x. either (eqb x old) new x) (Alone consuming (step slots place old new none) me)
+    → Allows (λ (s : State S (List StockView)). StockRule cpus s.words s.views) slots id me place (λ x. either (eqb x old) new x)
+    (Alone consuming (step slots place old new none) me)
 consume_allowed {S} cpus slots id me g n is low high last place old new at_place at_old at_new =
-    subst (λ (z : Me S (List StockView)). Allows (λ (s : State S (List StockView)). StockRule cpus s.words s.views) slots id z place (λ x. either (eqb x old) new x) (Alone consuming (step slots place old new none) z)) (sym is)
-    (subst (λ (y : ℕ × ℕ × ℕ). Allows (λ (s : State S (List StockView)). StockRule cpus s.words s.views) slots id (first_of me.0 ∷ [], []) y.0 (λ x. either (eqb x y.1) y.2 x) (Alone consuming (step slots y.0 y.1 y.2 none) (first_of me.0 ∷ [], []))) (λ i. (sym at_place i, sym at_old i, sym at_new i))
+    subst (λ (z : Me S (List StockView)). Allows (λ (s : State S (List StockView)). StockRule cpus s.words s.views) slots id z
+    place (λ x. either (eqb x old) new x) (Alone consuming (step slots place old new none) z)) (sym is)
+    (subst (λ (y : ℕ × ℕ × ℕ). Allows (λ (s : State S (List StockView)). StockRule cpus s.words s.views) slots id
+    (first_of me.0 ∷ [], []) y.0 (λ x. either (eqb x y.1) y.2 x)
+    (Alone consuming (step slots y.0 y.1 y.2 none) (first_of me.0 ∷ [], []))) (λ i. (sym at_place i, sym at_old i, sym at_new i))
     (consume_allowed_at cpus slots id (first_of me.0) low high g n last))
 
-pub credit_allowed : {S : Type 0} (cpus slots id : ℕ) (me : Me S (List StockView)) (g n : ℕ) → me ≡ (first_of me.0 ∷ [], []) → 0 < (first_of me.0).number → (first_of me.0).number ≤ cpus → (first_of me.0).last ≡ HeldBy g n → 0 < (first_of me.0).fresh
+pub credit_allowed : {S : Type 0} (cpus slots id : ℕ) (me : Me S (List StockView)) (g n : ℕ)
+    → me ≡ (first_of me.0 ∷ [], []) → 0 < (first_of me.0).number → (first_of me.0).number ≤ cpus
+    → (first_of me.0).last ≡ HeldBy g n → 0 < (first_of me.0).fresh
     → (place old new : ℕ) → place ≡ stock_place (first_of me.0).number → old ≡ word_of (HeldBy g n) → new ≡ word_of (HeldBy g (n + 1))
-    → Allows (λ (s : State S (List StockView)). StockRule cpus s.words s.views) slots id me place (λ x. either (eqb x old) new x) (Alone crediting (step slots place old new none) me)
+    → Allows (λ (s : State S (List StockView)). StockRule cpus s.words s.views) slots id me place (λ x. either (eqb x old) new x)
+    (Alone crediting (step slots place old new none) me)
 credit_allowed {S} cpus slots id me g n is low high last fresh place old new at_place at_old at_new =
-    subst (λ (z : Me S (List StockView)). Allows (λ (s : State S (List StockView)). StockRule cpus s.words s.views) slots id z place (λ x. either (eqb x old) new x) (Alone crediting (step slots place old new none) z)) (sym is)
-    (subst (λ (y : ℕ × ℕ × ℕ). Allows (λ (s : State S (List StockView)). StockRule cpus s.words s.views) slots id (first_of me.0 ∷ [], []) y.0 (λ x. either (eqb x y.1) y.2 x) (Alone crediting (step slots y.0 y.1 y.2 none) (first_of me.0 ∷ [], []))) (λ i. (sym at_place i, sym at_old i, sym at_new i))
+    subst (λ (z : Me S (List StockView)). Allows (λ (s : State S (List StockView)). StockRule cpus s.words s.views) slots id z
+    place (λ x. either (eqb x old) new x) (Alone crediting (step slots place old new none) z)) (sym is)
+    (subst (λ (y : ℕ × ℕ × ℕ). Allows (λ (s : State S (List StockView)). StockRule cpus s.words s.views) slots id
+    (first_of me.0 ∷ [], []) y.0 (λ x. either (eqb x y.1) y.2 x)
+    (Alone crediting (step slots y.0 y.1 y.2 none) (first_of me.0 ∷ [], []))) (λ i. (sym at_place i, sym at_old i, sym at_new i))
     (credit_allowed_at cpus slots id (first_of me.0) low high g n last fresh))
 
-pub looking_allowed : {S : Type 0} (cpus slots id : ℕ) (me : Me S (List StockView)) (p : ℕ) → me ≡ (first_of me.0 ∷ [], []) → (first_of me.0).number ≡ 0 → 0 < p → p ≤ cpus → (place : ℕ) → place ≡ stock_place p
+pub looking_allowed : {S : Type 0} (cpus slots id : ℕ) (me : Me S (List StockView)) (p : ℕ)
+    → me ≡ (first_of me.0 ∷ [], []) → (first_of me.0).number ≡ 0 → 0 < p → p ≤ cpus → (place : ℕ)
+    → place ≡ stock_place p
     → Allows (λ (s : State S (List StockView)). StockRule cpus s.words s.views) slots id me place (λ x. x) (Alone looking (step slots place 0 0 none) me)
 looking_allowed {S} cpus slots id me p is zeroth low high place at_place =
-    subst (λ (z : Me S (List StockView)). Allows (λ (s : State S (List StockView)). StockRule cpus s.words s.views) slots id z place (λ x. x) (Alone looking (step slots place 0 0 none) z)) (sym is)
-    (subst (λ (y : ℕ). Allows (λ (s : State S (List StockView)). StockRule cpus s.words s.views) slots id (first_of me.0 ∷ [], []) y (λ x. x) (Alone looking (step slots y 0 0 none) (first_of me.0 ∷ [], []))) (sym at_place)
+    subst (λ (z : Me S (List StockView)). Allows (λ (s : State S (List StockView)). StockRule cpus s.words s.views) slots id z
+    place (λ x. x) (Alone looking (step slots place 0 0 none) z)) (sym is)
+    (subst (λ (y : ℕ). Allows (λ (s : State S (List StockView)). StockRule cpus s.words s.views) slots id (
+      first_of me.0 ∷ [],
+      [],
+    ) y (λ x. x) (Alone looking (step slots y 0 0 none) (first_of me.0 ∷ [], []))) (sym at_place)
     (looking_allowed_at cpus slots id (first_of me.0) zeroth p low high))
 
-pub draining_allowed : {S : Type 0} (cpus slots id : ℕ) (me : Me S (List StockView)) (p g : ℕ) → me ≡ (first_of me.0 ∷ [], []) → (first_of me.0).number ≡ 0 → 0 < p → p ≤ cpus → (account_of (first_of me.0) p).group ≡ Some g
+pub draining_allowed : {S : Type 0} (cpus slots id : ℕ) (me : Me S (List StockView)) (p g : ℕ)
+    → me ≡ (first_of me.0 ∷ [], []) → (first_of me.0).number ≡ 0 → 0 < p → p ≤ cpus
+    → (account_of (first_of me.0) p).group ≡ Some g
     → (place new : ℕ) → place ≡ stock_place p → new ≡ word_of (DrainedOf g)
-    → Allows (λ (s : State S (List StockView)). StockRule cpus s.words s.views) slots id me place (λ x. new) (Alone draining_step (step slots place new 0 none) me)
+    → Allows (λ (s : State S (List StockView)). StockRule cpus s.words s.views) slots id me place (λ x. new)
+    (Alone draining_step (step slots place new 0 none) me)
 draining_allowed {S} cpus slots id me p g is zeroth low high group place new at_place at_new =
-    subst (λ (z : Me S (List StockView)). Allows (λ (s : State S (List StockView)). StockRule cpus s.words s.views) slots id z place (λ x. new) (Alone draining_step (step slots place new 0 none) z)) (sym is)
-    (subst (λ (y : ℕ × ℕ). Allows (λ (s : State S (List StockView)). StockRule cpus s.words s.views) slots id (first_of me.0 ∷ [], []) y.0 (λ x. y.1) (Alone draining_step (step slots y.0 y.1 0 none) (first_of me.0 ∷ [], []))) (λ i. (sym at_place i, sym at_new i))
+    subst (λ (z : Me S (List StockView)). Allows (λ (s : State S (List StockView)). StockRule cpus s.words s.views) slots id z
+    place (λ x. new) (Alone draining_step (step slots place new 0 none) z)) (sym is)
+    (subst (λ (y : ℕ × ℕ). Allows (λ (s : State S (List StockView)). StockRule cpus s.words s.views) slots id (
+      first_of me.0 ∷ [],
+      [],
+    ) y.0 (λ x. y.1) (Alone draining_step (step slots y.0 y.1 0 none) (first_of me.0 ∷ [], []))) (λ i. (sym at_place i, sym at_new i))
     (draining_allowed_at cpus slots id (first_of me.0) zeroth p low high g group))
 
-pub absorbing_allowed : {S : Type 0} (cpus slots id : ℕ) (me : Me S (List StockView)) (p : ℕ) → me ≡ (first_of me.0 ∷ [], []) → (first_of me.0).number ≡ 0 → 0 < p → p ≤ cpus → (place : ℕ) → place ≡ report_place p
+pub absorbing_allowed : {S : Type 0} (cpus slots id : ℕ) (me : Me S (List StockView)) (p : ℕ)
+    → me ≡ (first_of me.0 ∷ [], []) → (first_of me.0).number ≡ 0 → 0 < p → p ≤ cpus → (place : ℕ)
+    → place ≡ report_place p
     → Allows (λ (s : State S (List StockView)). StockRule cpus s.words s.views) slots id me place (λ x. 0) (Alone absorbing_step (step slots place 0 0 none) me)
 absorbing_allowed {S} cpus slots id me p is zeroth low high place at_place =
-    subst (λ (z : Me S (List StockView)). Allows (λ (s : State S (List StockView)). StockRule cpus s.words s.views) slots id z place (λ x. 0) (Alone absorbing_step (step slots place 0 0 none) z)) (sym is)
-    (subst (λ (y : ℕ). Allows (λ (s : State S (List StockView)). StockRule cpus s.words s.views) slots id (first_of me.0 ∷ [], []) y (λ x. 0) (Alone absorbing_step (step slots y 0 0 none) (first_of me.0 ∷ [], []))) (sym at_place)
+    subst (λ (z : Me S (List StockView)). Allows (λ (s : State S (List StockView)). StockRule cpus s.words s.views) slots id z
+    place (λ x. 0) (Alone absorbing_step (step slots place 0 0 none) z)) (sym is)
+    (subst (λ (y : ℕ). Allows (λ (s : State S (List StockView)). StockRule cpus s.words s.views) slots id (
+      first_of me.0 ∷ [],
+      [],
+    ) y (λ x. 0) (Alone absorbing_step (step slots y 0 0 none) (first_of me.0 ∷ [], []))) (sym at_place)
     (absorbing_allowed_at cpus slots id (first_of me.0) zeroth p low high))
 
-pub reporting_allowed : {S : Type 0} (cpus slots id : ℕ) (me : Me S (List StockView)) (m v : StockView) (n : ℕ) → me ≡ (m ∷ v ∷ [], []) → m.number ≡ 0 → 0 < v.number → v.number ≤ cpus → n ≤ v.fresh → (place : ℕ) → place ≡ report_place v.number
-    → Allows (λ (s : State S (List StockView)). StockRule cpus s.words s.views) slots id me place (λ x. (x + n) % 2 ^ 64) (Joined reporting_step (step slots place n 0 none) me)
+pub reporting_allowed : {S : Type 0} (cpus slots id : ℕ) (me : Me S (List StockView)) (m v : StockView) (n : ℕ)
+    → me ≡ (m ∷ v ∷ [], []) → m.number ≡ 0 → 0 < v.number → v.number ≤ cpus → n ≤ v.fresh → (place : ℕ)
+    → place ≡ report_place v.number
+    → Allows (λ (s : State S (List StockView)). StockRule cpus s.words s.views) slots id me place (λ x. (x + n) % 2 ^ 64)
+    (Joined reporting_step (step slots place n 0 none) me)
 reporting_allowed {S} cpus slots id me m v n is zeroth low high fresh place at_place =
-    subst (λ (z : Me S (List StockView)). Allows (λ (s : State S (List StockView)). StockRule cpus s.words s.views) slots id z place (λ x. (x + n) % 2 ^ 64) (Joined reporting_step (step slots place n 0 none) z)) (sym is)
-    (subst (λ (y : ℕ). Allows (λ (s : State S (List StockView)). StockRule cpus s.words s.views) slots id (m ∷ v ∷ [], []) y (λ x. (x + n) % 2 ^ 64) (Joined reporting_step (step slots y n 0 none) (m ∷ v ∷ [], []))) (sym at_place)
+    subst (λ (z : Me S (List StockView)). Allows (λ (s : State S (List StockView)). StockRule cpus s.words s.views) slots id z
+    place (λ x. (x + n) % 2 ^ 64) (Joined reporting_step (step slots place n 0 none) z)) (sym is)
+    (subst (λ (y : ℕ). Allows (λ (s : State S (List StockView)). StockRule cpus s.words s.views) slots id (
+      m ∷ v ∷ [],
+      [],
+    ) y (λ x. (x + n) % 2 ^ 64) (Joined reporting_step (step slots y n 0 none) (m ∷ v ∷ [], []))) (sym at_place)
     (reporting_allowed_at cpus slots id m v zeroth low high n fresh))
 
-pub filling_allowed : {S : Type 0} (cpus slots id : ℕ) (me : Me S (List StockView)) (m v : StockView) (g n : ℕ) → me ≡ (m ∷ v ∷ [], []) → m.number ≡ 0 → 0 < v.number → v.number ≤ cpus → g < 64 → n < 65536
-    → (account_of m v.number).filled ≡ false → v.fresh ≡ 0 → (account_of m v.number).noted ≡ 0 → (place new : ℕ) → place ≡ stock_place v.number → new ≡ word_of (HeldBy g n)
-    → Allows (λ (s : State S (List StockView)). StockRule cpus s.words s.views) slots id me place (λ x. new) (λ x. Joined filling_step (step slots place new 0 none) me new)
+pub filling_allowed : {S : Type 0} (cpus slots id : ℕ) (me : Me S (List StockView)) (m v : StockView) (g n : ℕ)
+    → me ≡ (m ∷ v ∷ [], []) → m.number ≡ 0 → 0 < v.number → v.number ≤ cpus → g < 64 → n < 65536
+    → (account_of m v.number).filled ≡ false → v.fresh ≡ 0 → (account_of m v.number).noted ≡ 0 → (place new : ℕ) → place
+    ≡ stock_place v.number → new ≡ word_of (HeldBy g n)
+    → Allows (λ (s : State S (List StockView)). StockRule cpus s.words s.views) slots id me place (λ x. new)
+    (λ x. Joined filling_step (step slots place new 0 none) me new)
 filling_allowed {S} cpus slots id me m v g n is zeroth low high group few off fresh noted place new at_place at_new =
-    subst (λ (z : Me S (List StockView)). Allows (λ (s : State S (List StockView)). StockRule cpus s.words s.views) slots id z place (λ x. new) (λ x. Joined filling_step (step slots place new 0 none) z new)) (sym is)
-    (subst (λ (y : ℕ × ℕ). Allows (λ (s : State S (List StockView)). StockRule cpus s.words s.views) slots id (m ∷ v ∷ [], []) y.0 (λ x. y.1) (λ x. Joined filling_step (step slots y.0 y.1 0 none) (m ∷ v ∷ [], []) y.1)) (λ i. (sym at_place i, sym at_new i))
+    subst (λ (z : Me S (List StockView)). Allows (λ (s : State S (List StockView)). StockRule cpus s.words s.views) slots id z
+    place (λ x. new) (λ x. Joined filling_step (step slots place new 0 none) z new)) (sym is)
+    (subst (λ (y : ℕ × ℕ). Allows (λ (s : State S (List StockView)). StockRule cpus s.words s.views) slots id (
+      m ∷ v ∷ [],
+      [],
+    ) y.0 (λ x. y.1) (λ x. Joined filling_step (step slots y.0 y.1 0 none) (m ∷ v ∷ [], []) y.1)) (λ i. (sym at_place i, sym at_new i))
     (filling_allowed_at cpus slots id m v zeroth low high g n group few off fresh noted))
 
 pub seeing_allowed : {S : Type 0} (cpus slots id : ℕ) (me : Me S (List StockView)) (m v : StockView) → me ≡ (m ∷ v ∷ [], []) → m.number ≡ 0
@@ -418,12 +609,19 @@ seeing_allowed {S} cpus slots id me m v is zeroth low high place at_place =
     (Joined seeing_stock (step slots y 0 0 none) (m ∷ v ∷ [], []))) (sym at_place)
     (seeing_allowed_at cpus slots id m v zeroth low high))
 
-pub consuming_held_allowed : {S : Type 0} (cpus slots id : ℕ) (me : Me S (List StockView)) (m v : StockView) (g : ℕ) → me ≡ (m ∷ v ∷ [], []) → m.number ≡ 0 → 0 < v.number → v.number ≤ cpus
-    → (account_of m v.number).group ≡ Some g → v.fresh + (account_of m v.number).noted < (account_of m v.number).book → (place : ℕ) → place ≡ stock_place v.number
-    → Allows (λ (s : State S (List StockView)). StockRule cpus s.words s.views) slots id me place (λ x. (x + (2 ^ 64 - 1)) % 2 ^ 64) (Joined consuming_held (step slots place 1 0 none) me)
+pub consuming_held_allowed : {S : Type 0} (cpus slots id : ℕ) (me : Me S (List StockView)) (m v : StockView) (g : ℕ)
+    → me ≡ (m ∷ v ∷ [], []) → m.number ≡ 0 → 0 < v.number → v.number ≤ cpus
+    → (account_of m v.number).group ≡ Some g → v.fresh + (account_of m v.number).noted < (account_of m v.number).book
+    → (place : ℕ) → place ≡ stock_place v.number
+    → Allows (λ (s : State S (List StockView)). StockRule cpus s.words s.views) slots id me place
+    (λ x. (x + (2 ^ 64 - 1)) % 2 ^ 64) (Joined consuming_held (step slots place 1 0 none) me)
 consuming_held_allowed {S} cpus slots id me m v g is zeroth low high group more place at_place =
-    subst (λ (z : Me S (List StockView)). Allows (λ (s : State S (List StockView)). StockRule cpus s.words s.views) slots id z place (λ x. (x + (2 ^ 64 - 1)) % 2 ^ 64) (Joined consuming_held (step slots place 1 0 none) z)) (sym is)
-    (subst (λ (y : ℕ). Allows (λ (s : State S (List StockView)). StockRule cpus s.words s.views) slots id (m ∷ v ∷ [], []) y (λ x. (x + (2 ^ 64 - 1)) % 2 ^ 64) (Joined consuming_held (step slots y 1 0 none) (m ∷ v ∷ [], []))) (sym at_place)
+    subst (λ (z : Me S (List StockView)). Allows (λ (s : State S (List StockView)). StockRule cpus s.words s.views) slots id z
+    place (λ x. (x + (2 ^ 64 - 1)) % 2 ^ 64) (Joined consuming_held (step slots place 1 0 none) z)) (sym is)
+    (subst (λ (y : ℕ). Allows (λ (s : State S (List StockView)). StockRule cpus s.words s.views) slots id (
+      m ∷ v ∷ [],
+      [],
+    ) y (λ x. (x + (2 ^ 64 - 1)) % 2 ^ 64) (Joined consuming_held (step slots y 1 0 none) (m ∷ v ∷ [], []))) (sym at_place)
     (consuming_held_allowed_at cpus slots id m v zeroth low high g group more))
 
 -- ---- splits and joins
@@ -431,7 +629,8 @@ consuming_held_allowed {S} cpus slots id me m v g is zeroth low high group more 
 pub nothing_split : {S : Type 0} (cpus id : ℕ) (old : List StockView) → Splits {S = S} (λ s. StockRule cpus s.words s.views) id old old []
 nothing_split cpus id old = split_keeps cpus id old old [] (λ f. omega arith)
 
-pub second_split : {S : Type 0} (cpus id : ℕ) (old : List StockView) → Splits {S = S} (λ s. StockRule cpus s.words s.views) id old (without_second old) (second_alone old)
+pub second_split : {S : Type 0} (cpus id : ℕ) (old : List StockView)
+    → Splits {S = S} (λ s. StockRule cpus s.words s.views) id old (without_second old) (second_alone old)
 second_split cpus id old = split_keeps cpus id old (without_second old) (second_alone old) (second_apart old)
   where
     second_apart : (views : List StockView) (f : StockView → ℕ) → sum_over f (without_second views) + sum_over f (second_alone views) ≡ sum_over f views

@@ -11,7 +11,8 @@ use Rattle.stock_word.specs.Kinds.{after_took, after_back, after_drained, after_
 -- a stock of which the word is held by g with n is that one
 pub held_word : (s : Stock) (g n : ℕ) → HasWord s → g < 64 → n < 65536 → word_of s ≡ word_of (HeldBy g n) → s ≡ HeldBy g n
 held_word NoGroup g n h a b e = absurd (omega (arith, e))
-held_word (HeldBy k m) g n h a b e = let c : (k + 1) * 65536 + m ≡ (g + 1) * 65536 + n = e in let d : k ≡ g = omega (arith, h.1) in let f : m ≡ n = omega (arith, h.1) in λ i. HeldBy (d i) (f i)
+held_word (HeldBy k m) g n h a b e =
+    let c : (k + 1) * 65536 + m ≡ (g + 1) * 65536 + n = e in let d : k ≡ g = omega (arith, h.1) in let f : m ≡ n = omega (arith, h.1) in λ i. HeldBy (d i) (f i)
 held_word (DrainedOf k) g n h a b e = let c : 4294967296 + (k + 1) * 65536 ≡ (g + 1) * 65536 + n = e in absurd (omega arith)
 
 pub drained_has_word : (s : Stock) → HasWord s → HasWord (drained_of s)
@@ -20,13 +21,16 @@ drained_has_word (HeldBy g n) h = h.0
 drained_has_word (DrainedOf g) h = h
 
 -- the stock of a processor that finds the word that it saw last, held by g with n
-pub stock_held : (word report : ℕ) (a : Account) (v : StockView) (g n : ℕ) (h : IsStock word report a v) → v.last ≡ HeldBy g n → word ≡ word_of (HeldBy g n) → h.stock ≡ HeldBy g n
+pub stock_held : (word report : ℕ) (a : Account) (v : StockView) (g n : ℕ) (h : IsStock word report a v)
+    → v.last ≡ HeldBy g n → word ≡ word_of (HeldBy g n) → h.stock ≡ HeldBy g n
 stock_held word report a v g n h last is =
     let fits : HasWord (HeldBy g n) = subst HasWord last h.last_word in
     held_word h.stock g n h.has_word fits.0 fits.1 (sym h.encoded ∙ is)
 
 -- a consume
-pub took : (word report : ℕ) (a : Account) (v : StockView) (g n : ℕ) → IsStock word report a v → v.last ≡ HeldBy g (n + 1) → word ≡ word_of (HeldBy g (n + 1)) → IsStock (word_of (HeldBy g n)) report a (after_took v g n)
+pub took : (word report : ℕ) (a : Account) (v : StockView) (g n : ℕ) → IsStock word report a v
+    → v.last ≡ HeldBy g (n + 1) → word ≡ word_of (HeldBy g (n + 1))
+    → IsStock (word_of (HeldBy g n)) report a (after_took v g n)
 took word report a v g n h last is =
     let s = stock_held word report a v g (n + 1) h last is in
     let fits : HasWord (HeldBy g (n + 1)) = subst HasWord last h.last_word in
@@ -48,7 +52,9 @@ took word report a v g n h last is =
     }
 
 -- a credit, of a processor with a fresh page
-pub back : (word report : ℕ) (a : Account) (v : StockView) (g n : ℕ) → IsStock word report a v → 0 < v.fresh → v.last ≡ HeldBy g n → word ≡ word_of (HeldBy g n) → IsStock (word_of (HeldBy g (n + 1))) report a (after_back v g (n + 1))
+pub back : (word report : ℕ) (a : Account) (v : StockView) (g n : ℕ) → IsStock word report a v → 0 < v.fresh
+    → v.last ≡ HeldBy g n → word ≡ word_of (HeldBy g n)
+    → IsStock (word_of (HeldBy g (n + 1))) report a (after_back v g (n + 1))
 back word report a v g n h fresh last is =
     let s = stock_held word report a v g n h last is in
     let fits : HasWord (HeldBy g n) = subst HasWord last h.last_word in
@@ -71,7 +77,8 @@ back word report a v g n h fresh last is =
 
 -- a word other than the one that the processor saw last is drained, of the same group
 pub now_drained : (word report : ℕ) (a : Account) (v : StockView) (h : IsStock word report a v) → word ≢ word_of v.last → h.stock ≡ drained_of v.last
-now_drained word report a v h ne = ⊎_elim (λ (e : h.stock ≡ v.last). absurd (ne (h.encoded ∙ ap word_of e))) (λ (e : h.stock ≡ drained_of v.last). e) h.last_seen
+now_drained word report a v h ne =
+    ⊎_elim (λ (e : h.stock ≡ v.last). absurd (ne (h.encoded ∙ ap word_of e))) (λ (e : h.stock ≡ drained_of v.last). e) h.last_seen
 
 pub sees_drained : (word report : ℕ) (a : Account) (v : StockView) → IsStock word report a v → word ≢ word_of v.last → IsStock word report a (after_drained v)
 sees_drained word report a v h ne = record {
@@ -96,11 +103,13 @@ drained_same_group (DrainedOf g) = refl
 
 pub last_group : (word report : ℕ) (a : Account) (v : StockView) → IsStock word report a v → group_of v.last ≡ a.group
 last_group word report a v h =
-    ⊎_elim (λ (e : h.stock ≡ v.last). ap group_of (sym e)) (λ (e : h.stock ≡ drained_of v.last). sym (drained_same_group v.last) ∙ ap group_of (sym e)) h.last_seen
+    ⊎_elim (λ (e : h.stock ≡ v.last). ap group_of (sym e)) (λ (e : h.stock ≡ drained_of v.last). sym (drained_same_group v.last)
+    ∙ ap group_of (sym e)) h.last_seen
     ∙ h.of_group
 
 -- a report of n fresh pages
-pub reported : (word report : ℕ) (a : Account) (v : StockView) (n : ℕ) → IsStock word report a v → n ≤ v.fresh → IsStock word (report + n) (record a { noted = a.noted + n }) (after_report v n)
+pub reported : (word report : ℕ) (a : Account) (v : StockView) (n : ℕ) → IsStock word report a v → n ≤ v.fresh
+    → IsStock word (report + n) (record a { noted = a.noted + n }) (after_report v n)
 reported word report a v n h fresh = record {
   stock = h.stock;
   encoded = h.encoded;
@@ -137,7 +146,8 @@ held_by_books word report a v g h group more =
     let some : 0 < pages_of h.stock = omega (arith, h.balanced, h.reported, more) in
     let is : h.stock ≡ HeldBy g (pages_of h.stock) = held_of h.stock g some (h.of_group ∙ group) in
     let stock : h.stock ≡ HeldBy g (left_of a v) = is ∙ ap (HeldBy g) pages in
-    let seen : h.stock ≡ v.last = ⊎_elim (λ (e : h.stock ≡ v.last). e) (λ (e : h.stock ≡ drained_of v.last). absurd (true≢false (sym (ap is_held is) ∙ ap is_held e ∙ not_held v.last))) h.last_seen in
+    let seen : h.stock ≡ v.last = ⊎_elim (λ (e : h.stock ≡ v.last). e) (λ (e : h.stock
+    ≡ drained_of v.last). absurd (true≢false (sym (ap is_held is) ∙ ap is_held e ∙ not_held v.last))) h.last_seen in
     (sym seen ∙ stock, h.encoded ∙ ap word_of stock)
 
 no_pages : (s : Stock) → is_held s ≡ false → pages_of s ≡ 0
@@ -149,7 +159,8 @@ no_pages (DrainedOf g) e = refl
 pub nothing_booked : (word report : ℕ) (a : Account) (v : StockView) → IsStock word report a v → a.filled ≡ false → v.fresh ≡ 0 → a.noted ≡ 0 → a.book ≡ 0
 nothing_booked word report a v h off fresh noted = let pages = no_pages h.stock (h.held ∙ off) in omega (arith, h.balanced, h.reported, pages, fresh, noted)
 
-pub filled : (word report : ℕ) (a : Account) (v : StockView) (g n : ℕ) → IsStock word report a v → g < 64 → n < 65536 → a.filled ≡ false → v.fresh ≡ 0 → a.noted ≡ 0
+pub filled : (word report : ℕ) (a : Account) (v : StockView) (g n : ℕ) → IsStock word report a v → g < 64 → n < 65536
+    → a.filled ≡ false → v.fresh ≡ 0 → a.noted ≡ 0
     → IsStock (word_of (HeldBy g n)) report (record a { book = a.book + n; group = Some g; filled = true }) (after_fill v g n)
 filled word report a v g n h group fits off fresh noted =
     let empty = nothing_booked word report a v h off fresh noted in
@@ -179,7 +190,9 @@ drained_again (HeldBy g n) = refl
 drained_again (DrainedOf g) = refl
 
 -- a drain
-pub drained : (word report : ℕ) (a : Account) (v : StockView) (g : ℕ) (h : IsStock word report a v) → group_of h.stock ≡ Some g → IsStock (word_of (DrainedOf g)) report (record a { book = a.book - pages_of h.stock; filled = false }) v
+pub drained : (word report : ℕ) (a : Account) (v : StockView) (g : ℕ) (h : IsStock word report a v)
+    → group_of h.stock ≡ Some g
+    → IsStock (word_of (DrainedOf g)) report (record a { book = a.book - pages_of h.stock; filled = false }) v
 drained word report a v g h group =
     let is = drained_group h.stock g group in
     let low : HasWord (DrainedOf g) = subst HasWord is (drained_has_word h.stock h.has_word) in
@@ -193,7 +206,8 @@ drained word report a v g h group =
       unfilled = (λ e. let b = h.unfilled e in omega (arith, b));
       held = refl;
       reported = h.reported;
-      last_seen = inr (sym is ∙ ⊎_elim (λ (e : h.stock ≡ v.last). ap drained_of e) (λ (e : h.stock ≡ drained_of v.last). ap drained_of e ∙ drained_again v.last) h.last_seen);
+      last_seen = inr (sym is ∙ ⊎_elim (λ (e : h.stock ≡ v.last). ap drained_of e) (λ (e : h.stock
+          ≡ drained_of v.last). ap drained_of e ∙ drained_again v.last) h.last_seen);
       last_word = h.last_word;
     }
 
@@ -203,7 +217,8 @@ no_word (HeldBy g n) e = absurd (omega (arith, e))
 no_word (DrainedOf g) e = absurd (omega (arith, e))
 
 -- the drain of a stock that was never filled
-pub drained_none : (word report : ℕ) (a : Account) (v : StockView) (h : IsStock word report a v) → word ≡ 0 → (a.group ≡ None) × IsStock word report (record a { book = a.book - 0; filled = false }) v
+pub drained_none : (word report : ℕ) (a : Account) (v : StockView) (h : IsStock word report a v) → word ≡ 0
+    → (a.group ≡ None) × IsStock word report (record a { book = a.book - 0; filled = false }) v
 drained_none word report a v h zeroth =
     let is = no_word h.stock (sym h.encoded ∙ zeroth) in (
       sym h.of_group ∙ ap group_of is,

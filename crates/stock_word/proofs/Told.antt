@@ -1,5 +1,6 @@
 -- What the kinds of step tell, as the calls' contracts say it. Serves consume, drain, absorb and consume_held.
-use Rattle.std.proofs.Common.{◌≡◌, ◌≢◌, ℕ, ◌+◌, ◌-◌, ◌<◌, ◌≤◌, ◌⊎◌, ⊎_elim, false, true≢false, List, None, Some, refl, ap, sym, subst, ◌∙◌, arith}
+use Rattle.std.proofs.Common.{◌≡◌, ◌≢◌, ℕ, ◌+◌, ◌-◌, ◌<◌, ◌≤◌, ◌⊎◌, ⊎_elim, false, true≢false, List, Option, None, Some, refl, ap, sym, subst, ◌∙◌, arith}
+use Rattle.std.specs.Prelude.{IfSome}
 use native.Mathlib.Decide.{ℕ_discrete}
 use Rattle.stock_word.specs.declared.view.Stock.{Stock}
 use Rattle.stock_word.specs.declared.view.Stock.TheVariants.{NoGroup, HeldBy, DrainedOf}
@@ -7,16 +8,20 @@ use Rattle.stock_word.specs.declared.view.StockView.{StockView}
 use Rattle.stock_word.specs.declared.words.Consume.TheVariants as consume
 use Rattle.stock_word.specs.Stock.{Seated, Placed, word_of, HasWord, pages_of, is_held, group_of, account_of, stocked, first_of, IsKept}
 use Rattle.stock_word.specs.Kinds.{IsAlone, Consumes, ConsumesHeld, Drains, DrainsNone, LooksAt, after_took}
-use Rattle.stock_word.specs.Calls.{Consumed, with_view}
+use Rattle.stock_word.specs.Calls.{Consumed, with_view, after_look}
 
 same_group : (a b : ℕ) → Some a ≡ Some b → a ≡ b
 same_group a b e = cc
 
 -- v is the view before, and w after; b and u are what the caller has for them
-pub consumed_took : (g k n : ℕ) (b u v w : StockView) (place found new : ℕ) → Consumes place found new v w → v ≡ b → u ≡ w → v.last ≡ HeldBy k n → k ≡ g → Consumed g consume.Took b u
+pub consumed_took : (g k n : ℕ) (b u v w : StockView) (place found new : ℕ) → Consumes place found new v w → v ≡ b
+    → u ≡ w → v.last ≡ HeldBy k n → k ≡ g → Consumed g consume.Took b u
 consumed_took g k n b u v w place found new kind before after last of =
-    let group : kind.group ≡ g = same_group _ _ (ap group_of (sym kind.from_held ∙ last)) ∙ of in
-    (kind.pages, ap (λ (x : StockView). x.last) (sym before) ∙ kind.from_held ∙ ap (λ (x : ℕ). HeldBy x (kind.pages + 1)) group, after ∙ kind.view_after ∙ (λ i. after_took (before i) (group i) kind.pages))
+    let group : kind.group ≡ g = same_group _ _ (ap group_of (sym kind.from_held ∙ last)) ∙ of in (
+      kind.pages,
+      ap (λ (x : StockView). x.last) (sym before) ∙ kind.from_held ∙ ap (λ (x : ℕ). HeldBy x (kind.pages + 1)) group,
+      after ∙ kind.view_after ∙ (λ i. after_took (before i) (group i) kind.pages),
+    )
 
 -- a seat whose view changed in its accounts alone
 pub kept_as : (views next : List StockView) (number : ℕ) (last : Stock) (u : StockView) → IsKept views number last → IsAlone next → first_of next ≡ u
@@ -43,12 +48,14 @@ Looked p place found m w = (found ≡ 0 → DrainsNone p place found found m w) 
 abbrev Decodes : ℕ → Stock → Type 0
 Decodes found r = (stock : Stock) → HasWord stock → found ≡ word_of stock → r ≡ stock
 
-looked_none : (p place found : ℕ) (m w : StockView) (r : Stock) → Looked p place found m w → Decodes found r → r ≡ NoGroup → Dec (found ≡ 0) → DrainsNone p place found found m w
+looked_none : (p place found : ℕ) (m w : StockView) (r : Stock) → Looked p place found m w → Decodes found r
+    → r ≡ NoGroup → Dec (found ≡ 0) → DrainsNone p place found found m w
 looked_none p place found m w r told decodes is (yes e) = told.0 e
 looked_none p place found m w r told decodes is (no ne) = let kind = told.1 ne in let same = decodes kind.stock kind.has_word kind.word_before in
     let impossible : None ≡ Some kind.group = ap group_of (sym is ∙ same) ∙ kind.of_group in absurd (cc)
 
-pub found_none : (p place found : ℕ) (m w : StockView) (r : Stock) → Looked p place found m w → Decodes found r → r ≡ NoGroup → DrainsNone p place found found m w
+pub found_none : (p place found : ℕ) (m w : StockView) (r : Stock) → Looked p place found m w → Decodes found r
+    → r ≡ NoGroup → DrainsNone p place found found m w
 found_none p place found m w r told decodes is = looked_none p place found m w r told decodes is (ℕ_discrete found 0)
 
 some_word : (found g : ℕ) (r : Stock) → Decodes found r → group_of r ≡ Some g → found ≢ 0
@@ -65,11 +72,15 @@ pub found_group : (p place found g : ℕ) (m w : StockView) (r : Stock) → Look
     → ((account_of m p).group ≡ Some g) × (w ≡ m) × (g < 64)
 found_group p place found g m w r told decodes group =
     let kind = told.1 (some_word found g r decodes group) in
-    let same = decodes kind.stock kind.has_word kind.word_before in
-    (kind.filled_for ∙ sym kind.of_group ∙ sym (ap group_of same) ∙ group, kind.machine_after, group_fits kind.stock g kind.has_word (sym (ap group_of same) ∙ group))
+    let same = decodes kind.stock kind.has_word kind.word_before in (
+      kind.filled_for ∙ sym kind.of_group ∙ sym (ap group_of same) ∙ group,
+      kind.machine_after,
+      group_fits kind.stock g kind.has_word (sym (ap group_of same) ∙ group),
+    )
 
 -- the swap took the pages of the stock that it found
-pub drained_booked : (before : StockView) (p g place found new pages : ℕ) (m w : StockView) → m ≡ before → (kind : Drains p g place found new m w) → pages ≡ pages_of kind.stock → pages ≤ (account_of before p).book
+pub drained_booked : (before : StockView) (p g place found new pages : ℕ) (m w : StockView) → m ≡ before
+    → (kind : Drains p g place found new m w) → pages ≡ pages_of kind.stock → pages ≤ (account_of before p).book
 drained_booked before p g place found new pages m w e kind many = let b = ap (λ (v : StockView). (account_of v p).book) e in omega (arith, kind.enough, b)
 
 unheld_pages : (s : Stock) → is_held s ≡ false → pages_of s ≡ 0
@@ -77,22 +88,48 @@ unheld_pages NoGroup e = refl
 unheld_pages (HeldBy g n) e = absurd (true≢false e)
 unheld_pages (DrainedOf g) e = refl
 
-pub drained_before : (before : StockView) (p g place found new pages : ℕ) (m w : StockView) → m ≡ before → (kind : Drains p g place found new m w) → pages ≡ pages_of kind.stock → (account_of before p).filled ≡ false → pages ≡ 0
-drained_before before p g place found new pages m w e kind many off = many ∙ unheld_pages kind.stock (kind.was_held ∙ ap (λ (v : StockView). (account_of v p).filled) e ∙ off)
+pub drained_before : (before : StockView) (p g place found new pages : ℕ) (m w : StockView) → m ≡ before
+    → (kind : Drains p g place found new m w) → pages ≡ pages_of kind.stock → (account_of before p).filled ≡ false
+    → pages ≡ 0
+drained_before before p g place found new pages m w e kind many off =
+    many ∙ unheld_pages kind.stock (kind.was_held ∙ ap (λ (v : StockView). (account_of v p).filled) e ∙ off)
 
 pub either_group : (r : Stock) (g : ℕ) → ((n : ℕ) × (r ≡ HeldBy g n)) ⊎ (r ≡ DrainedOf g) → group_of r ≡ Some g
 either_group r g h = ⊎_elim (λ (x : (n : ℕ) × (r ≡ HeldBy g n)). ap group_of x.1) (λ (x : r ≡ DrainedOf g). ap group_of x) h
 
 -- ---- consume_held
 
-pub held_group : (g place before after : ℕ) (m v m' v' b u : StockView) → (kind : ConsumesHeld place before after m v m' v') → m ≡ b → v ≡ u → (account_of b u.number).group ≡ Some g → kind.consumes.group ≡ g
-held_group g place before after m v m' v' b u kind machine view group = same_group _ _ (sym kind.of_group ∙ (λ i. (account_of (machine i) (view i).number).group) ∙ group)
+pub held_group : (g place before after : ℕ) (m v m' v' b u : StockView)
+    → (kind : ConsumesHeld place before after m v m' v') → m ≡ b → v ≡ u → (account_of b u.number).group ≡ Some g
+    → kind.consumes.group ≡ g
+held_group g place before after m v m' v' b u kind machine view group =
+    same_group _ _ (sym kind.of_group ∙ (λ i. (account_of (machine i) (view i).number).group) ∙ group)
 
-pub held_pages : (place before after : ℕ) (m v m' v' b u : StockView) → (kind : ConsumesHeld place before after m v m' v') → m ≡ b → v ≡ u → kind.consumes.pages ≡ stocked b u - 1
+pub held_pages : (place before after : ℕ) (m v m' v' b u : StockView)
+    → (kind : ConsumesHeld place before after m v m' v') → m ≡ b → v ≡ u → kind.consumes.pages ≡ stocked b u - 1
 held_pages place before after m v m' v' b u kind machine view =
     let more : pages_of v.last ≡ kind.consumes.pages + 1 = ap pages_of kind.consumes.from_held in
     let here : kind.consumes.pages ≡ stocked m v - 1 = omega (arith, kind.exact, more) in
     here ∙ (λ i. stocked (machine i) (view i) - 1)
 
-pub held_after : (g place before after : ℕ) (m v m' v' b u : StockView) → (kind : ConsumesHeld place before after m v m' v') → m ≡ b → v ≡ u → (account_of b u.number).group ≡ Some g → v' ≡ after_took u g (stocked b u - 1)
-held_after g place before after m v m' v' b u kind machine view group = kind.consumes.view_after ∙ (λ i. after_took (view i) (held_group g place before after m v m' v' b u kind machine view group i) (held_pages place before after m v m' v' b u kind machine view i))
+pub held_after : (g place before after : ℕ) (m v m' v' b u : StockView)
+    → (kind : ConsumesHeld place before after m v m' v') → m ≡ b → v ≡ u → (account_of b u.number).group ≡ Some g
+    → v' ≡ after_took u g (stocked b u - 1)
+held_after g place before after m v m' v' b u kind machine view group =
+    kind.consumes.view_after ∙ (λ i. after_took (view i) (held_group g place before after m v m' v' b u kind machine view group i)
+    (held_pages place before after m v m' v' b u kind machine view i))
+
+-- ---- group
+
+-- the look told the group, or that there is none, and what it left of the machine's view
+pub group_told : (p place found : ℕ) (m w : StockView) (r : Stock) (told : Option ℕ) → Looked p place found m w → Decodes found r → told ≡ group_of r
+    → (told ≡ (account_of m p).group) × IfSome told (λ g. g < 64) × (w ≡ after_look m p told)
+group_told p place found m w NoGroup told looked decodes is =
+    let kind = found_none p place found m w NoGroup looked decodes refl in
+    (is ∙ sym kind.never_filled, subst (λ (o : Option ℕ). IfSome o (λ g. g < 64)) (sym is) tt, kind.machine_after ∙ ap (after_look m p) (sym is))
+group_told p place found m w (HeldBy g n) told looked decodes is =
+    let seen = found_group p place found g m w (HeldBy g n) looked decodes refl in
+    (is ∙ sym seen.0, subst (λ (o : Option ℕ). IfSome o (λ h. h < 64)) (sym is) seen.2, seen.1 ∙ ap (after_look m p) (sym is))
+group_told p place found m w (DrainedOf g) told looked decodes is =
+    let seen = found_group p place found g m w (DrainedOf g) looked decodes refl in
+    (is ∙ sym seen.0, subst (λ (o : Option ℕ). IfSome o (λ h. h < 64)) (sym is) seen.2, seen.1 ∙ ap (after_look m p) (sym is))

@@ -1,5 +1,5 @@
 -- What the calls answer, and what they leave.
-use Rattle.std.specs.Prelude.{◌≡◌, ◌≢◌, ℕ, ◌+◌, Some}
+use Rattle.std.specs.Prelude.{◌≡◌, ◌≢◌, ℕ, ◌+◌, Option, Some, None}
 use Rattle.stock_word.specs.declared.view.Stock.TheVariants.{HeldBy}
 use Rattle.stock_word.specs.declared.view.StockView.{StockView}
 use Rattle.stock_word.specs.declared.words.Consume.{Consume}
@@ -7,7 +7,7 @@ use Rattle.stock_word.specs.declared.words.Consume.TheVariants.{Took, Empty, Oth
 use Rattle.stock_word.specs.declared.words.Credit.{Credit}
 use Rattle.stock_word.specs.declared.words.Credit.TheVariants as credit
 use Rattle.stock_word.specs.Stock.{Seated, group_of}
-use Rattle.stock_word.specs.Kinds.{after_took, after_back, after_drained}
+use Rattle.stock_word.specs.Kinds.{after_took, after_back, after_drained, draining}
 
 -- the seat with another view
 abbrev pub with_view : Seated → StockView → Seated
@@ -25,3 +25,8 @@ Consumed g Drained v w = (group_of v.last ≡ Some g) × (v.last ≢ HeldBy g 0)
 abbrev pub Credited : Credit → StockView → StockView → Type 0
 Credited credit.Back v w = (g : ℕ) × (n : ℕ) × (v.last ≡ HeldBy g n) × (w ≡ after_back v g (n + 1))
 Credited credit.Drained v w = (g : ℕ) × (group_of v.last ≡ Some g) × (w ≡ after_drained v)
+
+-- the machine's view after it looked which group p's stock is of: one that is of none counts as drained of no page
+abbrev pub after_look : StockView → ℕ → Option ℕ → StockView
+after_look m p None = draining m p 0
+after_look m p (Some g) = m

@@ -1,10 +1,10 @@
 //! The calls of the machine's seat, alone or joined with a processor's. Whoever has that seat has
 //! the zone's lock.
-ghost use Rattle.std.specs.Prelude.{◌≡◌, ◌+◌, ◌-◌, ◌<◌, ◌≤◌, ◌⊎◌, [], ◌∷◌, false, Some};
+ghost use Rattle.std.specs.Prelude.{◌≡◌, ◌+◌, ◌-◌, ◌<◌, ◌≤◌, ◌⊎◌, [], ◌∷◌, false, Some, IfSome};
 ghost use Rattle.stock_word.specs.Stock.{IsProcessor, IsMachine, account_of, account_for, stocked, first_of, second_of};
 ghost use Rattle.stock_word.specs.Stock.{HasWord, pages_of, group_of, is_held, drained_of};
 ghost use Rattle.stock_word.specs.Kinds.{IsAlone, IsPair, after_took, after_report, noting, filling, after_fill, draining, absorbing};
-ghost use Rattle.stock_word.specs.Calls.{with_view};
+ghost use Rattle.stock_word.specs.Calls.{with_view, after_look};
 
 use crate::kinds::{Place, StockWords};
 use crate::seat::StockSeat;
@@ -131,6 +131,20 @@ impl StockWords {
                 Stock::of_word(found).pages()
             }
         }
+    }
+
+    /// The group of the last fill of processor `p`'s stock, 0 to 63; None where it was never filled.
+    /// One look. A stock that was never filled counts as drained of no page from then on.
+    pub fn group(&self, seat0: &mut StockSeat, p: u32) -> Option<u32>
+        requires table { seat0.old.table ≡ self.now.table }
+        requires machine { IsMachine seat0.old.view }
+        requires processor { (0 < p) × (p ≤ self.now.cpus) }
+        ensures group { result ≡ (account_of seat0.old.view p).group }
+        ensures fits { IfSome result (λ g. g < 64) }
+        ensures machine { seat0.new ≡ with_view seat0.old (after_look seat0.old.view p result) }
+    {
+        let word = self.step_look(&mut seat0.place, p);
+        Stock::of_word(word).group()
     }
 
     /// Takes in the pages that processor `p` reported and that were not taken in yet, and tells

@@ -18,7 +18,7 @@ pub enum Stock {
 impl Stock {
     ghost use Rattle.std.specs.Prelude.{◌≡◌};
     ghost use Rattle.stock_word.specs.declared.view.Stock.{Stock};
-    ghost use Rattle.stock_word.specs.Stock.{word_of, HasWord, pages_of};
+    ghost use Rattle.stock_word.specs.Stock.{word_of, HasWord, pages_of, group_of};
 
     /// The word that stands for this stock in the table.
     pub(crate) fn word(self) -> u64
@@ -45,6 +45,16 @@ impl Stock {
             Stock::HeldBy { group, pages }
         } else {
             Stock::DrainedOf { group }
+        }
+    }
+
+    /// The group of the stock; None for one of no group.
+    pub fn group(self) -> Option<u32>
+        ensures { result ≡ group_of self }
+    {
+        match self {
+            Stock::NoGroup => None,
+            Stock::HeldBy { group, pages: _ } | Stock::DrainedOf { group } => Some(group),
         }
     }
 

@@ -1,14 +1,13 @@
-//! A pair of `get` and `put` on the words of frames, by one thread and by four.
+//! The unit: a pair of `get` and `put` on the words of frames, by one thread and by four.
 ghost use Rattle.std.specs.Prelude.{◌≡◌, ◌<◌, ◌≤◌};
 
+use crate::costs::{PAIRS, TRIES, Unit, each, tell};
 use anyhow::anyhow;
 use frame_word::{Frame, FrameSeat, FrameWords, Get};
 use std::alloc::Global;
 use std::thread;
 use std::thread::Threads;
 use std::time::{Clock, Instant};
-
-const ROUNDS: u64 = 10_000_000;
 
 // Frames so far apart that no two of their words share a line of the cache.
 const APART: u32 = 64;
@@ -20,7 +19,7 @@ fn pairs(words: &FrameWords, seat: &mut FrameSeat, frame: Frame) -> u64
     ensures { seat.new.table ≡ seat.old.table }
 {
     let mut held = 0;
-    for _ in 0..ROUNDS {
+    for _ in 0..PAIRS {
         if words.get(seat, frame) == Get::Held {
             words.put(seat, frame);
             held += 1;
@@ -39,65 +38,57 @@ struct Worker<'a> {
     ghost inside: { frame < words.now.frames },
 }
 
-impl Worker<'_> {
-    fn run(self) -> u64 {
-        let Worker {
-            words,
-            mut seat,
-            frame,
-        } = self;
-        pairs(words, &mut seat, frame)
+impl<'a> Worker<'a> {
+    fn new(words: &'a FrameWords, seat: FrameSeat, frame: Frame) -> Worker<'a>
+        requires { (seat.table ≡ words.now.table) × (frame < words.now.frames) }
+    {
+        Worker { words, seat, frame }
+    }
+
+    fn run(&mut self) -> u64 {
+        pairs(self.words, &mut self.seat, self.frame)
     }
 }
 
-fn run_two<R: Threads + Sync>(rt: &R, one: Worker, other: Worker) -> (u64, u64) {
+fn run_two<R: Threads + Sync>(rt: &R, one: &mut Worker, other: &mut Worker) -> (u64, u64) {
     thread::join(rt, || one.run(), || other.run())
 }
 
-// The table with four frames in use, and a worker on each.
-fn with_four<R: Threads + Print + Clock + Sync>(
-    rt: &R,
-    words: &FrameWords,
-    seats: (FrameSeat, FrameSeat, FrameSeat, FrameSeat),
-    frames: (Frame, Frame, Frame, Frame),
-) -> anyhow::Result<()>
-    requires tables { (seats.0.table ≡ words.now.table) × (seats.1.table ≡ words.now.table) × (seats.2.table ≡ words.now.table) × (seats.3.table ≡ words.now.table) }
-    requires frames { (frames.0 < words.now.frames) × (frames.1 < words.now.frames) × (frames.2 < words.now.frames) × (frames.3 < words.now.frames) }
-{
-    let a = Worker {
-        words,
-        seat: seats.0,
-        frame: frames.0,
-    };
-    let b = Worker {
-        words,
-        seat: seats.1,
-        frame: frames.1,
-    };
-    let c = Worker {
-        words,
-        seat: seats.2,
-        frame: frames.2,
-    };
-    let d = Worker {
-        words,
-        seat: seats.3,
-        frame: frames.3,
-    };
-    let start = Instant::now(rt)?;
-    let (ones, others) = thread::join(rt, || run_two(rt, a, b), || run_two(rt, c, d));
-    let pair = start.elapsed(rt)?.as_nanos() / u128::from(ROUNDS);
-    println!(rt;
-        "four threads: {pair} ns a pair, {} {} {} {} held",
-        ones.0, ones.1, others.0, others.1
-    )?;
-    Ok(())
+// What a pair costs one thread.
+fn time_one<R: Clock>(rt: &R, worker: &mut Worker) -> anyhow::Result<u128> {
+    let mut least = u128::MAX;
+    for _ in 0..TRIES {
+        let start = Instant::now(rt)?;
+        let held = worker.run();
+        least = least.min(each(start.elapsed(rt)?, PAIRS));
+        if held != PAIRS {
+            return Err(anyhow!("a get was refused"));
+        }
+    }
+    Ok(least)
 }
 
-/// Prints the nanoseconds of a pair, by one thread and by each of four.
+// What a pair costs each of four threads, side by side.
+fn time_four<R: Threads + Clock + Sync>(
+    rt: &R,
+    a: &mut Worker,
+    b: &mut Worker,
+    c: &mut Worker,
+    d: &mut Worker,
+) -> anyhow::Result<u128> {
+    let mut least = u128::MAX;
+    for _ in 0..TRIES {
+        let start = Instant::now(rt)?;
+        thread::join(rt, || run_two(rt, a, b), || run_two(rt, c, d));
+        least = least.min(each(start.elapsed(rt)?, PAIRS));
+    }
+    Ok(least)
+}
+
+/// Measures the unit, and prints it.
 pub fn measure<R: Threads + Print + Clock + Alloc<A = Global> + Sync>(
     rt: &R,
-) -> anyhow::Result<()> {
+) -> anyhow::Result<Unit> {
     let (words, mut zone, mut cpus) = FrameWords::new(rt.alloc(), 4 * APART, 3)?;
     let e = words.frame(0).ok_or(anyhow!("no frame"))?;
     let f = words.frame(APART).ok_or(anyhow!("no frame"))?;
@@ -110,9 +101,13 @@ pub fn measure<R: Threads + Print + Clock + Alloc<A = Global> + Sync>(
     let (Some(c), Some(b), Some(a)) = (cpus.pop(), cpus.pop(), cpus.pop()) else {
         return Err(anyhow!("no seat"));
     };
-    let start = Instant::now(rt)?;
-    let held = pairs(&words, &mut zone, e);
-    let pair = start.elapsed(rt)?.as_nanos() / u128::from(ROUNDS);
-    println!(rt; "one thread: {pair} ns a pair, {held} held")?;
-    with_four(rt, &words, (zone, a, b, c), (e, f, g, h))
+    let mut first = Worker::new(&words, zone, e);
+    let mut second = Worker::new(&words, a, f);
+    let mut third = Worker::new(&words, b, g);
+    let mut fourth = Worker::new(&words, c, h);
+    let one = time_one(rt, &mut first)?;
+    let four = time_four(rt, &mut first, &mut second, &mut third, &mut fourth)?;
+    tell(rt, "get and put, one thread", one, one)?;
+    tell(rt, "get and put, four threads", four, four)?;
+    Ok(Unit { one, four })
 }

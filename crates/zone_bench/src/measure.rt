@@ -8,11 +8,10 @@ use zone_blocks::block::Block;
 use zone_blocks::order::Order;
 use zone_buddy::buddy::Buddy;
 
-const FRAMES: u32 = 65_536;
-
-const ROUNDS: u32 = 2_000;
+// Batches that are measured, after the zone was filled by half and stirred.
+const ROUNDS: u32 = 20_000;
 // Calls that are timed together, since a look at the clock may cost more than one.
-const BATCH: u32 = 256;
+const BATCH: u32 = 64;
 
 // Calls of one kind, and how long they took together.
 #[derive(Drop)]
@@ -34,9 +33,9 @@ impl Cost {
         self.time = self.time.saturating_add(time);
     }
 
-    // The average, in nanoseconds.
+    // The average, in picoseconds.
     fn average(&self) -> u128 {
-        self.time.as_nanos() / u128::from(self.calls.max(1))
+        self.time.as_nanos().saturating_mul(1_000) / u128::from(self.calls.max(1))
     }
 }
 
@@ -71,9 +70,8 @@ impl Load {
         Ok(())
     }
 
-    // Gives random blocks of those that are held, each after the test that it may be given, and
-    // makes the same tests before, alone.
-    fn give_batch(&mut self, rt: &HostRuntime) -> io::Result<()> {
+    // Random blocks of those that are held, which are then held no more.
+    fn pick(&mut self, rt: &HostRuntime) -> io::Result<Vec<(u32, Order)>> {
         let mut picked = Vec::new(rt.alloc());
         for _ in 0..BATCH {
             if !self.held.is_empty() {
@@ -81,18 +79,33 @@ impl Load {
                 picked.push(self.held.swap_remove(index))?;
             }
         }
-        let start = Instant::now(rt)?;
-        let mut given = 0_usize;
-        for (at, order) in picked.as_slice() {
+        Ok(picked)
+    }
+
+    // How many of these blocks may be given.
+    fn in_use_of(&self, picked: &[(u32, Order)]) -> usize {
+        let mut count = 0_usize;
+        for (at, order) in picked {
             if self.zone.is_in_use(Block {
                 at: *at,
                 order: *order,
             }) {
-                given = given.saturating_add(1);
+                count = count.saturating_add(1);
             }
         }
-        self.tests.add(given, start.elapsed(rt)?);
+        count
+    }
+
+    // Gives random blocks of those that are held, each after the test that it may be given. The same
+    // tests were made before, alone: once for the processor's cache, and once by the clock.
+    fn give_batch(&mut self, rt: &HostRuntime) -> io::Result<()> {
+        let picked = self.pick(rt)?;
+        let _warm = self.in_use_of(picked.as_slice());
         let start = Instant::now(rt)?;
+        let tested = self.in_use_of(picked.as_slice());
+        self.tests.add(tested, start.elapsed(rt)?);
+        let start = Instant::now(rt)?;
+        let mut given = 0_usize;
         for (at, order) in picked.as_slice() {
             if self.zone.is_in_use(Block {
                 at: *at,
@@ -103,35 +116,56 @@ impl Load {
                     order: *order,
                 });
                 self.in_use = self.in_use.saturating_sub(order.frames());
+                given = given.saturating_add(1);
             }
         }
         self.gives.add(given, start.elapsed(rt)?);
         Ok(())
     }
+
+    // So many batches, which keep the zone about half full.
+    fn run(&mut self, rt: &HostRuntime, half: u32, greatest: Order, rounds: u32) -> io::Result<()> {
+        for _ in 0..rounds {
+            if self.in_use > half {
+                self.give_batch(rt)?;
+            } else {
+                self.take_batch(rt, greatest)?;
+            }
+        }
+        Ok(())
+    }
 }
 
-/// Prints what a call costs, for random orders up to `greatest`, with the zone about half full.
-pub fn print_costs(rt: &HostRuntime, greatest: Order) -> io::Result<()> {
+/// Prints what a call costs in a zone of so many frames, for random orders up to `greatest`, with
+/// the zone about half full: in nanoseconds, and a `take` with a `give` in hundredths of the unit.
+pub fn print_costs(rt: &HostRuntime, frames: u32, greatest: Order, unit: u128) -> io::Result<()> {
     let mut load = Load {
         random: Pcg32::seed_from_u64(2_025),
-        zone: Buddy::new(rt.alloc(), FRAMES)?,
+        zone: Buddy::new(rt.alloc(), frames)?,
         held: Vec::new(rt.alloc()),
         in_use: 0,
         takes: Cost::new(),
         tests: Cost::new(),
         gives: Cost::new(),
     };
-    for _ in 0..ROUNDS {
-        if load.in_use > FRAMES / 2 {
-            load.give_batch(rt)?;
-        } else {
-            load.take_batch(rt, greatest)?;
-        }
-    }
+    load.run(rt, frames / 2, greatest, frames / 8)?;
+    load.takes = Cost::new();
+    load.tests = Cost::new();
+    load.gives = Cost::new();
+    load.run(rt, frames / 2, greatest, ROUNDS)?;
     let take = load.takes.average();
     let test = load.tests.average();
     let give = load.gives.average().saturating_sub(test);
+    let hundredths = take.saturating_add(give).saturating_mul(100) / unit.max(1);
     let held = load.held.len();
-    println!(rt; "orders 0 to {}: {held} blocks held", greatest.exponent())?;
-    println!(rt; "take {take} ns, give {give} ns, is_in_use {test} ns")
+    println!(rt;
+        "{frames} frames, orders 0 to {}: {held} blocks held",
+        greatest.exponent()
+    )?;
+    println!(rt;
+        "take {} ns, give {} ns, is_in_use {} ns, a take and a give {hundredths} hundredths of a unit",
+        take / 1_000,
+        give / 1_000,
+        test / 1_000
+    )
 }

@@ -1,3 +1,4 @@
+pub mod Calls
 pub mod Edits
 pub mod Filling
 pub mod Frames
@@ -6,3 +7,6 @@ pub mod Nested
 pub mod OrderLists
 pub mod Unique
 pub mod Pairing
+pub mod Neighbours
+pub mod Walking
+pub mod Maximals

@@ -1,16 +1,19 @@
--- A block and its buddy, and the bits of the pairs when a block is put in or taken out: for `buddy_in`, `pair_bit`, `insert`, `remove` and `set_from`.
-use Rattle.std.proofs.Common.{◌≡◌, ◌≢◌, ℕ, zero, suc, ◌+◌, ◌-◌, ◌*◌, ◌/◌, ◌^◌, ◌%◌, ◌<◌, ◌≤◌, ◌⊎◌, ◌↔◌, Bool, true, false, not, List, [], ◌∷◌, ◌++◌, replicate, Option, Some, None, is_some, length, get_or, set, eqb, eq-eqb, refl, sym, ap, ◌∙◌, subst, inl, inr, arith, length-set}
+-- A block and its buddy, and the bits of the pairs when a block is put in or taken out: for `buddy_in`, `pair_bit`, `insert` and `remove`.
+use Rattle.std.proofs.Common.{◌≡◌, ◌≢◌, ℕ, zero, suc, ◌+◌, ◌-◌, ◌*◌, ◌/◌, ◌^◌, ◌%◌, ◌<◌, ◌≤◌, ◌⊎◌, ◌↔◌, Bool, true, false, not, List, []}
+use Rattle.std.proofs.Common.{◌∷◌, ◌++◌, replicate, Option, Some, None, is_some, length, get_or, set, eqb, eq-eqb, refl, sym, ap, ◌∙◌}
+use Rattle.std.proofs.Common.{subst, inl, inr, arith, length-set}
 use Rattle.std.specs.List.{Contains}
 use Rattle.std.specs.Option.{MatchOption}
-use Rattle.std.proofs.lemmas.List.{get_or_default, get_or_past, get_or_push, get_or_append_left, get_or-replicate, length-replicate, get_or-set_same, get_or-set_other}
-use Rattle.std.proofs.lemmas.Bool.{cases_lt, cases_eq, cases_Bool, false≢true, ne_eqb, cond-true, cond-false, not-true, not_from_false, false_from_ne_true}
+use Rattle.std.proofs.lemmas.List.{get_or_default, get_or_past, get_or_push, get_or_append_left, get_or-replicate, length-replicate}
+use Rattle.std.proofs.lemmas.List.{get_or-set_same, get_or-set_other}
+use Rattle.std.proofs.lemmas.Bool.{cases_lt, cases_eq, false≢true, ne_eqb, cond-true, cond-false, not-true, not_from_false, false_from_ne_true}
 use Rattle.std.proofs.lemmas.Nat.{div-add-mod', pow_pos, pow-add, mod-pow-add, mod_below, div-mul-add, mod-mul-add, le-div}
 use Rattle.std.proofs.Math.Nat.{mul-mod_left}
 use Rattle.bit_levels.specs.Sets.{IsIn}
 use Rattle.zone_blocks.specs.declared.block.Block.{Block}
 use Rattle.zone_blocks.specs.Block.{IsBlock, HasPairBit, buddy}
-use Rattle.zone_blocks.specs.Areas.{IsMaximalBlock, AreMaximalBlocks, Inserts, Removes, IsOneOfPair}
-use Rattle.zone_blocks.specs.PairBits.{pair_of, bit_of, toggled, AreBitLists, ArePairBits, ChangesOne, IsOneMaximal}
+use Rattle.zone_blocks.specs.Areas.{Inserts, Removes, IsOneOfPair}
+use Rattle.zone_blocks.specs.PairBits.{pair_of, bit_of, toggled, AreBitLists, ArePairBits, ChangesOne}
 use Rattle.zone_blocks.proofs.Filling.{same_block}
 
 -- ---- a block and its buddy
@@ -33,15 +36,41 @@ one_bit zero m l h = absurd (h (omega arith))
 one_bit (suc zero) m l h = refl
 one_bit (suc (suc x)) m l h = absurd (omega arith)
 
+no_bit : (x m : ℕ) → 0 < m → x * m ≡ 0 → x ≡ 0
+no_bit zero m pos e = refl
+no_bit (suc x) m pos e = absurd (omega arith)
+
 -- an aligned block that is no lower half begins 2 ^ order after its pair
 pub upper_at : (b : Block) → b.at % 2 ^ b.order ≡ 0 → b.at % 2 ^ (b.order + 1) ≢ 0 → b.at % 2 ^ (b.order + 1) ≡ 2 ^ b.order
 upper_at b aligned h =
     let one : ℕ = 1 in
     let s : one + b.order ≡ b.order + 1 = omega arith in
     let p : b.at % 2 ^ (b.order + 1) ≡ (b.at / 2 ^ b.order % 2) * 2 ^ b.order + b.at % 2 ^ b.order = rw s at (mod-pow-add b.at 1 b.order) in
-    let bit : b.at / 2 ^ b.order % 2 ≡ 1 = one_bit (b.at / 2 ^ b.order % 2) (2 ^ b.order) (mod_below (b.at / 2 ^ b.order) 2 (omega arith)) (λ z. h (omega (arith, p, aligned, z))) in
+    let bit : b.at / 2 ^ b.order % 2 ≡ 1 = one_bit (b.at / 2 ^ b.order % 2) (2 ^ b.order)
+    (mod_below (b.at / 2 ^ b.order) 2 (omega arith)) (λ z. h (omega (arith, p, aligned, z))) in
     let p' = rw bit at p in
     omega (arith, p', aligned)
+
+-- by the number of the block: an even one is a lower half, and an odd one an upper
+pub half_is : (b : Block) (k : ℕ) → b.at % 2 ^ b.order ≡ 0 → k ≡ b.order
+    → (b.at / 2 ^ k % 2 ≡ 0 → (buddy b).at ≡ b.at + 2 ^ b.order) × ((b.at / 2 ^ k % 2 ≡ 0 → ⊥) → (buddy b).at ≡ b.at - 2 ^ b.order)
+half_is b k aligned same =
+    let one : ℕ = 1 in
+    let s : one + b.order ≡ b.order + 1 = omega arith in
+    let p : b.at % 2 ^ (b.order + 1) ≡ (b.at / 2 ^ b.order % 2) * 2 ^ b.order + b.at % 2 ^ b.order = rw s at (mod-pow-add b.at 1 b.order) in
+    let bit : ℕ → ℕ = λ j. b.at / 2 ^ j % 2 in
+    let moved : bit k ≡ bit b.order = ap bit same in
+    let pos = pow_pos b.order in (
+      λ z.
+          let zero_bit : b.at / 2 ^ b.order % 2 ≡ 0 = sym moved ∙ z in
+          let p' = rw zero_bit at p in
+          buddy_of_lower b (omega (arith, p', aligned)),
+      λ nz.
+          let odd : b.at / 2 ^ b.order % 2 ≡ 1 = one_bit (b.at / 2 ^ b.order % 2) (2 ^ b.order) (mod_below (b.at / 2 ^ b.order) 2 (omega arith))
+          (λ z. nz (moved ∙ no_bit (b.at / 2 ^ b.order % 2) (2 ^ b.order) pos z)) in
+          let p' = rw odd at p in
+          buddy_of_upper b (λ z. absurd (omega (arith, p', aligned, z, pos))),
+    )
 
 pub sides : (b : Block) → b.at % 2 ^ b.order ≡ 0
     → ((b.at ≡ pair_start b) × ((buddy b).at ≡ pair_start b + 2 ^ b.order)) ⊎ ((b.at ≡ pair_start b + 2 ^ b.order) × ((buddy b).at ≡ pair_start b))
@@ -154,7 +183,8 @@ one_swap blocks b aligned (inr p) =
     inl (p.1, subst N back p.0)
 
 -- where the bit told whether one of the two was there, the toggled bit tells it afterwards
-flip_in : (old new : List Block) (c : Block) (bit : Bool) → ChangesOne old new c → (buddy c ≡ c → ⊥) → ((bit ≡ true) ↔ IsOneOfPair old c) → not bit ≡ true → IsOneOfPair new c
+flip_in : (old new : List Block) (c : Block) (bit : Bool) → ChangesOne old new c → (buddy c ≡ c → ⊥)
+    → ((bit ≡ true) ↔ IsOneOfPair old c) → not bit ≡ true → IsOneOfPair new c
 flip_in old new c bit h ne is t =
     let not_one : IsOneOfPair old c → ⊥ = λ o. false≢true (sym (not-true bit t) ∙ is.1 o) in
     elim h.changed [
@@ -171,11 +201,13 @@ not_both old new c h ne (inl p) (inr q) = p.1 (h.only (buddy c) ne q.1)
 not_both old new c h ne (inr p) (inl q) = q.1 (h.keeps (buddy c) ne p.1)
 not_both old new c h ne (inr p) (inr q) = elim h.changed [ inl gone ↦ p.0 gone.0 | inr came ↦ q.0 came.1 ]
 
-flip_out : (old new : List Block) (c : Block) (bit : Bool) → ChangesOne old new c → (buddy c ≡ c → ⊥) → ((bit ≡ true) ↔ IsOneOfPair old c) → IsOneOfPair new c → not bit ≡ true
+flip_out : (old new : List Block) (c : Block) (bit : Bool) → ChangesOne old new c → (buddy c ≡ c → ⊥)
+    → ((bit ≡ true) ↔ IsOneOfPair old c) → IsOneOfPair new c → not bit ≡ true
 flip_out old new c bit h ne is one =
     not_from_false bit (false_from_ne_true bit (λ t. not_both old new c h ne (is.0 t) one))
 
-pub bits_kept : (n : ℕ) (old new : List Block) (c : Block) (pairs : List (List Bool)) → ArePairBits n old pairs → ChangesOne old new c → ¬ HasPairBit n c → ArePairBits n new pairs
+pub bits_kept : (n : ℕ) (old new : List Block) (c : Block) (pairs : List (List Bool)) → ArePairBits n old pairs
+    → ChangesOne old new c → ¬ HasPairBit n c → ArePairBits n new pairs
 bits_kept n old new c pairs h change none =
     let C : Block → Type 0 = λ z. HasPairBit n z in
     record {
@@ -215,7 +247,8 @@ lists_toggled n c pairs h l =
 
 -- the toggled bits read: that of the pair is the other value, and every other is as before
 read_toggled : (n : ℕ) (c : Block) (pairs : List (List Bool)) → AreBitLists n pairs → HasPairBit n c
-    → (bit_of (toggled pairs c) c ≡ not (bit_of pairs c)) × ((b : Block) → ((b.order ≡ c.order) × (pair_of b ≡ pair_of c) → ⊥) → bit_of (toggled pairs c) b ≡ bit_of pairs b)
+    → (bit_of (toggled pairs c) c ≡ not (bit_of pairs c))
+    × ((b : Block) → ((b.order ≡ c.order) × (pair_of b ≡ pair_of c) → ⊥) → bit_of (toggled pairs c) b ≡ bit_of pairs b)
 read_toggled n c pairs h has =
     let count = h.count in
     let l = has.order in
@@ -247,8 +280,10 @@ buddy_bit n blocks c pairs has is =
       (λ o. ap read same ∙ is.1 (subst O back (one_swap blocks (buddy c) has.buddy_too.aligned o))),
     )
 
-elsewhere : (n : ℕ) (old new : List Block) (c b : Block) (pairs : List (List Bool)) → ArePairBits n old pairs → ChangesOne old new c → HasPairBit n c → HasPairBit n b
-    → bit_of (toggled pairs c) b ≡ bit_of pairs b → ((b.order ≡ c.order) × (pair_of b ≡ pair_of c) → ⊥) → (bit_of (toggled pairs c) b ≡ true) ↔ IsOneOfPair new b
+elsewhere : (n : ℕ) (old new : List Block) (c b : Block) (pairs : List (List Bool)) → ArePairBits n old pairs
+    → ChangesOne old new c → HasPairBit n c → HasPairBit n b
+    → bit_of (toggled pairs c) b ≡ bit_of pairs b → ((b.order ≡ c.order) × (pair_of b ≡ pair_of c) → ⊥)
+    → (bit_of (toggled pairs c) b ≡ true) ↔ IsOneOfPair new b
 elsewhere n old new c b pairs h change has hb same apart =
     let order : Block → ℕ = λ z. z.order in
     let pair : Block → ℕ = λ z. pair_of z in
@@ -257,7 +292,8 @@ elsewhere n old new c b pairs h change has hb same apart =
     let is = h.bits b hb in
     ((λ t. one_kept old new c b change nb nx (is.0 (sym same ∙ t))), (λ o. same ∙ is.1 (one_back old new c b change nb nx o)))
 
-pub bits_toggled : (n : ℕ) (old new : List Block) (c : Block) (pairs : List (List Bool)) → ArePairBits n old pairs → ChangesOne old new c → HasPairBit n c → ArePairBits n new (toggled pairs c)
+pub bits_toggled : (n : ℕ) (old new : List Block) (c : Block) (pairs : List (List Bool)) → ArePairBits n old pairs
+    → ChangesOne old new c → HasPairBit n c → ArePairBits n new (toggled pairs c)
 bits_toggled n old new c pairs h change has =
     let r = read_toggled n c pairs h.lists has in
     let ne = buddy_differs c has.block.aligned in
@@ -300,15 +336,18 @@ bits_of_none n pairs lists none = record {
 
 -- ---- as the code finds the bits
 
-pub has_bit_of : (n : ℕ) (b : Block) (r : Option Block) → MatchOption r (¬ HasPairBit n b) (λ o. HasPairBit n b × (o ≡ buddy b)) → is_some r ≡ true → HasPairBit n b
+pub has_bit_of : (n : ℕ) (b : Block) (r : Option Block)
+    → MatchOption r (¬ HasPairBit n b) (λ o. HasPairBit n b × (o ≡ buddy b)) → is_some r ≡ true → HasPairBit n b
 has_bit_of n b None h e = absurd (false≢true e)
 has_bit_of n b (Some o) h e = h.0
 
-pub no_bit_of : (n : ℕ) (b : Block) (r : Option Block) → MatchOption r (¬ HasPairBit n b) (λ o. HasPairBit n b × (o ≡ buddy b)) → is_some r ≡ false → ¬ HasPairBit n b
+pub no_bit_of : (n : ℕ) (b : Block) (r : Option Block)
+    → MatchOption r (¬ HasPairBit n b) (λ o. HasPairBit n b × (o ≡ buddy b)) → is_some r ≡ false → ¬ HasPairBit n b
 no_bit_of n b None h e = h
 no_bit_of n b (Some o) h e = absurd (false≢true (sym e))
 
-pub slot_within : (n : ℕ) (pairs : List (List Bool)) → AreBitLists n pairs → (b : Block) → HasPairBit n b → (k : ℕ) (bits : List Bool) → k ≡ b.order → bits ≡ get_or pairs k bits
+pub slot_within : (n : ℕ) (pairs : List (List Bool)) → AreBitLists n pairs → (b : Block) → HasPairBit n b
+    → (k : ℕ) (bits : List Bool) → k ≡ b.order → bits ≡ get_or pairs k bits
     → b.at / 2 ^ (k + 1) < length bits
 slot_within n pairs h b has k bits e here =
     let count = h.count in
@@ -320,7 +359,8 @@ slot_within n pairs h b has k bits e here =
     let L : ℕ → Type 0 = λ i. b.at / 2 ^ (i + 1) < length bits in
     subst L (sym e) (omega (arith, s, w))
 
-pub toggled_is : (n : ℕ) (pairs : List (List Bool)) → AreBitLists n pairs → (b : Block) → b.order < 10 → (k : ℕ) (bits new : List Bool) → k ≡ b.order → bits ≡ get_or pairs k bits
+pub toggled_is : (n : ℕ) (pairs : List (List Bool)) → AreBitLists n pairs → (b : Block) → b.order < 10
+    → (k : ℕ) (bits new : List Bool) → k ≡ b.order → bits ≡ get_or pairs k bits
     → new ≡ set bits (b.at / 2 ^ (k + 1)) (not (get_or bits (b.at / 2 ^ (k + 1)) false)) → set pairs k new ≡ toggled pairs b
 toggled_is n pairs h b l k bits new e here is =
     let count = h.count in
@@ -345,89 +385,11 @@ removes_one old new b there h = record {
   only = λ c ne q. h.only c q;
 }
 
--- ---- the bits of the maximal free blocks
-
-pub one_of_maximal : (free : List Bool) (blocks : List Block) → AreMaximalBlocks free blocks → (b : Block) → b.at % 2 ^ b.order ≡ 0
-    → IsOneMaximal free b.order (pair_of b) ↔ IsOneOfPair blocks b
-one_of_maximal free blocks h b aligned =
-    elim (sides b aligned) [
-      | inl x ↦
-          let lower : Block = record { at = pair_start b; order = b.order } in
-          let upper : Block = record { at = pair_start b + 2 ^ b.order; order = b.order } in
-          let el = same_block b lower x.0 refl in
-          let eu = same_block (buddy b) upper x.1 refl in (
-            λ o. elim o [
-              | inl p ↦ inl (subst (Contains blocks) (sym el) (h.all lower p.0), λ q. p.1 (subst (IsMaximalBlock free) eu (h.each (buddy b) q)))
-              | inr p ↦ inr ((λ q. p.0 (subst (IsMaximalBlock free) el (h.each b q))), subst (Contains blocks) (sym eu) (h.all upper p.1))
-            ],
-            λ o. elim o [
-              | inl p ↦ inl (subst (IsMaximalBlock free) el (h.each b p.0), λ q. p.1 (subst (Contains blocks) (sym eu) (h.all upper q)))
-              | inr p ↦ inr ((λ q. p.0 (subst (Contains blocks) (sym el) (h.all lower q))), subst (IsMaximalBlock free) eu (h.each (buddy b) p.1))
-            ],
-          )
-      | inr x ↦
-          let lower : Block = record { at = pair_start b; order = b.order } in
-          let upper : Block = record { at = pair_start b + 2 ^ b.order; order = b.order } in
-          let el = same_block (buddy b) lower x.1 refl in
-          let eu = same_block b upper x.0 refl in (
-            λ o. elim o [
-              | inl p ↦ inr ((λ q. p.1 (subst (IsMaximalBlock free) eu (h.each b q))), subst (Contains blocks) (sym el) (h.all lower p.0))
-              | inr p ↦ inl (subst (Contains blocks) (sym eu) (h.all upper p.1), λ q. p.0 (subst (IsMaximalBlock free) el (h.each (buddy b) q)))
-            ],
-            λ o. elim o [
-              | inl p ↦ inr ((λ q. p.1 (subst (Contains blocks) (sym el) (h.all lower q))), subst (IsMaximalBlock free) eu (h.each b p.0))
-              | inr p ↦ inl (subst (IsMaximalBlock free) el (h.each (buddy b) p.1), λ q. p.0 (subst (Contains blocks) (sym eu) (h.all upper q)))
-            ],
-          )
-    ]
-
-pub bits_of_maximal : (n : ℕ) (free : List Bool) (blocks : List Block) (pairs : List (List Bool)) → AreMaximalBlocks free blocks → AreBitLists n pairs
-    → ((k i : ℕ) → k < 10 → i < n / 2 ^ (k + 1) → IsIn (get_or pairs k []) i ↔ IsOneMaximal free k i) → ArePairBits n blocks pairs
-bits_of_maximal n free blocks pairs h lists is = record {
-  lists = lists;
-  bits = λ b has.
-      let r = is b.order (pair_of b) has.order (pair_within n b has) in
-      let o = one_of_maximal free blocks h b has.block.aligned in
-      ((λ t. o.0 (r.0 t)), (λ x. r.1 (o.1 x)));
-}
-
-pub one_maximal : (free : List Bool) (k i at up : ℕ) (lower upper one : Bool) → at ≡ i * 2 ^ (k + 1) → up ≡ at + 2 ^ k
-    → ((lower ≡ true) ↔ IsMaximalBlock free record { at = at; order = k }) → ((upper ≡ true) ↔ IsMaximalBlock free record { at = up; order = k })
-    → ((lower ≡ true) × (one ≡ not upper)) ⊎ ((lower ≡ false) × (one ≡ upper)) → (one ≡ true) ↔ IsOneMaximal free k i
-one_maximal free k i at up lower upper one ea eu hl hu (inl p) =
-    let place : ℕ → Block = λ x. record { at = x; order = k } in
-    let add : ℕ → ℕ = λ x. x + 2 ^ k in
-    let L = ap place ea in
-    let U = ap place (eu ∙ ap add ea) in (
-      λ t. inl (subst (IsMaximalBlock free) L (hl.0 p.0), λ m. false≢true (sym (not-true upper (sym p.1 ∙ t)) ∙ hu.1 (subst (IsMaximalBlock free) (sym U) m))),
-      λ o. elim o [
-        | inl q ↦ p.1 ∙ not_from_false upper (false_from_ne_true upper (λ t. q.1 (subst (IsMaximalBlock free) U (hu.0 t))))
-        | inr q ↦ absurd (q.0 (subst (IsMaximalBlock free) L (hl.0 p.0)))
-      ],
-    )
-one_maximal free k i at up lower upper one ea eu hl hu (inr p) =
-    let place : ℕ → Block = λ x. record { at = x; order = k } in
-    let add : ℕ → ℕ = λ x. x + 2 ^ k in
-    let L = ap place ea in
-    let U = ap place (eu ∙ ap add ea) in (
-      λ t. inr ((λ m. false≢true (sym p.0 ∙ hl.1 (subst (IsMaximalBlock free) (sym L) m))), subst (IsMaximalBlock free) U (hu.0 (sym p.1 ∙ t))),
-      λ o. elim o [
-        | inl q ↦ absurd (false≢true (sym p.0 ∙ hl.1 (subst (IsMaximalBlock free) (sym L) q.0)))
-        | inr q ↦ p.1 ∙ hu.1 (subst (IsMaximalBlock free) (sym U) q.1)
-      ],
-    )
-
--- bits one by one: one more is set
-pub filled_bits : (free : List Bool) (k i : ℕ) (bits : List Bool) (one : Bool) → i < length bits → ((one ≡ true) ↔ IsOneMaximal free k i)
-    → ((m : ℕ) → m < i → IsIn bits m ↔ IsOneMaximal free k m) → (m : ℕ) → m < i + 1 → IsIn (set bits i one) m ↔ IsOneMaximal free k m
-filled_bits free k i bits one within is below m l =
-    elim (cases_eq m i) [
-      | inl e ↦ rw (e, get_or-set_same bits i one false within) is
-      | inr ne ↦ rw (get_or-set_other bits i m one false ne) (below m (omega arith))
-    ]
+-- ---- the bits of no blocks
 
 -- one more list of bits, none of which is 1
-pub pushed_bits : (n e : ℕ) (pairs new : List (List Bool)) (bits : List Bool) → length pairs ≡ e → bits ≡ replicate (n / 2 ^ (e + 1)) false → new ≡ pairs ++ bits ∷ []
+pub pushed_bits : (n e : ℕ) (pairs new : List (List Bool)) (bits : List Bool) → length pairs ≡ e
+    → bits ≡ replicate (n / 2 ^ (e + 1)) false → new ≡ pairs ++ bits ∷ []
     → ((k : ℕ) → k < e → length (get_or pairs k []) ≡ n / 2 ^ (k + 1)) → ((k : ℕ) → k < e + 1 → length (get_or new k []) ≡ n / 2 ^ (k + 1))
 pushed_bits n e pairs new bits count is grown each k l =
     elim (cases_lt k e) [
@@ -451,40 +413,9 @@ pushed_none m e pairs new bits count is grown none k i l t =
           ]
     ]
 
--- ---- one list of bits put in place of another
-
-pub same_list : (n k : ℕ) (pairs : List (List Bool)) (old : List Bool) → AreBitLists n pairs → k < 10 → old ≡ get_or pairs k old → length old ≡ n / 2 ^ (k + 1)
-same_list n k pairs old h l here =
-    let count = h.count in
-    let size : List Bool → ℕ = λ xs. length xs in
-    ap size (here ∙ get_or_default pairs k old [] (omega (arith, count))) ∙ h.each k l
-
-pub bits_put : (n k : ℕ) (pairs : List (List Bool)) (new : List Bool) → AreBitLists n pairs → k < 10 → length new ≡ n / 2 ^ (k + 1) → AreBitLists n (set pairs k new)
-bits_put n k pairs new h l size =
-    let count = h.count in
-    record {
-      count = length-set pairs k new ∙ count;
-      each = λ j m. elim (cases_eq j k) [
-        | inl e ↦ rw (e, get_or-set_same pairs k new [] (omega (arith, count))) size
-        | inr ne ↦ rw (get_or-set_other pairs k j new [] ne) (h.each j m)
-      ];
-    }
-
-pub filled_put : (free : List Bool) (n k : ℕ) (pairs : List (List Bool)) (new : List Bool) → AreBitLists n pairs → k < 10 → length new ≡ n / 2 ^ (k + 1)
-    → ((i : ℕ) → i < length new → IsIn new i ↔ IsOneMaximal free k i)
-    → ((j i : ℕ) → j < k → i < n / 2 ^ (j + 1) → IsIn (get_or pairs j []) i ↔ IsOneMaximal free j i)
-    → (j i : ℕ) → j < k + 1 → i < n / 2 ^ (j + 1) → IsIn (get_or (set pairs k new) j []) i ↔ IsOneMaximal free j i
-filled_put free n k pairs new h l size is below j i m within =
-    let count = h.count in
-    elim (cases_eq j k) [
-      | inl e ↦
-          let w = rw e at within in
-          rw (e, get_or-set_same pairs k new [] (omega (arith, count))) (is i (omega (arith, size, w)))
-      | inr ne ↦ rw (get_or-set_other pairs k j new [] ne) (below j i (omega arith) within)
-    ]
-
 pub pair_read : (n : ℕ) (blocks : List Block) (pairs : List (List Bool)) → ArePairBits n blocks pairs → (b : Block) (r : Option Bool)
-    → MatchOption r (¬ HasPairBit n b) (λ bit. HasPairBit n b × (bit ≡ bit_of pairs b)) → MatchOption r (¬ HasPairBit n b) (λ bit. HasPairBit n b × ((bit ≡ true) ↔ IsOneOfPair blocks b))
+    → MatchOption r (¬ HasPairBit n b) (λ bit. HasPairBit n b × (bit ≡ bit_of pairs b))
+    → MatchOption r (¬ HasPairBit n b) (λ bit. HasPairBit n b × ((bit ≡ true) ↔ IsOneOfPair blocks b))
 pair_read n blocks pairs h b None none = none
 pair_read n blocks pairs h b (Some bit) is =
     let r = h.bits b is.0 in

@@ -1,20 +1,22 @@
 -- The laws of the maximal free blocks, each cited by the function that has it as its contract.
-use Rattle.std.proofs.Common.{◌≡◌, ◌≢◌, ℕ, zero, suc, ◌+◌, ◌-◌, ◌*◌, ◌/◌, ◌^◌, ◌%◌, ◌<◌, ◌≤◌, ◌⊎◌, Bool, true, false, List, [], ◌∷◌, length, get_or, refl, sym, ap, ◌∙◌, subst, inl, inr, arith}
+use Rattle.std.proofs.Common.{◌≡◌, ℕ, zero, suc, ◌+◌, ◌-◌, ◌^◌, ◌%◌, ◌<◌, ◌≤◌, ◌⊎◌, Bool, true, false, List, [], ◌∷◌, length, get_or, refl}
+use Rattle.std.proofs.Common.{sym, ap, ◌∙◌, subst, inl, inr, arith}
 use Rattle.std.specs.List.{AllPairs, Contains}
 use Rattle.std.proofs.lemmas.List.{get_or_past}
 use Rattle.std.proofs.lemmas.Bool.{cases_lt, cases_eq, cases_Bool, false≢true}
 use Rattle.std.proofs.lemmas.Nat.{pow_pos, mod_below}
 use Rattle.std.proofs.Math.Nat.{mod-le, mod-one}
 use Rattle.zone_blocks.specs.declared.block.Block.{Block}
-use Rattle.zone_blocks.specs.Block.{IsBlock, Covers, enclosing}
-use Rattle.zone_blocks.specs.Areas.{IsFree, IsFreeBlock, IsMaximalBlock, Precedes, AreMaximalBlocks}
-use Rattle.zone_blocks.specs.Laws.{IsInOneBlock, EveryFreeFrameIsInOneBlock, EveryFrameInABlockIsFree, MaximalBlocksAreUnique}
+use Rattle.zone_blocks.specs.Block.{Covers, enclosing}
+use Rattle.zone_blocks.specs.Areas.{IsFree, IsFreeBlock, IsMaximalBlock, Precedes}
+use Rattle.zone_blocks.specs.Laws.{EveryFreeFrameIsInOneBlock, EveryFrameInABlockIsFree, MaximalBlocksAreUnique}
 use Rattle.zone_blocks.proofs.Filling.{same_block}
 use Rattle.zone_blocks.proofs.Nested.{start_is, start_aligned, nested_low, nested_high, same_maximal}
 
 -- ---- a free frame lies in a maximal free block
 
-pub decide_range : (free : List Bool) (a n : ℕ) → ((f : ℕ) → a ≤ f → f < a + n → get_or free f false ≡ true) ⊎ (((f : ℕ) → a ≤ f → f < a + n → get_or free f false ≡ true) → ⊥)
+pub decide_range : (free : List Bool) (a n : ℕ)
+    → ((f : ℕ) → a ≤ f → f < a + n → get_or free f false ≡ true) ⊎ (((f : ℕ) → a ≤ f → f < a + n → get_or free f false ≡ true) → ⊥)
 decide_range free a zero = inl (λ f low high. absurd (omega arith))
 decide_range free a (suc n) =
     elim (decide_range free a n) [
@@ -153,11 +155,11 @@ same_from_members {X} R strict asym (x ∷ xs) (y ∷ ys) hx hy to from =
     let back : List X → List X = λ zs. y ∷ zs in
     ap front heads ∙ ap back tails
 
-precedes_strict : (b : Block) → Precedes b b → ⊥
+pub precedes_strict : (b : Block) → Precedes b b → ⊥
 precedes_strict b (inl h) = absurd (omega arith)
 precedes_strict b (inr h) = absurd (omega (arith, h.1))
 
-precedes_one_way : (a b : Block) → Precedes a b → Precedes b a → ⊥
+pub precedes_one_way : (a b : Block) → Precedes a b → Precedes b a → ⊥
 precedes_one_way a b (inl p) (inl q) = absurd (omega arith)
 precedes_one_way a b (inl p) (inr q) = absurd (omega (arith, q.0))
 precedes_one_way a b (inr p) (inl q) = absurd (omega (arith, p.0))

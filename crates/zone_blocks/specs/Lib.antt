@@ -1,5 +1,6 @@
 pub mod Areas
 pub mod Block
 pub mod Laws
+pub mod Links
 pub mod OrderLists
 pub mod PairBits

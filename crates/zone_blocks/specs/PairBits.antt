@@ -1,10 +1,10 @@
 -- What stands behind the free areas: for each order below 10 one bit for each pair of buddies, as in Gorman, chapter 6.
-use Rattle.std.specs.Prelude.{◌≡◌, ◌≢◌, ℕ, ◌+◌, ◌*◌, ◌⊎◌, ◌/◌, ◌^◌, ◌<◌, ◌↔◌, Bool, false, not, List, [], length, slice_index_or, slice_set}
+use Rattle.std.specs.Prelude.{◌≡◌, ◌≢◌, ℕ, ◌+◌, ◌⊎◌, ◌/◌, ◌^◌, ◌<◌, ◌↔◌, Bool, false, not, List, [], length, slice_index_or, slice_set}
 use Rattle.std.specs.List.{Contains}
 use Rattle.bit_levels.specs.Sets.{IsIn}
 use Rattle.zone_blocks.specs.declared.block.Block.{Block}
 use Rattle.zone_blocks.specs.Block.{HasPairBit}
-use Rattle.zone_blocks.specs.Areas.{IsMaximalBlock, IsOneOfPair}
+use Rattle.zone_blocks.specs.Areas.{IsOneOfPair}
 
 -- the number of the pair of a block and its buddy
 abbrev pub pair_of : Block → ℕ
@@ -33,10 +33,3 @@ pub record ChangesOne (old new : List Block) (c : Block) : Type 0 where
   pub changed : (Contains old c × ¬ Contains new c) ⊎ ((¬ Contains old c) × Contains new c)
   pub keeps : (b : Block) → b ≢ c → Contains old b → Contains new b
   pub only : (b : Block) → b ≢ c → Contains new b → Contains old b
-
--- exactly one of the two blocks of pair i of this order is a maximal free block
-abbrev pub IsOneMaximal : List Bool → ℕ → ℕ → Type 0
-IsOneMaximal free order i =
-    let lower : Block = record { at = i * 2 ^ (order + 1); order = order } in
-    let upper : Block = record { at = i * 2 ^ (order + 1) + 2 ^ order; order = order } in
-    (IsMaximalBlock free lower × ¬ IsMaximalBlock free upper) ⊎ ((¬ IsMaximalBlock free lower) × IsMaximalBlock free upper)

@@ -1,31 +1,35 @@
-//! The free areas of a zone: for each order its free blocks, sorted by address.
+//! The free areas of a zone: for each order its free blocks, linked by address.
 
-ghost use Rattle.std.specs.Prelude.{◌≡◌, ◌≤◌, ◌<◌, ◌↔◌, IsTrue, IfOk, MatchOption, ℕ, length, [], slice_index_or};
-ghost use Rattle.std.specs.List.{AllPairs, Contains};
+ghost use Rattle.std.specs.Prelude.{◌≡◌, ◌≤◌, ◌<◌, ◌↔◌, ◌+◌, IsTrue, IfOk, MatchOption, ℕ, length, []};
+ghost use Rattle.std.specs.List.{Contains};
 ghost use Rattle.zone_blocks.specs.Block.{IsBlock, HasPairBit};
 ghost use Rattle.zone_blocks.specs.Areas.{AreMaximalBlocks, AreBlocksApart, HasNoneOf, HasNoneFrom};
 ghost use Rattle.zone_blocks.specs.Areas.{IsFirstOf, IsSmallestFrom, Inserts, Removes, Overlaps, IsOneOfPair};
-ghost use Rattle.zone_blocks.specs.OrderLists.{IsLower, IsPlaceOf, MeetsRange};
+ghost use Rattle.zone_blocks.specs.OrderLists.{AreMaximalUpTo, HasNoneAfter, IsNextAfter};
 
 use crate::block::Block;
-use crate::maximal::fill_with_maximal;
+use crate::links::Links;
+use crate::maximal::is_maximal_block;
 use crate::order::Order;
-use crate::pairs::{fill_pairs, new_pairs, read_pair, toggle_pair};
+use crate::pairs::{new_pairs, read_pair, toggle_pair};
+use crate::rings::{block_at, first_of, meets_range, new_bits, new_rings, node_below};
 use crate::walk::Walk;
 use bit_levels::bits::Bits;
+use bit_levels::levels::BitLevels;
 use std::alloc::{AllocError, Global};
 use std::marker::Model;
-
-// How many orders there are, 0 to 10.
-const ORDERS: u32 = Order::GREATEST + 1;
 
 /// The free areas of a zone: blocks of the zone, no two of which share a frame, seen as `frames`,
 /// how many frames the zone has, and `blocks` in walk order (by order, then by address).
 #[derive(Drop)]
 pub struct FreeAreas {
     frames: u32,
-    // One list for each order, by address; there is room for all blocks that the zone has.
-    lists: Vec<Vec<Block>>,
+    // For each order which of its blocks are there, by number, so that the one before a block is
+    // found without a walk.
+    bits: Vec<BitLevels>,
+    // For each order the list of its blocks by address: a ring through the record of the first
+    // frame of each, and through the head of the order.
+    links: Links,
     // For each order below 10 one bit for each pair of buddies: 1 where exactly one of them is there.
     pairs: Vec<Bits>,
 }
@@ -38,9 +42,9 @@ impl Model for FreeAreas {
     ghost use Rattle.zone_blocks.specs.OrderLists.{blocks_of, AreOrderLists};
     ghost use Rattle.zone_blocks.specs.PairBits.{ArePairBits};
 
-    ghost view = { λ a. record { frames = a.frames; blocks = blocks_of a.lists.items } };
+    ghost view = { λ a. record { frames = a.frames; blocks = blocks_of a.frames a.bits.items } };
 
-    ghost invariant = { λ a. AreOrderLists a.frames a.lists.items × ArePairBits a.frames (blocks_of a.lists.items) a.pairs.items };
+    ghost invariant = { λ a. AreOrderLists a.frames a.bits.items a.links × ArePairBits a.frames (blocks_of a.frames a.bits.items) a.pairs.items };
 }
 
 impl FreeAreas {
@@ -50,16 +54,13 @@ impl FreeAreas {
         ensures frames { IfOk result (λ areas. areas.frames ≡ frames) }
         ensures blocks { IfOk result (λ areas. areas.blocks ≡ []) }
     {
-        let mut lists = Vec::with_capacity(alloc, ORDERS as usize)?;
-        for exponent in 0..ORDERS {
-            let room = frames >> exponent;
-            let list = Vec::with_capacity(alloc, room as usize)?;
-            lists.push_reserved(list);
-        }
+        let bits = new_bits(alloc, frames)?;
+        let links = new_rings(alloc, frames)?;
         let pairs = new_pairs(alloc, frames)?;
         Ok(FreeAreas {
             frames,
-            lists,
+            bits,
+            links,
             pairs,
         })
     }
@@ -70,15 +71,37 @@ impl FreeAreas {
         ensures areas { AreMaximalBlocks free.now self.new.blocks }
         ensures frames { self.new.frames ≡ self.old.frames }
     {
-        for exponent in 0..ORDERS {
+        self.clear();
+        for exponent in 0..Order::COUNT {
             let order = Order::of(exponent).unwrap();
-            let list = &mut self.lists[exponent as usize];
-            fill_with_maximal(list, free, order);
+            self.insert_maximal(free, order);
         }
-        for exponent in 0..Order::GREATEST {
-            let order = Order::of(exponent).unwrap();
-            let bits = &mut self.pairs[exponent as usize];
-            fill_pairs(bits, free, order);
+    }
+
+    // Takes all blocks out.
+    fn clear(&mut self)
+        ensures blocks { self.new.blocks ≡ [] }
+        ensures frames { self.new.frames ≡ self.old.frames }
+    {
+        while let Some(block) = self.first_from(0) {
+            self.remove(block);
+        }
+    }
+
+    // Puts the maximal free blocks of one order in, where those of the lower orders are there.
+    fn insert_maximal(&mut self, free: &[bool], order: Order)
+        requires frames { length free.now ≡ self.old.frames }
+        requires lower { AreMaximalUpTo free.now order 0 self.old.blocks }
+        ensures filled { AreMaximalUpTo free.now (order + 1) 0 self.new.blocks }
+        ensures frames { self.new.frames ≡ self.old.frames }
+    {
+        let size = order.frames();
+        let count = self.frames() / size;
+        for index in 0..count {
+            let at = index * size;
+            if is_maximal_block(free, Block { at, order }) {
+                self.insert(Block { at, order });
+            }
         }
     }
 
@@ -94,16 +117,16 @@ impl FreeAreas {
         ensures walk { result ≡ self.now.blocks }
         ensures apart { AreBlocksApart self.now.frames self.now.blocks }
     {
-        Walk::over(self.lists.as_slice())
+        Walk::over(self)
     }
 
     /// Whether exactly this block is there.
     pub fn contains(&self, block: Block) -> bool
         ensures { IsTrue result ↔ Contains self.now.blocks block }
     {
-        let list = &self.lists[block.order.exponent() as usize];
-        let place = place_of(list.as_slice(), block.at);
-        place < list.len() && list[place].at == block.at
+        let exponent = block.order.exponent();
+        let bits = &self.bits[exponent as usize];
+        block.is_block_of(self.frames) && bits.contains((block.at >> exponent) as usize)
     }
 
     /// Whether a block that is there shares a frame with this one.
@@ -111,10 +134,10 @@ impl FreeAreas {
         ensures { IsTrue result ↔ Overlaps self.now.blocks block }
     {
         let end = block.at as usize + block.order.frames() as usize;
-        for exponent in 0..ORDERS {
+        for exponent in 0..Order::COUNT {
             let order = Order::of(exponent).unwrap();
-            let list = &self.lists[exponent as usize];
-            if overlaps_list(list.as_slice(), order, block.at, end) {
+            let bits = &self.bits[exponent as usize];
+            if meets_range(bits, order, block.at, end) {
                 return true;
             }
         }
@@ -125,8 +148,7 @@ impl FreeAreas {
     pub fn first(&self, order: Order) -> Option<Block>
         ensures { MatchOption result (HasNoneOf self.now.blocks order) (IsFirstOf self.now.blocks order) }
     {
-        let list = &self.lists[order.exponent() as usize];
-        list.first().copied()
+        first_of(&self.links, self.frames, order)
     }
 
     /// Of the blocks of the least order from this one on that has any, the one with the least
@@ -134,13 +156,37 @@ impl FreeAreas {
     pub fn smallest_from(&self, order: Order) -> Option<Block>
         ensures { MatchOption result (HasNoneFrom self.now.blocks order) (IsSmallestFrom self.now.blocks order) }
     {
-        for exponent in order.exponent()..ORDERS {
-            let list = &self.lists[exponent as usize];
-            if let Some(block) = list.first().copied() {
+        self.first_from(order.exponent())
+    }
+
+    // The same for an exponent, from which on there may be no order.
+    pub(crate) fn first_from(&self, exponent: u32) -> Option<Block>
+        ensures apart { AreBlocksApart self.now.frames self.now.blocks }
+        ensures smallest { MatchOption result (HasNoneFrom self.now.blocks exponent) (IsSmallestFrom self.now.blocks exponent) }
+    {
+        for each in exponent..Order::COUNT {
+            let order = Order::of(each).unwrap();
+            if let Some(block) = first_of(&self.links, self.frames, order) {
                 return Some(block);
             }
         }
         None
+    }
+
+    // The block after one that is there, by order and then by address. None exactly where it is the
+    // last.
+    pub(crate) fn after(&self, block: &Block) -> Option<Block>
+        requires { Contains self.now.blocks block.now }
+        ensures apart { AreBlocksApart self.now.frames self.now.blocks }
+        ensures next { MatchOption result (HasNoneAfter self.now.blocks block.now) (IsNextAfter self.now.blocks block.now) }
+    {
+        let order = block.order;
+        let node = self.links.next(block.at as usize);
+        let next = block_at(self.frames, order, node);
+        if next.is_some() {
+            return next;
+        }
+        self.first_from(order.exponent() + 1)
     }
 
     /// Puts a block of the zone in, which shares no frame with one that is there.
@@ -151,10 +197,15 @@ impl FreeAreas {
         ensures frames { self.new.frames ≡ self.old.frames }
     {
         toggle_pair(&mut self.pairs, self.frames, &block);
-        let at = block.at;
-        let list = &mut self.lists[block.order.exponent() as usize];
-        let place = place_of(list.as_slice(), at);
-        list.insert(place, block).unwrap();
+        let exponent = block.order.exponent();
+        let number = (block.at >> exponent) as usize;
+        let bits = &mut self.bits[exponent as usize];
+        let before = node_below(bits, self.frames, block.order, number);
+        bits.set(number, true);
+        let after = self.links.next(before);
+        let node = block.at as usize;
+        self.links.join(before, node);
+        self.links.join(node, after);
     }
 
     /// Takes a block that is there out.
@@ -164,9 +215,12 @@ impl FreeAreas {
         ensures frames { self.new.frames ≡ self.old.frames }
     {
         toggle_pair(&mut self.pairs, self.frames, &block);
-        let list = &mut self.lists[block.order.exponent() as usize];
-        let place = place_of(list.as_slice(), block.at);
-        let _ = list.remove(place);
+        let exponent = block.order.exponent();
+        let number = (block.at >> exponent) as usize;
+        self.bits[exponent as usize].set(number, false);
+        let before = self.links.prev(block.at as usize);
+        let after = self.links.next(block.at as usize);
+        self.links.join(before, after);
     }
 
     /// Whether exactly one of the block and its buddy is there, as the bit of the pair tells it
@@ -178,27 +232,4 @@ impl FreeAreas {
     {
         read_pair(&self.pairs, self.frames, &block)
     }
-}
-
-/// The place in a list by address at which a block of this address stands, or would stand.
-fn place_of(list: &[Block], at: u32) -> usize
-    requires { AllPairs IsLower list.now }
-    ensures { IsPlaceOf list.now at result }
-{
-    list.partition_point(|block| block.at < at)
-}
-
-/// Whether a block of a list by address, all of one order, shares a frame with those from `at`
-/// to before `end`.
-fn overlaps_list(list: &[Block], order: Order, at: u32, end: usize) -> bool
-    requires sorted { AllPairs IsLower list.now }
-    requires some { at < end }
-    ensures { IsTrue result ↔ MeetsRange list.now order at end }
-{
-    let size = order.frames() as usize;
-    let place = place_of(list, at);
-    if place < list.len() && (list[place].at as usize) < end {
-        return true;
-    }
-    place > 0 && (at as usize) < list[place - 1].at as usize + size
 }

@@ -22,7 +22,8 @@ impl Block {
         ensures { IsTrue result ↔ IsBlock frames self.now }
     {
         let size = self.order.frames();
-        self.at % size == 0 && size <= frames && self.at <= frames - size
+        let number = self.at >> self.order.exponent();
+        number * size == self.at && size <= frames && self.at <= frames - size
     }
 
     /// The buddy, with which it may be merged (Knuth). None exactly where the order is 10, or one
@@ -31,12 +32,13 @@ impl Block {
         ensures { MatchOption result (¬ HasPairBit frames self.now) (λ other. HasPairBit frames self.now × (other ≡ buddy self.now)) }
     {
         let order = self.order;
-        let next = Order::of(order.exponent() + 1)?;
+        let _next = Order::of(order.exponent() + 1)?;
         if !self.is_block_of(frames) {
             return None;
         }
         let size = order.frames();
-        let at = if self.at % next.frames() == 0 {
+        let number = self.at >> order.exponent();
+        let at = if number % 2 == 0 {
             self.at + size
         } else {
             self.at - size

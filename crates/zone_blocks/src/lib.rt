@@ -6,9 +6,11 @@
 pub mod areas;
 pub mod block;
 pub mod laws;
+mod links;
 mod maximal;
 pub mod order;
 mod pairs;
+mod rings;
 #[cfg(test)]
 mod tests;
 pub mod walk;

@@ -1,13 +1,11 @@
 //! The bits of the pairs of buddies.
 
 ghost use Rattle.std.specs.Prelude.{◌≡◌, ◌<◌, ◌+◌, ◌/◌, ◌^◌, ◌↔◌, ℕ, List, [], IfOk, MatchOption, length, slice_index_or};
-ghost use Rattle.bit_levels.specs.Sets.{IsIn};
 ghost use Rattle.zone_blocks.specs.declared.block.Block.{Block};
 ghost use Rattle.zone_blocks.specs.Block.{HasPairBit};
-ghost use Rattle.zone_blocks.specs.PairBits.{AreBitLists, ArePairBits, ChangesOne, IsOneMaximal, bit_of};
+ghost use Rattle.zone_blocks.specs.PairBits.{AreBitLists, ArePairBits, ChangesOne, bit_of};
 
 use crate::block::Block;
-use crate::maximal::is_maximal_block;
 use crate::order::Order;
 use bit_levels::bits::Bits;
 use std::alloc::{AllocError, Global};
@@ -27,7 +25,8 @@ pub fn new_pairs(alloc: Global, frames: u32) -> Result<Vec<Bits>, AllocError>
 /// Toggles the bit of a block's pair, if it has one.
 pub fn toggle_pair(pairs: &mut Vec<Bits>, frames: u32, block: &Block)
     requires { AreBitLists frames pairs.old.items }
-    ensures { (old new : List Block) → ArePairBits frames old pairs.old.items → ChangesOne old new block.now → ArePairBits frames new pairs.new.items }
+    ensures lists { AreBitLists frames pairs.new.items }
+    ensures bits { (old new : List Block) → ArePairBits frames old pairs.old.items → ChangesOne old new block.now → ArePairBits frames new pairs.new.items }
 {
     if block.buddy_in(frames).is_some() {
         let exponent = block.order.exponent();
@@ -45,31 +44,4 @@ pub fn read_pair(pairs: &Vec<Bits>, frames: u32, block: &Block) -> Option<bool>
     let exponent = block.order.exponent();
     let bits = &pairs[exponent as usize];
     Some(bits.contains((block.at >> (exponent + 1)) as usize))
-}
-
-/// Sets the bits of one order to those of the maximal free blocks.
-pub fn fill_pairs(bits: &mut Bits, free: &[bool], order: Order)
-    requires small { length free.now < 2 ^ 32 }
-    requires pairs { length bits.old ≡ length free.now / 2 ^ (order + 1) }
-    ensures pairs { length bits.new ≡ length bits.old }
-    ensures bits { (i : ℕ) → i < length bits.new → IsIn bits.new i ↔ IsOneMaximal free.now order i }
-{
-    let size = order.frames();
-    let count = free.len() as u32 / (size * 2);
-    for index in 0..count {
-        let at = index * (size * 2);
-        let upper = is_maximal_block(
-            free,
-            Block {
-                at: at + size,
-                order,
-            },
-        );
-        let one = if is_maximal_block(free, Block { at, order }) {
-            !upper
-        } else {
-            upper
-        };
-        bits.set(index as usize, one);
-    }
 }

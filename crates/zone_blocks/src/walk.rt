@@ -3,40 +3,42 @@
 ghost use Rattle.std.specs.Iterator.{YieldsFirst, item_count};
 ghost use Rattle.std.specs.Prelude.{List};
 
+use crate::areas::FreeAreas;
 use crate::block::Block;
 use std::marker::Model;
 
 /// The blocks of free areas that are left of a walk: by order, then by address.
 #[derive(Drop)]
 pub struct Walk<'a> {
-    // What is left of the list that the walk is in.
-    blocks: &'a [Block],
-    // The lists after it.
-    later: &'a [Vec<Block>],
+    areas: &'a FreeAreas,
+    next: Option<Block>,
 }
 
 impl<'a> Model for Walk<'a> {
-    ghost use Rattle.std.specs.Prelude.{List, ◌++◌};
+    ghost use Rattle.std.specs.Prelude.{List, ◌≡◌, Some};
+    ghost use Rattle.std.specs.List.{Contains};
     ghost use Rattle.zone_blocks.specs.declared.block.Block.{Block};
+    ghost use Rattle.zone_blocks.specs.OrderLists.{blocks_from};
 
     ghost Value = { List Block };
 
-    ghost use Rattle.zone_blocks.specs.OrderLists.{blocks_of};
+    ghost view = { λ w. blocks_from w.areas.now.blocks w.next };
 
-    ghost view = { λ w. w.blocks.now ++ blocks_of w.later.now };
+    ghost invariant = { λ w. (b : Block) → w.next ≡ Some b → Contains w.areas.now.blocks b };
 }
 
 impl<'a> Walk<'a> {
     ghost use Rattle.std.specs.Prelude.{◌≡◌};
-    ghost use Rattle.zone_blocks.specs.OrderLists.{blocks_of};
+    ghost use Rattle.zone_blocks.specs.Areas.{AreBlocksApart};
 
-    /// A walk over these lists.
-    pub(crate) fn over(lists: &'a [Vec<Block>]) -> Walk<'a>
-        ensures { result ≡ blocks_of lists.now }
+    /// A walk over all blocks of these areas.
+    pub(crate) fn over(areas: &'a FreeAreas) -> Walk<'a>
+        ensures walk { result ≡ areas.now.blocks }
+        ensures apart { AreBlocksApart areas.now.frames areas.now.blocks }
     {
         Walk {
-            blocks: &[],
-            later: lists,
+            areas,
+            next: areas.first_from(0),
         }
     }
 }
@@ -49,13 +51,8 @@ impl Iterator for Walk<'_> {
     ghost remaining = { item_count (λ blocks. blocks) };
 
     fn next(&mut self) -> Option<Block> {
-        while self.blocks.is_empty() {
-            let (list, later) = self.later.split_first()?;
-            self.blocks = list.as_slice();
-            self.later = later;
-        }
-        let (block, blocks) = self.blocks.split_first()?;
-        self.blocks = blocks;
-        Some(*block)
+        let block = self.next?;
+        self.next = self.areas.after(&block);
+        Some(block)
     }
 }

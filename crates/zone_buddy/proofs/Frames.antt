@@ -67,7 +67,8 @@ takes_frames old new c kept there removes same =
       );
     }
 
-pub kept_less : (old new : FreeBlocks) (c : Block) → AreKept old → Contains old.blocks c → Removes old.blocks c new.blocks → new.frames ≡ old.frames → AreKept new
+pub kept_less : (old new : FreeBlocks) (c : Block) → AreKept old → Contains old.blocks c
+    → Removes old.blocks c new.blocks → new.frames ≡ old.frames → AreKept new
 kept_less old new c kept there removes same = record {
   maximal = removed_maximal (set_of old) (set_of new) old.blocks new.blocks c kept.maximal there removes
       (takes_frames old new c kept.maximal there removes same);

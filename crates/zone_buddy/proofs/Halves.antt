@@ -145,7 +145,8 @@ upper_placed n b block h =
     let at = cond-false (eqb (b.at % 2 ^ (b.order + 1)) 0) (b.at + 2 ^ b.order) (b.at - 2 ^ b.order) test in
     let p = parity b.at b.order in
     let aligned = block.aligned in
-    let bit : b.at / 2 ^ b.order % 2 ≡ 1 = odd_from (b.at / 2 ^ b.order % 2) (2 ^ b.order) (mod_below (b.at / 2 ^ b.order) 2 (omega arith)) (λ z. h (omega (arith, p, aligned, z))) in
+    let bit : b.at / 2 ^ b.order % 2 ≡ 1 = odd_from (b.at / 2 ^ b.order % 2) (2 ^ b.order)
+    (mod_below (b.at / 2 ^ b.order) 2 (omega arith)) (λ z. h (omega (arith, p, aligned, z))) in
     let p' = rw bit at p in
     let le = mod-le b.at (2 ^ (b.order + 1)) in
     record {

@@ -188,7 +188,8 @@ alone old new m x hx h none given same g =
       maximal = λ k. h.in_use m.at (covers_start m) (k.all_free m.at (buddy_encloses m x hx));
     })
 
-pub last_kept : (old new : FreeBlocks) (m : Block) → Halving old m.at m.order → (m.order ≡ 10) ⊎ (¬ Contains old.blocks (buddy m)) → Inserts old.blocks m new.blocks
+pub last_kept : (old new : FreeBlocks) (m : Block) → Halving old m.at m.order
+    → (m.order ≡ 10) ⊎ (¬ Contains old.blocks (buddy m)) → Inserts old.blocks m new.blocks
     → new.frames ≡ old.frames → AreKept new
 last_kept old new m h none inserts same =
     let given = gives_frames old new m inserts h.block h.in_use same in
@@ -247,7 +248,8 @@ pub bit_is_one : (a : FreeBlocks) (m : Block) → ¬ Contains a.blocks m → IsO
 bit_is_one a m alone (inl p) = absurd (alone p.0)
 bit_is_one a m alone (inr p) = p.1
 
-pub buddy_taken : (old new : FreeBlocks) (m other : Block) (next low : ℕ) → IsBlock old.frames m → other ≡ buddy m → next ≡ m.order + 1 → next ≤ 10 → low ≡ min m.at other.at
+pub buddy_taken : (old new : FreeBlocks) (m other : Block) (next low : ℕ) → IsBlock old.frames m → other ≡ buddy m
+    → next ≡ m.order + 1 → next ≤ 10 → low ≡ min m.at other.at
     → Contains old.blocks (buddy m) → Removes old.blocks other new.blocks → new.frames ≡ old.frames → TakesBuddy old m new (block_at low next)
 buddy_taken old new m other next low block is en below el there removes same =
     let r = has_buddy old.frames m block in
@@ -271,7 +273,8 @@ buddy_taken old new m other next low block is en below el there removes same =
 pub halving_same : (old mid : FreeBlocks) (m : Block) → HasNoBuddy old m mid → Halving old m.at m.order → Halving mid m.at m.order
 halving_same old mid m none h = let P : FreeBlocks → Type 0 = λ a. Halving a m.at m.order in subst P (sym none.same) h
 
-pub union_same : (a : List Bool) (b : Block) (old mid : FreeBlocks) (m : Block) → HasNoBuddy old m mid → SameUnion a b (set_of old) m → SameUnion a b (set_of mid) m
+pub union_same : (a : List Bool) (b : Block) (old mid : FreeBlocks) (m : Block) → HasNoBuddy old m mid
+    → SameUnion a b (set_of old) m → SameUnion a b (set_of mid) m
 union_same a b old mid m none u = let P : FreeBlocks → Type 0 = λ x. SameUnion a b (set_of x) m in subst P (sym none.same) u
 
 pub none_same : (old mid : FreeBlocks) (m : Block) → HasNoBuddy old m mid → (m.order ≡ 10) ⊎ (¬ Contains mid.blocks (buddy m))

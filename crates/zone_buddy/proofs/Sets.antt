@@ -35,7 +35,8 @@ free_of_more before after b c h is =
       all_free = λ f q. subset before after b h f (is.all_free f q);
     }
 
-free_of_less : (before after : List Bool) (b c : Block) → TakesFrames before b after → IsFreeBlock before c → ((f : ℕ) → Covers c f → Covers b f → ⊥) → IsFreeBlock after c
+free_of_less : (before after : List Bool) (b c : Block) → TakesFrames before b after → IsFreeBlock before c
+    → ((f : ℕ) → Covers c f → Covers b f → ⊥) → IsFreeBlock after c
 free_of_less before after b c h is apart =
     let block = is.block in
     record {

@@ -121,7 +121,46 @@ fn take_or_give(
     Ok(())
 }
 
-// So many calls on a zone of so many frames, each compared with the areas of the frames that are free.
+// Which blocks of the next order are free, where `free` tells of those of one order.
+fn joined(alloc: Global, free: &[bool]) -> Result<Vec<bool>, AllocError> {
+    let mut larger = Vec::new(alloc);
+    for pair in free.chunks_exact(2) {
+        larger.push(pair.iter().all(|is_free| *is_free))?;
+    }
+    Ok(larger)
+}
+
+// The maximal free blocks of a set of free frames, as pairs of order and address, by the definition
+// alone: a free block that lies in no free block of the next order.
+fn maximal_of(alloc: Global, frames: &[bool]) -> Result<Vec<(u32, u32)>, AllocError> {
+    let mut pairs = Vec::new(alloc);
+    let mut free = Vec::new(alloc);
+    for is_free in frames {
+        free.push(*is_free)?;
+    }
+    let mut size = 1_u32;
+    for exponent in 0..11 {
+        let larger = if exponent < 10 {
+            joined(alloc, free.as_slice())?
+        } else {
+            Vec::new(alloc)
+        };
+        let mut at = 0_u32;
+        for (number, is_free) in free.iter().enumerate() {
+            let lies_in_larger = larger.get(number / 2).copied().unwrap_or(false);
+            if *is_free && !lies_in_larger {
+                pairs.push((exponent, at))?;
+            }
+            at = at.wrapping_add(size);
+        }
+        free = larger;
+        size = size.wrapping_mul(2);
+    }
+    Ok(pairs)
+}
+
+// So many calls on a zone of so many frames, each compared with the maximal free blocks of the
+// frames that are free, and with the areas that are set from them.
 fn compare(
     rt: &(impl Abort + AllocGlobal),
     free: &mut [bool],
@@ -137,9 +176,11 @@ fn compare(
         if plain.frames() as usize == free.len() {
             plain.set_from(free);
         }
+        let wanted = maximal_of(rt.alloc(), free)?;
         let found = pairs_of(rt.alloc(), zone.blocks())?;
-        let wanted = pairs_of(rt.alloc(), plain.walk())?;
         assert!(rt; found.as_slice() == wanted.as_slice());
+        let set = pairs_of(rt.alloc(), plain.walk())?;
+        assert!(rt; set.as_slice() == wanted.as_slice());
     }
     Ok(())
 }

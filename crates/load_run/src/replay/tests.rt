@@ -1,9 +1,9 @@
 mod as_core;
 
 use crate::replay::replay_lines;
-use crate::script::parse_script;
 use mem_core::config::Config;
 use mem_core::zone::Core;
+use script_lines::script::parse_script;
 use std::alloc::{AllocError, Global};
 use std::process::Abort;
 use std::test::Fail;
@@ -23,7 +23,7 @@ fn answers<R: Abort + AllocGlobal>(
         stock: 1,
     };
     assert!(rt; config.is_valid());
-    let lines = parse_script(rt.alloc(), script, &config)?;
+    let lines = parse_script(rt.alloc(), script, config.cpus)?;
     let answers = replay_lines(rt.alloc(), config, &lines)?;
     Ok(answers.as_slice() == expected)
 }
@@ -40,7 +40,9 @@ fn shows_what_was_made_and_taken(rt: HostRuntime) -> Result<(), Fail> {
 #[test]
 fn a_limit_is_rounded_up_and_stands_after_bad_texts(rt: HostRuntime) -> Result<(), Fail> {
     let script =
-        b"1 mkdir /a\n1 read /a memory.max\n1 write /a memory.max 5000\n1 read /a memory.max\n1 write /a memory.max  1k \n1 read /a memory.max\n1 write /a memory.max \n1 write /a memory.max 4KB\n1 read /a memory.max\n";
+        b"1 mkdir /a\n1 read /a memory.max\n1 write /a memory.max 5000\n1 read /a memory.max\n\
+          1 write /a memory.max  1k \n1 read /a memory.max\n1 write /a memory.max \n\
+          1 write /a memory.max 4KB\n1 read /a memory.max\n";
     let expected =
         b"group 1\nmax\nok\n8192\nok\n4096\nrefused 12 BadLimit\nrefused 12 BadLimit\n4096\n";
     assert!(rt; answers(&rt, 16, script.as_slice(), expected.as_slice())?);
@@ -50,7 +52,10 @@ fn a_limit_is_rounded_up_and_stands_after_bad_texts(rt: HostRuntime) -> Result<(
 #[test]
 fn limits_end_at_the_greatest_number_of_pages(rt: HostRuntime) -> Result<(), Fail> {
     let script =
-        b"1 mkdir /a\n1 write /a memory.max 32K\n1 write /a memory.max 18446744073709551616\n1 read /a memory.max\n1 write /a memory.max 16777215T\n1 read /a memory.max\n1 write /a memory.max 17592186040320\n1 read /a memory.max\n1 write /a memory.max 17592186040321\n1 read /a memory.max\n";
+        b"1 mkdir /a\n1 write /a memory.max 32K\n1 write /a memory.max 18446744073709551616\n\
+          1 read /a memory.max\n1 write /a memory.max 16777215T\n1 read /a memory.max\n\
+          1 write /a memory.max 17592186040320\n1 read /a memory.max\n1 write /a memory.max 17592186040321\n\
+          1 read /a memory.max\n";
     let expected =
         b"group 1\nok\nrefused 13 BadNumber\n32768\nok\nmax\nok\n17592186040320\nok\nmax\n";
     assert!(rt; answers(&rt, 16, script.as_slice(), expected.as_slice())?);
@@ -70,9 +75,11 @@ fn a_charge_over_the_limit_is_refused_and_noted(rt: HostRuntime) -> Result<(), F
 #[test]
 fn a_charge_is_refused_at_the_ancestor_that_has_no_room(rt: HostRuntime) -> Result<(), Fail> {
     let script =
-        b"1 mkdir /a\n1 write /a memory.max 32K\n1 mkdir /a/b\n1 alloc /a/b 4\n1 read /a memory.events\n1 read /a/b memory.events\n1 alloc /a/b 1\n1 read /a memory.peak\n1 read /a memory.current\n";
+        b"1 mkdir /a\n1 write /a memory.max 32K\n1 mkdir /a/b\n1 alloc /a/b 4\n1 read /a memory.events\n\
+          1 read /a/b memory.events\n1 alloc /a/b 1\n1 read /a memory.peak\n1 read /a memory.current\n";
     let expected =
-        b"group 1\nok\ngroup 2\nrefused 15 OverLimit /a\nlow 0\nhigh 0\nmax 1\noom 0\noom_kill 0\nlow 0\nhigh 0\nmax 0\noom 0\noom_kill 0\nframe 0\n8192\n8192\n";
+        b"group 1\nok\ngroup 2\nrefused 15 OverLimit /a\nlow 0\nhigh 0\nmax 1\noom 0\noom_kill 0\nlow 0\n\
+          high 0\nmax 0\noom 0\noom_kill 0\nframe 0\n8192\n8192\n";
     assert!(rt; answers(&rt, 16, script.as_slice(), expected.as_slice())?);
     Ok(())
 }
@@ -107,9 +114,12 @@ fn the_limit_is_asked_before_the_zone(rt: HostRuntime) -> Result<(), Fail> {
 #[test]
 fn the_root_has_no_files_and_others_have_five(rt: HostRuntime) -> Result<(), Fail> {
     let script =
-        b"1 mkdir /a\n1 read / memory.current\n1 write / memory.max 0\n1 read /a memory.oom.group\n1 write /a memory.reclaim 0\n1 write /a memory.peak 0\n1 write /a memory.current x\n1 write /nowhere memory.max 0\n1 read /nowhere memory.max\n1 alloc / 0\n";
+        b"1 mkdir /a\n1 read / memory.current\n1 write / memory.max 0\n1 read /a memory.oom.group\n\
+          1 write /a memory.reclaim 0\n1 write /a memory.peak 0\n1 write /a memory.current x\n\
+          1 write /nowhere memory.max 0\n1 read /nowhere memory.max\n1 alloc / 0\n";
     let expected =
-        b"group 1\nrefused 10 NoFile\nrefused 10 NoFile\nrefused 10 NoFile\nrefused 10 NoFile\nrefused 11 ReadOnly\nrefused 11 ReadOnly\nrefused 6 NoGroup\nrefused 6 NoGroup\nframe 0\n";
+        b"group 1\nrefused 10 NoFile\nrefused 10 NoFile\nrefused 10 NoFile\nrefused 10 NoFile\n\
+          refused 11 ReadOnly\nrefused 11 ReadOnly\nrefused 6 NoGroup\nrefused 6 NoGroup\nframe 0\n";
     assert!(rt; answers(&rt, 16, script.as_slice(), expected.as_slice())?);
     Ok(())
 }
@@ -194,9 +204,9 @@ fn is_answered_as_by_a_core<R: Abort + AllocGlobal>(
         stock: 1,
     };
     assert!(rt; config.is_valid());
-    let lines = parse_script(rt.alloc(), script, &config)?;
+    let lines = parse_script(rt.alloc(), script, config.cpus)?;
     let answers = replay_lines(rt.alloc(), config, &lines)?;
-    let mut core = Core::new(rt.alloc(), config)?;
+    let mut core = Core::new(rt.alloc(), config.frames, config.cpus)?;
     let mut told = String::new(rt.alloc());
     for line in &lines {
         as_core::serve(&mut core, &line.command, &mut told)?;

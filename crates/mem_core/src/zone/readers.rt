@@ -1,26 +1,31 @@
-//! What a core tells.
+//! What a core tells: of its state, and so of each run that it shows.
 
-ghost use Rattle.std.specs.Prelude.{◌≡◌, ◌^◌, ◌<◌, Some, IsTrue, length, slice_get};
+ghost use Rattle.std.specs.Prelude.{◌≡◌, ℕ, ◌<◌, ◌^◌, Some, IsTrue, length, slice_get};
 ghost use Rattle.zone_blocks.specs.Areas.{AreMaximalBlocks};
 ghost use Rattle.group_tree.specs.Groups.{has_group, limit_of};
-ghost use Rattle.mem_core.specs.declared.step.Place.{Place};
-ghost use Rattle.mem_core.specs.Places.{is_same_place};
-ghost use Rattle.mem_core.specs.Run.{Run, groups_of, places_of, usage_of, free_frames};
-ghost use Rattle.mem_core.specs.Shown.{Shows, account_in, current_in};
-ghost use Rattle.mem_core.specs.Limits.{IsPeak, max_of};
-ghost use Rattle.mem_core.specs.Events.{events_of, events_local_of};
+ghost use Rattle.step_rules.specs.declared.step.Place.{Place};
+ghost use Rattle.step_rules.specs.State.{State, free_in, front_of, pins_of};
+ghost use Rattle.step_rules.specs.Usage.{usage_of};
+ghost use Rattle.step_rules.specs.Places.{places_of, place_in, is_same_place};
+ghost use Rattle.step_rules.specs.Folds.{limit_given, was_killed};
+ghost use Rattle.step_rules.specs.After.{Run, state_of};
+ghost use Rattle.step_rules.specs.Peaks.{IsPeak};
+ghost use Rattle.step_rules.specs.Events.{EventKey, events_of, events_local_of};
+ghost use Rattle.mem_core.specs.Accounts.{account_of, count_in};
+ghost use Rattle.mem_core.specs.Shown.{CoreState, Shows, state_in};
 
 use super::Core;
 use crate::account::Events;
-use crate::step::Place;
 use group_tree::group::GroupId;
 use group_tree::tree::Tree;
+use step_rules::phase::{Hold, Phase};
+use step_rules::step::Place;
 use zone_blocks::areas::FreeAreas;
 
 impl Core {
     /// How many steps were made, illegal ones included.
     pub fn steps(&self) -> u64
-        ensures steps { result ≡ self.now.steps }
+        ensures now { result ≡ self.now.steps }
         ensures run { (run : Run) → Shows self.now run → result ≡ length run }
     {
         self.steps
@@ -28,68 +33,175 @@ impl Core {
 
     /// The groups.
     pub fn tree(&self) -> &Tree
-        ensures groups { result.now ≡ self.now.groups }
-        ensures run { (run : Run) → Shows self.now run → result.now ≡ groups_of run }
+        ensures now { result.now ≡ self.now.groups }
+        ensures run { (run : Run) → Shows self.now run → result.now ≡ (state_of self.now.zone run).groups }
     {
-        &self.tree
+        &self.rows.tree
     }
 
     /// The free areas: the maximal blocks of the free frames.
     pub fn areas(&self) -> &FreeAreas
-        ensures areas { result.now.blocks ≡ self.now.areas }
-        ensures zone { result.now.frames ≡ self.now.config.frames }
-        ensures run { (run : Run) → Shows self.now run → AreMaximalBlocks (free_frames self.now.config run) result.now.blocks }
+        ensures frames { result.now.frames ≡ self.now.zone.frames }
+        ensures now { result.now.blocks ≡ self.now.areas }
+        ensures run { (run : Run) → Shows self.now run → AreMaximalBlocks (free_in self.now.zone (state_of self.now.zone run).phases) result.now.blocks }
     {
         &self.areas
-    }
-
-    /// Where a frame of the zone is.
-    pub fn place(&self, frame: u32) -> Place
-        requires { frame < self.now.config.frames }
-        ensures place { slice_get self.now.places frame ≡ Some result }
-        ensures run { (run : Run) → Shows self.now run → (p : Place) → places_of self.now.config run frame p ≡ is_same_place result p }
-    {
-        self.places[frame as usize]
-    }
-
-    /// The memory now used by a group and its descendants (memory.current), in pages: the frames that
-    /// they keep and the pages pending for them, less than 2^104. The group is there.
-    pub fn current(&self, group: GroupId) -> u128
-        requires { IsTrue (has_group self.now.groups group) }
-        ensures current { result ≡ current_in self.now group }
-        ensures few { result < 2 ^ 104 }
-        ensures run { (run : Run) → Shows self.now run → result ≡ usage_of self.now.config run group }
-    {
-        // Its parts agree.
-        let _ = &self.holder;
-        self.usage(group)
-    }
-
-    /// The greatest usage of a group that is there since it was made (memory.peak), in pages, less than
-    /// 2^104.
-    pub fn peak(&self, group: GroupId) -> u128
-        requires { IsTrue (has_group self.now.groups group) }
-        ensures peak { result ≡ (account_in self.now group).peak }
-        ensures few { result < 2 ^ 104 }
-        ensures run { (run : Run) → Shows self.now run → IsPeak self.now.config run group result }
-    {
-        self.accounts[group.number() as usize].peak
     }
 
     /// The limit of a group that is there (memory.max), in pages; None for no limit.
     pub fn max(&self, group: GroupId) -> Option<u32>
         requires { IsTrue (has_group self.now.groups group) }
-        ensures limit { result ≡ limit_of self.now.groups group }
-        ensures run { (run : Run) → Shows self.now run → result ≡ max_of run group }
+        ensures now { result ≡ limit_of self.now.groups group }
+        ensures run { (run : Run) → Shows self.now run → result ≡ limit_given run group }
     {
-        self.tree.limit(group)
+        self.rows.tree.limit(group)
+    }
+
+    /// Where a frame of the zone is.
+    pub fn place(&self, frame: u32) -> Place
+        requires { frame < self.now.zone.frames }
+        ensures now { result ≡ place_in ((state_in self.now).phases frame) }
+        ensures run { (run : Run) → Shows self.now run → (p : Place) → places_of self.now.zone run frame p ≡ is_same_place p result }
+    {
+        place_in(self.phase(frame))
+    }
+
+    /// Who holds the lock, and whether its visit is open.
+    pub fn hold(&self) -> Hold
+        ensures now { result ≡ (state_in self.now).hold }
+        ensures run { (run : Run) → Shows self.now run → result ≡ (state_of self.now.zone run).hold }
+    {
+        self.rows.hold
+    }
+
+    /// Whether a group of this number is killed.
+    pub fn is_killed(&self, group: GroupId) -> bool
+        ensures now { result ≡ (state_in self.now).killed group }
+        ensures run { (run : Run) → Shows self.now run → result ≡ (state_of self.now.zone run).killed group }
+    {
+        self.rows.is_killed(group)
+    }
+
+    /// The pages that are pending for a group of this number.
+    pub fn pending(&self, group: GroupId) -> u128
+        ensures now { result ≡ (state_in self.now).pending group }
+        ensures run { (run : Run) → Shows self.now run → result ≡ (state_of self.now.zone run).pending group }
+    {
+        self.rows.pending(group)
+    }
+
+    /// The phase of a frame.
+    pub fn phase(&self, frame: u32) -> Phase
+        ensures now { result ≡ (state_in self.now).phases frame }
+        ensures run { (run : Run) → Shows self.now run → result ≡ (state_of self.now.zone run).phases frame }
+    {
+        self.rows.phase(frame)
+    }
+
+    /// The references of a seat on a frame.
+    pub fn references(&self, seat: u32, frame: u32) -> u32
+        ensures now { result ≡ (state_in self.now).references seat frame }
+        ensures run { (run : Run) → Shows self.now run → result ≡ (state_of self.now.zone run).references seat frame }
+    {
+        self.rows.references(seat, frame)
+    }
+
+    /// The front of a processor's list; of an empty one, 0.
+    pub fn front(&self, cpu: u32) -> u32
+        ensures now { result ≡ front_of ((state_in self.now).parts cpu).list }
+        ensures run { (run : Run) → Shows self.now run → result ≡ front_of ((state_of self.now.zone run).parts cpu).list }
+    {
+        self.rows.front(cpu)
+    }
+
+    /// How many frames are on a processor's list.
+    pub fn list_len(&self, cpu: u32) -> usize
+        ensures now { result ≡ length ((state_in self.now).parts cpu).list }
+        ensures run { (run : Run) → Shows self.now run → result ≡ length ((state_of self.now.zone run).parts cpu).list }
+    {
+        self.rows.list_len(cpu)
+    }
+
+    /// The group of the last fill of a processor's stock.
+    pub fn stock_group(&self, cpu: u32) -> Option<GroupId>
+        ensures now { result ≡ ((state_in self.now).parts cpu).stock.group }
+        ensures run { (run : Run) → Shows self.now run → result ≡ ((state_of self.now.zone run).parts cpu).stock.group }
+    {
+        self.rows.stock_group(cpu)
+    }
+
+    /// The pages of a processor's stock.
+    pub fn stock_pages(&self, cpu: u32) -> u128
+        ensures now { result ≡ ((state_in self.now).parts cpu).stock.pages }
+        ensures run { (run : Run) → Shows self.now run → result ≡ ((state_of self.now.zone run).parts cpu).stock.pages }
+    {
+        self.rows.stock_pages(cpu)
+    }
+
+    /// Whether a processor's stock was drained since its last fill.
+    pub fn is_drained(&self, cpu: u32) -> bool
+        ensures now { result ≡ ((state_in self.now).parts cpu).stock.is_drained }
+        ensures run { (run : Run) → Shows self.now run → result ≡ ((state_of self.now.zone run).parts cpu).stock.is_drained }
+    {
+        self.rows.is_drained(cpu)
+    }
+
+    /// A processor's book: the pages filled for it and neither drained nor absorbed.
+    pub fn book(&self, cpu: u32) -> u128
+        ensures now { result ≡ ((state_in self.now).parts cpu).book }
+        ensures run { (run : Run) → Shows self.now run → result ≡ ((state_of self.now.zone run).parts cpu).book }
+    {
+        self.rows.book(cpu)
+    }
+
+    /// The pages of a processor's fresh frames that it passed back and didn't report.
+    pub fn unreported(&self, cpu: u32) -> u128
+        ensures now { result ≡ ((state_in self.now).parts cpu).unreported }
+        ensures run { (run : Run) → Shows self.now run → result ≡ ((state_of self.now.zone run).parts cpu).unreported }
+    {
+        self.rows.unreported(cpu)
+    }
+
+    /// The pages that a processor reported and that aren't absorbed.
+    pub fn reported(&self, cpu: u32) -> u128
+        ensures now { result ≡ ((state_in self.now).parts cpu).reported }
+        ensures run { (run : Run) → Shows self.now run → result ≡ ((state_of self.now.zone run).parts cpu).reported }
+    {
+        self.rows.reported(cpu)
+    }
+
+    /// The references of a seat on all frames: a processor's are its pins.
+    pub fn pins(&self, seat: u32) -> u32
+        ensures now { result ≡ pins_of (state_in self.now) seat }
+        ensures run { (run : Run) → Shows self.now run → result ≡ pins_of (state_of self.now.zone run) seat }
+    {
+        self.rows.pins(seat)
+    }
+
+    /// The memory now used by a group and its descendants (memory.current), in pages: the frames that they keep, the pages prepaid for them and those pending.
+    pub fn current(&self, group: GroupId) -> u128
+        ensures now { result ≡ usage_of (state_in self.now) group }
+        ensures run { (run : Run) → Shows self.now run → result ≡ usage_of (state_of self.now.zone run) group }
+        ensures few { result < 2 ^ 104 }
+    {
+        self.rows.usage(group)
+    }
+
+    /// The greatest usage of a group that is there since it was made (memory.peak), in pages, less than 2^104.
+    pub fn peak(&self, group: GroupId) -> u128
+        requires { IsTrue (has_group self.now.groups group) }
+        ensures now { result ≡ (account_of self.now.accounts group).peak }
+        ensures few { result < 2 ^ 104 }
+        ensures run { (run : Run) → Shows self.now run → IsPeak self.now.zone run group result }
+    {
+        self.accounts[group.number() as usize].peak
     }
 
     /// What was counted for a group that is there and all below it since it was made (memory.events).
     pub fn events(&self, group: GroupId) -> Events
         requires { IsTrue (has_group self.now.groups group) }
-        ensures events { result ≡ (account_in self.now group).events }
-        ensures run { (run : Run) → Shows self.now run → result ≡ events_of run group }
+        ensures now { result ≡ (account_of self.now.accounts group).events }
+        ensures run { (run : Run) → Shows self.now run → (key : EventKey) → count_in key result ≡ events_of key self.now.zone run group }
     {
         self.accounts[group.number() as usize].events
     }
@@ -97,10 +209,45 @@ impl Core {
     /// What was counted for a group that is there alone since it was made (memory.events.local).
     pub fn events_local(&self, group: GroupId) -> Events
         requires { IsTrue (has_group self.now.groups group) }
-        ensures events { result ≡ (account_in self.now group).events_local }
-        ensures run { (run : Run) → Shows self.now run → result ≡ events_local_of run group }
+        ensures now { result ≡ (account_of self.now.accounts group).events_local }
+        ensures run { (run : Run) → Shows self.now run → (key : EventKey) → count_in key result ≡ events_local_of key self.now.zone run group }
     {
-        let account = self.accounts[group.number() as usize];
-        account.events_local
+        self.accounts[group.number() as usize].events_local
+    }
+
+    /// The frames on a processor's list, the front first.
+    pub fn list(&self, cpu: u32) -> &[u32]
+        ensures now { result.now ≡ ((state_in self.now).parts cpu).list }
+        ensures run { (run : Run) → Shows self.now run → result.now ≡ ((state_of self.now.zone run).parts cpu).list }
+    {
+        self.rows.list(cpu)
+    }
+
+    /// A processor's fresh frames, the oldest first.
+    pub fn fresh(&self, cpu: u32) -> &[u32]
+        ensures now { result.now ≡ ((state_in self.now).parts cpu).fresh }
+        ensures run { (run : Run) → Shows self.now run → result.now ≡ ((state_of self.now.zone run).parts cpu).fresh }
+    {
+        self.rows.fresh(cpu)
+    }
+
+    /// A processor's back frames, the oldest first.
+    pub fn back(&self, cpu: u32) -> &[u32]
+        ensures now { result.now ≡ ((state_in self.now).parts cpu).back }
+        ensures run { (run : Run) → Shows self.now run → result.now ≡ ((state_of self.now.zone run).parts cpu).back }
+    {
+        self.rows.back(cpu)
+    }
+}
+
+// The place of a frame in this phase.
+fn place_in(phase: Phase) -> Place
+    ensures { result ≡ place_in phase }
+{
+    match phase {
+        Phase::InZone => Place::Free,
+        Phase::Lent { cpu, way: _ } => Place::Listed(cpu),
+        Phase::Head { unit, stage: _ } => Place::Charged(unit.group),
+        Phase::Tail(group) => Place::Charged(group),
     }
 }

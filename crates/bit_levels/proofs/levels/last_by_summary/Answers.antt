@@ -6,7 +6,8 @@ use Rattle.bit_levels.proofs.levels.last_by_summary.Goals as goal
 pub returns-in_err-word : goal.returns-in_err-word
 returns-in_err-word c =
     let near = found_none _ _ c.last_in_word_below-found.result (sym c.is_some.ensures ∙ c.if-is_some.false) c.last_in_word_below-found.ensures in
-    rw c.from_residual.ensures (none_below c.args.set.now c.args.summary.now c.requires.summary c.args.number (c.args.number / 64) refl near c.in_err-word.ensures)
+    rw c.from_residual.ensures (none_below c.args.set.now c.args.summary.now c.requires.summary c.args.number (c.args.number / 64)
+    refl near c.in_err-word.ensures)
 
 pub returns : goal.returns
 returns c =

@@ -8,13 +8,26 @@ pub overflow_sub-digit : goal.overflow_sub-digit
 overflow_sub-digit c = digit_low _ _ c.requires (omega arith)
 
 pub returns-in_err-checked_mul : goal.returns-in_err-checked_mul
-returns-in_err-checked_mul c = rw c.from_residual.ensures (λ small. c.in_err-checked_mul.ensures (omega (arith, next_number-le c.args.digits.now c.loop-digit.digit-index c.requires (omega arith))))
+returns-in_err-checked_mul c = rw c.from_residual.ensures
+    (λ small. c.in_err-checked_mul.ensures (omega (arith, next_number-le c.args.digits.now c.loop-digit.digit-index c.requires (omega arith))))
 
 pub returns-in_err-number : goal.returns-in_err-number
-returns-in_err-number c = rw c.from_residual-in_err-number.ensures (λ small. c.in_err-number.ensures (omega (arith, c.in_ok-checked_mul.ensures, c.from.ensures, next_number-le c.args.digits.now c.loop-digit.digit-index c.requires (omega arith))))
+returns-in_err-number c = rw c.from_residual-in_err-number.ensures
+    (λ small. c.in_err-number.ensures (omega
+    (arith, c.in_ok-checked_mul.ensures, c.from.ensures, next_number-le c.args.digits.now c.loop-digit.digit-index c.requires (omega arith))))
 
 pub loop-digit-preserved : goal.loop-digit-preserved
-loop-digit-preserved c = (omega (arith, c.in_ok-number.ensures), omega (arith, c.in_ok-checked_mul.ensures, c.in_ok-number.ensures, c.from.ensures, next_number c.args.digits.now c.loop-digit.digit-index c.requires (omega arith)))
+loop-digit-preserved c = (
+  omega (arith, c.in_ok-number.ensures),
+  omega (
+    arith,
+    c.in_ok-checked_mul.ensures,
+    c.in_ok-number.ensures,
+    c.from.ensures,
+    next_number c.args.digits.now c.loop-digit.digit-index c.requires
+        (omega arith),
+  ),
+)
 
 pub returns : goal.returns
 returns c =

@@ -7,14 +7,16 @@ use Rattle.control_files.proofs.limit.read_amount.Goals as goal
 
 pub returns-in_err-factor : goal.returns-in_err-factor
 returns-in_err-factor c = let p = err_from_is_err_and c.from_residual.result c.from_residual.ensures.1 in rw (p.1, p.2)
-    (suffix_refused c.args.word.now c.split_digits.result.0.now c.split_digits.result.1.now c.read_suffix.result _ c.split_digits.ensures c.read_suffix.ensures.none c.in_err-factor.ensures.value)
+    (suffix_refused c.args.word.now c.split_digits.result.0.now c.split_digits.result.1.now c.read_suffix.result _ c.split_digits.ensures
+    c.read_suffix.ensures.none c.in_err-factor.ensures.value)
 
 pub returns-in_err-number : goal.returns-in_err-number
 returns-in_err-number c =
     let some : 0 < length c.split_digits.result.0.now = grind (arith, nat_tests) in
     let suffix_is : IsSuffix c.split_digits.result.1.now c.in_ok-factor.factor = rw c.in_ok-factor.ensures.ok_part at c.read_suffix.ensures.some in
     let p = err_from_is_err_and c.from_residual-in_err-number.result c.from_residual-in_err-number.ensures.1 in rw (p.1, p.2)
-    (number_refused c.args.word.now c.split_digits.result.0.now c.split_digits.result.1.now c.in_ok-factor.factor c.number_of.result _ c.split_digits.ensures some suffix_is c.number_of.ensures c.in_err-number.ensures.value)
+    (number_refused c.args.word.now c.split_digits.result.0.now c.split_digits.result.1.now c.in_ok-factor.factor c.number_of.result _
+    c.split_digits.ensures some suffix_is c.number_of.ensures c.in_err-number.ensures.value)
 
 pub returns : goal.returns
 returns c =
@@ -22,4 +24,5 @@ returns c =
     let suffix_is : IsSuffix c.split_digits.result.1.now c.in_ok-factor.factor = rw c.in_ok-factor.ensures.ok_part at c.read_suffix.ensures.some in
     let number_is = rw c.in_ok-number.ensures.ok_part at c.number_of.ensures in
     rw c.ok_or-3.ensures.value
-    (amount_answer c.args.word.now c.split_digits.result.0.now c.split_digits.result.1.now c.in_ok-factor.factor c.in_ok-number.number c.checked_mul.result c.split_digits.ensures some suffix_is number_is.1 c.checked_mul.ensures)
+    (amount_answer c.args.word.now c.split_digits.result.0.now c.split_digits.result.1.now c.in_ok-factor.factor c.in_ok-number.number
+    c.checked_mul.result c.split_digits.ensures some suffix_is number_is.1 c.checked_mul.ensures)

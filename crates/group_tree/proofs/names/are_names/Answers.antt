@@ -6,4 +6,6 @@ use Rattle.group_tree.proofs.names.are_names.Goals as goal
 
 pub returns : goal.returns
 returns c =
-    all_from_yields_List is_name _ _ _ c.all.ensures.ran (YieldsList-from_slice_split _ is_slash c.args.text.now c.split.ensures.rest c.split.ensures.done c.split.ensures.closure (λ x b q k. search (rules, tests))) (λ x b q k. search (rules, tests))
+    all_from_yields_List is_name _ _ _ c.all.ensures.ran
+    (YieldsList-from_slice_split _ is_slash c.args.text.now c.split.ensures.rest c.split.ensures.done c.split.ensures.closure
+    (λ x b q k. search (rules, tests))) (λ x b q k. search (rules, tests))

@@ -10,4 +10,5 @@ returns-then-is_root c =
 
 pub returns-else-is_root : goal.returns-else-is_root
 returns-else-is_root c =
-    c.are_names.ensures ∙ ap (list_all is_name) (sym (names_behind c.args.path.now (sym c.is_root.ensures ∙ c.if-is_root.false) (begins_from_test c.args.path.now c.requires)))
+    c.are_names.ensures ∙ ap (list_all is_name)
+    (sym (names_behind c.args.path.now (sym c.is_root.ensures ∙ c.if-is_root.false) (begins_from_test c.args.path.now c.requires)))

@@ -1,11 +1,11 @@
 -- Serves the contract of `answers_to`: what was read is a script, and is answered by what its lines are.
 use Rattle.std.proofs.Common.{◌≡◌, refl, sym, subst, List, ℕ, Result, Ok, Err, IfOk, MatchResult}
 use Rattle.std.specs.Result.{IsErrAnd}
-use Rattle.load_run.specs.declared.line.Line.{Line}
+use Rattle.script_lines.specs.declared.line.Line.{Line}
 use Rattle.load_run.specs.Answers.{AreAnswers}
-use Rattle.load_run.specs.Script.{IsScript}
+use Rattle.script_lines.specs.Script.{IsScript}
 use Rattle.load_run.specs.Settings.{IsSingle}
-use Rattle.load_run.proofs.Progress.{answered}
+use Rattle.load_run.proofs.Serving.{answered}
 use Rattle.load_run.proofs.program.answers_to.Goals as goal
 
 -- what is well stays so where an error becomes another

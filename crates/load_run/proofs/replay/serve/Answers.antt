@@ -1,6 +1,7 @@
 use Rattle.std.proofs.Common.{refl}
 use Rattle.std.specs.String.{string_bytes}
-use Rattle.load_run.specs.Answers.{Serves, reply_text}
+use Rattle.script_desk.specs.Texts.{reply_text}
+use Rattle.load_run.specs.Answers.{Serves}
 use Rattle.load_run.proofs.Serving.{served}
 use Rattle.load_run.proofs.replay.serve.Goals as goal
 use Rattle.load_run.proofs.replay.serve.Goals.{in-Mkdir, in-Alloc, in-Write, in-Read}
@@ -13,4 +14,5 @@ returns c =
       | in-Write w ↦ rw (w.in-Write.is, w.reply-is, w.desk-is) (w.write_file-reply.result, w.write_file-reply.ensures, refl)
       | in-Read w ↦ rw (w.in-Read.is, w.reply-is, w.desk-is) (w.read_file-reply.result, refl, w.read_file-reply.ensures, refl)
     ] in
-    served c.write_to.result c.args.desk.now c.match-command.desk c.args.command.now c.match-command.reply (string_bytes c.args.answers.now) (string_bytes c.write_to.new.text) serves c.write_to.ensures
+    served c.write_to.result c.args.desk.now c.match-command.desk c.args.command.now c.match-command.reply
+    (string_bytes c.args.answers.now) (string_bytes c.write_to.new.text) serves c.write_to.ensures

@@ -1,17 +1,22 @@
 //! The commands of a script as steps of a core, each command under the lock of processor 1.
 
-use crate::line::Command;
-use crate::reply::{Reply, push_characters};
 use control_files::file::{File, file_named};
 use control_files::limit::read_limit;
 use group_tree::fault::Fault;
 use group_tree::group::GroupId;
 use group_tree::path::PathText;
 use mem_core::account::Events;
-use mem_core::step::{Action, Answer, Place, Step};
-use mem_core::zone::{Core, FIRST_PROCESSOR, ZONE_SEAT};
+use mem_core::zone::Core;
+use script_desk::reply::{Reply, push_characters};
+use script_lines::line::Command;
 use std::test::Fail;
+use step_rules::step::{Action, Answer, Place, Step};
 use zone_blocks::order::Order;
+
+// The seat of the one processor, and the zone's own.
+const FIRST_PROCESSOR: u32 = 1;
+
+const ZONE_SEAT: u32 = 0;
 
 // Far more steps than a test makes.
 const MOST_STEPS: u64 = 1_000_000;
@@ -228,6 +233,7 @@ fn tell_run(
     }
     match place {
         Place::Free => text.push_str("free")?,
+        Place::Listed(_) => Err("a frame is lent")?,
         Place::Charged(group) => {
             if !core.tree().contains(group) {
                 Err("the group of a frame is not there")?;

@@ -8,7 +8,8 @@ loop-exponent-preserved c =
     record {
       count = omega arith;
       spare = c.push_reserved.ensures.capacity ∙ h.spare;
-      each = pushed_bits c.args.frames c.loop-exponent.exponent c.loop-exponent.pairs.items c.push_reserved.new.self.items c.in_ok-bits.bits h.count c.in_ok-bits.ensures
+      each = pushed_bits c.args.frames c.loop-exponent.exponent c.loop-exponent.pairs.items c.push_reserved.new.self.items
+          c.in_ok-bits.bits h.count c.in_ok-bits.ensures
           c.push_reserved.ensures.items h.each;
       none = pushed_none _ c.loop-exponent.exponent c.loop-exponent.pairs.items c.push_reserved.new.self.items c.in_ok-bits.bits h.count c.in_ok-bits.ensures
           c.push_reserved.ensures.items h.none;

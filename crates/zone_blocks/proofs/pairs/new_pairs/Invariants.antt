@@ -1,4 +1,4 @@
-use Rattle.std.proofs.Common.{◌≡◌, ℕ, ◌+◌, ◌/◌, ◌^◌, ◌<◌, Bool, List, [], length, get_or}
+use Rattle.std.proofs.Common.{◌≡◌, ℕ, ◌+◌, ◌/◌, ◌^◌, ◌<◌, [], length, get_or}
 use Rattle.std.specs.Vec.{vec_capacity}
 use Rattle.bit_levels.specs.Sets.{IsIn}
 use Rattle.zone_blocks.proofs.pairs.new_pairs.Given as goal

@@ -17,5 +17,6 @@ returns c =
     let there = bit_is_one c.args.areas.now c.args.block.now c.requires.alone (c.in_ok-is_one.ensures.1.0 c.if-not-is_one.false) in
     let next = c.in_ok-order.ensures in
     let e = c.exponent.ensures.exponent in
-    buddy_taken c.args.areas.now c.remove.new.self c.args.block.now c.in_ok-other.other c.in_ok-order.order c.min-at.result c.requires.block c.in_ok-other.ensures.1
+    buddy_taken c.args.areas.now c.remove.new.self c.args.block.now c.in_ok-other.other c.in_ok-order.order c.min-at.result
+    c.requires.block c.in_ok-other.ensures.1
     (omega (arith, next.0, e)) (omega (arith, next.0, next.1)) c.min-at.ensures there c.remove.ensures.blocks c.remove.ensures.frames

@@ -19,8 +19,10 @@ returns c =
     let count = c.self.invariant.count in
     let len = c.self.inside.words.ok.0 in
     let here = get_or_read c.self.inside.words.items (c.args.word) c.index-members.result.now (omega (arith, n, count, len)) c.index-members.ensures 0 in (
-      λ t. subst P c.self.view_is (some_in_word c.self.inside.len c.self.inside.words.items c.self.invariant c.args.word c.index-members.result.now here (omega arith) (eqb-false _ _ (not-true _ t))),
+      λ t. subst P c.self.view_is (some_in_word c.self.inside.len c.self.inside.words.items c.self.invariant c.args.word
+          c.index-members.result.now here (omega arith) (eqb-false _ _ (not-true _ t))),
       λ some. not_from_false _ (ne_eqb _ _ (λ z. not_some _ _ _
-          (none_in_word c.self.inside.len c.self.inside.words.items c.self.invariant c.args.word (c.args.word * 64 + 64) c.index-members.result.now (omega arith) (λ p l. rw here refl) z)
+          (none_in_word c.self.inside.len c.self.inside.words.items c.self.invariant c.args.word (c.args.word * 64 + 64)
+          c.index-members.result.now (omega arith) (λ p l. rw here refl) z)
           (subst P (sym c.self.view_is) some))),
     )

@@ -11,7 +11,8 @@ returns-then-is_some c = found_some _ _ _ c.loop-word.found (sym c.is_some.ensur
 
 pub loop-word-preserved : goal.loop-word-preserved
 loop-word-preserved c =
-    let none : HasNoneIn c.args.self.now (c.loop-word.word * 64) c.args.number = found_none _ _ c.loop-word.found (sym c.is_some.ensures ∙ c.if-is_some.false) c.loop-word.invariant.so_far in
+    let none : HasNoneIn c.args.self.now (c.loop-word.word * 64) c.args.number =
+    found_none _ _ c.loop-word.found (sym c.is_some.ensures ∙ c.if-is_some.false) c.loop-word.invariant.so_far in
     let within = c.loop-word.invariant.within in
     record {
       within = omega arith;

@@ -19,7 +19,8 @@ returns-in_err-place c =
     let len = c.self.inside.words.ok.0 in
     let here = get_or_read c.self.inside.words.items (c.args.word) c.index.result.now (omega (arith, n, count, len)) c.index.ensures 0 in
     rw c.from_residual.ensures (subst P c.self.view_is
-    (none_in_word c.self.inside.len c.self.inside.words.items c.self.invariant c.args.word (c.args.word * 64 + 64) c.index.result.now (omega arith) (λ p l. rw here refl) c.in_err-place.ensures))
+    (none_in_word c.self.inside.len c.self.inside.words.items c.self.invariant c.args.word (c.args.word * 64 + 64)
+    c.index.result.now (omega arith) (λ p l. rw here refl) c.in_err-place.ensures))
 
 pub overflow_mul-result : goal.overflow_mul-result
 overflow_mul-result c =
@@ -46,5 +47,6 @@ returns c =
     let len = c.self.inside.words.ok.0 in
     let here = get_or_read c.self.inside.words.items (c.args.word) c.index.result.now (omega (arith, n, count, len)) c.index.ensures 0 in
     let place = c.in_ok-place.ensures in
-    subst P c.self.view_is (last_in_word_is c.self.inside.len c.self.inside.words.items c.self.invariant c.args.word (c.args.word * 64 + 64) c.index.result.now c.in_ok-place.place
+    subst P c.self.view_is (last_in_word_is c.self.inside.len c.self.inside.words.items c.self.invariant c.args.word
+    (c.args.word * 64 + 64) c.index.result.now c.in_ok-place.place
     (omega arith) (omega (arith, place.0)) (λ p l. rw here refl) place.0 place.1 place.2)

@@ -20,10 +20,12 @@ returns-in_err-place c =
     let count = c.self.invariant.count in
     let len = c.self.inside.words.ok.0 in
     let here = get_or_read c.self.inside.words.items (c.args.number / 64) c.index.result.now (omega (arith, n, count, len)) c.index.ensures 0 in
-    let kept : (p : ℕ) → c.args.number / 64 * 64 + p < c.args.number → bit_at c.below.result p ≡ bit_at (get_or c.self.inside.words.items (c.args.number / 64) 0) p =
+    let kept : (p : ℕ) → c.args.number / 64 * 64 + p < c.args.number → bit_at c.below.result p
+    ≡ bit_at (get_or c.self.inside.words.items (c.args.number / 64) 0) p =
     λ p l. rw (sym here) (c.below.ensures.kept p (omega arith)) in
     rw c.from_residual.ensures (subst P c.self.view_is
-    (none_in_word c.self.inside.len c.self.inside.words.items c.self.invariant (c.args.number / 64) c.args.number c.below.result (omega arith) kept c.in_err-place.ensures))
+    (none_in_word c.self.inside.len c.self.inside.words.items c.self.invariant (c.args.number / 64) c.args.number c.below.result
+    (omega arith) kept c.in_err-place.ensures))
 
 pub returns : goal.returns
 returns c =
@@ -32,7 +34,8 @@ returns c =
     let count = c.self.invariant.count in
     let len = c.self.inside.words.ok.0 in
     let here = get_or_read c.self.inside.words.items (c.args.number / 64) c.index.result.now (omega (arith, n, count, len)) c.index.ensures 0 in
-    let kept : (p : ℕ) → c.args.number / 64 * 64 + p < c.args.number → bit_at c.below.result p ≡ bit_at (get_or c.self.inside.words.items (c.args.number / 64) 0) p =
+    let kept : (p : ℕ) → c.args.number / 64 * 64 + p < c.args.number → bit_at c.below.result p
+    ≡ bit_at (get_or c.self.inside.words.items (c.args.number / 64) 0) p =
     λ p l. rw (sym here) (c.below.ensures.kept p (omega arith)) in
     let place = c.in_ok-place.ensures in
     let none = c.below.ensures.none c.in_ok-place.place in
@@ -40,5 +43,6 @@ returns c =
       | inl l ↦ l
       | inr g ↦ absurd (omega (arith, none g, place.1))
     ] in
-    subst P c.self.view_is (last_in_word_is c.self.inside.len c.self.inside.words.items c.self.invariant (c.args.number / 64) c.args.number c.below.result c.in_ok-place.place
+    subst P c.self.view_is (last_in_word_is c.self.inside.len c.self.inside.words.items c.self.invariant (c.args.number / 64)
+    c.args.number c.below.result c.in_ok-place.place
     (omega arith) (omega arith) kept place.0 place.1 place.2)

@@ -1,43 +1,37 @@
-use Rattle.std.proofs.Common.{◌<◌, ◌++◌, ◌∷◌, [], length, sym, ap, ◌∙◌, subst, arith, refl, rules}
-use Rattle.std.proofs.lemmas.Slice.{pushed}
+use Rattle.std.proofs.Common.{◌<◌, length, set, sym, ap, ◌∙◌, subst, refl, arith}
+use Rattle.std.proofs.lemmas.List.{length-set}
+use Rattle.group_tree.specs.Groups.{with_group}
 use Rattle.group_tree.proofs.GroupLemmas.{can_make}
-use Rattle.group_charge.specs.Charges.{AreCharges, with_new_group}
-use Rattle.group_charge.proofs.ChargeLemmas.{AreCharges-new, as_many, same_ledger}
-use Rattle.std.proofs.Common.{IsTrue}
-use Rattle.group_tree.specs.Groups.{has_group}
-use Rattle.group_tree.proofs.CallerLemmas.{has_group-with_kept, has_group-with_new}
-use Rattle.group_charge.specs.Charges.{Ledger, SamePages}
+use Rattle.group_charge.specs.Charges.{SamePages, with_new_group}
+use Rattle.group_charge.specs.Kept.{ledger_of}
+use Rattle.group_charge.proofs.ChargeLemmas.{AreCharges-new, same_ledger}
+use Rattle.group_charge.proofs.KeptLemmas.{kept_new}
 use Rattle.group_charge.proofs.ReaderLemmas.{new_pages}
+use Rattle.group_charge.proofs.StoredLemmas.{kept_as, stored_new}
 use Rattle.group_charge.proofs.charges.Charges.make.Goals as goal
-
-pub unwrap-requires : goal.unwrap-requires
-unwrap-requires c =
-    let can = can_make c.self.inside.tree c.args.path.now (sym c.in_ok-g.ensures.refused) in
-    let room = can.room in
-    let many = as_many _ c.self.invariant.0 in
-    let few : length c.self.inside.accounts.items < 64 = omega arith in
-    search (rules, few)
 
 pub returns-clause-made : goal.returns-clause-made
 returns-clause-made c =
-    let rows = pushed (c.new_account.result ∷ []) refl c.unwrap.ensures c.push.ensures.items ∙ ap (λ a. c.self.inside.accounts.items ++ a ∷ []) c.new_account.ensures in
-    same_ledger _ _ _ _ c.in_ok-g.ensures.made rows ∙ ap (λ l. with_new_group l c.in_ok-g.g c.args.path.now) c.self.view_is
+    let groups = c.self.inside.tree in
+    let old = c.self.inside.accounts in
+    let g = c.in_ok-g.g in
+    let free = c.in_ok-g.ensures.least.free in
+    let within : g < length old = omega (arith, c.self.invariant.size, c.number.ensures.below, c.number.ensures.value) in
+    ap (λ rows. ledger_of rows (set old c.number.result c.new_account.result)) c.in_ok-g.ensures.made
+    ∙ ap (λ n. ledger_of (with_group groups g c.args.path.now) (set old n c.new_account.result)) c.number.ensures.value
+    ∙ ap (λ a. ledger_of (with_group groups g c.args.path.now) (set old g a)) c.new_account.ensures
+    ∙ same_ledger _ _ _ _ refl (kept_new groups old g c.args.path.now free within)
+    ∙ ap (λ l. with_new_group l g c.args.path.now) c.self.view_is
 
 pub invariant_of-self-2 : goal.invariant_of-self-2
 invariant_of-self-2 c =
+    let l = ledger_of c.self.inside.tree c.self.inside.accounts in
+    let g = c.in_ok-g.g in
     let can = can_make c.self.inside.tree c.args.path.now (sym c.in_ok-g.ensures.refused) in
-    let new = AreCharges-new _ c.in_ok-g.g c.args.path.now c.self.invariant.0 can c.in_ok-g.ensures.least in
-    (subst AreCharges (ap (λ l. with_new_group l c.in_ok-g.g c.args.path.now) c.self.view_is ∙ sym (returns-clause-made c)) new, search (rules, c.self.invariant))
+    let size = length-set c.self.inside.accounts c.number.result c.new_account.result ∙ c.self.invariant.size in
+    kept_as _ _ _ (with_new_group l g c.args.path.now) (returns-clause-made c ∙ ap (λ k. with_new_group k g c.args.path.now) (sym c.self.view_is))
+    (AreCharges-new l g c.args.path.now c.self.invariant.charges can c.in_ok-g.ensures.least) size
+    (stored_new l c.self.inside.usages g c.args.path.now c.self.invariant.charges can c.in_ok-g.ensures.least.free c.self.invariant.usages_are)
 
 pub returns-clause-pages : goal.returns-clause-pages
 returns-clause-pages c = subst (SamePages c.args.self.now) (sym (returns-clause-made c)) (new_pages c.args.self.now c.in_ok-g.g c.args.path.now)
-
-pub returns-clause-there : goal.returns-clause-there
-returns-clause-there c =
-    subst (λ (l : Ledger). IsTrue (has_group l.groups c.in_ok-g.g)) (sym (returns-clause-made c))
-    (has_group-with_new c.args.self.now.groups c.in_ok-g.g c.args.path.now (ap (λ (l : Ledger). has_group l.groups c.in_ok-g.g) (sym c.self.view_is) ∙ c.in_ok-g.ensures.least.free))
-
-pub returns-clause-kept : goal.returns-clause-kept
-returns-clause-kept c = λ m there.
-    subst (λ (l : Ledger). IsTrue (has_group l.groups m)) (sym (returns-clause-made c))
-    (has_group-with_kept c.args.self.now.groups c.in_ok-g.g m c.args.path.now (ap (λ (l : Ledger). has_group l.groups c.in_ok-g.g) (sym c.self.view_is) ∙ c.in_ok-g.ensures.least.free) there)

@@ -1,37 +1,39 @@
-use Rattle.std.proofs.Common.{IsTrue, All, length, map, sym, ap, ◌∙◌, subst, refl, rules}
-use Rattle.std.proofs.lemmas.List.{length-map}
+use Rattle.std.proofs.Common.{IsTrue, length, sym, ap, ◌∙◌, subst, refl, arith}
+use Rattle.std.proofs.lemmas.List.{length-set}
 use Rattle.group_tree.specs.Groups.{has_group}
-use Rattle.group_tree.proofs.GroupLemmas.{take_new}
-use Rattle.group_charge.specs.Charges.{Account, AreCharges, noted, with_max_noted}
-use Rattle.group_charge.proofs.ChargeLemmas.{AreCharges-noted, all_known, same_ledger}
-use Rattle.group_charge.specs.Charges.{CountsMax, SamePages, SamePeaks}
+use Rattle.group_charge.specs.Charges.{AreCharges, CountsMax, Ledger, SamePages, SamePeaks, with_max, with_max_noted}
+use Rattle.group_charge.specs.Kept.{account_by, accounts_of, ledger_of}
+use Rattle.group_charge.proofs.ChargeLemmas.{AreCharges-noted, same_ledger}
+use Rattle.group_charge.proofs.KeptLemmas.{kept_noted, number_below}
 use Rattle.group_charge.proofs.ReaderLemmas.{note_counts, note_pages, note_peaks}
+use Rattle.group_charge.proofs.StoredLemmas.{kept_as, stored_noted}
 use Rattle.group_charge.proofs.charges.Charges.note_max.Goals as goal
-
-pub note_max-requires-clause-known : goal.note_max-requires-clause-known
-note_max-requires-clause-known c =
-    subst (λ rows. All (λ (a : Account). IsTrue (has_group c.self.inside.tree a.group)) rows) (sym c.as_mut_slice.ensures.value) (all_known _ c.self.invariant.0)
-
-pub invariant_of-self : goal.invariant_of-self
-invariant_of-self c =
-    let old = c.self.inside.accounts.items in
-    let new = c.note_max.ensures ∙ ap (map (noted c.self.inside.tree c.args.g)) c.as_mut_slice.ensures.value in
-    let size = ap length new ∙ length-map old (noted c.self.inside.tree c.args.g) in
-    let whole = take_new c.self.inside.accounts.len old c.note_max.new.accounts size (search rules) in
-    (subst AreCharges (same_ledger _ _ _ _ refl (sym (whole ∙ new))) (AreCharges-noted _ c.args.g c.self.invariant.0), c.self.invariant.1)
 
 pub returns-clause-noted : goal.returns-clause-noted
 returns-clause-noted c =
-    let old = c.self.inside.accounts.items in
-    let new = c.note_max.ensures ∙ ap (map (noted c.self.inside.tree c.args.g)) c.as_mut_slice.ensures.value in
-    let size = ap length new ∙ length-map old (noted c.self.inside.tree c.args.g) in
-    let whole = take_new c.self.inside.accounts.len old c.note_max.new.accounts size (search rules) in
-    same_ledger _ _ _ _ refl (whole ∙ new) ∙ ap (λ l. with_max_noted l c.args.g) c.self.view_is
+    let groups = c.self.inside.tree in
+    let old = c.self.inside.accounts in
+    let there : IsTrue (has_group groups c.args.g) = subst (λ (l : Ledger). IsTrue (has_group l.groups c.args.g)) (sym c.self.view_is) c.requires in
+    let below = number_below groups c.args.g c.self.invariant.charges.groups there in
+    let same = kept_noted groups old c.count_max.new.accounts c.args.g c.self.invariant.charges.numbers
+    (omega (arith, below, c.count_max.ensures.size)) c.count_max.ensures.counted in
+    same_ledger _ _ _ _ refl (ap (accounts_of groups) c.count_local_max.ensures.counted ∙ same) ∙ ap (λ l. with_max_noted l c.args.g) c.self.view_is
+
+pub invariant_of-self : goal.invariant_of-self
+invariant_of-self c =
+    let l = ledger_of c.self.inside.tree c.self.inside.accounts in
+    let mid = c.count_max.new.accounts in
+    let a = account_by mid c.args.g in
+    let size = ap length c.count_local_max.ensures.counted ∙ length-set mid c.args.g (record a { events_local = with_max a.events_local })
+    ∙ c.count_max.ensures.size in
+    kept_as _ _ _ (with_max_noted l c.args.g) (returns-clause-noted c ∙ ap (λ k. with_max_noted k c.args.g) (sym c.self.view_is))
+    (AreCharges-noted l c.args.g c.self.invariant.charges) size
+    (stored_noted l c.self.inside.usages c.args.g c.self.invariant.usages_are)
 
 pub returns-clause-counts : goal.returns-clause-counts
 returns-clause-counts c =
     subst (λ l. CountsMax c.args.self.now l c.args.g) (sym (returns-clause-noted c))
-    (note_counts c.args.self.now c.args.g (subst AreCharges c.self.view_is c.self.invariant.0) c.requires)
+    (note_counts c.args.self.now c.args.g (subst AreCharges c.self.view_is c.self.invariant.charges) c.requires)
 
 pub returns-clause-pages : goal.returns-clause-pages
 returns-clause-pages c = subst (SamePages c.args.self.now) (sym (returns-clause-noted c)) (note_pages c.args.self.now c.args.g)

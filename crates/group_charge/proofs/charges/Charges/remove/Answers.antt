@@ -1,22 +1,29 @@
-use Rattle.std.proofs.Common.{◌≡◌, ◌==◌, not, false, sym, ap, ◌∙◌, subst, rules, tests}
-use Rattle.std.proofs.lemmas.Fn.{filter_same}
-use Rattle.group_tree.specs.Groups.{has_child}
-use Rattle.group_charge.specs.Charges.{Account, AreCharges, Ledger, with_group_removed}
+use Rattle.std.proofs.Common.{◌≡◌, IsTrue, false, sym, ap, ◌∙◌, subst, refl}
+use Rattle.group_tree.specs.Groups.{has_child, has_group}
+use Rattle.group_charge.specs.Charges.{Ledger, SamePages, current_of, with_group_removed}
+use Rattle.group_charge.specs.Kept.{ledger_of}
 use Rattle.group_charge.proofs.ChargeLemmas.{AreCharges-removed, same_ledger}
-use Rattle.group_charge.specs.Charges.{SamePages}
+use Rattle.group_charge.proofs.KeptLemmas.{kept_removed}
 use Rattle.group_charge.proofs.ReaderLemmas.{removed_pages}
+use Rattle.group_charge.proofs.StoredLemmas.{kept_as, stored_removed}
 use Rattle.group_charge.proofs.charges.Charges.remove.Goals as goal
 
 pub returns-clause-removed : goal.returns-clause-removed
 returns-clause-removed c =
-    let kept = filter_same _ (λ (a : Account). not (a.group == c.args.g)) _ (λ x b q k. search (rules, tests)) _ _ c.retain.ensures.filtered in
-    same_ledger _ _ _ _ c.remove.ensures kept ∙ ap (λ l. with_group_removed l c.args.g) c.self.view_is
+    ap (λ rows. ledger_of rows c.self.inside.accounts) c.remove.ensures
+    ∙ same_ledger _ _ _ _ refl (kept_removed c.self.inside.tree c.self.inside.accounts c.args.g c.self.invariant.charges.numbers)
+    ∙ ap (λ l. with_group_removed l c.args.g) c.self.view_is
 
 pub invariant_of-self : goal.invariant_of-self
 invariant_of-self c =
-    let leaf = subst (λ (l : Ledger). has_child l.groups c.args.g ≡ false) (sym c.self.view_is) c.requires.leaf in
-    let old = AreCharges-removed _ c.args.g c.self.invariant.0 leaf c.requires.below_root in
-    (subst AreCharges (ap (λ l. with_group_removed l c.args.g) c.self.view_is ∙ sym (returns-clause-removed c)) old, search (rules, c.self.invariant))
+    let l = ledger_of c.self.inside.tree c.self.inside.accounts in
+    let there = subst (λ (k : Ledger). IsTrue (has_group k.groups c.args.g)) (sym c.self.view_is) c.requires.there in
+    let leaf = subst (λ (k : Ledger). has_child k.groups c.args.g ≡ false) (sym c.self.view_is) c.requires.leaf in
+    let empty = subst (λ (k : Ledger). current_of k c.args.g ≡ 0) (sym c.self.view_is) c.requires.empty in
+    kept_as _ _ _ (with_group_removed l c.args.g) (returns-clause-removed c ∙ ap (λ k. with_group_removed k c.args.g) (sym c.self.view_is))
+    (AreCharges-removed l c.args.g c.self.invariant.charges leaf c.requires.below_root) c.self.invariant.size
+    (stored_removed l c.self.inside.usages c.args.g c.self.invariant.charges there empty c.self.invariant.usages_are)
 
 pub returns-clause-pages : goal.returns-clause-pages
-returns-clause-pages c = subst (SamePages c.args.self.now) (sym (returns-clause-removed c)) (removed_pages c.args.self.now c.args.g c.requires.there c.requires.empty)
+returns-clause-pages c = subst (SamePages c.args.self.now) (sym (returns-clause-removed c))
+    (removed_pages c.args.self.now c.args.g c.requires.there c.requires.empty)

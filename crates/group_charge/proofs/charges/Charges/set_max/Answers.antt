@@ -1,18 +1,27 @@
 use Rattle.std.proofs.Common.{sym, ap, ◌∙◌, subst, refl}
-use Rattle.group_charge.specs.Charges.{AreCharges}
-use Rattle.group_charge.proofs.ChargeLemmas.{AreCharges-limited, same_ledger}
+use Rattle.group_tree.specs.Groups.{has_group}
 use Rattle.group_tree.proofs.CallerLemmas.{has_group-limited}
 use Rattle.group_charge.specs.Charges.{Ledger, SamePages, with_group_limit}
-use Rattle.group_tree.specs.Groups.{has_group}
+use Rattle.group_charge.specs.Kept.{ledger_of}
+use Rattle.group_charge.proofs.ChargeLemmas.{AreCharges-limited, same_ledger}
+use Rattle.group_charge.proofs.KeptLemmas.{kept_limited}
 use Rattle.group_charge.proofs.ReaderLemmas.{limit_pages}
+use Rattle.group_charge.proofs.StoredLemmas.{kept_as, stored_limited}
 use Rattle.group_charge.proofs.charges.Charges.set_max.Goals as goal
+
+pub returns-clause-limited : goal.returns-clause-limited
+returns-clause-limited c =
+    ap (λ rows. ledger_of rows c.self.inside.accounts) c.set_max.ensures
+    ∙ same_ledger _ _ _ _ refl (kept_limited c.self.inside.tree c.self.inside.accounts c.args.g c.args.limit)
+    ∙ ap (λ l. with_group_limit l c.args.g c.args.limit) c.self.view_is
 
 pub invariant_of-self : goal.invariant_of-self
 invariant_of-self c =
-    (subst AreCharges (same_ledger _ _ _ _ (sym c.set_max.ensures) refl) (AreCharges-limited _ c.args.g c.args.limit c.self.invariant.0), c.self.invariant.1)
-
-pub returns-clause-limited : goal.returns-clause-limited
-returns-clause-limited c = same_ledger _ _ _ _ c.set_max.ensures refl ∙ ap (λ l. with_group_limit l c.args.g c.args.limit) c.self.view_is
+    let l = ledger_of c.self.inside.tree c.self.inside.accounts in
+    kept_as _ _ _ (with_group_limit l c.args.g c.args.limit) (returns-clause-limited c
+    ∙ ap (λ k. with_group_limit k c.args.g c.args.limit) (sym c.self.view_is))
+    (AreCharges-limited l c.args.g c.args.limit c.self.invariant.charges) c.self.invariant.size
+    (stored_limited l c.self.inside.usages c.args.g c.args.limit c.self.invariant.usages_are)
 
 pub returns-clause-pages : goal.returns-clause-pages
 returns-clause-pages c = subst (SamePages c.args.self.now) (sym (returns-clause-limited c)) (limit_pages c.args.self.now c.args.g c.args.limit)

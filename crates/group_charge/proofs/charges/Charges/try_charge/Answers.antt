@@ -1,55 +1,88 @@
-use Rattle.std.proofs.Common.{◌≢◌, ◌+◌, ◌<◌, ◌^◌, IsTrue, All, AllPairs, length, sym, ap, ◌∙◌, subst, refl, arith, rules}
+use Rattle.std.proofs.Common.{◌≡◌, ◌<◌, ◌+◌, ◌^◌, IsTrue, None, length, get_or, set, sym, ap, ◌∙◌, subst, refl, arith}
 use Rattle.group_tree.specs.Groups.{has_group}
-use Rattle.group_tree.proofs.GroupLemmas.{take_new}
-use Rattle.group_charge.specs.Charges.{Account, AreCharges, UsageRises, Ledger, charged, current_of, total_pages, with_charge}
-use Rattle.group_charge.proofs.ChargeLemmas.{AreCharges-charged, all_distinct, all_known, length-charged, charge_rises, root_usage, same_ledger}
-use Rattle.group_charge.specs.Charges.{PagesRise, PeaksRise, SameEvents}
-use Rattle.group_charge.proofs.ReaderLemmas.{charge_pages, charge_peaks, charge_events}
+use Rattle.group_charge.specs.Charges.{Account, AreCharges, Ledger, PagesRise, PeaksRise, SameEvents, UsageRises, current_of, empty_account, with_charge}
+use Rattle.group_charge.specs.Kept.{UsagesPassed, account_by, ledger_of}
+use Rattle.group_charge.proofs.ChargeLemmas.{AreCharges-charged, charge_rises, same_ledger, usage-le-root}
+use Rattle.group_charge.proofs.KeptLemmas.{kept_charged, kept_pages, read_at, set_pages}
+use Rattle.group_charge.proofs.ReaderLemmas.{charge_events, charge_pages, charge_peaks, pages-le-current}
+use Rattle.group_charge.proofs.StoredLemmas.{kept_as, stored_charged}
 use Rattle.group_charge.proofs.charges.Charges.try_charge.Goals as goal
 
-pub charge-requires-clause-known : goal.charge-requires-clause-known
-charge-requires-clause-known c =
-    subst (λ rows. All (λ (a : Account). IsTrue (has_group c.self.inside.tree a.group)) rows) (sym c.as_mut_slice.ensures.value) (all_known _ c.self.invariant.0)
+pub add-requires-clause-fits : goal.add-requires-clause-fits
+add-requires-clause-fits c = λ m.
+    let l = ledger_of c.self.inside.tree c.self.inside.accounts in
+    let fits : current_of l 0 + c.args.n < 2 ^ 32 = subst (λ k. current_of k 0 + c.args.n < 2 ^ 32) (sym c.self.view_is) c.requires.fits in
+    let low = usage-le-root l m c.self.invariant.charges in
+    let stored = c.self.invariant.usages_are.sums m in
+    omega arith
 
-pub charge-requires-clause-distinct : goal.charge-requires-clause-distinct
-charge-requires-clause-distinct c =
-    subst (λ rows. AllPairs (λ (a b : Account). a.group ≢ b.group) rows) (sym c.as_mut_slice.ensures.value) (all_distinct _ c.self.invariant.0)
-
-pub charge-requires-clause-fits : goal.charge-requires-clause-fits
-charge-requires-clause-fits c =
-    let fits = subst (λ l. current_of l 0 + c.args.n < 2 ^ 32) (sym c.self.view_is) c.requires.fits in
-    omega (arith, ap total_pages c.as_mut_slice.ensures.value, root_usage _ c.self.invariant.0, fits)
+pub overflow_add-self : goal.overflow_add-self
+overflow_add-self c =
+    let l = ledger_of c.self.inside.tree c.self.inside.accounts in
+    let kept = c.self.inside.accounts in
+    let there : IsTrue (has_group l.groups c.args.g) = subst (λ (k : Ledger). IsTrue (has_group k.groups c.args.g)) (sym c.self.view_is) c.requires.there in
+    let fits : current_of l 0 + c.args.n < 2 ^ 32 = subst (λ k. current_of k 0 + c.args.n < 2 ^ 32) (sym c.self.view_is) c.requires.fits in
+    let within : c.number.result < length kept = omega (arith, c.self.invariant.size, c.number.ensures.below) in
+    let read : (get_or kept c.number.result c.index-self-number.result).pages ≡ (account_by kept c.args.g).pages =
+    ap (λ (a : Account). a.pages) (read_at kept c.number.result c.args.g c.index-self-number.result (empty_account 0) within c.number.ensures.value) in
+    let own = kept_pages c.self.inside.tree kept c.args.g c.self.invariant.charges there in
+    let part = pages-le-current l c.args.g there in
+    let low = usage-le-root l c.args.g c.self.invariant.charges in
+    omega (arith, read, own, part, low, fits)
 
 pub returns-clause-charged : goal.returns-clause-charged
 returns-clause-charged c =
-    let new = c.charge.ensures ∙ ap (λ rows. charged c.self.inside.tree rows c.args.g c.args.n) c.as_mut_slice.ensures.value in
-    let size = ap length new ∙ length-charged c.self.inside.tree c.self.inside.accounts.items c.args.g c.args.n in
-    let whole = take_new c.self.inside.accounts.len c.self.inside.accounts.items c.charge.new.accounts size (search rules) in
-    same_ledger _ _ _ _ refl (whole ∙ new) ∙ ap (λ l. with_charge l c.args.g c.args.n) c.self.view_is
+    let groups = c.self.inside.tree in
+    let kept = c.self.inside.accounts in
+    let l = ledger_of groups kept in
+    let there : IsTrue (has_group groups c.args.g) = subst (λ (k : Ledger). IsTrue (has_group k.groups c.args.g)) (sym c.self.view_is) c.requires.there in
+    let within : c.number.result < length kept = omega (arith, c.self.invariant.size, c.number.ensures.below) in
+    let also : c.args.g < length kept = omega (arith, c.self.invariant.size, c.number.ensures.below, c.number.ensures.value) in
+    let more : (get_or kept c.number.result c.index-self-number.result).pages + c.args.n ≡ (account_by kept c.args.g).pages + c.args.n =
+    ap (λ (a : Account). a.pages + c.args.n)
+    (read_at kept c.number.result c.args.g c.index-self-number.result (empty_account 0) within c.number.ensures.value) in
+    let mid : set kept c.number.result (record (get_or kept c.number.result c.index-self-number-2.result) {
+      pages =
+          (get_or kept c.number.result c.index-self-number.result).pages + c.args.n;
+    }) ≡ set kept c.args.g
+    (record (account_by kept c.args.g) { pages = (account_by kept c.args.g).pages + c.args.n }) =
+    ap (λ k. set kept c.number.result (record (get_or kept c.number.result c.index-self-number-2.result) { pages = k })) more
+    ∙ set_pages kept c.number.result c.args.g ((account_by kept c.args.g).pages + c.args.n) c.index-self-number-2.result within c.number.ensures.value in
+    let none : c.add.result ≡ None = c.in_default.is in
+    let added = subst (λ o. UsagesPassed groups c.args.g o (λ pages. pages + c.args.n) c.self.inside.usages c.add.new.usages) none c.add.ensures.added in
+    let are = stored_charged l c.self.inside.usages c.add.new.usages c.args.g c.args.n c.self.invariant.charges there c.self.invariant.usages_are
+    c.add.ensures.size added in
+    same_ledger _ _ _ _ refl (kept_charged groups kept _ c.raise_peaks.new.accounts c.add.new.usages c.args.g c.args.n c.self.invariant.charges also
+    mid are c.raise_peaks.ensures.raised)
+    ∙ ap (λ k. with_charge k c.args.g c.args.n) c.self.view_is
 
-pub invariant_of-self : goal.invariant_of-self
-invariant_of-self c =
-    let there = subst (λ (l : Ledger). IsTrue (has_group l.groups c.args.g)) (sym c.self.view_is) c.requires.there in
-    let fits = subst (λ l. current_of l 0 + c.args.n < 2 ^ 32) (sym c.self.view_is) c.requires.fits in
-    let new = c.charge.ensures ∙ ap (λ rows. charged c.self.inside.tree rows c.args.g c.args.n) c.as_mut_slice.ensures.value in
-    let size = ap length new ∙ length-charged c.self.inside.tree c.self.inside.accounts.items c.args.g c.args.n in
-    let whole = take_new c.self.inside.accounts.len c.self.inside.accounts.items c.charge.new.accounts size (search rules) in
-    (subst AreCharges (same_ledger _ _ _ _ refl (sym (whole ∙ new))) (AreCharges-charged _ c.args.g c.args.n c.self.invariant.0 there fits), c.self.invariant.1)
+pub invariant_of-self-2 : goal.invariant_of-self-2
+invariant_of-self-2 c =
+    let groups = c.self.inside.tree in
+    let l = ledger_of groups c.self.inside.accounts in
+    let there : IsTrue (has_group groups c.args.g) = subst (λ (k : Ledger). IsTrue (has_group k.groups c.args.g)) (sym c.self.view_is) c.requires.there in
+    let fits : current_of l 0 + c.args.n < 2 ^ 32 = subst (λ k. current_of k 0 + c.args.n < 2 ^ 32) (sym c.self.view_is) c.requires.fits in
+    let none : c.add.result ≡ None = c.in_default.is in
+    let added = subst (λ o. UsagesPassed groups c.args.g o (λ pages. pages + c.args.n) c.self.inside.usages c.add.new.usages) none c.add.ensures.added in
+    kept_as _ _ _ (with_charge l c.args.g c.args.n) (returns-clause-charged c ∙ ap (λ k. with_charge k c.args.g c.args.n) (sym c.self.view_is))
+    (AreCharges-charged l c.args.g c.args.n c.self.invariant.charges there fits) c.raise_peaks.ensures.size
+    (stored_charged l c.self.inside.usages c.add.new.usages c.args.g c.args.n c.self.invariant.charges there c.self.invariant.usages_are
+    c.add.ensures.size added)
 
 pub returns-clause-usage : goal.returns-clause-usage
 returns-clause-usage c =
     subst (λ l. UsageRises c.args.self.now l c.args.g c.args.n) (sym (returns-clause-charged c))
-    (charge_rises c.args.self.now c.args.g c.args.n (subst AreCharges c.self.view_is c.self.invariant.0) c.requires.there)
+    (charge_rises c.args.self.now c.args.g c.args.n (subst AreCharges c.self.view_is c.self.invariant.charges) c.requires.there)
 
 pub returns-clause-pages : goal.returns-clause-pages
 returns-clause-pages c =
     subst (λ l. PagesRise c.args.self.now l c.args.g c.args.n) (sym (returns-clause-charged c))
-    (charge_pages c.args.self.now c.args.g c.args.n (subst AreCharges c.self.view_is c.self.invariant.0) c.requires.there)
+    (charge_pages c.args.self.now c.args.g c.args.n (subst AreCharges c.self.view_is c.self.invariant.charges) c.requires.there)
 
 pub returns-clause-peaks : goal.returns-clause-peaks
 returns-clause-peaks c =
     subst (λ l. PeaksRise c.args.self.now l c.args.g) (sym (returns-clause-charged c))
-    (charge_peaks c.args.self.now c.args.g c.args.n (subst AreCharges c.self.view_is c.self.invariant.0))
+    (charge_peaks c.args.self.now c.args.g c.args.n (subst AreCharges c.self.view_is c.self.invariant.charges))
 
 pub returns-clause-events : goal.returns-clause-events
 returns-clause-events c = subst (SameEvents c.args.self.now) (sym (returns-clause-charged c)) (charge_events c.args.self.now c.args.g c.args.n)

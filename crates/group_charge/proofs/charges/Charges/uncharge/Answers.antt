@@ -1,41 +1,68 @@
-use Rattle.std.proofs.Common.{◌≡◌, ◌≤◌, All, length, map, sym, ap, ◌∙◌, subst, refl, rules}
-use Rattle.std.proofs.lemmas.List.{length-map}
-use Rattle.group_tree.proofs.GroupLemmas.{take_new}
-use Rattle.group_charge.specs.Charges.{Account, AreCharges, UsageRises, pages_of, taken, with_uncharge}
-use Rattle.group_charge.proofs.ChargeLemmas.{uncharge_falls, AreCharges-taken, pages-there, same_ledger}
-use Rattle.group_charge.specs.Charges.{PagesRise, SameEvents, SamePeaks}
-use Rattle.group_charge.proofs.ReaderLemmas.{uncharge_pages, uncharge_peaks, uncharge_events}
+use Rattle.std.proofs.Common.{◌≡◌, ◌<◌, ◌≤◌, ◌-◌, IsTrue, length, get_or, set, sym, ap, ◌∙◌, subst, refl, arith}
+use Rattle.std.proofs.lemmas.List.{length-set}
+use Rattle.group_tree.specs.Groups.{has_group}
+use Rattle.group_charge.specs.Charges.{Account, AreCharges, Ledger, PagesRise, SameEvents, SamePeaks, UsageRises, empty_account, pages_of, with_uncharge}
+use Rattle.group_charge.specs.Kept.{account_by, ledger_of}
+use Rattle.group_charge.proofs.ChargeLemmas.{AreCharges-taken, same_ledger, uncharge_falls}
+use Rattle.group_charge.proofs.KeptLemmas.{kept_pages, kept_taken, read_at, set_pages}
+use Rattle.group_charge.proofs.ReaderLemmas.{uncharge_events, uncharge_pages, uncharge_peaks}
+use Rattle.group_charge.proofs.StoredLemmas.{enough_stored, kept_as, stored_taken}
 use Rattle.group_charge.proofs.charges.Charges.uncharge.Goals as goal
 
-pub take_pages-requires : goal.take_pages-requires
-take_pages-requires c =
-    let enough = subst (λ l. c.args.n ≤ pages_of l c.args.g) (sym c.self.view_is) c.requires.charged in
-    subst (λ rows. All (λ (a : Account). a.group ≡ c.args.g → c.args.n ≤ a.pages) rows) (sym c.as_mut_slice.ensures.value) (pages-there _ c.args.g c.args.n c.self.invariant.0 enough)
+pub overflow_sub-self : goal.overflow_sub-self
+overflow_sub-self c =
+    let groups = c.self.inside.tree in
+    let kept = c.self.inside.accounts in
+    let there : IsTrue (has_group groups c.args.g) = subst (λ (l : Ledger). IsTrue (has_group l.groups c.args.g)) (sym c.self.view_is) c.requires.there in
+    let charged : c.args.n ≤ pages_of (ledger_of groups kept) c.args.g =
+    subst (λ (l : Ledger). c.args.n ≤ pages_of l c.args.g) (sym c.self.view_is) c.requires.charged in
+    let within : c.number.result < length kept = omega (arith, c.self.invariant.size, c.number.ensures.below) in
+    let own = kept_pages groups kept c.args.g c.self.invariant.charges there in
+    let read : (get_or kept c.number.result c.index-self-number.result).pages ≡ (account_by kept c.args.g).pages =
+    ap (λ (a : Account). a.pages) (read_at kept c.number.result c.args.g c.index-self-number.result (empty_account 0) within c.number.ensures.value) in
+    omega (arith, own, read, charged)
 
-pub invariant_of-self : goal.invariant_of-self
-invariant_of-self c =
-    let old = c.self.inside.accounts.items in
-    let new = c.take_pages.ensures ∙ ap (map (taken c.args.g c.args.n)) c.as_mut_slice.ensures.value in
-    let size = ap length new ∙ length-map old (taken c.args.g c.args.n) in
-    let whole = take_new c.self.inside.accounts.len old c.take_pages.new.accounts size (search rules) in
-    (subst AreCharges (same_ledger _ _ _ _ refl (sym (whole ∙ new))) (AreCharges-taken _ c.args.g c.args.n c.self.invariant.0), c.self.invariant.1)
+pub take_off-requires-clause-enough : goal.take_off-requires-clause-enough
+take_off-requires-clause-enough c = λ m passed.
+    let l = ledger_of c.self.inside.tree c.self.inside.accounts in
+    let there : IsTrue (has_group l.groups c.args.g) = subst (λ (k : Ledger). IsTrue (has_group k.groups c.args.g)) (sym c.self.view_is) c.requires.there in
+    let charged : c.args.n ≤ pages_of l c.args.g = subst (λ k. c.args.n ≤ pages_of k c.args.g) (sym c.self.view_is) c.requires.charged in
+    enough_stored l c.self.inside.usages c.args.g c.args.n m c.self.invariant.charges there charged c.self.invariant.usages_are passed
 
 pub returns-clause-uncharged : goal.returns-clause-uncharged
 returns-clause-uncharged c =
-    let old = c.self.inside.accounts.items in
-    let new = c.take_pages.ensures ∙ ap (map (taken c.args.g c.args.n)) c.as_mut_slice.ensures.value in
-    let size = ap length new ∙ length-map old (taken c.args.g c.args.n) in
-    let whole = take_new c.self.inside.accounts.len old c.take_pages.new.accounts size (search rules) in
-    same_ledger _ _ _ _ refl (whole ∙ new) ∙ ap (λ l. with_uncharge l c.args.g c.args.n) c.self.view_is
+    let groups = c.self.inside.tree in
+    let kept = c.self.inside.accounts in
+    let within : c.number.result < length kept = omega (arith, c.self.invariant.size, c.number.ensures.below) in
+    let also : c.args.g < length kept = omega (arith, c.self.invariant.size, c.number.ensures.below, c.number.ensures.value) in
+    let less : (get_or kept c.number.result c.index-self-number.result).pages - c.args.n ≡ (account_by kept c.args.g).pages - c.args.n =
+    ap (λ (a : Account). a.pages - c.args.n)
+    (read_at kept c.number.result c.args.g c.index-self-number.result (empty_account 0) within c.number.ensures.value) in
+    ap (λ k. ledger_of groups (set kept c.number.result (record (get_or kept c.number.result c.index-self-number-2.result) { pages = k }))) less
+    ∙ ap (ledger_of groups) (set_pages kept c.number.result c.args.g
+    ((account_by kept c.args.g).pages - c.args.n) c.index-self-number-2.result within c.number.ensures.value)
+    ∙ same_ledger _ _ _ _ refl (kept_taken groups kept c.args.g c.args.n c.self.invariant.charges.numbers also)
+    ∙ ap (λ l. with_uncharge l c.args.g c.args.n) c.self.view_is
+
+pub invariant_of-self : goal.invariant_of-self
+invariant_of-self c =
+    let l = ledger_of c.self.inside.tree c.self.inside.accounts in
+    let there : IsTrue (has_group l.groups c.args.g) = subst (λ (k : Ledger). IsTrue (has_group k.groups c.args.g)) (sym c.self.view_is) c.requires.there in
+    let charged : c.args.n ≤ pages_of l c.args.g = subst (λ k. c.args.n ≤ pages_of k c.args.g) (sym c.self.view_is) c.requires.charged in
+    kept_as _ _ _ (with_uncharge l c.args.g c.args.n) (returns-clause-uncharged c ∙ ap (λ k. with_uncharge k c.args.g c.args.n) (sym c.self.view_is))
+    (AreCharges-taken l c.args.g c.args.n c.self.invariant.charges) (length-set c.self.inside.accounts c.number.result _ ∙ c.self.invariant.size)
+    (stored_taken l c.self.inside.usages c.take_off.new.usages c.args.g c.args.n c.self.invariant.charges there charged c.self.invariant.usages_are
+    c.take_off.ensures.size c.take_off.ensures.taken)
 
 pub returns-clause-usage : goal.returns-clause-usage
 returns-clause-usage c =
     subst (λ l. UsageRises l c.args.self.now c.args.g c.args.n) (sym (returns-clause-uncharged c))
-    (uncharge_falls c.args.self.now c.args.g c.args.n (subst AreCharges c.self.view_is c.self.invariant.0) c.requires.there c.requires.charged)
+    (uncharge_falls c.args.self.now c.args.g c.args.n (subst AreCharges c.self.view_is c.self.invariant.charges) c.requires.there c.requires.charged)
 
 pub returns-clause-pages : goal.returns-clause-pages
 returns-clause-pages c =
-    subst (λ l. PagesRise l c.args.self.now c.args.g c.args.n) (sym (returns-clause-uncharged c)) (uncharge_pages c.args.self.now c.args.g c.args.n c.requires.charged)
+    subst (λ l. PagesRise l c.args.self.now c.args.g c.args.n) (sym (returns-clause-uncharged c))
+    (uncharge_pages c.args.self.now c.args.g c.args.n c.requires.charged)
 
 pub returns-clause-peaks : goal.returns-clause-peaks
 returns-clause-peaks c = subst (SamePeaks c.args.self.now) (sym (returns-clause-uncharged c)) (uncharge_peaks c.args.self.now c.args.g c.args.n)

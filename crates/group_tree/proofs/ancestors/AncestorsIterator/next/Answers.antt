@@ -9,7 +9,8 @@ invariant_of-self c =
     let tree = c.self.inside.tree.now in
     record {
       groups_are = c.self.invariant.groups_are;
-      there = subst (λ o. IsTrue (is_there tree o)) (sym c.parent-self-inside.ensures.value) (parent-is_there tree c.in_ok-group.group c.self.invariant.groups_are);
+      there = subst (λ o. IsTrue (is_there tree o)) (sym c.parent-self-inside.ensures.value)
+          (parent-is_there tree c.in_ok-group.group c.self.invariant.groups_are);
     }
 
 pub returns-clause-steps : goal.returns-clause-steps

@@ -13,6 +13,9 @@ begins-requires-clause-below c = subst IsWellFormed (sym c.as_bytes-2.ensures.te
 
 pub returns : goal.returns
 returns c =
-    let left : starts_with bytes_eq (names_of c.as_bytes-2.result.now) (names_of c.as_bytes.result.now) ≡ starts_with bytes_eq (names_of c.path_of-below.result.now) (names_of c.path_of-above.result.now) =
-    ap (λ p. starts_with bytes_eq (names_of p) (names_of c.as_bytes.result.now)) c.as_bytes-2.ensures.text ∙ ap (λ p. starts_with bytes_eq (names_of c.path_of-below.result.now) (names_of p)) c.as_bytes.ensures.text in
-    c.begins.ensures ∙ left ∙ sym (in_subtree-paths c.args.self.now c.args.g c.args.h c.path_of-above.result.now c.path_of-below.result.now c.path_of-above.ensures.value c.path_of-below.ensures.value)
+    let left : starts_with bytes_eq (names_of c.as_bytes-2.result.now) (names_of c.as_bytes.result.now)
+    ≡ starts_with bytes_eq (names_of c.path_of-below.result.now) (names_of c.path_of-above.result.now) =
+    ap (λ p. starts_with bytes_eq (names_of p) (names_of c.as_bytes.result.now)) c.as_bytes-2.ensures.text
+    ∙ ap (λ p. starts_with bytes_eq (names_of c.path_of-below.result.now) (names_of p)) c.as_bytes.ensures.text in
+    c.begins.ensures ∙ left ∙ sym (in_subtree-paths c.args.self.now c.args.g c.args.h c.path_of-above.result.now c.path_of-below.result.now
+    c.path_of-above.ensures.value c.path_of-below.ensures.value)

@@ -26,16 +26,23 @@ invariant_of-self c =
     let old = subst AreGroups c.self.view_is c.self.invariant.0 in
     let can = can_make c.args.self.now c.args.path.now (sym c.make_fault.ensures ∙ c.in_default.is) in
     let path : c.unwrap-path.result ≡ c.args.path.now = search rules in
-    let rows : c.push.new.self.items ≡ with_group c.args.self.now c.least_free-number.result c.unwrap-path.result = pushed (record { number = c.least_free-number.result; path = c.unwrap-path.result; limit = None } ∷ []) c.self.view_is c.unwrap.ensures c.push.ensures.items in
-    let new = AreGroups-with c.args.self.now c.least_free-number.result c.args.path.now old can c.least_free-number.ensures.below c.least_free-number.ensures.number.free in (
+    let rows : c.push.new.self.items ≡ with_group c.args.self.now c.least_free-number.result c.unwrap-path.result =
+    pushed (record { number = c.least_free-number.result; path = c.unwrap-path.result; limit = None } ∷ []) c.self.view_is c.unwrap.ensures
+    c.push.ensures.items in
+    let new = AreGroups-with c.args.self.now c.least_free-number.result c.args.path.now old can c.least_free-number.ensures.below
+    c.least_free-number.ensures.number.free in (
       subst AreGroups (sym (rows ∙ ap (with_group c.args.self.now c.least_free-number.result) path)) new,
       search (rules, c.self.invariant.1),
-      subst (λ r. AreLinks r (set c.self.inside.links c.number.result (record { parent = c.unwrap-parent.result; depth = c.depth-depth.result; limit = None }))) (sym (rows ∙ ap (with_group c.args.self.now c.least_free-number.result) path))
+      subst (λ r. AreLinks r (set c.self.inside.links c.number.result
+          (record { parent = c.unwrap-parent.result; depth = c.depth-depth.result; limit = None })))
+          (sym (rows ∙ ap (with_group c.args.self.now c.least_free-number.result) path))
           (subst (AreLinks (with_group c.args.self.now c.least_free-number.result c.args.path.now))
-          (ap (λ n. set c.self.inside.links n (record { parent = c.unwrap-parent.result; depth = depth_of c.args.path.now; limit = None })) (sym c.number.ensures.value)
+          (ap (λ n. set c.self.inside.links n (record { parent = c.unwrap-parent.result; depth = depth_of c.args.path.now; limit = None }))
+          (sym c.number.ensures.value)
           ∙ ap (λ d. set c.self.inside.links c.number.result (record { parent = c.unwrap-parent.result; depth = d; limit = None })) (sym c.depth-depth.ensures))
           (AreLinks-with c.args.self.now c.self.inside.links c.least_free-number.result c.unwrap-parent.result c.args.path.now old
-          (subst (λ r. AreLinks r c.self.inside.links) c.self.view_is c.self.invariant.2) can c.least_free-number.ensures.below c.least_free-number.ensures.number.free (sym (ap (number_at c.args.self.now) c.parent_path.ensures) ∙ sym c.find.ensures ∙ c.unwrap-parent.ensures))),
+          (subst (λ r. AreLinks r c.self.inside.links) c.self.view_is c.self.invariant.2) can c.least_free-number.ensures.below
+          c.least_free-number.ensures.number.free (sym (ap (number_at c.args.self.now) c.parent_path.ensures) ∙ sym c.find.ensures ∙ c.unwrap-parent.ensures))),
     )
 
 pub unwrap-parent-requires : goal.unwrap-parent-requires
@@ -49,7 +56,9 @@ depth-depth-requires c = (can_make c.args.self.now c.args.path.now (sym c.make_f
 pub returns-clause-made : goal.returns-clause-made
 returns-clause-made c =
     let path : c.unwrap-path.result ≡ c.args.path.now = search rules in
-    let rows : c.push.new.self.items ≡ with_group c.args.self.now c.least_free-number.result c.unwrap-path.result = pushed (record { number = c.least_free-number.result; path = c.unwrap-path.result; limit = None } ∷ []) c.self.view_is c.unwrap.ensures c.push.ensures.items in
+    let rows : c.push.new.self.items ≡ with_group c.args.self.now c.least_free-number.result c.unwrap-path.result =
+    pushed (record { number = c.least_free-number.result; path = c.unwrap-path.result; limit = None } ∷ []) c.self.view_is c.unwrap.ensures
+    c.push.ensures.items in
     rows ∙ ap (with_group c.args.self.now c.least_free-number.result) path
 
 pub returns-clause-there : goal.returns-clause-there

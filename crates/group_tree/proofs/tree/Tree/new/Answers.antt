@@ -9,5 +9,9 @@ use Rattle.group_tree.proofs.tree.Tree.new.Goals as goal
 pub invariant_of-result : goal.invariant_of-result
 invariant_of-result c =
     let rows : c.push.new.self.items ≡ initial_groups =
-    pushed (c.root_group.result ∷ []) c.in_ok-rows.ensures.items c.unwrap.ensures c.push.ensures.items ∙ ap (λ r. r ∷ []) c.root_group.ensures in
-    (subst AreGroups (sym rows) AreGroups-initial, search (rules, c.in_ok-rows.ensures), subst (λ r. AreLinks r (replicate 64 c.root_link-links.result)) (sym rows) (AreLinks-initial _ (ap (replicate 64) c.root_link-links.ensures)))
+    pushed (c.root_group.result ∷ []) c.in_ok-rows.ensures.items c.unwrap.ensures c.push.ensures.items ∙ ap (λ r. r ∷ []) c.root_group.ensures in (
+      subst AreGroups (sym rows) AreGroups-initial,
+      search (rules, c.in_ok-rows.ensures),
+      subst
+          (λ r. AreLinks r (replicate 64 c.root_link-links.result)) (sym rows) (AreLinks-initial _ (ap (replicate 64) c.root_link-links.ensures)),
+    )

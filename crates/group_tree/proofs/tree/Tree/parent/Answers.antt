@@ -14,7 +14,8 @@ pub returns-clause-value : goal.returns-clause-value
 returns-clause-value c =
     let groups = subst AreGroups c.self.view_is c.self.invariant.0 in
     let links = subst (λ rows. AreLinks rows c.self.inside.links) c.self.view_is c.self.invariant.2 in
-    let same = link_read c.self.inside.links c.number-2.result c.args.g c.index-self-number.result links.size c.number-2.ensures.below c.number-2.ensures.value in
+    let same = link_read c.self.inside.links c.number-2.result c.args.g c.index-self-number.result links.size c.number-2.ensures.below
+    c.number-2.ensures.value in
     ap (λ l. Some l.parent) same
     ∙ sym (parent-link c.args.self.now c.self.inside.links c.args.g groups links c.requires (λ e. c.if-number-eq0.false (c.number.ensures.value ∙ e)))
 

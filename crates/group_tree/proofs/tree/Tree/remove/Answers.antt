@@ -8,9 +8,15 @@ use Rattle.group_tree.proofs.tree.Tree.remove.Goals as goal
 
 pub returns : goal.returns
 unfolding without_group
-returns c = filter_same _ (λ (g : Group). not (g.number == c.args.g)) _ (λ x b q k. search (rules, tests)) _ _ c.retain.ensures.filtered ∙ ap (λ rows. without_group rows c.args.g) c.self.view_is
+returns c = filter_same _ (λ (g : Group). not (g.number == c.args.g)) _ (λ x b q k. search (rules, tests)) _ _ c.retain.ensures.filtered
+    ∙ ap (λ rows. without_group rows c.args.g) c.self.view_is
 
 pub invariant_of-self : goal.invariant_of-self
 invariant_of-self c =
-    let old = subst AreGroups c.self.view_is c.self.invariant.0 in
-    (subst AreGroups (sym (returns c)) (AreGroups-without c.args.self.now c.args.g old c.requires.leaf c.requires.below_root), search (rules, c.self.invariant.1), subst (λ rows. AreLinks rows c.self.inside.links) (sym (returns c)) (AreLinks-without c.args.self.now c.self.inside.links c.args.g (subst (λ rows. AreLinks rows c.self.inside.links) c.self.view_is c.self.invariant.2)))
+    let old = subst AreGroups c.self.view_is c.self.invariant.0 in (
+      subst AreGroups (sym (returns c)) (AreGroups-without c.args.self.now c.args.g old c.requires.leaf c.requires.below_root),
+      search
+          (rules, c.self.invariant.1),
+      subst (λ rows. AreLinks rows c.self.inside.links) (sym (returns c))
+          (AreLinks-without c.args.self.now c.self.inside.links c.args.g (subst (λ rows. AreLinks rows c.self.inside.links) c.self.view_is c.self.invariant.2)),
+    )

@@ -9,14 +9,19 @@ use Rattle.group_tree.proofs.tree.Tree.set_max.Goals as goal
 pub invariant_of-self : goal.invariant_of-self
 invariant_of-self c =
     let old = c.self.inside.rows.items in
-    let new : c.set_limit.new.rows ≡ with_limit old c.args.g c.args.limit = c.set_limit.ensures ∙ ap (λ rows. with_limit rows c.args.g c.args.limit) c.as_mut_slice.ensures.value in
+    let new : c.set_limit.new.rows ≡ with_limit old c.args.g c.args.limit = c.set_limit.ensures
+    ∙ ap (λ rows. with_limit rows c.args.g c.args.limit) c.as_mut_slice.ensures.value in
     let size : length c.set_limit.new.rows ≡ length old = ap length new ∙ length-limited old c.args.g c.args.limit in
     let whole : take c.self.inside.rows.len (c.set_limit.new.rows ++ drop (length c.set_limit.new.rows) old) ≡ c.set_limit.new.rows =
     take_new c.self.inside.rows.len old c.set_limit.new.rows size (search rules) in
     let within : c.number.result < length c.self.inside.links = omega (arith, c.self.invariant.2.size, c.number.ensures.below) in (
       subst AreGroups (sym (whole ∙ new)) (AreGroups-limited old c.args.g c.args.limit c.self.invariant.0),
       c.self.invariant.1,
-      subst (λ rows. AreLinks rows (set c.self.inside.links c.number.result (record (get_or c.self.inside.links c.number.result c.index-self-number.result) { limit = c.args.limit }))) (sym (whole ∙ new))
+      subst (λ rows. AreLinks rows (set c.self.inside.links c.number.result
+          (record (get_or c.self.inside.links c.number.result c.index-self-number.result) { limit = c.args.limit }))) (sym (whole ∙ new))
           (subst (AreLinks (with_limit old c.args.g c.args.limit)) (ap (λ n. limit_set c.self.inside.links n c.args.limit) (sym c.number.ensures.value)
-          ∙ ap (λ l. set c.self.inside.links c.number.result (record l { limit = c.args.limit })) (get_or_default c.self.inside.links c.number.result root_link c.index-self-number.result within)) (AreLinks-limited old c.self.inside.links c.args.g c.args.limit (subst (λ n. n < 64) c.number.ensures.value c.number.ensures.below) c.self.invariant.2)),
+          ∙ ap (λ l. set c.self.inside.links c.number.result (record l { limit = c.args.limit }))
+          (get_or_default c.self.inside.links c.number.result root_link c.index-self-number.result within))
+          (AreLinks-limited old c.self.inside.links c.args.g c.args.limit
+          (subst (λ n. n < 64) c.number.ensures.value c.number.ensures.below) c.self.invariant.2)),
     )

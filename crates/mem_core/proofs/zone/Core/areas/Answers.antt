@@ -1,15 +1,17 @@
--- The free areas are those of the free frames of each run that is shown.
-use Rattle.std.proofs.Common.{subst}
+-- The free areas are those of the state that the run defines (for `Core::areas`).
+use Rattle.std.proofs.Common.{◌≡◌, sym, ◌∙◌, ap, subst}
 use Rattle.zone_blocks.specs.Areas.{AreMaximalBlocks}
-use Rattle.mem_core.specs.Run.{free_frames}
-use Rattle.mem_core.specs.Shown.{State, Shows}
-use Rattle.mem_core.specs.Inside.{state_of}
-use Rattle.mem_core.proofs.ShownRuns.{free_areas-Shows}
-use Rattle.mem_core.proofs.Parts.{HasSizes-IsSound}
+use Rattle.step_rules.specs.State.{State, free_in}
+use Rattle.core_rows.specs.Shown as rows
+use Rattle.mem_core.specs.Shown.{state_in}
+use Rattle.mem_core.proofs.Linking.{shown_is}
 use Rattle.mem_core.proofs.zone.Core.areas.Goals as goal
 
 pub returns-clause-run : goal.returns-clause-run
 returns-clause-run c run shows =
-    let sound = c.self.invariant.sound in
-    subst (λ (s : State). Shows s run → AreMaximalBlocks (free_frames s.config run) c.self.inside.areas.blocks) c.self.view_is
-    (λ shown. free_areas-Shows (state_of c.self.inside) run (HasSizes-IsSound (state_of c.self.inside) sound) sound shown) shows
+    let shown : rows.state_in c.self.inside.rows ≡ state_in c.args.self.now = sym (shown_is c.self.inside) ∙ ap state_in c.self.view_is in
+    let s = rows.state_in c.self.inside.rows in
+    let t = state_in c.args.self.now in
+    let own : AreMaximalBlocks (free_in t.zone t.phases) c.self.inside.areas.blocks =
+    subst (λ (x : State). AreMaximalBlocks (free_in x.zone x.phases) c.self.inside.areas.blocks) shown c.self.invariant.areas in
+    subst (λ (x : State). AreMaximalBlocks (free_in c.args.self.now.zone x.phases) c.self.inside.areas.blocks) shows.state own

@@ -1,11 +1,21 @@
--- The usage of the state is that of each run that is shown.
-use Rattle.std.proofs.Common.{◌∙◌, subst}
-use Rattle.mem_core.specs.Shown.{IsSound}
-use Rattle.mem_core.proofs.ShownRuns.{current_in-Shows}
-use Rattle.mem_core.proofs.Parts.{HasSizes-IsSound}
+-- What the rows tell is told of each run that is shown.
+use Rattle.std.proofs.Common.{◌≡◌, ◌*◌, ◌^◌, sym, ◌∙◌, ap, arith}
+use Rattle.step_rules.specs.State.{State}
+use Rattle.step_rules.specs.Usage.{usage_of}
+use Rattle.core_rows.specs.Shown as rows
+use Rattle.mem_core.specs.Shown.{state_in}
+use Rattle.mem_core.proofs.Linking.{shown_is, ready}
 use Rattle.mem_core.proofs.zone.Core.current.Goals as goal
 
+pub usage-requires-clause-few : goal.usage-requires-clause-few
+usage-requires-clause-few c =
+    let few = c.self.invariant.few in
+    ready c.self.inside.rows (c.self.inside.steps * 2 ^ 32) (omega arith) c.self.invariant.fits c.self.invariant.sound c.self.invariant.bounded
+
+pub returns-clause-now : goal.returns-clause-now
+returns-clause-now c =
+    let link : state_in c.args.self.now ≡ rows.state_in c.self.inside.rows = ap state_in (sym c.self.view_is) ∙ shown_is c.self.inside in
+    c.usage.ensures.usage ∙ ap (λ (s : State). usage_of s c.args.group) (sym link)
+
 pub returns-clause-run : goal.returns-clause-run
-returns-clause-run c run shows =
-    let sound : IsSound c.args.self.now = subst IsSound c.self.view_is c.self.invariant.sound in
-    c.usage.ensures.usage ∙ current_in-Shows c.args.self.now run c.args.group (HasSizes-IsSound c.args.self.now sound) sound shows
+returns-clause-run c run shows = returns-clause-now c ∙ ap (λ (s : State). usage_of s c.args.group) shows.state

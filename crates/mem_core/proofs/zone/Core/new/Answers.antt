@@ -1,38 +1,73 @@
--- All frames are free, and nothing is pending.
-use Rattle.std.proofs.Common.{◌≡◌, ◌<◌, lit<, List, Bool, None, [], replicate, arith, refl, sym, ap, ◌∙◌, ◌≤◌, ◌*◌, ◌^◌, subst}
-use Rattle.std.specs.Prelude.{All}
-use Rattle.std.proofs.lemmas.List.{get_or-replicate, length-replicate}
+-- At first all is as at boot.
+use Rattle.std.proofs.Common.{◌≡◌, ◌*◌, ◌^◌, ◌<◌, lit<, Bool, List, [], length, refl, sym, ◌∙◌, ap, subst, arith}
 use Rattle.zone_blocks.specs.Areas.{AreMaximalBlocks}
-use Rattle.mem_core.specs.Events.{Account, new_account}
-use Rattle.mem_core.specs.Shown.{State, free_in, IsSound, Shows}
-use Rattle.mem_core.specs.Inside.{state_of}
-use Rattle.mem_core.proofs.Wholeness.{start_of, free_in-start, none_bound, IsSound-start}
-use Rattle.mem_core.proofs.Starting.{Shows-start}
+use Rattle.step_rules.specs.State.{Zone, State, at_boot}
+use Rattle.step_rules.proofs.Sound.{IsSound}
+use Rattle.step_rules.proofs.Runs.{sound_boot}
+use Rattle.step_rules.proofs.Homes.{IsHomed}
+use Rattle.step_rules.proofs.Keeping.{homed_run}
+use Rattle.core_rows.specs.Shown as rows
+use Rattle.core_rows.proofs.Bounding.{IsBounded}
+use Rattle.core_rows.proofs.Ranges.{length_free}
+use Rattle.mem_core.specs.declared.zone.Core.TheInside.{Inside}
+use Rattle.mem_core.proofs.Linking.{shown_is}
+use Rattle.mem_core.proofs.Advancing.{bounded_boot}
+use Rattle.std.proofs.Common.{replicate}
+use Rattle.std.proofs.lemmas.List.{get_or-replicate, length-replicate}
+use Rattle.core_rows.proofs.Starting.{replicate_all}
+use Rattle.mem_core.specs.Accounts.{Account, new_account, account_of, HaveSmallPeaks}
+use Rattle.mem_core.proofs.Accounting.{tell_start}
 use Rattle.mem_core.proofs.zone.Core.new.Goals as goal
 
-new_peaks : All (λ (a : Account). a.peak < 2 ^ 104) (replicate 64 new_account)
-new_peaks k d h = let len = length-replicate {A = Account} 64 new_account in subst (λ (a : Account). a.peak < 2 ^ 104) (sym (get_or-replicate 64 k new_account d (omega arith))) (lit< tt)
+new_peaks : HaveSmallPeaks (replicate 64 new_account)
+new_peaks k d h =
+    let len = length-replicate {A = Account} 64 new_account in subst (λ (a : Account). a.peak < 2 ^ 104)
+    (sym (get_or-replicate 64 k new_account d (omega arith))) (lit< tt)
 
--- the state that the new core shows
-started : (c : goal.In_ok-tree) → start_of c.args.config c.set_from.new.self.blocks ≡ state_of (record { config = c.args.config; holder = None; tree = c.in_ok-tree.tree; places = c.in_ok-places.places; free = c.in_ok-free.free; pending = c.in_ok-pending.pending; accounts = c.in_ok-accounts.accounts; areas = c.set_from.new.self; steps = 0 })
-started c = rw (c.in_ok-places.ensures, c.in_ok-pending.ensures, c.in_ok-accounts.ensures, c.in_ok-tree.ensures) refl
-
-sound : (c : goal.In_ok-tree) → IsSound (start_of c.args.config c.set_from.new.self.blocks)
-sound c =
-    IsSound-start c.args.config c.set_from.new.self.blocks c.requires
-    (subst (λ (free : List Bool). AreMaximalBlocks free c.set_from.new.self.blocks) (c.deref.ensures.value ∙ c.in_ok-free.ensures) c.set_from.ensures.areas)
+pub set_from-requires : goal.set_from-requires
+set_from-requires c =
+    let s = rows.state_in c.in_ok-rows.rows in
+    let frames : s.zone.frames ≡ c.args.frames = ap (λ (t : State). t.zone.frames) c.in_ok-rows.ensures.state in
+    ap length (c.deref.ensures.value ∙ c.mark_free.ensures.flags) ∙ length_free s.zone s.phases ∙ frames ∙ sym c.in_ok-areas.ensures.frames
 
 pub invariant_of-result : goal.invariant_of-result
-invariant_of-result c = record {
-  sound = subst IsSound (started c) (sound c);
-  flags = c.in_ok-free.ensures ∙ sym (free_in-start c.args.config.frames) ∙ ap free_in (sym c.in_ok-places.ensures);
-  zone = c.set_from.ensures.frames ∙ c.in_ok-areas.ensures.frames;
-  bound = subst (All (λ n. n ≤ 0 * 2 ^ 32)) (sym c.in_ok-pending.ensures) (none_bound 0);
-  peaks = subst (All (λ (a : Account). a.peak < 2 ^ 104)) (sym c.in_ok-accounts.ensures) new_peaks;
-}
+invariant_of-result c =
+    let s = rows.state_in c.in_ok-rows.rows in
+    let zone : Zone = record { frames = c.args.frames; cpus = c.args.cpus } in
+    let boot : s ≡ at_boot zone = c.in_ok-rows.ensures.state in
+    let frames : s.zone.frames ≡ c.args.frames = ap (λ (t : State). t.zone.frames) boot in
+    record {
+      fits = c.in_ok-rows.ensures.fits;
+      sound = subst IsSound (sym boot) (sound_boot zone);
+      homed = subst IsHomed (sym boot) (homed_run zone [] (λ k. tt)).1;
+      bounded = subst (IsBounded (0 * 2 ^ 32)) (sym boot) (bounded_boot (0 * 2 ^ 32) zone);
+      accounts = c.in_ok-accounts.ensures.number;
+      peaks = subst HaveSmallPeaks (sym c.in_ok-accounts.ensures.items) new_peaks;
+      few = lit< tt;
+      frames = c.set_from.ensures.frames ∙ c.in_ok-areas.ensures.frames ∙ sym frames;
+      room = let a = c.mark_free.ensures.room in let b = c.in_ok-free.ensures.exact in omega arith;
+      areas = subst (λ (free : List Bool). AreMaximalBlocks free c.set_from.new.self.blocks) (c.deref.ensures.value
+          ∙ c.mark_free.ensures.flags) c.set_from.ensures.areas;
+    }
 
 pub returns-clause-empty : goal.returns-clause-empty
-returns-clause-empty c = subst (λ (s : State). Shows s []) (started c) (Shows-start c.args.config c.set_from.new.self.blocks)
-
-pub returns-clause-sound : goal.returns-clause-sound
-returns-clause-sound c = subst IsSound (started c) (sound c)
+returns-clause-empty c =
+    let s = rows.state_in c.in_ok-rows.rows in
+    let inside : Inside = record {
+      rows = c.in_ok-rows.rows;
+      free = c.mark_free.new.free;
+      accounts =
+          c.in_ok-accounts.accounts;
+      areas = c.set_from.new.self;
+      steps = 0;
+    } in
+    let zone : Zone = record { frames = c.args.frames; cpus = c.args.cpus } in
+    let boot : s ≡ at_boot zone = c.in_ok-rows.ensures.state in
+    let same : s.zone ≡ zone = ap (λ (t : State). t.zone) boot in
+    record {
+      legal = λ k. tt;
+      steps = refl;
+      state = shown_is inside ∙ boot ∙ ap at_boot (sym same);
+      accounts = tell_start (s.zone) c.in_ok-accounts.accounts.items (λ m. ap (λ l. account_of l m) c.in_ok-accounts.ensures.items
+          ∙ replicate_all 64 new_account m);
+    }

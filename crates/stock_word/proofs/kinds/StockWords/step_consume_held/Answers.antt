@@ -9,8 +9,12 @@ use Rattle.stock_word.proofs.kinds.StockWords.step_consume_held.Goals as goal
 pub fetch_sub-requires : goal.fetch_sub-requires
 fetch_sub-requires c =
     let views = ap (λ (p : Placed). p.views) c.place.view_is in
-    let me = pair_me _ _ views c.place.invariant c.requires.pair in
-    (search rules, search rules, consuming_held_allowed _ _ _ _ _ _ c.args.group me (search rules) (search rules) (search rules) (search rules) (search rules) _ (c.stock_place-at.ensures ∙ ap stock_place c.requires.number))
+    let me = pair_me _ _ views c.place.invariant c.requires.pair in (
+      search rules,
+      search rules,
+      consuming_held_allowed _ _ _ _ _ _ c.args.group me (search rules) (search rules) (search rules)
+          (search rules) (search rules) _ (c.stock_place-at.ensures ∙ ap stock_place c.requires.number),
+    )
 
 pub invariant_of-place : goal.invariant_of-place
 invariant_of-place c = no_slots c.place.inside.seat.me c.fetch_sub.new.seat.me _ c.fetch_sub.ensures.2.2 c.place.invariant
@@ -23,4 +27,5 @@ returns-clause-kind c =
     let told = c.fetch_sub.ensures.2 in
     let views = ap (λ (p : Placed). p.views) c.place.view_is in
     told_pair (λ m v n w. ConsumesHeld (stock_place c.args.number) c.fetch_sub.result (c.fetch_sub.result - 1) m v n w) _ _ _ _ _ views told.2
-    (subst (λ (y : ℕ). ConsumesHeld y c.fetch_sub.result (c.fetch_sub.result - 1) (first_of c.place.inside.seat.me.0) (second_of c.place.inside.seat.me.0) told.0 told.1) c.stock_place-at.ensures told.3)
+    (subst (λ (y : ℕ). ConsumesHeld y c.fetch_sub.result (c.fetch_sub.result - 1) (first_of c.place.inside.seat.me.0)
+    (second_of c.place.inside.seat.me.0) told.0 told.1) c.stock_place-at.ensures told.3)

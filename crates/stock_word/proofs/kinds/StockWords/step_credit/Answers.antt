@@ -16,7 +16,8 @@ compare_exchange-requires c =
     let me = alone_me _ _ views c.place.invariant c.requires.alone in (
       search rules,
       search rules,
-      credit_allowed _ _ _ _ c.args.group c.args.pages me (search rules) (search rules) last (search rules) _ _ _ (search rules) (c.word-word.ensures) c.word.ensures,
+      credit_allowed _ _ _ _ c.args.group c.args.pages me (search rules) (search rules) last (search rules) _ _ _ (search rules)
+          (c.word-word.ensures) c.word.ensures,
     )
 
 pub invariant_of-place : goal.invariant_of-place
@@ -29,8 +30,10 @@ pub returns-clause-back : goal.returns-clause-back
 returns-clause-back c = λ hit.
     let told = c.compare_exchange.ensures.2 in
     let views = ap (λ (p : Placed). p.views) c.place.view_is in
-    told_alone (λ v w. Credits (stock_place c.args.number) c.compare_exchange.result (word_of (HeldBy c.args.group (c.args.pages + 1))) v w) _ _ _ _ views told.1
-    (subst (λ (y : ℕ × ℕ). Credits y.0 c.compare_exchange.result y.1 (first_of c.place.inside.seat.me.0) told.0) (λ i. (c.stock_place-at.ensures i, c.word.ensures i))
+    told_alone (λ v w. Credits (stock_place c.args.number) c.compare_exchange.result
+    (word_of (HeldBy c.args.group (c.args.pages + 1))) v w) _ _ _ _ views told.1
+    (subst (λ (y : ℕ × ℕ). Credits y.0 c.compare_exchange.result y.1 (first_of c.place.inside.seat.me.0) told.0)
+    (λ i. (c.stock_place-at.ensures i, c.word.ensures i))
     (told.2.0 (hit ∙ sym c.word-word.ensures)))
 
 pub returns-clause-drained : goal.returns-clause-drained

@@ -13,8 +13,12 @@ swap-requires c =
     let views = ap (λ (p : Placed). p.views) c.place.view_is in
     let first = ap first_of views in
     let group = ap (λ (v : StockView). (account_of v c.args.p).group) first ∙ c.requires.group in
-    let me = alone_me _ _ views c.place.invariant c.requires.alone in
-    (search rules, search rules, draining_allowed _ _ _ _ c.args.p c.args.group me (search rules) (search rules) (search rules) group _ _ c.stock_place-at.ensures c.word.ensures)
+    let me = alone_me _ _ views c.place.invariant c.requires.alone in (
+      search rules,
+      search rules,
+      draining_allowed _ _ _ _ c.args.p c.args.group me (search rules) (search rules) (search rules)
+          group _ _ c.stock_place-at.ensures c.word.ensures,
+    )
 
 pub invariant_of-place : goal.invariant_of-place
 invariant_of-place c = no_slots c.place.inside.seat.me c.swap.new.seat.me _ c.swap.ensures.2.1 c.place.invariant
@@ -29,5 +33,6 @@ returns-clause-kind c =
     let first = ap first_of views in
     let group = ap (λ (v : StockView). (account_of v c.args.p).group) first ∙ c.requires.group in
     told_alone (λ v w. Drains c.args.p c.args.group (stock_place c.args.p) c.swap.result (word_of (DrainedOf c.args.group)) v w) _ _ _ _ views told.1
-    (subst (λ (y : ℕ × ℕ). Drains c.args.p c.args.group y.0 c.swap.result y.1 (first_of c.place.inside.seat.me.0) told.0) (λ i. (c.stock_place-at.ensures i, c.word.ensures i))
+    (subst (λ (y : ℕ × ℕ). Drains c.args.p c.args.group y.0 c.swap.result y.1 (first_of c.place.inside.seat.me.0) told.0)
+    (λ i. (c.stock_place-at.ensures i, c.word.ensures i))
     (told.2 c.args.p c.args.group c.stock_place-at.ensures group))

@@ -9,8 +9,12 @@ use Rattle.stock_word.proofs.kinds.StockWords.step_report.Goals as goal
 pub fetch_add-requires : goal.fetch_add-requires
 fetch_add-requires c =
     let views = ap (λ (p : Placed). p.views) c.place.view_is in
-    let me = pair_me _ _ views c.place.invariant c.requires.pair in
-    (search rules, search rules, reporting_allowed _ _ _ _ _ _ c.from.result me (search rules) (search rules) (search rules) (search rules) _ (c.report_place-at.ensures ∙ ap report_place c.requires.number))
+    let me = pair_me _ _ views c.place.invariant c.requires.pair in (
+      search rules,
+      search rules,
+      reporting_allowed _ _ _ _ _ _ c.from.result me (search rules) (search rules) (search rules)
+          (search rules) _ (c.report_place-at.ensures ∙ ap report_place c.requires.number),
+    )
 
 pub invariant_of-place : goal.invariant_of-place
 invariant_of-place c = no_slots c.place.inside.seat.me c.fetch_add.new.seat.me _ c.fetch_add.ensures.2.2 c.place.invariant

@@ -9,8 +9,12 @@ use Rattle.stock_word.proofs.kinds.StockWords.step_see.Goals as goal
 pub load-requires : goal.load-requires
 load-requires c =
     let views = ap (λ (p : Placed). p.views) c.place.view_is in
-    let me = pair_me _ _ views c.place.invariant c.requires.pair in
-    (search rules, search rules, seeing_allowed _ _ _ _ _ _ me (search rules) (search rules) (search rules) _ (c.stock_place-at.ensures ∙ ap stock_place c.requires.number))
+    let me = pair_me _ _ views c.place.invariant c.requires.pair in (
+      search rules,
+      search rules,
+      seeing_allowed _ _ _ _ _ _ me (search rules) (search rules) (search rules) _
+          (c.stock_place-at.ensures ∙ ap stock_place c.requires.number),
+    )
 
 pub invariant_of-place : goal.invariant_of-place
 invariant_of-place c = no_slots c.place.inside.seat.me c.load.new.seat.me _ c.load.ensures.2.2 c.place.invariant
@@ -23,4 +27,5 @@ returns-clause-kind c =
     let told = c.load.ensures.2 in
     let views = ap (λ (p : Placed). p.views) c.place.view_is in
     told_pair (λ m v n w. SeesStock (stock_place c.args.number) c.load.result c.load.result m v n w) _ _ _ _ _ views told.2
-    (subst (λ (y : ℕ). SeesStock y c.load.result c.load.result (first_of c.place.inside.seat.me.0) (second_of c.place.inside.seat.me.0) told.0 told.1) c.stock_place-at.ensures told.3)
+    (subst (λ (y : ℕ). SeesStock y c.load.result c.load.result (first_of c.place.inside.seat.me.0)
+    (second_of c.place.inside.seat.me.0) told.0 told.1) c.stock_place-at.ensures told.3)

@@ -1,45 +1,25 @@
-use Rattle.std.proofs.Common.{◌≡◌, ◌<◌, ◌≤◌, ◌↔◌, IsTrue, ℕ, Bool, true, nat_eq, nat_lt, List, Vec, Global, length, sym, ◌∙◌, ap, subst, arith, get_or, eq-eqb}
+use Rattle.std.proofs.Common.{sym, subst}
 use Rattle.std.specs.List.{Contains}
-use Rattle.std.proofs.lemmas.Bool.{eqb-true, ltb-true, lt-ltb}
-use Rattle.zone_blocks.specs.declared.block.Block.{Block}
+use Rattle.std.proofs.lemmas.Bool.{iff_false}
 use Rattle.zone_blocks.specs.Areas.{FreeBlocks}
-use Rattle.zone_blocks.specs.OrderLists.{AreOrderLists, IsPlaceOf}
-use Rattle.zone_blocks.proofs.OrderLists.{sorted_in, place_in, contains_in}
+use Rattle.zone_blocks.proofs.OrderLists.{from_there}
+use Rattle.zone_blocks.proofs.Calls.{bit_within, bit_tells}
 use Rattle.zone_blocks.proofs.areas.FreeAreas.contains.Goals as goal
 
-pub place_of-place-requires : goal.place_of-place-requires
-place_of-place-requires c =
-    let at_most = c.exponent.ensures.at_most in
-    rw c.as_slice.ensures.value
-    (sorted_in c.self.inside.frames c.self.inside.lists.items c.self.invariant.0 c.exponent.result (omega arith) c.index-list.result.now c.index-list.ensures)
+pub contains-requires : goal.contains-requires
+contains-requires c =
+    bit_within c.self.inside.frames c.self.inside.bits.items c.args.block c.exponent-exponent.result c.index-bits.result.now c.self.invariant.0.sizes
+    (c.is_block_of.ensures.0 c.if-is_block_of.true) c.exponent-exponent.ensures.exponent c.index-bits.ensures
 
-pub returns-then-place-len : goal.returns-then-place-len
-returns-then-place-len c =
-    let old = c.index-list.result.now in
-    let at_most = c.exponent.ensures.at_most in
-    let same = c.exponent.ensures.exponent in
-    let here = rw same at c.index-list.ensures in
-    let place = rw c.as_slice.ensures.value at c.place_of-place.ensures in
-    let len = old.ok.0 in
-    let len' = c.len.ensures in
-    let r = contains_in c.self.inside.frames c.self.inside.lists.items c.self.invariant.0 c.args.block (omega arith) c.place_of-place.result old here place
-    c.index.result.now (omega arith) c.index.ensures in
-    let P : FreeBlocks → Type 0 = λ v. Contains v.blocks c.args.block in (
-      λ t. subst P c.self.view_is (r.0 (eqb-true _ _ t)),
-      λ h. eq-eqb _ _ (r.1 (subst P (sym c.self.view_is) h)),
-    )
+pub returns-then-is_block_of : goal.returns-then-is_block_of
+returns-then-is_block_of c =
+    let tells = bit_tells c.self.inside.frames c.self.inside.bits.items c.args.block c.exponent-exponent.result c.index-bits.result.now c.self.invariant.0.sizes
+    (c.is_block_of.ensures.0 c.if-is_block_of.true) c.exponent-exponent.ensures.exponent c.index-bits.ensures in
+    let P : FreeBlocks → Type 0 = λ v. Contains v.blocks c.args.block in
+    ((λ t. subst P c.self.view_is (tells.0 (c.contains.ensures.0 t))), (λ h. c.contains.ensures.1 (tells.1 (subst P (sym c.self.view_is) h))))
 
-pub returns-else-place-len : goal.returns-else-place-len
-returns-else-place-len c =
-    let old = c.index-list.result.now in
-    let same = c.exponent.ensures.exponent in
-    let here = rw same at c.index-list.ensures in
-    let place = rw c.as_slice.ensures.value at c.place_of-place.ensures in
-    let len = old.ok.0 in
-    let len' = c.len.ensures in
-    let not = c.if-place-len.false in
-    let P : FreeBlocks → Type 0 = λ v. Contains v.blocks c.args.block in (
-      λ t. let lt = ltb-true _ _ t in absurd (omega arith),
-      λ h. let within = place_in c.self.inside.frames c.self.inside.lists.items c.self.invariant.0 c.args.block (subst P (sym c.self.view_is) h)
-          c.place_of-place.result old here place in lt-ltb _ _ (omega arith),
-    )
+pub returns-else-is_block_of : goal.returns-else-is_block_of
+returns-else-is_block_of c =
+    let none = iff_false c.is_block_of.ensures c.if-is_block_of.false in
+    let P : FreeBlocks → Type 0 = λ v. Contains v.blocks c.args.block in
+    ((λ t. absurd (none (c.is_block_of.ensures.0 t))), (λ h. c.is_block_of.ensures.1 (from_there _ _ c.args.block (subst P (sym c.self.view_is) h)).0))

@@ -12,7 +12,8 @@ returns-then-is_block_of c =
     let B : ℕ → Type 0 = λ n. IsBlock n c.args.block in
     let block : IsBlock c.self.inside.areas.frames c.args.block = subst B c.frames.ensures (c.is_block_of.ensures.0 c.if-is_block_of.true) in (
       λ t. subst P c.self.view_is (in_use_apart c.self.inside.areas c.args.block block (iff_false c.overlaps.ensures (not-true _ t))),
-      λ h. not_from_false _ (false_from_ne_true _ (λ o. overlaps_not_in_use c.self.inside.areas c.args.block (subst P (sym c.self.view_is) h) (c.overlaps.ensures.0 o))),
+      λ h. not_from_false _ (false_from_ne_true _ (λ o. overlaps_not_in_use c.self.inside.areas c.args.block
+          (subst P (sym c.self.view_is) h) (c.overlaps.ensures.0 o))),
     )
 
 pub returns-else-is_block_of : goal.returns-else-is_block_of

@@ -19,7 +19,8 @@ invariant_of-result c =
     let n = c.in_ok-areas.ensures.frames in
     let fits = c.ranges.frames in
     record {
-      maximal = (all_free c.args.frames c.as_slice.result.now c.set_from.new.self (c.as_slice.ensures.value ∙ items) (c.set_from.ensures.frames ∙ n) c.set_from.ensures.areas).1;
+      maximal = (all_free c.args.frames c.as_slice.result.now c.set_from.new.self (c.as_slice.ensures.value
+          ∙ items) (c.set_from.ensures.frames ∙ n) c.set_from.ensures.areas).1;
       small = rw (c.set_from.ensures.frames ∙ n) (omega arith);
     }
 
@@ -27,10 +28,12 @@ pub returns-clause-free : goal.returns-clause-free
 returns-clause-free c =
     let items = c.in_ok-free.ensures.items_if_clones_equal (λ y h. h) in
     let n = c.in_ok-areas.ensures.frames in
-    (all_free c.args.frames c.as_slice.result.now c.set_from.new.self (c.as_slice.ensures.value ∙ items) (c.set_from.ensures.frames ∙ n) c.set_from.ensures.areas).0
+    (all_free c.args.frames c.as_slice.result.now c.set_from.new.self (c.as_slice.ensures.value
+    ∙ items) (c.set_from.ensures.frames ∙ n) c.set_from.ensures.areas).0
 
 pub returns-clause-areas : goal.returns-clause-areas
 returns-clause-areas c =
     let items = c.in_ok-free.ensures.items_if_clones_equal (λ y h. h) in
     let n = c.in_ok-areas.ensures.frames in
-    (all_free c.args.frames c.as_slice.result.now c.set_from.new.self (c.as_slice.ensures.value ∙ items) (c.set_from.ensures.frames ∙ n) c.set_from.ensures.areas).1
+    (all_free c.args.frames c.as_slice.result.now c.set_from.new.self (c.as_slice.ensures.value
+    ∙ items) (c.set_from.ensures.frames ∙ n) c.set_from.ensures.areas).1

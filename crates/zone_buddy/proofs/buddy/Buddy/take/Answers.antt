@@ -25,11 +25,13 @@ free_upper_halves-requires-clause-block c =
 pub free_upper_halves-requires-clause-in_use : goal.free_upper_halves-requires-clause-in_use
 free_upper_halves-requires-clause-in_use c =
     let there = c.in_ok-found.ensures.there in
-    (takes_frames c.self.inside.areas c.remove.new.self c.in_ok-found.found c.self.invariant.maximal there c.remove.ensures.blocks c.remove.ensures.frames).in_use
+    (takes_frames c.self.inside.areas c.remove.new.self c.in_ok-found.found c.self.invariant.maximal there c.remove.ensures.blocks
+    c.remove.ensures.frames).in_use
 
 pub returns-clause-frames : goal.returns-clause-frames
 returns-clause-frames c =
     let there = c.in_ok-found.ensures.there in
-    let taken = takes_frames c.self.inside.areas c.remove.new.self c.in_ok-found.found c.self.invariant.maximal there c.remove.ensures.blocks c.remove.ensures.frames in
+    let taken = takes_frames c.self.inside.areas c.remove.new.self c.in_ok-found.found c.self.invariant.maximal there
+    c.remove.ensures.blocks c.remove.ensures.frames in
     let Q : Zone → Type 0 = λ z. TakesFrames z.free (block_at c.in_ok-found.found.at c.args.order) (set_of c.free_upper_halves.new.areas) in
     subst Q c.self.view_is (c.free_upper_halves.ensures.in_use (set_of c.self.inside.areas) taken)

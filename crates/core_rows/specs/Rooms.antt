@@ -1,0 +1,88 @@
+-- What is asked of rows before a step: that they are of the zone's size, and that no number is near its bound.
+use Rattle.std.specs.Prelude.{◌≡◌, ◌+◌, ◌^◌, ◌<◌, ◌≤◌, ℕ, true, false, List, All, replicate, length, vec_len, vec_capacity}
+use Rattle.step_rules.specs.Phases.{Kind, has_as, is_live}
+use Rattle.step_rules.specs.State.{State, frames_of, front_of, visits}
+use Rattle.zone_blocks.specs.declared.block.Block.{Block}
+use Rattle.zone_blocks.specs.Areas.{IsFrontOfSmallest}
+use Rattle.step_rules.specs.declared.step.Action.{Action}
+use Rattle.step_rules.specs.declared.step.Action.TheVariants.{Fill, Grant, PlaceBlock}
+use Rattle.step_rules.specs.declared.step.Answer.TheVariants.{Placed}
+use Rattle.step_rules.specs.declared.step.Answer.{Answer}
+use Rattle.step_rules.specs.Legal.{IsAnswer, IsCounted}
+use Rattle.step_rules.specs.After.{after}
+use Rattle.core_rows.specs.declared.seat.Seat.{Seat}
+use Rattle.core_rows.specs.declared.rows.Rows.{Rows}
+use Rattle.step_rules.specs.State.{no_part}
+use Rattle.core_rows.specs.Shown.{state_in, part_in}
+
+-- a seat has a number of references for each frame, and room for all frames in each of its lists
+pub record HasRoom (frames : ℕ) (s : Seat) : Type 0 where
+  pub references : vec_len s.references ≡ frames
+  pub list : frames ≤ vec_capacity s.list
+  pub fresh : frames ≤ vec_capacity s.fresh
+  pub back : frames ≤ vec_capacity s.back
+
+-- the rows are of the zone's size: a phase for each frame, a seat for the zone and each processor, and 64 group numbers
+pub record FitsZone (r : Rows) : Type 0 where
+  pub frames : r.frames ≤ 65536
+  pub cpus : r.cpus ≤ 16
+  pub phases : vec_len r.phases ≡ r.frames
+  pub seats : vec_len r.seats ≡ r.cpus + 1
+  pub killed : vec_len r.killed ≡ 64
+  pub pending : vec_len r.pending ≡ 64
+  pub rooms : All (HasRoom r.frames) r.seats.items
+
+-- no number is near its bound: at most 255 references of a seat on a frame, and of live frames alone, no more pages than
+-- many steps can grant, and a frame that isn't of a kind finds room on the list of that kind; the front of a list is a frame
+-- of the zone; only a processor visits
+pub record IsFew (s : State) : Type 0 where
+  pub references : (seat f : ℕ) → s.references seat f ≤ 255
+  pub booked : (p : ℕ) → (s.parts p).book ≡ (s.parts p).stock.pages + length (s.parts p).fresh + (s.parts p).unreported + (s.parts p).reported
+  pub books : (p : ℕ) → (s.parts p).book ≤ 2 ^ 96
+  pub pending : (g : ℕ) → s.pending g ≤ 2 ^ 96
+  pub room : (p : ℕ) (kind : Kind) (f : ℕ) → f < s.zone.frames → has_as kind p (s.phases f) ≡ false → length (frames_of (s.parts p) kind) < s.zone.frames
+  pub live : (seat f : ℕ) → 1 ≤ s.references seat f → is_live (s.phases f) ≡ true
+  pub front : (p : ℕ) → 1 ≤ length (s.parts p).list → front_of (s.parts p).list < s.zone.frames
+  pub paying : (p : ℕ) → 1 ≤ length (s.parts p).list → length (s.parts p).fresh < s.zone.frames
+  pub visitor : (p : ℕ) → visits p s.hold ≡ true → p ≤ s.zone.cpus
+
+-- a step that may be made is answered so, and leaves the rows so
+pub record Makes (old : Rows) (seat : ℕ) (action : Action) (answer : Answer) (new : Rows) : Type 0 where
+  pub answered : IsAnswer (state_in old) seat action answer
+  pub counted : IsCounted (state_in old) action answer
+  pub state : state_in new ≡ after (state_in old) seat action answer
+  pub fits : FitsZone new
+
+-- a step that is answered the same in every state leaves the rows so
+pub record Leaves (old : Rows) (seat : ℕ) (action : Action) (answer : Answer) (new : Rows) : Type 0 where
+  pub state : state_in new ≡ after (state_in old) seat action answer
+  pub fits : FitsZone new
+
+-- a seat keeps its references and its room
+pub record KeepsRoom (old new : Seat) : Type 0 where
+  pub references : new.references ≡ old.references
+  pub list : vec_capacity new.list ≡ vec_capacity old.list
+  pub fresh : vec_capacity new.fresh ≡ vec_capacity old.fresh
+  pub back : vec_capacity new.back ≡ vec_capacity old.back
+
+-- a seat keeps the room of its lists
+pub record HasRooms (old new : Seat) : Type 0 where
+  pub list : vec_capacity new.list ≡ vec_capacity old.list
+  pub fresh : vec_capacity new.fresh ≡ vec_capacity old.fresh
+  pub back : vec_capacity new.back ≡ vec_capacity old.back
+
+-- which of the free blocks is placed: the front of the smallest sufficient area (Knuth)
+abbrev pub PlacesFront : List Block → Action → Answer → Type 0
+PlacesFront areas (PlaceBlock g k) (Placed b) = IsFrontOfSmallest areas k b
+PlacesFront areas action answer = Unit {0}
+
+-- the pages that a step asks for: to be granted, or filled into a stock
+abbrev pub pages_asked : Action → ℕ
+pages_asked (Grant g n) = n
+pages_asked (Fill p g n) = n
+pages_asked action = 0
+
+-- a seat that has nothing, with no reference on any frame
+pub record IsNewSeat (frames : ℕ) (s : Seat) : Type 0 where
+  pub part : part_in s ≡ no_part
+  pub references : s.references.items ≡ replicate frames 0

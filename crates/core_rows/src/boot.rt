@@ -1,0 +1,93 @@
+//! Rows on which no step was made, and which frames are free.
+
+ghost use Rattle.std.specs.Prelude.{◌≡◌, ◌≤◌, ◌+◌, IfOk, All, vec_capacity, vec_len, replicate, false};
+ghost use Rattle.step_rules.specs.State.{at_boot, free_in};
+ghost use Rattle.step_rules.specs.declared.phase.Phase.{Phase};
+ghost use Rattle.core_rows.specs.Shown.{state_in};
+ghost use Rattle.core_rows.specs.Rooms.{FitsZone, HasRoom, IsNewSeat};
+
+use crate::phases::is_free;
+use crate::rows::Rows;
+use crate::seat::{Seat, new_seat};
+use group_tree::tree::Tree;
+use std::alloc::{AllocError, Global};
+use step_rules::phase::{Hold, Phase};
+
+/// Seats that have nothing, the zone's own and one for each processor.
+fn new_seats(alloc: Global, frames: u32, cpus: u32) -> Result<Vec<Seat>, AllocError>
+    requires { cpus ≤ 16 }
+    ensures number { IfOk result (λ seats. vec_len seats ≡ cpus + 1) }
+    ensures rooms { IfOk result (λ seats. All (HasRoom frames) seats.items) }
+    ensures none { IfOk result (λ seats. All (IsNewSeat frames) seats.items) }
+{
+    let mut seats = Vec::with_capacity(alloc, cpus as usize + 1)?;
+    for number in 0..cpus + 1 {
+        let _ = number;
+        let seat = new_seat(alloc, frames)?;
+        seats.push_reserved(seat);
+    }
+    Ok(seats)
+}
+
+/// As many phases as the zone has frames, all in the zone.
+fn new_phases(alloc: Global, frames: usize) -> Result<Vec<Phase>, AllocError>
+    ensures items { IfOk result (λ phases. phases.items ≡ replicate frames Phase.InZone) }
+    ensures number { IfOk result (λ phases. vec_len phases ≡ frames) }
+{
+    vec![in alloc; Phase::InZone; frames]
+}
+
+/// A flag for each group number, all off.
+fn new_flags(alloc: Global) -> Result<Vec<bool>, AllocError>
+    ensures items { IfOk result (λ flags. flags.items ≡ replicate 64 false) }
+    ensures number { IfOk result (λ flags. vec_len flags ≡ 64) }
+{
+    vec![in alloc; false; 64]
+}
+
+/// No pages for each group number.
+fn new_counts(alloc: Global) -> Result<Vec<u128>, AllocError>
+    ensures items { IfOk result (λ counts. counts.items ≡ replicate 64 0) }
+    ensures number { IfOk result (λ counts. vec_len counts ≡ 64) }
+{
+    vec![in alloc; 0; 64]
+}
+
+impl Rows {
+    /// Rows of so many frames and processors: all frames are free, the root is alone, and the lock is free. All room
+    /// that a step needs is reserved here.
+    pub fn new(alloc: Global, frames: u32, cpus: u32) -> Result<Rows, AllocError>
+        requires frames { frames ≤ 65536 }
+        requires cpus { cpus ≤ 16 }
+        ensures fits { IfOk result FitsZone }
+        ensures state { IfOk result (λ r. state_in r ≡ at_boot (record { frames = frames; cpus = cpus })) }
+    {
+        let phases = new_phases(alloc, frames as usize)?;
+        let seats = new_seats(alloc, frames, cpus)?;
+        let killed = new_flags(alloc)?;
+        let pending = new_counts(alloc)?;
+        let tree = Tree::new(alloc)?;
+        Ok(Rows {
+            frames,
+            cpus,
+            hold: Hold::Unheld,
+            tree,
+            killed,
+            phases,
+            seats,
+            pending,
+        })
+    }
+
+    /// Tells for each frame whether it is free.
+    pub fn mark_free(&self, free: &mut Vec<bool>)
+        requires room { self.now.frames ≤ vec_capacity free.old }
+        ensures flags { free.new.items ≡ free_in (state_in self.now).zone (state_in self.now).phases }
+        ensures room { vec_capacity free.new ≡ vec_capacity free.old }
+    {
+        free.clear();
+        for frame in 0..self.frames {
+            free.push_reserved(is_free(self.phase(frame)));
+        }
+    }
+}

@@ -1,0 +1,399 @@
+//! The rows of the core: what stands behind the zone's lock.
+
+ghost use Rattle.std.specs.Prelude.{◌≡◌, ◌+◌, ◌-◌, ◌<◌, ◌≤◌, ◌^◌, Some, None, MatchOption, IfOk, length, vec_len};
+ghost use Rattle.std.specs.List.{slice_get};
+ghost use Rattle.step_rules.specs.State.{at_boot, front_of, with_at, is_cpu, is_frame, one_if, with_last, without};
+ghost use Rattle.step_rules.specs.After.{with_phase, with_part, with_references, with_pending, paid, credited, with_back, filled, drained};
+ghost use Rattle.core_rows.specs.Shown.{state_in};
+ghost use Rattle.core_rows.specs.Rooms.{FitsZone};
+
+use crate::seat::{
+    Seat, absorb_pages, credit_frame, drain_pages, drop_frame, fill_stock, keep_back, list_frame,
+    pay_front, report_pages, set_count,
+};
+use group_tree::group::GroupId;
+use group_tree::tree::Tree;
+use step_rules::phase::{Hold, Phase};
+
+/// What stands behind the zone's lock, as plain lists and numbers.
+#[derive(Drop)]
+pub struct Rows {
+    /// Frames of the zone, numbered from 0.
+    pub frames: u32,
+    /// Processors, with the seats from 1 on.
+    pub cpus: u32,
+    /// Who holds the lock.
+    pub hold: Hold,
+    /// The groups, with their limits.
+    pub tree: Tree,
+    /// For each group number whether the group is killed.
+    pub killed: Vec<bool>,
+    /// The phase of each frame.
+    pub phases: Vec<Phase>,
+    /// What is kept of each seat: the zone's own is the first.
+    pub seats: Vec<Seat>,
+    /// For each group number the pages that are pending.
+    pub pending: Vec<u128>,
+}
+
+impl Rows {
+    /// The seat is that of a processor.
+    pub fn is_cpu(&self, seat: u32) -> bool
+        ensures { result ≡ is_cpu (state_in self.now).zone seat }
+    {
+        1 <= seat && seat <= self.cpus
+    }
+
+    /// The frame is there.
+    pub fn is_frame(&self, frame: u32) -> bool
+        ensures { result ≡ is_frame (state_in self.now).zone frame }
+    {
+        frame < self.frames
+    }
+
+    /// The phase of a frame; of none that is there, InZone.
+    #[tactic(auto, using(crate::proofs::Looking::past_default))]
+    pub fn phase(&self, frame: u32) -> Phase
+        ensures { result ≡ (state_in self.now).phases frame }
+    {
+        if (frame as usize) < self.phases.len() {
+            self.phases[frame as usize]
+        } else {
+            Phase::InZone
+        }
+    }
+
+    /// Whether a group of this number is killed.
+    #[tactic(auto, using(crate::proofs::Looking::past_default))]
+    pub fn is_killed(&self, group: GroupId) -> bool
+        ensures { result ≡ (state_in self.now).killed group }
+    {
+        let g = group.number() as usize;
+        g < self.killed.len() && self.killed[g]
+    }
+
+    /// The pages that are pending for a group of this number.
+    #[tactic(auto, using(crate::proofs::Looking::past_default))]
+    pub fn pending(&self, group: GroupId) -> u128
+        ensures { result ≡ (state_in self.now).pending group }
+    {
+        let g = group.number() as usize;
+        if g < self.pending.len() {
+            self.pending[g]
+        } else {
+            0
+        }
+    }
+
+    /// What is kept of a seat, if it is there.
+    #[tactic(auto, using(crate::proofs::Looking::got, std::proofs::lemmas::Option::slice_get_past))]
+    pub fn seat(&self, seat: u32) -> Option<&Seat>
+        ensures { MatchOption result (slice_get self.now.seats.items seat ≡ None) (λ s. slice_get self.now.seats.items seat ≡ Some s.now) }
+    {
+        if (seat as usize) < self.seats.len() {
+            Some(&self.seats[seat as usize])
+        } else {
+            None
+        }
+    }
+
+    /// The references of a seat on a frame.
+    #[tactic(auto, using(crate::proofs::Looking::past_default))]
+    pub fn references(&self, seat: u32, frame: u32) -> u32
+        ensures { result ≡ (state_in self.now).references seat frame }
+    {
+        match self.seat(seat) {
+            None => 0,
+            Some(row) => {
+                if (frame as usize) < row.references.len() {
+                    row.references[frame as usize]
+                } else {
+                    0
+                }
+            }
+        }
+    }
+
+    /// The front of a processor's list; of an empty one, 0.
+    pub fn front(&self, cpu: u32) -> u32
+        ensures { result ≡ front_of ((state_in self.now).parts cpu).list }
+    {
+        match self.seat(cpu) {
+            None => 0,
+            Some(row) => { if row.list.len() == 0 { 0 } else { row.list[0] } }
+        }
+    }
+
+    /// How many frames are on a processor's list.
+    pub fn list_len(&self, cpu: u32) -> usize
+        ensures { result ≡ length ((state_in self.now).parts cpu).list }
+    {
+        match self.seat(cpu) {
+            None => 0,
+            Some(row) => row.list.len(),
+        }
+    }
+
+    /// How many fresh frames a processor has.
+    pub fn fresh_len(&self, cpu: u32) -> usize
+        ensures { result ≡ length ((state_in self.now).parts cpu).fresh }
+    {
+        match self.seat(cpu) {
+            None => 0,
+            Some(row) => row.fresh.len(),
+        }
+    }
+
+    /// How many back frames a processor has.
+    pub fn back_len(&self, cpu: u32) -> usize
+        ensures { result ≡ length ((state_in self.now).parts cpu).back }
+    {
+        match self.seat(cpu) {
+            None => 0,
+            Some(row) => row.back.len(),
+        }
+    }
+
+    /// The group of the last fill of a processor's stock.
+    pub fn stock_group(&self, cpu: u32) -> Option<GroupId>
+        ensures { result ≡ ((state_in self.now).parts cpu).stock.group }
+    {
+        match self.seat(cpu) {
+            None => None,
+            Some(row) => row.group,
+        }
+    }
+
+    /// The pages of a processor's stock.
+    pub fn stock_pages(&self, cpu: u32) -> u128
+        ensures { result ≡ ((state_in self.now).parts cpu).stock.pages }
+    {
+        match self.seat(cpu) {
+            None => 0,
+            Some(row) => row.pages,
+        }
+    }
+
+    /// Whether a processor's stock was drained since its last fill.
+    pub fn is_drained(&self, cpu: u32) -> bool
+        ensures { result ≡ ((state_in self.now).parts cpu).stock.is_drained }
+    {
+        match self.seat(cpu) {
+            None => false,
+            Some(row) => row.is_drained,
+        }
+    }
+
+    /// A processor's book: the pages filled for it and neither drained nor absorbed.
+    pub fn book(&self, cpu: u32) -> u128
+        ensures { result ≡ ((state_in self.now).parts cpu).book }
+    {
+        match self.seat(cpu) {
+            None => 0,
+            Some(row) => row.book,
+        }
+    }
+
+    /// The pages of a processor's fresh frames that it passed back and didn't report.
+    pub fn unreported(&self, cpu: u32) -> u128
+        ensures { result ≡ ((state_in self.now).parts cpu).unreported }
+    {
+        match self.seat(cpu) {
+            None => 0,
+            Some(row) => row.unreported,
+        }
+    }
+
+    /// The pages that a processor reported and that aren't absorbed.
+    pub fn reported(&self, cpu: u32) -> u128
+        ensures { result ≡ ((state_in self.now).parts cpu).reported }
+    {
+        match self.seat(cpu) {
+            None => 0,
+            Some(row) => row.reported,
+        }
+    }
+
+    /// The frames on a processor's list, the front first.
+    pub fn list(&self, cpu: u32) -> &[u32]
+        ensures { result.now ≡ ((state_in self.now).parts cpu).list }
+    {
+        match self.seat(cpu) {
+            None => &[],
+            Some(row) => row.list.as_slice(),
+        }
+    }
+
+    /// A processor's fresh frames, the oldest first.
+    pub fn fresh(&self, cpu: u32) -> &[u32]
+        ensures { result.now ≡ ((state_in self.now).parts cpu).fresh }
+    {
+        match self.seat(cpu) {
+            None => &[],
+            Some(row) => row.fresh.as_slice(),
+        }
+    }
+
+    /// A processor's back frames, the oldest first.
+    pub fn back(&self, cpu: u32) -> &[u32]
+        ensures { result.now ≡ ((state_in self.now).parts cpu).back }
+    {
+        match self.seat(cpu) {
+            None => &[],
+            Some(row) => row.back.as_slice(),
+        }
+    }
+
+    /// Who holds the lock.
+    pub(crate) fn set_hold(&mut self, hold: Hold)
+        requires fits { FitsZone self.old }
+        ensures state { state_in self.new ≡ record (state_in self.old) { hold = hold } }
+        ensures fits { FitsZone self.new }
+    {
+        self.hold = hold;
+    }
+
+    /// A frame is in another phase.
+    pub(crate) fn set_phase(&mut self, frame: u32, phase: Phase)
+        requires fits { FitsZone self.old }
+        requires there { frame < self.old.frames }
+        ensures state { state_in self.new ≡ with_phase (state_in self.old) frame phase }
+        ensures fits { FitsZone self.new }
+    {
+        self.phases[frame as usize] = phase;
+    }
+
+    /// So many pages are pending for a group.
+    pub(crate) fn set_pending(&mut self, group: GroupId, pages: u128)
+        requires fits { FitsZone self.old }
+        ensures state { state_in self.new ≡ with_pending (state_in self.old) group pages }
+        ensures fits { FitsZone self.new }
+    {
+        self.pending[group.number() as usize] = pages;
+    }
+
+    /// Whether a group is killed.
+    pub(crate) fn set_killed(&mut self, group: GroupId, is_killed: bool)
+        requires fits { FitsZone self.old }
+        ensures state { state_in self.new ≡ record (state_in self.old) { killed = with_at (state_in self.old).killed group is_killed } }
+        ensures fits { FitsZone self.new }
+    {
+        self.killed[group.number() as usize] = is_killed;
+    }
+
+    /// A seat has so many references on a frame.
+    pub(crate) fn set_references(&mut self, seat: u32, frame: u32, count: u32)
+        requires fits { FitsZone self.old }
+        requires seat { seat ≤ self.old.cpus }
+        requires there { frame < self.old.frames }
+        ensures state { state_in self.new ≡ with_references (state_in self.old) seat frame count }
+        ensures fits { FitsZone self.new }
+    {
+        set_count(&mut self.seats[seat as usize], frame, count);
+    }
+
+    /// A frame is at the end of a processor's list.
+    pub(crate) fn put_on_list(&mut self, cpu: u32, frame: u32)
+        requires fits { FitsZone self.old }
+        requires cpu { cpu ≤ self.old.cpus }
+        requires room { length ((state_in self.old).parts cpu).list < self.old.frames }
+        ensures state { state_in self.new ≡ with_part (state_in self.old) cpu (record ((state_in self.old).parts cpu) { list = with_last ((state_in self.old).parts cpu).list frame }) }
+        ensures fits { FitsZone self.new }
+    {
+        list_frame(&mut self.seats[cpu as usize], frame);
+    }
+
+    /// A frame is on none of a processor's lists; a page of a fresh one is to be reported.
+    pub(crate) fn take_from_lists(&mut self, cpu: u32, frame: u32, was_fresh: bool)
+        requires fits { FitsZone self.old }
+        requires cpu { cpu ≤ self.old.cpus }
+        requires few { ((state_in self.old).parts cpu).unreported < 2 ^ 100 }
+        ensures state { state_in self.new ≡ with_part (state_in self.old) cpu (record ((state_in self.old).parts cpu) { list = without frame ((state_in self.old).parts cpu).list; fresh = without frame ((state_in self.old).parts cpu).fresh; back = without frame ((state_in self.old).parts cpu).back; unreported = ((state_in self.old).parts cpu).unreported + one_if was_fresh }) }
+        ensures fits { FitsZone self.new }
+    {
+        drop_frame(&mut self.seats[cpu as usize], frame, was_fresh);
+    }
+
+    /// The front of a processor's list is fresh, paid with one page of its stock.
+    pub(crate) fn pay(&mut self, cpu: u32)
+        requires fits { FitsZone self.old }
+        requires cpu { cpu ≤ self.old.cpus }
+        requires some { 1 ≤ length ((state_in self.old).parts cpu).list }
+        requires page { 1 ≤ ((state_in self.old).parts cpu).stock.pages }
+        requires room { length ((state_in self.old).parts cpu).fresh < self.old.frames }
+        ensures state { state_in self.new ≡ with_part (state_in self.old) cpu (paid ((state_in self.old).parts cpu)) }
+        ensures fits { FitsZone self.new }
+    {
+        pay_front(&mut self.seats[cpu as usize]);
+    }
+
+    /// A fresh frame is at the end of a processor's list, and its page in its stock.
+    pub(crate) fn take_credit(&mut self, cpu: u32, frame: u32)
+        requires fits { FitsZone self.old }
+        requires cpu { cpu ≤ self.old.cpus }
+        requires room { length ((state_in self.old).parts cpu).list < self.old.frames }
+        requires few { ((state_in self.old).parts cpu).stock.pages < 2 ^ 100 }
+        ensures state { state_in self.new ≡ with_part (state_in self.old) cpu (credited ((state_in self.old).parts cpu) frame) }
+        ensures fits { FitsZone self.new }
+    {
+        credit_frame(&mut self.seats[cpu as usize], frame);
+    }
+
+    /// A frame is at the end of a processor's back frames.
+    pub(crate) fn put_back(&mut self, cpu: u32, frame: u32)
+        requires fits { FitsZone self.old }
+        requires cpu { cpu ≤ self.old.cpus }
+        requires room { length ((state_in self.old).parts cpu).back < self.old.frames }
+        ensures state { state_in self.new ≡ with_part (state_in self.old) cpu (with_back ((state_in self.old).parts cpu) frame) }
+        ensures fits { FitsZone self.new }
+    {
+        keep_back(&mut self.seats[cpu as usize], frame);
+    }
+
+    /// A processor reports so many pages.
+    pub(crate) fn note_report(&mut self, cpu: u32, pages: u32)
+        requires fits { FitsZone self.old }
+        requires cpu { cpu ≤ self.old.cpus }
+        requires enough { pages ≤ ((state_in self.old).parts cpu).unreported }
+        requires few { ((state_in self.old).parts cpu).reported < 2 ^ 100 }
+        ensures state { state_in self.new ≡ with_part (state_in self.old) cpu (record ((state_in self.old).parts cpu) { unreported = ((state_in self.old).parts cpu).unreported - pages; reported = ((state_in self.old).parts cpu).reported + pages }) }
+        ensures fits { FitsZone self.new }
+    {
+        report_pages(&mut self.seats[cpu as usize], pages);
+    }
+
+    /// What a processor reported is taken off its book.
+    pub(crate) fn take_report(&mut self, cpu: u32) -> u128
+        requires fits { FitsZone self.old }
+        requires cpu { cpu ≤ self.old.cpus }
+        requires booked { ((state_in self.old).parts cpu).reported ≤ ((state_in self.old).parts cpu).book }
+        ensures pages { result ≡ ((state_in self.old).parts cpu).reported }
+        ensures state { state_in self.new ≡ with_part (state_in self.old) cpu (record ((state_in self.old).parts cpu) { book = ((state_in self.old).parts cpu).book - ((state_in self.old).parts cpu).reported; reported = ((state_in self.old).parts cpu).reported - ((state_in self.old).parts cpu).reported }) }
+        ensures fits { FitsZone self.new }
+    {
+        absorb_pages(&mut self.seats[cpu as usize])
+    }
+
+    /// So many pages are filled into a processor's stock, for a group.
+    pub(crate) fn put_in_stock(&mut self, cpu: u32, group: GroupId, pages: u32)
+        requires fits { FitsZone self.old }
+        requires cpu { cpu ≤ self.old.cpus }
+        requires few { ((state_in self.old).parts cpu).book < 2 ^ 100 }
+        ensures state { state_in self.new ≡ with_part (state_in self.old) cpu (filled ((state_in self.old).parts cpu) group pages) }
+        ensures fits { FitsZone self.new }
+    {
+        fill_stock(&mut self.seats[cpu as usize], group, pages);
+    }
+
+    /// All pages are drained from a processor's stock.
+    pub(crate) fn empty_stock(&mut self, cpu: u32) -> u128
+        requires fits { FitsZone self.old }
+        requires cpu { cpu ≤ self.old.cpus }
+        requires booked { ((state_in self.old).parts cpu).stock.pages ≤ ((state_in self.old).parts cpu).book }
+        ensures pages { result ≡ ((state_in self.old).parts cpu).stock.pages }
+        ensures state { state_in self.new ≡ with_part (state_in self.old) cpu (drained ((state_in self.old).parts cpu) ((state_in self.old).parts cpu).stock.pages) }
+        ensures fits { FitsZone self.new }
+    {
+        drain_pages(&mut self.seats[cpu as usize])
+    }
+}

@@ -1,0 +1,187 @@
+//! What is kept of one seat.
+
+ghost use Rattle.std.specs.Prelude.{◌≡◌, ◌+◌, ◌-◌, ◌<◌, ◌≤◌, ◌^◌, IfOk, vec_len, vec_capacity, length, replicate, slice_set};
+ghost use Rattle.step_rules.specs.State.{no_part, one_if, without, with_last};
+ghost use Rattle.step_rules.specs.After.{paid, credited, with_back, filled, drained};
+ghost use Rattle.core_rows.specs.Shown.{part_in};
+ghost use Rattle.core_rows.specs.Rooms.{HasRoom, HasRooms, KeepsRoom};
+
+use group_tree::group::GroupId;
+use std::alloc::{AllocError, Global};
+
+/// What is kept of one seat: the zone's own, or a processor's.
+#[derive(Drop)]
+pub struct Seat {
+    /// References, for each frame.
+    pub references: Vec<u32>,
+    /// The frames on the processor's list, the front first.
+    pub list: Vec<u32>,
+    /// The fresh frames, the oldest first.
+    pub fresh: Vec<u32>,
+    /// The back frames, the oldest first.
+    pub back: Vec<u32>,
+    /// The group of the last fill of the stock.
+    pub group: Option<GroupId>,
+    /// Pages in the stock.
+    pub pages: u128,
+    /// Whether the stock was drained since its last fill.
+    pub is_drained: bool,
+    /// Pages filled and neither drained nor absorbed.
+    pub book: u128,
+    /// Pages of fresh frames that were passed back, and not reported.
+    pub unreported: u128,
+    /// Pages that were reported, and not absorbed.
+    pub reported: u128,
+}
+
+// The frames without this one.
+fn take_out(frames: &mut Vec<u32>, frame: u32)
+    ensures frames { frames.new.items ≡ without frame frames.old.items }
+    ensures room { vec_capacity frames.new ≡ vec_capacity frames.old }
+{
+    frames.retain(|x| *x != frame);
+}
+
+/// The seat has so many references on a frame.
+pub(crate) fn set_count(seat: &mut Seat, frame: u32, count: u32)
+    requires there { frame < vec_len seat.old.references }
+    ensures part { part_in seat.new ≡ part_in seat.old }
+    ensures references { seat.new.references.items ≡ slice_set seat.old.references.items frame count }
+    ensures size { vec_len seat.new.references ≡ vec_len seat.old.references }
+    ensures rooms { HasRooms seat.old seat.new }
+{
+    seat.references[frame as usize] = count;
+}
+
+/// Puts a frame at the end of the list.
+pub(crate) fn list_frame(seat: &mut Seat, frame: u32)
+    requires room { length seat.old.list.items < vec_capacity seat.old.list }
+    ensures part { part_in seat.new ≡ record (part_in seat.old) { list = with_last seat.old.list.items frame } }
+    ensures kept { KeepsRoom seat.old seat.new }
+{
+    seat.list.push_reserved(frame);
+}
+
+/// Takes a frame out of the list, the fresh and the back frames; a page of a fresh one is to be reported.
+pub(crate) fn drop_frame(seat: &mut Seat, frame: u32, was_fresh: bool)
+    requires few { seat.old.unreported < 2 ^ 100 }
+    ensures part { part_in seat.new ≡ record (part_in seat.old) { list = without frame seat.old.list.items; fresh = without frame seat.old.fresh.items; back = without frame seat.old.back.items; unreported = seat.old.unreported + one_if was_fresh } }
+    ensures kept { KeepsRoom seat.old seat.new }
+{
+    take_out(&mut seat.list, frame);
+    take_out(&mut seat.fresh, frame);
+    take_out(&mut seat.back, frame);
+    if was_fresh {
+        seat.unreported += 1;
+    }
+}
+
+/// The front of the list is fresh, paid with one page of the stock.
+pub(crate) fn pay_front(seat: &mut Seat)
+    requires some { 1 ≤ length seat.old.list.items }
+    requires page { 1 ≤ seat.old.pages }
+    requires room { length seat.old.fresh.items < vec_capacity seat.old.fresh }
+    ensures part { part_in seat.new ≡ paid (part_in seat.old) }
+    ensures kept { KeepsRoom seat.old seat.new }
+{
+    let front = seat.list[0];
+    take_out(&mut seat.list, front);
+    seat.fresh.push_reserved(front);
+    seat.pages -= 1;
+}
+
+/// A fresh frame is at the end of the list, and its page in the stock.
+pub(crate) fn credit_frame(seat: &mut Seat, frame: u32)
+    requires room { length seat.old.list.items < vec_capacity seat.old.list }
+    requires few { seat.old.pages < 2 ^ 100 }
+    ensures part { part_in seat.new ≡ credited (part_in seat.old) frame }
+    ensures kept { KeepsRoom seat.old seat.new }
+{
+    seat.list.push_reserved(frame);
+    take_out(&mut seat.fresh, frame);
+    seat.pages += 1;
+}
+
+/// Puts a frame at the end of the back frames.
+pub(crate) fn keep_back(seat: &mut Seat, frame: u32)
+    requires room { length seat.old.back.items < vec_capacity seat.old.back }
+    ensures part { part_in seat.new ≡ with_back (part_in seat.old) frame }
+    ensures kept { KeepsRoom seat.old seat.new }
+{
+    seat.back.push_reserved(frame);
+}
+
+/// So many pages are reported.
+pub(crate) fn report_pages(seat: &mut Seat, pages: u32)
+    requires enough { pages ≤ seat.old.unreported }
+    requires few { seat.old.reported < 2 ^ 100 }
+    ensures part { part_in seat.new ≡ record (part_in seat.old) { unreported = seat.old.unreported - pages; reported = seat.old.reported + pages } }
+    ensures kept { KeepsRoom seat.old seat.new }
+{
+    seat.unreported -= u128::from(pages);
+    seat.reported += u128::from(pages);
+}
+
+/// What was reported is taken off the book, and told.
+pub(crate) fn absorb_pages(seat: &mut Seat) -> u128
+    requires booked { seat.old.reported ≤ seat.old.book }
+    ensures pages { result ≡ seat.old.reported }
+    ensures part { part_in seat.new ≡ record (part_in seat.old) { book = seat.old.book - seat.old.reported; reported = seat.old.reported - seat.old.reported } }
+    ensures kept { KeepsRoom seat.old seat.new }
+{
+    let pages = seat.reported;
+    seat.book -= pages;
+    seat.reported = 0;
+    pages
+}
+
+/// So many pages are filled into the stock, for this group.
+pub(crate) fn fill_stock(seat: &mut Seat, group: GroupId, pages: u32)
+    requires few { seat.old.book < 2 ^ 100 }
+    ensures part { part_in seat.new ≡ filled (part_in seat.old) group pages }
+    ensures kept { KeepsRoom seat.old seat.new }
+{
+    seat.group = Some(group);
+    seat.pages = u128::from(pages);
+    seat.is_drained = false;
+    seat.book += u128::from(pages);
+}
+
+/// All pages are drained from the stock, and told.
+pub(crate) fn drain_pages(seat: &mut Seat) -> u128
+    requires booked { seat.old.pages ≤ seat.old.book }
+    ensures pages { result ≡ seat.old.pages }
+    ensures part { part_in seat.new ≡ drained (part_in seat.old) seat.old.pages }
+    ensures kept { KeepsRoom seat.old seat.new }
+{
+    let pages = seat.pages;
+    seat.book -= pages;
+    seat.pages = 0;
+    seat.is_drained = seat.group.is_some();
+    pages
+}
+
+/// A seat that has nothing, with room for so many frames.
+pub(crate) fn new_seat(alloc: Global, frames: u32) -> Result<Seat, AllocError>
+    ensures part { IfOk result (λ s. part_in s ≡ no_part) }
+    ensures none { IfOk result (λ s. s.references.items ≡ replicate frames 0) }
+    ensures room { IfOk result (HasRoom frames) }
+{
+    let n = frames as usize;
+    let references = vec![in alloc; 0; n]?;
+    let list = Vec::with_capacity(alloc, n)?;
+    let fresh = Vec::with_capacity(alloc, n)?;
+    let back = Vec::with_capacity(alloc, n)?;
+    Ok(Seat {
+        references,
+        list,
+        fresh,
+        back,
+        group: None,
+        pages: 0,
+        is_drained: false,
+        book: 0,
+        unreported: 0,
+        reported: 0,
+    })
+}

@@ -1,0 +1,230 @@
+//! Sums and tests over all frames, seats and groups.
+
+ghost use Rattle.std.specs.Prelude.{◌≡◌, ◌+◌, ◌*◌, ◌^◌, ◌<◌, ◌≤◌, length, IfNone, IfSome, IsTrue, true, if◌then◌else◌};
+ghost use Rattle.group_tree.specs.Groups.{has_group, in_subtree};
+ghost use Rattle.step_rules.specs.State.{live_references, pins_of};
+ghost use Rattle.step_rules.specs.Usage.{is_below, frames_kept, stock_below, pages_prepaid, pages_pending, usage_of, has_room, PathHasRoom, IsLowestOver};
+ghost use Rattle.step_rules.specs.Legal.{rests, nothing_passes, no_frame_passes, is_settled};
+ghost use Rattle.core_rows.specs.Shown.{state_in};
+ghost use Rattle.core_rows.specs.Rooms.{FitsZone, IsFew};
+
+use crate::phases::{is_passing, keeper_of, passes_back, passes_out};
+use crate::rows::Rows;
+use group_tree::group::GroupId;
+
+impl Rows {
+    /// All references on a frame.
+    #[tactic(auto, using(crate::proofs::Adding::sum_start, crate::proofs::Adding::sum_next))]
+    pub fn live_references(&self, frame: u32) -> u32
+        requires fits { FitsZone self.now }
+        requires few { IsFew (state_in self.now) }
+        ensures { result ≡ live_references (state_in self.now) frame }
+    {
+        let mut sum = 0u32;
+        for seat in 0..self.cpus + 1 {
+            sum += self.references(seat, frame);
+        }
+        sum
+    }
+
+    /// The references of a seat on all frames: a processor's are its pins.
+    #[tactic(auto, using(crate::proofs::Adding::sum_start, crate::proofs::Adding::sum_next))]
+    pub fn pins(&self, seat: u32) -> u32
+        requires fits { FitsZone self.now }
+        requires few { IsFew (state_in self.now) }
+        ensures pins { result ≡ pins_of (state_in self.now) seat }
+        ensures bound { result ≤ 255 * 65536 }
+    {
+        let mut sum = 0u32;
+        for frame in 0..self.frames {
+            sum += self.references(seat, frame);
+        }
+        sum
+    }
+
+    /// The frame does not pass for the processor.
+    fn rests(&self, cpu: u32, frame: u32) -> bool
+        ensures { result ≡ rests (state_in self.now) cpu frame }
+    {
+        !passes_out(self.phase(frame), cpu) && !passes_back(self.phase(frame), cpu)
+    }
+
+    /// No frame passes for the processor.
+    #[tactic(auto, using(crate::proofs::Adding::all_is, crate::proofs::Adding::all_not))]
+    pub fn nothing_passes(&self, cpu: u32) -> bool
+        ensures { result ≡ nothing_passes (state_in self.now) cpu }
+    {
+        for frame in 0..self.frames {
+            if !self.rests(cpu, frame) {
+                return false;
+            }
+        }
+        true
+    }
+
+    /// No frame passes for any processor.
+    #[tactic(auto, using(crate::proofs::Adding::all_is, crate::proofs::Adding::all_not))]
+    pub fn no_frame_passes(&self) -> bool
+        ensures { result ≡ no_frame_passes (state_in self.now) }
+    {
+        for frame in 0..self.frames {
+            if is_passing(self.phase(frame)) {
+                return false;
+            }
+        }
+        true
+    }
+
+    /// No page of any group is pending.
+    #[tactic(auto, using(crate::proofs::Adding::all_is, crate::proofs::Adding::all_not))]
+    pub fn is_settled(&self) -> bool
+        requires fits { FitsZone self.now }
+        ensures { result ≡ is_settled (state_in self.now) }
+    {
+        for g in 0..64usize {
+            if self.pending[g] != 0 {
+                return false;
+            }
+        }
+        true
+    }
+
+    /// The number, if there is one, is that of a group of the subtree.
+    pub fn is_below(&self, group: GroupId, keeper: Option<GroupId>) -> bool
+        ensures { result ≡ is_below self.now.tree group keeper }
+    {
+        match keeper {
+            None => false,
+            Some(below) => self.in_subtree(group, below),
+        }
+    }
+
+    /// The second group is the first or lies below it: both are there.
+    #[tactic(auto, using(crate::proofs::Adding::above_there, crate::proofs::Adding::below_there))]
+    pub fn in_subtree(&self, group: GroupId, below: GroupId) -> bool
+        ensures { result ≡ in_subtree self.now.tree group below }
+    {
+        if !self.tree.contains(group) || !self.tree.contains(below) {
+            return false;
+        }
+        self.tree.in_subtree(group, below)
+    }
+
+    // The frames that the group's subtree keeps.
+    #[tactic(auto, using(crate::proofs::Adding::sum_start, crate::proofs::Adding::sum_next))]
+    fn frames_kept(&self, group: GroupId) -> u128
+        requires fits { FitsZone self.now }
+        ensures kept { result ≡ frames_kept self.now.tree (state_in self.now).phases self.now.frames group }
+        ensures few { result ≤ 65536 }
+    {
+        let mut sum = 0u128;
+        for frame in 0..self.frames {
+            if self.is_below(group, keeper_of(self.phase(frame))) {
+                sum += 1;
+            }
+        }
+        sum
+    }
+
+    // The pages of a processor's stock, where that is of a group of the subtree.
+    fn stock_below(&self, group: GroupId, cpu: u32) -> u128
+        requires few { IsFew (state_in self.now) }
+        ensures pages { result ≡ stock_below self.now.tree group ((state_in self.now).parts cpu) }
+        ensures few { result ≤ 2 ^ 96 }
+    {
+        if self.is_below(group, self.stock_group(cpu)) {
+            self.stock_pages(cpu)
+        } else {
+            0
+        }
+    }
+
+    // The pages in the stocks of the subtree's groups.
+    #[tactic(auto, using(crate::proofs::Adding::sum_start, crate::proofs::Adding::sum_next))]
+    fn pages_prepaid(&self, group: GroupId) -> u128
+        requires fits { FitsZone self.now }
+        requires few { IsFew (state_in self.now) }
+        ensures pages { result ≡ pages_prepaid self.now.tree (state_in self.now).parts self.now.cpus group }
+        ensures few { result ≤ 17 * 2 ^ 96 }
+    {
+        let mut sum = 0u128;
+        for cpu in 0..self.cpus + 1 {
+            sum += self.stock_below(group, cpu);
+        }
+        sum
+    }
+
+    // The pages that are pending for one group, where that is of the subtree.
+    fn pending_below(&self, group: GroupId, number: u32) -> u128
+        requires number { number < 64 }
+        requires few { IsFew (state_in self.now) }
+        ensures pages { result ≡ (if in_subtree self.now.tree group number then (state_in self.now).pending number else 0) }
+        ensures few { result ≤ 2 ^ 96 }
+    {
+        match GroupId::of(number) {
+            None => 0,
+            Some(below) => {
+                if self.is_below(group, Some(below)) {
+                    self.pending(below)
+                } else {
+                    0
+                }
+            }
+        }
+    }
+
+    // The pages that are pending for the subtree's groups.
+    #[tactic(auto, using(crate::proofs::Adding::sum_start, crate::proofs::Adding::sum_next))]
+    fn pages_pending(&self, group: GroupId) -> u128
+        requires few { IsFew (state_in self.now) }
+        ensures pages { result ≡ pages_pending self.now.tree (state_in self.now).pending group }
+        ensures few { result ≤ 64 * 2 ^ 96 }
+    {
+        let mut sum = 0u128;
+        for number in 0..64u32 {
+            sum += self.pending_below(group, number);
+        }
+        sum
+    }
+
+    /// The usage of a group, in pages: the frames that its subtree keeps, the pages prepaid for it and those pending.
+    pub fn usage(&self, group: GroupId) -> u128
+        requires fits { FitsZone self.now }
+        requires few { IsFew (state_in self.now) }
+        ensures usage { result ≡ usage_of (state_in self.now) group }
+        ensures few { result < 2 ^ 104 }
+    {
+        self.frames_kept(group) + self.pages_prepaid(group) + self.pages_pending(group)
+    }
+
+    // Whether the usage with so many pages more is at most the group's own limit.
+    fn has_room(&self, group: GroupId, pages: u32) -> bool
+        requires fits { FitsZone self.now }
+        requires few { IsFew (state_in self.now) }
+        requires there { IsTrue (has_group self.now.tree group) }
+        ensures { result ≡ has_room self.now.tree (usage_of (state_in self.now)) pages group }
+    {
+        match self.tree.limit(group) {
+            None => true,
+            Some(limit) => self.usage(group) + u128::from(pages) <= u128::from(limit),
+        }
+    }
+
+    /// The lowest group, from this one up to the root, whose limit has no room for the pages.
+    pub fn lowest_over(&self, group: GroupId, pages: u32) -> Option<GroupId>
+        requires fits { FitsZone self.now }
+        requires few { IsFew (state_in self.now) }
+        requires there { IsTrue (has_group self.now.tree group) }
+        ensures none { IfNone result (PathHasRoom self.now.tree (usage_of (state_in self.now)) pages group) }
+        ensures some { IfSome result (IsLowestOver self.now.tree (usage_of (state_in self.now)) pages group) }
+    {
+        // They are the groups of a tree.
+        let _ = self.tree.groups();
+        for above in self.tree.ancestors(group) {
+            if !self.has_room(above, pages) {
+                return Some(above);
+            }
+        }
+        None
+    }
+}

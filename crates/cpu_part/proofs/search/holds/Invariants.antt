@@ -1,0 +1,6 @@
+use Rattle.std.proofs.Common.{◌≡◌, false, take}
+use Rattle.cpu_part.specs.Cpus.{times}
+use Rattle.cpu_part.proofs.search.holds.Given as goal
+
+abbrev pub invariant-loop-other : goal.invariant-loop-other
+invariant-loop-other l = l.is_there ≡ false → times l.frame (take l.other-index l.block) ≡ 0

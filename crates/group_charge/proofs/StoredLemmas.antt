@@ -1,0 +1,157 @@
+-- The stored usages stay the sums of the own pages. Serves the invariant of `Charges` and the clauses of `try_charge` that
+-- speak of room.
+use Rattle.std.proofs.Common.{◌≡◌, ℕ, ◌+◌, ◌-◌, ◌≤◌, true, false, cond, IsTrue, Option, None, List, length, replicate, sym, ap, ◌∙◌, subst, arith, ⊎_elim}
+use Rattle.std.proofs.lemmas.Bool.{cases_Bool, cases_eq, cases_lt, cond-true, cond-false}
+use Rattle.std.proofs.lemmas.List.{get_or-replicate, get_or_past, length-replicate}
+use Rattle.group_tree.specs.declared.group.Group.{Group}
+use Rattle.group_tree.specs.Ancestors.{is_passed}
+use Rattle.group_tree.specs.Groups.{has_group, in_subtree}
+use Rattle.group_tree.specs.Room.{IsLowestOver, PathHasRoom, fits_limit, has_room}
+use Rattle.group_tree.specs.Groups.{limit_of}
+use Rattle.group_tree.proofs.GroupLemmas.{CanMake}
+use Rattle.group_tree.proofs.Walks.{passed_all}
+use Rattle.group_charge.specs.Charges.{Account, AreCharges, Ledger, current_of, initial_ledger, pages_of, with_charge, with_group_limit}
+use Rattle.group_charge.specs.Charges.{with_group_removed, with_max_noted, with_new_group, with_uncharge}
+use Rattle.group_charge.specs.Kept.{AreKept, AreUsages, UsagesPassed, ledger_of, usage_by}
+use Rattle.group_charge.proofs.SumLemmas.{usage-le-total}
+use Rattle.group_charge.proofs.UsageLemmas.{usage-absent, usage-limited, usage-new, usage-new_other, usage-noted}
+use Rattle.group_charge.proofs.ChargeLemmas.{all_known, charge_rises, uncharge_falls}
+use Rattle.group_charge.proofs.ReaderLemmas.{removed_usage}
+
+-- ---- room by what is stored
+-- the room that the stored usages leave is the room that the sums leave
+pub room_as : (groups : List Group) (u v : ℕ → ℕ) (m n : ℕ) → u m ≡ v m → has_room groups u m n ≡ has_room groups v m n
+room_as groups u v m n e = ap (λ k. fits_limit (limit_of groups m) (k + n)) e
+
+pub path_room_as : (groups : List Group) (u v : ℕ → ℕ) (g n : ℕ) → ((m : ℕ) → u m ≡ v m) → PathHasRoom groups u g n → PathHasRoom groups v g n
+path_room_as groups u v g n same h = λ m on. sym (room_as groups u v m n (same m)) ∙ h m on
+
+pub lowest_over_as : (groups : List Group) (u v : ℕ → ℕ) (g n m : ℕ) → ((m : ℕ) → u m ≡ v m) → IsLowestOver groups u g n m → IsLowestOver groups v g n m
+lowest_over_as groups u v g n m same h = record {
+  on_path = h.on_path;
+  over = sym (room_as groups u v m n (same m)) ∙ h.over;
+  lowest = λ k on full. h.lowest k on (room_as groups u v k n (same k) ∙ full);
+}
+
+-- ---- at first
+pub stored_initial : AreUsages initial_ledger (replicate 64 0)
+stored_initial = record {
+  size = let zero : ℕ = 0 in length-replicate 64 zero;
+  sums = λ g. zeros 64 g ∙ sym (none g);
+}
+  where
+    zeros : (n g : ℕ) → usage_by (replicate n 0) g ≡ 0
+    zeros n g =
+        let zero : ℕ = 0 in
+        ⊎_elim
+        (λ lt. get_or-replicate n g zero zero lt)
+        (λ ge. let size = length-replicate n zero in get_or_past (replicate n zero) g zero (omega arith))
+        (cases_lt g n)
+
+    none : (g : ℕ) → current_of initial_ledger g ≡ 0
+    none g = omega (arith, usage-le-total initial_ledger.groups initial_ledger.accounts g)
+
+-- ---- after a charge, and after one that was refused
+pub stored_charged : (l : Ledger) (old new : List ℕ) (g n : ℕ) → AreCharges l → IsTrue (has_group l.groups g) → AreUsages l old → length new ≡ 64 →
+    UsagesPassed l.groups g None (λ pages. pages + n) old new → AreUsages (with_charge l g n) new
+stored_charged l old new g n facts there are size walked = record {
+  size = size;
+  sums = λ m.
+      walked m ∙ ap (λ b. cond b (usage_by old m + n) (usage_by old m)) (passed_all l.groups g m)
+      ∙ ap (λ u. cond (in_subtree l.groups m g) (u + n) u) (are.sums m) ∙ sym (charge_rises l g n facts there m);
+}
+
+-- what was added is taken off again
+pub stored_refused : (l : Ledger) (old mid new : List ℕ) (g n : ℕ) (end : Option ℕ) → AreUsages l old → length new ≡ 64 →
+    UsagesPassed l.groups g end (λ pages. pages + n) old mid → UsagesPassed l.groups g end (λ pages. pages - n) mid new → AreUsages l new
+stored_refused l old mid new g n end are size up down = record {
+  size = size;
+  sums = λ m.
+      down m ∙
+      ⊎_elim
+      (λ t.
+      let more : usage_by mid m ≡ usage_by old m + n = up m ∙ cond-true (is_passed l.groups g end m) (usage_by old m + n) (usage_by old m) t in
+      let less : cond (is_passed l.groups g end m) (usage_by mid m - n) (usage_by mid m) ≡ usage_by mid m - n =
+      cond-true (is_passed l.groups g end m) (usage_by mid m - n) (usage_by mid m) t in
+      let back : usage_by mid m - n ≡ usage_by old m = omega arith in
+      less ∙ back)
+      (λ f.
+      cond-false (is_passed l.groups g end m) (usage_by mid m - n) (usage_by mid m) f
+      ∙ up m ∙ cond-false (is_passed l.groups g end m) (usage_by old m + n) (usage_by old m) f)
+      (cases_Bool (is_passed l.groups g end m))
+      ∙ are.sums m;
+}
+
+-- whoever was passed has what was added
+pub enough_added : (groups : List Group) (old mid : List ℕ) (g n : ℕ) (end : Option ℕ) → UsagesPassed groups g end (λ pages. pages + n) old mid →
+    (m : ℕ) → IsTrue (is_passed groups g end m) → n ≤ usage_by mid m
+enough_added groups old mid g n end up m passed =
+    let more : usage_by mid m ≡ usage_by old m + n = up m ∙ cond-true (is_passed groups g end m) (usage_by old m + n) (usage_by old m) passed in
+    omega arith
+
+-- ---- after pages were taken back
+pub stored_taken : (l : Ledger) (old new : List ℕ) (g n : ℕ) → AreCharges l → IsTrue (has_group l.groups g) → n ≤ pages_of l g → AreUsages l old →
+    length new ≡ 64 → UsagesPassed l.groups g None (λ pages. pages - n) old new → AreUsages (with_uncharge l g n) new
+stored_taken l old new g n facts there enough are size walked = record {
+  size = size;
+  sums = λ m.
+      let falls : current_of l m ≡ cond (in_subtree l.groups m g) (current_of (with_uncharge l g n) m + n) (current_of (with_uncharge l g n) m) =
+      uncharge_falls l g n facts there enough m in
+      let now : usage_by new m ≡ cond (in_subtree l.groups m g) (current_of l m - n) (current_of l m) =
+      walked m ∙ ap (λ b. cond b (usage_by old m - n) (usage_by old m)) (passed_all l.groups g m)
+      ∙ ap (λ u. cond (in_subtree l.groups m g) (u - n) u) (are.sums m) in
+      ⊎_elim
+      (λ t.
+      let more : current_of l m ≡ current_of (with_uncharge l g n) m + n = falls
+      ∙ cond-true (in_subtree l.groups m g) (current_of (with_uncharge l g n) m + n) (current_of (with_uncharge l g n) m) t in
+      let less : usage_by new m ≡ current_of l m - n = now ∙ cond-true (in_subtree l.groups m g) (current_of l m - n) (current_of l m) t in
+      omega arith)
+      (λ f.
+      now ∙ cond-false (in_subtree l.groups m g) (current_of l m - n) (current_of l m) f
+      ∙ falls ∙ cond-false (in_subtree l.groups m g) (current_of (with_uncharge l g n) m + n) (current_of (with_uncharge l g n) m) f)
+      (cases_Bool (in_subtree l.groups m g));
+}
+
+-- whoever is on the path has what is taken back
+pub enough_stored : (l : Ledger) (usages : List ℕ) (g n m : ℕ) → AreCharges l → IsTrue (has_group l.groups g) → n ≤ pages_of l g →
+    AreUsages l usages → IsTrue (is_passed l.groups g None m) → n ≤ usage_by usages m
+enough_stored l usages g n m facts there enough are passed =
+    let on : in_subtree l.groups m g ≡ true = sym (passed_all l.groups g m) ∙ passed in
+    let falls : current_of l m ≡ current_of (with_uncharge l g n) m + n =
+    uncharge_falls l g n facts there enough m
+    ∙ cond-true (in_subtree l.groups m g) (current_of (with_uncharge l g n) m + n) (current_of (with_uncharge l g n) m) on in
+    let stored = are.sums m in
+    omega arith
+
+-- ---- after what changes no usage
+pub stored_noted : (l : Ledger) (usages : List ℕ) (g : ℕ) → AreUsages l usages → AreUsages (with_max_noted l g) usages
+stored_noted l usages g are = record { size = are.size; sums = λ m. are.sums m ∙ sym (usage-noted l.groups l.accounts g m) }
+
+pub stored_limited : (l : Ledger) (usages : List ℕ) (g : ℕ) (limit : Option ℕ) → AreUsages l usages → AreUsages (with_group_limit l g limit) usages
+stored_limited l usages g limit are = record { size = are.size; sums = λ m. are.sums m ∙ sym (usage-limited l.groups l.accounts g m limit) }
+
+pub stored_new : (l : Ledger) (usages : List ℕ) (n : ℕ) (path : List ℕ) → AreCharges l → CanMake l.groups path → has_group l.groups n ≡ false →
+    AreUsages l usages → AreUsages (with_new_group l n path) usages
+stored_new l usages n path facts can free are = record {
+  size = are.size;
+  sums = λ m. are.sums m ∙
+      ⊎_elim
+      (λ same. ap (current_of l) same ∙ usage-absent l.groups l.accounts n free
+      ∙ sym (ap (current_of (with_new_group l n path)) same ∙ usage-new l.groups l.accounts n path facts.groups can free (all_known l facts)))
+      (λ other. sym (usage-new_other l.groups l.accounts n m path free (all_known l facts) other))
+      (cases_eq m n);
+}
+
+pub stored_removed : (l : Ledger) (usages : List ℕ) (g : ℕ) → AreCharges l → IsTrue (has_group l.groups g) → current_of l g ≡ 0 → AreUsages l usages →
+    AreUsages (with_group_removed l g) usages
+stored_removed l usages g facts there empty are = record { size = are.size; sums = λ m. are.sums m ∙ sym (removed_usage l g m facts there empty) }
+
+-- ---- all that is kept
+-- what is kept for a ledger that is in order
+pub kept_as : (groups : List Group) (accounts : List Account) (usages : List ℕ) (l : Ledger) → ledger_of groups accounts ≡ l → AreCharges l →
+    length accounts ≡ 64 → AreUsages l usages → AreKept groups accounts usages
+kept_as groups accounts usages l e facts size are = record {
+  charges = subst AreCharges (sym e) facts;
+  size = size;
+  usages_are = subst (λ k. AreUsages k usages) (sym e) are;
+}

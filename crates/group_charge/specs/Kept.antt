@@ -1,0 +1,59 @@
+-- What is kept of each group by its number: its account, and its usage, which is stored and not summed anew.
+use Rattle.std.specs.Prelude.{◌≡◌, ℕ, max, Option, List, length, map, set, if◌then◌else◌}
+use Rattle.std.specs.List.{slice_index_or}
+use Rattle.group_tree.specs.declared.group.Group.{Group}
+use Rattle.group_tree.specs.declared.group.TheConstants.{MAX_GROUPS}
+use Rattle.group_tree.specs.Ancestors.{is_passed}
+use Rattle.group_tree.specs.Room.{on_path}
+use Rattle.group_charge.specs.Charges.{Account, AreCharges, Ledger, current_of, empty_account, with_max}
+
+-- the account kept under this number
+abbrev pub account_by : List Account → ℕ → Account
+account_by accounts g = slice_index_or accounts g (empty_account 0)
+
+-- the usage kept under this number, in pages
+abbrev pub usage_by : List ℕ → ℕ → ℕ
+usage_by usages g = slice_index_or usages g 0
+
+-- the accounts of these groups, in the order of the groups
+abbrev pub accounts_of : List Group → List Account → List Account
+accounts_of groups accounts = map (λ (x : Group). account_by accounts x.number) groups
+
+-- these groups and their accounts
+abbrev pub ledger_of : List Group → List Account → Ledger
+ledger_of groups accounts = record { groups = groups; accounts = accounts_of groups accounts }
+
+-- each stored usage is the sum of the own pages over the group of that number and all below it; 0 where there is no such group
+pub record AreUsages (l : Ledger) (usages : List ℕ) : Type 0 where
+  pub size : length usages ≡ MAX_GROUPS
+  pub sums : (g : ℕ) → usage_by usages g ≡ current_of l g
+
+-- what holds of all that is kept
+pub record AreKept (groups : List Group) (accounts : List Account) (usages : List ℕ) : Type 0 where
+  pub charges : AreCharges (ledger_of groups accounts)
+  pub size : length accounts ≡ MAX_GROUPS
+  pub usages_are : AreUsages (ledger_of groups accounts) usages
+
+-- ---- what a walk changes
+-- f changes the usage of each group that the walk from g passes before it comes to `next`, all of the path where that is None;
+-- no other usage changes
+abbrev pub UsagesPassed : List Group → ℕ → Option ℕ → (ℕ → ℕ) → List ℕ → List ℕ → Type 0
+UsagesPassed groups g next f old new =
+    (m : ℕ) → usage_by new m ≡ (if is_passed groups g next m then f (usage_by old m) else usage_by old m)
+
+-- f changes the account of g and of each of its ancestors, and no other
+abbrev pub AccountsOnPath : List Group → ℕ → (ℕ → Account → Account) → List Account → List Account → Type 0
+AccountsOnPath groups g f old new = (m : ℕ) → account_by new m ≡ on_path groups g (f m) m (account_by old m)
+
+-- the account of group m with a peak that is at least the group's usage
+abbrev pub with_usage_peak : List ℕ → ℕ → Account → Account
+with_usage_peak usages m a = record a { peak = max a.peak (usage_by usages m) }
+
+-- the account with one more `max` of the group and all below it
+abbrev pub with_event : ℕ → Account → Account
+with_event m a = record a { events = with_max a.events }
+
+-- the accounts with one more `max` of group g itself
+abbrev pub with_local_event : ℕ → List Account → List Account
+with_local_event g accounts =
+    let a = account_by accounts g in set accounts g (record a { events_local = with_max a.events_local })

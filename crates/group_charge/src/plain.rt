@@ -1,0 +1,296 @@
+//! The same calls on plain rows, with each usage summed anew when it is asked for, beside `Charges`.
+
+use crate::charges::{Charges, Over};
+use group_tree::fault::Fault;
+use group_tree::group::{GroupId, MAX_GROUPS};
+use rand_core::{Rng, SeedableRng};
+use rand_pcg::Pcg32;
+use std::alloc::{AllocError, Global};
+use std::process::Abort;
+use std::test::Fail;
+
+// As many names as a path may have, and the root.
+const LEVELS: usize = 9;
+
+// What is known of a number. The row of the root names itself as its parent.
+#[derive(Clone, Copy)]
+struct Row {
+    is_there: bool,
+    parent: GroupId,
+    name: u8,
+    pages: u32,
+    peak: u32,
+    limit: Option<u32>,
+}
+
+// The rows by number.
+#[derive(Drop)]
+struct Plain {
+    rows: [Row; MAX_GROUPS],
+}
+
+impl Plain {
+    fn new() -> Plain {
+        let nobody = Row {
+            is_there: false,
+            parent: GroupId::root(),
+            name: b'/',
+            pages: 0,
+            peak: 0,
+            limit: None,
+        };
+        let mut rows = [nobody; MAX_GROUPS];
+        rows[0].is_there = true;
+        Plain { rows }
+    }
+
+    fn row(&self, g: GroupId) -> Row {
+        self.rows[g.number() as usize]
+    }
+
+    // Whether h is g or lies below it.
+    fn is_below(&self, h: GroupId, g: GroupId) -> bool {
+        let mut at = h;
+        for _ in 0..LEVELS {
+            if at == g {
+                return true;
+            }
+            at = self.row(at).parent;
+        }
+        false
+    }
+
+    // The sum of the pages of g and of all below it.
+    fn usage(&self, g: GroupId) -> u32 {
+        let mut sum: u32 = 0;
+        for number in 0..64_u32 {
+            let h = GroupId::of(number).unwrap_or(g);
+            if self.row(h).is_there && self.is_below(h, g) {
+                sum = sum.wrapping_add(self.row(h).pages);
+            }
+        }
+        sum
+    }
+
+    fn count(&self) -> usize {
+        self.rows.iter().filter(|row| row.is_there).count()
+    }
+
+    // How many groups lie above g.
+    fn depth(&self, g: GroupId) -> usize {
+        let mut depth = 0;
+        let mut at = g;
+        for level in 1..LEVELS {
+            if at != GroupId::root() {
+                depth = level;
+            }
+            at = self.row(at).parent;
+        }
+        depth
+    }
+
+    fn child(&self, g: GroupId, name: u8) -> Option<GroupId> {
+        for number in 1..64_u32 {
+            let h = GroupId::of(number).unwrap_or(g);
+            let row = self.row(h);
+            if row.is_there && row.parent == g && row.name == name {
+                return Some(h);
+            }
+        }
+        None
+    }
+
+    fn has_child(&self, g: GroupId) -> bool {
+        (1..64_u32).any(|number| {
+            let h = GroupId::of(number).unwrap_or(g);
+            self.row(h).is_there && self.row(h).parent == g
+        })
+    }
+
+    // The path of a group of this name below g.
+    fn path(&self, alloc: Global, g: GroupId, name: u8) -> Result<Vec<u8>, AllocError> {
+        let mut bytes = Vec::new(alloc);
+        bytes.push(name)?;
+        bytes.push(b'/')?;
+        let mut at = g;
+        for _ in 0..LEVELS {
+            if at != GroupId::root() {
+                bytes.push(self.row(at).name)?;
+                bytes.push(b'/')?;
+                at = self.row(at).parent;
+            }
+        }
+        bytes.reverse();
+        Ok(bytes)
+    }
+
+    // What `make` has to answer for a group of this name below g.
+    fn make(&self, g: GroupId, name: u8) -> Result<GroupId, Fault> {
+        if self.depth(g) >= LEVELS - 1 {
+            return Err(Fault::TooDeep);
+        }
+        if self.child(g, name).is_some() {
+            return Err(Fault::Exists);
+        }
+        for number in 0..64_u32 {
+            let h = GroupId::of(number).unwrap_or(g);
+            if !self.row(h).is_there {
+                return Ok(h);
+            }
+        }
+        Err(Fault::TreeFull)
+    }
+
+    // The lowest group from g up to the root that has no room for n pages more.
+    fn lowest_over(&self, g: GroupId, n: u32) -> Option<GroupId> {
+        let mut at = g;
+        for _ in 0..LEVELS {
+            let with = self.usage(at).wrapping_add(n);
+            if self.row(at).limit.is_some_and(|limit| with > limit) {
+                return Some(at);
+            }
+            at = self.row(at).parent;
+        }
+        None
+    }
+
+    fn charge(&mut self, g: GroupId, n: u32) -> Result<(), Over> {
+        if let Some(group) = self.lowest_over(g, n) {
+            return Err(Over { group });
+        }
+        let index = g.number() as usize;
+        self.rows[index].pages = self.rows[index].pages.wrapping_add(n);
+        let mut at = g;
+        for _ in 0..LEVELS {
+            let peak = self.row(at).peak.max(self.usage(at));
+            self.rows[at.number() as usize].peak = peak;
+            at = self.row(at).parent;
+        }
+        Ok(())
+    }
+}
+
+// Makes a group of this name below g.
+fn make(
+    rt: &(impl Abort + Alloc<A = Global>),
+    charges: &mut Charges,
+    plain: &mut Plain,
+    g: GroupId,
+    name: u8,
+) -> Result<(), AllocError> {
+    let path = plain.path(rt.alloc(), g, name)?;
+    let made = charges.make(path.as_slice());
+    assert_eq!(rt; made, plain.make(g, name));
+    if let Ok(h) = made {
+        plain.rows[h.number() as usize] = Row {
+            is_there: true,
+            parent: g,
+            name,
+            pages: 0,
+            peak: 0,
+            limit: None,
+        };
+    }
+    Ok(())
+}
+
+// Takes the group out, where it may go.
+fn remove(rt: &impl Abort, charges: &mut Charges, plain: &mut Plain, g: GroupId) {
+    assert!(rt; charges.tree().contains(g));
+    assert_eq!(rt; charges.tree().has_child(g), plain.has_child(g));
+    if g.number() != 0 && !charges.tree().has_child(g) && charges.current(g) == 0 {
+        charges.remove(g);
+        plain.rows[g.number() as usize].is_there = false;
+    }
+}
+
+fn set_max(
+    rt: &impl Abort,
+    charges: &mut Charges,
+    plain: &mut Plain,
+    g: GroupId,
+    limit: Option<u32>,
+) {
+    assert!(rt; charges.tree().contains(g));
+    charges.set_max(g, limit);
+    plain.rows[g.number() as usize].limit = limit;
+}
+
+fn charge(rt: &impl Abort, charges: &mut Charges, plain: &mut Plain, g: GroupId, n: u32) {
+    assert!(rt; charges.tree().contains(g));
+    assert!(rt; charges.fits(n));
+    assert_eq!(rt; charges.try_charge(g, n), plain.charge(g, n));
+}
+
+// Takes back n pages of the group, or as many as it has.
+fn uncharge(rt: &impl Abort, charges: &mut Charges, plain: &mut Plain, g: GroupId, n: u32) {
+    assert!(rt; charges.tree().contains(g));
+    let pages = charges.pages(g);
+    if n <= pages {
+        charges.uncharge(g, n);
+        plain.rows[g.number() as usize].pages = plain.row(g).pages.wrapping_sub(n);
+    } else {
+        charges.uncharge(g, pages);
+        plain.rows[g.number() as usize].pages = 0;
+    }
+}
+
+// Makes one call, picked by two random words, on both.
+fn call(
+    rt: &(impl Abort + Alloc<A = Global>),
+    charges: &mut Charges,
+    plain: &mut Plain,
+    word: u32,
+    n: u32,
+) -> Result<(), AllocError> {
+    let picked = GroupId::of(n % 64).unwrap_or(GroupId::root());
+    let g = if plain.row(picked).is_there {
+        picked
+    } else {
+        GroupId::root()
+    };
+    let few = (word / 8) % 8;
+    match word % 8 {
+        0 | 1 => make(rt, charges, plain, g, b'a' + few as u8)?,
+        2 => remove(rt, charges, plain, g),
+        3 if few < 4 => set_max(rt, charges, plain, g, None),
+        3 => set_max(rt, charges, plain, g, Some((word / 64) % 40)),
+        4 | 5 => charge(rt, charges, plain, g, few),
+        _ => uncharge(rt, charges, plain, g, 4 * few),
+    }
+    Ok(())
+}
+
+// Compares usage, own pages, peak and limit of all groups.
+fn compare(rt: &impl Abort, charges: &Charges, plain: &Plain) {
+    for number in 0..64_u32 {
+        let g = GroupId::of(number).unwrap_or(GroupId::root());
+        let row = plain.row(g);
+        assert_eq!(rt; charges.tree().contains(g), row.is_there);
+        if charges.tree().contains(g) {
+            assert_eq!(rt; charges.current(g), plain.usage(g));
+            assert_eq!(rt; charges.pages(g), row.pages);
+            assert_eq!(rt; charges.peak(g), row.peak);
+            assert_eq!(rt; charges.max(g), row.limit);
+        }
+    }
+}
+
+#[test]
+fn the_charges_agree_with_plain_sums(rt: HostRuntime) -> Result<(), Fail> {
+    let mut random = Pcg32::seed_from_u64(2_025);
+    let mut charges = Charges::new(rt.alloc())?;
+    let mut plain = Plain::new();
+    let mut most = 0;
+    for turn in 0..10_000 {
+        let word = random.next_u32();
+        let n = random.next_u32();
+        call(&rt, &mut charges, &mut plain, word, n)?;
+        most = plain.count().max(most);
+        if turn % 20 == 19 {
+            compare(&rt, &charges, &plain);
+        }
+    }
+    assert_eq!(rt; most, MAX_GROUPS);
+    Ok(())
+}

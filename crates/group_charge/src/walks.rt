@@ -1,0 +1,114 @@
+//! The walks from a group up to the root, over what is kept by the groups' numbers: usages, peaks and
+//! counts.
+
+ghost use Rattle.std.specs.Prelude.{◌≡◌, ℕ, ◌+◌, ◌-◌, ◌^◌, ◌<◌, ◌≤◌, IfSome, IsTrue, MatchOption, length};
+ghost use Rattle.group_tree.specs.Ancestors.{is_passed};
+ghost use Rattle.group_tree.specs.Groups.{AreGroups, has_group, in_subtree};
+ghost use Rattle.group_tree.specs.Room.{IsLowestOver, PathHasRoom, fits_limit};
+ghost use Rattle.group_tree.specs.declared.group.TheConstants.{MAX_GROUPS};
+ghost use Rattle.group_charge.specs.Charges.{with_max};
+ghost use Rattle.group_charge.specs.Kept.{AccountsOnPath, UsagesPassed, account_by, usage_by, with_event, with_local_event, with_usage_peak};
+
+use crate::account::{Account, Counts};
+use group_tree::group::GroupId;
+use group_tree::tree::Tree;
+
+// Whether so many pages are at most the limit, if there is one.
+fn fits_limit(limit: Option<u32>, pages: u32) -> bool
+    ensures { result ≡ fits_limit limit pages }
+{
+    match limit {
+        None => true,
+        Some(limit) => pages <= limit,
+    }
+}
+
+/// Adds n pages to the usage of the group and of each group above it. The first that has no room for
+/// them ends the walk and is told; nothing is added to it.
+pub fn add(tree: &Tree, usages: &mut [u32], g: GroupId, n: u32) -> Option<GroupId>
+    requires legal { AreGroups tree.now }
+    requires there { IsTrue (has_group tree.now g) }
+    requires size { length usages.old ≡ MAX_GROUPS }
+    requires fits { (m : ℕ) → usage_by usages.old m + n < 2 ^ 32 }
+    ensures room { MatchOption result (PathHasRoom tree.now (usage_by usages.old) g n) (IsLowestOver tree.now (usage_by usages.old) g n) }
+    ensures added { UsagesPassed tree.now g result (λ pages. pages + n) usages.old usages.new }
+    ensures size { length usages.new ≡ MAX_GROUPS }
+{
+    for m in tree.ancestors(g) {
+        let number = m.number() as usize;
+        let pages = usages[number] + n;
+        if !fits_limit(tree.limit(m), pages) {
+            return Some(m);
+        }
+        usages[number] = pages;
+    }
+    None
+}
+
+/// Takes n pages off the usage of the group and of each group above it. Where an end is named, the walk
+/// stops there: that group and those above it keep theirs.
+pub fn take_off(tree: &Tree, usages: &mut [u32], g: GroupId, end: Option<GroupId>, n: u32)
+    requires legal { AreGroups tree.now }
+    requires there { IsTrue (has_group tree.now g) }
+    requires size { length usages.old ≡ MAX_GROUPS }
+    requires on_path { IfSome end (λ m. IsTrue (in_subtree tree.now m g)) }
+    requires enough { (m : ℕ) → IsTrue (is_passed tree.now g end m) → n ≤ usage_by usages.old m }
+    ensures taken { UsagesPassed tree.now g end (λ pages. pages - n) usages.old usages.new }
+    ensures size { length usages.new ≡ MAX_GROUPS }
+{
+    for m in tree.ancestors(g) {
+        if end == Some(m) {
+            return;
+        }
+        usages[m.number() as usize] -= n;
+    }
+}
+
+/// The peaks of the group and of each group above it follow their usage.
+pub fn raise_peaks(tree: &Tree, accounts: &mut [Account], usages: &[u32], g: GroupId)
+    requires legal { AreGroups tree.now }
+    requires there { IsTrue (has_group tree.now g) }
+    requires size { length accounts.old ≡ MAX_GROUPS }
+    requires usages { length usages.now ≡ MAX_GROUPS }
+    ensures raised { AccountsOnPath tree.now g (with_usage_peak usages.now) accounts.old accounts.new }
+    ensures size { length accounts.new ≡ MAX_GROUPS }
+{
+    for m in tree.ancestors(g) {
+        let number = m.number() as usize;
+        let usage = usages[number];
+        accounts[number].peak = accounts[number].peak.max(usage);
+    }
+}
+
+// One more `max`, and 2^64 - 1 at most.
+fn one_more_max(counts: Counts) -> Counts
+    ensures { result ≡ with_max counts }
+{
+    Counts {
+        max: counts.max.saturating_add(1),
+        ..counts
+    }
+}
+
+/// Counts one more `max` at the group and at each group above it, for all below that.
+pub fn count_max(tree: &Tree, accounts: &mut [Account], g: GroupId)
+    requires legal { AreGroups tree.now }
+    requires there { IsTrue (has_group tree.now g) }
+    requires size { length accounts.old ≡ MAX_GROUPS }
+    ensures counted { AccountsOnPath tree.now g with_event accounts.old accounts.new }
+    ensures size { length accounts.new ≡ MAX_GROUPS }
+{
+    for m in tree.ancestors(g) {
+        let at = m.number() as usize;
+        accounts[at].events = one_more_max(accounts[at].events);
+    }
+}
+
+/// Counts one more `max` at the group itself.
+pub fn count_local_max(accounts: &mut [Account], g: GroupId)
+    requires size { length accounts.old ≡ MAX_GROUPS }
+    ensures counted { accounts.new ≡ with_local_event g accounts.old }
+{
+    let number = g.number() as usize;
+    accounts[number].events_local = one_more_max(accounts[number].events_local);
+}

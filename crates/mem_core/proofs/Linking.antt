@@ -1,0 +1,36 @@
+-- What a core shows is what its rows show (for `Core::new`, `Core::step` and the readers).
+use Rattle.std.proofs.Common.{◌≡◌, ℕ, ◌^◌, ◌≤◌, List, [], ◌∷◌, zero, suc, map, refl, ap, arith}
+use Rattle.std.specs.List.{slice_get}
+use Rattle.std.proofs.lemmas.Option.{slice_get_past}
+use Rattle.step_rules.proofs.Sound.{IsSound}
+use Rattle.core_rows.specs.declared.seat.Seat.{Seat}
+use Rattle.core_rows.specs.declared.rows.Rows.{Rows}
+use Rattle.core_rows.specs.Shown.{part_of, reference_of}
+use Rattle.core_rows.specs.Shown as rows
+use Rattle.core_rows.specs.Rooms.{FitsZone, IsFew}
+use Rattle.core_rows.proofs.Looking.{past_default}
+use Rattle.core_rows.proofs.Bounding.{IsBounded, few_from}
+use Rattle.mem_core.specs.declared.zone.Core.TheInside.{Inside}
+use Rattle.mem_core.specs.Shown.{reference_at, part_at, state_in}
+use Rattle.mem_core.specs.Inside.{seat_shown, core_state}
+
+seat_found : (xs : List Seat) (k f : ℕ)
+    → (reference_at (slice_get (map seat_shown xs) k) f ≡ reference_of (slice_get xs k) f) ×
+    (part_at (slice_get (map seat_shown xs) k) ≡ part_of (slice_get xs k))
+seat_found [] k f = (refl, refl)
+seat_found (x ∷ xs) zero f = (refl, refl)
+seat_found (x ∷ xs) (suc k) f = seat_found xs k f
+
+pub shown_is : (c : Inside) → state_in (core_state c) ≡ rows.state_in c.rows
+shown_is c = λ i. record (rows.state_in c.rows) {
+  references = λ seat f. (seat_found c.rows.seats.items seat f).0 i;
+  parts = λ p. (seat_found c.rows.seats.items p 0).1 i;
+}
+
+-- rows that are sound and bounded are ready for a step
+pub ready : (r : Rows) (n : ℕ) → n ≤ 2 ^ 96 → FitsZone r → IsSound (rows.state_in r) → IsBounded n (rows.state_in r) → IsFew (rows.state_in r)
+ready r n small fits sound bounded =
+    few_from n (rows.state_in r) small
+    (λ p beyond. ap (λ o. (part_of o).book) (slice_get_past r.seats.items p (omega (arith, r.seats.ok.0, fits.seats, beyond))))
+    (λ g past. past_default r.pending.items g 0 (omega (arith, r.pending.ok.0, fits.pending, past)))
+    sound bounded

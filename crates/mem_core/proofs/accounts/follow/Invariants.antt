@@ -1,0 +1,13 @@
+-- The groups that were passed have their new accounts.
+use Rattle.std.proofs.Common.{◌≡◌, take, vec_len}
+use Rattle.core_rows.specs.Shown.{state_in}
+use Rattle.mem_core.specs.Accounts.{account_after, HaveSmallPeaks}
+use Rattle.mem_core.proofs.AccountLemmas.{AreChanged}
+use Rattle.mem_core.proofs.accounts.follow.Given as goal
+
+abbrev pub invariant-loop-row : goal.invariant-loop-row
+invariant-loop-row l = record {
+  length : vec_len l.accounts ≡ 64;
+  few : HaveSmallPeaks l.accounts.items;
+  changed : AreChanged (take l.row-index l.row-items) (account_after (state_in l.rows) l.action l.answer) l.fn.accounts.items l.accounts.items;
+}

@@ -1,0 +1,20 @@
+-- What the rows tell is told of each run that is shown.
+use Rattle.std.proofs.Common.{◌≡◌, ◌*◌, ◌^◌, sym, ◌∙◌, ap, arith}
+use Rattle.step_rules.specs.State.{State, pins_of}
+use Rattle.core_rows.specs.Shown as rows
+use Rattle.mem_core.specs.Shown.{state_in}
+use Rattle.mem_core.proofs.Linking.{shown_is, ready}
+use Rattle.mem_core.proofs.zone.Core.pins.Goals as goal
+
+pub pins-requires-clause-few : goal.pins-requires-clause-few
+pins-requires-clause-few c =
+    let few = c.self.invariant.few in
+    ready c.self.inside.rows (c.self.inside.steps * 2 ^ 32) (omega arith) c.self.invariant.fits c.self.invariant.sound c.self.invariant.bounded
+
+pub returns-clause-now : goal.returns-clause-now
+returns-clause-now c =
+    let link : state_in c.args.self.now ≡ rows.state_in c.self.inside.rows = ap state_in (sym c.self.view_is) ∙ shown_is c.self.inside in
+    c.pins.ensures.pins ∙ ap (λ (s : State). pins_of s c.args.seat) (sym link)
+
+pub returns-clause-run : goal.returns-clause-run
+returns-clause-run c run shows = returns-clause-now c ∙ ap (λ (s : State). pins_of s c.args.seat) shows.state

@@ -1,0 +1,107 @@
+-- A unit is noted as dirty, or not. Serves `set_dirty`.
+use Rattle.std.proofs.Common.{◌≡◌, ◌≢◌, ℕ, ◌<◌, Bool, Option, Some, None, List, length, get_or, refl, sym, ap, ◌∙◌, subst, arith}
+use Rattle.std.specs.Prelude.{slice_set, IfSome}
+use Rattle.std.proofs.lemmas.List.{get_or_default, set-get_or}
+use Rattle.std.proofs.lemmas.Option.{none-some}
+use Rattle.frame_word.specs.Views.{note_of}
+use Rattle.frame_word.specs.Seats.{KnownTable}
+use Rattle.stock_word.specs.Stock.{Words}
+use Rattle.lru_lists.specs.declared.record.Link.{Link}
+use Rattle.lru_lists.specs.declared.record.Home.{Home}
+use Rattle.lru_lists.specs.declared.record.LruList.{LruList}
+use Rattle.lru_lists.specs.declared.record.LruList.TheVariants.{Inactive, Active}
+use Rattle.lru_lists.specs.declared.lru.Lru.{Lru}
+use Rattle.lru_lists.specs.Lists.{OthersStand, OneOfAllChanges, StandsIn, AllStand, ChangesOwn, list_of, place_of, entries_of, changed_at, dirtied}
+use Rattle.cpu_part.specs.Cpus.{KnownCpu}
+use Rattle.mem_machine.specs.Spots.{spot_at, head_group_of}
+use Rattle.mem_machine.specs.Machines.{KnownMachine, IsConsistent, home_of, lists_at, no_lists}
+use Rattle.mem_machine.specs.Marks.{Dirties}
+use Rattle.mem_machine.specs.Local.{local_of, Reaches}
+use Rattle.mem_machine.proofs.Reaching.{no_steps}
+use Rattle.mem_machine.proofs.Listed.{dirtied_owners, fits_home, place_here}
+
+-- a home that is there is of a group number
+pub owner_bound : (t : KnownTable) (w : Words) (m : KnownMachine) → IsConsistent t w m → (f : ℕ) (h : Home) → f < t.frames
+    → home_of m.links f ≡ Some h → h.owner < 64
+owner_bound t w m ok f h inside is = (subst (λ (x : Option Home). IfSome x (λ y. (y.owner < 64) × (head_group_of
+    (spot_at m.spots f) ≡ Some y.owner))) is (ok.spots f inside).kept).0
+
+pub on_list : (links : List Link) (f : ℕ) (h : Home) → home_of links f ≡ Some h → list_of links h.owner f ≢ None
+on_list links f h is none = none-some h.list (sym none ∙ ap (λ (x : Option Home). place_of x h.owner) is ∙ place_here h.owner h.list)
+
+module _ (t : KnownTable) (w : Words) (m : KnownMachine) (ok : IsConsistent t w m) (f : ℕ) (inside : f < t.frames) (h : Home)
+    (home : home_of m.links f ≡ Some h)
+    (lru : Lru) (read : lru ≡ get_or m.lists h.owner lru) where
+  bound : h.owner < length m.lists
+  bound = let a = owner_bound t w m ok f h inside home in let b = ok.sizes.lists in omega (arith, a, b)
+
+  pub owned : lru.owner ≡ h.owner
+  owned = ap (λ (x : Lru). x.owner) read ∙ (ok.lists h.owner lru bound).0
+
+  pub stands : StandsIn m.links lru
+  stands = subst (StandsIn m.links) (sym read) (ok.lists h.owner lru bound).1
+
+  pub its_lists : lists_at m h.owner ≡ lru
+  its_lists = sym (read ∙ get_or_default m.lists h.owner lru no_lists bound)
+
+  module _ (links : List Link) (d : Bool) (now_stands : StandsIn links lru)
+      (entries : (list : LruList) → entries_of links lru list ≡ changed_at f (dirtied d) (entries_of m.links lru list))
+      (changes : ChangesOwn m.links links lru.owner) (others_stand : OthersStand) (one_of_all_changes : OneOfAllChanges) where
+    all_stand : AllStand links m.lists
+    all_stand = subst (AllStand links) (ap (λ (k : ℕ). slice_set m.lists k lru) owned ∙ ap (slice_set m.lists h.owner) read ∙ set-get_or m.lists h.owner lru)
+        (one_of_all_changes m.links links m.lists lru ok.lists (subst (λ (k : ℕ). k < length m.lists) (sym owned) bound) now_stands changes)
+
+    pub dirty_consistent : IsConsistent t w (record m { links = links })
+    dirty_consistent = record {
+      sizes = let s = ok.sizes in record { spots = s.spots; links = changes.frames ∙ s.links; lists = s.lists; killed = s.killed; cpus = s.cpus };
+      seats = ok.seats;
+      areas = ok.areas;
+      spots = λ g within. fits_home (note_of m.seat.view g) (home_of m.links g) (home_of links g) (spot_at m.spots g)
+          (dirtied_owners m.links links lru f d stands now_stands changes entries g) (ok.spots g within);
+      units = ok.units;
+      lists = all_stand;
+      noted = ok.noted;
+      charged = ok.charged;
+    }
+
+    pub dirty_does : Dirties m f d (record m { links = links })
+    dirty_does = record {
+      group = h.owner;
+      list = h.list;
+      stands = home;
+      machine = refl;
+      inactive = subst (λ (x : Lru). entries_of links x Inactive ≡ changed_at f (dirtied d) (entries_of m.links x Inactive)) (sym its_lists)
+          (entries Inactive);
+      active = subst (λ (x : Lru). entries_of links x Active ≡ changed_at f (dirtied d) (entries_of m.links x Active)) (sym its_lists) (entries Active);
+      others = λ g within ne.
+          let sized = ok.sizes.lists in
+          let there : g < length m.lists = omega (arith, within, sized) in
+          let apart : (get_or m.lists g no_lists).owner ≢ lru.owner = λ e. ne (sym (ok.lists g no_lists there).0 ∙ e ∙ owned) in
+          let same = (others_stand m.links links lru.owner (get_or m.lists g no_lists) changes apart (ok.lists g no_lists there).1).1 in
+          (same Inactive, same Active);
+    }
+
+-- a kept unit has a home
+pub has_home : (m now : KnownMachine) → m ≡ now → (f i : ℕ) → i ≡ f → home_of now.links f ≢ None → None ≡ home_of m.links i → ⊥
+has_home m now same f i is kept none =
+    kept (subst (λ (x : KnownMachine × ℕ). home_of x.0.links x.1 ≡ None) (λ j. (same j, is j)) (sym none))
+
+-- all of it, of the machine as it was seen before
+pub record AllDirtied (t : KnownTable) (w : Words) (now : KnownMachine) (f : ℕ) (d : Bool) (n : KnownMachine) : Type 0 where
+  pub consistent : IsConsistent t w n
+  pub dirties : Dirties now f d n
+  pub steps : (c : KnownCpu) → Reaches c.number (local_of t now c) (local_of t n c)
+
+pub dirty_all : (t : KnownTable) (w : Words) (m now : KnownMachine) → m ≡ now → IsConsistent t w m → (f i : ℕ) → f < t.frames → i ≡ f → (h : Home)
+    → Some h ≡ home_of m.links i → (lru : Lru) → lru ≡ get_or m.lists h.owner lru → (links : List Link) (d : Bool) → StandsIn links lru
+    → ((list : LruList) → entries_of links lru list ≡ changed_at i (dirtied d) (entries_of m.links lru list)) → ChangesOwn m.links links lru.owner
+    → OthersStand → OneOfAllChanges → AllDirtied t w now f d (record m { links = links })
+dirty_all t w m now same ok f i inside is h home lru read links d now_stands entries changes others all =
+    let at : home_of m.links f ≡ Some h = ap (home_of m.links) (sym is) ∙ sym home in
+    let told : (list : LruList) → entries_of links lru list ≡ changed_at f (dirtied d) (entries_of m.links lru list) =
+    subst (λ (k : ℕ). (list : LruList) → entries_of links lru list ≡ changed_at k (dirtied d) (entries_of m.links lru list)) is entries in
+    subst (λ (x : KnownMachine). AllDirtied t w x f d (record m { links = links })) same (record {
+      consistent = dirty_consistent t w m ok f inside h at lru read links d now_stands told changes others all;
+      dirties = dirty_does t w m ok f inside h at lru read links d now_stands told changes others all;
+      steps = λ c. no_steps c.number (local_of t m c) (local_of t (record m { links = links }) c) refl;
+    })

@@ -1,0 +1,342 @@
+-- Stocks that are drained: the books and the charges, and the steps. Serves `drain_of`, `drain_stock` and all calls made of them.
+use Rattle.std.proofs.Common.{◌≡◌, ℕ, ◌+◌, ◌-◌, ◌≤◌, ◌==◌, ◌&&◌, Bool, true, false, Option, Some, None, List, [], ◌∷◌, length, map, zero}
+use Rattle.std.proofs.Common.{suc, refl, sym, ap, ◌∙◌, subst, inl, inr, arith, cond, eq-eqb}
+use Rattle.std.specs.Prelude.{nat_le, is_some}
+use Rattle.std.specs.Option.{option_map_or}
+use Rattle.std.proofs.lemmas.Bool.{cases_eq, ne_eqb, and_from, cond-true, cond-false, le-leb}
+use Rattle.std.proofs.lemmas.Option.{none-some}
+use Rattle.frame_word.specs.Seats.{KnownTable}
+use Rattle.stock_word.specs.declared.view.Account.{Account}
+use Rattle.stock_word.specs.declared.view.StockView.{StockView}
+use Rattle.stock_word.specs.Stock.{Words, Seated, IsMachine, account_of}
+use Rattle.stock_word.specs.Kinds.{draining}
+use Rattle.stock_word.specs.Calls.{with_view}
+use Rattle.stock_word.proofs.CallerLemmas.{account_of-with_account, account_of-with_account_other}
+use Rattle.group_tree.specs.Groups.{has_group}
+use Rattle.group_tree.proofs.GroupLemmas.{is_some-find}
+use Rattle.group_charge.specs.declared.account.Account as charge
+use Rattle.group_charge.specs.Charges.{Ledger, AreCharges, account_at, pages_of, taken}
+use Rattle.group_charge.proofs.CallerLemmas.{has_account, uncharge_pages}
+use Rattle.cpu_part.specs.Cpus.{KnownCpu}
+use Rattle.step_rules.specs.declared.step.Action.TheVariants.{DrainStock, Ungrant}
+use Rattle.step_rules.specs.declared.step.Answer.TheVariants.{Done, Pages}
+use Rattle.step_rules.specs.State.{State, Part, with_at, sum_to, may_zone_act}
+use Rattle.step_rules.specs.After.{drained, with_more, with_part}
+use Rattle.step_rules.proofs.Basics.{at_same, at_other, at_each, at_itself, cond-ap}
+use Rattle.step_rules.proofs.Sums.{sum_part, sum_change}
+use Rattle.mem_machine.specs.Spots.{count_of}
+use Rattle.mem_machine.specs.Machines.{KnownMachine, IsConsistent, booked, frames_charged, pages_booked}
+use Rattle.mem_machine.specs.Local.{local_of, part_of, part_with, Reaches}
+use Rattle.mem_machine.specs.Stocks.{uncharged, stock_group, Drains}
+use Rattle.mem_machine.proofs.Reaching.{zone_step, no_steps, one_step, step_before}
+use Rattle.mem_machine.proofs.Holds.{zone_may_act}
+
+-- ---- the ledger
+
+pub cond-same : {X : Type 0} (b : Bool) (x : X) → cond b x x ≡ x
+cond-same true x = refl
+cond-same false x = refl
+
+there_by : (l : Ledger) (g : ℕ) (o : Option charge.Account) → account_at l g ≡ o
+    → 1 ≤ option_map_or (λ (a : charge.Account). a.pages) o 0 → is_some (account_at l g) ≡ true
+there_by l g None e some = absurd (omega arith)
+there_by l g (Some a) e some = ap is_some e
+
+has_there : (l : Ledger) (g : ℕ) → AreCharges l → is_some (account_at l g) ≡ true → has_group l.groups g ≡ true
+unfolding account_at
+has_there l g facts is = sym (has_account l g facts) ∙ sym (is_some-find (λ (a : charge.Account). a.group == g) l.accounts) ∙ is
+
+-- a group that has pages is there
+pub charged_there : (l : Ledger) (g : ℕ) → AreCharges l → 1 ≤ pages_of l g → has_group l.groups g ≡ true
+unfolding pages_of
+charged_there l g facts some = has_there l g facts (there_by l g (account_at l g) refl some)
+
+-- no page taken
+taken_none : (g : ℕ) (xs : List charge.Account) → map (taken g 0) xs ≡ xs
+taken_none g [] = refl
+taken_none g (x ∷ xs) =
+    let here : x.pages - 0 ≡ x.pages = omega arith in
+    let one : taken g 0 x ≡ x = (λ i. cond (x.group == g) (record x { pages = here i }) x) ∙ cond-same (x.group == g) x in
+    λ i. one i ∷ taken_none g xs i
+
+pub uncharged_none : (l : Ledger) (o : Option ℕ) → uncharged l o 0 ≡ l
+uncharged_none l None = refl
+uncharged_none l (Some g) = λ i. record l { accounts = taken_none g l.accounts i }
+
+pub groups_stay : (l : Ledger) (o : Option ℕ) (n : ℕ) → (uncharged l o n).groups ≡ l.groups
+groups_stay l None n = refl
+groups_stay l (Some g) n = refl
+
+-- ---- the accounts
+
+module _ (view : StockView) (q n : ℕ) where
+  abbrev pub drained_account : Account
+  drained_account = let a = account_of view q in record a { book = a.book - n; filled = false }
+
+  pub drained_at : account_of (draining view q n) q ≡ drained_account
+  drained_at = account_of-with_account view q drained_account
+
+  pub drained_else : (p : ℕ) → (p ≡ q → ⊥) → account_of (draining view q n) p ≡ account_of view p
+  drained_else p ne = account_of-with_account_other view q p drained_account ne
+
+  -- a test of the accounts after it
+  pub drained_read : {X : Type 0} (h : Account → X) → (p : ℕ) → h (account_of (draining view q n) p)
+      ≡ with_at (λ k. h (account_of view k)) q (h drained_account) p
+  drained_read h p = elim (cases_eq p q) [
+    | inl e ↦ subst (λ (k : ℕ). h (account_of (draining view q n) k) ≡ with_at (λ j. h (account_of view j)) q (h drained_account) k) (sym e)
+        (ap h drained_at ∙ sym (at_same (λ k. h (account_of view k)) q (h drained_account)))
+    | inr ne ↦ ap h (drained_else p ne) ∙ sym (at_other (λ k. h (account_of view k)) q (h drained_account) p ne)
+  ]
+
+pub booked_is : (h : ℕ) (a : Account) (c : ℕ) → count_of h a.group ≡ c → booked h a ≡ cond (c == 0) 0 a.book
+booked_is h a c is = ap (λ (k : ℕ). cond (k == 0) 0 a.book) is
+
+pub counts_own : (h g : ℕ) → h ≡ g → count_of h (Some g) ≡ 1
+counts_own h g e = cond-true (g == h) 1 0 (eq-eqb g h (sym e))
+
+pub counts_other : (h g : ℕ) → (h ≡ g → ⊥) → count_of h (Some g) ≡ 0
+counts_other h g ne = cond-false (g == h) 1 0 (ne_eqb g h (λ e. ne (sym e)))
+
+-- an account with k pages of its group less
+booked_less : (h g k : ℕ) (a : Account) → a.group ≡ Some g → k ≤ a.book
+    → booked h (record a { book = a.book - k; filled = false }) + cond (h == g) k 0 ≡ booked h a
+booked_less h g k a group enough =
+    let b : Account = record a { book = a.book - k; filled = false } in
+    elim (cases_eq h g) [
+      | inl e ↦
+          let u : count_of h a.group ≡ 1 = ap (count_of h) group ∙ counts_own h g e in
+          let x : booked h a ≡ a.book = booked_is h a 1 u in
+          let y : booked h b ≡ a.book - k = booked_is h b 1 u in
+          let z : cond (h == g) k 0 ≡ k = cond-true (h == g) k 0 (eq-eqb h g e) in
+          omega (arith, x, y, z, enough)
+      | inr ne ↦
+          let u : count_of h a.group ≡ 0 = ap (count_of h) group ∙ counts_other h g ne in
+          let x : booked h a ≡ 0 = booked_is h a 0 u in
+          let y : booked h b ≡ 0 = booked_is h b 0 u in
+          let z : cond (h == g) k 0 ≡ 0 = cond-false (h == g) k 0 (ne_eqb h g ne) in
+          omega (arith, x, y, z)
+    ]
+
+booked_no_group : (h : ℕ) (a : Account) → a.group ≡ None → booked h a ≡ 0
+booked_no_group h a none = booked_is h a 0 (ap (count_of h) none)
+
+-- what is booked to a processor's stock is charged to its group
+pub booked_within : (t : KnownTable) (stock : Seated) (q g : ℕ) → q ≤ t.cpus → (account_of stock.view q).group ≡ Some g
+    → (account_of stock.view q).book ≤ pages_booked t stock g
+booked_within t stock q g inside group =
+    let x : booked g (account_of stock.view q) ≡ (account_of stock.view q).book =
+    booked_is g (account_of stock.view q) 1 (ap (count_of g) group ∙ counts_own g g refl) in
+    let y = sum_part (t.cpus + 1) (λ p. booked g (account_of stock.view p)) q (omega (arith, inside)) in
+    omega (arith, x, y)
+
+-- ---- consistency
+
+-- other charges and another seat of the stocks
+pub stocks_consistent : (t : KnownTable) (w : Words) (m : KnownMachine) (l : Ledger) (stock : Seated)
+    → IsConsistent t w m → stock.table ≡ m.stock.table → IsMachine stock.view
+    → ((p : ℕ) → (account_of stock.view p).noted ≡ 0) → ((g : ℕ) → pages_of l g ≡ frames_charged m.spots g + pages_booked t stock g)
+    → IsConsistent t w (record m { ledger = l; stock = stock })
+stocks_consistent t w m l stock ok table machine noted charged = record {
+  sizes = let s = ok.sizes in record { spots = s.spots; links = s.links; lists = s.lists; killed = s.killed; cpus = s.cpus };
+  seats = let s = ok.seats in record { frames = s.frames; table = table ∙ s.table; stocks = machine };
+  areas = ok.areas;
+  spots = ok.spots;
+  units = ok.units;
+  lists = ok.lists;
+  noted = noted;
+  charged = charged;
+}
+
+module _ (t : KnownTable) (w : Words) (m : KnownMachine) (ok : IsConsistent t w m) (q k : ℕ) (inside : q ≤ t.cpus) (enough : k
+    ≤ (account_of m.stock.view q).book) where
+  abbrev pub emptied : Seated
+  emptied = with_view m.stock (draining m.stock.view q k)
+
+  books_change : (h : ℕ) → pages_booked t emptied h + booked h (account_of m.stock.view q)
+      ≡ pages_booked t m.stock h + booked h (drained_account m.stock.view q k)
+  books_change h =
+      let each : (λ (p : ℕ). booked h (account_of emptied.view p))
+      ≡ with_at (λ p. booked h (account_of m.stock.view p)) q (booked h (drained_account m.stock.view q k))
+      = λ i. λ p. drained_read m.stock.view q k (booked h) p i in
+      ap (λ (f : ℕ → ℕ). sum_to (t.cpus + 1) f + booked h (account_of m.stock.view q)) each
+      ∙ sum_change (t.cpus + 1) (λ p. booked h (account_of m.stock.view p)) q (booked h (drained_account m.stock.view q k)) (omega (arith, inside))
+
+  charged_after : (o : Option ℕ) → stock_group m q ≡ o → (o ≡ None → k ≡ 0) → (h : ℕ) → pages_of (uncharged m.ledger o k) h
+      ≡ frames_charged m.spots h + pages_booked t emptied h
+  charged_after None is none h =
+      let a = ok.charged h in
+      let b = books_change h in
+      let x = booked_no_group h (account_of m.stock.view q) is in
+      let y = booked_no_group h (drained_account m.stock.view q k) is in
+      omega (arith, a, b, x, y)
+  charged_after (Some g) is none h =
+      let within = booked_within t m.stock q g inside is in
+      let all = ok.charged g in
+      let fall = uncharge_pages m.ledger g k (omega (arith, within, all, enough)) h in
+      let less = booked_less h g k (account_of m.stock.view q) is enough in
+      let a = ok.charged h in
+      let b = books_change h in
+      omega (arith, fall, less, a, b)
+
+  pub drain_consistent : (stock_group m q ≡ None → k ≡ 0) → IsConsistent t w (record m { ledger = uncharged m.ledger (stock_group m q) k; stock = emptied })
+  drain_consistent none = stocks_consistent t w m (uncharged m.ledger (stock_group m q) k) emptied ok refl ok.seats.stocks
+      (λ p. drained_read m.stock.view q k (λ (a : Account). a.noted) p
+      ∙ at_each (λ j. (account_of m.stock.view j).noted) q (drained_account m.stock.view q k).noted
+      (λ j x. x ≡ 0) (ok.noted q) (λ j ne. ok.noted j) p)
+      (charged_after (stock_group m q) refl none)
+
+  -- the pages are charged to a group that is there
+  pub drained_there : (g : ℕ) → AreCharges m.ledger → stock_group m q ≡ Some g → 1 ≤ k → (has_group m.ledger.groups g ≡ true) × (k ≤ pages_of m.ledger g)
+  drained_there g facts is some =
+      let within = booked_within t m.stock q g inside is in
+      let all = ok.charged g in
+      (charged_there m.ledger g facts (omega (arith, within, all, enough, some)), omega (arith, within, all, enough))
+
+-- ---- the steps
+
+and_true : (b : Bool) → (b && true) ≡ b
+and_true true = refl
+and_true false = refl
+
+-- a processor's part whose stock is drained
+part_drained : (l f b : List ℕ) (a : Account) (n : ℕ) → part_with l f b (record a { book = a.book - n; filled = false }) ≡ drained (part_with l f b a) n
+part_drained l f b a n =
+    let pages : a.book - n - length f - a.noted ≡ a.book - length f - a.noted - n = omega arith in
+    λ i. record {
+      list = l;
+      fresh = f;
+      back = b;
+      stock = record { group = a.group; pages = pages i; is_drained = and_true (is_some a.group) i };
+      book = a.book - n;
+      unreported = 0;
+      reported = a.noted;
+    }
+
+module _ (stock : Seated) (c : KnownCpu) (q n : ℕ) where
+  abbrev pub shown : ℕ → Account → Part
+  shown p a = cond (p == c.number) (part_with c.list c.fresh c.back a) (part_with [] [] [] a)
+
+  shown_drained : (p : ℕ) (a : Account) → shown p (record a { book = a.book - n; filled = false }) ≡ drained (shown p a) n
+  shown_drained p a = (λ i. cond (p == c.number) (part_drained c.list c.fresh c.back a n i) (part_drained [] [] [] a n i))
+      ∙ sym (cond-ap (λ (x : Part). drained x n) (p == c.number) (part_with c.list c.fresh c.back a) (part_with [] [] [] a))
+
+  part_drained_at : (p : ℕ) → part_of (with_view stock (draining stock.view q n)) c p ≡ with_at (part_of stock c) q (drained (part_of stock c q) n) p
+  part_drained_at p = elim (cases_eq p q) [
+    | inl e ↦ subst (λ (k : ℕ). part_of (with_view stock (draining stock.view q n)) c k ≡ with_at (part_of stock c) q (drained (part_of stock c q) n) k) (sym e)
+        (ap (shown q) (drained_at stock.view q n) ∙ shown_drained q (account_of stock.view q)
+        ∙ sym (at_same (part_of stock c) q (drained (part_of stock c q) n)))
+    | inr ne ↦ ap (shown p) (drained_else stock.view q n p ne) ∙ sym (at_other (part_of stock c) q (drained (part_of stock c q) n) p ne)
+  ]
+
+  pub parts_drained : part_of (with_view stock (draining stock.view q n)) c ≡ with_at (part_of stock c) q (drained (part_of stock c q) n)
+  parts_drained = λ i. λ p. part_drained_at p i
+
+  pub part_group : (part_of stock c q).stock.group ≡ (account_of stock.view q).group
+  part_group = cond-ap (λ (x : Part). x.stock.group) (q == c.number) (part_with c.list c.fresh c.back (account_of stock.view q))
+      (part_with [] [] [] (account_of stock.view q))
+      ∙ cond-same (q == c.number) (account_of stock.view q).group
+
+-- nothing is pending
+abbrev pub nothing : ℕ → ℕ
+nothing g = 0
+
+back_at : (g x k : ℕ) → x ≡ k → (h : ℕ) → with_at (with_at nothing g x) g (with_at nothing g x g - k) h ≡ 0
+back_at g x k is h = elim (cases_eq h g) [
+  | inl e ↦ subst (λ (j : ℕ). with_at (with_at nothing g x) g (with_at nothing g x g - k) j ≡ 0) (sym e)
+      (let a = at_same (with_at nothing g x) g (with_at nothing g x g - k) in let b = at_same nothing g x in omega (arith, a, b, is))
+  | inr ne ↦ at_other (with_at nothing g x) g (with_at nothing g x g - k) h ne ∙ at_other nothing g x h ne
+]
+
+-- the pages that were pending for a group are taken back
+pub pending_back : (g x k : ℕ) → x ≡ k → with_at (with_at nothing g x) g (with_at nothing g x g - k) ≡ nothing
+pending_back g x k is = λ i. λ h. back_at g x k is h i
+
+-- pages that are pending alone are taken back
+ungrants : (p : ℕ) (s : State) (o : Option ℕ) (k : ℕ) → may_zone_act s.hold 0 ≡ true → ((g : ℕ) → o ≡ Some g → 1 ≤ k → has_group s.groups g ≡ true)
+    → Reaches p (record s { pending = with_more nothing o k }) (record s { pending = nothing })
+ungrants p s None k acts there = no_steps p (record s { pending = nothing }) (record s { pending = nothing }) refl
+ungrants p s (Some g) zero acts there =
+    no_steps p (record s { pending = with_at nothing g 0 }) (record s { pending = nothing }) (λ i. record s { pending = sym (at_itself nothing g) i })
+ungrants p s (Some g) (suc k) acts there =
+    let now : State = record s { pending = with_at nothing g (0 + suc k) } in
+    let enough : nat_le (suc k) (with_at nothing g (0 + suc k) g) ≡ true = le-leb (suc k) (with_at nothing g (0 + suc k) g)
+    (let a = at_same nothing g (0 + suc k) in omega (arith, a)) in
+    one_step p now (record s { pending = nothing }) 0 (Ungrant g (suc k)) Done
+    (zone_step now p (Ungrant g (suc k)) Done refl (and_from _ _ (and_from _ _ acts (there g refl (omega arith))) enough) tt)
+    (λ i. record s { pending = sym (pending_back g (0 + suc k) (suc k) (omega arith)) i })
+
+pub drain_reaches : (t : KnownTable) (m n : KnownMachine) (q k : ℕ)
+    → n ≡ record m { ledger = uncharged m.ledger (stock_group m q) k; stock = with_view m.stock (draining m.stock.view q k) }
+    → 1 ≤ q → q ≤ t.cpus → ((g : ℕ) → stock_group m q ≡ Some g → 1 ≤ k → has_group m.ledger.groups g ≡ true) → (c : KnownCpu)
+    → Reaches c.number (local_of t m c) (local_of t n c)
+drain_reaches t m n q k is some inside there c =
+    let s = local_of t m c in
+    let part = drained (part_of m.stock c q) k in
+    let acts = zone_may_act m.seat c.number in
+    let rest : Reaches c.number (record (with_part s q part) { pending = with_more nothing (part_of m.stock c q).stock.group k }) (with_part s q part)
+    = ungrants c.number (with_part s q part) (part_of m.stock c q).stock.group k acts (λ g of. there g (sym (part_group m.stock c q k) ∙ of)) in
+    let parts = parts_drained m.stock c q k in
+    let groups = groups_stay m.ledger (stock_group m q) k in
+    subst (λ (x : KnownMachine). Reaches c.number s (local_of t x c)) (sym is)
+    (subst (Reaches c.number s) (λ i. record s { groups = sym groups i; parts = sym parts i })
+    (step_before c.number s (with_part s q part) 0 (DrainStock q) (Pages k)
+    (zone_step s c.number (DrainStock q) (Pages k) refl
+    (and_from _ _ acts (and_from (nat_le 1 q) (nat_le q t.cpus) (le-leb 1 q some) (le-leb q t.cpus inside))) tt) rest))
+
+-- what `drain_of` and `drain_stock` leave, of the machine as it was seen before
+pub record Drained (t : KnownTable) (w : Words) (m now : KnownMachine) (q k : ℕ) (l : Ledger) (stock : Seated) : Type 0 where
+  pub consistent : IsConsistent t w (record m { ledger = l; stock = stock })
+  pub drains : Drains now q k (record m { ledger = l; stock = stock })
+  pub steps : (c : KnownCpu) → Reaches c.number (local_of t now c) (local_of t (record m { ledger = l; stock = stock }) c)
+
+drained_here : (t : KnownTable) (w : Words) (m : KnownMachine) (q k : ℕ) → IsConsistent t w m → (1 ≤ k → AreCharges m.ledger) → 1 ≤ q → q ≤ t.cpus
+    → k ≤ (account_of m.stock.view q).book → ((account_of m.stock.view q).filled ≡ false → k ≡ 0) → (stock_group m q ≡ None → k ≡ 0)
+    → Drained t w m m q k (uncharged m.ledger (stock_group m q) k) (with_view m.stock (draining m.stock.view q k))
+drained_here t w m q k ok facts some inside enough before none = record {
+  consistent = drain_consistent t w m ok q k inside enough none;
+  drains = record { machine = refl; booked = enough; drained_before = before };
+  steps = drain_reaches t m (record m {
+    ledger = uncharged m.ledger (stock_group m q) k;
+    stock =
+        with_view m.stock (draining m.stock.view q k);
+  }) q k refl some inside
+      (λ g of one. (drained_there t w m ok q k inside enough g (facts one) of one).0);
+}
+
+pub drained_all : (t : KnownTable) (w : Words) (m now : KnownMachine) (q k : ℕ) → m ≡ now → IsConsistent t w m
+    → (1 ≤ k → AreCharges m.ledger) → 1 ≤ q → q ≤ t.cpus
+    → k ≤ (account_of m.stock.view q).book → ((account_of m.stock.view q).filled ≡ false → k ≡ 0) → (o : Option ℕ) → stock_group now q ≡ o → (o ≡ None → k ≡ 0)
+    → (l : Ledger) (stock : Seated) → l ≡ uncharged m.ledger o k → stock ≡ with_view m.stock (draining m.stock.view q k) → Drained t w m now q k l stock
+drained_all t w m now q k same ok facts some inside enough before o of none l stock off emptied =
+    let group : stock_group m q ≡ o = ap (λ (x : KnownMachine). stock_group x q) same ∙ of in
+    let here = drained_here t w m q k ok facts some inside enough before (λ e. none (sym group ∙ e)) in
+    let ledger : uncharged m.ledger (stock_group m q) k ≡ l = ap (λ (x : Option ℕ). uncharged m.ledger x k) group ∙ sym off in
+    subst (λ (x : KnownMachine × Ledger × Seated). Drained t w m x.0 q k x.1 x.2) (λ i. (same i, ledger i, sym emptied i)) here
+
+pub some_not_none : (g k : ℕ) → Some g ≡ None → k ≡ 0
+some_not_none g k e = absurd (none-some g (sym e))
+
+-- where no page was in it the charges stay
+pub drained_none : (l : Ledger) (o : Option ℕ) (k : ℕ) → k ≡ 0 → l ≡ uncharged l o k
+drained_none l o k none = sym (ap (uncharged l o) none ∙ uncharged_none l o)
+
+-- the group of the pages, by its number
+pub drained_within : (t : KnownTable) (w : Words) (m now : KnownMachine) → m ≡ now → IsConsistent t w m → AreCharges m.ledger → (q k : ℕ) → q ≤ t.cpus
+    → k ≤ (account_of m.stock.view q).book → (g : ℕ) → stock_group now q ≡ Some g → 1 ≤ k → (id : ℕ) → id ≡ g
+    → (has_group m.ledger.groups id ≡ true) × (k ≤ pages_of m.ledger id)
+drained_within t w m now same ok facts q k inside enough g of some id is =
+    subst (λ (h : ℕ). (has_group m.ledger.groups h ≡ true) × (k ≤ pages_of m.ledger h)) (sym is)
+    (drained_there t w m ok q k inside enough g facts (ap (λ (x : KnownMachine). stock_group x q) same ∙ of) some)
+
+-- a stock of no group: the look for its group drained nothing
+pub never_drained : (t : KnownTable) (w : Words) (m now : KnownMachine) → m ≡ now → IsConsistent t w m → (q : ℕ) → 1 ≤ q → q ≤ t.cpus
+    → None ≡ stock_group m q → (stock : Seated) → stock ≡ with_view m.stock (draining m.stock.view q 0) → Drained t w m now q 0 m.ledger stock
+never_drained t w m now same ok q some inside none stock emptied =
+    drained_all t w m now q 0 same ok (λ one. absurd (omega (arith, one))) some inside (omega arith) (λ e. refl) None
+    (sym (ap (λ (x : KnownMachine). stock_group x q) same) ∙ sym none) (λ e. refl)
+    m.ledger stock refl emptied
+
+-- a look at a stock of a group changed nothing
+pub looked_same : (t : KnownTable) (w : Words) (m : KnownMachine) → IsConsistent t w m → (stock : Seated) → stock ≡ with_view m.stock m.stock.view
+    → IsConsistent t w (record m { stock = stock })
+looked_same t w m ok stock same = subst (λ (x : Seated). IsConsistent t w (record m { stock = x })) (sym same) ok

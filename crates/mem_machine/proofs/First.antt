@@ -1,0 +1,157 @@
+-- The first machine is consistent. Serves `new`.
+use Rattle.std.proofs.Common.{◌≡◌, ℕ, ◌+◌, ◌<◌, ◌≤◌, Bool, true, false, Option, None, List, [], ◌∷◌, length, replicate, get_or, refl, sym, ap, ◌∙◌}
+use Rattle.std.proofs.Common.{subst, inl, inr, arith, zero, suc, ◌==◌, ◌++◌}
+use Rattle.std.proofs.lemmas.Bool.{cases_lt, cases_eq, ne_eqb}
+use Rattle.std.proofs.lemmas.List.{get_or-replicate, length-replicate, length_push, get_or_append_left, get_or_push}
+use Rattle.zone_blocks.specs.Areas.{AreMaximalBlocks}
+use Rattle.frame_word.specs.declared.view.FrameNote.{FrameNote}
+use Rattle.frame_word.specs.Views.{note_of, blank}
+use Rattle.frame_word.specs.Seats.{KnownTable, KnownSeat, number_of, first_zone_view}
+use Rattle.stock_word.specs.Stock.{Words, Seated, account_of, first_machine}
+use Rattle.group_charge.specs.Charges.{Ledger, initial_ledger, pages_of, account_at}
+use Rattle.lru_lists.specs.declared.record.Link.{Link}
+use Rattle.lru_lists.specs.declared.record.Home.{Home}
+use Rattle.lru_lists.specs.declared.lru.Lru.{Lru}
+use Rattle.lru_lists.specs.Lists.{AllStand, StandsIn, HasNoUnits, place_of}
+use Rattle.lru_lists.specs.Queue.{AreNowhere}
+use Rattle.step_rules.specs.declared.phase.ChargedUnit.{ChargedUnit}
+use Rattle.step_rules.proofs.Sums.{sum_none}
+use Rattle.mem_machine.specs.declared.spot.Spot.{Spot}
+use Rattle.mem_machine.specs.declared.spot.Spot.TheVariants.{Free, Head, Tail}
+use Rattle.mem_machine.specs.Spots.{spot_at, free_of, group_of, count_of, AreUnits}
+use Rattle.mem_machine.specs.Start.{AreEmpty}
+use Rattle.mem_machine.specs.Machines.{KnownMachine, FitsSpot, IsConsistent, IsFirst, no_counts, home_of, frames_charged, pages_booked, booked}
+
+pub empty_none : (lists : List Lru) → lists ≡ [] → AreEmpty lists 0
+empty_none lists none = record { count = ap length none; each = λ k any inside. let e = ap length none in absurd (omega arith) }
+
+pub empty_pushed : (lists more : List Lru) (n : ℕ) (new : Lru) → AreEmpty lists n → new.owner ≡ n
+    → ((links : List Link) → HasNoUnits links n → StandsIn links new) → more ≡ lists ++ new ∷ [] → AreEmpty more (n + 1)
+empty_pushed lists more n new empty owner stands is = subst (λ (l : List Lru). AreEmpty l (n + 1)) (sym is)
+    (let count = empty.count in let longer = length_push lists new in record {
+      count = omega (arith, count, longer);
+      each = λ k any inside. elim (cases_lt k n) [
+        | inl below ↦
+            let same : get_or (lists ++ new ∷ []) k any ≡ get_or lists k any = get_or_append_left lists (new ∷ []) any k (omega arith) in
+            let old = empty.each k any (omega arith) in
+            (ap (λ (l : Lru). l.owner) same ∙ old.0, λ links away. subst (StandsIn links) (sym same) (old.1 links away))
+        | inr past ↦
+            let last : k ≡ n = omega arith in
+            let same : get_or (lists ++ new ∷ []) k any ≡ new = get_or_push lists new any k (omega arith) in (
+              ap (λ (l : Lru). l.owner) same ∙ owner ∙ sym last,
+              λ links away. subst (StandsIn links) (sym same) (stands links (λ f. ap (λ (l : Link). place_of l.home n) (away f))),
+            )
+      ];
+    })
+
+pub empty_stand : (lists : List Lru) (n : ℕ) → AreEmpty lists n → (links : List Link) → AreNowhere links → AllStand links lists
+empty_stand lists n empty links away = λ k any inside. ((empty.each k any inside).0, (empty.each k any inside).1 links away)
+
+pub free_all : (n : ℕ) → free_of (replicate n Free) ≡ replicate n true
+free_all zero = refl
+free_all (suc n) = ap (λ (l : List Bool). true ∷ l) (free_all n)
+
+repeated : {X : Type 0} (n i : ℕ) (x : X) → get_or (replicate n x) i x ≡ x
+repeated n i x = elim (cases_lt i n) [ inl inside ↦ get_or-replicate n i x x inside | inr past ↦ beyond n i x past ]
+  where
+    beyond : {X : Type 0} (n i : ℕ) (x : X) → n ≤ i → get_or (replicate n x) i x ≡ x
+    beyond zero i x past = refl
+    beyond (suc n) zero x past = absurd (omega arith)
+    beyond (suc n) (suc i) x past = beyond n i x (omega arith)
+
+not_head : (unit : ChargedUnit) → Free ≡ Head unit → ⊥
+not_head unit e = subst (λ (x : Spot). is_kind x) e tt
+  where
+    is_kind : Spot → Type 0
+    is_kind Free = Unit {0}
+    is_kind _ = ⊥
+
+not_tail : (g : ℕ) → Free ≡ Tail g → ⊥
+not_tail g e = subst (λ (x : Spot). is_kind x) e tt
+  where
+    is_kind : Spot → Type 0
+    is_kind Free = Unit {0}
+    is_kind _ = ⊥
+
+no_pages : (g : ℕ) → pages_of initial_ledger g ≡ 0
+unfolding pages_of account_at
+no_pages g = elim (cases_eq 0 g) [
+  | inl e ↦ subst (λ (h : ℕ). pages_of initial_ledger h ≡ 0) e refl
+  | inr ne ↦ let none : (0 == g) ≡ false = ne_eqb 0 g ne in rw none refl
+]
+
+module _ (t : KnownTable) (w : Words) (m : KnownMachine) (first : IsFirst t w m) where
+  all_free : (f : ℕ) → spot_at m.spots f ≡ Free
+  all_free f = ap (λ (l : List Spot). get_or l f Free) first.spots ∙ repeated t.frames f Free
+
+  pub units_first : AreUnits m.spots
+  units_first = record {
+    heads = λ f unit is. absurd (not_head unit (sym (all_free f) ∙ is));
+    tails = λ x g is. absurd (not_tail g (sym (all_free x) ∙ is));
+  }
+
+  note_first : (f : ℕ) → f < t.frames → note_of m.seat.view f ≡ record blank { own = 1 }
+  note_first f inside = ap (λ (s : KnownSeat). note_of s.view f) first.seat ∙ get_or-replicate t.frames f (record blank { own = 1 }) blank inside
+
+  pub spots_first : (f : ℕ) → f < t.frames → FitsSpot (note_of m.seat.view f) (home_of m.links f) (spot_at m.spots f)
+  spots_first f inside =
+      let note = note_first f inside in
+      let home : home_of m.links f ≡ None = ap (λ (l : Link). l.home) (first.nowhere f) in
+      let spot = all_free f in
+      subst (λ (x : FrameNote × Option Home × Spot). FitsSpot x.0 x.1 x.2) (λ i. (sym note i, sym home i, sym spot i))
+      (record { own = refl; lent = refl; references = refl; kept = tt })
+
+  pub charged_first : (g : ℕ) → pages_of m.ledger g ≡ frames_charged m.spots g + pages_booked t m.stock g
+  charged_first g =
+      let pages : pages_of m.ledger g ≡ 0 = ap (λ (l : Ledger). pages_of l g) first.ledger ∙ no_pages g in
+      let frames : frames_charged m.spots g ≡ 0 =
+      sum_none (length m.spots) (λ f. count_of g (group_of (spot_at m.spots f))) (λ f inside. ap (λ (x : Spot). count_of g (group_of x)) (all_free f)) in
+      let books : pages_booked t m.stock g ≡ 0 =
+      sum_none (t.cpus + 1) (λ p. booked g (account_of m.stock.view p)) (λ p inside. ap (λ (x : Seated). booked g (account_of x.view p)) first.stock) in
+      omega (arith, pages, frames, books)
+
+  pub consistent_first : AreMaximalBlocks (free_of m.spots) m.blocks → length m.links ≡ t.frames → length m.lists ≡ 64 → AllStand m.links m.lists
+      → w.cpus ≡ t.cpus → IsConsistent t w m
+  consistent_first areas links lists stand cpus = record {
+    sizes = record {
+      spots = ap length first.spots ∙ length-replicate t.frames Free;
+      links = links;
+      lists = lists;
+      killed = ap length first.killed ∙ length-replicate 64 false;
+      cpus = cpus;
+    };
+    seats = record {
+      frames = (ap (λ (s : KnownSeat). s.table) first.seat, ap (λ (s : KnownSeat). number_of s) first.seat);
+      table = ap (λ (s : Seated). s.table) first.stock;
+      stocks = ap (λ (s : Seated). s.view.number) first.stock;
+    };
+    areas = areas;
+    spots = spots_first;
+    units = units_first;
+    lists = stand;
+    noted = λ p. ap (λ (s : Seated). (account_of s.view p).noted) first.stock;
+    charged = charged_first;
+  }
+
+-- what the parts of the first machine are made of
+pub starts : (t : KnownTable) (w : Words) (m : KnownMachine) (free : List Bool) (frames : ℕ) → IsFirst t w m → frames ≡ t.frames → length m.links ≡ frames
+    → AreEmpty m.lists 64 → free ≡ replicate frames true → AreMaximalBlocks free m.blocks → w.cpus ≡ t.cpus → IsConsistent t w m × (free ≡ free_of m.spots)
+starts t w m free frames first sized links empty all areas cpus =
+    let same : free ≡ free_of m.spots = all ∙ ap (λ (n : ℕ). replicate n true) sized ∙ sym (ap free_of first.spots ∙ free_all t.frames) in (
+      consistent_first t w m first (subst (λ (l : List Bool). AreMaximalBlocks l m.blocks) same areas) (links ∙ sized) empty.count
+          (empty_stand m.lists 64 empty m.links first.nowhere) cpus,
+      same,
+    )
+
+pub first_is : (t : KnownTable) (w : Words) (m : KnownMachine) (frames : ℕ) → frames ≡ t.frames → m.spots ≡ replicate frames Free
+    → m.ledger ≡ initial_ledger → AreNowhere m.links → m.seat ≡ record { table = t.table; view = first_zone_view t.frames }
+    → m.stock ≡ record { table = w.table; view = first_machine } → m.killed ≡ replicate 64 false → m.counts ≡ no_counts → IsFirst t w m
+first_is t w m frames sized spots ledger nowhere seat stock killed counts = record {
+  spots = spots ∙ ap (λ (n : ℕ). replicate n Free) sized;
+  ledger = ledger;
+  nowhere = nowhere;
+  seat = seat;
+  stock = stock;
+  killed = killed;
+  counts = counts;
+}

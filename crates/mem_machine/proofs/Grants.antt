@@ -1,0 +1,172 @@
+-- A charge of the ledger is a grant of the rules, and pages that were granted and not taken go back. For `prepay` and `take_block`.
+use Rattle.std.proofs.Common.{◌≡◌, ℕ, ◌+◌, ◌-◌, ◌^◌, ◌≤◌, ◌<◌, ◌==◌, ◌&&◌, Bool, true, false, cond, Option, Some, None, length, refl, sym}
+use Rattle.std.proofs.Common.{ap, ◌∙◌, subst, arith, inl, inr}
+use Rattle.std.specs.Prelude.{not, nat_le}
+use Rattle.std.proofs.lemmas.Bool.{and_from, le-leb, cases_eq, false≢true}
+use Rattle.std.proofs.lemmas.List.FromFn.{length-map-range_with_len}
+use Rattle.std.proofs.lemmas.Nat.{pow_pos}
+use Rattle.zone_blocks.specs.declared.block.Block.{Block}
+use Rattle.zone_blocks.specs.Block.{IsBlock, Covers}
+use Rattle.zone_blocks.specs.Areas.{IsFreeBlock, AreMaximalBlocks, HasNoneFrom}
+use Rattle.zone_blocks.proofs.Nested.{greater_denied}
+use Rattle.zone_blocks.proofs.Unique.{in_maximal}
+use Rattle.frame_word.specs.Seats.{KnownTable}
+use Rattle.group_tree.specs.Groups.{has_group, limit_of}
+use Rattle.group_tree.specs.Room as room
+use Rattle.group_charge.specs.Charges.{current_of}
+use Rattle.cpu_part.specs.Cpus.{KnownCpu, times}
+use Rattle.step_rules.specs.declared.step.Action.TheVariants.{Grant, Ungrant, PlaceBlock}
+use Rattle.step_rules.specs.declared.step.Answer.TheVariants.{Done, Granted, Over, NoFreeBlock}
+use Rattle.step_rules.specs.declared.phase.Way.TheVariants.{OnList}
+use Rattle.step_rules.specs.declared.phase.Stage.TheVariants.{FreshAt, Live, BackAt}
+use Rattle.step_rules.specs.declared.phase.Phase.TheVariants as phase
+use Rattle.step_rules.specs.Phases as phases
+use Rattle.step_rules.specs.State.{State, with_at, free_in}
+use Rattle.step_rules.specs.Usage as steps
+use Rattle.step_rules.specs.Usage.{usage_of, fits_limit}
+use Rattle.step_rules.specs.After.{after}
+use Rattle.step_rules.specs.Legal.{is_legal}
+use Rattle.step_rules.specs.Laws.{IsLocalStep}
+use Rattle.step_rules.proofs.Basics.{at_same, at_other}
+use Rattle.step_rules.proofs.Placing.{block_free}
+use Rattle.mem_machine.specs.declared.spot.Spot.{Spot}
+use Rattle.mem_machine.specs.declared.spot.Spot.TheVariants.{Free, Lent, Head, Tail}
+use Rattle.mem_machine.specs.Spots.{spot_at, is_free, free_of}
+use Rattle.mem_machine.specs.Machines.{KnownMachine, is_killed}
+use Rattle.mem_machine.specs.Local.{fresh_group, phase_of, local_of, Reaches}
+use Rattle.mem_machine.proofs.Reaching.{zone_step, one_step, step_before}
+use Rattle.mem_machine.proofs.Holds.{zone_may_act}
+use Rattle.mem_machine.proofs.Records.{length_free, free_at}
+
+-- the two spellings of a limit that has room are one
+fits_same : (limit : Option ℕ) (pages : ℕ) → room.fits_limit limit pages ≡ fits_limit limit pages
+fits_same None pages = refl
+fits_same (Some n) pages = refl
+
+module _ (t : KnownTable) (m : KnownMachine) (c : KnownCpu) (g n : ℕ) (there : has_group m.ledger.groups g ≡ true) (alive : is_killed m.killed g ≡ false)
+    (usage : (h : ℕ) → usage_of (local_of t m c) h ≡ current_of m.ledger h) where
+  abbrev s : State
+  s = local_of t m c
+
+  may_grant : is_legal s 0 (Grant g n) ≡ true
+  may_grant = and_from _ _ (and_from _ _ (zone_may_act m.seat c.number) there) (ap not alive)
+
+  -- the group has the same room by the rules as by the charges
+  room_same : (h : ℕ) → steps.has_room m.ledger.groups (usage_of s) n h ≡ room.has_room m.ledger.groups (current_of m.ledger) h n
+  room_same h =
+      ap (λ (k : ℕ). fits_limit (limit_of m.ledger.groups h) (k + n)) (usage h)
+      ∙ sym (fits_same (limit_of m.ledger.groups h) (current_of m.ledger h + n))
+
+  -- where the charges have room, the grant is answered so
+  pub is_granted : room.PathHasRoom m.ledger.groups (current_of m.ledger) g n → IsLocalStep s c.number 0 (Grant g n) Granted
+  is_granted path = zone_step s c.number (Grant g n) Granted refl may_grant (λ h on. room_same h ∙ path h on)
+
+  -- where they have none, the grant names the same group
+  pub is_over : (h : ℕ) → room.IsLowestOver m.ledger.groups (current_of m.ledger) g n h → IsLocalStep s c.number 0 (Grant g n) (Over h)
+  is_over h low = zone_step s c.number (Grant g n) (Over h) refl may_grant (record {
+    on_path = low.on_path;
+    over = room_same h ∙ low.over;
+    lowest = λ k on none. low.lowest k on (sym (room_same k) ∙ none);
+  })
+
+  pub over_reaches : (h : ℕ) → room.IsLowestOver m.ledger.groups (current_of m.ledger) g n h → Reaches c.number s s
+  over_reaches h low = one_step c.number s s 0 (Grant g n) (Over h) (is_over h low) refl
+
+  -- the state with the pages pending
+  abbrev pub with_granted : State
+  with_granted = after s 0 (Grant g n) Granted
+
+  pub pending_is : with_granted.pending g ≡ n
+  pending_is = let e : with_granted.pending g ≡ 0 + n = at_same s.pending g (s.pending g + n) in omega arith
+
+  -- they go back
+  pub is_taken_back : IsLocalStep with_granted c.number 0 (Ungrant g n) Done
+  is_taken_back =
+      zone_step with_granted c.number (Ungrant g n) Done refl
+      (and_from _ _ (and_from _ _ (zone_may_act m.seat c.number) there) (le-leb n (with_granted.pending g) (let e = pending_is in omega arith))) tt
+
+  none_left : with_granted.pending g - n ≡ 0
+  none_left = let e = pending_is in omega arith
+
+  pub none_pends : (h : ℕ) → with_at with_granted.pending g (with_granted.pending g - n) h ≡ 0
+  none_pends h = elim (cases_eq h g) [
+    | inl e ↦ ap (with_at with_granted.pending g (with_granted.pending g - n)) e ∙ at_same with_granted.pending g (with_granted.pending g - n) ∙ none_left
+    | inr ne ↦ at_other with_granted.pending g (with_granted.pending g - n) h ne ∙ at_other s.pending g (s.pending g + n) h ne
+  ]
+
+  -- pages that were granted, and go back at once, leave the local state as it was
+  pub granted_and_back : room.PathHasRoom m.ledger.groups (current_of m.ledger) g n → (k : KnownMachine) → k ≡ record m { ledger = k.ledger }
+      → k.ledger.groups ≡ m.ledger.groups → Reaches c.number s (local_of t k c)
+  granted_and_back path k is groups =
+      step_before c.number s (local_of t k c) 0 (Grant g n) Granted (is_granted path)
+      (one_step c.number with_granted (local_of t k c) 0 (Ungrant g n) Done is_taken_back
+      (ap (λ (x : KnownMachine). local_of t x c) is ∙ (λ i. record s { groups = groups i; pending = λ h. sym (none_pends h) i })))
+
+-- ---- free blocks
+
+-- a frame that is free by the rules is free by its record
+phase_free : (c : KnownCpu) (f : ℕ) (x : Spot) → phases.is_free (phase_of c f x) ≡ true → is_free x ≡ true
+phase_free c f Free e = refl
+phase_free c f (Lent q) e = absurd (false≢true (sym (not_free (q == c.number && nat_le 1 (times f c.fresh))) ∙ e))
+  where
+    not_free : (b : Bool) → phases.is_free (cond b (phase.Head (record { group = fresh_group c; order = 0 }) (FreshAt q)) (phase.Lent q OnList)) ≡ false
+    not_free true = refl
+    not_free false = refl
+phase_free c f (Head unit) e = absurd (false≢true (sym (not_free (nat_le 1 (times f c.back))) ∙ e))
+  where
+    not_free : (b : Bool) → phases.is_free (cond b (phase.Head unit (BackAt c.number)) (phase.Head unit Live)) ≡ false
+    not_free true = refl
+    not_free false = refl
+phase_free c f (Tail h) e = absurd (false≢true e)
+
+-- a free block by the rules is one of the machine
+free_block : (t : KnownTable) (m : KnownMachine) (c : KnownCpu) → length m.spots ≡ t.frames → (b : Block)
+    → IsFreeBlock (free_in (local_of t m c).zone (local_of t m c).phases) b → IsFreeBlock (free_of m.spots) b
+free_block t m c sized b is =
+    let size : length (free_in (local_of t m c).zone (local_of t m c).phases) ≡ length (free_of m.spots) =
+    length-map-range_with_len (λ f. phases.is_free ((local_of t m c).phases f)) 0 t.frames ∙ sym sized ∙ sym (length_free m.spots) in
+    record {
+      block = subst (λ (n : ℕ). IsBlock n b) size is.block;
+      all_free = λ f inside.
+          let both = block_free (local_of t m c).zone (local_of t m c).phases b is f inside.from inside.before in
+          let below : f < length m.spots = let h = both.0 in omega arith in
+          free_at m.spots f below ∙ phase_free c f (spot_at m.spots f) both.1;
+    }
+
+-- where the machine has no block of the order or above, there is none to place
+pub none_to_place : (t : KnownTable) (m : KnownMachine) (c : KnownCpu) → length m.spots ≡ t.frames → AreMaximalBlocks (free_of m.spots) m.blocks
+    → (k : ℕ) → HasNoneFrom m.blocks k → (b : Block) → b.order ≡ k
+    → IsFreeBlock (free_in (local_of t m c).zone (local_of t m c).phases) b → ⊥
+none_to_place t m c sized areas k none b order is =
+    let own = free_block t m c sized b is in
+    let some = pow_pos b.order in
+    let here : Covers b b.at = record { from = omega arith; before = omega arith } in
+    let top = in_maximal (free_of m.spots) b.at (own.all_free b.at here) in
+    let low = none top.0 (areas.all top.0 top.1) in
+    greater_denied (free_of m.spots) top.0 b top.1 own b.at top.2 here (omega arith)
+
+-- ---- a block that isn't there
+
+module _ (t : KnownTable) (m : KnownMachine) (c : KnownCpu) (g n : ℕ) (there : has_group m.ledger.groups g ≡ true) (alive : is_killed m.killed g ≡ false)
+    (usage : (h : ℕ) → usage_of (local_of t m c) h ≡ current_of m.ledger h) (k : ℕ) (pages : 2 ^ k ≤ n) (sized : length m.spots ≡ t.frames)
+    (areas : AreMaximalBlocks (free_of m.spots) m.blocks) (none : HasNoneFrom m.blocks k) where
+  abbrev granted : State
+  granted = with_granted t m c g n there alive usage
+
+  -- no block can be placed for the pages that were granted
+  pub is_not_placed : IsLocalStep granted c.number 0 (PlaceBlock g k) NoFreeBlock
+  is_not_placed =
+      zone_step granted c.number (PlaceBlock g k) NoFreeBlock refl
+      (and_from _ _ (and_from _ _ (zone_may_act m.seat c.number) there)
+      (le-leb (2 ^ k) (granted.pending g) (let e = pending_is t m c g n there alive usage in omega arith)))
+      (none_to_place t m c sized areas k none)
+
+  -- the pages are granted, no block is there, and they go back: the local state is as it was
+  pub none_placed : room.PathHasRoom m.ledger.groups (current_of m.ledger) g n → (x : KnownMachine) → x ≡ record m { ledger = x.ledger }
+      → x.ledger.groups ≡ m.ledger.groups → Reaches c.number (local_of t m c) (local_of t x c)
+  none_placed path x is groups =
+      step_before c.number (local_of t m c) (local_of t x c) 0 (Grant g n) Granted (is_granted t m c g n there alive usage path)
+      (step_before c.number granted (local_of t x c) 0 (PlaceBlock g k) NoFreeBlock is_not_placed
+      (one_step c.number granted (local_of t x c) 0 (Ungrant g n) Done (is_taken_back t m c g n there alive usage)
+      (ap (λ (y : KnownMachine). local_of t y c) is
+      ∙ (λ i. record (local_of t m c) { groups = groups i; pending = λ h. sym (none_pends t m c g n there alive usage h) i }))))

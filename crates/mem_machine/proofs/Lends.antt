@@ -1,0 +1,278 @@
+-- One frame goes from the free areas to the list of the processor that is visited. Serves `lend_one`.
+use Rattle.std.proofs.Common.{◌≡◌, ℕ, ◌<◌, ◌==◌, ◌&&◌, Bool, true, false, Option, Some, None, List, [], ◌∷◌, ◌++◌, length, refl, sym, ap, ◌∙◌, subst}
+use Rattle.std.proofs.Common.{inl, inr, arith, cond, eq-eqb}
+use Rattle.std.specs.Prelude.{slice_set, nat_le, IfSome}
+use Rattle.lru_lists.specs.declared.record.Home.{Home}
+use Rattle.std.proofs.lemmas.Bool.{cases_eq, ne_eqb, and_from, cond-true, lt-ltb}
+use Rattle.std.proofs.lemmas.List.{get_or-set_same, get_or-set_other, length-set}
+use Rattle.zone_blocks.specs.declared.block.Block.{Block}
+use Rattle.zone_blocks.specs.Areas.{IsFree, AreMaximalBlocks, HasNoneFrom, IsFrontOfSmallest}
+use Rattle.zone_buddy.specs.Zone.{TakesFrames}
+use Rattle.frame_word.specs.declared.view.FrameNote.{FrameNote}
+use Rattle.frame_word.specs.Views.{note_of, in_hands, passed_out_to, took_in}
+use Rattle.frame_word.specs.Seats.{KnownTable, KnownSeat, number_of, holds, seat_with, IsInOwnHand, IsLent, IsBorrowed, Passes, NothingPasses}
+use Rattle.frame_word.proofs.Notes.{note_here, note_else}
+use Rattle.stock_word.specs.Stock.{Words, Seated, account_of}
+use Rattle.cpu_part.specs.Cpus.{KnownCpu, IsTied, times}
+use Rattle.cpu_part.proofs.CallerLemmas.{passed_out_passes, accepted_is_still}
+use Rattle.step_rules.specs.declared.phase.Way.TheVariants.{PassingOut, OnList}
+use Rattle.step_rules.specs.declared.phase.Stage.TheVariants.{FreshAt}
+use Rattle.step_rules.specs.declared.phase.Phase.{Phase}
+use Rattle.step_rules.specs.declared.phase.Phase.TheVariants as phase
+use Rattle.step_rules.specs.declared.step.Action.TheVariants.{PassOut, TakeIn}
+use Rattle.step_rules.specs.declared.step.Answer.TheVariants.{Done}
+use Rattle.step_rules.specs.Phases as phases
+use Rattle.step_rules.specs.State.{State, Part, with_at, is_frame, one_if}
+use Rattle.step_rules.specs.Legal.{is_legal}
+use Rattle.step_rules.specs.After.{after}
+use Rattle.step_rules.proofs.Basics.{at_same, at_other}
+use Rattle.mem_machine.specs.declared.spot.Spot.{Spot}
+use Rattle.mem_machine.specs.declared.spot.Spot.TheVariants.{Free, Lent, Head, Tail}
+use Rattle.mem_machine.specs.Spots.{spot_at, free_of, group_of, head_group_of, is_in_hand}
+use Rattle.mem_machine.specs.Machines.{KnownMachine, FitsSpot, IsConsistent, IsSeated, Visits, home_of}
+use Rattle.mem_machine.specs.Lending.{LendsOne, LendsNone}
+use Rattle.mem_machine.specs.Local.{local_of, phase_of, part_of, part_with, fresh_group, Reaches}
+use Rattle.mem_machine.proofs.Reaching.{zone_step, cpu_step, one_step, step_before}
+use Rattle.mem_machine.proofs.Holds.{zone_may_act, visits_open, seated_cpu}
+use Rattle.mem_machine.proofs.Records.{free_at, free_is, free_inside, covers_one, free_taken, spots_changed, holds_same, units_stay, charges_stay}
+
+-- ---- parts of the local state
+
+-- a part of its own that changed
+pub parts_changed : (stock : Seated) (c : KnownCpu) (l r b : List ℕ) (new : Part) → part_with l r b (account_of stock.view c.number) ≡ new → (q : ℕ)
+    → cond (q == c.number) (part_with l r b (account_of stock.view q)) (part_with [] [] [] (account_of stock.view q)) ≡ with_at
+    (part_of stock c) c.number new q
+parts_changed stock c l r b new is q = elim (cases_eq q c.number) [
+  | inl e ↦ let t : (q == c.number) ≡ true = eq-eqb q c.number e in
+      rw t (ap (λ (k : ℕ). part_with l r b (account_of stock.view k)) e ∙ is)
+  | inr ne ↦ let u : (q == c.number) ≡ false = ne_eqb q c.number ne in rw u refl
+]
+
+-- references that stay
+pub references_stay : (zone zone' seat seat' : KnownSeat) (p : ℕ) → ((x : ℕ) → holds zone' x ≡ holds zone x) → ((x : ℕ)
+    → holds seat' x ≡ holds seat x) → (q x : ℕ)
+    → cond (q == 0) (holds zone' x) (cond (q == p) (holds seat' x) 0) ≡ cond (q == 0) (holds zone x) (cond (q == p) (holds seat x) 0)
+references_stay zone zone' seat seat' p a b q x = λ i. cond (q == 0) (a x i) (cond (q == p) (b x i) 0)
+
+and_no : (b : Bool) → (b && false) ≡ false
+and_no true = refl
+and_no false = refl
+
+-- a lent frame that isn't fresh is on the list
+pub lent_listed : (c : KnownCpu) (f q : ℕ) → times f c.fresh ≡ 0 → phase_of c f (Lent q) ≡ phase.Lent q OnList
+lent_listed c f q none =
+    ap (λ (n : ℕ). cond (q == c.number && nat_le 1 n) (phase.Head (record { group = fresh_group c; order = 0 }) (FreshAt q)) (phase.Lent q OnList)) none
+    ∙ ap (λ (b : Bool). cond b (phase.Head (record { group = fresh_group c; order = 0 }) (FreshAt q)) (phase.Lent q OnList)) (and_no (q == c.number))
+
+-- the phases where one frame's record changed, and no other frame's place at the processor
+pub phases_changed : (c d : KnownCpu) (spots : List Spot) (f : ℕ) (x : Spot) (a b : Phase) → f < length spots → phase_of d f x ≡ b
+    → ((g : ℕ) (y : Spot) → (g ≡ f → ⊥) → phase_of d g y ≡ phase_of c g y) → (g : ℕ)
+    → phase_of d g (spot_at (slice_set spots f x) g) ≡ with_at (with_at (λ y. phase_of c y (spot_at spots y)) f a) f b g
+phases_changed c d spots f x a b inside here others g =
+    let h : ℕ → Phase = λ y. phase_of c y (spot_at spots y) in
+    elim (cases_eq g f) [
+      | inl e ↦ subst (λ (k : ℕ). phase_of d k (spot_at (slice_set spots f x) k) ≡ with_at (with_at h f a) f b k) (sym e)
+          (ap (phase_of d f) (get_or-set_same spots f x Free inside) ∙ here ∙ sym (at_same (with_at h f a) f b))
+      | inr ne ↦ ap (phase_of d g) (get_or-set_other spots f g x Free ne) ∙ others g (spot_at spots g) ne
+          ∙ sym (at_other (with_at h f a) f b g ne ∙ at_other h f a g ne)
+    ]
+
+-- ---- before the frame is lent
+
+pub front_is : (k : ℕ) (b : Block) (blocks : List Block) → IsFrontOfSmallest blocks k b → k ≡ 0 → b ≡ record { at = b.at; order = 0 }
+front_is k b blocks taken zero_is = λ i. record { at = b.at; order = (taken.order_is ∙ zero_is) i }
+
+pub taken_free : (before after : List Bool) (spots : List Spot) (f : ℕ) → before ≡ free_of spots → TakesFrames before (record { at = f; order = 0 }) after
+    → (f < length spots) × (spot_at spots f ≡ Free)
+taken_free before after spots f was takes =
+    let is : IsFree (free_of spots) f = subst (λ (l : List Bool). IsFree l f) was (takes.were_free f (covers_one f)) in
+    let inside = free_inside spots f is in
+    (inside, free_is (spot_at spots f) (sym (free_at spots f inside) ∙ is))
+
+module _ (t : KnownTable) (w : Words) (m : KnownMachine) (c : KnownCpu) (tied : IsTied t w c) (ok : IsConsistent t w m) (visit : Visits t m c)
+    (f : ℕ) (inside : f < t.frames) (free : spot_at m.spots f ≡ Free) where
+  p : ℕ
+  p = c.number
+
+  within : f < length m.spots
+  within = let s = ok.sizes.spots in omega (arith, s, inside)
+
+  pub free_in_hand : IsInOwnHand m.seat f
+  free_in_hand = (ok.spots f inside).own ∙ ap (λ (x : Spot). one_if (is_in_hand x)) free
+
+  pub lent_passes : Passes (seat_with m.seat f (passed_out_to c.number)) c.seat f
+  lent_passes = passed_out_passes t m.seat c.seat c.number tied.seats.frame_number f visit.still (seat_with m.seat f (passed_out_to c.number)) refl inside
+
+  pub lent_is_lent : IsLent (seat_with m.seat f (passed_out_to c.number)) f c.number
+  lent_is_lent = ap (λ (k : FrameNote). k.lent) (note_here m.seat.view f (passed_out_to c.number))
+
+  -- ---- after it
+
+  -- a free frame has no list
+  homeless : (h : Option Home) → IfSome h (λ x. (x.owner < 64) × (head_group_of Free ≡ Some x.owner))
+      → IfSome h (λ x. (x.owner < 64) × (head_group_of (Lent c.number) ≡ Some x.owner))
+  homeless None is = tt
+  homeless (Some x) is = is
+
+  seated : IsSeated t c
+  seated = record { some_number = tied.seats.some_number; cpus = tied.seats.frame_cpus }
+
+  lent_fits : FitsSpot (passed_out_to c.number (note_of m.seat.view f)) (home_of m.links f) (Lent c.number)
+  lent_fits =
+      let old : FitsSpot (note_of m.seat.view f) (home_of m.links f) Free = subst (λ (x : Spot). FitsSpot (note_of m.seat.view f)
+      (home_of m.links f) x) free (ok.spots f inside) in
+      record { own = refl; lent = refl; references = old.references; kept = homeless (home_of m.links f) old.kept }
+
+  pub lend_consistent : (blocks : List Block) → AreMaximalBlocks (free_of (slice_set m.spots f (Lent c.number))) blocks
+      → IsConsistent t w (record m { blocks = blocks; spots = slice_set m.spots f (Lent c.number); seat = seat_with m.seat f (passed_out_to c.number) })
+  lend_consistent blocks areas = record {
+    sizes = let s = ok.sizes in record {
+      spots = length-set m.spots f (Lent c.number) ∙ s.spots;
+      links = s.links;
+      lists = s.lists;
+      killed = s.killed;
+      cpus = s.cpus;
+    };
+    seats = let s = ok.seats in record { frames = s.frames; table = s.table; stocks = s.stocks };
+    areas = areas;
+    spots = spots_changed m.seat m.links m.spots f (passed_out_to c.number) (Lent c.number) t.frames within ok.spots lent_fits;
+    units = units_stay m.spots f (Lent c.number) within (ap group_of free) refl ok.units;
+    lists = ok.lists;
+    noted = ok.noted;
+    charged = λ g. let a = ok.charged g in let b = charges_stay m.spots f (Lent c.number) within (ap group_of free) refl g in omega (arith, a, b);
+  }
+
+  pub lend_visits : (blocks : List Block) → Visits t
+      (record m { blocks = blocks; spots = slice_set m.spots f (Lent c.number); seat = seat_with m.seat f (passed_out_to c.number) })
+      (record c { list = c.list ++ f ∷ []; seat = seat_with c.seat f took_in })
+  lend_visits blocks = record {
+    is_open = visit.is_open;
+    still = accepted_is_still t m.seat c.seat c.number tied.seats.frame_number f visit.still (seat_with m.seat f (passed_out_to c.number))
+        (seat_with c.seat f took_in) refl refl;
+    lent = λ g inside. elim (cases_eq g f) [
+      | inl e ↦ subst (λ (h : ℕ). (IsLent (seat_with m.seat f (passed_out_to c.number)) h (number_of c.seat) → IsBorrowed (seat_with c.seat f took_in) h)
+          × (IsBorrowed (seat_with c.seat f took_in) h → IsLent (seat_with m.seat f (passed_out_to c.number)) h (number_of c.seat))) (sym e)
+          (λ a. ap (λ (k : FrameNote). k.borrowed) (note_here c.seat.view f took_in), λ a. lent_is_lent ∙ sym tied.seats.frame_number)
+      | inr ne ↦ subst (λ (k : FrameNote × FrameNote). (k.0.lent ≡ number_of c.seat → k.1.borrowed ≡ 1) × (k.1.borrowed ≡ 1 → k.0.lent ≡ number_of c.seat))
+          (λ i. (sym (note_else m.seat.view f g (passed_out_to c.number) ne) i, sym (note_else c.seat.view f g took_in ne) i)) (visit.lent g inside)
+    ];
+  }
+
+  pub lend_reaches : (blocks : List Block) → in_hands (note_of c.seat.view f) ≡ 0 → Reaches c.number (local_of t m c)
+      (local_of t (record m { blocks = blocks; spots = slice_set m.spots f (Lent c.number); seat = seat_with m.seat f (passed_out_to c.number) })
+      (record c { list = c.list ++ f ∷ []; seat = seat_with c.seat f took_in }))
+  lend_reaches blocks none =
+      let s = local_of t m c in
+      let d : KnownCpu = record c { list = c.list ++ f ∷ []; seat = seat_with c.seat f took_in } in
+      let out : State = after s 0 (PassOut f c.number) Done in
+      let framed : is_frame s.zone f ≡ true = lt-ltb f t.frames inside in
+      let is_zone_free : phases.is_free (phase_of c f (spot_at m.spots f)) ≡ true = ap (λ (x : Spot). phases.is_free (phase_of c f x)) free in
+      let may_pass : is_legal s 0 (PassOut f c.number) ≡ true =
+      and_from _ _ (and_from _ _ (and_from _ _ (zone_may_act m.seat c.number) framed) (visits_open m.seat c.number visit.is_open)) is_zone_free in
+      let passing : phases.passes_out c.number (with_at s.phases f (phase.Lent c.number PassingOut) f) ≡ true =
+      ap (phases.passes_out c.number) (at_same s.phases f (phase.Lent c.number PassingOut)) ∙ eq-eqb c.number c.number refl in
+      let may_take : is_legal out c.number (TakeIn f) ≡ true = and_from _ _ (and_from _ _ (seated_cpu t c seated) framed) passing in
+      let borrowed = (tied.noted f).borrowed_is in
+      let not_fresh : times f d.fresh ≡ 0 = omega (arith, borrowed, none) in
+      let ph = phases_changed c d m.spots f (Lent c.number) (phase.Lent c.number PassingOut) (phase.Lent c.number OnList) within
+      (lent_listed d f c.number not_fresh) (λ g y ne. same_phase g y) in
+      let re = references_stay m.seat (seat_with m.seat f (passed_out_to c.number)) c.seat (seat_with c.seat f took_in) c.number
+      (holds_same m.seat f (passed_out_to c.number) (λ k. refl)) (holds_same c.seat f took_in (λ k. refl)) in
+      let listed : part_with (c.list ++ f ∷ []) c.fresh c.back (account_of m.stock.view c.number)
+      ≡ record (part_of m.stock c c.number) { list = (part_of m.stock c c.number).list ++ f ∷ [] } =
+      sym (ap (λ (x : Part). record x { list = x.list ++ f ∷ [] })
+      (cond-true (c.number == c.number) (part_with c.list c.fresh c.back (account_of m.stock.view c.number)) (part_with [] [] []
+      (account_of m.stock.view c.number))
+      (eq-eqb c.number c.number refl))) in
+      let pa = parts_changed m.stock c (c.list ++ f ∷ []) c.fresh c.back _ listed in
+      step_before c.number s _ 0 (PassOut f c.number) Done (zone_step s c.number (PassOut f c.number) Done refl may_pass tt)
+      (one_step c.number out _ c.number (TakeIn f) Done (cpu_step out c.number (TakeIn f) Done refl may_take tt)
+      (λ i. record s { phases = λ g. ph g i; references = λ q x. re q x i; parts = λ q. pa q i }))
+    where
+      same_phase : (g : ℕ) (y : Spot) → phase_of (record c { list = c.list ++ f ∷ []; seat = seat_with c.seat f took_in }) g y ≡ phase_of c g y
+      same_phase g Free = refl
+      same_phase g (Lent q) = refl
+      same_phase g (Head unit) = refl
+      same_phase g (Tail h) = refl
+
+-- all of it, of the machine as it was seen before
+pub record AllLent (t : KnownTable) (w : Words) (now : KnownMachine) (c : KnownCpu) (n : KnownMachine) (d : KnownCpu) (free : List Bool) : Type 0 where
+  pub consistent : IsConsistent t w n
+  pub free_is : free ≡ free_of n.spots
+  pub lends : LendsOne now c n d
+  pub visit : Visits t n d
+  pub steps : Reaches c.number (local_of t now c) (local_of t n d)
+
+pub lend_all : (t : KnownTable) (w : Words) (m now : KnownMachine) → m ≡ now → (c d : KnownCpu) → IsTied t w c → IsConsistent t w m → Visits t now c
+    → (before free : List Bool) (k : ℕ) (b : Block) (blocks : List Block) (f i q : ℕ) (seat seat' : KnownSeat)
+    → before ≡ free_of m.spots → k ≡ 0 → IsFrontOfSmallest m.blocks k b → TakesFrames before b free → AreMaximalBlocks free blocks
+    → f ≡ b.at → i ≡ f → q ≡ c.number → seat ≡ seat_with m.seat f (passed_out_to q) → seat' ≡ seat
+    → d ≡ record c { list = c.list ++ f ∷ []; seat = seat_with c.seat f took_in } → in_hands (note_of c.seat.view f) ≡ 0
+    → AllLent t w now c (record m { blocks = blocks; spots = slice_set m.spots i (Lent q); seat = seat' }) d free
+lend_all t w m now same c d tied ok visit_now before free k b blocks f i q seat seat' was zero_is taken takes areas at index number passed stays cpu none =
+    let visit : Visits t m c = subst (λ (x : KnownMachine). Visits t x c) (sym same) visit_now in
+    let block : b ≡ record { at = f; order = 0 } = λ j. record { at = sym at j; order = (taken.order_is ∙ zero_is) j } in
+    let takes_f : TakesFrames before (record { at = f; order = 0 }) free = subst (λ (x : Block). TakesFrames before x free) block takes in
+    let front : IsFrontOfSmallest m.blocks 0 (record { at = f; order = 0 }) = subst (λ (x : ℕ × Block). IsFrontOfSmallest m.blocks x.0 x.1) (λ j.
+    (zero_is j, block j)) taken in
+    let there = taken_free before free m.spots f was takes_f in
+    let sized = ok.sizes.spots in
+    let inside : f < t.frames = let h = there.0 in omega (arith, h, sized) in
+    let free_is : free ≡ free_of (slice_set m.spots f (Lent c.number)) = free_taken before free m.spots f (Lent c.number) there.0 was takes_f refl in
+    let n : KnownMachine = record m { blocks = blocks; spots = slice_set m.spots f (Lent c.number); seat = seat_with m.seat f (passed_out_to c.number) } in
+    let e : KnownCpu = record c { list = c.list ++ f ∷ []; seat = seat_with c.seat f took_in } in
+    let areas_f : AreMaximalBlocks (free_of (slice_set m.spots f (Lent c.number))) blocks = subst (λ
+    (l : List Bool). AreMaximalBlocks l blocks) free_is areas in
+    let all : AllLent t w m c n e free = record {
+      consistent = lend_consistent t w m c tied ok visit f inside there.1 blocks areas_f;
+      free_is = free_is;
+      lends = record { frame = f; front = front; areas = areas_f; machine = refl; cpu = refl };
+      visit = lend_visits t w m c tied ok visit f inside there.1 blocks;
+      steps = lend_reaches t w m c tied ok visit f inside there.1 blocks none;
+    } in
+    subst (λ (x : KnownMachine × KnownMachine × KnownCpu). AllLent t w x.0 c x.1 x.2 free)
+    (λ j. (
+      same j,
+      record m {
+        blocks = blocks;
+        spots = slice_set m.spots (sym index j) (Lent (sym number j));
+        seat = sym (stays ∙ passed ∙ ap (λ (x : ℕ). seat_with m.seat f (passed_out_to x)) number) j;
+      },
+      sym cpu j,
+    )) all
+
+-- ---- what the steps on the way ask for
+
+-- there is no free frame
+pub lent_to_none : (m now : KnownMachine) → m ≡ now → (c : KnownCpu) (blocks : List Block) (k : ℕ) → k ≡ 0 → HasNoneFrom m.blocks k → blocks ≡ m.blocks
+    → LendsNone now c (record m { blocks = blocks }) c
+lent_to_none m now same c blocks k zero_is none is = record {
+  none = subst (λ (x : KnownMachine × ℕ). HasNoneFrom x.0.blocks x.1) (λ j. (same j, zero_is j)) none;
+  machine = (λ i. record m { blocks = is i }) ∙ same;
+  cpu = refl;
+}
+
+-- the block that was taken is one frame of the zone, which was free
+pub block_inside : (spots : List Spot) (blocks : List Block) (before free : List Bool) (k : ℕ) (b : Block) → before ≡ free_of spots → k ≡ 0
+    → IsFrontOfSmallest blocks k b → TakesFrames before b free → (b.at < length spots) × (spot_at spots b.at ≡ Free)
+block_inside spots blocks before free k b was zero_is taken takes =
+    taken_free before free spots b.at was (subst (λ (x : Block). TakesFrames before x free) (front_is k b blocks taken zero_is) takes)
+
+-- the zone has it in its hand
+pub zone_hand : (t : KnownTable) (w : Words) (m : KnownMachine) → IsConsistent t w m → (f g : ℕ) → f < length m.spots → spot_at m.spots f ≡ Free → g ≡ f
+    → IsInOwnHand m.seat g
+zone_hand t w m ok f g inside free is =
+    let s = ok.sizes.spots in
+    subst (λ (x : ℕ). IsInOwnHand m.seat x) (sym is) ((ok.spots f (omega (arith, s, inside))).own ∙ ap (λ (x : Spot). one_if (is_in_hand x)) free)
+
+-- and once it passed it out, it passes for the processor and is lent to it
+pub passes_to : (t : KnownTable) (w : Words) (m now : KnownMachine) → m ≡ now → (c : KnownCpu) → IsTied t w c → Visits t now c → (f q : ℕ) (seat : KnownSeat)
+    → f < t.frames → q ≡ c.number → seat ≡ seat_with m.seat f (passed_out_to q) → Passes seat c.seat f
+passes_to t w m now same c tied visit f q seat inside number is =
+    passed_out_passes t m.seat c.seat c.number tied.seats.frame_number f (subst (λ (x : KnownMachine). NothingPasses t x.seat c.seat)
+    (sym same) visit.still) seat
+    (is ∙ ap (λ (x : ℕ). seat_with m.seat f (passed_out_to x)) number) inside
+
+pub lent_to_it : (zone seat : KnownSeat) (f p q : ℕ) → q ≡ p → seat ≡ seat_with zone f (passed_out_to q) → IsLent seat f p
+lent_to_it zone seat f p q number is = ap (λ (s : KnownSeat). (note_of s.view f).lent) is
+    ∙ ap (λ (k : FrameNote). k.lent) (note_here zone.view f (passed_out_to q)) ∙ number

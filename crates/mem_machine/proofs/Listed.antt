@@ -1,0 +1,237 @@
+-- The units of one group's lists were marked, moved or dirtied: each frame stands on a list of the group that it stood on.
+-- Serves `touch` and `set_dirty`.
+use Rattle.std.proofs.Common.{◌≡◌, ◌≢◌, ℕ, ◌<◌, ◌==◌, ◌||◌, ◌⊎◌, Bool, true, false, Option, Some, None, List, [], ◌∷◌, ◌++◌, map, refl, sym, ap, ◌∙◌}
+use Rattle.std.proofs.Common.{subst, inl, inr, eq-eqb, cond}
+use Rattle.std.specs.Prelude.{option_map}
+use Rattle.std.proofs.lemmas.Bool.{cases_eq, ne_eqb, or_left, or_right}
+use Rattle.std.proofs.lemmas.Option.{none-some}
+use Rattle.frame_word.specs.declared.view.FrameNote.{FrameNote}
+use Rattle.lru_lists.specs.declared.record.Link.{Link}
+use Rattle.lru_lists.specs.declared.record.Home.{Home}
+use Rattle.lru_lists.specs.declared.record.Entry.{Entry}
+use Rattle.lru_lists.specs.declared.record.LruList.{LruList}
+use Rattle.lru_lists.specs.declared.record.LruList.TheVariants.{Inactive, Active}
+use Rattle.lru_lists.specs.declared.lru.Lru.{Lru}
+use Rattle.lru_lists.specs.Queue.{link_at, is_among, units_of, without}
+use Rattle.lru_lists.specs.Lists.{StandsIn, ChangesOwn, Touches, list_of, place_of, home_of, queue_of, entries_of, entry_of, inactive_of, active_of}
+use Rattle.lru_lists.specs.Lists.{changed_at}
+use Rattle.lru_lists.specs.Lists.{entries_without, dirtied, marked}
+use Rattle.lru_lists.specs.declared.lru.Touched.{Touched}
+use Rattle.lru_lists.specs.declared.lru.Touched.TheVariants.{Marked, Moved}
+use Rattle.mem_machine.specs.declared.spot.Spot.{Spot}
+use Rattle.mem_machine.specs.Machines.{FitsSpot}
+
+cases_none : (o : Option LruList) → (o ≡ None) ⊎ (o ≢ None)
+cases_none None = inl refl
+cases_none (Some list) = inr (λ e. none-some list (sym e))
+
+some_list : (o : Option LruList) → o ≢ None → (list : LruList) × (o ≡ Some list)
+some_list None not = absurd (not refl)
+some_list (Some list) not = (list, refl)
+
+-- the owner's list at a home of its own
+pub place_here : (owner : ℕ) (list : LruList) → place_of (Some (record { owner = owner; list = list })) owner ≡ Some list
+place_here owner list = let t : (owner == owner) ≡ true = eq-eqb owner owner refl in rw t refl
+
+abbrev value_or : {X : Type 0} → X → Option X → X
+value_or any None = any
+value_or any (Some x) = x
+
+some_same : {X : Type 0} (any a b : X) → Some a ≡ Some b → a ≡ b
+some_same any a b e = ap (value_or any) e
+
+home_of_list : (h : Option Home) (lru : Lru) (list : LruList) → place_of h lru.owner ≡ Some list → h ≡ Some (home_of lru list)
+home_of_list None lru list is = absurd (none-some list is)
+home_of_list (Some h) lru list is = elim (cases_eq h.owner lru.owner) [
+  | inl e ↦
+      let t : (h.owner == lru.owner) ≡ true = eq-eqb h.owner lru.owner e in
+      let there : Some h.list ≡ Some list = rw t at is in
+      λ i. Some (record { owner = e i; list = some_same list h.list list there i })
+  | inr ne ↦
+      let u : (h.owner == lru.owner) ≡ false = ne_eqb h.owner lru.owner ne in
+      let none : None ≡ Some list = rw u at is in
+      absurd (none-some list none)
+]
+
+-- whose list it is, if there is one
+owner_of : Option Home → Option ℕ
+owner_of home = option_map (λ h. h.owner) home
+
+-- a record fits as before where the frame is on a list of the same owner
+pub fits_home : (note : FrameNote) (h k : Option Home) (spot : Spot) → option_map (λ (x : Home). x.owner) k ≡ option_map (λ (x : Home). x.owner) h
+    → FitsSpot note h spot → FitsSpot note k spot
+fits_home note None None spot same fits = fits
+fits_home note None (Some k) spot same fits = absurd (none-some k.owner (sym same))
+fits_home note (Some h) None spot same fits = absurd (none-some h.owner same)
+fits_home note (Some h) (Some k) spot same fits = record {
+  own = fits.own;
+  lent = fits.lent;
+  references = fits.references;
+  kept = (subst (λ (n : ℕ). n < 64) (sym (some_same 0 k.owner h.owner same)) fits.kept.0, fits.kept.1 ∙ sym same);
+}
+
+-- the frame is a unit of one of the two lists
+pub is_listed : List Link → Lru → ℕ → Bool
+is_listed links lru f = is_among (units_of links lru.inactive) f || is_among (units_of links lru.active) f
+
+listed_as : (links : List Link) (lru : Lru) (list : LruList) (f : ℕ) → is_among (units_of links (queue_of lru list)) f ≡ true → is_listed links lru f ≡ true
+unfolding is_listed
+listed_as links lru Inactive f is = or_left _ _ is
+listed_as links lru Active f is = or_right _ _ is
+
+or_cases : (a b : Bool) → (a || b) ≡ true → (a ≡ true) ⊎ (b ≡ true)
+or_cases true b is = inl refl
+or_cases false b is = inr is
+
+listed_where : (links : List Link) (lru : Lru) (f : ℕ) → is_listed links lru f ≡ true
+    → (list : LruList) × (is_among (units_of links (queue_of lru list)) f ≡ true)
+unfolding is_listed
+listed_where links lru f is = elim (or_cases (is_among (units_of links lru.inactive) f) (is_among (units_of links lru.active) f) is) [
+  | inl a ↦ (Inactive, a)
+  | inr b ↦ (Active, b)
+]
+
+module _ (before after : List Link) (lru new : Lru) (old_stands : StandsIn before lru) (new_stands : StandsIn after new) (owner : new.owner ≡ lru.owner)
+    (changes : ChangesOwn before after lru.owner) (on : (f : ℕ) → is_listed before lru f ≡ true → is_listed after new f ≡ true)
+    (off : (f : ℕ) → is_listed after new f ≡ true → is_listed before lru f ≡ true) where
+  -- each frame stands on a list of the owner of which it stood on one
+  pub owners_stay : (f : ℕ) → option_map (λ (x : Home). x.owner) (link_at after f).home ≡ option_map (λ (x : Home). x.owner) (link_at before f).home
+  owners_stay f = elim (cases_none (list_of before lru.owner f)) [
+    | inl none ↦ elim (cases_none (list_of after lru.owner f)) [
+      | inl still ↦ ap (λ (k : Link). option_map (λ (x : Home). x.owner) k.home) (changes.kept f none still)
+      | inr came ↦
+          let l = some_list (list_of after lru.owner f) came in
+          let home : (link_at after f).home ≡ Some (home_of new l.0) =
+          home_of_list (link_at after f).home new l.0 (ap (place_of (link_at after f).home) owner ∙ l.1) in
+          let was = listed_where before lru f (off f (listed_as after new l.0 f ((new_stands l.0).at_home f home))) in
+          let there : list_of before lru.owner f ≡ Some was.0 =
+          ap (λ (h : Option Home). place_of h lru.owner) ((old_stands was.0).homes f was.1) ∙ place_here lru.owner was.0 in
+          absurd (none-some was.0 (sym none ∙ there))
+    ]
+    | inr was ↦
+        let l = some_list (list_of before lru.owner f) was in
+        let home : (link_at before f).home ≡ Some (home_of lru l.0) = home_of_list (link_at before f).home lru l.0 l.1 in
+        let now = listed_where after new f (on f (listed_as before lru l.0 f ((old_stands l.0).at_home f home))) in
+        let stands : (link_at after f).home ≡ Some (home_of new now.0) = (new_stands now.0).homes f now.1 in
+        ap (option_map (λ (x : Home). x.owner)) stands ∙ ap Some owner ∙ sym (ap (option_map (λ (x : Home). x.owner)) home)
+  ]
+
+-- ---- lists of entries, and the numbers in them
+
+numbers : (links : List Link) (xs : List ℕ) → map (λ (e : Entry). e.number) (map (entry_of links) xs) ≡ xs
+numbers links [] = refl
+numbers links (x ∷ xs) = ap (λ (l : List ℕ). x ∷ l) (numbers links xs)
+
+dirtied_number : (unit : ℕ) (d : Bool) (b : Bool) (e : Entry) → (cond b (dirtied d e) e).number ≡ e.number
+dirtied_number unit d true e = refl
+dirtied_number unit d false e = refl
+
+dirtied_numbers : (unit : ℕ) (d : Bool) (es : List Entry) → map (λ (e : Entry). e.number) (changed_at unit (dirtied d) es) ≡ map (λ (e : Entry). e.number) es
+dirtied_numbers unit d [] = refl
+dirtied_numbers unit d (e ∷ es) = λ i. dirtied_number unit d (e.number == unit) e i ∷ dirtied_numbers unit d es i
+
+-- the same units stand on the lists where one was dirtied
+dirtied_units : (before after : List Link) (lru : Lru) (unit : ℕ) (d : Bool)
+    → ((list : LruList) → entries_of after lru list ≡ changed_at unit (dirtied d) (entries_of before lru list))
+    → (list : LruList) → units_of after (queue_of lru list) ≡ units_of before (queue_of lru list)
+dirtied_units before after lru unit d is list =
+    sym (numbers after (units_of after (queue_of lru list)))
+    ∙ ap (map (λ (e : Entry). e.number)) (is list)
+    ∙ dirtied_numbers unit d (entries_of before lru list)
+    ∙ numbers before (units_of before (queue_of lru list))
+
+pub dirtied_owners : (before after : List Link) (lru : Lru) (unit : ℕ) (d : Bool) → StandsIn before lru → StandsIn after lru
+    → ChangesOwn before after lru.owner
+    → ((list : LruList) → entries_of after lru list ≡ changed_at unit (dirtied d) (entries_of before lru list))
+    → (f : ℕ) → option_map (λ (x : Home). x.owner) (link_at after f).home ≡ option_map (λ (x : Home). x.owner) (link_at before f).home
+unfolding is_listed
+dirtied_owners before after lru unit d old new changes is =
+    let a = dirtied_units before after lru unit d is in
+    let same : (f : ℕ) → is_listed after lru f ≡ is_listed before lru f = λ f. λ i. is_among (a Inactive i) f || is_among (a Active i) f in
+    owners_stay before after lru lru old new refl changes (λ f h. same f ∙ h) (λ f h. sym (same f) ∙ h)
+
+-- ---- a touch
+
+marked_number : (b c : Bool) (e : Entry) → (cond c (marked b e) e).number ≡ e.number
+marked_number b true e = refl
+marked_number b false e = refl
+
+marked_numbers : (unit : ℕ) (b : Bool) (es : List Entry) → map (λ (e : Entry). e.number) (changed_at unit (marked b) es) ≡ map (λ (e : Entry). e.number) es
+marked_numbers unit b [] = refl
+marked_numbers unit b (e ∷ es) = λ i. marked_number b (e.number == unit) e i ∷ marked_numbers unit b es i
+
+without_numbers : (unit : ℕ) (es : List Entry) → map (λ (e : Entry). e.number) (entries_without unit es) ≡ without unit (map (λ (e : Entry). e.number) es)
+without_numbers unit [] = refl
+without_numbers unit (e ∷ es) = elim (cases_eq e.number unit) [
+  | inl q ↦ let t : (e.number == unit) ≡ true = eq-eqb e.number unit q in rw t refl
+  | inr ne ↦ let u : (e.number == unit) ≡ false = ne_eqb e.number unit ne in rw u (ap (λ (l : List ℕ). e.number ∷ l) (without_numbers unit es))
+]
+
+numbers_end : (es : List Entry) (e : Entry) → map (λ (x : Entry). x.number) (es ++ e ∷ []) ≡ map (λ (x : Entry). x.number) es ++ e.number ∷ []
+numbers_end [] e = refl
+numbers_end (x ∷ es) e = ap (λ (l : List ℕ). x.number ∷ l) (numbers_end es e)
+
+among_without : (f g : ℕ) (xs : List ℕ) → (g ≡ f → ⊥) → is_among (without f xs) g ≡ is_among xs g
+among_without f g [] ne = refl
+among_without f g (x ∷ xs) ne = elim (cases_eq x f) [
+  | inl e ↦ let t : (x == f) ≡ true = eq-eqb x f e in let u : (x == g) ≡ false = ne_eqb x g (λ h. ne (sym h ∙ e)) in rw (t, u) refl
+  | inr n ↦ let t : (x == f) ≡ false = ne_eqb x f n in rw t (ap (λ b. (x == g) || b) (among_without f g xs ne))
+]
+
+among_end : (f : ℕ) (xs : List ℕ) → is_among (xs ++ f ∷ []) f ≡ true
+among_end f [] = let t : (f == f) ≡ true = eq-eqb f f refl in rw t refl
+among_end f (x ∷ xs) = or_right (x == f) _ (among_end f xs)
+
+among_more : (f g : ℕ) (xs : List ℕ) → (g ≡ f → ⊥) → is_among (xs ++ f ∷ []) g ≡ is_among xs g
+among_more f g [] ne = let u : (f == g) ≡ false = ne_eqb f g (λ h. ne (sym h)) in rw u refl
+among_more f g (x ∷ xs) ne = ap (λ b. (x == g) || b) (among_more f g xs ne)
+
+-- the units after a touch that moved one
+moved_listed : (f g : ℕ) (inactive active : List ℕ) → (g ≡ f → ⊥)
+    → (is_among (without f inactive) g || is_among (without f active ++ f ∷ []) g) ≡ (is_among inactive g || is_among active g)
+moved_listed f g inactive active ne = λ i. among_without f g inactive ne i || (among_more f g (without f active) ne ∙ among_without f g active ne) i
+
+-- the units of a list are the numbers of its entries
+units_numbers : (links : List Link) (lru : Lru) (list : LruList)
+    → units_of links (queue_of lru list) ≡ map (λ (e : Entry). e.number) (entries_of links lru list)
+units_numbers links lru list = sym (numbers links (units_of links (queue_of lru list)))
+
+touched_listed : (before after : List Link) (lru new : Lru) (f : ℕ) (touched : Touched) → StandsIn before lru → list_of before lru.owner f ≢ None
+    → Touches before lru f touched after new → (g : ℕ) → is_listed after new g ≡ is_listed before lru g
+unfolding is_listed
+touched_listed before after lru new f Marked old on touches g =
+    let a : units_of after new.inactive ≡ units_of before lru.inactive = units_numbers after new Inactive ∙ ap (map (λ (e : Entry). e.number)) touches.2
+    ∙ marked_numbers f true (inactive_of before lru) ∙ sym (units_numbers before lru Inactive) in
+    let b : units_of after new.active ≡ units_of before lru.active = units_numbers after new Active ∙ ap (map (λ (e : Entry). e.number)) touches.3
+    ∙ sym (units_numbers before lru Active) in
+    λ i. is_among (a i) g || is_among (b i) g
+touched_listed before after lru new f Moved old on touches g =
+    let a : units_of after new.inactive ≡ without f (units_of before lru.inactive) = units_numbers after new Inactive
+    ∙ ap (map (λ (e : Entry). e.number)) touches.1
+    ∙ without_numbers f (inactive_of before lru) ∙ ap (without f) (sym (units_numbers before lru Inactive)) in
+    let b : units_of after new.active ≡ without f (units_of before lru.active) ++ f ∷ [] =
+    units_numbers after new Active ∙ ap (map (λ (e : Entry). e.number)) touches.2
+    ∙ numbers_end (entries_without f (active_of before lru)) (marked false (entry_of before f))
+    ∙ ap (λ (l : List ℕ). l ++ f ∷ []) (without_numbers f (active_of before lru) ∙ ap (without f) (sym (units_numbers before lru Active))) in
+    let now : (is_among (units_of after new.inactive) g || is_among (units_of after new.active) g)
+    ≡ (is_among (without f (units_of before lru.inactive)) g || is_among (without f (units_of before lru.active) ++ f ∷ []) g) =
+    λ i. is_among (a i) g || is_among (b i) g in
+    elim (cases_eq g f) [
+      | inl e ↦
+          let l = some_list (list_of before lru.owner f) on in
+          let was : (is_among (units_of before lru.inactive) f || is_among (units_of before lru.active) f) ≡ true =
+          listed_as before lru l.0 f ((old l.0).at_home f (home_of_list (link_at before f).home lru l.0 l.1)) in
+          let is : (is_among (without f (units_of before lru.inactive)) f || is_among (without f (units_of before lru.active) ++ f ∷ []) f) ≡ true =
+          or_right _ _ (among_end f (without f (units_of before lru.active))) in
+          subst (λ (k : ℕ). (is_among (units_of after new.inactive) k || is_among (units_of after new.active) k)
+          ≡ (is_among (units_of before lru.inactive) k || is_among (units_of before lru.active) k)) (sym e)
+          ((λ i. is_among (a i) f || is_among (b i) f) ∙ is ∙ sym was)
+      | inr ne ↦ now ∙ moved_listed f g (units_of before lru.inactive) (units_of before lru.active) ne
+    ]
+
+pub touched_owners : (before after : List Link) (lru new : Lru) (f : ℕ) (touched : Touched) → StandsIn before lru → StandsIn after new → new.owner ≡ lru.owner
+    → ChangesOwn before after lru.owner → list_of before lru.owner f ≢ None → Touches before lru f touched after new
+    → (g : ℕ) → option_map (λ (x : Home). x.owner) (link_at after g).home ≡ option_map (λ (x : Home). x.owner) (link_at before g).home
+touched_owners before after lru new f touched old stands owner changes on touches =
+    let same = touched_listed before after lru new f touched old on touches in
+    owners_stay before after lru new old stands owner changes (λ g h. same g ∙ h) (λ g h. sym (same g) ∙ h)

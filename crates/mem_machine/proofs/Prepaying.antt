@@ -1,0 +1,288 @@
+-- Pages are charged and fill the processor's stock. Serves `fill_stock` and `prepay`.
+use Rattle.std.proofs.Common.{◌≡◌, ℕ, ◌+◌, ◌-◌, ◌<◌, ◌≤◌, ◌==◌, ◌||◌, Bool, true, false, ◌^◌, Option, Some, None, List, [], ◌∷◌, length}
+use Rattle.std.proofs.Common.{map, refl, sym, ap, ◌∙◌, subst, inl, inr, arith, cond, eq-eqb}
+use Rattle.std.specs.Prelude.{nat_le, not}
+use Rattle.std.proofs.lemmas.Bool.{cases_eq, ne_eqb, and_from, cond-true, cond-false, cond_both, le-leb}
+use Rattle.std.proofs.lemmas.List.Sums.{sum_by-cons}
+use Rattle.frame_word.specs.Seats.{KnownTable}
+use Rattle.stock_word.specs.declared.view.Account.{Account}
+use Rattle.stock_word.specs.declared.view.StockView.{StockView}
+use Rattle.stock_word.specs.Stock.{Words, Seated, account_of}
+use Rattle.stock_word.specs.Kinds.{filling, after_fill}
+use Rattle.stock_word.specs.Calls.{with_view}
+use Rattle.stock_word.proofs.CallerLemmas.{account_of-with_account, account_of-with_account_other}
+use Rattle.group_tree.specs.declared.group.Group.{Group}
+use Rattle.group_tree.specs.Groups.{has_group, limit_of, in_subtree}
+use Rattle.group_tree.specs.Room as room
+use Rattle.group_charge.specs.declared.account.Account as charge
+use Rattle.group_charge.specs.Charges.{Ledger, AreCharges, current_of, usage_of, taken, with_charge, PagesRise}
+use Rattle.group_charge.proofs.CallerLemmas.{charge_pages}
+use Rattle.group_charge.proofs.SumLemmas.{share}
+use Rattle.cpu_part.specs.Cpus.{KnownCpu, IsTied, times}
+use Rattle.step_rules.specs.declared.step.Action.TheVariants.{Grant, Fill}
+use Rattle.step_rules.specs.declared.step.Answer.TheVariants.{Done, Granted}
+use Rattle.step_rules.specs.State.{State, Part, with_at, sum_to}
+use Rattle.step_rules.specs.Legal.{may_fill, is_of_group}
+use Rattle.step_rules.specs.After.{filled, with_pending}
+use Rattle.step_rules.specs.Usage as local
+use Rattle.step_rules.proofs.Basics.{at_same, at_other, at_each}
+use Rattle.step_rules.proofs.Sums.{sum_change}
+use Rattle.mem_machine.specs.declared.spot.Spot.{Spot}
+use Rattle.mem_machine.specs.declared.spot.Spot.TheVariants.{Free, Lent, Head, Tail}
+use Rattle.mem_machine.specs.Spots.{spot_at, count_of}
+use Rattle.mem_machine.specs.Machines.{KnownMachine, IsConsistent, Visits, is_killed, booked, pages_booked}
+use Rattle.mem_machine.specs.Local.{local_of, phase_of, part_of, part_with, Reaches}
+use Rattle.mem_machine.specs.Stocks.{uncharged, stock_group, Drains, Fills}
+use Rattle.mem_machine.proofs.Reaching.{zone_step, one_step, step_before}
+use Rattle.mem_machine.proofs.Holds.{zone_may_act, visits_open, own_part}
+use Rattle.mem_machine.proofs.Lends.{lent_listed}
+use Rattle.mem_machine.proofs.Draining.{booked_is, counts_own, counts_other, cond-same, stocks_consistent, nothing, pending_back, groups_stay, drained_at}
+use Rattle.mem_machine.proofs.PlainUsage.{usage_is}
+
+-- ---- the accounts
+
+module _ (view : StockView) (q g n : ℕ) where
+  abbrev pub filled_account : Account
+  filled_account = let a = account_of view q in record a { book = a.book + n; group = Some g; filled = true }
+
+  pub filled_at : account_of (filling view q g n) q ≡ filled_account
+  filled_at = account_of-with_account view q filled_account
+
+  pub filled_else : (p : ℕ) → (p ≡ q → ⊥) → account_of (filling view q g n) p ≡ account_of view p
+  filled_else p ne = account_of-with_account_other view q p filled_account ne
+
+  pub filled_read : {X : Type 0} (h : Account → X) → (p : ℕ) → h (account_of (filling view q g n) p)
+      ≡ with_at (λ k. h (account_of view k)) q (h filled_account) p
+  filled_read h p = elim (cases_eq p q) [
+    | inl e ↦ subst (λ (k : ℕ). h (account_of (filling view q g n) k) ≡ with_at (λ j. h (account_of view j)) q (h filled_account) k) (sym e)
+        (ap h filled_at ∙ sym (at_same (λ k. h (account_of view k)) q (h filled_account)))
+    | inr ne ↦ ap h (filled_else p ne) ∙ sym (at_other (λ k. h (account_of view k)) q (h filled_account) p ne)
+  ]
+
+-- an empty account that is filled
+booked_more : (h g k : ℕ) (a : Account) → a.book ≡ 0 → booked h (record a { book = a.book + k; group = Some g; filled = true }) ≡ booked h a + cond (h == g) k 0
+booked_more h g k a empty =
+    let b : Account = record a { book = a.book + k; group = Some g; filled = true } in
+    let none : booked h a ≡ 0 = ap (λ (x : ℕ). cond (count_of h a.group == 0) 0 x) empty ∙ cond-same (count_of h a.group == 0) 0 in
+    elim (cases_eq h g) [
+      | inl e ↦
+          let y : booked h b ≡ a.book + k = booked_is h b 1 (counts_own h g e) in
+          let z : cond (h == g) k 0 ≡ k = cond-true (h == g) k 0 (eq-eqb h g e) in
+          omega (arith, none, y, z, empty)
+      | inr ne ↦
+          let y : booked h b ≡ 0 = booked_is h b 0 (counts_other h g ne) in
+          let z : cond (h == g) k 0 ≡ 0 = cond-false (h == g) k 0 (ne_eqb h g ne) in
+          omega (arith, none, y, z)
+    ]
+
+-- ---- consistency
+
+pub fill_consistent : (t : KnownTable) (w : Words) (m : KnownMachine) (q g k : ℕ) (l : Ledger) → IsConsistent t w m
+    → q ≤ t.cpus → (account_of m.stock.view q).book ≡ 0
+    → PagesRise m.ledger l g k → IsConsistent t w (record m { ledger = l; stock = with_view m.stock (filling m.stock.view q g k) })
+fill_consistent t w m q g k l ok inside empty rise =
+    let stock : Seated = with_view m.stock (filling m.stock.view q g k) in
+    let a = account_of m.stock.view q in
+    stocks_consistent t w m l stock ok refl ok.seats.stocks
+    (λ p. filled_read m.stock.view q g k (λ (x : Account). x.noted) p
+    ∙ at_each (λ j. (account_of m.stock.view j).noted) q a.noted (λ j x. x ≡ 0) (ok.noted q) (λ j ne. ok.noted j) p)
+    (λ h.
+    let each : (λ (p : ℕ). booked h (account_of stock.view p))
+    ≡ with_at (λ p. booked h (account_of m.stock.view p)) q (booked h (filled_account m.stock.view q g k))
+    = λ i. λ p. filled_read m.stock.view q g k (booked h) p i in
+    let change : pages_booked t stock h + booked h a ≡ pages_booked t m.stock h + booked h (filled_account m.stock.view q g k)
+    = ap (λ (f : ℕ → ℕ). sum_to (t.cpus + 1) f + booked h a) each
+    ∙ sum_change (t.cpus + 1) (λ p. booked h (account_of m.stock.view p)) q (booked h (filled_account m.stock.view q g k)) (omega (arith, inside)) in
+    let more = booked_more h g k a empty in
+    let old = ok.charged h in
+    let new = rise h in
+    omega (arith, change, more, old, new))
+
+-- ---- the steps
+
+fits_same : (o : Option ℕ) (n : ℕ) → room.fits_limit o n ≡ local.fits_limit o n
+fits_same None n = refl
+fits_same (Some limit) n = refl
+
+room_same : (t : KnownTable) (w : Words) (m : KnownMachine) (c : KnownCpu) (g k : ℕ) → IsConsistent t w m → AreCharges m.ledger → c.fresh ≡ []
+    → room.PathHasRoom m.ledger.groups (current_of m.ledger) g k → local.PathHasRoom m.ledger.groups (local.usage_of (local_of t m c)) k g
+room_same t w m c g k ok facts none has = λ x on.
+    ap (λ (u : ℕ). local.fits_limit (limit_of m.ledger.groups x) (u + k)) (sym (usage_is t w m c ok facts none x))
+    ∙ sym (fits_same (limit_of m.ledger.groups x) (current_of m.ledger x + k)) ∙ has x on
+
+-- a processor's part whose stock is filled
+part_filled : (l f b : List ℕ) (a : Account) (g n : ℕ) → length f ≡ 0 → a.noted ≡ 0 → a.book ≡ 0
+    → part_with l f b (record a { book = a.book + n; group = Some g; filled = true }) ≡ filled (part_with l f b a) g n
+part_filled l f b a g n none noted empty =
+    let pages : a.book + n - length f - a.noted ≡ n = omega (arith, none, noted, empty) in
+    λ i. record {
+      list = l;
+      fresh = f;
+      back = b;
+      stock = record { group = Some g; pages = pages i; is_drained = false };
+      book = a.book + n;
+      unreported = 0;
+      reported = a.noted;
+    }
+
+module _ (stock : Seated) (c : KnownCpu) (g n : ℕ) (none : length c.fresh ≡ 0) (noted : (account_of stock.view c.number).noted ≡ 0)
+    (empty : (account_of stock.view c.number).book ≡ 0) where
+  abbrev after_it : Seated
+  after_it = with_view stock (filling stock.view c.number g n)
+
+  abbrev shown : ℕ → Account → Part
+  shown p a = cond (p == c.number) (part_with c.list c.fresh c.back a) (part_with [] [] [] a)
+
+  part_filled_at : (p : ℕ) → part_of after_it c p ≡ with_at (part_of stock c) c.number (filled (part_of stock c c.number) g n) p
+  part_filled_at p = elim (cases_eq p c.number) [
+    | inl e ↦ subst (λ (k : ℕ). part_of after_it c k ≡ with_at (part_of stock c) c.number (filled (part_of stock c c.number) g n) k) (sym e)
+        (ap (shown c.number) (filled_at stock.view c.number g n)
+        ∙ cond-true (c.number == c.number) (part_with c.list c.fresh c.back (filled_account stock.view c.number g n))
+        (part_with [] [] [] (filled_account stock.view c.number g n)) (eq-eqb c.number c.number refl)
+        ∙ part_filled c.list c.fresh c.back (account_of stock.view c.number) g n none noted empty
+        ∙ ap (λ (x : Part). filled x g n) (sym (cond-true (c.number == c.number) (part_with c.list c.fresh c.back (account_of stock.view c.number))
+        (part_with [] [] [] (account_of stock.view c.number)) (eq-eqb c.number c.number refl)))
+        ∙ sym (at_same (part_of stock c) c.number (filled (part_of stock c c.number) g n)))
+    | inr ne ↦ ap (shown p) (filled_else stock.view c.number g n p ne) ∙ sym (at_other (part_of stock c) c.number (filled (part_of stock c c.number) g n) p ne)
+  ]
+
+  pub parts_filled : part_of after_it c ≡ with_at (part_of stock c) c.number (filled (part_of stock c c.number) g n)
+  parts_filled = λ i. λ p. part_filled_at p i
+
+-- without fresh frames no phase tells the stock's group
+phase_stays : (c : KnownCpu) (s : Seated) (f : ℕ) (x : Spot) → times f c.fresh ≡ 0 → phase_of (record c { stock = s }) f x ≡ phase_of c f x
+phase_stays c s f Free none = refl
+phase_stays c s f (Lent q) none = lent_listed (record c { stock = s }) f q none ∙ sym (lent_listed c f q none)
+phase_stays c s f (Head unit) none = refl
+phase_stays c s f (Tail g) none = refl
+
+pub fill_reaches : (t : KnownTable) (w : Words) (m : KnownMachine) (c : KnownCpu) (g k : ℕ) → IsConsistent t w m
+    → AreCharges m.ledger → Visits t m c → c.fresh ≡ []
+    → has_group m.ledger.groups g ≡ true → is_killed m.killed g ≡ false → (account_of m.stock.view c.number).book ≡ 0
+    → room.PathHasRoom m.ledger.groups (current_of m.ledger) g k
+    → Reaches c.number (local_of t m c) (local_of t (record m {
+      ledger = with_charge m.ledger g k;
+      stock =
+          with_view m.stock (filling m.stock.view c.number g k);
+    })
+    (record c { stock = with_view c.stock (after_fill c.stock.view g k) }))
+fill_reaches t w m c g k ok facts visit none there alive empty has =
+    let p = c.number in
+    let s = local_of t m c in
+    let s1 : State = with_pending s g (0 + k) in
+    let acts = zone_may_act m.seat p in
+    let len : length c.fresh ≡ 0 = ap length none in
+    let own = own_part m c in
+    let noted = ok.noted p in
+    let pages : (part_of m.stock c p).stock.pages ≡ 0
+    = ap (λ (x : Part). x.stock.pages) own ∙ (let a : (account_of m.stock.view p).book - length c.fresh -
+    (account_of m.stock.view p).noted ≡ 0 = omega (arith, empty) in a) in
+    let book : (part_of m.stock c p).book ≡ 0 = ap (λ (x : Part). x.book) own ∙ empty in
+    let may : may_fill (part_of m.stock c p) g ≡ true
+    = and_from _ _ (eq-eqb _ 0 pages) (ap (λ (b : Bool). b || is_of_group (part_of m.stock c p).stock.group g) (eq-eqb _ 0 book)) in
+    let enough : nat_le k (with_at nothing g (0 + k) g) ≡ true
+    = le-leb k (with_at nothing g (0 + k) g) (let a = at_same nothing g (0 + k) in omega (arith, a)) in
+    let legal = and_from _ _ (and_from _ _ (and_from _ _ (and_from _ _ acts (visits_open m.seat p visit.is_open)) there) may) enough in
+    let d : KnownCpu = record c { stock = with_view c.stock (after_fill c.stock.view g k) } in
+    let phases : (λ (f : ℕ). phase_of d f (spot_at m.spots f)) ≡ (λ f. phase_of c f (spot_at m.spots f))
+    = λ i. λ f. phase_stays c (with_view c.stock (after_fill c.stock.view g k)) f (spot_at m.spots f) (ap (times f) none) i in
+    let parts = parts_filled m.stock c g k len noted empty in
+    let back = pending_back g (0 + k) k (omega arith) in
+    step_before p s (local_of t (record m {
+      ledger = with_charge m.ledger g k;
+      stock =
+          with_view m.stock (filling m.stock.view p g k);
+    }) d) 0 (Grant g k) Granted
+    (zone_step s p (Grant g k) Granted refl (and_from _ _ (and_from _ _ acts there) (ap not alive)) (room_same t w m c g k ok facts none has))
+    (one_step p s1 _ 0 (Fill p g k) Done (zone_step s1 p (Fill p g k) Done refl legal tt)
+    (λ i. record s { phases = phases i; parts = parts i; pending = sym back i }))
+
+-- what `fill_stock` leaves, of the machine as it was seen before
+pub record Filled (t : KnownTable) (w : Words) (m now : KnownMachine) (g k : ℕ) (c : KnownCpu) (l : Ledger) (stock : Seated) (d : KnownCpu) : Type 0 where
+  pub consistent : IsConsistent t w (record m { ledger = l; stock = stock })
+  pub fills : Fills g k now c (record m { ledger = l; stock = stock }) d
+  pub visit : Visits t (record m { ledger = l; stock = stock }) d
+  pub steps : Reaches c.number (local_of t now c) (local_of t (record m { ledger = l; stock = stock }) d)
+
+filled_here : (t : KnownTable) (w : Words) (m : KnownMachine) (c : KnownCpu) (g k : ℕ) → IsConsistent t w m
+    → AreCharges m.ledger → c.number ≤ t.cpus → Visits t m c → c.fresh ≡ []
+    → has_group m.ledger.groups g ≡ true → is_killed m.killed g ≡ false → (account_of m.stock.view c.number).book ≡ 0
+    → room.PathHasRoom m.ledger.groups (current_of m.ledger) g k
+    → Filled t w m m g k c (with_charge m.ledger g k) (with_view m.stock (filling m.stock.view c.number g k)) (record c {
+      stock =
+          with_view c.stock (after_fill c.stock.view g k);
+    })
+filled_here t w m c g k ok facts inside visit none there alive empty has = record {
+  consistent = fill_consistent t w m c.number g k (with_charge m.ledger g k) ok inside empty (charge_pages m.ledger g k facts there);
+  fills = record { room = has; machine = refl; cpu = refl };
+  visit = record { is_open = visit.is_open; still = visit.still; lent = visit.lent };
+  steps = fill_reaches t w m c g k ok facts visit none there alive empty has;
+}
+
+pub filled_all : (t : KnownTable) (w : Words) (m now : KnownMachine) (c : KnownCpu) (g k : ℕ) → m ≡ now
+    → IsConsistent t w m → AreCharges m.ledger → IsTied t w c → Visits t now c
+    → c.fresh ≡ [] → has_group now.ledger.groups g ≡ true → is_killed now.killed g ≡ false → (account_of m.stock.view c.number).book ≡ 0
+    → room.PathHasRoom m.ledger.groups (current_of m.ledger) g k → (l : Ledger) (stock : Seated) (d : KnownCpu) (h : ℕ) → h ≡ g → l ≡ with_charge m.ledger g k
+    → stock ≡ with_view m.stock (filling m.stock.view c.number h k) → d
+    ≡ record c { stock = with_view c.stock (after_fill c.stock.view h k) } → Filled t w m now g k c l stock d
+filled_all t w m now c g k same ok facts tied visit none there alive empty has l stock d h named charged filled seen =
+    let here = filled_here t w m c g k ok facts tied.seats.frame_cpus (subst (λ (x : KnownMachine). Visits t x c) (sym same) visit) none
+    (ap (λ (x : KnownMachine). has_group x.ledger.groups g) same ∙ there) (ap (λ (x : KnownMachine). is_killed x.killed g) same ∙ alive) empty has in
+    let stock_is = filled ∙ ap (λ (n : ℕ). with_view m.stock (filling m.stock.view c.number n k)) named in
+    let cpu_is = seen ∙ ap (λ (n : ℕ). record c { stock = with_view c.stock (after_fill c.stock.view n k) }) named in
+    subst (λ (x : KnownMachine × Ledger × Seated × KnownCpu). Filled t w m x.0 g k c x.1 x.2 x.3) (λ i. (
+      same i,
+      sym charged i,
+      sym stock_is i,
+      sym cpu_is i,
+    )) here
+
+-- ---- after the processor's own stock was drained
+
+less_if : (b : Bool) (p n : ℕ) → cond b (p - n) 0 ≤ cond b p 0
+less_if true p n = omega arith
+less_if false p n = omega arith
+
+usage_falls : (groups : List Group) (xs : List charge.Account) (g n m : ℕ) → usage_of groups (map (taken g n) xs) m ≤ usage_of groups xs m
+unfolding usage_of
+usage_falls groups [] g n m = omega arith
+usage_falls groups (x ∷ xs) g n m =
+    let here : share groups m (taken g n x) ≤ share groups m x = cond_both (x.group == g) (record x { pages = x.pages - n }) x
+    (λ (y : charge.Account). share groups m y ≤ share groups m x) (λ _. less_if (in_subtree groups m x.group) x.pages n) (λ _. omega arith) in
+    let rest = usage_falls groups xs g n m in
+    let a = sum_by-cons (share groups m) (taken g n x) (map (taken g n) xs) in
+    let b = sum_by-cons (share groups m) x xs in
+    omega (arith, here, rest, a, b)
+
+current_falls : (l : Ledger) (o : Option ℕ) (n m : ℕ) → current_of (uncharged l o n) m ≤ current_of l m
+current_falls l None n m = omega arith
+current_falls l (Some g) n m = usage_falls l.groups l.accounts g n m
+
+module _ (t : KnownTable) (m x : KnownMachine) (q p k : ℕ) (named : q ≡ p) (d : Drains m q k x) where
+  pub emptied_visits : (c : KnownCpu) → Visits t m c → Visits t x c
+  emptied_visits c visit = subst (λ (y : KnownMachine). Visits t y c) (sym d.machine) (record {
+    is_open = visit.is_open;
+    still =
+        visit.still;
+    lent = visit.lent;
+  })
+
+  pub emptied_has : (g : ℕ) → has_group m.ledger.groups g ≡ true → has_group x.ledger.groups g ≡ true
+  emptied_has g there = ap (λ (y : KnownMachine). has_group y.ledger.groups g) d.machine
+      ∙ ap (λ (y : List Group). has_group y g) (groups_stay m.ledger (stock_group m q) k) ∙ there
+
+  pub emptied_alive : (g : ℕ) → is_killed m.killed g ≡ false → is_killed x.killed g ≡ false
+  emptied_alive g alive = ap (λ (y : KnownMachine). is_killed y.killed g) d.machine ∙ alive
+
+  pub emptied_fits : (n : ℕ) → current_of m.ledger 0 + n < 2 ^ 32 → current_of x.ledger 0 + n < 2 ^ 32
+  emptied_fits n fits =
+      let a : current_of x.ledger 0 ≡ current_of (uncharged m.ledger (stock_group m q) k) 0 = ap (λ (y : KnownMachine). current_of y.ledger 0) d.machine in
+      let b = current_falls m.ledger (stock_group m q) k 0 in
+      omega (arith, a, b, fits)
+
+  pub emptied_drained : (account_of x.stock.view p).filled ≡ false
+  emptied_drained = ap (λ (n : ℕ). (account_of x.stock.view n).filled) (sym named) ∙ ap (λ (y : KnownMachine). (account_of y.stock.view q).filled) d.machine
+      ∙ ap (λ (a : Account). a.filled) (drained_at m.stock.view q k)
+
+  pub emptied_own : Drains m p k x
+  emptied_own = subst (λ (n : ℕ). Drains m n k x) named d

@@ -1,0 +1,160 @@
+-- One frame's record and the zone's note of it change. Serves `lend_one`, `take_one_back` and all calls that move frames.
+use Rattle.std.proofs.Common.{◌≡◌, ℕ, ◌+◌, ◌<◌, Bool, true, false, Some, None, List, [], ◌∷◌, length, get_or, refl, sym, ap, ◌∙◌, subst, inl, inr}
+use Rattle.std.proofs.Common.{arith, zero, suc}
+use Rattle.std.specs.Prelude.{slice_set}
+use Rattle.std.specs.Cmp.{both_ways}
+use Rattle.std.proofs.lemmas.Bool.{cases_eq, false≢true}
+use Rattle.std.proofs.lemmas.Option.{none-some}
+use Rattle.std.proofs.lemmas.List.{get_or-set_same, get_or-set_other, length-set, ext_get_or}
+use Rattle.zone_blocks.specs.Block.{IsBlock, Covers}
+use Rattle.zone_blocks.specs.Areas.{IsFree}
+use Rattle.zone_buddy.specs.Zone.{TakesFrames}
+use Rattle.frame_word.specs.declared.view.FrameNote.{FrameNote}
+use Rattle.frame_word.specs.Views.{note_of}
+use Rattle.frame_word.specs.Seats.{KnownSeat, seat_with, holds}
+use Rattle.frame_word.proofs.Notes.{note_here, note_else}
+use Rattle.step_rules.specs.State.{sum_to}
+use Rattle.step_rules.proofs.Sums.{sum_same}
+use Rattle.lru_lists.specs.declared.record.Link.{Link}
+use Rattle.mem_machine.specs.declared.spot.Spot.{Spot}
+use Rattle.mem_machine.specs.declared.spot.Spot.TheVariants.{Free}
+use Rattle.mem_machine.specs.Spots.{spot_at, is_free, free_of, group_of, count_of, AreUnits}
+use Rattle.mem_machine.specs.Machines.{FitsSpot, home_of, frames_charged}
+
+-- ---- which frames are free
+
+pub length_free : (spots : List Spot) → length (free_of spots) ≡ length spots
+length_free [] = refl
+length_free (x ∷ xs) = let e = length_free xs in omega (arith, e)
+
+pub free_at : (spots : List Spot) (f : ℕ) → f < length spots → get_or (free_of spots) f false ≡ is_free (spot_at spots f)
+free_at [] f inside = absurd (omega arith)
+free_at (x ∷ xs) zero inside = refl
+free_at (x ∷ xs) (suc f) inside = free_at xs f (omega arith)
+
+-- a free frame has the record of one
+pub free_is : (x : Spot) → is_free x ≡ true → x ≡ Free
+free_is Free e = refl
+free_is x e = absurd (false≢true e)
+
+-- a frame that is in the free areas is one of the records
+pub free_inside : (spots : List Spot) (f : ℕ) → IsFree (free_of spots) f → f < length spots
+free_inside [] f is = absurd (false≢true is)
+free_inside (x ∷ xs) zero is = omega arith
+free_inside (x ∷ xs) (suc f) is = let h = free_inside xs f is in omega (arith, h)
+
+-- a block of one frame covers that alone
+pub covers_one : (f : ℕ) → Covers (record { at = f; order = 0 }) f
+covers_one f = record { from = omega arith; before = omega arith }
+
+pub one_covered : (f g : ℕ) → Covers (record { at = f; order = 0 }) g → g ≡ f
+one_covered f g h = let a = h.from in let b : g < f + 1 = h.before in omega (arith, a, b)
+
+-- the free frames where two sets differ at one frame
+pub free_set : (before after : List Bool) (spots : List Spot) (f : ℕ) (x : Spot) → f < length spots → before ≡ free_of spots → length after ≡ length before
+    → (IsFree after f → is_free x ≡ true) → (is_free x ≡ true → IsFree after f)
+    → ((g : ℕ) → (g ≡ f → ⊥) → (IsFree after g → IsFree before g) × (IsFree before g → IsFree after g))
+    → after ≡ free_of (slice_set spots f x)
+free_set before after spots f x inside was same to from others =
+    let sized : length after ≡ length (free_of (slice_set spots f x)) =
+    same ∙ ap length was ∙ length_free spots ∙ sym (length-set spots f x) ∙ sym (length_free (slice_set spots f x)) in
+    ext_get_or false after (free_of (slice_set spots f x)) sized (λ g within.
+    let room : g < length (slice_set spots f x) = subst (λ (n : ℕ). g < n) (sized ∙ length_free (slice_set spots f x)) within in
+    let now = free_at (slice_set spots f x) g room in
+    elim (cases_eq g f) [
+      | inl e ↦
+          let here : is_free (spot_at (slice_set spots f x) g) ≡ is_free x =
+          ap (λ (h : ℕ). is_free (spot_at (slice_set spots f x) h)) e ∙ ap is_free (get_or-set_same spots f x Free inside) in
+          both_ways _ _ (λ a. now ∙ here ∙ to (subst (λ (h : ℕ). IsFree after h) e a))
+          (λ b. subst (λ (h : ℕ). IsFree after h) (sym e) (from (sym here ∙ sym now ∙ b)))
+      | inr ne ↦
+          let there : g < length spots = subst (λ (n : ℕ). g < n) (length-set spots f x) room in
+          let old : get_or before g false ≡ is_free (spot_at spots g) = ap (λ (l : List Bool). get_or l g false) was ∙ free_at spots g there in
+          let else_ : is_free (spot_at (slice_set spots f x) g) ≡ is_free (spot_at spots g) = ap is_free (get_or-set_other spots f g x Free ne) in
+          both_ways _ _ (λ a. now ∙ else_ ∙ sym old ∙ (others g ne).0 a) (λ b. (others g ne).1 (old ∙ sym else_ ∙ sym now ∙ b))
+    ])
+
+-- after a frame was taken
+pub free_taken : (before after : List Bool) (spots : List Spot) (f : ℕ) (x : Spot) → f < length spots → before ≡ free_of spots
+    → TakesFrames before (record { at = f; order = 0 }) after → is_free x ≡ false → after ≡ free_of (slice_set spots f x)
+free_taken before after spots f x inside was takes used =
+    free_set before after spots f x inside was takes.same_length (λ a. absurd (takes.in_use f (covers_one f) a)) (λ a. absurd (false≢true (sym used ∙ a)))
+    (λ g ne. let o = takes.others g (λ h. ne (one_covered f g h)) in (o.0, o.1))
+
+-- after a frame was given back
+pub free_given : (before after : List Bool) (spots : List Spot) (f : ℕ) (x : Spot) → f < length spots → before ≡ free_of spots
+    → TakesFrames after (record { at = f; order = 0 }) before → is_free x ≡ true → after ≡ free_of (slice_set spots f x)
+free_given before after spots f x inside was gives free =
+    free_set before after spots f x inside was (sym gives.same_length) (λ a. free) (λ a. gives.were_free f (covers_one f))
+    (λ g ne. let o = gives.others g (λ h. ne (one_covered f g h)) in (o.1, o.0))
+
+-- ---- what the zone's seat notes
+
+pub spots_changed : (seat : KnownSeat) (links : List Link) (spots : List Spot) (f : ℕ) (change : FrameNote → FrameNote) (x : Spot) (frames : ℕ)
+    → f < length spots
+    → ((g : ℕ) → g < frames → FitsSpot (note_of seat.view g) (home_of links g) (spot_at spots g))
+    → FitsSpot (change (note_of seat.view f)) (home_of links f) x
+    → (g : ℕ) → g < frames → FitsSpot (note_of (seat_with seat f change).view g) (home_of links g) (spot_at (slice_set spots f x) g)
+spots_changed seat links spots f change x frames inside fits here g within = elim (cases_eq g f) [
+  | inl e ↦ subst (λ (h : ℕ). FitsSpot (note_of (seat_with seat f change).view h) (home_of links h) (spot_at (slice_set spots f x) h)) (sym e)
+      (subst (λ (z : FrameNote × Spot). FitsSpot z.0 (home_of links f) z.1)
+      (λ i. (sym (note_here seat.view f change) i, sym (get_or-set_same spots f x Free inside) i)) here)
+  | inr ne ↦ subst (λ (z : FrameNote × Spot). FitsSpot z.0 (home_of links g) z.1)
+      (λ i. (sym (note_else seat.view f g change ne) i, sym (get_or-set_other spots f g x Free ne) i)) (fits g within)
+]
+
+pub holds_same : (s : KnownSeat) (f : ℕ) (change : FrameNote → FrameNote) → ((k : FrameNote) → (change k).references ≡ k.references)
+    → (g : ℕ) → holds (seat_with s f change) g ≡ holds s g
+holds_same s f change same g = elim (cases_eq g f) [
+  | inl e ↦ subst (λ (h : ℕ). holds (seat_with s f change) h ≡ holds s h) (sym e)
+      (ap (λ (k : FrameNote). k.references) (note_here s.view f change) ∙ same (note_of s.view f))
+  | inr ne ↦ ap (λ (k : FrameNote). k.references) (note_else s.view f g change ne)
+]
+
+-- ---- units and charges, where the frame is charged neither before nor after
+
+module _ (spots : List Spot) (f : ℕ) (x : Spot) (inside : f < length spots) (was : group_of (spot_at spots f) ≡ None) (now : group_of x ≡ None) where
+  -- another frame's record stays, and one that is charged is another's
+  charged_else : (g h : ℕ) → group_of (spot_at (slice_set spots f x) g) ≡ Some h → spot_at (slice_set spots f x) g ≡ spot_at spots g
+  charged_else g h is = elim (cases_eq g f) [
+    | inl e ↦ absurd (none-some h (sym now ∙ sym (ap group_of (get_or-set_same spots f x Free inside))
+        ∙ ap (λ (k : ℕ). group_of (spot_at (slice_set spots f x) k)) (sym e) ∙ is))
+    | inr ne ↦ get_or-set_other spots f g x Free ne
+  ]
+
+  -- a frame that was charged keeps its record
+  charged_stays : (g h : ℕ) → group_of (spot_at spots g) ≡ Some h → spot_at (slice_set spots f x) g ≡ spot_at spots g
+  charged_stays g h is = elim (cases_eq g f) [
+    | inl e ↦ absurd (none-some h (sym was ∙ ap (λ (k : ℕ). group_of (spot_at spots k)) (sym e) ∙ is))
+    | inr ne ↦ get_or-set_other spots f g x Free ne
+  ]
+
+  pub units_stay : AreUnits spots → AreUnits (slice_set spots f x)
+  units_stay units = record {
+    heads = λ g unit is.
+        let old = units.heads g unit (sym (charged_else g unit.group (ap group_of is)) ∙ is) in
+        record {
+          block = subst (λ (n : ℕ). IsBlock n (record { at = g; order = unit.order })) (sym (length-set spots f x)) old.block;
+          tails = λ y from before. charged_stays y unit.group (ap group_of (old.tails y from before)) ∙ old.tails y from before;
+        };
+    tails = λ y g is.
+        let old = units.tails y g (sym (charged_else y g (ap group_of is)) ∙ is) in
+        record {
+          head = old.head;
+          unit = old.unit;
+          heads = charged_stays old.head old.unit.group (ap group_of old.heads) ∙ old.heads;
+          group = old.group;
+          from = old.from;
+          before = old.before;
+        };
+  }
+
+  pub charges_stay : (g : ℕ) → frames_charged (slice_set spots f x) g ≡ frames_charged spots g
+  charges_stay g =
+      ap (λ (n : ℕ). sum_to n (λ y. count_of g (group_of (spot_at (slice_set spots f x) y)))) (length-set spots f x)
+      ∙ sum_same (length spots) (λ y. count_of g (group_of (spot_at (slice_set spots f x) y))) (λ y. count_of g (group_of (spot_at spots y)))
+      (λ y within. elim (cases_eq y f) [
+        | inl e ↦ ap (count_of g) (ap (λ (k : ℕ). group_of (spot_at (slice_set spots f x) k)) e ∙ ap group_of (get_or-set_same spots f x Free inside) ∙ now
+            ∙ sym was ∙ ap (λ (k : ℕ). group_of (spot_at spots k)) (sym e))
+        | inr ne ↦ ap (λ (z : Spot). count_of g (group_of z)) (get_or-set_other spots f y x Free ne)
+      ])

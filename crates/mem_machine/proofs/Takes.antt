@@ -1,0 +1,264 @@
+-- The front of the list of the processor that is visited goes back to the free areas. Serves `take_one_back`.
+use Rattle.std.proofs.Common.{◌≡◌, ℕ, ◌+◌, ◌<◌, ◌≤◌, ◌==◌, Bool, true, false, Option, Some, None, List, [], ◌∷◌, length, get_or, refl, sym, ap, ◌∙◌}
+use Rattle.std.proofs.Common.{subst, inl, inr, arith, eq-eqb}
+use Rattle.std.specs.Prelude.{slice_set, IfSome}
+use Rattle.std.proofs.lemmas.Bool.{cases_eq, ne_eqb, and_from, cond-true, lt-ltb, or_left, false≢true}
+use Rattle.std.proofs.lemmas.List.{length-set}
+use Rattle.zone_blocks.specs.declared.block.Block.{Block}
+use Rattle.zone_blocks.specs.Areas.{AreMaximalBlocks}
+use Rattle.zone_buddy.specs.Zone.{GivesFrames, IsInUse}
+use Rattle.frame_word.specs.declared.view.FrameNote.{FrameNote}
+use Rattle.frame_word.specs.Views.{note_of, gave_back, collected_from}
+use Rattle.frame_word.specs.Seats.{KnownTable, KnownSeat, number_of, seat_with, IsLent, IsBorrowed, Passes, NothingPasses}
+use Rattle.frame_word.proofs.Notes.{note_here, note_else}
+use Rattle.stock_word.specs.Stock.{Words, account_of}
+use Rattle.cpu_part.specs.Cpus.{KnownCpu, IsTied, times}
+use Rattle.cpu_part.specs.Calls.{HandsFront}
+use Rattle.cpu_part.proofs.CallerLemmas.{handed_passes, collected_is_still}
+use Rattle.cpu_part.proofs.Counts.{test, test_here, times_front}
+use Rattle.lru_lists.specs.declared.record.Home.{Home}
+use Rattle.step_rules.specs.declared.phase.Way.TheVariants.{OnList, PassingBack}
+use Rattle.step_rules.specs.declared.phase.Phase.TheVariants as phase
+use Rattle.step_rules.specs.declared.step.Action.TheVariants.{PassBack, Collect}
+use Rattle.step_rules.specs.declared.step.Answer.TheVariants.{Done}
+use Rattle.step_rules.specs.Phases as phases
+use Rattle.step_rules.specs.State.{State, Part, is_frame, without, front_of}
+use Rattle.step_rules.specs.Legal.{is_legal, may_pass_back}
+use Rattle.step_rules.specs.After.{after, without_frame}
+use Rattle.step_rules.proofs.Basics.{at_same}
+use Rattle.mem_machine.specs.declared.spot.Spot.{Spot}
+use Rattle.mem_machine.specs.declared.spot.Spot.TheVariants.{Free, Lent, Head, Tail}
+use Rattle.mem_machine.specs.Spots.{spot_at, is_free, free_of, group_of, head_group_of, lent_to}
+use Rattle.mem_machine.specs.Machines.{KnownMachine, FitsSpot, IsConsistent, IsSeated, Visits, home_of}
+use Rattle.mem_machine.specs.Lending.{TakesOneBack, TakesNoneBack}
+use Rattle.mem_machine.specs.Local.{local_of, phase_of, part_of, part_with, Reaches}
+use Rattle.mem_machine.proofs.Reaching.{zone_step, cpu_step, one_step, step_before}
+use Rattle.mem_machine.proofs.Holds.{zone_may_act, visits_open, seated_cpu}
+use Rattle.mem_machine.proofs.Records.{free_at, one_covered, length_free, free_given, spots_changed, holds_same, units_stay, charges_stay}
+use Rattle.mem_machine.proofs.Lends.{parts_changed, references_stay, lent_listed, phases_changed}
+
+-- a list that hasn't the frame stays without it
+without_none : (f : ℕ) (xs : List ℕ) → times f xs ≡ 0 → without f xs ≡ xs
+without_none f [] none = refl
+without_none f (x ∷ xs) none = elim (cases_eq x f) [
+  | inl e ↦
+      let a = times_front f x xs in let b = test_here f in
+      let c : test f x ≡ test f f = ap (test f) e in absurd (omega (arith, a, b, c, none))
+  | inr ne ↦
+      let a = times_front f x xs in
+      let u : (x == f) ≡ false = ne_eqb x f ne in
+      let rest : without f xs ≡ xs = without_none f xs (omega (arith, a, none)) in
+      rw u (ap (λ (l : List ℕ). x ∷ l) rest)
+]
+
+without_here : (f : ℕ) (rest : List ℕ) → times f rest ≡ 0 → without f (f ∷ rest) ≡ rest
+without_here f rest none = let t : (f == f) ≡ true = eq-eqb f f refl in rw t (without_none f rest none)
+
+-- the frame that stands in front alone is gone
+without_front : (f : ℕ) (xs rest : List ℕ) → xs ≡ f ∷ rest → times f rest ≡ 0 → without f xs ≡ rest
+without_front f xs rest front none =
+    ap (without f) front ∙ without_here f rest none
+
+-- a frame that is lent to a processor has the record of one
+lent_spot : (x : Spot) (p : ℕ) → 1 ≤ p → p ≡ lent_to x → x ≡ Lent p
+lent_spot (Lent q) p some is = ap Lent (sym is)
+lent_spot x p some is = absurd (omega (arith, some, is))
+
+module _ (t : KnownTable) (w : Words) (m : KnownMachine) (c : KnownCpu) (tied : IsTied t w c) (ok : IsConsistent t w m) (visit : Visits t m c)
+    (f : ℕ) (rest : List ℕ) (front : c.list ≡ f ∷ rest) (inside : f < t.frames) (lent : IsLent m.seat f c.number) where
+  within : f < length m.spots
+  within = let s = ok.sizes.spots in omega (arith, s, inside)
+
+  pub is_lent_spot : spot_at m.spots f ≡ Lent c.number
+  is_lent_spot = lent_spot (spot_at m.spots f) c.number tied.seats.some_number (sym lent ∙ (ok.spots f inside).lent)
+
+  -- the frame stands on the list once, and on no other list
+  listed_once : times f c.list ≡ 1 + times f rest
+  listed_once = let a = ap (times f) front ∙ times_front f f rest in let b = test_here f in omega (arith, a, b)
+
+  none_in_rest : times f rest ≡ 0
+  none_in_rest = let a = listed_once in let n = tied.noted f in let b = n.borrowed_is in let o = n.own_is in let h = n.once in omega (arith, a, b, o, h)
+
+  none_fresh : times f c.fresh ≡ 0
+  none_fresh = let a = listed_once in let n = tied.noted f in let b = n.borrowed_is in let o = n.own_is in let h = n.once in omega (arith, a, b, o, h)
+
+  none_back : times f c.back ≡ 0
+  none_back = let a = listed_once in let n = tied.noted f in let b = n.borrowed_is in let o = n.own_is in let h = n.once in omega (arith, a, b, o, h)
+
+  seated : IsSeated t c
+  seated = record { some_number = tied.seats.some_number; cpus = tied.seats.frame_cpus }
+
+  -- a lent frame has no list
+  homeless : (h : Option Home) → IfSome h (λ x. (x.owner < 64) × (head_group_of (Lent c.number) ≡ Some x.owner))
+      → IfSome h (λ x. (x.owner < 64) × (head_group_of Free ≡ Some x.owner))
+  homeless None is = tt
+  homeless (Some x) is = is
+
+  taken_fits : FitsSpot (collected_from c.number (note_of m.seat.view f)) (home_of m.links f) Free
+  taken_fits =
+      let old : FitsSpot (note_of m.seat.view f) (home_of m.links f) (Lent c.number) =
+      subst (λ (x : Spot). FitsSpot (note_of m.seat.view f) (home_of m.links f) x) is_lent_spot (ok.spots f inside) in
+      record { own = refl; lent = refl; references = old.references; kept = homeless (home_of m.links f) old.kept }
+
+  pub take_consistent : (blocks : List Block) → AreMaximalBlocks (free_of (slice_set m.spots f Free)) blocks
+      → IsConsistent t w (record m { blocks = blocks; spots = slice_set m.spots f Free; seat = seat_with m.seat f (collected_from c.number) })
+  take_consistent blocks areas = record {
+    sizes = let s = ok.sizes in record {
+      spots = length-set m.spots f Free ∙ s.spots;
+      links = s.links;
+      lists = s.lists;
+      killed = s.killed;
+      cpus = s.cpus;
+    };
+    seats = let s = ok.seats in record { frames = s.frames; table = s.table; stocks = s.stocks };
+    areas = areas;
+    spots = spots_changed m.seat m.links m.spots f (collected_from c.number) Free t.frames within ok.spots taken_fits;
+    units = units_stay m.spots f Free within (ap group_of is_lent_spot) refl ok.units;
+    lists = ok.lists;
+    noted = ok.noted;
+    charged = λ g. let a = ok.charged g in let b = charges_stay m.spots f Free within (ap group_of is_lent_spot) refl g in omega (arith, a, b);
+  }
+
+  -- what was not lent before isn't after
+  not_lent_to : (0 ≡ number_of c.seat) → ⊥
+  not_lent_to is = let a = tied.seats.frame_number in let b = tied.seats.some_number in omega (arith, a, b, is)
+
+  no_one : ◌≡◌ {A = ℕ} 0 1 → ⊥
+  no_one is = omega (arith, is)
+
+  pub take_visits : (blocks : List Block) → Visits t
+      (record m { blocks = blocks; spots = slice_set m.spots f Free; seat = seat_with m.seat f (collected_from c.number) })
+      (record c { list = rest; seat = seat_with c.seat f gave_back })
+  take_visits blocks = record {
+    is_open = visit.is_open;
+    still = collected_is_still t m.seat c.seat c.number tied.seats.frame_number f visit.still (seat_with c.seat f gave_back)
+        (seat_with m.seat f (collected_from c.number)) refl refl;
+    lent = λ g inside. elim (cases_eq g f) [
+      | inl e ↦ subst (λ (h : ℕ). (IsLent (seat_with m.seat f (collected_from c.number)) h (number_of c.seat) → IsBorrowed (seat_with c.seat f gave_back) h)
+          × (IsBorrowed (seat_with c.seat f gave_back) h → IsLent (seat_with m.seat f (collected_from c.number)) h (number_of c.seat))) (sym e) (
+            λ a. absurd (not_lent_to (sym (ap (λ (k : FrameNote). k.lent) (note_here m.seat.view f (collected_from c.number))) ∙ a)),
+            λ a. absurd (no_one (sym (ap (λ (k : FrameNote). k.borrowed) (note_here c.seat.view f gave_back)) ∙ a)),
+          )
+      | inr ne ↦ subst (λ (k : FrameNote × FrameNote). (k.0.lent ≡ number_of c.seat → k.1.borrowed ≡ 1) × (k.1.borrowed ≡ 1 → k.0.lent ≡ number_of c.seat))
+          (λ i. (sym (note_else m.seat.view f g (collected_from c.number) ne) i, sym (note_else c.seat.view f g gave_back ne) i)) (visit.lent g inside)
+    ];
+  }
+
+  same_phase : (g : ℕ) (y : Spot) → phase_of (record c { list = rest; seat = seat_with c.seat f gave_back }) g y ≡ phase_of c g y
+  same_phase g Free = refl
+  same_phase g (Lent q) = refl
+  same_phase g (Head unit) = refl
+  same_phase g (Tail h) = refl
+
+  pub take_reaches : (blocks : List Block) → Reaches c.number (local_of t m c)
+      (local_of t (record m { blocks = blocks; spots = slice_set m.spots f Free; seat = seat_with m.seat f (collected_from c.number) })
+      (record c { list = rest; seat = seat_with c.seat f gave_back }))
+  take_reaches blocks =
+      let p = c.number in
+      let s = local_of t m c in
+      let d : KnownCpu = record c { list = rest; seat = seat_with c.seat f gave_back } in
+      let was : s.phases f ≡ phase.Lent p OnList = ap (phase_of c f) is_lent_spot ∙ lent_listed c f p none_fresh in
+      let own : part_of m.stock c p ≡ part_with c.list c.fresh c.back (account_of m.stock.view p) = cond-true (p == p)
+      (part_with c.list c.fresh c.back (account_of m.stock.view p)) (part_with [] [] [] (account_of m.stock.view p)) (eq-eqb p p refl) in
+      let framed : is_frame s.zone f ≡ true = lt-ltb f t.frames inside in
+      let fronted : (front_of (part_of m.stock c p).list == f) ≡ true =
+      ap (λ (x : Part). front_of x.list == f) own ∙ ap (λ (l : List ℕ). front_of l == f) front ∙ eq-eqb f f refl in
+      let listed : phases.has_as phases.Listed p (s.phases f) ≡ true = ap (phases.has_as phases.Listed p) was ∙ eq-eqb p p refl in
+      let may_back : may_pass_back s p f ≡ true = or_left _ _ (or_left _ _ (and_from _ _ listed fronted)) in
+      let may_pass : is_legal s p (PassBack f) ≡ true =
+      and_from _ _ (and_from _ _ (and_from _ _ (seated_cpu t c seated) framed) (visits_open m.seat p visit.is_open)) may_back in
+      let mid : State = after s p (PassBack f) Done in
+      let passing : mid.phases f ≡ phase.Lent p PassingBack = at_same s.phases f (phases.passed_back (s.phases f)) ∙ ap phases.passed_back was in
+      let returns : phases.passes_back p (mid.phases f) ≡ true = ap (phases.passes_back p) passing ∙ eq-eqb p p refl in
+      let may_collect : is_legal mid 0 (Collect f p) ≡ true =
+      and_from _ _ (and_from _ _ (and_from _ _ (zone_may_act m.seat p) framed) (seated_cpu t c seated)) returns in
+      let ph = phases_changed c d m.spots f Free (phases.passed_back (s.phases f)) (phases.collected (mid.phases f)) within
+      (sym (ap phases.collected passing)) (λ g y ne. same_phase g y) in
+      let re = references_stay m.seat (seat_with m.seat f (collected_from p)) c.seat (seat_with c.seat f gave_back) p
+      (holds_same m.seat f (collected_from p) (λ k. refl)) (holds_same c.seat f gave_back (λ k. refl)) in
+      let gone : part_with rest c.fresh c.back (account_of m.stock.view p) ≡ without_frame (part_of m.stock c p) (s.phases f) p f =
+      sym ((λ i. without_frame (own i) (was i) p f)
+      ∙ (λ i. record (part_with rest c.fresh c.back (account_of m.stock.view p)) {
+        list = without_front f c.list rest front none_in_rest i;
+        fresh = without_none f c.fresh none_fresh i;
+        back = without_none f c.back none_back i;
+      })) in
+      let pa = parts_changed m.stock c rest c.fresh c.back _ gone in
+      step_before p s _ p (PassBack f) Done (cpu_step s p (PassBack f) Done refl may_pass tt)
+      (one_step p mid _ 0 (Collect f p) Done (zone_step mid p (Collect f p) Done refl may_collect tt)
+      (λ i. record s { phases = λ g. ph g i; references = λ q x. re q x i; parts = λ q. pa q i }))
+
+-- all of it, of the machine as it was seen before
+pub record AllTaken (t : KnownTable) (w : Words) (now : KnownMachine) (c : KnownCpu) (n : KnownMachine) (d : KnownCpu) (free : List Bool) : Type 0 where
+  pub consistent : IsConsistent t w n
+  pub free_is : free ≡ free_of n.spots
+  pub takes : TakesOneBack now c n d
+  pub visit : Visits t n d
+  pub steps : Reaches c.number (local_of t now c) (local_of t n d)
+
+pub take_all : (t : KnownTable) (w : Words) (m now : KnownMachine) → m ≡ now → (c h d : KnownCpu) → IsTied t w c → IsConsistent t w m → Visits t now c
+    → (before free : List Bool) (k : ℕ) (blocks : List Block) (f i : ℕ) (seat : KnownSeat)
+    → before ≡ free_of m.spots → k ≡ 0 → GivesFrames before (record { at = i; order = k }) free → AreMaximalBlocks free blocks
+    → f < t.frames → IsLent m.seat f c.number → i ≡ f → HandsFront f c h → seat ≡ seat_with m.seat f (collected_from h.number) → d ≡ h
+    → AllTaken t w now c (record m { blocks = blocks; spots = slice_set m.spots i Free; seat = seat }) d free
+take_all t w m now same c h d tied ok visit_now before free k blocks f i seat was zero_is gives areas inside lent index hands collected stays =
+    let visit : Visits t m c = subst (λ (x : KnownMachine). Visits t x c) (sym same) visit_now in
+    let rest = hands.0 in
+    let e : KnownCpu = record c { list = rest; seat = seat_with c.seat f gave_back } in
+    let n : KnownMachine = record m { blocks = blocks; spots = slice_set m.spots f Free; seat = seat_with m.seat f (collected_from c.number) } in
+    let gives_f : GivesFrames before (record { at = f; order = 0 }) free =
+    subst (λ (x : ℕ × ℕ). GivesFrames before (record { at = x.0; order = x.1 }) free) (λ j. (index j, zero_is j)) gives in
+    let sized = ok.sizes.spots in
+    let within : f < length m.spots = omega (arith, inside, sized) in
+    let free_is : free ≡ free_of (slice_set m.spots f Free) = free_given before free m.spots f Free within was gives_f refl in
+    let areas_f : AreMaximalBlocks (free_of (slice_set m.spots f Free)) blocks = subst (λ (l : List Bool). AreMaximalBlocks l blocks) free_is areas in
+    let all : AllTaken t w m c n e free = record {
+      consistent = take_consistent t w m c tied ok visit f rest hands.1 inside lent blocks areas_f;
+      free_is = free_is;
+      takes = record { frame = f; rest = rest; front = hands.1; areas = areas_f; machine = refl; cpu = refl };
+      visit = take_visits t w m c tied ok visit f rest hands.1 inside lent blocks;
+      steps = take_reaches t w m c tied ok visit f rest hands.1 inside lent blocks;
+    } in
+    let number : h.number ≡ c.number = ap (λ (x : KnownCpu). x.number) hands.2 in
+    subst (λ (x : KnownMachine × KnownMachine × KnownCpu). AllTaken t w x.0 c x.1 x.2 free)
+    (λ j. (
+      same j,
+      record m {
+        blocks = blocks;
+        spots = slice_set m.spots (sym index j) Free;
+        seat = sym (collected ∙ ap (λ (x : ℕ). seat_with m.seat f (collected_from x)) number) j;
+      },
+      sym (stays ∙ hands.2) j,
+    )) all
+
+-- ---- what the steps on the way ask for
+
+-- the list is empty
+pub taken_none : (m now : KnownMachine) → m ≡ now → (c d : KnownCpu) (seat : KnownSeat) → (c.list ≡ []) × (d ≡ c) → seat ≡ m.seat
+    → TakesNoneBack now c (record m { seat = seat }) d
+taken_none m now same c d seat none is = record { none = none.0; machine = (λ i. record m { seat = is i }) ∙ same; cpu = none.1 }
+
+-- the frame passes for the processor once it was handed
+pub passes_back_to : (t : KnownTable) (w : Words) (m now : KnownMachine) → m ≡ now → (c h : KnownCpu) → IsTied t w c → Visits t now c
+    → (f : ℕ) (seat : KnownSeat)
+    → f < t.frames → HandsFront f c h → seat ≡ m.seat → Passes seat h.seat f
+passes_back_to t w m now same c h tied visit f seat inside hands is =
+    subst (λ (s : KnownSeat). Passes s h.seat f) (sym is)
+    (handed_passes t m.seat c.seat c.number tied.seats.frame_number f (subst (λ (x : KnownMachine). NothingPasses t x.seat c.seat)
+    (sym same) visit.still) h.seat
+    (ap (λ (x : KnownCpu). x.seat) hands.2) inside)
+
+-- its frame may be given back
+pub may_give : (t : KnownTable) (w : Words) (m : KnownMachine) (c : KnownCpu) → IsTied t w c → IsConsistent t w m → (before : List Bool) (f i k : ℕ)
+    → before ≡ free_of m.spots → f < t.frames → IsLent m.seat f c.number → i ≡ f → k ≡ 0 → IsInUse before (record { at = i; order = k })
+may_give t w m c tied ok before f i k was inside lent index zero_is =
+    let sized = ok.sizes.spots in
+    let within : f < length m.spots = omega (arith, inside, sized) in
+    let spot : spot_at m.spots f ≡ Lent c.number = lent_spot (spot_at m.spots f) c.number tied.seats.some_number (sym lent ∙ (ok.spots f inside).lent) in
+    let used : get_or before f false ≡ false = ap (λ (l : List Bool). get_or l f false) was ∙ free_at m.spots f within ∙ ap is_free spot in
+    let long : length before ≡ length m.spots = ap length was ∙ length_free m.spots in
+    subst (λ (x : ℕ × ℕ). IsInUse before (record { at = x.0; order = x.1 })) (λ j. (sym index j, sym zero_is j))
+    (record {
+      block = record { order = omega arith; aligned = omega arith; inside = omega (arith, long, within) };
+      none_free = λ g covers is. false≢true (sym used ∙ ap (λ (x : ℕ). get_or before x false) (sym (one_covered f g covers)) ∙ is);
+    })

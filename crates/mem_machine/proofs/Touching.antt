@@ -1,0 +1,94 @@
+-- A unit is touched. Serves `touch`.
+use Rattle.std.proofs.Common.{◌≡◌, ◌≢◌, ℕ, ◌<◌, Some, List, length, get_or, refl, sym, ap, ◌∙◌, subst, arith}
+use Rattle.std.specs.Prelude.{slice_set}
+use Rattle.std.proofs.lemmas.List.{get_or-set_same, get_or-set_other, length-set}
+use Rattle.frame_word.specs.Views.{note_of}
+use Rattle.frame_word.specs.Seats.{KnownTable}
+use Rattle.stock_word.specs.Stock.{Words}
+use Rattle.lru_lists.specs.declared.record.Link.{Link}
+use Rattle.lru_lists.specs.declared.record.Home.{Home}
+use Rattle.lru_lists.specs.declared.record.LruList.TheVariants.{Inactive, Active}
+use Rattle.lru_lists.specs.declared.lru.Lru.{Lru}
+use Rattle.lru_lists.specs.declared.lru.Touched.{Touched}
+use Rattle.lru_lists.specs.Lists.{OthersStand, OneOfAllChanges, StandsIn, AllStand, ChangesOwn, Touches, entries_of, list_of}
+use Rattle.cpu_part.specs.Cpus.{KnownCpu}
+use Rattle.mem_machine.specs.Spots.{spot_at}
+use Rattle.mem_machine.specs.Machines.{KnownMachine, IsConsistent, home_of, no_lists}
+use Rattle.mem_machine.specs.Marks.{TouchesUnit}
+use Rattle.mem_machine.specs.Local.{local_of, Reaches}
+use Rattle.mem_machine.proofs.Reaching.{no_steps}
+use Rattle.mem_machine.proofs.Listed.{touched_owners, fits_home}
+use Rattle.mem_machine.proofs.Dirties.{owner_bound, on_list, owned, stands, its_lists}
+
+module _ (t : KnownTable) (w : Words) (m : KnownMachine) (ok : IsConsistent t w m) (f : ℕ) (inside : f < t.frames) (h : Home)
+    (home : home_of m.links f ≡ Some h)
+    (lru : Lru) (read : lru ≡ get_or m.lists h.owner lru) (links : List Link) (new : Lru) (touched : Touched) (now_stands : StandsIn links new)
+    (owner : new.owner ≡ lru.owner) (touches : Touches m.links lru f touched links new) (changes : ChangesOwn m.links links lru.owner)
+    (others_stand : OthersStand) (one_of_all_changes : OneOfAllChanges) where
+  bound : h.owner < length m.lists
+  bound = let a = owner_bound t w m ok f h inside home in let b = ok.sizes.lists in omega (arith, a, b)
+
+  own : lru.owner ≡ h.owner
+  own = owned t w m ok f inside h home lru read
+
+  all_stand : AllStand links (slice_set m.lists h.owner new)
+  all_stand = subst (λ (k : ℕ). AllStand links (slice_set m.lists k new)) (owner ∙ own)
+      (one_of_all_changes m.links links m.lists new ok.lists (subst (λ (k : ℕ). k < length m.lists) (sym (owner ∙ own)) bound) now_stands
+      (subst (ChangesOwn m.links links) (sym owner) changes))
+
+  pub touch_consistent : IsConsistent t w (record m { links = links; lists = slice_set m.lists h.owner new })
+  touch_consistent = record {
+    sizes = let s = ok.sizes in record {
+      spots = s.spots;
+      links = changes.frames ∙ s.links;
+      lists = length-set m.lists h.owner new ∙ s.lists;
+      killed = s.killed;
+      cpus = s.cpus;
+    };
+    seats = ok.seats;
+    areas = ok.areas;
+    spots = λ g within. fits_home (note_of m.seat.view g) (home_of m.links g) (home_of links g) (spot_at m.spots g)
+        (touched_owners m.links links lru new f touched (stands t w m ok f inside h home lru read) now_stands owner changes
+        (λ none. on_list m.links f h home (ap (λ (k : ℕ). list_of m.links k f) (sym own) ∙ none)) touches g) (ok.spots g within);
+    units = ok.units;
+    lists = all_stand;
+    noted = ok.noted;
+    charged = ok.charged;
+  }
+
+  pub touch_does : TouchesUnit m f touched (record m { links = links; lists = slice_set m.lists h.owner new })
+  touch_does = record {
+    group = h.owner;
+    list = h.list;
+    stands = home;
+    machine = refl;
+    touches = subst (λ (x : Lru × Lru). Touches m.links x.0 f touched links x.1)
+        (λ i. (sym (its_lists t w m ok f inside h home lru read) i, sym (get_or-set_same m.lists h.owner new no_lists bound) i)) touches;
+    others = λ g within ne.
+        let sized = ok.sizes.lists in
+        let there : g < length m.lists = omega (arith, within, sized) in
+        let apart : (get_or m.lists g no_lists).owner ≢ lru.owner = λ e. ne (sym (ok.lists g no_lists there).0 ∙ e ∙ own) in
+        let same = (others_stand m.links links lru.owner (get_or m.lists g no_lists) changes apart (ok.lists g no_lists there).1).1 in
+        let stays : get_or (slice_set m.lists h.owner new) g no_lists ≡ get_or m.lists g no_lists = get_or-set_other m.lists h.owner g new no_lists ne in
+        (ap (λ (x : Lru). entries_of links x Inactive) stays ∙ same Inactive, ap (λ (x : Lru). entries_of links x Active) stays ∙ same Active);
+  }
+
+-- all of it, of the machine as it was seen before
+pub record AllTouched (t : KnownTable) (w : Words) (now : KnownMachine) (f : ℕ) (touched : Touched) (n : KnownMachine) : Type 0 where
+  pub consistent : IsConsistent t w n
+  pub touches : TouchesUnit now f touched n
+  pub steps : (c : KnownCpu) → Reaches c.number (local_of t now c) (local_of t n c)
+
+pub touch_all : (t : KnownTable) (w : Words) (m now : KnownMachine) → m ≡ now → IsConsistent t w m → (f i : ℕ) → f < t.frames → i ≡ f → (h : Home)
+    → Some h ≡ home_of m.links i → (lru : Lru) → lru ≡ get_or m.lists h.owner lru → (links : List Link) (new : Lru) (touched : Touched) → StandsIn links new
+    → new.owner ≡ lru.owner → Touches m.links lru i touched links new → ChangesOwn m.links links lru.owner
+    → OthersStand → OneOfAllChanges → AllTouched t w now f touched (record m { links = links; lists = slice_set m.lists h.owner new })
+touch_all t w m now same ok f i inside is h home lru read links new touched now_stands owner touches changes others all =
+    let at : home_of m.links f ≡ Some h = ap (home_of m.links) (sym is) ∙ sym home in
+    let told : Touches m.links lru f touched links new = subst (λ (k : ℕ). Touches m.links lru k touched links new) is touches in
+    let n : KnownMachine = record m { links = links; lists = slice_set m.lists h.owner new } in
+    subst (λ (x : KnownMachine). AllTouched t w x f touched n) same (record {
+      consistent = touch_consistent t w m ok f inside h at lru read links new touched now_stands owner told changes others all;
+      touches = touch_does t w m ok f inside h at lru read links new touched now_stands owner told changes others all;
+      steps = λ c. no_steps c.number (local_of t m c) (local_of t n c) refl;
+    })

@@ -1,0 +1,65 @@
+use Rattle.std.proofs.Common.{◌≡◌, ◌≤◌, ℕ, Some, rules, ap, ◌∙◌}
+use Rattle.group_charge.specs.Charges.{with_uncharge}
+use Rattle.mem_machine.proofs.Draining.{drained_all, drained_none, drained_within, some_not_none}
+use Rattle.mem_machine.proofs.machine.Machine.drain_of.Goals as goal
+
+pub uncharge-requires-clause-there : goal.uncharge-requires-clause-there
+uncharge-requires-clause-there g c =
+    let id : c.unwrap.result ≡ c.args.group = search rules in
+    let some : 1 ≤ c.drain-pages.result = search rules in
+    (drained_within g.N.BootName.frames g.N.BootName.stocks _ _ c.self.view_is c.self.invariant.0 c.tree-tree.ensures.legal _ _
+    c.requires.processor.1 c.drain-pages.ensures.booked
+    _ c.requires.group some _ id).0
+
+pub uncharge-requires-clause-charged : goal.uncharge-requires-clause-charged
+uncharge-requires-clause-charged g c =
+    let id : c.unwrap.result ≡ c.args.group = search rules in
+    let some : 1 ≤ c.drain-pages.result = search rules in
+    (drained_within g.N.BootName.frames g.N.BootName.stocks _ _ c.self.view_is c.self.invariant.0 c.tree-tree.ensures.legal _ _
+    c.requires.processor.1 c.drain-pages.ensures.booked
+    _ c.requires.group some _ id).1
+
+pub invariant_of-self : goal.invariant_of-self
+invariant_of-self g c =
+    let id : c.unwrap.result ≡ c.args.group = search rules in (
+      (drained_all g.N.BootName.frames g.N.BootName.stocks _ _ _ _ c.self.view_is c.self.invariant.0
+          (λ some. c.tree-tree.ensures.legal) c.requires.processor.0 c.requires.processor.1
+          c.drain-pages.ensures.booked c.drain-pages.ensures.drained_before (Some c.args.group) c.requires.group (some_not_none _ _) _ _
+          (c.uncharge.ensures.uncharged ∙ ap (λ (n : ℕ). with_uncharge c.self.inside.charges n c.drain-pages.result) id)
+          c.drain-pages.ensures.machine).consistent,
+      c.self.invariant.1,
+    )
+
+pub invariant_of-self-else-pages-gt0 : goal.invariant_of-self-else-pages-gt0
+invariant_of-self-else-pages-gt0 g c =
+    let none : c.drain-pages.result ≡ 0 = search rules in (
+      (drained_all g.N.BootName.frames g.N.BootName.stocks _ _ _ _ c.self.view_is c.self.invariant.0
+          (λ some. c.tree-tree.ensures.legal) c.requires.processor.0 c.requires.processor.1
+          c.drain-pages.ensures.booked c.drain-pages.ensures.drained_before (Some c.args.group) c.requires.group (some_not_none _ _) _ _
+          (drained_none c.self.inside.charges (Some c.args.group) _ none) c.drain-pages.ensures.machine).consistent,
+      c.self.invariant.1,
+    )
+
+pub returns-then-pages-gt0-clause-steps : goal.returns-then-pages-gt0-clause-steps
+returns-then-pages-gt0-clause-steps g c =
+    let id : c.unwrap.result ≡ c.args.group = search rules in
+    (drained_all g.N.BootName.frames g.N.BootName.stocks _ _ _ _ c.self.view_is c.self.invariant.0
+    (λ some. c.tree-tree.ensures.legal) c.requires.processor.0 c.requires.processor.1
+    c.drain-pages.ensures.booked c.drain-pages.ensures.drained_before (Some c.args.group) c.requires.group (some_not_none _ _) _ _
+    (c.uncharge.ensures.uncharged ∙ ap (λ (n : ℕ). with_uncharge c.self.inside.charges n c.drain-pages.result) id) c.drain-pages.ensures.machine).steps
+
+pub returns-else-pages-gt0-clause-drains : goal.returns-else-pages-gt0-clause-drains
+returns-else-pages-gt0-clause-drains g c =
+    let none : c.drain-pages.result ≡ 0 = search rules in
+    (drained_all g.N.BootName.frames g.N.BootName.stocks _ _ _ _ c.self.view_is c.self.invariant.0
+    (λ some. c.tree-tree.ensures.legal) c.requires.processor.0 c.requires.processor.1
+    c.drain-pages.ensures.booked c.drain-pages.ensures.drained_before (Some c.args.group) c.requires.group (some_not_none _ _) _ _
+    (drained_none c.self.inside.charges (Some c.args.group) _ none) c.drain-pages.ensures.machine).drains
+
+pub returns-else-pages-gt0-clause-steps : goal.returns-else-pages-gt0-clause-steps
+returns-else-pages-gt0-clause-steps g c =
+    let none : c.drain-pages.result ≡ 0 = search rules in
+    (drained_all g.N.BootName.frames g.N.BootName.stocks _ _ _ _ c.self.view_is c.self.invariant.0
+    (λ some. c.tree-tree.ensures.legal) c.requires.processor.0 c.requires.processor.1
+    c.drain-pages.ensures.booked c.drain-pages.ensures.drained_before (Some c.args.group) c.requires.group (some_not_none _ _) _ _
+    (drained_none c.self.inside.charges (Some c.args.group) _ none) c.drain-pages.ensures.machine).steps

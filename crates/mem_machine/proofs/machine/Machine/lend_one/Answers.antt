@@ -1,0 +1,67 @@
+use Rattle.std.proofs.Common.{◌≡◌, ◌<◌, ◌≤◌, rules, ap, arith}
+use Rattle.zone_buddy.specs.Zone.{Zone}
+use Rattle.mem_machine.proofs.Lends.{lend_all, lent_to_none, block_inside, zone_hand, passes_to, lent_to_it}
+use Rattle.mem_machine.proofs.machine.Machine.lend_one.Goals as goal
+
+pub returns-in_default-clause-lends : goal.returns-in_default-clause-lends
+returns-in_default-clause-lends g c =
+    let k0 : c.unwrap.result ≡ 0 = search rules in
+    lent_to_none _ _ c.self.view_is _ _ c.unwrap.result k0 c.in_default.ensures.taken (ap (λ (z : Zone). z.blocks) c.in_default.ensures.none)
+
+pub pass_out-requires-clause-hand : goal.pass_out-requires-clause-hand
+pass_out-requires-clause-hand g c =
+    let k0 : c.unwrap.result ≡ 0 = search rules in
+    let there = block_inside _ _ _ _ c.unwrap.result c.in-Some.block c.self.invariant.1 k0 c.in-Some.ensures.taken c.in-Some.ensures.frames in
+    zone_hand _ _ _ c.self.invariant.0 _ _ there.0 there.1 c.in-Some-frame.ensures.0
+
+pub accept-requires-clause-passes : goal.accept-requires-clause-passes
+accept-requires-clause-passes g c =
+    let inside : c.in-Some-frame.frame < g.N.BootName.frames.frames = search rules in
+    passes_to _ _ _ _ c.self.view_is c.args.cpu.now c.number-number.ensures.tied c.requires.visit _ _ _ inside c.number-number.ensures.number
+    c.pass_out.ensures.zone
+
+pub accept-requires-clause-lent : goal.accept-requires-clause-lent
+accept-requires-clause-lent g c = lent_to_it _ _ _ _ _ c.number-number.ensures.number c.pass_out.ensures.zone
+
+pub invariant_of-self-2 : goal.invariant_of-self-2
+invariant_of-self-2 g c =
+    let k0 : c.unwrap.result ≡ 0 = search rules in
+    let all = (lend_all g.N.BootName.frames g.N.BootName.stocks _ _ c.self.view_is c.args.cpu.now _ c.number-number.ensures.tied c.self.invariant.0
+    c.requires.visit _ _
+    c.unwrap.result c.in-Some.block _ c.in-Some-frame.frame _ c.number-number.result _ _ c.self.invariant.1 k0 c.in-Some.ensures.taken c.in-Some.ensures.frames
+    c.in-Some.ensures.areas c.in-Some-frame.ensures.0 c.number.ensures c.number-number.ensures.number c.pass_out.ensures.zone c.accept.ensures.zone
+    c.accept.ensures.cpu c.accept.ensures.nothing.1.1) in
+    (all.consistent, all.free_is)
+
+pub returns-clause-lends : goal.returns-clause-lends
+returns-clause-lends g c =
+    let k0 : c.unwrap.result ≡ 0 = search rules in
+    (lend_all g.N.BootName.frames g.N.BootName.stocks _ _ c.self.view_is c.args.cpu.now _ c.number-number.ensures.tied c.self.invariant.0 c.requires.visit _ _
+    c.unwrap.result c.in-Some.block _ c.in-Some-frame.frame _ c.number-number.result _ _ c.self.invariant.1 k0 c.in-Some.ensures.taken c.in-Some.ensures.frames
+    c.in-Some.ensures.areas c.in-Some-frame.ensures.0 c.number.ensures c.number-number.ensures.number c.pass_out.ensures.zone c.accept.ensures.zone
+    c.accept.ensures.cpu c.accept.ensures.nothing.1.1).lends
+
+pub returns-clause-visit : goal.returns-clause-visit
+returns-clause-visit g c =
+    let k0 : c.unwrap.result ≡ 0 = search rules in
+    (lend_all g.N.BootName.frames g.N.BootName.stocks _ _ c.self.view_is c.args.cpu.now _ c.number-number.ensures.tied c.self.invariant.0 c.requires.visit _ _
+    c.unwrap.result c.in-Some.block _ c.in-Some-frame.frame _ c.number-number.result _ _ c.self.invariant.1 k0 c.in-Some.ensures.taken c.in-Some.ensures.frames
+    c.in-Some.ensures.areas c.in-Some-frame.ensures.0 c.number.ensures c.number-number.ensures.number c.pass_out.ensures.zone c.accept.ensures.zone
+    c.accept.ensures.cpu c.accept.ensures.nothing.1.1).visit
+
+pub returns-clause-steps : goal.returns-clause-steps
+returns-clause-steps g c =
+    let k0 : c.unwrap.result ≡ 0 = search rules in
+    (lend_all g.N.BootName.frames g.N.BootName.stocks _ _ c.self.view_is c.args.cpu.now _ c.number-number.ensures.tied c.self.invariant.0 c.requires.visit _ _
+    c.unwrap.result c.in-Some.block _ c.in-Some-frame.frame _ c.number-number.result _ _ c.self.invariant.1 k0 c.in-Some.ensures.taken c.in-Some.ensures.frames
+    c.in-Some.ensures.areas c.in-Some-frame.ensures.0 c.number.ensures c.number-number.ensures.number c.pass_out.ensures.zone c.accept.ensures.zone
+    c.accept.ensures.cpu c.accept.ensures.nothing.1.1).steps
+
+pub unreachable-requires : goal.unreachable-requires
+unreachable-requires g c =
+    let k0 : c.unwrap.result ≡ 0 = search rules in
+    let there = block_inside _ _ _ _ c.unwrap.result c.in-Some.block c.self.invariant.1 k0 c.in-Some.ensures.taken c.in-Some.ensures.frames in
+    let past : g.N.BootName.frames.frames ≤ c.in-Some.block.at = search rules in
+    let inside = there.0 in
+    let sized = c.self.invariant.0.sizes.spots in
+    omega (arith, past, inside, sized)

@@ -1,0 +1,7 @@
+pub mod Spots
+pub mod Machines
+pub mod Local
+pub mod Start
+pub mod Lending
+pub mod Stocks
+pub mod Marks

@@ -1,0 +1,145 @@
+-- What a contract sees of the machine, and what always holds of it.
+use Rattle.std.specs.Prelude.{◌≡◌, ℕ, ◌+◌, ◌<◌, ◌≤◌, ◌==◌, Bool, false, Option, Some, None, is_some, IfSome, List, length, replicate, slice_set, if◌then◌else◌}
+use Rattle.std.specs.List.{slice_index_or}
+use Rattle.zone_blocks.specs.declared.block.Block.{Block}
+use Rattle.zone_blocks.specs.Areas.{AreMaximalBlocks}
+use Rattle.frame_word.specs.declared.view.FrameNote.{FrameNote}
+use Rattle.frame_word.specs.Views.{note_of}
+use Rattle.frame_word.specs.Seats.{KnownTable, KnownSeat, IsZoneSeat, IsOpen, NothingPasses, LentIsBorrowed, first_zone_view}
+use Rattle.stock_word.specs.declared.view.Account.{Account}
+use Rattle.stock_word.specs.Stock.{Words, Seated, IsMachine, account_of, first_machine}
+use Rattle.group_charge.specs.Charges.{Ledger, pages_of, initial_ledger, with_new_group}
+use Rattle.group_tree.specs.Groups.{IsLeastFreeNumber}
+use Rattle.lru_lists.specs.declared.record.Link.{Link}
+use Rattle.lru_lists.specs.declared.record.Home.{Home}
+use Rattle.lru_lists.specs.declared.record.Entry.{Entry}
+use Rattle.lru_lists.specs.declared.lru.Lru.{Lru}
+use Rattle.lru_lists.specs.declared.queue.Queue.{Queue}
+use Rattle.lru_lists.specs.Queue.{link_at, AreNowhere}
+use Rattle.lru_lists.specs.Lists.{AllStand, inactive_of, active_of}
+use Rattle.step_rules.specs.State.{sum_to, one_if}
+use Rattle.cpu_part.specs.Cpus.{KnownCpu}
+use Rattle.mem_machine.specs.declared.spot.Spot.{Spot}
+use Rattle.mem_machine.specs.declared.spot.Spot.TheVariants.{Free}
+use Rattle.mem_machine.specs.declared.machine.Counts.{Counts}
+use Rattle.mem_machine.specs.Spots.{spot_at, free_of, is_in_hand, lent_to, group_of, head_group_of, count_of, AreUnits}
+
+-- The machine: the free areas, a record for each frame, the groups and their charges, the records through which the units'
+-- lists are linked and two lists for each group number, the zone's seats at the two tables, which group numbers are killed,
+-- and how often units ended and came back
+pub record KnownMachine : Type 0 where
+  pub blocks : List Block
+  pub spots : List Spot
+  pub ledger : Ledger
+  pub links : List Link
+  pub lists : List Lru
+  pub seat : KnownSeat
+  pub stock : Seated
+  pub killed : List Bool
+  pub counts : Counts
+
+-- nothing ended and nothing came back
+abbrev pub no_counts : Counts
+no_counts = record { last_puts = 0; freezes = 0; drops = 0; returns = 0 }
+
+-- an empty list
+abbrev pub no_queue : Queue
+no_queue = record { oldest = None; newest = None; length = 0 }
+
+-- two empty lists, of no owner that is there
+abbrev pub no_lists : Lru
+no_lists = record { owner = 64; inactive = no_queue; active = no_queue }
+
+-- the two lists of the group of this number
+abbrev pub lists_at : KnownMachine → ℕ → Lru
+lists_at m g = slice_index_or m.lists g no_lists
+
+-- the inactive units of the group, from the oldest to the newest
+abbrev pub inactive_in : KnownMachine → ℕ → List Entry
+inactive_in m g = inactive_of m.links (lists_at m g)
+
+-- the active units of the group, from the oldest to the newest
+abbrev pub active_in : KnownMachine → ℕ → List Entry
+active_in m g = active_of m.links (lists_at m g)
+
+-- the list that the frame stands on, if it heads a kept unit
+abbrev pub home_of : List Link → ℕ → Option Home
+home_of links f = (link_at links f).home
+
+-- the group of this number is killed
+abbrev pub is_killed : List Bool → ℕ → Bool
+is_killed killed g = slice_index_or killed g false
+
+-- the frames that are charged to the group itself
+abbrev pub frames_charged : List Spot → ℕ → ℕ
+frames_charged spots g = sum_to (length spots) (λ f. count_of g (group_of (spot_at spots f)))
+
+-- the pages of a processor's book, where its stock is of the group
+abbrev pub booked : ℕ → Account → ℕ
+booked g a = if count_of g a.group == 0 then 0 else a.book
+
+-- the pages booked to the stocks of the group itself
+abbrev pub pages_booked : KnownTable → Seated → ℕ → ℕ
+pages_booked t stock g = sum_to (t.cpus + 1) (λ p. booked g (account_of stock.view p))
+
+-- The zone's seat notes of a frame what its record says: it is in the zone's hand where it is free or a tail, it is lent to
+-- whom the record says, and the zone has one reference exactly where the frame stands on a list; that is one of the group
+-- of the unit that it heads
+pub record FitsSpot (note : FrameNote) (home : Option Home) (spot : Spot) : Type 0 where
+  pub own : note.own ≡ one_if (is_in_hand spot)
+  pub lent : note.lent ≡ lent_to spot
+  pub references : note.references ≡ one_if (is_some home)
+  pub kept : IfSome home (λ h. (h.owner < 64) × (head_group_of spot ≡ Some h.owner))
+
+-- the parts have the sizes of the tables, which agree
+pub record AreSized (t : KnownTable) (w : Words) (m : KnownMachine) : Type 0 where
+  pub spots : length m.spots ≡ t.frames
+  pub links : length m.links ≡ t.frames
+  pub lists : length m.lists ≡ 64
+  pub killed : length m.killed ≡ 64
+  pub cpus : w.cpus ≡ t.cpus
+
+-- the seats are the zone's, at these tables
+pub record AreZoneSeats (t : KnownTable) (w : Words) (seat : KnownSeat) (stock : Seated) : Type 0 where
+  pub frames : IsZoneSeat t seat
+  pub table : stock.table ≡ w.table
+  pub stocks : IsMachine stock.view
+
+-- The machine is consistent. Its free areas are the maximal blocks of the free frames. Each frame is what its record says,
+-- to the zone's seat and to the lists. The charged frames are units of their groups. The lists stand. Nothing that was
+-- reported is unabsorbed. What is charged to a group itself are the frames charged to it and the books of its stocks
+pub record IsConsistent (t : KnownTable) (w : Words) (m : KnownMachine) : Type 0 where
+  pub sizes : AreSized t w m
+  pub seats : AreZoneSeats t w m.seat m.stock
+  pub areas : AreMaximalBlocks (free_of m.spots) m.blocks
+  pub spots : (f : ℕ) → f < t.frames → FitsSpot (note_of m.seat.view f) (home_of m.links f) (spot_at m.spots f)
+  pub units : AreUnits m.spots
+  pub lists : AllStand m.links m.lists
+  pub noted : (p : ℕ) → (account_of m.stock.view p).noted ≡ 0
+  pub charged : (g : ℕ) → pages_of m.ledger g ≡ frames_charged m.spots g + pages_booked t m.stock g
+
+-- a group of this path was made, and got the least free number
+pub record Makes (m : KnownMachine) (n : ℕ) (path : List ℕ) (after : KnownMachine) : Type 0 where
+  pub least : IsLeastFreeNumber m.ledger.groups n
+  pub machine : after ≡ record m { ledger = with_new_group m.ledger n path; killed = slice_set m.killed n false }
+
+-- the processor's visit is open, nothing passes for it, and what is lent to it are its listed and fresh frames
+pub record Visits (t : KnownTable) (m : KnownMachine) (c : KnownCpu) : Type 0 where
+  pub is_open : IsOpen m.seat c.number
+  pub still : NothingPasses t m.seat c.seat
+  pub lent : LentIsBorrowed t m.seat c.seat
+
+-- the processor is one of the table's
+pub record IsSeated (t : KnownTable) (c : KnownCpu) : Type 0 where
+  pub some_number : 1 ≤ c.number
+  pub cpus : c.number ≤ t.cpus
+
+-- no frame is lent or charged, there is the root alone, no group is killed and nothing came back yet
+pub record IsFirst (t : KnownTable) (w : Words) (m : KnownMachine) : Type 0 where
+  pub spots : m.spots ≡ replicate t.frames Free
+  pub ledger : m.ledger ≡ initial_ledger
+  pub nowhere : AreNowhere m.links
+  pub seat : m.seat ≡ record { table = t.table; view = first_zone_view t.frames }
+  pub stock : m.stock ≡ record { table = w.table; view = first_machine }
+  pub killed : m.killed ≡ replicate 64 false
+  pub counts : m.counts ≡ no_counts

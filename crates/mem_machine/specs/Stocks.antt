@@ -1,0 +1,68 @@
+-- Stocks that are drained and filled.
+use Rattle.std.specs.Prelude.{◌≡◌, ℕ, ◌≤◌, true, false, zero, suc, Option, Some, None}
+use Rattle.stock_word.specs.Stock.{account_of}
+use Rattle.stock_word.specs.Kinds.{draining, filling, after_fill}
+use Rattle.stock_word.specs.Calls.{with_view, after_look}
+use Rattle.group_tree.specs.Room.{PathHasRoom, IsLowestOver}
+use Rattle.group_charge.specs.Charges.{Ledger, current_of, with_charge, with_uncharge}
+use Rattle.cpu_part.specs.Cpus.{KnownCpu}
+use Rattle.step_rules.specs.Usage.{is_below}
+use Rattle.mem_machine.specs.Machines.{KnownMachine}
+
+-- the ledger after so many pages came off the charge of the group, if there is one
+abbrev pub uncharged : Ledger → Option ℕ → ℕ → Ledger
+uncharged l None n = l
+uncharged l (Some g) n = with_uncharge l g n
+
+-- the group that processor q's stock is of
+abbrev pub stock_group : KnownMachine → ℕ → Option ℕ
+stock_group m q = (account_of m.stock.view q).group
+
+-- The stock of processor q, in which so many pages were, is drained: they come off its book and off the charge of its group.
+-- A stock that was drained before has none
+pub record Drains (m : KnownMachine) (q pages : ℕ) (n : KnownMachine) : Type 0 where
+  pub machine : n ≡ record m {
+    ledger = uncharged m.ledger (stock_group m q) pages;
+    stock = with_view m.stock (draining m.stock.view q pages);
+  }
+  pub booked : pages ≤ (account_of m.stock.view q).book
+  pub drained_before : (account_of m.stock.view q).filled ≡ false → pages ≡ 0
+
+-- Processor q's stock is drained where it is of the group's subtree. Else nothing changed but that a stock of no group, of
+-- which the zone's seat now knows, counts as drained of no page
+pub record DrainsBelow (g : ℕ) (m : KnownMachine) (q : ℕ) (n : KnownMachine) : Type 0 where
+  pub pages : ℕ
+  pub below : is_below m.ledger.groups g (stock_group m q) ≡ true → Drains m q pages n
+  pub other : is_below m.ledger.groups g (stock_group m q) ≡ false → n ≡ record m { stock = with_view m.stock (after_look m.stock.view q (stock_group m q)) }
+
+-- so it is with processors 1 to k, one after the other
+abbrev pub DrainsAllBelow : ℕ → ℕ → KnownMachine → KnownMachine → Type 0
+DrainsAllBelow g zero m n = n ≡ m
+DrainsAllBelow g (suc k) m n = (x : KnownMachine) × DrainsAllBelow g k m x × DrainsBelow g x (suc k) n
+
+-- no stock of the group's subtree is held
+abbrev pub AreDrained : ℕ → ℕ → KnownMachine → Type 0
+AreDrained g cpus m = (q : ℕ) → 1 ≤ q → q ≤ cpus → is_below m.ledger.groups g (stock_group m q) ≡ true → (account_of m.stock.view q).filled ≡ false
+
+-- so many pages are charged to the group, whose limits have room for them, and are in the processor's stock
+pub record Fills (g pages : ℕ) (m : KnownMachine) (c : KnownCpu) (n : KnownMachine) (d : KnownCpu) : Type 0 where
+  pub room : PathHasRoom m.ledger.groups (current_of m.ledger) g pages
+  pub machine : n ≡ record m {
+    ledger = with_charge m.ledger g pages;
+    stock = with_view m.stock (filling m.stock.view c.number g pages);
+  }
+  pub cpu : d ≡ record c { stock = with_view c.stock (after_fill c.stock.view g pages) }
+
+-- what `prepay` leaves: the processor's own stock is drained, and then filled
+pub record Prepays (g pages : ℕ) (m : KnownMachine) (c : KnownCpu) (n : KnownMachine) (d : KnownCpu) : Type 0 where
+  pub emptied : KnownMachine
+  pub back : ℕ
+  pub drains : Drains m c.number back emptied
+  pub fills : Fills g pages emptied c n d
+
+-- what it leaves where a limit has no room for the pages, that of `over` the lowest: the stock is drained, and nothing is charged
+pub record IsOver (g pages over : ℕ) (m : KnownMachine) (c : KnownCpu) (n : KnownMachine) (d : KnownCpu) : Type 0 where
+  pub back : ℕ
+  pub drains : Drains m c.number back n
+  pub lowest : IsLowestOver n.ledger.groups (current_of n.ledger) g pages over
+  pub cpu : d ≡ c

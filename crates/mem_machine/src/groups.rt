@@ -1,0 +1,91 @@
+//! The groups: made, removed, limited, noted and killed.
+
+ghost use Rattle.std.specs.Prelude.{◌≡◌, ◌≢◌, ℕ, IsTrue, IfOk, OnErr, false, true, slice_set};
+ghost use Rattle.std.specs.Result.{result_err};
+ghost use Rattle.group_tree.specs.Groups.{has_group, has_child, make_fault};
+ghost use Rattle.group_charge.specs.Charges.{current_of, with_max_noted, with_group_limit, with_group_removed};
+ghost use Rattle.cpu_part.specs.Cpus.{KnownCpu};
+ghost use Rattle.step_rules.specs.Usage.{usage_of};
+ghost use Rattle.mem_machine.specs.Machines.{is_killed, Makes, Visits};
+ghost use Rattle.mem_machine.specs.Local.{Reaches, local_of};
+
+use crate::machine::Machine;
+use cpu_part::{BootName, Cpu, Tables};
+use group_tree::fault::Fault;
+use group_tree::group::GroupId;
+
+impl<N: BootName> Machine<N> {
+    /// Notes that the usage of a group was about to go over its limit: one more `max` in its events and in those of each of
+    /// its ancestors, and in its local events.
+    pub fn note_max(&mut self, group: GroupId)
+        requires { IsTrue (has_group self.old.ledger.groups group) }
+        ensures machine { self.new ≡ record self.old { ledger = with_max_noted self.old.ledger group } }
+        ensures steps { (c : KnownCpu) → Reaches c.number (local_of N.frames self.old c) (local_of N.frames self.new c) }
+    {
+        self.charges.note_max(group);
+    }
+
+    /// Makes a group, as `Tree::make` does. It has no page, peak 0 and all counts 0, and isn't killed.
+    pub fn make(&mut self, path: &[u8]) -> Result<GroupId, Fault>
+        ensures made { IfOk result (λ n. Makes self.old n path.now self.new) }
+        ensures refused { result_err result ≡ make_fault self.old.ledger.groups path.now }
+        ensures unchanged { OnErr result (self.new ≡ self.old) }
+        ensures steps { (c : KnownCpu) → Reaches c.number (local_of N.frames self.old c) (local_of N.frames self.new c) }
+    {
+        let group = self.charges.make(path)?;
+        let number = group.number();
+        self.killed[number as usize] = false;
+        Ok(group)
+    }
+
+    /// Shows that the usage of each group which the rules of the steps count, in pages, is that of the charges: frames that
+    /// the processor has fresh, which the rules count as kept, are in its stock's book. One look at the processor's stock,
+    /// which changes nothing.
+    pub fn see_usage(&mut self, tables: &Tables<N>, cpu: &mut Cpu<N>)
+        requires { Visits N.frames self.old cpu.old }
+        ensures usage { (g : ℕ) → usage_of (local_of N.frames self.old cpu.old) g ≡ current_of self.old.ledger g }
+        ensures machine { self.new ≡ self.old }
+        ensures cpu { cpu.new ≡ cpu.old }
+    {
+        let _number = cpu.number();
+        let _last = cpu.last_stock();
+        let _tree = self.charges.tree();
+        let _stock = cpu.look(tables, &mut self.stock);
+    }
+
+    /// Takes out a group that is there, other than the root, with no group below it and nothing charged.
+    pub fn remove(&mut self, tables: &Tables<N>, cpu: &mut Cpu<N>, group: GroupId)
+        requires visit { Visits N.frames self.old cpu.old }
+        requires there { IsTrue (has_group self.old.ledger.groups group) }
+        requires leaf { has_child self.old.ledger.groups group ≡ false }
+        requires below_root { group ≢ 0 }
+        requires empty { current_of self.old.ledger group ≡ 0 }
+        ensures machine { self.new ≡ record self.old { ledger = with_group_removed self.old.ledger group } }
+        ensures cpu { cpu.new ≡ cpu.old }
+        ensures steps { Reaches cpu.old.number (local_of N.frames self.old cpu.old) (local_of N.frames self.new cpu.new) }
+    {
+        self.see_usage(tables, cpu);
+        self.charges.remove(group);
+    }
+
+    /// Gives a group other than the root another limit, in pages; None for no limit. It binds later charges alone.
+    pub fn set_max(&mut self, group: GroupId, limit: Option<u32>)
+        requires there { IsTrue (has_group self.old.ledger.groups group) }
+        requires below_root { group ≢ 0 }
+        ensures machine { self.new ≡ record self.old { ledger = with_group_limit self.old.ledger group limit } }
+        ensures steps { (c : KnownCpu) → Reaches c.number (local_of N.frames self.old c) (local_of N.frames self.new c) }
+    {
+        self.charges.set_max(group, limit);
+    }
+
+    /// Marks a group as killed. It gets no charge any more.
+    pub fn mark_killed(&mut self, group: GroupId)
+        requires there { IsTrue (has_group self.old.ledger.groups group) }
+        requires alive { is_killed self.old.killed group ≡ false }
+        ensures machine { self.new ≡ record self.old { killed = slice_set self.old.killed group true } }
+        ensures steps { (c : KnownCpu) → Reaches c.number (local_of N.frames self.old c) (local_of N.frames self.new c) }
+    {
+        let number = group.number();
+        self.killed[number as usize] = true;
+    }
+}

@@ -1,0 +1,95 @@
+//! Frames that go between the free areas and the list of the processor that is visited.
+
+ghost use Rattle.std.specs.Prelude.{◌≡◌, ◌+◌, ◌<◌, ◌≤◌, [], length, MatchBool};
+ghost use Rattle.zone_blocks.specs.Areas.{HasNoneFrom};
+ghost use Rattle.mem_machine.specs.Machines.{Visits};
+ghost use Rattle.mem_machine.specs.Lending.{LendsOne, LendsNone, LendsMany, TakesOneBack, TakesNoneBack, TakesManyBack};
+ghost use Rattle.mem_machine.specs.Local.{Reaches, local_of};
+
+use crate::machine::Machine;
+use crate::spot::Spot;
+use cpu_part::{BootName, Cpu, Tables};
+use frame_word::Frame;
+use zone_blocks::block::Block;
+use zone_blocks::order::Order;
+
+impl<N: BootName> Machine<N> {
+    // Lends one free frame to the processor, if there is one: it comes to the end of the list.
+    fn lend_one(&mut self, tables: &Tables<N>, cpu: &mut Cpu<N>) -> bool
+        requires visit { Visits N.frames self.old cpu.old }
+        requires room { length cpu.old.list + length cpu.old.fresh < 256 }
+        ensures lends { MatchBool result (LendsOne self.old cpu.old self.new cpu.new) (LendsNone self.old cpu.old self.new cpu.new) }
+        ensures visit { Visits N.frames self.new cpu.new }
+        ensures steps { Reaches cpu.old.number (local_of N.frames self.old cpu.old) (local_of N.frames self.new cpu.new) }
+    {
+        let number = cpu.number();
+        let Some(block) = self.zone.take(Order::of(0).unwrap()) else {
+            return false;
+        };
+        let Some(frame) = tables.frames.frame(block.at) else {
+            unreachable!()
+        };
+        tables.frames.pass_out(&mut self.seat, frame, number);
+        self.spots[frame.number() as usize] = Spot::Lent(number);
+        cpu.accept(tables, &mut self.seat, frame);
+        true
+    }
+
+    /// Lends up to `batch` free frames to the processor that is visited, one after the other, and tells how many there were.
+    /// They come to the end of its list. It has room for all of them: listed and fresh frames are 256 at most.
+    pub fn refill(&mut self, tables: &Tables<N>, cpu: &mut Cpu<N>, batch: u32) -> u32
+        requires visit { Visits N.frames self.old cpu.old }
+        requires room { length cpu.old.list + length cpu.old.fresh + batch ≤ 256 }
+        ensures at_most { result ≤ batch }
+        ensures lends { LendsMany result self.old cpu.old self.new cpu.new }
+        ensures fewer_only_at_the_end { result < batch → HasNoneFrom self.new.blocks 0 }
+        ensures visit { Visits N.frames self.new cpu.new }
+        ensures steps { Reaches cpu.old.number (local_of N.frames self.old cpu.old) (local_of N.frames self.new cpu.new) }
+    {
+        for lent in 0..batch {
+            if !self.lend_one(tables, cpu) {
+                return lent;
+            }
+        }
+        batch
+    }
+
+    // Takes the front of the processor's list back, if there is one: it is free again.
+    fn take_one_back(&mut self, tables: &Tables<N>, cpu: &mut Cpu<N>) -> bool
+        requires { Visits N.frames self.old cpu.old }
+        ensures takes { MatchBool result (TakesOneBack self.old cpu.old self.new cpu.new) (TakesNoneBack self.old cpu.old self.new cpu.new) }
+        ensures visit { Visits N.frames self.new cpu.new }
+        ensures steps { Reaches cpu.old.number (local_of N.frames self.old cpu.old) (local_of N.frames self.new cpu.new) }
+    {
+        let _number = cpu.number();
+        let Some(frame) = cpu.hand_front(tables, &mut self.seat) else {
+            return false;
+        };
+        cpu.collect(tables, &mut self.seat, frame);
+        let at = frame.number();
+        self.spots[at as usize] = Spot::Free;
+        self.zone.give(Block {
+            at,
+            order: Order::of(0).unwrap(),
+        });
+        true
+    }
+
+    /// Takes up to `count` frames back from the front of the list of the processor that is visited, one after the other, and
+    /// tells how many there were. They are free again.
+    pub fn drain_list(&mut self, tables: &Tables<N>, cpu: &mut Cpu<N>, count: u32) -> u32
+        requires { Visits N.frames self.old cpu.old }
+        ensures at_most { result ≤ count }
+        ensures takes { TakesManyBack result self.old cpu.old self.new cpu.new }
+        ensures fewer_only_at_the_end { result < count → cpu.new.list ≡ [] }
+        ensures visit { Visits N.frames self.new cpu.new }
+        ensures steps { Reaches cpu.old.number (local_of N.frames self.old cpu.old) (local_of N.frames self.new cpu.new) }
+    {
+        for taken in 0..count {
+            if !self.take_one_back(tables, cpu) {
+                return taken;
+            }
+        }
+        count
+    }
+}

@@ -1,0 +1,18 @@
+//! What stands behind the zone's lock: the free areas, one record for each frame, the groups with their charges and
+//! their lists of kept units, and the zone's own seats at the two tables. Each call is a list of steps of the core.
+#![tactic(auto)]
+
+mod groups;
+mod lending;
+mod machine;
+mod marks;
+mod readers;
+mod spot;
+mod start;
+mod stocks;
+#[cfg(test)]
+mod tests;
+mod visits;
+
+pub use machine::{Counts, Machine};
+pub use spot::{Place, Spot};

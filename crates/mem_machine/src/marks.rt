@@ -1,0 +1,52 @@
+//! The use of kept units: what is noted of them on the lists of their groups.
+
+ghost use Rattle.std.specs.Prelude.{◌≢◌, ◌<◌, None};
+ghost use Rattle.cpu_part.specs.Cpus.{KnownCpu};
+ghost use Rattle.mem_machine.specs.Machines.{home_of};
+ghost use Rattle.mem_machine.specs.Marks.{Dirties, TouchesUnit};
+ghost use Rattle.mem_machine.specs.Local.{Reaches, local_of};
+
+use crate::machine::Machine;
+use cpu_part::BootName;
+use frame_word::Frame;
+use lru_lists::laws;
+use lru_lists::lru::Touched;
+
+impl<N: BootName> Machine<N> {
+    /// Notes that a kept unit was used: an inactive unit that isn't marked is marked; each other moves to the newest end of
+    /// the active list of its group, unmarked. The unit goes by its head, which stands on a list of its group.
+    pub fn touch(&mut self, frame: Frame) -> Touched
+        requires frame { frame < N.frames.frames }
+        requires kept { home_of self.old.links frame ≢ None }
+        ensures touches { TouchesUnit self.old frame result self.new }
+        ensures steps { (c : KnownCpu) → Reaches c.number (local_of N.frames self.old c) (local_of N.frames self.new c) }
+    {
+        let unit = frame.number();
+        let Some(home) = self.links.home(unit) else {
+            unreachable!()
+        };
+        laws::others_stand();
+        laws::one_of_all_changes();
+        let mut lists = self.lists[home.owner as usize];
+        let touched = lists.touch(&mut self.links, unit);
+        self.lists[home.owner as usize] = lists;
+        touched
+    }
+
+    /// Notes whether the pages of a kept unit are dirty. The unit goes by its head, which stands on a list of its group.
+    pub fn set_dirty(&mut self, frame: Frame, is_dirty: bool)
+        requires frame { frame < N.frames.frames }
+        requires kept { home_of self.old.links frame ≢ None }
+        ensures dirties { Dirties self.old frame is_dirty self.new }
+        ensures steps { (c : KnownCpu) → Reaches c.number (local_of N.frames self.old c) (local_of N.frames self.new c) }
+    {
+        let unit = frame.number();
+        let Some(home) = self.links.home(unit) else {
+            unreachable!()
+        };
+        let lists = self.lists[home.owner as usize];
+        laws::others_stand();
+        laws::one_of_all_changes();
+        lists.set_dirty(&mut self.links, unit, is_dirty);
+    }
+}

@@ -1,0 +1,64 @@
+//! What the machine tells of itself.
+
+ghost use Rattle.std.specs.Prelude.{◌≡◌, ◌<◌, IsTrue};
+ghost use Rattle.group_tree.specs.Groups.{has_group};
+ghost use Rattle.group_charge.specs.Charges.{current_of};
+ghost use Rattle.mem_machine.specs.Spots.{spot_at, place_of, unit_of};
+ghost use Rattle.mem_machine.specs.Machines.{IsConsistent};
+
+use crate::machine::{Counts, Machine};
+use crate::spot::{Place, Spot};
+use cpu_part::BootName;
+use frame_word::Frame;
+use group_charge::charges::Charges;
+use group_tree::group::GroupId;
+use step_rules::phase::ChargedUnit;
+
+impl<N: BootName> Machine<N> {
+    /// Where the frame is: free, lent to a processor, or charged to a group.
+    pub fn place(&self, frame: Frame) -> Place
+        requires { frame < N.frames.frames }
+        ensures place { result ≡ place_of (spot_at self.now.spots frame) }
+        ensures consistent { IsConsistent N.frames N.stocks self.now }
+    {
+        match self.spots[frame.number() as usize] {
+            Spot::Free => Place::Free,
+            Spot::Lent(cpu) => Place::Lent(cpu),
+            Spot::Head(unit) => Place::Charged(unit.group),
+            Spot::Tail(group) => Place::Charged(group),
+        }
+    }
+
+    /// The unit that the frame heads; None exactly where it heads none.
+    pub fn unit(&self, frame: Frame) -> Option<ChargedUnit>
+        requires { frame < N.frames.frames }
+        ensures { result ≡ unit_of (spot_at self.now.spots frame) }
+    {
+        match self.spots[frame.number() as usize] {
+            Spot::Head(unit) => Some(unit),
+            _ => None,
+        }
+    }
+
+    /// The memory now used by the group and its descendants, in pages (memory.current).
+    pub fn current(&self, group: GroupId) -> u32
+        requires { IsTrue (has_group self.now.ledger.groups group) }
+        ensures { result ≡ current_of self.now.ledger group }
+    {
+        self.charges.current(group)
+    }
+
+    /// The groups, and what is charged to them.
+    pub fn charges(&self) -> &Charges
+        ensures { result.now ≡ self.now.ledger }
+    {
+        &self.charges
+    }
+
+    /// How often units ended and came back.
+    pub fn counts(&self) -> Counts
+        ensures { result ≡ self.now.counts }
+    {
+        self.counts
+    }
+}

@@ -1,0 +1,37 @@
+//! A visit of a processor: its begin and its end.
+
+ghost use Rattle.std.specs.Prelude.{◌≡◌};
+ghost use Rattle.frame_word.specs.Seats.{IsOpen, IsShut, NothingPasses, LentIsBorrowed, seat_with_visit};
+ghost use Rattle.mem_machine.specs.Machines.{Visits};
+ghost use Rattle.mem_machine.specs.Local.{Reaches, local_of};
+
+use crate::machine::Machine;
+use cpu_part::{BootName, Cpu, Tables};
+
+impl<N: BootName> Machine<N> {
+    /// Opens the visit of the processor, which isn't open. Frames are handed over and pages reported only inside it.
+    pub fn open(&mut self, tables: &Tables<N>, cpu: &mut Cpu<N>)
+        requires { IsShut self.old.seat cpu.old.number }
+        ensures machine { self.new ≡ record self.old { seat = seat_with_visit self.old.seat cpu.old.number 1 } }
+        ensures cpu { cpu.new ≡ cpu.old }
+        ensures visits { Visits N.frames self.new cpu.new }
+        ensures steps { Reaches cpu.old.number (local_of N.frames self.old cpu.old) (local_of N.frames self.new cpu.new) }
+    {
+        let _number = cpu.number();
+        cpu.open(tables, &mut self.seat);
+    }
+
+    /// Shuts the visit of the processor.
+    pub fn shut(&mut self, tables: &Tables<N>, cpu: &mut Cpu<N>)
+        requires { Visits N.frames self.old cpu.old }
+        ensures machine { self.new ≡ record self.old { seat = seat_with_visit self.old.seat cpu.old.number 0 } }
+        ensures cpu { cpu.new ≡ cpu.old }
+        ensures shut { IsShut self.new.seat cpu.new.number }
+        ensures still { NothingPasses N.frames self.new.seat cpu.new.seat }
+        ensures lent { LentIsBorrowed N.frames self.new.seat cpu.new.seat }
+        ensures steps { Reaches cpu.old.number (local_of N.frames self.old cpu.old) (local_of N.frames self.new cpu.new) }
+    {
+        let _number = cpu.number();
+        cpu.shut(tables, &mut self.seat);
+    }
+}

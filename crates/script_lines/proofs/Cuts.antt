@@ -1,0 +1,44 @@
+-- A text that is cut at its first space.
+use Rattle.std.proofs.Common.{◌≡◌, ◌≢◌, ℕ, zero, suc, List, [], ◌∷◌, ◌++◌, arith, refl, sym, ap₂, ◌∙◌, All}
+use Rattle.std.proofs.lemmas.Str.Parse.{digit_from_value}
+use Rattle.std.specs.Str.Parse.{AllDigits}
+use Rattle.script_lines.specs.Script.{IsCut, IsPathText}
+
+-- the text has no space
+abbrev pub NoSpace : List ℕ → Type 0
+NoSpace text = All (λ b. b ≢ 32) text
+
+no_space_tail : (b : ℕ) (bs : List ℕ) → NoSpace (b ∷ bs) → NoSpace bs
+no_space_tail b bs a k d h = a (suc k) d (omega arith)
+
+-- a text is cut in one way
+same_cut : (w r v s : List ℕ) → NoSpace w → NoSpace v → w ++ 32 ∷ r ≡ v ++ 32 ∷ s → (w ≡ v) × (r ≡ s)
+same_cut [] r [] s no_w no_v e = (refl, cc)
+same_cut [] r (y ∷ v) s no_w no_v e = let h : y ≡ 32 = cc in absurd (no_v 0 0 (omega arith) h)
+same_cut (x ∷ w) r [] s no_w no_v e = let h : x ≡ 32 = cc in absurd (no_w 0 0 (omega arith) h)
+same_cut (x ∷ w) r (y ∷ v) s no_w no_v e =
+    let tails : w ++ 32 ∷ r ≡ v ++ 32 ∷ s = cc in
+    let heads : x ≡ y = cc in
+    let rest = same_cut w r v s (no_space_tail x w no_w) (no_space_tail y v no_v) tails in
+    (ap₂ (λ (b : ℕ) (bs : List ℕ). b ∷ bs) heads rest.0, rest.1)
+
+-- where the text was cut, it is so in no other way
+pub cut_once : (text w r v s : List ℕ) → IsCut text w r → NoSpace v → text ≡ v ++ 32 ∷ s → (w ≡ v) × (r ≡ s)
+cut_once text w r v s cut no_v e = same_cut w r v s cut.no_space no_v (sym cut.parts ∙ e)
+
+-- a text without a space has no cut
+pub no_cut : (text v s : List ℕ) → NoSpace text → text ≡ v ++ 32 ∷ s → ⊥
+no_cut [] [] s a e = cc
+no_cut [] (y ∷ v) s a e = cc
+no_cut (b ∷ bs) [] s a e = let h : b ≡ 32 = cc in a 0 0 (omega arith) h
+no_cut (b ∷ bs) (y ∷ v) s a e = let tails : bs ≡ v ++ 32 ∷ s = cc in no_cut bs v s (no_space_tail b bs a) tails
+
+-- a path has no space
+pub path_no_space : (path : List ℕ) → IsPathText path → NoSpace path
+path_no_space path is k d h e = let range = is.graphic k d h in omega arith
+
+-- digits have no space
+pub digits_no_space : (ds : List ℕ) → AllDigits 10 ds → NoSpace ds
+digits_no_space [] a k d h e = omega arith
+digits_no_space (c ∷ cs) a zero d h e = let range = digit_from_value c a.0 in omega arith
+digits_no_space (c ∷ cs) a (suc k) d h e = digits_no_space cs a.1 k d (omega arith) e

@@ -1,0 +1,192 @@
+-- How far a script was read.
+use Rattle.std.proofs.Common.{◌≡◌, ℕ, ◌+◌, ◌-◌, ◌<◌, ◌≤◌, List, [], ◌∷◌, ◌++◌, length, true, false, not, cond, take, Option, Some, None}
+use Rattle.std.proofs.Common.{MatchOption, IfSome, ◌==◌, drop, get_or, slice_get, refl, sym, ap, subst, ◌∙◌, arith, inl, inr, zero-add}
+use Rattle.std.specs.List.{AllZip, enumerate_from}
+use Rattle.std.proofs.lemmas.Bool.{cases_lt}
+use Rattle.std.proofs.lemmas.List.{append-nil, length-take, take-append-drop, take_all, take_more}
+use Rattle.std.proofs.lemmas.List.Sums.{sum_by-append}
+use Rattle.std.proofs.lemmas.List.Elements.{filter-append}
+use Rattle.std.proofs.lemmas.List.Splits.{length-slice_split}
+use Rattle.std.proofs.lemmas.Option.{get_or_from_slice_get, slice_get-get_or}
+use Rattle.std.proofs.lemmas.List.FromFn.{get_or-enumerate_from, length-enumerate_from}
+use Rattle.script_lines.specs.Script.{AreLines, IsFirstBadLine, IsGoodLine, IsLineText, IsScript, asking_texts, ended_lines, is_skipped, texts_of}
+use Rattle.script_lines.specs.declared.line.Line.{Line}
+
+-- the first lines of the script were good, and are these
+pub record IsReadTo (cpus : ℕ) (script : List ℕ) (count : ℕ) (lines : List Line) : Type 0 where
+  pub good : (n : ℕ) → 1 ≤ n → n ≤ count → IsGoodLine cpus script n
+  pub says : AreLines cpus (take count (texts_of script)) lines
+
+-- the text of the next line
+pub record IsNext (script : List ℕ) (count index : ℕ) (text : List ℕ) : Type 0 where
+  pub index_is : index ≡ count
+  pub inside : index < length (texts_of script)
+  pub is_text : slice_get (texts_of script) index ≡ Some text
+
+-- the number of the first line that is too far, if any
+abbrev pub IsOver : List ℕ → Option ℕ → Type 0
+IsOver script over = MatchOption over (length script ≤ 1048576) (λ n. (1048576 < length script) × (n ≡ ended_lines (take 1048576 script) + 1))
+
+zip_push : {A B : Type 0} (R : A → B → Type 0) (xs : List A) (ys : List B) (x : A) (y : B) → AllZip R xs ys → R x y → AllZip R (xs ++ x ∷ []) (ys ++ y ∷ [])
+zip_push R [] [] x y all r = (r, tt)
+zip_push R [] (b ∷ ys) x y all r = absurd all
+zip_push R (a ∷ xs) [] x y all r = absurd all
+zip_push R (a ∷ xs) (b ∷ ys) x y all r = (all.0, zip_push R xs ys x y all.1 r)
+
+asking_push : (texts : List (List ℕ)) (text : List ℕ) → asking_texts (texts ++ text ∷ []) ≡ asking_texts texts ++ cond (not (is_skipped text)) (text ∷ []) []
+asking_push texts text = filter-append (λ t. not (is_skipped t)) texts (text ∷ [])
+
+-- the texts up to and with the next
+next_text : (script : List ℕ) (count index : ℕ) (text : List ℕ) → IsNext script count index text
+    → take (count + 1) (texts_of script) ≡ take count (texts_of script) ++ text ∷ []
+next_text script count index text next =
+    let at = get_or_from_slice_get (texts_of script) index text text next.is_text in
+    let inside = next.inside in
+    let here : get_or (texts_of script) count text ≡ text = rw (← next.index_is) at in
+    let below : count < length (texts_of script) = rw (← next.index_is) inside in
+    take_more (texts_of script) count text below ∙ ap (λ (t : List ℕ). take count (texts_of script) ++ t ∷ []) here
+
+-- every line up to and with the next is good
+more_good : (cpus : ℕ) (script : List ℕ) (count : ℕ) → ((n : ℕ) → 1 ≤ n → n ≤ count → IsGoodLine cpus script n)
+    → IsGoodLine cpus script (count + 1) → (n : ℕ) → 1 ≤ n → n ≤ count + 1 → IsGoodLine cpus script n
+more_good cpus script count before last n low high =
+    elim (cases_lt count n) [
+      | inl past ↦ let is_last : n ≡ count + 1 = omega arith in rw is_last last
+      | inr within ↦ before n low within
+    ]
+
+-- a line that asks for nothing
+pub passes_over : (cpus : ℕ) (script : List ℕ) (count : ℕ) (lines : List Line) (index : ℕ) (text : List ℕ)
+    → IsReadTo cpus script count lines → IsNext script count index text → IsGoodLine cpus script (index + 1)
+    → is_skipped text ≡ true → IsReadTo cpus script (count + 1) lines
+passes_over cpus script count lines index text so_far next good skipped =
+    let asked = ap asking_texts (next_text script count index text next) ∙ asking_push (take count (texts_of script)) text in
+    let same : asking_texts (take (count + 1) (texts_of script)) ≡ asking_texts (take count (texts_of script)) ++ [] = asked ∙ rw skipped refl in
+    record {
+      good = more_good cpus script count so_far.good (rw (← next.index_is) good);
+      says = let P : List (List ℕ) → Type 0 = λ texts. AllZip (λ t l. IsLineText cpus l t) texts lines in
+          subst P (sym (same ∙ append-nil (asking_texts (take count (texts_of script))))) so_far.says;
+    }
+
+-- a line that asks for something
+pub takes_line : (cpus : ℕ) (script : List ℕ) (count : ℕ) (lines : List Line) (index : ℕ) (text : List ℕ) (line : Line)
+    → IsReadTo cpus script count lines → IsNext script count index text → IsGoodLine cpus script (index + 1)
+    → is_skipped text ≡ false → IsLineText cpus line text → IsReadTo cpus script (count + 1) (lines ++ line ∷ [])
+takes_line cpus script count lines index text line so_far next good asks is =
+    let asked = ap asking_texts (next_text script count index text next) ∙ asking_push (take count (texts_of script)) text in
+    let same : asking_texts (take (count + 1) (texts_of script)) ≡ asking_texts (take count (texts_of script)) ++ text ∷ [] = asked ∙ rw asks refl in
+    record {
+      good = more_good cpus script count so_far.good (rw (← next.index_is) good);
+      says = rw same (zip_push (λ t l. IsLineText cpus l t) _ lines text line so_far.says is);
+    }
+
+-- the next line is the first that isn't good
+pub is_first_bad : (cpus : ℕ) (script : List ℕ) (count : ℕ) (lines : List Line) (index : ℕ) (text : List ℕ)
+    → IsReadTo cpus script count lines → IsNext script count index text → ¬ IsGoodLine cpus script (index + 1)
+    → IsFirstBadLine cpus script (index + 1)
+is_first_bad cpus script count lines index text so_far next bad =
+    let at = next.index_is in
+    let inside = next.inside in
+    record {
+      low = omega arith;
+      high = omega arith;
+      bad = bad;
+      first = λ k low below. so_far.good k low (omega arith);
+    }
+
+-- what makes a line good
+pub is_good : (cpus : ℕ) (script : List ℕ) (count index : ℕ) (text : List ℕ) (over : Option ℕ)
+    → IsNext script count index text → length text ≤ 1024 → IsOver script over
+    → IfSome over (λ first. index + 1 < first) → (is_skipped text ≡ false → (line : Line) × IsLineText cpus line text)
+    → IsGoodLine cpus script (index + 1)
+is_good cpus script count index text None next short is_over near says = record {
+  text = text;
+  is_text = let e : index + 1 - 1 ≡ index = omega arith in rw e next.is_text;
+  short = short;
+  within = λ long. let fits : length script ≤ 1048576 = is_over in absurd (omega arith);
+  says = says;
+}
+is_good cpus script count index text (Some first) next short is_over near says = record {
+  text = text;
+  is_text = let e : index + 1 - 1 ≡ index = omega arith in rw e next.is_text;
+  short = short;
+  within = λ long. let last = is_over.1 in let below : index + 1 < first = near in omega arith;
+  says = says;
+}
+
+-- a good line has the text of the next line
+same_text_at : (cpus : ℕ) (script : List ℕ) (count index : ℕ) (text : List ℕ) → IsNext script count index text
+    → (good : IsGoodLine cpus script (index + 1)) → good.text ≡ text
+same_text_at cpus script count index text next good =
+    let e : index + 1 - 1 ≡ index = omega arith in
+    let h : slice_get (texts_of script) index ≡ Some good.text = rw e at good.is_text in
+    let is = next.is_text in cc
+
+pub not_long : (cpus : ℕ) (script : List ℕ) (count index : ℕ) (text : List ℕ) → IsNext script count index text
+    → 1024 < length text → ¬ IsGoodLine cpus script (index + 1)
+not_long cpus script count index text next long good =
+    let same = ap length (same_text_at cpus script count index text next good) in
+    let short = good.short in omega arith
+
+pub not_far : (cpus : ℕ) (script : List ℕ) (index : ℕ) (over : Option ℕ) → IsOver script over
+    → ¬ IfSome over (λ first. index + 1 < first) → ¬ IsGoodLine cpus script (index + 1)
+not_far cpus script index None is_over far good = far tt
+not_far cpus script index (Some first) is_over far good =
+    let within = good.within is_over.0 in let last = is_over.1 in far (omega arith)
+
+pub not_said : (cpus : ℕ) (script : List ℕ) (count index : ℕ) (text : List ℕ) → IsNext script count index text
+    → is_skipped text ≡ false → ((line : Line) → ¬ IsLineText cpus line text) → ¬ IsGoodLine cpus script (index + 1)
+not_said cpus script count index text next asks none good =
+    let same = same_text_at cpus script count index text next good in
+    let asked : is_skipped good.text ≡ false = rw same asks in
+    let said = good.says asked in
+    let P : List ℕ → Type 0 = λ t. IsLineText cpus said.0 t in
+    none said.0 (subst P same said.1)
+
+-- a beginning of a script has no more line feeds than the script
+ended_more : (n : ℕ) (script : List ℕ) → ended_lines (take n script) ≤ ended_lines script
+ended_more n script =
+    let parts : ended_lines (take n script ++ drop n script) ≡ ended_lines (take n script) + ended_lines (drop n script)
+    = sum_by-append (λ b. cond (b == 10) 1 0) (take n script) (drop n script) in
+    let whole = ap ended_lines (take-append-drop n script) in
+    omega arith
+
+-- the last of the lines is within the bytes that a script may have
+fits_when_good : (cpus : ℕ) (script : List ℕ) (over : Option ℕ) → IsOver script over
+    → ((n : ℕ) → 1 ≤ n → n ≤ length (texts_of script) → IsGoodLine cpus script n) → length script ≤ 1048576
+fits_when_good cpus script None is_over good = is_over
+fits_when_good cpus script (Some first) is_over good =
+    let count = length-slice_split (λ b. b == 10) script in
+    let ended = ended_more 1048576 script in
+    let last = (good (length (texts_of script)) (omega arith) (omega arith)).within is_over.0 in
+    absurd (omega arith)
+
+-- after the last line
+pub is_whole : (cpus : ℕ) (script : List ℕ) (count : ℕ) (lines : List Line) (over : Option ℕ)
+    → IsReadTo cpus script count lines → count ≡ length (texts_of script) → IsOver script over
+    → IsScript cpus script lines
+is_whole cpus script count lines over so_far all is_over =
+    let good : (n : ℕ) → 1 ≤ n → n ≤ length (texts_of script) → IsGoodLine cpus script n = λ n low high. so_far.good n low (omega arith) in
+    let taken : take count (texts_of script) ≡ texts_of script = take_all count (texts_of script) (omega arith) in
+    let P : List (List ℕ) → Type 0 = λ texts. AreLines cpus texts lines in
+    record {
+      fits = fits_when_good cpus script over is_over good;
+      good = good;
+      says = subst P taken so_far.says;
+    }
+
+-- what an iteration over the numbered texts is told
+pub next_of : (script : List ℕ) (count index : ℕ) (text : List ℕ)
+    → (count < length (enumerate_from 0 (texts_of script))) × ((index, text) ≡ get_or (enumerate_from 0 (texts_of script)) count (index, text))
+    → IsNext script count index text
+next_of script count index text turn =
+    let inside : count < length (texts_of script) = omega (arith, length-enumerate_from 0 (texts_of script), turn.0) in
+    let item : (index, text) ≡ (0 + count, get_or (texts_of script) count text) = turn.1
+    ∙ get_or-enumerate_from 0 (texts_of script) count (index, text) inside in
+    let index_is : index ≡ count = ap (λ (p : ℕ × List ℕ). p.0) item ∙ zero-add count in
+    let text_is : text ≡ get_or (texts_of script) count text = ap (λ (p : ℕ × List ℕ). p.1) item in
+    record {
+      index_is = index_is;
+      inside = rw index_is inside;
+      is_text = rw index_is (slice_get-get_or (texts_of script) count text inside ∙ ap Some (sym text_is));
+    }

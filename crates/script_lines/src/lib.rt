@@ -1,0 +1,8 @@
+//! The form of a script: its bytes, cut into lines, each a processor and what is done there.
+#![tactic(auto)]
+
+pub mod fault;
+pub mod line;
+mod number;
+pub mod script;
+mod verb;

@@ -1,0 +1,189 @@
+//! A script's bytes, cut into lines.
+
+ghost use Rattle.std.specs.Prelude.{◌≡◌, ◌≢◌, ◌↔◌, ℕ, ◌+◌, ◌<◌, ◌≤◌, All, IfErr, IfOk, IfSome, IsTrue, List, MatchOption};
+ghost use Rattle.std.specs.Prelude.{length, take};
+ghost use Rattle.script_lines.specs.Script.{IsAllocText, IsCommandText, IsCut, IsFirstBadLine, IsLineText, IsPathText, IsReadText, IsScript, IsWriteText};
+ghost use Rattle.script_lines.specs.Script.{NamesFirstBadLine, ended_lines, is_skipped};
+ghost use Rattle.script_lines.specs.Verb.{IsNames};
+ghost use Rattle.script_lines.specs.declared.line.Command.{Command};
+ghost use Rattle.script_lines.specs.declared.line.Line.{Line};
+
+use crate::fault::ScriptFault;
+use crate::line::{Command, Line};
+use crate::number::number;
+use crate::verb::{Names, Verb, command_names, verb_of};
+use std::alloc::Global;
+
+/// The most bytes that a script has.
+pub const MOST_INPUT: usize = 1_048_576;
+
+/// The most bytes that a line has, its line feed not counted.
+const MOST_LINE: usize = 1_024;
+
+/// The lines of a script in their order, without the empty ones and those that begin with `#`.
+///
+/// Each line ends with a line feed, which the last may lack, and is `P COMMAND`, with a single space
+/// between words and none at either end, but for the value of `write`, which is all that follows the space
+/// after the file's name. P is a processor, 1 to `cpus`. A line that isn't so, or
+/// is longer than 1,024 bytes, is a bad line, and so is the one in which the byte stands that is past
+/// 1,048,576. The fault names the first bad line.
+pub fn parse_script<'a>(
+    alloc: Global,
+    input: &'a [u8],
+    cpus: u32,
+) -> Result<Vec<Line<'a>>, ScriptFault>
+    ensures ok { IfOk result (λ lines. IsScript cpus input.now lines.items) }
+    ensures bad_line { IfErr result (NamesFirstBadLine cpus input.now) }
+{
+    let names = command_names(alloc)?;
+    let over = line_over(input);
+    let mut lines = Vec::new(alloc);
+    for (index, text) in input.split(|byte| *byte == b'\n').enumerate() {
+        let number = index + 1;
+        if text.len() > MOST_LINE || !is_within(number, over) {
+            return Err(ScriptFault::BadLine(number));
+        }
+        if is_skipped(text) {
+            continue;
+        }
+        match parse_line(&names, text, cpus) {
+            Some(line) => lines.push(line)?,
+            None => return Err(ScriptFault::BadLine(number)),
+        }
+    }
+    Ok(lines)
+}
+
+// The number of the line in which the first byte past the most stands, where there is one. A line feed
+// belongs to the line that it ends.
+fn line_over(input: &[u8]) -> Option<usize>
+    ensures { MatchOption result (length input.now ≤ 1048576)
+        (λ n. (1048576 < length input.now) × (n ≡ ended_lines (take 1048576 input.now) + 1)) }
+{
+    if input.len() <= MOST_INPUT {
+        return None;
+    }
+    let before = input[..MOST_INPUT]
+        .iter()
+        .filter(|byte| **byte == b'\n')
+        .count();
+    Some(before + 1)
+}
+
+// Whether the line of this number is before the one at which the script is too long.
+fn is_within(number: usize, over: Option<usize>) -> bool
+    ensures { IsTrue result ↔ IfSome over (λ first. number < first) }
+{
+    match over {
+        None => true,
+        Some(first) => number < first,
+    }
+}
+
+// Whether a line is passed over.
+fn is_skipped(text: &[u8]) -> bool
+    ensures { result ≡ is_skipped text.now }
+{
+    match text.first() {
+        None => true,
+        Some(first) => *first == b'#',
+    }
+}
+
+fn parse_line<'a>(names: &Names, text: &'a [u8], cpus: u32) -> Option<Line<'a>>
+    requires { IsNames names.now }
+    ensures { MatchOption result ((line : Line) → ¬ IsLineText cpus line text.entry.now)
+        (λ line. IsLineText cpus line text.entry.now) }
+{
+    let (processor, rest) = first_word(text)?;
+    let processor = number(processor)?;
+    if processor < 1 || cpus < processor {
+        return None;
+    }
+    let command = parse_command(names, rest)?;
+    Some(Line { processor, command })
+}
+
+fn parse_command<'a>(names: &Names, text: &'a [u8]) -> Option<Command<'a>>
+    requires { IsNames names.now }
+    ensures { MatchOption result ((command : Command) → ¬ IsCommandText command text.entry.now)
+        (λ command. IsCommandText command text.entry.now) }
+{
+    match first_word(text) {
+        None => match verb_of(names, text)? {
+            Verb::Blocks => Some(Command::Blocks),
+            Verb::Show => Some(Command::Show),
+            Verb::Mkdir | Verb::Alloc | Verb::Write | Verb::Read => None,
+        },
+        Some((name, arguments)) => match verb_of(names, name)? {
+            Verb::Mkdir => Some(Command::Mkdir {
+                path: path_of(arguments)?,
+            }),
+            Verb::Alloc => {
+                let (path, order) = parse_alloc(arguments)?;
+                Some(Command::Alloc { path, order })
+            }
+            Verb::Write => {
+                let (path, file, value) = parse_write(arguments)?;
+                Some(Command::Write { path, file, value })
+            }
+            Verb::Read => {
+                let (path, file) = parse_read(arguments)?;
+                Some(Command::Read { path, file })
+            }
+            Verb::Blocks | Verb::Show => None,
+        },
+    }
+}
+
+// The path and the order.
+fn parse_alloc(arguments: &[u8]) -> Option<(&[u8], u32)>
+    ensures { MatchOption result
+        ((path : List ℕ) (order : ℕ) → ¬ IsAllocText path order arguments.now)
+        (λ p. IsAllocText p.0.now p.1 arguments.now) }
+{
+    let (path, order) = first_word(arguments)?;
+    Some((path_of(path)?, number(order)?))
+}
+
+// The path, the file's name and the value, which is all that follows the space after the name.
+fn parse_write(arguments: &[u8]) -> Option<(&[u8], &[u8], &[u8])>
+    ensures { MatchOption result
+        ((path : List ℕ) (file : List ℕ) (value : List ℕ) → ¬ IsWriteText path file value arguments.now)
+        (λ p. IsWriteText p.0.now p.1.now p.2.now arguments.now) }
+{
+    let (path, rest) = first_word(arguments)?;
+    let (file, value) = first_word(rest)?;
+    Some((path_of(path)?, path_of(file)?, value))
+}
+
+// The path and the file's name.
+fn parse_read(arguments: &[u8]) -> Option<(&[u8], &[u8])>
+    ensures { MatchOption result
+        ((path : List ℕ) (file : List ℕ) → ¬ IsReadText path file arguments.now)
+        (λ p. IsReadText p.0.now p.1.now arguments.now) }
+{
+    let (path, file) = first_word(arguments)?;
+    Some((path_of(path)?, path_of(file)?))
+}
+
+// What stands before the first space, and what stands after it. None where there is no space.
+fn first_word(text: &[u8]) -> Option<(&[u8], &[u8])>
+    ensures { MatchOption result (All (λ b. b ≢ 32) text.now) (λ p. IsCut text.now p.0.now p.1.now) }
+{
+    let end = text.iter().position(|byte| *byte == b' ')?;
+    Some((&text[..end], &text[end + 1..]))
+}
+
+// The text, where it is a path or a file name: some bytes above 32 and below 127.
+fn path_of(text: &[u8]) -> Option<&[u8]>
+    ensures { MatchOption result (¬ IsPathText text.now) (λ path. IsPathText text.now × (path.now ≡ text.now)) }
+{
+    if text.is_empty() || !text.iter().all(|byte| byte.is_ascii_graphic()) {
+        return None;
+    }
+    Some(text)
+}
+
+#[cfg(test)]
+mod tests;

@@ -1,0 +1,43 @@
+//! The names of the commands.
+
+ghost use Rattle.std.specs.Prelude.{◌≡◌, IfOk};
+ghost use Rattle.script_lines.specs.Verb.{IsNames, verb_named};
+
+use indexmap::IndexMap;
+use std::alloc::{AllocError, Global};
+
+/// Which command a line has.
+#[derive(Clone, Copy, Debug, PartialEq, Eq)]
+pub enum Verb {
+    Mkdir,
+    Alloc,
+    Write,
+    Read,
+    Blocks,
+    Show,
+}
+
+/// The commands by their names, as a script writes them.
+pub type Names = IndexMap<&'static [u8], Verb>;
+
+/// A new table of all commands by their names. `AllocError` comes where memory is wanting.
+pub fn command_names(alloc: Global) -> Result<Names, AllocError>
+    ensures { IfOk result IsNames }
+{
+    let mut names = IndexMap::new(alloc);
+    names.insert(b"mkdir".as_slice(), Verb::Mkdir)?;
+    names.insert(b"alloc".as_slice(), Verb::Alloc)?;
+    names.insert(b"write".as_slice(), Verb::Write)?;
+    names.insert(b"read".as_slice(), Verb::Read)?;
+    names.insert(b"blocks".as_slice(), Verb::Blocks)?;
+    names.insert(b"show".as_slice(), Verb::Show)?;
+    Ok(names)
+}
+
+/// The command of this name, where there is one.
+pub fn verb_of(names: &Names, name: &[u8]) -> Option<Verb>
+    requires { IsNames names.now }
+    ensures { result ≡ verb_named name.now }
+{
+    names.get(name).copied()
+}

@@ -1,0 +1,76 @@
+-- Event counts over a run (memory.events and memory.events.local of cgroup-v2.rst).
+use Rattle.std.specs.Prelude.{◌≡◌, ℕ, ◌+◌, ◌==◌, min, Bool, false, Option, Some, None, List, [], fold, if◌then◌else◌}
+use Rattle.group_tree.specs.declared.group.Group.{Group}
+use Rattle.group_tree.specs.Room.{max_count, one_more}
+use Rattle.step_rules.specs.declared.step.Step.{Step}
+use Rattle.step_rules.specs.declared.step.Action.{Action}
+use Rattle.step_rules.specs.declared.step.Action.TheVariants as action
+use Rattle.step_rules.specs.declared.step.Answer.{Answer}
+use Rattle.step_rules.specs.declared.step.Answer.TheVariants.{Done, Number}
+use Rattle.step_rules.specs.State.{Zone, State, at_boot, one_if}
+use Rattle.step_rules.specs.Usage.{is_below}
+use Rattle.step_rules.specs.Legal.{is_of_group}
+use Rattle.step_rules.specs.After.{Run, after, state_of}
+use Rattle.step_rules.specs.Laws.{pushed}
+
+-- the kinds of event that are counted, named as the keys of memory.events: usage was about to go over the limit, the limit
+-- could not be kept by reclaim, and a group was killed
+pub data EventKey : Type 0 where
+  Max : EventKey
+  Oom : EventKey
+  OomKill : EventKey
+
+-- the group at which a step notes an event of this kind
+abbrev pub noted_at : EventKey → Action → Answer → Option ℕ
+noted_at Max (action.NoteMax g) Done = Some g
+noted_at Oom (action.NoteOom g) Done = Some g
+noted_at OomKill (action.Kill g) Done = Some g
+noted_at key step answer = None
+
+-- a step notes an event of this kind at a group of g's subtree
+abbrev pub is_noted_below : EventKey → ℕ → List Group → Action → Answer → Bool
+is_noted_below key g groups step answer = is_below groups g (noted_at key step answer)
+
+-- a step notes an event of this kind at g itself
+abbrev pub is_noted_at : EventKey → ℕ → List Group → Action → Answer → Bool
+is_noted_at key g groups step answer = is_of_group (noted_at key step answer) g
+
+-- the step makes group g
+abbrev pub makes_group : ℕ → Action → Answer → Bool
+makes_group g (action.Make path) (Number n) = g == n
+makes_group g step answer = false
+
+-- the state, and how many steps passed the test since g was made, after one more pair
+abbrev pub with_passed : (List Group → Action → Answer → Bool) → ℕ → State × ℕ → Step × Answer → State × ℕ
+with_passed test g t e =
+    (after t.0 e.0.seat e.0.action e.1, if makes_group g e.0.action e.1 then 0 else t.1 + one_if (test t.0.groups e.0.action e.1))
+
+-- how many steps of the run passed the test since g was made, each tested with the groups of that moment
+abbrev pub passed_since_made : (List Group → Action → Answer → Bool) → ℕ → Zone → Run → ℕ
+passed_since_made test g zone run = (fold (with_passed test g) (at_boot zone, 0) run).1
+
+-- memory.events: how many events of this kind were noted at the group and at those below it since it was made; a count
+-- stays at 2^64 - 1
+abbrev pub events_of : EventKey → Zone → Run → ℕ → ℕ
+events_of key zone run g = min (passed_since_made (is_noted_below key g) g zone run) max_count
+
+-- memory.events.local: how many were noted at the group itself
+abbrev pub events_local_of : EventKey → Zone → Run → ℕ → ℕ
+events_local_of key zone run g = min (passed_since_made (is_noted_at key g) g zone run) max_count
+
+-- a count of g after one more step: one more where an event was noted, and 0 where g is made
+abbrev pub count_after : (List Group → Action → Answer → Bool) → ℕ → List Group → Action → Answer → ℕ → ℕ
+count_after test g groups step answer count =
+    if makes_group g step answer then 0 else (if test groups step answer then one_more count else count)
+
+-- how one more step changes both counts of each group, of each kind
+pub record EventsFollow (zone : Zone) (run : Run) (step : Step) (answer : Answer) (key : EventKey) (g : ℕ) : Type 0 where
+  pub below : events_of key zone (pushed run step answer) g ≡ count_after (is_noted_below key g) g (state_of zone run).groups step.action answer
+      (events_of key zone run g)
+  pub local : events_local_of key zone (pushed run step answer) g
+      ≡ count_after (is_noted_at key g) g (state_of zone run).groups step.action answer (events_local_of key zone run g)
+
+-- at boot no event was noted, and each step notes what it says
+pub record EventsAreCounted : Type 0 where
+  pub boot : (zone : Zone) (key : EventKey) (g : ℕ) → (events_of key zone [] g ≡ 0) × (events_local_of key zone [] g ≡ 0)
+  pub step : (zone : Zone) (run : Run) (step : Step) (answer : Answer) (key : EventKey) (g : ℕ) → EventsFollow zone run step answer key g

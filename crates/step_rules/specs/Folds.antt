@@ -1,0 +1,130 @@
+-- What a run says of limits, killed groups, the lock, lists and stocks, each folded over its pairs apart from the state.
+use Rattle.std.specs.Prelude.{◌≡◌, ℕ, ◌==◌, Bool, true, false, Option, Some, None, is_some, List, [], fold, if◌then◌else◌}
+use Rattle.group_tree.specs.Groups.{has_group, limit_of}
+use Rattle.step_rules.specs.declared.phase.Hold.{Hold}
+use Rattle.step_rules.specs.declared.phase.Hold.TheVariants.{Unheld, HeldBy, Visiting}
+use Rattle.step_rules.specs.declared.step.Action.{Action}
+use Rattle.step_rules.specs.declared.step.Action.TheVariants.{Lock, Unlock, OpenVisit, ShutVisit, Put, TakeIn, PassBack, Consume, Credit}
+use Rattle.step_rules.specs.declared.step.Action.TheVariants.{Fill, DrainStock, SetMax, Make, Kill}
+use Rattle.step_rules.specs.declared.step.Answer.{Answer}
+use Rattle.step_rules.specs.declared.step.Answer.TheVariants.{Done, Last, Took, Back, Pages, Number}
+use Rattle.step_rules.specs.State.{Zone, without, with_last, front_of, is_cpu}
+use Rattle.step_rules.specs.After.{Run, state_of, IsLegalRun}
+
+-- ---- groups
+-- the limit of group g after one more step
+abbrev pub limit_after : ℕ → Option ℕ → Action → Answer → Option ℕ
+limit_after g old (SetMax h limit) Done = if g == h then limit else old
+limit_after g old (Make path) (Number n) = if g == n then None else old
+limit_after g old action answer = old
+
+-- memory.max: the limit that the group was given last since it was made, in pages, or none
+abbrev pub limit_given : Run → ℕ → Option ℕ
+limit_given run g = fold (λ old e. limit_after g old e.0.action e.1) None run
+
+-- whether group g is killed after one more step
+abbrev pub killed_after : ℕ → Bool → Action → Answer → Bool
+killed_after g old (Kill h) Done = if g == h then true else old
+killed_after g old (Make path) (Number n) = if g == n then false else old
+killed_after g old action answer = old
+
+-- a kill of the group was made since it was made, or since the start
+abbrev pub was_killed : Run → ℕ → Bool
+was_killed run g = fold (λ old e. killed_after g old e.0.action e.1) false run
+
+-- the state has the limit and the kill of each group that the run says
+pub record GroupsAreTold (zone : Zone) (run : Run) (g : ℕ) : Type 0 where
+  pub limit : has_group (state_of zone run).groups g ≡ true → limit_of (state_of zone run).groups g ≡ limit_given run g
+  pub killed : (state_of zone run).killed g ≡ was_killed run g
+
+-- so it is after every legal run
+abbrev pub AllGroupsAreTold : Type 0
+AllGroupsAreTold = (zone : Zone) (run : Run) → IsLegalRun zone run → (g : ℕ) → GroupsAreTold zone run g
+
+-- ---- the lock
+-- who holds the lock after one more step
+abbrev pub holder_after : Option ℕ → ℕ → Action → Answer → Option ℕ
+holder_after old seat Lock Done = Some seat
+holder_after old seat Unlock Done = None
+holder_after old seat action answer = old
+
+-- the seat that took the lock last and hasn't given it back; the lock is free where there is none
+abbrev pub holder_of : Run → Option ℕ
+holder_of run = fold (λ old e. holder_after old e.0.seat e.0.action e.1) None run
+
+-- whether a visit is open after one more step
+abbrev pub open_after : Bool → Action → Answer → Bool
+open_after old (OpenVisit p) Done = true
+open_after old (ShutVisit p) Done = false
+open_after old action answer = old
+
+-- the last visit was opened and not shut
+abbrev pub has_visit : Run → Bool
+has_visit run = fold (λ old e. open_after old e.0.action e.1) false run
+
+-- who holds the lock, and whether it visits, as one
+abbrev pub hold_of : Option ℕ → Bool → Hold
+hold_of None visit = Unheld
+hold_of (Some p) false = HeldBy p
+hold_of (Some p) true = Visiting p
+
+-- the state has the holder and the visit that the run says; and no visit is open while the lock is free
+pub record LockIsTold (zone : Zone) (run : Run) : Type 0 where
+  pub hold : (state_of zone run).hold ≡ hold_of (holder_of run) (has_visit run)
+  pub free : holder_of run ≡ None → has_visit run ≡ false
+
+-- so it is after every legal run
+abbrev pub TheLockIsTold : Type 0
+TheLockIsTold = (zone : Zone) (run : Run) → IsLegalRun zone run → LockIsTold zone run
+
+-- ---- a processor's frames
+-- the frames in a processor's hand: its list, its fresh frames and its back frames
+pub record InHand : Type 0 where
+  pub list : List ℕ
+  pub fresh : List ℕ
+  pub back : List ℕ
+
+-- the hand of processor p after one more step: a frame that is taken in, or credited, goes to the end of the list; the
+-- front of the list that is consumed to the fresh frames; a last put to the back frames; what is passed back is gone
+abbrev pub hand_after : ℕ → InHand → ℕ → Action → Answer → InHand
+hand_after p old seat (TakeIn f) Done = if p == seat then record old { list = with_last old.list f } else old
+hand_after p old seat (Credit f) Back = if p == seat then record old { list = with_last old.list f; fresh = without f old.fresh } else old
+hand_after p old seat (Consume g) Took =
+    if p == seat then record old { list = without (front_of old.list) old.list; fresh = with_last old.fresh (front_of old.list) } else old
+hand_after p old seat (Put f) Last = if p == seat then record old { back = with_last old.back f } else old
+hand_after p old seat (PassBack f) Done =
+    if p == seat then record { list = without f old.list; fresh = without f old.fresh; back = without f old.back } else old
+hand_after p old seat action answer = old
+
+-- the hand of a processor
+abbrev pub hand_of : Run → ℕ → InHand
+hand_of run p = fold (λ old e. hand_after p old e.0.seat e.0.action e.1) (record { list = []; fresh = []; back = [] }) run
+
+-- ---- a processor's stock
+-- a fill of a stock: the group, if there was one, and whether a drain followed
+pub record LastFill : Type 0 where
+  pub group : Option ℕ
+  pub is_drained : Bool
+
+-- the last fill of processor p's stock after one more step
+abbrev pub fill_after : ℕ → LastFill → Action → Answer → LastFill
+fill_after p old (Fill q g n) Done = if p == q then record { group = Some g; is_drained = false } else old
+fill_after p old (DrainStock q) (Pages n) = if p == q then record old { is_drained = is_some old.group } else old
+fill_after p old action answer = old
+
+-- the last fill of the processor's stock
+abbrev pub last_fill : Run → ℕ → LastFill
+last_fill run p = fold (λ old e. fill_after p old e.0.action e.1) (record { group = None; is_drained = false }) run
+
+-- the state has the processor's list, fresh frames and back frames that the run says, and its stock is of the group of its
+-- last fill, and drained exactly where a drain followed that
+pub record PartIsTold (zone : Zone) (run : Run) (p : ℕ) : Type 0 where
+  pub list : ((state_of zone run).parts p).list ≡ (hand_of run p).list
+  pub fresh : ((state_of zone run).parts p).fresh ≡ (hand_of run p).fresh
+  pub back : ((state_of zone run).parts p).back ≡ (hand_of run p).back
+  pub group : ((state_of zone run).parts p).stock.group ≡ (last_fill run p).group
+  pub is_drained : ((state_of zone run).parts p).stock.is_drained ≡ (last_fill run p).is_drained
+
+-- so it is of each processor after every legal run
+abbrev pub AllPartsAreTold : Type 0
+AllPartsAreTold = (zone : Zone) (run : Run) → IsLegalRun zone run → (p : ℕ) → is_cpu zone p ≡ true → PartIsTold zone run p

@@ -1,0 +1,29 @@
+-- Which units were published: kept for their group, until they come back.
+use Rattle.std.specs.Prelude.{◌≡◌, ℕ, ◌==◌, ◌||◌, Bool, true, false, fold, if◌then◌else◌}
+use Rattle.step_rules.specs.declared.step.Action.{Action}
+use Rattle.step_rules.specs.declared.step.Action.TheVariants.{Publish, Return}
+use Rattle.step_rules.specs.declared.step.Answer.{Answer}
+use Rattle.step_rules.specs.declared.step.Answer.TheVariants.{Done}
+use Rattle.step_rules.specs.Phases.{is_head, is_live}
+use Rattle.step_rules.specs.State.{Zone}
+use Rattle.step_rules.specs.After.{Run, state_of, IsLegalRun}
+use Rattle.step_rules.specs.Returns.{is_open}
+
+-- whether frame f is published after one more step
+abbrev pub published_after : ℕ → Bool → Action → Answer → Bool
+published_after f old (Publish g) Done = if f == g then true else old
+published_after f old (Return g) Done = if f == g then false else old
+published_after f old action answer = old
+
+-- the frame was published and has not come back since
+abbrev pub is_published : Run → ℕ → Bool
+is_published run f = fold (λ old e. published_after f old e.0.action e.1) false run
+
+-- a published frame heads a charged unit, and is at the stage Live, or has an end that is open
+pub record PublishedIsKept (zone : Zone) (run : Run) (f : ℕ) : Type 0 where
+  pub head : is_published run f ≡ true → is_head ((state_of zone run).phases f) ≡ true
+  pub used_or_ended : is_published run f ≡ true → (is_live ((state_of zone run).phases f) || is_open ((state_of zone run).phases f)) ≡ true
+
+-- so it is after every legal run
+abbrev pub AllPublishedIsKept : Type 0
+AllPublishedIsKept = (zone : Zone) (run : Run) → IsLegalRun zone run → (f : ℕ) → PublishedIsKept zone run f

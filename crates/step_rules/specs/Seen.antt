@@ -1,0 +1,54 @@
+-- Which steps are legal, told by what a processor sees.
+use Rattle.std.specs.Prelude.{◌≡◌, ◌≢◌, ◌⊎◌, ℕ, true, false}
+use Rattle.step_rules.specs.declared.phase.Hold.TheVariants.{HeldBy}
+use Rattle.step_rules.specs.declared.step.Action.{Action}
+use Rattle.step_rules.specs.declared.step.Action.TheVariants.{Lock, Unlock}
+use Rattle.step_rules.specs.declared.step.Answer.TheVariants.{Illegal, Done}
+use Rattle.step_rules.specs.State.{Zone, State, is_unheld, free_in}
+use Rattle.step_rules.specs.Usage.{usage_of}
+use Rattle.step_rules.specs.Legal.{is_legal, Allows}
+use Rattle.step_rules.specs.After.{Run, state_of, IsLegalRun}
+use Rattle.step_rules.specs.Cover.{hide}
+use Rattle.step_rules.specs.Laws.{ShowsLocal, pushed}
+
+-- what p sees tells whether a step is legal: by the same table
+pub record LegalityIsSeen (s local : State) (seat : ℕ) (action : Action) : Type 0 where
+  pub same : is_legal local seat action ≡ is_legal s seat action
+  pub illegal : is_legal local seat action ≡ false → Allows s seat action Illegal
+  pub not_illegal : Allows s seat action Illegal → is_legal local seat action ≡ false
+
+-- after a run that shows p a local state, each step of p or the zone's seat is legal exactly where it is on the local state,
+-- and so answered Illegal exactly where it isn't
+abbrev pub AllLegalityIsSeen : Type 0
+AllLegalityIsSeen = (zone : Zone) (run : Run) (p : ℕ) (local : State) → ShowsLocal zone run p local →
+    (seat : ℕ) (action : Action) → (seat ≡ 0) ⊎ (seat ≡ p) → LegalityIsSeen (state_of zone run) local seat action
+
+-- the run is legal, and leaves the lock free
+pub record IsFreeAfter (zone : Zone) (run : Run) : Type 0 where
+  pub legal : IsLegalRun zone run
+  pub free : is_unheld (state_of zone run).hold ≡ true
+
+-- where p may take the lock, it takes it and sees the state then; and where it may give it back by what it sees, it gives
+-- it back, and the lock is free
+pub record LockIsPassedOn : Type 0 where
+  pub taken : (zone : Zone) (run : Run) (p : ℕ) → IsLegalRun zone run → is_legal (state_of zone run) p Lock ≡ true →
+      ShowsLocal zone (pushed run (record { seat = p; action = Lock }) Done) p (hide p (record (state_of zone run) { hold = HeldBy p }))
+  pub given_back : (zone : Zone) (run : Run) (p : ℕ) (local : State) → ShowsLocal zone run p local → is_legal local p Unlock ≡ true →
+      IsFreeAfter zone (pushed run (record { seat = p; action = Unlock }) Done)
+
+-- what p sees of the whole state as it is: the groups with their limits, who is killed, what is pending, the usage of each
+-- group, which frames are free, and p's own part; and of each other processor the book, which is what p sees as its stock
+pub record SeesAll (s local : State) (p : ℕ) : Type 0 where
+  pub zone : local.zone ≡ s.zone
+  pub groups : local.groups ≡ s.groups
+  pub killed : local.killed ≡ s.killed
+  pub pending : local.pending ≡ s.pending
+  pub usage : (g : ℕ) → usage_of local g ≡ usage_of s g
+  pub free : free_in local.zone local.phases ≡ free_in s.zone s.phases
+  pub own : local.parts p ≡ s.parts p
+  pub book : (q : ℕ) → (local.parts q).book ≡ (s.parts q).book
+  pub others : (q : ℕ) → q ≢ p → (local.parts q).stock.pages ≡ (s.parts q).book
+
+-- so it is after every run that shows p a local state
+abbrev pub AllIsSeen : Type 0
+AllIsSeen = (zone : Zone) (run : Run) (p : ℕ) (local : State) → ShowsLocal zone run p local → SeesAll (state_of zone run) local p

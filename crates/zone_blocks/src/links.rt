@@ -1,0 +1,65 @@
+//! The records through which the free blocks of each order are linked.
+
+ghost use Rattle.std.specs.Prelude.{◌≡◌, ◌<◌, IfOk, length};
+ghost use Rattle.zone_blocks.specs.Links.{next_of, prev_of, Joins};
+
+use std::alloc::{AllocError, Global};
+use std::marker::Model;
+
+/// The two neighbours of a node in its list.
+#[derive(Clone, Copy)]
+pub(crate) struct Link {
+    next: usize,
+    prev: usize,
+}
+
+/// A record for each node, seen as their list.
+#[derive(Drop)]
+pub(crate) struct Links {
+    records: Vec<Link>,
+}
+
+impl Model for Links {
+    ghost use Rattle.std.specs.Prelude.{List};
+    ghost use Rattle.zone_blocks.specs.declared.links.Link.{Link};
+
+    ghost Value = { List Link };
+
+    ghost view = { λ l. l.records.items };
+}
+
+impl Links {
+    /// The records of this many nodes.
+    pub fn new(alloc: Global, nodes: usize) -> Result<Links, AllocError>
+        ensures { IfOk result (λ links. length links ≡ nodes) }
+    {
+        let records = vec![in alloc; Link { next: 0, prev: 0 }; nodes]?;
+        Ok(Links { records })
+    }
+
+    /// The node behind this one.
+    pub fn next(&self, node: usize) -> usize
+        requires { node < length self.now }
+        ensures { result ≡ next_of self.now node }
+    {
+        self.records[node].next
+    }
+
+    /// The node before this one.
+    pub fn prev(&self, node: usize) -> usize
+        requires { node < length self.now }
+        ensures { result ≡ prev_of self.now node }
+    {
+        self.records[node].prev
+    }
+
+    /// Makes `after` the node behind `before`, and `before` the one before `after`.
+    pub fn join(&mut self, before: usize, after: usize)
+        requires before { before < length self.old }
+        requires after { after < length self.old }
+        ensures { Joins self.old before after self.new }
+    {
+        self.records[before].next = after;
+        self.records[after].prev = before;
+    }
+}

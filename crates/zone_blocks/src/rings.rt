@@ -1,0 +1,102 @@
+//! The nodes of the lists: for each order the heads and the blocks, and the bits by which the node
+//! before a block is found.
+
+ghost use Rattle.std.specs.Prelude.{◌≡◌, ◌≤◌, ◌<◌, ◌+◌, ◌*◌, ◌/◌, ◌^◌, ◌↔◌, IsTrue, IfOk, MatchOption, ℕ, length, []};
+ghost use Rattle.zone_blocks.specs.declared.block.Block.{Block};
+ghost use Rattle.zone_blocks.specs.Links.{next_of};
+ghost use Rattle.zone_blocks.specs.OrderLists.{AreBlockBits, AreRings, MeetsRange, IsNodeBelow, blocks_of};
+
+use crate::block::Block;
+use crate::links::Links;
+use crate::order::Order;
+use bit_levels::levels::BitLevels;
+use std::alloc::{AllocError, Global};
+
+/// The bits of a zone in which no block is there.
+pub fn new_bits(alloc: Global, frames: u32) -> Result<Vec<BitLevels>, AllocError>
+    ensures bits { IfOk result (λ all. AreBlockBits frames all.items) }
+    ensures none { IfOk result (λ all. blocks_of frames all.items ≡ []) }
+{
+    let mut all = Vec::with_capacity(alloc, Order::COUNT as usize)?;
+    for exponent in 0..Order::COUNT {
+        let bits = BitLevels::new(alloc, (frames >> exponent) as usize)?;
+        all.push_reserved(bits);
+    }
+    Ok(all)
+}
+
+/// The rings of a zone in which no block is there: each head stands before and behind itself.
+pub fn new_rings(alloc: Global, frames: u32) -> Result<Links, AllocError>
+    ensures { IfOk result (λ links. AreRings frames [] links) }
+{
+    let mut links = Links::new(alloc, frames as usize + Order::COUNT as usize)?;
+    for exponent in 0..Order::COUNT as usize {
+        let head = frames as usize + exponent;
+        links.join(head, head);
+    }
+    Ok(links)
+}
+
+/// The head of the ring of an order: it stands behind all frames.
+pub fn head_of(frames: u32, order: Order) -> usize
+    ensures head { result ≡ frames + order }
+    ensures within { order ≤ 10 }
+{
+    frames as usize + order.exponent() as usize
+}
+
+/// The block of this order that begins at a node, unless that is a head.
+pub fn block_at(frames: u32, order: Order, node: usize) -> Option<Block>
+    ensures { MatchOption result (frames ≤ node) (λ block. (node < frames) × (block ≡ record { at = node; order = order })) }
+{
+    if node < frames as usize {
+        Some(Block {
+            at: node as u32,
+            order,
+        })
+    } else {
+        None
+    }
+}
+
+/// The first block of an order.
+pub fn first_of(links: &Links, frames: u32, order: Order) -> Option<Block>
+    requires { length links.now ≡ frames + 11 }
+    ensures order { order ≤ 10 }
+    ensures first { MatchOption result (frames ≤ next_of links.now (frames + order))
+        (λ block. (next_of links.now (frames + order) < frames) × (block ≡ record { at = next_of links.now (frames + order); order = order })) }
+{
+    block_at(frames, order, links.next(head_of(frames, order)))
+}
+
+/// The node before that of a block's number in the ring of its order.
+pub fn node_below(bits: &BitLevels, frames: u32, order: Order, number: usize) -> usize
+    requires bits { length bits.now ≡ frames / 2 ^ order }
+    requires number { number < length bits.now }
+    ensures { IsNodeBelow frames bits.now order number result }
+{
+    let Some(below) = bits.last_below(number) else {
+        return head_of(frames, order);
+    };
+    below * order.frames() as usize
+}
+
+/// Whether a block of this order, of which these are the bits, has a frame from `at` to before
+/// `end`.
+pub fn meets_range(bits: &BitLevels, order: Order, at: u32, end: usize) -> bool
+    requires { end ≤ 2 ^ 33 }
+    ensures { IsTrue result ↔ MeetsRange bits.now order at end }
+{
+    let size = order.frames() as usize;
+    // So many blocks of the order begin before the end.
+    let stop = (end + size - 1) >> order.exponent();
+    let first = (at as usize) >> order.exponent();
+    if first + 1 == stop {
+        // One block of the order has the whole range.
+        return first < bits.len() && bits.contains(first);
+    }
+    let Some(last) = bits.last_below(stop.min(bits.len())) else {
+        return false;
+    };
+    first <= last
+}
