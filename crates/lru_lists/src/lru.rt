@@ -4,6 +4,7 @@ ghost use Rattle.std.specs.Prelude.{◌≡◌, ◌≢◌, ◌<◌, ◌++◌, [],
 ghost use Rattle.lru_lists.specs.Queue.{link_at, nowhere, unlinked};
 ghost use Rattle.lru_lists.specs.declared.record.Link.{Link};
 ghost use Rattle.lru_lists.specs.declared.record.LruList.{LruList};
+ghost use Rattle.lru_lists.specs.declared.record.LruList.TheVariants.{Inactive};
 ghost use Rattle.lru_lists.specs.Lists.{StandsIn, HasNoUnits, IsOnNone, ChangesOwn, MovesOnly, KeepsUnits, Touches, Ages};
 ghost use Rattle.lru_lists.specs.Lists.{inactive_of, active_of, entries_of, entries_without, changed_at, dirtied, marked, list_of, entry_of};
 ghost use Rattle.lru_lists.specs.Lists.{is_marked_by_touch, home_of, queue_of, with_queue, first_entry, entry_after};
@@ -133,6 +134,8 @@ impl Lru {
             ≡ inactive_of links.old self.old ++ record { number = unit; is_marked = false; is_dirty = false } ∷ [] }
         ensures active { active_of links.new self.new ≡ active_of links.old self.old }
         ensures others { ChangesOwn links.old links.new self.old.owner }
+        ensures moves { MovesOnly links.old links.new self.old.owner unit }
+        ensures joined { (link_at links.new unit).home ≡ Some (home_of self.old Inactive) }
     {
         links.forget(unit);
         self.push(links, LruList::Inactive, unit);
@@ -175,6 +178,7 @@ impl Lru {
         ensures active { active_of links.new self.new ≡ entries_without unit (active_of links.old self.old) }
         ensures forgotten { link_at links.new unit ≡ nowhere }
         ensures others { ChangesOwn links.old links.new self.old.owner }
+        ensures moves { MovesOnly links.old links.new self.old.owner unit }
     {
         let list = self.list(links, unit);
         self.pull(links, list, unit);

@@ -30,3 +30,8 @@ returns-clause-others c =
     (moves_both c.args.links.now c.forget.new.self c.push.new.links c.args.self.now.owner c.args.unit
     (rw c.forget.ensures (forgotten_moves c.args.links.now c.args.self.now.owner c.args.unit)) c.push.ensures.moves)
     c.requires.away c.push.ensures.unit
+
+pub returns-clause-moves : goal.returns-clause-moves
+returns-clause-moves c =
+    moves_both c.args.links.now c.forget.new.self c.push.new.links c.args.self.now.owner c.args.unit
+    (rw c.forget.ensures (forgotten_moves c.args.links.now c.args.self.now.owner c.args.unit)) c.push.ensures.moves

@@ -1,7 +1,7 @@
 use Rattle.std.proofs.Common.{slice_set}
 use Rattle.lru_lists.specs.declared.record.LruList.TheVariants.{Inactive, Active}
 use Rattle.lru_lists.specs.Queue.{nowhere}
-use Rattle.lru_lists.proofs.Pairs.{AfterTakeOff, after_take_off}
+use Rattle.lru_lists.proofs.Pairs.{AfterTakeOff, after_take_off, forgotten_moves, moves_both}
 use Rattle.lru_lists.proofs.lru.Lru.take_off.Goals as goal
 
 pub returns-clause-stands : goal.returns-clause-stands
@@ -27,3 +27,8 @@ returns-clause-active c =
     after_take_off c.args.links.now c.pull.new.links c.args.self.now c.pull.new.self c.list-list.result c.args.unit
     c.requires.stands c.list-list.ensures p.stands p.entries p.other p.unit (rw p.moves.frames c.requires.frame) in
     rw c.forget.ensures (all.entries Active)
+
+pub returns-clause-moves : goal.returns-clause-moves
+returns-clause-moves c =
+    moves_both c.args.links.now c.pull.new.links c.forget.new.self c.args.self.now.owner c.args.unit c.pull.ensures.moves
+    (rw c.forget.ensures (forgotten_moves c.pull.new.links c.args.self.now.owner c.args.unit))
