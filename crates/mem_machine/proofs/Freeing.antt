@@ -48,7 +48,8 @@ frees_none spots at = record {
   records = λ f. sym (ap (λ (b : Bool). cond b Free (spot_at spots f)) (is_out at 0 f (λ a b. absurd (omega (arith, a, b)))));
 }
 
-pub frees_more : (spots now : List Spot) (at n : ℕ) → at + n < length spots → FreesFrames spots at n now → FreesFrames spots at (n + 1) (slice_set now (at + n) Free)
+pub frees_more : (spots now : List Spot) (at n : ℕ) → at + n < length spots → FreesFrames spots at n now
+    → FreesFrames spots at (n + 1) (slice_set now (at + n) Free)
 frees_more spots now at n below so_far =
     let long = so_far.frames in
     let inside : at + n < length now = omega (arith, long, below) in
@@ -226,7 +227,8 @@ module _ (spots new : List Spot) (f : ℕ) (unit : ChargedUnit) (heads : spot_at
         elim (cases_eq g unit.group) [
           | inl e ↦
               let a : ◌≡◌ {A = ℕ} (cond (unit.group == g) 1 0) 1 = cond-true (unit.group == g) 1 0 (eq-eqb unit.group g (sym e)) in
-              let b : cond (g == unit.group) (one_if (is_within f n x)) 0 ≡ one_if (is_within f n x) = cond-true (g == unit.group) _ 0 (eq-eqb g unit.group e) in
+              let b : cond (g == unit.group) (one_if (is_within f n x)) 0 ≡ one_if (is_within f n x) =
+              cond-true (g == unit.group) _ 0 (eq-eqb g unit.group e) in
               omega (arith, now, one, was, a, b)
           | inr ne ↦
               let a : ◌≡◌ {A = ℕ} (cond (unit.group == g) 1 0) 0 = cond-false (unit.group == g) 1 0 (ne_eqb unit.group g (λ e. ne (sym e))) in
@@ -275,7 +277,8 @@ module _ (t : KnownTable) (w : Words) (m : KnownMachine) (ok : IsConsistent t w 
       let some : FreesFrames m.spots f (2 ^ unit.order) (freed m.spots f (2 ^ unit.order)) =
       freed_frees m.spots f (2 ^ unit.order) (ok.units.heads f unit heads).block.inside in
       let a = charges_freed m.spots (freed m.spots f (2 ^ unit.order)) f unit heads ok.units some unit.group in
-      let b : cond (unit.group == unit.group) (2 ^ unit.order) 0 ≡ 2 ^ unit.order = cond-true (unit.group == unit.group) _ 0 (eq-eqb unit.group unit.group refl) in
+      let b : cond (unit.group == unit.group) (2 ^ unit.order) 0 ≡ 2 ^ unit.order =
+      cond-true (unit.group == unit.group) _ 0 (eq-eqb unit.group unit.group refl) in
       let c = ok.charged unit.group in
       omega (arith, a, b, c)
     where
