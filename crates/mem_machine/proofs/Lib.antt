@@ -18,3 +18,5 @@ pub mod Grants
 pub mod Placed
 pub mod Units
 pub mod PlacesUnits
+pub mod BlockCharges
+pub mod KeptUnits
