@@ -17,4 +17,12 @@ pub mod Usage
 pub mod Grants
 pub mod Placed
 pub mod Units
+pub mod PlacesUnits
+pub mod BlockCharges
+pub mod KeptUnits
 pub mod Freeing
+pub mod HandOvers
+pub mod Absorbs
+pub mod Shown
+pub mod Fresh
+pub mod Back

@@ -38,7 +38,7 @@ use Rattle.mem_machine.proofs.Records.{free_at, one_covered, length_free, free_g
 use Rattle.mem_machine.proofs.Lends.{parts_changed, references_stay, lent_listed, phases_changed}
 
 -- a list that hasn't the frame stays without it
-without_none : (f : ℕ) (xs : List ℕ) → times f xs ≡ 0 → without f xs ≡ xs
+pub without_none : (f : ℕ) (xs : List ℕ) → times f xs ≡ 0 → without f xs ≡ xs
 without_none f [] none = refl
 without_none f (x ∷ xs) none = elim (cases_eq x f) [
   | inl e ↦
@@ -55,7 +55,7 @@ without_here : (f : ℕ) (rest : List ℕ) → times f rest ≡ 0 → without f 
 without_here f rest none = let t : (f == f) ≡ true = eq-eqb f f refl in rw t (without_none f rest none)
 
 -- the frame that stands in front alone is gone
-without_front : (f : ℕ) (xs rest : List ℕ) → xs ≡ f ∷ rest → times f rest ≡ 0 → without f xs ≡ rest
+pub without_front : (f : ℕ) (xs rest : List ℕ) → xs ≡ f ∷ rest → times f rest ≡ 0 → without f xs ≡ rest
 without_front f xs rest front none =
     ap (without f) front ∙ without_here f rest none
 

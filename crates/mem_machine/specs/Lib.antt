@@ -5,4 +5,6 @@ pub mod Start
 pub mod Lending
 pub mod Stocks
 pub mod Marks
+pub mod Blocks
 pub mod Freeing
+pub mod Settling

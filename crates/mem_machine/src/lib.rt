@@ -2,12 +2,14 @@
 //! their lists of kept units, and the zone's own seats at the two tables. Each call is a list of steps of the core.
 #![tactic(auto)]
 
+mod blocks;
 mod freed;
 mod groups;
 mod lending;
 mod machine;
 mod marks;
 mod readers;
+mod settling;
 mod spot;
 mod start;
 mod stocks;
