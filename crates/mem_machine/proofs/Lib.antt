@@ -18,3 +18,6 @@ pub mod Grants
 pub mod Placed
 pub mod Units
 pub mod Freeing
+pub mod PlacesUnits
+pub mod BlockCharges
+pub mod KeptUnits

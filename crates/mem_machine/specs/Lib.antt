@@ -6,3 +6,4 @@ pub mod Lending
 pub mod Stocks
 pub mod Marks
 pub mod Freeing
+pub mod Blocks
