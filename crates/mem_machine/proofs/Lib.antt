@@ -8,7 +8,6 @@ pub mod Many
 pub mod Takes
 pub mod Draining
 pub mod DrainingAll
-pub mod PlainUsage
 pub mod Prepaying
 pub mod Listed
 pub mod Dirties
@@ -21,3 +20,4 @@ pub mod Freeing
 pub mod PlacesUnits
 pub mod BlockCharges
 pub mod KeptUnits
+pub mod Interleaves
