@@ -1,16 +1,17 @@
 -- A back frame's unit comes back. Serves `return_one`.
-use Rattle.std.proofs.Common.{◌≡◌, ◌≢◌, ℕ, ◌+◌, ◌^◌, ◌<◌, ◌≤◌, Bool, true, false, Option, Some, None, List, [], ◌∷◌, length, get_or, refl, sym, ap, ◌∙◌, subst, arith}
+use Rattle.std.proofs.Common.{◌≡◌, ℕ, ◌+◌, ◌^◌, ◌<◌, ◌≤◌, Bool, Option, Some, None, List, ◌∷◌, length, get_or}
+use Rattle.std.proofs.Common.{refl, sym, ap, ◌∙◌, subst, arith}
 use Rattle.std.specs.Prelude.{is_some, IfSome}
 use Rattle.std.proofs.lemmas.List.{get_or_default}
 use Rattle.zone_blocks.specs.declared.block.Block.{Block}
 use Rattle.zone_blocks.specs.Areas.{AreMaximalBlocks}
 use Rattle.zone_buddy.specs.Zone.{GivesFrames, IsInUse}
 use Rattle.frame_word.specs.declared.view.FrameNote.{FrameNote}
-use Rattle.frame_word.specs.Views.{note_of, gave_back, collected_from}
+use Rattle.frame_word.specs.Views.{note_of, collected_from}
 use Rattle.frame_word.specs.Seats.{KnownTable, KnownSeat, seat_with, HasNothingOf, IsLentToNone, Passes, NothingPasses}
 use Rattle.frame_word.proofs.Notes.{note_here, note_else}
 use Rattle.stock_word.specs.Stock.{Words}
-use Rattle.group_charge.specs.Charges.{Ledger, pages_of, with_uncharge}
+use Rattle.group_charge.specs.Charges.{Ledger, with_uncharge}
 use Rattle.lru_lists.specs.declared.record.Home.{Home}
 use Rattle.cpu_part.specs.Cpus.{KnownCpu, IsTied}
 use Rattle.cpu_part.specs.Calls.{HandsBack}
@@ -28,7 +29,7 @@ use Rattle.mem_machine.specs.Freeing.{FreesFrames}
 use Rattle.mem_machine.specs.Settling.{ReturnsBack, with_last_put, return_steps}
 use Rattle.mem_machine.proofs.Holds.{own_part}
 use Rattle.mem_machine.proofs.Records.{heads_one}
-use Rattle.mem_machine.proofs.Freeing.{free_block_given, unit_in_use, unit_charged, head_inside, unit_freed_consistent}
+use Rattle.mem_machine.proofs.Freeing.{free_block_given, unit_in_use, head_inside, unit_freed_consistent}
 use Rattle.mem_machine.proofs.HandOvers.{handed_visits, IsBackFront, back_front, return_run}
 use Rattle.mem_machine.proofs.Shown.{is_visited, back_phase, back_handed, back_else, phases_freed, parts_back, references_same}
 

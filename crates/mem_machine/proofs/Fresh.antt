@@ -1,54 +1,50 @@
 -- A fresh frame is kept for its group, or dropped. Serves `keep_one` and `drop_one`.
-use Rattle.std.proofs.Common.{◌≡◌, ◌≢◌, ℕ, ◌+◌, ◌-◌, ◌^◌, ◌<◌, ◌≤◌, ◌==◌, Bool, true, false, cond, Option, Some, None, List, [], ◌∷◌, ◌++◌, length, get_or}
+use Rattle.std.proofs.Common.{◌≡◌, ℕ, ◌+◌, ◌^◌, ◌<◌, ◌≤◌, ◌==◌, Bool, true, false, cond, Option, Some, None, List, [], ◌∷◌, length, get_or}
 use Rattle.std.proofs.Common.{refl, sym, ap, ◌∙◌, subst, arith, inl, inr, eq-eqb}
 use Rattle.std.specs.Prelude.{slice_set, nat_le, IfSome}
-use Rattle.std.specs.Cmp.{both_ways}
 use Rattle.std.proofs.lemmas.Bool.{cases_eq, cond-true, false≢true}
 use Rattle.std.proofs.lemmas.List.{get_or-set_same, get_or-set_other, length-set, ext_get_or}
 use Rattle.zone_blocks.specs.declared.block.Block.{Block}
-use Rattle.zone_blocks.specs.Block.{IsBlock}
-use Rattle.zone_blocks.specs.Areas.{IsFree, AreMaximalBlocks}
+use Rattle.zone_blocks.specs.Areas.{AreMaximalBlocks}
 use Rattle.zone_buddy.specs.Zone.{GivesFrames, IsInUse}
 use Rattle.frame_word.specs.declared.view.FrameNote.{FrameNote}
-use Rattle.frame_word.specs.Views.{note_of, gave_back, collected_from, unfrozen}
+use Rattle.frame_word.specs.Views.{note_of, collected_from, unfrozen}
 use Rattle.frame_word.specs.Seats.{KnownTable, KnownSeat, seat_with, HasNothingOf, IsLent, IsInOwnHand}
 use Rattle.frame_word.proofs.Notes.{note_here, changed_twice}
 use Rattle.stock_word.specs.Stock.{Words, Seated, account_of, group_of}
-use Rattle.stock_word.specs.Kinds.{after_report}
-use Rattle.stock_word.specs.Calls.{with_view}
 use Rattle.group_charge.specs.Charges.{Ledger, pages_of, with_uncharge}
 use Rattle.group_charge.proofs.CallerLemmas.{uncharge_pages}
 use Rattle.lru_lists.specs.declared.record.Link.{Link}
 use Rattle.lru_lists.specs.declared.record.Home.{Home}
 use Rattle.lru_lists.specs.declared.lru.Lru.{Lru}
 use Rattle.lru_lists.specs.Lists.{OthersStand, OneOfAllChanges}
-use Rattle.cpu_part.specs.Cpus.{KnownCpu, IsTied, times}
+use Rattle.cpu_part.specs.Cpus.{KnownCpu, IsTied}
 use Rattle.cpu_part.specs.Calls.{HandsFresh}
-use Rattle.step_rules.specs.declared.phase.ChargedUnit.{ChargedUnit}
 use Rattle.step_rules.specs.declared.phase.Stage.TheVariants.{FreshAt, Collected, Live, BackAt}
 use Rattle.step_rules.specs.declared.phase.Phase.TheVariants as phase
 use Rattle.step_rules.specs.declared.step.Action.TheVariants.{Unfreeze, Publish, Return}
 use Rattle.step_rules.specs.declared.step.Answer.TheVariants.{Done}
-use Rattle.step_rules.specs.State.{State, Part}
-use Rattle.step_rules.specs.After.{is_within, without_unit}
+use Rattle.step_rules.specs.State.{State}
+use Rattle.step_rules.specs.After.{is_within}
 use Rattle.mem_machine.specs.declared.spot.Spot.{Spot}
 use Rattle.mem_machine.specs.declared.spot.Spot.TheVariants.{Free, Lent, Head}
 use Rattle.mem_machine.specs.declared.machine.Counts.{Counts}
 use Rattle.mem_machine.specs.Spots.{spot_at, is_free, free_of, group_of as spot_group, head_group_of, some_cpu}
-use Rattle.mem_machine.specs.Machines.{KnownMachine, FitsSpot, IsConsistent, Visits, home_of, is_killed, frames_charged, pages_booked}
-use Rattle.mem_machine.specs.Local.{IsLocalRun, local_of, phase_of, fresh_group, number_or_0}
-use Rattle.mem_machine.specs.Blocks.{PlacesUnit, zone_makes}
+use Rattle.mem_machine.specs.Machines.{KnownMachine, FitsSpot, IsConsistent, Visits, home_of, is_killed, pages_booked}
+use Rattle.mem_machine.specs.Local.{IsLocalRun, local_of, fresh_group, number_or_0}
+use Rattle.mem_machine.specs.Steps.{zone_makes}
+use Rattle.mem_machine.specs.Blocks.{PlacesUnit}
 use Rattle.mem_machine.specs.Freeing.{FreesFrames}
 use Rattle.mem_machine.specs.Settling.{KeepsFresh, DropsFresh, with_page_absorbed, with_drop, keep_steps, drop_steps}
 use Rattle.mem_machine.proofs.Holds.{own_part}
-use Rattle.mem_machine.proofs.Records.{free_at, length_free, free_set, lent_spot, spots_changed, units_stay, charges_stay}
+use Rattle.mem_machine.proofs.Records.{free_at, free_set, lent_spot, spots_changed, units_stay, charges_stay}
 use Rattle.mem_machine.proofs.PlacesUnits.{head_of_block, off_block}
-use Rattle.mem_machine.proofs.KeptUnits.{IsAdded, IsUsed, unit_kept, unit_listed}
+use Rattle.mem_machine.proofs.KeptUnits.{IsAdded, unit_kept, unit_listed}
 use Rattle.mem_machine.proofs.Freeing.{is_out, is_in, free_block_given}
 use Rattle.mem_machine.proofs.Takes.{may_give}
 use Rattle.mem_machine.proofs.Draining.{booked_within}
 use Rattle.mem_machine.proofs.Absorbs.{none_noted, books_fall}
-use Rattle.mem_machine.proofs.HandOvers.{told, handed_visits, IsFreshFront, fresh_front, collect_run, keep_run, drop_run, collected_state, kept_state}
+use Rattle.mem_machine.proofs.HandOvers.{handed_visits, IsFreshFront, fresh_front, collect_run, keep_run, drop_run}
 use Rattle.mem_machine.proofs.Shown.{is_visited, fresh_unit, fresh_phase, fresh_handed, fresh_else, phases_set, phases_freed, parts_absorbed, references_used}
 use Rattle.mem_machine.proofs.Shown.{references_same}
 
@@ -286,14 +282,15 @@ pub keep_all : (t : KnownTable) (w : Words) (m now : KnownMachine) → m ≡ now
       seat = seat;
       stock = stock;
     }) h free
-keep_all t w m now same c h tied ok visit_now free free_is f g was hands i k o index zero_is owner mid seat collects unfreezes stock absorbs lru read links new added_i
-    others all =
+keep_all t w m now same c h tied ok visit_now free free_is f g was hands i k o index zero_is owner mid seat collects unfreezes stock absorbs lru read
+    links new added_i others all =
     let visit : Visits t m c = subst (λ (x : KnownMachine). Visits t x c) (sym same) visit_now in
     let rest = hands.0 in
     let front : c.fresh ≡ f ∷ rest = hands.1 in
     let added : IsAdded m.links lru f links new = subst (λ (j : ℕ). IsAdded m.links lru j links new) index added_i in
     let seat_is : seat ≡ seat_with m.seat f (λ n. unfrozen 1 (collected_from c.number n)) =
-    unfreezes ∙ ap (λ (x : KnownSeat). seat_with x f (unfrozen 1)) collects ∙ (λ j. record { table = m.seat.table; view = changed_twice m.seat.view f (collected_from c.number) (unfrozen 1) j }) in
+    unfreezes ∙ ap (λ (x : KnownSeat). seat_with x f (unfrozen 1)) collects
+    ∙ (λ j. record { table = m.seat.table; view = changed_twice m.seat.view f (collected_from c.number) (unfrozen 1) j }) in
     let one : AllKept t w m c g f (kept t w m c tied ok visit f g was rest front o owner lru read links new added others all) (fresh_handed c f rest) free =
     record {
       consistent = kept_consistent t w m c tied ok visit f g was rest front o owner lru read links new added others all;

@@ -1,6 +1,6 @@
 -- A fresh or a back frame of the processor that is visited comes into the zone's hand: what it sees then, and the steps by which
 -- it is kept, dropped or given back. Serves `settle`.
-use Rattle.std.proofs.Common.{◌≡◌, ◌≢◌, ℕ, ◌+◌, ◌-◌, ◌<◌, ◌≤◌, ◌==◌, ◌&&◌, Bool, true, false, cond, Some, List, [], ◌∷◌, ◌++◌, length, get_or}
+use Rattle.std.proofs.Common.{◌≡◌, ◌≢◌, ℕ, ◌+◌, ◌-◌, ◌<◌, ◌==◌, Bool, true, false, cond, List, [], ◌∷◌, ◌++◌, get_or}
 use Rattle.std.proofs.Common.{refl, sym, ap, ◌∙◌, subst, arith, inl, inr, eq-eqb}
 use Rattle.std.specs.Prelude.{nat_le}
 use Rattle.std.proofs.lemmas.Bool.{cases_eq, and_from, or_left, or_right, le-leb}
@@ -28,8 +28,8 @@ use Rattle.step_rules.specs.Laws.{IsLocalStep}
 use Rattle.step_rules.proofs.Basics.{at_same}
 use Rattle.mem_machine.specs.Machines.{KnownMachine, Visits}
 use Rattle.mem_machine.specs.Local.{IsLocalRun}
-use Rattle.mem_machine.specs.Blocks.{zone_makes}
-use Rattle.mem_machine.specs.Settling.{cpu_makes, collect_steps, return_steps}
+use Rattle.mem_machine.specs.Steps.{zone_makes, cpu_makes}
+use Rattle.mem_machine.specs.Settling.{collect_steps, return_steps}
 use Rattle.mem_machine.proofs.Reaching.{zone_step, cpu_step}
 
 -- ---- the visit
@@ -239,8 +239,10 @@ module _ (s : State) (p f : ℕ) (unit : ChargedUnit) (part : Part) (visited : I
     pub collect_run : (steps : Run) (b : State) → IsLocalRun p collected_state steps b → IsLocalRun p s (collect_steps p f ++ steps) b
     collect_run steps b rest =
         run_step p s s1 b p (PassBack f) Done
-        (cpu_makes p (Report 1) Done ∷ zone_makes (Collect f p) Done ∷ zone_makes (Absorb p) (Pages 1) ∷ steps) (cpu_step s p (PassBack f) Done refl may_hand tt) hands
-        (run_step p s1 s2 b p (Report 1) Done (zone_makes (Collect f p) Done ∷ zone_makes (Absorb p) (Pages 1) ∷ steps) (cpu_step s1 p (Report 1) Done refl may_report tt) reports
+        (cpu_makes p (Report 1) Done ∷ zone_makes (Collect f p) Done ∷ zone_makes (Absorb p) (Pages 1) ∷ steps)
+        (cpu_step s p (PassBack f) Done refl may_hand tt) hands
+        (run_step p s1 s2 b p (Report 1) Done (zone_makes (Collect f p) Done ∷ zone_makes (Absorb p) (Pages 1) ∷ steps)
+        (cpu_step s1 p (Report 1) Done refl may_report tt) reports
         (run_step p s2 s3 b 0 (Collect f p) Done (zone_makes (Absorb p) (Pages 1) ∷ steps) (zone_step s2 p (Collect f p) Done refl may_collect tt) collects
         (run_step p s3 collected_state b 0 (Absorb p) (Pages 1) steps (zone_step s3 p (Absorb p) (Pages 1) refl may_absorb one_reported) absorbs rest)))
 
@@ -273,7 +275,8 @@ module _ (s : State) (p f : ℕ) (unit : ChargedUnit) (part : Part) (visited : I
   pub keep_run : (b : State) → kept_state ≡ b
       → IsLocalRun p collected_state (zone_makes (Unfreeze f 1) Done ∷ zone_makes (Publish f) Done ∷ []) b
   keep_run b is =
-      run_step p collected_state kept_state b 0 (Unfreeze f 1) Done (zone_makes (Publish f) Done ∷ []) (zone_step collected_state p (Unfreeze f 1) Done refl may_unfreeze tt) unfreezes
+      run_step p collected_state kept_state b 0 (Unfreeze f 1) Done (zone_makes (Publish f) Done ∷ [])
+      (zone_step collected_state p (Unfreeze f 1) Done refl may_unfreeze tt) unfreezes
       (run_step p kept_state kept_state b 0 (Publish f) Done [] (zone_step kept_state p (Publish f) Done refl may_publish tt) refl is)
 
   -- it is dropped
@@ -306,7 +309,8 @@ module _ (s : State) (p f : ℕ) (unit : ChargedUnit) (part : Part) (visited : I
       λ i. record r1 { phases = at_again s.phases f (phase.Head unit (BackPassing p)) phases.collected i } in
       let may_return : is_legal ended_state 0 (Return f) ≡ true = and_from _ _ (and_from _ _ visited.acts visited.framed)
       (ap (phases.may_return s.killed) (at_same s.phases f (phase.Head unit Ended))) in
-      run_step p s r1 b p (PassBack f) Done (zone_makes (Collect f p) Done ∷ zone_makes (Return f) Done ∷ []) (cpu_step s p (PassBack f) Done refl may_hand_back tt) hands_back
+      run_step p s r1 b p (PassBack f) Done (zone_makes (Collect f p) Done ∷ zone_makes (Return f) Done ∷ [])
+      (cpu_step s p (PassBack f) Done refl may_hand_back tt) hands_back
       (run_step p r1 ended_state b 0 (Collect f p) Done (zone_makes (Return f) Done ∷ []) (zone_step r1 p (Collect f p) Done refl may_take tt) takes
       (run_step p ended_state (record ended_state { phases = without_unit ended_state.phases f }) b 0 (Return f) Done []
       (zone_step ended_state p (Return f) Done refl may_return tt) refl is))

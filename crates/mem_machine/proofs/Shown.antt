@@ -1,12 +1,12 @@
 -- What the processor sees once a fresh or a back frame came into the zone's hand. Serves `settle`.
-use Rattle.std.proofs.Common.{◌≡◌, ◌≢◌, ℕ, ◌+◌, ◌-◌, ◌^◌, ◌<◌, ◌≤◌, ◌==◌, ◌&&◌, Bool, true, false, cond, List, [], ◌∷◌, length}
+use Rattle.std.proofs.Common.{◌≡◌, ℕ, ◌+◌, ◌-◌, ◌^◌, ◌<◌, ◌==◌, ◌&&◌, Bool, true, false, cond, List, [], ◌∷◌, length}
 use Rattle.std.proofs.Common.{refl, sym, ap, ◌∙◌, subst, arith, inl, inr, eq-eqb}
 use Rattle.std.specs.Prelude.{nat_le, slice_set}
 use Rattle.std.proofs.lemmas.Bool.{cases_eq, ne_eqb, and_from, cond-true, lt-ltb, le-leb}
 use Rattle.std.proofs.lemmas.Nat.{pow_pos}
 use Rattle.std.proofs.lemmas.List.{get_or-set_same, get_or-set_other}
 use Rattle.frame_word.specs.declared.view.FrameNote.{FrameNote}
-use Rattle.frame_word.specs.Views.{note_of, gave_back, collected_from, unfrozen}
+use Rattle.frame_word.specs.Views.{gave_back, collected_from, unfrozen}
 use Rattle.frame_word.specs.Seats.{KnownTable, KnownSeat, holds, seat_with}
 use Rattle.frame_word.proofs.Notes.{note_here, note_else}
 use Rattle.stock_word.specs.declared.view.Account.{Account}
@@ -21,7 +21,7 @@ use Rattle.step_rules.specs.declared.phase.Stage.TheVariants.{FreshAt, Live, Bac
 use Rattle.step_rules.specs.declared.phase.Phase.{Phase}
 use Rattle.step_rules.specs.declared.phase.Phase.TheVariants as phase
 use Rattle.step_rules.specs.Phases as phases
-use Rattle.step_rules.specs.State.{State, Part, with_at, one_if}
+use Rattle.step_rules.specs.State.{Part, with_at, one_if}
 use Rattle.step_rules.specs.After.{is_within, unit_size, without_unit, without_frame}
 use Rattle.step_rules.proofs.Basics.{at_same, at_other}
 use Rattle.step_rules.proofs.Placing.{within_cases}
@@ -32,7 +32,7 @@ use Rattle.mem_machine.specs.Machines.{KnownMachine, Visits}
 use Rattle.mem_machine.specs.Local.{local_of, phase_of, part_of, part_with, references_of, fresh_group}
 use Rattle.mem_machine.specs.Freeing.{FreesFrames}
 use Rattle.mem_machine.specs.Settling.{with_page_absorbed}
-use Rattle.mem_machine.proofs.Holds.{zone_may_act, visits_open, seated_cpu, own_part}
+use Rattle.mem_machine.proofs.Holds.{zone_may_act, visits_open, seated_cpu}
 use Rattle.mem_machine.proofs.Records.{holds_same}
 use Rattle.mem_machine.proofs.Takes.{without_none, without_front}
 use Rattle.mem_machine.proofs.Absorbs.{absorbed_account, absorbed_at, absorbed_else}
@@ -57,7 +57,8 @@ fresh_phase c f x is once =
     ∙ cond-true (c.number == c.number && nat_le 1 (times f c.fresh)) _ _
     (and_from _ _ (eq-eqb c.number c.number refl) (le-leb 1 (times f c.fresh) (omega (arith, once))))
 
-pub back_phase : (c : KnownCpu) (f : ℕ) (x : Spot) (unit : ChargedUnit) → x ≡ Head unit → times f c.back ≡ 1 → phase_of c f x ≡ phase.Head unit (BackAt c.number)
+pub back_phase : (c : KnownCpu) (f : ℕ) (x : Spot) (unit : ChargedUnit) → x ≡ Head unit → times f c.back ≡ 1
+    → phase_of c f x ≡ phase.Head unit (BackAt c.number)
 back_phase c f x unit is once = ap (phase_of c f) is ∙ cond-true (nat_le 1 (times f c.back)) _ _ (le-leb 1 (times f c.back) (omega (arith, once)))
 
 -- ---- the processor after the frame was handed over

@@ -7,16 +7,14 @@ use Rattle.frame_word.specs.Seats.{seat_with}
 use Rattle.group_tree.specs.Room.{PathHasRoom}
 use Rattle.group_charge.specs.Charges.{current_of, with_charge, with_uncharge}
 use Rattle.lru_lists.specs.declared.record.LruList.TheVariants.{Inactive}
-use Rattle.step_rules.specs.declared.step.Action.{Action}
 use Rattle.step_rules.specs.declared.step.Action.TheVariants.{Grant, Ungrant, PlaceBlock, Unfreeze, Publish}
-use Rattle.step_rules.specs.declared.step.Answer.{Answer}
 use Rattle.step_rules.specs.declared.step.Answer.TheVariants.{Done, Granted, Over, Placed, NoFreeBlock}
-use Rattle.step_rules.specs.declared.step.Step.{Step}
 use Rattle.step_rules.specs.After.{Run, is_within}
 use Rattle.mem_machine.specs.declared.spot.Spot.{Spot}
 use Rattle.mem_machine.specs.declared.spot.Spot.TheVariants.{Head, Tail}
 use Rattle.mem_machine.specs.Spots.{spot_at, free_of}
 use Rattle.mem_machine.specs.Machines.{KnownMachine, home_of, inactive_in, active_in}
+use Rattle.mem_machine.specs.Steps.{zone_makes}
 
 -- the record of a frame once the block is a unit of the group: the first frame heads it, and the rest are tails
 abbrev pub placed_spot : List Spot → ℕ → Block → ℕ → Spot
@@ -59,10 +57,6 @@ pub record TakesNoBlock (m : KnownMachine) (g k : ℕ) (n : KnownMachine) : Type
   pub room : PathHasRoom m.ledger.groups (current_of m.ledger) g (2 ^ k)
   pub none : HasNoneFrom m.blocks k
   pub machine : n ≡ record m { ledger = with_uncharge (with_charge m.ledger g (2 ^ k)) g (2 ^ k) }
-
--- a step of the zone's seat, and its answer
-abbrev pub zone_makes : Action → Answer → Step × Answer
-zone_makes action answer = (record { seat = 0; action = action }, answer)
 
 -- the steps of a block of this order that is charged to the group and begins at this frame
 abbrev pub taken_steps : ℕ → ℕ → ℕ → Run

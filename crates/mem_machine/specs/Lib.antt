@@ -2,9 +2,11 @@ pub mod Spots
 pub mod Machines
 pub mod Local
 pub mod Start
+pub mod Steps
 pub mod Lending
 pub mod Stocks
 pub mod Marks
-pub mod Blocks
 pub mod Freeing
+pub mod Blocks
+pub mod Interleaving
 pub mod Settling

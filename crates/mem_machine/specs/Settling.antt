@@ -1,5 +1,6 @@
 -- Fresh and back frames of the processor that is visited, settled one after the other.
-use Rattle.std.specs.Prelude.{◌≡◌, ℕ, ◌^◌, Bool, true, false, Some, List, [], ◌∷◌, ◌++◌, slice_set, if◌then◌else◌}
+use Rattle.std.specs.Prelude.{◌≡◌, ℕ, ◌^◌, Bool, true, false, List, [], ◌∷◌, ◌++◌, slice_set, if◌then◌else◌}
+use Rattle.std.specs.List.{flat_map}
 use Rattle.zone_blocks.specs.Areas.{AreMaximalBlocks}
 use Rattle.frame_word.specs.Views.{gave_back, collected_from, unfrozen}
 use Rattle.frame_word.specs.Seats.{seat_with}
@@ -10,10 +11,7 @@ use Rattle.group_tree.specs.Room.{one_more}
 use Rattle.group_charge.specs.Charges.{with_uncharge}
 use Rattle.cpu_part.specs.Cpus.{KnownCpu}
 use Rattle.step_rules.specs.declared.phase.ChargedUnit.{ChargedUnit}
-use Rattle.step_rules.specs.declared.step.Step.{Step}
-use Rattle.step_rules.specs.declared.step.Action.{Action}
 use Rattle.step_rules.specs.declared.step.Action.TheVariants.{PassBack, Collect, Report, Absorb, Unfreeze, Publish, Return}
-use Rattle.step_rules.specs.declared.step.Answer.{Answer}
 use Rattle.step_rules.specs.declared.step.Answer.TheVariants.{Done, Pages}
 use Rattle.step_rules.specs.After.{Run}
 use Rattle.mem_machine.specs.declared.spot.Spot.TheVariants.{Head}
@@ -21,7 +19,8 @@ use Rattle.mem_machine.specs.declared.machine.Counts.{Counts}
 use Rattle.mem_machine.specs.Spots.{spot_at, free_of}
 use Rattle.mem_machine.specs.Machines.{KnownMachine, is_killed}
 use Rattle.mem_machine.specs.Local.{fresh_group}
-use Rattle.mem_machine.specs.Blocks.{ListsUnit, zone_makes}
+use Rattle.mem_machine.specs.Steps.{zone_makes, cpu_makes}
+use Rattle.mem_machine.specs.Blocks.{ListsUnit}
 use Rattle.mem_machine.specs.Freeing.{FreesFrames}
 
 -- the stocks after a page of processor p was reported and absorbed
@@ -102,6 +101,12 @@ abbrev pub ReturnsAllBack : List ℕ → KnownMachine → KnownCpu → KnownMach
 ReturnsAllBack [] m c n d = (n ≡ m) × (d ≡ c)
 ReturnsAllBack (f ∷ rest) m c n d = (x : KnownMachine) × (y : KnownCpu) × ReturnsBack f m c x y × ReturnsAllBack rest x y n d
 
+-- the processor has the number, the list and the pins that it had
+pub record LeavesOthers (c d : KnownCpu) : Type 0 where
+  pub number : d.number ≡ c.number
+  pub list : d.list ≡ c.list
+  pub pins : d.pins ≡ c.pins
+
 -- all fresh frames are settled, in the order in which they were taken, and then all back frames, in the order of their last puts
 pub record Settles (m : KnownMachine) (c : KnownCpu) (n : KnownMachine) (d : KnownCpu) : Type 0 where
   pub machine : KnownMachine
@@ -110,10 +115,6 @@ pub record Settles (m : KnownMachine) (c : KnownCpu) (n : KnownMachine) (d : Kno
   pub back : ReturnsAllBack c.back machine cpu n d
 
 -- ---- the steps
-
--- a step of the processor's own seat, and its answer
-abbrev pub cpu_makes : ℕ → Action → Answer → Step × Answer
-cpu_makes p action answer = (record { seat = p; action = action }, answer)
 
 -- the steps by which a fresh frame f of processor p comes into the zone's hand, and its page off the book
 abbrev pub collect_steps : ℕ → ℕ → Run
@@ -136,16 +137,10 @@ return_steps p f = cpu_makes p (PassBack f) Done ∷ zone_makes (Collect f p) Do
 abbrev pub fresh_steps : Bool → ℕ → ℕ → Run
 fresh_steps is_killed p f = if is_killed then drop_steps p f else keep_steps p f
 
--- the steps of these fresh frames
-abbrev pub all_fresh_steps : Bool → ℕ → List ℕ → Run
-all_fresh_steps is_killed p [] = []
-all_fresh_steps is_killed p (f ∷ rest) = fresh_steps is_killed p f ++ all_fresh_steps is_killed p rest
+-- the steps of these fresh frames, and then of these back frames, each list in its order
+abbrev pub all_steps : Bool → ℕ → List ℕ → List ℕ → Run
+all_steps is_killed p fresh back = flat_map (fresh_steps is_killed p) fresh ++ flat_map (return_steps p) back
 
--- the steps of these back frames
-abbrev pub all_return_steps : ℕ → List ℕ → Run
-all_return_steps p [] = []
-all_return_steps p (f ∷ rest) = return_steps p f ++ all_return_steps p rest
-
--- the steps of a settle: those of the fresh frames, and then those of the back frames
+-- the steps of a settle
 abbrev pub settle_steps : KnownMachine → KnownCpu → Run
-settle_steps m c = all_fresh_steps (is_killed m.killed (fresh_group c)) c.number c.fresh ++ all_return_steps c.number c.back
+settle_steps m c = all_steps (is_killed m.killed (fresh_group c)) c.number c.fresh c.back

@@ -5,6 +5,7 @@
 mod blocks;
 mod freed;
 mod groups;
+pub mod laws;
 mod lending;
 mod machine;
 mod marks;

@@ -1,13 +1,15 @@
 //! Settling: what the visited processor paid for is kept, and what it put last comes back.
 
 ghost use Rattle.std.specs.Prelude.{◌≡◌, ◌≢◌, ◌+◌, ◌≤◌, ◌<◌, [], true, MatchOption, IfSome, Some};
+ghost use Rattle.std.specs.List.{flat_map};
 ghost use Rattle.frame_word.specs.Views.{collected_from};
 ghost use Rattle.frame_word.specs.Seats.{IsZoneSeat, IsOpen, NothingPasses, HasNothingOf, IsLent, seat_with};
 ghost use Rattle.stock_word.specs.Stock.{IsMachine, account_of, group_of};
 ghost use Rattle.cpu_part.specs.Calls.{HandsFresh};
 ghost use Rattle.mem_machine.specs.Machines.{Visits, is_killed};
 ghost use Rattle.mem_machine.specs.Local.{IsLocalRun, local_of, fresh_group};
-ghost use Rattle.mem_machine.specs.Settling.{KeepsFresh, DropsFresh, ReturnsBack, with_page_absorbed, keep_steps, drop_steps, return_steps};
+ghost use Rattle.mem_machine.specs.Settling.{KeepsFresh, DropsFresh, SettlesFresh, SettlesAllFresh, ReturnsBack, ReturnsAllBack, Settles, LeavesOthers};
+ghost use Rattle.mem_machine.specs.Settling.{with_page_absorbed, keep_steps, drop_steps, fresh_steps, return_steps, settle_steps};
 
 use crate::freed::free_unit;
 use crate::machine::Machine;
@@ -123,5 +125,68 @@ impl<N: BootName> Machine<N> {
         self.counts.last_puts = self.counts.last_puts.saturating_add(1);
         self.counts.returns = self.counts.returns.saturating_add(1);
         Some(frame)
+    }
+
+    // Settles the oldest fresh frame, if there is one: it is kept for its group, or dropped where that is killed.
+    fn settle_one(&mut self, tables: &Tables<N>, cpu: &mut Cpu<N>) -> Option<Frame>
+        requires { Visits N.frames self.old cpu.old }
+        ensures settles { MatchOption result ((cpu.old.fresh ≡ []) × (self.new ≡ self.old) × (cpu.new ≡ cpu.old))
+            (λ f. SettlesFresh f self.old cpu.old self.new cpu.new) }
+        ensures visit { Visits N.frames self.new cpu.new }
+        ensures steps { IfSome result (λ f. IsLocalRun cpu.old.number (local_of N.frames self.old cpu.old)
+            (fresh_steps (is_killed self.old.killed (fresh_group cpu.old)) cpu.old.number f) (local_of N.frames self.new cpu.new)) }
+    {
+        if cpu.fresh_len() == 0 {
+            return None;
+        }
+        let Some(number) = cpu.last_stock().group() else {
+            unreachable!()
+        };
+        let group = GroupId::of(number).unwrap();
+        if self.killed[number as usize] {
+            Some(self.drop_one(tables, cpu, group))
+        } else {
+            Some(self.keep_one(tables, cpu, group))
+        }
+    }
+
+    // Settles all fresh frames, in the order in which they were taken.
+    fn settle_fresh(&mut self, tables: &Tables<N>, cpu: &mut Cpu<N>)
+        requires { Visits N.frames self.old cpu.old }
+        ensures settles { SettlesAllFresh cpu.old.fresh self.old cpu.old self.new cpu.new }
+        ensures leaves { LeavesOthers cpu.old cpu.new × (cpu.new.back ≡ cpu.old.back) × (cpu.new.fresh ≡ []) }
+        ensures visit { Visits N.frames self.new cpu.new }
+        ensures steps { IsLocalRun cpu.old.number (local_of N.frames self.old cpu.old)
+            (flat_map (fresh_steps (is_killed self.old.killed (fresh_group cpu.old)) cpu.old.number) cpu.old.fresh) (local_of N.frames self.new cpu.new) }
+    {
+        while let Some(_frame) = self.settle_one(tables, cpu) {}
+    }
+
+    // Takes all back frames back, in the order of their last puts.
+    fn settle_back(&mut self, tables: &Tables<N>, cpu: &mut Cpu<N>)
+        requires { Visits N.frames self.old cpu.old }
+        ensures returns { ReturnsAllBack cpu.old.back self.old cpu.old self.new cpu.new }
+        ensures leaves { LeavesOthers cpu.old cpu.new × (cpu.new.fresh ≡ cpu.old.fresh) × (cpu.new.back ≡ []) }
+        ensures visit { Visits N.frames self.new cpu.new }
+        ensures steps { IsLocalRun cpu.old.number (local_of N.frames self.old cpu.old)
+            (flat_map (return_steps cpu.old.number) cpu.old.back) (local_of N.frames self.new cpu.new) }
+    {
+        while let Some(_frame) = self.return_one(tables, cpu) {}
+    }
+
+    /// Settles the processor that is visited. Each fresh frame, in the order in which they were taken, is now a kept unit of the
+    /// group that paid for it; where that group was killed meanwhile, it goes back, and its page comes off the group's charge,
+    /// which counts as a drop. Then the unit of each back frame goes back, in the order of their last puts.
+    pub fn settle(&mut self, tables: &Tables<N>, cpu: &mut Cpu<N>)
+        requires { Visits N.frames self.old cpu.old }
+        ensures settles { Settles self.old cpu.old self.new cpu.new }
+        ensures others { LeavesOthers cpu.old cpu.new }
+        ensures none_fresh { cpu.new.fresh ≡ [] }
+        ensures none_back { cpu.new.back ≡ [] }
+        ensures visit { Visits N.frames self.new cpu.new }
+        ensures steps { IsLocalRun cpu.old.number (local_of N.frames self.old cpu.old) (settle_steps self.old cpu.old) (local_of N.frames self.new cpu.new) }
+    {
+        self.settle_fresh(tables, cpu);
+        self.settle_back(tables, cpu);
     }
 }

@@ -1,9 +1,8 @@
-use Rattle.std.proofs.Common.{◌≡◌, ◌<◌, rules, sym, subst}
-use Rattle.frame_word.specs.Seats.{KnownSeat, Passes, number_of}
+use Rattle.std.proofs.Common.{◌<◌, rules, sym, subst}
+use Rattle.frame_word.specs.Seats.{KnownSeat, Passes}
 use Rattle.cpu_part.proofs.CallerLemmas.{handed_passes}
 use Rattle.cpu_part.specs.Cpus.{KnownCpu}
 use Rattle.std.proofs.Common.{ap}
-use Rattle.mem_machine.proofs.Shown.{is_visited}
 use Rattle.mem_machine.proofs.settling.collect_fresh.Goals as goal
 
 pub collect-requires-clause-passes : goal.collect-requires-clause-passes
