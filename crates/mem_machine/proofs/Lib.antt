@@ -20,3 +20,4 @@ pub mod Units
 pub mod PlacesUnits
 pub mod BlockCharges
 pub mod KeptUnits
+pub mod TakesBlocks

@@ -1,5 +1,5 @@
 -- A block that is charged and placed, by its steps: Grant, PlaceBlock, Unfreeze and Publish. Serves `take_block`.
-use Rattle.std.proofs.Common.{◌≡◌, ℕ, ◌+◌, ◌^◌, ◌<◌, ◌==◌, Bool, true, false, cond, List, refl, sym, ap, ◌∙◌, arith, inl, inr}
+use Rattle.std.proofs.Common.{◌≡◌, ℕ, ◌+◌, ◌^◌, ◌<◌, ◌==◌, Bool, true, false, cond, refl, sym, ap, ◌∙◌, arith, inl, inr}
 use Rattle.std.specs.Prelude.{nat_le}
 use Rattle.std.proofs.lemmas.Bool.{and_from, le-leb, lt-ltb, cases_eq, eq-eqb, ne_eqb}
 use Rattle.std.proofs.lemmas.Nat.{pow_pos}
@@ -13,15 +13,14 @@ use Rattle.cpu_part.specs.Cpus.{KnownCpu, times}
 use Rattle.step_rules.specs.declared.phase.ChargedUnit.{ChargedUnit}
 use Rattle.step_rules.specs.declared.phase.Stage.TheVariants.{Live, BackAt, Bare}
 use Rattle.step_rules.specs.declared.phase.Phase.TheVariants as phase
-use Rattle.step_rules.specs.declared.step.Action.TheVariants.{Grant, PlaceBlock, Unfreeze, Publish}
-use Rattle.step_rules.specs.declared.step.Answer.TheVariants.{Done, Granted, Placed}
+use Rattle.step_rules.specs.declared.step.Action.TheVariants.{PlaceBlock, Unfreeze, Publish}
+use Rattle.step_rules.specs.declared.step.Answer.TheVariants.{Done, Placed}
 use Rattle.step_rules.specs.Phases.{at_stage, is_head, is_head_in_hand}
 use Rattle.step_rules.specs.State.{State, with_at, free_in}
 use Rattle.step_rules.specs.Usage.{usage_of}
 use Rattle.step_rules.specs.After.{after, is_within, placed_phase}
 use Rattle.step_rules.specs.Legal.{is_legal}
 use Rattle.step_rules.proofs.Basics.{at_same, at_other}
-use Rattle.mem_machine.specs.declared.spot.Spot.{Spot}
 use Rattle.mem_machine.specs.declared.spot.Spot.TheVariants.{Head, Tail}
 use Rattle.mem_machine.specs.Spots.{spot_at}
 use Rattle.mem_machine.specs.Machines.{KnownMachine, is_killed}
