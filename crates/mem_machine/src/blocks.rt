@@ -65,9 +65,8 @@ impl<N: BootName> Machine<N> {
         ensures visit { Visits N.frames self.new cpu.new }
         ensures steps { IsLocalRun cpu.old.number (local_of N.frames self.old cpu.old) (block_steps group order result) (local_of N.frames self.new cpu.new) }
     {
-        self.see_usage(tables, cpu);
         let pages = order.frames();
-        let _number = cpu.number();
+        self.see_usage(tables, cpu);
         let _tree = self.charges.tree();
         if let Err(over) = self.charges.try_charge(group, pages) {
             return Err(TakeFault::Over(over));
