@@ -21,3 +21,4 @@ pub mod PlacesUnits
 pub mod BlockCharges
 pub mod KeptUnits
 pub mod Interleaves
+pub mod TakesBlocks
