@@ -17,3 +17,4 @@ pub mod Usage
 pub mod Grants
 pub mod Placed
 pub mod Units
+pub mod Leaving

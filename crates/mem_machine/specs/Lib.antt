@@ -5,3 +5,4 @@ pub mod Start
 pub mod Lending
 pub mod Stocks
 pub mod Marks
+pub mod Releasing

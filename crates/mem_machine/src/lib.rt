@@ -7,6 +7,7 @@ mod lending;
 mod machine;
 mod marks;
 mod readers;
+mod releasing;
 mod spot;
 mod start;
 mod stocks;
