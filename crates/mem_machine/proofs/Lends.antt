@@ -34,7 +34,7 @@ use Rattle.mem_machine.specs.Lending.{LendsOne, LendsNone}
 use Rattle.mem_machine.specs.Local.{local_of, phase_of, part_of, part_with, fresh_group, Reaches}
 use Rattle.mem_machine.proofs.Reaching.{zone_step, cpu_step, one_step, step_before}
 use Rattle.mem_machine.proofs.Holds.{zone_may_act, visits_open, seated_cpu}
-use Rattle.mem_machine.proofs.Records.{free_at, free_is, free_inside, covers_one, free_taken, spots_changed, holds_same, units_stay, charges_stay}
+use Rattle.mem_machine.proofs.Records.{free_at, free_is, free_inside, covers_one, free_taken, some_cpu_is, spots_changed, holds_same, units_stay, charges_stay}
 
 -- ---- parts of the local state
 
@@ -121,7 +121,7 @@ module _ (t : KnownTable) (w : Words) (m : KnownMachine) (c : KnownCpu) (tied : 
   lent_fits =
       let old : FitsSpot (note_of m.seat.view f) (home_of m.links f) Free = subst (λ (x : Spot). FitsSpot (note_of m.seat.view f)
       (home_of m.links f) x) free (ok.spots f inside) in
-      record { own = refl; lent = refl; references = old.references; kept = homeless (home_of m.links f) old.kept }
+      record { own = refl; lent = some_cpu_is c.number tied.seats.some_number; references = old.references; kept = homeless (home_of m.links f) old.kept }
 
   pub lend_consistent : (blocks : List Block) → AreMaximalBlocks (free_of (slice_set m.spots f (Lent c.number))) blocks
       → IsConsistent t w (record m { blocks = blocks; spots = slice_set m.spots f (Lent c.number); seat = seat_with m.seat f (passed_out_to c.number) })

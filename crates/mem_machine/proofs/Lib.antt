@@ -17,4 +17,5 @@ pub mod Usage
 pub mod Grants
 pub mod Placed
 pub mod Units
+pub mod Freeing
 pub mod Leaving

@@ -33,9 +33,10 @@ use Rattle.step_rules.proofs.Sums.{sum_same, sum_none, sum_both, sum_part, sum_s
 use Rattle.step_rules.proofs.Lists as steps
 use Rattle.mem_machine.specs.declared.spot.Spot.{Spot}
 use Rattle.mem_machine.specs.declared.spot.Spot.TheVariants.{Free, Lent, Head, Tail}
-use Rattle.mem_machine.specs.Spots.{spot_at, lent_to, group_of, count_of}
+use Rattle.mem_machine.specs.Spots.{spot_at, some_cpu, group_of, count_of}
 use Rattle.mem_machine.specs.Machines.{KnownMachine, IsConsistent, booked, pages_booked}
 use Rattle.mem_machine.specs.Local.{number_or_0, fresh_group, phase_of, part_with, part_of, local_of}
+use Rattle.mem_machine.proofs.Records.{lent_spot}
 
 abbrev nothing : ℕ
 nothing = 0
@@ -164,12 +165,6 @@ module _ (groups : List Group) (g : ℕ) where
 
 -- ---- what the caller's part shows
 
-lent_is : (x : Spot) (p : ℕ) → 1 ≤ p → lent_to x ≡ p → x ≡ Lent p
-lent_is Free p some e = absurd (omega arith)
-lent_is (Lent q) p some e = ap Lent e
-lent_is (Head unit) p some e = absurd (omega arith)
-lent_is (Tail g) p some e = absurd (omega arith)
-
 as_steps : (f : ℕ) (xs : List ℕ) → times f xs ≡ steps.times f xs
 as_steps f [] = refl
 as_steps f (x ∷ xs) =
@@ -204,7 +199,7 @@ module _ (t : KnownTable) (w : Words) (m : KnownMachine) (c : KnownCpu) (is : Is
       let borrowed_is = noted.borrowed_is in
       let borrowed : (note_of c.seat.view f).borrowed ≡ 1 = omega arith in
       let to = (lent f inside).1 borrowed in
-      (lent_is (spot f) c.number tied.seats.some_number (sym (is.spots f inside).lent ∙ to ∙ tied.seats.frame_number), one)
+      (lent_spot (spot f) c.number tied.seats.some_number (ap some_cpu (sym (to ∙ tied.seats.frame_number)) ∙ (is.spots f inside).lent), one)
 
   lent_keeper : (a b : Bool) (u : ChargedUnit) (q : ℕ) → b ≡ false → keeper_of (cond (a && b) (phase.Head u (FreshAt q)) (phase.Lent q OnList)) ≡ None
   lent_keeper true b u q e = ap (λ (x : Bool). keeper_of (cond x (phase.Head u (FreshAt q)) (phase.Lent q OnList))) e

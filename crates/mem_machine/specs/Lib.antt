@@ -5,4 +5,5 @@ pub mod Start
 pub mod Lending
 pub mod Stocks
 pub mod Marks
+pub mod Freeing
 pub mod Releasing

@@ -2,6 +2,7 @@
 //! their lists of kept units, and the zone's own seats at the two tables. Each call is a list of steps of the core.
 #![tactic(auto)]
 
+mod freed;
 mod groups;
 mod lending;
 mod machine;
