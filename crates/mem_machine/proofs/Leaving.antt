@@ -1,5 +1,5 @@
 -- A kept unit leaves its list. Serves `leave_list`.
-use Rattle.std.proofs.Common.{◌≡◌, ◌≢◌, ℕ, ◌<◌, Option, Some, None, List, length, get_or, refl, sym, ap, ◌∙◌, subst}
+use Rattle.std.proofs.Common.{◌≡◌, ◌≢◌, ℕ, ◌<◌, Option, Some, None, List, length, get_or, sym, ap, ◌∙◌, subst}
 use Rattle.std.specs.Prelude.{slice_set, IfSome}
 use Rattle.std.proofs.lemmas.List.{get_or-set_same, get_or-set_other, get_or_default, length-set}
 use Rattle.lru_lists.specs.declared.record.Link.{Link}
@@ -7,7 +7,7 @@ use Rattle.lru_lists.specs.declared.record.Home.{Home}
 use Rattle.lru_lists.specs.declared.record.LruList.TheVariants.{Inactive, Active}
 use Rattle.lru_lists.specs.declared.lru.Lru.{Lru}
 use Rattle.lru_lists.specs.Queue.{link_at, nowhere}
-use Rattle.lru_lists.specs.Lists.{OthersStand, OneOfAllChanges, StandsIn, AllStand, ChangesOwn, MovesOnly, inactive_of, active_of, entries_of, entries_without}
+use Rattle.lru_lists.specs.Lists.{OthersStand, OneOfAllChanges, StandsIn, AllStand, ChangesOwn, MovesOnly, inactive_of, active_of, entries_without}
 use Rattle.lru_lists.specs.Lists.{list_of}
 use Rattle.mem_machine.specs.Machines.{home_of, no_lists}
 use Rattle.mem_machine.specs.Releasing.{LeavesList, lists_in}

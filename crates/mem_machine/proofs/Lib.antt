@@ -19,3 +19,4 @@ pub mod Placed
 pub mod Units
 pub mod Freeing
 pub mod Leaving
+pub mod Releases
