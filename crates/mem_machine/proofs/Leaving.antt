@@ -1,6 +1,7 @@
 -- A kept unit leaves its list. Serves `leave_list`.
 use Rattle.std.proofs.Common.{◌≡◌, ◌≢◌, ℕ, ◌<◌, Option, Some, None, List, length, get_or, sym, ap, ◌∙◌, subst}
 use Rattle.std.specs.Prelude.{slice_set, IfSome}
+use Rattle.std.proofs.lemmas.Option.{none-some}
 use Rattle.std.proofs.lemmas.List.{get_or-set_same, get_or-set_other, get_or_default, length-set}
 use Rattle.lru_lists.specs.declared.record.Link.{Link}
 use Rattle.lru_lists.specs.declared.record.Home.{Home}
@@ -8,7 +9,7 @@ use Rattle.lru_lists.specs.declared.record.LruList.TheVariants.{Inactive, Active
 use Rattle.lru_lists.specs.declared.lru.Lru.{Lru}
 use Rattle.lru_lists.specs.Queue.{link_at, nowhere}
 use Rattle.lru_lists.specs.Lists.{OthersStand, OneOfAllChanges, StandsIn, AllStand, ChangesOwn, MovesOnly, inactive_of, active_of, entries_without}
-use Rattle.lru_lists.specs.Lists.{list_of}
+use Rattle.lru_lists.specs.Lists.{list_of, place_of}
 use Rattle.mem_machine.specs.Machines.{home_of, no_lists}
 use Rattle.mem_machine.specs.Releasing.{LeavesList, lists_in}
 use Rattle.mem_machine.proofs.Dirties.{on_list}
@@ -65,6 +66,7 @@ module _ (links : List Link) (lists : List Lru) (f : ℕ) (h : Home) (home : Som
         stands = sym home;
         forgotten = forgotten;
         homes = moves.home;
+        loose = λ g none. moves.kept g (λ e. none-some h (sym none ∙ ap (home_of links) e ∙ sym home)) (ap (λ (x : Option Home). place_of x lru.owner) none);
         inactive = subst (λ (x : Lru × Lru). inactive_of after x.1 ≡ entries_without f (inactive_of links x.0)) (λ i. (sym its_lists i, sym now_its i)) inactive;
         active = subst (λ (x : Lru × Lru). active_of after x.1 ≡ entries_without f (active_of links x.0)) (λ i. (sym its_lists i, sym now_its i)) active;
         others = λ g within ne.

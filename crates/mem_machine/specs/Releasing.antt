@@ -1,5 +1,5 @@
 -- Kept units that are released: off their list, and back where nobody else has a reference.
-use Rattle.std.specs.Prelude.{◌≡◌, ◌≢◌, ℕ, ◌^◌, ◌<◌, ◌≤◌, Some, List, [], ◌∷◌, slice_index_or}
+use Rattle.std.specs.Prelude.{◌≡◌, ◌≢◌, ℕ, ◌^◌, ◌<◌, ◌≤◌, Some, None, List, [], ◌∷◌, slice_index_or}
 use Rattle.zone_blocks.specs.Areas.{AreMaximalBlocks}
 use Rattle.frame_word.specs.Views.{let_go, let_go_last}
 use Rattle.frame_word.specs.Seats.{seat_with}
@@ -27,13 +27,14 @@ abbrev pub lists_in : List Lru → ℕ → Lru
 lists_in lists g = slice_index_or lists g no_lists
 
 -- the unit is off the list that it stood on, of the group of this number; every other unit stands on the list that it
--- stood on, at its place there, marked and dirty as it was
+-- stood on, at its place there, marked and dirty as it was, and each frame on no list has the record that it had
 pub record LeavesList (before : List Link) (old : List Lru) (f : ℕ) (after : List Link) (new : List Lru) : Type 0 where
   pub group : ℕ
   pub list : LruList
   pub stands : home_of before f ≡ Some (record { owner = group; list = list })
   pub forgotten : link_at after f ≡ nowhere
   pub homes : (g : ℕ) → g ≢ f → home_of after g ≡ home_of before g
+  pub loose : (g : ℕ) → home_of before g ≡ None → link_at after g ≡ link_at before g
   pub inactive : inactive_of after (lists_in new group) ≡ entries_without f (inactive_of before (lists_in old group))
   pub active : active_of after (lists_in new group) ≡ entries_without f (active_of before (lists_in old group))
   pub others : (g : ℕ) → g < 64 → g ≢ group
