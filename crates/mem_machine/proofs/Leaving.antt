@@ -67,7 +67,8 @@ module _ (links : List Link) (lists : List Lru) (f : ℕ) (h : Home) (home : Som
         forgotten = forgotten;
         homes = moves.home;
         loose = λ g none. moves.kept g (λ e. none-some h (sym none ∙ ap (home_of links) e ∙ sym home)) (ap (λ (x : Option Home). place_of x lru.owner) none);
-        inactive = subst (λ (x : Lru × Lru). inactive_of after x.1 ≡ entries_without f (inactive_of links x.0)) (λ i. (sym its_lists i, sym now_its i)) inactive;
+        inactive = subst (λ (x : Lru × Lru). inactive_of after x.1 ≡ entries_without f (inactive_of links x.0))
+            (λ i. (sym its_lists i, sym now_its i)) inactive;
         active = subst (λ (x : Lru × Lru). active_of after x.1 ≡ entries_without f (active_of links x.0)) (λ i. (sym its_lists i, sym now_its i)) active;
         others = λ g within ne.
             let there : g < length lists = subst (λ (n : ℕ). g < n) (sym groups) within in

@@ -20,3 +20,4 @@ pub mod Units
 pub mod Freeing
 pub mod Leaving
 pub mod Releases
+pub mod GivenFrames

@@ -137,7 +137,10 @@ module _ (t : KnownTable) (w : Words) (m : KnownMachine) (ok : IsConsistent t w 
     no_home x = subst (λ (k : Option Home). IfSome k (λ h. (h.owner < 64) × (head_group_of x ≡ Some h.owner))) (sym homeless) tt
 
     no_reference : holds m.seat f - 1 ≡ one_if (is_some (home_of links f))
-    no_reference = let a = held_once in let b : one_if (is_some (home_of links f)) ≡ 0 = ap (λ (k : Option Home). one_if (is_some k)) homeless in omega (arith, a, b)
+    no_reference =
+        let a = held_once in
+        let b : one_if (is_some (home_of links f)) ≡ 0 = ap (λ (k : Option Home). one_if (is_some k)) homeless in
+        omega (arith, a, b)
 
     -- every other frame fits its record as before
     pub others_fit : (change : FrameNote → FrameNote) (g : ℕ) → g < t.frames → (g ≡ f → ⊥)
@@ -290,7 +293,8 @@ pub record AllReturned (t : KnownTable) (w : Words) (now : KnownMachine) (c : Kn
 pub returned_all : (t : KnownTable) (w : Words) (m now : KnownMachine) → m ≡ now → IsConsistent t w m → (c : KnownCpu) → Visits t now c → (f i : ℕ)
     → f < t.frames → i ≡ f → home_of now.links f ≢ None → (links : List Link) (lists : List Lru) → LeavesList m.links m.lists i links lists
     → AllStand links lists → length links ≡ length m.links → length lists ≡ 64 → (seat : KnownSeat) → seat ≡ seat_with m.seat f let_go_last
-    → (unit : ChargedUnit) → spot_at m.spots i ≡ Head unit → (before free : List Bool) (blocks : List Block) (spots : List Spot) (ledger : Ledger) (counts : Counts)
+    → (unit : ChargedUnit) → spot_at m.spots i ≡ Head unit
+    → (before free : List Bool) (blocks : List Block) (spots : List Spot) (ledger : Ledger) (counts : Counts)
     → before ≡ free_of m.spots → FreesFrames m.spots i (2 ^ unit.order) spots → GivesFrames before (record { at = i; order = unit.order }) free
     → AreMaximalBlocks free blocks → ledger ≡ with_uncharge m.ledger unit.group (2 ^ unit.order) → counts ≡ with_return m.counts
     → AllReturned t w now c f free (record m {

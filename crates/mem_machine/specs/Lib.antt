@@ -7,3 +7,4 @@ pub mod Stocks
 pub mod Marks
 pub mod Freeing
 pub mod Releasing
+pub mod Given

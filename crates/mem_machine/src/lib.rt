@@ -3,6 +3,7 @@
 #![tactic(auto)]
 
 mod freed;
+mod given;
 mod groups;
 mod lending;
 mod machine;
