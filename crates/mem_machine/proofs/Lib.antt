@@ -8,7 +8,6 @@ pub mod Many
 pub mod Takes
 pub mod Draining
 pub mod DrainingAll
-pub mod PlainUsage
 pub mod Prepaying
 pub mod Listed
 pub mod Dirties
@@ -18,6 +17,10 @@ pub mod Grants
 pub mod Placed
 pub mod Units
 pub mod Freeing
+pub mod PlacesUnits
+pub mod BlockCharges
+pub mod KeptUnits
+pub mod Interleaves
 pub mod Leaving
 pub mod Releases
 pub mod GivenFrames

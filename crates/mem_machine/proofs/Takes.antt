@@ -30,9 +30,10 @@ use Rattle.mem_machine.specs.declared.spot.Spot.{Spot}
 use Rattle.mem_machine.specs.declared.spot.Spot.TheVariants.{Free, Lent, Head, Tail}
 use Rattle.mem_machine.specs.Spots.{spot_at, is_free, free_of, group_of, head_group_of, some_cpu}
 use Rattle.mem_machine.specs.Machines.{KnownMachine, FitsSpot, IsConsistent, IsSeated, Visits, home_of}
-use Rattle.mem_machine.specs.Lending.{TakesOneBack, TakesNoneBack}
-use Rattle.mem_machine.specs.Local.{local_of, phase_of, part_of, part_with, Reaches}
-use Rattle.mem_machine.proofs.Reaching.{zone_step, cpu_step, one_step, step_before}
+use Rattle.mem_machine.specs.Lending.{TakesBackByStep, TakesNoneBack}
+use Rattle.mem_machine.specs.Local.{local_of, phase_of, part_of, part_with, IsLocalRun}
+use Rattle.mem_machine.specs.Steps.{back_steps}
+use Rattle.mem_machine.proofs.Reaching.{zone_step, cpu_step}
 use Rattle.mem_machine.proofs.Holds.{zone_may_act, visits_open, seated_cpu}
 use Rattle.mem_machine.proofs.Records.{free_at, one_covered, length_free, free_given, lent_spot, spots_changed, holds_same, units_stay, charges_stay}
 use Rattle.mem_machine.proofs.Lends.{parts_changed, references_stay, lent_listed, phases_changed}
@@ -145,10 +146,10 @@ module _ (t : KnownTable) (w : Words) (m : KnownMachine) (c : KnownCpu) (tied : 
   same_phase g (Head unit) = refl
   same_phase g (Tail h) = refl
 
-  pub take_reaches : (blocks : List Block) → Reaches c.number (local_of t m c)
+  pub take_runs : (blocks : List Block) → IsLocalRun c.number (local_of t m c) (back_steps c.number f)
       (local_of t (record m { blocks = blocks; spots = slice_set m.spots f Free; seat = seat_with m.seat f (collected_from c.number) })
       (record c { list = rest; seat = seat_with c.seat f gave_back }))
-  take_reaches blocks =
+  take_runs blocks =
       let p = c.number in
       let s = local_of t m c in
       let d : KnownCpu = record c { list = rest; seat = seat_with c.seat f gave_back } in
@@ -178,18 +179,20 @@ module _ (t : KnownTable) (w : Words) (m : KnownMachine) (c : KnownCpu) (tied : 
         fresh = without_none f c.fresh none_fresh i;
         back = without_none f c.back none_back i;
       })) in
-      let pa = parts_changed m.stock c rest c.fresh c.back _ gone in
-      step_before p s _ p (PassBack f) Done (cpu_step s p (PassBack f) Done refl may_pass tt)
-      (one_step p mid _ 0 (Collect f p) Done (zone_step mid p (Collect f p) Done refl may_collect tt)
-      (λ i. record s { phases = λ g. ph g i; references = λ q x. re q x i; parts = λ q. pa q i }))
+      let pa = parts_changed m.stock c rest c.fresh c.back _ gone in (
+        cpu_step s p (PassBack f) Done refl may_pass tt,
+        (
+          zone_step mid p (Collect f p) Done refl may_collect tt,
+          (λ i. record s { phases = λ g. sym (ph g) i; references = λ q x. sym (re q x) i; parts = λ q. sym (pa q) i }),
+        ),
+      )
 
 -- all of it, of the machine as it was seen before
 pub record AllTaken (t : KnownTable) (w : Words) (now : KnownMachine) (c : KnownCpu) (n : KnownMachine) (d : KnownCpu) (free : List Bool) : Type 0 where
   pub consistent : IsConsistent t w n
   pub free_is : free ≡ free_of n.spots
-  pub takes : TakesOneBack now c n d
+  pub takes : TakesBackByStep t now c n d
   pub visit : Visits t n d
-  pub steps : Reaches c.number (local_of t now c) (local_of t n d)
 
 pub take_all : (t : KnownTable) (w : Words) (m now : KnownMachine) → m ≡ now → (c h d : KnownCpu) → IsTied t w c → IsConsistent t w m → Visits t now c
     → (before free : List Bool) (k : ℕ) (blocks : List Block) (f i : ℕ) (seat : KnownSeat)
@@ -210,9 +213,12 @@ take_all t w m now same c h d tied ok visit_now before free k blocks f i seat wa
     let all : AllTaken t w m c n e free = record {
       consistent = take_consistent t w m c tied ok visit f rest hands.1 inside lent blocks areas_f;
       free_is = free_is;
-      takes = record { frame = f; rest = rest; front = hands.1; areas = areas_f; machine = refl; cpu = refl };
+      takes = record {
+        frame = f;
+        takes = record { rest = rest; front = hands.1; areas = areas_f; machine = refl; cpu = refl };
+        steps = take_runs t w m c tied ok visit f rest hands.1 inside lent blocks;
+      };
       visit = take_visits t w m c tied ok visit f rest hands.1 inside lent blocks;
-      steps = take_reaches t w m c tied ok visit f rest hands.1 inside lent blocks;
     } in
     let number : h.number ≡ c.number = ap (λ (x : KnownCpu). x.number) hands.2 in
     subst (λ (x : KnownMachine × KnownMachine × KnownCpu). AllTaken t w x.0 c x.1 x.2 free)
