@@ -20,6 +20,7 @@ pub mod Freeing
 pub mod PlacesUnits
 pub mod BlockCharges
 pub mod KeptUnits
+pub mod TakesBlocks
 pub mod Interleaves
 pub mod Leaving
 pub mod Releases

@@ -19,5 +19,6 @@ mod stocks;
 mod tests;
 mod visits;
 
+pub use blocks::TakeFault;
 pub use machine::{Counts, Machine};
 pub use spot::{Place, Spot};
