@@ -22,3 +22,6 @@ pub mod BlockCharges
 pub mod KeptUnits
 pub mod Interleaves
 pub mod TakesBlocks
+pub mod Leaving
+pub mod Releases
+pub mod GivenFrames

@@ -9,3 +9,5 @@ pub mod Marks
 pub mod Freeing
 pub mod Blocks
 pub mod Interleaving
+pub mod Releasing
+pub mod Given
