@@ -34,7 +34,7 @@ use Rattle.mem_machine.specs.declared.spot.Spot.TheVariants.{Free, Lent, Head, T
 use Rattle.mem_machine.specs.Spots.{spot_at, is_free, free_of}
 use Rattle.mem_machine.specs.Machines.{KnownMachine, is_killed}
 use Rattle.mem_machine.specs.Local.{fresh_group, phase_of, local_of, IsLocalRun}
-use Rattle.mem_machine.specs.Blocks.{zone_makes}
+use Rattle.mem_machine.specs.Steps.{zone_makes}
 use Rattle.mem_machine.proofs.Reaching.{zone_step}
 use Rattle.mem_machine.proofs.Holds.{zone_may_act}
 use Rattle.mem_machine.proofs.Records.{length_free, free_at}

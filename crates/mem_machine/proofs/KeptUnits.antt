@@ -26,7 +26,7 @@ use Rattle.step_rules.proofs.Placing.{within_cases}
 use Rattle.mem_machine.specs.declared.spot.Spot.{Spot}
 use Rattle.mem_machine.specs.declared.spot.Spot.TheVariants.{Free, Lent, Head, Tail}
 use Rattle.mem_machine.specs.declared.machine.Counts.{Counts}
-use Rattle.mem_machine.specs.Spots.{spot_at, free_of, group_of, head_group_of}
+use Rattle.mem_machine.specs.Spots.{spot_at, free_of, group_of, head_group_of, some_cpu}
 use Rattle.mem_machine.specs.Machines.{KnownMachine, FitsSpot, IsConsistent, home_of, lists_at, no_lists, frames_charged, pages_booked}
 use Rattle.mem_machine.specs.Blocks.{PlacesUnit, ListsUnit}
 use Rattle.mem_machine.proofs.PlacesUnits.{head_of_block, tail_of_block, off_block}
@@ -135,7 +135,7 @@ pub record IsUsed (note : FrameNote) : Type 0 where
 
 head_fits : (note : FrameNote) (g k : ℕ) → g < 64 → IsUsed note
     → FitsSpot note (Some (record { owner = g; list = Inactive })) (Head (record { group = g; order = k }))
-head_fits note g k fits used = record { own = used.own; lent = used.lent; references = used.references; kept = (fits, refl) }
+head_fits note g k fits used = record { own = used.own; lent = ap some_cpu used.lent; references = used.references; kept = (fits, refl) }
 
 module _ (t : KnownTable) (w : Words) (m : KnownMachine) (ok : IsConsistent t w m) (g : ℕ) (fits : g < 64) (b : Block) (spots : List Spot)
     (placed : PlacesUnit m.spots g b spots)

@@ -8,7 +8,6 @@ pub mod Many
 pub mod Takes
 pub mod Draining
 pub mod DrainingAll
-pub mod PlainUsage
 pub mod Prepaying
 pub mod Listed
 pub mod Dirties
@@ -17,7 +16,12 @@ pub mod Usage
 pub mod Grants
 pub mod Placed
 pub mod Units
+pub mod Freeing
 pub mod PlacesUnits
 pub mod BlockCharges
 pub mod KeptUnits
+pub mod Interleaves
 pub mod TakesBlocks
+pub mod Leaving
+pub mod Releases
+pub mod GivenFrames

@@ -7,11 +7,8 @@ use Rattle.frame_word.specs.Seats.{seat_with}
 use Rattle.group_tree.specs.Room.{PathHasRoom, IsLowestOver}
 use Rattle.group_charge.specs.Charges.{current_of, with_charge, with_uncharge}
 use Rattle.lru_lists.specs.declared.record.LruList.TheVariants.{Inactive}
-use Rattle.step_rules.specs.declared.step.Action.{Action}
 use Rattle.step_rules.specs.declared.step.Action.TheVariants.{Grant, Ungrant, PlaceBlock, Unfreeze, Publish}
-use Rattle.step_rules.specs.declared.step.Answer.{Answer}
 use Rattle.step_rules.specs.declared.step.Answer.TheVariants.{Done, Granted, Over, Placed, NoFreeBlock}
-use Rattle.step_rules.specs.declared.step.Step.{Step}
 use Rattle.step_rules.specs.After.{Run, is_within}
 use Rattle.mem_machine.specs.declared.spot.Spot.{Spot}
 use Rattle.mem_machine.specs.declared.spot.Spot.TheVariants.{Head, Tail}
@@ -19,6 +16,7 @@ use Rattle.mem_machine.specs.declared.blocks.TakeFault.{TakeFault}
 use Rattle.mem_machine.specs.declared.blocks.TakeFault.TheVariants as fault
 use Rattle.mem_machine.specs.Spots.{spot_at, free_of}
 use Rattle.mem_machine.specs.Machines.{KnownMachine, home_of, inactive_in, active_in}
+use Rattle.mem_machine.specs.Steps.{zone_makes}
 
 -- the record of a frame once the block is a unit of the group: the first frame heads it, and the rest are tails
 abbrev pub placed_spot : List Spot → ℕ → Block → ℕ → Spot
@@ -67,10 +65,6 @@ pub record TakesNoBlock (m : KnownMachine) (g k : ℕ) (n : KnownMachine) : Type
 abbrev pub RefusesBlock : KnownMachine → ℕ → ℕ → TakeFault → KnownMachine → Type 0
 RefusesBlock m g k (fault.Over over) n = IsLowestOver m.ledger.groups (current_of m.ledger) g (2 ^ k) over.group × (n ≡ m)
 RefusesBlock m g k fault.NoBlock n = TakesNoBlock m g k n
-
--- a step of the zone's seat, and its answer
-abbrev pub zone_makes : Action → Answer → Step × Answer
-zone_makes action answer = (record { seat = 0; action = action }, answer)
 
 -- the steps of a block of this order that is charged to the group and begins at this frame
 abbrev pub taken_steps : ℕ → ℕ → ℕ → Run

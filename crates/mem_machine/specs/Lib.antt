@@ -2,7 +2,12 @@ pub mod Spots
 pub mod Machines
 pub mod Local
 pub mod Start
+pub mod Steps
 pub mod Lending
 pub mod Stocks
 pub mod Marks
+pub mod Freeing
 pub mod Blocks
+pub mod Interleaving
+pub mod Releasing
+pub mod Given

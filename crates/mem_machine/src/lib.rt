@@ -3,11 +3,15 @@
 #![tactic(auto)]
 
 mod blocks;
+mod freed;
+mod given;
 mod groups;
+pub mod laws;
 mod lending;
 mod machine;
 mod marks;
 mod readers;
+mod releasing;
 mod spot;
 mod start;
 mod stocks;
