@@ -35,7 +35,7 @@ use Rattle.mem_machine.specs.Spots.{spot_at, is_free, is_in_hand, lent_to, free_
 use Rattle.mem_machine.specs.Machines.{KnownMachine, IsConsistent, Visits, is_killed}
 use Rattle.mem_machine.specs.Blocks.{PlacesUnit, TakesBlock, TakesNoBlock, taken_steps, unplaced_steps}
 use Rattle.mem_machine.specs.Local.{local_of, phase_of, IsLocalRun}
-use Rattle.mem_machine.proofs.Records.{length_free, free_at, free_is, free_inside}
+use Rattle.mem_machine.proofs.Records.{length_free, free_at, free_is, free_inside, no_cpu_is}
 use Rattle.mem_machine.proofs.PlacesUnits.{in_block, off_block}
 use Rattle.mem_machine.proofs.KeptUnits.{IsAdded, IsUsed, JoinsCharges, unit_kept, unit_listed}
 use Rattle.mem_machine.proofs.Placed.{taken_run}
@@ -210,7 +210,7 @@ taken_here t w m c ok g fits b may room rise before free blocks was front takes 
     let maximal : AreMaximalBlocks (free_of spots) blocks = subst (λ (l : List Bool). AreMaximalBlocks l blocks) frees areas in
     let used : IsUsed (unfrozen 1 (note_of m.seat.view b.at)) = record {
       own = refl;
-      lent = (ok.spots b.at inside).lent ∙ ap lent_to head;
+      lent = no_cpu_is (note_of m.seat.view b.at).lent ((ok.spots b.at inside).lent ∙ ap lent_to head);
       references = let r : (note_of m.seat.view b.at).references ≡ 0 = unreferred in omega (arith, r);
     } in
     let joins : JoinsCharges t w m g (2 ^ b.order) spots blocks (with_charge m.ledger g (2 ^ b.order)) m.stock = record {
