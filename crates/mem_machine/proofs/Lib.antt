@@ -21,6 +21,10 @@ pub mod PlacesUnits
 pub mod BlockCharges
 pub mod KeptUnits
 pub mod Interleaves
+pub mod TakesBlocks
+pub mod Leaving
+pub mod Releases
+pub mod GivenFrames
 pub mod HandOvers
 pub mod Absorbs
 pub mod Shown

@@ -1,10 +1,10 @@
 -- Blocks that are charged to a group and taken, and units that come onto its lists.
-use Rattle.std.specs.Prelude.{◌≡◌, ◌≢◌, ℕ, ◌^◌, ◌<◌, ◌==◌, false, Some, List, [], ◌∷◌, ◌++◌, length, if◌then◌else◌}
+use Rattle.std.specs.Prelude.{◌≡◌, ◌≢◌, ℕ, ◌^◌, ◌<◌, ◌==◌, false, Some, Result, Ok, Err, List, [], ◌∷◌, ◌++◌, length, if◌then◌else◌}
 use Rattle.zone_blocks.specs.declared.block.Block.{Block}
 use Rattle.zone_blocks.specs.Areas.{AreMaximalBlocks, HasNoneFrom, IsFrontOfSmallest}
 use Rattle.frame_word.specs.Views.{unfrozen}
 use Rattle.frame_word.specs.Seats.{seat_with}
-use Rattle.group_tree.specs.Room.{PathHasRoom}
+use Rattle.group_tree.specs.Room.{PathHasRoom, IsLowestOver}
 use Rattle.group_charge.specs.Charges.{current_of, with_charge, with_uncharge}
 use Rattle.lru_lists.specs.declared.record.LruList.TheVariants.{Inactive}
 use Rattle.step_rules.specs.declared.step.Action.TheVariants.{Grant, Ungrant, PlaceBlock, Unfreeze, Publish}
@@ -12,6 +12,8 @@ use Rattle.step_rules.specs.declared.step.Answer.TheVariants.{Done, Granted, Ove
 use Rattle.step_rules.specs.After.{Run, is_within}
 use Rattle.mem_machine.specs.declared.spot.Spot.{Spot}
 use Rattle.mem_machine.specs.declared.spot.Spot.TheVariants.{Head, Tail}
+use Rattle.mem_machine.specs.declared.blocks.TakeFault.{TakeFault}
+use Rattle.mem_machine.specs.declared.blocks.TakeFault.TheVariants as fault
 use Rattle.mem_machine.specs.Spots.{spot_at, free_of}
 use Rattle.mem_machine.specs.Machines.{KnownMachine, home_of, inactive_in, active_in}
 use Rattle.mem_machine.specs.Steps.{zone_makes}
@@ -58,6 +60,12 @@ pub record TakesNoBlock (m : KnownMachine) (g k : ℕ) (n : KnownMachine) : Type
   pub none : HasNoneFrom m.blocks k
   pub machine : n ≡ record m { ledger = with_uncharge (with_charge m.ledger g (2 ^ k)) g (2 ^ k) }
 
+-- The machine where no block was taken. A limit had no room for it, that of the named group the lowest, and nothing changed; or
+-- no free block of the order or above is there
+abbrev pub RefusesBlock : KnownMachine → ℕ → ℕ → TakeFault → KnownMachine → Type 0
+RefusesBlock m g k (fault.Over over) n = IsLowestOver m.ledger.groups (current_of m.ledger) g (2 ^ k) over.group × (n ≡ m)
+RefusesBlock m g k fault.NoBlock n = TakesNoBlock m g k n
+
 -- the steps of a block of this order that is charged to the group and begins at this frame
 abbrev pub taken_steps : ℕ → ℕ → ℕ → Run
 taken_steps g k at =
@@ -75,3 +83,9 @@ refused_steps g k h = zone_makes (Grant g (2 ^ k)) (Over h) ∷ []
 abbrev pub unplaced_steps : ℕ → ℕ → Run
 unplaced_steps g k =
     zone_makes (Grant g (2 ^ k)) Granted ∷ zone_makes (PlaceBlock g k) NoFreeBlock ∷ zone_makes (Ungrant g (2 ^ k)) Done ∷ []
+
+-- the steps of a call that takes a block, by its answer
+abbrev pub block_steps : ℕ → ℕ → Result ℕ TakeFault → Run
+block_steps g k (Ok at) = taken_steps g k at
+block_steps g k (Err (fault.Over over)) = refused_steps g k over.group
+block_steps g k (Err fault.NoBlock) = unplaced_steps g k

@@ -9,4 +9,6 @@ pub mod Marks
 pub mod Freeing
 pub mod Blocks
 pub mod Interleaving
+pub mod Releasing
+pub mod Given
 pub mod Settling

@@ -1,17 +1,36 @@
 //! Blocks of frames that are charged to a group and taken.
 
-ghost use Rattle.std.specs.Prelude.{◌+◌, ◌^◌, ◌≤◌, length};
-ghost use Rattle.mem_machine.specs.Blocks.{PlacesUnit};
+ghost use Rattle.std.specs.Prelude.{◌≡◌, ◌+◌, ◌^◌, ◌≤◌, ◌<◌, false, IsTrue, IfOk, IfErr, [], length};
+ghost use Rattle.group_tree.specs.Groups.{has_group};
+ghost use Rattle.group_charge.specs.Charges.{current_of};
+ghost use Rattle.mem_machine.specs.Machines.{Visits, is_killed};
+ghost use Rattle.mem_machine.specs.Blocks.{PlacesUnit, TakesBlock, RefusesBlock, block_steps};
+ghost use Rattle.mem_machine.specs.Local.{IsLocalRun, local_of};
 
+use crate::machine::Machine;
 use crate::spot::Spot;
+use cpu_part::{BootName, Cpu, Tables};
+use frame_word::Frame;
+use group_charge::charges::Over;
 use group_tree::group::GroupId;
+use lru_lists::laws;
 use step_rules::phase::ChargedUnit;
 use zone_blocks::block::Block;
+use zone_blocks::order::Order;
+
+/// Why no block was taken.
+#[derive(Clone, Copy, Debug, PartialEq, Eq)]
+pub enum TakeFault {
+    /// A limit has no room for the block. It names the lowest such group.
+    Over(Over),
+    /// No free block of that order or above is there.
+    NoBlock,
+}
 
 // Notes that the block is a unit of the group: its first frame heads it, and the others are tails.
-fn place_unit(spots: &mut [Spot], block: Block, group: GroupId)
-    requires { block.at + 2 ^ block.order ≤ length spots.old }
-    ensures { PlacesUnit spots.old group block spots.new }
+fn place_unit(spots: &mut Vec<Spot>, block: Block, group: GroupId)
+    requires { block.at + 2 ^ block.order ≤ length spots.old.items }
+    ensures { PlacesUnit spots.old.items group block spots.new.items }
 {
     let first = block.at as usize;
     let end = first + block.order.frames() as usize;
@@ -20,4 +39,53 @@ fn place_unit(spots: &mut [Spot], block: Block, group: GroupId)
     }
     let order = block.order;
     spots[first] = Spot::Head(ChargedUnit { group, order });
+}
+
+impl<N: BootName> Machine<N> {
+    /// Charges 2^`order` pages to a group that isn't killed, and gives it a block of that order, in use: its head, which is
+    /// returned, has one reference of the zone and stands at the newest end of the group's inactive list. Where a limit has
+    /// no room, the error names the lowest such group, and nothing is charged. Where no block is there, the pages go back,
+    /// and the peaks stand. In all, at most 2^32 - 1 pages can be charged, as `Charges::fits` tells. The processor has no back
+    /// frame, as once it was settled.
+    pub fn take_block(
+        &mut self,
+        tables: &Tables<N>,
+        cpu: &mut Cpu<N>,
+        group: GroupId,
+        order: Order,
+    ) -> Result<Frame, TakeFault>
+        requires visit { Visits N.frames self.old cpu.old }
+        requires there { IsTrue (has_group self.old.ledger.groups group) }
+        requires alive { is_killed self.old.killed group ≡ false }
+        requires fits { current_of self.old.ledger 0 + 2 ^ order < 2 ^ 32 }
+        requires none_back { cpu.old.back ≡ [] }
+        ensures takes { IfOk result (λ head. TakesBlock self.old group order head self.new) }
+        ensures refuses { IfErr result (λ fault. RefusesBlock self.old group order fault self.new) }
+        ensures cpu { cpu.new ≡ cpu.old }
+        ensures visit { Visits N.frames self.new cpu.new }
+        ensures steps { IsLocalRun cpu.old.number (local_of N.frames self.old cpu.old) (block_steps group order result) (local_of N.frames self.new cpu.new) }
+    {
+        let pages = order.frames();
+        self.see_usage(tables, cpu);
+        let _tree = self.charges.tree();
+        if let Err(over) = self.charges.try_charge(group, pages) {
+            return Err(TakeFault::Over(over));
+        }
+        let Some(block) = self.zone.take(order) else {
+            self.charges.uncharge(group, pages);
+            return Err(TakeFault::NoBlock);
+        };
+        let Some(head) = tables.frames.frame(block.at) else {
+            unreachable!()
+        };
+        place_unit(&mut self.spots, block, group);
+        tables.frames.unfreeze(&mut self.seat, head, 1);
+        laws::others_stand();
+        laws::one_of_all_changes();
+        let number = group.number() as usize;
+        let mut lists = self.lists[number];
+        lists.add(&mut self.links, head.number());
+        self.lists[number] = lists;
+        Ok(head)
+    }
 }

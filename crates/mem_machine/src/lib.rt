@@ -4,12 +4,14 @@
 
 mod blocks;
 mod freed;
+mod given;
 mod groups;
 pub mod laws;
 mod lending;
 mod machine;
 mod marks;
 mod readers;
+mod releasing;
 mod settling;
 mod spot;
 mod start;
@@ -18,5 +20,6 @@ mod stocks;
 mod tests;
 mod visits;
 
+pub use blocks::TakeFault;
 pub use machine::{Counts, Machine};
 pub use spot::{Place, Spot};

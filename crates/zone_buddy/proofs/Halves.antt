@@ -1,6 +1,5 @@
 -- A block and its halves, for `free_upper_halves`, and a block and its buddy, for `take_buddy`.
-use Rattle.std.proofs.Common.{◌≡◌, ◌≢◌, ℕ, zero, suc, ◌+◌, ◌-◌, ◌*◌, ◌/◌, ◌^◌, ◌%◌, ◌<◌, ◌⊎◌, Bool, eqb, List, refl, sym, ◌∙◌, subst, inl, inr, arith, eq-eqb}
-use Rattle.std.specs.List.{Contains}
+use Rattle.std.proofs.Common.{◌≡◌, ◌≢◌, ℕ, zero, suc, ◌+◌, ◌-◌, ◌*◌, ◌/◌, ◌^◌, ◌%◌, ◌<◌, ◌⊎◌, Bool, eqb, List, refl, sym, ap, ◌∙◌, subst, inl, inr, arith, eq-eqb}
 use Rattle.std.proofs.lemmas.Bool.{cases_lt, cases_eq, ne_eqb, cond-true, cond-false}
 use Rattle.std.proofs.lemmas.Nat.{pow_pos, pow-add, mod-pow-add, mod_below}
 use Rattle.std.proofs.Math.Nat.{add-mod_right, mod-le}
@@ -50,74 +49,128 @@ upper_enclosed n at e h =
     let d = double e in
     sym (start_is at (2 ^ (e + 1)) (at + 2 ^ e) (pow_pos (e + 1)) h.aligned (omega arith) (omega (arith, d, pow_pos e)))
 
+lower_enclosed : (n at e : ℕ) → IsBlock n (block_at at (e + 1)) → (enclosing (block_at at e)).at ≡ at
+lower_enclosed n at e h =
+    let d = double e in
+    sym (start_is at (2 ^ (e + 1)) at (pow_pos (e + 1)) h.aligned (omega arith) (omega (arith, d, pow_pos e)))
+
+-- the halves u and v of a block
+pub record AreHalves (n : ℕ) (whole u v : Block) : Type 0 where
+  pub first : IsBlock n u
+  pub second : IsBlock n v
+  pub in_first : (f : ℕ) → Covers u f → Covers whole f
+  pub in_second : (f : ℕ) → Covers v f → Covers whole f
+  pub apart : (f : ℕ) → Covers v f → ¬ Covers u f
+  pub both : (f : ℕ) → Covers whole f → ¬ Covers u f → Covers v f
+  pub encloses : Covers (enclosing u) v.at
+
+in_upper : (at e f : ℕ) → Covers (block_at (at + 2 ^ e) e) f → Covers (block_at at (e + 1)) f
+in_upper at e f c = let d = double e in let from = c.from in let before = c.before in record { from = omega arith; before = omega (arith, d) }
+
+in_lower : (at e f : ℕ) → Covers (block_at at e) f → Covers (block_at at (e + 1)) f
+in_lower at e f c = let d = double e in let from = c.from in let before = c.before in record { from = from; before = omega (arith, d) }
+
+pub upper_first : (n at e : ℕ) → IsBlock n (block_at at (e + 1)) → AreHalves n (block_at at (e + 1)) (block_at (at + 2 ^ e) e) (block_at at e)
+upper_first n at e h =
+    let d = double e in
+    let pos = pow_pos e in
+    let start = upper_enclosed n at e h in
+    record {
+      first = upper_half n at e h;
+      second = lower_half n at e h;
+      in_first = in_upper at e;
+      in_second = in_lower at e;
+      apart = λ f c q. let before = c.before in let from = q.from in absurd (omega arith);
+      both = λ f w out. let from = w.from in let before = w.before in elim (cases_lt f (at + 2 ^ e)) [
+        | inl lt ↦ record { from = from; before = lt }
+        | inr ge ↦ absurd (out record { from = ge; before = omega (arith, d) })
+      ];
+      encloses = record { from = omega (arith, start); before = omega (arith, start, d) };
+    }
+
+pub lower_first : (n at e : ℕ) → IsBlock n (block_at at (e + 1)) → AreHalves n (block_at at (e + 1)) (block_at at e) (block_at (at + 2 ^ e) e)
+lower_first n at e h =
+    let d = double e in
+    let pos = pow_pos e in
+    let start = lower_enclosed n at e h in
+    record {
+      first = lower_half n at e h;
+      second = upper_half n at e h;
+      in_first = in_lower at e;
+      in_second = in_upper at e;
+      apart = λ f c q. let from = c.from in let before = q.before in absurd (omega arith);
+      both = λ f w out. let from = w.from in let before = w.before in elim (cases_lt f (at + 2 ^ e)) [
+        | inl lt ↦ absurd (out record { from = from; before = lt })
+        | inr ge ↦ record { from = ge; before = omega (arith, d) }
+      ];
+      encloses = record { from = omega (arith, start); before = omega (arith, start, d) };
+    }
+
 -- what is known while a block is halved: the areas are kept, and the block of order k at `at` is in use
 pub record Halving (areas : FreeBlocks) (at k : ℕ) : Type 0 where
   pub kept : AreKept areas
   pub block : IsBlock areas.frames (block_at at k)
   pub in_use : (f : ℕ) → Covers (block_at at k) f → ¬ IsFree (set_of areas) f
 
-halve : (old new : FreeBlocks) (at e : ℕ) → Halving old at (e + 1) → Inserts old.blocks (block_at (at + 2 ^ e) e) new.blocks → new.frames ≡ old.frames
-    → Halving new at e × ((free : List Bool) → TakesFrames free (block_at at (e + 1)) (set_of old) → TakesFrames free (block_at at e) (set_of new))
-halve old new at e h inserts same =
-    let d = double e in
-    let pos = pow_pos e in
-    let u : Block = block_at (at + 2 ^ e) e in
-    let lower : Block = block_at at e in
-    let whole : Block = block_at at (e + 1) in
-    let block = upper_half old.frames at e h.block in
-    let up : (f : ℕ) → Covers u f → Covers whole f = λ f c.
-    let from = c.from in let before = c.before in record { from = omega arith; before = omega (arith, d) } in
-    let low : (f : ℕ) → Covers lower f → Covers whole f = λ f c.
-    let from = c.from in let before = c.before in record { from = omega arith; before = omega (arith, d) } in
-    let given : GivesFrames (set_of old) u (set_of new) = gives_frames old new u inserts block (λ f c. h.in_use f (up f c)) same in
-    let apart : (f : ℕ) → Covers lower f → ¬ Covers u f = λ f c q.
-    let before = c.before in let from = q.from in absurd (omega arith) in
-    let in_use : (f : ℕ) → Covers lower f → ¬ IsFree (set_of new) f = λ f c is.
-    h.in_use f (low f c) ((given.others f (apart f c)).1 is) in
-    let start = upper_enclosed old.frames at e h.block in
-    let kept = kept_more old new u h.kept inserts block (λ f c. h.in_use f (up f c)) same (λ g.
-    in_use at (covers_start lower) (g.all_free at record { from = omega (arith, start); before = omega (arith, start, d) })) in (
-      record { kept = kept; block = rw same (lower_half old.frames at e h.block); in_use = in_use },
+-- one half is put in, and the other stays in use
+halve : (old new : FreeBlocks) (whole u v : Block) → Halving old whole.at whole.order → AreHalves old.frames whole u v → Inserts old.blocks u new.blocks
+    → new.frames ≡ old.frames → Halving new v.at v.order × ((free : List Bool) → TakesFrames free whole (set_of old) → TakesFrames free v (set_of new))
+halve old new whole u v h halves inserts same =
+    let given : GivesFrames (set_of old) u (set_of new) =
+    gives_frames old new u inserts halves.first (λ f c. h.in_use f (halves.in_first f c)) same in
+    let in_use : (f : ℕ) → Covers v f → ¬ IsFree (set_of new) f = λ f c is.
+    h.in_use f (halves.in_second f c) ((given.others f (halves.apart f c)).1 is) in
+    let kept = kept_more old new u h.kept inserts halves.first (λ f c. h.in_use f (halves.in_first f c)) same (λ g.
+    in_use v.at (covers_start v) (g.all_free v.at halves.encloses)) in (
+      record { kept = kept; block = rw same halves.second; in_use = in_use },
       λ free t. record {
         same_length = sym given.same_length ∙ t.same_length;
-        were_free = λ f c. t.were_free f (low f c);
+        were_free = λ f c. t.were_free f (halves.in_second f c);
         in_use = in_use;
         others = λ f out. elim (decide_covers u f) [
-          | inl c ↦ ((λ _. t.were_free f (up f c)), (λ _. given.were_free f c))
+          | inl c ↦ ((λ _. t.were_free f (halves.in_first f c)), (λ _. given.were_free f c))
           | inr not ↦
               let r = given.others f not in
-              let s = t.others f (λ w. let from = w.from in let before = w.before in
-              elim (cases_lt f (at + 2 ^ e)) [
-                | inl lt ↦ out record { from = from; before = lt }
-                | inr ge ↦ not record { from = ge; before = omega (arith, d) }
-              ]) in
+              let s = t.others f (λ w. out (halves.both f w not)) in
               ((λ is. s.0 (r.1 is)), (λ is. r.0 (s.1 is)))
         ];
       },
     )
 
+-- a half of a block in use shares no frame with a block that is there
+half_apart : (areas : FreeBlocks) (whole u v : Block) → Halving areas whole.at whole.order → AreHalves areas.frames whole u v → Overlaps areas.blocks u → ⊥
+half_apart areas whole u v h halves = apart_from_use areas u h.kept.maximal (λ f c. h.in_use f (halves.in_first f c))
+
 -- the same at a block u and an order k that are known to be these
-pub upper_ready : (areas : FreeBlocks) (at k e : ℕ) (u : Block) → k ≡ e + 1 → u ≡ block_at (at + 2 ^ e) e → Halving areas at k
+pub half_ready : (areas : FreeBlocks) (at k e : ℕ) (u x y : Block) → k ≡ e + 1 → u ≡ x
+    → (IsBlock areas.frames (block_at at (e + 1)) → AreHalves areas.frames (block_at at (e + 1)) x y) → Halving areas at k
     → IsBlock areas.frames u × (Overlaps areas.blocks u → ⊥)
-upper_ready areas at k e u ek eu h' =
+half_ready areas at k e u x y ek eu halves h' =
     let H : ℕ → Type 0 = λ i. Halving areas at i in
     let P : Block → Type 0 = λ z. IsBlock areas.frames z × (Overlaps areas.blocks z → ⊥) in
     let h : Halving areas at (e + 1) = subst H ek h' in
-    let d = double e in
-    subst P (sym eu) (
-      upper_half areas.frames at e h.block,
-      apart_from_use areas (block_at (at + 2 ^ e) e) h.kept.maximal (λ f c. let from = c.from in let before = c.before in
-          h.in_use f record { from = omega arith; before = omega (arith, d) }),
-    )
+    let parts = halves h.block in
+    subst P (sym eu) (parts.first, half_apart areas (block_at at (e + 1)) x y h parts)
 
-pub halve_step : (old new : FreeBlocks) (at k e : ℕ) (u : Block) → k ≡ e + 1 → u ≡ block_at (at + 2 ^ e) e → Halving old at k
+pub halve_at : (old new : FreeBlocks) (at k e : ℕ) (u x y : Block) → k ≡ e + 1 → u ≡ x
+    → (IsBlock old.frames (block_at at (e + 1)) → AreHalves old.frames (block_at at (e + 1)) x y) → Halving old at k
     → Inserts old.blocks u new.blocks → new.frames ≡ old.frames
-    → Halving new at e × ((free : List Bool) → TakesFrames free (block_at at k) (set_of old) → TakesFrames free (block_at at e) (set_of new))
-halve_step old new at k e u ek eu h inserts same =
+    → Halving new y.at y.order × ((free : List Bool) → TakesFrames free (block_at at k) (set_of old) → TakesFrames free y (set_of new))
+halve_at old new at k e u x y ek eu halves h' inserts same =
     let H : ℕ → Type 0 = λ i. Halving old at i in
     let I : Block → Type 0 = λ z. Inserts old.blocks z new.blocks in
-    let r = halve old new at e (subst H ek h) (subst I eu inserts) same in
+    let h : Halving old at (e + 1) = subst H ek h' in
+    let r = halve old new (block_at at (e + 1)) x y h (halves h.block) (subst I eu inserts) same in
     (r.0, λ free t. let T : ℕ → Type 0 = λ i. TakesFrames free (block_at at i) (set_of old) in r.1 free (subst T ek t))
+
+-- the size of a half, and the upper half, as the code has them
+pub size_is : (e size order : ℕ) → size ≡ 2 ^ order → order ≡ e → size ≡ 2 ^ e
+size_is e size order s o = let power : ℕ → ℕ = λ i. 2 ^ i in s ∙ ap power o
+
+pub half_is : (at e size order : ℕ) → size ≡ 2 ^ order → order ≡ e → (u : Block) → u ≡ block_at (at + size) order → u ≡ block_at (at + 2 ^ e) e
+half_is at e size order s o u same =
+    let sum : ℕ → ℕ = λ i. at + i in
+    same ∙ same_block (block_at (at + size) order) (block_at (at + 2 ^ e) e) (ap sum (size_is e size order s o)) o
 
 -- ---- a block and its buddy
 

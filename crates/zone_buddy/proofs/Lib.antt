@@ -1,3 +1,4 @@
+pub mod Around
 pub mod Frames
 pub mod Halves
 pub mod Merging

@@ -49,6 +49,10 @@ pub record AreKept (areas : FreeBlocks) : Type 0 where
   pub maximal : AreMaximalBlocks (set_of areas) areas.blocks
   pub small : areas.frames < 2 ^ 32
 
+-- no block of these has the frame
+abbrev pub HasNoBlockWith : List Block → ℕ → Type 0
+HasNoBlockWith blocks frame = (b : Block) → Contains blocks b → ¬ Covers b frame
+
 -- nothing changed, and there is no buddy to merge b with
 pub record HasNoBuddy (before : FreeBlocks) (b : Block) (after : FreeBlocks) : Type 0 where
   pub same : after ≡ before

@@ -2,9 +2,10 @@
 
 ghost use Rattle.std.specs.Prelude.{◌≡◌, ◌↔◌, IsTrue, IfOk, MatchOption, replicate, true};
 ghost use Rattle.std.specs.Option.{IfNone, IfSome};
-ghost use Rattle.zone_blocks.specs.Areas.{AreMaximalBlocks, HasNoneFrom, IsFrontOfSmallest};
+ghost use Rattle.zone_blocks.specs.Areas.{AreMaximalBlocks, HasNoneFrom, IsFree, IsFrontOfSmallest};
 ghost use Rattle.zone_buddy.specs.Zone.{TakesFrames, GivesFrames, IsInUse};
 
+use crate::frame::{block_with, free_other_halves};
 use crate::merge::insert_merged;
 use crate::split::free_upper_halves;
 use std::alloc::{AllocError, Global};
@@ -61,6 +62,18 @@ impl Buddy {
             at: found.at,
             order,
         })
+    }
+
+    /// Takes one frame that is free out of the free block that has it, and leaves the rest of that
+    /// block free, in halves.
+    pub fn take_frame(&mut self, frame: u32)
+        requires { IsFree self.old.free frame }
+        ensures frames { TakesFrames self.old.free (record { at = frame; order = 0 }) self.new.free }
+        ensures areas { AreMaximalBlocks self.new.free self.new.blocks }
+    {
+        let block = block_with(&self.areas, frame).unwrap();
+        self.areas.remove(block);
+        free_other_halves(&mut self.areas, &block, frame);
     }
 
     /// Whether it is a block of the zone, all of whose frames are in use: it may be given back.

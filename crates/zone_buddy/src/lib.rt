@@ -3,6 +3,7 @@
 #![tactic(auto)]
 
 pub mod buddy;
+mod frame;
 mod merge;
 mod split;
 #[cfg(test)]

@@ -85,6 +85,18 @@ fn the_greatest_zone_is_taken_and_given_back(rt: HostRuntime) -> Result<(), Fail
     Ok(())
 }
 
+#[test]
+fn one_frame_of_sixteen(rt: HostRuntime) -> Result<(), Fail> {
+    let mut zone = Buddy::new(rt.alloc(), 16)?;
+    zone.take_frame(5);
+    let pairs = pairs_of(rt.alloc(), zone.blocks())?;
+    assert_eq!(rt;
+        pairs.as_slice(),
+        [(0, 4), (1, 6), (2, 0), (3, 8)].as_slice()
+    );
+    Ok(())
+}
+
 // Marks the frames of a block as free or in use.
 fn mark(free: &mut [bool], block: &Block, is_free: bool) {
     let start = block.at as usize;
@@ -96,7 +108,16 @@ fn mark(free: &mut [bool], block: &Block, is_free: bool) {
     }
 }
 
-// By a random word takes a block, or gives one of those held, and notes which frames are free.
+// Takes one frame, which the word picks, of the last free block.
+fn take_one(zone: &mut Buddy, word: u32) -> Option<Block> {
+    let last = zone.blocks().last()?;
+    let at = last.at.checked_add(word % last.order.frames())?;
+    zone.take_frame(at);
+    Order::of(0).map(|order| Block { at, order })
+}
+
+// By a random word takes a block, or one frame, or gives a block of those held, and notes which
+// frames are free.
 fn take_or_give(
     rt: &impl Abort,
     zone: &mut Buddy,
@@ -105,8 +126,11 @@ fn take_or_give(
     word: u32,
 ) -> Result<(), AllocError> {
     if word % 2 == 0 || held.is_empty() {
-        let order = Order::of(word / 2 % 7).unwrap();
-        if let Some(block) = zone.take(order) {
+        let taken = match Order::of(word / 2 % 8) {
+            Some(order) if order.exponent() < 7 => zone.take(order),
+            _ => take_one(zone, word / 16),
+        };
+        if let Some(block) = taken {
             mark(free, &block, false);
             held.push(block)?;
         }

@@ -1,41 +1,34 @@
-use Rattle.std.proofs.Common.{◌≡◌, ℕ, ◌+◌, ◌-◌, ◌^◌, ◌∙◌, ap, refl, subst, arith, List, Bool}
-use Rattle.zone_blocks.specs.declared.block.Block.{Block}
-use Rattle.zone_blocks.proofs.Filling.{same_block}
+use Rattle.std.proofs.Common.{◌≡◌, ℕ, ◌+◌, ◌-◌, ◌∙◌, refl, subst, arith, List, Bool}
 use Rattle.zone_buddy.specs.Zone.{block_at, set_of, TakesFrames}
-use Rattle.zone_buddy.proofs.Halves.{upper_ready, halve_step}
+use Rattle.zone_buddy.proofs.Halves.{half_is, upper_first, half_ready, halve_at}
 use Rattle.zone_buddy.proofs.split.free_upper_halves.Goals as goal
-
--- the block that is put in is the upper half
-half_is : (at e size order : ℕ) → size ≡ 2 ^ order → order ≡ e → (u : Block) → u ≡ block_at (at + size) order → u ≡ block_at (at + 2 ^ e) e
-half_is at e size order s o u same =
-    let power : ℕ → ℕ = λ i. at + 2 ^ i in
-    let sum : ℕ → ℕ = λ i. at + i in
-    same ∙ same_block (block_at (at + size) order) (block_at (at + 2 ^ e) e) (ap sum s ∙ ap power o) o
 
 pub insert-requires-clause-block : goal.insert-requires-clause-block
 insert-requires-clause-block c =
     let e : ℕ = c.loop-exponent.exponent - 1 in
     let o = rw c.unwrap-half.ensures at c.of.ensures in
     let k : c.loop-exponent.exponent ≡ e + 1 = omega arith in
-    (upper_ready c.loop-exponent.areas c.args.block.now.at c.loop-exponent.exponent e _ k
-    (half_is c.args.block.now.at e c.frames.result c.unwrap-half.result c.frames.ensures.frames o.0 _ refl) c.loop-exponent.invariant.halving).0
+    (half_ready c.loop-exponent.areas c.args.block.now.at c.loop-exponent.exponent e _ _ (block_at c.args.block.now.at e) k
+    (half_is c.args.block.now.at e c.frames.result c.unwrap-half.result c.frames.ensures.frames o.0 _ refl)
+    (upper_first c.loop-exponent.areas.frames c.args.block.now.at e) c.loop-exponent.invariant.halving).0
 
 pub insert-requires-clause-apart : goal.insert-requires-clause-apart
 insert-requires-clause-apart c =
     let e : ℕ = c.loop-exponent.exponent - 1 in
     let o = rw c.unwrap-half.ensures at c.of.ensures in
     let k : c.loop-exponent.exponent ≡ e + 1 = omega arith in
-    (upper_ready c.loop-exponent.areas c.args.block.now.at c.loop-exponent.exponent e _ k
-    (half_is c.args.block.now.at e c.frames.result c.unwrap-half.result c.frames.ensures.frames o.0 _ refl) c.loop-exponent.invariant.halving).1
+    (half_ready c.loop-exponent.areas c.args.block.now.at c.loop-exponent.exponent e _ _ (block_at c.args.block.now.at e) k
+    (half_is c.args.block.now.at e c.frames.result c.unwrap-half.result c.frames.ensures.frames o.0 _ refl)
+    (upper_first c.loop-exponent.areas.frames c.args.block.now.at e) c.loop-exponent.invariant.halving).1
 
 pub loop-exponent-preserved : goal.loop-exponent-preserved
 loop-exponent-preserved c =
     let e : ℕ = c.loop-exponent.exponent - 1 in
     let o = rw c.unwrap-half.ensures at c.of.ensures in
     let k : c.loop-exponent.exponent ≡ e + 1 = omega arith in
-    let r = halve_step c.loop-exponent.areas c.insert.new.self c.args.block.now.at c.loop-exponent.exponent e _ k
-    (half_is c.args.block.now.at e c.frames.result c.unwrap-half.result c.frames.ensures.frames o.0 _ refl) c.loop-exponent.invariant.halving
-    c.insert.ensures.blocks c.insert.ensures.frames in
+    let r = halve_at c.loop-exponent.areas c.insert.new.self c.args.block.now.at c.loop-exponent.exponent e _ _ (block_at c.args.block.now.at e) k
+    (half_is c.args.block.now.at e c.frames.result c.unwrap-half.result c.frames.ensures.frames o.0 _ refl)
+    (upper_first c.loop-exponent.areas.frames c.args.block.now.at e) c.loop-exponent.invariant.halving c.insert.ensures.blocks c.insert.ensures.frames in
     record {
       halving = r.0;
       frames = c.insert.ensures.frames ∙ c.loop-exponent.invariant.frames;

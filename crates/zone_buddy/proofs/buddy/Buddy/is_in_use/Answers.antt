@@ -1,8 +1,7 @@
-use Rattle.std.proofs.Common.{◌≡◌, ℕ, Bool, true, false, length, sym, ◌∙◌, ap, subst}
+use Rattle.std.proofs.Common.{ℕ, sym, ◌∙◌, subst}
 use Rattle.std.proofs.lemmas.Bool.{iff_false, not-true, not_from_false, false_from_ne_true, false≢true}
 use Rattle.zone_blocks.specs.Block.{IsBlock}
-use Rattle.zone_blocks.specs.Areas.{Overlaps}
-use Rattle.zone_buddy.specs.Zone.{Zone, set_of, IsInUse}
+use Rattle.zone_buddy.specs.Zone.{Zone, IsInUse}
 use Rattle.zone_buddy.proofs.Frames.{length-set_of, in_use_apart, overlaps_not_in_use}
 use Rattle.zone_buddy.proofs.buddy.Buddy.is_in_use.Goals as goal
 

@@ -1,6 +1,6 @@
 use Rattle.std.proofs.Common.{ℕ, sym, ◌∙◌, subst}
-use Rattle.zone_blocks.specs.Block.{IsBlock, Covers}
-use Rattle.zone_blocks.specs.Areas.{IsFree, HasNoneFrom}
+use Rattle.zone_blocks.specs.Block.{IsBlock}
+use Rattle.zone_blocks.specs.Areas.{HasNoneFrom}
 use Rattle.zone_buddy.specs.Zone.{Zone, block_at, set_of, TakesFrames}
 use Rattle.zone_buddy.proofs.Frames.{length-set_of, takes_frames, kept_less}
 use Rattle.zone_buddy.proofs.buddy.Buddy.take.Goals as goal

@@ -1,0 +1,140 @@
+-- A given free frame goes to the list of the processor that is visited. Serves `lend`.
+use Rattle.std.proofs.Common.{◌≡◌, ℕ, ◌<◌, ◌==◌, Bool, true, false, List, [], ◌∷◌, ◌++◌, length, get_or, refl, sym, ap, ◌∙◌, subst, arith, eq-eqb}
+use Rattle.std.specs.Prelude.{slice_set}
+use Rattle.std.proofs.lemmas.Bool.{and_from, cond-true, lt-ltb}
+use Rattle.zone_blocks.specs.declared.block.Block.{Block}
+use Rattle.zone_blocks.specs.Areas.{IsFree, AreMaximalBlocks}
+use Rattle.zone_buddy.specs.Zone.{TakesFrames}
+use Rattle.frame_word.specs.Views.{note_of, in_hands, passed_out_to, took_in}
+use Rattle.frame_word.specs.Seats.{KnownTable, KnownSeat, seat_with, IsInOwnHand}
+use Rattle.stock_word.specs.Stock.{Words, account_of}
+use Rattle.cpu_part.specs.Cpus.{KnownCpu, IsTied, times}
+use Rattle.step_rules.specs.declared.phase.Way.TheVariants.{PassingOut, OnList}
+use Rattle.step_rules.specs.declared.phase.Phase.TheVariants as phase
+use Rattle.step_rules.specs.declared.step.Action.TheVariants.{PassOut, TakeIn}
+use Rattle.step_rules.specs.declared.step.Answer.TheVariants.{Done}
+use Rattle.step_rules.specs.Phases as phases
+use Rattle.step_rules.specs.State.{State, Part, with_at, is_frame}
+use Rattle.step_rules.specs.Legal.{is_legal}
+use Rattle.step_rules.specs.After.{after}
+use Rattle.step_rules.proofs.Basics.{at_same}
+use Rattle.mem_machine.specs.declared.spot.Spot.{Spot}
+use Rattle.mem_machine.specs.declared.spot.Spot.TheVariants.{Free, Lent, Head, Tail}
+use Rattle.mem_machine.specs.Spots.{spot_at, is_free, free_of}
+use Rattle.mem_machine.specs.Machines.{KnownMachine, IsConsistent, IsSeated, Visits}
+use Rattle.mem_machine.specs.Given.{LendsFrame, lend_steps}
+use Rattle.mem_machine.specs.Local.{IsLocalRun, local_of, phase_of, part_of, part_with}
+use Rattle.mem_machine.proofs.Reaching.{zone_step, cpu_step}
+use Rattle.mem_machine.proofs.Holds.{zone_may_act, visits_open, seated_cpu}
+use Rattle.mem_machine.proofs.Records.{free_at, free_taken, holds_same}
+use Rattle.mem_machine.proofs.Lends.{lend_consistent, lend_visits, lent_listed, parts_changed, phases_changed, references_stay, zone_hand}
+
+module _ (t : KnownTable) (w : Words) (m : KnownMachine) (c : KnownCpu) (tied : IsTied t w c) (ok : IsConsistent t w m) (visit : Visits t m c)
+    (f : ℕ) (inside : f < t.frames) (free : spot_at m.spots f ≡ Free) where
+  within : f < length m.spots
+  within = let s = ok.sizes.spots in omega (arith, s, inside)
+
+  seated : IsSeated t c
+  seated = record { some_number = tied.seats.some_number; cpus = tied.seats.frame_cpus }
+
+  pub lend_runs : (blocks : List Block) → in_hands (note_of c.seat.view f) ≡ 0 → IsLocalRun c.number (local_of t m c) (lend_steps c.number f)
+      (local_of t (record m { blocks = blocks; spots = slice_set m.spots f (Lent c.number); seat = seat_with m.seat f (passed_out_to c.number) })
+      (record c { list = c.list ++ f ∷ []; seat = seat_with c.seat f took_in }))
+  lend_runs blocks none =
+      let s = local_of t m c in
+      let d : KnownCpu = record c { list = c.list ++ f ∷ []; seat = seat_with c.seat f took_in } in
+      let out : State = after s 0 (PassOut f c.number) Done in
+      let framed : is_frame s.zone f ≡ true = lt-ltb f t.frames inside in
+      let is_zone_free : phases.is_free (phase_of c f (spot_at m.spots f)) ≡ true = ap (λ (x : Spot). phases.is_free (phase_of c f x)) free in
+      let may_pass : is_legal s 0 (PassOut f c.number) ≡ true =
+      and_from _ _ (and_from _ _ (and_from _ _ (zone_may_act m.seat c.number) framed) (visits_open m.seat c.number visit.is_open)) is_zone_free in
+      let passing : phases.passes_out c.number (with_at s.phases f (phase.Lent c.number PassingOut) f) ≡ true =
+      ap (phases.passes_out c.number) (at_same s.phases f (phase.Lent c.number PassingOut)) ∙ eq-eqb c.number c.number refl in
+      let may_take : is_legal out c.number (TakeIn f) ≡ true = and_from _ _ (and_from _ _ (seated_cpu t c seated) framed) passing in
+      let borrowed = (tied.noted f).borrowed_is in
+      let not_fresh : times f d.fresh ≡ 0 = omega (arith, borrowed, none) in
+      let ph = phases_changed c d m.spots f (Lent c.number) (phase.Lent c.number PassingOut) (phase.Lent c.number OnList) within
+      (lent_listed d f c.number not_fresh) (λ g y ne. same_phase g y) in
+      let re = references_stay m.seat (seat_with m.seat f (passed_out_to c.number)) c.seat (seat_with c.seat f took_in) c.number
+      (holds_same m.seat f (passed_out_to c.number) (λ k. refl)) (holds_same c.seat f took_in (λ k. refl)) in
+      let listed : part_with (c.list ++ f ∷ []) c.fresh c.back (account_of m.stock.view c.number)
+      ≡ record (part_of m.stock c c.number) { list = (part_of m.stock c c.number).list ++ f ∷ [] } =
+      sym (ap (λ (x : Part). record x { list = x.list ++ f ∷ [] })
+      (cond-true (c.number == c.number) (part_with c.list c.fresh c.back (account_of m.stock.view c.number)) (part_with [] [] []
+      (account_of m.stock.view c.number))
+      (eq-eqb c.number c.number refl))) in
+      let pa = parts_changed m.stock c (c.list ++ f ∷ []) c.fresh c.back _ listed in (
+        zone_step s c.number (PassOut f c.number) Done refl may_pass tt,
+        (
+          cpu_step out c.number (TakeIn f) Done refl may_take tt,
+          (λ i. record s { phases = λ g. sym (ph g) i; references = λ q x. sym (re q x) i; parts = λ q. sym (pa q) i }),
+        ),
+      )
+    where
+      same_phase : (g : ℕ) (y : Spot) → phase_of (record c { list = c.list ++ f ∷ []; seat = seat_with c.seat f took_in }) g y ≡ phase_of c g y
+      same_phase g Free = refl
+      same_phase g (Lent q) = refl
+      same_phase g (Head unit) = refl
+      same_phase g (Tail h) = refl
+
+-- all of it, of the machine as it was seen before
+pub record AllGiven (t : KnownTable) (w : Words) (now : KnownMachine) (c : KnownCpu) (f : ℕ) (n : KnownMachine) (d : KnownCpu) (free : List Bool) : Type 0 where
+  pub consistent : IsConsistent t w n
+  pub free_is : free ≡ free_of n.spots
+  pub lends : LendsFrame f now c n d
+  pub visit : Visits t n d
+  pub steps : IsLocalRun c.number (local_of t now c) (lend_steps c.number f) (local_of t n d)
+
+pub given_all : (t : KnownTable) (w : Words) (m now : KnownMachine) → m ≡ now → (c d : KnownCpu) → IsTied t w c → IsConsistent t w m → Visits t now c
+    → (before free : List Bool) (blocks : List Block) (f i q : ℕ) (seat seat' : KnownSeat) → before ≡ free_of m.spots → f < t.frames
+    → spot_at now.spots f ≡ Free → TakesFrames before (record { at = i; order = 0 }) free → AreMaximalBlocks free blocks → i ≡ f → q ≡ c.number
+    → seat ≡ seat_with m.seat f (passed_out_to q) → seat' ≡ seat → d ≡ record c { list = c.list ++ f ∷ []; seat = seat_with c.seat f took_in }
+    → in_hands (note_of c.seat.view f) ≡ 0
+    → AllGiven t w now c f (record m { blocks = blocks; spots = slice_set m.spots i (Lent q); seat = seat' }) d free
+given_all t w m now same c d tied ok visit_now before free blocks f i q seat seat' was inside free_now takes areas index number passed stays cpu none =
+    let visit : Visits t m c = subst (λ (x : KnownMachine). Visits t x c) (sym same) visit_now in
+    let there : spot_at m.spots f ≡ Free = ap (λ (x : KnownMachine). spot_at x.spots f) same ∙ free_now in
+    let takes_f : TakesFrames before (record { at = f; order = 0 }) free =
+    subst (λ (x : ℕ). TakesFrames before (record { at = x; order = 0 }) free) index takes in
+    let sized = ok.sizes.spots in
+    let below : f < length m.spots = omega (arith, inside, sized) in
+    let free_is : free ≡ free_of (slice_set m.spots f (Lent c.number)) = free_taken before free m.spots f (Lent c.number) below was takes_f refl in
+    let n : KnownMachine = record m { blocks = blocks; spots = slice_set m.spots f (Lent c.number); seat = seat_with m.seat f (passed_out_to c.number) } in
+    let e : KnownCpu = record c { list = c.list ++ f ∷ []; seat = seat_with c.seat f took_in } in
+    let areas_f : AreMaximalBlocks (free_of (slice_set m.spots f (Lent c.number))) blocks =
+    subst (λ (l : List Bool). AreMaximalBlocks l blocks) free_is areas in
+    let all : AllGiven t w m c f n e free = record {
+      consistent = lend_consistent t w m c tied ok visit f inside there blocks areas_f;
+      free_is = free_is;
+      lends = record { areas = areas_f; machine = refl; cpu = refl };
+      visit = lend_visits t w m c tied ok visit f inside there blocks;
+      steps = lend_runs t w m c tied ok visit f inside there blocks none;
+    } in
+    subst (λ (x : KnownMachine × KnownMachine × KnownCpu). AllGiven t w x.0 c f x.1 x.2 free)
+    (λ j. (
+      same j,
+      record m {
+        blocks = blocks;
+        spots = slice_set m.spots (sym index j) (Lent (sym number j));
+        seat = sym (stays ∙ passed ∙ ap (λ (x : ℕ). seat_with m.seat f (passed_out_to x)) number) j;
+      },
+      sym cpu j,
+    )) all
+
+-- ---- what the steps on the way ask for
+
+-- the zone's areas have the frame
+pub given_free : (t : KnownTable) (w : Words) (m now : KnownMachine) → m ≡ now → IsConsistent t w m → (before : List Bool) (f i : ℕ) → before ≡ free_of m.spots
+    → f < t.frames → spot_at now.spots f ≡ Free → i ≡ f → IsFree before i
+given_free t w m now same ok before f i was inside free index =
+    let sized = ok.sizes.spots in
+    let below : f < length m.spots = omega (arith, inside, sized) in
+    ap (λ (x : ℕ). get_or before x false) index ∙ ap (λ (l : List Bool). get_or l f false) was ∙ free_at m.spots f below
+    ∙ ap (λ (x : KnownMachine). is_free (spot_at x.spots f)) same ∙ ap is_free free
+
+-- and the zone has it in its hand
+pub given_hand : (t : KnownTable) (w : Words) (m now : KnownMachine) → m ≡ now → IsConsistent t w m → (f : ℕ) → f < t.frames → spot_at now.spots f ≡ Free
+    → IsInOwnHand m.seat f
+given_hand t w m now same ok f inside free =
+    let sized = ok.sizes.spots in
+    zone_hand t w m ok f f (omega (arith, inside, sized)) (ap (λ (x : KnownMachine). spot_at x.spots f) same ∙ free) refl

@@ -1,0 +1,83 @@
+-- A kept unit leaves its list. Serves `leave_list`.
+use Rattle.std.proofs.Common.{◌≡◌, ◌≢◌, ℕ, ◌<◌, Option, Some, None, List, length, get_or, sym, ap, ◌∙◌, subst}
+use Rattle.std.specs.Prelude.{slice_set, IfSome}
+use Rattle.std.proofs.lemmas.Option.{none-some}
+use Rattle.std.proofs.lemmas.List.{get_or-set_same, get_or-set_other, get_or_default, length-set}
+use Rattle.lru_lists.specs.declared.record.Link.{Link}
+use Rattle.lru_lists.specs.declared.record.Home.{Home}
+use Rattle.lru_lists.specs.declared.record.LruList.TheVariants.{Inactive, Active}
+use Rattle.lru_lists.specs.declared.lru.Lru.{Lru}
+use Rattle.lru_lists.specs.Queue.{link_at, nowhere}
+use Rattle.lru_lists.specs.Lists.{OthersStand, OneOfAllChanges, StandsIn, AllStand, ChangesOwn, MovesOnly, inactive_of, active_of, entries_without}
+use Rattle.lru_lists.specs.Lists.{list_of, place_of}
+use Rattle.mem_machine.specs.Machines.{home_of, no_lists}
+use Rattle.mem_machine.specs.Releasing.{LeavesList, lists_in}
+use Rattle.mem_machine.proofs.Dirties.{on_list}
+
+-- all that `leave_list` leaves
+pub record AllLeave (links : List Link) (lists : List Lru) (f : ℕ) (after : List Link) (new : List Lru) : Type 0 where
+  pub leaves : LeavesList links lists f after new
+  pub stand : AllStand after new
+  pub frames : length after ≡ length links
+  pub groups : length new ≡ 64
+
+-- the home is of one of the owners
+pub owner_within : (home : Option Home) (h : Home) (lists : List Lru) → Some h ≡ home → IfSome home (λ x. x.owner < 64) → length lists ≡ 64
+    → h.owner < length lists
+owner_within home h lists is owner groups =
+    let bound : h.owner < 64 = subst (λ (x : Option Home). IfSome x (λ y. y.owner < 64)) (sym is) owner in
+    subst (λ (n : ℕ). h.owner < n) (sym groups) bound
+
+module _ (links : List Link) (lists : List Lru) (f : ℕ) (h : Home) (home : Some h ≡ home_of links f) (owner : IfSome (home_of links f) (λ x. x.owner < 64))
+    (groups : length lists ≡ 64) (all : AllStand links lists) (lru any : Lru) (read : lru ≡ get_or lists h.owner any) where
+  bound : h.owner < length lists
+  bound = owner_within (home_of links f) h lists home owner groups
+
+  own : lru.owner ≡ h.owner
+  own = ap (λ (x : Lru). x.owner) read ∙ (all h.owner any bound).0
+
+  -- its lists stand, and it is on one of them
+  pub own_stands : StandsIn links lru
+  own_stands = subst (StandsIn links) (sym read) (all h.owner any bound).1
+
+  pub own_on : list_of links lru.owner f ≢ None
+  own_on none = on_list links f h (sym home) (ap (λ (k : ℕ). list_of links k f) (sym own) ∙ none)
+
+  its_lists : lists_in lists h.owner ≡ lru
+  its_lists = sym (read ∙ get_or_default lists h.owner any no_lists bound)
+
+  module _ (after : List Link) (new : Lru) (now_stands : StandsIn after new) (same : new.owner ≡ lru.owner)
+      (inactive : inactive_of after new ≡ entries_without f (inactive_of links lru)) (active : active_of after new ≡ entries_without f (active_of links lru))
+      (forgotten : link_at after f ≡ nowhere) (changes : ChangesOwn links after lru.owner) (moves : MovesOnly links after lru.owner f)
+      (others_stand : OthersStand) (one_of_all_changes : OneOfAllChanges) where
+    now_its : lists_in (slice_set lists h.owner new) h.owner ≡ new
+    now_its = get_or-set_same lists h.owner new no_lists bound
+
+    all_stand : AllStand after (slice_set lists h.owner new)
+    all_stand = subst (λ (k : ℕ). AllStand after (slice_set lists k new)) (same ∙ own)
+        (one_of_all_changes links after lists new all (subst (λ (k : ℕ). k < length lists) (sym (same ∙ own)) bound) now_stands
+        (subst (ChangesOwn links after) (sym same) changes))
+
+    pub leave_all : AllLeave links lists f after (slice_set lists h.owner new)
+    leave_all = record {
+      leaves = record {
+        group = h.owner;
+        list = h.list;
+        stands = sym home;
+        forgotten = forgotten;
+        homes = moves.home;
+        loose = λ g none. moves.kept g (λ e. none-some h (sym none ∙ ap (home_of links) e ∙ sym home)) (ap (λ (x : Option Home). place_of x lru.owner) none);
+        inactive = subst (λ (x : Lru × Lru). inactive_of after x.1 ≡ entries_without f (inactive_of links x.0))
+            (λ i. (sym its_lists i, sym now_its i)) inactive;
+        active = subst (λ (x : Lru × Lru). active_of after x.1 ≡ entries_without f (active_of links x.0)) (λ i. (sym its_lists i, sym now_its i)) active;
+        others = λ g within ne.
+            let there : g < length lists = subst (λ (n : ℕ). g < n) (sym groups) within in
+            let apart : (get_or lists g no_lists).owner ≢ lru.owner = λ e. ne (sym (all g no_lists there).0 ∙ e ∙ own) in
+            let kept = (others_stand links after lru.owner (get_or lists g no_lists) changes apart (all g no_lists there).1).1 in
+            let stays : lists_in (slice_set lists h.owner new) g ≡ lists_in lists g = get_or-set_other lists h.owner g new no_lists ne in
+            (ap (λ (x : Lru). inactive_of after x) stays ∙ kept Inactive, ap (λ (x : Lru). active_of after x) stays ∙ kept Active);
+      };
+      stand = all_stand;
+      frames = changes.frames;
+      groups = length-set lists h.owner new ∙ groups;
+    }

@@ -1,0 +1,352 @@
+-- The zone's reference on a kept unit is given up. Serves `release`.
+use Rattle.std.proofs.Common.{◌≡◌, ◌≢◌, ℕ, ◌+◌, ◌-◌, ◌^◌, ◌<◌, ◌≤◌, ◌==◌, Bool, true, false, Option, Some, None, List, length, get_or, refl, sym, ap, ◌∙◌}
+use Rattle.std.proofs.Common.{subst, inl, inr, arith, cond}
+use Rattle.std.specs.Prelude.{IfSome, is_some, nat_le}
+use Rattle.std.proofs.lemmas.Bool.{cases_eq, ne_eqb, and_from, lt-ltb, le-leb}
+use Rattle.std.proofs.lemmas.Nat.{pow_pos}
+use Rattle.std.proofs.lemmas.List.{get_or_default}
+use Rattle.std.proofs.lemmas.Option.{none-some}
+use Rattle.zone_blocks.specs.declared.block.Block.{Block}
+use Rattle.zone_blocks.specs.Areas.{AreMaximalBlocks}
+use Rattle.frame_word.specs.declared.view.FrameNote.{FrameNote}
+use Rattle.frame_word.specs.Views.{note_of, let_go, let_go_last}
+use Rattle.frame_word.specs.Seats.{KnownTable, KnownSeat, number_of, seat_with, holds, IsBorrowed}
+use Rattle.frame_word.proofs.Notes.{note_here, note_else}
+use Rattle.stock_word.specs.Stock.{Words}
+use Rattle.zone_buddy.specs.Zone.{GivesFrames}
+use Rattle.group_charge.specs.Charges.{Ledger, with_uncharge}
+use Rattle.lru_lists.specs.declared.record.Link.{Link}
+use Rattle.lru_lists.specs.declared.record.Home.{Home}
+use Rattle.lru_lists.specs.declared.lru.Lru.{Lru}
+use Rattle.lru_lists.specs.Lists.{AllStand}
+use Rattle.cpu_part.specs.Cpus.{KnownCpu, times}
+use Rattle.step_rules.specs.declared.phase.ChargedUnit.{ChargedUnit}
+use Rattle.step_rules.specs.declared.phase.Stage.TheVariants.{Live, BackAt, Ended}
+use Rattle.step_rules.specs.declared.phase.Phase.{Phase}
+use Rattle.step_rules.specs.declared.phase.Phase.TheVariants as phase
+use Rattle.step_rules.specs.declared.step.Action.TheVariants.{Put, Return}
+use Rattle.step_rules.specs.declared.step.Answer.TheVariants as answer
+use Rattle.step_rules.specs.Phases.{at_stage, may_return, unit_of}
+use Rattle.step_rules.specs.State.{State, with_at, one_if}
+use Rattle.step_rules.specs.Legal.{is_legal}
+use Rattle.step_rules.specs.After.{after, is_within, without_unit, unit_size}
+use Rattle.step_rules.proofs.Basics.{at_same, at_other}
+use Rattle.step_rules.proofs.Placing.{within_cases}
+use Rattle.mem_machine.specs.declared.spot.Spot.{Spot}
+use Rattle.mem_machine.specs.declared.spot.Spot.TheVariants.{Free, Head}
+use Rattle.mem_machine.specs.Spots.{spot_at, free_of, head_group_of, lent_to}
+use Rattle.mem_machine.specs.Machines.{KnownMachine, FitsSpot, IsConsistent, Visits, home_of, is_killed}
+use Rattle.mem_machine.specs.Local.{IsLocalRun, local_of, phase_of, references_of}
+use Rattle.mem_machine.specs.Freeing.{FreesFrames}
+use Rattle.mem_machine.specs.Releasing.{LeavesList, ReturnsUnit, released_steps, with_return}
+use Rattle.mem_machine.specs.declared.machine.Counts.{Counts}
+use Rattle.mem_machine.specs.declared.releasing.Released.TheVariants.{Left, Returned}
+use Rattle.mem_machine.proofs.Reaching.{zone_step}
+use Rattle.mem_machine.proofs.Holds.{zone_may_act}
+use Rattle.mem_machine.proofs.Freeing.{free_block_given, unit_freed_consistent}
+
+-- ---- one note of the zone's seat changed
+
+module _ (s : KnownSeat) (f : ℕ) (change : FrameNote → FrameNote) where
+  -- what the change leaves is the same of every frame
+  pub note_keeps : {X : Type 0} (read : FrameNote → X) → ((k : FrameNote) → read (change k) ≡ read k) → (g : ℕ)
+      → read (note_of (seat_with s f change).view g) ≡ read (note_of s.view g)
+  note_keeps read same g = elim (cases_eq g f) [
+    | inl e ↦ subst (λ (h : ℕ). read (note_of (seat_with s f change).view h) ≡ read (note_of s.view h)) (sym e)
+        (ap read (note_here s.view f change) ∙ same (note_of s.view f))
+    | inr ne ↦ ap read (note_else s.view f g change ne)
+  ]
+
+-- a visit stays open, with nothing passing, where the change leaves what was lent and handed over
+pub visit_stays : (t : KnownTable) (m n : KnownMachine) (c : KnownCpu) (f : ℕ) (change : FrameNote → FrameNote) → n.seat ≡ seat_with m.seat f change
+    → ((k : FrameNote) → (change k).lent ≡ k.lent) → ((k : FrameNote) → (change k).passed_out ≡ k.passed_out)
+    → ((k : FrameNote) → (change k).collected ≡ k.collected) → Visits t m c → Visits t n c
+visit_stays t m n c f change seat lent out back visit = record {
+  is_open = subst (λ (s : KnownSeat). get_or s.view.opened c.number 0 ≡ 1) (sym seat) visit.is_open;
+  still = λ g inside. subst (λ (s : KnownSeat). get_or (note_of s.view g).passed_out (number_of c.seat) 0 + (note_of c.seat.view g).passed_back
+      ≡ get_or (note_of s.view g).collected (number_of c.seat) 0 + (note_of c.seat.view g).taken_in) (sym seat)
+      (ap (λ (l : List ℕ). get_or l (number_of c.seat) 0 + (note_of c.seat.view g).passed_back) (note_keeps m.seat f change (λ k. k.passed_out) out g)
+      ∙ visit.still g inside
+      ∙ sym (ap (λ (l : List ℕ). get_or l (number_of c.seat) 0 + (note_of c.seat.view g).taken_in) (note_keeps m.seat f change (λ k. k.collected) back g)));
+  lent = λ g inside. subst (λ (k : ℕ). (k ≡ number_of c.seat → IsBorrowed c.seat g) × (IsBorrowed c.seat g → k ≡ number_of c.seat))
+      (sym (ap (λ (s : KnownSeat). (note_of s.view g).lent) seat ∙ note_keeps m.seat f change (λ k. k.lent) lent g)) (visit.lent g inside);
+}
+
+-- one reference of the zone less on the frame
+references_less : (seat : KnownSeat) (c : KnownCpu) (f : ℕ) (change : FrameNote → FrameNote) → ((k : FrameNote) → (change k).references ≡ k.references - 1)
+    → (q x : ℕ) → with_at (references_of seat c) 0 (with_at (references_of seat c 0) f (holds seat f - 1)) q x ≡ references_of (seat_with seat f change) c q x
+references_less seat c f change less q x = elim (cases_eq q 0) [
+  | inl e ↦ subst (λ (j : ℕ). with_at (references_of seat c) 0 (with_at (references_of seat c 0) f (holds seat f - 1)) j x
+      ≡ references_of (seat_with seat f change) c j x) (sym e)
+      (elim (cases_eq x f) [
+        | inl s ↦ subst (λ (j : ℕ). with_at (holds seat) f (holds seat f - 1) j ≡ holds (seat_with seat f change) j) (sym s)
+            (at_same (holds seat) f (holds seat f - 1)
+            ∙ sym (ap (λ (k : FrameNote). k.references) (note_here seat.view f change) ∙ less (note_of seat.view f)))
+        | inr ne ↦ at_other (holds seat) f (holds seat f - 1) x ne ∙ sym (ap (λ (k : FrameNote). k.references) (note_else seat.view f x change ne))
+      ])
+  | inr ne ↦
+      let u : (q == 0) ≡ false = ne_eqb q 0 ne in
+      ap (λ (r : ℕ → ℕ). r x) (at_other (references_of seat c) 0 (with_at (references_of seat c 0) f (holds seat f - 1)) q ne)
+      ∙ ap (λ (b : Bool). cond b (holds seat x) (cond (q == c.number) (holds c.seat x) 0)) u
+      ∙ sym (ap (λ (b : Bool). cond b (holds (seat_with seat f change) x) (cond (q == c.number) (holds c.seat x) 0)) u)
+]
+
+-- ---- the unit
+
+-- the record of a head tells its unit
+head_unit : (x : Spot) (g : ℕ) → head_group_of x ≡ Some g → (unit : ChargedUnit) × (x ≡ Head unit)
+head_unit (Head unit) g is = (unit, refl)
+head_unit x g is = absurd (none-some g is)
+
+-- the owner's number of a home that is there
+kept_group : (home : Option Home) (x : Spot) → IfSome home (λ h. (h.owner < 64) × (head_group_of x ≡ Some h.owner)) → home ≢ None
+    → (unit : ChargedUnit) × (x ≡ Head unit)
+kept_group None x kept some = absurd (some refl)
+kept_group (Some h) x kept some = head_unit x h.owner kept.1
+
+-- a home that is there counts one reference
+kept_once : (home : Option Home) (n : ℕ) → n ≡ one_if (is_some home) → home ≢ None → n ≡ 1
+kept_once None n is some = absurd (some refl)
+kept_once (Some h) n is some = is
+
+-- its owner is a group number
+kept_owner : (home : Option Home) (x : Spot) → IfSome home (λ h. (h.owner < 64) × (head_group_of x ≡ Some h.owner)) → IfSome home (λ h. h.owner < 64)
+kept_owner None x kept = tt
+kept_owner (Some h) x kept = kept.0
+
+module _ (t : KnownTable) (w : Words) (m : KnownMachine) (ok : IsConsistent t w m) (f : ℕ) (inside : f < t.frames) (kept : home_of m.links f ≢ None) where
+  pub owner_is : IfSome (home_of m.links f) (λ h. h.owner < 64)
+  owner_is = kept_owner (home_of m.links f) (spot_at m.spots f) (ok.spots f inside).kept
+
+  -- a kept unit has a head, and one reference of the zone
+  pub kept_head : (unit : ChargedUnit) × (spot_at m.spots f ≡ Head unit)
+  kept_head = kept_group (home_of m.links f) (spot_at m.spots f) (ok.spots f inside).kept kept
+
+  pub held_once : holds m.seat f ≡ 1
+  held_once = kept_once (home_of m.links f) (holds m.seat f) (ok.spots f inside).references kept
+
+  pub held : 1 ≤ holds m.seat f
+  held = let a = held_once in omega (arith, a)
+
+  module _ (links : List Link) (lists : List Lru) (leaves : LeavesList m.links m.lists f links lists) (stand : AllStand links lists)
+      (linked : length links ≡ t.frames) (listed : length lists ≡ 64) where
+    homeless : home_of links f ≡ None
+    homeless = ap (λ (k : Link). k.home) leaves.forgotten
+
+    no_home : (x : Spot) → IfSome (home_of links f) (λ h. (h.owner < 64) × (head_group_of x ≡ Some h.owner))
+    no_home x = subst (λ (k : Option Home). IfSome k (λ h. (h.owner < 64) × (head_group_of x ≡ Some h.owner))) (sym homeless) tt
+
+    no_reference : holds m.seat f - 1 ≡ one_if (is_some (home_of links f))
+    no_reference =
+        let a = held_once in
+        let b : one_if (is_some (home_of links f)) ≡ 0 = ap (λ (k : Option Home). one_if (is_some k)) homeless in
+        omega (arith, a, b)
+
+    -- every other frame fits its record as before
+    pub others_fit : (change : FrameNote → FrameNote) (g : ℕ) → g < t.frames → (g ≡ f → ⊥)
+        → FitsSpot (note_of (seat_with m.seat f change).view g) (home_of links g) (spot_at m.spots g)
+    others_fit change g within ne = subst (λ (x : FrameNote × Option Home). FitsSpot x.0 x.1 (spot_at m.spots g))
+        (λ i. (sym (note_else m.seat.view f g change ne) i, sym (leaves.homes g ne) i)) (ok.spots g within)
+
+    may_put : (c : KnownCpu) → is_legal (local_of t m c) 0 (Put f) ≡ true
+    may_put c = and_from _ _ (and_from _ _ (zone_may_act m.seat c.number) (lt-ltb f t.frames inside)) (le-leb 1 (holds m.seat f) held)
+
+    -- ---- references of processors are left
+
+    module _ (left : ℕ) where
+      abbrev left_seat : KnownSeat
+      left_seat = seat_with m.seat f (let_go left)
+
+      left_fits : (g : ℕ) → g < t.frames → FitsSpot (note_of left_seat.view g) (home_of links g) (spot_at m.spots g)
+      left_fits g within = elim (cases_eq g f) [
+        | inl e ↦ subst (λ (k : ℕ). FitsSpot (note_of left_seat.view k) (home_of links k) (spot_at m.spots k)) (sym e)
+            (subst (λ (k : FrameNote). FitsSpot k (home_of links f) (spot_at m.spots f)) (sym (note_here m.seat.view f (let_go left)))
+            (let old = ok.spots f inside in record { own = old.own; lent = old.lent; references = no_reference; kept = no_home (spot_at m.spots f) }))
+        | inr ne ↦ others_fit (let_go left) g within ne
+      ]
+
+      pub left_consistent : IsConsistent t w (record m { links = links; lists = lists; seat = left_seat })
+      left_consistent = record {
+        sizes = let s = ok.sizes in record { spots = s.spots; links = linked; lists = listed; killed = s.killed; cpus = s.cpus };
+        seats = let s = ok.seats in record { frames = s.frames; table = s.table; stocks = s.stocks };
+        areas = ok.areas;
+        spots = left_fits;
+        units = ok.units;
+        lists = stand;
+        noted = ok.noted;
+        charged = ok.charged;
+      }
+
+      pub left_runs : (c : KnownCpu) → IsLocalRun c.number (local_of t m c) (released_steps f (Left left))
+          (local_of t (record m { links = links; lists = lists; seat = left_seat }) c)
+      left_runs c =
+          let s = local_of t m c in (
+            zone_step s c.number (Put f) (answer.Left left) refl (may_put c) tt,
+            λ i. record s { references = λ q x. references_less m.seat c f (let_go left) (λ k. refl) q x i },
+          )
+
+    -- ---- it was the last reference
+
+    module _ (unit : ChargedUnit) (heads : spot_at m.spots f ≡ Head unit) where
+      abbrev last_seat : KnownSeat
+      last_seat = seat_with m.seat f let_go_last
+
+      -- the head in the zone's hand fits the record of a free frame
+      pub last_fits : FitsSpot (note_of last_seat.view f) (home_of links f) Free
+      last_fits = subst (λ (k : FrameNote). FitsSpot k (home_of links f) Free) (sym (note_here m.seat.view f let_go_last))
+          (record { own = refl; lent = (ok.spots f inside).lent ∙ ap lent_to heads; references = no_reference; kept = no_home Free })
+
+      module _ (c : KnownCpu) where
+        abbrev ended : State
+        ended = after (local_of t m c) 0 (Put f) answer.Last
+
+        ended_stage : (b : Bool) → at_stage Ended (cond b (phase.Head unit (BackAt c.number)) (phase.Head unit Live)) ≡ phase.Head unit Ended
+        ended_stage true = refl
+        ended_stage false = refl
+
+        head_ended : ended.phases f ≡ phase.Head unit Ended
+        head_ended =
+            at_same (local_of t m c).phases f (at_stage Ended (phase_of c f (spot_at m.spots f)))
+            ∙ ap (λ (x : Spot). at_stage Ended (phase_of c f x)) heads ∙ ended_stage (nat_le 1 (times f c.back))
+
+        may_come_back : is_legal ended 0 (Return f) ≡ true
+        may_come_back =
+            and_from _ _ (and_from _ _ (zone_may_act m.seat c.number) (lt-ltb f t.frames inside)) (ap (may_return (is_killed m.killed)) head_ended)
+
+        -- the frames of the unit are free, and all others have the phases that they had
+        phases_after : (spots : List Spot) → FreesFrames m.spots f (2 ^ unit.order) spots → (x : ℕ)
+            → without_unit ended.phases f x ≡ phase_of c x (spot_at spots x)
+        phases_after spots frees x =
+            let some = pow_pos unit.order in
+            let size : unit_size (unit_of (ended.phases f)) ≡ 2 ^ unit.order = ap (λ (p : Phase). unit_size (unit_of p)) head_ended in
+            ap (λ (n : ℕ). cond (is_within f n x) phase.InZone (ended.phases x)) size
+            ∙ elim (within_cases f (2 ^ unit.order) x) [
+              | inl w ↦ ap (λ (b : Bool). cond b phase.InZone (ended.phases x)) w.0
+                  ∙ sym (ap (phase_of c x) (frees.records x ∙ ap (λ (b : Bool). cond b Free (spot_at m.spots x)) w.0))
+              | inr out ↦ ap (λ (b : Bool). cond b phase.InZone (ended.phases x)) out.0
+                  ∙ at_other (local_of t m c).phases f (at_stage Ended (phase_of c f (spot_at m.spots f))) x
+                  (λ e. out.1 (omega (arith, e)) (omega (arith, e, some)))
+                  ∙ sym (ap (phase_of c x) (frees.records x ∙ ap (λ (b : Bool). cond b Free (spot_at m.spots x)) out.0))
+            ]
+
+        pub returned_runs : (spots : List Spot) (blocks : List Block) (counts : Counts) → FreesFrames m.spots f (2 ^ unit.order) spots
+            → IsLocalRun c.number (local_of t m c) (released_steps f Returned) (local_of t (record m {
+              blocks = blocks;
+              spots = spots;
+              ledger = with_uncharge m.ledger unit.group (2 ^ unit.order);
+              links = links;
+              lists = lists;
+              seat = last_seat;
+              counts = counts;
+            }) c)
+        returned_runs spots blocks counts frees =
+            let s = local_of t m c in (
+              zone_step s c.number (Put f) answer.Last refl (may_put c) tt,
+              (
+                zone_step ended c.number (Return f) answer.Done refl may_come_back tt,
+                λ i. record s {
+                  phases = λ x. phases_after spots frees x i;
+                  references = λ q x. references_less m.seat c f let_go_last (λ k. refl) q x i;
+                },
+              ),
+            )
+
+-- the record that was read is the frame's
+pub read_head : (t : KnownTable) (w : Words) (m : KnownMachine) → IsConsistent t w m → (f i : ℕ) → f < t.frames → i ≡ f → (x : Spot) (unit : ChargedUnit)
+    → x ≡ get_or m.spots i x → x ≡ Head unit → spot_at m.spots i ≡ Head unit
+read_head t w m ok f i inside is x unit read head =
+    let sized = ok.sizes.spots in
+    let bound : i < length m.spots = omega (arith, inside, is, sized) in
+    sym (get_or_default m.spots i x Free bound) ∙ sym read ∙ head
+
+-- ---- all of it, of the machine as it was seen before
+
+pub record AllLeft (t : KnownTable) (w : Words) (now : KnownMachine) (c : KnownCpu) (f left : ℕ) (n : KnownMachine) : Type 0 where
+  pub consistent : IsConsistent t w n
+  pub visit : Visits t n c
+  pub steps : IsLocalRun c.number (local_of t now c) (released_steps f (Left left)) (local_of t n c)
+
+pub left_all : (t : KnownTable) (w : Words) (m now : KnownMachine) → m ≡ now → IsConsistent t w m → (c : KnownCpu) → Visits t now c → (f i : ℕ) → f < t.frames
+    → i ≡ f → home_of now.links f ≢ None → (links : List Link) (lists : List Lru) → LeavesList m.links m.lists i links lists → AllStand links lists
+    → length links ≡ length m.links → length lists ≡ 64 → (left : ℕ) (seat : KnownSeat) → seat ≡ seat_with m.seat f (let_go left)
+    → AllLeft t w now c f left (record m { links = links; lists = lists; seat = seat })
+left_all t w m now same ok c visit_now f i inside is kept_now links lists left_list stand linked listed left seat put =
+    let visit : Visits t m c = subst (λ (x : KnownMachine). Visits t x c) (sym same) visit_now in
+    let kept : home_of m.links f ≢ None = subst (λ (x : KnownMachine). home_of x.links f ≢ None) (sym same) kept_now in
+    let leaves : LeavesList m.links m.lists f links lists = subst (λ (x : ℕ). LeavesList m.links m.lists x links lists) is left_list in
+    let sized : length links ≡ t.frames = linked ∙ ok.sizes.links in
+    let n : KnownMachine = record m { links = links; lists = lists; seat = seat_with m.seat f (let_go left) } in
+    let all : AllLeft t w m c f left n = record {
+      consistent = left_consistent t w m ok f inside kept links lists leaves stand sized listed left;
+      visit = visit_stays t m n c f (let_go left) refl (λ k. refl) (λ k. refl) (λ k. refl) visit;
+      steps = left_runs t w m ok f inside kept links lists leaves stand sized listed left c;
+    } in
+    subst (λ (x : KnownMachine × KnownSeat). AllLeft t w x.0 c f left (record m { links = links; lists = lists; seat = x.1 })) (λ j. (same j, sym put j)) all
+
+pub record AllReturned (t : KnownTable) (w : Words) (now : KnownMachine) (c : KnownCpu) (f : ℕ) (free : List Bool) (n : KnownMachine) : Type 0 where
+  pub consistent : IsConsistent t w n
+  pub free_is : free ≡ free_of n.spots
+  pub returns : ReturnsUnit now f n
+  pub visit : Visits t n c
+  pub steps : IsLocalRun c.number (local_of t now c) (released_steps f Returned) (local_of t n c)
+
+pub returned_all : (t : KnownTable) (w : Words) (m now : KnownMachine) → m ≡ now → IsConsistent t w m → (c : KnownCpu) → Visits t now c → (f i : ℕ)
+    → f < t.frames → i ≡ f → home_of now.links f ≢ None → (links : List Link) (lists : List Lru) → LeavesList m.links m.lists i links lists
+    → AllStand links lists → length links ≡ length m.links → length lists ≡ 64 → (seat : KnownSeat) → seat ≡ seat_with m.seat f let_go_last
+    → (unit : ChargedUnit) → spot_at m.spots i ≡ Head unit
+    → (before free : List Bool) (blocks : List Block) (spots : List Spot) (ledger : Ledger) (counts : Counts)
+    → before ≡ free_of m.spots → FreesFrames m.spots i (2 ^ unit.order) spots → GivesFrames before (record { at = i; order = unit.order }) free
+    → AreMaximalBlocks free blocks → ledger ≡ with_uncharge m.ledger unit.group (2 ^ unit.order) → counts ≡ with_return m.counts
+    → AllReturned t w now c f free (record m {
+      blocks = blocks;
+      spots = spots;
+      ledger = ledger;
+      links = links;
+      lists = lists;
+      seat = seat;
+      counts = counts;
+    })
+returned_all t w m now same ok c visit_now f i inside is kept_now links lists left_list stand linked listed seat put unit head before free blocks spots
+    ledger counts was frees_i gives_i areas_free uncharged counted =
+    let visit : Visits t m c = subst (λ (x : KnownMachine). Visits t x c) (sym same) visit_now in
+    let kept : home_of m.links f ≢ None = subst (λ (x : KnownMachine). home_of x.links f ≢ None) (sym same) kept_now in
+    let leaves : LeavesList m.links m.lists f links lists = subst (λ (x : ℕ). LeavesList m.links m.lists x links lists) is left_list in
+    let sized : length links ≡ t.frames = linked ∙ ok.sizes.links in
+    let heads : spot_at m.spots f ≡ Head unit = subst (λ (x : ℕ). spot_at m.spots x ≡ Head unit) is head in
+    let frees : FreesFrames m.spots f (2 ^ unit.order) spots = subst (λ (x : ℕ). FreesFrames m.spots x (2 ^ unit.order) spots) is frees_i in
+    let gives : GivesFrames before (record { at = f; order = unit.order }) free =
+    subst (λ (x : ℕ). GivesFrames before (record { at = x; order = unit.order }) free) is gives_i in
+    let free_is : free ≡ free_of spots =
+    free_block_given before free m.spots spots f unit.order (ok.units.heads f unit heads).block.inside was gives frees in
+    let areas : AreMaximalBlocks (free_of spots) blocks = subst (λ (l : List Bool). AreMaximalBlocks l blocks) free_is areas_free in
+    let n : KnownMachine = record m {
+      blocks = blocks;
+      spots = spots;
+      ledger = with_uncharge m.ledger unit.group (2 ^ unit.order);
+      links = links;
+      lists = lists;
+      seat = seat_with m.seat f let_go_last;
+      counts = with_return m.counts;
+    } in
+    let all : AllReturned t w m c f free n = record {
+      consistent = unit_freed_consistent t w m ok f unit heads spots blocks links lists (seat_with m.seat f let_go_last) (with_return m.counts) frees areas
+          (let s = ok.seats.frames in (s.0, s.1)) sized listed stand
+          (others_fit t w m ok f inside kept links lists leaves stand sized listed let_go_last)
+          (last_fits t w m ok f inside kept links lists leaves stand sized listed unit heads);
+      free_is = free_is;
+      returns = record { unit = unit; heads = heads; list = leaves; frees = frees; areas = areas; machine = refl };
+      visit = visit_stays t m n c f let_go_last refl (λ k. refl) (λ k. refl) (λ k. refl) visit;
+      steps = returned_runs t w m ok f inside kept links lists leaves stand sized listed unit heads c spots blocks (with_return m.counts) frees;
+    } in
+    subst (λ (x : KnownMachine × KnownMachine). AllReturned t w x.0 c f free x.1) (λ j. (
+      same j,
+      record m {
+        blocks = blocks;
+        spots = spots;
+        ledger = sym uncharged j;
+        links = links;
+        lists = lists;
+        seat = sym put j;
+        counts = sym counted j;
+      },
+    )) all

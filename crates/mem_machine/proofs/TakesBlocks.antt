@@ -1,0 +1,310 @@
+-- A block is charged to a group and taken, or none is there. Serves `take_block`.
+use Rattle.std.proofs.Common.{◌≡◌, ℕ, zero, suc, ◌+◌, ◌-◌, ◌^◌, ◌≤◌, ◌<◌, ◌==◌, Bool, true, false, cond, List, [], length, get_or}
+use Rattle.std.proofs.Common.{refl, sym, ap, ◌∙◌, subst, arith, inl, inr}
+use Rattle.std.specs.Prelude.{slice_set, slice_index}
+use Rattle.std.specs.Cmp.{both_ways}
+use Rattle.std.proofs.lemmas.Bool.{cases_eq, false≢true}
+use Rattle.std.proofs.lemmas.List.{ext_get_or}
+use Rattle.std.proofs.lemmas.List.FromFn.{get_or-map-range_with_len, length-map-range_with_len}
+use Rattle.std.proofs.lemmas.Nat.{pow_pos}
+use Rattle.zone_blocks.specs.declared.block.Block.{Block}
+use Rattle.zone_blocks.specs.Block.{IsBlock}
+use Rattle.zone_blocks.specs.Areas.{IsFree, IsFreeBlock, AreMaximalBlocks, HasNoneFrom, IsFrontOfSmallest}
+use Rattle.zone_buddy.specs.Zone.{TakesFrames, block_at}
+use Rattle.zone_buddy.proofs.Halves.{lower_half}
+use Rattle.frame_word.specs.declared.view.FrameNote.{FrameNote}
+use Rattle.frame_word.specs.Views.{note_of, unfrozen}
+use Rattle.frame_word.specs.Seats.{KnownTable, KnownSeat, seat_with, holds, IsInOwnHand, NothingPasses, LentIsBorrowed}
+use Rattle.frame_word.proofs.Notes.{note_here, note_else}
+use Rattle.stock_word.specs.Stock.{Words}
+use Rattle.group_tree.specs.Groups.{has_group}
+use Rattle.group_tree.specs.Room.{PathHasRoom}
+use Rattle.group_charge.specs.Charges.{Ledger, current_of, with_charge, with_uncharge, PagesRise}
+use Rattle.lru_lists.specs.declared.record.Link.{Link}
+use Rattle.lru_lists.specs.declared.lru.Lru.{Lru}
+use Rattle.lru_lists.specs.Lists.{OthersStand, OneOfAllChanges}
+use Rattle.cpu_part.specs.Cpus.{KnownCpu, times}
+use Rattle.step_rules.specs.Phases as phases
+use Rattle.step_rules.specs.State.{with_at, free_in, one_if}
+use Rattle.step_rules.specs.Usage.{usage_of}
+use Rattle.step_rules.proofs.Basics.{at_same, at_other}
+use Rattle.step_rules.proofs.Placing.{within_cases}
+use Rattle.mem_machine.specs.declared.spot.Spot.{Spot}
+use Rattle.mem_machine.specs.declared.spot.Spot.TheVariants.{Free, Head, Tail}
+use Rattle.mem_machine.specs.Spots.{spot_at, is_free, is_in_hand, lent_to, free_of, group_of}
+use Rattle.mem_machine.specs.Machines.{KnownMachine, IsConsistent, Visits, is_killed}
+use Rattle.mem_machine.specs.Blocks.{PlacesUnit, TakesBlock, TakesNoBlock, taken_steps, unplaced_steps}
+use Rattle.mem_machine.specs.Local.{local_of, phase_of, IsLocalRun}
+use Rattle.mem_machine.proofs.Records.{length_free, free_at, free_is, free_inside, no_cpu_is}
+use Rattle.mem_machine.proofs.PlacesUnits.{in_block, off_block}
+use Rattle.mem_machine.proofs.KeptUnits.{IsAdded, IsUsed, JoinsCharges, unit_kept, unit_listed}
+use Rattle.mem_machine.proofs.Placed.{taken_run}
+use Rattle.mem_machine.proofs.Grants.{unplaced_run}
+
+-- ---- the block that was taken
+
+-- the front of a block is a block
+front_is_block : (n at e d : ℕ) → IsBlock n (block_at at (e + d)) → IsBlock n (block_at at e)
+front_is_block n at e zero h = let s : e + zero ≡ e = omega arith in subst (λ (x : ℕ). IsBlock n (block_at at x)) s h
+front_is_block n at e (suc d) h =
+    let s : e + suc d ≡ e + d + 1 = omega arith in
+    front_is_block n at e d (lower_half n at (e + d) (subst (λ (x : ℕ). IsBlock n (block_at at x)) s h))
+
+used_in_block : (g : ℕ) (b : Block) (x : Bool) → is_free (cond x (Head (record { group = g; order = b.order })) (Tail g)) ≡ false
+used_in_block g b true = refl
+used_in_block g b false = refl
+
+module _ (old : List Spot) (blocks : List Block) (areas : AreMaximalBlocks (free_of old) blocks) (before free : List Bool) (was : before ≡ free_of old)
+    (k : ℕ) (b : Block) (front : IsFrontOfSmallest blocks k b) (takes : TakesFrames before b free) where
+  pub taken_inside : IsBlock (length old) b
+  taken_inside =
+      let s = front.is_smallest in
+      let whole = (areas.each front.smallest s.there).is_free.block in
+      let enough = s.sufficient in
+      let order : front.smallest.order ≡ k + (front.smallest.order - k) = omega (arith, enough) in
+      let long : length (free_of old) ≡ length old = length_free old in
+      let named : IsBlock (length old) (block_at front.smallest.at (k + (front.smallest.order - k))) =
+      subst (λ (x : ℕ × ℕ). IsBlock x.0 (block_at front.smallest.at x.1)) (λ i. (long i, order i)) whole in
+      subst (IsBlock (length old)) (λ i. record { at = sym front.front i; order = sym front.order_is i })
+      (front_is_block (length old) front.smallest.at k (front.smallest.order - k) named)
+
+  pub taken_free : (f : ℕ) → b.at ≤ f → f < b.at + 2 ^ b.order → spot_at old f ≡ Free
+  taken_free f low high =
+      let is : IsFree (free_of old) f = subst (λ (l : List Bool). IsFree l f) was (takes.were_free f (record { from = low; before = high })) in
+      let inside = free_inside old f is in
+      free_is (spot_at old f) (sym (free_at old f inside) ∙ is)
+
+  pub head_free : spot_at old b.at ≡ Free
+  head_free = let some = pow_pos b.order in taken_free b.at (omega arith) (omega (arith, some))
+
+  pub head_inside : b.at < length old
+  head_inside = let h = taken_inside.inside in let some = pow_pos b.order in omega (arith, h, some)
+
+  -- the free frames are those of the records once the unit is placed
+  pub free_then : (spots : List Spot) (g : ℕ) → PlacesUnit old g b spots → free ≡ free_of spots
+  free_then spots g placed =
+      let sized : length free ≡ length (free_of spots) =
+      takes.same_length ∙ ap (λ (l : List Bool). length l) was ∙ length_free old ∙ sym placed.frames ∙ sym (length_free spots) in
+      ext_get_or false free (free_of spots) sized (λ f within.
+      let room : f < length spots = subst (λ (n : ℕ). f < n) (sized ∙ length_free spots) within in
+      let now = free_at spots f room in
+      elim (within_cases b.at (2 ^ b.order) f) [
+        | inl w ↦
+            let used : is_free (spot_at spots f) ≡ false =
+            ap is_free (placed.records f ∙ in_block old g b f w.0) ∙ used_in_block g b (f == b.at) in
+            both_ways _ _ (λ a. absurd (takes.in_use f (record { from = w.1; before = w.2 }) a)) (λ c. absurd (false≢true (sym used ∙ sym now ∙ c)))
+        | inr out ↦
+            let there : f < length old = subst (λ (n : ℕ). f < n) placed.frames room in
+            let earlier : get_or before f false ≡ is_free (spot_at old f) = ap (λ (l : List Bool). get_or l f false) was ∙ free_at old f there in
+            let same : is_free (spot_at spots f) ≡ is_free (spot_at old f) = ap is_free (placed.records f ∙ off_block old g b f out.0) in
+            let o = takes.others f (λ c. out.1 c.from c.before) in
+            both_ways _ _ (λ a. now ∙ same ∙ sym earlier ∙ o.0 a) (λ c. o.1 (earlier ∙ sym same ∙ sym now ∙ c))
+      ])
+
+-- the rules of the steps see it free
+seen_free : (t : KnownTable) (m : KnownMachine) (c : KnownCpu) → length m.spots ≡ t.frames → (b : Block) → IsBlock (length m.spots) b
+    → ((f : ℕ) → b.at ≤ f → f < b.at + 2 ^ b.order → spot_at m.spots f ≡ Free) → IsFreeBlock (free_in (local_of t m c).zone (local_of t m c).phases) b
+seen_free t m c sized b block free =
+    let s = local_of t m c in
+    let long : length m.spots ≡ length (free_in s.zone s.phases) = sized ∙ sym (length-map-range_with_len (λ f. phases.is_free (s.phases f)) 0 t.frames) in
+    record {
+      block = subst (λ (n : ℕ). IsBlock n b) long block;
+      all_free = λ f inside.
+          let high = block.inside in
+          let before = inside.before in
+          let below : f < t.frames = omega (arith, high, before, sized) in
+          get_or-map-range_with_len (λ x. phases.is_free (s.phases x)) 0 t.frames f f false below (omega arith)
+          ∙ ap (λ (x : Spot). phases.is_free (phase_of c f x)) (free f inside.from inside.before);
+    }
+
+-- ---- the zone's seat
+
+-- what an unfreeze leaves of a note stays for every frame
+note_kept : {X : Type 0} (s : KnownSeat) (f n : ℕ) (h : FrameNote → X) → ((k : FrameNote) → h (unfrozen n k) ≡ h k) → (x : ℕ)
+    → h (note_of (seat_with s f (unfrozen n)).view x) ≡ h (note_of s.view x)
+note_kept s f n h same x = elim (cases_eq x f) [
+  | inl e ↦ subst (λ (y : ℕ). h (note_of (seat_with s f (unfrozen n)).view y) ≡ h (note_of s.view y)) (sym e)
+      (ap h (note_here s.view f (unfrozen n)) ∙ same (note_of s.view f))
+  | inr ne ↦ ap h (note_else s.view f x (unfrozen n) ne)
+]
+
+pub unfrozen_visits : (t : KnownTable) (m n : KnownMachine) (c : KnownCpu) (f : ℕ) → n.seat ≡ seat_with m.seat f (unfrozen 1) → Visits t m c → Visits t n c
+unfrozen_visits t m n c f is visit =
+    let p = c.seat.view.number in
+    let out : (x : ℕ) → (note_of (seat_with m.seat f (unfrozen 1)).view x).passed_out ≡ (note_of m.seat.view x).passed_out =
+    note_kept m.seat f 1 (λ k. k.passed_out) (λ k. refl) in
+    let back : (x : ℕ) → (note_of (seat_with m.seat f (unfrozen 1)).view x).collected ≡ (note_of m.seat.view x).collected =
+    note_kept m.seat f 1 (λ k. k.collected) (λ k. refl) in
+    let lent : (x : ℕ) → (note_of (seat_with m.seat f (unfrozen 1)).view x).lent ≡ (note_of m.seat.view x).lent =
+    note_kept m.seat f 1 (λ k. k.lent) (λ k. refl) in
+    let still : NothingPasses t (seat_with m.seat f (unfrozen 1)) c.seat =
+    λ x inside. (λ i. slice_index (out x i) p + (note_of c.seat.view x).passed_back) ∙ visit.still x inside
+    ∙ (λ i. slice_index (sym (back x) i) p + (note_of c.seat.view x).taken_in) in
+    let borrowed : LentIsBorrowed t (seat_with m.seat f (unfrozen 1)) c.seat =
+    λ x inside. let old = visit.lent x inside in (λ a. old.0 (sym (lent x) ∙ a), λ a. lent x ∙ old.1 a) in
+    record {
+      is_open = ap (λ (s : KnownSeat). slice_index s.view.opened c.number) is ∙ visit.is_open;
+      still = subst (λ (s : KnownSeat). NothingPasses t s c.seat) (sym is) still;
+      lent = subst (λ (s : KnownSeat). LentIsBorrowed t s c.seat) (sym is) borrowed;
+    }
+
+one_more_reference : (s : KnownSeat) (f x : ℕ) → holds (seat_with s f (unfrozen 1)) x ≡ with_at (holds s) f (holds s f + 1) x
+one_more_reference s f x = elim (cases_eq x f) [
+  | inl e ↦ subst (λ (y : ℕ). holds (seat_with s f (unfrozen 1)) y ≡ with_at (holds s) f (holds s f + 1) y) (sym e)
+      (ap (λ (k : FrameNote). k.references) (note_here s.view f (unfrozen 1)) ∙ sym (at_same (holds s) f (holds s f + 1)))
+  | inr ne ↦ ap (λ (k : FrameNote). k.references) (note_else s.view f x (unfrozen 1) ne) ∙ sym (at_other (holds s) f (holds s f + 1) x ne)
+]
+
+-- the frame that the zone finds free is in its hand
+pub free_in_hand : (t : KnownTable) (w : Words) (m : KnownMachine) → IsConsistent t w m → (f g : ℕ) → f < length m.spots → spot_at m.spots f ≡ Free → g ≡ f
+    → IsInOwnHand m.seat g
+free_in_hand t w m ok f g inside is named =
+    let s = ok.sizes.spots in
+    subst (λ (x : ℕ). IsInOwnHand m.seat x) (sym named) ((ok.spots f (omega (arith, s, inside))).own ∙ ap (λ (x : Spot). one_if (is_in_hand x)) is)
+
+-- ---- all of it
+
+-- what `take_block` leaves where there is a block, of the machine as it was seen before
+pub record AllTaken (t : KnownTable) (w : Words) (now : KnownMachine) (c : KnownCpu) (g k at : ℕ) (n : KnownMachine) (d : KnownCpu) (free : List Bool) : Type 0 where
+  pub consistent : IsConsistent t w n
+  pub free_is : free ≡ free_of n.spots
+  pub takes : TakesBlock now g k at n
+  pub visit : Visits t n d
+  pub steps : IsLocalRun c.number (local_of t now c) (taken_steps g k at) (local_of t n d)
+
+-- what is asked of the processor and of the group
+pub record MayTake (t : KnownTable) (m : KnownMachine) (c : KnownCpu) (g : ℕ) : Type 0 where
+  pub visit : Visits t m c
+  pub none_back : c.back ≡ []
+  pub usage : (h : ℕ) → usage_of (local_of t m c) h ≡ current_of m.ledger h
+  pub there : has_group m.ledger.groups g ≡ true
+  pub alive : is_killed m.killed g ≡ false
+
+abbrev taken_machine : KnownMachine → ℕ → Block → List Block → List Spot → List Link → Lru → KnownMachine
+taken_machine m g b blocks spots links new = record {
+  blocks = blocks;
+  spots = spots;
+  ledger = with_charge m.ledger g (2 ^ b.order);
+  links = links;
+  lists = slice_set m.lists g new;
+  seat = seat_with m.seat b.at (unfrozen 1);
+  stock = m.stock;
+  killed = m.killed;
+  counts = m.counts;
+}
+
+taken_here : (t : KnownTable) (w : Words) (m : KnownMachine) (c : KnownCpu) → IsConsistent t w m → (g : ℕ) → g < 64 → (b : Block)
+    → MayTake t m c g → PathHasRoom m.ledger.groups (current_of m.ledger) g (2 ^ b.order) → PagesRise m.ledger (with_charge m.ledger g (2 ^ b.order)) g (2 ^ b.order)
+    → (before free : List Bool) (blocks : List Block) → before ≡ free_of m.spots → IsFrontOfSmallest m.blocks b.order b → TakesFrames before b free
+    → AreMaximalBlocks free blocks → (spots : List Spot) → PlacesUnit m.spots g b spots → holds m.seat b.at ≡ 0
+    → (any lru : Lru) → lru ≡ get_or m.lists g any → (links : List Link) (new : Lru) → IsAdded m.links lru b.at links new → OthersStand → OneOfAllChanges
+    → AllTaken t w m c g b.order b.at (taken_machine m g b blocks spots links new) c free
+taken_here t w m c ok g fits b may room rise before free blocks was front takes areas spots placed unreferred any lru read links new added others all =
+    let n = taken_machine m g b blocks spots links new in
+    let block = taken_inside m.spots m.blocks ok.areas before free was b.order b front takes in
+    let were_free = taken_free m.spots m.blocks ok.areas before free was b.order b front takes in
+    let head = head_free m.spots m.blocks ok.areas before free was b.order b front takes in
+    let sized = ok.sizes.spots in
+    let inside : b.at < t.frames = let h = head_inside m.spots m.blocks ok.areas before free was b.order b front takes in omega (arith, h, sized) in
+    let frees : free ≡ free_of spots = free_then m.spots m.blocks ok.areas before free was b.order b front takes spots g placed in
+    let maximal : AreMaximalBlocks (free_of spots) blocks = subst (λ (l : List Bool). AreMaximalBlocks l blocks) frees areas in
+    let used : IsUsed (unfrozen 1 (note_of m.seat.view b.at)) = record {
+      own = refl;
+      lent = no_cpu_is (note_of m.seat.view b.at).lent ((ok.spots b.at inside).lent ∙ ap lent_to head);
+      references = let r : (note_of m.seat.view b.at).references ≡ 0 = unreferred in omega (arith, r);
+    } in
+    let joins : JoinsCharges t w m g (2 ^ b.order) spots blocks (with_charge m.ledger g (2 ^ b.order)) m.stock = record {
+      areas = maximal;
+      table = ok.seats.table;
+      stocks = ok.seats.stocks;
+      noted = ok.noted;
+      charged = λ h. let a = rise h in let old = ok.charged h in omega (arith, a, old);
+    } in
+    record {
+      consistent = unit_kept t w m ok g fits b block spots placed (ap group_of head) (λ x low high ne. were_free x low high) any lru read links new added others
+          all (unfrozen 1) used blocks (with_charge m.ledger g (2 ^ b.order)) m.stock m.counts joins;
+      free_is = frees;
+      takes = record {
+        room = room;
+        front = front;
+        areas = maximal;
+        unit = placed;
+        listed = unit_listed t w m ok g fits any lru read b.at links new added others all n;
+        machine = refl;
+      };
+      visit = unfrozen_visits t m n c b.at refl may.visit;
+      steps = taken_run t m c g b may.there may.alive may.usage room inside (seen_free t m c sized b block were_free) (ap (times b.at) may.none_back) n
+          (record {
+            spots = placed.records;
+            references = one_more_reference m.seat b.at;
+            hold = refl;
+            groups = refl;
+            killed = refl;
+            stock = refl;
+          });
+    }
+
+pub taken_all : (t : KnownTable) (w : Words) (m now : KnownMachine) → m ≡ now → (c d : KnownCpu) → d ≡ c → IsConsistent t w m → (g i : ℕ) → i < 64 → i ≡ g
+    → (k pages : ℕ) → pages ≡ 2 ^ k → MayTake t now c g → PathHasRoom m.ledger.groups (current_of m.ledger) g pages → (ledger : Ledger) → ledger ≡ with_charge m.ledger g pages
+    → PagesRise m.ledger ledger g pages → (before free : List Bool) (b : Block) (blocks : List Block) → before ≡ free_of m.spots
+    → IsFrontOfSmallest m.blocks k b → TakesFrames before b free → AreMaximalBlocks free blocks → (spots : List Spot) → PlacesUnit m.spots g b spots
+    → (f u : ℕ) → f ≡ b.at → u ≡ f → holds m.seat f ≡ 0 → (seat : KnownSeat) → seat ≡ seat_with m.seat f (unfrozen 1) → (any lru : Lru)
+    → lru ≡ get_or m.lists i any → (links : List Link) (new : Lru) → IsAdded m.links lru u links new → OthersStand → OneOfAllChanges
+    → AllTaken t w now c g k f (record m { blocks = blocks; spots = spots; ledger = ledger; links = links; lists = slice_set m.lists i new; seat = seat }) d free
+taken_all t w m now same c d stays ok g i fits index k pages size may room ledger charged rise before free b blocks was front takes areas spots placed f u at unit
+    unreferred seat seat_is any lru read links new added others all =
+    let order : k ≡ b.order = sym front.order_is in
+    let so_many : pages ≡ 2 ^ b.order = size ∙ ap (λ (x : ℕ). 2 ^ x) order in
+    let may_here : MayTake t m c g = subst (λ (x : KnownMachine). MayTake t x c g) (sym same) may in
+    let room_here : PathHasRoom m.ledger.groups (current_of m.ledger) g (2 ^ b.order) =
+    subst (PathHasRoom m.ledger.groups (current_of m.ledger) g) so_many room in
+    let fits_here : g < 64 = subst (λ (x : ℕ). x < 64) index fits in
+    let ledger_is : ledger ≡ with_charge m.ledger g (2 ^ b.order) = charged ∙ ap (with_charge m.ledger g) so_many in
+    let rise_here : PagesRise m.ledger (with_charge m.ledger g (2 ^ b.order)) g (2 ^ b.order) =
+    subst (λ (x : Ledger × ℕ). PagesRise m.ledger x.0 g x.1) (λ j. (ledger_is j, so_many j)) rise in
+    let front_here : IsFrontOfSmallest m.blocks b.order b = subst (λ (x : ℕ). IsFrontOfSmallest m.blocks x b) order front in
+    let unreferred_here : holds m.seat b.at ≡ 0 = subst (λ (x : ℕ). holds m.seat x ≡ 0) at unreferred in
+    let read_here : lru ≡ get_or m.lists g any = subst (λ (x : ℕ). lru ≡ get_or m.lists x any) index read in
+    let added_here : IsAdded m.links lru b.at links new = subst (λ (x : ℕ). IsAdded m.links lru x links new) (unit ∙ at) added in
+    let seat_here : seat ≡ seat_with m.seat b.at (unfrozen 1) = seat_is ∙ ap (λ (x : ℕ). seat_with m.seat x (unfrozen 1)) at in
+    subst (λ (x : KnownMachine × KnownMachine × KnownCpu × ℕ × ℕ). AllTaken t w x.0 c g x.3 x.4 x.1 x.2 free)
+    (λ j. (
+      same j,
+      record m {
+        blocks = blocks;
+        spots = spots;
+        ledger = sym ledger_is j;
+        links = links;
+        lists = slice_set m.lists (sym index j) new;
+        seat = sym seat_here j;
+      },
+      sym stays j,
+      sym order j,
+      sym at j,
+    ))
+    (taken_here t w m c ok g fits_here b may_here room_here rise_here before free blocks was front_here takes areas spots placed unreferred_here any lru read_here links new
+    added_here others all)
+
+-- ---- no block
+
+-- what it leaves where there is none
+pub record NoneTaken (t : KnownTable) (now : KnownMachine) (c : KnownCpu) (g k : ℕ) (n : KnownMachine) (d : KnownCpu) : Type 0 where
+  pub none : TakesNoBlock now g k n
+  pub steps : IsLocalRun c.number (local_of t now c) (unplaced_steps g k) (local_of t n d)
+
+pub none_all : (t : KnownTable) (w : Words) (m now : KnownMachine) → m ≡ now → (c d : KnownCpu) → d ≡ c → IsConsistent t w m → (g k pages : ℕ) → pages ≡ 2 ^ k
+    → MayTake t now c g → PathHasRoom m.ledger.groups (current_of m.ledger) g pages → (charged ledger : Ledger) → charged ≡ with_charge m.ledger g pages → ledger ≡ with_uncharge charged g pages
+    → (blocks : List Block) → blocks ≡ m.blocks → HasNoneFrom m.blocks k → NoneTaken t now c g k (record m { blocks = blocks; ledger = ledger }) d
+none_all t w m now same c d stays ok g k pages size may room charged ledger rises falls blocks kept none =
+    let may_here : MayTake t m c g = subst (λ (x : KnownMachine). MayTake t x c g) (sym same) may in
+    let room_here : PathHasRoom m.ledger.groups (current_of m.ledger) g (2 ^ k) = subst (PathHasRoom m.ledger.groups (current_of m.ledger) g) size room in
+    let after : Ledger = with_uncharge (with_charge m.ledger g (2 ^ k)) g (2 ^ k) in
+    let ledger_is : ledger ≡ after = falls ∙ (λ j. with_uncharge (rises j) g pages) ∙ (λ j. with_uncharge (with_charge m.ledger g (size j)) g (size j)) in
+    let enough : 2 ^ k ≤ 2 ^ k = omega arith in
+    let n : KnownMachine = record m { ledger = after } in
+    subst (λ (x : KnownMachine × KnownMachine × KnownCpu). NoneTaken t x.0 c g k x.1 x.2)
+    (λ j. (same j, record m { blocks = sym kept j; ledger = sym ledger_is j }, sym stays j))
+    (record {
+      none = record { room = room_here; none = none; machine = refl };
+      steps = unplaced_run t m c g (2 ^ k) may_here.there may_here.alive may_here.usage k enough ok.sizes.spots ok.areas none room_here n refl refl;
+    })

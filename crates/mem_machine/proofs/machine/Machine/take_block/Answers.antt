@@ -1,0 +1,141 @@
+use Rattle.std.proofs.Common.{◌≤◌, ◌∙◌, ap, refl, rules, arith}
+use Rattle.zone_buddy.specs.Zone.{Zone}
+use Rattle.mem_machine.proofs.TakesBlocks.{taken_all, none_all, taken_inside, head_inside, head_free, free_in_hand}
+use Rattle.mem_machine.proofs.machine.Machine.take_block.Goals as goal
+
+pub returns-in_default-take-clause-refuses : goal.returns-in_default-take-clause-refuses
+returns-in_default-take-clause-refuses g c =
+    (none_all g.N.BootName.frames g.N.BootName.stocks _ _ (c.self.view_is ∙ c.see_usage.ensures.machine) c.args.cpu.now _ c.see_usage.ensures.cpu
+    c.self.invariant.0 c.args.group c.args.order _ c.frames-pages.ensures.frames
+    (record {
+      visit = c.requires.visit;
+      none_back = c.requires.none_back;
+      usage = c.see_usage.ensures.usage;
+      there = c.requires.there;
+      alive = c.requires.alive;
+    }) (c.in_default.ensures.granted.0 refl) _ _ c.in_default.ensures.charged c.uncharge.ensures.uncharged _
+    (ap (λ (z : Zone). z.blocks) c.in_default-take.ensures.none) c.in_default-take.ensures.taken).none
+
+pub returns-in_default-take-clause-steps : goal.returns-in_default-take-clause-steps
+returns-in_default-take-clause-steps g c =
+    (none_all g.N.BootName.frames g.N.BootName.stocks _ _ (c.self.view_is ∙ c.see_usage.ensures.machine) c.args.cpu.now _ c.see_usage.ensures.cpu
+    c.self.invariant.0 c.args.group c.args.order _ c.frames-pages.ensures.frames
+    (record {
+      visit = c.requires.visit;
+      none_back = c.requires.none_back;
+      usage = c.see_usage.ensures.usage;
+      there = c.requires.there;
+      alive = c.requires.alive;
+    }) (c.in_default.ensures.granted.0 refl) _ _ c.in_default.ensures.charged c.uncharge.ensures.uncharged _
+    (ap (λ (z : Zone). z.blocks) c.in_default-take.ensures.none) c.in_default-take.ensures.taken).steps
+
+pub unreachable-requires : goal.unreachable-requires
+unreachable-requires g c =
+    let past : g.N.BootName.frames.frames ≤ c.in-Some.block.at = search rules in
+    let inside = head_inside _ _ c.self.invariant.0.areas _ _ c.self.invariant.1 _ c.in-Some.block c.in-Some.ensures.taken c.in-Some.ensures.frames in
+    let sized = c.self.invariant.0.sizes.spots in
+    omega (arith, past, inside, sized)
+
+pub place_unit-requires : goal.place_unit-requires
+place_unit-requires g c =
+    (taken_inside _ _ c.self.invariant.0.areas _ _ c.self.invariant.1 _ c.in-Some.block c.in-Some.ensures.taken c.in-Some.ensures.frames).inside
+
+pub unfreeze-requires-clause-hand : goal.unfreeze-requires-clause-hand
+unfreeze-requires-clause-hand g c =
+    free_in_hand _ _ _ c.self.invariant.0 c.in-Some.block.at c.in-Some-frame.head
+    (head_inside _ _ c.self.invariant.0.areas _ _ c.self.invariant.1 _ c.in-Some.block c.in-Some.ensures.taken c.in-Some.ensures.frames)
+    (head_free _ _ c.self.invariant.0.areas _ _ c.self.invariant.1 _ c.in-Some.block c.in-Some.ensures.taken c.in-Some.ensures.frames)
+    c.in-Some-frame.ensures.0
+
+pub invariant_of-self-2 : goal.invariant_of-self-2
+invariant_of-self-2 g c =
+    let all = taken_all g.N.BootName.frames g.N.BootName.stocks _ _ (c.self.view_is ∙ c.see_usage.ensures.machine) c.args.cpu.now _ c.see_usage.ensures.cpu
+    c.self.invariant.0 c.args.group _ c.number-number.ensures.below c.number-number.ensures.value c.args.order _ c.frames-pages.ensures.frames
+    (record {
+      visit = c.requires.visit;
+      none_back = c.requires.none_back;
+      usage = c.see_usage.ensures.usage;
+      there = c.requires.there;
+      alive = c.requires.alive;
+    }) (c.in_default.ensures.granted.0 refl) _ c.in_default.ensures.charged c.in_default.ensures.pages _ _ c.in-Some.block _ c.self.invariant.1
+    c.in-Some.ensures.taken c.in-Some.ensures.frames c.in-Some.ensures.areas _ c.place_unit.ensures c.in-Some-frame.head _ c.in-Some-frame.ensures.0
+    c.number.ensures c.unfreeze.ensures.no_reference _ c.unfreeze.ensures.seat _ _ c.index.ensures _ _
+    (record {
+      stands = c.add.ensures.stands;
+      owner = c.add.ensures.owner;
+      inactive = c.add.ensures.inactive;
+      active = c.add.ensures.active;
+      changes = c.add.ensures.others;
+      moves = c.add.ensures.moves;
+      joined = c.add.ensures.joined;
+    }) c.others_stand.ensures c.one_of_all_changes.ensures in
+    (all.consistent, all.free_is)
+
+pub returns-clause-takes : goal.returns-clause-takes
+returns-clause-takes g c =
+    (taken_all g.N.BootName.frames g.N.BootName.stocks _ _ (c.self.view_is ∙ c.see_usage.ensures.machine) c.args.cpu.now _ c.see_usage.ensures.cpu
+    c.self.invariant.0 c.args.group _ c.number-number.ensures.below c.number-number.ensures.value c.args.order _ c.frames-pages.ensures.frames
+    (record {
+      visit = c.requires.visit;
+      none_back = c.requires.none_back;
+      usage = c.see_usage.ensures.usage;
+      there = c.requires.there;
+      alive = c.requires.alive;
+    }) (c.in_default.ensures.granted.0 refl) _ c.in_default.ensures.charged c.in_default.ensures.pages _ _ c.in-Some.block _ c.self.invariant.1
+    c.in-Some.ensures.taken c.in-Some.ensures.frames c.in-Some.ensures.areas _ c.place_unit.ensures c.in-Some-frame.head _ c.in-Some-frame.ensures.0
+    c.number.ensures c.unfreeze.ensures.no_reference _ c.unfreeze.ensures.seat _ _ c.index.ensures _ _
+    (record {
+      stands = c.add.ensures.stands;
+      owner = c.add.ensures.owner;
+      inactive = c.add.ensures.inactive;
+      active = c.add.ensures.active;
+      changes = c.add.ensures.others;
+      moves = c.add.ensures.moves;
+      joined = c.add.ensures.joined;
+    }) c.others_stand.ensures c.one_of_all_changes.ensures).takes
+
+pub returns-clause-visit : goal.returns-clause-visit
+returns-clause-visit g c =
+    (taken_all g.N.BootName.frames g.N.BootName.stocks _ _ (c.self.view_is ∙ c.see_usage.ensures.machine) c.args.cpu.now _ c.see_usage.ensures.cpu
+    c.self.invariant.0 c.args.group _ c.number-number.ensures.below c.number-number.ensures.value c.args.order _ c.frames-pages.ensures.frames
+    (record {
+      visit = c.requires.visit;
+      none_back = c.requires.none_back;
+      usage = c.see_usage.ensures.usage;
+      there = c.requires.there;
+      alive = c.requires.alive;
+    }) (c.in_default.ensures.granted.0 refl) _ c.in_default.ensures.charged c.in_default.ensures.pages _ _ c.in-Some.block _ c.self.invariant.1
+    c.in-Some.ensures.taken c.in-Some.ensures.frames c.in-Some.ensures.areas _ c.place_unit.ensures c.in-Some-frame.head _ c.in-Some-frame.ensures.0
+    c.number.ensures c.unfreeze.ensures.no_reference _ c.unfreeze.ensures.seat _ _ c.index.ensures _ _
+    (record {
+      stands = c.add.ensures.stands;
+      owner = c.add.ensures.owner;
+      inactive = c.add.ensures.inactive;
+      active = c.add.ensures.active;
+      changes = c.add.ensures.others;
+      moves = c.add.ensures.moves;
+      joined = c.add.ensures.joined;
+    }) c.others_stand.ensures c.one_of_all_changes.ensures).visit
+
+pub returns-clause-steps : goal.returns-clause-steps
+returns-clause-steps g c =
+    (taken_all g.N.BootName.frames g.N.BootName.stocks _ _ (c.self.view_is ∙ c.see_usage.ensures.machine) c.args.cpu.now _ c.see_usage.ensures.cpu
+    c.self.invariant.0 c.args.group _ c.number-number.ensures.below c.number-number.ensures.value c.args.order _ c.frames-pages.ensures.frames
+    (record {
+      visit = c.requires.visit;
+      none_back = c.requires.none_back;
+      usage = c.see_usage.ensures.usage;
+      there = c.requires.there;
+      alive = c.requires.alive;
+    }) (c.in_default.ensures.granted.0 refl) _ c.in_default.ensures.charged c.in_default.ensures.pages _ _ c.in-Some.block _ c.self.invariant.1
+    c.in-Some.ensures.taken c.in-Some.ensures.frames c.in-Some.ensures.areas _ c.place_unit.ensures c.in-Some-frame.head _ c.in-Some-frame.ensures.0
+    c.number.ensures c.unfreeze.ensures.no_reference _ c.unfreeze.ensures.seat _ _ c.index.ensures _ _
+    (record {
+      stands = c.add.ensures.stands;
+      owner = c.add.ensures.owner;
+      inactive = c.add.ensures.inactive;
+      active = c.add.ensures.active;
+      changes = c.add.ensures.others;
+      moves = c.add.ensures.moves;
+      joined = c.add.ensures.joined;
+    }) c.others_stand.ensures c.one_of_all_changes.ensures).steps

@@ -1,0 +1,78 @@
+-- Kept units that are released: off their list, and back where nobody else has a reference.
+use Rattle.std.specs.Prelude.{◌≡◌, ◌≢◌, ℕ, ◌^◌, ◌<◌, ◌≤◌, Some, None, List, [], ◌∷◌, slice_index_or}
+use Rattle.zone_blocks.specs.Areas.{AreMaximalBlocks}
+use Rattle.frame_word.specs.Views.{let_go, let_go_last}
+use Rattle.frame_word.specs.Seats.{seat_with}
+use Rattle.group_tree.specs.Room.{one_more}
+use Rattle.group_charge.specs.Charges.{with_uncharge}
+use Rattle.lru_lists.specs.declared.record.Link.{Link}
+use Rattle.lru_lists.specs.declared.record.LruList.{LruList}
+use Rattle.lru_lists.specs.declared.lru.Lru.{Lru}
+use Rattle.lru_lists.specs.Queue.{link_at, nowhere}
+use Rattle.lru_lists.specs.Lists.{inactive_of, active_of, entries_without}
+use Rattle.step_rules.specs.declared.phase.ChargedUnit.{ChargedUnit}
+use Rattle.step_rules.specs.declared.step.Action.TheVariants.{Put, Return}
+use Rattle.step_rules.specs.declared.step.Answer.TheVariants as answer
+use Rattle.step_rules.specs.After.{Run}
+use Rattle.mem_machine.specs.declared.spot.Spot.TheVariants.{Head}
+use Rattle.mem_machine.specs.declared.machine.Counts.{Counts}
+use Rattle.mem_machine.specs.declared.releasing.Released.{Released}
+use Rattle.mem_machine.specs.declared.releasing.Released.TheVariants.{Left, Returned}
+use Rattle.mem_machine.specs.Spots.{spot_at, free_of}
+use Rattle.mem_machine.specs.Machines.{KnownMachine, home_of, no_lists}
+use Rattle.mem_machine.specs.Freeing.{FreesFrames}
+
+-- the two lists of the group of this number
+abbrev pub lists_in : List Lru → ℕ → Lru
+lists_in lists g = slice_index_or lists g no_lists
+
+-- the unit is off the list that it stood on, of the group of this number; every other unit stands on the list that it
+-- stood on, at its place there, marked and dirty as it was, and each frame on no list has the record that it had
+pub record LeavesList (before : List Link) (old : List Lru) (f : ℕ) (after : List Link) (new : List Lru) : Type 0 where
+  pub group : ℕ
+  pub list : LruList
+  pub stands : home_of before f ≡ Some (record { owner = group; list = list })
+  pub forgotten : link_at after f ≡ nowhere
+  pub homes : (g : ℕ) → g ≢ f → home_of after g ≡ home_of before g
+  pub loose : (g : ℕ) → home_of before g ≡ None → link_at after g ≡ link_at before g
+  pub inactive : inactive_of after (lists_in new group) ≡ entries_without f (inactive_of before (lists_in old group))
+  pub active : active_of after (lists_in new group) ≡ entries_without f (active_of before (lists_in old group))
+  pub others : (g : ℕ) → g < 64 → g ≢ group
+      → (inactive_of after (lists_in new g) ≡ inactive_of before (lists_in old g)) × (active_of after (lists_in new g) ≡ active_of before (lists_in old g))
+
+-- the unit is off its list, and so many references of processors are left; nothing else changed
+pub record LeavesReferences (m : KnownMachine) (f left : ℕ) (n : KnownMachine) : Type 0 where
+  pub list : LeavesList m.links m.lists f n.links n.lists
+  pub some : 1 ≤ left
+  pub machine : n ≡ record m { links = n.links; lists = n.lists; seat = seat_with m.seat f (let_go left) }
+
+-- one more last put, and one unit more that came back
+abbrev pub with_return : Counts → Counts
+with_return c = record c { last_puts = one_more c.last_puts; returns = one_more c.returns }
+
+-- the unit is off its list and came back: its frames are free, and its pages off the charge of its group; nothing else changed
+pub record ReturnsUnit (m : KnownMachine) (f : ℕ) (n : KnownMachine) : Type 0 where
+  pub unit : ChargedUnit
+  pub heads : spot_at m.spots f ≡ Head unit
+  pub list : LeavesList m.links m.lists f n.links n.lists
+  pub frees : FreesFrames m.spots f (2 ^ unit.order) n.spots
+  pub areas : AreMaximalBlocks (free_of n.spots) n.blocks
+  pub machine : n ≡ record m {
+    blocks = n.blocks;
+    spots = n.spots;
+    ledger = with_uncharge m.ledger unit.group (2 ^ unit.order);
+    links = n.links;
+    lists = n.lists;
+    seat = seat_with m.seat f let_go_last;
+    counts = with_return m.counts;
+  }
+
+-- what a release leaves, by what it tells
+abbrev pub Releases : KnownMachine → ℕ → Released → KnownMachine → Type 0
+Releases m f (Left left) n = LeavesReferences m f left n
+Releases m f Returned n = ReturnsUnit m f n
+
+-- the steps of a release: the zone puts its reference, and where it was the last one the unit comes back
+abbrev pub released_steps : ℕ → Released → Run
+released_steps f (Left left) = (record { seat = 0; action = Put f }, answer.Left left) ∷ []
+released_steps f Returned = (record { seat = 0; action = Put f }, answer.Last) ∷ (record { seat = 0; action = Return f }, answer.Done) ∷ []

@@ -1,0 +1,86 @@
+//! Kept units that are released.
+
+ghost use Rattle.std.specs.Prelude.{◌≡◌, ◌≢◌, ◌<◌, None, IfSome, length};
+ghost use Rattle.lru_lists.specs.Lists.{AllStand};
+ghost use Rattle.mem_machine.specs.Machines.{home_of, Visits};
+ghost use Rattle.mem_machine.specs.Releasing.{LeavesList, Releases, released_steps, with_return};
+ghost use Rattle.mem_machine.specs.Local.{IsLocalRun, local_of};
+
+use crate::freed::free_unit;
+use crate::machine::{Counts, Machine};
+use crate::spot::Spot;
+use cpu_part::{BootName, Cpu, Tables};
+use frame_word::{Frame, Put};
+use lru_lists::laws;
+use lru_lists::links::Links;
+use lru_lists::lru::Lru;
+
+/// What a release left.
+#[derive(Clone, Copy, Debug, PartialEq, Eq)]
+pub enum Released {
+    /// So many references of processors are left: the unit stays charged, and isn't kept any more. It comes back after the
+    /// last put of a processor, when that one is settled.
+    Left(u64),
+    /// It came back: its frames are free, and its pages off the charge of its group.
+    Returned,
+}
+
+/// Takes a kept unit off its list. The unit goes by its head.
+pub(crate) fn leave_list(links: &mut Links, lists: &mut Vec<Lru>, unit: u32)
+    requires frame { unit < length links.old }
+    requires kept { home_of links.old unit ≢ None }
+    requires owner { IfSome (home_of links.old unit) (λ h. h.owner < 64) }
+    requires groups { length lists.old.items ≡ 64 }
+    requires stand { AllStand links.old lists.old.items }
+    ensures leaves { LeavesList links.old lists.old.items unit links.new lists.new.items }
+    ensures stand { AllStand links.new lists.new.items }
+    ensures frames { length links.new ≡ length links.old }
+    ensures groups { length lists.new.items ≡ 64 }
+{
+    let Some(home) = links.home(unit) else {
+        unreachable!()
+    };
+    laws::others_stand();
+    laws::one_of_all_changes();
+    let mut own = lists[home.owner as usize];
+    own.take_off(links, unit);
+    lists[home.owner as usize] = own;
+}
+
+// Counts a last put, and a unit that came back.
+fn counted_return(counts: Counts) -> Counts
+    ensures { result ≡ with_return counts }
+{
+    Counts {
+        last_puts: counts.last_puts.saturating_add(1),
+        returns: counts.returns.saturating_add(1),
+        ..counts
+    }
+}
+
+impl<N: BootName> Machine<N> {
+    /// Takes a kept unit off its list, and gives up the zone's reference on it. Where that was the last one, the unit comes
+    /// back. The unit goes by its head, which stands on a list of its group.
+    pub fn release(&mut self, tables: &Tables<N>, cpu: &Cpu<N>, frame: Frame) -> Released
+        requires visit { Visits N.frames self.old cpu.now }
+        requires frame { frame < N.frames.frames }
+        requires kept { home_of self.old.links frame ≢ None }
+        ensures releases { Releases self.old frame result self.new }
+        ensures visit { Visits N.frames self.new cpu.now }
+        ensures steps { IsLocalRun cpu.now.number (local_of N.frames self.old cpu.now) (released_steps frame result) (local_of N.frames self.new cpu.now) }
+    {
+        let at = frame.number();
+        leave_list(&mut self.links, &mut self.lists, at);
+        match tables.frames.put(&mut self.seat, frame) {
+            Put::Left(left) => Released::Left(left),
+            Put::Last => {
+                let Spot::Head(unit) = self.spots[at as usize] else {
+                    unreachable!()
+                };
+                free_unit(&mut self.zone, &mut self.spots, &mut self.charges, at, unit);
+                self.counts = counted_return(self.counts);
+                Released::Returned
+            }
+        }
+    }
+}
