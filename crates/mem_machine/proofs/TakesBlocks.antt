@@ -1,6 +1,7 @@
 -- A block is charged to a group and taken, or none is there. Serves `take_block`.
 use Rattle.std.proofs.Common.{◌≡◌, ℕ, zero, suc, ◌+◌, ◌-◌, ◌^◌, ◌≤◌, ◌<◌, ◌==◌, Bool, true, false, cond, List, [], length, get_or}
-use Rattle.std.proofs.Common.{refl, sym, ap, ◌∙◌, subst, arith, inl, inr}
+use Rattle.std.proofs.Common.{refl, sym, ap, ◌∙◌, subst, arith, inl, inr, None}
+use Rattle.std.proofs.lemmas.Option.{none-some}
 use Rattle.std.specs.Prelude.{slice_set, slice_index}
 use Rattle.std.specs.Cmp.{both_ways}
 use Rattle.std.proofs.lemmas.Bool.{cases_eq, false≢true}
@@ -31,7 +32,7 @@ use Rattle.step_rules.proofs.Basics.{at_same, at_other}
 use Rattle.step_rules.proofs.Placing.{within_cases}
 use Rattle.mem_machine.specs.declared.spot.Spot.{Spot}
 use Rattle.mem_machine.specs.declared.spot.Spot.TheVariants.{Free, Head, Tail}
-use Rattle.mem_machine.specs.Spots.{spot_at, is_free, is_in_hand, lent_to, free_of, group_of}
+use Rattle.mem_machine.specs.Spots.{spot_at, is_free, is_in_hand, some_cpu, lent_to, free_of, group_of}
 use Rattle.mem_machine.specs.Machines.{KnownMachine, IsConsistent, Visits, is_killed}
 use Rattle.mem_machine.specs.Blocks.{PlacesUnit, TakesBlock, TakesNoBlock, taken_steps, unplaced_steps}
 use Rattle.mem_machine.specs.Local.{local_of, phase_of, IsLocalRun}
@@ -40,6 +41,11 @@ use Rattle.mem_machine.proofs.PlacesUnits.{in_block, off_block}
 use Rattle.mem_machine.proofs.KeptUnits.{IsAdded, IsUsed, JoinsCharges, unit_kept, unit_listed}
 use Rattle.mem_machine.proofs.Placed.{taken_run}
 use Rattle.mem_machine.proofs.Grants.{unplaced_run}
+
+-- a frame that is lent to no processor is lent to number 0
+lent_none : (n : ℕ) → some_cpu n ≡ None → n ≡ 0
+lent_none zero is = refl
+lent_none (suc n) is = absurd (none-some (suc n) (sym is))
 
 -- ---- the block that was taken
 
@@ -210,7 +216,7 @@ taken_here t w m c ok g fits b may room rise before free blocks was front takes 
     let maximal : AreMaximalBlocks (free_of spots) blocks = subst (λ (l : List Bool). AreMaximalBlocks l blocks) frees areas in
     let used : IsUsed (unfrozen 1 (note_of m.seat.view b.at)) = record {
       own = refl;
-      lent = (ok.spots b.at inside).lent ∙ ap lent_to head;
+      lent = lent_none (note_of m.seat.view b.at).lent ((ok.spots b.at inside).lent ∙ ap lent_to head);
       references = let r : (note_of m.seat.view b.at).references ≡ 0 = unreferred in omega (arith, r);
     } in
     let joins : JoinsCharges t w m g (2 ^ b.order) spots blocks (with_charge m.ledger g (2 ^ b.order)) m.stock = record {

@@ -10,4 +10,3 @@ pub mod Freeing
 pub mod Blocks
 pub mod Interleaving
 pub mod Releasing
-pub mod Given
