@@ -74,6 +74,6 @@ Releases m f (Left left) n = LeavesReferences m f left n
 Releases m f Returned n = ReturnsUnit m f n
 
 -- the steps of a release: the zone puts its reference, and where it was the last one the unit comes back
-abbrev pub released_steps : ℕ → Released → Run
-released_steps f (Left left) = zone_makes (Put f) (answer.Left left) ∷ []
-released_steps f Returned = zone_makes (Put f) answer.Last ∷ zone_makes (Return f) answer.Done ∷ []
+abbrev pub release_steps : ℕ → Released → Run
+release_steps f (Left left) = zone_makes (Put f) (answer.Left left) ∷ []
+release_steps f Returned = zone_makes (Put f) answer.Last ∷ zone_makes (Return f) answer.Done ∷ []
