@@ -20,8 +20,8 @@ pub mod Freeing
 pub mod PlacesUnits
 pub mod BlockCharges
 pub mod KeptUnits
-pub mod TakesBlocks
 pub mod Interleaves
+pub mod TakesBlocks
 pub mod Leaving
 pub mod Releases
 pub mod GivenFrames

@@ -1,21 +1,16 @@
-//! A processor is lent frames and gives them back; a group is given a block.
+//! A processor is lent frames and gives them back.
 ghost use Rattle.std.specs.Prelude.{◌≡◌, ◌≤◌};
 ghost use Rattle.frame_word.specs.Seats.{first_zone_view, first_cpu_view};
 ghost use Rattle.stock_word.specs.Stock.{first_machine, first_processor};
 
-use crate::blocks::TakeFault;
 use crate::machine::Machine;
-use crate::spot::Place;
 use cpu_part::{BootName, Cpu, Tables};
 use frame_word::{FrameSeat, FrameWords};
-use group_charge::charges::Over;
-use group_tree::group::GroupId;
 use std::alloc::{AllocError, Global};
 use std::marker::Brand;
 use std::process::Abort;
 use std::test::Fail;
 use stock_word::{StockSeat, StockWords};
-use zone_blocks::order::Order;
 
 // The tables of F frames and 1 processor, and all seats, as they are at first.
 #[derive(Drop)]
@@ -78,44 +73,5 @@ fn lends_and_takes_back<N: BootName>(rt: &impl Abort, alloc: Global, parts: Part
 fn four_frames_are_lent_and_taken_back(rt: HostRuntime) -> Result<(), Fail> {
     let parts = make_parts::<16>(&rt, rt.alloc())?;
     lends_and_takes_back::<Brand>(&rt, rt.alloc(), parts);
-    Ok(())
-}
-
-// A block of four frames comes to a group; then its limit has no room for another, and without a limit no block is there.
-fn takes_a_block<N: BootName>(rt: &impl Abort, alloc: Global, parts: Parts<16>)
-    requires { (parts.frames ≡ N.frames) × (parts.stocks ≡ N.stocks) }
-{
-    let Parts {
-        frames,
-        stocks,
-        zone,
-        machine,
-        seat,
-        payer,
-    } = parts;
-    let tables = Tables::<N>::new(frames, stocks);
-    let mut cpu = Cpu::<N>::new(alloc, seat, payer).expect(rt, "memory");
-    let mut machine = Machine::<N>::new(alloc, &tables, zone, machine).expect(rt, "memory");
-    machine.open(&tables, &mut cpu);
-    let group = machine.make(b"/a").expect(rt, "a group");
-    assert!(rt; group != GroupId::root());
-    machine.set_max(group, Some(4));
-    let four = Order::of(2).unwrap();
-    assert!(rt; machine.charges().tree().contains(group));
-    assert!(rt; machine.charges().fits(four.frames()));
-    let head = machine
-        .take_block(&tables, &mut cpu, group, four)
-        .expect(rt, "a block");
-    assert_eq!(rt; head.number(), 0);
-    let tail = tables.frames.frame(3).expect(rt, "a frame");
-    assert_eq!(rt; machine.place(tail), Place::Charged(group));
-    let _ = cpu.into_seats();
-    let _ = tables.into_tables();
-}
-
-#[test]
-fn a_block_is_taken_and_two_are_refused(rt: HostRuntime) -> Result<(), Fail> {
-    let parts = make_parts::<16>(&rt, rt.alloc())?;
-    takes_a_block::<Brand>(&rt, rt.alloc(), parts);
     Ok(())
 }
