@@ -22,60 +22,13 @@ use Rattle.mem_machine.specs.declared.spot.Spot.{Spot}
 use Rattle.mem_machine.specs.declared.spot.Spot.TheVariants.{Free, Lent, Head, Tail}
 use Rattle.mem_machine.specs.Spots.{spot_at, is_free, free_of}
 use Rattle.mem_machine.specs.Machines.{KnownMachine, IsConsistent, IsSeated, Visits}
-use Rattle.mem_machine.specs.Given.{LendsFrame, lend_steps}
+use Rattle.mem_machine.specs.Lending.{LendsFrame}
+use Rattle.mem_machine.specs.Steps.{lend_steps}
 use Rattle.mem_machine.specs.Local.{IsLocalRun, local_of, phase_of, part_of, part_with}
 use Rattle.mem_machine.proofs.Reaching.{zone_step, cpu_step}
 use Rattle.mem_machine.proofs.Holds.{zone_may_act, visits_open, seated_cpu}
 use Rattle.mem_machine.proofs.Records.{free_at, free_taken, holds_same}
-use Rattle.mem_machine.proofs.Lends.{lend_consistent, lend_visits, lent_listed, parts_changed, phases_changed, references_stay, zone_hand}
-
-module _ (t : KnownTable) (w : Words) (m : KnownMachine) (c : KnownCpu) (tied : IsTied t w c) (ok : IsConsistent t w m) (visit : Visits t m c)
-    (f : ℕ) (inside : f < t.frames) (free : spot_at m.spots f ≡ Free) where
-  within : f < length m.spots
-  within = let s = ok.sizes.spots in omega (arith, s, inside)
-
-  seated : IsSeated t c
-  seated = record { some_number = tied.seats.some_number; cpus = tied.seats.frame_cpus }
-
-  pub lend_runs : (blocks : List Block) → in_hands (note_of c.seat.view f) ≡ 0 → IsLocalRun c.number (local_of t m c) (lend_steps c.number f)
-      (local_of t (record m { blocks = blocks; spots = slice_set m.spots f (Lent c.number); seat = seat_with m.seat f (passed_out_to c.number) })
-      (record c { list = c.list ++ f ∷ []; seat = seat_with c.seat f took_in }))
-  lend_runs blocks none =
-      let s = local_of t m c in
-      let d : KnownCpu = record c { list = c.list ++ f ∷ []; seat = seat_with c.seat f took_in } in
-      let out : State = after s 0 (PassOut f c.number) Done in
-      let framed : is_frame s.zone f ≡ true = lt-ltb f t.frames inside in
-      let is_zone_free : phases.is_free (phase_of c f (spot_at m.spots f)) ≡ true = ap (λ (x : Spot). phases.is_free (phase_of c f x)) free in
-      let may_pass : is_legal s 0 (PassOut f c.number) ≡ true =
-      and_from _ _ (and_from _ _ (and_from _ _ (zone_may_act m.seat c.number) framed) (visits_open m.seat c.number visit.is_open)) is_zone_free in
-      let passing : phases.passes_out c.number (with_at s.phases f (phase.Lent c.number PassingOut) f) ≡ true =
-      ap (phases.passes_out c.number) (at_same s.phases f (phase.Lent c.number PassingOut)) ∙ eq-eqb c.number c.number refl in
-      let may_take : is_legal out c.number (TakeIn f) ≡ true = and_from _ _ (and_from _ _ (seated_cpu t c seated) framed) passing in
-      let borrowed = (tied.noted f).borrowed_is in
-      let not_fresh : times f d.fresh ≡ 0 = omega (arith, borrowed, none) in
-      let ph = phases_changed c d m.spots f (Lent c.number) (phase.Lent c.number PassingOut) (phase.Lent c.number OnList) within
-      (lent_listed d f c.number not_fresh) (λ g y ne. same_phase g y) in
-      let re = references_stay m.seat (seat_with m.seat f (passed_out_to c.number)) c.seat (seat_with c.seat f took_in) c.number
-      (holds_same m.seat f (passed_out_to c.number) (λ k. refl)) (holds_same c.seat f took_in (λ k. refl)) in
-      let listed : part_with (c.list ++ f ∷ []) c.fresh c.back (account_of m.stock.view c.number)
-      ≡ record (part_of m.stock c c.number) { list = (part_of m.stock c c.number).list ++ f ∷ [] } =
-      sym (ap (λ (x : Part). record x { list = x.list ++ f ∷ [] })
-      (cond-true (c.number == c.number) (part_with c.list c.fresh c.back (account_of m.stock.view c.number)) (part_with [] [] []
-      (account_of m.stock.view c.number))
-      (eq-eqb c.number c.number refl))) in
-      let pa = parts_changed m.stock c (c.list ++ f ∷ []) c.fresh c.back _ listed in (
-        zone_step s c.number (PassOut f c.number) Done refl may_pass tt,
-        (
-          cpu_step out c.number (TakeIn f) Done refl may_take tt,
-          (λ i. record s { phases = λ g. sym (ph g) i; references = λ q x. sym (re q x) i; parts = λ q. sym (pa q) i }),
-        ),
-      )
-    where
-      same_phase : (g : ℕ) (y : Spot) → phase_of (record c { list = c.list ++ f ∷ []; seat = seat_with c.seat f took_in }) g y ≡ phase_of c g y
-      same_phase g Free = refl
-      same_phase g (Lent q) = refl
-      same_phase g (Head unit) = refl
-      same_phase g (Tail h) = refl
+use Rattle.mem_machine.proofs.Lends.{lend_consistent, lend_runs, lend_visits, lent_listed, parts_changed, phases_changed, references_stay, zone_hand}
 
 -- all of it, of the machine as it was seen before
 pub record AllGiven (t : KnownTable) (w : Words) (now : KnownMachine) (c : KnownCpu) (f : ℕ) (n : KnownMachine) (d : KnownCpu) (free : List Bool) : Type 0 where

@@ -38,7 +38,7 @@ use Rattle.mem_machine.specs.Spots.{spot_at, free_of, head_group_of, lent_to}
 use Rattle.mem_machine.specs.Machines.{KnownMachine, FitsSpot, IsConsistent, Visits, home_of, is_killed}
 use Rattle.mem_machine.specs.Local.{IsLocalRun, local_of, phase_of, references_of}
 use Rattle.mem_machine.specs.Freeing.{FreesFrames}
-use Rattle.mem_machine.specs.Releasing.{LeavesList, ReturnsUnit, released_steps, with_return}
+use Rattle.mem_machine.specs.Releasing.{LeavesList, ReturnsUnit, release_steps, with_return}
 use Rattle.mem_machine.specs.declared.machine.Counts.{Counts}
 use Rattle.mem_machine.specs.declared.releasing.Released.TheVariants.{Left, Returned}
 use Rattle.mem_machine.proofs.Reaching.{zone_step}
@@ -177,7 +177,7 @@ module _ (t : KnownTable) (w : Words) (m : KnownMachine) (ok : IsConsistent t w 
         charged = ok.charged;
       }
 
-      pub left_runs : (c : KnownCpu) → IsLocalRun c.number (local_of t m c) (released_steps f (Left left))
+      pub left_runs : (c : KnownCpu) → IsLocalRun c.number (local_of t m c) (release_steps f (Left left))
           (local_of t (record m { links = links; lists = lists; seat = left_seat }) c)
       left_runs c =
           let s = local_of t m c in (
@@ -230,7 +230,7 @@ module _ (t : KnownTable) (w : Words) (m : KnownMachine) (ok : IsConsistent t w 
             ]
 
         pub returned_runs : (spots : List Spot) (blocks : List Block) (counts : Counts) → FreesFrames m.spots f (2 ^ unit.order) spots
-            → IsLocalRun c.number (local_of t m c) (released_steps f Returned) (local_of t (record m {
+            → IsLocalRun c.number (local_of t m c) (release_steps f Returned) (local_of t (record m {
               blocks = blocks;
               spots = spots;
               ledger = with_uncharge m.ledger unit.group (2 ^ unit.order);
@@ -264,7 +264,7 @@ read_head t w m ok f i inside is x unit read head =
 pub record AllLeft (t : KnownTable) (w : Words) (now : KnownMachine) (c : KnownCpu) (f left : ℕ) (n : KnownMachine) : Type 0 where
   pub consistent : IsConsistent t w n
   pub visit : Visits t n c
-  pub steps : IsLocalRun c.number (local_of t now c) (released_steps f (Left left)) (local_of t n c)
+  pub steps : IsLocalRun c.number (local_of t now c) (release_steps f (Left left)) (local_of t n c)
 
 pub left_all : (t : KnownTable) (w : Words) (m now : KnownMachine) → m ≡ now → IsConsistent t w m → (c : KnownCpu) → Visits t now c → (f i : ℕ) → f < t.frames
     → i ≡ f → home_of now.links f ≢ None → (links : List Link) (lists : List Lru) → LeavesList m.links m.lists i links lists → AllStand links lists
@@ -288,7 +288,7 @@ pub record AllReturned (t : KnownTable) (w : Words) (now : KnownMachine) (c : Kn
   pub free_is : free ≡ free_of n.spots
   pub returns : ReturnsUnit now f n
   pub visit : Visits t n c
-  pub steps : IsLocalRun c.number (local_of t now c) (released_steps f Returned) (local_of t n c)
+  pub steps : IsLocalRun c.number (local_of t now c) (release_steps f Returned) (local_of t n c)
 
 pub returned_all : (t : KnownTable) (w : Words) (m now : KnownMachine) → m ≡ now → IsConsistent t w m → (c : KnownCpu) → Visits t now c → (f i : ℕ)
     → f < t.frames → i ≡ f → home_of now.links f ≢ None → (links : List Link) (lists : List Lru) → LeavesList m.links m.lists i links lists

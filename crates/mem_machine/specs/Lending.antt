@@ -21,6 +21,16 @@ pub record LendsOne (f : ℕ) (m : KnownMachine) (c : KnownCpu) (n : KnownMachin
   }
   pub cpu : d ≡ record c { list = c.list ++ f ∷ []; seat = seat_with c.seat f took_in }
 
+-- frame f, which was free, is at the end of the processor's list; nothing else changed
+pub record LendsFrame (f : ℕ) (m : KnownMachine) (c : KnownCpu) (n : KnownMachine) (d : KnownCpu) : Type 0 where
+  pub areas : AreMaximalBlocks (free_of n.spots) n.blocks
+  pub machine : n ≡ record m {
+    blocks = n.blocks;
+    spots = slice_set m.spots f (Lent c.number);
+    seat = seat_with m.seat f (passed_out_to c.number);
+  }
+  pub cpu : d ≡ record c { list = c.list ++ f ∷ []; seat = seat_with c.seat f took_in }
+
 -- there is no free frame, and nothing changed
 pub record LendsNone (m : KnownMachine) (c : KnownCpu) (n : KnownMachine) (d : KnownCpu) : Type 0 where
   pub none : HasNoneFrom m.blocks 0

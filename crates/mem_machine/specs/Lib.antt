@@ -10,5 +10,4 @@ pub mod Freeing
 pub mod Blocks
 pub mod Interleaving
 pub mod Releasing
-pub mod Given
 pub mod Settling

@@ -21,6 +21,7 @@ use Rattle.mem_machine.specs.declared.releasing.Released.TheVariants.{Left, Retu
 use Rattle.mem_machine.specs.Spots.{spot_at, free_of}
 use Rattle.mem_machine.specs.Machines.{KnownMachine, home_of, no_lists}
 use Rattle.mem_machine.specs.Freeing.{FreesFrames}
+use Rattle.mem_machine.specs.Steps.{zone_makes}
 
 -- the two lists of the group of this number
 abbrev pub lists_in : List Lru → ℕ → Lru
@@ -73,6 +74,6 @@ Releases m f (Left left) n = LeavesReferences m f left n
 Releases m f Returned n = ReturnsUnit m f n
 
 -- the steps of a release: the zone puts its reference, and where it was the last one the unit comes back
-abbrev pub released_steps : ℕ → Released → Run
-released_steps f (Left left) = (record { seat = 0; action = Put f }, answer.Left left) ∷ []
-released_steps f Returned = (record { seat = 0; action = Put f }, answer.Last) ∷ (record { seat = 0; action = Return f }, answer.Done) ∷ []
+abbrev pub release_steps : ℕ → Released → Run
+release_steps f (Left left) = zone_makes (Put f) (answer.Left left) ∷ []
+release_steps f Returned = zone_makes (Put f) answer.Last ∷ zone_makes (Return f) answer.Done ∷ []

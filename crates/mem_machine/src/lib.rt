@@ -4,7 +4,6 @@
 
 mod blocks;
 mod freed;
-mod given;
 mod groups;
 pub mod laws;
 mod lending;

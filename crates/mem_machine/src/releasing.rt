@@ -3,7 +3,7 @@
 ghost use Rattle.std.specs.Prelude.{◌≡◌, ◌≢◌, ◌<◌, None, IfSome, length};
 ghost use Rattle.lru_lists.specs.Lists.{AllStand};
 ghost use Rattle.mem_machine.specs.Machines.{home_of, Visits};
-ghost use Rattle.mem_machine.specs.Releasing.{LeavesList, Releases, released_steps, with_return};
+ghost use Rattle.mem_machine.specs.Releasing.{LeavesList, Releases, release_steps, with_return};
 ghost use Rattle.mem_machine.specs.Local.{IsLocalRun, local_of};
 
 use crate::freed::free_unit;
@@ -67,7 +67,7 @@ impl<N: BootName> Machine<N> {
         requires kept { home_of self.old.links frame ≢ None }
         ensures releases { Releases self.old frame result self.new }
         ensures visit { Visits N.frames self.new cpu.now }
-        ensures steps { IsLocalRun cpu.now.number (local_of N.frames self.old cpu.now) (released_steps frame result) (local_of N.frames self.new cpu.now) }
+        ensures steps { IsLocalRun cpu.now.number (local_of N.frames self.old cpu.now) (release_steps frame result) (local_of N.frames self.new cpu.now) }
     {
         let at = frame.number();
         leave_list(&mut self.links, &mut self.lists, at);
