@@ -1,6 +1,6 @@
 -- A set and its summary: for each call of `BitLevels`.
-use Rattle.std.proofs.Common.{◌≡◌, ◌≢◌, ℕ, ◌+◌, ◌-◌, ◌*◌, ◌/◌, ◌%◌, ◌<◌, ◌≤◌, ◌↔◌, ◌⊎◌, Bool, true, false, List, Option, Some, None, length}
-use Rattle.std.proofs.Common.{get_or, set, replicate, refl, sym, ap, ◌∙◌, subst, inl, inr, arith, length-set}
+use Rattle.std.proofs.Common.{◌≡◌, ◌≢◌, ℕ, ◌+◌, ◌*◌, ◌/◌, ◌<◌, ◌≤◌, ◌↔◌, ◌⊎◌, Bool, true, false, List, Option, Some, None, length}
+use Rattle.std.proofs.Common.{get_or, set, replicate, refl, sym, ◌∙◌, inl, inr, arith, length-set}
 use Rattle.std.specs.Option.{MatchOption}
 use Rattle.std.proofs.lemmas.List.{get_or_past, get_or-set_same, get_or-set_other, get_or-replicate, length-replicate}
 use Rattle.std.proofs.lemmas.Bool.{cases_lt, cases_eq, false≢true}
@@ -63,6 +63,23 @@ summary_set lower upper h i word v mark e l is =
             rw (get_or-set_other upper word w mark false ne) ((λ t. moved.0 (m.0 t)), (λ s. m.1 (moved.1 s)))
       ];
     }
+
+-- one number set, whose word has a member before and after, or neither: its mark stands
+pub summary_stands : (lower upper : List Bool) → IsSummaryOf lower upper → (i word : ℕ) (v had has : Bool) → word ≡ i / 64 → has ≡ had
+    → ((had ≡ true) ↔ HasSomeIn lower (word * 64) (word * 64 + 64)) → ((has ≡ true) ↔ HasSomeIn (set lower i v) (word * 64) (word * 64 + 64))
+    → IsSummaryOf (set lower i v) upper
+summary_stands lower upper h i word v had has e eh was is = record {
+  count = h.count ∙ sym (rw (length-set lower i v) refl);
+  marks = λ w. elim (cases_eq w word) [
+    | inl same ↦
+        let m = h.marks word in
+        rw same ((λ t. is.0 (eh ∙ was.1 (m.0 t))), (λ s. m.1 (was.0 (sym eh ∙ is.1 s))))
+    | inr ne ↦
+        let m = h.marks w in
+        let moved = moved_some lower i v (w * 64) (w * 64 + 64) (outside w word i ne e) in
+        ((λ t. moved.0 (m.0 t)), (λ s. m.1 (moved.1 s)))
+  ];
+}
 
 -- ---- the last member below a number
 

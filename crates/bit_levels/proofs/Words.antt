@@ -1,14 +1,13 @@
 -- The set that words of 64 bits tell: for each call of `Bits`.
-use Rattle.std.proofs.Common.{◌≡◌, ◌≢◌, ℕ, zero, suc, ◌+◌, ◌-◌, ◌*◌, ◌/◌, ◌%◌, ◌^◌, ◌<◌, ◌≤◌, ◌↔◌, ◌⊎◌, Bool, true, false, List, Option}
-use Rattle.std.proofs.Common.{Some, None, is_some, not, length, get_or, set, map, replicate, eqb, eq-eqb, refl, sym, ap, ◌∙◌, subst, inl}
+use Rattle.std.proofs.Common.{◌≡◌, ◌≢◌, ℕ, ◌+◌, ◌*◌, ◌/◌, ◌%◌, ◌^◌, ◌<◌, ◌≤◌, ◌↔◌, Bool, true, false, List, Option}
+use Rattle.std.proofs.Common.{Some, None, is_some, length, get_or, set, replicate, eqb, eq-eqb, refl, sym, ap, ◌∙◌, inl}
 use Rattle.std.proofs.Common.{inr, arith, length-set}
-use Rattle.std.specs.List.{range_with_len}
 use Rattle.std.specs.Option.{MatchOption}
 use Rattle.std.specs.Int.{bit_at, w64, trailing_zeros}
-use Rattle.std.proofs.lemmas.List.{get_or_past, same_lists, get_or_default, get_or-set_same, get_or-set_other, get_or-replicate, length-replicate}
+use Rattle.std.proofs.lemmas.List.{get_or_past, same_lists, get_or-set_same, get_or-set_other, get_or-replicate, length-replicate}
 use Rattle.std.proofs.lemmas.List.FromFn.{length-map-range_with_len, get_or-map-range_with_len}
-use Rattle.std.proofs.lemmas.Bool.{cases_lt, cases_eq, cases_Bool, false≢true, eqb-true, ne_eqb, false_from_ne_true}
-use Rattle.std.proofs.lemmas.Nat.Bits.{bit_at-lt, bit_at-zero, bit_at-trailing_zeros}
+use Rattle.std.proofs.lemmas.Bool.{cases_lt, cases_eq, false≢true, eqb-true, ne_eqb}
+use Rattle.std.proofs.lemmas.Nat.Bits.{bit_at-zero, bit_at-trailing_zeros}
 use Rattle.bit_levels.specs.Sets.{IsIn, HasNoneIn, HasSomeIn, IsLastIn, is_set, set_of, AreWords}
 
 pub length-set_of : (n : ℕ) (words : List ℕ) → length (set_of n words) ≡ n

@@ -62,8 +62,14 @@ impl BitLevels {
         ensures { self.new ≡ slice_set self.old number value }
     {
         let word = number / 64;
+        let had = self.bits.has_in_word(word);
         self.bits.set(number, value);
-        self.summary.set(word, self.bits.has_in_word(word));
+        let has = self.bits.has_in_word(word);
+        // Mostly the word keeps or gets members beside this one, and its mark stands.
+        if has == had {
+            return;
+        }
+        self.summary.set(word, has);
         self.top.set(word / 64, self.summary.has_in_word(word / 64));
     }
 

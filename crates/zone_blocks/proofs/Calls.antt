@@ -15,7 +15,7 @@ use Rattle.zone_blocks.specs.Block.{IsBlock}
 use Rattle.zone_blocks.specs.Areas.{HasNoneOf, HasNoneFrom, IsFirstOf, IsSmallestFrom, Inserts, Removes, Overlaps}
 use Rattle.zone_blocks.specs.Links.{next_of, prev_of, Joins}
 use Rattle.zone_blocks.specs.OrderLists.{MeetsRange, blocks_of, is_there, with_bit, AreBlockBits, AreOrderLists, AreRings, IsStart, IsNode}
-use Rattle.zone_blocks.specs.OrderLists.{IsLastBefore, Follows, IsNodeBelow, IsNextAfter, HasNoneAfter}
+use Rattle.zone_blocks.specs.OrderLists.{IsLastBefore, Follows, IsNodeBelow, IsNodeBefore, IsNextAfter, HasNoneAfter, head_of}
 use Rattle.zone_blocks.proofs.Lists.{number_within, numbered_is_block}
 use Rattle.zone_blocks.proofs.OrderLists.{there, from_there, bits_put, number_of, number_back, inserts, removes, apart_inserted, apart_removed}
 use Rattle.zone_blocks.proofs.Neighbours.{AreInZone, PutsIn, TakesOut, LinksIn, links_in, rings_inserted, rings_removed, before_put_block, after_put_block}
@@ -139,6 +139,25 @@ last_before n bits b e node old h is same here found =
                   ]
             ];
           }
+    ]
+
+-- a block before the first of its order stands behind the head
+behind_head : (n : ℕ) (blocks : List Block) (links : List Link) (k at node : ℕ) → AreRings n blocks links → k < 11
+    → node ≡ head_of n k → at < next_of links (head_of n k) → IsLastBefore n blocks k node at
+behind_head n blocks links k at node rings l is lt =
+    let first = (rings.next k (head_of n k) l (inr refl)).last in
+    record { node = inr is; before = inl is; none_between = λ z s after. let le = first.none_between z s (inl refl) in omega arith }
+
+pub last_found : (n : ℕ) (bits : List (List Bool)) (links : List Link) (b : Block) (e node : ℕ) (old : List Bool) → AreOrderLists n bits links
+    → IsBlock n b → e ≡ b.order → old ≡ get_or bits e old
+    → IsNodeBefore n links old b node → IsLastBefore n (blocks_of n bits) b.order node b.at
+last_found n bits links b e node old h is same here found =
+    let o = is.order in
+    elim found [
+      | inl head ↦ behind_head n (blocks_of n bits) links b.order b.at node h.rings (omega arith) head.0 head.1
+      | inr below ↦
+          let E : ℕ → Type 0 = λ j. IsNodeBelow n old b.order (b.at / 2 ^ j) node in
+          last_before n bits b e node old h.sizes is same here (subst E (sym same) below)
     ]
 
 pub inserted : (n : ℕ) (bits : List (List Bool)) (links mid links' : List Link) (b : Block) (a after : ℕ) → AreOrderLists n bits links → IsBlock n b

@@ -1,6 +1,6 @@
 -- A block and its buddy, and the bits of the pairs when a block is put in or taken out: for `buddy_in`, `pair_bit`, `insert` and `remove`.
 use Rattle.std.proofs.Common.{◌≡◌, ◌≢◌, ℕ, zero, suc, ◌+◌, ◌-◌, ◌*◌, ◌/◌, ◌^◌, ◌%◌, ◌<◌, ◌≤◌, ◌⊎◌, ◌↔◌, Bool, true, false, not, List, []}
-use Rattle.std.proofs.Common.{◌∷◌, ◌++◌, replicate, Option, Some, None, is_some, length, get_or, set, eqb, eq-eqb, refl, sym, ap, ◌∙◌}
+use Rattle.std.proofs.Common.{◌∷◌, ◌++◌, replicate, Option, Some, None, length, get_or, set, eqb, eq-eqb, refl, sym, ap, ◌∙◌}
 use Rattle.std.proofs.Common.{subst, inl, inr, arith, length-set}
 use Rattle.std.specs.List.{Contains}
 use Rattle.std.specs.Option.{MatchOption}
@@ -8,7 +8,7 @@ use Rattle.std.proofs.lemmas.List.{get_or_default, get_or_past, get_or_push, get
 use Rattle.std.proofs.lemmas.List.{get_or-set_same, get_or-set_other}
 use Rattle.std.proofs.lemmas.Bool.{cases_lt, cases_eq, false≢true, ne_eqb, cond-true, cond-false, not-true, not_from_false, false_from_ne_true}
 use Rattle.std.proofs.lemmas.Nat.{div-add-mod', pow_pos, pow-add, mod-pow-add, mod_below, div-mul-add, mod-mul-add, le-div}
-use Rattle.std.proofs.Math.Nat.{mul-mod_left}
+use Rattle.std.proofs.Math.Nat.{mul-mod_left, add-mod_right, mul-le-mul_right}
 use Rattle.bit_levels.specs.Sets.{IsIn}
 use Rattle.zone_blocks.specs.declared.block.Block.{Block}
 use Rattle.zone_blocks.specs.Block.{IsBlock, HasPairBit, buddy}
@@ -336,40 +336,58 @@ bits_of_none n pairs lists none = record {
 
 -- ---- as the code finds the bits
 
-pub has_bit_of : (n : ℕ) (b : Block) (r : Option Block)
-    → MatchOption r (¬ HasPairBit n b) (λ o. HasPairBit n b × (o ≡ buddy b)) → is_some r ≡ true → HasPairBit n b
-has_bit_of n b None h e = absurd (false≢true e)
-has_bit_of n b (Some o) h e = h.0
+pub has_bit_from : (n : ℕ) (b : Block) → IsBlock n b → b.order < 10 → pair_of b < n / 2 ^ (b.order + 1) → HasPairBit n b
+has_bit_from n b block below lt =
+    let k = b.order in
+    let t = twice k in
+    let order = block.order in
+    let e = div-add-mod' n (2 ^ (k + 1)) in
+    let m = mul-le-mul_right {m = pair_of b + 1} {n = n / 2 ^ (k + 1)} (2 ^ (k + 1)) (omega arith) in
+    record {
+      order = below;
+      block = block;
+      buddy_too = elim (sides b block.aligned) [
+        | inl h ↦
+            let z : (buddy b).at ≡ b.at + 2 ^ k = omega (arith, h.0, h.1) in
+            record { order = order; aligned = rw z (add-mod_right b.at (2 ^ k) ∙ block.aligned); inside = omega (arith, h.1, e, m, t) }
+        | inr h ↦
+            let s = add-mod_right (pair_start b) (2 ^ k) in
+            let a : (pair_start b + 2 ^ k) % 2 ^ k ≡ 0 = rw h.0 at block.aligned in
+            record { order = order; aligned = rw h.1 (sym s ∙ a); inside = omega (arith, h.1, e, m, t) }
+      ];
+    }
 
-pub no_bit_of : (n : ℕ) (b : Block) (r : Option Block)
-    → MatchOption r (¬ HasPairBit n b) (λ o. HasPairBit n b × (o ≡ buddy b)) → is_some r ≡ false → ¬ HasPairBit n b
-no_bit_of n b None h e = h
-no_bit_of n b (Some o) h e = absurd (false≢true (sym e))
+pub number_of_pair : (n : ℕ) (b : Block) (next : ℕ) → next ≡ b.order + 1 → next ≤ 10 → IsBlock n b
+    → (b.at / 2 ^ next < n / 2 ^ next → HasPairBit n b × (b.at / 2 ^ next ≡ pair_of b)) × ((b.at / 2 ^ next < n / 2 ^ next → ⊥) → ¬ HasPairBit n b)
+number_of_pair n b next e le block =
+    let L : ℕ → Type 0 = λ i. b.at / 2 ^ i < n / 2 ^ i in
+    let part : ℕ → ℕ = λ i. b.at / 2 ^ i in (
+      λ lt. (has_bit_from n b block (omega arith) (subst L e lt), ap part e),
+      λ not has. not (subst L (sym e) (pair_within n b has)),
+    )
 
 pub slot_within : (n : ℕ) (pairs : List (List Bool)) → AreBitLists n pairs → (b : Block) → HasPairBit n b
-    → (k : ℕ) (bits : List Bool) → k ≡ b.order → bits ≡ get_or pairs k bits
-    → b.at / 2 ^ (k + 1) < length bits
-slot_within n pairs h b has k bits e here =
+    → (k number : ℕ) (bits : List Bool) → k ≡ b.order → number ≡ pair_of b → bits ≡ get_or pairs k bits → number < length bits
+slot_within n pairs h b has k number bits e en here =
     let count = h.count in
     let l = has.order in
     let same : bits ≡ get_or pairs b.order [] = rw e at here ∙ get_or_default pairs b.order bits [] (omega (arith, count)) in
     let size : List Bool → ℕ = λ xs. length xs in
     let s = ap size same ∙ h.each b.order l in
     let w = pair_within n b has in
-    let L : ℕ → Type 0 = λ i. b.at / 2 ^ (i + 1) < length bits in
-    subst L (sym e) (omega (arith, s, w))
+    omega (arith, s, w, en)
 
 pub toggled_is : (n : ℕ) (pairs : List (List Bool)) → AreBitLists n pairs → (b : Block) → b.order < 10
-    → (k : ℕ) (bits new : List Bool) → k ≡ b.order → bits ≡ get_or pairs k bits
-    → new ≡ set bits (b.at / 2 ^ (k + 1)) (not (get_or bits (b.at / 2 ^ (k + 1)) false)) → set pairs k new ≡ toggled pairs b
-toggled_is n pairs h b l k bits new e here is =
+    → (k number : ℕ) (bits new : List Bool) → k ≡ b.order → number ≡ pair_of b → bits ≡ get_or pairs k bits
+    → new ≡ set bits number (not (get_or bits number false)) → set pairs k new ≡ toggled pairs b
+toggled_is n pairs h b l k number bits new e en here is =
     let count = h.count in
     let same : bits ≡ get_or pairs b.order [] = rw e at here ∙ get_or_default pairs b.order bits [] (omega (arith, count)) in
     let put : ℕ → List (List Bool) = λ i. set pairs i new in
-    let flip : ℕ → List Bool = λ i. set bits (b.at / 2 ^ (i + 1)) (not (get_or bits (b.at / 2 ^ (i + 1)) false)) in
+    let flip : ℕ → List Bool = λ q. set bits q (not (get_or bits q false)) in
     let flip' : List Bool → List Bool = λ xs. set xs (pair_of b) (not (get_or xs (pair_of b) false)) in
     let put' : List Bool → List (List Bool) = λ xs. set pairs b.order xs in
-    ap put e ∙ ap put' (is ∙ ap flip e ∙ ap flip' same)
+    ap put e ∙ ap put' (is ∙ ap flip en ∙ ap flip' same)
 
 pub inserts_one : (old new : List Block) (b : Block) → ¬ Contains old b → Inserts old b new → ChangesOne old new b
 inserts_one old new b none h = record {

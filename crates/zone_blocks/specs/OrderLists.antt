@@ -95,6 +95,11 @@ abbrev pub IsNodeBelow : ℕ → List Bool → ℕ → ℕ → ℕ → Type 0
 IsNodeBelow frames bits order number node =
     (HasNoneIn bits 0 number × (node ≡ head_of frames order)) ⊎ ((i : ℕ) × IsLastIn bits 0 number i × (node ≡ i * 2 ^ order))
 
+-- the node before a block: the head where the block begins before the first of its order, else as the bits tell it
+abbrev pub IsNodeBefore : ℕ → List Link → List Bool → Block → ℕ → Type 0
+IsNodeBefore frames links bits b node =
+    ((node ≡ head_of frames b.order) × (b.at < next_of links (head_of frames b.order))) ⊎ IsNodeBelow frames bits b.order (b.at / 2 ^ b.order) node
+
 -- ---- the walk
 
 -- c comes after b in walk order, and nothing between them

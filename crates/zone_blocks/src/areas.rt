@@ -12,7 +12,7 @@ use crate::links::Links;
 use crate::maximal::is_maximal_block;
 use crate::order::Order;
 use crate::pairs::{new_pairs, read_pair, toggle_pair};
-use crate::rings::{block_at, first_of, meets_range, new_bits, new_rings, node_below};
+use crate::rings::{block_at, first_of, meets_range, new_bits, new_rings, node_before};
 use crate::walk::Walk;
 use bit_levels::bits::Bits;
 use bit_levels::levels::BitLevels;
@@ -200,7 +200,7 @@ impl FreeAreas {
         let exponent = block.order.exponent();
         let number = (block.at >> exponent) as usize;
         let bits = &mut self.bits[exponent as usize];
-        let before = node_below(bits, self.frames, block.order, number);
+        let before = node_before(&self.links, bits, self.frames, &block);
         bits.set(number, true);
         let after = self.links.next(before);
         let node = block.at as usize;

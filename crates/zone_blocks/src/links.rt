@@ -9,30 +9,36 @@ use std::marker::Model;
 /// The two neighbours of a node in its list.
 #[derive(Clone, Copy)]
 pub(crate) struct Link {
-    next: usize,
-    prev: usize,
+    next: u32,
+    prev: u32,
 }
 
-/// A record for each node, seen as their list.
+/// A record for each node, of which there are at most 2^32, seen as their list.
 #[derive(Drop)]
 pub(crate) struct Links {
     records: Vec<Link>,
 }
 
 impl Model for Links {
-    ghost use Rattle.std.specs.Prelude.{List};
+    ghost use Rattle.std.specs.Prelude.{◌≤◌, ◌^◌, List, length};
     ghost use Rattle.zone_blocks.specs.declared.links.Link.{Link};
 
     ghost Value = { List Link };
 
     ghost view = { λ l. l.records.items };
+
+    ghost invariant = { λ l. length l.records.items ≤ 2 ^ 32 };
 }
 
 impl Links {
-    /// The records of this many nodes.
+    /// The records of this many nodes, or an error where the numbers of nodes don't fit into 32
+    /// bits.
     pub fn new(alloc: Global, nodes: usize) -> Result<Links, AllocError>
         ensures { IfOk result (λ links. length links ≡ nodes) }
     {
+        if nodes > 1 << 32 {
+            return Err(AllocError);
+        }
         let records = vec![in alloc; Link { next: 0, prev: 0 }; nodes]?;
         Ok(Links { records })
     }
@@ -42,7 +48,7 @@ impl Links {
         requires { node < length self.now }
         ensures { result ≡ next_of self.now node }
     {
-        self.records[node].next
+        self.records[node].next as usize
     }
 
     /// The node before this one.
@@ -50,7 +56,7 @@ impl Links {
         requires { node < length self.now }
         ensures { result ≡ prev_of self.now node }
     {
-        self.records[node].prev
+        self.records[node].prev as usize
     }
 
     /// Makes `after` the node behind `before`, and `before` the one before `after`.
@@ -59,7 +65,8 @@ impl Links {
         requires after { after < length self.old }
         ensures { Joins self.old before after self.new }
     {
-        self.records[before].next = after;
-        self.records[after].prev = before;
+        let records = &mut self.records;
+        records[before].next = after as u32;
+        records[after].prev = before as u32;
     }
 }

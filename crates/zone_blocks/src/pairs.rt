@@ -2,8 +2,8 @@
 
 ghost use Rattle.std.specs.Prelude.{◌≡◌, ◌<◌, ◌+◌, ◌/◌, ◌^◌, ◌↔◌, ℕ, List, [], IfOk, MatchOption, length, slice_index_or};
 ghost use Rattle.zone_blocks.specs.declared.block.Block.{Block};
-ghost use Rattle.zone_blocks.specs.Block.{HasPairBit};
-ghost use Rattle.zone_blocks.specs.PairBits.{AreBitLists, ArePairBits, ChangesOne, bit_of};
+ghost use Rattle.zone_blocks.specs.Block.{IsBlock, HasPairBit};
+ghost use Rattle.zone_blocks.specs.PairBits.{AreBitLists, ArePairBits, ChangesOne, bit_of, pair_of};
 
 use crate::block::Block;
 use crate::order::Order;
@@ -22,16 +22,30 @@ pub fn new_pairs(alloc: Global, frames: u32) -> Result<Vec<Bits>, AllocError>
     Ok(pairs)
 }
 
+/// The number of a block's pair. None exactly where the pair has no bit.
+fn pair_number(frames: u32, block: &Block) -> Option<usize>
+    requires { IsBlock frames block.now }
+    ensures { MatchOption result (¬ HasPairBit frames block.now) (λ number. HasPairBit frames block.now × (number ≡ pair_of block.now)) }
+{
+    let next = Order::of(block.order.exponent() + 1)?;
+    let exponent = next.exponent();
+    let number = block.at >> exponent;
+    if number < frames >> exponent {
+        Some(number as usize)
+    } else {
+        None
+    }
+}
+
 /// Toggles the bit of a block's pair, if it has one.
 pub fn toggle_pair(pairs: &mut Vec<Bits>, frames: u32, block: &Block)
-    requires { AreBitLists frames pairs.old.items }
+    requires pairs { AreBitLists frames pairs.old.items }
+    requires block { IsBlock frames block.now }
     ensures lists { AreBitLists frames pairs.new.items }
     ensures bits { (old new : List Block) → ArePairBits frames old pairs.old.items → ChangesOne old new block.now → ArePairBits frames new pairs.new.items }
 {
-    if block.buddy_in(frames).is_some() {
-        let exponent = block.order.exponent();
-        let bits = &mut pairs[exponent as usize];
-        bits.toggle((block.at >> (exponent + 1)) as usize);
+    if let Some(number) = pair_number(frames, block) {
+        pairs[block.order.exponent() as usize].toggle(number);
     }
 }
 
@@ -40,8 +54,9 @@ pub fn read_pair(pairs: &Vec<Bits>, frames: u32, block: &Block) -> Option<bool>
     requires { AreBitLists frames pairs.now.items }
     ensures { MatchOption result (¬ HasPairBit frames block.now) (λ bit. HasPairBit frames block.now × (bit ≡ bit_of pairs.now.items block.now)) }
 {
-    let _other = block.buddy_in(frames)?;
-    let exponent = block.order.exponent();
-    let bits = &pairs[exponent as usize];
-    Some(bits.contains((block.at >> (exponent + 1)) as usize))
+    if !block.is_block_of(frames) {
+        return None;
+    }
+    let number = pair_number(frames, block)?;
+    Some(pairs[block.order.exponent() as usize].contains(number))
 }

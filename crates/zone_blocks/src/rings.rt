@@ -4,7 +4,8 @@
 ghost use Rattle.std.specs.Prelude.{◌≡◌, ◌≤◌, ◌<◌, ◌+◌, ◌*◌, ◌/◌, ◌^◌, ◌↔◌, IsTrue, IfOk, MatchOption, ℕ, length, []};
 ghost use Rattle.zone_blocks.specs.declared.block.Block.{Block};
 ghost use Rattle.zone_blocks.specs.Links.{next_of};
-ghost use Rattle.zone_blocks.specs.OrderLists.{AreBlockBits, AreRings, MeetsRange, IsNodeBelow, blocks_of};
+ghost use Rattle.zone_blocks.specs.Block.{IsBlock};
+ghost use Rattle.zone_blocks.specs.OrderLists.{AreBlockBits, AreRings, MeetsRange, IsNodeBelow, IsNodeBefore, blocks_of};
 
 use crate::block::Block;
 use crate::links::Links;
@@ -70,7 +71,7 @@ pub fn first_of(links: &Links, frames: u32, order: Order) -> Option<Block>
 }
 
 /// The node before that of a block's number in the ring of its order.
-pub fn node_below(bits: &BitLevels, frames: u32, order: Order, number: usize) -> usize
+fn node_below(bits: &BitLevels, frames: u32, order: Order, number: usize) -> usize
     requires bits { length bits.now ≡ frames / 2 ^ order }
     requires number { number < length bits.now }
     ensures { IsNodeBelow frames bits.now order number result }
@@ -79,6 +80,22 @@ pub fn node_below(bits: &BitLevels, frames: u32, order: Order, number: usize) ->
         return head_of(frames, order);
     };
     below * order.frames() as usize
+}
+
+/// The node before a block in the ring of its order: the head where it begins before the first
+/// block of the order, and else as the bits tell it.
+pub fn node_before(links: &Links, bits: &BitLevels, frames: u32, block: &Block) -> usize
+    requires links { length links.now ≡ frames + 11 }
+    requires bits { length bits.now ≡ frames / 2 ^ block.now.order }
+    requires block { IsBlock frames block.now }
+    ensures { IsNodeBefore frames links.now bits.now block.now result }
+{
+    let head = head_of(frames, block.order);
+    if (block.at as usize) < links.next(head) {
+        return head;
+    }
+    let number = (block.at >> block.order.exponent()) as usize;
+    node_below(bits, frames, block.order, number)
 }
 
 /// Whether a block of this order, of which these are the bits, has a frame from `at` to before

@@ -1,6 +1,6 @@
-use Rattle.std.proofs.Common.{◌≡◌, ◌∙◌, ◌*◌, ◌+◌, ◌-◌, ◌/◌, sym, refl, arith}
+use Rattle.std.proofs.Common.{◌∙◌, ◌/◌, sym, refl}
 use Rattle.bit_levels.proofs.Summaries.{none_below, last_below_is}
-use Rattle.bit_levels.proofs.Words.{wider, found_none}
+use Rattle.bit_levels.proofs.Words.{found_none}
 use Rattle.bit_levels.proofs.levels.last_by_summary.Goals as goal
 
 pub returns-in_err-word : goal.returns-in_err-word

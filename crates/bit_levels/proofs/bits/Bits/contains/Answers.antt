@@ -1,4 +1,4 @@
-use Rattle.std.proofs.Common.{refl, ◌≡◌, List, Bool, ap, sym, subst, arith, get_or, ◌/◌, ◌%◌, ℕ}
+use Rattle.std.proofs.Common.{List, Bool, sym, subst, arith, ◌/◌}
 use Rattle.std.proofs.lemmas.List.{get_or_read}
 use Rattle.bit_levels.specs.Sets.{IsIn}
 use Rattle.bit_levels.proofs.Words.{bound_of, from_in, one_in}

@@ -1,4 +1,4 @@
-use Rattle.std.proofs.Common.{◌≡◌, ◌+◌, ◌*◌, ◌<◌, ◌^◌, ℕ, List, Bool, ap, sym, subst, arith, refl}
+use Rattle.std.proofs.Common.{◌+◌, ◌*◌, List, Bool, sym, subst, arith, refl}
 use Rattle.std.proofs.lemmas.List.{get_or_read}
 use Rattle.bit_levels.specs.Sets.{HasSomeIn}
 use Rattle.bit_levels.proofs.Words.{bound_of, some_in_word, none_in_word, not_some}

@@ -1,4 +1,4 @@
-use Rattle.std.proofs.Common.{◌≡◌, ◌∙◌, ◌*◌, ◌+◌, ◌-◌, ◌/◌, sym, arith}
+use Rattle.std.proofs.Common.{◌∙◌, ◌*◌, ◌+◌, ◌-◌, sym, arith}
 use Rattle.bit_levels.specs.Sets.{HasNoneIn}
 use Rattle.bit_levels.proofs.Words.{wider, further, found_some, found_none}
 use Rattle.bit_levels.proofs.bits.Bits.last_below.Goals as goal

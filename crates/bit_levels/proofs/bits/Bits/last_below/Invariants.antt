@@ -1,4 +1,4 @@
-use Rattle.std.proofs.Common.{◌*◌, ◌/◌, ◌≤◌, length}
+use Rattle.std.proofs.Common.{◌*◌, ◌/◌, ◌≤◌}
 use Rattle.std.specs.Option.{MatchOption}
 use Rattle.bit_levels.specs.Sets.{HasNoneIn, IsLastIn}
 use Rattle.bit_levels.proofs.bits.Bits.last_below.Given as goal

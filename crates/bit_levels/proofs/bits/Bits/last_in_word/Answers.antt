@@ -1,4 +1,4 @@
-use Rattle.std.proofs.Common.{◌≡◌, ◌+◌, ◌*◌, ◌<◌, ℕ, List, Bool, ap, sym, subst, arith, refl}
+use Rattle.std.proofs.Common.{◌+◌, ◌*◌, List, Bool, subst, arith, refl}
 use Rattle.std.proofs.lemmas.List.{get_or_read}
 use Rattle.bit_levels.specs.Sets.{HasNoneIn, IsLastIn}
 use Rattle.bit_levels.proofs.Words.{bound_of, none_in_word, last_in_word_is}

@@ -1,6 +1,5 @@
-use Rattle.std.proofs.Common.{refl, ◌≡◌, ◌<◌, List, Bool, ap, sym, ◌∙◌, subst, set, arith, ℕ, get_or, length, ◌/◌}
+use Rattle.std.proofs.Common.{◌<◌, List, Bool, ap, ◌∙◌, set, arith, ◌/◌}
 use Rattle.std.proofs.lemmas.List.{get_or_read}
-use Rattle.bit_levels.specs.Sets.{set_of}
 use Rattle.bit_levels.proofs.Words.{bound_of, set_words}
 use Rattle.bit_levels.proofs.bits.Bits.set.Goals as goal
 

@@ -1,4 +1,4 @@
-use Rattle.std.proofs.Common.{◌≡◌, Bool, List, not, set, get_or, false, ap, ◌∙◌}
+use Rattle.std.proofs.Common.{Bool, List, not, set, get_or, false, ap, ◌∙◌}
 use Rattle.bit_levels.proofs.Words.{same_truth}
 use Rattle.bit_levels.proofs.bits.Bits.toggle.Goals as goal
 

@@ -1,4 +1,4 @@
-use Rattle.std.proofs.Common.{◌≡◌, ◌∙◌, ◌*◌, ◌+◌, ◌-◌, ◌/◌, List, Bool, sym, subst, refl, arith}
+use Rattle.std.proofs.Common.{◌∙◌, ◌/◌, List, Bool, sym, subst, refl}
 use Rattle.std.specs.Option.{MatchOption}
 use Rattle.bit_levels.specs.Sets.{HasNoneIn, IsLastIn}
 use Rattle.bit_levels.proofs.Summaries.{none_below, last_below_is}

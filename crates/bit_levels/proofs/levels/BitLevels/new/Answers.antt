@@ -1,4 +1,4 @@
-use Rattle.std.proofs.Common.{Bool, ◌∙◌, refl, arith}
+use Rattle.std.proofs.Common.{refl}
 use Rattle.bit_levels.proofs.Summaries.{empty_summary}
 use Rattle.bit_levels.proofs.levels.BitLevels.new.Goals as goal
 

@@ -5,7 +5,7 @@ use Rattle.zone_blocks.specs.Areas.{FreeBlocks, Inserts, Overlaps}
 use Rattle.zone_blocks.specs.OrderLists.{blocks_of, AreOrderLists}
 use Rattle.zone_blocks.specs.PairBits.{ArePairBits}
 use Rattle.zone_blocks.proofs.Nested.{covers_start}
-use Rattle.zone_blocks.proofs.Calls.{bits_written, in_zone_of, node_within, last_before, inserted}
+use Rattle.zone_blocks.proofs.Calls.{bits_written, in_zone_of, node_within, last_found, inserted}
 use Rattle.zone_blocks.proofs.Pairing.{inserts_one}
 use Rattle.zone_blocks.proofs.areas.FreeAreas.insert.Goals as goal
 
@@ -19,9 +19,9 @@ pub next-after-requires : goal.next-after-requires
 next-after-requires c =
     let is = block_inside _ _ c.self.view_is c.args.block c.requires.block in
     let o = is.order in
-    let last = last_before c.self.inside.frames c.self.inside.bits.items c.args.block c.exponent-exponent.result
-    c.node_below-before.result c.index_mut-bits.result.now
-    c.self.invariant.0.sizes is c.exponent-exponent.ensures.exponent c.index_mut-bits.ensures.value c.node_below-before.ensures in
+    let last = last_found c.self.inside.frames c.self.inside.bits.items c.self.inside.links c.args.block c.exponent-exponent.result
+    c.node_before-before.result c.index_mut-bits.result.now c.self.invariant.0 is c.exponent-exponent.ensures.exponent
+    c.index_mut-bits.ensures.value c.node_before-before.ensures in
     let w = node_within c.self.inside.frames _ c.args.block.order _ (in_zone_of _ _ _ c.self.invariant.0) (omega arith) last.node in
     omega (arith, w, c.self.invariant.0.rings.count)
 
@@ -29,9 +29,9 @@ pub join-requires-clause-before : goal.join-requires-clause-before
 join-requires-clause-before c =
     let is = block_inside _ _ c.self.view_is c.args.block c.requires.block in
     let o = is.order in
-    let last = last_before c.self.inside.frames c.self.inside.bits.items c.args.block c.exponent-exponent.result
-    c.node_below-before.result c.index_mut-bits.result.now
-    c.self.invariant.0.sizes is c.exponent-exponent.ensures.exponent c.index_mut-bits.ensures.value c.node_below-before.ensures in
+    let last = last_found c.self.inside.frames c.self.inside.bits.items c.self.inside.links c.args.block c.exponent-exponent.result
+    c.node_before-before.result c.index_mut-bits.result.now c.self.invariant.0 is c.exponent-exponent.ensures.exponent
+    c.index_mut-bits.ensures.value c.node_before-before.ensures in
     let w = node_within c.self.inside.frames _ c.args.block.order _ (in_zone_of _ _ _ c.self.invariant.0) (omega arith) last.node in
     omega (arith, w, c.self.invariant.0.rings.count)
 
@@ -40,9 +40,9 @@ join-requires-2-clause-after c =
     let is = block_inside _ _ c.self.view_is c.args.block c.requires.block in
     let o = is.order in
     let l : c.args.block.order < 11 = omega arith in
-    let last = last_before c.self.inside.frames c.self.inside.bits.items c.args.block c.exponent-exponent.result
-    c.node_below-before.result c.index_mut-bits.result.now
-    c.self.invariant.0.sizes is c.exponent-exponent.ensures.exponent c.index_mut-bits.ensures.value c.node_below-before.ensures in
+    let last = last_found c.self.inside.frames c.self.inside.bits.items c.self.inside.links c.args.block c.exponent-exponent.result
+    c.node_before-before.result c.index_mut-bits.result.now c.self.invariant.0 is c.exponent-exponent.ensures.exponent
+    c.index_mut-bits.ensures.value c.node_before-before.ensures in
     let f = c.self.invariant.0.rings.next c.args.block.order _ l last.node in
     let w = node_within c.self.inside.frames _ c.args.block.order _ (in_zone_of _ _ _ c.self.invariant.0) l f.node in
     omega (arith, w, c.self.invariant.0.rings.count, c.next-after.ensures, c.join.ensures.count)
@@ -53,11 +53,11 @@ invariant_of-self c =
     let apart = apart_inside _ _ c.self.view_is c.args.block c.requires.apart in
     let n = c.self.inside.frames in
     let bits = c.self.inside.bits.items in
-    let last = last_before n bits c.args.block c.exponent-exponent.result c.node_below-before.result c.index_mut-bits.result.now
-    c.self.invariant.0.sizes is c.exponent-exponent.ensures.exponent c.index_mut-bits.ensures.value c.node_below-before.ensures in
+    let last = last_found n bits c.self.inside.links c.args.block c.exponent-exponent.result c.node_before-before.result c.index_mut-bits.result.now
+    c.self.invariant.0 is c.exponent-exponent.ensures.exponent c.index_mut-bits.ensures.value c.node_before-before.ensures in
     let same = bits_written n bits c.args.block c.exponent-exponent.result c.index_mut-bits.result.now c.set.new.self _ c.self.invariant.0.sizes is
     c.exponent-exponent.ensures.exponent c.index_mut-bits.ensures.value c.set.ensures in
-    let r = inserted n bits c.self.inside.links c.join.new.self c.join-2.new.self c.args.block c.node_below-before.result
+    let r = inserted n bits c.self.inside.links c.join.new.self c.join-2.new.self c.args.block c.node_before-before.result
     c.next-after.result c.self.invariant.0 is apart last
     c.next-after.ensures c.join.ensures c.join-2.ensures in
     let P : List (List Bool) → Type 0 = λ new. AreOrderLists n new c.join-2.new.self × ArePairBits n (blocks_of n new) c.toggle_pair.new.pairs.items in
@@ -73,11 +73,11 @@ returns-clause-blocks c =
     let apart = apart_inside _ _ c.self.view_is c.args.block c.requires.apart in
     let n = c.self.inside.frames in
     let bits = c.self.inside.bits.items in
-    let last = last_before n bits c.args.block c.exponent-exponent.result c.node_below-before.result c.index_mut-bits.result.now
-    c.self.invariant.0.sizes is c.exponent-exponent.ensures.exponent c.index_mut-bits.ensures.value c.node_below-before.ensures in
+    let last = last_found n bits c.self.inside.links c.args.block c.exponent-exponent.result c.node_before-before.result c.index_mut-bits.result.now
+    c.self.invariant.0 is c.exponent-exponent.ensures.exponent c.index_mut-bits.ensures.value c.node_before-before.ensures in
     let same = bits_written n bits c.args.block c.exponent-exponent.result c.index_mut-bits.result.now c.set.new.self _ c.self.invariant.0.sizes is
     c.exponent-exponent.ensures.exponent c.index_mut-bits.ensures.value c.set.ensures in
-    let r = inserted n bits c.self.inside.links c.join.new.self c.join-2.new.self c.args.block c.node_below-before.result
+    let r = inserted n bits c.self.inside.links c.join.new.self c.join-2.new.self c.args.block c.node_before-before.result
     c.next-after.result c.self.invariant.0 is apart last
     c.next-after.ensures c.join.ensures c.join-2.ensures in
     let Q : List (List Bool) → Type 0 = λ new. Inserts (blocks_of n bits) c.args.block (blocks_of n new) in

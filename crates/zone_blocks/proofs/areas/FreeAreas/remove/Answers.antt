@@ -12,6 +12,9 @@ use Rattle.zone_blocks.proofs.areas.FreeAreas.remove.Goals as goal
 there_inside : (v w : FreeBlocks) → v ≡ w → (b : Block) → Contains w.blocks b → Contains v.blocks b
 there_inside v w e b h = let P : FreeBlocks → Type 0 = λ u. Contains u.blocks b in subst P (sym e) h
 
+pub toggle_pair-requires-clause-block : goal.toggle_pair-requires-clause-block
+toggle_pair-requires-clause-block c = (from_there _ _ c.args.block (there_inside _ _ c.self.view_is c.args.block c.requires)).0
+
 pub set-requires : goal.set-requires
 set-requires c =
     let there = there_inside _ _ c.self.view_is c.args.block c.requires in
