@@ -213,13 +213,13 @@ impl Rows {
     fn may_note_max(&self, seat: u32, group: GroupId) -> bool
         ensures { result ≡ is_legal (state_in self.now) seat (Action.NoteMax group) }
     {
-        may_zone_act(self.hold, seat) && self.has_group(group)
+        may_zone_act(self.hold, seat) && self.tree.contains(group)
     }
 
     fn may_note_oom(&self, seat: u32, group: GroupId) -> bool
         ensures { result ≡ is_legal (state_in self.now) seat (Action.NoteOom group) }
     {
-        may_zone_act(self.hold, seat) && self.has_group(group)
+        self.may_note_max(seat, group)
     }
 
     fn may_set_max(&self, seat: u32, group: GroupId, limit: Option<u32>) -> bool

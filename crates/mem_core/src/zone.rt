@@ -13,6 +13,7 @@ mod readers;
 
 use crate::account::Account;
 use crate::accounts::{follow, new_accounts};
+use crate::free_areas::set_areas;
 use core_rows::rows::Rows;
 use core_rows::serve::pages_asked;
 use std::alloc::{AllocError, Global};
@@ -57,8 +58,7 @@ impl Core {
         let accounts = new_accounts(alloc)?;
         let mut free = Vec::with_capacity(alloc, frames as usize)?;
         let mut areas = FreeAreas::new(alloc, frames)?;
-        rows.mark_free(&mut free);
-        areas.set_from(&free);
+        set_areas(&rows, &mut free, &mut areas);
         Ok(Core {
             rows,
             free,
@@ -90,8 +90,7 @@ impl Core {
             return answer;
         }
         follow(&self.rows, &step.action, &answer, &mut self.accounts);
-        self.rows.mark_free(&mut self.free);
-        self.areas.set_from(&self.free);
+        set_areas(&self.rows, &mut self.free, &mut self.areas);
         answer
     }
 }

@@ -13,7 +13,6 @@ use Rattle.core_rows.specs.declared.rows.Rows.{Rows}
 use Rattle.core_rows.specs.Rooms.{pages_asked}
 use Rattle.core_rows.specs.Shown as rows
 use Rattle.core_rows.proofs.Bounding.{IsBounded}
-use Rattle.core_rows.proofs.Ranges.{length_free}
 use Rattle.mem_core.specs.declared.zone.Core.TheInside.{Inside}
 use Rattle.mem_core.specs.Shown.{CoreState, state_in}
 use Rattle.mem_core.specs.Inside.{core_state, IsWhole}
@@ -43,13 +42,11 @@ follow-requires-clause-few c =
     (subst IsSound (sym state) (sound_after s seat action answer c.self.invariant.sound c.serve-answer.ensures.allowed))
     (subst (IsBounded (n * 2 ^ 32 + 2 ^ 32)) (sym state) bounded)
 
-pub set_from-requires : goal.set_from-requires
-set_from-requires c =
+pub set_areas-requires-clause-frames : goal.set_areas-requires-clause-frames
+set_areas-requires-clause-frames c =
     let s = rows.state_in c.self.inside.rows in
-    let t = rows.state_in c.serve-answer.new.self in
-    let zone : t.zone ≡ s.zone = ap (λ (x : State). x.zone) c.serve-answer.ensures.state
-    ∙ zone_kept s c.args.step.seat c.args.step.action c.serve-answer.result in
-    ap length (c.deref.ensures.value ∙ c.mark_free.ensures.flags) ∙ length_free t.zone t.phases ∙ ap (λ (z : Zone). z.frames) zone ∙ sym c.self.invariant.frames
+    let zone = ap (λ (x : State). x.zone) c.serve-answer.ensures.state ∙ zone_kept s c.args.step.seat c.args.step.action c.serve-answer.result in
+    c.self.invariant.frames ∙ sym (ap (λ (z : Zone). z.frames) zone)
 
 pub invariant_of-self-2 : goal.invariant_of-self-2
 invariant_of-self-2 c =
@@ -73,10 +70,9 @@ invariant_of-self-2 c =
       accounts = c.follow.ensures.length;
       peaks = c.follow.ensures.small;
       few = subst (λ (x : CoreState). x.steps + 1 < 2 ^ 64) (sym c.self.view_is) c.requires;
-      frames = c.set_from.ensures.frames ∙ c.self.invariant.frames ∙ sym frames;
-      room = let a = c.mark_free.ensures.room in let b = c.self.invariant.room in omega arith;
-      areas = subst (λ (free : List Bool). AreMaximalBlocks free c.set_from.new.self.blocks) (c.deref.ensures.value
-          ∙ c.mark_free.ensures.flags) c.set_from.ensures.areas;
+      frames = c.set_areas.ensures.frames ∙ c.self.invariant.frames ∙ sym frames;
+      room = let a = c.set_areas.ensures.room in let b = c.self.invariant.room in omega arith;
+      areas = c.set_areas.ensures.areas;
     }
 
 -- what the core showed before
@@ -89,10 +85,10 @@ pub returns-clause-state : goal.returns-clause-state
 returns-clause-state c =
     let inside : Inside = record {
       rows = c.serve-answer.new.self;
-      free = c.mark_free.new.free;
+      free = c.set_areas.new.free;
       accounts =
           c.follow.new.accounts;
-      areas = c.set_from.new.self;
+      areas = c.set_areas.new.areas;
       steps = c.self.inside.steps + 1;
     } in
     let link : state_in c.args.self.now ≡ rows.state_in c.self.inside.rows = ap state_in (sym c.self.view_is) ∙ shown_is c.self.inside in
@@ -115,10 +111,10 @@ pub returns-clause-shows : goal.returns-clause-shows
 returns-clause-shows c run shows =
     let inside : Inside = record {
       rows = c.serve-answer.new.self;
-      free = c.mark_free.new.free;
+      free = c.set_areas.new.free;
       accounts =
           c.follow.new.accounts;
-      areas = c.set_from.new.self;
+      areas = c.set_areas.new.areas;
       steps = c.self.inside.steps + 1;
     } in
     shown_more c.args.self.now (core_state inside) run c.args.step c.serve-answer.result shows (returns-clause-allowed c) (returns-clause-zone c)
