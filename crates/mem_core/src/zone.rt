@@ -15,7 +15,7 @@ use crate::account::Account;
 use crate::accounts::{follow, new_accounts};
 use crate::free_areas::set_areas;
 use core_rows::rows::Rows;
-use core_rows::serve::pages_asked;
+use core_steps::serve::{pages_asked, serve};
 use std::alloc::{AllocError, Global};
 use std::marker::Model;
 use step_rules::step::{Answer, Step};
@@ -84,7 +84,7 @@ impl Core {
     {
         // No more pages than a step can ask for.
         let _ = pages_asked(&step.action);
-        let answer = self.rows.serve(&self.areas, &step);
+        let answer = serve(&mut self.rows, &self.areas, &step);
         self.steps += 1;
         if let Answer::Illegal = answer {
             return answer;

@@ -2,7 +2,7 @@
 use Rattle.std.proofs.Common.{Bool, List, length, sym, ◌∙◌, ap, subst}
 use Rattle.zone_blocks.specs.Areas.{AreMaximalBlocks}
 use Rattle.core_rows.specs.Shown.{state_in}
-use Rattle.core_rows.proofs.Ranges.{length_free}
+use Rattle.core_steps.proofs.Ranges.{length_free}
 use Rattle.mem_core.proofs.free_areas.set_areas.Goals as goal
 
 pub set_from-requires : goal.set_from-requires

@@ -35,10 +35,10 @@ follow-requires-clause-few c =
     let action = c.args.step.action in
     let answer = c.serve-answer.result in
     let few = c.self.invariant.few in
-    let state : rows.state_in c.serve-answer.new.self ≡ after s seat action answer = c.serve-answer.ensures.state in
+    let state : rows.state_in c.serve-answer.new.rows ≡ after s seat action answer = c.serve-answer.ensures.state in
     let asked : pages_asked action < 2 ^ 32 = let a = c.pages_asked.ensures.pages in let b = c.pages_asked.ensures.few in omega arith in
     let bounded = bounded_after (n * 2 ^ 32) s seat action answer c.self.invariant.sound c.self.invariant.bounded c.serve-answer.ensures.allowed asked in
-    ready c.serve-answer.new.self (n * 2 ^ 32 + 2 ^ 32) (omega arith) c.serve-answer.ensures.fits
+    ready c.serve-answer.new.rows (n * 2 ^ 32 + 2 ^ 32) (omega arith) c.serve-answer.ensures.fits
     (subst IsSound (sym state) (sound_after s seat action answer c.self.invariant.sound c.serve-answer.ensures.allowed))
     (subst (IsBounded (n * 2 ^ 32 + 2 ^ 32)) (sym state) bounded)
 
@@ -51,7 +51,7 @@ set_areas-requires-clause-frames c =
 pub invariant_of-self-2 : goal.invariant_of-self-2
 invariant_of-self-2 c =
     let s = rows.state_in c.self.inside.rows in
-    let t = rows.state_in c.serve-answer.new.self in
+    let t = rows.state_in c.serve-answer.new.rows in
     let n = c.self.inside.steps in
     let seat = c.args.step.seat in
     let action = c.args.step.action in
@@ -84,7 +84,7 @@ returns-clause-allowed c =
 pub returns-clause-state : goal.returns-clause-state
 returns-clause-state c =
     let inside : Inside = record {
-      rows = c.serve-answer.new.self;
+      rows = c.serve-answer.new.rows;
       free = c.set_areas.new.free;
       accounts =
           c.follow.new.accounts;
@@ -110,7 +110,7 @@ returns-clause-first c =
 pub returns-clause-shows : goal.returns-clause-shows
 returns-clause-shows c run shows =
     let inside : Inside = record {
-      rows = c.serve-answer.new.self;
+      rows = c.serve-answer.new.rows;
       free = c.set_areas.new.free;
       accounts =
           c.follow.new.accounts;
@@ -142,7 +142,7 @@ returns-in-Illegal-clause-allowed c =
 pub returns-in-Illegal-clause-state : goal.returns-in-Illegal-clause-state
 returns-in-Illegal-clause-state c =
     let inside : Inside = record {
-      rows = c.serve-answer.new.self;
+      rows = c.serve-answer.new.rows;
       free = c.self.inside.free;
       accounts =
           c.self.inside.accounts;
@@ -155,7 +155,7 @@ returns-in-Illegal-clause-state c =
 pub returns-in-Illegal-clause-shows : goal.returns-in-Illegal-clause-shows
 returns-in-Illegal-clause-shows c run shows =
     let inside : Inside = record {
-      rows = c.serve-answer.new.self;
+      rows = c.serve-answer.new.rows;
       free = c.self.inside.free;
       accounts =
           c.self.inside.accounts;
@@ -176,13 +176,13 @@ returns-in-Illegal-clause-shows c run shows =
 
 pub returns-in-Illegal-clause-areas : goal.returns-in-Illegal-clause-areas
 returns-in-Illegal-clause-areas c =
-    let same : c.serve-answer.new.self ≡ c.self.inside.rows = c.serve-answer.ensures.unchanged c.in-Illegal.is in
+    let same : c.serve-answer.new.rows ≡ c.self.inside.rows = c.serve-answer.ensures.unchanged c.in-Illegal.is in
     subst (λ (r : Rows). AreMaximalBlocks (free_in (rows.state_in r).zone (rows.state_in r).phases) c.self.inside.areas.blocks)
     (sym same) c.self.invariant.areas
 
 pub invariant_of-self : goal.invariant_of-self
 invariant_of-self c =
-    let same : c.serve-answer.new.self ≡ c.self.inside.rows = c.serve-answer.ensures.unchanged c.in-Illegal.is in
+    let same : c.serve-answer.new.rows ≡ c.self.inside.rows = c.serve-answer.ensures.unchanged c.in-Illegal.is in
     let n = c.self.inside.steps in
     let count : n * 2 ^ 32 + 2 ^ 32 ≡ (n + 1) * 2 ^ 32 = omega arith in
     let s = rows.state_in c.self.inside.rows in
