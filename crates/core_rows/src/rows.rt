@@ -2,8 +2,9 @@
 
 ghost use Rattle.std.specs.Prelude.{◌≡◌, ◌+◌, ◌-◌, ◌<◌, ◌≤◌, ◌^◌, Some, None, MatchOption, IfOk, length, vec_len};
 ghost use Rattle.std.specs.List.{slice_get};
-ghost use Rattle.step_rules.specs.State.{at_boot, front_of, with_at, is_cpu, is_frame, one_if, with_last, without};
-ghost use Rattle.step_rules.specs.After.{with_phase, with_part, with_references, with_pending, paid, credited, with_back, filled, drained};
+ghost use Rattle.step_rules.specs.State.{at_boot, front_of, with_at, is_cpu, is_frame};
+ghost use Rattle.step_rules.specs.After.{with_listed, taken_off, paid, credited, with_back, with_report, absorbed, filled, drained};
+ghost use Rattle.step_rules.specs.After.{with_phase, with_part, with_references, with_pending};
 ghost use Rattle.core_rows.specs.Shown.{state_in};
 ghost use Rattle.core_rows.specs.Rooms.{FitsZone};
 
@@ -245,7 +246,7 @@ impl Rows {
     }
 
     /// Who holds the lock.
-    pub(crate) fn set_hold(&mut self, hold: Hold)
+    pub fn set_hold(&mut self, hold: Hold)
         requires fits { FitsZone self.old }
         ensures state { state_in self.new ≡ record (state_in self.old) { hold = hold } }
         ensures fits { FitsZone self.new }
@@ -254,7 +255,7 @@ impl Rows {
     }
 
     /// A frame is in another phase.
-    pub(crate) fn set_phase(&mut self, frame: u32, phase: Phase)
+    pub fn set_phase(&mut self, frame: u32, phase: Phase)
         requires fits { FitsZone self.old }
         requires there { frame < self.old.frames }
         ensures state { state_in self.new ≡ with_phase (state_in self.old) frame phase }
@@ -264,7 +265,7 @@ impl Rows {
     }
 
     /// So many pages are pending for a group.
-    pub(crate) fn set_pending(&mut self, group: GroupId, pages: u128)
+    pub fn set_pending(&mut self, group: GroupId, pages: u128)
         requires fits { FitsZone self.old }
         ensures state { state_in self.new ≡ with_pending (state_in self.old) group pages }
         ensures fits { FitsZone self.new }
@@ -273,7 +274,7 @@ impl Rows {
     }
 
     /// Whether a group is killed.
-    pub(crate) fn set_killed(&mut self, group: GroupId, is_killed: bool)
+    pub fn set_killed(&mut self, group: GroupId, is_killed: bool)
         requires fits { FitsZone self.old }
         ensures state { state_in self.new ≡ record (state_in self.old) { killed = with_at (state_in self.old).killed group is_killed } }
         ensures fits { FitsZone self.new }
@@ -282,7 +283,7 @@ impl Rows {
     }
 
     /// A seat has so many references on a frame.
-    pub(crate) fn set_references(&mut self, seat: u32, frame: u32, count: u32)
+    pub fn set_references(&mut self, seat: u32, frame: u32, count: u32)
         requires fits { FitsZone self.old }
         requires seat { seat ≤ self.old.cpus }
         requires there { frame < self.old.frames }
@@ -293,29 +294,29 @@ impl Rows {
     }
 
     /// A frame is at the end of a processor's list.
-    pub(crate) fn put_on_list(&mut self, cpu: u32, frame: u32)
+    pub fn put_on_list(&mut self, cpu: u32, frame: u32)
         requires fits { FitsZone self.old }
         requires cpu { cpu ≤ self.old.cpus }
         requires room { length ((state_in self.old).parts cpu).list < self.old.frames }
-        ensures state { state_in self.new ≡ with_part (state_in self.old) cpu (record ((state_in self.old).parts cpu) { list = with_last ((state_in self.old).parts cpu).list frame }) }
+        ensures state { state_in self.new ≡ with_part (state_in self.old) cpu (with_listed ((state_in self.old).parts cpu) frame) }
         ensures fits { FitsZone self.new }
     {
         list_frame(&mut self.seats[cpu as usize], frame);
     }
 
     /// A frame is on none of a processor's lists; a page of a fresh one is to be reported.
-    pub(crate) fn take_from_lists(&mut self, cpu: u32, frame: u32, was_fresh: bool)
+    pub fn take_from_lists(&mut self, cpu: u32, frame: u32, was_fresh: bool)
         requires fits { FitsZone self.old }
         requires cpu { cpu ≤ self.old.cpus }
         requires few { ((state_in self.old).parts cpu).unreported < 2 ^ 100 }
-        ensures state { state_in self.new ≡ with_part (state_in self.old) cpu (record ((state_in self.old).parts cpu) { list = without frame ((state_in self.old).parts cpu).list; fresh = without frame ((state_in self.old).parts cpu).fresh; back = without frame ((state_in self.old).parts cpu).back; unreported = ((state_in self.old).parts cpu).unreported + one_if was_fresh }) }
+        ensures state { state_in self.new ≡ with_part (state_in self.old) cpu (taken_off ((state_in self.old).parts cpu) frame was_fresh) }
         ensures fits { FitsZone self.new }
     {
         drop_frame(&mut self.seats[cpu as usize], frame, was_fresh);
     }
 
     /// The front of a processor's list is fresh, paid with one page of its stock.
-    pub(crate) fn pay(&mut self, cpu: u32)
+    pub fn pay(&mut self, cpu: u32)
         requires fits { FitsZone self.old }
         requires cpu { cpu ≤ self.old.cpus }
         requires some { 1 ≤ length ((state_in self.old).parts cpu).list }
@@ -328,7 +329,7 @@ impl Rows {
     }
 
     /// A fresh frame is at the end of a processor's list, and its page in its stock.
-    pub(crate) fn take_credit(&mut self, cpu: u32, frame: u32)
+    pub fn take_credit(&mut self, cpu: u32, frame: u32)
         requires fits { FitsZone self.old }
         requires cpu { cpu ≤ self.old.cpus }
         requires room { length ((state_in self.old).parts cpu).list < self.old.frames }
@@ -340,7 +341,7 @@ impl Rows {
     }
 
     /// A frame is at the end of a processor's back frames.
-    pub(crate) fn put_back(&mut self, cpu: u32, frame: u32)
+    pub fn put_back(&mut self, cpu: u32, frame: u32)
         requires fits { FitsZone self.old }
         requires cpu { cpu ≤ self.old.cpus }
         requires room { length ((state_in self.old).parts cpu).back < self.old.frames }
@@ -351,31 +352,31 @@ impl Rows {
     }
 
     /// A processor reports so many pages.
-    pub(crate) fn note_report(&mut self, cpu: u32, pages: u32)
+    pub fn note_report(&mut self, cpu: u32, pages: u32)
         requires fits { FitsZone self.old }
         requires cpu { cpu ≤ self.old.cpus }
         requires enough { pages ≤ ((state_in self.old).parts cpu).unreported }
         requires few { ((state_in self.old).parts cpu).reported < 2 ^ 100 }
-        ensures state { state_in self.new ≡ with_part (state_in self.old) cpu (record ((state_in self.old).parts cpu) { unreported = ((state_in self.old).parts cpu).unreported - pages; reported = ((state_in self.old).parts cpu).reported + pages }) }
+        ensures state { state_in self.new ≡ with_part (state_in self.old) cpu (with_report ((state_in self.old).parts cpu) pages) }
         ensures fits { FitsZone self.new }
     {
         report_pages(&mut self.seats[cpu as usize], pages);
     }
 
     /// What a processor reported is taken off its book.
-    pub(crate) fn take_report(&mut self, cpu: u32) -> u128
+    pub fn take_report(&mut self, cpu: u32) -> u128
         requires fits { FitsZone self.old }
         requires cpu { cpu ≤ self.old.cpus }
         requires booked { ((state_in self.old).parts cpu).reported ≤ ((state_in self.old).parts cpu).book }
         ensures pages { result ≡ ((state_in self.old).parts cpu).reported }
-        ensures state { state_in self.new ≡ with_part (state_in self.old) cpu (record ((state_in self.old).parts cpu) { book = ((state_in self.old).parts cpu).book - ((state_in self.old).parts cpu).reported; reported = ((state_in self.old).parts cpu).reported - ((state_in self.old).parts cpu).reported }) }
+        ensures state { state_in self.new ≡ with_part (state_in self.old) cpu (absorbed ((state_in self.old).parts cpu) ((state_in self.old).parts cpu).reported) }
         ensures fits { FitsZone self.new }
     {
         absorb_pages(&mut self.seats[cpu as usize])
     }
 
     /// So many pages are filled into a processor's stock, for a group.
-    pub(crate) fn put_in_stock(&mut self, cpu: u32, group: GroupId, pages: u32)
+    pub fn put_in_stock(&mut self, cpu: u32, group: GroupId, pages: u32)
         requires fits { FitsZone self.old }
         requires cpu { cpu ≤ self.old.cpus }
         requires few { ((state_in self.old).parts cpu).book < 2 ^ 100 }
@@ -386,12 +387,12 @@ impl Rows {
     }
 
     /// All pages are drained from a processor's stock.
-    pub(crate) fn empty_stock(&mut self, cpu: u32) -> u128
+    pub fn empty_stock(&mut self, cpu: u32) -> u128
         requires fits { FitsZone self.old }
         requires cpu { cpu ≤ self.old.cpus }
         requires booked { ((state_in self.old).parts cpu).stock.pages ≤ ((state_in self.old).parts cpu).book }
         ensures pages { result ≡ ((state_in self.old).parts cpu).stock.pages }
-        ensures state { state_in self.new ≡ with_part (state_in self.old) cpu (drained ((state_in self.old).parts cpu) ((state_in self.old).parts cpu).stock.pages) }
+        ensures state { let part = (state_in self.old).parts cpu in state_in self.new ≡ with_part (state_in self.old) cpu (drained part part.stock.pages) }
         ensures fits { FitsZone self.new }
     {
         drain_pages(&mut self.seats[cpu as usize])

@@ -1,8 +1,8 @@
 //! What is kept of one seat.
 
 ghost use Rattle.std.specs.Prelude.{◌≡◌, ◌+◌, ◌-◌, ◌<◌, ◌≤◌, ◌^◌, IfOk, vec_len, vec_capacity, length, replicate, slice_set};
-ghost use Rattle.step_rules.specs.State.{no_part, one_if, without, with_last};
-ghost use Rattle.step_rules.specs.After.{paid, credited, with_back, filled, drained};
+ghost use Rattle.step_rules.specs.State.{no_part, without};
+ghost use Rattle.step_rules.specs.After.{with_listed, taken_off, paid, credited, with_back, with_report, absorbed, filled, drained};
 ghost use Rattle.core_rows.specs.Shown.{part_in};
 ghost use Rattle.core_rows.specs.Rooms.{HasRoom, HasRooms, KeepsRoom};
 
@@ -56,7 +56,7 @@ pub(crate) fn set_count(seat: &mut Seat, frame: u32, count: u32)
 /// Puts a frame at the end of the list.
 pub(crate) fn list_frame(seat: &mut Seat, frame: u32)
     requires room { length seat.old.list.items < vec_capacity seat.old.list }
-    ensures part { part_in seat.new ≡ record (part_in seat.old) { list = with_last seat.old.list.items frame } }
+    ensures part { part_in seat.new ≡ with_listed (part_in seat.old) frame }
     ensures kept { KeepsRoom seat.old seat.new }
 {
     seat.list.push_reserved(frame);
@@ -65,7 +65,7 @@ pub(crate) fn list_frame(seat: &mut Seat, frame: u32)
 /// Takes a frame out of the list, the fresh and the back frames; a page of a fresh one is to be reported.
 pub(crate) fn drop_frame(seat: &mut Seat, frame: u32, was_fresh: bool)
     requires few { seat.old.unreported < 2 ^ 100 }
-    ensures part { part_in seat.new ≡ record (part_in seat.old) { list = without frame seat.old.list.items; fresh = without frame seat.old.fresh.items; back = without frame seat.old.back.items; unreported = seat.old.unreported + one_if was_fresh } }
+    ensures part { part_in seat.new ≡ taken_off (part_in seat.old) frame was_fresh }
     ensures kept { KeepsRoom seat.old seat.new }
 {
     take_out(&mut seat.list, frame);
@@ -115,7 +115,7 @@ pub(crate) fn keep_back(seat: &mut Seat, frame: u32)
 pub(crate) fn report_pages(seat: &mut Seat, pages: u32)
     requires enough { pages ≤ seat.old.unreported }
     requires few { seat.old.reported < 2 ^ 100 }
-    ensures part { part_in seat.new ≡ record (part_in seat.old) { unreported = seat.old.unreported - pages; reported = seat.old.reported + pages } }
+    ensures part { part_in seat.new ≡ with_report (part_in seat.old) pages }
     ensures kept { KeepsRoom seat.old seat.new }
 {
     seat.unreported -= u128::from(pages);
@@ -126,7 +126,7 @@ pub(crate) fn report_pages(seat: &mut Seat, pages: u32)
 pub(crate) fn absorb_pages(seat: &mut Seat) -> u128
     requires booked { seat.old.reported ≤ seat.old.book }
     ensures pages { result ≡ seat.old.reported }
-    ensures part { part_in seat.new ≡ record (part_in seat.old) { book = seat.old.book - seat.old.reported; reported = seat.old.reported - seat.old.reported } }
+    ensures part { part_in seat.new ≡ absorbed (part_in seat.old) seat.old.reported }
     ensures kept { KeepsRoom seat.old seat.new }
 {
     let pages = seat.reported;

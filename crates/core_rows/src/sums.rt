@@ -4,13 +4,23 @@ ghost use Rattle.std.specs.Prelude.{◌≡◌, ◌+◌, ◌*◌, ◌^◌, ◌<�
 ghost use Rattle.group_tree.specs.Groups.{has_group, in_subtree};
 ghost use Rattle.step_rules.specs.State.{live_references, pins_of};
 ghost use Rattle.step_rules.specs.Usage.{is_below, frames_kept, stock_below, pages_prepaid, pages_pending, usage_of, has_room, PathHasRoom, IsLowestOver};
-ghost use Rattle.step_rules.specs.Legal.{rests, nothing_passes, no_frame_passes, is_settled};
+ghost use Rattle.step_rules.specs.Legal.{is_of_group, rests, nothing_passes, no_frame_passes, is_settled};
 ghost use Rattle.core_rows.specs.Shown.{state_in};
 ghost use Rattle.core_rows.specs.Rooms.{FitsZone, IsFew};
 
 use crate::phases::{is_passing, keeper_of, passes_back, passes_out};
 use crate::rows::Rows;
 use group_tree::group::GroupId;
+
+/// Whether there is a group, and it is this one: that of a stock.
+pub fn is_of_group(stock: Option<GroupId>, group: GroupId) -> bool
+    ensures { result ≡ is_of_group stock group }
+{
+    match stock {
+        None => false,
+        Some(of) => of.number() == group.number(),
+    }
+}
 
 impl Rows {
     /// All references on a frame.

@@ -9,8 +9,8 @@ ghost use Rattle.mem_core.specs.Accounts.{new_account, account_after, events_aft
 ghost use Rattle.group_tree.specs.Room.{one_more};
 
 use crate::account::{Account, Events};
-use core_rows::legal::is_of_group;
 use core_rows::rows::Rows;
+use core_rows::sums::is_of_group;
 use group_tree::group::GroupId;
 use std::alloc::{AllocError, Global};
 use step_rules::step::{Action, Answer};

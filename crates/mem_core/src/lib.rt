@@ -5,5 +5,6 @@
 pub mod account;
 mod accounts;
 pub mod config;
+mod free_areas;
 pub mod run;
 pub mod zone;

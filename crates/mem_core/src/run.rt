@@ -55,6 +55,3 @@ pub fn run(alloc: Global, frames: u32, cpus: u32, steps: &[Step]) -> Result<Vec<
     let Played { core: _, answers } = play(alloc, frames, cpus, steps)?;
     Ok(answers)
 }
-
-#[cfg(test)]
-mod tests;

@@ -13,8 +13,9 @@ mod readers;
 
 use crate::account::Account;
 use crate::accounts::{follow, new_accounts};
+use crate::free_areas::set_areas;
 use core_rows::rows::Rows;
-use core_rows::serve::pages_asked;
+use core_steps::serve::{pages_asked, serve};
 use std::alloc::{AllocError, Global};
 use std::marker::Model;
 use step_rules::step::{Answer, Step};
@@ -57,8 +58,7 @@ impl Core {
         let accounts = new_accounts(alloc)?;
         let mut free = Vec::with_capacity(alloc, frames as usize)?;
         let mut areas = FreeAreas::new(alloc, frames)?;
-        rows.mark_free(&mut free);
-        areas.set_from(&free);
+        set_areas(&rows, &mut free, &mut areas);
         Ok(Core {
             rows,
             free,
@@ -84,14 +84,13 @@ impl Core {
     {
         // No more pages than a step can ask for.
         let _ = pages_asked(&step.action);
-        let answer = self.rows.serve(&self.areas, &step);
+        let answer = serve(&mut self.rows, &self.areas, &step);
         self.steps += 1;
         if let Answer::Illegal = answer {
             return answer;
         }
         follow(&self.rows, &step.action, &answer, &mut self.accounts);
-        self.rows.mark_free(&mut self.free);
-        self.areas.set_from(&self.free);
+        set_areas(&self.rows, &mut self.free, &mut self.areas);
         answer
     }
 }

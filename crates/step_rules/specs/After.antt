@@ -57,14 +57,30 @@ unit_size (Some unit) = 2 ^ unit.order
 abbrev pub without_unit : (ℕ → Phase) → ℕ → ℕ → Phase
 without_unit phases f x = if is_within f (unit_size (unit_of (phases f))) x then InZone else phases x
 
--- the part without one of its frames that it passes back; the page of a fresh one is to be reported
-abbrev pub without_frame : Part → Phase → ℕ → ℕ → Part
-without_frame part phase p f = record part {
+-- the frame is at the end of the list
+abbrev pub with_listed : Part → ℕ → Part
+with_listed part f = record part { list = with_last part.list f }
+
+-- the frame is on none of the lists; the page of one that was fresh is to be reported
+abbrev pub taken_off : Part → ℕ → Bool → Part
+taken_off part f was_fresh = record part {
   list = without f part.list;
   fresh = without f part.fresh;
   back = without f part.back;
-  unreported = part.unreported + one_if (has_as Fresh p phase);
+  unreported = part.unreported + one_if was_fresh;
 }
+
+-- the part without one of its frames that it passes back; the page of a fresh one is to be reported
+abbrev pub without_frame : Part → Phase → ℕ → ℕ → Part
+without_frame part phase p f = taken_off part f (has_as Fresh p phase)
+
+-- so many pages were reported
+abbrev pub with_report : Part → ℕ → Part
+with_report part n = record part { unreported = part.unreported - n; reported = part.reported + n }
+
+-- so many reported pages were taken off the book
+abbrev pub absorbed : Part → ℕ → Part
+absorbed part n = record part { book = part.book - n; reported = part.reported - n }
 
 -- the front of the list is fresh, paid with one page of the stock
 abbrev pub paid : Part → Part
@@ -123,13 +139,13 @@ after s seat (Put f) Last = after_last s seat f
 after s seat (Freeze f n) Done = with_phase (with_references s 0 f (s.references 0 f - n)) f (at_stage Ended (s.phases f))
 after s seat (Unfreeze f n) Done = with_phase (with_references s 0 f (s.references 0 f + n)) f (at_stage Live (s.phases f))
 after s seat (PassOut f p) Done = with_phase s f (Lent p PassingOut)
-after s seat (TakeIn f) Done = with_part (with_phase s f (Lent seat OnList)) seat (record (s.parts seat) { list = with_last (s.parts seat).list f })
+after s seat (TakeIn f) Done = with_part (with_phase s f (Lent seat OnList)) seat (with_listed (s.parts seat) f)
 after s seat (PassBack f) Done = with_part (with_phase s f (passed_back (s.phases f))) seat (without_frame (s.parts seat) (s.phases f) seat f)
 after s seat (Collect f p) Done = with_phase s f (collected (s.phases f))
 after s seat (Consume g) Took = with_part (with_phase s (front_of (s.parts seat).list) (consumed seat g)) seat (paid (s.parts seat))
 after s seat (Credit f) Back = with_part (with_phase s f (Lent seat OnList)) seat (credited (s.parts seat) f)
-after s seat (Report n) Done = with_part s seat (record (s.parts seat) { unreported = (s.parts seat).unreported - n; reported = (s.parts seat).reported + n })
-after s seat (Absorb p) (Pages n) = with_part s p (record (s.parts p) { book = (s.parts p).book - n; reported = (s.parts p).reported - n })
+after s seat (Report n) Done = with_part s seat (with_report (s.parts seat) n)
+after s seat (Absorb p) (Pages n) = with_part s p (absorbed (s.parts p) n)
 after s seat (Fill p g n) Done = with_part (with_pending s g (s.pending g - n)) p (filled (s.parts p) g n)
 after s seat (DrainStock p) (Pages n) = record (with_part s p (drained (s.parts p) n)) { pending = with_more s.pending (s.parts p).stock.group n }
 after s seat (Grant g n) Granted = with_pending s g (s.pending g + n)

@@ -203,7 +203,8 @@ impl Core {
         ensures now { result ≡ (account_of self.now.accounts group).events }
         ensures run { (run : Run) → Shows self.now run → (key : EventKey) → count_in key result ≡ events_of key self.now.zone run group }
     {
-        self.accounts[group.number() as usize].events
+        let account = self.accounts[group.number() as usize];
+        account.events
     }
 
     /// What was counted for a group that is there alone since it was made (memory.events.local).

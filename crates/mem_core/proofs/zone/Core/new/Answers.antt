@@ -8,7 +8,6 @@ use Rattle.step_rules.proofs.Homes.{IsHomed}
 use Rattle.step_rules.proofs.Keeping.{homed_run}
 use Rattle.core_rows.specs.Shown as rows
 use Rattle.core_rows.proofs.Bounding.{IsBounded}
-use Rattle.core_rows.proofs.Ranges.{length_free}
 use Rattle.mem_core.specs.declared.zone.Core.TheInside.{Inside}
 use Rattle.mem_core.proofs.Linking.{shown_is}
 use Rattle.mem_core.proofs.Advancing.{bounded_boot}
@@ -24,11 +23,8 @@ new_peaks k d h =
     let len = length-replicate {A = Account} 64 new_account in subst (λ (a : Account). a.peak < 2 ^ 104)
     (sym (get_or-replicate 64 k new_account d (omega arith))) (lit< tt)
 
-pub set_from-requires : goal.set_from-requires
-set_from-requires c =
-    let s = rows.state_in c.in_ok-rows.rows in
-    let frames : s.zone.frames ≡ c.args.frames = ap (λ (t : State). t.zone.frames) c.in_ok-rows.ensures.state in
-    ap length (c.deref.ensures.value ∙ c.mark_free.ensures.flags) ∙ length_free s.zone s.phases ∙ frames ∙ sym c.in_ok-areas.ensures.frames
+pub set_areas-requires-clause-frames : goal.set_areas-requires-clause-frames
+set_areas-requires-clause-frames c = c.in_ok-areas.ensures.frames ∙ sym (ap (λ (t : State). t.zone.frames) c.in_ok-rows.ensures.state)
 
 pub invariant_of-result : goal.invariant_of-result
 invariant_of-result c =
@@ -44,10 +40,9 @@ invariant_of-result c =
       accounts = c.in_ok-accounts.ensures.number;
       peaks = subst HaveSmallPeaks (sym c.in_ok-accounts.ensures.items) new_peaks;
       few = lit< tt;
-      frames = c.set_from.ensures.frames ∙ c.in_ok-areas.ensures.frames ∙ sym frames;
-      room = let a = c.mark_free.ensures.room in let b = c.in_ok-free.ensures.exact in omega arith;
-      areas = subst (λ (free : List Bool). AreMaximalBlocks free c.set_from.new.self.blocks) (c.deref.ensures.value
-          ∙ c.mark_free.ensures.flags) c.set_from.ensures.areas;
+      frames = c.set_areas.ensures.frames ∙ c.in_ok-areas.ensures.frames ∙ sym frames;
+      room = let a = c.set_areas.ensures.room in let b = c.in_ok-free.ensures.exact in omega arith;
+      areas = c.set_areas.ensures.areas;
     }
 
 pub returns-clause-empty : goal.returns-clause-empty
@@ -55,10 +50,10 @@ returns-clause-empty c =
     let s = rows.state_in c.in_ok-rows.rows in
     let inside : Inside = record {
       rows = c.in_ok-rows.rows;
-      free = c.mark_free.new.free;
+      free = c.set_areas.new.free;
       accounts =
           c.in_ok-accounts.accounts;
-      areas = c.set_from.new.self;
+      areas = c.set_areas.new.areas;
       steps = 0;
     } in
     let zone : Zone = record { frames = c.args.frames; cpus = c.args.cpus } in

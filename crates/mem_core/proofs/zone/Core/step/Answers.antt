@@ -13,7 +13,6 @@ use Rattle.core_rows.specs.declared.rows.Rows.{Rows}
 use Rattle.core_rows.specs.Rooms.{pages_asked}
 use Rattle.core_rows.specs.Shown as rows
 use Rattle.core_rows.proofs.Bounding.{IsBounded}
-use Rattle.core_rows.proofs.Ranges.{length_free}
 use Rattle.mem_core.specs.declared.zone.Core.TheInside.{Inside}
 use Rattle.mem_core.specs.Shown.{CoreState, state_in}
 use Rattle.mem_core.specs.Inside.{core_state, IsWhole}
@@ -36,25 +35,23 @@ follow-requires-clause-few c =
     let action = c.args.step.action in
     let answer = c.serve-answer.result in
     let few = c.self.invariant.few in
-    let state : rows.state_in c.serve-answer.new.self ≡ after s seat action answer = c.serve-answer.ensures.state in
+    let state : rows.state_in c.serve-answer.new.rows ≡ after s seat action answer = c.serve-answer.ensures.state in
     let asked : pages_asked action < 2 ^ 32 = let a = c.pages_asked.ensures.pages in let b = c.pages_asked.ensures.few in omega arith in
     let bounded = bounded_after (n * 2 ^ 32) s seat action answer c.self.invariant.sound c.self.invariant.bounded c.serve-answer.ensures.allowed asked in
-    ready c.serve-answer.new.self (n * 2 ^ 32 + 2 ^ 32) (omega arith) c.serve-answer.ensures.fits
+    ready c.serve-answer.new.rows (n * 2 ^ 32 + 2 ^ 32) (omega arith) c.serve-answer.ensures.fits
     (subst IsSound (sym state) (sound_after s seat action answer c.self.invariant.sound c.serve-answer.ensures.allowed))
     (subst (IsBounded (n * 2 ^ 32 + 2 ^ 32)) (sym state) bounded)
 
-pub set_from-requires : goal.set_from-requires
-set_from-requires c =
+pub set_areas-requires-clause-frames : goal.set_areas-requires-clause-frames
+set_areas-requires-clause-frames c =
     let s = rows.state_in c.self.inside.rows in
-    let t = rows.state_in c.serve-answer.new.self in
-    let zone : t.zone ≡ s.zone = ap (λ (x : State). x.zone) c.serve-answer.ensures.state
-    ∙ zone_kept s c.args.step.seat c.args.step.action c.serve-answer.result in
-    ap length (c.deref.ensures.value ∙ c.mark_free.ensures.flags) ∙ length_free t.zone t.phases ∙ ap (λ (z : Zone). z.frames) zone ∙ sym c.self.invariant.frames
+    let zone = ap (λ (x : State). x.zone) c.serve-answer.ensures.state ∙ zone_kept s c.args.step.seat c.args.step.action c.serve-answer.result in
+    c.self.invariant.frames ∙ sym (ap (λ (z : Zone). z.frames) zone)
 
 pub invariant_of-self-2 : goal.invariant_of-self-2
 invariant_of-self-2 c =
     let s = rows.state_in c.self.inside.rows in
-    let t = rows.state_in c.serve-answer.new.self in
+    let t = rows.state_in c.serve-answer.new.rows in
     let n = c.self.inside.steps in
     let seat = c.args.step.seat in
     let action = c.args.step.action in
@@ -73,10 +70,9 @@ invariant_of-self-2 c =
       accounts = c.follow.ensures.length;
       peaks = c.follow.ensures.small;
       few = subst (λ (x : CoreState). x.steps + 1 < 2 ^ 64) (sym c.self.view_is) c.requires;
-      frames = c.set_from.ensures.frames ∙ c.self.invariant.frames ∙ sym frames;
-      room = let a = c.mark_free.ensures.room in let b = c.self.invariant.room in omega arith;
-      areas = subst (λ (free : List Bool). AreMaximalBlocks free c.set_from.new.self.blocks) (c.deref.ensures.value
-          ∙ c.mark_free.ensures.flags) c.set_from.ensures.areas;
+      frames = c.set_areas.ensures.frames ∙ c.self.invariant.frames ∙ sym frames;
+      room = let a = c.set_areas.ensures.room in let b = c.self.invariant.room in omega arith;
+      areas = c.set_areas.ensures.areas;
     }
 
 -- what the core showed before
@@ -88,11 +84,11 @@ returns-clause-allowed c =
 pub returns-clause-state : goal.returns-clause-state
 returns-clause-state c =
     let inside : Inside = record {
-      rows = c.serve-answer.new.self;
-      free = c.mark_free.new.free;
+      rows = c.serve-answer.new.rows;
+      free = c.set_areas.new.free;
       accounts =
           c.follow.new.accounts;
-      areas = c.set_from.new.self;
+      areas = c.set_areas.new.areas;
       steps = c.self.inside.steps + 1;
     } in
     let link : state_in c.args.self.now ≡ rows.state_in c.self.inside.rows = ap state_in (sym c.self.view_is) ∙ shown_is c.self.inside in
@@ -114,11 +110,11 @@ returns-clause-first c =
 pub returns-clause-shows : goal.returns-clause-shows
 returns-clause-shows c run shows =
     let inside : Inside = record {
-      rows = c.serve-answer.new.self;
-      free = c.mark_free.new.free;
+      rows = c.serve-answer.new.rows;
+      free = c.set_areas.new.free;
       accounts =
           c.follow.new.accounts;
-      areas = c.set_from.new.self;
+      areas = c.set_areas.new.areas;
       steps = c.self.inside.steps + 1;
     } in
     shown_more c.args.self.now (core_state inside) run c.args.step c.serve-answer.result shows (returns-clause-allowed c) (returns-clause-zone c)
@@ -146,7 +142,7 @@ returns-in-Illegal-clause-allowed c =
 pub returns-in-Illegal-clause-state : goal.returns-in-Illegal-clause-state
 returns-in-Illegal-clause-state c =
     let inside : Inside = record {
-      rows = c.serve-answer.new.self;
+      rows = c.serve-answer.new.rows;
       free = c.self.inside.free;
       accounts =
           c.self.inside.accounts;
@@ -159,7 +155,7 @@ returns-in-Illegal-clause-state c =
 pub returns-in-Illegal-clause-shows : goal.returns-in-Illegal-clause-shows
 returns-in-Illegal-clause-shows c run shows =
     let inside : Inside = record {
-      rows = c.serve-answer.new.self;
+      rows = c.serve-answer.new.rows;
       free = c.self.inside.free;
       accounts =
           c.self.inside.accounts;
@@ -180,13 +176,13 @@ returns-in-Illegal-clause-shows c run shows =
 
 pub returns-in-Illegal-clause-areas : goal.returns-in-Illegal-clause-areas
 returns-in-Illegal-clause-areas c =
-    let same : c.serve-answer.new.self ≡ c.self.inside.rows = c.serve-answer.ensures.unchanged c.in-Illegal.is in
+    let same : c.serve-answer.new.rows ≡ c.self.inside.rows = c.serve-answer.ensures.unchanged c.in-Illegal.is in
     subst (λ (r : Rows). AreMaximalBlocks (free_in (rows.state_in r).zone (rows.state_in r).phases) c.self.inside.areas.blocks)
     (sym same) c.self.invariant.areas
 
 pub invariant_of-self : goal.invariant_of-self
 invariant_of-self c =
-    let same : c.serve-answer.new.self ≡ c.self.inside.rows = c.serve-answer.ensures.unchanged c.in-Illegal.is in
+    let same : c.serve-answer.new.rows ≡ c.self.inside.rows = c.serve-answer.ensures.unchanged c.in-Illegal.is in
     let n = c.self.inside.steps in
     let count : n * 2 ^ 32 + 2 ^ 32 ≡ (n + 1) * 2 ^ 32 = omega arith in
     let s = rows.state_in c.self.inside.rows in

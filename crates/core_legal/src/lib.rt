@@ -1,0 +1,4 @@
+//! Which of the 29 actions of the rules may be made over the rows of the core.
+#![tactic(auto)]
+
+pub mod legal;

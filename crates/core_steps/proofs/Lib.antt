@@ -1,0 +1,3 @@
+pub mod Serving
+pub mod Ranges
+pub mod FreeBlocks

@@ -1,0 +1,25 @@
+-- The goals of `take_in`.
+use Rattle.std.proofs.Common.{◌<◌, length, sym, ◌∙◌, ap, subst}
+use Rattle.step_rules.specs.State.{State, with_last}
+use Rattle.step_rules.specs.After.{with_part}
+use Rattle.core_rows.specs.Shown.{state_in}
+use Rattle.core_steps.proofs.Serving.{take_in_room}
+use Rattle.core_steps.proofs.hand_over.take_in.Goals as goal
+
+pub put_on_list-requires-clause-room : goal.put_on_list-requires-clause-room
+put_on_list-requires-clause-room c =
+    subst (λ (t : State). length (t.parts c.args.seat).list < t.zone.frames) (sym c.set_phase.ensures.state)
+    (take_in_room (state_in c.args.rows.now) c.args.seat c.args.frame c.requires.few c.requires.legal)
+
+pub returns : goal.returns
+returns c = record {
+  made = record {
+    answered = tt;
+    counted = tt;
+    state = c.put_on_list.ensures.state ∙ ap (λ (t : State). with_part t c.args.seat (record (t.parts c.args.seat) {
+      list =
+          with_last (t.parts c.args.seat).list c.args.frame;
+    })) c.set_phase.ensures.state;
+    fits = c.put_on_list.ensures.fits;
+  };
+}

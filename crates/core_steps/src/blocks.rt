@@ -1,0 +1,129 @@
+//! Blocks that are placed, and units that come back.
+
+ghost use Rattle.std.specs.Prelude.{◌≡◌, ◌+◌, ◌<◌, ◌≤◌, ◌^◌, ◌++◌, true, IfNone, IfSome, take, drop, replicate, vec_len};
+ghost use Rattle.zone_blocks.specs.declared.block.Block.{Block};
+ghost use Rattle.zone_blocks.specs.Areas.{IsFreeBlock, IsFrontOfSmallest, AreMaximalBlocks};
+ghost use Rattle.step_rules.specs.State.{free_in};
+ghost use Rattle.step_rules.specs.Legal.{is_legal};
+ghost use Rattle.step_rules.specs.After.{after, with_block, without_unit};
+ghost use Rattle.step_rules.specs.declared.step.Action.{Action};
+ghost use Rattle.step_rules.specs.declared.step.Answer.{Answer};
+ghost use Rattle.core_rows.specs.Shown.{state_in};
+ghost use Rattle.core_rows.specs.Rooms.{FitsZone, IsFew, Makes, PlacesFront};
+
+use core_rows::phases::unit_size;
+use core_rows::rows::Rows;
+use group_tree::group::GroupId;
+use step_rules::phase::{ChargedUnit, Phase, Stage};
+use step_rules::step::Answer;
+use zone_blocks::areas::FreeAreas;
+use zone_blocks::block::Block;
+use zone_blocks::order::Order;
+
+/// Sets the phases of n frames from `at` on.
+fn set_range(phases: &mut Vec<Phase>, at: usize, n: usize, phase: Phase)
+    requires { at + n ≤ vec_len phases.old }
+    ensures range { phases.new.items ≡ take at phases.old.items ++ replicate n phase ++ drop (at + n) phases.old.items }
+    ensures size { vec_len phases.new ≡ vec_len phases.old }
+{
+    phases[at..at + n].fill(phase);
+}
+
+/// The frames of a block head and follow a unit of a group, which is newly placed.
+fn set_unit(rows: &mut Rows, group: GroupId, block: &Block)
+    requires fits { FitsZone rows.old }
+    requires inside { block.now.at + 2 ^ block.now.order ≤ rows.old.frames }
+    ensures state { state_in rows.new ≡ record (state_in rows.old) { phases = with_block (state_in rows.old).phases group block.now } }
+    ensures fits { FitsZone rows.new }
+{
+    let at = block.at as usize;
+    let unit = ChargedUnit {
+        group,
+        order: block.order,
+    };
+    set_range(
+        &mut rows.phases,
+        at,
+        block.order.frames() as usize,
+        Phase::Tail(group),
+    );
+    rows.phases[at] = Phase::Head {
+        unit,
+        stage: Stage::Bare,
+    };
+}
+
+/// The frames of a unit are free again.
+fn free_unit(rows: &mut Rows, frame: u32)
+    requires fits { FitsZone rows.old }
+    requires there { frame < rows.old.frames }
+    ensures state { state_in rows.new ≡ record (state_in rows.old) { phases = without_unit (state_in rows.old).phases frame } }
+    ensures fits { FitsZone rows.new }
+{
+    let left = rows.frames - frame;
+    let size = unit_size(rows.phase(frame));
+    let n = size.min(left);
+    set_range(&mut rows.phases, frame as usize, n as usize, Phase::InZone);
+}
+
+/// Pending pages of a group are placed on the front of the smallest free area, where one has room.
+pub(crate) fn place_block(
+    rows: &mut Rows,
+    areas: &FreeAreas,
+    seat: u32,
+    group: GroupId,
+    order: Order,
+) -> Answer
+    requires fits { FitsZone rows.old }
+    requires few { IsFew (state_in rows.old) }
+    requires legal { is_legal (state_in rows.old) seat (Action.PlaceBlock group order) ≡ true }
+    requires areas { AreMaximalBlocks (free_in (state_in rows.old).zone (state_in rows.old).phases) areas.now.blocks }
+    ensures made { Makes rows.old seat (Action.PlaceBlock group order) result rows.new }
+    ensures front { PlacesFront areas.now.blocks (Action.PlaceBlock group order) result }
+{
+    let _ = seat;
+    match free_block(rows, areas, order) {
+        None => Answer::NoFreeBlock,
+        Some(block) => {
+            charge_block(rows, group, &block);
+            Answer::Placed(block)
+        }
+    }
+}
+
+/// The free block of the order that is placed next: the lower part of the smallest area.
+fn free_block(rows: &Rows, areas: &FreeAreas, order: Order) -> Option<Block>
+    requires areas { AreMaximalBlocks (free_in (state_in rows.now).zone (state_in rows.now).phases) areas.now.blocks }
+    ensures none { IfNone result ((b : Block) → b.order ≡ order → ¬ IsFreeBlock (free_in (state_in rows.now).zone (state_in rows.now).phases) b) }
+    ensures some { IfSome result (IsFreeBlock (free_in (state_in rows.now).zone (state_in rows.now).phases)) }
+    ensures order { IfSome result (λ b. b.order ≡ order) }
+    ensures smallest { IfSome result (IsFrontOfSmallest areas.now.blocks order) }
+{
+    let area = areas.smallest_from(order)?;
+    Some(Block { at: area.at, order })
+}
+
+/// Pending pages of a group are placed on a free block.
+fn charge_block(rows: &mut Rows, group: GroupId, block: &Block)
+    requires fits { FitsZone rows.old }
+    requires free { IsFreeBlock (free_in (state_in rows.old).zone (state_in rows.old).phases) block.now }
+    requires enough { 2 ^ block.now.order ≤ (state_in rows.old).pending group }
+    ensures state { state_in rows.new ≡ after (state_in rows.old) 0 (Action.PlaceBlock group block.now.order) (Answer.Placed block.now) }
+    ensures fits { FitsZone rows.new }
+{
+    let left = rows.pending(group) - u128::from(block.order.frames());
+    rows.set_pending(group, left);
+    set_unit(rows, group, block);
+}
+
+/// The frames of a unit come back.
+pub(crate) fn return_unit(rows: &mut Rows, seat: u32, frame: u32) -> Answer
+    requires fits { FitsZone rows.old }
+    requires few { IsFew (state_in rows.old) }
+    requires legal { is_legal (state_in rows.old) seat (Action.Return frame) ≡ true }
+    ensures made { Makes rows.old seat (Action.Return frame) result rows.new }
+{
+    let _ = seat;
+    free_unit(rows, frame);
+    Answer::Done
+}

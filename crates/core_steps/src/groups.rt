@@ -1,0 +1,114 @@
+//! Groups, their limits and their pages.
+
+ghost use Rattle.std.specs.Prelude.{◌≡◌, ◌≢◌, ◌+◌, ◌-◌, ◌<◌, ◌≤◌, ◌^◌, true, false, Some, length};
+ghost use Rattle.step_rules.specs.Legal.{is_legal};
+ghost use Rattle.step_rules.specs.declared.step.Action.{Action};
+ghost use Rattle.core_rows.specs.Shown.{state_in};
+ghost use Rattle.core_rows.specs.Rooms.{FitsZone, IsFew, Makes};
+
+use core_rows::rows::Rows;
+use group_tree::group::GroupId;
+use group_tree::path::PathText;
+use step_rules::step::Answer;
+
+/// Pages are granted to a group, where the limits on its path have room for them.
+pub(crate) fn grant(rows: &mut Rows, seat: u32, group: GroupId, pages: u32) -> Answer
+    requires fits { FitsZone rows.old }
+    requires few { IsFew (state_in rows.old) }
+    requires legal { is_legal (state_in rows.old) seat (Action.Grant group pages) ≡ true }
+    ensures made { Makes rows.old seat (Action.Grant group pages) result rows.new }
+{
+    let _ = seat;
+    if let Some(over) = rows.lowest_over(group, pages) {
+        return Answer::Over(over);
+    }
+    let more = rows.pending(group) + u128::from(pages);
+    rows.set_pending(group, more);
+    Answer::Granted
+}
+
+/// Pending pages are taken back.
+pub(crate) fn ungrant(rows: &mut Rows, seat: u32, group: GroupId, pages: u32) -> Answer
+    requires fits { FitsZone rows.old }
+    requires few { IsFew (state_in rows.old) }
+    requires legal { is_legal (state_in rows.old) seat (Action.Ungrant group pages) ≡ true }
+    ensures made { Makes rows.old seat (Action.Ungrant group pages) result rows.new }
+{
+    let _ = seat;
+    let left = rows.pending(group) - u128::from(pages);
+    rows.set_pending(group, left);
+    Answer::Done
+}
+
+/// A note of `max` changes nothing here.
+pub(crate) fn note_max(rows: &mut Rows, seat: u32, group: GroupId) -> Answer
+    requires fits { FitsZone rows.old }
+    requires few { IsFew (state_in rows.old) }
+    requires legal { is_legal (state_in rows.old) seat (Action.NoteMax group) ≡ true }
+    ensures made { Makes rows.old seat (Action.NoteMax group) result rows.new }
+{
+    let _ = seat;
+    let _ = group;
+    Answer::Done
+}
+
+/// A note of `oom` changes nothing here.
+pub(crate) fn note_oom(rows: &mut Rows, seat: u32, group: GroupId) -> Answer
+    requires fits { FitsZone rows.old }
+    requires few { IsFew (state_in rows.old) }
+    requires legal { is_legal (state_in rows.old) seat (Action.NoteOom group) ≡ true }
+    ensures made { Makes rows.old seat (Action.NoteOom group) result rows.new }
+{
+    let _ = seat;
+    let _ = group;
+    Answer::Done
+}
+
+/// A group is given another limit.
+pub(crate) fn set_max(rows: &mut Rows, seat: u32, group: GroupId, limit: Option<u32>) -> Answer
+    requires fits { FitsZone rows.old }
+    requires few { IsFew (state_in rows.old) }
+    requires legal { is_legal (state_in rows.old) seat (Action.SetMax group limit) ≡ true }
+    ensures made { Makes rows.old seat (Action.SetMax group limit) result rows.new }
+{
+    let _ = seat;
+    rows.tree.set_max(group, limit);
+    Answer::Done
+}
+
+/// A group is made.
+pub(crate) fn make(rows: &mut Rows, seat: u32, path: &PathText) -> Answer
+    requires fits { FitsZone rows.old }
+    requires few { IsFew (state_in rows.old) }
+    requires legal { is_legal (state_in rows.old) seat (Action.Make path.now) ≡ true }
+    ensures made { Makes rows.old seat (Action.Make path.now) result rows.new }
+{
+    let _ = seat;
+    let group = rows.tree.make(path.as_bytes()).unwrap();
+    rows.set_killed(group, false);
+    Answer::Number(group)
+}
+
+/// A group is taken out.
+pub(crate) fn remove(rows: &mut Rows, seat: u32, group: GroupId) -> Answer
+    requires fits { FitsZone rows.old }
+    requires few { IsFew (state_in rows.old) }
+    requires legal { is_legal (state_in rows.old) seat (Action.Remove group) ≡ true }
+    ensures made { Makes rows.old seat (Action.Remove group) result rows.new }
+{
+    let _ = seat;
+    rows.tree.remove(group);
+    Answer::Done
+}
+
+/// A group is killed.
+pub(crate) fn kill(rows: &mut Rows, seat: u32, group: GroupId) -> Answer
+    requires fits { FitsZone rows.old }
+    requires few { IsFew (state_in rows.old) }
+    requires legal { is_legal (state_in rows.old) seat (Action.Kill group) ≡ true }
+    ensures made { Makes rows.old seat (Action.Kill group) result rows.new }
+{
+    let _ = seat;
+    rows.set_killed(group, true);
+    Answer::Done
+}

@@ -1,0 +1,10 @@
+//! The 29 actions of the rules over the rows of the core: what each is answered, and what it changes.
+#![tactic(auto)]
+
+pub mod blocks;
+pub mod groups;
+pub mod hand_over;
+pub mod references;
+pub mod serve;
+pub mod stocks;
+pub mod zone;

@@ -1,0 +1,132 @@
+//! References on frames.
+
+ghost use Rattle.std.specs.Prelude.{◌≡◌, ◌≢◌, ◌+◌, ◌-◌, ◌<◌, ◌≤◌, ◌^◌, true, false, Some, length};
+ghost use Rattle.step_rules.specs.Legal.{is_legal};
+ghost use Rattle.step_rules.specs.declared.step.Action.{Action};
+ghost use Rattle.core_rows.specs.Shown.{state_in};
+ghost use Rattle.core_rows.specs.Rooms.{FitsZone, IsFew, Makes};
+ghost use Rattle.step_rules.specs.State.{live_references};
+
+use core_rows::phases::at_stage;
+use core_rows::rows::Rows;
+use step_rules::phase::Stage;
+use step_rules::step::Answer;
+
+/// A processor asks for one reference more.
+pub(crate) fn get(rows: &mut Rows, seat: u32, frame: u32) -> Answer
+    requires fits { FitsZone rows.old }
+    requires few { IsFew (state_in rows.old) }
+    requires legal { is_legal (state_in rows.old) seat (Action.Get frame) ≡ true }
+    ensures made { Makes rows.old seat (Action.Get frame) result rows.new }
+{
+    let live = rows.live_references(frame);
+    if 1 <= live && live <= 254 {
+        let count = rows.references(seat, frame) + 1;
+        rows.set_references(seat, frame, count);
+        return Answer::Held;
+    }
+    if live == 255 {
+        Answer::Full
+    } else {
+        Answer::Zero
+    }
+}
+
+/// A seat gives one of its references up.
+pub(crate) fn put(rows: &mut Rows, seat: u32, frame: u32) -> Answer
+    requires fits { FitsZone rows.old }
+    requires few { IsFew (state_in rows.old) }
+    requires legal { is_legal (state_in rows.old) seat (Action.Put frame) ≡ true }
+    ensures made { Makes rows.old seat (Action.Put frame) result rows.new }
+{
+    let live = rows.live_references(frame);
+    if live != 1 {
+        let count = rows.references(seat, frame) - 1;
+        rows.set_references(seat, frame, count);
+        return Answer::Left(live - 1);
+    }
+    if seat == 0 {
+        put_last(rows, seat, frame)
+    } else {
+        put_last_at(rows, seat, frame)
+    }
+}
+
+/// The zone gives the last reference up.
+pub(crate) fn put_last(rows: &mut Rows, seat: u32, frame: u32) -> Answer
+    requires fits { FitsZone rows.old }
+    requires few { IsFew (state_in rows.old) }
+    requires legal { is_legal (state_in rows.old) seat (Action.Put frame) ≡ true }
+    requires last { live_references (state_in rows.old) frame ≡ 1 }
+    requires zone { seat ≡ 0 }
+    ensures made { Makes rows.old seat (Action.Put frame) result rows.new }
+{
+    let _ = seat;
+    let count = rows.references(0, frame) - 1;
+    let phase = at_stage(Stage::Ended, rows.phase(frame));
+    rows.set_references(0, frame, count);
+    rows.set_phase(frame, phase);
+    Answer::Last
+}
+
+/// A processor gives the last reference up, and has the frame as a back frame.
+pub(crate) fn put_last_at(rows: &mut Rows, seat: u32, frame: u32) -> Answer
+    requires fits { FitsZone rows.old }
+    requires few { IsFew (state_in rows.old) }
+    requires legal { is_legal (state_in rows.old) seat (Action.Put frame) ≡ true }
+    requires last { live_references (state_in rows.old) frame ≡ 1 }
+    requires cpu { seat ≢ 0 }
+    ensures made { Makes rows.old seat (Action.Put frame) result rows.new }
+{
+    let count = rows.references(seat, frame) - 1;
+    let phase = at_stage(Stage::BackAt(seat), rows.phase(frame));
+    rows.set_references(seat, frame, count);
+    rows.set_phase(frame, phase);
+    rows.put_back(seat, frame);
+    Answer::Last
+}
+
+/// The zone takes all references off a frame.
+pub(crate) fn freeze(rows: &mut Rows, seat: u32, frame: u32, count: u32) -> Answer
+    requires fits { FitsZone rows.old }
+    requires few { IsFew (state_in rows.old) }
+    requires legal { is_legal (state_in rows.old) seat (Action.Freeze frame count) ≡ true }
+    ensures made { Makes rows.old seat (Action.Freeze frame count) result rows.new }
+{
+    let _ = seat;
+    if rows.live_references(frame) != count {
+        return Answer::Missed;
+    }
+    let left = rows.references(0, frame) - count;
+    let phase = at_stage(Stage::Ended, rows.phase(frame));
+    rows.set_references(0, frame, left);
+    rows.set_phase(frame, phase);
+    Answer::Done
+}
+
+/// The zone puts references on the head of a unit.
+pub(crate) fn unfreeze(rows: &mut Rows, seat: u32, frame: u32, count: u32) -> Answer
+    requires fits { FitsZone rows.old }
+    requires few { IsFew (state_in rows.old) }
+    requires legal { is_legal (state_in rows.old) seat (Action.Unfreeze frame count) ≡ true }
+    ensures made { Makes rows.old seat (Action.Unfreeze frame count) result rows.new }
+{
+    let _ = seat;
+    let more = rows.references(0, frame) + count;
+    let phase = at_stage(Stage::Live, rows.phase(frame));
+    rows.set_references(0, frame, more);
+    rows.set_phase(frame, phase);
+    Answer::Done
+}
+
+/// The head of a unit is kept.
+pub(crate) fn publish(rows: &mut Rows, seat: u32, frame: u32) -> Answer
+    requires fits { FitsZone rows.old }
+    requires few { IsFew (state_in rows.old) }
+    requires legal { is_legal (state_in rows.old) seat (Action.Publish frame) ≡ true }
+    ensures made { Makes rows.old seat (Action.Publish frame) result rows.new }
+{
+    let _ = seat;
+    let _ = frame;
+    Answer::Done
+}
