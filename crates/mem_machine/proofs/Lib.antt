@@ -25,3 +25,9 @@ pub mod TakesBlocks
 pub mod Leaving
 pub mod Releases
 pub mod GivenFrames
+pub mod HandOvers
+pub mod Absorbs
+pub mod Shown
+pub mod Fresh
+pub mod Back
+pub mod Settled

@@ -1,13 +1,13 @@
 -- A block is charged to a group and taken, or none is there. Serves `take_block`.
-use Rattle.std.proofs.Common.{◌≡◌, ℕ, zero, suc, ◌+◌, ◌-◌, ◌^◌, ◌≤◌, ◌<◌, ◌==◌, Bool, true, false, cond, List, [], length, get_or}
-use Rattle.std.proofs.Common.{refl, sym, ap, ◌∙◌, subst, arith, inl, inr, None}
-use Rattle.std.proofs.lemmas.Option.{none-some}
+use Rattle.std.proofs.Common.{◌≡◌, ℕ, zero, suc, ◌+◌, ◌-◌, ◌^◌, ◌≤◌, ◌<◌, ◌==◌, Bool, true, false, cond, None, List, [], length, get_or}
+use Rattle.std.proofs.Common.{refl, sym, ap, ◌∙◌, subst, arith, inl, inr}
 use Rattle.std.specs.Prelude.{slice_set, slice_index}
 use Rattle.std.specs.Cmp.{both_ways}
 use Rattle.std.proofs.lemmas.Bool.{cases_eq, false≢true}
 use Rattle.std.proofs.lemmas.List.{ext_get_or}
 use Rattle.std.proofs.lemmas.List.FromFn.{get_or-map-range_with_len, length-map-range_with_len}
 use Rattle.std.proofs.lemmas.Nat.{pow_pos}
+use Rattle.std.proofs.lemmas.Option.{none-some}
 use Rattle.zone_blocks.specs.declared.block.Block.{Block}
 use Rattle.zone_blocks.specs.Block.{IsBlock}
 use Rattle.zone_blocks.specs.Areas.{IsFree, IsFreeBlock, AreMaximalBlocks, HasNoneFrom, IsFrontOfSmallest}
@@ -41,11 +41,6 @@ use Rattle.mem_machine.proofs.PlacesUnits.{in_block, off_block}
 use Rattle.mem_machine.proofs.KeptUnits.{IsAdded, IsUsed, JoinsCharges, unit_kept, unit_listed}
 use Rattle.mem_machine.proofs.Placed.{taken_run}
 use Rattle.mem_machine.proofs.Grants.{unplaced_run}
-
--- a frame that is lent to no processor is lent to number 0
-lent_none : (n : ℕ) → some_cpu n ≡ None → n ≡ 0
-lent_none zero is = refl
-lent_none (suc n) is = absurd (none-some (suc n) (sym is))
 
 -- ---- the block that was taken
 
@@ -124,6 +119,11 @@ seen_free t m c sized b block free =
     }
 
 -- ---- the zone's seat
+
+-- what is lent to no processor
+to_none : (p : ℕ) → some_cpu p ≡ None → p ≡ 0
+to_none zero is = refl
+to_none (suc p) is = absurd (none-some (suc p) (sym is))
 
 -- what an unfreeze leaves of a note stays for every frame
 note_kept : {X : Type 0} (s : KnownSeat) (f n : ℕ) (h : FrameNote → X) → ((k : FrameNote) → h (unfrozen n k) ≡ h k) → (x : ℕ)
@@ -216,7 +216,7 @@ taken_here t w m c ok g fits b may room rise before free blocks was front takes 
     let maximal : AreMaximalBlocks (free_of spots) blocks = subst (λ (l : List Bool). AreMaximalBlocks l blocks) frees areas in
     let used : IsUsed (unfrozen 1 (note_of m.seat.view b.at)) = record {
       own = refl;
-      lent = lent_none (note_of m.seat.view b.at).lent ((ok.spots b.at inside).lent ∙ ap lent_to head);
+      lent = to_none (note_of m.seat.view b.at).lent ((ok.spots b.at inside).lent ∙ ap lent_to head);
       references = let r : (note_of m.seat.view b.at).references ≡ 0 = unreferred in omega (arith, r);
     } in
     let joins : JoinsCharges t w m g (2 ^ b.order) spots blocks (with_charge m.ledger g (2 ^ b.order)) m.stock = record {

@@ -10,3 +10,4 @@ pub mod Freeing
 pub mod Blocks
 pub mod Interleaving
 pub mod Releasing
+pub mod Settling

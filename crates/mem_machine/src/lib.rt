@@ -11,6 +11,7 @@ mod machine;
 mod marks;
 mod readers;
 mod releasing;
+mod settling;
 mod spot;
 mod start;
 mod stocks;
