@@ -21,8 +21,8 @@ accept-requires-clause-lent g c = lent_to_it _ _ _ _ _ c.number-number.ensures.n
 
 pub invariant_of-self : goal.invariant_of-self
 invariant_of-self g c =
-    let all = (given_all g.N.BootName.frames g.N.BootName.stocks _ _ c.self.view_is c.args.cpu.now _ c.number-number.ensures.tied c.self.invariant.0 c.requires.visit
-    _ _ _ c.args.frame _ c.number-number.result _ _ c.self.invariant.1 c.requires.frame c.requires.free c.take_frame.ensures.frames c.take_frame.ensures.areas
+    let all = (given_all g.N.BootName.frames g.N.BootName.stocks _ _ c.self.view_is c.args.cpu.now _ c.number-number.ensures.tied c.self.invariant.0
+    c.requires.visit _ _ _ c.args.frame _ c.number-number.result _ _ c.self.invariant.1 c.requires.frame c.requires.free c.take_frame.ensures.frames c.take_frame.ensures.areas
     c.number-at.ensures c.number-number.ensures.number c.pass_out.ensures.zone c.accept.ensures.zone c.accept.ensures.cpu c.accept.ensures.nothing.1.1) in
     (all.consistent, all.free_is)
 
