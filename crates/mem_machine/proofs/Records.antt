@@ -95,6 +95,10 @@ pub some_cpu_is : (p : ℕ) → 1 ≤ p → some_cpu p ≡ Some p
 some_cpu_is zero some = absurd (omega (arith, some))
 some_cpu_is (suc p) some = refl
 
+pub no_cpu_is : (n : ℕ) → some_cpu n ≡ None → n ≡ 0
+no_cpu_is zero none = refl
+no_cpu_is (suc n) none = absurd (none-some (suc n) (sym none))
+
 abbrev lent_number : Option ℕ → ℕ
 lent_number None = 0
 lent_number (Some p) = p

@@ -1,5 +1,5 @@
 -- A block is charged to a group and taken, or none is there. Serves `take_block`.
-use Rattle.std.proofs.Common.{◌≡◌, ℕ, zero, suc, ◌+◌, ◌-◌, ◌^◌, ◌≤◌, ◌<◌, ◌==◌, Bool, true, false, cond, None, List, [], length, get_or}
+use Rattle.std.proofs.Common.{◌≡◌, ℕ, zero, suc, ◌+◌, ◌-◌, ◌^◌, ◌≤◌, ◌<◌, ◌==◌, Bool, true, false, cond, List, [], length, get_or}
 use Rattle.std.proofs.Common.{refl, sym, ap, ◌∙◌, subst, arith, inl, inr}
 use Rattle.std.specs.Prelude.{slice_set, slice_index}
 use Rattle.std.specs.Cmp.{both_ways}
@@ -7,7 +7,6 @@ use Rattle.std.proofs.lemmas.Bool.{cases_eq, false≢true}
 use Rattle.std.proofs.lemmas.List.{ext_get_or}
 use Rattle.std.proofs.lemmas.List.FromFn.{get_or-map-range_with_len, length-map-range_with_len}
 use Rattle.std.proofs.lemmas.Nat.{pow_pos}
-use Rattle.std.proofs.lemmas.Option.{none-some}
 use Rattle.zone_blocks.specs.declared.block.Block.{Block}
 use Rattle.zone_blocks.specs.Block.{IsBlock}
 use Rattle.zone_blocks.specs.Areas.{IsFree, IsFreeBlock, AreMaximalBlocks, HasNoneFrom, IsFrontOfSmallest}
@@ -32,11 +31,11 @@ use Rattle.step_rules.proofs.Basics.{at_same, at_other}
 use Rattle.step_rules.proofs.Placing.{within_cases}
 use Rattle.mem_machine.specs.declared.spot.Spot.{Spot}
 use Rattle.mem_machine.specs.declared.spot.Spot.TheVariants.{Free, Head, Tail}
-use Rattle.mem_machine.specs.Spots.{spot_at, is_free, is_in_hand, some_cpu, lent_to, free_of, group_of}
+use Rattle.mem_machine.specs.Spots.{spot_at, is_free, is_in_hand, lent_to, free_of, group_of}
 use Rattle.mem_machine.specs.Machines.{KnownMachine, IsConsistent, Visits, is_killed}
 use Rattle.mem_machine.specs.Blocks.{PlacesUnit, TakesBlock, TakesNoBlock, taken_steps, unplaced_steps}
 use Rattle.mem_machine.specs.Local.{local_of, phase_of, IsLocalRun}
-use Rattle.mem_machine.proofs.Records.{length_free, free_at, free_is, free_inside}
+use Rattle.mem_machine.proofs.Records.{length_free, free_at, free_is, free_inside, no_cpu_is}
 use Rattle.mem_machine.proofs.PlacesUnits.{in_block, off_block}
 use Rattle.mem_machine.proofs.KeptUnits.{IsAdded, IsUsed, JoinsCharges, unit_kept, unit_listed}
 use Rattle.mem_machine.proofs.Placed.{taken_run}
@@ -119,11 +118,6 @@ seen_free t m c sized b block free =
     }
 
 -- ---- the zone's seat
-
--- what is lent to no processor
-to_none : (p : ℕ) → some_cpu p ≡ None → p ≡ 0
-to_none zero is = refl
-to_none (suc p) is = absurd (none-some (suc p) (sym is))
 
 -- what an unfreeze leaves of a note stays for every frame
 note_kept : {X : Type 0} (s : KnownSeat) (f n : ℕ) (h : FrameNote → X) → ((k : FrameNote) → h (unfrozen n k) ≡ h k) → (x : ℕ)
@@ -216,7 +210,7 @@ taken_here t w m c ok g fits b may room rise before free blocks was front takes 
     let maximal : AreMaximalBlocks (free_of spots) blocks = subst (λ (l : List Bool). AreMaximalBlocks l blocks) frees areas in
     let used : IsUsed (unfrozen 1 (note_of m.seat.view b.at)) = record {
       own = refl;
-      lent = to_none (note_of m.seat.view b.at).lent ((ok.spots b.at inside).lent ∙ ap lent_to head);
+      lent = no_cpu_is (note_of m.seat.view b.at).lent ((ok.spots b.at inside).lent ∙ ap lent_to head);
       references = let r : (note_of m.seat.view b.at).references ≡ 0 = unreferred in omega (arith, r);
     } in
     let joins : JoinsCharges t w m g (2 ^ b.order) spots blocks (with_charge m.ledger g (2 ^ b.order)) m.stock = record {

@@ -1,10 +1,10 @@
 //! What the machine tells of itself.
 
-ghost use Rattle.std.specs.Prelude.{◌≡◌, ◌<◌, IsTrue};
+ghost use Rattle.std.specs.Prelude.{◌≡◌, ◌≢◌, ◌<◌, ◌↔◌, None, IsTrue};
 ghost use Rattle.group_tree.specs.Groups.{has_group};
 ghost use Rattle.group_charge.specs.Charges.{current_of};
 ghost use Rattle.mem_machine.specs.Spots.{spot_at, place_of, unit_of};
-ghost use Rattle.mem_machine.specs.Machines.{IsConsistent};
+ghost use Rattle.mem_machine.specs.Machines.{IsConsistent, home_of, is_killed};
 
 use crate::machine::{Counts, Machine};
 use crate::spot::{Place, Spot};
@@ -38,6 +38,21 @@ impl<N: BootName> Machine<N> {
             Spot::Head(unit) => Some(unit),
             _ => None,
         }
+    }
+
+    /// Whether the frame heads a kept unit, which stands on a list of its group.
+    pub fn is_kept(&self, frame: Frame) -> bool
+        requires { frame < N.frames.frames }
+        ensures { IsTrue result ↔ (home_of self.now.links frame ≢ None) }
+    {
+        self.links.home(frame.number()).is_some()
+    }
+
+    /// Whether the group of this number is killed.
+    pub fn is_killed(&self, group: GroupId) -> bool
+        ensures { result ≡ is_killed self.now.killed group }
+    {
+        self.killed[group.number() as usize]
     }
 
     /// The memory now used by the group and its descendants, in pages (memory.current).
