@@ -22,4 +22,5 @@ mod visits;
 
 pub use blocks::TakeFault;
 pub use machine::{Counts, Machine};
+pub use releasing::Released;
 pub use spot::{Place, Spot};
