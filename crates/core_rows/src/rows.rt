@@ -369,7 +369,7 @@ impl Rows {
         requires cpu { cpu ≤ self.old.cpus }
         requires booked { ((state_in self.old).parts cpu).reported ≤ ((state_in self.old).parts cpu).book }
         ensures pages { result ≡ ((state_in self.old).parts cpu).reported }
-        ensures state { state_in self.new ≡ with_part (state_in self.old) cpu (absorbed ((state_in self.old).parts cpu) ((state_in self.old).parts cpu).reported) }
+        ensures state { let part = (state_in self.old).parts cpu in state_in self.new ≡ with_part (state_in self.old) cpu (absorbed part part.reported) }
         ensures fits { FitsZone self.new }
     {
         absorb_pages(&mut self.seats[cpu as usize])

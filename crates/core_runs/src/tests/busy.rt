@@ -133,12 +133,19 @@ fn pick(word: u32, core: &Core) -> Result<Step, Fail> {
 }
 
 // Makes a step, of the first 100,000.
-fn made(core: &mut Core, step: Step) -> Answer {
+fn made(core: &mut Core, seat: u32, action: Action) -> Answer {
     if core.steps() < 100_000 {
-        core.step(step)
+        core.step(Step { seat, action })
     } else {
         Answer::Illegal
     }
+}
+
+// One random step; tells whether it was legal.
+fn make_one(core: &mut Core, word: u32) -> Result<bool, Fail> {
+    let Step { seat, action } = pick(word, core)?;
+    let answer = made(core, seat, action);
+    Ok(answer != Answer::Illegal)
 }
 
 // So many random steps; tells how many of them were legal.
@@ -146,8 +153,7 @@ fn make_steps(core: &mut Core, steps: u32) -> Result<u32, Fail> {
     let mut random = Pcg32::seed_from_u64(64);
     let mut legal = 0u32;
     for _ in 0..steps {
-        let step = pick(random.next_u32(), core)?;
-        if made(core, step) != Answer::Illegal {
+        if make_one(core, random.next_u32())? {
             legal = legal.saturating_add(1);
         }
     }
@@ -159,8 +165,8 @@ fn make_steps(core: &mut Core, steps: u32) -> Result<u32, Fail> {
 fn a_thousand_random_steps_on_64_frames(rt: HostRuntime) -> Result<(), Fail> {
     let mut core = Core::new(rt.alloc(), 64, 4)?;
     let path = PathText::of(b"/a").ok_or("short")?;
-    made(&mut core, by(1, Action::Lock));
-    made(&mut core, by(0, Action::Make { path }));
+    made(&mut core, 1, Action::Lock);
+    made(&mut core, 0, Action::Make { path });
     let legal = make_steps(&mut core, 1_000)?;
     assert_eq!(rt; core.steps(), 1_002);
     assert!(rt; legal > 300);
