@@ -37,8 +37,8 @@ use Rattle.mem_machine.specs.declared.spot.Spot.TheVariants.{Free, Head}
 use Rattle.mem_machine.specs.Spots.{spot_at, free_of, head_group_of, lent_to}
 use Rattle.mem_machine.specs.Machines.{KnownMachine, FitsSpot, IsConsistent, Visits, home_of, is_killed}
 use Rattle.mem_machine.specs.Local.{IsLocalRun, local_of, phase_of, references_of}
-use Rattle.mem_machine.specs.Freeing.{FreesFrames}
-use Rattle.mem_machine.specs.Releasing.{LeavesList, ReturnsUnit, release_steps, with_return}
+use Rattle.mem_machine.specs.Freeing.{FreesFrames, with_last_put}
+use Rattle.mem_machine.specs.Releasing.{LeavesList, ReturnsUnit, release_steps}
 use Rattle.mem_machine.specs.declared.machine.Counts.{Counts}
 use Rattle.mem_machine.specs.declared.releasing.Released.TheVariants.{Left, Returned}
 use Rattle.mem_machine.proofs.Reaching.{zone_step}
@@ -296,7 +296,7 @@ pub returned_all : (t : KnownTable) (w : Words) (m now : KnownMachine) → m ≡
     → (unit : ChargedUnit) → spot_at m.spots i ≡ Head unit
     → (before free : List Bool) (blocks : List Block) (spots : List Spot) (ledger : Ledger) (counts : Counts)
     → before ≡ free_of m.spots → FreesFrames m.spots i (2 ^ unit.order) spots → GivesFrames before (record { at = i; order = unit.order }) free
-    → AreMaximalBlocks free blocks → ledger ≡ with_uncharge m.ledger unit.group (2 ^ unit.order) → counts ≡ with_return m.counts
+    → AreMaximalBlocks free blocks → ledger ≡ with_uncharge m.ledger unit.group (2 ^ unit.order) → counts ≡ with_last_put m.counts
     → AllReturned t w now c f free (record m {
       blocks = blocks;
       spots = spots;
@@ -326,17 +326,17 @@ returned_all t w m now same ok c visit_now f i inside is kept_now links lists le
       links = links;
       lists = lists;
       seat = seat_with m.seat f let_go_last;
-      counts = with_return m.counts;
+      counts = with_last_put m.counts;
     } in
     let all : AllReturned t w m c f free n = record {
-      consistent = unit_freed_consistent t w m ok f unit heads spots blocks links lists (seat_with m.seat f let_go_last) (with_return m.counts) frees areas
+      consistent = unit_freed_consistent t w m ok f unit heads spots blocks links lists (seat_with m.seat f let_go_last) (with_last_put m.counts) frees areas
           (let s = ok.seats.frames in (s.0, s.1)) sized listed stand
           (others_fit t w m ok f inside kept links lists leaves stand sized listed let_go_last)
           (last_fits t w m ok f inside kept links lists leaves stand sized listed unit heads);
       free_is = free_is;
       returns = record { unit = unit; heads = heads; list = leaves; frees = frees; areas = areas; machine = refl };
       visit = visit_stays t m n c f let_go_last refl (λ k. refl) (λ k. refl) (λ k. refl) visit;
-      steps = returned_runs t w m ok f inside kept links lists leaves stand sized listed unit heads c spots blocks (with_return m.counts) frees;
+      steps = returned_runs t w m ok f inside kept links lists leaves stand sized listed unit heads c spots blocks (with_last_put m.counts) frees;
     } in
     subst (λ (x : KnownMachine × KnownMachine). AllReturned t w x.0 c f free x.1) (λ j. (
       same j,

@@ -1,6 +1,8 @@
 -- Units that come back.
 use Rattle.std.specs.Prelude.{◌≡◌, ℕ, List, length, if◌then◌else◌}
+use Rattle.group_tree.specs.Room.{one_more}
 use Rattle.step_rules.specs.After.{is_within}
+use Rattle.mem_machine.specs.declared.machine.Counts.{Counts}
 use Rattle.mem_machine.specs.declared.spot.Spot.{Spot}
 use Rattle.mem_machine.specs.declared.spot.Spot.TheVariants.{Free}
 use Rattle.mem_machine.specs.Spots.{spot_at}
@@ -9,3 +11,7 @@ use Rattle.mem_machine.specs.Spots.{spot_at}
 pub record FreesFrames (spots : List Spot) (at n : ℕ) (after : List Spot) : Type 0 where
   pub frames : length after ≡ length spots
   pub records : (f : ℕ) → spot_at after f ≡ (if is_within at n f then Free else spot_at spots f)
+
+-- one more unit of which someone had the last put, and which came back
+abbrev pub with_last_put : Counts → Counts
+with_last_put counts = record counts { last_puts = one_more counts.last_puts; returns = one_more counts.returns }

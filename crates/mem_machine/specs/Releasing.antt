@@ -3,7 +3,6 @@ use Rattle.std.specs.Prelude.{◌≡◌, ◌≢◌, ℕ, ◌^◌, ◌<◌, ◌�
 use Rattle.zone_blocks.specs.Areas.{AreMaximalBlocks}
 use Rattle.frame_word.specs.Views.{let_go, let_go_last}
 use Rattle.frame_word.specs.Seats.{seat_with}
-use Rattle.group_tree.specs.Room.{one_more}
 use Rattle.group_charge.specs.Charges.{with_uncharge}
 use Rattle.lru_lists.specs.declared.record.Link.{Link}
 use Rattle.lru_lists.specs.declared.record.LruList.{LruList}
@@ -20,7 +19,7 @@ use Rattle.mem_machine.specs.declared.releasing.Released.{Released}
 use Rattle.mem_machine.specs.declared.releasing.Released.TheVariants.{Left, Returned}
 use Rattle.mem_machine.specs.Spots.{spot_at, free_of}
 use Rattle.mem_machine.specs.Machines.{KnownMachine, home_of, no_lists}
-use Rattle.mem_machine.specs.Freeing.{FreesFrames}
+use Rattle.mem_machine.specs.Freeing.{FreesFrames, with_last_put}
 use Rattle.mem_machine.specs.Steps.{zone_makes}
 
 -- the two lists of the group of this number
@@ -47,10 +46,6 @@ pub record LeavesReferences (m : KnownMachine) (f left : ℕ) (n : KnownMachine)
   pub some : 1 ≤ left
   pub machine : n ≡ record m { links = n.links; lists = n.lists; seat = seat_with m.seat f (let_go left) }
 
--- one more last put, and one unit more that came back
-abbrev pub with_return : Counts → Counts
-with_return c = record c { last_puts = one_more c.last_puts; returns = one_more c.returns }
-
 -- the unit is off its list and came back: its frames are free, and its pages off the charge of its group; nothing else changed
 pub record ReturnsUnit (m : KnownMachine) (f : ℕ) (n : KnownMachine) : Type 0 where
   pub unit : ChargedUnit
@@ -65,7 +60,7 @@ pub record ReturnsUnit (m : KnownMachine) (f : ℕ) (n : KnownMachine) : Type 0 
     links = n.links;
     lists = n.lists;
     seat = seat_with m.seat f let_go_last;
-    counts = with_return m.counts;
+    counts = with_last_put m.counts;
   }
 
 -- what a release leaves, by what it tells

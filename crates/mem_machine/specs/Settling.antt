@@ -21,7 +21,7 @@ use Rattle.mem_machine.specs.Machines.{KnownMachine, is_killed}
 use Rattle.mem_machine.specs.Local.{fresh_group}
 use Rattle.mem_machine.specs.Steps.{zone_makes, cpu_makes}
 use Rattle.mem_machine.specs.Blocks.{ListsUnit}
-use Rattle.mem_machine.specs.Freeing.{FreesFrames}
+use Rattle.mem_machine.specs.Freeing.{FreesFrames, with_last_put}
 
 -- the stocks after a page of processor p was reported and absorbed
 abbrev pub with_page_absorbed : Seated → ℕ → Seated
@@ -30,10 +30,6 @@ with_page_absorbed stock p = with_view stock (absorbing (noting stock.view p 1) 
 -- one fresh frame that was dropped, and came back
 abbrev pub with_drop : Counts → Counts
 with_drop counts = record counts { drops = one_more counts.drops; returns = one_more counts.returns }
-
--- one unit of which a processor had the last put, and which came back
-abbrev pub with_last_put : Counts → Counts
-with_last_put counts = record counts { last_puts = one_more counts.last_puts; returns = one_more counts.returns }
 
 -- the oldest fresh frame is handed over, and its page reported
 abbrev pub HandsOver : ℕ → KnownCpu → KnownCpu → Type 0

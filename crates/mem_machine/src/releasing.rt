@@ -3,7 +3,8 @@
 ghost use Rattle.std.specs.Prelude.{◌≡◌, ◌≢◌, ◌<◌, None, IfSome, length};
 ghost use Rattle.lru_lists.specs.Lists.{AllStand};
 ghost use Rattle.mem_machine.specs.Machines.{home_of, Visits};
-ghost use Rattle.mem_machine.specs.Releasing.{LeavesList, Releases, release_steps, with_return};
+ghost use Rattle.mem_machine.specs.Freeing.{with_last_put};
+ghost use Rattle.mem_machine.specs.Releasing.{LeavesList, Releases, release_steps};
 ghost use Rattle.mem_machine.specs.Local.{IsLocalRun, local_of};
 
 use crate::freed::free_unit;
@@ -49,7 +50,7 @@ pub(crate) fn leave_list(links: &mut Links, lists: &mut Vec<Lru>, unit: u32)
 
 // Counts a last put, and a unit that came back.
 fn counted_return(counts: Counts) -> Counts
-    ensures { result ≡ with_return counts }
+    ensures { result ≡ with_last_put counts }
 {
     Counts {
         last_puts: counts.last_puts.saturating_add(1),
