@@ -48,8 +48,8 @@ impl Model for FreeAreas {
 }
 
 impl FreeAreas {
-    /// The empty areas of a zone of this many frames. All room is reserved here: no other call
-    /// takes memory.
+    /// The empty areas of a zone of this many frames, or an error, where memory is short or there
+    /// are more than 2^32 - 11. All room is reserved here: no other call takes memory.
     pub fn new(alloc: Global, frames: u32) -> Result<FreeAreas, AllocError>
         ensures frames { IfOk result (λ areas. areas.frames ≡ frames) }
         ensures blocks { IfOk result (λ areas. areas.blocks ≡ []) }
