@@ -1,0 +1,13 @@
+//! The system: a boot's tables, the machine behind the zone's lock and a part for each processor, and the commands that a
+//! processor makes under that lock.
+#![tactic(auto)]
+
+mod booted;
+mod booting;
+mod locked;
+mod system;
+
+pub use booted::Boot;
+pub use booting::{BootFault, boot};
+pub use locked::Locked;
+pub use system::System;
