@@ -1,6 +1,6 @@
 -- A unit is noted as dirty, or not. Serves `set_dirty`.
-use Rattle.std.proofs.Common.{◌≡◌, ◌≢◌, ℕ, ◌<◌, Bool, Option, Some, None, List, length, get_or, refl, sym, ap, ◌∙◌, subst, arith}
-use Rattle.std.specs.Prelude.{slice_set, IfSome}
+use Rattle.std.proofs.Common.{◌≡◌, ◌≢◌, ℕ, ◌<◌, Bool, Option, Some, None, List, [], length, get_or, refl, sym, ap, ◌∙◌, subst, arith}
+use Rattle.std.specs.Prelude.{slice_set, option_map, IfSome}
 use Rattle.std.proofs.lemmas.List.{get_or_default, set-get_or}
 use Rattle.std.proofs.lemmas.Option.{none-some}
 use Rattle.frame_word.specs.Views.{note_of}
@@ -16,9 +16,8 @@ use Rattle.cpu_part.specs.Cpus.{KnownCpu}
 use Rattle.mem_machine.specs.Spots.{spot_at, head_group_of}
 use Rattle.mem_machine.specs.Machines.{KnownMachine, IsConsistent, home_of, lists_at, no_lists}
 use Rattle.mem_machine.specs.Marks.{Dirties}
-use Rattle.mem_machine.specs.Local.{local_of, Reaches}
-use Rattle.mem_machine.proofs.Reaching.{no_steps}
-use Rattle.mem_machine.proofs.Listed.{dirtied_owners, fits_home, place_here}
+use Rattle.mem_machine.specs.Local.{local_of, IsLocalRun}
+use Rattle.mem_machine.proofs.Listed.{dirtied_owners, fits_home, place_here, loose_stay}
 
 -- a home that is there is of a group number
 pub owner_bound : (t : KnownTable) (w : Words) (m : KnownMachine) → IsConsistent t w m → (f : ℕ) (h : Home) → f < t.frames
@@ -51,13 +50,15 @@ module _ (t : KnownTable) (w : Words) (m : KnownMachine) (ok : IsConsistent t w 
     all_stand = subst (AllStand links) (ap (λ (k : ℕ). slice_set m.lists k lru) owned ∙ ap (slice_set m.lists h.owner) read ∙ set-get_or m.lists h.owner lru)
         (one_of_all_changes m.links links m.lists lru ok.lists (subst (λ (k : ℕ). k < length m.lists) (sym owned) bound) now_stands changes)
 
+    owners : (g : ℕ) → option_map (λ (x : Home). x.owner) (home_of links g) ≡ option_map (λ (x : Home). x.owner) (home_of m.links g)
+    owners = dirtied_owners m.links links lru f d stands now_stands changes entries
+
     pub dirty_consistent : IsConsistent t w (record m { links = links })
     dirty_consistent = record {
       sizes = let s = ok.sizes in record { spots = s.spots; links = changes.frames ∙ s.links; lists = s.lists; killed = s.killed; cpus = s.cpus };
       seats = ok.seats;
       areas = ok.areas;
-      spots = λ g within. fits_home (note_of m.seat.view g) (home_of m.links g) (home_of links g) (spot_at m.spots g)
-          (dirtied_owners m.links links lru f d stands now_stands changes entries g) (ok.spots g within);
+      spots = λ g within. fits_home (note_of m.seat.view g) (home_of m.links g) (home_of links g) (spot_at m.spots g) (owners g) (ok.spots g within);
       units = ok.units;
       lists = all_stand;
       noted = ok.noted;
@@ -79,6 +80,7 @@ module _ (t : KnownTable) (w : Words) (m : KnownMachine) (ok : IsConsistent t w 
           let apart : (get_or m.lists g no_lists).owner ≢ lru.owner = λ e. ne (sym (ok.lists g no_lists there).0 ∙ e ∙ owned) in
           let same = (others_stand m.links links lru.owner (get_or m.lists g no_lists) changes apart (ok.lists g no_lists there).1).1 in
           (same Inactive, same Active);
+      loose = λ g none. loose_stay m.links links lru.owner g changes (owners g) none;
     }
 
 -- a kept unit has a home
@@ -90,7 +92,7 @@ has_home m now same f i is kept none =
 pub record AllDirtied (t : KnownTable) (w : Words) (now : KnownMachine) (f : ℕ) (d : Bool) (n : KnownMachine) : Type 0 where
   pub consistent : IsConsistent t w n
   pub dirties : Dirties now f d n
-  pub steps : (c : KnownCpu) → Reaches c.number (local_of t now c) (local_of t n c)
+  pub steps : (c : KnownCpu) → IsLocalRun c.number (local_of t now c) [] (local_of t n c)
 
 pub dirty_all : (t : KnownTable) (w : Words) (m now : KnownMachine) → m ≡ now → IsConsistent t w m → (f i : ℕ) → f < t.frames → i ≡ f → (h : Home)
     → Some h ≡ home_of m.links i → (lru : Lru) → lru ≡ get_or m.lists h.owner lru → (links : List Link) (d : Bool) → StandsIn links lru
@@ -103,5 +105,5 @@ dirty_all t w m now same ok f i inside is h home lru read links d now_stands ent
     subst (λ (x : KnownMachine). AllDirtied t w x f d (record m { links = links })) same (record {
       consistent = dirty_consistent t w m ok f inside h at lru read links d now_stands told changes others all;
       dirties = dirty_does t w m ok f inside h at lru read links d now_stands told changes others all;
-      steps = λ c. no_steps c.number (local_of t m c) (local_of t (record m { links = links }) c) refl;
+      steps = λ c. refl;
     })

@@ -26,9 +26,10 @@ use Rattle.step_rules.proofs.Basics.{at_same, at_other, at_each, at_itself, cond
 use Rattle.step_rules.proofs.Sums.{sum_part, sum_change}
 use Rattle.mem_machine.specs.Spots.{count_of}
 use Rattle.mem_machine.specs.Machines.{KnownMachine, IsConsistent, booked, frames_charged, pages_booked}
-use Rattle.mem_machine.specs.Local.{local_of, part_of, part_with, Reaches}
+use Rattle.mem_machine.specs.Local.{local_of, part_of, part_with, IsLocalRun}
+use Rattle.mem_machine.specs.Steps.{ungrant_steps, drain_steps}
 use Rattle.mem_machine.specs.Stocks.{uncharged, stock_group, Drains}
-use Rattle.mem_machine.proofs.Reaching.{zone_step, no_steps, one_step, step_before}
+use Rattle.mem_machine.proofs.Reaching.{zone_step, run_one}
 use Rattle.mem_machine.proofs.Holds.{zone_may_act}
 
 -- ---- the ledger
@@ -253,41 +254,45 @@ pending_back g x k is = λ i. λ h. back_at g x k is h i
 
 -- pages that are pending alone are taken back
 ungrants : (p : ℕ) (s : State) (o : Option ℕ) (k : ℕ) → may_zone_act s.hold 0 ≡ true → ((g : ℕ) → o ≡ Some g → 1 ≤ k → has_group s.groups g ≡ true)
-    → Reaches p (record s { pending = with_more nothing o k }) (record s { pending = nothing })
-ungrants p s None k acts there = no_steps p (record s { pending = nothing }) (record s { pending = nothing }) refl
-ungrants p s (Some g) zero acts there =
-    no_steps p (record s { pending = with_at nothing g 0 }) (record s { pending = nothing }) (λ i. record s { pending = sym (at_itself nothing g) i })
+    → IsLocalRun p (record s { pending = with_more nothing o k }) (ungrant_steps o k) (record s { pending = nothing })
+ungrants p s None k acts there = refl
+ungrants p s (Some g) zero acts there = λ i. record s { pending = at_itself nothing g i }
 ungrants p s (Some g) (suc k) acts there =
     let now : State = record s { pending = with_at nothing g (0 + suc k) } in
     let enough : nat_le (suc k) (with_at nothing g (0 + suc k) g) ≡ true = le-leb (suc k) (with_at nothing g (0 + suc k) g)
     (let a = at_same nothing g (0 + suc k) in omega (arith, a)) in
-    one_step p now (record s { pending = nothing }) 0 (Ungrant g (suc k)) Done
+    run_one p now (record s { pending = nothing }) 0 (Ungrant g (suc k)) Done
     (zone_step now p (Ungrant g (suc k)) Done refl (and_from _ _ (and_from _ _ acts (there g refl (omega arith))) enough) tt)
     (λ i. record s { pending = sym (pending_back g (0 + suc k) (suc k) (omega arith)) i })
 
-pub drain_reaches : (t : KnownTable) (m n : KnownMachine) (q k : ℕ)
+pub drain_runs : (t : KnownTable) (m n : KnownMachine) (q k : ℕ)
     → n ≡ record m { ledger = uncharged m.ledger (stock_group m q) k; stock = with_view m.stock (draining m.stock.view q k) }
     → 1 ≤ q → q ≤ t.cpus → ((g : ℕ) → stock_group m q ≡ Some g → 1 ≤ k → has_group m.ledger.groups g ≡ true) → (c : KnownCpu)
-    → Reaches c.number (local_of t m c) (local_of t n c)
-drain_reaches t m n q k is some inside there c =
+    → IsLocalRun c.number (local_of t m c) (drain_steps q (stock_group m q) k) (local_of t n c)
+drain_runs t m n q k is some inside there c =
     let s = local_of t m c in
     let part = drained (part_of m.stock c q) k in
     let acts = zone_may_act m.seat c.number in
-    let rest : Reaches c.number (record (with_part s q part) { pending = with_more nothing (part_of m.stock c q).stock.group k }) (with_part s q part)
-    = ungrants c.number (with_part s q part) (part_of m.stock c q).stock.group k acts (λ g of. there g (sym (part_group m.stock c q k) ∙ of)) in
+    let group = part_group m.stock c q k in
+    let rest : IsLocalRun c.number (record (with_part s q part) { pending = with_more nothing (part_of m.stock c q).stock.group k })
+    (ungrant_steps (part_of m.stock c q).stock.group k) (with_part s q part)
+    = ungrants c.number (with_part s q part) (part_of m.stock c q).stock.group k acts (λ g of. there g (sym group ∙ of)) in
     let parts = parts_drained m.stock c q k in
     let groups = groups_stay m.ledger (stock_group m q) k in
-    subst (λ (x : KnownMachine). Reaches c.number s (local_of t x c)) (sym is)
-    (subst (Reaches c.number s) (λ i. record s { groups = sym groups i; parts = sym parts i })
-    (step_before c.number s (with_part s q part) 0 (DrainStock q) (Pages k)
-    (zone_step s c.number (DrainStock q) (Pages k) refl
-    (and_from _ _ acts (and_from (nat_le 1 q) (nat_le q t.cpus) (le-leb 1 q some) (le-leb q t.cpus inside))) tt) rest))
+    subst (λ (x : KnownMachine). IsLocalRun c.number s (drain_steps q (stock_group m q) k) (local_of t x c)) (sym is)
+    (subst (λ (x : State × Option ℕ). IsLocalRun c.number s (drain_steps q x.1 k) x.0)
+    (λ i. (record s { groups = sym groups i; parts = sym parts i }, group i)) (
+      zone_step s c.number (DrainStock q) (Pages k) refl
+          (and_from _ _ acts (and_from (nat_le 1 q) (nat_le q t.cpus) (le-leb 1 q some) (le-leb q t.cpus inside))) tt,
+      rest,
+    ))
 
 -- what `drain_of` and `drain_stock` leave, of the machine as it was seen before
 pub record Drained (t : KnownTable) (w : Words) (m now : KnownMachine) (q k : ℕ) (l : Ledger) (stock : Seated) : Type 0 where
   pub consistent : IsConsistent t w (record m { ledger = l; stock = stock })
   pub drains : Drains now q k (record m { ledger = l; stock = stock })
-  pub steps : (c : KnownCpu) → Reaches c.number (local_of t now c) (local_of t (record m { ledger = l; stock = stock }) c)
+  pub steps : (c : KnownCpu) → IsLocalRun c.number (local_of t now c) (drain_steps q (stock_group now q) k)
+      (local_of t (record m { ledger = l; stock = stock }) c)
 
 drained_here : (t : KnownTable) (w : Words) (m : KnownMachine) (q k : ℕ) → IsConsistent t w m → (1 ≤ k → AreCharges m.ledger) → 1 ≤ q → q ≤ t.cpus
     → k ≤ (account_of m.stock.view q).book → ((account_of m.stock.view q).filled ≡ false → k ≡ 0) → (stock_group m q ≡ None → k ≡ 0)
@@ -295,7 +300,7 @@ drained_here : (t : KnownTable) (w : Words) (m : KnownMachine) (q k : ℕ) → I
 drained_here t w m q k ok facts some inside enough before none = record {
   consistent = drain_consistent t w m ok q k inside enough none;
   drains = record { machine = refl; booked = enough; drained_before = before };
-  steps = drain_reaches t m (record m {
+  steps = drain_runs t m (record m {
     ledger = uncharged m.ledger (stock_group m q) k;
     stock =
         with_view m.stock (draining m.stock.view q k);
@@ -337,6 +342,9 @@ never_drained t w m now same ok q some inside none stock emptied =
     m.ledger stock refl emptied
 
 -- a look at a stock of a group changed nothing
+pub looked_now : (m now : KnownMachine) → m ≡ now → (stock : Seated) → stock ≡ m.stock → record m { stock = stock } ≡ now
+looked_now m now same stock is = (λ i. record m { stock = is i }) ∙ same
+
 pub looked_same : (t : KnownTable) (w : Words) (m : KnownMachine) → IsConsistent t w m → (stock : Seated) → stock ≡ with_view m.stock m.stock.view
     → IsConsistent t w (record m { stock = stock })
 looked_same t w m ok stock same = subst (λ (x : Seated). IsConsistent t w (record m { stock = x })) (sym same) ok

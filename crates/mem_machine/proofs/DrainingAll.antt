@@ -1,22 +1,31 @@
 -- The stocks of a subtree are drained, one processor after the other. Serves `drain_below` and the loop of `drain_stocks`.
-use Rattle.std.proofs.Common.{◌≡◌, ℕ, ◌+◌, Bool, true, false, Option, Some, None, List, suc, refl, sym, ap, ◌∙◌, subst, inl, inr, arith}
+use Rattle.std.proofs.Common.{◌≡◌, ℕ, ◌+◌, ◌-◌, ◌*◌, ◌≤◌, ◌==◌, ◌&&◌, true, false, cond, Option, Some, None, List, [], ◌∷◌, ◌++◌, length, suc, refl}
+use Rattle.std.proofs.Common.{sym, ap, ◌∙◌, subst, inl, inr, arith}
+use Rattle.std.specs.Prelude.{not, is_some}
+use Rattle.std.proofs.lemmas.List.{append-nil}
+use Rattle.std.proofs.lemmas.List.Sums.{sum_by-append}
+use Rattle.std.proofs.lemmas.Grind.{flat_map-append}
 use Rattle.std.proofs.lemmas.Bool.{cases_eq, false_from_ne_true, false≢true}
 use Rattle.frame_word.specs.Seats.{KnownTable}
 use Rattle.stock_word.specs.declared.view.Account.{Account}
 use Rattle.stock_word.specs.declared.view.StockView.{StockView}
 use Rattle.stock_word.specs.Stock.{Seated, account_of}
-use Rattle.stock_word.specs.Calls.{after_look}
+use Rattle.stock_word.specs.Calls.{with_view, after_look}
+use Rattle.stock_word.specs.Kinds.{draining}
 use Rattle.group_tree.specs.declared.group.Group.{Group}
 use Rattle.group_tree.specs.Groups.{has_group, in_subtree}
 use Rattle.group_tree.proofs.CallerLemmas.{in_subtree-below}
 use Rattle.cpu_part.specs.Cpus.{KnownCpu}
 use Rattle.step_rules.specs.Usage.{is_below}
 use Rattle.mem_machine.specs.Machines.{KnownMachine}
-use Rattle.mem_machine.specs.Local.{local_of, Reaches}
-use Rattle.mem_machine.specs.Stocks.{stock_group, DrainsBelow, DrainsAllBelow, AreDrained}
-use Rattle.mem_machine.proofs.Reaching.{reaches_both, no_steps}
-use Rattle.mem_machine.proofs.GroupSteps.{stayed_reaches}
-use Rattle.mem_machine.proofs.Draining.{drained_at, drained_else, groups_stay}
+use Rattle.step_rules.specs.State.{Part}
+use Rattle.step_rules.specs.After.{Run}
+use Rattle.mem_machine.specs.Local.{local_of, part_with, IsLocalRun}
+use Rattle.mem_machine.specs.Steps.{Drain, drain_steps, drain_stocks_steps, pages_drained}
+use Rattle.mem_machine.specs.Stocks.{stock_group, Drains, DrainsBelow, DrainsAllBelow, DrainsIfBelow, DrainsSubtree, AreDrained}
+use Rattle.mem_machine.proofs.Reaching.{run_both}
+use Rattle.mem_machine.proofs.GroupSteps.{stayed_runs}
+use Rattle.mem_machine.proofs.Draining.{drained_at, drained_else, groups_stay, looked_now}
 
 -- ---- the accounts after a look
 
@@ -28,77 +37,183 @@ look_group : (view : StockView) (q : ℕ) (o : Option ℕ) → (account_of (afte
 look_group view q None = ap (λ (a : Account). a.group) (drained_at view q 0)
 look_group view q (Some g) = refl
 
-module _ (g q : ℕ) (x n : KnownMachine) (d : DrainsBelow g x q n) where
-  groups_by : (b : Bool) → is_below x.ledger.groups g (stock_group x q) ≡ b → n.ledger.groups ≡ x.ledger.groups
-  groups_by true e = ap (λ (y : KnownMachine). y.ledger.groups) (d.below e).machine ∙ groups_stay x.ledger (stock_group x q) d.pages
-  groups_by false e = ap (λ (y : KnownMachine). y.ledger.groups) (d.other e)
+module _ (g q : ℕ) (x n : KnownMachine) where
+  pub below_groups : (drains : List Drain) → DrainsBelow g x q drains n → n.ledger.groups ≡ x.ledger.groups
+  below_groups [] d = ap (λ (y : KnownMachine). y.ledger.groups) d.1
+  below_groups (e ∷ []) d = ap (λ (y : KnownMachine). y.ledger.groups) d.1.drains.machine ∙ groups_stay x.ledger (stock_group x q) e.pages
+  below_groups (e ∷ f ∷ more) d = absurd d
 
-  pub below_groups : n.ledger.groups ≡ x.ledger.groups
-  below_groups = groups_by (is_below x.ledger.groups g (stock_group x q)) refl
+  pub below_else : (drains : List Drain) → DrainsBelow g x q drains n → (p : ℕ) → (p ≡ q → ⊥) → account_of n.stock.view p ≡ account_of x.stock.view p
+  below_else [] d p ne = ap (λ (y : KnownMachine). account_of y.stock.view p) d.1 ∙ look_else x.stock.view q p (stock_group x q) ne
+  below_else (e ∷ []) d p ne = ap (λ (y : KnownMachine). account_of y.stock.view p) d.1.drains.machine ∙ drained_else x.stock.view q e.pages p ne
+  below_else (e ∷ f ∷ more) d p ne = absurd d
 
-  else_by : (p : ℕ) → (p ≡ q → ⊥) → (b : Bool) → is_below x.ledger.groups g (stock_group x q) ≡ b → account_of n.stock.view p ≡ account_of x.stock.view p
-  else_by p ne true e = ap (λ (y : KnownMachine). account_of y.stock.view p) (d.below e).machine ∙ drained_else x.stock.view q d.pages p ne
-  else_by p ne false e = ap (λ (y : KnownMachine). account_of y.stock.view p) (d.other e) ∙ look_else x.stock.view q p (stock_group x q) ne
+  pub below_group : (drains : List Drain) → DrainsBelow g x q drains n → stock_group n q ≡ stock_group x q
+  below_group [] d = ap (λ (y : KnownMachine). stock_group y q) d.1 ∙ look_group x.stock.view q (stock_group x q)
+  below_group (e ∷ []) d = ap (λ (y : KnownMachine). stock_group y q) d.1.drains.machine ∙ ap (λ (a : Account). a.group) (drained_at x.stock.view q e.pages)
+  below_group (e ∷ f ∷ more) d = absurd d
 
-  pub below_else : (p : ℕ) → (p ≡ q → ⊥) → account_of n.stock.view p ≡ account_of x.stock.view p
-  below_else p ne = else_by p ne (is_below x.ledger.groups g (stock_group x q)) refl
+  pub below_filled : (drains : List Drain) → DrainsBelow g x q drains n → is_below x.ledger.groups g (stock_group x q) ≡ true
+      → (account_of n.stock.view q).filled ≡ false
+  below_filled [] d below = absurd (false≢true (sym d.0 ∙ below))
+  below_filled (e ∷ []) d below = ap (λ (y : KnownMachine). (account_of y.stock.view q).filled) d.1.drains.machine
+      ∙ ap (λ (a : Account). a.filled) (drained_at x.stock.view q e.pages)
+  below_filled (e ∷ f ∷ more) d below = absurd d
 
-  group_by : (b : Bool) → is_below x.ledger.groups g (stock_group x q) ≡ b → stock_group n q ≡ stock_group x q
-  group_by true e = ap (λ (y : KnownMachine). stock_group y q) (d.below e).machine ∙ ap (λ (a : Account). a.group) (drained_at x.stock.view q d.pages)
-  group_by false e = ap (λ (y : KnownMachine). stock_group y q) (d.other e) ∙ look_group x.stock.view q (stock_group x q)
+-- ---- one processor's stock
 
-  pub below_group : stock_group n q ≡ stock_group x q
-  below_group = group_by (is_below x.ledger.groups g (stock_group x q)) refl
-
-  pub below_filled : is_below x.ledger.groups g (stock_group x q) ≡ true → (account_of n.stock.view q).filled ≡ false
-  below_filled e = ap (λ (y : KnownMachine). (account_of y.stock.view q).filled) (d.below e).machine
-      ∙ ap (λ (a : Account). a.filled) (drained_at x.stock.view q d.pages)
-
--- what the loop of `drain_stocks` keeps after k processors
-pub record DrainedSoFar (t : KnownTable) (g k : ℕ) (m n : KnownMachine) : Type 0 where
-  pub drains : DrainsAllBelow g k m n
-  pub groups : n.ledger.groups ≡ m.ledger.groups
-  pub drained : AreDrained g k n
-  pub steps : (c : KnownCpu) → Reaches c.number (local_of t m c) (local_of t n c)
-
-pub drained_start : (t : KnownTable) (g : ℕ) (m : KnownMachine) → DrainedSoFar t g 0 m m
-drained_start t g m = record {
-  drains = refl;
-  groups = refl;
-  drained = λ q some few. absurd (omega (arith, some, few));
-  steps = λ c. no_steps c.number (local_of t m c) (local_of t m c) refl;
+-- it is of the subtree, and is drained
+pub drained_one : (t : KnownTable) (g q pages : ℕ) (m n : KnownMachine) → is_below m.ledger.groups g (stock_group m q) ≡ true → Drains m q pages n
+    → ((c : KnownCpu) → IsLocalRun c.number (local_of t m c) (drain_steps q (stock_group m q) pages) (local_of t n c)) → DrainsIfBelow t g q pages m n
+drained_one t g q pages m n below drains steps = record {
+  drains = record { cpu = q; group = stock_group m q; pages = pages } ∷ [];
+  one = (below, record { cpu = refl; group = refl; drains = drains });
+  sum = omega arith;
+  steps = λ c. subst (λ (r : Run). IsLocalRun c.number (local_of t m c) r (local_of t n c))
+      (sym (append-nil (drain_steps q (stock_group m q) pages))) (steps c);
 }
 
-drained_now : (g k : ℕ) (x n : KnownMachine) → DrainsBelow g x (k + 1) n → AreDrained g k x → AreDrained g (k + 1) n
-drained_now g k x n d before q some few below =
-    let groups = below_groups g (k + 1) x n d in
+-- it is of another group, or of none
+pub drained_not : (t : KnownTable) (g q : ℕ) (m n : KnownMachine) → is_below m.ledger.groups g (stock_group m q) ≡ false
+    → n ≡ record m { stock = with_view m.stock (after_look m.stock.view q (stock_group m q)) }
+    → ((c : KnownCpu) → IsLocalRun c.number (local_of t m c) [] (local_of t n c)) → DrainsIfBelow t g q 0 m n
+drained_not t g q m n other is steps = record { drains = []; one = (other, is); sum = refl; steps = steps }
+
+-- a part whose stock is of no group shows the same once that counts as drained
+part_none : (l f b : List ℕ) (a : Account) → a.group ≡ None → part_with l f b (record a { book = a.book - 0; filled = false }) ≡ part_with l f b a
+part_none l f b a none =
+    let book : a.book - 0 ≡ a.book = omega arith in
+    let pages : a.book - 0 - length f - a.noted ≡ a.book - length f - a.noted = omega arith in
+    let drained : (is_some a.group && true) ≡ (is_some a.group && not a.filled) =
+    ap (λ (o : Option ℕ). is_some o && true) none ∙ sym (ap (λ (o : Option ℕ). is_some o && not a.filled) none) in
+    λ i. record {
+      list = l;
+      fresh = f;
+      back = b;
+      stock = record { group = a.group; pages = pages i; is_drained = drained i };
+      book = book i;
+      unreported = 0;
+      reported = a.noted;
+    }
+
+module _ (t : KnownTable) (m : KnownMachine) (q : ℕ) (none : stock_group m q ≡ None) (c : KnownCpu) where
+  abbrev shown : ℕ → Account → Part
+  shown p a = cond (p == c.number) (part_with c.list c.fresh c.back a) (part_with [] [] [] a)
+
+  shown_here : shown q (account_of (draining m.stock.view q 0) q) ≡ shown q (account_of m.stock.view q)
+  shown_here =
+      let a = account_of m.stock.view q in
+      ap (shown q) (drained_at m.stock.view q 0)
+      ∙ (λ i. cond (q == c.number) (part_none c.list c.fresh c.back a none i) (part_none [] [] [] a none i))
+
+  shown_same : (p : ℕ) → shown p (account_of (draining m.stock.view q 0) p) ≡ shown p (account_of m.stock.view p)
+  shown_same p = elim (cases_eq p q) [
+    | inl e ↦ subst (λ (k : ℕ). shown k (account_of (draining m.stock.view q 0) k) ≡ shown k (account_of m.stock.view k)) (sym e) shown_here
+    | inr ne ↦ ap (shown p) (drained_else m.stock.view q 0 p ne)
+  ]
+
+  -- the look at a stock of no group changes nothing that is seen
+  pub looked_none : IsLocalRun c.number (local_of t m c) [] (local_of t (record m { stock = with_view m.stock (draining m.stock.view q 0) }) c)
+  looked_none = λ i. record (local_of t m c) { parts = λ p. sym (shown_same p) i }
+
+-- the stock of a group of the subtree, of the machine as it was seen before the look
+pub looked_own : (t : KnownTable) (m now : KnownMachine) → m ≡ now → (stock : Seated) → stock ≡ m.stock → (g q h pages : ℕ) (n : KnownMachine)
+    → Some h ≡ stock_group m q → in_subtree m.ledger.groups g h ≡ true → Drains (record m { stock = stock }) q pages n
+    → ((c : KnownCpu) → IsLocalRun c.number (local_of t (record m { stock = stock }) c) (drain_steps q (stock_group (record m { stock = stock }) q) pages)
+    (local_of t n c)) → DrainsIfBelow t g q pages now n
+looked_own t m now same stock is g q h pages n of below drains steps =
+    subst (λ (x : KnownMachine). DrainsIfBelow t g q pages x n) (looked_now m now same stock is)
+    (drained_one t g q pages (record m { stock = stock }) n
+    (ap (is_below m.ledger.groups g) (ap (λ (s : Seated). (account_of s.view q).group) is ∙ sym of) ∙ below) drains steps)
+
+-- the stock of another group
+pub looked_other : (t : KnownTable) (m now : KnownMachine) → m ≡ now → (g q h : ℕ) → Some h ≡ stock_group m q → in_subtree m.ledger.groups g h ≡ false
+    → (stock : Seated) → stock ≡ m.stock → DrainsIfBelow t g q 0 now (record m { stock = stock })
+looked_other t m now same g q h of other stock is =
+    let n : KnownMachine = record m { stock = stock } in
+    let none : n ≡ record m { stock = with_view m.stock (after_look m.stock.view q (stock_group m q)) } =
+    (λ i. record m { stock = is i }) ∙ (λ i. record m { stock = with_view m.stock (after_look m.stock.view q (of i)) }) in
+    subst (λ (x : KnownMachine). DrainsIfBelow t g q 0 x n) same
+    (drained_not t g q m n (ap (is_below m.ledger.groups g) (sym of) ∙ other) none (stayed_runs t m m refl n (λ i. record m { stock = is i })))
+
+-- the stock of no group
+pub looked_never : (t : KnownTable) (m now : KnownMachine) → m ≡ now → (g q : ℕ) → None ≡ stock_group m q
+    → (stock : Seated) → stock ≡ with_view m.stock (draining m.stock.view q 0) → DrainsIfBelow t g q 0 now (record m { stock = stock })
+looked_never t m now same g q of stock is =
+    let n : KnownMachine = record m { stock = with_view m.stock (draining m.stock.view q 0) } in
+    let seen : n ≡ record m { stock = with_view m.stock (after_look m.stock.view q (stock_group m q)) } =
+    λ i. record m { stock = with_view m.stock (after_look m.stock.view q (of i)) } in
+    subst (λ (x : KnownMachine × KnownMachine). DrainsIfBelow t g q 0 x.0 x.1) (λ i. (same i, record m { stock = sym is i }))
+    (drained_not t g q m n (ap (is_below m.ledger.groups g) (sym of)) seen (looked_none t m q (sym of)))
+
+-- ---- all of them
+
+-- what the loop of `drain_stocks` keeps after k processors
+pub record DrainedSoFar (t : KnownTable) (g k pages : ℕ) (m n : KnownMachine) : Type 0 where
+  pub drains : List Drain
+  pub all : DrainsAllBelow g k drains m n
+  pub sum : pages ≡ pages_drained drains
+  pub groups : n.ledger.groups ≡ m.ledger.groups
+  pub drained : AreDrained g k n
+  pub steps : (c : KnownCpu) → IsLocalRun c.number (local_of t m c) (drain_stocks_steps drains) (local_of t n c)
+  pub small : pages ≤ k * 4294967295
+
+pub drained_start : (t : KnownTable) (g : ℕ) (m : KnownMachine) → DrainedSoFar t g 0 0 m m
+drained_start t g m = record {
+  drains = [];
+  all = (refl, refl);
+  sum = refl;
+  groups = refl;
+  drained = λ q some few. absurd (omega (arith, some, few));
+  steps = λ c. refl;
+  small = omega arith;
+}
+
+drained_now : (g k : ℕ) (x n : KnownMachine) (last : List Drain) → DrainsBelow g x (k + 1) last n → AreDrained g k x → AreDrained g (k + 1) n
+drained_now g k x n last d before q some few below =
+    let groups = below_groups g (k + 1) x n last d in
     elim (cases_eq q (k + 1)) [
       | inl e ↦
           subst (λ (j : ℕ). (account_of n.stock.view j).filled ≡ false) (sym e)
-          (below_filled g (k + 1) x n d ((λ i. is_below (sym groups i) g (sym (below_group g (k + 1) x n d) i))
+          (below_filled g (k + 1) x n last d ((λ i. is_below (sym groups i) g (sym (below_group g (k + 1) x n last d) i))
           ∙ ap (λ (j : ℕ). is_below n.ledger.groups g (stock_group n j)) (sym e) ∙ below))
       | inr ne ↦
-          let same = below_else g (k + 1) x n d q ne in
+          let same = below_else g (k + 1) x n last d q ne in
           ap (λ (a : Account). a.filled) same
           ∙ before q some (omega (arith, few, ne)) ((λ i. is_below (sym groups i) g (sym same i).group) ∙ below)
     ]
 
-pub drained_more : (t : KnownTable) (g k : ℕ) (m x n : KnownMachine) → DrainedSoFar t g k m x → DrainsBelow g x (k + 1) n
-    → ((c : KnownCpu) → Reaches c.number (local_of t x c) (local_of t n c)) → DrainedSoFar t g (k + 1) m n
-drained_more t g k m x n before one steps =
-    let more : suc k ≡ k + 1 = omega arith in
+pub drained_more : (t : KnownTable) (g k pages more : ℕ) (m x n : KnownMachine) → DrainedSoFar t g k pages m x → DrainsIfBelow t g (k + 1) more x n
+    → more ≤ 4294967295 → DrainedSoFar t g (k + 1) (pages + more) m n
+drained_more t g k pages more m x n before last bound =
+    let next : suc k ≡ k + 1 = omega arith in
+    let both = sum_by-append (λ (d : Drain). d.pages) before.drains last.drains in
+    let a = before.sum in
+    let b = last.sum in
+    let low = before.small in
+    let list : drain_stocks_steps before.drains ++ drain_stocks_steps last.drains ≡ drain_stocks_steps (before.drains ++ last.drains) =
+    sym (flat_map-append (λ (d : Drain). drain_steps d.cpu d.group d.pages) before.drains last.drains) in
     record {
-      drains = subst (λ (j : ℕ). DrainsAllBelow g j m n) more (x, before.drains, subst (λ (j : ℕ). DrainsBelow g x j n) (sym more) one);
-      groups = below_groups g (k + 1) x n one ∙ before.groups;
-      drained = drained_now g k x n one before.drained;
-      steps = λ c. reaches_both c.number (local_of t m c) (local_of t x c) (local_of t n c) (before.steps c) (steps c);
+      drains = before.drains ++ last.drains;
+      all = subst (λ (j : ℕ). DrainsAllBelow g j (before.drains ++ last.drains) m n) next
+          (before.drains, last.drains, x, refl, before.all, subst (λ (j : ℕ). DrainsBelow g x j last.drains n) (sym next) last.one);
+      sum = omega (arith, both, a, b);
+      groups = below_groups g (k + 1) x n last.drains last.one ∙ before.groups;
+      drained = drained_now g k x n last.drains last.one before.drained;
+      steps = λ c. subst (λ (r : Run). IsLocalRun c.number (local_of t m c) r (local_of t n c)) list
+          (run_both c.number (drain_stocks_steps before.drains) (drain_stocks_steps last.drains) (local_of t m c) (local_of t x c) (local_of t n c)
+          (before.steps c) (last.steps c));
+      small = omega (arith, low, bound);
     }
+
+pub drained_end : (t : KnownTable) (g k pages : ℕ) (m n : KnownMachine) → DrainedSoFar t g k pages m n → k ≡ t.cpus → DrainsSubtree t g pages m n
+drained_end t g k pages m n so_far all = record {
+  drains = so_far.drains;
+  all = subst (λ (j : ℕ). DrainsAllBelow g j so_far.drains m n) all so_far.all;
+  sum = so_far.sum;
+  steps = so_far.steps;
+}
 
 -- who isn't there is below no one
 pub below_none : (groups : List Group) (g h : ℕ) → has_group groups h ≡ false → in_subtree groups g h ≡ false
 below_none groups g h none = false_from_ne_true (in_subtree groups g h) (λ e. false≢true (sym none ∙ in_subtree-below groups g h e))
-
--- a look at a stock of a group changed nothing
-pub looked_reaches : (t : KnownTable) (m now : KnownMachine) → m ≡ now → (stock : Seated) → stock ≡ m.stock → (c : KnownCpu)
-    → Reaches c.number (local_of t now c) (local_of t (record m { stock = stock }) c)
-looked_reaches t m now same stock is c = stayed_reaches t m now same (record m { stock = stock }) (λ i. record m { stock = is i }) c

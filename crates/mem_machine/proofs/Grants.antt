@@ -1,5 +1,5 @@
--- A charge of the ledger is a grant of the rules, and pages that were granted and not taken go back. For `prepay` and `take_block`.
-use Rattle.std.proofs.Common.{◌≡◌, ℕ, ◌+◌, ◌-◌, ◌^◌, ◌≤◌, ◌<◌, ◌==◌, ◌&&◌, Bool, true, false, cond, Option, Some, None, length, refl, sym}
+-- A charge of the ledger is a grant of the rules, and pages that were granted and not taken go back. Serves `take_block`.
+use Rattle.std.proofs.Common.{◌≡◌, ℕ, ◌+◌, ◌-◌, ◌^◌, ◌≤◌, ◌<◌, ◌==◌, ◌&&◌, Bool, true, false, cond, Option, Some, None, [], ◌∷◌, length, refl, sym}
 use Rattle.std.proofs.Common.{ap, ◌∙◌, subst, arith, inl, inr}
 use Rattle.std.specs.Prelude.{not, nat_le}
 use Rattle.std.proofs.lemmas.Bool.{and_from, le-leb, cases_eq, false≢true}
@@ -33,8 +33,9 @@ use Rattle.mem_machine.specs.declared.spot.Spot.{Spot}
 use Rattle.mem_machine.specs.declared.spot.Spot.TheVariants.{Free, Lent, Head, Tail}
 use Rattle.mem_machine.specs.Spots.{spot_at, is_free, free_of}
 use Rattle.mem_machine.specs.Machines.{KnownMachine, is_killed}
-use Rattle.mem_machine.specs.Local.{fresh_group, phase_of, local_of, Reaches}
-use Rattle.mem_machine.proofs.Reaching.{zone_step, one_step, step_before}
+use Rattle.mem_machine.specs.Local.{fresh_group, phase_of, local_of, IsLocalRun}
+use Rattle.mem_machine.specs.Steps.{zone_makes}
+use Rattle.mem_machine.proofs.Reaching.{zone_step}
 use Rattle.mem_machine.proofs.Holds.{zone_may_act}
 use Rattle.mem_machine.proofs.Records.{length_free, free_at}
 
@@ -69,8 +70,8 @@ module _ (t : KnownTable) (m : KnownMachine) (c : KnownCpu) (g n : ℕ) (there :
     lowest = λ k on none. low.lowest k on (sym (room_same k) ∙ none);
   })
 
-  pub over_reaches : (h : ℕ) → room.IsLowestOver m.ledger.groups (current_of m.ledger) g n h → Reaches c.number s s
-  over_reaches h low = one_step c.number s s 0 (Grant g n) (Over h) (is_over h low) refl
+  pub refused_run : (h : ℕ) → room.IsLowestOver m.ledger.groups (current_of m.ledger) g n h → IsLocalRun c.number s (zone_makes (Grant g n) (Over h) ∷ []) s
+  refused_run h low = (is_over h low, refl)
 
   -- the state with the pages pending
   abbrev pub with_granted : State
@@ -93,14 +94,6 @@ module _ (t : KnownTable) (m : KnownMachine) (c : KnownCpu) (g n : ℕ) (there :
     | inl e ↦ ap (with_at with_granted.pending g (with_granted.pending g - n)) e ∙ at_same with_granted.pending g (with_granted.pending g - n) ∙ none_left
     | inr ne ↦ at_other with_granted.pending g (with_granted.pending g - n) h ne ∙ at_other s.pending g (s.pending g + n) h ne
   ]
-
-  -- pages that were granted, and go back at once, leave the local state as it was
-  pub granted_and_back : room.PathHasRoom m.ledger.groups (current_of m.ledger) g n → (k : KnownMachine) → k ≡ record m { ledger = k.ledger }
-      → k.ledger.groups ≡ m.ledger.groups → Reaches c.number s (local_of t k c)
-  granted_and_back path k is groups =
-      step_before c.number s (local_of t k c) 0 (Grant g n) Granted (is_granted path)
-      (one_step c.number with_granted (local_of t k c) 0 (Ungrant g n) Done is_taken_back
-      (ap (λ (x : KnownMachine). local_of t x c) is ∙ (λ i. record s { groups = groups i; pending = λ h. sym (none_pends h) i })))
 
 -- ---- free blocks
 
@@ -162,11 +155,17 @@ module _ (t : KnownTable) (m : KnownMachine) (c : KnownCpu) (g n : ℕ) (there :
       (none_to_place t m c sized areas k none)
 
   -- the pages are granted, no block is there, and they go back: the local state is as it was
-  pub none_placed : room.PathHasRoom m.ledger.groups (current_of m.ledger) g n → (x : KnownMachine) → x ≡ record m { ledger = x.ledger }
-      → x.ledger.groups ≡ m.ledger.groups → Reaches c.number (local_of t m c) (local_of t x c)
-  none_placed path x is groups =
-      step_before c.number (local_of t m c) (local_of t x c) 0 (Grant g n) Granted (is_granted t m c g n there alive usage path)
-      (step_before c.number granted (local_of t x c) 0 (PlaceBlock g k) NoFreeBlock is_not_placed
-      (one_step c.number granted (local_of t x c) 0 (Ungrant g n) Done (is_taken_back t m c g n there alive usage)
-      (ap (λ (y : KnownMachine). local_of t y c) is
-      ∙ (λ i. record (local_of t m c) { groups = groups i; pending = λ h. sym (none_pends t m c g n there alive usage h) i }))))
+  pub unplaced_run : room.PathHasRoom m.ledger.groups (current_of m.ledger) g n → (x : KnownMachine) → x ≡ record m { ledger = x.ledger }
+      → x.ledger.groups ≡ m.ledger.groups → IsLocalRun c.number (local_of t m c)
+      (zone_makes (Grant g n) Granted ∷ zone_makes (PlaceBlock g k) NoFreeBlock ∷ zone_makes (Ungrant g n) Done ∷ []) (local_of t x c)
+  unplaced_run path x is groups = (
+    is_granted t m c g n there alive usage path,
+    (
+      is_not_placed,
+      (
+        is_taken_back t m c g n there alive usage,
+        sym (ap (λ (y : KnownMachine). local_of t y c) is
+            ∙ (λ i. record (local_of t m c) { groups = groups i; pending = λ h. sym (none_pends t m c g n there alive usage h) i })),
+      ),
+    ),
+  )

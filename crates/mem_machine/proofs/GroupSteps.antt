@@ -1,5 +1,5 @@
 -- Steps on the groups alone. Serves `note_max`, `set_max`, `mark_killed`, `remove`.
-use Rattle.std.proofs.Common.{◌≡◌, ◌≢◌, ℕ, ◌<◌, Bool, true, false, Option, List, length, get_or, refl, sym, ap, ◌∙◌, subst}
+use Rattle.std.proofs.Common.{◌≡◌, ◌≢◌, ℕ, ◌<◌, Bool, true, false, Option, List, [], length, get_or, refl, sym, ap, ◌∙◌, subst}
 use Rattle.std.specs.Prelude.{not, None, is_none}
 use Rattle.std.specs.Prelude.{slice_set}
 use Rattle.std.proofs.lemmas.Bool.{and_from, ne_eqb, eq-eqb}
@@ -16,23 +16,25 @@ use Rattle.step_rules.specs.Legal.{is_removable}
 use Rattle.step_rules.specs.State.{with_at}
 use Rattle.step_rules.proofs.Basics.{at_each}
 use Rattle.mem_machine.specs.Machines.{KnownMachine, is_killed, Makes}
-use Rattle.mem_machine.specs.Local.{local_of, Reaches}
-use Rattle.mem_machine.proofs.Reaching.{zone_step, one_step, no_steps}
+use Rattle.mem_machine.specs.Local.{local_of, IsLocalRun}
+use Rattle.mem_machine.specs.Steps.{note_max_steps, set_max_steps, kill_steps, make_steps, remove_steps}
+use Rattle.mem_machine.proofs.Reaching.{zone_step, run_one}
 use Rattle.mem_machine.proofs.Holds.{zone_may_act}
 
 module _ (t : KnownTable) (m n : KnownMachine) (g : ℕ) (there : has_group m.ledger.groups g ≡ true) where
-  pub note_max_reaches : n ≡ record m { ledger = with_max_noted m.ledger g } → (c : KnownCpu) → Reaches c.number (local_of t m c) (local_of t n c)
-  note_max_reaches is c =
+  pub note_max_runs : n ≡ record m { ledger = with_max_noted m.ledger g } → (c : KnownCpu)
+      → IsLocalRun c.number (local_of t m c) (note_max_steps g) (local_of t n c)
+  note_max_runs is c =
       let s = local_of t m c in
-      subst (λ (k : KnownMachine). Reaches c.number s (local_of t k c)) (sym is)
-      (one_step c.number s _ 0 (NoteMax g) Done (zone_step s c.number (NoteMax g) Done refl (and_from _ _ (zone_may_act m.seat c.number) there) tt) refl)
+      subst (λ (k : KnownMachine). IsLocalRun c.number s (note_max_steps g) (local_of t k c)) (sym is)
+      (run_one c.number s _ 0 (NoteMax g) Done (zone_step s c.number (NoteMax g) Done refl (and_from _ _ (zone_may_act m.seat c.number) there) tt) refl)
 
-  pub set_max_reaches : (limit : Option ℕ) → g ≢ 0 → n ≡ record m { ledger = with_group_limit m.ledger g limit } → (c : KnownCpu)
-      → Reaches c.number (local_of t m c) (local_of t n c)
-  set_max_reaches limit below is c =
+  pub set_max_runs : (limit : Option ℕ) → g ≢ 0 → n ≡ record m { ledger = with_group_limit m.ledger g limit } → (c : KnownCpu)
+      → IsLocalRun c.number (local_of t m c) (set_max_steps g limit) (local_of t n c)
+  set_max_runs limit below is c =
       let s = local_of t m c in
-      subst (λ (k : KnownMachine). Reaches c.number s (local_of t k c)) (sym is)
-      (one_step c.number s _ 0 (SetMax g limit) Done
+      subst (λ (k : KnownMachine). IsLocalRun c.number s (set_max_steps g limit) (local_of t k c)) (sym is)
+      (run_one c.number s _ 0 (SetMax g limit) Done
       (zone_step s c.number (SetMax g limit) Done refl (and_from _ _ (and_from _ _ (zone_may_act m.seat c.number) there) (ap not (ne_eqb g 0 below))) tt) refl)
 
   -- the marks after one more was set
@@ -40,29 +42,30 @@ module _ (t : KnownTable) (m n : KnownMachine) (g : ℕ) (there : has_group m.le
   marks inside = λ i. λ k. (at_each (is_killed m.killed) g true (λ (h : ℕ) (x : Bool). get_or (slice_set m.killed g true) h false ≡ x)
       (get_or-set_same m.killed g true false inside) (λ h ne. get_or-set_other m.killed g h true false ne)) k i
 
-  pub kill_reaches : g < length m.killed → is_killed m.killed g ≡ false → n ≡ record m { killed = slice_set m.killed g true } → (c : KnownCpu)
-      → Reaches c.number (local_of t m c) (local_of t n c)
-  kill_reaches inside alive is c =
+  pub kill_runs : g < length m.killed → is_killed m.killed g ≡ false → n ≡ record m { killed = slice_set m.killed g true } → (c : KnownCpu)
+      → IsLocalRun c.number (local_of t m c) (kill_steps g) (local_of t n c)
+  kill_runs inside alive is c =
       let s = local_of t m c in
-      subst (λ (k : KnownMachine). Reaches c.number s (local_of t k c)) (sym is)
-      (one_step c.number s _ 0 (Kill g) Done
+      subst (λ (k : KnownMachine). IsLocalRun c.number s (kill_steps g) (local_of t k c)) (sym is)
+      (run_one c.number s _ 0 (Kill g) Done
       (zone_step s c.number (Kill g) Done refl (and_from _ _ (and_from _ _ (zone_may_act m.seat c.number) there) (ap not alive)) tt)
       (λ i. record s { killed = marks inside i }))
 
 -- the same, of the machine as it was seen before
 module _ (t : KnownTable) (m now : KnownMachine) (same : m ≡ now) (g : ℕ) (there : has_group now.ledger.groups g ≡ true) where
-  pub notes_max : (l : Ledger) → l ≡ with_max_noted m.ledger g → (c : KnownCpu) → Reaches c.number (local_of t now c) (local_of t (record m { ledger = l }) c)
-  notes_max l is c = note_max_reaches t now (record m { ledger = l }) g there
+  pub notes_max : (l : Ledger) → l ≡ with_max_noted m.ledger g → (c : KnownCpu)
+      → IsLocalRun c.number (local_of t now c) (note_max_steps g) (local_of t (record m { ledger = l }) c)
+  notes_max l is c = note_max_runs t now (record m { ledger = l }) g there
       ((λ i. record m { ledger = is i }) ∙ ap (λ (k : KnownMachine). record k { ledger = with_max_noted k.ledger g }) same) c
 
   pub sets_max : (l : Ledger) (limit : Option ℕ) → g ≢ 0 → l ≡ with_group_limit m.ledger g limit → (c : KnownCpu)
-      → Reaches c.number (local_of t now c) (local_of t (record m { ledger = l }) c)
-  sets_max l limit below is c = set_max_reaches t now (record m { ledger = l }) g there limit below
+      → IsLocalRun c.number (local_of t now c) (set_max_steps g limit) (local_of t (record m { ledger = l }) c)
+  sets_max l limit below is c = set_max_runs t now (record m { ledger = l }) g there limit below
       ((λ i. record m { ledger = is i }) ∙ ap (λ (k : KnownMachine). record k { ledger = with_group_limit k.ledger g limit }) same) c
 
   pub marks_killed : (marks : List Bool) → g < length now.killed → is_killed now.killed g ≡ false → marks ≡ slice_set m.killed g true → (c : KnownCpu)
-      → Reaches c.number (local_of t now c) (local_of t (record m { killed = marks }) c)
-  marks_killed marks inside alive is c = kill_reaches t now (record m { killed = marks }) g there inside alive
+      → IsLocalRun c.number (local_of t now c) (kill_steps g) (local_of t (record m { killed = marks }) c)
+  marks_killed marks inside alive is c = kill_runs t now (record m { killed = marks }) g there inside alive
       ((λ i. record m { killed = is i }) ∙ ap (λ (k : KnownMachine). record k { killed = slice_set k.killed g true }) same) c
 
 -- the marks after one was cleared
@@ -70,12 +73,12 @@ unmarks : (marks : List Bool) (g : ℕ) → g < length marks → is_killed (slic
 unmarks marks g inside = λ i. λ k. (at_each (is_killed marks) g false (λ (h : ℕ) (x : Bool). get_or (slice_set marks g false) h false ≡ x)
     (get_or-set_same marks g false false inside) (λ h ne. get_or-set_other marks g h false false ne)) k i
 
-make_reaches : (t : KnownTable) (m n : KnownMachine) (g : ℕ) (path : List ℕ) → g < length m.killed → is_none (make_fault m.ledger.groups path) ≡ true
-    → Makes m g path n → (c : KnownCpu) → Reaches c.number (local_of t m c) (local_of t n c)
-make_reaches t m n g path inside allowed makes c =
+make_runs : (t : KnownTable) (m n : KnownMachine) (g : ℕ) (path : List ℕ) → g < length m.killed → is_none (make_fault m.ledger.groups path) ≡ true
+    → Makes m g path n → (c : KnownCpu) → IsLocalRun c.number (local_of t m c) (make_steps path g) (local_of t n c)
+make_runs t m n g path inside allowed makes c =
     let s = local_of t m c in
-    subst (λ (k : KnownMachine). Reaches c.number s (local_of t k c)) (sym makes.machine)
-    (one_step c.number s _ 0 (Make path) (Number g) (zone_step s c.number (Make path) (Number g) refl (and_from _ _
+    subst (λ (k : KnownMachine). IsLocalRun c.number s (make_steps path g) (local_of t k c)) (sym makes.machine)
+    (run_one c.number s _ 0 (Make path) (Number g) (zone_step s c.number (Make path) (Number g) refl (and_from _ _
     (zone_may_act m.seat c.number) allowed) makes.least)
     (λ i. record s { groups = with_group m.ledger.groups g path; killed = unmarks m.killed g inside i }))
 
@@ -92,34 +95,34 @@ module _ (t : KnownTable) (m now : KnownMachine) (same : m ≡ now) where
         ∙ ap (λ (k : KnownMachine). record k { ledger = with_new_group k.ledger g path; killed = slice_set k.killed g false }) same;
   }
 
-  pub made_reaches : (l : Ledger) (marks : List Bool) (g : ℕ) (path : List ℕ) → g < length m.killed → None ≡ make_fault m.ledger.groups path
+  pub made_runs : (l : Ledger) (marks : List Bool) (g : ℕ) (path : List ℕ) → g < length m.killed → None ≡ make_fault m.ledger.groups path
       → IsLeastFreeNumber m.ledger.groups g → l ≡ with_new_group m.ledger g path → marks ≡ slice_set m.killed g false → (c : KnownCpu)
-      → Reaches c.number (local_of t now c) (local_of t (record m { ledger = l; killed = marks }) c)
-  made_reaches l marks g path inside allowed least is set c =
-      make_reaches t now (record m { ledger = l; killed = marks }) g path (subst (λ (k : KnownMachine). g < length k.killed) same inside)
+      → IsLocalRun c.number (local_of t now c) (make_steps path g) (local_of t (record m { ledger = l; killed = marks }) c)
+  made_runs l marks g path inside allowed least is set c =
+      make_runs t now (record m { ledger = l; killed = marks }) g path (subst (λ (k : KnownMachine). g < length k.killed) same inside)
       (none_of (make_fault now.ledger.groups path) (subst (λ (k : KnownMachine). make_fault k.ledger.groups path ≡ None) same (sym allowed)))
       (makes l marks g path least is set) c
 
-  pub stayed_reaches : (n : KnownMachine) → n ≡ m → (c : KnownCpu) → Reaches c.number (local_of t now c) (local_of t n c)
-  stayed_reaches n is c = no_steps c.number (local_of t now c) (local_of t n c) (ap (λ (k : KnownMachine). local_of t k c) (is ∙ same))
+  pub stayed_runs : (n : KnownMachine) → n ≡ m → (c : KnownCpu) → IsLocalRun c.number (local_of t now c) [] (local_of t n c)
+  stayed_runs n is c = sym (ap (λ (k : KnownMachine). local_of t k c) (is ∙ same))
 
 -- a group that goes
 module _ (t : KnownTable) (m n : KnownMachine) (c : KnownCpu) (g : ℕ) where
-  pub remove_reaches : has_group m.ledger.groups g ≡ true → has_child m.ledger.groups g ≡ false → g ≢ 0 → current_of m.ledger g ≡ 0
+  pub remove_runs : has_group m.ledger.groups g ≡ true → has_child m.ledger.groups g ≡ false → g ≢ 0 → current_of m.ledger g ≡ 0
       → usage_of (local_of t m c) g ≡ current_of m.ledger g → n ≡ record m { ledger = with_group_removed m.ledger g }
-      → Reaches c.number (local_of t m c) (local_of t n c)
-  remove_reaches there leaf below empty usage is =
+      → IsLocalRun c.number (local_of t m c) (remove_steps g) (local_of t n c)
+  remove_runs there leaf below empty usage is =
       let s = local_of t m c in
       let removable : is_removable s g ≡ true =
       and_from _ _ (and_from _ _ (and_from _ _ there (ap not (ne_eqb g 0 below))) (ap not leaf)) (eq-eqb (usage_of s g) 0 (usage ∙ empty)) in
-      subst (λ (k : KnownMachine). Reaches c.number s (local_of t k c)) (sym is)
-      (one_step c.number s _ 0 (Remove g) Done (zone_step s c.number (Remove g) Done refl
+      subst (λ (k : KnownMachine). IsLocalRun c.number s (remove_steps g) (local_of t k c)) (sym is)
+      (run_one c.number s _ 0 (Remove g) Done (zone_step s c.number (Remove g) Done refl
       (and_from _ _ (zone_may_act m.seat c.number) removable) tt) refl)
 
 pub removes : (t : KnownTable) (m now : KnownMachine) → m ≡ now → (c d : KnownCpu) → d ≡ c → (g : ℕ) → has_group now.ledger.groups g ≡ true
     → has_child now.ledger.groups g ≡ false → g ≢ 0 → current_of now.ledger g ≡ 0 → usage_of (local_of t now c) g ≡ current_of now.ledger g
-    → (l : Ledger) → l ≡ with_group_removed m.ledger g → Reaches c.number (local_of t now c) (local_of t (record m { ledger = l }) d)
+    → (l : Ledger) → l ≡ with_group_removed m.ledger g → IsLocalRun c.number (local_of t now c) (remove_steps g) (local_of t (record m { ledger = l }) d)
 removes t m now same c d cpu g there leaf below empty usage l is =
-    subst (λ (x : KnownCpu). Reaches c.number (local_of t now c) (local_of t (record m { ledger = l }) x)) (sym cpu)
-    (remove_reaches t now (record m { ledger = l }) c g there leaf below empty usage
+    subst (λ (x : KnownCpu). IsLocalRun c.number (local_of t now c) (remove_steps g) (local_of t (record m { ledger = l }) x)) (sym cpu)
+    (remove_runs t now (record m { ledger = l }) c g there leaf below empty usage
     ((λ i. record m { ledger = is i }) ∙ ap (λ (k : KnownMachine). record k { ledger = with_group_removed k.ledger g }) same))

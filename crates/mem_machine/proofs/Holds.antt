@@ -22,8 +22,9 @@ use Rattle.mem_machine.specs.declared.spot.Spot.{Spot}
 use Rattle.mem_machine.specs.declared.spot.Spot.TheVariants.{Free, Lent, Head, Tail}
 use Rattle.mem_machine.specs.Spots.{spot_at}
 use Rattle.mem_machine.specs.Machines.{KnownMachine, IsSeated, Visits}
-use Rattle.mem_machine.specs.Local.{hold_of, local_of, phase_of, part_of, part_with, fresh_group, Reaches}
-use Rattle.mem_machine.proofs.Reaching.{zone_step, one_step}
+use Rattle.mem_machine.specs.Local.{hold_of, local_of, phase_of, part_of, part_with, fresh_group, IsLocalRun}
+use Rattle.mem_machine.specs.Steps.{open_steps, shut_steps}
+use Rattle.mem_machine.proofs.Reaching.{zone_step, run_one}
 
 zone_acts : (b : Bool) (p : ℕ) → may_zone_act (cond b (Visiting p) (HeldBy p)) 0 ≡ true
 zone_acts true p = refl
@@ -75,20 +76,20 @@ unfolded_rest : (c : KnownCpu) (p f : ℕ) (x : Spot) → (not (passes_out p (ph
 unfolding resting
 unfolded_rest c p f x = no_pass c p f x
 
-pub open_reaches : (t : KnownTable) (m n : KnownMachine) (c : KnownCpu) → n ≡ record m { seat = seat_with_visit m.seat c.number 1 } → IsShut m.seat c.number
-    → Reaches c.number (local_of t m c) (local_of t n c)
-open_reaches t m n c is shut =
+pub open_runs : (t : KnownTable) (m n : KnownMachine) (c : KnownCpu) → n ≡ record m { seat = seat_with_visit m.seat c.number 1 } → IsShut m.seat c.number
+    → IsLocalRun c.number (local_of t m c) (open_steps c.number) (local_of t n c)
+open_runs t m n c is shut =
     let p = c.number in
     let legal : (may_zone_act (hold_of m.seat p) 0 && is_held_by p (hold_of m.seat p)) ≡ true =
     and_from _ _ (zone_may_act m.seat p) (ap (is_held_by p) (hold_shut m.seat p shut) ∙ eq-eqb p p refl) in
     let opened : hold_of (seat_with_visit m.seat p 1) p ≡ Visiting p = hold_open (seat_with_visit m.seat p 1) p (put_here 0 m.seat.view.opened p 1) in
-    subst (λ (k : KnownMachine). Reaches p (local_of t m c) (local_of t k c)) (sym is)
-    (one_step p (local_of t m c) _ 0 (OpenVisit p) Done (zone_step (local_of t m c) p (OpenVisit p) Done refl legal tt)
+    subst (λ (k : KnownMachine). IsLocalRun p (local_of t m c) (open_steps c.number) (local_of t k c)) (sym is)
+    (run_one p (local_of t m c) _ 0 (OpenVisit p) Done (zone_step (local_of t m c) p (OpenVisit p) Done refl legal tt)
     (λ i. record (local_of t m c) { hold = opened i }))
 
-pub shut_reaches : (t : KnownTable) (m n : KnownMachine) (c : KnownCpu) → n ≡ record m { seat = seat_with_visit m.seat c.number 0 } → IsOpen m.seat c.number
-    → (account_of m.stock.view c.number).noted ≡ 0 → Reaches c.number (local_of t m c) (local_of t n c)
-shut_reaches t m n c is was_open noted =
+pub shut_runs : (t : KnownTable) (m n : KnownMachine) (c : KnownCpu) → n ≡ record m { seat = seat_with_visit m.seat c.number 0 } → IsOpen m.seat c.number
+    → (account_of m.stock.view c.number).noted ≡ 0 → IsLocalRun c.number (local_of t m c) (shut_steps c.number) (local_of t n c)
+shut_runs t m n c is was_open noted =
     let p = c.number in
     let s = local_of t m c in
     let own = own_part m c in
@@ -98,21 +99,24 @@ shut_reaches t m n c is was_open noted =
     let legal : is_legal s 0 (ShutVisit p) ≡ true =
     and_from _ _ (and_from _ _ (and_from _ _ (and_from _ _ (zone_may_act m.seat p) (visits_open m.seat p was_open)) still) unreported) reported in
     let shut : hold_of (seat_with_visit m.seat p 0) p ≡ HeldBy p = hold_shut (seat_with_visit m.seat p 0) p (put_here 0 m.seat.view.opened p 0) in
-    subst (λ (k : KnownMachine). Reaches p (local_of t m c) (local_of t k c)) (sym is)
-    (one_step p s _ 0 (ShutVisit p) Done (zone_step s p (ShutVisit p) Done refl legal tt) (λ i. record s { hold = shut i }))
+    subst (λ (k : KnownMachine). IsLocalRun p (local_of t m c) (shut_steps c.number) (local_of t k c)) (sym is)
+    (run_one p s _ 0 (ShutVisit p) Done (zone_step s p (ShutVisit p) Done refl legal tt) (λ i. record s { hold = shut i }))
 
 -- the same, of the machine as it was seen before, and of a processor's part that stayed
 pub opens : (t : KnownTable) (m now : KnownMachine) → m ≡ now → (c d : KnownCpu) → d ≡ c → (seat : KnownSeat) → seat ≡ seat_with_visit m.seat c.number 1
-    → IsShut now.seat c.number → Reaches c.number (local_of t now c) (local_of t (record m { seat = seat }) d)
+    → IsShut now.seat c.number → IsLocalRun c.number (local_of t now c) (open_steps c.number) (local_of t (record m { seat = seat }) d)
 opens t m now same c d stays seat is shut =
-    subst (λ (x : KnownMachine × KnownCpu). Reaches c.number (local_of t x.0 c) (local_of t (record m { seat = seat }) x.1)) (λ i. (same i, sym stays i))
-    (open_reaches t m (record m { seat = seat }) c (λ i. record m { seat = is i }) (subst (λ (k : KnownMachine). IsShut k.seat c.number) (sym same) shut))
+    subst (λ (x : KnownMachine × KnownCpu). IsLocalRun c.number (local_of t x.0 c) (open_steps c.number) (local_of t (record m { seat = seat }) x.1))
+    (λ i. (same i, sym stays i))
+    (open_runs t m (record m { seat = seat }) c (λ i. record m { seat = is i }) (subst (λ (k : KnownMachine). IsShut k.seat c.number) (sym same) shut))
 
 pub shuts : (t : KnownTable) (m now : KnownMachine) → m ≡ now → (c d : KnownCpu) → d ≡ c → (seat : KnownSeat) → seat ≡ seat_with_visit m.seat c.number 0
-    → Visits t now c → (account_of m.stock.view c.number).noted ≡ 0 → Reaches c.number (local_of t now c) (local_of t (record m { seat = seat }) d)
+    → Visits t now c → (account_of m.stock.view c.number).noted ≡ 0
+    → IsLocalRun c.number (local_of t now c) (shut_steps c.number) (local_of t (record m { seat = seat }) d)
 shuts t m now same c d stays seat is visit noted =
-    subst (λ (x : KnownMachine × KnownCpu). Reaches c.number (local_of t x.0 c) (local_of t (record m { seat = seat }) x.1)) (λ i. (same i, sym stays i))
-    (shut_reaches t m (record m { seat = seat }) c (λ i. record m { seat = is i }) (subst (λ (k : KnownMachine). IsOpen k.seat c.number)
+    subst (λ (x : KnownMachine × KnownCpu). IsLocalRun c.number (local_of t x.0 c) (shut_steps c.number) (local_of t (record m { seat = seat }) x.1))
+    (λ i. (same i, sym stays i))
+    (shut_runs t m (record m { seat = seat }) c (λ i. record m { seat = is i }) (subst (λ (k : KnownMachine). IsOpen k.seat c.number)
     (sym same) visit.is_open) noted)
 
 -- after the opening the visit is open, and after the shutting it is shut

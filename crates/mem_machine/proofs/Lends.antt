@@ -30,11 +30,12 @@ use Rattle.mem_machine.specs.declared.spot.Spot.{Spot}
 use Rattle.mem_machine.specs.declared.spot.Spot.TheVariants.{Free, Lent, Head, Tail}
 use Rattle.mem_machine.specs.Spots.{spot_at, free_of, group_of, head_group_of, is_in_hand}
 use Rattle.mem_machine.specs.Machines.{KnownMachine, FitsSpot, IsConsistent, IsSeated, Visits, home_of}
-use Rattle.mem_machine.specs.Lending.{LendsOne, LendsNone}
-use Rattle.mem_machine.specs.Local.{local_of, phase_of, part_of, part_with, fresh_group, Reaches}
-use Rattle.mem_machine.proofs.Reaching.{zone_step, cpu_step, one_step, step_before}
+use Rattle.mem_machine.specs.Lending.{LendsByStep, LendsNone}
+use Rattle.mem_machine.specs.Local.{local_of, phase_of, part_of, part_with, fresh_group, IsLocalRun}
+use Rattle.mem_machine.specs.Steps.{lend_steps}
+use Rattle.mem_machine.proofs.Reaching.{zone_step, cpu_step}
 use Rattle.mem_machine.proofs.Holds.{zone_may_act, visits_open, seated_cpu}
-use Rattle.mem_machine.proofs.Records.{free_at, free_is, free_inside, covers_one, free_taken, spots_changed, holds_same, units_stay, charges_stay}
+use Rattle.mem_machine.proofs.Records.{free_at, free_is, free_inside, covers_one, free_taken, some_cpu_is, spots_changed, holds_same, units_stay, charges_stay}
 
 -- ---- parts of the local state
 
@@ -121,7 +122,7 @@ module _ (t : KnownTable) (w : Words) (m : KnownMachine) (c : KnownCpu) (tied : 
   lent_fits =
       let old : FitsSpot (note_of m.seat.view f) (home_of m.links f) Free = subst (λ (x : Spot). FitsSpot (note_of m.seat.view f)
       (home_of m.links f) x) free (ok.spots f inside) in
-      record { own = refl; lent = refl; references = old.references; kept = homeless (home_of m.links f) old.kept }
+      record { own = refl; lent = some_cpu_is c.number tied.seats.some_number; references = old.references; kept = homeless (home_of m.links f) old.kept }
 
   pub lend_consistent : (blocks : List Block) → AreMaximalBlocks (free_of (slice_set m.spots f (Lent c.number))) blocks
       → IsConsistent t w (record m { blocks = blocks; spots = slice_set m.spots f (Lent c.number); seat = seat_with m.seat f (passed_out_to c.number) })
@@ -158,10 +159,10 @@ module _ (t : KnownTable) (w : Words) (m : KnownMachine) (c : KnownCpu) (tied : 
     ];
   }
 
-  pub lend_reaches : (blocks : List Block) → in_hands (note_of c.seat.view f) ≡ 0 → Reaches c.number (local_of t m c)
+  pub lend_runs : (blocks : List Block) → in_hands (note_of c.seat.view f) ≡ 0 → IsLocalRun c.number (local_of t m c) (lend_steps c.number f)
       (local_of t (record m { blocks = blocks; spots = slice_set m.spots f (Lent c.number); seat = seat_with m.seat f (passed_out_to c.number) })
       (record c { list = c.list ++ f ∷ []; seat = seat_with c.seat f took_in }))
-  lend_reaches blocks none =
+  lend_runs blocks none =
       let s = local_of t m c in
       let d : KnownCpu = record c { list = c.list ++ f ∷ []; seat = seat_with c.seat f took_in } in
       let out : State = after s 0 (PassOut f c.number) Done in
@@ -184,10 +185,13 @@ module _ (t : KnownTable) (w : Words) (m : KnownMachine) (c : KnownCpu) (tied : 
       (cond-true (c.number == c.number) (part_with c.list c.fresh c.back (account_of m.stock.view c.number)) (part_with [] [] []
       (account_of m.stock.view c.number))
       (eq-eqb c.number c.number refl))) in
-      let pa = parts_changed m.stock c (c.list ++ f ∷ []) c.fresh c.back _ listed in
-      step_before c.number s _ 0 (PassOut f c.number) Done (zone_step s c.number (PassOut f c.number) Done refl may_pass tt)
-      (one_step c.number out _ c.number (TakeIn f) Done (cpu_step out c.number (TakeIn f) Done refl may_take tt)
-      (λ i. record s { phases = λ g. ph g i; references = λ q x. re q x i; parts = λ q. pa q i }))
+      let pa = parts_changed m.stock c (c.list ++ f ∷ []) c.fresh c.back _ listed in (
+        zone_step s c.number (PassOut f c.number) Done refl may_pass tt,
+        (
+          cpu_step out c.number (TakeIn f) Done refl may_take tt,
+          (λ i. record s { phases = λ g. sym (ph g) i; references = λ q x. sym (re q x) i; parts = λ q. sym (pa q) i }),
+        ),
+      )
     where
       same_phase : (g : ℕ) (y : Spot) → phase_of (record c { list = c.list ++ f ∷ []; seat = seat_with c.seat f took_in }) g y ≡ phase_of c g y
       same_phase g Free = refl
@@ -199,9 +203,8 @@ module _ (t : KnownTable) (w : Words) (m : KnownMachine) (c : KnownCpu) (tied : 
 pub record AllLent (t : KnownTable) (w : Words) (now : KnownMachine) (c : KnownCpu) (n : KnownMachine) (d : KnownCpu) (free : List Bool) : Type 0 where
   pub consistent : IsConsistent t w n
   pub free_is : free ≡ free_of n.spots
-  pub lends : LendsOne now c n d
+  pub lends : LendsByStep t now c n d
   pub visit : Visits t n d
-  pub steps : Reaches c.number (local_of t now c) (local_of t n d)
 
 pub lend_all : (t : KnownTable) (w : Words) (m now : KnownMachine) → m ≡ now → (c d : KnownCpu) → IsTied t w c → IsConsistent t w m → Visits t now c
     → (before free : List Bool) (k : ℕ) (b : Block) (blocks : List Block) (f i q : ℕ) (seat seat' : KnownSeat)
@@ -226,9 +229,12 @@ lend_all t w m now same c d tied ok visit_now before free k b blocks f i q seat 
     let all : AllLent t w m c n e free = record {
       consistent = lend_consistent t w m c tied ok visit f inside there.1 blocks areas_f;
       free_is = free_is;
-      lends = record { frame = f; front = front; areas = areas_f; machine = refl; cpu = refl };
+      lends = record {
+        frame = f;
+        lends = record { front = front; areas = areas_f; machine = refl; cpu = refl };
+        steps = lend_runs t w m c tied ok visit f inside there.1 blocks none;
+      };
       visit = lend_visits t w m c tied ok visit f inside there.1 blocks;
-      steps = lend_reaches t w m c tied ok visit f inside there.1 blocks none;
     } in
     subst (λ (x : KnownMachine × KnownMachine × KnownCpu). AllLent t w x.0 c x.1 x.2 free)
     (λ j. (

@@ -8,7 +8,6 @@ pub mod Many
 pub mod Takes
 pub mod Draining
 pub mod DrainingAll
-pub mod PlainUsage
 pub mod Prepaying
 pub mod Listed
 pub mod Dirties
@@ -17,3 +16,8 @@ pub mod Usage
 pub mod Grants
 pub mod Placed
 pub mod Units
+pub mod Freeing
+pub mod PlacesUnits
+pub mod BlockCharges
+pub mod KeptUnits
+pub mod Interleaves

@@ -70,6 +70,18 @@ fits_home note (Some h) (Some k) spot same fits = record {
   kept = (subst (λ (n : ℕ). n < 64) (sym (some_same 0 k.owner h.owner same)) fits.kept.0, fits.kept.1 ∙ sym same);
 }
 
+-- a frame on no list, which no owner has afterwards, has the record that it had
+none_stays : (h k : Option Home) → option_map (λ (x : Home). x.owner) k ≡ option_map (λ (x : Home). x.owner) h → h ≡ None → k ≡ None
+none_stays h None same none = refl
+none_stays h (Some k) same none = absurd (none-some k.owner (sym (same ∙ ap (option_map (λ (x : Home). x.owner)) none)))
+
+pub loose_stay : (before after : List Link) (owner f : ℕ) → ChangesOwn before after owner
+    → option_map (λ (x : Home). x.owner) (link_at after f).home ≡ option_map (λ (x : Home). x.owner) (link_at before f).home
+    → (link_at before f).home ≡ None → link_at after f ≡ link_at before f
+loose_stay before after owner f changes same none =
+    changes.kept f (ap (λ (h : Option Home). place_of h owner) none)
+    (ap (λ (h : Option Home). place_of h owner) (none_stays (link_at before f).home (link_at after f).home same none))
+
 -- the frame is a unit of one of the two lists
 pub is_listed : List Link → Lru → ℕ → Bool
 is_listed links lru f = is_among (units_of links lru.inactive) f || is_among (units_of links lru.active) f

@@ -1,44 +1,71 @@
 -- Frames that are lent, or taken back, one after the other. Serves the loops of `refill` and `drain_list`.
-use Rattle.std.proofs.Common.{◌≡◌, ℕ, ◌+◌, suc, [], ◌∷◌, length, refl, sym, ap, ◌∙◌, subst, arith, length-append}
+use Rattle.std.proofs.Common.{◌≡◌, ℕ, ◌+◌, ◌≤◌, List, [], ◌∷◌, ◌++◌, take, length, refl, sym, ap, ◌∙◌, subst, arith, length-append}
+use Rattle.std.proofs.lemmas.List.{append_assoc, append-nil}
+use Rattle.std.proofs.Math.Seq.{take-append_seam}
+use Rattle.std.proofs.lemmas.Grind.{flat_map-append}
+use Rattle.std.specs.List.{flat_map}
 use Rattle.zone_blocks.specs.Areas.{HasNoneFrom}
 use Rattle.frame_word.specs.Seats.{KnownTable}
 use Rattle.cpu_part.specs.Cpus.{KnownCpu}
+use Rattle.step_rules.specs.State.{State}
+use Rattle.step_rules.specs.After.{Run}
 use Rattle.mem_machine.specs.Machines.{KnownMachine, Visits}
-use Rattle.mem_machine.specs.Lending.{LendsOne, LendsNone, LendsMany, TakesOneBack, TakesNoneBack, TakesManyBack}
-use Rattle.mem_machine.specs.Local.{local_of, Reaches}
-use Rattle.mem_machine.proofs.Reaching.{reaches_both, no_steps}
+use Rattle.mem_machine.specs.Lending.{LendsOne, LendsNone, LendsMany, LendsByStep, Refills, TakesOneBack, TakesNoneBack, TakesManyBack, TakesBackByStep}
+use Rattle.mem_machine.specs.Local.{local_of, IsLocalRun}
+use Rattle.mem_machine.specs.Steps.{lend_steps, back_steps, drain_list_steps}
+use Rattle.mem_machine.proofs.Reaching.{run_both}
+
+-- the steps of frames, and then of one more
+steps_more : (p : ℕ) (steps : ℕ → Run) (frames : List ℕ) (f : ℕ) (a b c : State) → IsLocalRun p a (flat_map steps frames) b → IsLocalRun p b (steps f) c
+    → IsLocalRun p a (flat_map steps (frames ++ f ∷ [])) c
+steps_more p steps frames f a b c before one =
+    let list : flat_map steps frames ++ steps f ≡ flat_map steps (frames ++ f ∷ []) =
+    sym (flat_map-append steps frames (f ∷ []) ∙ ap (λ (r : Run). flat_map steps frames ++ r) (append-nil (steps f))) in
+    subst (λ (r : Run). IsLocalRun p a r c) list (run_both p (flat_map steps frames) (steps f) a b c before one)
+
+length_more : (frames : List ℕ) (f k : ℕ) → k ≡ length frames → k + 1 ≡ length (frames ++ f ∷ [])
+length_more frames f k all = let a = length-append frames (f ∷ []) in omega (arith, a, all)
+
+-- frames that are lent, and then one more
+lends_more : (frames : List ℕ) (f : ℕ) (m : KnownMachine) (c : KnownCpu) (x : KnownMachine) (y : KnownCpu) (n : KnownMachine) (d : KnownCpu)
+    → LendsMany frames m c x y → LendsOne f x y n d → LendsMany (frames ++ f ∷ []) m c n d
+lends_more [] f m c x y n d before one =
+    (n, d, subst (λ (z : KnownMachine × KnownCpu). LendsOne f z.0 z.1 n d) (λ i. (before.0 i, before.1 i)) one, (refl, refl))
+lends_more (g ∷ frames) f m c x y n d before one = (before.0, before.1, before.2, lends_more frames f before.0 before.1 x y n d before.3 one)
 
 -- what the loop of `refill` keeps after k frames
 pub record LentSoFar (t : KnownTable) (k : ℕ) (m : KnownMachine) (c : KnownCpu) (n : KnownMachine) (d : KnownCpu) : Type 0 where
-  pub lends : LendsMany k m c n d
+  pub refills : Refills t k m c n d
   pub visit : Visits t n d
-  pub steps : Reaches c.number (local_of t m c) (local_of t n d)
   pub number : d.number ≡ c.number
   pub count : length d.list + length d.fresh ≡ length c.list + length c.fresh + k
 
 pub lent_start : (t : KnownTable) (m : KnownMachine) (c : KnownCpu) → Visits t m c → LentSoFar t 0 m c m c
 lent_start t m c visit = record {
-  lends = (refl, refl);
+  refills = record { frames = []; all = refl; lends = (refl, refl); steps = refl };
   visit = visit;
-  steps = no_steps c.number (local_of t m c) (local_of t m c) refl;
   number = refl;
   count = omega arith;
 }
 
 pub lent_more : (t : KnownTable) (k : ℕ) (m : KnownMachine) (c : KnownCpu) (x : KnownMachine) (y : KnownCpu) (n : KnownMachine) (d : KnownCpu)
-    → LentSoFar t k m c x y
-    → LendsOne x y n d → Visits t n d → Reaches y.number (local_of t x y) (local_of t n d) → LentSoFar t (k + 1) m c n d
-lent_more t k m c x y n d before one visit steps =
-    let more : suc k ≡ k + 1 = omega arith in
-    let longer : length d.list ≡ length y.list + 1 = ap (λ (e : KnownCpu). length e.list) one.cpu ∙ length-append y.list (one.frame ∷ []) in
-    let fresh : length d.fresh ≡ length y.fresh = ap (λ (e : KnownCpu). length e.fresh) one.cpu in
+    → LentSoFar t k m c x y → LendsByStep t x y n d → Visits t n d → LentSoFar t (k + 1) m c n d
+lent_more t k m c x y n d before one visit =
+    let so_far = before.refills in
+    let f = one.frame in
+    let longer : length d.list ≡ length y.list + 1 = ap (λ (e : KnownCpu). length e.list) one.lends.cpu ∙ length-append y.list (f ∷ []) in
+    let fresh : length d.fresh ≡ length y.fresh = ap (λ (e : KnownCpu). length e.fresh) one.lends.cpu in
     let count = before.count in
     record {
-      lends = subst (λ (j : ℕ). LendsMany j m c n d) more (x, y, before.lends, one);
+      refills = record {
+        frames = so_far.frames ++ f ∷ [];
+        all = length_more so_far.frames f k so_far.all;
+        lends = lends_more so_far.frames f m c x y n d so_far.lends one.lends;
+        steps = steps_more c.number (lend_steps c.number) so_far.frames f (local_of t m c) (local_of t x y) (local_of t n d) so_far.steps
+            (subst (λ (p : ℕ). IsLocalRun p (local_of t x y) (lend_steps p f) (local_of t n d)) before.number one.steps);
+      };
       visit = visit;
-      steps = reaches_both c.number (local_of t m c) (local_of t x y) (local_of t n d) before.steps
-          (subst (λ (p : ℕ). Reaches p (local_of t x y) (local_of t n d)) before.number steps);
-      number = ap (λ (e : KnownCpu). e.number) one.cpu ∙ before.number;
+      number = ap (λ (e : KnownCpu). e.number) one.lends.cpu ∙ before.number;
       count = omega (arith, longer, fresh, count);
     }
 
@@ -50,32 +77,43 @@ lent_end t k m c x y n d before none = (
   subst (λ (z : KnownMachine). HasNoneFrom z.blocks 0) (sym none.machine) none.none,
 )
 
+-- ---- back
+
+-- frames that are taken back, and then one more
+takes_more : (frames : List ℕ) (f : ℕ) (m : KnownMachine) (c : KnownCpu) (x : KnownMachine) (y : KnownCpu) (n : KnownMachine) (d : KnownCpu)
+    → TakesManyBack frames m c x y → TakesOneBack f x y n d → TakesManyBack (frames ++ f ∷ []) m c n d
+takes_more [] f m c x y n d before one =
+    (n, d, subst (λ (z : KnownMachine × KnownCpu). TakesOneBack f z.0 z.1 n d) (λ i. (before.0 i, before.1 i)) one, (refl, refl))
+takes_more (g ∷ frames) f m c x y n d before one = (before.0, before.1, before.2, takes_more frames f before.0 before.1 x y n d before.3 one)
+
 -- what the loop of `drain_list` keeps after k frames
 pub record TakenSoFar (t : KnownTable) (k : ℕ) (m : KnownMachine) (c : KnownCpu) (n : KnownMachine) (d : KnownCpu) : Type 0 where
-  pub takes : TakesManyBack k m c n d
+  pub frames : List ℕ
+  pub all : k ≡ length frames
+  pub split : c.list ≡ frames ++ d.list
+  pub takes : TakesManyBack frames m c n d
   pub visit : Visits t n d
-  pub steps : Reaches c.number (local_of t m c) (local_of t n d)
+  pub steps : IsLocalRun c.number (local_of t m c) (drain_list_steps c.number frames) (local_of t n d)
   pub number : d.number ≡ c.number
 
 pub taken_start : (t : KnownTable) (m : KnownMachine) (c : KnownCpu) → Visits t m c → TakenSoFar t 0 m c m c
-taken_start t m c visit = record {
-  takes = (refl, refl);
-  visit = visit;
-  steps = no_steps c.number (local_of t m c) (local_of t m c) refl;
-  number = refl;
-}
+taken_start t m c visit =
+    record { frames = []; all = refl; split = refl; takes = (refl, refl); visit = visit; steps = refl; number = refl }
 
 pub taken_more : (t : KnownTable) (k : ℕ) (m : KnownMachine) (c : KnownCpu) (x : KnownMachine) (y : KnownCpu) (n : KnownMachine) (d : KnownCpu)
-    → TakenSoFar t k m c x y
-    → TakesOneBack x y n d → Visits t n d → Reaches y.number (local_of t x y) (local_of t n d) → TakenSoFar t (k + 1) m c n d
-taken_more t k m c x y n d before one visit steps =
-    let more : suc k ≡ k + 1 = omega arith in
+    → TakenSoFar t k m c x y → TakesBackByStep t x y n d → Visits t n d → TakenSoFar t (k + 1) m c n d
+taken_more t k m c x y n d before one visit =
+    let f = one.frame in
+    let left : y.list ≡ f ∷ d.list = one.takes.front ∙ ap (λ (l : List ℕ). f ∷ l) (sym (ap (λ (e : KnownCpu). e.list) one.takes.cpu)) in
     record {
-      takes = subst (λ (j : ℕ). TakesManyBack j m c n d) more (x, y, before.takes, one);
+      frames = before.frames ++ f ∷ [];
+      all = length_more before.frames f k before.all;
+      split = before.split ∙ ap (λ (l : List ℕ). before.frames ++ l) left ∙ sym (append_assoc before.frames (f ∷ []) d.list);
+      takes = takes_more before.frames f m c x y n d before.takes one.takes;
       visit = visit;
-      steps = reaches_both c.number (local_of t m c) (local_of t x y) (local_of t n d) before.steps
-          (subst (λ (p : ℕ). Reaches p (local_of t x y) (local_of t n d)) before.number steps);
-      number = ap (λ (e : KnownCpu). e.number) one.cpu ∙ before.number;
+      steps = steps_more c.number (back_steps c.number) before.frames f (local_of t m c) (local_of t x y) (local_of t n d) before.steps
+          (subst (λ (p : ℕ). IsLocalRun p (local_of t x y) (back_steps p f) (local_of t n d)) before.number one.steps);
+      number = ap (λ (e : KnownCpu). e.number) one.takes.cpu ∙ before.number;
     }
 
 pub taken_end : (t : KnownTable) (k : ℕ) (m : KnownMachine) (c : KnownCpu) (x : KnownMachine) (y : KnownCpu) (n : KnownMachine) (d : KnownCpu)
@@ -85,3 +123,29 @@ taken_end t k m c x y n d before none = (
   subst (λ (z : KnownMachine × KnownCpu). TakenSoFar t k m c z.0 z.1) (λ i. (sym none.machine i, sym none.cpu i)) before,
   ap (λ (e : KnownCpu). e.list) none.cpu ∙ none.none,
 )
+
+-- what was taken after k frames, said of the front of the list
+pub record TakesFront (t : KnownTable) (k : ℕ) (m : KnownMachine) (c : KnownCpu) (n : KnownMachine) (d : KnownCpu) : Type 0 where
+  pub listed : k ≤ length c.list
+  pub takes : TakesManyBack (take k c.list) m c n d
+  pub steps : IsLocalRun c.number (local_of t m c) (drain_list_steps c.number (take k c.list)) (local_of t n d)
+
+pub taken_front : (t : KnownTable) (k : ℕ) (m : KnownMachine) (c : KnownCpu) (n : KnownMachine) (d : KnownCpu) → TakenSoFar t k m c n d
+    → TakesFront t k m c n d
+taken_front t k m c n d so_far =
+    let long : length c.list ≡ length so_far.frames + length d.list = ap length so_far.split ∙ length-append so_far.frames d.list in
+    let all = so_far.all in
+    let front : so_far.frames ≡ take k c.list =
+    sym ((λ i. take (all i) (so_far.split i)) ∙ take-append_seam so_far.frames d.list) in
+    record {
+      listed = omega (arith, long, all);
+      takes = subst (λ (l : List ℕ). TakesManyBack l m c n d) front so_far.takes;
+      steps = subst (λ (l : List ℕ). IsLocalRun c.number (local_of t m c) (drain_list_steps c.number l) (local_of t n d)) front so_far.steps;
+    }
+
+-- the same where all that were asked for were taken
+pub taken_whole : (t : KnownTable) (k count : ℕ) (m : KnownMachine) (c : KnownCpu) (n : KnownMachine) (d : KnownCpu) → TakenSoFar t k m c n d
+    → k ≤ count → count ≤ k → TakesFront t count m c n d
+taken_whole t k count m c n d so_far at_most at_least =
+    let same : k ≡ count = omega (arith, at_most, at_least) in
+    subst (λ (j : ℕ). TakesFront t j m c n d) same (taken_front t k m c n d so_far)

@@ -1,5 +1,5 @@
--- A block that is charged and placed, by its steps: Grant, PlaceBlock, Unfreeze and Publish. For `take_block`.
-use Rattle.std.proofs.Common.{◌≡◌, ℕ, ◌+◌, ◌^◌, ◌<◌, ◌==◌, Bool, true, false, cond, List, refl, sym, ap, ◌∙◌, arith, inl, inr}
+-- A block that is charged and placed, by its steps: Grant, PlaceBlock, Unfreeze and Publish. Serves `take_block`.
+use Rattle.std.proofs.Common.{◌≡◌, ℕ, ◌+◌, ◌^◌, ◌<◌, ◌==◌, Bool, true, false, cond, refl, sym, ap, ◌∙◌, arith, inl, inr}
 use Rattle.std.specs.Prelude.{nat_le}
 use Rattle.std.proofs.lemmas.Bool.{and_from, le-leb, lt-ltb, cases_eq, eq-eqb, ne_eqb}
 use Rattle.std.proofs.lemmas.Nat.{pow_pos}
@@ -13,27 +13,22 @@ use Rattle.cpu_part.specs.Cpus.{KnownCpu, times}
 use Rattle.step_rules.specs.declared.phase.ChargedUnit.{ChargedUnit}
 use Rattle.step_rules.specs.declared.phase.Stage.TheVariants.{Live, BackAt, Bare}
 use Rattle.step_rules.specs.declared.phase.Phase.TheVariants as phase
-use Rattle.step_rules.specs.declared.step.Action.TheVariants.{Grant, PlaceBlock, Unfreeze, Publish}
-use Rattle.step_rules.specs.declared.step.Answer.TheVariants.{Done, Granted, Placed}
+use Rattle.step_rules.specs.declared.step.Action.TheVariants.{PlaceBlock, Unfreeze, Publish}
+use Rattle.step_rules.specs.declared.step.Answer.TheVariants.{Done, Placed}
 use Rattle.step_rules.specs.Phases.{at_stage, is_head, is_head_in_hand}
 use Rattle.step_rules.specs.State.{State, with_at, free_in}
 use Rattle.step_rules.specs.Usage.{usage_of}
 use Rattle.step_rules.specs.After.{after, is_within, placed_phase}
 use Rattle.step_rules.specs.Legal.{is_legal}
 use Rattle.step_rules.proofs.Basics.{at_same, at_other}
-use Rattle.mem_machine.specs.declared.spot.Spot.{Spot}
 use Rattle.mem_machine.specs.declared.spot.Spot.TheVariants.{Head, Tail}
 use Rattle.mem_machine.specs.Spots.{spot_at}
 use Rattle.mem_machine.specs.Machines.{KnownMachine, is_killed}
-use Rattle.mem_machine.specs.Local.{hold_of, references_of, phase_of, part_of, local_of, Reaches}
-use Rattle.mem_machine.proofs.Reaching.{zone_step, one_step, step_before}
+use Rattle.mem_machine.specs.Local.{hold_of, references_of, phase_of, part_of, local_of, IsLocalRun}
+use Rattle.mem_machine.specs.Blocks.{placed_spot, taken_steps}
+use Rattle.mem_machine.proofs.Reaching.{zone_step}
 use Rattle.mem_machine.proofs.Holds.{zone_may_act}
 use Rattle.mem_machine.proofs.Grants.{with_granted, is_granted, pending_is, none_pends}
-
--- the record of a frame after the block was placed for the group
-abbrev pub placed_spot : List Spot → ℕ → Block → ℕ → Spot
-placed_spot spots g b f =
-    cond (is_within b.at (2 ^ b.order) f) (cond (f == b.at) (Head (record { group = g; order = b.order })) (Tail g)) (spot_at spots f)
 
 -- the block stands in the second machine, with one reference of the zone on its head, and all else that is seen is the same
 pub record IsPlaced (m : KnownMachine) (c : KnownCpu) (g : ℕ) (b : Block) (n : KnownMachine) : Type 0 where
@@ -131,20 +126,26 @@ module _ (t : KnownTable) (m : KnownMachine) (c : KnownCpu) (g : ℕ) (b : Block
           ∙ sym (ap (λ (r : ℕ → ℕ). r f) (at_other s.references 0 (with_at (s.references 0) b.at (s.references 0 b.at + 1)) q ne))
     ]
 
-    -- what the second machine shows is reached
-    pub placed_reaches : Reaches c.number (local_of t m c) (local_of t n c)
-    placed_reaches =
-        step_before c.number s (local_of t n c) 0 (Grant g (2 ^ b.order)) Granted (is_granted t m c g (2 ^ b.order) there alive usage path)
-        (step_before c.number granted (local_of t n c) 0 (PlaceBlock g b.order) (Placed b)
-        (zone_step granted c.number (PlaceBlock g b.order) (Placed b) refl may_place (refl, free))
-        (step_before c.number placed (local_of t n c) 0 (Unfreeze b.at 1) Done (zone_step placed c.number (Unfreeze b.at 1) Done refl may_unfreeze tt)
-        (one_step c.number kept (local_of t n c) 0 (Publish b.at) Done (zone_step kept c.number (Publish b.at) Done refl may_publish tt)
-        (λ i. record s {
-          hold = is.hold i;
-          groups = is.groups i;
-          killed = is_killed (is.killed i);
-          phases = λ f. phases_are f i;
-          references = λ q f. references_are q f i;
-          parts = part_of (is.stock i) c;
-          pending = λ h. sym (none_pends t m c g (2 ^ b.order) there alive usage h) i;
-        }))))
+    -- the steps lead to what the second machine shows
+    pub taken_run : IsLocalRun c.number (local_of t m c) (taken_steps g b.order b.at) (local_of t n c)
+    taken_run = (
+      is_granted t m c g (2 ^ b.order) there alive usage path,
+      (
+        zone_step granted c.number (PlaceBlock g b.order) (Placed b) refl may_place (refl, free),
+        (
+          zone_step placed c.number (Unfreeze b.at 1) Done refl may_unfreeze tt,
+          (
+            zone_step kept c.number (Publish b.at) Done refl may_publish tt,
+            (λ i. record s {
+              hold = sym is.hold i;
+              groups = sym is.groups i;
+              killed = is_killed (sym is.killed i);
+              phases = λ f. sym (phases_are f) i;
+              references = λ q f. sym (references_are q f) i;
+              parts = part_of (sym is.stock i) c;
+              pending = λ h. none_pends t m c g (2 ^ b.order) there alive usage h i;
+            }),
+          ),
+        ),
+      ),
+    )

@@ -1,7 +1,7 @@
 -- Pages are charged and fill the processor's stock. Serves `fill_stock` and `prepay`.
 use Rattle.std.proofs.Common.{◌≡◌, ℕ, ◌+◌, ◌-◌, ◌<◌, ◌≤◌, ◌==◌, ◌||◌, Bool, true, false, ◌^◌, Option, Some, None, List, [], ◌∷◌, length}
 use Rattle.std.proofs.Common.{map, refl, sym, ap, ◌∙◌, subst, inl, inr, arith, cond, eq-eqb}
-use Rattle.std.specs.Prelude.{nat_le, not}
+use Rattle.std.specs.Prelude.{nat_le, Result, Ok, Err, OnOk, OnErr, IfErr}
 use Rattle.std.proofs.lemmas.Bool.{cases_eq, ne_eqb, and_from, cond-true, cond-false, cond_both, le-leb}
 use Rattle.std.proofs.lemmas.List.Sums.{sum_by-cons}
 use Rattle.frame_word.specs.Seats.{KnownTable}
@@ -12,15 +12,15 @@ use Rattle.stock_word.specs.Kinds.{filling, after_fill}
 use Rattle.stock_word.specs.Calls.{with_view}
 use Rattle.stock_word.proofs.CallerLemmas.{account_of-with_account, account_of-with_account_other}
 use Rattle.group_tree.specs.declared.group.Group.{Group}
-use Rattle.group_tree.specs.Groups.{has_group, limit_of, in_subtree}
+use Rattle.group_tree.specs.Groups.{has_group, in_subtree}
 use Rattle.group_tree.specs.Room as room
 use Rattle.group_charge.specs.declared.account.Account as charge
 use Rattle.group_charge.specs.Charges.{Ledger, AreCharges, current_of, usage_of, taken, with_charge, PagesRise}
 use Rattle.group_charge.proofs.CallerLemmas.{charge_pages}
 use Rattle.group_charge.proofs.SumLemmas.{share}
 use Rattle.cpu_part.specs.Cpus.{KnownCpu, IsTied, times}
-use Rattle.step_rules.specs.declared.step.Action.TheVariants.{Grant, Fill}
-use Rattle.step_rules.specs.declared.step.Answer.TheVariants.{Done, Granted}
+use Rattle.step_rules.specs.declared.step.Action.TheVariants.{Fill}
+use Rattle.step_rules.specs.declared.step.Answer.TheVariants.{Done}
 use Rattle.step_rules.specs.State.{State, Part, with_at, sum_to}
 use Rattle.step_rules.specs.Legal.{may_fill, is_of_group}
 use Rattle.step_rules.specs.After.{filled, with_pending}
@@ -31,13 +31,15 @@ use Rattle.mem_machine.specs.declared.spot.Spot.{Spot}
 use Rattle.mem_machine.specs.declared.spot.Spot.TheVariants.{Free, Lent, Head, Tail}
 use Rattle.mem_machine.specs.Spots.{spot_at, count_of}
 use Rattle.mem_machine.specs.Machines.{KnownMachine, IsConsistent, Visits, is_killed, booked, pages_booked}
-use Rattle.mem_machine.specs.Local.{local_of, phase_of, part_of, part_with, Reaches}
-use Rattle.mem_machine.specs.Stocks.{uncharged, stock_group, Drains, Fills}
-use Rattle.mem_machine.proofs.Reaching.{zone_step, one_step, step_before}
+use Rattle.mem_machine.specs.Local.{local_of, phase_of, part_of, part_with, IsLocalRun}
+use Rattle.mem_machine.specs.Steps.{drain_steps, fill_steps, over_steps}
+use Rattle.mem_machine.specs.Stocks.{uncharged, stock_group, Drains, Fills, Prepays, IsOver}
+use Rattle.mem_machine.proofs.Reaching.{zone_step, run_both}
 use Rattle.mem_machine.proofs.Holds.{zone_may_act, visits_open, own_part}
 use Rattle.mem_machine.proofs.Lends.{lent_listed}
 use Rattle.mem_machine.proofs.Draining.{booked_is, counts_own, counts_other, cond-same, stocks_consistent, nothing, pending_back, groups_stay, drained_at}
-use Rattle.mem_machine.proofs.PlainUsage.{usage_is}
+use Rattle.mem_machine.proofs.Usage.{usage_is, balanced_alone}
+use Rattle.mem_machine.proofs.Grants.{is_granted, is_over}
 
 -- ---- the accounts
 
@@ -100,16 +102,6 @@ fill_consistent t w m q g k l ok inside empty rise =
 
 -- ---- the steps
 
-fits_same : (o : Option ℕ) (n : ℕ) → room.fits_limit o n ≡ local.fits_limit o n
-fits_same None n = refl
-fits_same (Some limit) n = refl
-
-room_same : (t : KnownTable) (w : Words) (m : KnownMachine) (c : KnownCpu) (g k : ℕ) → IsConsistent t w m → AreCharges m.ledger → c.fresh ≡ []
-    → room.PathHasRoom m.ledger.groups (current_of m.ledger) g k → local.PathHasRoom m.ledger.groups (local.usage_of (local_of t m c)) k g
-room_same t w m c g k ok facts none has = λ x on.
-    ap (λ (u : ℕ). local.fits_limit (limit_of m.ledger.groups x) (u + k)) (sym (usage_is t w m c ok facts none x))
-    ∙ sym (fits_same (limit_of m.ledger.groups x) (current_of m.ledger x + k)) ∙ has x on
-
 -- a processor's part whose stock is filled
 part_filled : (l f b : List ℕ) (a : Account) (g n : ℕ) → length f ≡ 0 → a.noted ≡ 0 → a.book ≡ 0
     → part_with l f b (record a { book = a.book + n; group = Some g; filled = true }) ≡ filled (part_with l f b a) g n
@@ -156,17 +148,18 @@ phase_stays c s f (Lent q) none = lent_listed (record c { stock = s }) f q none 
 phase_stays c s f (Head unit) none = refl
 phase_stays c s f (Tail g) none = refl
 
-pub fill_reaches : (t : KnownTable) (w : Words) (m : KnownMachine) (c : KnownCpu) (g k : ℕ) → IsConsistent t w m
-    → AreCharges m.ledger → Visits t m c → c.fresh ≡ []
+pub fill_runs : (t : KnownTable) (w : Words) (m : KnownMachine) (c : KnownCpu) (g k : ℕ) → IsConsistent t w m
+    → AreCharges m.ledger → IsTied t w c → Visits t m c → c.fresh ≡ []
     → has_group m.ledger.groups g ≡ true → is_killed m.killed g ≡ false → (account_of m.stock.view c.number).book ≡ 0
     → room.PathHasRoom m.ledger.groups (current_of m.ledger) g k
-    → Reaches c.number (local_of t m c) (local_of t (record m {
+    → IsLocalRun c.number (local_of t m c) (fill_steps c.number g k) (local_of t (record m {
       ledger = with_charge m.ledger g k;
       stock =
           with_view m.stock (filling m.stock.view c.number g k);
     })
     (record c { stock = with_view c.stock (after_fill c.stock.view g k) }))
-fill_reaches t w m c g k ok facts visit none there alive empty has =
+fill_runs t w m c g k ok facts tied visit none there alive empty has =
+    let usage : (h : ℕ) → local.usage_of (local_of t m c) h ≡ current_of m.ledger h = usage_is t w m c ok facts visit.lent tied (balanced_alone m c none) in
     let p = c.number in
     let s = local_of t m c in
     let s1 : State = with_pending s g (0 + k) in
@@ -187,36 +180,31 @@ fill_reaches t w m c g k ok facts visit none there alive empty has =
     let phases : (λ (f : ℕ). phase_of d f (spot_at m.spots f)) ≡ (λ f. phase_of c f (spot_at m.spots f))
     = λ i. λ f. phase_stays c (with_view c.stock (after_fill c.stock.view g k)) f (spot_at m.spots f) (ap (times f) none) i in
     let parts = parts_filled m.stock c g k len noted empty in
-    let back = pending_back g (0 + k) k (omega arith) in
-    step_before p s (local_of t (record m {
-      ledger = with_charge m.ledger g k;
-      stock =
-          with_view m.stock (filling m.stock.view p g k);
-    }) d) 0 (Grant g k) Granted
-    (zone_step s p (Grant g k) Granted refl (and_from _ _ (and_from _ _ acts there) (ap not alive)) (room_same t w m c g k ok facts none has))
-    (one_step p s1 _ 0 (Fill p g k) Done (zone_step s1 p (Fill p g k) Done refl legal tt)
-    (λ i. record s { phases = phases i; parts = parts i; pending = sym back i }))
+    let back = pending_back g (0 + k) k (omega arith) in (
+      is_granted t m c g k there alive usage has,
+      (zone_step s1 p (Fill p g k) Done refl legal tt, (λ i. record s { phases = sym phases i; parts = sym parts i; pending = back i })),
+    )
 
 -- what `fill_stock` leaves, of the machine as it was seen before
 pub record Filled (t : KnownTable) (w : Words) (m now : KnownMachine) (g k : ℕ) (c : KnownCpu) (l : Ledger) (stock : Seated) (d : KnownCpu) : Type 0 where
   pub consistent : IsConsistent t w (record m { ledger = l; stock = stock })
   pub fills : Fills g k now c (record m { ledger = l; stock = stock }) d
   pub visit : Visits t (record m { ledger = l; stock = stock }) d
-  pub steps : Reaches c.number (local_of t now c) (local_of t (record m { ledger = l; stock = stock }) d)
+  pub steps : IsLocalRun c.number (local_of t now c) (fill_steps c.number g k) (local_of t (record m { ledger = l; stock = stock }) d)
 
 filled_here : (t : KnownTable) (w : Words) (m : KnownMachine) (c : KnownCpu) (g k : ℕ) → IsConsistent t w m
-    → AreCharges m.ledger → c.number ≤ t.cpus → Visits t m c → c.fresh ≡ []
+    → AreCharges m.ledger → IsTied t w c → Visits t m c → c.fresh ≡ []
     → has_group m.ledger.groups g ≡ true → is_killed m.killed g ≡ false → (account_of m.stock.view c.number).book ≡ 0
     → room.PathHasRoom m.ledger.groups (current_of m.ledger) g k
     → Filled t w m m g k c (with_charge m.ledger g k) (with_view m.stock (filling m.stock.view c.number g k)) (record c {
       stock =
           with_view c.stock (after_fill c.stock.view g k);
     })
-filled_here t w m c g k ok facts inside visit none there alive empty has = record {
-  consistent = fill_consistent t w m c.number g k (with_charge m.ledger g k) ok inside empty (charge_pages m.ledger g k facts there);
+filled_here t w m c g k ok facts tied visit none there alive empty has = record {
+  consistent = fill_consistent t w m c.number g k (with_charge m.ledger g k) ok tied.seats.frame_cpus empty (charge_pages m.ledger g k facts there);
   fills = record { room = has; machine = refl; cpu = refl };
   visit = record { is_open = visit.is_open; still = visit.still; lent = visit.lent };
-  steps = fill_reaches t w m c g k ok facts visit none there alive empty has;
+  steps = fill_runs t w m c g k ok facts tied visit none there alive empty has;
 }
 
 pub filled_all : (t : KnownTable) (w : Words) (m now : KnownMachine) (c : KnownCpu) (g k : ℕ) → m ≡ now
@@ -226,7 +214,7 @@ pub filled_all : (t : KnownTable) (w : Words) (m now : KnownMachine) (c : KnownC
     → stock ≡ with_view m.stock (filling m.stock.view c.number h k) → d
     ≡ record c { stock = with_view c.stock (after_fill c.stock.view h k) } → Filled t w m now g k c l stock d
 filled_all t w m now c g k same ok facts tied visit none there alive empty has l stock d h named charged filled seen =
-    let here = filled_here t w m c g k ok facts tied.seats.frame_cpus (subst (λ (x : KnownMachine). Visits t x c) (sym same) visit) none
+    let here = filled_here t w m c g k ok facts tied (subst (λ (x : KnownMachine). Visits t x c) (sym same) visit) none
     (ap (λ (x : KnownMachine). has_group x.ledger.groups g) same ∙ there) (ap (λ (x : KnownMachine). is_killed x.killed g) same ∙ alive) empty has in
     let stock_is = filled ∙ ap (λ (n : ℕ). with_view m.stock (filling m.stock.view c.number n k)) named in
     let cpu_is = seen ∙ ap (λ (n : ℕ). record c { stock = with_view c.stock (after_fill c.stock.view n k) }) named in
@@ -236,6 +224,30 @@ filled_all t w m now c g k same ok facts tied visit none there alive empty has l
       sym stock_is i,
       sym cpu_is i,
     )) here
+
+-- the grant is refused where a limit has no room, and nothing changes
+pub refused_all : (t : KnownTable) (w : Words) (m now : KnownMachine) → m ≡ now → (c : KnownCpu) (g k over : ℕ) → IsConsistent t w m → AreCharges m.ledger
+    → IsTied t w c → Visits t now c → c.fresh ≡ [] → has_group now.ledger.groups g ≡ true → is_killed now.killed g ≡ false
+    → room.IsLowestOver now.ledger.groups (current_of now.ledger) g k over → IsLocalRun c.number (local_of t now c) (over_steps g k over) (local_of t now c)
+refused_all t w m now same c g k over ok facts tied visit none there alive low =
+    subst (λ (x : KnownMachine). IsLocalRun c.number (local_of t x c) (over_steps g k over) (local_of t x c)) same
+    (let its : Visits t m c = subst (λ (x : KnownMachine). Visits t x c) (sym same) visit in
+    let usage : (h : ℕ) → local.usage_of (local_of t m c) h ≡ current_of m.ledger h = usage_is t w m c ok facts its.lent tied (balanced_alone m c none) in (
+      is_over t m c g k (ap (λ (x : KnownMachine). has_group x.ledger.groups g) same ∙ there)
+          (ap (λ (x : KnownMachine). is_killed x.killed g) same ∙ alive) usage
+          over (subst (λ (x : KnownMachine). room.IsLowestOver x.ledger.groups (current_of x.ledger) g k over) (sym same) low),
+      refl,
+    ))
+
+-- what two clauses of an answer tell together
+pub on_ok_both : {T E : Type 0} (r : Result T E) {P Q R : Type 0} → (P → Q → R) → OnOk r P → OnOk r Q → OnOk r R
+on_ok_both (Ok x) both p q = both p q
+on_ok_both (Err e) both p q = tt
+
+pub if_err_both : {T E : Type 0} (r : Result T E) {P Q R : E → Type 0} {U : Type 0} → ((e : E) → U → P e → Q e → R e)
+    → OnErr r U → IfErr r P → IfErr r Q → IfErr r R
+if_err_both (Ok x) both u p q = tt
+if_err_both (Err e) both u p q = both e u p q
 
 -- ---- after the processor's own stock was drained
 
@@ -258,9 +270,9 @@ current_falls : (l : Ledger) (o : Option ℕ) (n m : ℕ) → current_of (unchar
 current_falls l None n m = omega arith
 current_falls l (Some g) n m = usage_falls l.groups l.accounts g n m
 
-module _ (t : KnownTable) (m x : KnownMachine) (q p k : ℕ) (named : q ≡ p) (d : Drains m q k x) where
-  pub emptied_visits : (c : KnownCpu) → Visits t m c → Visits t x c
-  emptied_visits c visit = subst (λ (y : KnownMachine). Visits t y c) (sym d.machine) (record {
+module _ (m x : KnownMachine) (q p k : ℕ) (named : q ≡ p) (d : Drains m q k x) where
+  pub emptied_visits : (t : KnownTable) (c : KnownCpu) → Visits t m c → Visits t x c
+  emptied_visits t c visit = subst (λ (y : KnownMachine). Visits t y c) (sym d.machine) (record {
     is_open = visit.is_open;
     still =
         visit.still;
@@ -286,3 +298,35 @@ module _ (t : KnownTable) (m x : KnownMachine) (q p k : ℕ) (named : q ≡ p) (
 
   pub emptied_own : Drains m p k x
   emptied_own = subst (λ (n : ℕ). Drains m n k x) named d
+
+  -- the steps of the drain, and then those of the fill or of the grant that is refused
+  module _ (t : KnownTable) (c : KnownCpu) (mine : c.number ≡ p)
+      (drained : IsLocalRun c.number (local_of t m c) (drain_steps q (stock_group m q) k) (local_of t x c)) where
+    drained_own : IsLocalRun c.number (local_of t m c) (drain_steps c.number (stock_group m c.number) k) (local_of t x c)
+    drained_own = subst (λ (n : ℕ). IsLocalRun c.number (local_of t m c) (drain_steps n (stock_group m n) k) (local_of t x c)) (named ∙ sym mine) drained
+
+    own_drain : Drains m c.number k x
+    own_drain = subst (λ (n : ℕ). Drains m n k x) (named ∙ sym mine) d
+
+    pub prepays : (g pages : ℕ) (n : KnownMachine) (e : KnownCpu) → Fills g pages x c n e
+        → IsLocalRun c.number (local_of t x c) (fill_steps c.number g pages) (local_of t n e) → Prepays t g pages m c n e
+    prepays g pages n e fills steps = record {
+      emptied = x;
+      back = k;
+      drains = own_drain;
+      fills = fills;
+      steps = run_both c.number (drain_steps c.number (stock_group m c.number) k) (fill_steps c.number g pages) (local_of t m c) (local_of t x c)
+          (local_of t n e) drained_own steps;
+    }
+
+    pub is_refused : (g pages over : ℕ) (n : KnownMachine) (e : KnownCpu) → n ≡ x → e ≡ c → room.IsLowestOver x.ledger.groups (current_of x.ledger) g pages over
+        → IsLocalRun c.number (local_of t x c) (over_steps g pages over) (local_of t x c) → IsOver t g pages over m c n e
+    is_refused g pages over n e same stays low steps =
+        subst (λ (z : KnownMachine × KnownCpu). IsOver t g pages over m c z.0 z.1) (λ i. (sym same i, sym stays i)) (record {
+          back = k;
+          drains = own_drain;
+          lowest = low;
+          cpu = refl;
+          steps = run_both c.number (drain_steps c.number (stock_group m c.number) k) (over_steps g pages over) (local_of t m c) (local_of t x c)
+              (local_of t x c) drained_own steps;
+        })

@@ -6,7 +6,7 @@ use Rattle.step_rules.specs.State.{State}
 use Rattle.step_rules.specs.Legal.{is_legal, IsAnswer}
 use Rattle.step_rules.specs.After.{Run, after}
 use Rattle.step_rules.specs.Laws.{is_of_lock, IsLocalStep}
-use Rattle.mem_machine.specs.Local.{IsLocalRun, Reaches}
+use Rattle.mem_machine.specs.Local.{IsLocalRun}
 
 -- a step of the zone's seat
 pub zone_step : (s : State) (p : ℕ) (action : Action) (answer : Answer) → is_of_lock action ≡ false → is_legal s 0 action ≡ true → IsAnswer s 0 action answer
@@ -18,23 +18,12 @@ pub cpu_step : (s : State) (p : ℕ) (action : Action) (answer : Answer) → is_
     → IsLocalStep s p p action answer
 cpu_step s p action answer inside legal answered = record { own = inr refl; inside = inside; legal = legal; answered = answered }
 
-pub no_steps : (p : ℕ) (s t : State) → t ≡ s → Reaches p s t
-no_steps p s t same = record { steps = []; leads = sym same }
+-- one step is a list of steps
+pub run_one : (p : ℕ) (s t : State) (seat : ℕ) (action : Action) (answer : Answer) → IsLocalStep s p seat action answer → t ≡ after s seat action answer
+    → IsLocalRun p s ((record { seat = seat; action = action }, answer) ∷ []) t
+run_one p s t seat action answer step same = (step, sym same)
 
-pub one_step : (p : ℕ) (s t : State) (seat : ℕ) (action : Action) (answer : Answer) → IsLocalStep s p seat action answer → t ≡ after s seat action answer
-    → Reaches p s t
-one_step p s t seat action answer step same = record { steps = (record { seat = seat; action = action }, answer) ∷ []; leads = (step, sym same) }
-
--- one step more before a list of steps
-pub step_before : (p : ℕ) (s t : State) (seat : ℕ) (action : Action) (answer : Answer) → IsLocalStep s p seat action answer
-    → Reaches p (after s seat action answer) t → Reaches p s t
-step_before p s t seat action answer step rest = record { steps = (record { seat = seat; action = action }, answer) ∷ rest.steps; leads = (step, rest.leads) }
-
-run_both : (p : ℕ) (one two : Run) (a b c : State) → IsLocalRun p a one b → IsLocalRun p b two c → IsLocalRun p a (one ++ two) c
+-- one list after another
+pub run_both : (p : ℕ) (one two : Run) (a b c : State) → IsLocalRun p a one b → IsLocalRun p b two c → IsLocalRun p a (one ++ two) c
 run_both p [] two a b c first second = subst (λ (s : State). IsLocalRun p s two c) (sym first) second
 run_both p (e ∷ rest) two a b c first second = (first.0, run_both p rest two (after a e.0.seat e.0.action e.1) b c first.1 second)
-
--- what is reached by two lists of steps is reached by one
-pub reaches_both : (p : ℕ) (a b c : State) → Reaches p a b → Reaches p b c → Reaches p a c
-reaches_both p a b c first second =
-    record { steps = first.steps ++ second.steps; leads = run_both p first.steps second.steps a b c first.leads second.leads }

@@ -1,5 +1,5 @@
 -- One frame's record and the zone's note of it change. Serves `lend_one`, `take_one_back` and all calls that move frames.
-use Rattle.std.proofs.Common.{◌≡◌, ℕ, ◌+◌, ◌<◌, Bool, true, false, Some, None, List, [], ◌∷◌, length, get_or, refl, sym, ap, ◌∙◌, subst, inl, inr}
+use Rattle.std.proofs.Common.{◌≡◌, ℕ, ◌+◌, ◌<◌, ◌≤◌, Bool, true, false, Option, Some, None, List, [], ◌∷◌, length, get_or, refl, sym, ap, ◌∙◌, subst, inl, inr}
 use Rattle.std.proofs.Common.{arith, zero, suc}
 use Rattle.std.specs.Prelude.{slice_set}
 use Rattle.std.specs.Cmp.{both_ways}
@@ -13,12 +13,13 @@ use Rattle.frame_word.specs.declared.view.FrameNote.{FrameNote}
 use Rattle.frame_word.specs.Views.{note_of}
 use Rattle.frame_word.specs.Seats.{KnownSeat, seat_with, holds}
 use Rattle.frame_word.proofs.Notes.{note_here, note_else}
-use Rattle.step_rules.specs.State.{sum_to}
+use Rattle.step_rules.specs.declared.phase.ChargedUnit.{ChargedUnit}
+use Rattle.step_rules.specs.State.{sum_to, one_if}
 use Rattle.step_rules.proofs.Sums.{sum_same}
 use Rattle.lru_lists.specs.declared.record.Link.{Link}
 use Rattle.mem_machine.specs.declared.spot.Spot.{Spot}
-use Rattle.mem_machine.specs.declared.spot.Spot.TheVariants.{Free}
-use Rattle.mem_machine.specs.Spots.{spot_at, is_free, free_of, group_of, count_of, AreUnits}
+use Rattle.mem_machine.specs.declared.spot.Spot.TheVariants.{Free, Lent, Head, Tail}
+use Rattle.mem_machine.specs.Spots.{spot_at, is_free, free_of, group_of, count_of, is_in_hand, some_cpu, lent_to, AreUnits}
 use Rattle.mem_machine.specs.Machines.{FitsSpot, home_of, frames_charged}
 
 -- ---- which frames are free
@@ -89,6 +90,28 @@ free_given before after spots f x inside was gives free =
     (λ g ne. let o = gives.others g (λ h. ne (one_covered f g h)) in (o.1, o.0))
 
 -- ---- what the zone's seat notes
+
+pub some_cpu_is : (p : ℕ) → 1 ≤ p → some_cpu p ≡ Some p
+some_cpu_is zero some = absurd (omega (arith, some))
+some_cpu_is (suc p) some = refl
+
+abbrev lent_number : Option ℕ → ℕ
+lent_number None = 0
+lent_number (Some p) = p
+
+-- a frame that is lent to a processor has the record of one
+pub lent_spot : (x : Spot) (p : ℕ) → 1 ≤ p → some_cpu p ≡ lent_to x → x ≡ Lent p
+lent_spot Free p some is = absurd (none-some p (sym is ∙ some_cpu_is p some))
+lent_spot (Lent q) p some is = ap Lent (ap lent_number (sym is ∙ some_cpu_is p some))
+lent_spot (Head unit) p some is = absurd (none-some p (sym is ∙ some_cpu_is p some))
+lent_spot (Tail g) p some is = absurd (none-some p (sym is ∙ some_cpu_is p some))
+
+-- a frame that is lent to none, and isn't in the zone's hand, heads a unit
+pub heads_one : (x : Spot) → some_cpu 0 ≡ lent_to x → 0 ≡ one_if (is_in_hand x) → (unit : ChargedUnit) × (x ≡ Head unit)
+heads_one Free is hand = absurd (omega (arith, hand))
+heads_one (Lent q) is hand = absurd (none-some q is)
+heads_one (Head unit) is hand = (unit, refl)
+heads_one (Tail g) is hand = absurd (omega (arith, hand))
 
 pub spots_changed : (seat : KnownSeat) (links : List Link) (spots : List Spot) (f : ℕ) (change : FrameNote → FrameNote) (x : Spot) (frames : ℕ)
     → f < length spots

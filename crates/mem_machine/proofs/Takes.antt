@@ -1,5 +1,5 @@
 -- The front of the list of the processor that is visited goes back to the free areas. Serves `take_one_back`.
-use Rattle.std.proofs.Common.{◌≡◌, ℕ, ◌+◌, ◌<◌, ◌≤◌, ◌==◌, Bool, true, false, Option, Some, None, List, [], ◌∷◌, length, get_or, refl, sym, ap, ◌∙◌}
+use Rattle.std.proofs.Common.{◌≡◌, ℕ, ◌+◌, ◌<◌, ◌==◌, Bool, true, false, Option, Some, None, List, [], ◌∷◌, length, get_or, refl, sym, ap, ◌∙◌}
 use Rattle.std.proofs.Common.{subst, inl, inr, arith, eq-eqb}
 use Rattle.std.specs.Prelude.{slice_set, IfSome}
 use Rattle.std.proofs.lemmas.Bool.{cases_eq, ne_eqb, and_from, cond-true, lt-ltb, or_left, false≢true}
@@ -28,13 +28,14 @@ use Rattle.step_rules.specs.After.{after, without_frame}
 use Rattle.step_rules.proofs.Basics.{at_same}
 use Rattle.mem_machine.specs.declared.spot.Spot.{Spot}
 use Rattle.mem_machine.specs.declared.spot.Spot.TheVariants.{Free, Lent, Head, Tail}
-use Rattle.mem_machine.specs.Spots.{spot_at, is_free, free_of, group_of, head_group_of, lent_to}
+use Rattle.mem_machine.specs.Spots.{spot_at, is_free, free_of, group_of, head_group_of, some_cpu}
 use Rattle.mem_machine.specs.Machines.{KnownMachine, FitsSpot, IsConsistent, IsSeated, Visits, home_of}
-use Rattle.mem_machine.specs.Lending.{TakesOneBack, TakesNoneBack}
-use Rattle.mem_machine.specs.Local.{local_of, phase_of, part_of, part_with, Reaches}
-use Rattle.mem_machine.proofs.Reaching.{zone_step, cpu_step, one_step, step_before}
+use Rattle.mem_machine.specs.Lending.{TakesBackByStep, TakesNoneBack}
+use Rattle.mem_machine.specs.Local.{local_of, phase_of, part_of, part_with, IsLocalRun}
+use Rattle.mem_machine.specs.Steps.{back_steps}
+use Rattle.mem_machine.proofs.Reaching.{zone_step, cpu_step}
 use Rattle.mem_machine.proofs.Holds.{zone_may_act, visits_open, seated_cpu}
-use Rattle.mem_machine.proofs.Records.{free_at, one_covered, length_free, free_given, spots_changed, holds_same, units_stay, charges_stay}
+use Rattle.mem_machine.proofs.Records.{free_at, one_covered, length_free, free_given, lent_spot, spots_changed, holds_same, units_stay, charges_stay}
 use Rattle.mem_machine.proofs.Lends.{parts_changed, references_stay, lent_listed, phases_changed}
 
 -- a list that hasn't the frame stays without it
@@ -59,18 +60,13 @@ without_front : (f : ℕ) (xs rest : List ℕ) → xs ≡ f ∷ rest → times f
 without_front f xs rest front none =
     ap (without f) front ∙ without_here f rest none
 
--- a frame that is lent to a processor has the record of one
-lent_spot : (x : Spot) (p : ℕ) → 1 ≤ p → p ≡ lent_to x → x ≡ Lent p
-lent_spot (Lent q) p some is = ap Lent (sym is)
-lent_spot x p some is = absurd (omega (arith, some, is))
-
 module _ (t : KnownTable) (w : Words) (m : KnownMachine) (c : KnownCpu) (tied : IsTied t w c) (ok : IsConsistent t w m) (visit : Visits t m c)
     (f : ℕ) (rest : List ℕ) (front : c.list ≡ f ∷ rest) (inside : f < t.frames) (lent : IsLent m.seat f c.number) where
   within : f < length m.spots
   within = let s = ok.sizes.spots in omega (arith, s, inside)
 
   pub is_lent_spot : spot_at m.spots f ≡ Lent c.number
-  is_lent_spot = lent_spot (spot_at m.spots f) c.number tied.seats.some_number (sym lent ∙ (ok.spots f inside).lent)
+  is_lent_spot = lent_spot (spot_at m.spots f) c.number tied.seats.some_number (ap some_cpu (sym lent) ∙ (ok.spots f inside).lent)
 
   -- the frame stands on the list once, and on no other list
   listed_once : times f c.list ≡ 1 + times f rest
@@ -150,10 +146,10 @@ module _ (t : KnownTable) (w : Words) (m : KnownMachine) (c : KnownCpu) (tied : 
   same_phase g (Head unit) = refl
   same_phase g (Tail h) = refl
 
-  pub take_reaches : (blocks : List Block) → Reaches c.number (local_of t m c)
+  pub take_runs : (blocks : List Block) → IsLocalRun c.number (local_of t m c) (back_steps c.number f)
       (local_of t (record m { blocks = blocks; spots = slice_set m.spots f Free; seat = seat_with m.seat f (collected_from c.number) })
       (record c { list = rest; seat = seat_with c.seat f gave_back }))
-  take_reaches blocks =
+  take_runs blocks =
       let p = c.number in
       let s = local_of t m c in
       let d : KnownCpu = record c { list = rest; seat = seat_with c.seat f gave_back } in
@@ -183,18 +179,20 @@ module _ (t : KnownTable) (w : Words) (m : KnownMachine) (c : KnownCpu) (tied : 
         fresh = without_none f c.fresh none_fresh i;
         back = without_none f c.back none_back i;
       })) in
-      let pa = parts_changed m.stock c rest c.fresh c.back _ gone in
-      step_before p s _ p (PassBack f) Done (cpu_step s p (PassBack f) Done refl may_pass tt)
-      (one_step p mid _ 0 (Collect f p) Done (zone_step mid p (Collect f p) Done refl may_collect tt)
-      (λ i. record s { phases = λ g. ph g i; references = λ q x. re q x i; parts = λ q. pa q i }))
+      let pa = parts_changed m.stock c rest c.fresh c.back _ gone in (
+        cpu_step s p (PassBack f) Done refl may_pass tt,
+        (
+          zone_step mid p (Collect f p) Done refl may_collect tt,
+          (λ i. record s { phases = λ g. sym (ph g) i; references = λ q x. sym (re q x) i; parts = λ q. sym (pa q) i }),
+        ),
+      )
 
 -- all of it, of the machine as it was seen before
 pub record AllTaken (t : KnownTable) (w : Words) (now : KnownMachine) (c : KnownCpu) (n : KnownMachine) (d : KnownCpu) (free : List Bool) : Type 0 where
   pub consistent : IsConsistent t w n
   pub free_is : free ≡ free_of n.spots
-  pub takes : TakesOneBack now c n d
+  pub takes : TakesBackByStep t now c n d
   pub visit : Visits t n d
-  pub steps : Reaches c.number (local_of t now c) (local_of t n d)
 
 pub take_all : (t : KnownTable) (w : Words) (m now : KnownMachine) → m ≡ now → (c h d : KnownCpu) → IsTied t w c → IsConsistent t w m → Visits t now c
     → (before free : List Bool) (k : ℕ) (blocks : List Block) (f i : ℕ) (seat : KnownSeat)
@@ -215,9 +213,12 @@ take_all t w m now same c h d tied ok visit_now before free k blocks f i seat wa
     let all : AllTaken t w m c n e free = record {
       consistent = take_consistent t w m c tied ok visit f rest hands.1 inside lent blocks areas_f;
       free_is = free_is;
-      takes = record { frame = f; rest = rest; front = hands.1; areas = areas_f; machine = refl; cpu = refl };
+      takes = record {
+        frame = f;
+        takes = record { rest = rest; front = hands.1; areas = areas_f; machine = refl; cpu = refl };
+        steps = take_runs t w m c tied ok visit f rest hands.1 inside lent blocks;
+      };
       visit = take_visits t w m c tied ok visit f rest hands.1 inside lent blocks;
-      steps = take_reaches t w m c tied ok visit f rest hands.1 inside lent blocks;
     } in
     let number : h.number ≡ c.number = ap (λ (x : KnownCpu). x.number) hands.2 in
     subst (λ (x : KnownMachine × KnownMachine × KnownCpu). AllTaken t w x.0 c x.1 x.2 free)
@@ -254,7 +255,7 @@ pub may_give : (t : KnownTable) (w : Words) (m : KnownMachine) (c : KnownCpu) �
 may_give t w m c tied ok before f i k was inside lent index zero_is =
     let sized = ok.sizes.spots in
     let within : f < length m.spots = omega (arith, inside, sized) in
-    let spot : spot_at m.spots f ≡ Lent c.number = lent_spot (spot_at m.spots f) c.number tied.seats.some_number (sym lent ∙ (ok.spots f inside).lent) in
+    let spot : spot_at m.spots f ≡ Lent c.number = lent_spot (spot_at m.spots f) c.number tied.seats.some_number (ap some_cpu (sym lent) ∙ (ok.spots f inside).lent) in
     let used : get_or before f false ≡ false = ap (λ (l : List Bool). get_or l f false) was ∙ free_at m.spots f within ∙ ap is_free spot in
     let long : length before ≡ length m.spots = ap length was ∙ length_free m.spots in
     subst (λ (x : ℕ × ℕ). IsInUse before (record { at = x.0; order = x.1 })) (λ j. (sym index j, sym zero_is j))

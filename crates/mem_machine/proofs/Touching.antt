@@ -1,6 +1,6 @@
 -- A unit is touched. Serves `touch`.
-use Rattle.std.proofs.Common.{◌≡◌, ◌≢◌, ℕ, ◌<◌, Some, List, length, get_or, refl, sym, ap, ◌∙◌, subst, arith}
-use Rattle.std.specs.Prelude.{slice_set}
+use Rattle.std.proofs.Common.{◌≡◌, ◌≢◌, ℕ, ◌<◌, Some, List, [], length, get_or, refl, sym, ap, ◌∙◌, subst, arith}
+use Rattle.std.specs.Prelude.{slice_set, option_map}
 use Rattle.std.proofs.lemmas.List.{get_or-set_same, get_or-set_other, length-set}
 use Rattle.frame_word.specs.Views.{note_of}
 use Rattle.frame_word.specs.Seats.{KnownTable}
@@ -15,9 +15,8 @@ use Rattle.cpu_part.specs.Cpus.{KnownCpu}
 use Rattle.mem_machine.specs.Spots.{spot_at}
 use Rattle.mem_machine.specs.Machines.{KnownMachine, IsConsistent, home_of, no_lists}
 use Rattle.mem_machine.specs.Marks.{TouchesUnit}
-use Rattle.mem_machine.specs.Local.{local_of, Reaches}
-use Rattle.mem_machine.proofs.Reaching.{no_steps}
-use Rattle.mem_machine.proofs.Listed.{touched_owners, fits_home}
+use Rattle.mem_machine.specs.Local.{local_of, IsLocalRun}
+use Rattle.mem_machine.proofs.Listed.{touched_owners, fits_home, loose_stay}
 use Rattle.mem_machine.proofs.Dirties.{owner_bound, on_list, owned, stands, its_lists}
 
 module _ (t : KnownTable) (w : Words) (m : KnownMachine) (ok : IsConsistent t w m) (f : ℕ) (inside : f < t.frames) (h : Home)
@@ -36,6 +35,10 @@ module _ (t : KnownTable) (w : Words) (m : KnownMachine) (ok : IsConsistent t w 
       (one_of_all_changes m.links links m.lists new ok.lists (subst (λ (k : ℕ). k < length m.lists) (sym (owner ∙ own)) bound) now_stands
       (subst (ChangesOwn m.links links) (sym owner) changes))
 
+  owners : (g : ℕ) → option_map (λ (x : Home). x.owner) (home_of links g) ≡ option_map (λ (x : Home). x.owner) (home_of m.links g)
+  owners = touched_owners m.links links lru new f touched (stands t w m ok f inside h home lru read) now_stands owner changes
+      (λ none. on_list m.links f h home (ap (λ (k : ℕ). list_of m.links k f) (sym own) ∙ none)) touches
+
   pub touch_consistent : IsConsistent t w (record m { links = links; lists = slice_set m.lists h.owner new })
   touch_consistent = record {
     sizes = let s = ok.sizes in record {
@@ -47,9 +50,7 @@ module _ (t : KnownTable) (w : Words) (m : KnownMachine) (ok : IsConsistent t w 
     };
     seats = ok.seats;
     areas = ok.areas;
-    spots = λ g within. fits_home (note_of m.seat.view g) (home_of m.links g) (home_of links g) (spot_at m.spots g)
-        (touched_owners m.links links lru new f touched (stands t w m ok f inside h home lru read) now_stands owner changes
-        (λ none. on_list m.links f h home (ap (λ (k : ℕ). list_of m.links k f) (sym own) ∙ none)) touches g) (ok.spots g within);
+    spots = λ g within. fits_home (note_of m.seat.view g) (home_of m.links g) (home_of links g) (spot_at m.spots g) (owners g) (ok.spots g within);
     units = ok.units;
     lists = all_stand;
     noted = ok.noted;
@@ -71,13 +72,14 @@ module _ (t : KnownTable) (w : Words) (m : KnownMachine) (ok : IsConsistent t w 
         let same = (others_stand m.links links lru.owner (get_or m.lists g no_lists) changes apart (ok.lists g no_lists there).1).1 in
         let stays : get_or (slice_set m.lists h.owner new) g no_lists ≡ get_or m.lists g no_lists = get_or-set_other m.lists h.owner g new no_lists ne in
         (ap (λ (x : Lru). entries_of links x Inactive) stays ∙ same Inactive, ap (λ (x : Lru). entries_of links x Active) stays ∙ same Active);
+    loose = λ g none. loose_stay m.links links lru.owner g changes (owners g) none;
   }
 
 -- all of it, of the machine as it was seen before
 pub record AllTouched (t : KnownTable) (w : Words) (now : KnownMachine) (f : ℕ) (touched : Touched) (n : KnownMachine) : Type 0 where
   pub consistent : IsConsistent t w n
   pub touches : TouchesUnit now f touched n
-  pub steps : (c : KnownCpu) → Reaches c.number (local_of t now c) (local_of t n c)
+  pub steps : (c : KnownCpu) → IsLocalRun c.number (local_of t now c) [] (local_of t n c)
 
 pub touch_all : (t : KnownTable) (w : Words) (m now : KnownMachine) → m ≡ now → IsConsistent t w m → (f i : ℕ) → f < t.frames → i ≡ f → (h : Home)
     → Some h ≡ home_of m.links i → (lru : Lru) → lru ≡ get_or m.lists h.owner lru → (links : List Link) (new : Lru) (touched : Touched) → StandsIn links new
@@ -90,5 +92,5 @@ touch_all t w m now same ok f i inside is h home lru read links new touched now_
     subst (λ (x : KnownMachine). AllTouched t w x f touched n) same (record {
       consistent = touch_consistent t w m ok f inside h at lru read links new touched now_stands owner told changes others all;
       touches = touch_does t w m ok f inside h at lru read links new touched now_stands owner told changes others all;
-      steps = λ c. no_steps c.number (local_of t m c) (local_of t n c) refl;
+      steps = λ c. refl;
     })

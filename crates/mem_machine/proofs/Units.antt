@@ -1,7 +1,6 @@
--- The units after a block of free frames was placed for a group. For `take_block`.
-use Rattle.std.proofs.Common.{◌≡◌, ℕ, ◌+◌, ◌^◌, ◌≤◌, ◌<◌, ◌==◌, Bool, true, false, cond, List, length, refl, sym, ap, ◌∙◌, subst, arith, inl, inr}
-use Rattle.std.proofs.lemmas.Bool.{cases_eq, eq-eqb, ne_eqb}
-use Rattle.std.proofs.lemmas.Nat.{pow_pos}
+-- The units after a block of frames that were charged to no group was placed for one. Serves all calls that charge a unit.
+use Rattle.std.proofs.Common.{◌≡◌, ℕ, ◌+◌, ◌^◌, ◌≤◌, ◌<◌, true, false, None, List, length, refl, sym, ap, ◌∙◌, subst, arith, inl, inr}
+use Rattle.std.proofs.lemmas.Bool.{cases_eq}
 use Rattle.std.proofs.lemmas.Option.{none-some}
 use Rattle.zone_blocks.specs.declared.block.Block.{Block}
 use Rattle.zone_blocks.specs.Block.{IsBlock}
@@ -9,9 +8,10 @@ use Rattle.step_rules.specs.declared.phase.ChargedUnit.{ChargedUnit}
 use Rattle.step_rules.specs.After.{is_within}
 use Rattle.step_rules.proofs.Placing.{within_cases}
 use Rattle.mem_machine.specs.declared.spot.Spot.{Spot}
-use Rattle.mem_machine.specs.declared.spot.Spot.TheVariants.{Free, Head, Tail}
+use Rattle.mem_machine.specs.declared.spot.Spot.TheVariants.{Head, Tail}
 use Rattle.mem_machine.specs.Spots.{spot_at, group_of, head_group_of, AreUnits, IsUnitAt, IsTailOf}
-use Rattle.mem_machine.proofs.Placed.{placed_spot}
+use Rattle.mem_machine.specs.Blocks.{PlacesUnit}
+use Rattle.mem_machine.proofs.PlacesUnits.{head_of_block, tail_of_block, off_block}
 
 -- the unit and the group that a record tells
 abbrev told_unit : Spot → ChargedUnit
@@ -22,41 +22,37 @@ abbrev told_group : Spot → ℕ
 told_group (Tail g) = g
 told_group x = 0
 
-module _ (old new : List Spot) (g : ℕ) (b : Block) (sized : length new ≡ length old) (block : IsBlock (length old) b)
-    (were_free : (f : ℕ) → b.at ≤ f → f < b.at + 2 ^ b.order → spot_at old f ≡ Free) (spots : (f : ℕ) → spot_at new f ≡ placed_spot old g b f)
-    (units : AreUnits old) where
+module _ (old new : List Spot) (g : ℕ) (b : Block) (placed : PlacesUnit old g b new) (block : IsBlock (length old) b)
+    (uncharged : (f : ℕ) → b.at ≤ f → f < b.at + 2 ^ b.order → group_of (spot_at old f) ≡ None) (units : AreUnits old) where
   abbrev mine : ChargedUnit
   mine = record { group = g; order = b.order }
 
-  spot_in : (f : ℕ) → is_within b.at (2 ^ b.order) f ≡ true → f ≡ b.at → spot_at new f ≡ Head mine
-  spot_in f w e =
-      spots f ∙ ap (λ (x : Bool). cond x (cond (f == b.at) (Head mine) (Tail g)) (spot_at old f)) w
-      ∙ ap (λ (x : Bool). cond x (Head mine) (Tail g)) (eq-eqb f b.at e)
+  sized : length new ≡ length old
+  sized = placed.frames
+
+  spot_in : (f : ℕ) → f ≡ b.at → spot_at new f ≡ Head mine
+  spot_in f e = placed.records f ∙ head_of_block old g b f e
 
   spot_tail : (f : ℕ) → is_within b.at (2 ^ b.order) f ≡ true → (f ≡ b.at → ⊥) → spot_at new f ≡ Tail g
-  spot_tail f w ne =
-      spots f ∙ ap (λ (x : Bool). cond x (cond (f == b.at) (Head mine) (Tail g)) (spot_at old f)) w
-      ∙ ap (λ (x : Bool). cond x (Head mine) (Tail g)) (ne_eqb f b.at ne)
+  spot_tail f w ne = placed.records f ∙ tail_of_block old g b f w ne
 
   spot_out : (f : ℕ) → is_within b.at (2 ^ b.order) f ≡ false → spot_at new f ≡ spot_at old f
-  spot_out f w = spots f ∙ ap (λ (x : Bool). cond x (cond (f == b.at) (Head mine) (Tail g)) (spot_at old f)) w
+  spot_out f w = placed.records f ∙ off_block old g b f w
 
   tail_stays : (x h : ℕ) → spot_at old x ≡ Tail h → spot_at new x ≡ Tail h
   tail_stays x h is = elim (within_cases b.at (2 ^ b.order) x) [
-    | inl w ↦ absurd (none-some h (ap group_of (sym (were_free x w.1 w.2) ∙ is)))
+    | inl w ↦ absurd (none-some h (sym (uncharged x w.1 w.2) ∙ ap group_of is))
     | inr out ↦ spot_out x out.0 ∙ is
   ]
 
   head_stays : (x : ℕ) (unit : ChargedUnit) → spot_at old x ≡ Head unit → spot_at new x ≡ Head unit
   head_stays x unit is = elim (within_cases b.at (2 ^ b.order) x) [
-    | inl w ↦ absurd (none-some unit.group (ap group_of (sym (were_free x w.1 w.2) ∙ is)))
+    | inl w ↦ absurd (none-some unit.group (sym (uncharged x w.1 w.2) ∙ ap group_of is))
     | inr out ↦ spot_out x out.0 ∙ is
   ]
 
   head_is : spot_at new b.at ≡ Head mine
-  head_is =
-      let some = pow_pos b.order in
-      elim (within_cases b.at (2 ^ b.order) b.at) [ inl w ↦ spot_in b.at w.0 refl | inr out ↦ absurd (out.1 (omega arith) (omega arith)) ]
+  head_is = spot_in b.at refl
 
   placed_unit : IsUnitAt new b.at mine
   placed_unit = record {
@@ -71,7 +67,7 @@ module _ (old new : List Spot) (g : ℕ) (b : Block) (sized : length new ≡ len
   heads_are f unit is = elim (within_cases b.at (2 ^ b.order) f) [
     | inl w ↦ elim (cases_eq f b.at) [
       | inl e ↦ subst (λ (x : ℕ). IsUnitAt new x unit) (sym e)
-          (subst (IsUnitAt new b.at) (ap told_unit (sym (spot_in f w.0 e) ∙ is)) placed_unit)
+          (subst (IsUnitAt new b.at) (ap told_unit (sym (spot_in f e) ∙ is)) placed_unit)
       | inr ne ↦ absurd (none-some unit.group (ap head_group_of (sym (spot_tail f w.0 ne) ∙ is)))
     ]
     | inr out ↦
@@ -85,7 +81,7 @@ module _ (old new : List Spot) (g : ℕ) (b : Block) (sized : length new ≡ len
   tails_are : (x h : ℕ) → spot_at new x ≡ Tail h → IsTailOf new x h
   tails_are x h is = elim (within_cases b.at (2 ^ b.order) x) [
     | inl w ↦ elim (cases_eq x b.at) [
-      | inl e ↦ absurd (none-some g (ap head_group_of (sym is ∙ spot_in x w.0 e)))
+      | inl e ↦ absurd (none-some g (ap head_group_of (sym is ∙ spot_in x e)))
       | inr ne ↦ record {
         head = b.at;
         unit = mine;

@@ -1,5 +1,5 @@
 -- The usage by the rules of the steps is the ledger's: the caller's fresh frames count for the group of its stock there, and
--- are in its stock's book here. Serves `see_usage`, and so `remove`.
+-- are in its stock's book here. Serves `see_usage` and `fill_stock`, and so `remove` and `prepay`.
 use Rattle.std.proofs.Common.{◌≡◌, ◌≢◌, ℕ, ◌+◌, ◌-◌, ◌<◌, ◌≤◌, ◌==◌, ◌&&◌, Bool, true, false, cond, Option, Some, None, List, [], ◌∷◌, length}
 use Rattle.std.proofs.Common.{get_or, All, AllPairs, refl, sym, ap, ◌∙◌, subst, arith, inl, inr, suc}
 use Rattle.std.specs.Prelude.{◌⊎◌, nat_le}
@@ -33,9 +33,10 @@ use Rattle.step_rules.proofs.Sums.{sum_same, sum_none, sum_both, sum_part, sum_s
 use Rattle.step_rules.proofs.Lists as steps
 use Rattle.mem_machine.specs.declared.spot.Spot.{Spot}
 use Rattle.mem_machine.specs.declared.spot.Spot.TheVariants.{Free, Lent, Head, Tail}
-use Rattle.mem_machine.specs.Spots.{spot_at, lent_to, group_of, count_of}
+use Rattle.mem_machine.specs.Spots.{spot_at, some_cpu, group_of, count_of}
 use Rattle.mem_machine.specs.Machines.{KnownMachine, IsConsistent, booked, pages_booked}
 use Rattle.mem_machine.specs.Local.{number_or_0, fresh_group, phase_of, part_with, part_of, local_of}
+use Rattle.mem_machine.proofs.Records.{lent_spot}
 
 abbrev nothing : ℕ
 nothing = 0
@@ -164,12 +165,6 @@ module _ (groups : List Group) (g : ℕ) where
 
 -- ---- what the caller's part shows
 
-lent_is : (x : Spot) (p : ℕ) → 1 ≤ p → lent_to x ≡ p → x ≡ Lent p
-lent_is Free p some e = absurd (omega arith)
-lent_is (Lent q) p some e = ap Lent e
-lent_is (Head unit) p some e = absurd (omega arith)
-lent_is (Tail g) p some e = absurd (omega arith)
-
 as_steps : (f : ℕ) (xs : List ℕ) → times f xs ≡ steps.times f xs
 as_steps f [] = refl
 as_steps f (x ∷ xs) =
@@ -178,9 +173,10 @@ as_steps f (x ∷ xs) =
     let rest = as_steps f xs in
     omega arith
 
--- what a look at the caller's stock shows: its book is of the group of the stock that it saw last, and has its fresh pages
+-- what a look at the caller's stock shows, and what is so where no frame is fresh: its book is of the group of the stock that it
+-- saw last, if there is a fresh frame, and has its fresh pages
 pub record IsBalanced (m : KnownMachine) (c : KnownCpu) : Type 0 where
-  pub group : (account_of m.stock.view c.number).group ≡ stocks.group_of c.stock.view.last
+  pub group : (length c.fresh ≡ 0) ⊎ ((account_of m.stock.view c.number).group ≡ stocks.group_of c.stock.view.last)
   pub covers : length c.fresh ≤ (account_of m.stock.view c.number).book
   pub none_fresh : stocks.group_of c.stock.view.last ≡ None → length c.fresh ≡ 0
 
@@ -204,7 +200,7 @@ module _ (t : KnownTable) (w : Words) (m : KnownMachine) (c : KnownCpu) (is : Is
       let borrowed_is = noted.borrowed_is in
       let borrowed : (note_of c.seat.view f).borrowed ≡ 1 = omega arith in
       let to = (lent f inside).1 borrowed in
-      (lent_is (spot f) c.number tied.seats.some_number (sym (is.spots f inside).lent ∙ to ∙ tied.seats.frame_number), one)
+      (lent_spot (spot f) c.number tied.seats.some_number (ap some_cpu (sym (to ∙ tied.seats.frame_number)) ∙ (is.spots f inside).lent), one)
 
   lent_keeper : (a b : Bool) (u : ChargedUnit) (q : ℕ) → b ≡ false → keeper_of (cond (a && b) (phase.Head u (FreshAt q)) (phase.Lent q OnList)) ≡ None
   lent_keeper true b u q e = ap (λ (x : Bool). keeper_of (cond x (phase.Head u (FreshAt q)) (phase.Lent q OnList))) e
@@ -265,17 +261,22 @@ module _ (t : KnownTable) (w : Words) (m : KnownMachine) (c : KnownCpu) (is : Is
       omega arith
 
   -- the fresh pages of a stock of this group, where it counts
-  fresh_of : (o : Option ℕ) → (account_of m.stock.view c.number).group ≡ o
+  fresh_of : (account_of m.stock.view c.number).group ≡ stocks.group_of c.stock.view.last → (o : Option ℕ) → (account_of m.stock.view c.number).group ≡ o
       → cond (is_below groups g o) (length c.fresh) 0 ≡ cond (in_subtree groups g (number_or_0 o)) (length c.fresh) 0
-  fresh_of None e =
-      let none : length c.fresh ≡ 0 = balanced.none_fresh (sym balanced.group ∙ e) in
+  fresh_of group None e =
+      let none : length c.fresh ≡ 0 = balanced.none_fresh (sym group ∙ e) in
       sym (ap (λ (n : ℕ). cond (in_subtree groups g 0) n 0) none ∙ cond_zero (in_subtree groups g 0))
-  fresh_of (Some k) e = refl
+  fresh_of group (Some k) e = refl
 
   fresh_is : cond (is_below groups g (book c.number).group) (length c.fresh) 0 ≡ fresh_pages
-  fresh_is =
-      fresh_of (book c.number).group refl
-      ∙ ap (λ (o : Option ℕ). cond (in_subtree groups g (number_or_0 o)) (length c.fresh) 0) balanced.group
+  fresh_is = elim balanced.group [
+    | inl none ↦
+        ap (λ (n : ℕ). cond (is_below groups g (book c.number).group) n 0) none ∙ cond_zero (is_below groups g (book c.number).group)
+        ∙ sym (ap (λ (n : ℕ). cond (in_subtree groups g (fresh_group c)) n 0) none ∙ cond_zero (in_subtree groups g (fresh_group c)))
+    | inr group ↦
+        fresh_of group (book c.number).group refl
+        ∙ ap (λ (o : Option ℕ). cond (in_subtree groups g (number_or_0 o)) (length c.fresh) 0) group
+  ]
 
   plain_part : (b : Bool) (x n : ℕ) → n ≡ 0 → cond b x 0 ≡ cond b (x - 0 - n) 0
   plain_part true x n e = omega arith
@@ -401,10 +402,14 @@ pub looked : (t : KnownTable) (w : Words) (m : KnownMachine) (c : KnownCpu) (sto
     → (stock ≡ c.stock.view.last) ⊎ (stock ≡ stocks.drained_of c.stock.view.last)
     → (c.stock.view.last ≡ stock_is.NoGroup → c.fresh ≡ []) → IsBalanced m c
 looked t w m c stock tied book group last none = record {
-  group = sym group ∙ seen_group stock c.stock.view.last last;
+  group = inr (sym group ∙ seen_group stock c.stock.view.last last);
   covers = let pages = tied.within.pages_are in omega arith;
   none_fresh = λ e. ap length (none (no_group c.stock.view.last e));
 }
+
+-- without fresh frames no look is wanted
+pub balanced_alone : (m : KnownMachine) (c : KnownCpu) → c.fresh ≡ [] → IsBalanced m c
+balanced_alone m c none = record { group = inl (ap length none); covers = let zero_is = ap length none in omega arith; none_fresh = λ e. ap length none }
 
 -- the same, of the machine as it was seen before the look
 pub usage_seen : (t : KnownTable) (w : Words) (m now : KnownMachine) → m ≡ now → (c : KnownCpu) → IsConsistent t w m → AreCharges m.ledger

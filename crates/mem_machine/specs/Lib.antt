@@ -2,6 +2,10 @@ pub mod Spots
 pub mod Machines
 pub mod Local
 pub mod Start
+pub mod Steps
 pub mod Lending
 pub mod Stocks
 pub mod Marks
+pub mod Freeing
+pub mod Blocks
+pub mod Interleaving

@@ -13,7 +13,7 @@ use Rattle.step_rules.specs.declared.phase.Phase.{Phase}
 use Rattle.step_rules.specs.declared.phase.Phase.TheVariants as phase
 use Rattle.step_rules.specs.State.{State, Part}
 -- the lists of local steps that lead from one local state to another
-pub use Rattle.step_rules.specs.Reaches.{IsLocalRun, Reaches}
+pub use Rattle.step_rules.specs.Reaches.{IsLocalRun}
 use Rattle.mem_machine.specs.declared.spot.Spot.{Spot}
 use Rattle.mem_machine.specs.declared.spot.Spot.TheVariants.{Free, Lent, Head, Tail}
 use Rattle.mem_machine.specs.Spots.{spot_at}

@@ -22,7 +22,7 @@ use Rattle.cpu_part.specs.Cpus.{KnownCpu}
 use Rattle.mem_machine.specs.declared.spot.Spot.{Spot}
 use Rattle.mem_machine.specs.declared.spot.Spot.TheVariants.{Free}
 use Rattle.mem_machine.specs.declared.machine.Counts.{Counts}
-use Rattle.mem_machine.specs.Spots.{spot_at, free_of, is_in_hand, lent_to, group_of, head_group_of, count_of, AreUnits}
+use Rattle.mem_machine.specs.Spots.{spot_at, free_of, is_in_hand, some_cpu, lent_to, group_of, head_group_of, count_of, AreUnits}
 
 -- The machine: the free areas, a record for each frame, the groups and their charges, the records through which the units'
 -- lists are linked and two lists for each group number, the zone's seats at the two tables, which group numbers are killed,
@@ -87,7 +87,7 @@ pages_booked t stock g = sum_to (t.cpus + 1) (λ p. booked g (account_of stock.v
 -- of the unit that it heads
 pub record FitsSpot (note : FrameNote) (home : Option Home) (spot : Spot) : Type 0 where
   pub own : note.own ≡ one_if (is_in_hand spot)
-  pub lent : note.lent ≡ lent_to spot
+  pub lent : some_cpu note.lent ≡ lent_to spot
   pub references : note.references ≡ one_if (is_some home)
   pub kept : IfSome home (λ h. (h.owner < 64) × (head_group_of spot ≡ Some h.owner))
 

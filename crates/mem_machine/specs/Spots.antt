@@ -1,5 +1,5 @@
 -- What the record of a frame tells of it, and the units that the records make up.
-use Rattle.std.specs.Prelude.{◌≡◌, ℕ, ◌+◌, ◌^◌, ◌<◌, ◌==◌, Bool, true, false, Option, Some, None, List, length, map, if◌then◌else◌}
+use Rattle.std.specs.Prelude.{◌≡◌, ℕ, zero, suc, ◌+◌, ◌^◌, ◌<◌, ◌==◌, Bool, true, false, Option, Some, None, List, length, map, if◌then◌else◌}
 use Rattle.std.specs.List.{slice_index_or}
 use Rattle.zone_blocks.specs.Block.{IsBlock}
 use Rattle.step_rules.specs.declared.phase.ChargedUnit.{ChargedUnit}
@@ -27,10 +27,15 @@ is_in_hand Free = true
 is_in_hand (Tail g) = true
 is_in_hand _ = false
 
--- the processor that the frame is lent to, 0 where it is lent to none
-abbrev pub lent_to : Spot → ℕ
-lent_to (Lent p) = p
-lent_to _ = 0
+-- the processor of this number; none where it is 0
+abbrev pub some_cpu : ℕ → Option ℕ
+some_cpu zero = None
+some_cpu (suc p) = Some (suc p)
+
+-- the processor that the frame is lent to
+abbrev pub lent_to : Spot → Option ℕ
+lent_to (Lent p) = Some p
+lent_to _ = None
 
 -- the unit that the frame heads
 abbrev pub unit_of : Spot → Option ChargedUnit

@@ -7,7 +7,8 @@ ghost use Rattle.group_charge.specs.Charges.{current_of, with_max_noted, with_gr
 ghost use Rattle.cpu_part.specs.Cpus.{KnownCpu};
 ghost use Rattle.step_rules.specs.Usage.{usage_of};
 ghost use Rattle.mem_machine.specs.Machines.{is_killed, Makes, Visits};
-ghost use Rattle.mem_machine.specs.Local.{Reaches, local_of};
+ghost use Rattle.mem_machine.specs.Local.{IsLocalRun, local_of};
+ghost use Rattle.mem_machine.specs.Steps.{note_max_steps, make_steps, remove_steps, set_max_steps, kill_steps};
 
 use crate::machine::Machine;
 use cpu_part::{BootName, Cpu, Tables};
@@ -20,7 +21,7 @@ impl<N: BootName> Machine<N> {
     pub fn note_max(&mut self, group: GroupId)
         requires { IsTrue (has_group self.old.ledger.groups group) }
         ensures machine { self.new ≡ record self.old { ledger = with_max_noted self.old.ledger group } }
-        ensures steps { (c : KnownCpu) → Reaches c.number (local_of N.frames self.old c) (local_of N.frames self.new c) }
+        ensures steps { (c : KnownCpu) → IsLocalRun c.number (local_of N.frames self.old c) (note_max_steps group) (local_of N.frames self.new c) }
     {
         self.charges.note_max(group);
     }
@@ -30,7 +31,8 @@ impl<N: BootName> Machine<N> {
         ensures made { IfOk result (λ n. Makes self.old n path.now self.new) }
         ensures refused { result_err result ≡ make_fault self.old.ledger.groups path.now }
         ensures unchanged { OnErr result (self.new ≡ self.old) }
-        ensures steps { (c : KnownCpu) → Reaches c.number (local_of N.frames self.old c) (local_of N.frames self.new c) }
+        ensures steps { IfOk result (λ n. (c : KnownCpu)
+            → IsLocalRun c.number (local_of N.frames self.old c) (make_steps path.now n) (local_of N.frames self.new c)) }
     {
         let group = self.charges.make(path)?;
         let number = group.number();
@@ -62,7 +64,7 @@ impl<N: BootName> Machine<N> {
         requires empty { current_of self.old.ledger group ≡ 0 }
         ensures machine { self.new ≡ record self.old { ledger = with_group_removed self.old.ledger group } }
         ensures cpu { cpu.new ≡ cpu.old }
-        ensures steps { Reaches cpu.old.number (local_of N.frames self.old cpu.old) (local_of N.frames self.new cpu.new) }
+        ensures steps { IsLocalRun cpu.old.number (local_of N.frames self.old cpu.old) (remove_steps group) (local_of N.frames self.new cpu.new) }
     {
         self.see_usage(tables, cpu);
         self.charges.remove(group);
@@ -73,7 +75,7 @@ impl<N: BootName> Machine<N> {
         requires there { IsTrue (has_group self.old.ledger.groups group) }
         requires below_root { group ≢ 0 }
         ensures machine { self.new ≡ record self.old { ledger = with_group_limit self.old.ledger group limit } }
-        ensures steps { (c : KnownCpu) → Reaches c.number (local_of N.frames self.old c) (local_of N.frames self.new c) }
+        ensures steps { (c : KnownCpu) → IsLocalRun c.number (local_of N.frames self.old c) (set_max_steps group limit) (local_of N.frames self.new c) }
     {
         self.charges.set_max(group, limit);
     }
@@ -83,7 +85,7 @@ impl<N: BootName> Machine<N> {
         requires there { IsTrue (has_group self.old.ledger.groups group) }
         requires alive { is_killed self.old.killed group ≡ false }
         ensures machine { self.new ≡ record self.old { killed = slice_set self.old.killed group true } }
-        ensures steps { (c : KnownCpu) → Reaches c.number (local_of N.frames self.old c) (local_of N.frames self.new c) }
+        ensures steps { (c : KnownCpu) → IsLocalRun c.number (local_of N.frames self.old c) (kill_steps group) (local_of N.frames self.new c) }
     {
         let number = group.number();
         self.killed[number as usize] = true;

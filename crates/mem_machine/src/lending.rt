@@ -1,10 +1,11 @@
 //! Frames that go between the free areas and the list of the processor that is visited.
 
-ghost use Rattle.std.specs.Prelude.{◌≡◌, ◌+◌, ◌<◌, ◌≤◌, [], length, MatchBool};
+ghost use Rattle.std.specs.Prelude.{◌≡◌, ◌+◌, ◌<◌, ◌≤◌, [], length, take, MatchBool};
 ghost use Rattle.zone_blocks.specs.Areas.{HasNoneFrom};
 ghost use Rattle.mem_machine.specs.Machines.{Visits};
-ghost use Rattle.mem_machine.specs.Lending.{LendsOne, LendsNone, LendsMany, TakesOneBack, TakesNoneBack, TakesManyBack};
-ghost use Rattle.mem_machine.specs.Local.{Reaches, local_of};
+ghost use Rattle.mem_machine.specs.Lending.{LendsByStep, LendsNone, Refills, TakesBackByStep, TakesNoneBack, TakesManyBack};
+ghost use Rattle.mem_machine.specs.Local.{IsLocalRun, local_of};
+ghost use Rattle.mem_machine.specs.Steps.{drain_list_steps};
 
 use crate::machine::Machine;
 use crate::spot::Spot;
@@ -18,9 +19,8 @@ impl<N: BootName> Machine<N> {
     fn lend_one(&mut self, tables: &Tables<N>, cpu: &mut Cpu<N>) -> bool
         requires visit { Visits N.frames self.old cpu.old }
         requires room { length cpu.old.list + length cpu.old.fresh < 256 }
-        ensures lends { MatchBool result (LendsOne self.old cpu.old self.new cpu.new) (LendsNone self.old cpu.old self.new cpu.new) }
+        ensures lends { MatchBool result (LendsByStep N.frames self.old cpu.old self.new cpu.new) (LendsNone self.old cpu.old self.new cpu.new) }
         ensures visit { Visits N.frames self.new cpu.new }
-        ensures steps { Reaches cpu.old.number (local_of N.frames self.old cpu.old) (local_of N.frames self.new cpu.new) }
     {
         let number = cpu.number();
         let Some(block) = self.zone.take(Order::of(0).unwrap()) else {
@@ -41,10 +41,9 @@ impl<N: BootName> Machine<N> {
         requires visit { Visits N.frames self.old cpu.old }
         requires room { length cpu.old.list + length cpu.old.fresh + batch ≤ 256 }
         ensures at_most { result ≤ batch }
-        ensures lends { LendsMany result self.old cpu.old self.new cpu.new }
+        ensures refills { Refills N.frames result self.old cpu.old self.new cpu.new }
         ensures fewer_only_at_the_end { result < batch → HasNoneFrom self.new.blocks 0 }
         ensures visit { Visits N.frames self.new cpu.new }
-        ensures steps { Reaches cpu.old.number (local_of N.frames self.old cpu.old) (local_of N.frames self.new cpu.new) }
     {
         for lent in 0..batch {
             if !self.lend_one(tables, cpu) {
@@ -57,9 +56,8 @@ impl<N: BootName> Machine<N> {
     // Takes the front of the processor's list back, if there is one: it is free again.
     fn take_one_back(&mut self, tables: &Tables<N>, cpu: &mut Cpu<N>) -> bool
         requires { Visits N.frames self.old cpu.old }
-        ensures takes { MatchBool result (TakesOneBack self.old cpu.old self.new cpu.new) (TakesNoneBack self.old cpu.old self.new cpu.new) }
+        ensures takes { MatchBool result (TakesBackByStep N.frames self.old cpu.old self.new cpu.new) (TakesNoneBack self.old cpu.old self.new cpu.new) }
         ensures visit { Visits N.frames self.new cpu.new }
-        ensures steps { Reaches cpu.old.number (local_of N.frames self.old cpu.old) (local_of N.frames self.new cpu.new) }
     {
         let _number = cpu.number();
         let Some(frame) = cpu.hand_front(tables, &mut self.seat) else {
@@ -80,10 +78,12 @@ impl<N: BootName> Machine<N> {
     pub fn drain_list(&mut self, tables: &Tables<N>, cpu: &mut Cpu<N>, count: u32) -> u32
         requires { Visits N.frames self.old cpu.old }
         ensures at_most { result ≤ count }
-        ensures takes { TakesManyBack result self.old cpu.old self.new cpu.new }
+        ensures listed { result ≤ length cpu.old.list }
+        ensures takes { TakesManyBack (take result cpu.old.list) self.old cpu.old self.new cpu.new }
         ensures fewer_only_at_the_end { result < count → cpu.new.list ≡ [] }
         ensures visit { Visits N.frames self.new cpu.new }
-        ensures steps { Reaches cpu.old.number (local_of N.frames self.old cpu.old) (local_of N.frames self.new cpu.new) }
+        ensures steps { IsLocalRun cpu.old.number (local_of N.frames self.old cpu.old)
+            (drain_list_steps cpu.old.number (take result cpu.old.list)) (local_of N.frames self.new cpu.new) }
     {
         for taken in 0..count {
             if !self.take_one_back(tables, cpu) {

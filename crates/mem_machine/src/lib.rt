@@ -2,7 +2,10 @@
 //! their lists of kept units, and the zone's own seats at the two tables. Each call is a list of steps of the core.
 #![tactic(auto)]
 
+mod blocks;
+mod freed;
 mod groups;
+pub mod laws;
 mod lending;
 mod machine;
 mod marks;

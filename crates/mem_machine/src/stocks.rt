@@ -7,8 +7,9 @@ ghost use Rattle.group_tree.specs.Room.{IsLowestOver};
 ghost use Rattle.group_charge.specs.Charges.{current_of};
 ghost use Rattle.cpu_part.specs.Cpus.{KnownCpu};
 ghost use Rattle.mem_machine.specs.Machines.{Visits, is_killed};
-ghost use Rattle.mem_machine.specs.Stocks.{Drains, DrainsBelow, DrainsAllBelow, AreDrained, Fills, Prepays, IsOver, stock_group};
-ghost use Rattle.mem_machine.specs.Local.{Reaches, local_of};
+ghost use Rattle.mem_machine.specs.Stocks.{Drains, DrainsIfBelow, DrainsSubtree, AreDrained, Fills, Prepays, IsOver, stock_group};
+ghost use Rattle.mem_machine.specs.Local.{IsLocalRun, local_of};
+ghost use Rattle.mem_machine.specs.Steps.{drain_steps, fill_steps, over_steps};
 
 use crate::machine::Machine;
 use cpu_part::{BootName, Cpu, Tables};
@@ -22,7 +23,8 @@ impl<N: BootName> Machine<N> {
         requires group { stock_group self.old q ≡ Some group }
         requires fits { group < 64 }
         ensures drains { Drains self.old q result self.new }
-        ensures steps { (c : KnownCpu) → Reaches c.number (local_of N.frames self.old c) (local_of N.frames self.new c) }
+        ensures steps { (c : KnownCpu) → IsLocalRun c.number (local_of N.frames self.old c)
+            (drain_steps q (stock_group self.old q) result) (local_of N.frames self.new c) }
     {
         let _tree = self.charges.tree();
         let pages = tables.stocks.drain(&mut self.stock, q);
@@ -37,7 +39,8 @@ impl<N: BootName> Machine<N> {
     pub fn drain_stock(&mut self, tables: &Tables<N>, q: u32) -> u32
         requires processor { (1 ≤ q) × (q ≤ N.frames.cpus) }
         ensures drains { Drains self.old q result self.new }
-        ensures steps { (c : KnownCpu) → Reaches c.number (local_of N.frames self.old c) (local_of N.frames self.new c) }
+        ensures steps { (c : KnownCpu) → IsLocalRun c.number (local_of N.frames self.old c)
+            (drain_steps q (stock_group self.old q) result) (local_of N.frames self.new c) }
     {
         match tables.stocks.group(&mut self.stock, q) {
             None => 0,
@@ -56,31 +59,31 @@ impl<N: BootName> Machine<N> {
         tree.contains(below) && tree.in_subtree(group, below)
     }
 
-    // Drains the stock of processor q where it is of the subtree of the group.
-    fn drain_below(&mut self, tables: &Tables<N>, q: u32, group: GroupId)
+    // Drains the stock of processor q where it is of the subtree of the group, and tells how many pages came from it.
+    fn drain_below(&mut self, tables: &Tables<N>, q: u32, group: GroupId) -> u32
         requires processor { (1 ≤ q) × (q ≤ N.frames.cpus) }
         requires there { IsTrue (has_group self.old.ledger.groups group) }
-        ensures drains { DrainsBelow group self.old q self.new }
-        ensures steps { (c : KnownCpu) → Reaches c.number (local_of N.frames self.old c) (local_of N.frames self.new c) }
+        ensures { DrainsIfBelow N.frames group q result self.old self.new }
     {
-        if let Some(number) = tables.stocks.group(&mut self.stock, q) {
-            if self.is_below(group, number) {
-                self.drain_of(tables, q, number);
-            }
+        match tables.stocks.group(&mut self.stock, q) {
+            None => 0,
+            Some(number) if self.is_below(group, number) => self.drain_of(tables, q, number),
+            Some(_) => 0,
         }
     }
 
-    /// Drains the stocks of all groups of the subtree of `group`, also where one has no page. The pages come off their books
-    /// and off the charges of their groups. It looks at each processor's stock once.
-    pub fn drain_stocks(&mut self, tables: &Tables<N>, group: GroupId)
+    /// Drains the stocks of all groups of the subtree of `group`, also where one has no page, and tells how many pages were in
+    /// them. They come off the books and off the charges of their groups. It looks at each processor's stock once.
+    pub fn drain_stocks(&mut self, tables: &Tables<N>, group: GroupId) -> u64
         requires there { IsTrue (has_group self.old.ledger.groups group) }
-        ensures drains { DrainsAllBelow group N.frames.cpus self.old self.new }
+        ensures drains { DrainsSubtree N.frames group result self.old self.new }
         ensures drained { AreDrained group N.frames.cpus self.new }
-        ensures steps { (c : KnownCpu) → Reaches c.number (local_of N.frames self.old c) (local_of N.frames self.new c) }
     {
+        let mut pages = 0;
         for before in 0..tables.frames.cpus() {
-            self.drain_below(tables, before + 1, group);
+            pages += u64::from(self.drain_below(tables, before + 1, group));
         }
+        pages
     }
 
     // Charges the pages to the group and fills the processor's stock with them, which is drained.
@@ -102,7 +105,10 @@ impl<N: BootName> Machine<N> {
         ensures over { IfErr result (λ e. IsLowestOver self.old.ledger.groups (current_of self.old.ledger) group pages e.group) }
         ensures unchanged { OnErr result ((self.new ≡ self.old) × (cpu.new ≡ cpu.old)) }
         ensures visit { Visits N.frames self.new cpu.new }
-        ensures steps { Reaches cpu.old.number (local_of N.frames self.old cpu.old) (local_of N.frames self.new cpu.new) }
+        ensures steps { OnOk result (IsLocalRun cpu.old.number (local_of N.frames self.old cpu.old)
+            (fill_steps cpu.old.number group pages) (local_of N.frames self.new cpu.new)) }
+        ensures refused { IfErr result (λ e. IsLocalRun cpu.old.number (local_of N.frames self.old cpu.old)
+            (over_steps group pages e.group) (local_of N.frames self.old cpu.old)) }
     {
         let _number = cpu.number();
         let _tree = self.charges.tree();
@@ -128,10 +134,9 @@ impl<N: BootName> Machine<N> {
         requires pages { (0 < pages) × (pages < 65536) }
         requires fits { current_of self.old.ledger 0 + pages < 2 ^ 32 }
         requires none_fresh { cpu.old.fresh ≡ [] }
-        ensures prepays { OnOk result (Prepays group pages self.old cpu.old self.new cpu.new) }
-        ensures over { IfErr result (λ e. IsOver group pages e.group self.old cpu.old self.new cpu.new) }
+        ensures prepays { OnOk result (Prepays N.frames group pages self.old cpu.old self.new cpu.new) }
+        ensures over { IfErr result (λ e. IsOver N.frames group pages e.group self.old cpu.old self.new cpu.new) }
         ensures visit { Visits N.frames self.new cpu.new }
-        ensures steps { Reaches cpu.old.number (local_of N.frames self.old cpu.old) (local_of N.frames self.new cpu.new) }
     {
         let number = cpu.number();
         self.drain_stock(tables, number);

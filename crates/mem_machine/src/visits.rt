@@ -3,7 +3,8 @@
 ghost use Rattle.std.specs.Prelude.{◌≡◌};
 ghost use Rattle.frame_word.specs.Seats.{IsOpen, IsShut, NothingPasses, LentIsBorrowed, seat_with_visit};
 ghost use Rattle.mem_machine.specs.Machines.{Visits};
-ghost use Rattle.mem_machine.specs.Local.{Reaches, local_of};
+ghost use Rattle.mem_machine.specs.Local.{IsLocalRun, local_of};
+ghost use Rattle.mem_machine.specs.Steps.{open_steps, shut_steps};
 
 use crate::machine::Machine;
 use cpu_part::{BootName, Cpu, Tables};
@@ -15,7 +16,7 @@ impl<N: BootName> Machine<N> {
         ensures machine { self.new ≡ record self.old { seat = seat_with_visit self.old.seat cpu.old.number 1 } }
         ensures cpu { cpu.new ≡ cpu.old }
         ensures visits { Visits N.frames self.new cpu.new }
-        ensures steps { Reaches cpu.old.number (local_of N.frames self.old cpu.old) (local_of N.frames self.new cpu.new) }
+        ensures steps { IsLocalRun cpu.old.number (local_of N.frames self.old cpu.old) (open_steps cpu.old.number) (local_of N.frames self.new cpu.new) }
     {
         let _number = cpu.number();
         cpu.open(tables, &mut self.seat);
@@ -29,7 +30,7 @@ impl<N: BootName> Machine<N> {
         ensures shut { IsShut self.new.seat cpu.new.number }
         ensures still { NothingPasses N.frames self.new.seat cpu.new.seat }
         ensures lent { LentIsBorrowed N.frames self.new.seat cpu.new.seat }
-        ensures steps { Reaches cpu.old.number (local_of N.frames self.old cpu.old) (local_of N.frames self.new cpu.new) }
+        ensures steps { IsLocalRun cpu.old.number (local_of N.frames self.old cpu.old) (shut_steps cpu.old.number) (local_of N.frames self.new cpu.new) }
     {
         let _number = cpu.number();
         cpu.shut(tables, &mut self.seat);

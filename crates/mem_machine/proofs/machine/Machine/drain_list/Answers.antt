@@ -1,5 +1,17 @@
-use Rattle.mem_machine.proofs.Many.{taken_more, taken_end}
+use Rattle.mem_machine.proofs.Many.{taken_more, taken_end, taken_front, taken_whole}
 use Rattle.mem_machine.proofs.machine.Machine.drain_list.Goals as goal
+
+pub returns-then-not-take_one_back-clause-listed : goal.returns-then-not-take_one_back-clause-listed
+returns-then-not-take_one_back-clause-listed g c =
+    (taken_front _ _ _ _ _ _ (taken_end _ _ _ _ _ _ _ _ c.loop-taken.invariant c.if-not-take_one_back.ensures.takes).0).listed
+
+pub returns-then-not-take_one_back-clause-takes : goal.returns-then-not-take_one_back-clause-takes
+returns-then-not-take_one_back-clause-takes g c =
+    (taken_front _ _ _ _ _ _ (taken_end _ _ _ _ _ _ _ _ c.loop-taken.invariant c.if-not-take_one_back.ensures.takes).0).takes
+
+pub returns-then-not-take_one_back-clause-steps : goal.returns-then-not-take_one_back-clause-steps
+returns-then-not-take_one_back-clause-steps g c =
+    (taken_front _ _ _ _ _ _ (taken_end _ _ _ _ _ _ _ _ c.loop-taken.invariant c.if-not-take_one_back.ensures.takes).0).steps
 
 pub returns-then-not-take_one_back-clause-fewer_only_at_the_end : goal.returns-then-not-take_one_back-clause-fewer_only_at_the_end
 returns-then-not-take_one_back-clause-fewer_only_at_the_end g c =
@@ -7,4 +19,13 @@ returns-then-not-take_one_back-clause-fewer_only_at_the_end g c =
 
 pub loop-taken-preserved : goal.loop-taken-preserved
 loop-taken-preserved g c =
-    taken_more _ _ _ _ _ _ _ _ c.loop-taken.invariant c.if-not-take_one_back.ensures.takes c.take_one_back.ensures.visit c.take_one_back.ensures.steps
+    taken_more _ _ _ _ _ _ _ _ c.loop-taken.invariant c.if-not-take_one_back.ensures.takes c.take_one_back.ensures.visit
+
+pub returns-clause-listed : goal.returns-clause-listed
+returns-clause-listed g c = (taken_whole _ _ _ _ _ _ _ c.loop-taken.invariant c.loop-taken.auto.taken-end c.loop-taken-test.false).listed
+
+pub returns-clause-takes : goal.returns-clause-takes
+returns-clause-takes g c = (taken_whole _ _ _ _ _ _ _ c.loop-taken.invariant c.loop-taken.auto.taken-end c.loop-taken-test.false).takes
+
+pub returns-clause-steps : goal.returns-clause-steps
+returns-clause-steps g c = (taken_whole _ _ _ _ _ _ _ c.loop-taken.invariant c.loop-taken.auto.taken-end c.loop-taken-test.false).steps

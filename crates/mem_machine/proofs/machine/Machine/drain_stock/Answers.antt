@@ -1,4 +1,10 @@
-use Rattle.mem_machine.proofs.Draining.{never_drained}
+use Rattle.cpu_part.specs.Cpus.{KnownCpu}
+use Rattle.std.proofs.Common.{subst}
+use Rattle.mem_machine.specs.Machines.{KnownMachine}
+use Rattle.mem_machine.specs.Local.{local_of, IsLocalRun}
+use Rattle.mem_machine.specs.Steps.{drain_steps}
+use Rattle.mem_machine.specs.Stocks.{stock_group}
+use Rattle.mem_machine.proofs.Draining.{never_drained, looked_now}
 use Rattle.mem_machine.proofs.machine.Machine.drain_stock.Goals as goal
 
 pub invariant_of-self : goal.invariant_of-self
@@ -20,3 +26,9 @@ returns-in-None-clause-steps g c =
     (never_drained g.N.BootName.frames g.N.BootName.stocks _ _ c.self.view_is c.self.invariant.0 c.args.q c.requires.processor.0
     c.requires.processor.1 c.in-None.ensures.group _
     c.in-None.ensures.machine).steps
+
+pub returns-in-Some-clause-steps : goal.returns-in-Some-clause-steps
+returns-in-Some-clause-steps g c =
+    subst (λ (x : KnownMachine). (d : KnownCpu) → IsLocalRun d.number (local_of g.N.BootName.frames x d)
+    (drain_steps c.args.q (stock_group x c.args.q) c.drain_of.result) (local_of g.N.BootName.frames c.drain_of.new.self d))
+    (looked_now _ _ c.self.view_is _ c.in-Some.ensures.machine) c.drain_of.ensures.steps

@@ -2,4 +2,4 @@ use Rattle.mem_machine.proofs.DrainingAll.{DrainedSoFar}
 use Rattle.mem_machine.proofs.machine.Machine.drain_stocks.Given as goal
 
 abbrev pub invariant-loop-before : goal.invariant-loop-before
-invariant-loop-before g l = DrainedSoFar g.N.BootName.frames l.group l.before l.fn.self l.self
+invariant-loop-before g l = DrainedSoFar g.N.BootName.frames l.group l.before l.pages l.fn.self l.self

@@ -1,5 +1,10 @@
-use Rattle.std.proofs.Common.{refl}
-use Rattle.mem_machine.proofs.Prepaying.{filled_all}
+use Rattle.std.proofs.Common.{refl, rules}
+use Rattle.std.specs.Prelude.{IfErr}
+use Rattle.std.proofs.lemmas.Result.{IfErr-weaker}
+use Rattle.group_tree.specs.Room.{IsLowestOver}
+use Rattle.group_charge.specs.declared.charges.Over.{Over}
+use Rattle.group_charge.specs.Charges.{current_of}
+use Rattle.mem_machine.proofs.Prepaying.{filled_all, refused_all}
 use Rattle.mem_machine.proofs.machine.Machine.fill_stock.Goals as goal
 
 pub invariant_of-self-2 : goal.invariant_of-self-2
@@ -17,3 +22,11 @@ returns-clause-steps g c =
     c.number-number.ensures.tied c.requires.visit c.requires.none_fresh c.requires.there c.requires.alive
     c.fill.ensures.nothing_booked (c.in_ok-try_charge.ensures.granted.0 refl)
     _ _ _ _ c.number.ensures.value c.in_ok-try_charge.ensures.charged c.fill.ensures.machine c.fill.ensures.cpu).steps
+
+pub returns-in_err-try_charge-clause-refused : goal.returns-in_err-try_charge-clause-refused
+returns-in_err-try_charge-clause-refused g c =
+    let over : IfErr c.from_residual.result (λ (e : Over). IsLowestOver c.args.self.now.ledger.groups (current_of c.args.self.now.ledger) c.args.group
+    c.args.pages e.group) = search rules in
+    IfErr-weaker c.from_residual.result _ _ (λ e low. refused_all g.N.BootName.frames g.N.BootName.stocks _ _ c.self.view_is c.args.cpu.now c.args.group
+    c.args.pages e.group c.self.invariant.0 c.tree-tree.ensures.legal c.number-number.ensures.tied c.requires.visit c.requires.none_fresh c.requires.there
+    c.requires.alive low) over

@@ -49,14 +49,6 @@ returns-clause-visit g c =
     c.in-Some.ensures.areas c.in-Some-frame.ensures.0 c.number.ensures c.number-number.ensures.number c.pass_out.ensures.zone c.accept.ensures.zone
     c.accept.ensures.cpu c.accept.ensures.nothing.1.1).visit
 
-pub returns-clause-steps : goal.returns-clause-steps
-returns-clause-steps g c =
-    let k0 : c.unwrap.result ≡ 0 = search rules in
-    (lend_all g.N.BootName.frames g.N.BootName.stocks _ _ c.self.view_is c.args.cpu.now _ c.number-number.ensures.tied c.self.invariant.0 c.requires.visit _ _
-    c.unwrap.result c.in-Some.block _ c.in-Some-frame.frame _ c.number-number.result _ _ c.self.invariant.1 k0 c.in-Some.ensures.taken c.in-Some.ensures.frames
-    c.in-Some.ensures.areas c.in-Some-frame.ensures.0 c.number.ensures c.number-number.ensures.number c.pass_out.ensures.zone c.accept.ensures.zone
-    c.accept.ensures.cpu c.accept.ensures.nothing.1.1).steps
-
 pub unreachable-requires : goal.unreachable-requires
 unreachable-requires g c =
     let k0 : c.unwrap.result ≡ 0 = search rules in

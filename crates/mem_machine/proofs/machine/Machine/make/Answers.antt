@@ -1,6 +1,6 @@
 use Rattle.std.proofs.Common.{ℕ, ◌<◌, false, length, arith, ap}
 use Rattle.std.specs.Prelude.{slice_set}
-use Rattle.mem_machine.proofs.GroupSteps.{made_reaches}
+use Rattle.mem_machine.proofs.GroupSteps.{made_runs}
 use Rattle.mem_machine.proofs.machine.Machine.make.Goals as goal
 
 pub returns-clause-steps : goal.returns-clause-steps
@@ -9,6 +9,6 @@ returns-clause-steps g c =
     let below = c.number-number.ensures.below in
     let sized = c.self.invariant.0.sizes.killed in
     let inside : c.in_ok-group.group < length c.self.inside.killed.items = omega (arith, value, below, sized) in
-    made_reaches g.N.BootName.frames _ _ c.self.view_is _ _ c.in_ok-group.group c.args.path.now inside c.in_ok-group.ensures.refused
+    made_runs g.N.BootName.frames _ _ c.self.view_is _ _ c.in_ok-group.group c.args.path.now inside c.in_ok-group.ensures.refused
     c.in_ok-group.ensures.least
     c.in_ok-group.ensures.made (ap (λ (n : ℕ). slice_set c.self.inside.killed.items n false) value)

@@ -42,13 +42,3 @@ returns-clause-visit g c =
     (take_all g.N.BootName.frames g.N.BootName.stocks _ _ c.self.view_is c.args.cpu.now c.hand_front.new.self _ c.number-number.ensures.tied c.self.invariant.0
     c.requires _ _ c.unwrap.result _ c.in-Some.frame _ _ c.self.invariant.1 k0 c.give.ensures.frames c.give.ensures.areas inside c.in-Some.ensures.borrowed.1
     c.number-at.ensures c.in-Some.ensures.answer collected c.collect.ensures.cpu).visit
-
-pub returns-clause-steps : goal.returns-clause-steps
-returns-clause-steps g c =
-    let k0 : c.unwrap.result ≡ 0 = search rules in
-    let inside : c.in-Some.frame < g.N.BootName.frames.frames = search rules in
-    let collected = c.collect.ensures.zone ∙ ap (λ (s : KnownSeat). seat_with s c.in-Some.frame
-    (collected_from c.hand_front.new.self.number)) c.in-Some.ensures.zone in
-    (take_all g.N.BootName.frames g.N.BootName.stocks _ _ c.self.view_is c.args.cpu.now c.hand_front.new.self _ c.number-number.ensures.tied c.self.invariant.0
-    c.requires _ _ c.unwrap.result _ c.in-Some.frame _ _ c.self.invariant.1 k0 c.give.ensures.frames c.give.ensures.areas inside c.in-Some.ensures.borrowed.1
-    c.number-at.ensures c.in-Some.ensures.answer collected c.collect.ensures.cpu).steps

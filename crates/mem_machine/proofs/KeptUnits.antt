@@ -1,0 +1,222 @@
+-- Frames that were charged to no group become a unit of one, whose head comes to the newest end of the group's inactive list:
+-- the machine is consistent again. Serves all calls that put a unit into use, of one frame or of a block.
+use Rattle.std.proofs.Common.{◌≡◌, ◌≢◌, ℕ, ◌+◌, ◌^◌, ◌≤◌, ◌<◌, ◌==◌, false, cond, Option, Some, None, List, [], ◌∷◌, ◌++◌, length, get_or}
+use Rattle.std.proofs.Common.{refl, sym, ap, ◌∙◌, subst, arith, inl, inr}
+use Rattle.std.specs.Prelude.{slice_set, IfSome}
+use Rattle.std.proofs.lemmas.Bool.{cases_eq}
+use Rattle.std.proofs.lemmas.List.{get_or_default, get_or-set_same, get_or-set_other, length-set}
+use Rattle.std.proofs.lemmas.Option.{none-some}
+use Rattle.zone_blocks.specs.declared.block.Block.{Block}
+use Rattle.zone_blocks.specs.Block.{IsBlock}
+use Rattle.zone_blocks.specs.Areas.{AreMaximalBlocks}
+use Rattle.frame_word.specs.declared.view.FrameNote.{FrameNote}
+use Rattle.frame_word.specs.Views.{note_of}
+use Rattle.frame_word.specs.Seats.{KnownTable, KnownSeat, seat_with}
+use Rattle.frame_word.proofs.Notes.{note_here, note_else}
+use Rattle.stock_word.specs.Stock.{Words, Seated, IsMachine, account_of}
+use Rattle.group_charge.specs.Charges.{Ledger, pages_of}
+use Rattle.lru_lists.specs.declared.record.Link.{Link}
+use Rattle.lru_lists.specs.declared.record.Home.{Home}
+use Rattle.lru_lists.specs.declared.record.LruList.TheVariants.{Inactive, Active}
+use Rattle.lru_lists.specs.declared.lru.Lru.{Lru}
+use Rattle.lru_lists.specs.Queue.{link_at}
+use Rattle.lru_lists.specs.Lists.{OthersStand, OneOfAllChanges, StandsIn, AllStand, ChangesOwn, MovesOnly, IsOnNone, entries_of, inactive_of, active_of}
+use Rattle.lru_lists.specs.Lists as lists
+use Rattle.step_rules.proofs.Placing.{within_cases}
+use Rattle.mem_machine.specs.declared.spot.Spot.{Spot}
+use Rattle.mem_machine.specs.declared.spot.Spot.TheVariants.{Free, Lent, Head, Tail}
+use Rattle.mem_machine.specs.declared.machine.Counts.{Counts}
+use Rattle.mem_machine.specs.Spots.{spot_at, free_of, group_of, head_group_of, some_cpu}
+use Rattle.mem_machine.specs.Machines.{KnownMachine, FitsSpot, IsConsistent, home_of, lists_at, no_lists, frames_charged, pages_booked}
+use Rattle.mem_machine.specs.Blocks.{PlacesUnit, ListsUnit}
+use Rattle.mem_machine.proofs.PlacesUnits.{head_of_block, tail_of_block, off_block}
+use Rattle.mem_machine.proofs.BlockCharges.{charges_rise}
+use Rattle.mem_machine.proofs.Units.{units_placed}
+
+-- a frame that is charged to no group stands on no list
+homeless : (h : Option Home) (x : Spot) → group_of x ≡ None → IfSome h (λ k. (k.owner < 64) × (head_group_of x ≡ Some k.owner)) → h ≡ None
+homeless None x none is = refl
+homeless (Some k) x none is = absurd (none-some k.owner (sym (no_head x none) ∙ is.1))
+  where
+    no_head : (y : Spot) → group_of y ≡ None → head_group_of y ≡ None
+    no_head Free e = refl
+    no_head (Lent q) e = refl
+    no_head (Head unit) e = absurd (none-some unit.group (sym e))
+    no_head (Tail g) e = refl
+
+pub stands_nowhere : (t : KnownTable) (w : Words) (m : KnownMachine) → IsConsistent t w m → (f : ℕ) → f < t.frames → group_of (spot_at m.spots f) ≡ None
+    → IsOnNone m.links f
+stands_nowhere t w m ok f inside none = homeless (home_of m.links f) (spot_at m.spots f) none (ok.spots f inside).kept
+
+-- ---- the lists of the group
+
+-- the lists of a group number, as they are read from the machine
+module _ (t : KnownTable) (w : Words) (m : KnownMachine) (ok : IsConsistent t w m) (g : ℕ) (fits : g < 64) (any lru : Lru) (read : lru ≡ get_or m.lists g any) where
+  pub there : g < length m.lists
+  there = let a = ok.sizes.lists in omega (arith, a, fits)
+
+  pub read_owner : lru.owner ≡ g
+  read_owner = ap (λ (x : Lru). x.owner) read ∙ (ok.lists g any there).0
+
+  pub read_stands : StandsIn m.links lru
+  read_stands = subst (StandsIn m.links) (sym read) (ok.lists g any there).1
+
+  pub read_is : lists_at m g ≡ lru
+  read_is = sym (read ∙ get_or_default m.lists g any no_lists there)
+
+-- a unit was added to them
+pub record IsAdded (links : List Link) (lru : Lru) (f : ℕ) (after : List Link) (new : Lru) : Type 0 where
+  pub stands : StandsIn after new
+  pub owner : new.owner ≡ lru.owner
+  pub inactive : inactive_of after new ≡ inactive_of links lru ++ record { number = f; is_marked = false; is_dirty = false } ∷ []
+  pub active : active_of after new ≡ active_of links lru
+  pub changes : ChangesOwn links after lru.owner
+  pub moves : MovesOnly links after lru.owner f
+  pub joined : (link_at after f).home ≡ Some (lists.home_of lru Inactive)
+
+module _ (t : KnownTable) (w : Words) (m : KnownMachine) (ok : IsConsistent t w m) (g : ℕ) (fits : g < 64) (any lru : Lru) (read : lru ≡ get_or m.lists g any)
+    (f : ℕ) (links : List Link) (new : Lru) (added : IsAdded m.links lru f links new) (others_stand : OthersStand)
+    (one_of_all_changes : OneOfAllChanges) where
+  own : lru.owner ≡ g
+  own = read_owner t w m ok g fits any lru read
+
+  room : g < length m.lists
+  room = there t w m ok g fits any lru read
+
+  pub all_stand : AllStand links (slice_set m.lists g new)
+  all_stand = subst (λ (k : ℕ). AllStand links (slice_set m.lists k new)) (added.owner ∙ own)
+      (one_of_all_changes m.links links m.lists new ok.lists (subst (λ (k : ℕ). k < length m.lists) (sym (added.owner ∙ own)) room) added.stands
+      (subst (ChangesOwn m.links links) (sym added.owner) added.changes))
+
+  pub joined_home : home_of links f ≡ Some (record { owner = g; list = Inactive })
+  joined_home = added.joined ∙ (λ i. Some (record { owner = own i; list = Inactive }))
+
+  -- in every machine with these lists the unit is listed, and all others are as they were
+  pub unit_listed : (x : KnownMachine) → ListsUnit m g f (record x { links = links; lists = slice_set m.lists g new })
+  unit_listed x =
+      let now : get_or (slice_set m.lists g new) g no_lists ≡ new = get_or-set_same m.lists g new no_lists room in
+      let was : lru ≡ lists_at m g = sym (read_is t w m ok g fits any lru read) in
+      record {
+        stands = joined_home;
+        homes = λ y ne. added.moves.home y ne;
+        inactive = ap (inactive_of links) now ∙ added.inactive
+            ∙ ap (λ (l : Lru). inactive_of m.links l ++ record { number = f; is_marked = false; is_dirty = false } ∷ []) was;
+        active = ap (active_of links) now ∙ added.active ∙ ap (active_of m.links) was;
+        others = λ h within ne.
+            let sized = ok.sizes.lists in
+            let inside : h < length m.lists = omega (arith, within, sized) in
+            let apart : (get_or m.lists h no_lists).owner ≢ lru.owner = λ e. ne (sym (ok.lists h no_lists inside).0 ∙ e ∙ own) in
+            let same = (others_stand m.links links lru.owner (get_or m.lists h no_lists) added.changes apart (ok.lists h no_lists inside).1).1 in
+            let stays : get_or (slice_set m.lists g new) h no_lists ≡ get_or m.lists h no_lists = get_or-set_other m.lists g h new no_lists ne in
+            (ap (λ (l : Lru). entries_of links l Inactive) stays ∙ same Inactive, ap (λ (l : Lru). entries_of links l Active) stays ∙ same Active);
+      }
+
+-- ---- the records and the notes
+
+fits_with : (note now : FrameNote) (home here : Option Home) (spot x : Spot) → now ≡ note → here ≡ home → x ≡ spot → FitsSpot note home spot
+    → FitsSpot now here x
+fits_with note now home here spot x a b c fits =
+    subst (λ (y : FrameNote × Option Home × Spot). FitsSpot y.0 y.1 y.2) (λ i. (sym a i, sym b i, sym c i)) fits
+
+-- a free frame that becomes a tail is in the zone's hand as before
+tail_fits : (note : FrameNote) (home : Option Home) (g : ℕ) → FitsSpot note home Free → FitsSpot note home (Tail g)
+tail_fits note home g fits = record {
+  own = fits.own;
+  lent = fits.lent;
+  references = fits.references;
+  kept = subst (λ (h : Option Home). IfSome h (λ k. (k.owner < 64) × (head_group_of (Tail g) ≡ Some k.owner))) (sym (homeless home Free refl fits.kept)) tt;
+}
+
+-- the zone's note of a frame in use: it is in no hand, lent to no one, and the zone has one reference on it
+pub record IsUsed (note : FrameNote) : Type 0 where
+  pub own : note.own ≡ 0
+  pub lent : note.lent ≡ 0
+  pub references : note.references ≡ 1
+
+head_fits : (note : FrameNote) (g k : ℕ) → g < 64 → IsUsed note
+    → FitsSpot note (Some (record { owner = g; list = Inactive })) (Head (record { group = g; order = k }))
+head_fits note g k fits used = record { own = used.own; lent = ap some_cpu used.lent; references = used.references; kept = (fits, refl) }
+
+module _ (t : KnownTable) (w : Words) (m : KnownMachine) (ok : IsConsistent t w m) (g : ℕ) (fits : g < 64) (b : Block) (spots : List Spot)
+    (placed : PlacesUnit m.spots g b spots)
+    (rest : (x : ℕ) → b.at ≤ x → x < b.at + 2 ^ b.order → x ≢ b.at → spot_at m.spots x ≡ Free)
+    (links : List Link) (joined : home_of links b.at ≡ Some (record { owner = g; list = Inactive }))
+    (homes : (x : ℕ) → x ≢ b.at → home_of links x ≡ home_of m.links x) (change : FrameNote → FrameNote)
+    (used : IsUsed (change (note_of m.seat.view b.at))) where
+  abbrev seat : KnownSeat
+  seat = seat_with m.seat b.at change
+
+  pub unit_fits : (x : ℕ) → x < t.frames → FitsSpot (note_of seat.view x) (home_of links x) (spot_at spots x)
+  unit_fits x inside = elim (cases_eq x b.at) [
+    | inl e ↦ subst (λ (y : ℕ). FitsSpot (note_of seat.view y) (home_of links y) (spot_at spots y)) (sym e)
+        (fits_with (change (note_of m.seat.view b.at)) (note_of seat.view b.at) (Some (record { owner = g; list = Inactive })) (home_of links b.at)
+        (Head (record { group = g; order = b.order })) (spot_at spots b.at) (note_here m.seat.view b.at change) joined
+        (placed.records b.at ∙ head_of_block m.spots g b b.at refl) (head_fits (change (note_of m.seat.view b.at)) g b.order fits used))
+    | inr ne ↦ elim (within_cases b.at (2 ^ b.order) x) [
+      | inl within ↦
+          let free = rest x within.1 within.2 ne in
+          let old : FitsSpot (note_of m.seat.view x) (home_of m.links x) Free =
+          subst (λ (y : Spot). FitsSpot (note_of m.seat.view x) (home_of m.links x) y) free (ok.spots x inside) in
+          fits_with (note_of m.seat.view x) (note_of seat.view x) (home_of m.links x) (home_of links x) (Tail g) (spot_at spots x)
+          (note_else m.seat.view b.at x change ne) (homes x ne) (placed.records x ∙ tail_of_block m.spots g b x within.0 ne)
+          (tail_fits (note_of m.seat.view x) (home_of m.links x) g old)
+      | inr out ↦
+          fits_with (note_of m.seat.view x) (note_of seat.view x) (home_of m.links x) (home_of links x) (spot_at m.spots x) (spot_at spots x)
+          (note_else m.seat.view b.at x change ne) (homes x ne) (placed.records x ∙ off_block m.spots g b x out.0) (ok.spots x inside)
+    ]
+  ]
+
+-- ---- all of it
+
+-- what else changed where a unit of so many frames joined its group: the free areas, the stocks, and the charges of all
+-- groups, which fit the frames and the books
+pub record JoinsCharges (t : KnownTable) (w : Words) (m : KnownMachine) (g pages : ℕ) (spots : List Spot) (blocks : List Block) (ledger : Ledger)
+    (stock : Seated) : Type 0 where
+  pub areas : AreMaximalBlocks (free_of spots) blocks
+  pub table : stock.table ≡ w.table
+  pub stocks : IsMachine stock.view
+  pub noted : (p : ℕ) → (account_of stock.view p).noted ≡ 0
+  pub charged : (h : ℕ) → pages_of ledger h ≡ frames_charged m.spots h + cond (h == g) pages 0 + pages_booked t stock h
+
+-- The frames of a block that were charged to no group (all but the first were free) are a unit of the group now, and its head
+-- is on the group's inactive list, in use with one reference of the zone: the machine is consistent
+pub unit_kept : (t : KnownTable) (w : Words) (m : KnownMachine) → IsConsistent t w m → (g : ℕ) → g < 64 → (b : Block) → IsBlock (length m.spots) b
+    → (spots : List Spot) → PlacesUnit m.spots g b spots → group_of (spot_at m.spots b.at) ≡ None
+    → ((x : ℕ) → b.at ≤ x → x < b.at + 2 ^ b.order → x ≢ b.at → spot_at m.spots x ≡ Free)
+    → (any lru : Lru) → lru ≡ get_or m.lists g any → (links : List Link) (new : Lru) → IsAdded m.links lru b.at links new → OthersStand → OneOfAllChanges
+    → (change : FrameNote → FrameNote) → IsUsed (change (note_of m.seat.view b.at))
+    → (blocks : List Block) (ledger : Ledger) (stock : Seated) (counts : Counts) → JoinsCharges t w m g (2 ^ b.order) spots blocks ledger stock
+    → IsConsistent t w (record {
+      blocks = blocks;
+      spots = spots;
+      ledger = ledger;
+      links = links;
+      lists = slice_set m.lists g new;
+      seat = seat_with m.seat b.at change;
+      stock = stock;
+      killed = m.killed;
+      counts = counts;
+    })
+unit_kept t w m ok g fits b block spots placed first rest any lru read links new added others all change used blocks ledger stock counts joins =
+    let uncharged : (f : ℕ) → b.at ≤ f → f < b.at + 2 ^ b.order → group_of (spot_at m.spots f) ≡ None =
+    λ f low high. elim (cases_eq f b.at) [
+      | inl e ↦ ap (λ (y : ℕ). group_of (spot_at m.spots y)) e ∙ first
+      | inr ne ↦ ap group_of (rest f low high ne)
+    ] in
+    record {
+      sizes = let s = ok.sizes in record {
+        spots = placed.frames ∙ s.spots;
+        links = added.changes.frames ∙ s.links;
+        lists = length-set m.lists g new ∙ s.lists;
+        killed = s.killed;
+        cpus = s.cpus;
+      };
+      seats = record { frames = ok.seats.frames; table = joins.table; stocks = joins.stocks };
+      areas = joins.areas;
+      spots = unit_fits t w m ok g fits b spots placed rest links (joined_home t w m ok g fits any lru read b.at links new added others all)
+          (λ x ne. added.moves.home x ne) change used;
+      units = units_placed m.spots spots g b placed block uncharged ok.units;
+      lists = all_stand t w m ok g fits any lru read b.at links new added others all;
+      noted = joins.noted;
+      charged = λ h. let a = joins.charged h in let c = charges_rise m.spots spots g b placed block uncharged h in omega (arith, a, c);
+    }

@@ -1,0 +1,11 @@
+-- Units that come back.
+use Rattle.std.specs.Prelude.{◌≡◌, ℕ, List, length, if◌then◌else◌}
+use Rattle.step_rules.specs.After.{is_within}
+use Rattle.mem_machine.specs.declared.spot.Spot.{Spot}
+use Rattle.mem_machine.specs.declared.spot.Spot.TheVariants.{Free}
+use Rattle.mem_machine.specs.Spots.{spot_at}
+
+-- so many frames from this one on are free, and all other frames have the records that they had
+pub record FreesFrames (spots : List Spot) (at n : ℕ) (after : List Spot) : Type 0 where
+  pub frames : length after ≡ length spots
+  pub records : (f : ℕ) → spot_at after f ≡ (if is_within at n f then Free else spot_at spots f)

@@ -1,0 +1,46 @@
+//! Units that come back.
+
+ghost use Rattle.std.specs.Prelude.{◌≡◌, ◌+◌, ◌^◌, ◌≤◌, length};
+ghost use Rattle.zone_blocks.specs.Areas.{AreMaximalBlocks};
+ghost use Rattle.zone_buddy.specs.Zone.{IsInUse, GivesFrames};
+ghost use Rattle.group_charge.specs.Charges.{pages_of, with_uncharge};
+ghost use Rattle.mem_machine.specs.Freeing.{FreesFrames};
+
+use crate::spot::Spot;
+use group_charge::charges::Charges;
+use step_rules::phase::ChargedUnit;
+use zone_blocks::block::Block;
+use zone_buddy::buddy::Buddy;
+
+// Notes so many frames from this one on as free.
+fn free_frames(spots: &mut Vec<Spot>, at: u32, frames: u32)
+    requires { at + frames ≤ length spots.old.items }
+    ensures { FreesFrames spots.old.items at frames spots.new.items }
+{
+    for k in 0..frames as usize {
+        spots[at as usize + k] = Spot::Free;
+    }
+}
+
+/// Gives the frames of a charged unit back to the zone, and takes its pages off the charge of its group.
+pub(crate) fn free_unit(
+    zone: &mut Buddy,
+    spots: &mut Vec<Spot>,
+    charges: &mut Charges,
+    at: u32,
+    unit: ChargedUnit,
+)
+    requires in_use { IsInUse zone.old.free (record { at = at; order = unit.order }) }
+    requires inside { at + 2 ^ unit.order ≤ length spots.old.items }
+    requires charged { 2 ^ unit.order ≤ pages_of charges.old unit.group }
+    ensures spots { FreesFrames spots.old.items at (2 ^ unit.order) spots.new.items }
+    ensures frames { GivesFrames zone.old.free (record { at = at; order = unit.order }) zone.new.free }
+    ensures areas { AreMaximalBlocks zone.new.free zone.new.blocks }
+    ensures charges { charges.new ≡ with_uncharge charges.old unit.group (2 ^ unit.order) }
+{
+    let _tree = charges.tree();
+    let order = unit.order;
+    free_frames(spots, at, order.frames());
+    zone.give(Block { at, order });
+    charges.uncharge(unit.group, order.frames());
+}
