@@ -4,10 +4,17 @@
 
 mod booted;
 mod booting;
+mod command;
+mod directories;
+mod files;
 mod locked;
+mod owners;
+mod serving;
 mod system;
 
 pub use booted::Boot;
 pub use booting::{BootFault, boot};
+pub use command::{Cmd, Reply};
 pub use locked::Locked;
+pub use serving::serve;
 pub use system::System;
