@@ -21,3 +21,9 @@ pub mod PlacesUnits
 pub mod BlockCharges
 pub mod KeptUnits
 pub mod Interleaves
+pub mod HandOvers
+pub mod Absorbs
+pub mod Shown
+pub mod Fresh
+pub mod Back
+pub mod Settled

@@ -39,7 +39,7 @@ use Rattle.mem_machine.proofs.Records.{free_at, one_covered, length_free, free_g
 use Rattle.mem_machine.proofs.Lends.{parts_changed, references_stay, lent_listed, phases_changed}
 
 -- a list that hasn't the frame stays without it
-without_none : (f : ℕ) (xs : List ℕ) → times f xs ≡ 0 → without f xs ≡ xs
+pub without_none : (f : ℕ) (xs : List ℕ) → times f xs ≡ 0 → without f xs ≡ xs
 without_none f [] none = refl
 without_none f (x ∷ xs) none = elim (cases_eq x f) [
   | inl e ↦
@@ -56,7 +56,7 @@ without_here : (f : ℕ) (rest : List ℕ) → times f rest ≡ 0 → without f 
 without_here f rest none = let t : (f == f) ≡ true = eq-eqb f f refl in rw t (without_none f rest none)
 
 -- the frame that stands in front alone is gone
-without_front : (f : ℕ) (xs rest : List ℕ) → xs ≡ f ∷ rest → times f rest ≡ 0 → without f xs ≡ rest
+pub without_front : (f : ℕ) (xs rest : List ℕ) → xs ≡ f ∷ rest → times f rest ≡ 0 → without f xs ≡ rest
 without_front f xs rest front none =
     ap (without f) front ∙ without_here f rest none
 
@@ -255,7 +255,8 @@ pub may_give : (t : KnownTable) (w : Words) (m : KnownMachine) (c : KnownCpu) �
 may_give t w m c tied ok before f i k was inside lent index zero_is =
     let sized = ok.sizes.spots in
     let within : f < length m.spots = omega (arith, inside, sized) in
-    let spot : spot_at m.spots f ≡ Lent c.number = lent_spot (spot_at m.spots f) c.number tied.seats.some_number (ap some_cpu (sym lent) ∙ (ok.spots f inside).lent) in
+    let spot : spot_at m.spots f ≡ Lent c.number =
+    lent_spot (spot_at m.spots f) c.number tied.seats.some_number (ap some_cpu (sym lent) ∙ (ok.spots f inside).lent) in
     let used : get_or before f false ≡ false = ap (λ (l : List Bool). get_or l f false) was ∙ free_at m.spots f within ∙ ap is_free spot in
     let long : length before ≡ length m.spots = ap length was ∙ length_free m.spots in
     subst (λ (x : ℕ × ℕ). IsInUse before (record { at = x.0; order = x.1 })) (λ j. (sym index j, sym zero_is j))

@@ -9,3 +9,4 @@ pub mod Marks
 pub mod Freeing
 pub mod Blocks
 pub mod Interleaving
+pub mod Settling

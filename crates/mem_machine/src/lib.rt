@@ -10,6 +10,7 @@ mod lending;
 mod machine;
 mod marks;
 mod readers;
+mod settling;
 mod spot;
 mod start;
 mod stocks;

@@ -1,0 +1,192 @@
+-- A back frame's unit comes back. Serves `return_one`.
+use Rattle.std.proofs.Common.{◌≡◌, ℕ, ◌+◌, ◌^◌, ◌<◌, ◌≤◌, Bool, Option, Some, None, List, ◌∷◌, length, get_or}
+use Rattle.std.proofs.Common.{refl, sym, ap, ◌∙◌, subst, arith}
+use Rattle.std.specs.Prelude.{is_some, IfSome}
+use Rattle.std.proofs.lemmas.List.{get_or_default}
+use Rattle.zone_blocks.specs.declared.block.Block.{Block}
+use Rattle.zone_blocks.specs.Areas.{AreMaximalBlocks}
+use Rattle.zone_buddy.specs.Zone.{GivesFrames, IsInUse}
+use Rattle.frame_word.specs.declared.view.FrameNote.{FrameNote}
+use Rattle.frame_word.specs.Views.{note_of, collected_from}
+use Rattle.frame_word.specs.Seats.{KnownTable, KnownSeat, seat_with, HasNothingOf, IsLentToNone, Passes, NothingPasses}
+use Rattle.frame_word.proofs.Notes.{note_here, note_else}
+use Rattle.stock_word.specs.Stock.{Words}
+use Rattle.group_charge.specs.Charges.{Ledger, with_uncharge}
+use Rattle.lru_lists.specs.declared.record.Home.{Home}
+use Rattle.cpu_part.specs.Cpus.{KnownCpu, IsTied}
+use Rattle.cpu_part.specs.Calls.{HandsBack}
+use Rattle.cpu_part.proofs.CallerLemmas.{handed_passes}
+use Rattle.step_rules.specs.declared.phase.ChargedUnit.{ChargedUnit}
+use Rattle.step_rules.specs.declared.phase.Stage.TheVariants.{Ended}
+use Rattle.step_rules.specs.State.{State, one_if}
+use Rattle.mem_machine.specs.declared.spot.Spot.{Spot}
+use Rattle.mem_machine.specs.declared.spot.Spot.TheVariants.{Free, Head}
+use Rattle.mem_machine.specs.declared.machine.Counts.{Counts}
+use Rattle.mem_machine.specs.Spots.{spot_at, free_of, head_group_of, some_cpu}
+use Rattle.mem_machine.specs.Machines.{KnownMachine, FitsSpot, IsConsistent, Visits, home_of}
+use Rattle.mem_machine.specs.Local.{IsLocalRun, local_of}
+use Rattle.mem_machine.specs.Freeing.{FreesFrames}
+use Rattle.mem_machine.specs.Settling.{ReturnsBack, with_last_put, return_steps}
+use Rattle.mem_machine.proofs.Holds.{own_part}
+use Rattle.mem_machine.proofs.Records.{heads_one}
+use Rattle.mem_machine.proofs.Freeing.{free_block_given, unit_in_use, head_inside, unit_freed_consistent}
+use Rattle.mem_machine.proofs.HandOvers.{handed_visits, IsBackFront, back_front, return_run}
+use Rattle.mem_machine.proofs.Shown.{is_visited, back_phase, back_handed, back_else, phases_freed, parts_back, references_same}
+
+-- what is told of a back frame that was handed over
+pub record WasBack (t : KnownTable) (m : KnownMachine) (f : ℕ) : Type 0 where
+  pub inside : f < t.frames
+  pub nothing : HasNothingOf m.seat f
+  pub lent : IsLentToNone m.seat f
+
+-- it heads a unit
+pub back_heads : (t : KnownTable) (w : Words) (m : KnownMachine) → IsConsistent t w m → (f : ℕ) → WasBack t m f
+    → (unit : ChargedUnit) × (spot_at m.spots f ≡ Head unit)
+back_heads t w m ok f was =
+    let fits = ok.spots f was.inside in
+    let none : (note_of m.seat.view f).own ≡ 0 = let a = was.nothing.1 in omega (arith, a) in
+    heads_one (spot_at m.spots f) (ap some_cpu (sym was.lent) ∙ fits.lent) (sym none ∙ fits.own)
+
+-- as its record is read
+pub read_head : (t : KnownTable) (w : Words) (m : KnownMachine) → IsConsistent t w m → (f i : ℕ) → WasBack t m f → i ≡ f → (x : Spot) → x ≡ get_or m.spots i x
+    → (unit : ChargedUnit) → x ≡ Head unit → spot_at m.spots i ≡ Head unit
+read_head t w m ok f i was index x read unit is =
+    let sized = ok.sizes.spots in
+    let inside = was.inside in
+    sym (read ∙ get_or_default m.spots i x Free (omega (arith, index, sized, inside))) ∙ is
+
+-- what its return asks for
+pub back_in_use : (t : KnownTable) (w : Words) (m : KnownMachine) → IsConsistent t w m → (before : List Bool) (i : ℕ) (unit : ChargedUnit)
+    → before ≡ free_of m.spots → spot_at m.spots i ≡ Head unit → IsInUse before (record { at = i; order = unit.order })
+back_in_use t w m ok before i unit was heads = unit_in_use before m.spots i unit was ok.units heads
+
+pub back_inside : (t : KnownTable) (w : Words) (m : KnownMachine) → IsConsistent t w m → (i : ℕ) (unit : ChargedUnit) → spot_at m.spots i ≡ Head unit
+    → i + 2 ^ unit.order ≤ length m.spots
+back_inside t w m ok i unit heads = (ok.units.heads i unit heads).block.inside
+
+-- and passes once it was handed
+pub back_passes : (t : KnownTable) (w : Words) (m now : KnownMachine) → m ≡ now → (c h : KnownCpu) → IsTied t w c → Visits t now c
+    → (f : ℕ) (seat : KnownSeat) → f < t.frames → HandsBack f c h → seat ≡ m.seat → Passes seat h.seat f
+back_passes t w m now same c h tied visit f seat inside hands is =
+    subst (λ (s : KnownSeat). Passes s h.seat f) (sym is)
+    (handed_passes t m.seat c.seat c.number tied.seats.frame_number f (subst (λ (x : KnownMachine). NothingPasses t x.seat c.seat)
+    (sym same) visit.still) h.seat (ap (λ (x : KnownCpu). x.seat) hands.2) inside)
+
+module _ (t : KnownTable) (w : Words) (m : KnownMachine) (c : KnownCpu) (tied : IsTied t w c) (ok : IsConsistent t w m) (visit : Visits t m c)
+    (f : ℕ) (was : WasBack t m f) (unit : ChargedUnit) (heads : spot_at m.spots f ≡ Head unit) (rest : List ℕ) (front : c.back ≡ f ∷ rest)
+    (new : List Spot) (frees : FreesFrames m.spots f (2 ^ unit.order) new) (blocks : List Block) (areas : AreMaximalBlocks (free_of new) blocks)
+    (counts : Counts) (counted : counts ≡ with_last_put m.counts) where
+  at : IsBackFront c f rest
+  at = back_front t w c tied f rest front
+
+  abbrev d : KnownCpu
+  d = back_handed c f rest
+
+  abbrev s : State
+  s = local_of t m c
+
+  abbrev pub returned : KnownMachine
+  returned = record m {
+    blocks = blocks;
+    spots = new;
+    ledger = with_uncharge m.ledger unit.group (2 ^ unit.order);
+    seat = seat_with m.seat f (collected_from c.number);
+    counts = counts;
+  }
+
+  -- no reference, no list
+  no_home : (home : Option Home) → 0 ≡ one_if (is_some home) → home ≡ None
+  no_home None is = refl
+  no_home (Some h) is = absurd (omega (arith, is))
+
+  back_fits : FitsSpot (collected_from c.number (note_of m.seat.view f)) (home_of m.links f) Free
+  back_fits =
+      let fits = ok.spots f was.inside in
+      let home = no_home (home_of m.links f) (sym was.nothing.0 ∙ fits.references) in
+      record {
+        own = refl;
+        lent = refl;
+        references = fits.references;
+        kept = subst (λ (h : Option Home). IfSome h (λ k. (k.owner < 64) × (head_group_of Free ≡ Some k.owner))) (sym home) tt;
+      }
+
+  pub returned_consistent : IsConsistent t w returned
+  returned_consistent =
+      let seat = seat_with m.seat f (collected_from c.number) in
+      let sizes = ok.sizes in
+      unit_freed_consistent t w m ok f unit heads new blocks m.links m.lists seat counts frees areas ok.seats.frames sizes.links sizes.lists ok.lists
+      (λ x inside ne. subst (λ (k : FrameNote). FitsSpot k (home_of m.links x) (spot_at m.spots x))
+      (sym (note_else m.seat.view f x (collected_from c.number) ne)) (ok.spots x inside))
+      (subst (λ (k : FrameNote). FitsSpot k (home_of m.links f) Free) (sym (note_here m.seat.view f (collected_from c.number))) back_fits)
+
+  pub returned_steps : IsLocalRun c.number s (return_steps c.number f) (local_of t returned d)
+  returned_steps =
+      let v = is_visited t w m c tied visit f was.inside in
+      let ph = phases_freed c d m.spots f (back_else c f rest front) new unit Ended frees in
+      let re = references_same m.seat c d f c.number refl refl in
+      let pa = parts_back m.stock c f rest front at unit in
+      return_run s c.number f unit _ v (own_part m c) (local_of t returned d) (back_phase c f (spot_at m.spots f) unit heads at.once)
+      (λ i. record s { phases = λ x. sym (ph x) i; references = λ q x. sym (re q x) i; parts = λ q. sym (pa q) i })
+
+  pub returned_visits : Visits t returned d
+  returned_visits = handed_visits t w m c tied visit f (collected_from c.number) (λ k. refl) returned d refl refl refl
+
+  pub returned_does : ReturnsBack f m c returned d
+  returned_does = record {
+    unit = unit;
+    heads = heads;
+    frees = frees;
+    areas = areas;
+    machine = λ i. record returned { counts = counted i };
+    front = front;
+    cpu = refl;
+  }
+
+-- ---- all of it, of the machine as it was seen before
+
+pub record AllReturned (t : KnownTable) (w : Words) (now : KnownMachine) (c : KnownCpu) (f : ℕ) (n : KnownMachine) (d : KnownCpu) (free : List Bool)
+    : Type 0 where
+  pub consistent : IsConsistent t w n
+  pub free_is : free ≡ free_of n.spots
+  pub returns : ReturnsBack f now c n d
+  pub visit : Visits t n d
+  pub steps : IsLocalRun c.number (local_of t now c) (return_steps c.number f) (local_of t n d)
+
+pub return_all : (t : KnownTable) (w : Words) (m now : KnownMachine) → m ≡ now → (c h d : KnownCpu) → IsTied t w c → IsConsistent t w m → Visits t now c
+    → (before free : List Bool) → before ≡ free_of m.spots → (f : ℕ) → WasBack t m f → HandsBack f c h → d ≡ h → (i : ℕ) → i ≡ f
+    → (unit : ChargedUnit) → spot_at m.spots i ≡ Head unit
+    → (seat : KnownSeat) → seat ≡ seat_with m.seat f (collected_from h.number)
+    → (spots : List Spot) → FreesFrames m.spots i (2 ^ unit.order) spots → (blocks : List Block)
+    → GivesFrames before (record { at = i; order = unit.order }) free → AreMaximalBlocks free blocks
+    → (ledger : Ledger) → ledger ≡ with_uncharge m.ledger unit.group (2 ^ unit.order) → (counts : Counts) → counts ≡ with_last_put m.counts
+    → AllReturned t w now c f (record m { blocks = blocks; spots = spots; ledger = ledger; seat = seat; counts = counts }) d free
+return_all t w m now same c h d tied ok visit_now before free free_was f was hands stays i index unit heads_i seat collects spots frees_i blocks gives_i areas_i
+    ledger uncharges counts counted =
+    let visit : Visits t m c = subst (λ (x : KnownMachine). Visits t x c) (sym same) visit_now in
+    let rest = hands.0 in
+    let front : c.back ≡ f ∷ rest = hands.1 in
+    let heads : spot_at m.spots f ≡ Head unit = ap (spot_at m.spots) (sym index) ∙ heads_i in
+    let frees : FreesFrames m.spots f (2 ^ unit.order) spots = subst (λ (x : ℕ). FreesFrames m.spots x (2 ^ unit.order) spots) index frees_i in
+    let gives : GivesFrames before (record { at = f; order = unit.order }) free =
+    subst (λ (x : ℕ). GivesFrames before (record { at = x; order = unit.order }) free) index gives_i in
+    let sized = ok.sizes.spots in
+    let inside = head_inside t w m ok f unit heads in
+    let free_is : free ≡ free_of spots = free_block_given before free m.spots spots f unit.order (omega (arith, sized, inside)) free_was gives frees in
+    let areas : AreMaximalBlocks (free_of spots) blocks = subst (λ (l : List Bool). AreMaximalBlocks l blocks) free_is areas_i in
+    let one : AllReturned t w m c f (returned t w m c tied ok visit f was unit heads rest front spots frees blocks areas counts counted)
+    (back_handed c f rest) free =
+    record {
+      consistent = returned_consistent t w m c tied ok visit f was unit heads rest front spots frees blocks areas counts counted;
+      free_is = free_is;
+      returns = returned_does t w m c tied ok visit f was unit heads rest front spots frees blocks areas counts counted;
+      visit = returned_visits t w m c tied ok visit f was unit heads rest front spots frees blocks areas counts counted;
+      steps = returned_steps t w m c tied ok visit f was unit heads rest front spots frees blocks areas counts counted;
+    } in
+    let number : h.number ≡ c.number = ap (λ (x : KnownCpu). x.number) hands.2 in
+    let seat_is : seat ≡ seat_with m.seat f (collected_from c.number) = collects ∙ ap (λ (x : ℕ). seat_with m.seat f (collected_from x)) number in
+    subst (λ (x : KnownMachine × KnownMachine × KnownCpu). AllReturned t w x.0 c f x.1 x.2 free)
+    (λ j. (
+      same j,
+      record m { blocks = blocks; spots = spots; ledger = sym uncharges j; seat = sym seat_is j; counts = counts },
+      sym (stays ∙ hands.2) j,
+    )) one

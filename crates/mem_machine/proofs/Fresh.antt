@@ -1,0 +1,387 @@
+-- A fresh frame is kept for its group, or dropped. Serves `keep_one` and `drop_one`.
+use Rattle.std.proofs.Common.{◌≡◌, ℕ, ◌+◌, ◌^◌, ◌<◌, ◌≤◌, ◌==◌, Bool, true, false, cond, Option, Some, None, List, [], ◌∷◌, length, get_or}
+use Rattle.std.proofs.Common.{refl, sym, ap, ◌∙◌, subst, arith, inl, inr, eq-eqb}
+use Rattle.std.specs.Prelude.{slice_set, nat_le, IfSome}
+use Rattle.std.proofs.lemmas.Bool.{cases_eq, cond-true, false≢true}
+use Rattle.std.proofs.lemmas.List.{get_or-set_same, get_or-set_other, length-set, ext_get_or}
+use Rattle.zone_blocks.specs.declared.block.Block.{Block}
+use Rattle.zone_blocks.specs.Areas.{AreMaximalBlocks}
+use Rattle.zone_buddy.specs.Zone.{GivesFrames, IsInUse}
+use Rattle.frame_word.specs.declared.view.FrameNote.{FrameNote}
+use Rattle.frame_word.specs.Views.{note_of, collected_from, unfrozen}
+use Rattle.frame_word.specs.Seats.{KnownTable, KnownSeat, seat_with, HasNothingOf, IsLent, IsInOwnHand}
+use Rattle.frame_word.proofs.Notes.{note_here, changed_twice}
+use Rattle.stock_word.specs.Stock.{Words, Seated, account_of, group_of}
+use Rattle.group_charge.specs.Charges.{Ledger, pages_of, with_uncharge}
+use Rattle.group_charge.proofs.CallerLemmas.{uncharge_pages}
+use Rattle.lru_lists.specs.declared.record.Link.{Link}
+use Rattle.lru_lists.specs.declared.record.Home.{Home}
+use Rattle.lru_lists.specs.declared.lru.Lru.{Lru}
+use Rattle.lru_lists.specs.Lists.{OthersStand, OneOfAllChanges}
+use Rattle.cpu_part.specs.Cpus.{KnownCpu, IsTied}
+use Rattle.cpu_part.specs.Calls.{HandsFresh}
+use Rattle.step_rules.specs.declared.phase.Stage.TheVariants.{FreshAt, Collected, Live, BackAt}
+use Rattle.step_rules.specs.declared.phase.Phase.TheVariants as phase
+use Rattle.step_rules.specs.declared.step.Action.TheVariants.{Unfreeze, Publish, Return}
+use Rattle.step_rules.specs.declared.step.Answer.TheVariants.{Done}
+use Rattle.step_rules.specs.State.{State}
+use Rattle.step_rules.specs.After.{is_within}
+use Rattle.mem_machine.specs.declared.spot.Spot.{Spot}
+use Rattle.mem_machine.specs.declared.spot.Spot.TheVariants.{Free, Lent, Head}
+use Rattle.mem_machine.specs.declared.machine.Counts.{Counts}
+use Rattle.mem_machine.specs.Spots.{spot_at, is_free, free_of, group_of as spot_group, head_group_of, some_cpu}
+use Rattle.mem_machine.specs.Machines.{KnownMachine, FitsSpot, IsConsistent, Visits, home_of, is_killed, pages_booked}
+use Rattle.mem_machine.specs.Local.{IsLocalRun, local_of, fresh_group, number_or_0}
+use Rattle.mem_machine.specs.Steps.{zone_makes}
+use Rattle.mem_machine.specs.Blocks.{PlacesUnit}
+use Rattle.mem_machine.specs.Freeing.{FreesFrames}
+use Rattle.mem_machine.specs.Settling.{KeepsFresh, DropsFresh, with_page_absorbed, with_drop, keep_steps, drop_steps}
+use Rattle.mem_machine.proofs.Holds.{own_part}
+use Rattle.mem_machine.proofs.Records.{free_at, free_set, lent_spot, spots_changed, units_stay, charges_stay}
+use Rattle.mem_machine.proofs.PlacesUnits.{head_of_block, off_block}
+use Rattle.mem_machine.proofs.KeptUnits.{IsAdded, unit_kept, unit_listed}
+use Rattle.mem_machine.proofs.Freeing.{is_out, is_in, free_block_given}
+use Rattle.mem_machine.proofs.Takes.{may_give}
+use Rattle.mem_machine.proofs.Draining.{booked_within}
+use Rattle.mem_machine.proofs.Absorbs.{none_noted, books_fall}
+use Rattle.mem_machine.proofs.HandOvers.{handed_visits, IsFreshFront, fresh_front, collect_run, keep_run, drop_run}
+use Rattle.mem_machine.proofs.Shown.{is_visited, fresh_unit, fresh_phase, fresh_handed, fresh_else, phases_set, phases_freed, parts_absorbed, references_used}
+use Rattle.mem_machine.proofs.Shown.{references_same}
+
+-- what is told of a frame that was collected fresh, and of its page
+pub record WasFresh (t : KnownTable) (m : KnownMachine) (c : KnownCpu) (f g : ℕ) : Type 0 where
+  pub inside : f < t.frames
+  pub nothing : HasNothingOf m.seat f
+  pub lent : IsLent m.seat f c.number
+  pub booked : 1 + (account_of m.stock.view c.number).noted ≤ (account_of m.stock.view c.number).book
+  pub of_group : (account_of m.stock.view c.number).group ≡ Some g
+  pub fits : g < 64
+  pub named : fresh_group c ≡ g
+
+-- it is in the zone's hand then
+pub in_hand_then : (seat new : KnownSeat) (f p : ℕ) → new ≡ seat_with seat f (collected_from p) → IsInOwnHand new f
+in_hand_then seat new f p is = subst (λ (s : KnownSeat). IsInOwnHand s f) (sym is) (ap (λ (k : FrameNote). k.own) (note_here seat.view f (collected_from p)))
+
+-- one record changed, and which frames are free did not
+free_stays : (spots : List Spot) (f : ℕ) (x : Spot) → f < length spots → is_free (spot_at spots f) ≡ false → is_free x ≡ false
+    → free_of spots ≡ free_of (slice_set spots f x)
+free_stays spots f x inside was now =
+    free_set (free_of spots) (free_of spots) spots f x inside refl refl (λ a. absurd (false≢true (sym was ∙ sym (free_at spots f inside) ∙ a)))
+    (λ a. absurd (false≢true (sym now ∙ a))) (λ g ne. (λ a. a, λ a. a))
+
+-- a unit of one frame
+placed_one : (spots : List Spot) (g f : ℕ) → f < length spots
+    → PlacesUnit spots g (record { at = f; order = 0 }) (slice_set spots f (Head (record { group = g; order = 0 })))
+placed_one spots g f inside =
+    let b : Block = record { at = f; order = 0 } in
+    record {
+      frames = length-set spots f (Head (record { group = g; order = 0 }));
+      records = λ x. elim (cases_eq x f) [
+        | inl e ↦ ap (spot_at (slice_set spots f (Head (record { group = g; order = 0 })))) e
+            ∙ get_or-set_same spots f (Head (record { group = g; order = 0 })) Free inside ∙ sym (head_of_block spots g b x e)
+        | inr ne ↦ get_or-set_other spots f x (Head (record { group = g; order = 0 })) Free ne
+            ∙ sym (off_block spots g b x (is_out f (2 ^ 0) x (λ low high. ne (omega (arith, low, high)))))
+      ];
+    }
+
+-- where one frame came back
+frees_one : (spots new : List Spot) (f k : ℕ) → k ≡ 0 → f < length spots → FreesFrames spots f (2 ^ k) new → new ≡ slice_set spots f Free
+frees_one spots new f k zero_is inside frees =
+    let one : 2 ^ k ≡ 1 = ap (λ (j : ℕ). 2 ^ j) zero_is in
+    ext_get_or Free new (slice_set spots f Free) (frees.frames ∙ sym (length-set spots f Free)) (λ g within.
+    frees.records g ∙ ap (λ (n : ℕ). cond (is_within f n g) Free (spot_at spots g)) one
+    ∙ elim (cases_eq g f) [
+      | inl e ↦ ap (λ (b : Bool). cond b Free (spot_at spots g)) (is_in f 1 g (omega (arith, e)) (omega (arith, e)))
+          ∙ sym (ap (spot_at (slice_set spots f Free)) e ∙ get_or-set_same spots f Free Free inside)
+      | inr ne ↦ ap (λ (b : Bool). cond b Free (spot_at spots g)) (is_out f 1 g (λ low high. ne (omega (arith, low, high))))
+          ∙ sym (get_or-set_other spots f g Free Free ne)
+    ])
+
+module _ (t : KnownTable) (w : Words) (m : KnownMachine) (c : KnownCpu) (tied : IsTied t w c) (ok : IsConsistent t w m) (visit : Visits t m c)
+    (f g : ℕ) (was : WasFresh t m c f g) (rest : List ℕ) (front : c.fresh ≡ f ∷ rest) where
+  within : f < length m.spots
+  within = let s = ok.sizes.spots in let a = was.inside in omega (arith, s, a)
+
+  pub is_lent : spot_at m.spots f ≡ Lent c.number
+  is_lent = lent_spot (spot_at m.spots f) c.number tied.seats.some_number (ap some_cpu (sym was.lent) ∙ (ok.spots f was.inside).lent)
+
+  at : IsFreshFront c f rest
+  at = fresh_front t w c tied f rest front
+
+  noted : (account_of m.stock.view c.number).noted ≡ 0
+  noted = ok.noted c.number
+
+  books : (h : ℕ) → pages_booked t m.stock h ≡ pages_booked t (with_page_absorbed m.stock c.number) h + cond (h == g) 1 0
+  books = books_fall t m.stock c.number g tied.seats.frame_cpus was.of_group noted (let a = was.booked in omega (arith, a))
+
+  abbrev d : KnownCpu
+  d = fresh_handed c f rest
+
+  abbrev s : State
+  s = local_of t m c
+
+  fresh_now : s.phases f ≡ phase.Head (fresh_unit c) (FreshAt c.number)
+  fresh_now = fresh_phase c f (spot_at m.spots f) is_lent at.once
+
+  -- ---- kept
+
+  module _ (o : ℕ) (owner_is : o ≡ g) (lru : Lru) (read : lru ≡ get_or m.lists o lru) (links : List Link) (new : Lru) (added : IsAdded m.links lru f links new)
+      (others : OthersStand) (all : OneOfAllChanges) where
+    abbrev used : FrameNote → FrameNote
+    used k = unfrozen 1 (collected_from c.number k)
+
+    abbrev kept : KnownMachine
+    kept = record m {
+      spots = slice_set m.spots f (Head (record { group = g; order = 0 }));
+      links = links;
+      lists = slice_set m.lists g new;
+      seat = seat_with m.seat f used;
+      stock = with_page_absorbed m.stock c.number;
+    }
+
+    read_g : lru ≡ get_or m.lists g lru
+    read_g = read ∙ ap (λ (k : ℕ). get_or m.lists k lru) owner_is
+
+    kept_free : free_of m.spots ≡ free_of kept.spots
+    kept_free = free_stays m.spots f (Head (record { group = g; order = 0 })) within (ap is_free is_lent) refl
+
+    kept_consistent : IsConsistent t w kept
+    kept_consistent =
+        let b : Block = record { at = f; order = 0 } in
+        let seats = ok.seats in
+        unit_kept t w m ok g was.fits b (record { order = omega arith; aligned = omega arith; inside = let a = within in omega (arith, a) }) kept.spots
+        (placed_one m.spots g f within) (ap spot_group is_lent) (λ x low high ne. absurd (ne (omega (arith, low, high)))) lru lru read_g links new added
+        others all used
+        (record { own = refl; lent = refl; references = let a = was.nothing.0 in omega (arith, a) }) m.blocks m.ledger
+        (with_page_absorbed m.stock c.number)
+        m.counts (record {
+          areas = subst (λ (l : List Bool). AreMaximalBlocks l m.blocks) kept_free ok.areas;
+          table = seats.table;
+          stocks = seats.stocks;
+          noted = none_noted m.stock.view c.number ok.noted;
+          charged = λ h. let a = ok.charged h in let b = books h in omega (arith, a, b);
+        })
+
+    kept_steps : IsLocalRun c.number s (keep_steps c.number f) (local_of t kept d)
+    kept_steps =
+        let v = is_visited t w m c tied visit f was.inside in
+        let ph = phases_set c d m.spots f (fresh_else c f rest front) (Head (record { group = g; order = 0 })) (phase.Head (fresh_unit c) Live) within
+        (ap (λ (n : ℕ). cond (nat_le 1 n) (phase.Head (record { group = g; order = 0 }) (BackAt c.number))
+        (phase.Head (record { group = g; order = 0 }) Live)) at.none_back
+        ∙ (λ i. phase.Head (record { group = sym was.named i; order = 0 }) Live)) in
+        let re = references_used m.seat c d f c.number refl refl in
+        let pa = parts_absorbed m.stock c f rest front at noted (fresh_unit c) in
+        collect_run s c.number f (fresh_unit c) _ v (own_part m c) fresh_now noted (zone_makes (Unfreeze f 1) Done ∷ zone_makes (Publish f) Done ∷ [])
+        (local_of t kept d)
+        (keep_run s c.number f (fresh_unit c) _ v (own_part m c) (local_of t kept d)
+        (λ i. record s { phases = λ x. sym (ph x) i; references = λ q x. sym (re q x) i; parts = λ q. sym (pa q) i }))
+
+    kept_visits : Visits t kept d
+    kept_visits = handed_visits t w m c tied visit f used (λ k. refl) kept d refl refl refl
+
+    kept_does : KeepsFresh g f m c kept d
+    kept_does = record { listed = unit_listed t w m ok g was.fits lru lru read_g f links new added others all kept; machine = refl; cpu = (front, refl) }
+
+  -- ---- dropped
+
+  module _ (new : List Spot) (frees : FreesFrames m.spots f (2 ^ 0) new) (blocks : List Block) (areas : AreMaximalBlocks (free_of new) blocks)
+      (counts : Counts) (counted : counts ≡ with_drop m.counts) where
+    abbrev dropped : KnownMachine
+    dropped = record m {
+      blocks = blocks;
+      spots = new;
+      ledger = with_uncharge m.ledger g 1;
+      seat = seat_with m.seat f (collected_from c.number);
+      stock = with_page_absorbed m.stock c.number;
+      counts = counts;
+    }
+
+    one_set : new ≡ slice_set m.spots f Free
+    one_set = frees_one m.spots new f 0 refl within frees
+
+    -- a lent frame has no list
+    homeless : (h : Option Home) → IfSome h (λ x. (x.owner < 64) × (head_group_of (Lent c.number) ≡ Some x.owner))
+        → IfSome h (λ x. (x.owner < 64) × (head_group_of Free ≡ Some x.owner))
+    homeless None is = tt
+    homeless (Some x) is = is
+
+    dropped_fits : FitsSpot (collected_from c.number (note_of m.seat.view f)) (home_of m.links f) Free
+    dropped_fits =
+        let old : FitsSpot (note_of m.seat.view f) (home_of m.links f) (Lent c.number) =
+        subst (λ (x : Spot). FitsSpot (note_of m.seat.view f) (home_of m.links f) x) is_lent (ok.spots f was.inside) in
+        record { own = refl; lent = refl; references = old.references; kept = homeless (home_of m.links f) old.kept }
+
+    charged_one : 1 ≤ pages_of m.ledger g
+    charged_one =
+        let a = ok.charged g in
+        let b = books g in
+        let z : ◌≡◌ {A = ℕ} (cond (g == g) 1 0) 1 = cond-true (g == g) 1 0 (eq-eqb g g refl) in
+        omega (arith, a, b, z)
+
+    dropped_set : IsConsistent t w (record dropped { spots = slice_set m.spots f Free })
+    dropped_set = record {
+      sizes = let z = ok.sizes in record {
+        spots = length-set m.spots f Free ∙ z.spots;
+        links = z.links;
+        lists = z.lists;
+        killed = z.killed;
+        cpus = z.cpus;
+      };
+      seats = let z = ok.seats in record { frames = z.frames; table = z.table; stocks = z.stocks };
+      areas = subst (λ (l : List Spot). AreMaximalBlocks (free_of l) blocks) one_set areas;
+      spots = spots_changed m.seat m.links m.spots f (collected_from c.number) Free t.frames within ok.spots dropped_fits;
+      units = units_stay m.spots f Free within (ap spot_group is_lent) refl ok.units;
+      lists = ok.lists;
+      noted = none_noted m.stock.view c.number ok.noted;
+      charged = λ h.
+          let a = ok.charged h in
+          let b = books h in
+          let e = charges_stay m.spots f Free within (ap spot_group is_lent) refl h in
+          let l = uncharge_pages m.ledger g 1 charged_one h in
+          omega (arith, a, b, e, l);
+    }
+
+    dropped_consistent : IsConsistent t w dropped
+    dropped_consistent = subst (λ (l : List Spot). IsConsistent t w (record dropped { spots = l })) (sym one_set) dropped_set
+
+    dropped_steps : is_killed m.killed g ≡ true → IsLocalRun c.number s (drop_steps c.number f) (local_of t dropped d)
+    dropped_steps killed =
+        let v = is_visited t w m c tied visit f was.inside in
+        let ph = phases_freed c d m.spots f (fresh_else c f rest front) new (fresh_unit c) Collected frees in
+        let re = references_same m.seat c d f c.number refl refl in
+        let pa = parts_absorbed m.stock c f rest front at noted (fresh_unit c) in
+        collect_run s c.number f (fresh_unit c) _ v (own_part m c) fresh_now noted (zone_makes (Return f) Done ∷ []) (local_of t dropped d)
+        (drop_run s c.number f (fresh_unit c) _ v (own_part m c) (local_of t dropped d) (ap (is_killed m.killed) was.named ∙ killed)
+        (λ i. record s { phases = λ x. sym (ph x) i; references = λ q x. sym (re q x) i; parts = λ q. sym (pa q) i }))
+
+    dropped_visits : Visits t dropped d
+    dropped_visits = handed_visits t w m c tied visit f (collected_from c.number) (λ k. refl) dropped d refl refl refl
+
+    dropped_does : DropsFresh g f m c dropped d
+    dropped_does = record { frees = frees; areas = areas; machine = λ i. record dropped { counts = counted i }; cpu = (front, refl) }
+
+-- ---- all of it, of the machine as it was seen before
+
+pub record AllKept (t : KnownTable) (w : Words) (now : KnownMachine) (c : KnownCpu) (g f : ℕ) (n : KnownMachine) (d : KnownCpu) (free : List Bool)
+    : Type 0 where
+  pub consistent : IsConsistent t w n
+  pub free_is : free ≡ free_of n.spots
+  pub keeps : KeepsFresh g f now c n d
+  pub visit : Visits t n d
+  pub steps : IsLocalRun c.number (local_of t now c) (keep_steps c.number f) (local_of t n d)
+
+pub keep_all : (t : KnownTable) (w : Words) (m now : KnownMachine) → m ≡ now → (c h : KnownCpu) → IsTied t w c → IsConsistent t w m → Visits t now c
+    → (free : List Bool) → free ≡ free_of m.spots → (f g : ℕ) → WasFresh t m c f g → HandsFresh f c h → (i k o : ℕ) → i ≡ f → k ≡ 0 → o ≡ g
+    → (mid seat : KnownSeat) → mid ≡ seat_with m.seat f (collected_from c.number) → seat ≡ seat_with mid f (unfrozen 1)
+    → (stock : Seated) → stock ≡ with_page_absorbed m.stock c.number
+    → (lru : Lru) → lru ≡ get_or m.lists o lru → (links : List Link) (new : Lru) → IsAdded m.links lru i links new → OthersStand → OneOfAllChanges
+    → AllKept t w now c g f (record m {
+      spots = slice_set m.spots i (Head (record { group = g; order = k }));
+      links = links;
+      lists = slice_set m.lists o new;
+      seat = seat;
+      stock = stock;
+    }) h free
+keep_all t w m now same c h tied ok visit_now free free_is f g was hands i k o index zero_is owner mid seat collects unfreezes stock absorbs lru read
+    links new added_i others all =
+    let visit : Visits t m c = subst (λ (x : KnownMachine). Visits t x c) (sym same) visit_now in
+    let rest = hands.0 in
+    let front : c.fresh ≡ f ∷ rest = hands.1 in
+    let added : IsAdded m.links lru f links new = subst (λ (j : ℕ). IsAdded m.links lru j links new) index added_i in
+    let seat_is : seat ≡ seat_with m.seat f (λ n. unfrozen 1 (collected_from c.number n)) =
+    unfreezes ∙ ap (λ (x : KnownSeat). seat_with x f (unfrozen 1)) collects
+    ∙ (λ j. record { table = m.seat.table; view = changed_twice m.seat.view f (collected_from c.number) (unfrozen 1) j }) in
+    let one : AllKept t w m c g f (kept t w m c tied ok visit f g was rest front o owner lru read links new added others all) (fresh_handed c f rest) free =
+    record {
+      consistent = kept_consistent t w m c tied ok visit f g was rest front o owner lru read links new added others all;
+      free_is = free_is ∙ kept_free t w m c tied ok visit f g was rest front o owner lru read links new added others all;
+      keeps = kept_does t w m c tied ok visit f g was rest front o owner lru read links new added others all;
+      visit = kept_visits t w m c tied ok visit f g was rest front o owner lru read links new added others all;
+      steps = kept_steps t w m c tied ok visit f g was rest front o owner lru read links new added others all;
+    } in
+    subst (λ (x : KnownMachine × KnownMachine × KnownCpu). AllKept t w x.0 c g f x.1 x.2 free)
+    (λ j. (
+      same j,
+      record m {
+        spots = slice_set m.spots (sym index j) (Head (record { group = g; order = sym zero_is j }));
+        links = links;
+        lists = slice_set m.lists (sym owner j) new;
+        seat = sym seat_is j;
+        stock = sym absorbs j;
+      },
+      sym hands.2 j,
+    )) one
+
+pub record AllDropped (t : KnownTable) (w : Words) (now : KnownMachine) (c : KnownCpu) (g f : ℕ) (n : KnownMachine) (d : KnownCpu) (free : List Bool)
+    : Type 0 where
+  pub consistent : IsConsistent t w n
+  pub free_is : free ≡ free_of n.spots
+  pub drops : DropsFresh g f now c n d
+  pub visit : Visits t n d
+  pub steps : IsLocalRun c.number (local_of t now c) (drop_steps c.number f) (local_of t n d)
+
+pub drop_all : (t : KnownTable) (w : Words) (m now : KnownMachine) → m ≡ now → (c h : KnownCpu) → IsTied t w c → IsConsistent t w m → Visits t now c
+    → (before free : List Bool) → before ≡ free_of m.spots → (f g : ℕ) → WasFresh t m c f g → is_killed now.killed g ≡ true → HandsFresh f c h
+    → (i k : ℕ) → i ≡ f → k ≡ 0
+    → (seat : KnownSeat) → seat ≡ seat_with m.seat f (collected_from c.number)
+    → (stock : Seated) → stock ≡ with_page_absorbed m.stock c.number
+    → (spots : List Spot) → FreesFrames m.spots i (2 ^ k) spots → (blocks : List Block) → GivesFrames before (record { at = i; order = k }) free
+    → AreMaximalBlocks free blocks → (ledger : Ledger) → ledger ≡ with_uncharge m.ledger g (2 ^ k) → (counts : Counts) → counts ≡ with_drop m.counts
+    → AllDropped t w now c g f (record m { blocks = blocks; spots = spots; ledger = ledger; seat = seat; stock = stock; counts = counts }) h free
+drop_all t w m now same c h tied ok visit_now before free free_was f g was killed_now hands i k index zero_is seat collects stock absorbs spots frees_i blocks
+    gives_i areas_i ledger uncharges counts counted =
+    let visit : Visits t m c = subst (λ (x : KnownMachine). Visits t x c) (sym same) visit_now in
+    let killed : is_killed m.killed g ≡ true = ap (λ (x : KnownMachine). is_killed x.killed g) same ∙ killed_now in
+    let rest = hands.0 in
+    let front : c.fresh ≡ f ∷ rest = hands.1 in
+    let frees : FreesFrames m.spots f (2 ^ 0) spots = subst (λ (x : ℕ × ℕ). FreesFrames m.spots x.0 (2 ^ x.1) spots) (λ j. (index j, zero_is j)) frees_i in
+    let gives : GivesFrames before (record { at = f; order = 0 }) free =
+    subst (λ (x : ℕ × ℕ). GivesFrames before (record { at = x.0; order = x.1 }) free) (λ j. (index j, zero_is j)) gives_i in
+    let sized = ok.sizes.spots in
+    let inside = was.inside in
+    let free_is : free ≡ free_of spots = free_block_given before free m.spots spots f 0 (omega (arith, sized, inside)) free_was gives frees in
+    let areas : AreMaximalBlocks (free_of spots) blocks = subst (λ (l : List Bool). AreMaximalBlocks l blocks) free_is areas_i in
+    let one : AllDropped t w m c g f (dropped t w m c tied ok visit f g was rest front spots frees blocks areas counts counted) (fresh_handed c f rest) free =
+    record {
+      consistent = dropped_consistent t w m c tied ok visit f g was rest front spots frees blocks areas counts counted;
+      free_is = free_is;
+      drops = dropped_does t w m c tied ok visit f g was rest front spots frees blocks areas counts counted;
+      visit = dropped_visits t w m c tied ok visit f g was rest front spots frees blocks areas counts counted;
+      steps = dropped_steps t w m c tied ok visit f g was rest front spots frees blocks areas counts counted killed;
+    } in
+    let uncharged_one : ledger ≡ with_uncharge m.ledger g 1 = uncharges ∙ ap (λ (j : ℕ). with_uncharge m.ledger g (2 ^ j)) zero_is in
+    subst (λ (x : KnownMachine × KnownMachine × KnownCpu). AllDropped t w x.0 c g f x.1 x.2 free)
+    (λ j. (
+      same j,
+      record m { blocks = blocks; spots = spots; ledger = sym uncharged_one j; seat = sym collects j; stock = sym absorbs j; counts = counts },
+      sym hands.2 j,
+    )) one
+
+-- what the call that collects it tells of it
+pub was_fresh : (t : KnownTable) (w : Words) (m : KnownMachine) (c : KnownCpu) (f g : ℕ) → f < t.frames → HasNothingOf m.seat f → IsLent m.seat f c.number
+    → 1 + (account_of m.stock.view c.number).noted ≤ (account_of m.stock.view c.number).book
+    → group_of c.stock.view.last ≡ (account_of m.stock.view c.number).group → group_of c.stock.view.last ≡ Some g → g < 64 → WasFresh t m c f g
+was_fresh t w m c f g inside nothing lent booked group last fits = record {
+  inside = inside;
+  nothing = nothing;
+  lent = lent;
+  booked = booked;
+  of_group = sym group ∙ last;
+  fits = fits;
+  named = ap number_or_0 last;
+}
+
+-- the page that is dropped is charged to the group
+pub drop_charged : (t : KnownTable) (w : Words) (m : KnownMachine) (c : KnownCpu) → IsTied t w c → IsConsistent t w m → (f g : ℕ) → WasFresh t m c f g
+    → (k : ℕ) → k ≡ 0 → 2 ^ k ≤ pages_of m.ledger g
+drop_charged t w m c tied ok f g was k zero_is =
+    let a = was.booked in
+    let b = ok.charged g in
+    let z = booked_within t m.stock c.number g tied.seats.frame_cpus was.of_group in
+    let one : 2 ^ k ≡ 1 = ap (λ (j : ℕ). 2 ^ j) zero_is in
+    omega (arith, a, b, z, one)
+
+-- the frame is in use
+pub drop_in_use : (t : KnownTable) (w : Words) (m : KnownMachine) (c : KnownCpu) → IsTied t w c → IsConsistent t w m → (before : List Bool) (f g i k : ℕ)
+    → before ≡ free_of m.spots → WasFresh t m c f g → i ≡ f → k ≡ 0 → IsInUse before (record { at = i; order = k })
+drop_in_use t w m c tied ok before f g i k free_was was index zero_is = may_give t w m c tied ok before f i k free_was was.inside was.lent index zero_is

@@ -1,0 +1,231 @@
+-- All fresh frames and then all back frames are settled. Serves `settle_one` and the loops of `settle_fresh` and `settle_back`.
+use Rattle.std.proofs.Common.{◌≡◌, ◌≢◌, ℕ, ◌<◌, Bool, true, false, None, List, [], ◌∷◌, length, refl, sym, ap, ◌∙◌, subst}
+use Rattle.std.proofs.Common.{arith, inl, inr}
+use Rattle.std.specs.List.{flat_map}
+use Rattle.std.proofs.lemmas.Bool.{cases_Bool, false≢true}
+use Rattle.std.proofs.lemmas.Option.{none-some}
+use Rattle.frame_word.specs.Seats.{KnownTable}
+use Rattle.stock_word.specs.declared.view.Stock.{Stock}
+use Rattle.stock_word.specs.declared.view.Stock.TheVariants.{NoGroup, HeldBy, DrainedOf}
+use Rattle.stock_word.specs.Stock.{group_of}
+use Rattle.cpu_part.specs.Cpus.{KnownCpu}
+use Rattle.step_rules.specs.State.{State}
+use Rattle.mem_machine.specs.Machines.{KnownMachine, Visits, is_killed}
+use Rattle.mem_machine.specs.Local.{IsLocalRun, local_of, fresh_group}
+use Rattle.mem_machine.specs.Settling.{HandsOver, KeepsFresh, DropsFresh, SettlesFresh, SettlesAllFresh, ReturnsBack, ReturnsAllBack, LeavesOthers, Settles}
+use Rattle.mem_machine.specs.Settling.{fresh_steps, return_steps, settle_steps}
+use Rattle.mem_machine.proofs.Reaching.{run_both}
+
+-- ---- one fresh frame
+
+-- what a settle does with a fresh frame leaves all this
+pub record WentOver (f : ℕ) (m : KnownMachine) (c : KnownCpu) (n : KnownMachine) (d : KnownCpu) : Type 0 where
+  pub front : c.fresh ≡ f ∷ d.fresh
+  pub others : LeavesOthers c d
+  pub back : d.back ≡ c.back
+  pub group : fresh_group d ≡ fresh_group c
+  pub killed : n.killed ≡ m.killed
+
+went_over : (f : ℕ) (m : KnownMachine) (c : KnownCpu) (n : KnownMachine) (d : KnownCpu) → HandsOver f c d → n.killed ≡ m.killed → WentOver f m c n d
+went_over f m c n d hands killed = record {
+  front = hands.0;
+  others = record {
+    number = ap (λ (x : KnownCpu). x.number) hands.1;
+    list = ap (λ (x : KnownCpu). x.list) hands.1;
+    pins = ap (λ (x : KnownCpu). x.pins) hands.1;
+  };
+  back = ap (λ (x : KnownCpu). x.back) hands.1;
+  group = ap fresh_group hands.1;
+  killed = killed;
+}
+
+pub settled_over : (f : ℕ) (m : KnownMachine) (c : KnownCpu) (n : KnownMachine) (d : KnownCpu) → SettlesFresh f m c n d → WentOver f m c n d
+settled_over f m c n d one = elim (cases_Bool (is_killed m.killed (fresh_group c))) [
+  | inl killed ↦ let drops = one.drops killed in went_over f m c n d drops.cpu (ap (λ (x : KnownMachine). x.killed) drops.machine)
+  | inr alive ↦ let keeps = one.keeps alive in went_over f m c n d keeps.cpu (ap (λ (x : KnownMachine). x.killed) keeps.machine)
+]
+
+-- the two ways in which it goes
+pub settles_kept : (f g : ℕ) (m : KnownMachine) (c : KnownCpu) (n : KnownMachine) (d : KnownCpu) → fresh_group c ≡ g → is_killed m.killed g ≡ false
+    → KeepsFresh g f m c n d → SettlesFresh f m c n d
+settles_kept f g m c n d named alive keeps = record {
+  keeps = λ e. subst (λ (k : ℕ). KeepsFresh k f m c n d) (sym named) keeps;
+  drops = λ e. absurd (false≢true (sym (ap (is_killed m.killed) named ∙ alive) ∙ e));
+}
+
+pub settles_dropped : (f g : ℕ) (m : KnownMachine) (c : KnownCpu) (n : KnownMachine) (d : KnownCpu) → fresh_group c ≡ g → is_killed m.killed g ≡ true
+    → DropsFresh g f m c n d → SettlesFresh f m c n d
+settles_dropped f g m c n d named killed drops = record {
+  keeps = λ e. absurd (false≢true (sym e ∙ ap (is_killed m.killed) named ∙ killed));
+  drops = λ e. subst (λ (k : ℕ). DropsFresh k f m c n d) (sym named) drops;
+}
+
+pub steps_of : (b : Bool) (p f g : ℕ) (m : KnownMachine) (c : KnownCpu) (s t : State) → fresh_group c ≡ g → is_killed m.killed g ≡ b
+    → IsLocalRun p s (fresh_steps b p f) t → IsLocalRun p s (fresh_steps (is_killed m.killed (fresh_group c)) p f) t
+steps_of b p f g m c s t named is run = subst (λ (x : Bool). IsLocalRun p s (fresh_steps x p f) t) (sym (ap (is_killed m.killed) named ∙ is)) run
+
+-- a list that isn't empty
+pub some_fresh : (xs : List ℕ) (n : ℕ) → n ≡ length xs → n ≢ 0 → xs ≢ []
+some_fresh xs n count some none = some (count ∙ ap length none)
+
+pub none_fresh : (xs : List ℕ) (n : ℕ) → n ≡ length xs → n ≡ 0 → xs ≡ []
+none_fresh [] n count zero_is = refl
+none_fresh (x ∷ xs) n count zero_is = absurd (omega (arith, count, zero_is))
+
+-- a stock of no group was never filled
+pub of_no_group : (stock : Stock) → group_of stock ≡ None → stock ≡ NoGroup
+of_no_group NoGroup e = refl
+of_no_group (HeldBy g n) e = absurd (none-some g (sym e))
+of_no_group (DrainedOf g) e = absurd (none-some g (sym e))
+
+-- ---- all fresh frames
+
+-- what is settled from here on is what is left of a settle from the beginning
+pub record FreshSoFar (t : KnownTable) (m : KnownMachine) (c : KnownCpu) (x : KnownMachine) (y : KnownCpu) : Type 0 where
+  pub settles : (n : KnownMachine) (d : KnownCpu) → SettlesAllFresh y.fresh x y n d → SettlesAllFresh c.fresh m c n d
+  pub steps : (b : State)
+      → IsLocalRun c.number (local_of t x y) (flat_map (fresh_steps (is_killed m.killed (fresh_group c)) c.number) y.fresh) b
+      → IsLocalRun c.number (local_of t m c) (flat_map (fresh_steps (is_killed m.killed (fresh_group c)) c.number) c.fresh) b
+  pub visit : Visits t x y
+  pub others : LeavesOthers c y
+  pub back : y.back ≡ c.back
+  pub killed : is_killed x.killed (fresh_group y) ≡ is_killed m.killed (fresh_group c)
+
+pub same_others : (c : KnownCpu) → LeavesOthers c c
+same_others c = record { number = refl; list = refl; pins = refl }
+
+pub both_others : (c d e : KnownCpu) → LeavesOthers c d → LeavesOthers d e → LeavesOthers c e
+both_others c d e a b = record { number = b.number ∙ a.number; list = b.list ∙ a.list; pins = b.pins ∙ a.pins }
+
+pub fresh_start : (t : KnownTable) (m : KnownMachine) (c : KnownCpu) → Visits t m c → FreshSoFar t m c m c
+fresh_start t m c visit = record {
+  settles = λ n d rest. rest;
+  steps = λ b rest. rest;
+  visit = visit;
+  others = same_others c;
+  back = refl;
+  killed = refl;
+}
+
+pub fresh_more : (t : KnownTable) (m : KnownMachine) (c : KnownCpu) (x : KnownMachine) (y : KnownCpu) (x' : KnownMachine) (y' : KnownCpu) (f : ℕ)
+    → FreshSoFar t m c x y → SettlesFresh f x y x' y' → Visits t x' y'
+    → IsLocalRun y.number (local_of t x y) (fresh_steps (is_killed x.killed (fresh_group y)) y.number f) (local_of t x' y') → FreshSoFar t m c x' y'
+fresh_more t m c x y x' y' f so_far one visit run =
+    let over = settled_over f x y x' y' one in
+    let k : Bool = is_killed m.killed (fresh_group c) in
+    let p : ℕ = c.number in
+    let run_c : IsLocalRun p (local_of t x y) (fresh_steps k p f) (local_of t x' y') =
+    subst (λ (z : ℕ × Bool). IsLocalRun z.0 (local_of t x y) (fresh_steps z.1 z.0 f) (local_of t x' y')) (λ i. (so_far.others.number i, so_far.killed i)) run in
+    record {
+      settles = λ n d rest. so_far.settles n d (subst (λ (l : List ℕ). SettlesAllFresh l x y n d) (sym over.front) (x', y', one, rest));
+      steps = λ b rest. so_far.steps b (subst (λ (l : List ℕ). IsLocalRun p (local_of t x y) (flat_map (fresh_steps k p) l) b) (sym over.front)
+          (run_both p (fresh_steps k p f) (flat_map (fresh_steps k p) y'.fresh) (local_of t x y) (local_of t x' y') b run_c rest));
+      visit = visit;
+      others = both_others c y y' so_far.others over.others;
+      back = over.back ∙ so_far.back;
+      killed = (λ i. is_killed (over.killed i) (over.group i)) ∙ so_far.killed;
+    }
+
+-- none is left
+pub record FreshSettled (t : KnownTable) (m : KnownMachine) (c : KnownCpu) (n : KnownMachine) (d : KnownCpu) : Type 0 where
+  pub settles : SettlesAllFresh c.fresh m c n d
+  pub steps : IsLocalRun c.number (local_of t m c) (flat_map (fresh_steps (is_killed m.killed (fresh_group c)) c.number) c.fresh) (local_of t n d)
+  pub leaves : LeavesOthers c d × (d.back ≡ c.back) × (d.fresh ≡ [])
+
+pub fresh_end : (t : KnownTable) (m : KnownMachine) (c : KnownCpu) (x : KnownMachine) (y : KnownCpu) (n : KnownMachine) (d : KnownCpu)
+    → FreshSoFar t m c x y → (y.fresh ≡ []) × (n ≡ x) × (d ≡ y) → FreshSettled t m c n d
+fresh_end t m c x y n d so_far none =
+    let k : Bool = is_killed m.killed (fresh_group c) in
+    record {
+      settles = so_far.settles n d (subst (λ (l : List ℕ). SettlesAllFresh l x y n d) (sym none.0) (none.1, none.2));
+      steps = so_far.steps (local_of t n d)
+          (subst (λ (l : List ℕ). IsLocalRun c.number (local_of t x y) (flat_map (fresh_steps k c.number) l) (local_of t n d)) (sym none.0)
+          (λ i. local_of t (sym none.1 i) (sym none.2 i)));
+      leaves = (
+        subst (λ (e : KnownCpu). LeavesOthers c e) (sym none.2) so_far.others,
+        ap (λ (e : KnownCpu). e.back) none.2 ∙ so_far.back,
+        ap (λ (e : KnownCpu). e.fresh) none.2 ∙ none.0,
+      );
+    }
+
+-- ---- all back frames
+
+pub record BackSoFar (t : KnownTable) (m : KnownMachine) (c : KnownCpu) (x : KnownMachine) (y : KnownCpu) : Type 0 where
+  pub returns : (n : KnownMachine) (d : KnownCpu) → ReturnsAllBack y.back x y n d → ReturnsAllBack c.back m c n d
+  pub steps : (b : State) → IsLocalRun c.number (local_of t x y) (flat_map (return_steps c.number) y.back) b
+      → IsLocalRun c.number (local_of t m c) (flat_map (return_steps c.number) c.back) b
+  pub visit : Visits t x y
+  pub others : LeavesOthers c y
+  pub fresh : y.fresh ≡ c.fresh
+
+pub back_start : (t : KnownTable) (m : KnownMachine) (c : KnownCpu) → Visits t m c → BackSoFar t m c m c
+back_start t m c visit = record { returns = λ n d rest. rest; steps = λ b rest. rest; visit = visit; others = same_others c; fresh = refl }
+
+pub back_more : (t : KnownTable) (m : KnownMachine) (c : KnownCpu) (x : KnownMachine) (y : KnownCpu) (x' : KnownMachine) (y' : KnownCpu) (f : ℕ)
+    → BackSoFar t m c x y → ReturnsBack f x y x' y' → Visits t x' y'
+    → IsLocalRun y.number (local_of t x y) (return_steps y.number f) (local_of t x' y') → BackSoFar t m c x' y'
+back_more t m c x y x' y' f so_far one visit run =
+    let p : ℕ = c.number in
+    let others : LeavesOthers y y' = record {
+      number = ap (λ (e : KnownCpu). e.number) one.cpu;
+      list = ap (λ (e : KnownCpu). e.list) one.cpu;
+      pins = ap (λ (e : KnownCpu). e.pins) one.cpu;
+    } in
+    let run_c : IsLocalRun p (local_of t x y) (return_steps p f) (local_of t x' y') =
+    subst (λ (q : ℕ). IsLocalRun q (local_of t x y) (return_steps q f) (local_of t x' y')) so_far.others.number run in
+    record {
+      returns = λ n d rest. so_far.returns n d (subst (λ (l : List ℕ). ReturnsAllBack l x y n d) (sym one.front) (x', y', one, rest));
+      steps = λ b rest. so_far.steps b (subst (λ (l : List ℕ). IsLocalRun p (local_of t x y) (flat_map (return_steps p) l) b) (sym one.front)
+          (run_both p (return_steps p f) (flat_map (return_steps p) y'.back) (local_of t x y) (local_of t x' y') b run_c rest));
+      visit = visit;
+      others = both_others c y y' so_far.others others;
+      fresh = ap (λ (e : KnownCpu). e.fresh) one.cpu ∙ so_far.fresh;
+    }
+
+pub record BackSettled (t : KnownTable) (m : KnownMachine) (c : KnownCpu) (n : KnownMachine) (d : KnownCpu) : Type 0 where
+  pub returns : ReturnsAllBack c.back m c n d
+  pub steps : IsLocalRun c.number (local_of t m c) (flat_map (return_steps c.number) c.back) (local_of t n d)
+  pub leaves : LeavesOthers c d × (d.fresh ≡ c.fresh) × (d.back ≡ [])
+
+pub back_end : (t : KnownTable) (m : KnownMachine) (c : KnownCpu) (x : KnownMachine) (y : KnownCpu) (n : KnownMachine) (d : KnownCpu)
+    → BackSoFar t m c x y → (y.back ≡ []) × (n ≡ x) × (d ≡ y) → BackSettled t m c n d
+back_end t m c x y n d so_far none = record {
+  returns = so_far.returns n d (subst (λ (l : List ℕ). ReturnsAllBack l x y n d) (sym none.0) (none.1, none.2));
+  steps = so_far.steps (local_of t n d)
+      (subst (λ (l : List ℕ). IsLocalRun c.number (local_of t x y) (flat_map (return_steps c.number) l) (local_of t n d)) (sym none.0)
+      (λ i. local_of t (sym none.1 i) (sym none.2 i)));
+  leaves = (
+    subst (λ (e : KnownCpu). LeavesOthers c e) (sym none.2) so_far.others,
+    ap (λ (e : KnownCpu). e.fresh) none.2 ∙ so_far.fresh,
+    ap (λ (e : KnownCpu). e.back) none.2 ∙ none.0,
+  );
+}
+
+-- ---- both
+
+-- the front of the back frames falls off at each step, and that of the fresh frames
+pub fewer : (f : ℕ) (xs ys : List ℕ) → xs ≡ f ∷ ys → length ys < length xs
+fewer f xs ys is = let a : length xs ≡ length (f ∷ ys) = ap length is in omega (arith, a)
+
+pub record AllSettled (t : KnownTable) (m : KnownMachine) (c : KnownCpu) (n : KnownMachine) (d : KnownCpu) : Type 0 where
+  pub settles : Settles m c n d
+  pub others : LeavesOthers c d
+  pub none_fresh : d.fresh ≡ []
+  pub none_back : d.back ≡ []
+  pub steps : IsLocalRun c.number (local_of t m c) (settle_steps m c) (local_of t n d)
+
+pub settle_both : (t : KnownTable) (m : KnownMachine) (c : KnownCpu) (x : KnownMachine) (y : KnownCpu) (n : KnownMachine) (d : KnownCpu)
+    → SettlesAllFresh c.fresh m c x y → LeavesOthers c y × (y.back ≡ c.back) × (y.fresh ≡ [])
+    → IsLocalRun c.number (local_of t m c) (flat_map (fresh_steps (is_killed m.killed (fresh_group c)) c.number) c.fresh) (local_of t x y)
+    → ReturnsAllBack y.back x y n d → LeavesOthers y d × (d.fresh ≡ y.fresh) × (d.back ≡ [])
+    → IsLocalRun y.number (local_of t x y) (flat_map (return_steps y.number) y.back) (local_of t n d) → AllSettled t m c n d
+settle_both t m c x y n d fresh leaves run back leaves' run' = record {
+  settles = record { machine = x; cpu = y; fresh = fresh; back = subst (λ (l : List ℕ). ReturnsAllBack l x y n d) leaves.1 back };
+  others = both_others c y d leaves.0 leaves'.0;
+  none_fresh = leaves'.1 ∙ leaves.2;
+  none_back = leaves'.2;
+  steps = run_both c.number (flat_map (fresh_steps (is_killed m.killed (fresh_group c)) c.number) c.fresh) (flat_map (return_steps c.number) c.back)
+      (local_of t m c) (local_of t x y) (local_of t n d) run
+      (subst (λ (z : ℕ × List ℕ). IsLocalRun z.0 (local_of t x y) (flat_map (return_steps z.0) z.1) (local_of t n d))
+      (λ i. (leaves.0.number i, leaves.1 i)) run');
+}

@@ -1,0 +1,76 @@
+use Rattle.std.proofs.Common.{◌≡◌, ◌<◌, rules}
+use Rattle.mem_machine.proofs.Fresh.{drop_all, was_fresh, drop_charged, drop_in_use}
+use Rattle.mem_machine.proofs.machine.Machine.drop_one.Goals as goal
+
+pub free_unit-requires-clause-in_use : goal.free_unit-requires-clause-in_use
+free_unit-requires-clause-in_use g c =
+    let k0 : c.unwrap-order.result ≡ 0 = search rules in
+    let fits : c.args.group < 64 = search rules in
+    let e = c.collect_fresh-frame.ensures in
+    let was = was_fresh g.N.BootName.frames g.N.BootName.stocks _ c.args.cpu.now _ c.args.group e.frame e.nothing e.lent e.booked e.group c.requires.group
+    fits in
+    drop_in_use g.N.BootName.frames g.N.BootName.stocks _ c.args.cpu.now c.number-number.ensures.tied c.self.invariant.0 _ _ c.args.group _
+    c.unwrap-order.result c.self.invariant.1 was c.number.ensures k0
+
+pub free_unit-requires-clause-charged : goal.free_unit-requires-clause-charged
+free_unit-requires-clause-charged g c =
+    let k0 : c.unwrap-order.result ≡ 0 = search rules in
+    let fits : c.args.group < 64 = search rules in
+    let e = c.collect_fresh-frame.ensures in
+    let was = was_fresh g.N.BootName.frames g.N.BootName.stocks _ c.args.cpu.now _ c.args.group e.frame e.nothing e.lent e.booked e.group c.requires.group
+    fits in
+    drop_charged g.N.BootName.frames g.N.BootName.stocks _ c.args.cpu.now c.number-number.ensures.tied c.self.invariant.0 _ c.args.group was
+    c.unwrap-order.result k0
+
+pub invariant_of-self : goal.invariant_of-self
+invariant_of-self g c =
+    let k0 : c.unwrap-order.result ≡ 0 = search rules in
+    let fits : c.args.group < 64 = search rules in
+    let e = c.collect_fresh-frame.ensures in
+    let was = was_fresh g.N.BootName.frames g.N.BootName.stocks _ c.args.cpu.now _ c.args.group e.frame e.nothing e.lent e.booked e.group c.requires.group
+    fits in
+    let u = c.free_unit.ensures in
+    let all = (drop_all g.N.BootName.frames g.N.BootName.stocks _ _ c.self.view_is c.args.cpu.now _ c.number-number.ensures.tied c.self.invariant.0
+    c.requires.visit _ _ c.self.invariant.1 _ c.args.group was c.requires.killed e.cpu _ c.unwrap-order.result c.number.ensures k0 _ e.zone _ e.machine
+    _ u.spots _ u.frames u.areas _ u.charges _
+    (λ i. record c.self.inside.counts { drops = c.saturating_add-self-inside.ensures i; returns = c.saturating_add-self-inside-2.ensures i })) in
+    (all.consistent, all.free_is)
+
+pub returns-clause-drops : goal.returns-clause-drops
+returns-clause-drops g c =
+    let k0 : c.unwrap-order.result ≡ 0 = search rules in
+    let fits : c.args.group < 64 = search rules in
+    let e = c.collect_fresh-frame.ensures in
+    let was = was_fresh g.N.BootName.frames g.N.BootName.stocks _ c.args.cpu.now _ c.args.group e.frame e.nothing e.lent e.booked e.group c.requires.group
+    fits in
+    let u = c.free_unit.ensures in
+    (drop_all g.N.BootName.frames g.N.BootName.stocks _ _ c.self.view_is c.args.cpu.now _ c.number-number.ensures.tied c.self.invariant.0
+    c.requires.visit _ _ c.self.invariant.1 _ c.args.group was c.requires.killed e.cpu _ c.unwrap-order.result c.number.ensures k0 _ e.zone _ e.machine
+    _ u.spots _ u.frames u.areas _ u.charges _
+    (λ i. record c.self.inside.counts { drops = c.saturating_add-self-inside.ensures i; returns = c.saturating_add-self-inside-2.ensures i })).drops
+
+pub returns-clause-visit : goal.returns-clause-visit
+returns-clause-visit g c =
+    let k0 : c.unwrap-order.result ≡ 0 = search rules in
+    let fits : c.args.group < 64 = search rules in
+    let e = c.collect_fresh-frame.ensures in
+    let was = was_fresh g.N.BootName.frames g.N.BootName.stocks _ c.args.cpu.now _ c.args.group e.frame e.nothing e.lent e.booked e.group c.requires.group
+    fits in
+    let u = c.free_unit.ensures in
+    (drop_all g.N.BootName.frames g.N.BootName.stocks _ _ c.self.view_is c.args.cpu.now _ c.number-number.ensures.tied c.self.invariant.0
+    c.requires.visit _ _ c.self.invariant.1 _ c.args.group was c.requires.killed e.cpu _ c.unwrap-order.result c.number.ensures k0 _ e.zone _ e.machine
+    _ u.spots _ u.frames u.areas _ u.charges _
+    (λ i. record c.self.inside.counts { drops = c.saturating_add-self-inside.ensures i; returns = c.saturating_add-self-inside-2.ensures i })).visit
+
+pub returns-clause-steps : goal.returns-clause-steps
+returns-clause-steps g c =
+    let k0 : c.unwrap-order.result ≡ 0 = search rules in
+    let fits : c.args.group < 64 = search rules in
+    let e = c.collect_fresh-frame.ensures in
+    let was = was_fresh g.N.BootName.frames g.N.BootName.stocks _ c.args.cpu.now _ c.args.group e.frame e.nothing e.lent e.booked e.group c.requires.group
+    fits in
+    let u = c.free_unit.ensures in
+    (drop_all g.N.BootName.frames g.N.BootName.stocks _ _ c.self.view_is c.args.cpu.now _ c.number-number.ensures.tied c.self.invariant.0
+    c.requires.visit _ _ c.self.invariant.1 _ c.args.group was c.requires.killed e.cpu _ c.unwrap-order.result c.number.ensures k0 _ e.zone _ e.machine
+    _ u.spots _ u.frames u.areas _ u.charges _
+    (λ i. record c.self.inside.counts { drops = c.saturating_add-self-inside.ensures i; returns = c.saturating_add-self-inside-2.ensures i })).steps

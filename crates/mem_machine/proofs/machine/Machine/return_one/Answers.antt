@@ -1,0 +1,94 @@
+use Rattle.std.proofs.Common.{◌<◌, rules, ap, ◌∙◌}
+use Rattle.frame_word.specs.Views.{collected_from}
+use Rattle.frame_word.specs.Seats.{KnownSeat, seat_with}
+use Rattle.mem_machine.proofs.Freeing.{unit_charged}
+use Rattle.mem_machine.proofs.Back.{WasBack, back_passes, read_head, back_in_use, back_inside, return_all}
+use Rattle.mem_machine.proofs.machine.Machine.return_one.Goals as goal
+
+pub collect-requires-clause-passes : goal.collect-requires-clause-passes
+collect-requires-clause-passes g c =
+    let inside : c.in-Some.frame < g.N.BootName.frames.frames = search rules in
+    back_passes g.N.BootName.frames g.N.BootName.stocks _ _ c.self.view_is c.args.cpu.now _ c.number-number.ensures.tied c.requires _ _ inside
+    c.in-Some.ensures.answer
+    c.in-Some.ensures.zone
+
+pub free_unit-requires-clause-in_use : goal.free_unit-requires-clause-in_use
+free_unit-requires-clause-in_use g c =
+    let inside : c.in-Some.frame < g.N.BootName.frames.frames = search rules in
+    let was : WasBack g.N.BootName.frames _ c.in-Some.frame =
+    record { inside = inside; nothing = c.in-Some.ensures.own.0; lent = c.in-Some.ensures.own.1 } in
+    let heads = read_head g.N.BootName.frames g.N.BootName.stocks _ c.self.invariant.0 _ _ was c.number-at.ensures _ c.index.ensures _ c.in-Head.is in
+    back_in_use g.N.BootName.frames g.N.BootName.stocks _ c.self.invariant.0 _ _ _ c.self.invariant.1 heads
+
+pub free_unit-requires-clause-inside : goal.free_unit-requires-clause-inside
+free_unit-requires-clause-inside g c =
+    let inside : c.in-Some.frame < g.N.BootName.frames.frames = search rules in
+    let was : WasBack g.N.BootName.frames _ c.in-Some.frame =
+    record { inside = inside; nothing = c.in-Some.ensures.own.0; lent = c.in-Some.ensures.own.1 } in
+    let heads = read_head g.N.BootName.frames g.N.BootName.stocks _ c.self.invariant.0 _ _ was c.number-at.ensures _ c.index.ensures _ c.in-Head.is in
+    back_inside g.N.BootName.frames g.N.BootName.stocks _ c.self.invariant.0 _ _ heads
+
+pub free_unit-requires-clause-charged : goal.free_unit-requires-clause-charged
+free_unit-requires-clause-charged g c =
+    let inside : c.in-Some.frame < g.N.BootName.frames.frames = search rules in
+    let was : WasBack g.N.BootName.frames _ c.in-Some.frame =
+    record { inside = inside; nothing = c.in-Some.ensures.own.0; lent = c.in-Some.ensures.own.1 } in
+    let heads = read_head g.N.BootName.frames g.N.BootName.stocks _ c.self.invariant.0 _ _ was c.number-at.ensures _ c.index.ensures _ c.in-Head.is in
+    unit_charged g.N.BootName.frames g.N.BootName.stocks _ c.self.invariant.0 _ _ heads
+
+pub invariant_of-self-2 : goal.invariant_of-self-2
+invariant_of-self-2 g c =
+    let inside : c.in-Some.frame < g.N.BootName.frames.frames = search rules in
+    let was : WasBack g.N.BootName.frames _ c.in-Some.frame =
+    record { inside = inside; nothing = c.in-Some.ensures.own.0; lent = c.in-Some.ensures.own.1 } in
+    let heads = read_head g.N.BootName.frames g.N.BootName.stocks _ c.self.invariant.0 _ _ was c.number-at.ensures _ c.index.ensures _ c.in-Head.is in
+    let collected = c.collect.ensures.zone ∙ ap (λ (s : KnownSeat). seat_with s c.in-Some.frame
+    (collected_from c.hand_back.new.self.number)) c.in-Some.ensures.zone in
+    let u = c.free_unit.ensures in
+    let all = (return_all g.N.BootName.frames g.N.BootName.stocks _ _ c.self.view_is c.args.cpu.now c.hand_back.new.self _ c.number-number.ensures.tied
+    c.self.invariant.0 c.requires _ _ c.self.invariant.1 _ was c.in-Some.ensures.answer c.collect.ensures.cpu _ c.number-at.ensures _ heads _ collected
+    _ u.spots _ u.frames u.areas _ u.charges _
+    (λ i. record c.self.inside.counts { last_puts = c.saturating_add-self-inside.ensures i; returns = c.saturating_add-self-inside-2.ensures i })) in
+    (all.consistent, all.free_is)
+
+pub returns-clause-returns : goal.returns-clause-returns
+returns-clause-returns g c =
+    let inside : c.in-Some.frame < g.N.BootName.frames.frames = search rules in
+    let was : WasBack g.N.BootName.frames _ c.in-Some.frame =
+    record { inside = inside; nothing = c.in-Some.ensures.own.0; lent = c.in-Some.ensures.own.1 } in
+    let heads = read_head g.N.BootName.frames g.N.BootName.stocks _ c.self.invariant.0 _ _ was c.number-at.ensures _ c.index.ensures _ c.in-Head.is in
+    let collected = c.collect.ensures.zone ∙ ap (λ (s : KnownSeat). seat_with s c.in-Some.frame
+    (collected_from c.hand_back.new.self.number)) c.in-Some.ensures.zone in
+    let u = c.free_unit.ensures in
+    (return_all g.N.BootName.frames g.N.BootName.stocks _ _ c.self.view_is c.args.cpu.now c.hand_back.new.self _ c.number-number.ensures.tied
+    c.self.invariant.0 c.requires _ _ c.self.invariant.1 _ was c.in-Some.ensures.answer c.collect.ensures.cpu _ c.number-at.ensures _ heads _ collected
+    _ u.spots _ u.frames u.areas _ u.charges _
+    (λ i. record c.self.inside.counts { last_puts = c.saturating_add-self-inside.ensures i; returns = c.saturating_add-self-inside-2.ensures i })).returns
+
+pub returns-clause-visit : goal.returns-clause-visit
+returns-clause-visit g c =
+    let inside : c.in-Some.frame < g.N.BootName.frames.frames = search rules in
+    let was : WasBack g.N.BootName.frames _ c.in-Some.frame =
+    record { inside = inside; nothing = c.in-Some.ensures.own.0; lent = c.in-Some.ensures.own.1 } in
+    let heads = read_head g.N.BootName.frames g.N.BootName.stocks _ c.self.invariant.0 _ _ was c.number-at.ensures _ c.index.ensures _ c.in-Head.is in
+    let collected = c.collect.ensures.zone ∙ ap (λ (s : KnownSeat). seat_with s c.in-Some.frame
+    (collected_from c.hand_back.new.self.number)) c.in-Some.ensures.zone in
+    let u = c.free_unit.ensures in
+    (return_all g.N.BootName.frames g.N.BootName.stocks _ _ c.self.view_is c.args.cpu.now c.hand_back.new.self _ c.number-number.ensures.tied
+    c.self.invariant.0 c.requires _ _ c.self.invariant.1 _ was c.in-Some.ensures.answer c.collect.ensures.cpu _ c.number-at.ensures _ heads _ collected
+    _ u.spots _ u.frames u.areas _ u.charges _
+    (λ i. record c.self.inside.counts { last_puts = c.saturating_add-self-inside.ensures i; returns = c.saturating_add-self-inside-2.ensures i })).visit
+
+pub returns-clause-steps : goal.returns-clause-steps
+returns-clause-steps g c =
+    let inside : c.in-Some.frame < g.N.BootName.frames.frames = search rules in
+    let was : WasBack g.N.BootName.frames _ c.in-Some.frame =
+    record { inside = inside; nothing = c.in-Some.ensures.own.0; lent = c.in-Some.ensures.own.1 } in
+    let heads = read_head g.N.BootName.frames g.N.BootName.stocks _ c.self.invariant.0 _ _ was c.number-at.ensures _ c.index.ensures _ c.in-Head.is in
+    let collected = c.collect.ensures.zone ∙ ap (λ (s : KnownSeat). seat_with s c.in-Some.frame
+    (collected_from c.hand_back.new.self.number)) c.in-Some.ensures.zone in
+    let u = c.free_unit.ensures in
+    (return_all g.N.BootName.frames g.N.BootName.stocks _ _ c.self.view_is c.args.cpu.now c.hand_back.new.self _ c.number-number.ensures.tied
+    c.self.invariant.0 c.requires _ _ c.self.invariant.1 _ was c.in-Some.ensures.answer c.collect.ensures.cpu _ c.number-at.ensures _ heads _ collected
+    _ u.spots _ u.frames u.areas _ u.charges _
+    (λ i. record c.self.inside.counts { last_puts = c.saturating_add-self-inside.ensures i; returns = c.saturating_add-self-inside-2.ensures i })).steps

@@ -1,0 +1,9 @@
+use Rattle.std.proofs.Common.{length}
+use Rattle.mem_machine.proofs.Settled.{BackSoFar}
+use Rattle.mem_machine.proofs.machine.Machine.settle_back.Given as goal
+
+abbrev pub decreases-loop-frame : goal.decreases-loop-frame
+decreases-loop-frame g l = length l.cpu.back
+
+abbrev pub invariant-loop-frame : goal.invariant-loop-frame
+invariant-loop-frame g l = BackSoFar g.N.BootName.frames l.fn.self l.fn.cpu l.self l.cpu

@@ -1,0 +1,21 @@
+use Rattle.mem_machine.proofs.Settled.{fresh_start, fresh_more, fresh_end, settled_over, fewer}
+use Rattle.mem_machine.proofs.machine.Machine.settle_fresh.Goals as goal
+
+pub loop-frame-init : goal.loop-frame-init
+loop-frame-init g c = fresh_start g.N.BootName.frames _ _ c.requires
+
+pub loop-frame-preserved : goal.loop-frame-preserved
+loop-frame-preserved g c =
+    fresh_more _ _ _ _ _ _ _ _ c.loop-frame.invariant c.in-Some.ensures.settles c.settle_one.ensures.visit c.in-Some.ensures.steps
+
+pub loop-frame-smaller : goal.loop-frame-smaller
+loop-frame-smaller g c = fewer _ _ _ (settled_over _ _ _ _ _ c.in-Some.ensures.settles).front
+
+pub returns-clause-settles : goal.returns-clause-settles
+returns-clause-settles g c = (fresh_end g.N.BootName.frames _ _ _ _ _ _ c.loop-frame.invariant c.in_default.ensures.settles).settles
+
+pub returns-clause-leaves : goal.returns-clause-leaves
+returns-clause-leaves g c = (fresh_end g.N.BootName.frames _ _ _ _ _ _ c.loop-frame.invariant c.in_default.ensures.settles).leaves
+
+pub returns-clause-steps : goal.returns-clause-steps
+returns-clause-steps g c = (fresh_end g.N.BootName.frames _ _ _ _ _ _ c.loop-frame.invariant c.in_default.ensures.settles).steps

@@ -1,0 +1,192 @@
+//! Settling: what the visited processor paid for is kept, and what it put last comes back.
+
+ghost use Rattle.std.specs.Prelude.{◌≡◌, ◌≢◌, ◌+◌, ◌≤◌, ◌<◌, [], true, MatchOption, IfSome, Some};
+ghost use Rattle.std.specs.List.{flat_map};
+ghost use Rattle.frame_word.specs.Views.{collected_from};
+ghost use Rattle.frame_word.specs.Seats.{IsZoneSeat, IsOpen, NothingPasses, HasNothingOf, IsLent, seat_with};
+ghost use Rattle.stock_word.specs.Stock.{IsMachine, account_of, group_of};
+ghost use Rattle.cpu_part.specs.Calls.{HandsFresh};
+ghost use Rattle.mem_machine.specs.Machines.{Visits, is_killed};
+ghost use Rattle.mem_machine.specs.Local.{IsLocalRun, local_of, fresh_group};
+ghost use Rattle.mem_machine.specs.Settling.{KeepsFresh, DropsFresh, SettlesFresh, SettlesAllFresh, ReturnsBack, ReturnsAllBack, Settles, LeavesOthers};
+ghost use Rattle.mem_machine.specs.Settling.{with_page_absorbed, keep_steps, drop_steps, fresh_steps, return_steps, settle_steps};
+
+use crate::freed::free_unit;
+use crate::machine::Machine;
+use crate::spot::Spot;
+use cpu_part::{BootName, Cpu, Tables};
+use frame_word::{Frame, FrameSeat};
+use group_tree::group::GroupId;
+use lru_lists::laws;
+use step_rules::phase::ChargedUnit;
+use stock_word::StockSeat;
+use zone_blocks::order::Order;
+
+// Takes the oldest fresh frame into the zone's hand, and its page off the processor's book.
+fn collect_fresh<N: BootName>(
+    tables: &Tables<N>,
+    cpu: &mut Cpu<N>,
+    zone: &mut FrameSeat,
+    machine: &mut StockSeat,
+) -> Frame
+    requires zone { IsZoneSeat N.frames zone.old }
+    requires machine { (machine.old.table ≡ N.stocks.table) × IsMachine machine.old.view }
+    requires open { IsOpen zone.old cpu.old.number }
+    requires still { NothingPasses N.frames zone.old cpu.old.seat }
+    requires fresh { cpu.old.fresh ≢ [] }
+    ensures cpu { HandsFresh result cpu.old cpu.new }
+    ensures frame { result < N.frames.frames }
+    ensures zone { zone.new ≡ seat_with zone.old result (collected_from cpu.old.number) }
+    ensures machine { machine.new ≡ with_page_absorbed machine.old cpu.old.number }
+    ensures nothing { HasNothingOf zone.old result }
+    ensures lent { IsLent zone.old result cpu.old.number }
+    ensures booked { 1 + (account_of machine.old.view cpu.old.number).noted ≤ (account_of machine.old.view cpu.old.number).book }
+    ensures group { group_of cpu.old.stock.view.last ≡ (account_of machine.old.view cpu.old.number).group }
+{
+    let number = cpu.number();
+    let Some(frame) = cpu.hand_fresh(tables, zone, machine) else {
+        unreachable!()
+    };
+    cpu.collect(tables, zone, frame);
+    tables.stocks.absorb(machine, number);
+    frame
+}
+
+impl<N: BootName> Machine<N> {
+    // Keeps the oldest fresh frame for the group that paid for it.
+    fn keep_one(&mut self, tables: &Tables<N>, cpu: &mut Cpu<N>, group: GroupId) -> Frame
+        requires visit { Visits N.frames self.old cpu.old }
+        requires fresh { cpu.old.fresh ≢ [] }
+        requires group { group_of cpu.old.stock.view.last ≡ Some group }
+        ensures keeps { KeepsFresh group result self.old cpu.old self.new cpu.new }
+        ensures visit { Visits N.frames self.new cpu.new }
+        ensures steps { IsLocalRun cpu.old.number (local_of N.frames self.old cpu.old) (keep_steps cpu.old.number result) (local_of N.frames self.new cpu.new) }
+    {
+        let _number = cpu.number();
+        let frame = collect_fresh(tables, cpu, &mut self.seat, &mut self.stock);
+        tables.frames.unfreeze(&mut self.seat, frame, 1);
+        let unit = frame.number();
+        let order = Order::of(0).unwrap();
+        self.spots[unit as usize] = Spot::Head(ChargedUnit { group, order });
+        laws::others_stand();
+        laws::one_of_all_changes();
+        let owner = group.number() as usize;
+        let mut lists = self.lists[owner];
+        lists.add(&mut self.links, unit);
+        self.lists[owner] = lists;
+        frame
+    }
+
+    // Gives the oldest fresh frame back, whose group is killed: its page comes off the group's charge.
+    fn drop_one(&mut self, tables: &Tables<N>, cpu: &mut Cpu<N>, group: GroupId) -> Frame
+        requires visit { Visits N.frames self.old cpu.old }
+        requires fresh { cpu.old.fresh ≢ [] }
+        requires group { group_of cpu.old.stock.view.last ≡ Some group }
+        requires killed { is_killed self.old.killed group ≡ true }
+        ensures drops { DropsFresh group result self.old cpu.old self.new cpu.new }
+        ensures visit { Visits N.frames self.new cpu.new }
+        ensures steps { IsLocalRun cpu.old.number (local_of N.frames self.old cpu.old) (drop_steps cpu.old.number result) (local_of N.frames self.new cpu.new) }
+    {
+        let _number = cpu.number();
+        let frame = collect_fresh(tables, cpu, &mut self.seat, &mut self.stock);
+        let order = Order::of(0).unwrap();
+        let unit = ChargedUnit { group, order };
+        free_unit(
+            &mut self.zone,
+            &mut self.spots,
+            &mut self.charges,
+            frame.number(),
+            unit,
+        );
+        self.counts.drops = self.counts.drops.saturating_add(1);
+        self.counts.returns = self.counts.returns.saturating_add(1);
+        frame
+    }
+
+    // Takes the oldest back frame, if there is one, into the zone's hand: its unit comes back.
+    fn return_one(&mut self, tables: &Tables<N>, cpu: &mut Cpu<N>) -> Option<Frame>
+        requires { Visits N.frames self.old cpu.old }
+        ensures returns { MatchOption result ((cpu.old.back ≡ []) × (self.new ≡ self.old) × (cpu.new ≡ cpu.old))
+            (λ f. ReturnsBack f self.old cpu.old self.new cpu.new) }
+        ensures visit { Visits N.frames self.new cpu.new }
+        ensures steps { IfSome result (λ f.
+            IsLocalRun cpu.old.number (local_of N.frames self.old cpu.old) (return_steps cpu.old.number f) (local_of N.frames self.new cpu.new)) }
+    {
+        let _number = cpu.number();
+        let Some(frame) = cpu.hand_back(tables, &mut self.seat) else {
+            return None;
+        };
+        cpu.collect(tables, &mut self.seat, frame);
+        let at = frame.number();
+        let Spot::Head(unit) = self.spots[at as usize] else {
+            unreachable!()
+        };
+        free_unit(&mut self.zone, &mut self.spots, &mut self.charges, at, unit);
+        self.counts.last_puts = self.counts.last_puts.saturating_add(1);
+        self.counts.returns = self.counts.returns.saturating_add(1);
+        Some(frame)
+    }
+
+    // Settles the oldest fresh frame, if there is one: it is kept for its group, or dropped where that is killed.
+    fn settle_one(&mut self, tables: &Tables<N>, cpu: &mut Cpu<N>) -> Option<Frame>
+        requires { Visits N.frames self.old cpu.old }
+        ensures settles { MatchOption result ((cpu.old.fresh ≡ []) × (self.new ≡ self.old) × (cpu.new ≡ cpu.old))
+            (λ f. SettlesFresh f self.old cpu.old self.new cpu.new) }
+        ensures visit { Visits N.frames self.new cpu.new }
+        ensures steps { IfSome result (λ f. IsLocalRun cpu.old.number (local_of N.frames self.old cpu.old)
+            (fresh_steps (is_killed self.old.killed (fresh_group cpu.old)) cpu.old.number f) (local_of N.frames self.new cpu.new)) }
+    {
+        if cpu.fresh_len() == 0 {
+            return None;
+        }
+        let Some(number) = cpu.last_stock().group() else {
+            unreachable!()
+        };
+        let group = GroupId::of(number).unwrap();
+        if self.killed[number as usize] {
+            Some(self.drop_one(tables, cpu, group))
+        } else {
+            Some(self.keep_one(tables, cpu, group))
+        }
+    }
+
+    // Settles all fresh frames, in the order in which they were taken.
+    fn settle_fresh(&mut self, tables: &Tables<N>, cpu: &mut Cpu<N>)
+        requires { Visits N.frames self.old cpu.old }
+        ensures settles { SettlesAllFresh cpu.old.fresh self.old cpu.old self.new cpu.new }
+        ensures leaves { LeavesOthers cpu.old cpu.new × (cpu.new.back ≡ cpu.old.back) × (cpu.new.fresh ≡ []) }
+        ensures visit { Visits N.frames self.new cpu.new }
+        ensures steps { IsLocalRun cpu.old.number (local_of N.frames self.old cpu.old)
+            (flat_map (fresh_steps (is_killed self.old.killed (fresh_group cpu.old)) cpu.old.number) cpu.old.fresh) (local_of N.frames self.new cpu.new) }
+    {
+        while let Some(_frame) = self.settle_one(tables, cpu) {}
+    }
+
+    // Takes all back frames back, in the order of their last puts.
+    fn settle_back(&mut self, tables: &Tables<N>, cpu: &mut Cpu<N>)
+        requires { Visits N.frames self.old cpu.old }
+        ensures returns { ReturnsAllBack cpu.old.back self.old cpu.old self.new cpu.new }
+        ensures leaves { LeavesOthers cpu.old cpu.new × (cpu.new.fresh ≡ cpu.old.fresh) × (cpu.new.back ≡ []) }
+        ensures visit { Visits N.frames self.new cpu.new }
+        ensures steps { IsLocalRun cpu.old.number (local_of N.frames self.old cpu.old)
+            (flat_map (return_steps cpu.old.number) cpu.old.back) (local_of N.frames self.new cpu.new) }
+    {
+        while let Some(_frame) = self.return_one(tables, cpu) {}
+    }
+
+    /// Settles the processor that is visited. Each fresh frame, in the order in which they were taken, is now a kept unit of the
+    /// group that paid for it; where that group was killed meanwhile, it goes back, and its page comes off the group's charge,
+    /// which counts as a drop. Then the unit of each back frame goes back, in the order of their last puts.
+    pub fn settle(&mut self, tables: &Tables<N>, cpu: &mut Cpu<N>)
+        requires { Visits N.frames self.old cpu.old }
+        ensures settles { Settles self.old cpu.old self.new cpu.new }
+        ensures others { LeavesOthers cpu.old cpu.new }
+        ensures none_fresh { cpu.new.fresh ≡ [] }
+        ensures none_back { cpu.new.back ≡ [] }
+        ensures visit { Visits N.frames self.new cpu.new }
+        ensures steps { IsLocalRun cpu.old.number (local_of N.frames self.old cpu.old) (settle_steps self.old cpu.old) (local_of N.frames self.new cpu.new) }
+    {
+        self.settle_fresh(tables, cpu);
+        self.settle_back(tables, cpu);
+    }
+}
