@@ -11,9 +11,10 @@ use Rattle.step_rules.specs.After.{Run}
 use Rattle.mem_machine.specs.Machines.{KnownMachine, Makes}
 use Rattle.mem_machine.specs.Local.{IsLocalRun, local_of}
 use Rattle.mem_machine.specs.Stocks.{DrainsAllBelow}
+use Rattle.mem_machine.specs.Settling.{Settles, settle_steps}
 use Rattle.mem_machine.specs.Steps.{Drain, open_steps, shut_steps, make_steps, remove_steps, set_max_steps, drain_stocks_steps}
 use Rattle.mem_system.specs.declared.command.Cmd.{Cmd}
-use Rattle.mem_system.specs.declared.command.Cmd.TheVariants.{Mkdir, Rmdir, Write, Read, Owner}
+use Rattle.mem_system.specs.declared.command.Cmd.TheVariants.{Mkdir, Rmdir, Write, Read, Settle, Owner}
 use Rattle.mem_system.specs.declared.command.Reply.{Reply}
 use Rattle.mem_system.specs.declared.command.Reply.TheVariants.{Group, Done, Refused}
 use Rattle.mem_system.specs.Boots.{KnownLocked}
@@ -102,17 +103,22 @@ Obeys t (Mkdir path) m c reply steps n d = MakesGroup m path.now reply steps n �
 Obeys t (Rmdir path) m c reply steps n d = Removes t m path.now reply steps n × (d ≡ c)
 Obeys t (Write path file value) m c reply steps n d = Writes t m path.now file.now value.now reply steps n × (d ≡ c)
 Obeys t (Read path file) m c reply steps n d = Reads m.ledger path.now file.now reply × Stays m c steps n d
+Obeys t Settle m c reply steps n d = (reply ≡ Done) × Stays m c steps n d
 Obeys t (Owner f) m c reply steps n d = TellsPlace m f reply × Stays m c steps n d
 
 -- the machine with p's visit open (1) or shut (0)
 abbrev pub with_visit_of : KnownMachine → ℕ → ℕ → KnownMachine
 with_visit_of m p state = record m { seat = seat_with_visit m.seat p state }
 
--- A command under the lock, by these steps: the caller's visit is opened, the command is obeyed, and the visit is shut
+-- A command under the lock, by these steps: the caller's visit is opened, its part is settled, the command is obeyed, and the
+-- visit is shut
 pub record Serves (t : KnownTable) (cmd : Cmd) (l : KnownLocked) (c : KnownCpu) (reply : Reply) (steps : Run) (k : KnownLocked) (d : KnownCpu) : Type 0 where
+  pub settled : KnownMachine
+  pub rested : KnownCpu
+  pub settles : Settles (with_visit_of l.machine c.number 1) c settled rested
   pub inner : Run
   pub done : KnownMachine
-  pub obeys : Obeys t cmd (with_visit_of l.machine c.number 1) c reply inner done d
+  pub obeys : Obeys t cmd settled rested reply inner done d
   pub machine : k.machine ≡ with_visit_of done c.number 0
   pub sizes : k.sizes ≡ l.sizes
-  pub steps_are : steps ≡ open_steps c.number ++ (inner ++ shut_steps c.number)
+  pub steps_are : steps ≡ open_steps c.number ++ (settle_steps (with_visit_of l.machine c.number 1) c ++ (inner ++ shut_steps c.number))

@@ -1,13 +1,12 @@
 //! What a processor asks for under the lock, and what it is answered.
 
 use control_files::text::ArrayText;
-use frame_word::Frame;
 use group_tree::fault::Fault;
 use group_tree::group::GroupId;
 use group_tree::path::PathText;
 
 /// What a processor asks for. Paths and names of files may be any bytes.
-#[derive(Clone, Copy)]
+#[derive(Clone, Copy, Debug, PartialEq, Eq)]
 pub enum Cmd<'a> {
     /// Makes the group of this path.
     Mkdir {
@@ -28,9 +27,11 @@ pub enum Cmd<'a> {
         path: &'a [u8],
         file: &'a [u8],
     },
-    /// Tells where a frame is.
+    /// Settles the processor, and nothing else.
+    Settle,
+    /// Tells where the frame of this number is.
     Owner {
-        frame: Frame,
+        frame: u32,
     },
 }
 

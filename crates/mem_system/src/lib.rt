@@ -11,6 +11,8 @@ mod locked;
 mod owners;
 mod serving;
 mod system;
+#[cfg(test)]
+mod tests;
 
 pub use booted::Boot;
 pub use booting::{BootFault, boot};

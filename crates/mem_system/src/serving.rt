@@ -1,7 +1,9 @@
 //! Commands, served under the lock.
 
-ghost use Rattle.std.specs.Prelude.{◌≡◌};
+ghost use Rattle.std.specs.Prelude.{◌≡◌, []};
+ghost use Rattle.frame_word.specs.Seats.{NothingPasses};
 ghost use Rattle.mem_machine.specs.Machines.{Visits};
+ghost use Rattle.mem_system.specs.Boots.{IsQuiet};
 ghost use Rattle.mem_system.specs.Commands.{BySteps, IsOfZone, Obeys, Serves};
 
 use crate::command::{Cmd, Reply};
@@ -25,18 +27,20 @@ fn obey<N: BootName>(
         (λ steps. Obeys N.frames cmd.now machine.old cpu.old result steps machine.new cpu.new) }
     ensures visit { Visits N.frames machine.new cpu.new }
     ensures opened { machine.new.seat.view.opened ≡ machine.old.seat.view.opened }
-    ensures number { cpu.new.number ≡ cpu.old.number }
+    ensures cpu { cpu.new ≡ cpu.old }
 {
     match cmd {
         Cmd::Mkdir { path } => make_group(machine, path),
         Cmd::Rmdir { path } => remove_group(machine, tables, cpu, path),
         Cmd::Write { path, file, value } => write_file(machine, tables, path, file, value),
         Cmd::Read { path, file } => read_file(machine.charges(), path, file),
-        Cmd::Owner { frame } => tell_place(machine, *frame),
+        Cmd::Settle => Reply::Done,
+        Cmd::Owner { frame } => tell_place(machine, tables, *frame),
     }
 }
 
-/// Serves one command of the processor, which holds the lock. A frame that the command names is one of the zone's.
+/// Serves one command of the processor, which holds the lock: its visit is opened, its fresh and back frames are settled, the
+/// command is obeyed, and the visit is shut. A frame that the command names is one of the zone's.
 pub fn serve<N: BootName>(
     locked: &mut Locked<N>,
     tables: &Tables<N>,
@@ -44,10 +48,15 @@ pub fn serve<N: BootName>(
     cmd: &Cmd<'_>,
 ) -> Reply
     requires { IsOfZone N.frames cmd.now }
-    ensures { BySteps N.frames locked.old.machine cpu.old locked.new.machine cpu.new
+    ensures served { BySteps N.frames locked.old.machine cpu.old locked.new.machine cpu.new
         (λ steps. Serves N.frames cmd.now locked.old cpu.old result steps locked.new cpu.new) }
+    ensures before { IsQuiet N.frames N.stocks locked.old }
+    ensures after { IsQuiet N.frames N.stocks locked.new }
+    ensures settled { (cpu.new.fresh ≡ []) × (cpu.new.back ≡ []) }
+    ensures still { NothingPasses N.frames locked.new.machine.seat cpu.new.seat }
 {
     locked.machine.open(tables, cpu);
+    locked.machine.settle(tables, cpu);
     let reply = obey(&mut locked.machine, tables, cpu, cmd);
     locked.machine.shut(tables, cpu);
     reply

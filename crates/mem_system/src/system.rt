@@ -1,11 +1,14 @@
 //! The system: the tables that all processors share, and the zone's lock.
 
-ghost use Rattle.std.specs.Prelude.{◌≡◌, IfOk};
+ghost use Rattle.std.specs.Prelude.{◌≡◌, [], IfOk};
 ghost use Rattle.group_tree.specs.Groups.{number_at};
-ghost use Rattle.mem_system.specs.Boots.{first_cpus};
+ghost use Rattle.mem_system.specs.Boots.{KnownLocked, IsQuiet, first_cpus};
+ghost use Rattle.mem_system.specs.Commands.{BySteps, IsOfZone, Serves};
 
 use crate::booted::Boot;
+use crate::command::{Cmd, Reply};
 use crate::locked::Locked;
+use crate::serving::serve;
 use cpu_part::{BootName, Cpu, Tables};
 use group_tree::group::GroupId;
 use std::alloc::{AllocError, Global};
@@ -50,5 +53,18 @@ impl<N: BootName> System<N> {
     /// The group of this path; None where no group has it. It takes the lock, and settles nothing.
     pub fn find<R: Wait>(&self, rt: &R, path: &[u8]) -> Option<GroupId> {
         self.locked.lock(rt).find(path)
+    }
+
+    /// Serves one command of the processor: takes the lock, serves, and gives the lock back. A frame that the command names is
+    /// one of the zone's. No clause can name what lies behind the lock, so it is said that there was such a value: no visit was
+    /// open in it, and it was served as `serve` says.
+    pub fn visit<R: Wait>(&self, rt: &R, cpu: &mut Cpu<N>, cmd: &Cmd<'_>) -> Reply
+        requires { IsOfZone N.frames cmd.now }
+        ensures served { (l k : KnownLocked) × IsQuiet N.frames N.stocks l × BySteps N.frames l.machine cpu.old k.machine cpu.new
+            (λ steps. Serves N.frames cmd.now l cpu.old result steps k cpu.new) }
+        ensures settled { (cpu.new.fresh ≡ []) × (cpu.new.back ≡ []) }
+    {
+        let mut locked = self.locked.lock(rt);
+        serve(&mut *locked, &self.tables, cpu, cmd)
     }
 }

@@ -1,4 +1,4 @@
-use Rattle.std.proofs.Common.{◌≡◌, Some, sym, rules}
+use Rattle.std.proofs.Common.{◌≡◌, Some, rules}
 use Rattle.group_tree.specs.Groups.{number_at}
 use Rattle.mem_system.proofs.Found.{found_there}
 use Rattle.mem_system.proofs.directories.find_leaf.Goals as goal

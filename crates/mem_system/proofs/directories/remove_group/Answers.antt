@@ -1,12 +1,10 @@
-use Rattle.std.proofs.Common.{◌≡◌, ◌≤◌, ◌++◌, [], ap, sym, ◌∙◌, refl, subst, arith}
-use Rattle.frame_word.specs.Seats.{KnownTable}
-use Rattle.group_charge.specs.Charges.{Ledger, current_of}
-use Rattle.cpu_part.specs.Cpus.{KnownCpu}
+use Rattle.std.proofs.Common.{◌≡◌, ◌++◌, ap, sym, ◌∙◌, refl, subst, arith}
+use Rattle.group_charge.specs.Charges.{Ledger}
 use Rattle.mem_machine.specs.Machines.{KnownMachine}
 use Rattle.mem_machine.specs.Local.{local_of}
 use Rattle.mem_machine.specs.Steps.{drain_stocks_steps, remove_steps}
 use Rattle.mem_machine.proofs.Reaching.{run_both}
-use Rattle.mem_system.specs.Leaves.{IsLeafAt, HasNoLeaf}
+use Rattle.mem_system.specs.Leaves.{IsLeafAt}
 use Rattle.mem_system.proofs.Found.{found_there}
 use Rattle.mem_system.proofs.Keeping.{all_keep, visit_keeps, leaf_keeps}
 use Rattle.mem_system.proofs.directories.remove_group.Goals as goal
