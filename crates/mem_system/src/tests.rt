@@ -67,6 +67,12 @@ fn takes_out<N: BootName, R: Wait + Abort>(rt: &R, system: &System<N>, cpu: &mut
     assert!(rt; system.visit(rt, cpu, &Cmd::Owner { frame }) == Reply::Free);
 }
 
+// The part of a processor that has nothing left.
+fn spend<N: BootName>(rt: &impl Abort, cpu: Cpu<N>) {
+    assert!(rt; cpu.is_idle());
+    let _ = cpu.into_seats();
+}
+
 // The whole life of a system, but for its end, which isn't there yet.
 fn lives<N: BootName, R: Wait + Abort>(rt: &R, alloc: Global, boot: Boot)
     requires { (boot.frames ≡ N.frames) × (boot.stocks ≡ N.stocks) }
@@ -83,8 +89,7 @@ fn lives<N: BootName, R: Wait + Abort>(rt: &R, alloc: Global, boot: Boot)
         }
     }
     while let Some(cpu) = cpus.pop() {
-        assert!(rt; cpu.is_idle());
-        let _ = cpu.into_seats();
+        spend(rt, cpu);
     }
     cpus.destroy_empty();
 }
