@@ -1,0 +1,10 @@
+use Rattle.std.proofs.Common.{refl}
+use Rattle.mem_system.proofs.serving.obey.Goals as goal
+
+pub returns-in-Mkdir-clause-obeyed : goal.returns-in-Mkdir-clause-obeyed
+returns-in-Mkdir-clause-obeyed g c =
+    let made = c.make_group.ensures.made c.args.cpu.now in rw c.in-Mkdir.is (made.0, (made.1, refl), made.2)
+
+pub returns-in-Write-clause-obeyed : goal.returns-in-Write-clause-obeyed
+returns-in-Write-clause-obeyed g c =
+    let written = c.write_file.ensures.written c.args.cpu.now in rw c.in-Write.is (written.0, (written.1, refl), written.2)

@@ -1,0 +1,52 @@
+use Rattle.std.proofs.Common.{ℕ, ap, ◌∙◌, refl, subst}
+use Rattle.cpu_part.specs.Cpus.{KnownCpu}
+use Rattle.mem_machine.specs.Machines.{KnownMachine}
+use Rattle.mem_system.specs.Boots.{KnownLocked, IsQuiet}
+use Rattle.mem_system.specs.Commands.{BySteps, Serves, with_visit_of}
+use Rattle.mem_system.proofs.Visiting.{all_shut, settled_opened, served}
+use Rattle.mem_system.proofs.serving.serve.Goals as goal
+
+pub invariant_of-locked : goal.invariant_of-locked
+invariant_of-locked g c =
+    let quiet = c.locked.invariant.0 in
+    let x = c.obey-reply.new.machine in
+    let numbered = ap (λ (y : KnownCpu). y.number) c.obey-reply.ensures.cpu ∙ c.settle.ensures.others.number ∙ ap (λ (y : KnownCpu). y.number) c.open.ensures.cpu in
+    let opened = c.obey-reply.ensures.opened ∙ settled_opened _ _ _ _ c.settle.ensures.settles
+    ∙ ap (λ (k : KnownMachine). k.seat.view.opened) c.open.ensures.machine in (
+      record {
+        shut = all_shut c.locked.inside.machine x c.shut.new.self c.args.cpu.now.number quiet.shut opened
+            (c.shut.ensures.machine ∙ ap (λ (q : ℕ). with_visit_of x q 0) numbered);
+        valid = quiet.valid;
+        sized = quiet.sized;
+      },
+      c.locked.invariant.1,
+    )
+
+pub returns : goal.returns
+returns g c =
+    let t = g.N.BootName.frames in
+    let quiet = c.locked.invariant.0 in
+    let x = c.obey-reply.new.machine in
+    let k : KnownLocked = record { machine = c.shut.new.self; sizes = c.locked.inside.sizes } in
+    let numbered = ap (λ (y : KnownCpu). y.number) c.obey-reply.ensures.cpu ∙ c.settle.ensures.others.number ∙ ap (λ (y : KnownCpu). y.number) c.open.ensures.cpu in
+    let opened = c.obey-reply.ensures.opened ∙ settled_opened _ _ _ _ c.settle.ensures.settles
+    ∙ ap (λ (k : KnownMachine). k.seat.view.opened) c.open.ensures.machine in
+    let same = c.shut.ensures.cpu ∙ c.obey-reply.ensures.cpu in
+    record {
+      served = subst (λ (l : KnownLocked). BySteps t l.machine c.args.cpu.now k.machine c.shut.new.cpu (λ steps. Serves t c.args.cmd.now l c.args.cpu.now
+          c.obey-reply.result steps k c.shut.new.cpu)) c.locked.view_is
+          (served t c.args.cmd.now (record { machine = c.locked.inside.machine; sizes = c.locked.inside.sizes }) k c.args.cpu.now c.shut.new.cpu
+          c.obey-reply.result c.open.new.self c.settle.new.self c.obey-reply.new.machine c.open.new.cpu c.settle.new.cpu c.obey-reply.new.cpu
+          c.open.ensures.machine c.open.ensures.cpu c.settle.ensures.others.number (ap (λ (y : KnownCpu). y.number) c.obey-reply.ensures.cpu)
+          c.shut.ensures.machine c.shut.ensures.cpu refl c.open.ensures.steps c.settle.ensures.settles c.settle.ensures.steps
+          c.obey-reply.ensures.obeyed c.shut.ensures.steps);
+      before = subst (λ (l : KnownLocked). IsQuiet t g.N.BootName.stocks l) c.locked.view_is quiet;
+      after = record {
+        shut = all_shut c.locked.inside.machine x c.shut.new.self c.args.cpu.now.number quiet.shut opened
+            (c.shut.ensures.machine ∙ ap (λ (q : ℕ). with_visit_of x q 0) numbered);
+        valid = quiet.valid;
+        sized = quiet.sized;
+      };
+      settled = (ap (λ (y : KnownCpu). y.fresh) same ∙ c.settle.ensures.none_fresh, ap (λ (y : KnownCpu). y.back) same ∙ c.settle.ensures.none_back);
+      still = c.shut.ensures.still;
+    }

@@ -1,0 +1,60 @@
+-- What a contract sees of a boot and of what lies behind the zone's lock.
+use Rattle.std.specs.Prelude.{◌≡◌, ℕ, zero, suc, ◌+◌, ◌≤◌, List, [], ◌∷◌}
+use Rattle.frame_word.specs.Seats.{KnownTable, KnownSeat, IsShut, first_zone_view, first_cpu_view, first_cpu_seats}
+use Rattle.stock_word.specs.Stock.{Words, Seated, first_machine, first_processor, first_seats}
+use Rattle.cpu_part.specs.Cpus.{KnownCpu, first_cpu}
+use Rattle.mem_core.specs.declared.config.Config.{Config}
+use Rattle.mem_core.specs.Config.{IsValidConfig}
+use Rattle.mem_machine.specs.Machines.{KnownMachine}
+
+-- A boot: its sizes and its two tables
+pub record KnownBoot : Type 0 where
+  pub sizes : Config
+  pub frames : KnownTable
+  pub stocks : Words
+
+-- What lies behind the lock: the machine, and the sizes of the boot
+pub record KnownLocked : Type 0 where
+  pub machine : KnownMachine
+  pub sizes : Config
+
+-- the tables have these sizes
+pub record IsSizedAs (sizes : Config) (t : KnownTable) (w : Words) : Type 0 where
+  pub frames : t.frames ≡ sizes.frames
+  pub cpus : t.cpus ≡ sizes.cpus
+  pub payers : w.cpus ≡ sizes.cpus
+
+-- the sizes are in their ranges, the tables have them, and the seats are all those of the tables, none of which did anything
+pub record IsBooted (b : KnownBoot) (zone : KnownSeat) (machine : Seated) (seats : List KnownSeat) (payers : List Seated) : Type 0 where
+  pub valid : IsValidConfig b.sizes
+  pub sized : IsSizedAs b.sizes b.frames b.stocks
+  pub zone_is : zone ≡ record { table = b.frames.table; view = first_zone_view b.frames.frames }
+  pub machine_is : machine ≡ record { table = b.stocks.table; view = first_machine }
+  pub seats_are : seats ≡ first_cpu_seats b.frames.table 1 b.sizes.cpus
+  pub payers_are : payers ≡ first_seats b.stocks.table 1 b.sizes.cpus
+
+-- no visit is open
+abbrev pub AllShut : KnownMachine → Type 0
+AllShut m = (p : ℕ) → IsShut m.seat p
+
+-- While no one holds the lock: no visit is open, the sizes are in their ranges, and the tables have them
+pub record IsQuiet (t : KnownTable) (w : Words) (l : KnownLocked) : Type 0 where
+  pub shut : AllShut l.machine
+  pub valid : IsValidConfig l.sizes
+  pub sized : IsSizedAs l.sizes t w
+
+-- the two vectors for the processors' seats are empty, with room for all of them
+pub record HasRoom (cpus frame_count frame_room stock_count stock_room : ℕ) : Type 0 where
+  pub no_frame_seat : frame_count ≡ 0
+  pub frame_seats : cpus ≤ frame_room
+  pub no_stock_seat : stock_count ≡ 0
+  pub stock_seats : cpus ≤ stock_room
+
+-- the part of processor p, which did nothing yet
+abbrev pub part_at_first : KnownTable → Words → ℕ → KnownCpu
+part_at_first t w p = first_cpu (record { table = t.table; view = first_cpu_view p }) (record { table = w.table; view = first_processor p })
+
+-- the parts of n processors, from p on, which did nothing yet: no frame is listed, fresh or back, and there is no pin
+abbrev pub first_cpus : KnownTable → Words → ℕ → ℕ → List KnownCpu
+first_cpus t w p zero = []
+first_cpus t w p (suc n) = part_at_first t w p ∷ first_cpus t w (p + 1) n

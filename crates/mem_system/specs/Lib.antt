@@ -1,0 +1,5 @@
+pub mod Boots
+pub mod Commands
+pub mod Files
+pub mod Leaves
+pub mod Owners

@@ -1,0 +1,51 @@
+//! How a boot is made.
+
+ghost use Rattle.std.specs.Prelude.{◌≡◌, ◌↔◌, IfOk};
+ghost use Rattle.mem_core.specs.Config.{IsValidConfig};
+ghost use Rattle.mem_system.specs.Boots.{IsSizedAs};
+ghost use Rattle.mem_system.specs.declared.booting.BootFault.TheVariants.{BadConfig, NoMemory};
+
+use crate::booted::Boot;
+use frame_word::FrameWords;
+use mem_core::config::Config;
+use std::alloc::{AllocError, Global};
+use stock_word::StockWords;
+
+/// Why there is no boot.
+#[derive(Clone, Copy, Debug, PartialEq, Eq)]
+pub enum BootFault {
+    /// A size is out of its range.
+    BadConfig,
+    /// Memory was wanting.
+    NoMemory,
+}
+
+impl From<AllocError> for BootFault {
+    ghost from_gives = { λ _ e. e ≡ NoMemory };
+
+    fn from(_error: AllocError) -> BootFault {
+        BootFault::NoMemory
+    }
+}
+
+/// Makes the two tables of a zone of these sizes, with all their seats. `BadConfig` comes exactly where a size is out of
+/// its range, else `NoMemory` where memory is wanting.
+pub fn boot(alloc: Global, sizes: Config) -> Result<Boot, BootFault>
+    ensures sizes { IfOk result (λ b. (b.sizes ≡ sizes) × IsSizedAs sizes b.frames b.stocks) }
+    ensures bad_config { (result ≡ Err BadConfig) ↔ (¬ IsValidConfig sizes) }
+{
+    if !sizes.is_valid() {
+        return Err(BootFault::BadConfig);
+    }
+    let (frames, zone, seats) = FrameWords::new(alloc, sizes.frames, sizes.cpus)?;
+    let (stocks, machine, payers) = StockWords::new(alloc, sizes.cpus)?;
+    Ok(Boot {
+        sizes,
+        frames,
+        stocks,
+        zone,
+        machine,
+        seats,
+        payers,
+    })
+}

@@ -1,0 +1,55 @@
+//! What a processor asks for under the lock, and what it is answered.
+
+use control_files::text::ArrayText;
+use group_tree::fault::Fault;
+use group_tree::group::GroupId;
+use group_tree::path::PathText;
+
+/// What a processor asks for. Paths and names of files may be any bytes.
+#[derive(Clone, Copy, Debug, PartialEq, Eq)]
+pub enum Cmd<'a> {
+    /// Makes the group of this path.
+    Mkdir {
+        path: &'a [u8],
+    },
+    /// Takes out the group of this path.
+    Rmdir {
+        path: &'a [u8],
+    },
+    /// Writes a value to a file of the group of this path.
+    Write {
+        path: &'a [u8],
+        file: &'a [u8],
+        value: &'a [u8],
+    },
+    /// Tells the text of a file of the group of this path.
+    Read {
+        path: &'a [u8],
+        file: &'a [u8],
+    },
+    /// Settles the processor, and nothing else.
+    Settle,
+    /// Tells where the frame of this number is.
+    Owner {
+        frame: u32,
+    },
+}
+
+/// What a processor is answered.
+#[derive(Clone, Copy, Debug, PartialEq, Eq)]
+pub enum Reply {
+    /// The group that was made.
+    Group(GroupId),
+    /// It was done.
+    Done,
+    /// The text of the file.
+    Text(ArrayText),
+    /// The frame is free.
+    Free,
+    /// The frame is lent to this processor.
+    Lent(u32),
+    /// The frame is charged to this group, which has this path.
+    Charged { group: GroupId, path: PathText },
+    /// It is refused, for this reason.
+    Refused(Fault),
+}

@@ -1,0 +1,68 @@
+//! Groups made and taken out.
+
+ghost use Rattle.std.specs.Prelude.{◌≡◌, ◌<◌, MatchResult};
+ghost use Rattle.cpu_part.specs.Cpus.{KnownCpu};
+ghost use Rattle.mem_machine.specs.Machines.{Visits};
+ghost use Rattle.mem_system.specs.Leaves.{IsLeafAt, HasNoLeaf};
+ghost use Rattle.mem_system.specs.Commands.{BySteps, MakesGroup, Removes};
+
+use crate::command::Reply;
+use cpu_part::{BootName, Cpu, Tables};
+use group_charge::charges::Charges;
+use group_tree::fault::Fault;
+use group_tree::group::GroupId;
+use mem_machine::Machine;
+
+// Makes the group of the path.
+pub(crate) fn make_group<N: BootName>(machine: &mut Machine<N>, path: &[u8]) -> Reply
+    ensures made { (c : KnownCpu) → BySteps N.frames machine.old c machine.new c
+        (λ steps. MakesGroup machine.old path.now result steps machine.new) }
+    ensures seat { machine.new.seat ≡ machine.old.seat }
+{
+    match machine.make(path) {
+        Ok(group) => Reply::Group(group),
+        Err(fault) => Reply::Refused(fault),
+    }
+}
+
+// The group of the path, which isn't the root and has no group below it.
+fn find_leaf(charges: &Charges, path: &[u8]) -> Result<GroupId, Fault>
+    ensures { MatchResult result (λ g. IsLeafAt charges.now.groups path.now g) (HasNoLeaf charges.now.groups path.now) }
+{
+    let tree = charges.tree();
+    let Some(group) = tree.find(path) else {
+        return Err(Fault::NoGroup);
+    };
+    if group == GroupId::root() {
+        return Err(Fault::BadName);
+    }
+    if tree.has_child(group) {
+        return Err(Fault::HasChildren);
+    }
+    Ok(group)
+}
+
+// Drains the stocks of the group of the path and takes it out where nothing is charged to it then.
+pub(crate) fn remove_group<N: BootName>(
+    machine: &mut Machine<N>,
+    tables: &Tables<N>,
+    cpu: &mut Cpu<N>,
+    path: &[u8],
+) -> Reply
+    requires { Visits N.frames machine.old cpu.old }
+    ensures removed { BySteps N.frames machine.old cpu.old machine.new cpu.new
+        (λ steps. Removes N.frames machine.old path.now result steps machine.new) }
+    ensures cpu { cpu.new ≡ cpu.old }
+    ensures seat { machine.new.seat ≡ machine.old.seat }
+{
+    let group = match find_leaf(machine.charges(), path) {
+        Ok(group) => group,
+        Err(fault) => return Reply::Refused(fault),
+    };
+    machine.drain_stocks(tables, group);
+    if machine.current(group) > 0 {
+        return Reply::Refused(Fault::Busy);
+    }
+    machine.remove(tables, cpu, group);
+    Reply::Done
+}

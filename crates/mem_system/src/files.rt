@@ -1,0 +1,120 @@
+//! The files of the groups: read and written.
+
+ghost use Rattle.std.specs.Prelude.{◌≡◌, ◌≢◌, ◌↔◌, ◌<◌, IsTrue, MatchResult};
+ghost use Rattle.group_tree.specs.Groups.{has_group};
+ghost use Rattle.control_files.specs.declared.file.File.TheVariants.{Max};
+ghost use Rattle.control_files.specs.Limit.{ReadsAs};
+ghost use Rattle.cpu_part.specs.Cpus.{KnownCpu};
+ghost use Rattle.mem_system.specs.Files.{Reads, IsFileOf, HasNoFile, RefusesWrite, IsAbove};
+ghost use Rattle.mem_system.specs.Commands.{BySteps, SetsLimit, Writes};
+
+use crate::command::Reply;
+use control_files::file::{File, file_named, file_text};
+use control_files::limit::{Limit, read_limit};
+use cpu_part::{BootName, Tables};
+use group_charge::charges::Charges;
+use group_tree::fault::Fault;
+use group_tree::group::GroupId;
+use mem_machine::Machine;
+
+// The group of the path and its file of this name.
+fn find_file(charges: &Charges, path: &[u8], name: &[u8]) -> Result<(GroupId, File), Fault>
+    ensures { MatchResult result
+        (λ found. IsFileOf charges.now.groups path.now name.now found.0 found.1)
+        (HasNoFile charges.now.groups path.now name.now) }
+{
+    let Some(group) = charges.tree().find(path) else {
+        return Err(Fault::NoGroup);
+    };
+    match file_named(name) {
+        Some(file) if group != GroupId::root() => Ok((group, file)),
+        _ => Err(Fault::NoFile),
+    }
+}
+
+// The text of the file.
+pub(crate) fn read_file(charges: &Charges, path: &[u8], name: &[u8]) -> Reply
+    ensures { Reads charges.now path.now name.now result }
+{
+    let (group, file) = match find_file(charges, path, name) {
+        Ok(found) => found,
+        Err(fault) => return Reply::Refused(fault),
+    };
+    match file_text(charges, group, file) {
+        Ok(text) => Reply::Text(text),
+        Err(fault) => Reply::Refused(fault),
+    }
+}
+
+// The group whose memory.max is written, and its new limit.
+fn find_limit(
+    charges: &Charges,
+    path: &[u8],
+    name: &[u8],
+    value: &[u8],
+) -> Result<(GroupId, Limit), Fault>
+    ensures { MatchResult result
+        (λ found. IsFileOf charges.now.groups path.now name.now found.0 Max × ReadsAs value.now found.1)
+        (RefusesWrite charges.now.groups path.now name.now value.now) }
+{
+    let (group, file) = match find_file(charges, path, name) {
+        Ok(found) => found,
+        Err(fault) => return Err(fault),
+    };
+    if !file.is_writable() {
+        return Err(Fault::ReadOnly);
+    }
+    match read_limit(value) {
+        Ok(limit) => Ok((group, limit)),
+        Err(fault) => Err(fault),
+    }
+}
+
+// Whether so many pages are more than the limit.
+fn is_above(pages: u32, limit: Limit) -> bool
+    ensures { IsTrue result ↔ IsAbove pages limit }
+{
+    match limit {
+        None => false,
+        Some(limit) => limit < pages,
+    }
+}
+
+// Gives the group the limit, and drains the stocks of its subtree where its usage is above it.
+fn set_limit<N: BootName>(
+    machine: &mut Machine<N>,
+    tables: &Tables<N>,
+    group: GroupId,
+    limit: Limit,
+)
+    requires there { IsTrue (has_group machine.old.ledger.groups group) }
+    requires below_root { group ≢ 0 }
+    ensures sets { (c : KnownCpu) → BySteps N.frames machine.old c machine.new c
+        (λ steps. SetsLimit N.frames machine.old group limit steps machine.new) }
+    ensures seat { machine.new.seat ≡ machine.old.seat }
+{
+    machine.set_max(group, limit);
+    if is_above(machine.current(group), limit) {
+        machine.drain_stocks(tables, group);
+    }
+}
+
+// Writes the value to the file.
+pub(crate) fn write_file<N: BootName>(
+    machine: &mut Machine<N>,
+    tables: &Tables<N>,
+    path: &[u8],
+    name: &[u8],
+    value: &[u8],
+) -> Reply
+    ensures written { (c : KnownCpu) → BySteps N.frames machine.old c machine.new c
+        (λ steps. Writes N.frames machine.old path.now name.now value.now result steps machine.new) }
+    ensures seat { machine.new.seat ≡ machine.old.seat }
+{
+    let (group, limit) = match find_limit(machine.charges(), path, name, value) {
+        Ok(found) => found,
+        Err(fault) => return Reply::Refused(fault),
+    };
+    set_limit(machine, tables, group, limit);
+    Reply::Done
+}

@@ -1,0 +1,22 @@
+//! The system: a boot's tables, the machine behind the zone's lock and a part for each processor, and the commands that a
+//! processor makes under that lock.
+#![tactic(auto)]
+
+mod booted;
+mod booting;
+mod command;
+mod directories;
+mod files;
+mod locked;
+mod owners;
+mod serving;
+mod system;
+#[cfg(test)]
+mod tests;
+
+pub use booted::Boot;
+pub use booting::{BootFault, boot};
+pub use command::{Cmd, Reply};
+pub use locked::Locked;
+pub use serving::serve;
+pub use system::System;

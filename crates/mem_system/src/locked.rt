@@ -1,0 +1,30 @@
+//! What lies behind the zone's lock.
+
+use cpu_part::BootName;
+use frame_word::FrameSeat;
+use mem_core::config::Config;
+use mem_machine::Machine;
+use std::marker::Model;
+use stock_word::StockSeat;
+
+/// What lies behind the zone's lock: the machine, the sizes of the boot, and room for the processors' seats at the end.
+#[derive(Drop)]
+pub struct Locked<N: BootName> {
+    pub(crate) machine: Machine<N>,
+    pub(crate) sizes: Config,
+    pub(crate) frame_seats: Vec<FrameSeat>,
+    pub(crate) stock_seats: Vec<StockSeat>,
+}
+
+impl<N: BootName> Model for Locked<N> {
+    ghost use Rattle.std.specs.Prelude.{length};
+    ghost use Rattle.std.specs.Vec.{vec_capacity};
+    ghost use Rattle.mem_system.specs.Boots.{KnownLocked, IsQuiet, HasRoom};
+
+    ghost Value = { KnownLocked };
+
+    ghost view = { λ l. record { machine = l.machine; sizes = l.sizes } };
+
+    ghost invariant = { λ l. IsQuiet N.frames N.stocks (record { machine = l.machine; sizes = l.sizes })
+        × HasRoom l.sizes.cpus (length l.frame_seats.items) (vec_capacity l.frame_seats) (length l.stock_seats.items) (vec_capacity l.stock_seats) };
+}

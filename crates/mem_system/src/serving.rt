@@ -1,0 +1,63 @@
+//! Commands, served under the lock.
+
+ghost use Rattle.std.specs.Prelude.{◌≡◌, []};
+ghost use Rattle.frame_word.specs.Seats.{NothingPasses};
+ghost use Rattle.mem_machine.specs.Machines.{Visits};
+ghost use Rattle.mem_system.specs.Boots.{IsQuiet};
+ghost use Rattle.mem_system.specs.Commands.{BySteps, IsOfZone, Obeys, Serves};
+
+use crate::command::{Cmd, Reply};
+use crate::directories::{make_group, remove_group};
+use crate::files::{read_file, write_file};
+use crate::locked::Locked;
+use crate::owners::tell_place;
+use cpu_part::{BootName, Cpu, Tables};
+use mem_machine::Machine;
+
+// Obeys the command inside the visit.
+fn obey<N: BootName>(
+    machine: &mut Machine<N>,
+    tables: &Tables<N>,
+    cpu: &mut Cpu<N>,
+    cmd: &Cmd<'_>,
+) -> Reply
+    requires zone { IsOfZone N.frames cmd.now }
+    requires visit { Visits N.frames machine.old cpu.old }
+    ensures obeyed { BySteps N.frames machine.old cpu.old machine.new cpu.new
+        (λ steps. Obeys N.frames cmd.now machine.old cpu.old result steps machine.new cpu.new) }
+    ensures visit { Visits N.frames machine.new cpu.new }
+    ensures opened { machine.new.seat.view.opened ≡ machine.old.seat.view.opened }
+    ensures cpu { cpu.new ≡ cpu.old }
+{
+    match cmd {
+        Cmd::Mkdir { path } => make_group(machine, path),
+        Cmd::Rmdir { path } => remove_group(machine, tables, cpu, path),
+        Cmd::Write { path, file, value } => write_file(machine, tables, path, file, value),
+        Cmd::Read { path, file } => read_file(machine.charges(), path, file),
+        Cmd::Settle => Reply::Done,
+        Cmd::Owner { frame } => tell_place(machine, tables, *frame),
+    }
+}
+
+/// Serves one command of the processor, which holds the lock: its visit is opened, its fresh and back frames are settled, the
+/// command is obeyed, and the visit is shut. A frame that the command names is one of the zone's.
+pub fn serve<N: BootName>(
+    locked: &mut Locked<N>,
+    tables: &Tables<N>,
+    cpu: &mut Cpu<N>,
+    cmd: &Cmd<'_>,
+) -> Reply
+    requires { IsOfZone N.frames cmd.now }
+    ensures served { BySteps N.frames locked.old.machine cpu.old locked.new.machine cpu.new
+        (λ steps. Serves N.frames cmd.now locked.old cpu.old result steps locked.new cpu.new) }
+    ensures before { IsQuiet N.frames N.stocks locked.old }
+    ensures after { IsQuiet N.frames N.stocks locked.new }
+    ensures settled { (cpu.new.fresh ≡ []) × (cpu.new.back ≡ []) }
+    ensures still { NothingPasses N.frames locked.new.machine.seat cpu.new.seat }
+{
+    locked.machine.open(tables, cpu);
+    locked.machine.settle(tables, cpu);
+    let reply = obey(&mut locked.machine, tables, cpu, cmd);
+    locked.machine.shut(tables, cpu);
+    reply
+}

@@ -1,0 +1,70 @@
+//! The system: the tables that all processors share, and the zone's lock.
+
+ghost use Rattle.std.specs.Prelude.{◌≡◌, [], IfOk};
+ghost use Rattle.group_tree.specs.Groups.{number_at};
+ghost use Rattle.mem_system.specs.Boots.{KnownLocked, IsQuiet, first_cpus};
+ghost use Rattle.mem_system.specs.Commands.{BySteps, IsOfZone, Serves};
+
+use crate::booted::Boot;
+use crate::command::{Cmd, Reply};
+use crate::locked::Locked;
+use crate::serving::serve;
+use cpu_part::{BootName, Cpu, Tables};
+use group_tree::group::GroupId;
+use std::alloc::{AllocError, Global};
+use std::sync::{Mutex, Wait};
+
+/// A boot that has started: its tables, and the machine behind the zone's lock. Processors share it by `&`.
+#[derive(Drop)]
+pub struct System<N: BootName> {
+    tables: Tables<N>,
+    locked: Mutex<Locked<N>>,
+}
+
+impl Boot {
+    /// Starts the boot under a name of its tables: the system, and a part for each processor, in order. `AllocError` comes
+    /// where memory is wanting; nothing stays then. A clause can't look through the lock: `part` says what lies behind it.
+    pub fn start<N: BootName>(self, alloc: Global) -> Result<(System<N>, Vec<Cpu<N>>), AllocError>
+        requires frames { self.frames ≡ N.frames }
+        requires stocks { self.stocks ≡ N.stocks }
+        ensures { IfOk result (λ r. r.1.items ≡ first_cpus N.frames N.stocks 1 self.sizes.cpus) }
+    {
+        let (tables, locked, cpus) = self.part(alloc)?;
+        let locked = Mutex::new(locked);
+        Ok((System { tables, locked }, cpus))
+    }
+}
+
+impl<N: BootName> Locked<N> {
+    /// The group of this path; None where no group has it.
+    pub fn find(&self, path: &[u8]) -> Option<GroupId>
+        ensures { result ≡ number_at self.now.machine.ledger.groups path.now }
+    {
+        self.machine.charges().tree().find(path)
+    }
+}
+
+impl<N: BootName> System<N> {
+    /// The tables, for the calls that take no lock.
+    pub fn tables(&self) -> &Tables<N> {
+        &self.tables
+    }
+
+    /// The group of this path; None where no group has it. It takes the lock, and settles nothing.
+    pub fn find<R: Wait>(&self, rt: &R, path: &[u8]) -> Option<GroupId> {
+        self.locked.lock(rt).find(path)
+    }
+
+    /// Serves one command of the processor: takes the lock, serves, and gives the lock back. A frame that the command names is
+    /// one of the zone's. No clause can name what lies behind the lock, so it is said that there was such a value: no visit was
+    /// open in it, and it was served as `serve` says.
+    pub fn visit<R: Wait>(&self, rt: &R, cpu: &mut Cpu<N>, cmd: &Cmd<'_>) -> Reply
+        requires { IsOfZone N.frames cmd.now }
+        ensures served { (l k : KnownLocked) × IsQuiet N.frames N.stocks l × BySteps N.frames l.machine cpu.old k.machine cpu.new
+            (λ steps. Serves N.frames cmd.now l cpu.old result steps k cpu.new) }
+        ensures settled { (cpu.new.fresh ≡ []) × (cpu.new.back ≡ []) }
+    {
+        let mut locked = self.locked.lock(rt);
+        serve(&mut *locked, &self.tables, cpu, cmd)
+    }
+}

@@ -1,0 +1,122 @@
+//! A boot of 16 frames and two processors starts, and a group is made, read, limited and taken out by visits.
+ghost use Rattle.std.specs.Prelude.{◌≡◌, ◌<◌};
+
+use crate::booted::Boot;
+use crate::booting::boot;
+use crate::command::{Cmd, Reply};
+use crate::system::System;
+use cpu_part::{BootName, Cpu};
+use group_tree::fault::Fault;
+use group_tree::group::GroupId;
+use mem_core::config::Config;
+use std::alloc::Global;
+use std::marker::Brand;
+use std::process::Abort;
+use std::sync::Wait;
+use std::test::Fail;
+
+// The file of `/a` reads as this text.
+fn reads<N: BootName, R: Wait + Abort>(
+    rt: &R,
+    system: &System<N>,
+    cpu: &mut Cpu<N>,
+    file: &[u8],
+    text: &[u8],
+) {
+    let path: &[u8] = b"/a";
+    match system.visit(rt, cpu, &Cmd::Read { path, file }) {
+        Reply::Text(found) => assert!(rt; found.as_bytes() == text),
+        _ => panic!(rt; "no text"),
+    }
+}
+
+// Processor 1 makes the group, limits it and reads its files.
+fn makes_and_reads<N: BootName, R: Wait + Abort>(rt: &R, system: &System<N>, cpu: &mut Cpu<N>) {
+    let path: &[u8] = b"/a";
+    let file: &[u8] = b"memory.max";
+    let value: &[u8] = b"8K";
+    let group = GroupId::of(1).expect(rt, "a group");
+    assert!(rt; system.visit(rt, cpu, &Cmd::Mkdir { path }) == Reply::Group(group));
+    assert!(rt; system.visit(rt, cpu, &Cmd::Mkdir { path }) == Reply::Refused(Fault::Exists));
+    reads(rt, system, cpu, b"memory.max", b"max\n");
+    assert!(rt; system.visit(rt, cpu, &Cmd::Write { path, file, value }) == Reply::Done);
+    reads(rt, system, cpu, b"memory.max", b"8192\n");
+    reads(rt, system, cpu, b"memory.current", b"0\n");
+    reads(rt, system, cpu, b"memory.peak", b"0\n");
+    let events = b"low 0\nhigh 0\nmax 0\noom 0\noom_kill 0\n";
+    reads(rt, system, cpu, b"memory.events", events);
+    reads(rt, system, cpu, b"memory.events.local", events);
+}
+
+// Processor 2 finds the group and takes it out.
+fn takes_out<N: BootName, R: Wait + Abort>(rt: &R, system: &System<N>, cpu: &mut Cpu<N>) {
+    let path: &[u8] = b"/a";
+    assert!(rt; system.find(rt, path) == GroupId::of(1));
+    assert!(rt; system.visit(rt, cpu, &Cmd::Rmdir { path }) == Reply::Done);
+    assert!(rt; system.visit(rt, cpu, &Cmd::Rmdir { path }) == Reply::Refused(Fault::NoGroup));
+    let root: &[u8] = b"/";
+    assert!(rt;
+        system.visit(rt, cpu, &Cmd::Rmdir { path: root }) == Reply::Refused(Fault::BadName)
+    );
+    let frame = system
+        .tables()
+        .frames
+        .frame(3)
+        .expect(rt, "a frame")
+        .number();
+    assert!(rt; system.visit(rt, cpu, &Cmd::Owner { frame }) == Reply::Free);
+}
+
+// The part of a processor that has nothing left.
+fn spend<N: BootName>(rt: &impl Abort, cpu: Cpu<N>) {
+    assert!(rt; cpu.is_idle());
+    let _ = cpu.into_seats();
+}
+
+// The whole life of a system, but for its end, which isn't there yet.
+fn lives<N: BootName, R: Wait + Abort>(rt: &R, alloc: Global, boot: Boot)
+    requires { (boot.frames ≡ N.frames) × (boot.stocks ≡ N.stocks) }
+{
+    let (system, mut cpus) = boot.start::<N>(alloc).expect(rt, "memory");
+    assert_eq!(rt; cpus.len(), 2);
+    let root: &[u8] = b"/";
+    assert!(rt; system.find(rt, root) == Some(GroupId::root()));
+    for (at, cpu) in cpus.iter_mut().enumerate() {
+        if at == 0 {
+            makes_and_reads(rt, &system, cpu);
+        } else {
+            takes_out(rt, &system, cpu);
+        }
+    }
+    while let Some(cpu) = cpus.pop() {
+        spend(rt, cpu);
+    }
+    cpus.destroy_empty();
+}
+
+#[test]
+fn a_group_is_made_and_read(rt: HostRuntime) -> Result<(), Fail> {
+    let sizes = Config {
+        frames: 16,
+        cpus: 2,
+        batch: 4,
+        high: 8,
+        stock: 4,
+    };
+    let boot = boot(rt.alloc(), sizes).expect(&rt, "a boot");
+    lives::<Brand, _>(&rt, rt.alloc(), boot);
+    Ok(())
+}
+
+#[test]
+fn bad_sizes_are_refused(rt: HostRuntime) -> Result<(), Fail> {
+    let sizes = Config {
+        frames: 16,
+        cpus: 17,
+        batch: 4,
+        high: 8,
+        stock: 4,
+    };
+    assert!(&rt; boot(rt.alloc(), sizes).is_err());
+    Ok(())
+}
