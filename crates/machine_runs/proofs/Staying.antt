@@ -1,0 +1,170 @@
+-- A call leaves the visit open, and every other one as it was. Serves each call of the runs.
+use Rattle.std.proofs.Common.{◌≡◌, ◌≢◌, ℕ, Bool, true, false, Result, Ok, Err, List, [], ◌∷◌, zero, suc, refl, sym, ap, ◌∙◌, subst, inl, inr, get_or}
+use Rattle.std.specs.Prelude.{IfOk, IfErr, OnOk, OnErr}
+use Rattle.std.proofs.lemmas.Bool.{cases_eq}
+use Rattle.group_charge.specs.declared.charges.Over.{Over}
+use Rattle.frame_word.specs.Seats.{KnownTable, KnownSeat, NothingPasses, LentIsBorrowed, IsOpen, IsShut, seat_with_visit}
+use Rattle.frame_word.proofs.Notes.{put_here, put_else}
+use Rattle.cpu_part.specs.Cpus.{KnownCpu}
+use Rattle.mem_machine.specs.Machines.{KnownMachine, Visits, Makes}
+use Rattle.mem_machine.specs.Lending.{LendsMany, TakesManyBack, Refills}
+use Rattle.mem_machine.specs.Steps.{Drain}
+use Rattle.mem_machine.specs.Stocks.{Drains, DrainsBelow, DrainsAllBelow, DrainsSubtree, Prepays, IsOver}
+use Rattle.stock_word.specs.Stock.{Words}
+use Rattle.mem_machine.specs.Machines.{is_killed, IsFirst}
+use Rattle.mem_machine.specs.Local.{fresh_group}
+use Rattle.mem_machine.specs.Settling.{SettlesFresh, SettlesAllFresh, ReturnsAllBack, Settles, LeavesOthers}
+use Rattle.mem_machine.specs.declared.blocks.TakeFault.{TakeFault}
+use Rattle.mem_machine.specs.declared.blocks.TakeFault.TheVariants as fault
+use Rattle.mem_machine.specs.Blocks.{TakesBlock, RefusesBlock}
+use Rattle.mem_machine.specs.declared.releasing.Released.{Released}
+use Rattle.mem_machine.specs.declared.releasing.Released.TheVariants.{Left, Returned}
+use Rattle.mem_machine.specs.Releasing.{Releases}
+use Rattle.machine_runs.specs.Visiting.{AllShut, Stays}
+
+pub stays : (t : KnownTable) (m : KnownMachine) (c : KnownCpu) → Visits t m c → Stays t m c m c
+stays t m c visit = record { visit = visit; opened = refl; number = refl }
+
+-- the zone's seat and the processor's stay
+pub seats_stay : (t : KnownTable) (m n : KnownMachine) (c d : KnownCpu) → Visits t m c → n.seat ≡ m.seat → d.seat ≡ c.seat → d.number ≡ c.number
+    → Stays t m c n d
+seats_stay t m n c d visit zone own number = record {
+  visit = record {
+    is_open = subst (λ (x : KnownSeat × ℕ). IsOpen x.0 x.1) (λ i. (sym zone i, sym number i)) visit.is_open;
+    still = subst (λ (x : KnownSeat × KnownSeat). NothingPasses t x.0 x.1) (λ i. (sym zone i, sym own i)) visit.still;
+    lent = subst (λ (x : KnownSeat × KnownSeat). LentIsBorrowed t x.0 x.1) (λ i. (sym zone i, sym own i)) visit.lent;
+  };
+  opened = ap (λ (s : KnownSeat). s.view.opened) zone;
+  number = number;
+}
+
+-- the machine changed otherwise alone
+pub zone_stays : (t : KnownTable) (m n : KnownMachine) (c : KnownCpu) → Visits t m c → n.seat ≡ m.seat → Stays t m c n c
+zone_stays t m n c visit zone = seats_stay t m n c c visit zone refl refl
+
+pub made_stays : {E : Type 0} (r : Result ℕ E) (t : KnownTable) (m n : KnownMachine) (c : KnownCpu) (path : List ℕ) → Visits t m c
+    → IfOk r (λ g. Makes m g path n) → OnErr r (n ≡ m) → Stays t m c n c
+made_stays (Ok g) t m n c path visit made same = zone_stays t m n c visit (ap (λ (k : KnownMachine). k.seat) made.machine)
+made_stays (Err e) t m n c path visit made same = zone_stays t m n c visit (ap (λ (k : KnownMachine). k.seat) same)
+
+-- ---- frames that go between the zone and the list
+
+lent_seats : (frames : List ℕ) (m : KnownMachine) (c : KnownCpu) (n : KnownMachine) (d : KnownCpu) → LendsMany frames m c n d
+    → (n.seat.view.opened ≡ m.seat.view.opened) × (d.number ≡ c.number)
+lent_seats [] m c n d lends = (ap (λ (k : KnownMachine). k.seat.view.opened) lends.0, ap (λ (e : KnownCpu). e.number) lends.1)
+lent_seats (f ∷ frames) m c n d lends =
+    let rest = lent_seats frames lends.0 lends.1 n d lends.3 in
+    (rest.0 ∙ ap (λ (k : KnownMachine). k.seat.view.opened) lends.2.machine, rest.1 ∙ ap (λ (e : KnownCpu). e.number) lends.2.cpu)
+
+pub refill_stays : (t : KnownTable) (k : ℕ) (m : KnownMachine) (c : KnownCpu) (n : KnownMachine) (d : KnownCpu) → Refills t k m c n d → Visits t n d
+    → Stays t m c n d
+refill_stays t k m c n d refills visit =
+    let both = lent_seats refills.frames m c n d refills.lends in
+    record { visit = visit; opened = both.0; number = both.1 }
+
+taken_seats : (frames : List ℕ) (m : KnownMachine) (c : KnownCpu) (n : KnownMachine) (d : KnownCpu) → TakesManyBack frames m c n d
+    → (n.seat.view.opened ≡ m.seat.view.opened) × (d.number ≡ c.number)
+taken_seats [] m c n d takes = (ap (λ (k : KnownMachine). k.seat.view.opened) takes.0, ap (λ (e : KnownCpu). e.number) takes.1)
+taken_seats (f ∷ frames) m c n d takes =
+    let rest = taken_seats frames takes.0 takes.1 n d takes.3 in
+    (rest.0 ∙ ap (λ (k : KnownMachine). k.seat.view.opened) takes.2.machine, rest.1 ∙ ap (λ (e : KnownCpu). e.number) takes.2.cpu)
+
+pub drain_list_stays : (t : KnownTable) (frames : List ℕ) (m : KnownMachine) (c : KnownCpu) (n : KnownMachine) (d : KnownCpu)
+    → TakesManyBack frames m c n d → Visits t n d → Stays t m c n d
+drain_list_stays t frames m c n d takes visit =
+    let both = taken_seats frames m c n d takes in
+    record { visit = visit; opened = both.0; number = both.1 }
+
+-- ---- stocks
+
+below_seat : (g : ℕ) (m : KnownMachine) (q : ℕ) (drains : List Drain) (n : KnownMachine) → DrainsBelow g m q drains n → n.seat ≡ m.seat
+below_seat g m q [] n d = ap (λ (k : KnownMachine). k.seat) d.1
+below_seat g m q (e ∷ []) n d = ap (λ (k : KnownMachine). k.seat) d.1.drains.machine
+below_seat g m q (e ∷ f ∷ more) n d = absurd d
+
+pub all_below_seat : (g k : ℕ) (drains : List Drain) (m n : KnownMachine) → DrainsAllBelow g k drains m n → n.seat ≡ m.seat
+all_below_seat g zero drains m n d = ap (λ (k : KnownMachine). k.seat) d.1
+all_below_seat g (suc k) drains m n d = below_seat g d.2 (suc k) d.1 n d.5 ∙ all_below_seat g k d.0 m d.2 d.4
+
+pub prepay_stays : (r : Result (Unit {0}) Over) (t : KnownTable) (g pages : ℕ) (m : KnownMachine) (c : KnownCpu) (n : KnownMachine) (d : KnownCpu)
+    → Visits t n d → OnOk r (Prepays t g pages m c n d) → IfErr r (λ e. IsOver t g pages e.group m c n d) → Stays t m c n d
+prepay_stays (Ok x) t g pages m c n d visit prepays over = record {
+  visit = visit;
+  opened =
+      ap (λ (k : KnownMachine). k.seat.view.opened) prepays.fills.machine ∙ ap (λ (k : KnownMachine). k.seat.view.opened) prepays.drains.machine;
+  number = ap (λ (e : KnownCpu). e.number) prepays.fills.cpu;
+}
+prepay_stays (Err e) t g pages m c n d visit prepays over = record {
+  visit = visit;
+  opened = ap (λ (k : KnownMachine). k.seat.view.opened) over.drains.machine;
+  number = ap (λ (e : KnownCpu). e.number) over.cpu;
+}
+
+-- ---- fresh frames, blocks and releases
+
+fresh_one : (f : ℕ) (m : KnownMachine) (c : KnownCpu) (n : KnownMachine) (d : KnownCpu) → SettlesFresh f m c n d
+    → (b : Bool) → is_killed m.killed (fresh_group c) ≡ b → n.seat.view.opened ≡ m.seat.view.opened
+fresh_one f m c n d settles true e = ap (λ (k : KnownMachine). k.seat.view.opened) (settles.drops e).machine
+fresh_one f m c n d settles false e = ap (λ (k : KnownMachine). k.seat.view.opened) (settles.keeps e).machine
+
+fresh_opened : (frames : List ℕ) (m : KnownMachine) (c : KnownCpu) (n : KnownMachine) (d : KnownCpu) → SettlesAllFresh frames m c n d
+    → n.seat.view.opened ≡ m.seat.view.opened
+fresh_opened [] m c n d settles = ap (λ (k : KnownMachine). k.seat.view.opened) settles.0
+fresh_opened (f ∷ frames) m c n d settles =
+    fresh_opened frames settles.0 settles.1 n d settles.3
+    ∙ fresh_one f m c settles.0 settles.1 settles.2 (is_killed m.killed (fresh_group c)) refl
+
+back_opened : (frames : List ℕ) (m : KnownMachine) (c : KnownCpu) (n : KnownMachine) (d : KnownCpu) → ReturnsAllBack frames m c n d
+    → n.seat.view.opened ≡ m.seat.view.opened
+back_opened [] m c n d returns = ap (λ (k : KnownMachine). k.seat.view.opened) returns.0
+back_opened (f ∷ frames) m c n d returns =
+    back_opened frames returns.0 returns.1 n d returns.3 ∙ ap (λ (k : KnownMachine). k.seat.view.opened) returns.2.machine
+
+pub settle_stays : (t : KnownTable) (m : KnownMachine) (c : KnownCpu) (n : KnownMachine) (d : KnownCpu) → Settles m c n d → LeavesOthers c d
+    → Visits t n d → Stays t m c n d
+settle_stays t m c n d settles others visit = record {
+  visit = visit;
+  opened = back_opened c.back settles.machine settles.cpu n d settles.back ∙ fresh_opened c.fresh m c settles.machine settles.cpu settles.fresh;
+  number = others.number;
+}
+
+refused_opened : (m : KnownMachine) (g k : ℕ) (f : TakeFault) (n : KnownMachine) → RefusesBlock m g k f n → n.seat.view.opened ≡ m.seat.view.opened
+refused_opened m g k (fault.Over over) n refuses = ap (λ (x : KnownMachine). x.seat.view.opened) refuses.1
+refused_opened m g k fault.NoBlock n refuses = ap (λ (x : KnownMachine). x.seat.view.opened) refuses.machine
+
+pub block_stays : (r : Result ℕ TakeFault) (t : KnownTable) (g k : ℕ) (m : KnownMachine) (c : KnownCpu) (n : KnownMachine) (d : KnownCpu)
+    → IfOk r (λ head. TakesBlock m g k head n) → IfErr r (λ f. RefusesBlock m g k f n) → d ≡ c → Visits t n d → Stays t m c n d
+block_stays (Ok head) t g k m c n d takes refuses same visit = record {
+  visit = visit;
+  opened = ap (λ (x : KnownMachine). x.seat.view.opened) takes.machine;
+  number = ap (λ (e : KnownCpu). e.number) same;
+}
+block_stays (Err f) t g k m c n d takes refuses same visit = record {
+  visit = visit;
+  opened = refused_opened m g k f n refuses;
+  number = ap (λ (e : KnownCpu). e.number) same;
+}
+
+pub release_stays : (r : Released) (t : KnownTable) (f : ℕ) (m : KnownMachine) (c : KnownCpu) (n : KnownMachine) → Releases m f r n → Visits t n c
+    → Stays t m c n c
+release_stays (Left left) t f m c n releases visit =
+    record { visit = visit; opened = ap (λ (x : KnownMachine). x.seat.view.opened) releases.machine; number = refl }
+release_stays Returned t f m c n releases visit =
+    record { visit = visit; opened = ap (λ (x : KnownMachine). x.seat.view.opened) releases.machine; number = refl }
+
+-- ---- the visit is opened and shut
+
+pub shut_again : (m n : KnownMachine) (p q : ℕ) (zone last : KnownSeat) → AllShut m → zone ≡ seat_with_visit m.seat p 1
+    → n.seat.view.opened ≡ zone.view.opened → q ≡ p → last ≡ seat_with_visit n.seat q 0 → (r : ℕ) → IsShut last r
+shut_again m n p q zone last shut opens stays number shuts r =
+    subst (λ (s : KnownSeat). IsShut s r) (sym shuts) (elim (cases_eq r q) [
+      | inl e ↦ subst (λ (k : ℕ). IsShut (seat_with_visit n.seat q 0) k) (sym e) (put_here 0 n.seat.view.opened q 0)
+      | inr ne ↦
+          put_else 0 n.seat.view.opened q r 0 ne
+          ∙ ap (λ (l : List ℕ). get_or l r 0) (stays ∙ ap (λ (s : KnownSeat). s.view.opened) opens)
+          ∙ put_else 0 m.seat.view.opened p r 1 (λ e. ne (e ∙ sym number)) ∙ shut r
+    ])
+
+-- no visit is open at first
+pub first_shut : (t : KnownTable) (w : Words) (m : KnownMachine) → IsFirst t w m → AllShut m
+first_shut t w m first q = subst (λ (s : KnownSeat). IsShut s q) (sym first.seat) refl

@@ -1,0 +1,4 @@
+use Rattle.machine_runs.proofs.runs.a_thousand_calls_are_steps_of_a_core.Given as goal
+
+abbrev pub ghosts-runs_beside_a_core : goal.ghosts-runs_beside_a_core
+ghosts-runs_beside_a_core g a = record { frames = a.parts.frames; stocks = a.parts.stocks }

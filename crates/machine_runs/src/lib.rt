@@ -1,0 +1,14 @@
+//! Long runs of random calls on the machine that stands behind the zone's lock: beside a core that makes the steps of each
+//! call, and beside a plain recount. Nothing but tests stands here.
+#![tactic(auto)]
+
+#[cfg(test)]
+mod beside;
+#[cfg(test)]
+mod calls;
+#[cfg(test)]
+mod made;
+#[cfg(test)]
+mod parts;
+#[cfg(test)]
+mod runs;

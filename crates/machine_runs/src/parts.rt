@@ -1,0 +1,74 @@
+//! The tables and the seats of a boot with four processors.
+ghost use Rattle.std.specs.Prelude.{◌≡◌, ◌≤◌};
+ghost use Rattle.frame_word.specs.Seats.{first_zone_view, first_cpu_view};
+ghost use Rattle.stock_word.specs.Stock.{first_machine, first_processor};
+
+use frame_word::{FrameSeat, FrameWords};
+use std::alloc::{AllocError, Global};
+use std::process::Abort;
+use stock_word::{StockSeat, StockWords};
+
+/// The seats of one processor.
+#[derive(Drop)]
+pub struct Seats {
+    pub frames: FrameSeat,
+    pub stock: StockSeat,
+}
+
+/// The tables of F frames and 4 processors, and all seats, as they are at first.
+#[derive(Drop)]
+pub struct Parts<const F: u32> {
+    pub frames: FrameWords,
+    pub stocks: StockWords,
+    pub zone: FrameSeat,
+    pub machine: StockSeat,
+    pub first: Seats,
+    pub second: Seats,
+    pub third: Seats,
+    pub fourth: Seats,
+    pub ghost sizes: { (frames.frames ≡ F) × (frames.cpus ≡ 4) × (stocks.cpus ≡ 4) },
+    pub ghost zone_is: { (zone.table ≡ frames.table) × (zone.view ≡ first_zone_view F) },
+    pub ghost machine_is: { (machine.table ≡ stocks.table) × (machine.view ≡ first_machine) },
+    pub ghost first_is: { (first.frames.table ≡ frames.table) × (first.frames.view ≡ first_cpu_view 1) },
+    pub ghost second_is: { (second.frames.table ≡ frames.table) × (second.frames.view ≡ first_cpu_view 2) },
+    pub ghost third_is: { (third.frames.table ≡ frames.table) × (third.frames.view ≡ first_cpu_view 3) },
+    pub ghost fourth_is: { (fourth.frames.table ≡ frames.table) × (fourth.frames.view ≡ first_cpu_view 4) },
+    pub ghost first_pays: { (first.stock.table ≡ stocks.table) × (first.stock.view ≡ first_processor 1) },
+    pub ghost second_pays: { (second.stock.table ≡ stocks.table) × (second.stock.view ≡ first_processor 2) },
+    pub ghost third_pays: { (third.stock.table ≡ stocks.table) × (third.stock.view ≡ first_processor 3) },
+    pub ghost fourth_pays: { (fourth.stock.table ≡ stocks.table) × (fourth.stock.view ≡ first_processor 4) },
+}
+
+/// The parts of a new boot.
+pub fn make_parts<const F: u32>(rt: &impl Abort, alloc: Global) -> Result<Parts<F>, AllocError>
+    requires { 1 ≤ F }
+{
+    let (frames, zone, mut seats) = FrameWords::new(alloc, F, 4)?;
+    let (stocks, machine, mut payers) = StockWords::new(alloc, 4)?;
+    let fourth = Seats {
+        frames: seats.pop().expect(rt, "a seat"),
+        stock: payers.pop().expect(rt, "a stock seat"),
+    };
+    let third = Seats {
+        frames: seats.pop().expect(rt, "a seat"),
+        stock: payers.pop().expect(rt, "a stock seat"),
+    };
+    let second = Seats {
+        frames: seats.pop().expect(rt, "a seat"),
+        stock: payers.pop().expect(rt, "a stock seat"),
+    };
+    let first = Seats {
+        frames: seats.pop().expect(rt, "a seat"),
+        stock: payers.pop().expect(rt, "a stock seat"),
+    };
+    Ok(Parts {
+        frames,
+        stocks,
+        zone,
+        machine,
+        first,
+        second,
+        third,
+        fourth,
+    })
+}
