@@ -42,6 +42,23 @@ pub fn came_back<N: BootName>(
     machine.is_kept(head) && machine.release(tables, cpu, head) == Released::Returned
 }
 
+// Takes a block of this order for the group, if it can be had.
+fn take<N: BootName>(
+    tables: &Tables<N>,
+    machine: &mut Machine<N>,
+    cpu: &mut Cpu<N>,
+    group: GroupId,
+    order: Order,
+) -> Option<Frame>
+    requires { Visits N.frames machine.old cpu.old }
+    ensures { Visits N.frames machine.new cpu.new }
+{
+    if cpu.back_len() > 0 || !may_charge(machine, group, order.frames()) {
+        return None;
+    }
+    machine.take_block(tables, cpu, group, order).ok()
+}
+
 // Takes a block of this order for the group and releases it, and tells whether it came back.
 fn take_and_release<N: BootName>(
     tables: &Tables<N>,
@@ -53,12 +70,9 @@ fn take_and_release<N: BootName>(
     requires { Visits N.frames machine.old cpu.old }
     ensures { Visits N.frames machine.new cpu.new }
 {
-    if cpu.back_len() > 0 || !may_charge(machine, group, order.frames()) {
-        return false;
-    }
-    match machine.take_block(tables, cpu, group, order) {
-        Ok(head) => came_back(tables, machine, cpu, head),
-        Err(_) => false,
+    match take(tables, machine, cpu, group, order) {
+        Some(head) => came_back(tables, machine, cpu, head),
+        None => false,
     }
 }
 
@@ -82,8 +96,8 @@ fn pairs<N: BootName>(
     done
 }
 
-/// Measures the pair at this order, and prints it.
-pub fn tell_blocks<N: BootName, R: Print + Clock>(
+// Measures the pair at this order, and prints it.
+fn tell_pairs<N: BootName, R: Print + Clock>(
     rt: &R,
     tables: &Tables<N>,
     machine: &mut Machine<N>,
@@ -104,10 +118,34 @@ pub fn tell_blocks<N: BootName, R: Print + Clock>(
             return Err(anyhow!("a block was not taken, or did not come back"));
         }
     }
-    println!(rt;
-        "take_block and release at depth 1, order {}:",
-        order.exponent()
-    )?;
     tell(rt, "  a pair", least, unit)?;
+    Ok(())
+}
+
+/// Measures the pair at this order, and prints it: where all frames are free, so that each pair splits
+/// and joins blocks of all higher orders, and where the block's buddy is in use, so that it does neither.
+pub fn tell_blocks<N: BootName, R: Print + Clock>(
+    rt: &R,
+    tables: &Tables<N>,
+    machine: &mut Machine<N>,
+    cpu: &mut Cpu<N>,
+    group: GroupId,
+    order: Order,
+    unit: u128,
+) -> anyhow::Result<()>
+    requires { Visits N.frames machine.old cpu.old }
+    ensures { Visits N.frames machine.new cpu.new }
+{
+    let exponent = order.exponent();
+    println!(rt; "take_block and release, order {exponent}, all frames free:")?;
+    tell_pairs(rt, tables, machine, cpu, group, order, unit)?;
+    let Some(buddy) = take(tables, machine, cpu, group, order) else {
+        return Err(anyhow!("the buddy was not taken"));
+    };
+    println!(rt; "take_block and release, order {exponent}, its buddy in use:")?;
+    tell_pairs(rt, tables, machine, cpu, group, order, unit)?;
+    if !came_back(tables, machine, cpu, buddy) {
+        return Err(anyhow!("the buddy did not come back"));
+    }
     Ok(())
 }
