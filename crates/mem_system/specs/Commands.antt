@@ -14,13 +14,14 @@ use Rattle.mem_machine.specs.Stocks.{DrainsAllBelow}
 use Rattle.mem_machine.specs.Settling.{Settles, settle_steps}
 use Rattle.mem_machine.specs.Steps.{Drain, open_steps, shut_steps, make_steps, remove_steps, set_max_steps, drain_stocks_steps}
 use Rattle.mem_system.specs.declared.command.Cmd.{Cmd}
-use Rattle.mem_system.specs.declared.command.Cmd.TheVariants.{Mkdir, Rmdir, Write, Read, Settle, Owner}
+use Rattle.mem_system.specs.declared.command.Cmd.TheVariants.{Mkdir, Rmdir, Write, Read, Settle, Owner, Touch}
 use Rattle.mem_system.specs.declared.command.Reply.{Reply}
 use Rattle.mem_system.specs.declared.command.Reply.TheVariants.{Group, Done, Refused}
 use Rattle.mem_system.specs.Boots.{KnownLocked}
 use Rattle.mem_system.specs.Leaves.{IsLeafAt, HasNoLeaf}
 use Rattle.mem_system.specs.Files.{IsFileOf, Reads, RefusesWrite, IsAbove}
 use Rattle.mem_system.specs.Owners.{TellsPlace}
+use Rattle.mem_system.specs.Kept.{TouchesFrame}
 
 -- A list of local steps with their answers leads the processor from the machine and its part before to those after, and this
 -- holds of that list
@@ -95,6 +96,7 @@ pub record Stays (m : KnownMachine) (c : KnownCpu) (steps : Run) (n : KnownMachi
 -- a frame that the command names is one of the zone's
 abbrev pub IsOfZone : KnownTable → Cmd → Type 0
 IsOfZone t (Owner f) = f < t.frames
+IsOfZone t (Touch f) = f < t.frames
 IsOfZone t other = Unit {0}
 
 -- What the command does inside the visit, by these steps, and what it answers
@@ -105,6 +107,7 @@ Obeys t (Write path file value) m c reply steps n d = Writes t m path.now file.n
 Obeys t (Read path file) m c reply steps n d = Reads m.ledger path.now file.now reply × Stays m c steps n d
 Obeys t Settle m c reply steps n d = (reply ≡ Done) × Stays m c steps n d
 Obeys t (Owner f) m c reply steps n d = TellsPlace m f reply × Stays m c steps n d
+Obeys t (Touch f) m c reply steps n d = TouchesFrame m f reply steps n × (d ≡ c)
 
 -- the machine with p's visit open (1) or shut (0)
 abbrev pub with_visit_of : KnownMachine → ℕ → ℕ → KnownMachine

@@ -33,6 +33,10 @@ pub enum Cmd<'a> {
     Owner {
         frame: u32,
     },
+    /// Notes that the kept unit which this frame heads was used.
+    Touch {
+        frame: u32,
+    },
 }
 
 /// What a processor is answered.
@@ -50,6 +54,10 @@ pub enum Reply {
     Lent(u32),
     /// The frame is charged to this group, which has this path.
     Charged { group: GroupId, path: PathText },
+    /// The unit is marked now, on the inactive list of its group.
+    Marked,
+    /// The unit stands at the newest end of the active list of its group now, unmarked.
+    Active,
     /// It is refused, for this reason.
     Refused(Fault),
 }

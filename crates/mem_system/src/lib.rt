@@ -7,6 +7,7 @@ mod booting;
 mod command;
 mod directories;
 mod files;
+mod kept;
 mod locked;
 mod owners;
 mod serving;

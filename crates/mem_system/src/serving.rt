@@ -9,6 +9,7 @@ ghost use Rattle.mem_system.specs.Commands.{BySteps, IsOfZone, Obeys, Serves};
 use crate::command::{Cmd, Reply};
 use crate::directories::{make_group, remove_group};
 use crate::files::{read_file, write_file};
+use crate::kept::touch_frame;
 use crate::locked::Locked;
 use crate::owners::tell_place;
 use cpu_part::{BootName, Cpu, Tables};
@@ -36,6 +37,7 @@ fn obey<N: BootName>(
         Cmd::Read { path, file } => read_file(machine.charges(), path, file),
         Cmd::Settle => Reply::Done,
         Cmd::Owner { frame } => tell_place(machine, tables, *frame),
+        Cmd::Touch { frame } => touch_frame(machine, tables, *frame),
     }
 }
 

@@ -8,3 +8,7 @@ returns-in-Mkdir-clause-obeyed g c =
 pub returns-in-Write-clause-obeyed : goal.returns-in-Write-clause-obeyed
 returns-in-Write-clause-obeyed g c =
     let written = c.write_file.ensures.written c.args.cpu.now in rw c.in-Write.is (written.0, (written.1, refl), written.2)
+
+pub returns-in-Touch-clause-obeyed : goal.returns-in-Touch-clause-obeyed
+returns-in-Touch-clause-obeyed g c =
+    let touched = c.touch_frame.ensures.touched c.args.cpu.now in rw c.in-Touch.is (touched.0, (touched.1, refl), touched.2)

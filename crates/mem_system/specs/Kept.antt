@@ -1,0 +1,22 @@
+-- What the commands about one kept unit do. The unit goes by its head, which stands on a list of its group.
+use Rattle.std.specs.Prelude.{◌≡◌, ℕ, None, []}
+use Rattle.group_tree.specs.declared.fault.Fault.TheVariants.{NotKept}
+use Rattle.lru_lists.specs.declared.lru.Touched.TheVariants as touched
+use Rattle.step_rules.specs.After.{Run}
+use Rattle.mem_machine.specs.Machines.{KnownMachine, home_of}
+use Rattle.mem_machine.specs.Marks.{TouchesUnit}
+use Rattle.mem_system.specs.declared.command.Reply.{Reply}
+use Rattle.mem_system.specs.declared.command.Reply.TheVariants.{Marked, Active, Refused}
+
+-- the frame heads no kept unit, and nothing changed
+pub record HeadsNoUnit (m : KnownMachine) (f : ℕ) (steps : Run) (after : KnownMachine) : Type 0 where
+  pub on_no_list : home_of m.links f ≡ None
+  pub machine : after ≡ m
+  pub steps_are : steps ≡ []
+
+-- Touch: the unit is marked, on the inactive list; or it is at the newest end of the active list, unmarked; or there is none
+abbrev pub TouchesFrame : KnownMachine → ℕ → Reply → Run → KnownMachine → Type 0
+TouchesFrame m f Marked steps after = TouchesUnit m f touched.Marked after × (steps ≡ [])
+TouchesFrame m f Active steps after = TouchesUnit m f touched.Moved after × (steps ≡ [])
+TouchesFrame m f (Refused NotKept) steps after = HeadsNoUnit m f steps after
+TouchesFrame m f other steps after = ⊥
