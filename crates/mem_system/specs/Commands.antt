@@ -1,5 +1,5 @@
 -- What each command does to the machine, what it answers, and its steps.
-use Rattle.std.specs.Prelude.{◌≡◌, ℕ, ◌<◌, ◌≤◌, Option, Some, List, [], ◌++◌}
+use Rattle.std.specs.Prelude.{◌≡◌, ℕ, true, false, ◌<◌, ◌≤◌, Option, Some, List, [], ◌++◌}
 use Rattle.frame_word.specs.Seats.{KnownTable, seat_with_visit}
 use Rattle.group_tree.specs.Groups.{make_fault}
 use Rattle.group_tree.specs.declared.fault.Fault.TheVariants.{Busy}
@@ -14,14 +14,14 @@ use Rattle.mem_machine.specs.Stocks.{DrainsAllBelow}
 use Rattle.mem_machine.specs.Settling.{Settles, settle_steps}
 use Rattle.mem_machine.specs.Steps.{Drain, open_steps, shut_steps, make_steps, remove_steps, set_max_steps, drain_stocks_steps}
 use Rattle.mem_system.specs.declared.command.Cmd.{Cmd}
-use Rattle.mem_system.specs.declared.command.Cmd.TheVariants.{Mkdir, Rmdir, Write, Read, Settle, Owner, Touch}
+use Rattle.mem_system.specs.declared.command.Cmd.TheVariants.{Mkdir, Rmdir, Write, Read, Settle, Owner, Touch, Dirty, Clean}
 use Rattle.mem_system.specs.declared.command.Reply.{Reply}
 use Rattle.mem_system.specs.declared.command.Reply.TheVariants.{Group, Done, Refused}
 use Rattle.mem_system.specs.Boots.{KnownLocked}
 use Rattle.mem_system.specs.Leaves.{IsLeafAt, HasNoLeaf}
 use Rattle.mem_system.specs.Files.{IsFileOf, Reads, RefusesWrite, IsAbove}
 use Rattle.mem_system.specs.Owners.{TellsPlace}
-use Rattle.mem_system.specs.Kept.{TouchesFrame}
+use Rattle.mem_system.specs.Kept.{TouchesFrame, NotesDirt}
 
 -- A list of local steps with their answers leads the processor from the machine and its part before to those after, and this
 -- holds of that list
@@ -97,6 +97,8 @@ pub record Stays (m : KnownMachine) (c : KnownCpu) (steps : Run) (n : KnownMachi
 abbrev pub IsOfZone : KnownTable → Cmd → Type 0
 IsOfZone t (Owner f) = f < t.frames
 IsOfZone t (Touch f) = f < t.frames
+IsOfZone t (Dirty f) = f < t.frames
+IsOfZone t (Clean f) = f < t.frames
 IsOfZone t other = Unit {0}
 
 -- What the command does inside the visit, by these steps, and what it answers
@@ -108,6 +110,8 @@ Obeys t (Read path file) m c reply steps n d = Reads m.ledger path.now file.now 
 Obeys t Settle m c reply steps n d = (reply ≡ Done) × Stays m c steps n d
 Obeys t (Owner f) m c reply steps n d = TellsPlace m f reply × Stays m c steps n d
 Obeys t (Touch f) m c reply steps n d = TouchesFrame m f reply steps n × (d ≡ c)
+Obeys t (Dirty f) m c reply steps n d = NotesDirt true m f reply steps n × (d ≡ c)
+Obeys t (Clean f) m c reply steps n d = NotesDirt false m f reply steps n × (d ≡ c)
 
 -- the machine with p's visit open (1) or shut (0)
 abbrev pub with_visit_of : KnownMachine → ℕ → ℕ → KnownMachine

@@ -37,6 +37,14 @@ pub enum Cmd<'a> {
     Touch {
         frame: u32,
     },
+    /// Notes that the pages of the kept unit which this frame heads are dirty.
+    Dirty {
+        frame: u32,
+    },
+    /// Notes that the pages of the kept unit which this frame heads aren't dirty.
+    Clean {
+        frame: u32,
+    },
 }
 
 /// What a processor is answered.

@@ -9,7 +9,7 @@ ghost use Rattle.mem_system.specs.Commands.{BySteps, IsOfZone, Obeys, Serves};
 use crate::command::{Cmd, Reply};
 use crate::directories::{make_group, remove_group};
 use crate::files::{read_file, write_file};
-use crate::kept::touch_frame;
+use crate::kept::{note_dirt, touch_frame};
 use crate::locked::Locked;
 use crate::owners::tell_place;
 use cpu_part::{BootName, Cpu, Tables};
@@ -38,6 +38,8 @@ fn obey<N: BootName>(
         Cmd::Settle => Reply::Done,
         Cmd::Owner { frame } => tell_place(machine, tables, *frame),
         Cmd::Touch { frame } => touch_frame(machine, tables, *frame),
+        Cmd::Dirty { frame } => note_dirt(machine, tables, *frame, true),
+        Cmd::Clean { frame } => note_dirt(machine, tables, *frame, false),
     }
 }
 
