@@ -4,3 +4,4 @@ pub mod Files
 pub mod Kept
 pub mod Leaves
 pub mod Owners
+pub mod Releases

@@ -45,6 +45,10 @@ pub enum Cmd<'a> {
     Clean {
         frame: u32,
     },
+    /// Releases the kept unit which this frame heads.
+    Release {
+        frame: u32,
+    },
 }
 
 /// What a processor is answered.
@@ -66,6 +70,10 @@ pub enum Reply {
     Marked,
     /// The unit stands at the newest end of the active list of its group now, unmarked.
     Active,
+    /// So many references of processors are left on the unit: it stays charged, and isn't kept any more.
+    Left(u64),
+    /// The unit came back: its pages are off the charge of its group.
+    Returned,
     /// It is refused, for this reason.
     Refused(Fault),
 }

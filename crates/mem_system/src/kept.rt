@@ -14,7 +14,11 @@ use lru_lists::lru::Touched;
 use mem_machine::Machine;
 
 // The frame of this number; None exactly where it heads no kept unit.
-fn find_unit<N: BootName>(machine: &Machine<N>, tables: &Tables<N>, frame: u32) -> Option<Frame>
+pub(crate) fn find_unit<N: BootName>(
+    machine: &Machine<N>,
+    tables: &Tables<N>,
+    frame: u32,
+) -> Option<Frame>
     requires { frame < N.frames.frames }
     ensures { MatchOption result (home_of machine.now.links frame ≡ None)
         (λ found. (found ≡ frame) × (home_of machine.now.links frame ≢ None)) }

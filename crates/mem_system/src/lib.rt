@@ -10,6 +10,7 @@ mod files;
 mod kept;
 mod locked;
 mod owners;
+mod released;
 mod serving;
 mod system;
 #[cfg(test)]
