@@ -1,5 +1,5 @@
 -- Serves the commands that name a group: the group of a path is there, and so is the group that a frame is charged to.
-use Rattle.std.proofs.Common.{◌≡◌, ◌⊎◌, ℕ, ◌+◌, ◌<◌, ◌≤◌, true, cond, Some, List, length, sym, ap, ◌∙◌, ◌==◌, map, Option, subst, inl, inr, arith}
+use Rattle.std.proofs.Common.{◌≡◌, ◌⊎◌, ℕ, ◌<◌, ◌≤◌, true, cond, Some, List, length, sym, ap, ◌∙◌, ◌==◌, map, Option, subst, inl, inr, arith}
 use Rattle.std.proofs.lemmas.Bool.{eq-eqb}
 use Rattle.group_tree.specs.declared.fault.Fault.{Fault}
 use Rattle.group_tree.specs.declared.fault.Fault.TheVariants.{BadLimit, BadNumber}

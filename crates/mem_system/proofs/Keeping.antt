@@ -1,5 +1,5 @@
 -- Serves the commands that drain stocks: the groups and the zone's seat stay as they are, so the visit stays open.
-use Rattle.std.proofs.Common.{◌≡◌, ◌≢◌, ℕ, zero, suc, ◌∷◌, [], List, true, false, refl, sym, ap, ◌∙◌, subst}
+use Rattle.std.proofs.Common.{◌≡◌, ℕ, zero, suc, ◌∷◌, [], List, true, false, sym, ap, ◌∙◌, subst}
 use Rattle.frame_word.specs.Seats.{KnownTable, KnownSeat, IsOpen, NothingPasses, LentIsBorrowed}
 use Rattle.group_tree.specs.declared.group.Group.{Group}
 use Rattle.group_tree.specs.Groups.{has_group, has_child}

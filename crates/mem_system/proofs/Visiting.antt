@@ -49,7 +49,7 @@ pub served : (t : KnownTable) (cmd : Cmd) (l k : KnownLocked) (c d : KnownCpu) (
     → k.machine ≡ with_visit_of x c3.number 0 → d ≡ c3 → k.sizes ≡ l.sizes
     → IsLocalRun c.number (local_of t l.machine c) (open_steps c.number) (local_of t entered c1)
     → Settles entered c1 mid c2 → IsLocalRun c1.number (local_of t entered c1) (settle_steps entered c1) (local_of t mid c2)
-    → BySteps t mid c2 x c3 (λ steps. Obeys t cmd mid c2 reply steps x c3)
+    → BySteps t mid c2 x c3 (λ steps. Obeys t l.sizes cmd mid c2 reply steps x c3)
     → IsLocalRun c3.number (local_of t x c3) (shut_steps c3.number) (local_of t k.machine d)
     → BySteps t l.machine c k.machine d (λ steps. Serves t cmd l c reply steps k d)
 served t cmd l k c d reply entered mid x c1 c2 c3 opened same second third shut after sizes first settles rests obeyed last =
@@ -72,7 +72,7 @@ served t cmd l k c d reply entered mid x c1 c2 c3 opened same second third shut 
         settles = settled;
         inner = obeyed.0;
         done = x;
-        obeys = subst (λ (y : KnownCpu). Obeys t cmd mid c2 reply obeyed.0 x y) (sym after) obeyed.1;
+        obeys = subst (λ (y : KnownCpu). Obeys t l.sizes cmd mid c2 reply obeyed.0 x y) (sym after) obeyed.1;
         machine = shut ∙ ap (λ (q : ℕ). with_visit_of x q 0) three;
         sizes = sizes;
         steps_are = refl;

@@ -1,5 +1,5 @@
 -- What each command does to the machine, what it answers, and its steps.
-use Rattle.std.specs.Prelude.{◌≡◌, ℕ, ◌<◌, ◌≤◌, Option, Some, List, [], ◌++◌}
+use Rattle.std.specs.Prelude.{◌≡◌, ℕ, true, false, ◌<◌, ◌≤◌, Option, Some, List, [], ◌++◌}
 use Rattle.frame_word.specs.Seats.{KnownTable, seat_with_visit}
 use Rattle.group_tree.specs.Groups.{make_fault}
 use Rattle.group_tree.specs.declared.fault.Fault.TheVariants.{Busy}
@@ -7,6 +7,7 @@ use Rattle.group_charge.specs.Charges.{current_of, with_group_limit, with_group_
 use Rattle.control_files.specs.declared.file.File.TheVariants.{Max}
 use Rattle.control_files.specs.Limit.{ReadsAs}
 use Rattle.cpu_part.specs.Cpus.{KnownCpu}
+use Rattle.mem_core.specs.declared.config.Config.{Config}
 use Rattle.step_rules.specs.After.{Run}
 use Rattle.mem_machine.specs.Machines.{KnownMachine, Makes}
 use Rattle.mem_machine.specs.Local.{IsLocalRun, local_of}
@@ -14,13 +15,15 @@ use Rattle.mem_machine.specs.Stocks.{DrainsAllBelow}
 use Rattle.mem_machine.specs.Settling.{Settles, settle_steps}
 use Rattle.mem_machine.specs.Steps.{Drain, open_steps, shut_steps, make_steps, remove_steps, set_max_steps, drain_stocks_steps}
 use Rattle.mem_system.specs.declared.command.Cmd.{Cmd}
-use Rattle.mem_system.specs.declared.command.Cmd.TheVariants.{Mkdir, Rmdir, Write, Read, Settle, Owner}
+use Rattle.mem_system.specs.declared.command.Cmd.TheVariants.{Mkdir, Rmdir, Write, Read, Settle, Owner, Touch, Dirty, Clean, Release}
 use Rattle.mem_system.specs.declared.command.Reply.{Reply}
 use Rattle.mem_system.specs.declared.command.Reply.TheVariants.{Group, Done, Refused}
 use Rattle.mem_system.specs.Boots.{KnownLocked}
 use Rattle.mem_system.specs.Leaves.{IsLeafAt, HasNoLeaf}
 use Rattle.mem_system.specs.Files.{IsFileOf, Reads, RefusesWrite, IsAbove}
 use Rattle.mem_system.specs.Owners.{TellsPlace}
+use Rattle.mem_system.specs.Kept.{TouchesFrame, NotesDirt}
+use Rattle.mem_system.specs.Releases.{ReleasesFrame}
 
 -- A list of local steps with their answers leads the processor from the machine and its part before to those after, and this
 -- holds of that list
@@ -95,16 +98,24 @@ pub record Stays (m : KnownMachine) (c : KnownCpu) (steps : Run) (n : KnownMachi
 -- a frame that the command names is one of the zone's
 abbrev pub IsOfZone : KnownTable → Cmd → Type 0
 IsOfZone t (Owner f) = f < t.frames
+IsOfZone t (Touch f) = f < t.frames
+IsOfZone t (Dirty f) = f < t.frames
+IsOfZone t (Clean f) = f < t.frames
+IsOfZone t (Release f) = f < t.frames
 IsOfZone t other = Unit {0}
 
 -- What the command does inside the visit, by these steps, and what it answers
-abbrev pub Obeys : KnownTable → Cmd → KnownMachine → KnownCpu → Reply → Run → KnownMachine → KnownCpu → Type 0
-Obeys t (Mkdir path) m c reply steps n d = MakesGroup m path.now reply steps n × (d ≡ c)
-Obeys t (Rmdir path) m c reply steps n d = Removes t m path.now reply steps n × (d ≡ c)
-Obeys t (Write path file value) m c reply steps n d = Writes t m path.now file.now value.now reply steps n × (d ≡ c)
-Obeys t (Read path file) m c reply steps n d = Reads m.ledger path.now file.now reply × Stays m c steps n d
-Obeys t Settle m c reply steps n d = (reply ≡ Done) × Stays m c steps n d
-Obeys t (Owner f) m c reply steps n d = TellsPlace m f reply × Stays m c steps n d
+abbrev pub Obeys : KnownTable → Config → Cmd → KnownMachine → KnownCpu → Reply → Run → KnownMachine → KnownCpu → Type 0
+Obeys t sizes (Mkdir path) m c reply steps n d = MakesGroup m path.now reply steps n × (d ≡ c)
+Obeys t sizes (Rmdir path) m c reply steps n d = Removes t m path.now reply steps n × (d ≡ c)
+Obeys t sizes (Write path file value) m c reply steps n d = Writes t m path.now file.now value.now reply steps n × (d ≡ c)
+Obeys t sizes (Read path file) m c reply steps n d = Reads m.ledger path.now file.now reply × Stays m c steps n d
+Obeys t sizes Settle m c reply steps n d = (reply ≡ Done) × Stays m c steps n d
+Obeys t sizes (Owner f) m c reply steps n d = TellsPlace m f reply × Stays m c steps n d
+Obeys t sizes (Touch f) m c reply steps n d = TouchesFrame m f reply steps n × (d ≡ c)
+Obeys t sizes (Dirty f) m c reply steps n d = NotesDirt true m f reply steps n × (d ≡ c)
+Obeys t sizes (Clean f) m c reply steps n d = NotesDirt false m f reply steps n × (d ≡ c)
+Obeys t sizes (Release f) m c reply steps n d = ReleasesFrame sizes f m c reply steps n d
 
 -- the machine with p's visit open (1) or shut (0)
 abbrev pub with_visit_of : KnownMachine → ℕ → ℕ → KnownMachine
@@ -118,7 +129,7 @@ pub record Serves (t : KnownTable) (cmd : Cmd) (l : KnownLocked) (c : KnownCpu) 
   pub settles : Settles (with_visit_of l.machine c.number 1) c settled rested
   pub inner : Run
   pub done : KnownMachine
-  pub obeys : Obeys t cmd settled rested reply inner done d
+  pub obeys : Obeys t l.sizes cmd settled rested reply inner done d
   pub machine : k.machine ≡ with_visit_of done c.number 0
   pub sizes : k.sizes ≡ l.sizes
   pub steps_are : steps ≡ open_steps c.number ++ (settle_steps (with_visit_of l.machine c.number 1) c ++ (inner ++ shut_steps c.number))

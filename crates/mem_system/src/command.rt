@@ -33,6 +33,22 @@ pub enum Cmd<'a> {
     Owner {
         frame: u32,
     },
+    /// Notes that the kept unit which this frame heads was used.
+    Touch {
+        frame: u32,
+    },
+    /// Notes that the pages of the kept unit which this frame heads are dirty.
+    Dirty {
+        frame: u32,
+    },
+    /// Notes that the pages of the kept unit which this frame heads aren't dirty.
+    Clean {
+        frame: u32,
+    },
+    /// Releases the kept unit which this frame heads.
+    Release {
+        frame: u32,
+    },
 }
 
 /// What a processor is answered.
@@ -50,6 +66,14 @@ pub enum Reply {
     Lent(u32),
     /// The frame is charged to this group, which has this path.
     Charged { group: GroupId, path: PathText },
+    /// The unit is marked now, on the inactive list of its group.
+    Marked,
+    /// The unit stands at the newest end of the active list of its group now, unmarked.
+    Active,
+    /// So many references of processors are left on the unit: it stays charged, and isn't kept any more.
+    Left(u64),
+    /// The unit came back: its pages are off the charge of its group.
+    Returned,
     /// It is refused, for this reason.
     Refused(Fault),
 }

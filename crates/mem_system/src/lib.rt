@@ -7,8 +7,10 @@ mod booting;
 mod command;
 mod directories;
 mod files;
+mod kept;
 mod locked;
 mod owners;
+mod released;
 mod serving;
 mod system;
 #[cfg(test)]

@@ -1,7 +1,8 @@
 //! Commands, served under the lock.
 
-ghost use Rattle.std.specs.Prelude.{◌≡◌, []};
+ghost use Rattle.std.specs.Prelude.{◌≡◌, ◌+◌, ◌≤◌, [], length};
 ghost use Rattle.frame_word.specs.Seats.{NothingPasses};
+ghost use Rattle.mem_core.specs.Config.{IsValidConfig};
 ghost use Rattle.mem_machine.specs.Machines.{Visits};
 ghost use Rattle.mem_system.specs.Boots.{IsQuiet};
 ghost use Rattle.mem_system.specs.Commands.{BySteps, IsOfZone, Obeys, Serves};
@@ -9,9 +10,12 @@ ghost use Rattle.mem_system.specs.Commands.{BySteps, IsOfZone, Obeys, Serves};
 use crate::command::{Cmd, Reply};
 use crate::directories::{make_group, remove_group};
 use crate::files::{read_file, write_file};
+use crate::kept::{note_dirt, touch_frame};
 use crate::locked::Locked;
 use crate::owners::tell_place;
+use crate::released::release_frame;
 use cpu_part::{BootName, Cpu, Tables};
+use mem_core::config::Config;
 use mem_machine::Machine;
 
 // Obeys the command inside the visit.
@@ -19,15 +23,20 @@ fn obey<N: BootName>(
     machine: &mut Machine<N>,
     tables: &Tables<N>,
     cpu: &mut Cpu<N>,
+    sizes: Config,
     cmd: &Cmd<'_>,
 ) -> Reply
     requires zone { IsOfZone N.frames cmd.now }
+    requires sizes { IsValidConfig sizes }
     requires visit { Visits N.frames machine.old cpu.old }
+    requires settled { (cpu.old.fresh ≡ []) × (cpu.old.back ≡ []) }
     ensures obeyed { BySteps N.frames machine.old cpu.old machine.new cpu.new
-        (λ steps. Obeys N.frames cmd.now machine.old cpu.old result steps machine.new cpu.new) }
+        (λ steps. Obeys N.frames sizes cmd.now machine.old cpu.old result steps machine.new cpu.new) }
     ensures visit { Visits N.frames machine.new cpu.new }
     ensures opened { machine.new.seat.view.opened ≡ machine.old.seat.view.opened }
-    ensures cpu { cpu.new ≡ cpu.old }
+    ensures number { cpu.new.number ≡ cpu.old.number }
+    ensures settled { (cpu.new.fresh ≡ []) × (cpu.new.back ≡ []) }
+    ensures at_most_high { length cpu.old.list ≤ sizes.high → length cpu.new.list ≤ sizes.high }
 {
     match cmd {
         Cmd::Mkdir { path } => make_group(machine, path),
@@ -36,6 +45,10 @@ fn obey<N: BootName>(
         Cmd::Read { path, file } => read_file(machine.charges(), path, file),
         Cmd::Settle => Reply::Done,
         Cmd::Owner { frame } => tell_place(machine, tables, *frame),
+        Cmd::Touch { frame } => touch_frame(machine, tables, *frame),
+        Cmd::Dirty { frame } => note_dirt(machine, tables, *frame, true),
+        Cmd::Clean { frame } => note_dirt(machine, tables, *frame, false),
+        Cmd::Release { frame } => release_frame(machine, tables, cpu, sizes, *frame),
     }
 }
 
@@ -53,11 +66,12 @@ pub fn serve<N: BootName>(
     ensures before { IsQuiet N.frames N.stocks locked.old }
     ensures after { IsQuiet N.frames N.stocks locked.new }
     ensures settled { (cpu.new.fresh ≡ []) × (cpu.new.back ≡ []) }
+    ensures at_most_high { length cpu.old.list ≤ locked.old.sizes.high → length cpu.new.list ≤ locked.old.sizes.high }
     ensures still { NothingPasses N.frames locked.new.machine.seat cpu.new.seat }
 {
     locked.machine.open(tables, cpu);
     locked.machine.settle(tables, cpu);
-    let reply = obey(&mut locked.machine, tables, cpu, cmd);
+    let reply = obey(&mut locked.machine, tables, cpu, locked.sizes, cmd);
     locked.machine.shut(tables, cpu);
     reply
 }

@@ -1,4 +1,4 @@
-use Rattle.std.proofs.Common.{◌≡◌, ◌<◌, rules, ap, sym, ◌∙◌, subst}
+use Rattle.std.proofs.Common.{◌<◌, rules, ap, sym, ◌∙◌, subst}
 use Rattle.group_charge.specs.Charges.{Ledger, AreCharges}
 use Rattle.group_tree.specs.Groups.{has_group}
 use Rattle.mem_system.proofs.Found.{keeper_there}

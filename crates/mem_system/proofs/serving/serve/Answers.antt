@@ -1,4 +1,4 @@
-use Rattle.std.proofs.Common.{ℕ, ap, ◌∙◌, refl, subst}
+use Rattle.std.proofs.Common.{ℕ, ◌≤◌, List, length, ap, sym, ◌∙◌, refl, subst}
 use Rattle.cpu_part.specs.Cpus.{KnownCpu}
 use Rattle.mem_machine.specs.Machines.{KnownMachine}
 use Rattle.mem_system.specs.Boots.{KnownLocked, IsQuiet}
@@ -10,7 +10,7 @@ pub invariant_of-locked : goal.invariant_of-locked
 invariant_of-locked g c =
     let quiet = c.locked.invariant.0 in
     let x = c.obey-reply.new.machine in
-    let numbered = ap (λ (y : KnownCpu). y.number) c.obey-reply.ensures.cpu ∙ c.settle.ensures.others.number ∙ ap (λ (y : KnownCpu). y.number) c.open.ensures.cpu in
+    let numbered = c.obey-reply.ensures.number ∙ c.settle.ensures.others.number ∙ ap (λ (y : KnownCpu). y.number) c.open.ensures.cpu in
     let opened = c.obey-reply.ensures.opened ∙ settled_opened _ _ _ _ c.settle.ensures.settles
     ∙ ap (λ (k : KnownMachine). k.seat.view.opened) c.open.ensures.machine in (
       record {
@@ -28,16 +28,16 @@ returns g c =
     let quiet = c.locked.invariant.0 in
     let x = c.obey-reply.new.machine in
     let k : KnownLocked = record { machine = c.shut.new.self; sizes = c.locked.inside.sizes } in
-    let numbered = ap (λ (y : KnownCpu). y.number) c.obey-reply.ensures.cpu ∙ c.settle.ensures.others.number ∙ ap (λ (y : KnownCpu). y.number) c.open.ensures.cpu in
+    let numbered = c.obey-reply.ensures.number ∙ c.settle.ensures.others.number ∙ ap (λ (y : KnownCpu). y.number) c.open.ensures.cpu in
     let opened = c.obey-reply.ensures.opened ∙ settled_opened _ _ _ _ c.settle.ensures.settles
     ∙ ap (λ (k : KnownMachine). k.seat.view.opened) c.open.ensures.machine in
-    let same = c.shut.ensures.cpu ∙ c.obey-reply.ensures.cpu in
+    let same = c.shut.ensures.cpu in
     record {
       served = subst (λ (l : KnownLocked). BySteps t l.machine c.args.cpu.now k.machine c.shut.new.cpu (λ steps. Serves t c.args.cmd.now l c.args.cpu.now
           c.obey-reply.result steps k c.shut.new.cpu)) c.locked.view_is
           (served t c.args.cmd.now (record { machine = c.locked.inside.machine; sizes = c.locked.inside.sizes }) k c.args.cpu.now c.shut.new.cpu
           c.obey-reply.result c.open.new.self c.settle.new.self c.obey-reply.new.machine c.open.new.cpu c.settle.new.cpu c.obey-reply.new.cpu
-          c.open.ensures.machine c.open.ensures.cpu c.settle.ensures.others.number (ap (λ (y : KnownCpu). y.number) c.obey-reply.ensures.cpu)
+          c.open.ensures.machine c.open.ensures.cpu c.settle.ensures.others.number c.obey-reply.ensures.number
           c.shut.ensures.machine c.shut.ensures.cpu refl c.open.ensures.steps c.settle.ensures.settles c.settle.ensures.steps
           c.obey-reply.ensures.obeyed c.shut.ensures.steps);
       before = subst (λ (l : KnownLocked). IsQuiet t g.N.BootName.stocks l) c.locked.view_is quiet;
@@ -47,6 +47,10 @@ returns g c =
         valid = quiet.valid;
         sized = quiet.sized;
       };
-      settled = (ap (λ (y : KnownCpu). y.fresh) same ∙ c.settle.ensures.none_fresh, ap (λ (y : KnownCpu). y.back) same ∙ c.settle.ensures.none_back);
+      settled = (ap (λ (y : KnownCpu). y.fresh) same ∙ c.obey-reply.ensures.settled.0, ap (λ (y : KnownCpu). y.back) same ∙ c.obey-reply.ensures.settled.1);
+      at_most_high = subst (λ (l : KnownLocked). length c.args.cpu.now.list ≤ l.sizes.high → length c.shut.new.cpu.list ≤ l.sizes.high) c.locked.view_is
+          (λ within. subst (λ (y : KnownCpu). length y.list ≤ c.locked.inside.sizes.high) (sym same) (c.obey-reply.ensures.at_most_high
+          (subst (λ (l : List ℕ). length l ≤ c.locked.inside.sizes.high)
+          (sym (c.settle.ensures.others.list ∙ ap (λ (y : KnownCpu). y.list) c.open.ensures.cpu)) within)));
       still = c.shut.ensures.still;
     }

@@ -1,0 +1,108 @@
+-- Serves `release`: frames from the front of a processor's list go back, and one frame comes to its end.
+use Rattle.std.proofs.Common.{◌≡◌, ◌≢◌, ℕ, zero, suc, ◌+◌, ◌<◌, ◌≤◌, List, [], ◌∷◌, ◌++◌, length, take, sym, ap, ◌∙◌, refl, inl, inr, arith}
+use Rattle.std.specs.Prelude.{slice_set}
+use Rattle.std.proofs.lemmas.Bool.{cases_lt}
+use Rattle.std.proofs.lemmas.List.{length-append, length-take-le}
+use Rattle.frame_word.specs.Seats.{KnownTable}
+use Rattle.cpu_part.specs.Cpus.{KnownCpu}
+use Rattle.mem_core.specs.declared.config.Config.{Config}
+use Rattle.mem_machine.specs.declared.spot.Spot.{Spot}
+use Rattle.mem_machine.specs.declared.spot.Spot.TheVariants.{Free}
+use Rattle.mem_machine.specs.declared.releasing.Released.TheVariants.{Returned}
+use Rattle.mem_machine.specs.Spots.{spot_at}
+use Rattle.mem_machine.specs.Machines.{KnownMachine}
+use Rattle.mem_machine.specs.Lending.{TakesManyBack}
+use Rattle.mem_machine.specs.Local.{IsLocalRun, local_of}
+use Rattle.mem_machine.specs.Releasing.{ReturnsUnit, release_steps}
+use Rattle.mem_machine.proofs.Reaching.{run_both}
+use Rattle.mem_system.specs.Commands.{BySteps}
+use Rattle.mem_system.specs.Releases.{ListsFrame, ReturnsFrames}
+
+-- another frame that is free now leaves a free one free
+set_free : (spots : List Spot) (f g : ℕ) → spot_at spots g ≡ Free → spot_at (slice_set spots f Free) g ≡ Free
+set_free [] f g is = refl
+set_free (x ∷ xs) zero zero is = refl
+set_free (x ∷ xs) zero (suc g) is = is
+set_free (x ∷ xs) (suc f) zero is = is
+set_free (x ∷ xs) (suc f) (suc g) is = set_free xs f g is
+
+-- what the frames that were taken back from the front leave
+pub record Cut (frames : List ℕ) (m : KnownMachine) (c : KnownCpu) (n : KnownMachine) (d : KnownCpu) : Type 0 where
+  pub split : c.list ≡ frames ++ d.list
+  pub number : d.number ≡ c.number
+  pub fresh : d.fresh ≡ c.fresh
+  pub back : d.back ≡ c.back
+  pub opened : n.seat.view.opened ≡ m.seat.view.opened
+  pub free : (f : ℕ) → spot_at m.spots f ≡ Free → spot_at n.spots f ≡ Free
+
+pub cut_off : (frames : List ℕ) (m : KnownMachine) (c : KnownCpu) (n : KnownMachine) (d : KnownCpu) → TakesManyBack frames m c n d → Cut frames m c n d
+cut_off [] m c n d t = record {
+  split = sym (ap (λ (e : KnownCpu). e.list) t.1);
+  number = ap (λ (e : KnownCpu). e.number) t.1;
+  fresh = ap (λ (e : KnownCpu). e.fresh) t.1;
+  back = ap (λ (e : KnownCpu). e.back) t.1;
+  opened = ap (λ (k : KnownMachine). k.seat.view.opened) t.0;
+  free = λ f is. ap (λ (k : KnownMachine). spot_at k.spots f) t.0 ∙ is;
+}
+cut_off (f ∷ rest) m c n d t =
+    let one = t.2 in
+    let more = cut_off rest t.0 t.1 n d t.3 in
+    record {
+      split = one.front ∙ ap (λ (l : List ℕ). f ∷ l) (sym (ap (λ (e : KnownCpu). e.list) one.cpu) ∙ more.split);
+      number = more.number ∙ ap (λ (e : KnownCpu). e.number) one.cpu;
+      fresh = more.fresh ∙ ap (λ (e : KnownCpu). e.fresh) one.cpu;
+      back = more.back ∙ ap (λ (e : KnownCpu). e.back) one.cpu;
+      opened = more.opened ∙ ap (λ (k : KnownMachine). k.seat.view.opened) one.machine;
+      free = λ g is. more.free g (ap (λ (k : KnownMachine). spot_at k.spots g) one.machine ∙ set_free m.spots f g is);
+    }
+
+-- a list that stands at `high` has a whole batch
+pub whole_batch : (k batch high : ℕ) (list left : List ℕ) → k ≤ batch → k ≤ length list → (k < batch → left ≡ []) → list ≡ take k list ++ left
+    → batch ≤ high → high ≤ length list → k ≡ batch
+whole_batch k batch high list left at_most listed fewer split low stands = elim (cases_lt k batch) [
+  | inl less ↦
+      let none = ap length (fewer less) in
+      let all = ap length split ∙ length-append (take k list) left in
+      let taken = length-take-le k list listed in
+      absurd (omega (arith, less, none, all, taken, low, stands))
+  | inr enough ↦ omega (arith, enough, at_most)
+]
+
+-- as many frames are left as were not taken
+pub left_over : (k : ℕ) (list left : List ℕ) → k ≤ length list → list ≡ take k list ++ left → length list ≡ k + length left
+left_over k list left listed split =
+    ap length split ∙ length-append (take k list) left ∙ ap (λ (n : ℕ). n + length left) (length-take-le k list listed)
+
+-- a single frame came back and went to the list
+pub returned_single : (t : KnownTable) (sizes : Config) (f : ℕ) (m freed n : KnownMachine) (c d : KnownCpu) (returns : ReturnsUnit m f freed)
+    → returns.unit.order ≡ 0 → IsLocalRun c.number (local_of t m c) (release_steps f Returned) (local_of t freed c)
+    → BySteps t freed c n d (λ steps. ListsFrame sizes f freed c steps n d) → BySteps t m c n d (λ steps. ReturnsFrames sizes f m c steps n d)
+returned_single t sizes f m freed n c d returns single first lists = (
+  release_steps f Returned ++ lists.0,
+  record {
+    freed = freed;
+    returns = returns;
+    listing = lists.0;
+    single = λ _. lists.1;
+    block = λ more. absurd (more single);
+    steps_are = refl;
+  },
+  run_both c.number (release_steps f Returned) lists.0 (local_of t m c) (local_of t freed c) (local_of t n d) first lists.2,
+)
+
+-- a block came back
+pub returned_block : (t : KnownTable) (sizes : Config) (f : ℕ) (m freed : KnownMachine) (c : KnownCpu) (returns : ReturnsUnit m f freed)
+    → returns.unit.order ≢ 0 → IsLocalRun c.number (local_of t m c) (release_steps f Returned) (local_of t freed c)
+    → BySteps t m c freed c (λ steps. ReturnsFrames sizes f m c steps freed c)
+returned_block t sizes f m freed c returns more first = (
+  release_steps f Returned,
+  record {
+    freed = freed;
+    returns = returns;
+    listing = [];
+    single = λ single. absurd (more single);
+    block = λ _. (refl, refl, refl);
+    steps_are = refl;
+  },
+  first,
+)

@@ -1,0 +1,70 @@
+//! Kept units: touched, and noted as dirty or clean.
+
+ghost use Rattle.std.specs.Prelude.{◌≡◌, ◌≢◌, ◌<◌, None, MatchOption};
+ghost use Rattle.cpu_part.specs.Cpus.{KnownCpu};
+ghost use Rattle.mem_machine.specs.Machines.{home_of};
+ghost use Rattle.mem_system.specs.Kept.{TouchesFrame, NotesDirt};
+ghost use Rattle.mem_system.specs.Commands.{BySteps};
+
+use crate::command::Reply;
+use cpu_part::{BootName, Tables};
+use frame_word::Frame;
+use group_tree::fault::Fault;
+use lru_lists::lru::Touched;
+use mem_machine::Machine;
+
+// The frame of this number; None exactly where it heads no kept unit.
+pub(crate) fn find_unit<N: BootName>(
+    machine: &Machine<N>,
+    tables: &Tables<N>,
+    frame: u32,
+) -> Option<Frame>
+    requires { frame < N.frames.frames }
+    ensures { MatchOption result (home_of machine.now.links frame ≡ None)
+        (λ found. (found ≡ frame) × (home_of machine.now.links frame ≢ None)) }
+{
+    let frame = tables.frames.frame(frame).unwrap();
+    if !machine.is_kept(frame) {
+        return None;
+    }
+    Some(frame)
+}
+
+// Notes that the unit which the frame heads was used.
+pub(crate) fn touch_frame<N: BootName>(
+    machine: &mut Machine<N>,
+    tables: &Tables<N>,
+    frame: u32,
+) -> Reply
+    requires { frame < N.frames.frames }
+    ensures touched { (c : KnownCpu) → BySteps N.frames machine.old c machine.new c
+        (λ steps. TouchesFrame machine.old frame result steps machine.new) }
+    ensures seat { machine.new.seat ≡ machine.old.seat }
+{
+    let Some(frame) = find_unit(machine, tables, frame) else {
+        return Reply::Refused(Fault::NotKept);
+    };
+    match machine.touch(frame) {
+        Touched::Marked => Reply::Marked,
+        Touched::Moved => Reply::Active,
+    }
+}
+
+// Notes whether the pages of the unit which the frame heads are dirty.
+pub(crate) fn note_dirt<N: BootName>(
+    machine: &mut Machine<N>,
+    tables: &Tables<N>,
+    frame: u32,
+    is_dirty: bool,
+) -> Reply
+    requires { frame < N.frames.frames }
+    ensures noted { (c : KnownCpu) → BySteps N.frames machine.old c machine.new c
+        (λ steps. NotesDirt is_dirty machine.old frame result steps machine.new) }
+    ensures seat { machine.new.seat ≡ machine.old.seat }
+{
+    let Some(frame) = find_unit(machine, tables, frame) else {
+        return Reply::Refused(Fault::NotKept);
+    };
+    machine.set_dirty(frame, is_dirty);
+    Reply::Done
+}

@@ -1,0 +1,109 @@
+//! Kept units that are released.
+
+ghost use Rattle.std.specs.Prelude.{◌≡◌, ◌↔◌, ◌<◌, ◌≤◌, IsTrue, [], length};
+ghost use Rattle.mem_core.specs.Config.{IsValidConfig};
+ghost use Rattle.step_rules.specs.declared.phase.ChargedUnit.{ChargedUnit};
+ghost use Rattle.mem_machine.specs.declared.spot.Spot.TheVariants.{Free, Head};
+ghost use Rattle.mem_machine.specs.Spots.{spot_at};
+ghost use Rattle.mem_machine.specs.Machines.{Visits};
+ghost use Rattle.mem_system.specs.Releases.{CutsList, ListsFrame, ReleasesFrame};
+ghost use Rattle.mem_system.specs.Commands.{BySteps};
+
+use crate::command::Reply;
+use crate::kept::find_unit;
+use cpu_part::{BootName, Cpu, Tables};
+use frame_word::Frame;
+use group_tree::fault::Fault;
+use mem_core::config::Config;
+use mem_machine::{Machine, Released};
+
+// Whether the unit that the frame heads is a single frame.
+fn is_single<N: BootName>(machine: &Machine<N>, frame: Frame) -> bool
+    requires { frame < N.frames.frames }
+    ensures { (unit : ChargedUnit) → spot_at machine.now.spots frame ≡ Head unit → IsTrue result ↔ (unit.order ≡ 0) }
+{
+    match machine.unit(frame) {
+        Some(unit) => unit.order.exponent() == 0,
+        None => false,
+    }
+}
+
+// Gives `batch` frames from the front of the processor's list back to the zone where the list stands at `high`.
+fn cut_list<N: BootName>(
+    machine: &mut Machine<N>,
+    tables: &Tables<N>,
+    cpu: &mut Cpu<N>,
+    sizes: Config,
+)
+    requires visit { Visits N.frames machine.old cpu.old }
+    requires sizes { IsValidConfig sizes }
+    ensures cuts { BySteps N.frames machine.old cpu.old machine.new cpu.new
+        (λ steps. CutsList sizes machine.old cpu.old steps machine.new cpu.new) }
+    ensures visit { Visits N.frames machine.new cpu.new }
+    ensures room { length cpu.new.list < 256 }
+    ensures below_high { length cpu.old.list ≤ sizes.high → length cpu.new.list < sizes.high }
+{
+    if cpu.list_len() >= sizes.high as usize {
+        machine.drain_list(tables, cpu, sizes.batch);
+    }
+}
+
+// Puts a free frame at the end of the processor's list, which is cut before where it stands at `high`.
+fn list_frame<N: BootName>(
+    machine: &mut Machine<N>,
+    tables: &Tables<N>,
+    cpu: &mut Cpu<N>,
+    sizes: Config,
+    frame: Frame,
+)
+    requires visit { Visits N.frames machine.old cpu.old }
+    requires sizes { IsValidConfig sizes }
+    requires frame { frame < N.frames.frames }
+    requires free { spot_at machine.old.spots frame ≡ Free }
+    requires none_fresh { cpu.old.fresh ≡ [] }
+    ensures lists { BySteps N.frames machine.old cpu.old machine.new cpu.new
+        (λ steps. ListsFrame sizes frame machine.old cpu.old steps machine.new cpu.new) }
+    ensures visit { Visits N.frames machine.new cpu.new }
+    ensures opened { machine.new.seat.view.opened ≡ machine.old.seat.view.opened }
+    ensures number { cpu.new.number ≡ cpu.old.number }
+    ensures settled { (cpu.new.fresh ≡ cpu.old.fresh) × (cpu.new.back ≡ cpu.old.back) }
+    ensures at_most_high { length cpu.old.list ≤ sizes.high → length cpu.new.list ≤ sizes.high }
+{
+    cut_list(machine, tables, cpu, sizes);
+    machine.lend(tables, cpu, frame);
+}
+
+// Releases the unit that the frame heads. A single frame that comes back goes to the processor's list.
+pub(crate) fn release_frame<N: BootName>(
+    machine: &mut Machine<N>,
+    tables: &Tables<N>,
+    cpu: &mut Cpu<N>,
+    sizes: Config,
+    frame: u32,
+) -> Reply
+    requires visit { Visits N.frames machine.old cpu.old }
+    requires sizes { IsValidConfig sizes }
+    requires frame { frame < N.frames.frames }
+    requires none_fresh { cpu.old.fresh ≡ [] }
+    ensures released { BySteps N.frames machine.old cpu.old machine.new cpu.new
+        (λ steps. ReleasesFrame sizes frame machine.old cpu.old result steps machine.new cpu.new) }
+    ensures visit { Visits N.frames machine.new cpu.new }
+    ensures opened { machine.new.seat.view.opened ≡ machine.old.seat.view.opened }
+    ensures number { cpu.new.number ≡ cpu.old.number }
+    ensures settled { (cpu.new.fresh ≡ cpu.old.fresh) × (cpu.new.back ≡ cpu.old.back) }
+    ensures at_most_high { length cpu.old.list ≤ sizes.high → length cpu.new.list ≤ sizes.high }
+{
+    let Some(frame) = find_unit(machine, tables, frame) else {
+        return Reply::Refused(Fault::NotKept);
+    };
+    let is_single = is_single(machine, frame);
+    match machine.release(tables, cpu, frame) {
+        Released::Left(left) => Reply::Left(left),
+        Released::Returned => {
+            if is_single {
+                list_frame(machine, tables, cpu, sizes, frame);
+            }
+            Reply::Returned
+        }
+    }
+}
