@@ -65,6 +65,11 @@ fn takes_out<N: BootName, R: Wait + Abort>(rt: &R, system: &System<N>, cpu: &mut
         .expect(rt, "a frame")
         .number();
     assert!(rt; system.visit(rt, cpu, &Cmd::Owner { frame }) == Reply::Free);
+    let refused = Reply::Refused(Fault::NotKept);
+    assert!(rt; system.visit(rt, cpu, &Cmd::Touch { frame }) == refused);
+    assert!(rt; system.visit(rt, cpu, &Cmd::Dirty { frame }) == refused);
+    assert!(rt; system.visit(rt, cpu, &Cmd::Clean { frame }) == refused);
+    assert!(rt; system.visit(rt, cpu, &Cmd::Release { frame }) == refused);
 }
 
 // The part of a processor that has nothing left.
