@@ -119,8 +119,8 @@ fn drained_below(rt: &impl Abort, core: &mut Core, group: GroupId) -> u64 {
 }
 
 // Each fresh frame is kept by its group, in the order in which they were taken.
-fn settled(rt: &impl Abort, core: &mut Core, cpu: u32) {
-    for _ in 0..32 {
+fn settled(rt: &impl Abort, core: &mut Core, cpu: u32, frames: u32) {
+    for _ in 0..frames {
         if let Some(frame) = core.fresh(cpu).first().copied() {
             done(rt, core, cpu, Action::PassBack { frame });
             done(rt, core, cpu, Action::Report { pages: 1 });
@@ -131,6 +131,7 @@ fn settled(rt: &impl Abort, core: &mut Core, cpu: u32) {
             done(rt, core, 0, Action::Publish { frame });
         }
     }
+    assert!(rt; core.fresh(cpu).is_empty());
 }
 
 // A block is placed, or none, for pages that were granted.
@@ -183,8 +184,12 @@ fn released(rt: &impl Abort, core: &mut Core, frame: u32, left: Option<u64>) {
     }
 }
 
-// A frame is paid for, or not.
+// A frame is paid for, or not. That the stock has no page is told by what the processor saw of it last, without a step.
 fn paid(rt: &impl Abort, core: &mut Core, cpu: u32, group: GroupId, fast: Fast) {
+    if fast == Fast::NoStock {
+        assert_eq!(rt; core.stock_pages(cpu), 0);
+        return;
+    }
     let front = core.front(cpu);
     let answer = step(rt, core, cpu, Action::Consume { group });
     let wanted = match fast {
@@ -194,8 +199,7 @@ fn paid(rt: &impl Abort, core: &mut Core, cpu: u32, group: GroupId, fast: Fast) 
         }
         Fast::FreshFull | Fast::ListEmpty => Answer::Illegal,
         Fast::OtherGroup => Answer::OtherGroup,
-        Fast::Drained => Answer::Drained,
-        Fast::NoStock => Answer::Empty,
+        Fast::Drained | Fast::NoStock => Answer::Drained,
     };
     assert_eq!(rt; answer, wanted);
 }
@@ -229,7 +233,7 @@ pub fn follow(rt: &impl Abort, core: &mut Core, cpu: u32, made: &Made) {
             let drained = drained_below(rt, core, group);
             assert_eq!(rt; drained, pages);
         }
-        Made::Settled => settled(rt, core, cpu),
+        Made::Settled { frames } => settled(rt, core, cpu, frames),
         Made::TookBlock {
             group,
             order,

@@ -22,6 +22,17 @@ fn some_group(word: u32) -> GroupId {
     GroupId::of((word >> 8) % 6).unwrap_or(GroupId::root())
 }
 
+// The first frame of 64 from this one on that heads a kept unit, or this one.
+fn kept_from<N: BootName>(tables: &Tables<N>, machine: &Machine<N>, first: u32) -> u32 {
+    for number in first..first.saturating_add(64) {
+        match tables.frames.frame(number) {
+            Some(frame) if machine.is_kept(frame) => return number,
+            _ => {}
+        }
+    }
+    first
+}
+
 // Up to eight frames come to the list.
 fn refill<N: BootName>(
     tables: &Tables<N>,
@@ -184,8 +195,9 @@ fn settle<N: BootName>(tables: &Tables<N>, machine: &mut Machine<N>, cpu: &mut C
     requires { Visits N.frames machine.old cpu.old }
     ensures { Stays N.frames machine.old cpu.old machine.new cpu.new }
 {
+    let frames = u32::try_from(cpu.fresh_len()).unwrap_or(0);
     machine.settle(tables, cpu);
-    Made::Settled
+    Made::Settled { frames }
 }
 
 // The head of the block that was taken, and the group whose limit had no room.
@@ -243,7 +255,8 @@ fn release<N: BootName>(
     requires { Visits N.frames machine.old cpu.now }
     ensures { Stays N.frames machine.old cpu.now machine.new cpu.now }
 {
-    let number = (word >> 8) % 64;
+    let some = (word >> 8).checked_rem(tables.frames.frames()).unwrap_or(0);
+    let number = kept_from(tables, machine, some);
     let Some(frame) = tables.frames.frame(number) else {
         return Made::Nothing;
     };
@@ -299,10 +312,19 @@ pub fn visit<N: BootName>(
     made
 }
 
+// The group of the processor's stock, or any group.
+fn paying_group<N: BootName>(cpu: &Cpu<N>, word: u32) -> GroupId {
+    let own = cpu.last_stock().group();
+    match own.and_then(GroupId::of) {
+        Some(group) if word & 64 == 0 => group,
+        _ => some_group(word),
+    }
+}
+
 /// One call of the processor alone: a frame is paid for, or a fresh one given back.
 pub fn fast<N: BootName>(tables: &Tables<N>, cpu: &mut Cpu<N>, turn: &Turn) -> Made {
-    if turn.word & 48 != 0 {
-        let group = some_group(turn.word);
+    if turn.word & 16 != 0 {
+        let group = paying_group(cpu, turn.word);
         let answer = cpu.alloc_fast(tables, group.number());
         return Made::Paid { group, answer };
     }

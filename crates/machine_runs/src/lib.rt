@@ -3,12 +3,24 @@
 #![tactic(auto)]
 
 #[cfg(test)]
+mod alike;
+#[cfg(test)]
+mod answers;
+#[cfg(test)]
 mod beside;
 #[cfg(test)]
 mod calls;
+#[cfg(test)]
+mod follower;
+#[cfg(test)]
+mod large;
 #[cfg(test)]
 mod made;
 #[cfg(test)]
 mod parts;
 #[cfg(test)]
+mod plain;
+#[cfg(test)]
 mod runs;
+#[cfg(test)]
+mod tally;

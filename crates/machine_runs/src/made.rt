@@ -49,8 +49,10 @@ pub enum Made {
         group: GroupId,
         pages: u64,
     },
-    /// The fresh frames were settled.
-    Settled,
+    /// So many fresh frames were settled.
+    Settled {
+        frames: u32,
+    },
     /// A block of this order was taken for the group; or the limit of group `over` has no room for it; or none is there.
     TookBlock {
         group: GroupId,

@@ -6,9 +6,12 @@ ghost use Rattle.stock_word.specs.Stock.{first_machine};
 ghost use Rattle.cpu_part.specs.Cpus.{IsIdle};
 ghost use Rattle.machine_runs.specs.Visiting.{AllShut};
 
-use crate::beside::{begin, end, follow, groups_agree, lists_agree, places_agree};
 use crate::calls::{Turn, fast, visit};
+use crate::follower::Follower;
+use crate::made::Made;
 use crate::parts::{Parts, make_parts};
+use crate::plain::Plain;
+use crate::tally::Tally;
 use cpu_part::{BootName, Cpu, Tables};
 use frame_word::FrameSeat;
 use mem_core::zone::Core;
@@ -21,36 +24,28 @@ use std::process::Abort;
 use std::test::Fail;
 use stock_word::StockSeat;
 
-// What a turn of the processor is made of.
-fn turn_of(core: &Core, cpu: u32, word: u32) -> Turn {
-    Turn {
-        word,
-        fresh: core.fresh(cpu).first().copied().unwrap_or(0),
-    }
-}
-
-// One call of the processor, and its steps in the core.
+// One call of the processor, which what runs beside follows.
 fn play<N: BootName>(
     rt: &impl Abort,
     tables: &Tables<N>,
     machine: &mut Machine<N>,
     cpu: &mut Cpu<N>,
-    core: &mut Core,
+    beside: &mut Follower,
     word: u32,
-)
+) -> Made
     requires { AllShut machine.old }
     ensures { AllShut machine.new }
 {
     let number = cpu.number();
-    if word >> 30 == 0 {
-        let turn = turn_of(core, number, word);
-        let made = fast(tables, cpu, &turn);
-        follow(rt, core, number, &made);
+    if word >> 31 == 0 {
+        let fresh = beside.fresh(rt, number);
+        let made = fast(tables, cpu, &Turn { word, fresh });
+        beside.follow_fast(rt, number, &made);
+        made
     } else {
-        begin(rt, core, number);
         let made = visit(tables, machine, cpu, word);
-        follow(rt, core, number, &made);
-        end(rt, core, number);
+        beside.follow_visit(rt, number, &made);
+        made
     }
 }
 
@@ -60,15 +55,15 @@ fn finish<N: BootName>(
     tables: &Tables<N>,
     machine: &mut Machine<N>,
     cpu: &mut Cpu<N>,
-    core: &mut Core,
+    beside: &mut Follower,
 )
     requires { AllShut machine.old }
     ensures shut { AllShut machine.new }
     ensures idle { IsIdle cpu.new }
 {
-    play(rt, tables, machine, cpu, core, 0x8000_000b);
+    play(rt, tables, machine, cpu, beside, 0x8000_000b);
     for _ in 0..32 {
-        play(rt, tables, machine, cpu, core, 0x8000_0802);
+        play(rt, tables, machine, cpu, beside, 0x8000_0c02);
     }
     assert!(rt; cpu.is_idle());
 }
@@ -89,41 +84,50 @@ fn new_machine<N: BootName>(
     Machine::<N>::new(alloc, tables, zone, stock).expect(rt, "memory")
 }
 
-// So many random calls of four processors, compared with the core at every twentieth.
+// So many random calls of four processors, compared with what runs beside at every twentieth. It tells how often each kind of
+// call did something.
 fn drive<N: BootName>(
     rt: &impl Abort,
     tables: &Tables<N>,
     machine: &mut Machine<N>,
     cpus: (&mut Cpu<N>, &mut Cpu<N>, &mut Cpu<N>, &mut Cpu<N>),
-    core: &mut Core,
+    beside: &mut Follower,
     calls: u32,
-)
+) -> Tally
     requires { AllShut machine.old }
     ensures { AllShut machine.new }
 {
     let (first, second, third, fourth) = cpus;
     let mut random = Pcg32::seed_from_u64(2_026);
+    let mut tally = Tally::new();
     for call in 0..calls {
         let word = random.next_u32();
-        match (word >> 24) % 4 {
-            0 => play(rt, tables, machine, first, core, word),
-            1 => play(rt, tables, machine, second, core, word),
-            2 => play(rt, tables, machine, third, core, word),
-            _ => play(rt, tables, machine, fourth, core, word),
-        }
+        let made = match (word >> 24) % 4 {
+            0 => play(rt, tables, machine, first, beside, word),
+            1 => play(rt, tables, machine, second, beside, word),
+            2 => play(rt, tables, machine, third, beside, word),
+            _ => play(rt, tables, machine, fourth, beside, word),
+        };
+        tally.note(&made);
         if call % 20 == 19 {
-            places_agree(rt, tables, machine, core);
-            groups_agree(rt, machine, core);
-            lists_agree(rt, tables, first, core);
-            lists_agree(rt, tables, second, core);
-            lists_agree(rt, tables, third, core);
-            lists_agree(rt, tables, fourth, core);
+            beside.compare(rt, tables, machine);
+            beside.compare_lists(rt, tables, first);
+            beside.compare_lists(rt, tables, second);
+            beside.compare_lists(rt, tables, third);
+            beside.compare_lists(rt, tables, fourth);
         }
     }
+    tally
 }
 
-// A boot of 64 frames runs beside a core, and ends with nothing on any list.
-fn runs_beside_a_core<N: BootName>(rt: &impl Abort, alloc: Global, parts: Parts<64>, calls: u32)
+// A boot runs beside a core or a recount, and ends with nothing on any list.
+fn run<const F: u32, N: BootName>(
+    rt: &impl Abort,
+    alloc: Global,
+    parts: Parts<F>,
+    beside: &mut Follower,
+    calls: u32,
+) -> Tally
     requires { (parts.frames ≡ N.frames) × (parts.stocks ≡ N.stocks) }
 {
     let Parts {
@@ -142,25 +146,63 @@ fn runs_beside_a_core<N: BootName>(rt: &impl Abort, alloc: Global, parts: Parts<
     let mut third = Cpu::<N>::new(alloc, third.frames, third.stock).expect(rt, "memory");
     let mut fourth = Cpu::<N>::new(alloc, fourth.frames, fourth.stock).expect(rt, "memory");
     let mut machine = new_machine(rt, alloc, &tables, zone, machine);
-    let mut core = Core::new(alloc, 64, 4).expect(rt, "memory");
     let cpus = (&mut first, &mut second, &mut third, &mut fourth);
-    drive(rt, &tables, &mut machine, cpus, &mut core, calls);
-    finish(rt, &tables, &mut machine, &mut first, &mut core);
-    finish(rt, &tables, &mut machine, &mut second, &mut core);
-    finish(rt, &tables, &mut machine, &mut third, &mut core);
-    finish(rt, &tables, &mut machine, &mut fourth, &mut core);
-    places_agree(rt, &tables, &machine, &core);
+    let tally = drive(rt, &tables, &mut machine, cpus, beside, calls);
+    finish(rt, &tables, &mut machine, &mut first, beside);
+    finish(rt, &tables, &mut machine, &mut second, beside);
+    finish(rt, &tables, &mut machine, &mut third, beside);
+    finish(rt, &tables, &mut machine, &mut fourth, beside);
+    beside.compare(rt, &tables, &machine);
     let _ = first.into_seats();
     let _ = second.into_seats();
     let _ = third.into_seats();
     let _ = fourth.into_seats();
     let _ = tables.into_tables();
+    tally
+}
+
+// A boot of 64 frames runs.
+fn runs_small<N: BootName>(
+    rt: &impl Abort,
+    alloc: Global,
+    parts: Parts<64>,
+    beside: &mut Follower,
+    calls: u32,
+) -> Tally
+    requires { (parts.frames ≡ N.frames) × (parts.stocks ≡ N.stocks) }
+{
+    run::<64, N>(rt, alloc, parts, beside, calls)
+}
+
+// A boot of 2,048 frames runs.
+fn runs_large<N: BootName>(
+    rt: &impl Abort,
+    alloc: Global,
+    parts: Parts<2048>,
+    beside: &mut Follower,
+    calls: u32,
+) -> Tally
+    requires { (parts.frames ≡ N.frames) × (parts.stocks ≡ N.stocks) }
+{
+    run::<2048, N>(rt, alloc, parts, beside, calls)
 }
 
 // 1,000 random calls on 64 frames do what the steps of the core do.
 #[test]
 fn a_thousand_calls_are_steps_of_a_core(rt: HostRuntime) -> Result<(), Fail> {
     let parts = make_parts::<64>(&rt, rt.alloc())?;
-    runs_beside_a_core::<Brand>(&rt, rt.alloc(), parts, 1_000);
+    let mut beside = Follower::Steps(Core::new(rt.alloc(), 64, 4)?);
+    let tally = runs_small::<Brand>(&rt, rt.alloc(), parts, &mut beside, 1_000);
+    tally.holds(&rt, 3);
+    Ok(())
+}
+
+// 20,000 random calls on 2,048 frames do what a plain recount of their answers tells.
+#[test]
+fn twenty_thousand_calls_are_counted_again(rt: HostRuntime) -> Result<(), Fail> {
+    let parts = make_parts::<2048>(&rt, rt.alloc())?;
+    let mut beside = Follower::Recount(Plain::new(rt.alloc(), 2_048)?);
+    let tally = runs_large::<Brand>(&rt, rt.alloc(), parts, &mut beside, 20_000);
+    tally.holds(&rt, 20);
     Ok(())
 }
