@@ -52,6 +52,7 @@ MeetsRange bits order at end = (i : ℕ) × IsIn bits i × (i * 2 ^ order < end)
 
 -- ---- the list of an order: a ring of nodes, each a block's first frame, and a head that stands behind all frames
 
+-- the node of the head of the order's ring
 abbrev pub head_of : ℕ → ℕ → ℕ
 head_of frames order = frames + order
 
