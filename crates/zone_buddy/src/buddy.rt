@@ -33,8 +33,8 @@ impl Model for Buddy {
 }
 
 impl Buddy {
-    /// A zone of this many frames, all free. All room is reserved here: no other call takes
-    /// memory.
+    /// A zone of this many frames, all free. `AllocError` comes where memory is short or there are
+    /// more than 2^32 - 11 frames. All room is reserved here: no other call takes memory.
     pub fn new(alloc: Global, frames: u32) -> Result<Buddy, AllocError>
         ensures free { IfOk result (λ zone. zone.free ≡ replicate frames true) }
         ensures areas { IfOk result (λ zone. AreMaximalBlocks zone.free zone.blocks) }
