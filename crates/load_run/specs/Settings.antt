@@ -1,6 +1,6 @@
 -- The sizes that the command line may ask for.
 use Rattle.std.specs.Prelude.{◌≡◌, ◌≤◌}
-use Rattle.mem_core.specs.declared.config.Config.{Config}
+use Rattle.zone_sizes.specs.declared.config.Config.{Config}
 
 -- each size is in the range of its own option
 pub record HasSizesInRange (c : Config) : Type 0 where

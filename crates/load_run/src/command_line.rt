@@ -6,7 +6,7 @@ ghost use Rattle.load_run.specs.Settings.{HasSizesInRange};
 use crate::fault::LineFault;
 use clap::error::ErrorKind;
 use clap::{Arg, ArgMatches, Command, Error, value_parser};
-use mem_core::config::Config;
+use zone_sizes::config::Config;
 use std::alloc::{AllocError, Global};
 use std::convert::AsStr;
 use std::rt::Env;

@@ -10,7 +10,7 @@ ghost use Rattle.load_run.specs.Settings.{HasSizesInRange, IsSingle};
 use crate::command_line::options;
 use crate::fault::{LineFault, ProgramFault};
 use crate::replay::replay_lines;
-use mem_core::config::Config;
+use zone_sizes::config::Config;
 use script_lines::line::Line;
 use script_lines::script::{MOST_INPUT, parse_script};
 use std::alloc::{AllocError, Global};

@@ -2,10 +2,10 @@
 
 ghost use Rattle.std.specs.Prelude.{◌≡◌, ◌++◌, ℕ, IfOk, List};
 ghost use Rattle.std.specs.String.{string_bytes};
-ghost use Rattle.mem_core.specs.Config.{IsValidConfig};
+ghost use Rattle.zone_sizes.specs.Config.{IsValidConfig};
 ghost use Rattle.load_run.specs.Answers.{AreAnswers, Serves};
 
-use mem_core::config::Config;
+use zone_sizes::config::Config;
 use script_desk::desk::Desk;
 use script_desk::show::{write_blocks, write_show};
 use script_lines::line::{Command, Line};

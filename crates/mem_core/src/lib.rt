@@ -4,7 +4,6 @@
 
 pub mod account;
 mod accounts;
-pub mod config;
 mod free_areas;
 pub mod run;
 pub mod zone;

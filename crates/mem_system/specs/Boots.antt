@@ -3,8 +3,8 @@ use Rattle.std.specs.Prelude.{◌≡◌, ℕ, zero, suc, ◌+◌, ◌≤◌, Lis
 use Rattle.frame_word.specs.Seats.{KnownTable, KnownSeat, IsShut, first_zone_view, first_cpu_view, first_cpu_seats}
 use Rattle.stock_word.specs.Stock.{Words, Seated, first_machine, first_processor, first_seats}
 use Rattle.cpu_part.specs.Cpus.{KnownCpu, first_cpu}
-use Rattle.mem_core.specs.declared.config.Config.{Config}
-use Rattle.mem_core.specs.Config.{IsValidConfig}
+use Rattle.zone_sizes.specs.declared.config.Config.{Config}
+use Rattle.zone_sizes.specs.Config.{IsValidConfig}
 use Rattle.mem_machine.specs.Machines.{KnownMachine}
 
 -- A boot: its sizes and its two tables

@@ -7,7 +7,7 @@ use Rattle.group_charge.specs.Charges.{current_of, with_group_limit, with_group_
 use Rattle.control_files.specs.declared.file.File.TheVariants.{Max}
 use Rattle.control_files.specs.Limit.{ReadsAs}
 use Rattle.cpu_part.specs.Cpus.{KnownCpu}
-use Rattle.mem_core.specs.declared.config.Config.{Config}
+use Rattle.zone_sizes.specs.declared.config.Config.{Config}
 use Rattle.step_rules.specs.After.{Run}
 use Rattle.mem_machine.specs.Machines.{KnownMachine, Makes}
 use Rattle.mem_machine.specs.Local.{IsLocalRun, local_of}

@@ -2,7 +2,7 @@
 use Rattle.std.specs.Prelude.{◌≡◌, ◌≢◌, ℕ, ◌<◌, ◌≤◌, List, [], ◌++◌, length, take}
 use Rattle.group_tree.specs.declared.fault.Fault.TheVariants.{NotKept}
 use Rattle.cpu_part.specs.Cpus.{KnownCpu}
-use Rattle.mem_core.specs.declared.config.Config.{Config}
+use Rattle.zone_sizes.specs.declared.config.Config.{Config}
 use Rattle.step_rules.specs.After.{Run}
 use Rattle.mem_machine.specs.declared.releasing.Released.TheVariants as released
 use Rattle.mem_machine.specs.Machines.{KnownMachine}

@@ -10,7 +10,7 @@ ghost use Rattle.mem_system.specs.Boots.{first_cpus};
 use crate::locked::Locked;
 use cpu_part::{BootName, Cpu, Tables};
 use frame_word::{FrameSeat, FrameWords};
-use mem_core::config::Config;
+use zone_sizes::config::Config;
 use mem_machine::Machine;
 use std::alloc::{AllocError, Global};
 use std::marker::Model;

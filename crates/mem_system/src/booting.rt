@@ -1,13 +1,13 @@
 //! How a boot is made.
 
 ghost use Rattle.std.specs.Prelude.{◌≡◌, ◌↔◌, IfOk};
-ghost use Rattle.mem_core.specs.Config.{IsValidConfig};
+ghost use Rattle.zone_sizes.specs.Config.{IsValidConfig};
 ghost use Rattle.mem_system.specs.Boots.{IsSizedAs};
 ghost use Rattle.mem_system.specs.declared.booting.BootFault.TheVariants.{BadConfig, NoMemory};
 
 use crate::booted::Boot;
 use frame_word::FrameWords;
-use mem_core::config::Config;
+use zone_sizes::config::Config;
 use std::alloc::{AllocError, Global};
 use stock_word::StockWords;
 

@@ -2,7 +2,7 @@
 
 use cpu_part::BootName;
 use frame_word::FrameSeat;
-use mem_core::config::Config;
+use zone_sizes::config::Config;
 use mem_machine::Machine;
 use std::marker::Model;
 use stock_word::StockSeat;

@@ -1,7 +1,7 @@
 //! Kept units that are released.
 
 ghost use Rattle.std.specs.Prelude.{◌≡◌, ◌↔◌, ◌<◌, ◌≤◌, IsTrue, [], length};
-ghost use Rattle.mem_core.specs.Config.{IsValidConfig};
+ghost use Rattle.zone_sizes.specs.Config.{IsValidConfig};
 ghost use Rattle.step_rules.specs.declared.phase.ChargedUnit.{ChargedUnit};
 ghost use Rattle.mem_machine.specs.declared.spot.Spot.TheVariants.{Free, Head};
 ghost use Rattle.mem_machine.specs.Spots.{spot_at};
@@ -14,7 +14,7 @@ use crate::kept::find_unit;
 use cpu_part::{BootName, Cpu, Tables};
 use frame_word::Frame;
 use group_tree::fault::Fault;
-use mem_core::config::Config;
+use zone_sizes::config::Config;
 use mem_machine::{Machine, Released};
 
 // Whether the unit that the frame heads is a single frame.

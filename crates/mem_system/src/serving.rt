@@ -2,7 +2,7 @@
 
 ghost use Rattle.std.specs.Prelude.{◌≡◌, ◌+◌, ◌≤◌, [], length};
 ghost use Rattle.frame_word.specs.Seats.{NothingPasses};
-ghost use Rattle.mem_core.specs.Config.{IsValidConfig};
+ghost use Rattle.zone_sizes.specs.Config.{IsValidConfig};
 ghost use Rattle.mem_machine.specs.Machines.{Visits};
 ghost use Rattle.mem_system.specs.Boots.{IsQuiet};
 ghost use Rattle.mem_system.specs.Commands.{BySteps, IsOfZone, Obeys, Serves};
@@ -15,7 +15,7 @@ use crate::locked::Locked;
 use crate::owners::tell_place;
 use crate::released::release_frame;
 use cpu_part::{BootName, Cpu, Tables};
-use mem_core::config::Config;
+use zone_sizes::config::Config;
 use mem_machine::Machine;
 
 // Obeys the command inside the visit.

@@ -8,7 +8,7 @@ use crate::system::System;
 use cpu_part::{BootName, Cpu};
 use group_tree::fault::Fault;
 use group_tree::group::GroupId;
-use mem_core::config::Config;
+use zone_sizes::config::Config;
 use std::alloc::Global;
 use std::marker::Brand;
 use std::process::Abort;

@@ -1,6 +1,6 @@
 use crate::command_line::options;
 use crate::fault::LineFault;
-use mem_core::config::Config;
+use zone_sizes::config::Config;
 use std::test::Fail;
 
 #[test]

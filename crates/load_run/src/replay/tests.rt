@@ -1,7 +1,7 @@
 mod as_core;
 
 use crate::replay::replay_lines;
-use mem_core::config::Config;
+use zone_sizes::config::Config;
 use mem_core::zone::Core;
 use script_lines::script::parse_script;
 use std::alloc::{AllocError, Global};

@@ -18,7 +18,7 @@ pub struct Config {
 }
 
 impl Config {
-    ghost use Rattle.mem_core.specs.Config.{IsValidConfig};
+    ghost use Rattle.zone_sizes.specs.Config.{IsValidConfig};
 
     /// Whether every value is in its range.
     pub fn is_valid(&self) -> bool

@@ -1,6 +1,6 @@
 -- The sizes that a zone may be booted with.
 use Rattle.std.specs.Prelude.{◌≤◌}
-use Rattle.mem_core.specs.declared.config.Config.{Config}
+use Rattle.zone_sizes.specs.declared.config.Config.{Config}
 
 -- every size is in its range, and a processor's list holds a batch at least
 pub record IsValidConfig (c : Config) : Type 0 where
