@@ -47,4 +47,5 @@ returns-clause-others c =
 
 pub returns-clause-used : goal.returns-clause-used
 returns-clause-used c =
-    rw (c.put.ensures, c.set_newer.ensures, c.link-is_dirty.ensures) (push_use c.args.links.now c.args.home c.args.queue.now c.args.unit (link_at c.args.links.now c.args.unit).is_dirty)
+    rw (c.put.ensures, c.set_newer.ensures, c.link-is_dirty.ensures)
+    (push_use c.args.links.now c.args.home c.args.queue.now c.args.unit (link_at c.args.links.now c.args.unit).is_dirty)
