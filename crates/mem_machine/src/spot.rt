@@ -32,10 +32,10 @@ pub enum Place {
 
 impl Spot {
     /// Where a frame with this record is.
-    pub fn place(self) -> Place
-        ensures { result ≡ place_of self }
+    pub fn place(&self) -> Place
+        ensures { result ≡ place_of self.now }
     {
-        match self {
+        match *self {
             Spot::Free => Place::Free,
             Spot::Lent(cpu) => Place::Lent(cpu),
             Spot::Head(unit) => Place::Charged(unit.group),
