@@ -32,3 +32,4 @@ pub mod Fresh
 pub mod Back
 pub mod Settled
 pub mod Keepers
+pub mod Fronts

@@ -11,3 +11,4 @@ pub mod Blocks
 pub mod Interleaving
 pub mod Releasing
 pub mod Settling
+pub mod Paying
