@@ -1,3 +1,4 @@
+pub mod Balances
 pub mod Reaching
 pub mod Holds
 pub mod First

@@ -1,0 +1,61 @@
+//! The end of the machine: what its frames are then, and its two seats.
+
+ghost use Rattle.std.specs.Prelude.{◌≡◌};
+ghost use Rattle.mem_machine.specs.Machines.{IsConsistent};
+ghost use Rattle.mem_machine.specs.Ending.{frames_free, frames_in_groups};
+
+use crate::machine::Machine;
+use crate::spot::Spot;
+use cpu_part::BootName;
+use frame_word::FrameSeat;
+use stock_word::StockSeat;
+
+/// How many frames are free, and how many are charged to a group.
+#[derive(Clone, Copy, Debug, PartialEq, Eq)]
+pub struct Places {
+    /// In the zone's free areas.
+    pub free: u32,
+    /// Charged to a group.
+    pub charged: u32,
+}
+
+impl<N: BootName> Machine<N> {
+    /// Counts the frames that are free and those that are charged. The others are lent to a processor.
+    pub fn count_places(&self) -> Places
+        ensures free { result.free ≡ frames_free self.now.spots }
+        ensures charged { result.charged ≡ frames_in_groups self.now.spots }
+    {
+        let mut places = Places {
+            free: 0,
+            charged: 0,
+        };
+        for spot in &self.spots {
+            match spot {
+                Spot::Free => places.free += 1,
+                Spot::Lent(_) => {}
+                Spot::Head(_) | Spot::Tail(_) => places.charged += 1,
+            }
+        }
+        places
+    }
+
+    /// Takes the machine apart, for the end of the two tables: the zone's seats at the frames' table and at the stocks'.
+    pub fn into_seats(self) -> (FrameSeat, StockSeat)
+        ensures seats { result ≡ (self.seat, self.stock) }
+        ensures consistent { IsConsistent N.frames N.stocks self }
+    {
+        let Machine {
+            zone: _,
+            spots: _,
+            charges: _,
+            links: _,
+            lists: _,
+            seat,
+            stock,
+            killed: _,
+            counts: _,
+            of: _,
+        } = self;
+        (seat, stock)
+    }
+}
