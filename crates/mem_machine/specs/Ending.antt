@@ -1,5 +1,5 @@
 -- What the frames are where the machine ends.
-use Rattle.std.specs.Prelude.{◌≡◌, ◌≢◌, ℕ, List, is_some, sum_by}
+use Rattle.std.specs.Prelude.{◌≢◌, ℕ, List, is_some, sum_by}
 use Rattle.step_rules.specs.State.{one_if}
 use Rattle.mem_machine.specs.declared.spot.Spot.{Spot}
 use Rattle.mem_machine.specs.declared.spot.Spot.TheVariants.{Lent}
