@@ -1,6 +1,6 @@
 //! The system's side: a turn of a processor, followed by the account.
 
-ghost use Rattle.std.specs.Prelude.{◌≡◌, IsTrue};
+ghost use Rattle.std.specs.Prelude.{◌<◌, IsTrue};
 ghost use Rattle.mem_system.specs.Commands.{IsOfZone};
 
 use crate::account::Account;
