@@ -9,11 +9,15 @@ mod alike;
 #[cfg(test)]
 mod charging;
 #[cfg(test)]
+mod ends;
+#[cfg(test)]
 mod groups;
 #[cfg(test)]
 mod plays;
 #[cfg(test)]
 mod quick;
+#[cfg(test)]
+mod rows;
 #[cfg(test)]
 mod runs;
 #[cfg(test)]

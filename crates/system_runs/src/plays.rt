@@ -10,7 +10,7 @@ use crate::visits::follow;
 use cpu_part::{BootName, Cpu, Tables};
 use frame_word::Frame;
 use group_tree::group::GroupId;
-use mem_system::{Cmd, System};
+use mem_system::{Cmd, Reply, System};
 use std::alloc::Global;
 use std::process::Abort;
 use std::sync::Wait;
@@ -29,7 +29,7 @@ fn is_of_zone<N: BootName>(tables: &Tables<N>, cmd: &Cmd<'_>) -> bool
     }
 }
 
-/// A command under the lock.
+/// A command under the lock, which the account follows, and its answer.
 pub fn visit<N: BootName, R: Wait + Abort>(
     rt: &R,
     alloc: Global,
@@ -37,10 +37,11 @@ pub fn visit<N: BootName, R: Wait + Abort>(
     cpu: &mut Cpu<N>,
     account: &mut Account,
     cmd: &Cmd<'_>,
-) {
+) -> Reply {
     assert!(rt; is_of_zone(system.tables(), cmd));
     let reply = system.visit(rt, cpu, cmd);
     follow(rt, alloc, account, cpu.number(), cmd, &reply);
+    reply
 }
 
 // A frame is taken on the fast path.
@@ -113,7 +114,9 @@ pub fn play<N: BootName, R: Wait + Abort>(
 ) {
     let tables = system.tables();
     match turn {
-        Turn::Visit(cmd) => visit(rt, alloc, system, cpu, account, cmd),
+        Turn::Visit(cmd) => {
+            visit(rt, alloc, system, cpu, account, cmd);
+        }
         Turn::Fast(group) => fast(rt, tables, cpu, account, *group),
         Turn::Get(number) => {
             let frame = tables.frames.frame(*number).expect(rt, "a frame");

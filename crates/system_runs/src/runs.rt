@@ -4,6 +4,7 @@ ghost use Rattle.std.specs.Prelude.{◌≡◌};
 
 use crate::account::Account;
 use crate::alike::{groups_alike, lists_alike, places_alike, units_alike};
+use crate::ends::spend_all;
 use crate::plays::play;
 use crate::turns::{Words, draw};
 use cpu_part::{BootName, Cpu};
@@ -16,12 +17,6 @@ use std::process::Abort;
 use std::sync::Wait;
 use std::test::Fail;
 use zone_sizes::config::Config;
-
-// The part of a processor that has nothing left.
-fn spend<N: BootName>(rt: &impl Abort, cpu: Cpu<N>) {
-    assert!(rt; cpu.is_idle());
-    let _ = cpu.into_seats();
-}
 
 // Everything is alike, as the last processor sees it.
 fn compare<N: BootName, R: Wait + Abort>(
@@ -75,10 +70,7 @@ fn lives<N: BootName, R: Wait + Abort>(
 {
     let (system, mut cpus) = boot.start::<N>(alloc).expect(rt, "memory");
     drive(rt, alloc, &system, cpus.as_mut_slice(), account, turns);
-    while let Some(cpu) = cpus.pop() {
-        spend(rt, cpu);
-    }
-    cpus.destroy_empty();
+    spend_all(rt, cpus);
 }
 
 // 1,000 random turns on 64 frames answer as a core that makes their steps, and leave the same.
