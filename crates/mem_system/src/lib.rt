@@ -2,6 +2,7 @@
 //! processor makes under that lock.
 #![tactic(auto)]
 
+mod audit;
 mod booted;
 mod booting;
 mod command;
@@ -11,11 +12,13 @@ mod kept;
 mod locked;
 mod owners;
 mod released;
+mod resting;
 mod serving;
 mod system;
 #[cfg(test)]
 mod tests;
 
+pub use audit::Audit;
 pub use booted::Boot;
 pub use booting::{BootFault, boot};
 pub use command::{Cmd, Reply};
