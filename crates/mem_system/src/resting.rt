@@ -43,7 +43,11 @@ fn empty_cpu<N: BootName>(machine: &mut Machine<N>, tables: &Tables<N>, cpu: &mu
 }
 
 // Settles the processors, one after the other.
-pub(crate) fn rest_all<N: BootName>(machine: &mut Machine<N>, tables: &Tables<N>, cpus: &mut [Cpu<N>])
+pub(crate) fn rest_all<N: BootName>(
+    machine: &mut Machine<N>,
+    tables: &Tables<N>,
+    cpus: &mut [Cpu<N>],
+)
     requires shut { AllShut machine.old }
     requires no_pin { pins_of cpus.old ≡ 0 }
     ensures rests { InTurn N.frames Rests machine.old cpus.old machine.new cpus.new }
@@ -56,7 +60,11 @@ pub(crate) fn rest_all<N: BootName>(machine: &mut Machine<N>, tables: &Tables<N>
 }
 
 // Gives the lists of the processors, which are settled, back to the zone and drains their stocks, one after the other.
-pub(crate) fn empty_all<N: BootName>(machine: &mut Machine<N>, tables: &Tables<N>, cpus: &mut [Cpu<N>])
+pub(crate) fn empty_all<N: BootName>(
+    machine: &mut Machine<N>,
+    tables: &Tables<N>,
+    cpus: &mut [Cpu<N>],
+)
     requires shut { AllShut machine.old }
     requires rested { All IsRested cpus.old }
     ensures empties { InTurn N.frames Empties machine.old cpus.old machine.new cpus.new }
