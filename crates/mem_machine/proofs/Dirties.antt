@@ -63,6 +63,7 @@ module _ (t : KnownTable) (w : Words) (m : KnownMachine) (ok : IsConsistent t w 
       lists = all_stand;
       noted = ok.noted;
       charged = ok.charged;
+      balances = ok.balances;
     }
 
     pub dirty_does : Dirties m f d (record m { links = links })

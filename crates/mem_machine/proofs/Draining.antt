@@ -146,6 +146,7 @@ stocks_consistent t w m l stock ok table machine noted charged = record {
   lists = ok.lists;
   noted = noted;
   charged = charged;
+  balances = ok.balances;
 }
 
 module _ (t : KnownTable) (w : Words) (m : KnownMachine) (ok : IsConsistent t w m) (q k : ℕ) (inside : q ≤ t.cpus) (enough : k

@@ -1,3 +1,5 @@
+pub mod Balances
+pub mod NoneLent
 pub mod Reaching
 pub mod Holds
 pub mod First

@@ -55,6 +55,7 @@ module _ (t : KnownTable) (w : Words) (m : KnownMachine) (ok : IsConsistent t w 
     lists = all_stand;
     noted = ok.noted;
     charged = ok.charged;
+    balances = ok.balances;
   }
 
   pub touch_does : TouchesUnit m f touched (record m { links = links; lists = slice_set m.lists h.owner new })

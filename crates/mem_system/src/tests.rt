@@ -8,12 +8,12 @@ use crate::system::System;
 use cpu_part::{BootName, Cpu};
 use group_tree::fault::Fault;
 use group_tree::group::GroupId;
-use zone_sizes::config::Config;
 use std::alloc::Global;
 use std::marker::Brand;
 use std::process::Abort;
 use std::sync::Wait;
 use std::test::Fail;
+use zone_sizes::config::Config;
 
 // The file of `/a` reads as this text.
 fn reads<N: BootName, R: Wait + Abort>(
