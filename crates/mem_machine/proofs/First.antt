@@ -133,6 +133,7 @@ module _ (t : KnownTable) (w : Words) (m : KnownMachine) (first : IsFirst t w m)
     units = units_first;
     lists = stand;
     noted = λ p. ap (λ (s : Seated). (account_of s.view p).noted) first.stock;
+    bounded = λ p. let none = ap (λ (s : Seated). (account_of s.view p).book) first.stock in omega (arith, none);
     charged = charged_first;
     balances = balances_first;
   }

@@ -333,6 +333,7 @@ module _ (t : KnownTable) (w : Words) (m : KnownMachine) (ok : IsConsistent t w 
     units = units_freed m.spots spots f unit heads ok.units frees;
     lists = stand;
     noted = ok.noted;
+    bounded = ok.bounded;
     charged = λ g.
         let a = ok.charged g in
         let b = charges_freed m.spots spots f unit heads ok.units frees g in

@@ -43,7 +43,7 @@ use Rattle.mem_machine.proofs.KeptUnits.{IsAdded, unit_kept, unit_listed}
 use Rattle.mem_machine.proofs.Freeing.{is_out, is_in, free_block_given}
 use Rattle.mem_machine.proofs.Takes.{may_give}
 use Rattle.mem_machine.proofs.Draining.{booked_within}
-use Rattle.mem_machine.proofs.Absorbs.{none_noted, books_fall}
+use Rattle.mem_machine.proofs.Absorbs.{none_noted, still_bounded, books_fall}
 use Rattle.mem_machine.proofs.HandOvers.{handed_visits, IsFreshFront, fresh_front, collect_run, keep_run, drop_run}
 use Rattle.mem_machine.proofs.Shown.{is_visited, fresh_unit, fresh_phase, fresh_handed, fresh_else, phases_set, phases_freed, parts_absorbed, references_used}
 use Rattle.mem_machine.proofs.Shown.{references_same}
@@ -160,6 +160,7 @@ module _ (t : KnownTable) (w : Words) (m : KnownMachine) (c : KnownCpu) (tied : 
           table = seats.table;
           stocks = seats.stocks;
           noted = none_noted m.stock.view c.number ok.noted;
+          bounded = still_bounded m.stock.view c.number ok.bounded;
           charged = λ h. let a = ok.charged h in let b = books h in omega (arith, a, b);
         }) ok.balances
 
@@ -234,6 +235,7 @@ module _ (t : KnownTable) (w : Words) (m : KnownMachine) (c : KnownCpu) (tied : 
       units = units_stay m.spots f Free within (ap spot_group is_lent) refl ok.units;
       lists = ok.lists;
       noted = none_noted m.stock.view c.number ok.noted;
+      bounded = still_bounded m.stock.view c.number ok.bounded;
       charged = λ h.
           let a = ok.charged h in
           let b = books h in

@@ -176,6 +176,7 @@ pub record JoinsCharges (t : KnownTable) (w : Words) (m : KnownMachine) (g pages
   pub table : stock.table ≡ w.table
   pub stocks : IsMachine stock.view
   pub noted : (p : ℕ) → (account_of stock.view p).noted ≡ 0
+  pub bounded : (p : ℕ) → (account_of stock.view p).book < 65536
   pub charged : (h : ℕ) → pages_of ledger h ≡ frames_charged m.spots h + cond (h == g) pages 0 + pages_booked t stock h
 
 -- The frames of a block that were charged to no group (all but the first were free) are a unit of the group now, and its head
@@ -218,6 +219,7 @@ unit_kept t w m ok g fits b block spots placed first rest any lru read links new
       units = units_placed m.spots spots g b placed block uncharged ok.units;
       lists = all_stand t w m ok g fits any lru read b.at links new added others all;
       noted = joins.noted;
+      bounded = joins.bounded;
       charged = λ h. let a = joins.charged h in let c = charges_rise m.spots spots g b placed block uncharged h in omega (arith, a, c);
       balances = balances;
     }

@@ -33,3 +33,5 @@ pub mod Shown
 pub mod Fresh
 pub mod Back
 pub mod Settled
+pub mod Keepers
+pub mod Fronts

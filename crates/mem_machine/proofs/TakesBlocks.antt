@@ -218,6 +218,7 @@ taken_here t w m c ok g fits b may room rise before free blocks was front takes 
       table = ok.seats.table;
       stocks = ok.seats.stocks;
       noted = ok.noted;
+      bounded = ok.bounded;
       charged = λ h. let a = rise h in let old = ok.charged h in omega (arith, a, old);
     } in
     record {

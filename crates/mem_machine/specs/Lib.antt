@@ -12,3 +12,4 @@ pub mod Ending
 pub mod Interleaving
 pub mod Releasing
 pub mod Settling
+pub mod Paying

@@ -112,8 +112,8 @@ pub record AreZoneSeats (t : KnownTable) (w : Words) (seat : KnownSeat) (stock :
 
 -- The machine is consistent. Its free areas are the maximal blocks of the free frames. Each frame is what its record says,
 -- to the zone's seat and to the lists. The charged frames are units of their groups. The lists stand. Nothing that was
--- reported is unabsorbed. What is charged to a group itself are the frames charged to it and the books of its stocks. Each unit
--- that came back was put last, frozen or dropped
+-- reported is unabsorbed. Each book fits a stock's word. What is charged to a group itself are the frames charged to it and the
+-- books of its stocks. Each unit that came back was put last, frozen or dropped
 pub record IsConsistent (t : KnownTable) (w : Words) (m : KnownMachine) : Type 0 where
   pub sizes : AreSized t w m
   pub seats : AreZoneSeats t w m.seat m.stock
@@ -122,6 +122,7 @@ pub record IsConsistent (t : KnownTable) (w : Words) (m : KnownMachine) : Type 0
   pub units : AreUnits m.spots
   pub lists : AllStand m.links m.lists
   pub noted : (p : ℕ) → (account_of m.stock.view p).noted ≡ 0
+  pub bounded : (p : ℕ) → (account_of m.stock.view p).book < 65536
   pub charged : (g : ℕ) → pages_of m.ledger g ≡ frames_charged m.spots g + pages_booked t m.stock g
   pub balances : BalancesCounts m.counts
 

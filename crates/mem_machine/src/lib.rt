@@ -10,6 +10,7 @@ pub mod laws;
 mod lending;
 mod machine;
 mod marks;
+mod paying;
 mod readers;
 mod releasing;
 mod settling;

@@ -6,3 +6,4 @@ pub mod Kept
 pub mod Leaves
 pub mod Owners
 pub mod Releases
+pub mod Shown

@@ -15,6 +15,7 @@ mod owners;
 mod released;
 mod resting;
 mod serving;
+mod shown;
 mod system;
 #[cfg(test)]
 mod tests;
@@ -26,4 +27,5 @@ pub use command::{Cmd, Reply};
 pub use ending::{Pinned, end};
 pub use locked::Locked;
 pub use serving::serve;
+pub use shown::{blocks, show};
 pub use system::System;
