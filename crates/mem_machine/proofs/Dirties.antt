@@ -64,6 +64,7 @@ module _ (t : KnownTable) (w : Words) (m : KnownMachine) (ok : IsConsistent t w 
       noted = ok.noted;
       bounded = ok.bounded;
       charged = ok.charged;
+      balances = ok.balances;
     }
 
     pub dirty_does : Dirties m f d (record m { links = links })

@@ -147,6 +147,7 @@ stocks_consistent t w m l stock ok table machine noted bounded charged = record 
   noted = noted;
   bounded = bounded;
   charged = charged;
+  balances = ok.balances;
 }
 
 module _ (t : KnownTable) (w : Words) (m : KnownMachine) (ok : IsConsistent t w m) (q k : ℕ) (inside : q ≤ t.cpus) (enough : k

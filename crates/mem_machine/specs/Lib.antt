@@ -8,6 +8,7 @@ pub mod Stocks
 pub mod Marks
 pub mod Freeing
 pub mod Blocks
+pub mod Ending
 pub mod Interleaving
 pub mod Releasing
 pub mod Settling

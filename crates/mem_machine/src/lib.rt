@@ -3,6 +3,7 @@
 #![tactic(auto)]
 
 mod blocks;
+mod ending;
 mod freed;
 mod groups;
 pub mod laws;
@@ -21,6 +22,7 @@ mod tests;
 mod visits;
 
 pub use blocks::TakeFault;
+pub use ending::Places;
 pub use machine::{Counts, Machine};
 pub use releasing::Released;
 pub use spot::{Place, Spot};

@@ -1,7 +1,9 @@
 pub mod Boots
 pub mod Commands
+pub mod Ends
 pub mod Files
 pub mod Kept
 pub mod Leaves
 pub mod Owners
 pub mod Releases
+pub mod Shown
