@@ -1,0 +1,4 @@
+pub mod Lowering
+pub mod Making
+pub mod Filling
+pub mod Taking
