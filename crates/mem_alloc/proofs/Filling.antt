@@ -69,7 +69,7 @@ fills_keep g k m n c d f = record {
   back = ap (λ (e : KnownCpu). e.back) f.cpu;
 }
 
-refused_lowers : (t : KnownTable) (g pages over : ℕ) (m n : KnownMachine) (steps : Run) → IsRefusedAt t g pages over m steps n → Lowers m n
+pub refused_lowers : (t : KnownTable) (g pages over : ℕ) (m n : KnownMachine) (steps : Run) → IsRefusedAt t g pages over m steps n → Lowers m n
 refused_lowers t g pages over m n steps r =
     lowers_both m (with_max_noted_at m over) n (note_lowers m over) (all_lower over t.cpus (with_max_noted_at m over) n r.drains r.all)
 

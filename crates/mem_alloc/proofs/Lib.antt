@@ -2,3 +2,4 @@ pub mod Lowering
 pub mod Making
 pub mod Filling
 pub mod Taking
+pub mod CallerLemmas

@@ -12,18 +12,13 @@ use Rattle.mem_machine.specs.Paying.{PaysForFront}
 use Rattle.mem_machine.specs.Steps.{drain_steps, refill_steps, take_front_steps}
 use Rattle.mem_alloc.specs.declared.faults.AllocFault.{AllocFault}
 use Rattle.mem_alloc.specs.declared.faults.AllocFault.TheVariants.{Over, NoFrames, Killed}
+use Rattle.mem_alloc.specs.Stepping.{Stays}
 use Rattle.mem_alloc.specs.Charging.{PaysForFrame, RefusesToPay}
-
--- nothing changed, without a step
-pub record StaysSo (m : KnownMachine) (c : KnownCpu) (steps : Run) (n : KnownMachine) (d : KnownCpu) : Type 0 where
-  pub machine : n ≡ m
-  pub cpu : d ≡ c
-  pub steps_are : steps ≡ []
 
 -- a frame stands on the processor's list, and nothing changed
 pub record HasFront (m : KnownMachine) (c : KnownCpu) (steps : Run) (n : KnownMachine) (d : KnownCpu) : Type 0 where
   pub some : 1 ≤ length c.list
-  pub stays : StaysSo m c steps n d
+  pub stays : Stays m c steps n d
 
 -- the list is empty: a batch of free frames comes to it, or all that are free where they are fewer
 pub record RefillsList (sizes : Config) (m : KnownMachine) (c : KnownCpu) (steps : Run) (n : KnownMachine) (d : KnownCpu) : Type 0 where
@@ -83,7 +78,7 @@ pub record FindsNoFrame (t : KnownTable) (sizes : Config) (g : ℕ) (m : KnownMa
 -- the group is killed, and nothing changed
 pub record IsDead (g : ℕ) (m : KnownMachine) (c : KnownCpu) (steps : Run) (n : KnownMachine) (d : KnownCpu) : Type 0 where
   pub killed : is_killed m.killed g ≡ true
-  pub stays : StaysSo m c steps n d
+  pub stays : Stays m c steps n d
 
 -- Allocates one frame for the group, or tells why not
 abbrev pub AllocatesFrame : KnownTable → Config → ℕ → Result ℕ AllocFault → KnownMachine → KnownCpu → Run → KnownMachine → KnownCpu → Type 0
