@@ -176,7 +176,7 @@ fn boots_and_ends<R: Abort>(rt: &R, alloc: Global) -> Option<Audit> {
     starts_and_ends::<Brand, _>(rt, alloc, boot)
 }
 
-// The script `tests/refused_memory.sh` runs this with each of its growths refused in turn: the second life is whole.
+// The script `tests/refused-boots` runs this with each of its allocations refused in turn: the second life is whole.
 #[test]
 fn a_second_boot_lives_where_the_first_was_refused(rt: HostRuntime) -> Result<(), Fail> {
     if boots_and_ends(&rt, rt.alloc()) != Some(nothing_was_charged()) {
