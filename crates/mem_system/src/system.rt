@@ -48,8 +48,11 @@ impl<N: BootName> Locked<N> {
 }
 
 impl<N: BootName> System<N> {
-    /// The tables, for the calls that take no lock.
-    pub fn tables(&self) -> &Tables<N> {
+    /// The tables, for the calls that take no lock: those that N names.
+    pub fn tables(&self) -> &Tables<N>
+        ensures frames { result.now.frames ≡ N.frames }
+        ensures stocks { result.now.stocks ≡ N.stocks }
+    {
         &self.tables
     }
 
