@@ -7,6 +7,7 @@ ghost use Rattle.mem_system.specs.Commands.{BySteps, IsOfZone, Serves};
 
 use crate::booted::Boot;
 use crate::command::{Cmd, Reply};
+use crate::gates::{Gate, NoGate};
 use crate::locked::Locked;
 use crate::serving::serve;
 use cpu_part::{BootName, Cpu, Tables};
@@ -64,7 +65,25 @@ impl<N: BootName> System<N> {
             (λ steps. Serves N.frames cmd.now l cpu.old result steps k cpu.new) }
         ensures settled { (cpu.new.fresh ≡ []) × (cpu.new.back ≡ []) }
     {
+        self.visit_with(rt, cpu, cmd, &NoGate)
+    }
+
+    /// Serves one command of the processor as `visit` does, and calls the gate's `inside` once, while it holds the lock and
+    /// before the command is served.
+    pub fn visit_with<R: Wait, G: Gate>(
+        &self,
+        rt: &R,
+        cpu: &mut Cpu<N>,
+        cmd: &Cmd<'_>,
+        gate: &G,
+    ) -> Reply
+        requires { IsOfZone N.frames cmd.now }
+        ensures served { (l k : KnownLocked) × IsQuiet N.frames N.stocks l × BySteps N.frames l.machine cpu.old k.machine cpu.new
+            (λ steps. Serves N.frames cmd.now l cpu.old result steps k cpu.new) }
+        ensures settled { (cpu.new.fresh ≡ []) × (cpu.new.back ≡ []) }
+    {
         let mut locked = self.locked.lock(rt);
+        gate.inside(cpu.number());
         serve(&mut *locked, &self.tables, cpu, cmd)
     }
 }
