@@ -31,3 +31,4 @@ pub mod Shown
 pub mod Fresh
 pub mod Back
 pub mod Settled
+pub mod Keepers

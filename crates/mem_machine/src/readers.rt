@@ -3,7 +3,8 @@
 ghost use Rattle.std.specs.Prelude.{◌≡◌, ◌≢◌, ◌<◌, ◌↔◌, None, IsTrue};
 ghost use Rattle.group_tree.specs.Groups.{has_group};
 ghost use Rattle.group_charge.specs.Charges.{current_of};
-ghost use Rattle.mem_machine.specs.Spots.{spot_at, place_of, unit_of};
+ghost use Rattle.zone_blocks.specs.Areas.{AreMaximalBlocks};
+ghost use Rattle.mem_machine.specs.Spots.{spot_at, free_of, place_of, unit_of};
 ghost use Rattle.mem_machine.specs.Machines.{IsConsistent, home_of, is_killed};
 
 use crate::machine::{Counts, Machine};
@@ -13,6 +14,7 @@ use frame_word::Frame;
 use group_charge::charges::Charges;
 use group_tree::group::GroupId;
 use step_rules::phase::ChargedUnit;
+use zone_blocks::walk::Walk;
 
 impl<N: BootName> Machine<N> {
     /// Where the frame is: free, lent to a processor, or charged to a group.
@@ -21,12 +23,23 @@ impl<N: BootName> Machine<N> {
         ensures place { result ≡ place_of (spot_at self.now.spots frame) }
         ensures consistent { IsConsistent N.frames N.stocks self.now }
     {
-        match self.spots[frame.number() as usize] {
-            Spot::Free => Place::Free,
-            Spot::Lent(cpu) => Place::Lent(cpu),
-            Spot::Head(unit) => Place::Charged(unit.group),
-            Spot::Tail(group) => Place::Charged(group),
-        }
+        self.spots[frame.number() as usize].place()
+    }
+
+    /// The records of all frames, by their numbers.
+    pub fn spots(&self) -> &[Spot]
+        ensures spots { result.now ≡ self.now.spots }
+        ensures consistent { IsConsistent N.frames N.stocks self.now }
+    {
+        self.spots.as_slice()
+    }
+
+    /// The maximal free blocks, by order and then by address.
+    pub fn blocks(&self) -> Walk<'_>
+        ensures blocks { result ≡ self.now.blocks }
+        ensures areas { AreMaximalBlocks (free_of self.now.spots) self.now.blocks }
+    {
+        self.zone.blocks()
     }
 
     /// The unit that the frame heads; None exactly where it heads none.

@@ -1,5 +1,8 @@
 //! What is kept of one frame.
 
+ghost use Rattle.std.specs.Prelude.{◌≡◌};
+ghost use Rattle.mem_machine.specs.Spots.{place_of};
+
 use group_tree::group::GroupId;
 use step_rules::phase::ChargedUnit;
 
@@ -25,4 +28,18 @@ pub enum Place {
     Lent(u32),
     /// Charged to this group.
     Charged(GroupId),
+}
+
+impl Spot {
+    /// Where a frame with this record is.
+    pub fn place(&self) -> Place
+        ensures { result ≡ place_of self.now }
+    {
+        match *self {
+            Spot::Free => Place::Free,
+            Spot::Lent(cpu) => Place::Lent(cpu),
+            Spot::Head(unit) => Place::Charged(unit.group),
+            Spot::Tail(group) => Place::Charged(group),
+        }
+    }
 }

@@ -5,3 +5,4 @@ pub mod Kept
 pub mod Leaves
 pub mod Owners
 pub mod Releases
+pub mod Shown

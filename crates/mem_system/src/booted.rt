@@ -10,11 +10,11 @@ ghost use Rattle.mem_system.specs.Boots.{first_cpus};
 use crate::locked::Locked;
 use cpu_part::{BootName, Cpu, Tables};
 use frame_word::{FrameSeat, FrameWords};
-use zone_sizes::config::Config;
 use mem_machine::Machine;
 use std::alloc::{AllocError, Global};
 use std::marker::Model;
 use stock_word::{StockSeat, StockWords};
+use zone_sizes::config::Config;
 
 /// The two tables of a boot with all their seats, of which none was used yet.
 #[derive(Drop)]

@@ -7,9 +7,9 @@ ghost use Rattle.mem_system.specs.declared.booting.BootFault.TheVariants.{BadCon
 
 use crate::booted::Boot;
 use frame_word::FrameWords;
-use zone_sizes::config::Config;
 use std::alloc::{AllocError, Global};
 use stock_word::StockWords;
+use zone_sizes::config::Config;
 
 /// Why there is no boot.
 #[derive(Clone, Copy, Debug, PartialEq, Eq)]

@@ -12,6 +12,7 @@ mod locked;
 mod owners;
 mod released;
 mod serving;
+mod shown;
 mod system;
 #[cfg(test)]
 mod tests;
@@ -21,4 +22,5 @@ pub use booting::{BootFault, boot};
 pub use command::{Cmd, Reply};
 pub use locked::Locked;
 pub use serving::serve;
+pub use shown::{blocks, show};
 pub use system::System;

@@ -2,10 +2,10 @@
 
 use cpu_part::BootName;
 use frame_word::FrameSeat;
-use zone_sizes::config::Config;
 use mem_machine::Machine;
 use std::marker::Model;
 use stock_word::StockSeat;
+use zone_sizes::config::Config;
 
 /// What lies behind the zone's lock: the machine, the sizes of the boot, and room for the processors' seats at the end.
 #[derive(Drop)]

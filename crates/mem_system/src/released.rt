@@ -14,8 +14,8 @@ use crate::kept::find_unit;
 use cpu_part::{BootName, Cpu, Tables};
 use frame_word::Frame;
 use group_tree::fault::Fault;
-use zone_sizes::config::Config;
 use mem_machine::{Machine, Released};
+use zone_sizes::config::Config;
 
 // Whether the unit that the frame heads is a single frame.
 fn is_single<N: BootName>(machine: &Machine<N>, frame: Frame) -> bool

@@ -15,8 +15,8 @@ use crate::locked::Locked;
 use crate::owners::tell_place;
 use crate::released::release_frame;
 use cpu_part::{BootName, Cpu, Tables};
-use zone_sizes::config::Config;
 use mem_machine::Machine;
+use zone_sizes::config::Config;
 
 // Obeys the command inside the visit.
 fn obey<N: BootName>(

@@ -17,8 +17,8 @@ use std::sync::{Mutex, Wait};
 /// A boot that has started: its tables, and the machine behind the zone's lock. Processors share it by `&`.
 #[derive(Drop)]
 pub struct System<N: BootName> {
-    tables: Tables<N>,
-    locked: Mutex<Locked<N>>,
+    pub(crate) tables: Tables<N>,
+    pub(crate) locked: Mutex<Locked<N>>,
 }
 
 impl Boot {

@@ -8,12 +8,12 @@ use crate::system::System;
 use cpu_part::{BootName, Cpu};
 use group_tree::fault::Fault;
 use group_tree::group::GroupId;
-use zone_sizes::config::Config;
 use std::alloc::Global;
 use std::marker::Brand;
 use std::process::Abort;
 use std::sync::Wait;
 use std::test::Fail;
+use zone_sizes::config::Config;
 
 // The file of `/a` reads as this text.
 fn reads<N: BootName, R: Wait + Abort>(
@@ -46,6 +46,19 @@ fn makes_and_reads<N: BootName, R: Wait + Abort>(rt: &R, system: &System<N>, cpu
     let events = b"low 0\nhigh 0\nmax 0\noom 0\noom_kill 0\n";
     reads(rt, system, cpu, b"memory.events", events);
     reads(rt, system, cpu, b"memory.events.local", events);
+}
+
+// All frames are free, and the group has nothing.
+fn tells<N: BootName, R: Wait + Abort>(
+    rt: &R,
+    alloc: Global,
+    system: &System<N>,
+    cpu: &mut Cpu<N>,
+) {
+    let shown = system.show(rt, alloc, cpu).expect(rt, "memory");
+    assert!(rt; shown.as_str() == "0-15 free\ncurrent /a 0\n");
+    let blocks = system.blocks(rt, alloc, cpu).expect(rt, "memory");
+    assert!(rt; blocks.as_str() == "4:0\n");
 }
 
 // Processor 2 finds the group and takes it out.
@@ -89,6 +102,7 @@ fn lives<N: BootName, R: Wait + Abort>(rt: &R, alloc: Global, boot: Boot)
     for (at, cpu) in cpus.iter_mut().enumerate() {
         if at == 0 {
             makes_and_reads(rt, &system, cpu);
+            tells(rt, alloc, &system, cpu);
         } else {
             takes_out(rt, &system, cpu);
         }

@@ -1,7 +1,7 @@
 use Rattle.std.proofs.Common.{◌<◌, rules, ap, sym, ◌∙◌, subst}
 use Rattle.group_charge.specs.Charges.{Ledger, AreCharges}
 use Rattle.group_tree.specs.Groups.{has_group}
-use Rattle.mem_system.proofs.Found.{keeper_there}
+use Rattle.mem_machine.proofs.Keepers.{keeper_there}
 use Rattle.mem_system.proofs.owners.tell_place.Goals as goal
 
 pub path_of-path-requires : goal.path_of-path-requires

@@ -1,0 +1,18 @@
+-- The text of the free blocks.
+use Rattle.std.specs.Prelude.{ℕ, List, [], ◌∷◌, ◌++◌, codes}
+use Rattle.std.specs.List.{flat_map}
+use Rattle.std.specs.Fmt.{decimal}
+use Rattle.zone_blocks.specs.declared.block.Block.{Block}
+
+-- a free block: its order and its first frame
+abbrev pub block_text : Block → List ℕ
+block_text b = decimal b.order ++ codes ":" ++ decimal b.at
+
+-- a free block that follows another: a space, and then its text
+abbrev pub spaced_block : Block → List ℕ
+spaced_block b = codes " " ++ block_text b
+
+-- what is written for `blocks`: the free blocks with a space between each two, or that there is none
+abbrev pub blocks_text : List Block → List ℕ
+blocks_text [] = codes "none\n"
+blocks_text (b ∷ blocks) = block_text b ++ flat_map spaced_block blocks ++ codes "\n"

@@ -1,0 +1,4 @@
+pub mod Characters
+pub mod Blocks
+pub mod Places
+pub mod Show

@@ -1,0 +1,46 @@
+//! The free blocks.
+
+ghost use Rattle.std.specs.Prelude.{◌≡◌, ◌++◌, IfOk};
+ghost use Rattle.std.specs.List.{flat_map};
+ghost use Rattle.std.specs.String.{string_bytes};
+ghost use Rattle.machine_texts.specs.Blocks.{block_text, blocks_text, spaced_block};
+
+use cpu_part::BootName;
+use mem_machine::Machine;
+use std::alloc::AllocError;
+use zone_blocks::block::Block;
+use zone_blocks::walk::Walk;
+
+/// Adds a line with each free block, its order and its first frame, by order and then by address; `none` where
+/// there is none. It fails only for want of memory.
+pub fn write_blocks<N: BootName>(machine: &Machine<N>, text: &mut String) -> Result<(), AllocError>
+    ensures { IfOk result (λ _. string_bytes text.new ≡ string_bytes text.old ++ blocks_text machine.now.blocks) }
+{
+    let mut blocks = machine.blocks();
+    let Some(first) = blocks.next() else {
+        return text.push_str("none\n");
+    };
+    write_block(first, text)?;
+    write_others(blocks, text)?;
+    text.push_str("\n")
+}
+
+// A free block: its order and its first frame.
+fn write_block(block: Block, text: &mut String) -> Result<(), AllocError>
+    ensures { IfOk result (λ _. string_bytes text.new ≡ string_bytes text.old ++ block_text block) }
+{
+    let order = block.order.exponent();
+    let at = block.at;
+    write!(text, "{order}:{at}")
+}
+
+// More free blocks, each after a space.
+fn write_others(blocks: Walk<'_>, text: &mut String) -> Result<(), AllocError>
+    ensures { IfOk result (λ _. string_bytes text.new ≡ string_bytes text.old ++ flat_map spaced_block blocks.entry) }
+{
+    for block in blocks {
+        text.push_str(" ")?;
+        write_block(block, text)?;
+    }
+    Ok(())
+}
