@@ -1,0 +1,7 @@
+//! The lines of a script, served one after the other: by value of what lies behind the zone's lock, and through it.
+#![tactic(auto)]
+
+mod answering;
+mod replaying;
+
+pub use replaying::replay;
