@@ -4,8 +4,8 @@ ghost use Rattle.group_tree.specs.Groups.{has_group};
 ghost use Rattle.group_charge.specs.Charges.{current_of};
 ghost use Rattle.mem_machine.specs.Machines.{Visits, is_killed};
 
-use crate::costs::{TRIES, each, tell};
 use anyhow::anyhow;
+use bench_unit::costs::{TRIES, each, tell};
 use cpu_part::{BootName, Cpu, Tables};
 use frame_word::Frame;
 use group_tree::group::GroupId;

@@ -1,8 +1,8 @@
 //! Frames that are lent to a processor's list and taken back from it, inside one visit.
 ghost use Rattle.mem_machine.specs.Machines.{Visits};
 
-use crate::costs::{TRIES, each, tell};
 use anyhow::anyhow;
+use bench_unit::costs::{TRIES, each, tell};
 use cpu_part::{BootName, Cpu, Tables};
 use mem_machine::Machine;
 use std::time::{Clock, Instant};

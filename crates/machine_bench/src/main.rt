@@ -5,13 +5,12 @@
 
 mod blocks;
 mod boot;
-mod costs;
 mod life;
 mod lists;
 mod settling;
-mod unit;
 mod visits;
 
+use bench_unit::unit;
 use std::env;
 
 fn main(rt: HostRuntime) -> anyhow::Result<()> {

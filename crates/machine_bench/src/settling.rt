@@ -4,8 +4,8 @@ ghost use Rattle.frame_word.specs.Seats.{IsShut};
 ghost use Rattle.mem_machine.specs.Machines.{Visits};
 
 use crate::blocks::{came_back, may_charge};
-use crate::costs::{TRIES, each, tell};
 use anyhow::anyhow;
+use bench_unit::costs::{TRIES, each, tell};
 use cpu_part::{BootName, Cpu, Fast, Tables};
 use frame_word::Frame;
 use group_tree::group::GroupId;

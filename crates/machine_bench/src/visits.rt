@@ -1,7 +1,7 @@
 //! Visits in which there is nothing to settle, beside visits that do nothing at all.
 ghost use Rattle.frame_word.specs.Seats.{IsShut};
 
-use crate::costs::{TRIES, each, tell};
+use bench_unit::costs::{TRIES, each, tell};
 use cpu_part::{BootName, Cpu, Tables};
 use mem_machine::Machine;
 use std::time::{Clock, Instant};

@@ -1,5 +1,5 @@
 -- A page of the visited processor is reported and absorbed: its book and the books of its group fall by one. Serves `settle`.
-use Rattle.std.proofs.Common.{◌≡◌, ℕ, ◌+◌, ◌-◌, ◌≤◌, ◌==◌, cond, Some, refl, sym, ap, ◌∙◌, subst, arith, inl, inr, eq-eqb}
+use Rattle.std.proofs.Common.{◌≡◌, ℕ, ◌+◌, ◌-◌, ◌<◌, ◌≤◌, ◌==◌, cond, Some, refl, sym, ap, ◌∙◌, subst, arith, inl, inr, eq-eqb}
 use Rattle.std.proofs.lemmas.Bool.{cases_eq, ne_eqb, cond-true, cond-false}
 use Rattle.std.proofs.lemmas.Option.{none-some}
 use Rattle.frame_word.specs.Seats.{KnownTable}
@@ -57,6 +57,14 @@ module _ (view : StockView) (p : ℕ) where
   pub none_noted : ((q : ℕ) → (account_of view q).noted ≡ 0) → (q : ℕ) → (account_of after q).noted ≡ 0
   none_noted none q = absorbed_read (λ (a : Account). a.noted) q
       ∙ at_each (λ j. (account_of view j).noted) p absorbed_account.noted (λ j x. x ≡ 0) refl (λ j ne. none j) q
+
+  -- the books fit their words still
+  pub still_bounded : ((q : ℕ) → (account_of view q).book < 65536) → (q : ℕ) → (account_of after q).book < 65536
+  still_bounded bounded q =
+      let read = absorbed_read (λ (a : Account). a.book) q in
+      let at = at_each (λ j. (account_of view j).book) p absorbed_account.book (λ j x. x < 65536)
+      (let a = bounded p in omega (arith, a)) (λ j ne. bounded j) q in
+      omega (arith, read, at)
 
 -- the books of the processor's group have one page less, and those of the other groups as many
 pub books_fall : (t : KnownTable) (stock : Seated) (p g : ℕ) → p ≤ t.cpus → (account_of stock.view p).group ≡ Some g → (account_of stock.view p).noted ≡ 0

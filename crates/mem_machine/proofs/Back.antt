@@ -23,7 +23,7 @@ use Rattle.mem_machine.specs.declared.spot.Spot.{Spot}
 use Rattle.mem_machine.specs.declared.spot.Spot.TheVariants.{Free, Head}
 use Rattle.mem_machine.specs.declared.machine.Counts.{Counts}
 use Rattle.mem_machine.specs.Spots.{spot_at, free_of, head_group_of, some_cpu}
-use Rattle.mem_machine.specs.Machines.{KnownMachine, FitsSpot, IsConsistent, Visits, home_of}
+use Rattle.mem_machine.specs.Machines.{KnownMachine, FitsSpot, IsConsistent, BalancesCounts, Visits, home_of}
 use Rattle.mem_machine.specs.Local.{IsLocalRun, local_of}
 use Rattle.mem_machine.specs.Freeing.{FreesFrames}
 use Rattle.mem_machine.specs.Settling.{ReturnsBack, return_steps}
@@ -33,6 +33,7 @@ use Rattle.mem_machine.proofs.Records.{heads_one}
 use Rattle.mem_machine.proofs.Freeing.{free_block_given, unit_in_use, head_inside, unit_freed_consistent}
 use Rattle.mem_machine.proofs.HandOvers.{handed_visits, IsBackFront, back_front, return_run}
 use Rattle.mem_machine.proofs.Shown.{is_visited, back_phase, back_handed, back_else, phases_freed, parts_back, references_same}
+use Rattle.mem_machine.proofs.Balances.{balanced_last_put}
 
 -- what is told of a back frame that was handed over
 pub record WasBack (t : KnownTable) (m : KnownMachine) (f : ℕ) : Type 0 where
@@ -119,6 +120,7 @@ module _ (t : KnownTable) (w : Words) (m : KnownMachine) (c : KnownCpu) (tied : 
       (λ x inside ne. subst (λ (k : FrameNote). FitsSpot k (home_of m.links x) (spot_at m.spots x))
       (sym (note_else m.seat.view f x (collected_from c.number) ne)) (ok.spots x inside))
       (subst (λ (k : FrameNote). FitsSpot k (home_of m.links f) Free) (sym (note_here m.seat.view f (collected_from c.number))) back_fits)
+      (subst BalancesCounts (sym counted) (balanced_last_put m.counts ok.balances))
 
   pub returned_steps : IsLocalRun c.number s (return_steps c.number f) (local_of t returned d)
   returned_steps =

@@ -62,7 +62,9 @@ module _ (t : KnownTable) (w : Words) (m : KnownMachine) (ok : IsConsistent t w 
       units = ok.units;
       lists = all_stand;
       noted = ok.noted;
+      bounded = ok.bounded;
       charged = ok.charged;
+      balances = ok.balances;
     }
 
     pub dirty_does : Dirties m f d (record m { links = links })

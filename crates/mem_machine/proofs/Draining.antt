@@ -1,5 +1,5 @@
 -- Stocks that are drained: the books and the charges, and the steps. Serves `drain_of`, `drain_stock` and all calls made of them.
-use Rattle.std.proofs.Common.{◌≡◌, ℕ, ◌+◌, ◌-◌, ◌≤◌, ◌==◌, ◌&&◌, Bool, true, false, Option, Some, None, List, [], ◌∷◌, length, map, zero}
+use Rattle.std.proofs.Common.{◌≡◌, ℕ, ◌+◌, ◌-◌, ◌<◌, ◌≤◌, ◌==◌, ◌&&◌, Bool, true, false, Option, Some, None, List, [], ◌∷◌, length, map, zero}
 use Rattle.std.proofs.Common.{suc, refl, sym, ap, ◌∙◌, subst, inl, inr, arith, cond, eq-eqb}
 use Rattle.std.specs.Prelude.{nat_le, is_some}
 use Rattle.std.specs.Option.{option_map_or}
@@ -135,9 +135,9 @@ booked_within t stock q g inside group =
 -- other charges and another seat of the stocks
 pub stocks_consistent : (t : KnownTable) (w : Words) (m : KnownMachine) (l : Ledger) (stock : Seated)
     → IsConsistent t w m → stock.table ≡ m.stock.table → IsMachine stock.view
-    → ((p : ℕ) → (account_of stock.view p).noted ≡ 0) → ((g : ℕ) → pages_of l g ≡ frames_charged m.spots g + pages_booked t stock g)
+    → ((p : ℕ) → (account_of stock.view p).noted ≡ 0) → ((p : ℕ) → (account_of stock.view p).book < 65536) → ((g : ℕ) → pages_of l g ≡ frames_charged m.spots g + pages_booked t stock g)
     → IsConsistent t w (record m { ledger = l; stock = stock })
-stocks_consistent t w m l stock ok table machine noted charged = record {
+stocks_consistent t w m l stock ok table machine noted bounded charged = record {
   sizes = let s = ok.sizes in record { spots = s.spots; links = s.links; lists = s.lists; killed = s.killed; cpus = s.cpus };
   seats = let s = ok.seats in record { frames = s.frames; table = table ∙ s.table; stocks = machine };
   areas = ok.areas;
@@ -145,7 +145,9 @@ stocks_consistent t w m l stock ok table machine noted charged = record {
   units = ok.units;
   lists = ok.lists;
   noted = noted;
+  bounded = bounded;
   charged = charged;
+  balances = ok.balances;
 }
 
 module _ (t : KnownTable) (w : Words) (m : KnownMachine) (ok : IsConsistent t w m) (q k : ℕ) (inside : q ≤ t.cpus) (enough : k
@@ -184,6 +186,11 @@ module _ (t : KnownTable) (w : Words) (m : KnownMachine) (ok : IsConsistent t w 
       (λ p. drained_read m.stock.view q k (λ (a : Account). a.noted) p
       ∙ at_each (λ j. (account_of m.stock.view j).noted) q (drained_account m.stock.view q k).noted
       (λ j x. x ≡ 0) (ok.noted q) (λ j ne. ok.noted j) p)
+      (λ p.
+      let read = drained_read m.stock.view q k (λ (a : Account). a.book) p in
+      let at = at_each (λ j. (account_of m.stock.view j).book) q (drained_account m.stock.view q k).book (λ j x. x < 65536)
+      (let a = ok.bounded q in omega (arith, a)) (λ j ne. ok.bounded j) p in
+      omega (arith, read, at))
       (charged_after (stock_group m q) refl none)
 
   -- the pages are charged to a group that is there

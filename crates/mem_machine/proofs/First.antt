@@ -20,7 +20,7 @@ use Rattle.mem_machine.specs.declared.spot.Spot.{Spot}
 use Rattle.mem_machine.specs.declared.spot.Spot.TheVariants.{Free, Head, Tail}
 use Rattle.mem_machine.specs.Spots.{spot_at, free_of, group_of, count_of, AreUnits}
 use Rattle.mem_machine.specs.Start.{AreEmpty}
-use Rattle.mem_machine.specs.Machines.{KnownMachine, FitsSpot, IsConsistent, IsFirst, no_counts, home_of, frames_charged, pages_booked, booked}
+use Rattle.mem_machine.specs.Machines.{KnownMachine, FitsSpot, IsConsistent, IsFirst, BalancesCounts, no_counts, home_of, frames_charged, pages_booked, booked}
 
 pub empty_none : (lists : List Lru) → lists ≡ [] → AreEmpty lists 0
 empty_none lists none = record { count = ap length none; each = λ k any inside. let e = ap length none in absurd (omega arith) }
@@ -110,6 +110,9 @@ module _ (t : KnownTable) (w : Words) (m : KnownMachine) (first : IsFirst t w m)
       sum_none (t.cpus + 1) (λ p. booked g (account_of m.stock.view p)) (λ p inside. ap (λ (x : Seated). booked g (account_of x.view p)) first.stock) in
       omega (arith, pages, frames, books)
 
+  balances_first : BalancesCounts m.counts
+  balances_first = subst BalancesCounts (sym first.counts) refl
+
   pub consistent_first : AreMaximalBlocks (free_of m.spots) m.blocks → length m.links ≡ t.frames → length m.lists ≡ 64 → AllStand m.links m.lists
       → w.cpus ≡ t.cpus → IsConsistent t w m
   consistent_first areas links lists stand cpus = record {
@@ -130,7 +133,9 @@ module _ (t : KnownTable) (w : Words) (m : KnownMachine) (first : IsFirst t w m)
     units = units_first;
     lists = stand;
     noted = λ p. ap (λ (s : Seated). (account_of s.view p).noted) first.stock;
+    bounded = λ p. let none = ap (λ (s : Seated). (account_of s.view p).book) first.stock in omega (arith, none);
     charged = charged_first;
+    balances = balances_first;
   }
 
 -- what the parts of the first machine are made of

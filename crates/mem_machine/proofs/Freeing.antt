@@ -28,7 +28,7 @@ use Rattle.mem_machine.specs.declared.spot.Spot.{Spot}
 use Rattle.mem_machine.specs.declared.spot.Spot.TheVariants.{Free, Head, Tail}
 use Rattle.mem_machine.specs.declared.machine.Counts.{Counts}
 use Rattle.mem_machine.specs.Spots.{spot_at, is_free, free_of, group_of, head_group_of, count_of, AreUnits, IsUnitAt}
-use Rattle.mem_machine.specs.Machines.{KnownMachine, FitsSpot, IsConsistent, home_of, frames_charged}
+use Rattle.mem_machine.specs.Machines.{KnownMachine, FitsSpot, IsConsistent, BalancesCounts, home_of, frames_charged}
 use Rattle.mem_machine.specs.Freeing.{FreesFrames}
 use Rattle.mem_machine.proofs.Records.{free_at, length_free}
 
@@ -300,7 +300,7 @@ module _ (t : KnownTable) (w : Words) (m : KnownMachine) (ok : IsConsistent t w 
       → FreesFrames m.spots f (2 ^ unit.order) spots → AreMaximalBlocks (free_of spots) blocks → IsZoneSeat t seat
       → length links ≡ t.frames → length lists ≡ 64 → AllStand links lists
       → ((x : ℕ) → x < t.frames → (x ≡ f → ⊥) → FitsSpot (note_of seat.view x) (home_of links x) (spot_at m.spots x))
-      → FitsSpot (note_of seat.view f) (home_of links f) Free
+      → FitsSpot (note_of seat.view f) (home_of links f) Free → BalancesCounts counts
       → IsConsistent t w (record m {
         blocks = blocks;
         spots = spots;
@@ -310,7 +310,7 @@ module _ (t : KnownTable) (w : Words) (m : KnownMachine) (ok : IsConsistent t w 
         seat = seat;
         counts = counts;
       })
-  unit_freed_consistent spots blocks links lists seat counts frees areas zone linked listed stand others head = record {
+  unit_freed_consistent spots blocks links lists seat counts frees areas zone linked listed stand others head balances = record {
     sizes = let s = ok.sizes in record { spots = frees.frames ∙ s.spots; links = linked; lists = listed; killed = s.killed; cpus = s.cpus };
     seats = let s = ok.seats in record { frames = zone; table = s.table; stocks = s.stocks };
     areas = areas;
@@ -333,11 +333,13 @@ module _ (t : KnownTable) (w : Words) (m : KnownMachine) (ok : IsConsistent t w 
     units = units_freed m.spots spots f unit heads ok.units frees;
     lists = stand;
     noted = ok.noted;
+    bounded = ok.bounded;
     charged = λ g.
         let a = ok.charged g in
         let b = charges_freed m.spots spots f unit heads ok.units frees g in
         let c = uncharge_pages m.ledger unit.group (2 ^ unit.order) unit_charged g in
         omega (arith, a, b, c);
+    balances = balances;
   }
     where
       freed_head : (spots : List Spot) → FreesFrames m.spots f (2 ^ unit.order) spots → spot_at spots f ≡ Free

@@ -30,7 +30,7 @@ use Rattle.mem_machine.specs.declared.spot.Spot.{Spot}
 use Rattle.mem_machine.specs.declared.spot.Spot.TheVariants.{Free, Lent, Head}
 use Rattle.mem_machine.specs.declared.machine.Counts.{Counts}
 use Rattle.mem_machine.specs.Spots.{spot_at, is_free, free_of, group_of as spot_group, head_group_of, some_cpu}
-use Rattle.mem_machine.specs.Machines.{KnownMachine, FitsSpot, IsConsistent, Visits, home_of, is_killed, pages_booked}
+use Rattle.mem_machine.specs.Machines.{KnownMachine, FitsSpot, IsConsistent, BalancesCounts, Visits, home_of, is_killed, pages_booked}
 use Rattle.mem_machine.specs.Local.{IsLocalRun, local_of, fresh_group, number_or_0}
 use Rattle.mem_machine.specs.Steps.{zone_makes}
 use Rattle.mem_machine.specs.Blocks.{PlacesUnit}
@@ -43,10 +43,11 @@ use Rattle.mem_machine.proofs.KeptUnits.{IsAdded, unit_kept, unit_listed}
 use Rattle.mem_machine.proofs.Freeing.{is_out, is_in, free_block_given}
 use Rattle.mem_machine.proofs.Takes.{may_give}
 use Rattle.mem_machine.proofs.Draining.{booked_within}
-use Rattle.mem_machine.proofs.Absorbs.{none_noted, books_fall}
+use Rattle.mem_machine.proofs.Absorbs.{none_noted, still_bounded, books_fall}
 use Rattle.mem_machine.proofs.HandOvers.{handed_visits, IsFreshFront, fresh_front, collect_run, keep_run, drop_run}
 use Rattle.mem_machine.proofs.Shown.{is_visited, fresh_unit, fresh_phase, fresh_handed, fresh_else, phases_set, phases_freed, parts_absorbed, references_used}
 use Rattle.mem_machine.proofs.Shown.{references_same}
+use Rattle.mem_machine.proofs.Balances.{balanced_drop}
 
 -- what is told of a frame that was collected fresh, and of its page
 pub record WasFresh (t : KnownTable) (m : KnownMachine) (c : KnownCpu) (f g : ℕ) : Type 0 where
@@ -159,8 +160,9 @@ module _ (t : KnownTable) (w : Words) (m : KnownMachine) (c : KnownCpu) (tied : 
           table = seats.table;
           stocks = seats.stocks;
           noted = none_noted m.stock.view c.number ok.noted;
+          bounded = still_bounded m.stock.view c.number ok.bounded;
           charged = λ h. let a = ok.charged h in let b = books h in omega (arith, a, b);
-        })
+        }) ok.balances
 
     kept_steps : IsLocalRun c.number s (keep_steps c.number f) (local_of t kept d)
     kept_steps =
@@ -233,12 +235,14 @@ module _ (t : KnownTable) (w : Words) (m : KnownMachine) (c : KnownCpu) (tied : 
       units = units_stay m.spots f Free within (ap spot_group is_lent) refl ok.units;
       lists = ok.lists;
       noted = none_noted m.stock.view c.number ok.noted;
+      bounded = still_bounded m.stock.view c.number ok.bounded;
       charged = λ h.
           let a = ok.charged h in
           let b = books h in
           let e = charges_stay m.spots f Free within (ap spot_group is_lent) refl h in
           let l = uncharge_pages m.ledger g 1 charged_one h in
           omega (arith, a, b, e, l);
+      balances = subst BalancesCounts (sym counted) (balanced_drop m.counts ok.balances);
     }
 
     dropped_consistent : IsConsistent t w dropped

@@ -1,34 +1,21 @@
 -- A given free frame goes to the list of the processor that is visited. Serves `lend`.
-use Rattle.std.proofs.Common.{◌≡◌, ℕ, ◌<◌, ◌==◌, Bool, true, false, List, [], ◌∷◌, ◌++◌, length, get_or, refl, sym, ap, ◌∙◌, subst, arith, eq-eqb}
+use Rattle.std.proofs.Common.{◌≡◌, ℕ, ◌<◌, Bool, false, List, [], ◌∷◌, ◌++◌, length, get_or, refl, sym, ap, ◌∙◌, subst, arith}
 use Rattle.std.specs.Prelude.{slice_set}
-use Rattle.std.proofs.lemmas.Bool.{and_from, cond-true, lt-ltb}
 use Rattle.zone_blocks.specs.declared.block.Block.{Block}
 use Rattle.zone_blocks.specs.Areas.{IsFree, AreMaximalBlocks}
 use Rattle.zone_buddy.specs.Zone.{TakesFrames}
 use Rattle.frame_word.specs.Views.{note_of, in_hands, passed_out_to, took_in}
 use Rattle.frame_word.specs.Seats.{KnownTable, KnownSeat, seat_with, IsInOwnHand}
-use Rattle.stock_word.specs.Stock.{Words, account_of}
-use Rattle.cpu_part.specs.Cpus.{KnownCpu, IsTied, times}
-use Rattle.step_rules.specs.declared.phase.Way.TheVariants.{PassingOut, OnList}
-use Rattle.step_rules.specs.declared.phase.Phase.TheVariants as phase
-use Rattle.step_rules.specs.declared.step.Action.TheVariants.{PassOut, TakeIn}
-use Rattle.step_rules.specs.declared.step.Answer.TheVariants.{Done}
-use Rattle.step_rules.specs.Phases as phases
-use Rattle.step_rules.specs.State.{State, Part, with_at, is_frame}
-use Rattle.step_rules.specs.Legal.{is_legal}
-use Rattle.step_rules.specs.After.{after}
-use Rattle.step_rules.proofs.Basics.{at_same}
-use Rattle.mem_machine.specs.declared.spot.Spot.{Spot}
-use Rattle.mem_machine.specs.declared.spot.Spot.TheVariants.{Free, Lent, Head, Tail}
+use Rattle.stock_word.specs.Stock.{Words}
+use Rattle.cpu_part.specs.Cpus.{KnownCpu, IsTied}
+use Rattle.mem_machine.specs.declared.spot.Spot.TheVariants.{Free, Lent}
 use Rattle.mem_machine.specs.Spots.{spot_at, is_free, free_of}
-use Rattle.mem_machine.specs.Machines.{KnownMachine, IsConsistent, IsSeated, Visits}
+use Rattle.mem_machine.specs.Machines.{KnownMachine, IsConsistent, Visits}
 use Rattle.mem_machine.specs.Lending.{LendsFrame}
 use Rattle.mem_machine.specs.Steps.{lend_steps}
-use Rattle.mem_machine.specs.Local.{IsLocalRun, local_of, phase_of, part_of, part_with}
-use Rattle.mem_machine.proofs.Reaching.{zone_step, cpu_step}
-use Rattle.mem_machine.proofs.Holds.{zone_may_act, visits_open, seated_cpu}
-use Rattle.mem_machine.proofs.Records.{free_at, free_taken, holds_same}
-use Rattle.mem_machine.proofs.Lends.{lend_consistent, lend_runs, lend_visits, lent_listed, parts_changed, phases_changed, references_stay, zone_hand}
+use Rattle.mem_machine.specs.Local.{IsLocalRun, local_of}
+use Rattle.mem_machine.proofs.Records.{free_at, free_taken}
+use Rattle.mem_machine.proofs.Lends.{lend_consistent, lend_runs, lend_visits, zone_hand}
 
 -- all of it, of the machine as it was seen before
 pub record AllGiven (t : KnownTable) (w : Words) (now : KnownMachine) (c : KnownCpu) (f : ℕ) (n : KnownMachine) (d : KnownCpu) (free : List Bool) : Type 0 where

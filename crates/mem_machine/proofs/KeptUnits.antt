@@ -27,7 +27,7 @@ use Rattle.mem_machine.specs.declared.spot.Spot.{Spot}
 use Rattle.mem_machine.specs.declared.spot.Spot.TheVariants.{Free, Lent, Head, Tail}
 use Rattle.mem_machine.specs.declared.machine.Counts.{Counts}
 use Rattle.mem_machine.specs.Spots.{spot_at, free_of, group_of, head_group_of, some_cpu}
-use Rattle.mem_machine.specs.Machines.{KnownMachine, FitsSpot, IsConsistent, home_of, lists_at, no_lists, frames_charged, pages_booked}
+use Rattle.mem_machine.specs.Machines.{KnownMachine, FitsSpot, IsConsistent, BalancesCounts, home_of, lists_at, no_lists, frames_charged, pages_booked}
 use Rattle.mem_machine.specs.Blocks.{PlacesUnit, ListsUnit}
 use Rattle.mem_machine.proofs.PlacesUnits.{head_of_block, tail_of_block, off_block}
 use Rattle.mem_machine.proofs.BlockCharges.{charges_rise}
@@ -176,6 +176,7 @@ pub record JoinsCharges (t : KnownTable) (w : Words) (m : KnownMachine) (g pages
   pub table : stock.table ≡ w.table
   pub stocks : IsMachine stock.view
   pub noted : (p : ℕ) → (account_of stock.view p).noted ≡ 0
+  pub bounded : (p : ℕ) → (account_of stock.view p).book < 65536
   pub charged : (h : ℕ) → pages_of ledger h ≡ frames_charged m.spots h + cond (h == g) pages 0 + pages_booked t stock h
 
 -- The frames of a block that were charged to no group (all but the first were free) are a unit of the group now, and its head
@@ -185,7 +186,7 @@ pub unit_kept : (t : KnownTable) (w : Words) (m : KnownMachine) → IsConsistent
     → ((x : ℕ) → b.at ≤ x → x < b.at + 2 ^ b.order → x ≢ b.at → spot_at m.spots x ≡ Free)
     → (any lru : Lru) → lru ≡ get_or m.lists g any → (links : List Link) (new : Lru) → IsAdded m.links lru b.at links new → OthersStand → OneOfAllChanges
     → (change : FrameNote → FrameNote) → IsUsed (change (note_of m.seat.view b.at))
-    → (blocks : List Block) (ledger : Ledger) (stock : Seated) (counts : Counts) → JoinsCharges t w m g (2 ^ b.order) spots blocks ledger stock
+    → (blocks : List Block) (ledger : Ledger) (stock : Seated) (counts : Counts) → JoinsCharges t w m g (2 ^ b.order) spots blocks ledger stock → BalancesCounts counts
     → IsConsistent t w (record {
       blocks = blocks;
       spots = spots;
@@ -197,7 +198,7 @@ pub unit_kept : (t : KnownTable) (w : Words) (m : KnownMachine) → IsConsistent
       killed = m.killed;
       counts = counts;
     })
-unit_kept t w m ok g fits b block spots placed first rest any lru read links new added others all change used blocks ledger stock counts joins =
+unit_kept t w m ok g fits b block spots placed first rest any lru read links new added others all change used blocks ledger stock counts joins balances =
     let uncharged : (f : ℕ) → b.at ≤ f → f < b.at + 2 ^ b.order → group_of (spot_at m.spots f) ≡ None =
     λ f low high. elim (cases_eq f b.at) [
       | inl e ↦ ap (λ (y : ℕ). group_of (spot_at m.spots y)) e ∙ first
@@ -218,5 +219,7 @@ unit_kept t w m ok g fits b block spots placed first rest any lru read links new
       units = units_placed m.spots spots g b placed block uncharged ok.units;
       lists = all_stand t w m ok g fits any lru read b.at links new added others all;
       noted = joins.noted;
+      bounded = joins.bounded;
       charged = λ h. let a = joins.charged h in let c = charges_rise m.spots spots g b placed block uncharged h in omega (arith, a, c);
+      balances = balances;
     }

@@ -140,7 +140,9 @@ module _ (t : KnownTable) (w : Words) (m : KnownMachine) (c : KnownCpu) (tied : 
     units = units_stay m.spots f (Lent c.number) within (ap group_of free) refl ok.units;
     lists = ok.lists;
     noted = ok.noted;
+    bounded = ok.bounded;
     charged = λ g. let a = ok.charged g in let b = charges_stay m.spots f (Lent c.number) within (ap group_of free) refl g in omega (arith, a, b);
+    balances = ok.balances;
   }
 
   pub lend_visits : (blocks : List Block) → Visits t

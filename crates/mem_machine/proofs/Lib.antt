@@ -1,3 +1,5 @@
+pub mod Balances
+pub mod NoneLent
 pub mod Reaching
 pub mod Holds
 pub mod First
@@ -32,3 +34,4 @@ pub mod Fresh
 pub mod Back
 pub mod Settled
 pub mod Keepers
+pub mod Fronts

@@ -80,14 +80,19 @@ booked_more h g k a empty =
 -- ---- consistency
 
 pub fill_consistent : (t : KnownTable) (w : Words) (m : KnownMachine) (q g k : ℕ) (l : Ledger) → IsConsistent t w m
-    → q ≤ t.cpus → (account_of m.stock.view q).book ≡ 0
+    → q ≤ t.cpus → (account_of m.stock.view q).book ≡ 0 → k < 65536
     → PagesRise m.ledger l g k → IsConsistent t w (record m { ledger = l; stock = with_view m.stock (filling m.stock.view q g k) })
-fill_consistent t w m q g k l ok inside empty rise =
+fill_consistent t w m q g k l ok inside empty small rise =
     let stock : Seated = with_view m.stock (filling m.stock.view q g k) in
     let a = account_of m.stock.view q in
     stocks_consistent t w m l stock ok refl ok.seats.stocks
     (λ p. filled_read m.stock.view q g k (λ (x : Account). x.noted) p
     ∙ at_each (λ j. (account_of m.stock.view j).noted) q a.noted (λ j x. x ≡ 0) (ok.noted q) (λ j ne. ok.noted j) p)
+    (λ p.
+    let read = filled_read m.stock.view q g k (λ (x : Account). x.book) p in
+    let at = at_each (λ j. (account_of m.stock.view j).book) q (filled_account m.stock.view q g k).book (λ j x. x < 65536) (omega (arith, empty, small))
+    (λ j ne. ok.bounded j) p in
+    omega (arith, read, at))
     (λ h.
     let each : (λ (p : ℕ). booked h (account_of stock.view p))
     ≡ with_at (λ p. booked h (account_of m.stock.view p)) q (booked h (filled_account m.stock.view q g k))
@@ -193,15 +198,15 @@ pub record Filled (t : KnownTable) (w : Words) (m now : KnownMachine) (g k : ℕ
   pub steps : IsLocalRun c.number (local_of t now c) (fill_steps c.number g k) (local_of t (record m { ledger = l; stock = stock }) d)
 
 filled_here : (t : KnownTable) (w : Words) (m : KnownMachine) (c : KnownCpu) (g k : ℕ) → IsConsistent t w m
-    → AreCharges m.ledger → IsTied t w c → Visits t m c → c.fresh ≡ []
+    → AreCharges m.ledger → IsTied t w c → Visits t m c → c.fresh ≡ [] → k < 65536
     → has_group m.ledger.groups g ≡ true → is_killed m.killed g ≡ false → (account_of m.stock.view c.number).book ≡ 0
     → room.PathHasRoom m.ledger.groups (current_of m.ledger) g k
     → Filled t w m m g k c (with_charge m.ledger g k) (with_view m.stock (filling m.stock.view c.number g k)) (record c {
       stock =
           with_view c.stock (after_fill c.stock.view g k);
     })
-filled_here t w m c g k ok facts tied visit none there alive empty has = record {
-  consistent = fill_consistent t w m c.number g k (with_charge m.ledger g k) ok tied.seats.frame_cpus empty (charge_pages m.ledger g k facts there);
+filled_here t w m c g k ok facts tied visit none small there alive empty has = record {
+  consistent = fill_consistent t w m c.number g k (with_charge m.ledger g k) ok tied.seats.frame_cpus empty small (charge_pages m.ledger g k facts there);
   fills = record { room = has; machine = refl; cpu = refl };
   visit = record { is_open = visit.is_open; still = visit.still; lent = visit.lent };
   steps = fill_runs t w m c g k ok facts tied visit none there alive empty has;
@@ -209,12 +214,12 @@ filled_here t w m c g k ok facts tied visit none there alive empty has = record 
 
 pub filled_all : (t : KnownTable) (w : Words) (m now : KnownMachine) (c : KnownCpu) (g k : ℕ) → m ≡ now
     → IsConsistent t w m → AreCharges m.ledger → IsTied t w c → Visits t now c
-    → c.fresh ≡ [] → has_group now.ledger.groups g ≡ true → is_killed now.killed g ≡ false → (account_of m.stock.view c.number).book ≡ 0
+    → c.fresh ≡ [] → k < 65536 → has_group now.ledger.groups g ≡ true → is_killed now.killed g ≡ false → (account_of m.stock.view c.number).book ≡ 0
     → room.PathHasRoom m.ledger.groups (current_of m.ledger) g k → (l : Ledger) (stock : Seated) (d : KnownCpu) (h : ℕ) → h ≡ g → l ≡ with_charge m.ledger g k
     → stock ≡ with_view m.stock (filling m.stock.view c.number h k) → d
     ≡ record c { stock = with_view c.stock (after_fill c.stock.view h k) } → Filled t w m now g k c l stock d
-filled_all t w m now c g k same ok facts tied visit none there alive empty has l stock d h named charged filled seen =
-    let here = filled_here t w m c g k ok facts tied (subst (λ (x : KnownMachine). Visits t x c) (sym same) visit) none
+filled_all t w m now c g k same ok facts tied visit none small there alive empty has l stock d h named charged filled seen =
+    let here = filled_here t w m c g k ok facts tied (subst (λ (x : KnownMachine). Visits t x c) (sym same) visit) none small
     (ap (λ (x : KnownMachine). has_group x.ledger.groups g) same ∙ there) (ap (λ (x : KnownMachine). is_killed x.killed g) same ∙ alive) empty has in
     let stock_is = filled ∙ ap (λ (n : ℕ). with_view m.stock (filling m.stock.view c.number n k)) named in
     let cpu_is = seen ∙ ap (λ (n : ℕ). record c { stock = with_view c.stock (after_fill c.stock.view n k) }) named in

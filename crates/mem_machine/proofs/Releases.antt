@@ -44,6 +44,7 @@ use Rattle.mem_machine.specs.declared.releasing.Released.TheVariants.{Left, Retu
 use Rattle.mem_machine.proofs.Reaching.{zone_step}
 use Rattle.mem_machine.proofs.Holds.{zone_may_act}
 use Rattle.mem_machine.proofs.Freeing.{free_block_given, unit_freed_consistent}
+use Rattle.mem_machine.proofs.Balances.{balanced_last_put}
 
 -- ---- one note of the zone's seat changed
 
@@ -174,7 +175,9 @@ module _ (t : KnownTable) (w : Words) (m : KnownMachine) (ok : IsConsistent t w 
         units = ok.units;
         lists = stand;
         noted = ok.noted;
+        bounded = ok.bounded;
         charged = ok.charged;
+        balances = ok.balances;
       }
 
       pub left_runs : (c : KnownCpu) → IsLocalRun c.number (local_of t m c) (release_steps f (Left left))
@@ -332,7 +335,7 @@ returned_all t w m now same ok c visit_now f i inside is kept_now links lists le
       consistent = unit_freed_consistent t w m ok f unit heads spots blocks links lists (seat_with m.seat f let_go_last) (with_last_put m.counts) frees areas
           (let s = ok.seats.frames in (s.0, s.1)) sized listed stand
           (others_fit t w m ok f inside kept links lists leaves stand sized listed let_go_last)
-          (last_fits t w m ok f inside kept links lists leaves stand sized listed unit heads);
+          (last_fits t w m ok f inside kept links lists leaves stand sized listed unit heads) (balanced_last_put m.counts ok.balances);
       free_is = free_is;
       returns = record { unit = unit; heads = heads; list = leaves; frees = frees; areas = areas; machine = refl };
       visit = visit_stays t m n c f let_go_last refl (λ k. refl) (λ k. refl) (λ k. refl) visit;

@@ -112,7 +112,9 @@ module _ (t : KnownTable) (w : Words) (m : KnownMachine) (c : KnownCpu) (tied : 
     units = units_stay m.spots f Free within (ap group_of is_lent_spot) refl ok.units;
     lists = ok.lists;
     noted = ok.noted;
+    bounded = ok.bounded;
     charged = λ g. let a = ok.charged g in let b = charges_stay m.spots f Free within (ap group_of is_lent_spot) refl g in omega (arith, a, b);
+    balances = ok.balances;
   }
 
   -- what was not lent before isn't after

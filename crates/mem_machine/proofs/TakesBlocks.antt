@@ -218,11 +218,12 @@ taken_here t w m c ok g fits b may room rise before free blocks was front takes 
       table = ok.seats.table;
       stocks = ok.seats.stocks;
       noted = ok.noted;
+      bounded = ok.bounded;
       charged = λ h. let a = rise h in let old = ok.charged h in omega (arith, a, old);
     } in
     record {
       consistent = unit_kept t w m ok g fits b block spots placed (ap group_of head) (λ x low high ne. were_free x low high) any lru read links new added others
-          all (unfrozen 1) used blocks (with_charge m.ledger g (2 ^ b.order)) m.stock m.counts joins;
+          all (unfrozen 1) used blocks (with_charge m.ledger g (2 ^ b.order)) m.stock m.counts joins ok.balances;
       free_is = frees;
       takes = record {
         room = room;

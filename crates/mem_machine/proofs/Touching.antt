@@ -54,7 +54,9 @@ module _ (t : KnownTable) (w : Words) (m : KnownMachine) (ok : IsConsistent t w 
     units = ok.units;
     lists = all_stand;
     noted = ok.noted;
+    bounded = ok.bounded;
     charged = ok.charged;
+    balances = ok.balances;
   }
 
   pub touch_does : TouchesUnit m f touched (record m { links = links; lists = slice_set m.lists h.owner new })

@@ -8,6 +8,8 @@ pub mod Stocks
 pub mod Marks
 pub mod Freeing
 pub mod Blocks
+pub mod Ending
 pub mod Interleaving
 pub mod Releasing
 pub mod Settling
+pub mod Paying

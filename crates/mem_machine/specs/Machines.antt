@@ -1,5 +1,5 @@
 -- What a contract sees of the machine, and what always holds of it.
-use Rattle.std.specs.Prelude.{◌≡◌, ℕ, ◌+◌, ◌<◌, ◌≤◌, ◌==◌, Bool, false, Option, Some, None, is_some, IfSome, List, length, replicate, slice_set, if◌then◌else◌}
+use Rattle.std.specs.Prelude.{◌≡◌, ℕ, ◌+◌, ◌<◌, ◌≤◌, ◌==◌, Bool, false, Option, Some, None, is_some, IfSome, List, length, replicate, slice_set, min, if◌then◌else◌}
 use Rattle.std.specs.List.{slice_index_or}
 use Rattle.zone_blocks.specs.declared.block.Block.{Block}
 use Rattle.zone_blocks.specs.Areas.{AreMaximalBlocks}
@@ -10,6 +10,7 @@ use Rattle.stock_word.specs.declared.view.Account.{Account}
 use Rattle.stock_word.specs.Stock.{Words, Seated, IsMachine, account_of, first_machine}
 use Rattle.group_charge.specs.Charges.{Ledger, pages_of, initial_ledger, with_new_group}
 use Rattle.group_tree.specs.Groups.{IsLeastFreeNumber}
+use Rattle.group_tree.specs.Room.{max_count}
 use Rattle.lru_lists.specs.declared.record.Link.{Link}
 use Rattle.lru_lists.specs.declared.record.Home.{Home}
 use Rattle.lru_lists.specs.declared.record.Entry.{Entry}
@@ -41,6 +42,10 @@ pub record KnownMachine : Type 0 where
 -- nothing ended and nothing came back
 abbrev pub no_counts : Counts
 no_counts = record { last_puts = 0; freezes = 0; drops = 0; returns = 0 }
+
+-- each unit that came back was put last, frozen or dropped, as far as the counts go, which stay at their greatest
+abbrev pub BalancesCounts : Counts → Type 0
+BalancesCounts counts = counts.returns ≡ min (counts.last_puts + counts.freezes + counts.drops) max_count
 
 -- an empty list
 abbrev pub no_queue : Queue
@@ -107,7 +112,8 @@ pub record AreZoneSeats (t : KnownTable) (w : Words) (seat : KnownSeat) (stock :
 
 -- The machine is consistent. Its free areas are the maximal blocks of the free frames. Each frame is what its record says,
 -- to the zone's seat and to the lists. The charged frames are units of their groups. The lists stand. Nothing that was
--- reported is unabsorbed. What is charged to a group itself are the frames charged to it and the books of its stocks
+-- reported is unabsorbed. Each book fits a stock's word. What is charged to a group itself are the frames charged to it and the
+-- books of its stocks. Each unit that came back was put last, frozen or dropped
 pub record IsConsistent (t : KnownTable) (w : Words) (m : KnownMachine) : Type 0 where
   pub sizes : AreSized t w m
   pub seats : AreZoneSeats t w m.seat m.stock
@@ -116,7 +122,9 @@ pub record IsConsistent (t : KnownTable) (w : Words) (m : KnownMachine) : Type 0
   pub units : AreUnits m.spots
   pub lists : AllStand m.links m.lists
   pub noted : (p : ℕ) → (account_of m.stock.view p).noted ≡ 0
+  pub bounded : (p : ℕ) → (account_of m.stock.view p).book < 65536
   pub charged : (g : ℕ) → pages_of m.ledger g ≡ frames_charged m.spots g + pages_booked t m.stock g
+  pub balances : BalancesCounts m.counts
 
 -- a group of this path was made, and got the least free number
 pub record Makes (m : KnownMachine) (n : ℕ) (path : List ℕ) (after : KnownMachine) : Type 0 where

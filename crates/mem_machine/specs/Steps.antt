@@ -3,10 +3,10 @@ use Rattle.std.specs.Prelude.{ℕ, zero, suc, Option, Some, None, List, [], ◌�
 use Rattle.std.specs.List.{flat_map}
 use Rattle.step_rules.specs.declared.step.Step.{Step}
 use Rattle.step_rules.specs.declared.step.Action.{Action}
-use Rattle.step_rules.specs.declared.step.Action.TheVariants.{OpenVisit, ShutVisit, PassOut, TakeIn, PassBack, Collect, Fill, DrainStock, Grant, Ungrant}
+use Rattle.step_rules.specs.declared.step.Action.TheVariants.{OpenVisit, ShutVisit, PassOut, TakeIn, PassBack, Collect, Consume, Fill, DrainStock, Grant, Ungrant}
 use Rattle.step_rules.specs.declared.step.Action.TheVariants.{NoteMax, SetMax, Make, Remove, Kill}
 use Rattle.step_rules.specs.declared.step.Answer.{Answer}
-use Rattle.step_rules.specs.declared.step.Answer.TheVariants.{Done, Pages, Granted, Over, Number}
+use Rattle.step_rules.specs.declared.step.Answer.TheVariants.{Done, Took, Pages, Granted, Over, Number}
 use Rattle.step_rules.specs.After.{Run}
 
 -- a step of the zone's seat, and its answer
@@ -72,6 +72,10 @@ fill_steps p g n = zone_makes (Grant g n) Granted ∷ zone_makes (Fill p g n) Do
 -- the grant of n pages is refused, since group `over` has no room for them
 abbrev pub over_steps : ℕ → ℕ → ℕ → Run
 over_steps g n over = zone_makes (Grant g n) (Over over) ∷ []
+
+-- the front of p's list becomes fresh, paid for with a page of its stock, which is of the group
+abbrev pub take_front_steps : ℕ → ℕ → Run
+take_front_steps p g = cpu_makes p (Consume g) Took ∷ []
 
 -- it is noted that the group's usage was about to go over its limit
 abbrev pub note_max_steps : ℕ → Run

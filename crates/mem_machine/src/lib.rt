@@ -3,12 +3,14 @@
 #![tactic(auto)]
 
 mod blocks;
+mod ending;
 mod freed;
 mod groups;
 pub mod laws;
 mod lending;
 mod machine;
 mod marks;
+mod paying;
 mod readers;
 mod releasing;
 mod settling;
@@ -20,6 +22,7 @@ mod tests;
 mod visits;
 
 pub use blocks::TakeFault;
+pub use ending::Places;
 pub use machine::{Counts, Machine};
 pub use releasing::Released;
 pub use spot::{Place, Spot};

@@ -86,8 +86,11 @@ impl<N: BootName> Machine<N> {
         pages
     }
 
-    // Charges the pages to the group and fills the processor's stock with them, which is drained.
-    fn fill_stock(
+    /// Charges `pages` pages (1 to 65,535) to a group that isn't killed, and fills the stock of the processor that is visited
+    /// with them; that stock is drained, or was never filled. Where a limit has no room, the error names the lowest such
+    /// group, and nothing changed. The processor has no fresh frame. In all, at most 2^32 - 1 pages can be charged, as
+    /// `see_room` tells.
+    pub fn fill_stock(
         &mut self,
         tables: &Tables<N>,
         cpu: &mut Cpu<N>,

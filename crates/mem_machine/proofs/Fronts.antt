@@ -1,0 +1,253 @@
+-- What the own stock holds, the room for more pages, and the front of a list that is paid for. Serves `own_stock`, `see_room` and `take_front`.
+use Rattle.std.proofs.Common.{◌≡◌, ℕ, ◌+◌, ◌-◌, ◌*◌, ◌^◌, ◌<◌, ◌≤◌, ◌==◌, Bool, true, false, Option, Some, None, List, [], ◌∷◌, ◌++◌, length, zero, suc}
+use Rattle.std.proofs.Common.{refl, sym, ap, ◌∙◌, subst, inl, inr, arith, cond, eq-eqb, length-append}
+use Rattle.std.specs.Prelude.{◌&&◌, is_some, not, nat_le, nat_lt}
+use Rattle.std.proofs.lemmas.Bool.{cases_eq, ne_eqb, and_from, le-leb, lt-ltb}
+use Rattle.group_tree.specs.declared.group.Group.{Group}
+use Rattle.group_tree.specs.Groups.{in_subtree}
+use Rattle.group_charge.specs.Charges.{current_of}
+use Rattle.frame_word.specs.Views.{note_of}
+use Rattle.frame_word.specs.Seats.{KnownTable}
+use Rattle.stock_word.specs.declared.view.Account.{Account}
+use Rattle.stock_word.specs.declared.view.Stock.{Stock}
+use Rattle.stock_word.specs.declared.view.Stock.TheVariants as stock_is
+use Rattle.stock_word.specs.Stock.{Words, Seated, account_of, stocked, pages_of, group_of, is_held}
+use Rattle.stock_word.specs.Kinds.{after_took}
+use Rattle.stock_word.specs.Calls.{with_view}
+use Rattle.cpu_part.specs.Cpus.{KnownCpu, IsTied, times}
+use Rattle.cpu_part.specs.Calls.{TakesFront}
+use Rattle.step_rules.specs.declared.phase.Stage.TheVariants.{FreshAt}
+use Rattle.step_rules.specs.declared.phase.Phase.{Phase}
+use Rattle.step_rules.specs.declared.phase.Phase.TheVariants as phase
+use Rattle.step_rules.specs.declared.step.Action.TheVariants.{Consume}
+use Rattle.step_rules.specs.declared.step.Answer.TheVariants.{Took}
+use Rattle.step_rules.specs.Phases.{keeper_of}
+use Rattle.step_rules.specs.State.{State, Part, with_at, one_if, sum_to, front_of, without, is_cpu}
+use Rattle.step_rules.specs.Usage.{is_below, frames_kept, stock_below, pages_prepaid, pages_pending, usage_of}
+use Rattle.step_rules.specs.After.{after, paid, consumed}
+use Rattle.step_rules.specs.Legal.{is_legal, IsAnswer}
+use Rattle.step_rules.proofs.Basics.{at_same, at_other}
+use Rattle.step_rules.proofs.Sums.{sum_none}
+use Rattle.mem_machine.specs.declared.spot.Spot.{Spot}
+use Rattle.mem_machine.specs.declared.spot.Spot.TheVariants.{Free, Lent, Head, Tail}
+use Rattle.mem_machine.specs.Spots.{spot_at, some_cpu}
+use Rattle.mem_machine.specs.Machines.{KnownMachine, IsConsistent, Visits}
+use Rattle.mem_machine.specs.Local.{local_of, phase_of, part_of, part_with, IsLocalRun}
+use Rattle.mem_machine.specs.Steps.{take_front_steps}
+use Rattle.mem_machine.specs.Stocks.{stock_group}
+use Rattle.mem_machine.specs.Paying.{IsOfSize, IsOwnStock, HoldsPage, PaysForFront, HasRoomFor, pages_held}
+use Rattle.mem_machine.proofs.Reaching.{cpu_step, run_one}
+use Rattle.mem_machine.proofs.Holds.{own_part, seated_cpu}
+use Rattle.mem_machine.proofs.Records.{lent_spot}
+use Rattle.mem_machine.proofs.Lends.{parts_changed, lent_listed}
+use Rattle.mem_machine.proofs.Takes.{without_front}
+use Rattle.cpu_part.proofs.Counts.{test_here, times_front}
+use Rattle.mem_machine.proofs.Shown.{fresh_phase}
+
+-- ---- the own stock
+
+pub own_is : (t : KnownTable) (w : Words) (m now : KnownMachine) → m ≡ now → (c : KnownCpu) (stock : Stock) → IsTied t w c → IsConsistent t w m
+    → (account_of m.stock.view c.number).book ≡ pages_of stock + c.stock.view.fresh + (account_of m.stock.view c.number).noted
+    → group_of stock ≡ (account_of m.stock.view c.number).group → is_held stock ≡ (account_of m.stock.view c.number).filled → IsOwnStock now c stock
+own_is t w m now same c stock tied ok balanced group held = subst (λ (x : KnownMachine). IsOwnStock x c stock) same (record {
+  group = group;
+  held = held;
+  pages = let none = ok.noted c.number in let fresh = tied.within.pages_are in omega (arith, balanced, none, fresh);
+})
+
+-- ---- the room for more
+
+at_most : (n k : ℕ) (h : ℕ → ℕ) → ((i : ℕ) → h i ≤ k) → sum_to n h ≤ n * k
+unfolding sum_to
+at_most zero k h each = omega arith
+at_most (suc n) k h each = let rest = at_most n k h each in let last = each n in omega (arith, rest, last)
+
+one_at_most : (b : Bool) → one_if b ≤ 1
+one_at_most true = omega arith
+one_at_most false = omega arith
+
+cond_at_most : (b : Bool) (x : ℕ) → cond b x 0 ≤ x
+cond_at_most true x = omega arith
+cond_at_most false x = omega arith
+
+-- no stock shows more pages than its book
+pages_shown : (stock : Seated) (c : KnownCpu) (q k : ℕ) → (account_of stock.view q).book ≤ k → (part_of stock c q).stock.pages ≤ k
+pages_shown stock c q k small =
+    let a = account_of stock.view q in
+    elim (cases_eq q c.number) [
+      | inl e ↦ let u : (q == c.number) ≡ true = eq-eqb q c.number e in rw u (omega (arith, small))
+      | inr ne ↦ let u : (q == c.number) ≡ false = ne_eqb q c.number ne in rw u (omega (arith, small))
+    ]
+
+none_pending : (groups : List Group) (g : ℕ) → pages_pending groups (λ h. 0) g ≡ 0
+none_pending groups g = sum_none 64 _ (λ h lt. zero_both (in_subtree groups g h))
+  where
+    zero_both : (b : Bool) → ◌≡◌ {A = ℕ} (cond b 0 0) 0
+    zero_both true = refl
+    zero_both false = refl
+
+usage_small : (t : KnownTable) (w : Words) (m : KnownMachine) (c : KnownCpu) → IsConsistent t w m → (g : ℕ)
+    → usage_of (local_of t m c) g ≤ t.frames * 1 + (t.cpus + 1) * 65535
+usage_small t w m c ok g =
+    let groups = m.ledger.groups in
+    let kept : frames_kept groups (λ f. phase_of c f (spot_at m.spots f)) t.frames g ≤ t.frames * 1
+    = at_most t.frames 1 (λ f. one_if (is_below groups g (keeper_of (phase_of c f (spot_at m.spots f)))))
+    (λ f. one_at_most (is_below groups g (keeper_of (phase_of c f (spot_at m.spots f))))) in
+    let prepaid : pages_prepaid groups (part_of m.stock c) t.cpus g ≤ (t.cpus + 1) * 65535
+    = at_most (t.cpus + 1) 65535 (λ p. stock_below groups g (part_of m.stock c p))
+    (λ p. let a = cond_at_most (is_below groups g (part_of m.stock c p).stock.group) (part_of m.stock c p).stock.pages in
+    let b = pages_shown m.stock c p 65535 (let low = ok.bounded p in omega (arith, low)) in omega (arith, a, b)) in
+    let pending = none_pending groups g in
+    omega (arith, kept, prepaid, pending)
+
+pub room_for : (t : KnownTable) (w : Words) (m now : KnownMachine) → m ≡ now → (c : KnownCpu) → IsConsistent t w m → IsOfSize t
+    → ((g : ℕ) → usage_of (local_of t now c) g ≡ current_of now.ledger g) → (pages : ℕ) → pages < 65536 → HasRoomFor now pages
+room_for t w m now same c ok size usage pages few =
+    let small = subst (λ (x : KnownMachine). usage_of (local_of t x c) 0 ≤ t.frames * 1 + (t.cpus + 1) * 65535) same (usage_small t w m c ok 0) in
+    let is = usage 0 in
+    let frames = size.frames in
+    let cpus = size.cpus in
+    omega (arith, small, is, frames, cpus, few)
+
+-- ---- the front that is paid for
+
+pub has_page : (t : KnownTable) (w : Words) (m now : KnownMachine) → m ≡ now → (c : KnownCpu) (g : ℕ) → IsTied t w c → IsConsistent t w m → HoldsPage now c g
+    → 0 < stocked m.stock.view c.stock.view
+has_page t w m now same c g tied ok page =
+    let some : 1 ≤ pages_held m c = subst (λ (x : KnownMachine). 1 ≤ pages_held x c) (sym same) page.some in
+    let none = ok.noted c.number in
+    let fresh = tied.within.pages_are in
+    let at : stocked m.stock.view c.stock.view ≡ (account_of m.stock.view c.number).book - c.stock.view.fresh - (account_of m.stock.view c.number).noted
+    = ap (λ (p : ℕ). (account_of m.stock.view p).book - c.stock.view.fresh - (account_of m.stock.view p).noted) tied.seats.stock_number in
+    omega (arith, some, none, fresh, at)
+
+pub left_after : (t : KnownTable) (w : Words) (m : KnownMachine) (c : KnownCpu) → IsTied t w c → IsConsistent t w m
+    → stocked m.stock.view c.stock.view - 1 ≡ pages_held m c - 1
+left_after t w m c tied ok =
+    let none = ok.noted c.number in
+    let fresh = tied.within.pages_are in
+    let at : stocked m.stock.view c.stock.view ≡ (account_of m.stock.view c.number).book - c.stock.view.fresh - (account_of m.stock.view c.number).noted
+    = ap (λ (p : ℕ). (account_of m.stock.view p).book - c.stock.view.fresh - (account_of m.stock.view p).noted) tied.seats.stock_number in
+    omega (arith, none, fresh, at)
+
+one_time : (f : ℕ) → times f (f ∷ []) ≡ 1
+one_time f = let a = times_front f f [] in let b = test_here f in omega (arith, a, b)
+
+no_time : (h f : ℕ) → (h ≡ f → ⊥) → times h (f ∷ []) ≡ 0
+no_time h f ne =
+    let a = times_front h f [] in
+    let u : (f == h) ≡ false = ne_eqb f h (λ e. ne (sym e)) in
+    let b : ◌≡◌ {A = ℕ} (cond (f == h) 1 0) 0 = ap (λ (x : Bool). cond x 1 0) u in
+    omega (arith, a, b)
+
+and_no : (b : Bool) → (b && false) ≡ false
+and_no true = refl
+and_no false = refl
+
+-- what the processor that is visited is once its front was paid for
+abbrev paid_cpu : KnownMachine → KnownCpu → ℕ → ℕ → List ℕ → KnownCpu
+paid_cpu m c g f rest = record c { list = rest; fresh = c.fresh ++ f ∷ []; stock = with_view c.stock (after_took c.stock.view g (pages_held m c - 1)) }
+
+module _ (t : KnownTable) (w : Words) (m : KnownMachine) (c : KnownCpu) (tied : IsTied t w c) (ok : IsConsistent t w m) (visit : Visits t m c)
+    (g f : ℕ) (rest : List ℕ) (front : c.list ≡ f ∷ rest) (inside : f < t.frames) (page : HoldsPage m c g) (none : c.fresh ≡ []) where
+  abbrev d : KnownCpu
+  d = paid_cpu m c g f rest
+
+  fresh_is : d.fresh ≡ f ∷ []
+  fresh_is = ap (λ (l : List ℕ). l ++ f ∷ []) none
+
+  listed_times : times f c.list ≡ 1 + times f rest
+  listed_times = let a = ap (times f) front ∙ times_front f f rest in let b = test_here f in omega (arith, a, b)
+
+  once : (times f c.list ≡ 1) × (times f rest ≡ 0)
+  once = let n = tied.noted f in let o = n.once in let b = n.borrowed_is in let l = listed_times in (omega (arith, o, b, l), omega (arith, o, b, l))
+
+  is_lent : spot_at m.spots f ≡ Lent c.number
+  is_lent =
+      let n = tied.noted f in
+      let b = n.borrowed_is in
+      let o = n.once in
+      let l = once.0 in
+      let borrowed : (note_of c.seat.view f).borrowed ≡ 1 = omega (arith, b, o, l) in
+      lent_spot (spot_at m.spots f) c.number tied.seats.some_number
+      (ap some_cpu (sym ((visit.lent f inside).1 borrowed ∙ tied.seats.frame_number)) ∙ (ok.spots f inside).lent)
+
+  phase_here : phase_of d f (spot_at m.spots f) ≡ consumed c.number g
+  phase_here = fresh_phase d f (spot_at m.spots f) is_lent (ap (times f) fresh_is ∙ one_time f)
+
+  phase_else : (h : ℕ) (x : Spot) → (h ≡ f → ⊥) → phase_of d h x ≡ phase_of c h x
+  phase_else h Free ne = refl
+  phase_else h (Lent q) ne = lent_listed d h q (ap (times h) fresh_is ∙ no_time h f ne) ∙ sym (lent_listed c h q (ap (times h) none))
+  phase_else h (Head unit) ne = refl
+  phase_else h (Tail k) ne = refl
+
+  phases_paid : (h : ℕ) → phase_of d h (spot_at m.spots h) ≡ with_at (λ y. phase_of c y (spot_at m.spots y)) f (consumed c.number g) h
+  phases_paid h = elim (cases_eq h f) [
+    | inl e ↦ subst (λ (k : ℕ). phase_of d k (spot_at m.spots k) ≡ with_at (λ y. phase_of c y (spot_at m.spots y)) f (consumed c.number g) k) (sym e)
+        (phase_here ∙ sym (at_same (λ y. phase_of c y (spot_at m.spots y)) f (consumed c.number g)))
+    | inr ne ↦ phase_else h (spot_at m.spots h) ne ∙ sym (at_other (λ y. phase_of c y (spot_at m.spots y)) f (consumed c.number g) h ne)
+  ]
+
+  fronted : front_of c.list ≡ f
+  fronted = ap front_of front
+
+  part_paid : part_with rest (c.fresh ++ f ∷ []) c.back (account_of m.stock.view c.number) ≡ paid (part_of m.stock c c.number)
+  part_paid =
+      let a = account_of m.stock.view c.number in
+      let long = length-append c.fresh (f ∷ []) in
+      let noted = ok.noted c.number in
+      let pages : a.book - length (c.fresh ++ f ∷ []) - a.noted ≡ a.book - length c.fresh - a.noted - 1 = omega (arith, long, noted) in
+      sym (ap paid (own_part m c)
+      ∙ (λ i. record (part_with rest (c.fresh ++ f ∷ []) c.back a) {
+        list = (ap (λ (k : ℕ). without k c.list) fronted ∙ without_front f c.list rest front once.1) i;
+        fresh = c.fresh ++ fronted i ∷ [];
+        stock = record { group = a.group; pages = sym pages i; is_drained = is_some a.group && not a.filled };
+      }))
+
+  pub front_runs : IsLocalRun c.number (local_of t m c) (take_front_steps c.number g) (local_of t m d)
+  front_runs =
+      let p = c.number in
+      let s = local_of t m c in
+      let own = own_part m c in
+      let a = account_of m.stock.view p in
+      let some : nat_le 1 (length (part_of m.stock c p).list) ≡ true =
+      ap (λ (x : Part). nat_le 1 (length x.list)) own ∙ le-leb 1 (length c.list) (let l = ap length front in omega (arith, l)) in
+      let room : nat_lt (length (part_of m.stock c p).fresh) 32 ≡ true = ap (λ (x : Part). nat_lt (length x.fresh) 32) own
+      ∙ ap (λ (l : List ℕ). nat_lt (length l) 32) none in
+      let cpu : is_cpu s.zone p ≡ true = seated_cpu t c (record { some_number = tied.seats.some_number; cpus = tied.seats.frame_cpus }) in
+      let legal : is_legal s p (Consume g) ≡ true = and_from _ _ (and_from _ _ cpu some) room in
+      let pages : 1 ≤ (part_of m.stock c p).stock.pages
+      = subst (λ (x : Part). 1 ≤ x.stock.pages) (sym own) (let k = page.some in let n = ok.noted p in omega (arith, k, n)) in
+      let drained : (part_of m.stock c p).stock.is_drained ≡ false = ap (λ (x : Part). x.stock.is_drained) own
+      ∙ ap (λ (b : Bool). is_some a.group && not b) page.held ∙ and_no (is_some a.group) in
+      let answer : IsAnswer s p (Consume g) Took = (ap (λ (x : Part). x.stock.group) own ∙ page.group, drained, pages) in
+      let at : front_of (part_of m.stock c p).list ≡ f = ap (λ (x : Part). front_of x.list) own ∙ fronted in
+      let parts = parts_changed m.stock c rest (c.fresh ++ f ∷ []) c.back (paid (part_of m.stock c p)) part_paid in
+      run_one p s (local_of t m d) p (Consume g) Took (cpu_step s p (Consume g) Took refl legal answer)
+      ((λ i. record s { phases = λ h. phases_paid h i; parts = λ q. parts q i })
+      ∙ (λ i. record s { phases = with_at s.phases (sym at i) (consumed p g); parts = with_at s.parts p (paid (part_of m.stock c p)) }))
+
+-- all of it, of the machine as it was seen before
+pub record FrontPaid (t : KnownTable) (w : Words) (now : KnownMachine) (g f : ℕ) (c : KnownCpu) (n : KnownMachine) (d : KnownCpu) : Type 0 where
+  pub consistent : IsConsistent t w n
+  pub pays : PaysForFront g f now c n d
+  pub visit : Visits t n d
+  pub steps : IsLocalRun c.number (local_of t now c) (take_front_steps c.number g) (local_of t n d)
+
+pub front_paid : (t : KnownTable) (w : Words) (m now : KnownMachine) → m ≡ now → (c : KnownCpu) → IsTied t w c → IsConsistent t w m → Visits t now c
+    → (g f h : ℕ) → h ≡ g → HoldsPage now c g → c.fresh ≡ [] → f < t.frames → (stock : Seated) → stock ≡ m.stock → (d : KnownCpu)
+    → TakesFront h (stocked m.stock.view c.stock.view - 1) f c d → FrontPaid t w now g f c (record m { stock = stock }) d
+front_paid t w m now same c tied ok visit_now g f h named page_now none inside stock is d takes =
+    let visit : Visits t m c = subst (λ (x : KnownMachine). Visits t x c) (sym same) visit_now in
+    let page : HoldsPage m c g = subst (λ (x : KnownMachine). HoldsPage x c g) (sym same) page_now in
+    let rest = takes.0 in
+    let left = left_after t w m c tied ok in
+    let all : FrontPaid t w m g f c m (paid_cpu m c g f rest) = record {
+      consistent = ok;
+      pays = record { takes = (rest, takes.1, refl); machine = refl };
+      visit = record { is_open = visit.is_open; still = visit.still; lent = visit.lent };
+      steps = front_runs t w m c tied ok visit g f rest takes.1 inside page none;
+    } in
+    let cpu : d ≡ paid_cpu m c g f rest = takes.2
+    ∙ (λ i. record c { list = rest; fresh = c.fresh ++ f ∷ []; stock = with_view c.stock (after_took c.stock.view (named i) (left i)) }) in
+    subst (λ (x : KnownMachine × KnownMachine × KnownCpu). FrontPaid t w x.0 g f c x.1 x.2) (λ i. (same i, record m { stock = sym is i }, sym cpu i)) all

@@ -1,0 +1,18 @@
+-- What the frames are where the machine ends.
+use Rattle.std.specs.Prelude.{◌≢◌, ℕ, List, is_some, sum_by}
+use Rattle.step_rules.specs.State.{one_if}
+use Rattle.mem_machine.specs.declared.spot.Spot.{Spot}
+use Rattle.mem_machine.specs.declared.spot.Spot.TheVariants.{Lent}
+use Rattle.mem_machine.specs.Spots.{is_free, group_of, spot_at}
+
+-- how many frames are free
+abbrev pub frames_free : List Spot → ℕ
+frames_free spots = sum_by (λ x. one_if (is_free x)) spots
+
+-- how many frames are charged to a group
+abbrev pub frames_in_groups : List Spot → ℕ
+frames_in_groups spots = sum_by (λ x. one_if (is_some (group_of x))) spots
+
+-- no frame is lent to processor p
+abbrev pub NoneLentTo : ℕ → List Spot → Type 0
+NoneLentTo p spots = (f : ℕ) → spot_at spots f ≢ Lent p

@@ -1,0 +1,74 @@
+//! The end of the machine: what its frames are then, and its two seats.
+
+ghost use Rattle.std.specs.Prelude.{◌≡◌, []};
+ghost use Rattle.frame_word.specs.Seats.{LentIsBorrowed};
+ghost use Rattle.mem_machine.specs.Machines.{IsConsistent};
+ghost use Rattle.mem_machine.specs.Ending.{frames_free, frames_in_groups, NoneLentTo};
+
+use crate::machine::Machine;
+use crate::spot::Spot;
+use cpu_part::{BootName, Cpu, Tables};
+use frame_word::FrameSeat;
+use stock_word::StockSeat;
+
+/// How many frames are free, and how many are charged to a group.
+#[derive(Clone, Copy, Debug, PartialEq, Eq)]
+pub struct Places {
+    /// In the zone's free areas.
+    pub free: u32,
+    /// Charged to a group.
+    pub charged: u32,
+}
+
+impl<N: BootName> Machine<N> {
+    /// Counts the frames that are free and those that are charged. The others are lent to a processor.
+    pub fn count_places(&self, tables: &Tables<N>) -> Places
+        ensures free { result.free ≡ frames_free self.now.spots }
+        ensures charged { result.charged ≡ frames_in_groups self.now.spots }
+    {
+        let _frames = tables.frames.frames();
+        let mut places = Places {
+            free: 0,
+            charged: 0,
+        };
+        for spot in &self.spots {
+            match spot {
+                Spot::Free => places.free += 1,
+                Spot::Lent(_) => {}
+                Spot::Head(_) | Spot::Tail(_) => places.charged += 1,
+            }
+        }
+        places
+    }
+
+    /// Shows that no frame is lent to a processor which lists none and has none fresh. It does nothing.
+    pub fn see_none_lent(&self, cpu: &Cpu<N>)
+        requires lent { LentIsBorrowed N.frames self.now.seat cpu.now.seat }
+        requires none_listed { cpu.now.list ≡ [] }
+        requires none_fresh { cpu.now.fresh ≡ [] }
+        ensures { NoneLentTo cpu.now.number self.now.spots }
+    {
+        let _ = &self.seat;
+        let _number = cpu.number();
+    }
+
+    /// Takes the machine apart, for the end of the two tables: the zone's seats at the frames' table and at the stocks'.
+    pub fn into_seats(self) -> (FrameSeat, StockSeat)
+        ensures seats { result ≡ (self.seat, self.stock) }
+        ensures consistent { IsConsistent N.frames N.stocks self }
+    {
+        let Machine {
+            zone: _,
+            spots: _,
+            charges: _,
+            links: _,
+            lists: _,
+            seat,
+            stock,
+            killed: _,
+            counts: _,
+            of: _,
+        } = self;
+        (seat, stock)
+    }
+}

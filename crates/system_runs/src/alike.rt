@@ -1,0 +1,85 @@
+//! What has to be alike after each turn, as a processor sees it that does nothing else.
+
+use crate::account::Account;
+use crate::turns::{file, path};
+use crate::visits::{owner, reads};
+use cpu_part::{BootName, Cpu, Tables};
+use mem_system::{Cmd, System};
+use std::alloc::Global;
+use std::process::Abort;
+use std::sync::Wait;
+
+/// Each frame is at the same place.
+pub fn places_alike<N: BootName, R: Wait + Abort>(
+    rt: &R,
+    system: &System<N>,
+    looker: &mut Cpu<N>,
+    account: &Account,
+) {
+    for number in 0..account.sizes.frames {
+        let frame = system.tables().frames.frame(number).expect(rt, "a frame");
+        let cmd = Cmd::Owner {
+            frame: frame.number(),
+        };
+        let wanted = owner(rt, account, number);
+        assert_eq!(rt; system.visit(rt, looker, &cmd), wanted);
+    }
+}
+
+// The files of the group of this path read the same.
+fn files_alike<N: BootName, R: Wait + Abort>(
+    rt: &R,
+    alloc: Global,
+    system: &System<N>,
+    looker: &mut Cpu<N>,
+    account: &Account,
+    path: &[u8],
+) {
+    for number in 0..5 {
+        let file = file(number);
+        let reply = system.visit(rt, looker, &Cmd::Read { path, file });
+        reads(rt, alloc, account, (path, file), &reply);
+    }
+}
+
+/// Each group is there or not, and its files read the same.
+pub fn groups_alike<N: BootName, R: Wait + Abort>(
+    rt: &R,
+    alloc: Global,
+    system: &System<N>,
+    looker: &mut Cpu<N>,
+    account: &Account,
+) {
+    for number in [1, 4, 6, 9, 11, 13] {
+        let path = path(number);
+        assert_eq!(rt; system.find(rt, path), account.core.tree().find(path));
+        files_alike(rt, alloc, system, looker, account, path);
+    }
+}
+
+/// The processor has as many frames on its list, as many fresh, back and pinned, and the same fresh ones.
+pub fn lists_alike<N: BootName>(
+    rt: &impl Abort,
+    tables: &Tables<N>,
+    cpu: &Cpu<N>,
+    account: &Account,
+) {
+    let number = cpu.number();
+    let core = &account.core;
+    assert_eq!(rt; cpu.list_len(), core.list_len(number));
+    assert_eq!(rt; cpu.fresh_len(), core.fresh(number).len());
+    assert_eq!(rt; cpu.back_len(), core.back(number).len());
+    assert_eq!(rt; cpu.pins(), core.pins(number) as usize);
+    for fresh in core.fresh(number) {
+        let frame = tables.frames.frame(*fresh).expect(rt, "a frame");
+        assert!(rt; cpu.has_fresh(frame));
+    }
+}
+
+/// A kept unit is one on which the zone has a reference.
+pub fn units_alike(rt: &impl Abort, account: &Account) {
+    for frame in 0..account.sizes.frames {
+        let is_kept = account.units.find(frame).is_some();
+        assert_eq!(rt; account.core.references(0, frame) == 1, is_kept);
+    }
+}

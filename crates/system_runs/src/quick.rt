@@ -1,0 +1,105 @@
+//! The calls that take no lock: what each answers by the core's side, and its steps.
+
+use crate::account::Account;
+use crate::steps::step;
+use cpu_part::{Dropped, Fast};
+use frame_word::{Get, Put};
+use group_tree::fault::Fault;
+use group_tree::group::GroupId;
+use std::process::Abort;
+use step_rules::step::{Action, Answer};
+
+// Whether the processor saw last that its stock, which is of the group, has no page.
+fn saw_none(rt: &impl Abort, account: &Account, cpu: u32, group: GroupId) -> bool {
+    assert!(rt; cpu < 17);
+    account.core.stock_group(cpu) == Some(group) && account.saw_none[cpu as usize]
+}
+
+// The front of the list is paid for, or not.
+fn paid(rt: &impl Abort, account: &mut Account, cpu: u32, group: GroupId, fast: Fast) {
+    let front = account.core.front(cpu);
+    let action = Action::Consume { group };
+    let answer = step(rt, &mut account.core, cpu, action);
+    match fast {
+        Fast::Got(frame) => {
+            assert_eq!(rt; answer, Answer::Took);
+            assert_eq!(rt; frame.number(), front);
+            account.note_stock(rt, cpu);
+        }
+        Fast::NoStock => assert_eq!(rt; answer, Answer::Empty),
+        Fast::OtherGroup => assert_eq!(rt; answer, Answer::OtherGroup),
+        Fast::Drained => {
+            assert_eq!(rt; answer, Answer::Drained);
+            account.note_drain(rt, cpu);
+        }
+        Fast::FreshFull | Fast::ListEmpty => panic!(rt; "neither full nor empty"),
+    }
+}
+
+/// A frame is taken on the fast path, or not. That the stock has no page is told by what the processor saw of it last.
+pub fn follow_fast(rt: &impl Abort, account: &mut Account, cpu: u32, group: GroupId, fast: Fast) {
+    if account.core.fresh(cpu).len() >= 32 {
+        assert_eq!(rt; fast, Fast::FreshFull);
+    } else if account.core.list_len(cpu) == 0 {
+        assert_eq!(rt; fast, Fast::ListEmpty);
+    } else if saw_none(rt, account, cpu, group) {
+        assert_eq!(rt; fast, Fast::NoStock);
+    } else {
+        paid(rt, account, cpu, group, fast);
+    }
+}
+
+/// A fresh frame goes back to the list, or not.
+pub fn follow_drop(rt: &impl Abort, account: &mut Account, cpu: u32, frame: u32, dropped: Dropped) {
+    let answer = step(rt, &mut account.core, cpu, Action::Credit { frame });
+    match dropped {
+        Dropped::Listed => {
+            assert_eq!(rt; answer, Answer::Back);
+            account.note_stock(rt, cpu);
+        }
+        Dropped::NeedVisit => {
+            assert_eq!(rt; answer, Answer::Drained);
+            account.note_drain(rt, cpu);
+        }
+    }
+}
+
+// How many references a processor may have with its back frames.
+const MOST_PINS: usize = 256;
+
+/// The processor asks for a reference.
+pub fn follow_get(
+    rt: &impl Abort,
+    account: &mut Account,
+    cpu: u32,
+    frame: u32,
+    got: Result<Get, Fault>,
+) {
+    let pins = account.core.pins(cpu) as usize;
+    let back = account.core.back(cpu).len();
+    if pins.saturating_add(back) >= MOST_PINS {
+        assert_eq!(rt; got, Err(Fault::PinsFull));
+        return;
+    }
+    let wanted = match step(rt, &mut account.core, cpu, Action::Get { frame }) {
+        Answer::Held => Get::Held,
+        Answer::Full => Get::Full,
+        answer => {
+            assert_eq!(rt; answer, Answer::Zero);
+            Get::Zero
+        }
+    };
+    assert_eq!(rt; got, Ok(wanted));
+}
+
+/// The processor gives a reference up.
+pub fn follow_put(rt: &impl Abort, account: &mut Account, cpu: u32, frame: u32, put: Put) {
+    let wanted = match step(rt, &mut account.core, cpu, Action::Put { frame }) {
+        Answer::Left(left) => Put::Left(u64::from(left)),
+        answer => {
+            assert_eq!(rt; answer, Answer::Last);
+            Put::Last
+        }
+    };
+    assert_eq!(rt; put, wanted);
+}
