@@ -1,5 +1,5 @@
 -- What a line names is there.
-use Rattle.std.specs.Prelude.{ℕ, ◌≤◌, ◌<◌, ⊤}
+use Rattle.std.specs.Prelude.{ℕ, ◌≤◌, ◌<◌}
 use Rattle.script_lines.specs.declared.line.Command.{Command}
 use Rattle.script_lines.specs.declared.line.Command.TheVariants.{Fast, Release, Get, Put, Touch, Dirty, Clean, Owner, Blocks, Show}
 use Rattle.script_lines.specs.declared.line.Line.{Line}

@@ -2,12 +2,12 @@
 
 ghost use Rattle.std.specs.Prelude.{◌≡◌, ◌++◌, ◌<◌, ℕ, IfOk, List};
 ghost use Rattle.std.specs.String.{string_bytes};
-ghost use Rattle.mem_system.specs.Boots.{KnownLocked};
 ghost use Rattle.mem_system.specs.Commands.{IsOfZone};
-ghost use Rattle.script_replay.specs.Answers.{Answers, AnswersGet, AnswersPut, AnswersRelease, AnswersSettle, AnswersText, RepliesServed};
+ghost use Rattle.script_replay.specs.Answers.{Answers, AnswersRelease, AnswersSettle, AnswersText, RepliesServed};
 ghost use Rattle.script_replay.specs.Ranges.{HasAnswer, NamesInRange};
 
-use cpu_part::{BootName, Cpu, Dropped, Tables};
+use crate::unlocked::{get, lists, put};
+use cpu_part::{BootName, Cpu, Tables};
 use group_tree::fault::Fault;
 use mem_system::{Cmd, Locked, Reply, blocks, serve, show};
 use reply_texts::Answer;
@@ -106,33 +106,8 @@ fn release<N: BootName>(
     requires { number < N.frames.frames }
     ensures { AnswersRelease N.frames number locked.old cpu.old result locked.new cpu.new }
 {
-    let frame = tables.frames.frame(number).unwrap();
-    if cpu.has_fresh(frame) && cpu.drop_fresh(tables, frame) == Dropped::Listed {
+    if lists(tables, cpu, number) {
         return Answer::Listed;
     }
     served(locked, tables, cpu, &Cmd::Release { frame: number })
-}
-
-// Pins the frame, without the lock.
-fn get<N: BootName>(tables: &Tables<N>, cpu: &mut Cpu<N>, number: u32) -> Answer
-    requires { number < N.frames.frames }
-    ensures { (l : KnownLocked) → AnswersGet number l cpu.old result l cpu.new }
-{
-    let frame = tables.frames.frame(number).unwrap();
-    match cpu.get(tables, frame) {
-        Ok(got) => Answer::Got(got),
-        Err(fault) => Answer::Served(Reply::Refused(fault)),
-    }
-}
-
-// Takes a pin from the frame, without the lock.
-fn put<N: BootName>(tables: &Tables<N>, cpu: &mut Cpu<N>, number: u32) -> Answer
-    requires { number < N.frames.frames }
-    ensures { (l : KnownLocked) → AnswersPut number l cpu.old result l cpu.new }
-{
-    let frame = tables.frames.frame(number).unwrap();
-    if !cpu.holds(frame) {
-        return Answer::Served(Reply::Refused(Fault::NotPinned));
-    }
-    Answer::Put(cpu.put(tables, frame))
 }

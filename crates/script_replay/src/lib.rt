@@ -3,5 +3,8 @@
 
 mod answering;
 mod replaying;
+mod unlocked;
+mod visiting;
 
 pub use replaying::replay;
+pub use visiting::replay_lines;
