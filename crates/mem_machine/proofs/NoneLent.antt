@@ -28,7 +28,7 @@ lent_is (suc n) p is = let same : suc n ≡ p = number_is is in (same, omega (ar
     number_is : Some (suc n) ≡ Some p → suc n ≡ p
     number_is e = ap (number_or 0) e
 
-past_free : (p : ℕ) → Free ≡ Lent p → ⊥
+pub past_free : (p : ℕ) → Free ≡ Lent p → ⊥
 past_free p e = none-some p (ap lent_to e)
 
 -- a frame that is lent is one of the zone's, and the zone's seat notes whom it is lent to

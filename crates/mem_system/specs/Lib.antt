@@ -1,5 +1,6 @@
 pub mod Boots
 pub mod Commands
+pub mod Ends
 pub mod Files
 pub mod Kept
 pub mod Leaves

@@ -2,24 +2,29 @@
 //! processor makes under that lock.
 #![tactic(auto)]
 
+mod audit;
 mod booted;
 mod booting;
 mod command;
 mod directories;
+mod ending;
 mod files;
 mod kept;
 mod locked;
 mod owners;
 mod released;
+mod resting;
 mod serving;
 mod shown;
 mod system;
 #[cfg(test)]
 mod tests;
 
+pub use audit::Audit;
 pub use booted::Boot;
 pub use booting::{BootFault, boot};
 pub use command::{Cmd, Reply};
+pub use ending::{Pinned, end};
 pub use locked::Locked;
 pub use serving::serve;
 pub use shown::{blocks, show};

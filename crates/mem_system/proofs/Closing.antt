@@ -1,0 +1,202 @@
+-- Serves the end of a system: what the closed tables tell, where each processor has nothing left.
+use Rattle.std.proofs.Common.{◌≡◌, ℕ, zero, suc, ◌-◌, ◌<◌, ◌≤◌, ◌==◌, false, true, List, [], ◌∷◌, ◌++◌, length, map, take, drop, get_or, refl, sym, ap}
+use Rattle.std.proofs.Common.{◌∙◌, subst, inl, inr, arith, append-nil, eq-eqb}
+use Rattle.std.specs.Prelude.{All, is_some, slice_index}
+use Rattle.std.proofs.lemmas.Bool.{cond-true, cond-false, ne_eqb, false≢true}
+use Rattle.std.proofs.lemmas.List.{take_all, drop_all}
+use Rattle.seat_sums.specs.Totals.{sum_over}
+use Rattle.frame_word.specs.declared.view.FrameView.{FrameView}
+use Rattle.frame_word.specs.Views.{note_of}
+use Rattle.frame_word.specs.ReferenceRule.{no_mark, only, references_in}
+use Rattle.frame_word.specs.ReferenceRule.{opened_in}
+use Rattle.frame_word.specs.Seats.{KnownTable, KnownSeat, view_of, AreSeatsAt}
+use Rattle.stock_word.specs.declared.view.Stock.{Stock}
+use Rattle.stock_word.specs.declared.view.Stock.TheVariants.{NoGroup, HeldBy, DrainedOf}
+use Rattle.stock_word.specs.Stock.{Words, Seated, AreOf, account_of, view_in, pages_of, is_held}
+use Rattle.cpu_part.specs.Cpus.{KnownCpu, IsIdle, times}
+use Rattle.step_rules.specs.State.{one_if}
+use Rattle.mem_machine.specs.Machines.{KnownMachine, IsConsistent, home_of}
+use Rattle.mem_machine.specs.Ending.{NoneLentTo}
+use Rattle.mem_machine.proofs.NoneLent.{lent_noted, each_is_placed}
+use Rattle.mem_system.specs.declared.audit.Audit.{Audit}
+use Rattle.mem_system.specs.Boots.{KnownLocked, AllShut}
+use Rattle.mem_system.specs.Ends.{Happens, InTurn, Rests, Empties, IsSpent, Tells, IsClosed, Ends, frame_seat_of, stock_seat_of, pins_of}
+
+-- as many processors are visited as there are
+pub turn_long : (t : KnownTable) (P : Happens) (m : KnownMachine) (cpus : List KnownCpu) (n : KnownMachine) (after : List KnownCpu) → InTurn t P m cpus n after
+    → length after ≡ length cpus
+turn_long t P m [] n [] turn = refl
+turn_long t P m [] n (d ∷ after) turn = absurd turn
+turn_long t P m (c ∷ cpus) n [] turn = absurd turn
+turn_long t P m (c ∷ cpus) n (d ∷ after) turn = let rest = turn_long t P turn.0 cpus n after turn.2 in omega (arith, rest)
+
+-- a list that is written back whole
+pub written_back : (k : ℕ) (new old : List KnownCpu) → length new ≡ length old → k ≡ length old → take k (new ++ drop (length new) old) ≡ new
+written_back k new old long all =
+    ap (λ (l : List KnownCpu). take k (new ++ l)) (drop_all (length new) old (omega (arith, long))) ∙ ap (λ (l : List KnownCpu). take k l) (append-nil new)
+    ∙ take_all k new (omega (arith, long, all))
+
+pub idle_all : (t : KnownTable) (w : Words) (m : KnownMachine) (cpus : List KnownCpu) → All (λ c. IsSpent t w m c) cpus → All IsIdle cpus
+idle_all t w m cpus all = λ k any inside. (all k any inside).idle
+
+-- the seats of the processors are at the tables
+pub frame_seats_at : (t : KnownTable) (w : Words) (m : KnownMachine) (cpus : List KnownCpu) → All (λ c. IsSpent t w m c) cpus
+    → AreSeatsAt t.table (map frame_seat_of cpus)
+frame_seats_at t w m [] all = tt
+frame_seats_at t w m (c ∷ cpus) all =
+    ((all 0 c (omega arith)).tied.seats.frame_table, frame_seats_at t w m cpus (λ k any inside. all (suc k) any (omega (arith, inside))))
+
+pub stock_seats_at : (t : KnownTable) (w : Words) (m : KnownMachine) (cpus : List KnownCpu) → All (λ c. IsSpent t w m c) cpus
+    → AreOf w.table (map stock_seat_of cpus)
+stock_seats_at t w m [] all = tt
+stock_seats_at t w m (c ∷ cpus) all =
+    ((all 0 c (omega arith)).tied.seats.stock_table, stock_seats_at t w m cpus (λ k any inside. all (suc k) any (omega (arith, inside))))
+
+pub long_frames : (cpus : List KnownCpu) → length (map frame_seat_of cpus) ≡ length cpus
+long_frames [] = refl
+long_frames (c ∷ cpus) = let rest = long_frames cpus in omega (arith, rest)
+
+pub long_stocks : (cpus : List KnownCpu) → length (map stock_seat_of cpus) ≡ length cpus
+long_stocks [] = refl
+long_stocks (c ∷ cpus) = let rest = long_stocks cpus in omega (arith, rest)
+
+view_at : (cpus : List KnownCpu) (k : ℕ) (any : KnownCpu) → k < length cpus → view_in (map stock_seat_of cpus) k ≡ (get_or cpus k any).stock.view
+view_at [] k any inside = absurd (omega (arith, inside))
+view_at (c ∷ cpus) zero any inside = refl
+view_at (c ∷ cpus) (suc k) any inside = view_at cpus k any (omega (arith, inside))
+
+-- what each processor's seat counts 0 of is 0 of all
+none_of_all : (h : FrameView → ℕ) (cpus : List KnownCpu) → All (λ c. h c.seat.view ≡ 0) cpus → sum_over h (map view_of (map frame_seat_of cpus)) ≡ 0
+none_of_all h [] all = refl
+none_of_all h (c ∷ cpus) all =
+    let one : h c.seat.view ≡ 0 = all 0 c (omega arith) in
+    let rest = none_of_all h cpus (λ k any inside. all (suc k) any (omega (arith, inside))) in
+    omega (arith, one, rest)
+
+not_held : (stock : Stock) → is_held stock ≡ false → pages_of stock ≡ 0
+not_held NoGroup is = refl
+not_held (HeldBy g n) is = absurd (false≢true (sym is))
+not_held (DrainedOf g) is = refl
+
+-- a machine all of whose visits are shut, and processors that have nothing left, with their seats at the closed tables
+module _ (t : KnownTable) (w : Words) (m : KnownMachine) (cpus : List KnownCpu) (shut : AllShut m) (all : All (λ c. IsSpent t w m c) cpus)
+    (closed : IsClosed t w m (map frame_seat_of cpus) (map stock_seat_of cpus)) where
+  ok : IsConsistent t w m
+  ok = closed.consistent
+
+  abbrev views : List FrameView
+  views = map view_of (map frame_seat_of cpus)
+
+  is_zone : (m.seat.view.number == 0) ≡ true
+  is_zone = eq-eqb m.seat.view.number 0 ok.seats.frames.1
+
+  -- no processor's seat has a reference, and only the zone's notes a visit
+  no_reference : (f : ℕ) → sum_over (references_in f) views ≡ 0
+  no_reference f = none_of_all (references_in f) cpus (λ k any inside.
+      let c = all k any inside in (c.tied.noted f).references_are ∙ ap (times f) c.idle.3)
+
+  no_visit : (p : ℕ) → sum_over (opened_in p) views ≡ 0
+  no_visit p = none_of_all (opened_in p) cpus (λ k any inside.
+      let c = all k any inside in
+      let some = c.tied.seats.some_number in
+      let named = c.tied.seats.frame_number in
+      let c_now = get_or cpus k any in
+      cond-false (c_now.seat.view.number == 0) (slice_index c_now.seat.view.opened p) 0
+      (ne_eqb c_now.seat.view.number 0 (λ e. omega (arith, some, named, e))))
+
+  abbrev kept : ℕ → ℕ
+  kept f = one_if (is_some (home_of m.links f))
+
+  word_of_frame : (f : ℕ) → f < t.frames → slice_index closed.words f ≡ kept f
+  word_of_frame f inside =
+      let rule = closed.rule.each_frame f inside in
+      let zone : (note_of m.seat.view f).references ≡ kept f = (ok.spots f inside).references in
+      let none = no_reference f in
+      elim rule.one_case [
+        | inl referenced ↦ let same = referenced.2 in omega (arith, same, zone, none)
+        | inr other ↦ elim other [
+          | inl in_hand ↦ let nothing = in_hand.0 in let no = in_hand.1 in omega (arith, nothing, no, zone, none)
+          | inr passing ↦
+              let p = slice_index closed.words f - no_mark in
+              let low = passing.0 in
+              let high = passing.1 in
+              let visit = closed.rule.each_visit p (omega (arith, low)) (omega (arith, high, low)) in
+              let seen : only 0 m.seat.view (slice_index m.seat.view.opened p) ≡ 0 =
+              cond-true (m.seat.view.number == 0) (slice_index m.seat.view.opened p) 0 is_zone ∙ shut p in
+              let others = no_visit p in
+              let noted = visit.noted in
+              absurd (visit.shut (omega (arith, noted, seen, others)) f inside (omega (arith, low)))
+        ]
+      ]
+
+  -- each processor's part is one of them
+  found : (p : ℕ) → 1 ≤ p → p ≤ t.cpus → (c : KnownCpu) × (c.number ≡ p) × IsSpent t w m c × ((account_of m.stock.view p).book ≡ 0)
+  found p some within =
+      let same = ok.sizes.cpus in
+      let at = closed.each p some (omega (arith, within, same)) in
+      let k = at.0 in
+      let long = long_stocks cpus in
+      let inside = at.1 in
+      let any : KnownCpu = record { number = 0; list = []; fresh = []; back = []; pins = []; seat = m.seat; stock = m.stock; drops = 0 } in
+      let c = get_or cpus k any in
+      let there : k < length cpus = omega (arith, long, inside) in
+      let spent = all k any there in
+      let view = view_at cpus k any there in
+      let number : c.number ≡ p = sym spent.tied.seats.stock_number ∙ sym (ap (λ v. v.number) view) ∙ at.2 in
+      let words = closed.stocks k inside in
+      let drained = ap (λ (q : ℕ). (account_of m.stock.view q).filled) (at.2 ∙ sym number) ∙ spent.drained in
+      let empty : pages_of words.stock ≡ 0 = not_held words.stock (words.held ∙ drained) in
+      let fresh : (view_in (map stock_seat_of cpus) k).fresh ≡ 0 = ap (λ v. v.fresh) view ∙ spent.tied.within.pages_are ∙ ap length spent.idle.1 in
+      let noted = words.reported ∙ ok.noted (view_in (map stock_seat_of cpus) k).number in
+      let balanced = words.balanced in
+      let book : (account_of m.stock.view (view_in (map stock_seat_of cpus) k).number).book ≡ 0 = omega (arith, balanced, empty, fresh, noted) in
+      (c, number, spent, ap (λ (q : ℕ). (account_of m.stock.view q).book) (sym at.2) ∙ book)
+
+  none_lent : (p : ℕ) → NoneLentTo p m.spots
+  none_lent p f is =
+      let noted = lent_noted t w m ok f p is in
+      let rule = (closed.rule.each_frame f noted.0).lent_to_one in
+      let zone : only 0 m.seat.view (note_of m.seat.view f).lent ≡ p =
+      cond-true (m.seat.view.number == 0) (note_of m.seat.view f).lent 0 is_zone ∙ noted.1 in
+      let its = found p noted.2 (omega (arith, rule, zone)) in
+      subst (λ (q : ℕ). NoneLentTo q m.spots) its.1 its.2.none_lent f is
+
+-- the whole end
+pub all_ends : (t : KnownTable) (w : Words) (l : KnownLocked) (cpus : List KnownCpu) (x : KnownMachine) (rested : List KnownCpu) (y : KnownMachine)
+    (spent : List KnownCpu) (a : Audit) (frame_seats : List KnownSeat) (stock_seats : List Seated) → pins_of cpus ≡ 0
+    → InTurn t Rests l.machine cpus x rested → InTurn t Empties x rested y spent → AllShut y → All (λ c. IsSpent t w y c) spent → Tells t y a
+    → IsClosed t w y frame_seats stock_seats → frame_seats ≡ map frame_seat_of spent → stock_seats ≡ map stock_seat_of spent → Ends t w l cpus a
+all_ends t w l cpus x rested y spent a frame_seats stock_seats no_pin rests empties shut all tells closing frames stocks =
+    let closed : IsClosed t w y (map frame_seat_of spent) (map stock_seat_of spent) =
+    subst (λ (z : List KnownSeat × List Seated). IsClosed t w y z.0 z.1) (λ i. (frames i, stocks i)) closing in
+    let none = none_lent t w y spent shut all closed in
+    let placed = each_is_placed y.spots (λ f p is. none p f is) in
+    let sized = closed.consistent.sizes.spots in
+    let free = tells.free in
+    let charged = tells.charged in
+    let count = tells.frames in
+    record {
+      no_pin = no_pin;
+      settled = x;
+      rested = rested;
+      rests = rests;
+      last = y;
+      spent = spent;
+      empties = empties;
+      all_spent = all;
+      none_lent = none;
+      no_page = λ p some within. (found t w y spent shut all closed p some within).3;
+      words = closed.words;
+      last_words = record { rule = closed.rule; references = word_of_frame t w y spent shut all closed };
+      tells = tells;
+      adds_up = record {
+        places = omega (arith, placed, sized, free, charged, count);
+        balances =
+            let last_puts = tells.last_puts in
+            let freezes = tells.freezes in
+            let drops = tells.drops in
+            let returns = tells.returns in
+            let balanced = closed.consistent.balances in
+            omega (arith, last_puts, freezes, drops, returns, balanced);
+      };
+    }

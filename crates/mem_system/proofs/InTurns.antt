@@ -1,0 +1,89 @@
+-- Serves the loops over the processors at the end of a system: what the visits so far did.
+use Rattle.std.proofs.Common.{◌≡◌, ℕ, zero, suc, ◌+◌, ◌<◌, ◌≤◌, List, [], ◌∷◌, ◌++◌, length, take, drop, get_or, refl, sym, ap, ◌∙◌, subst, arith, append_assoc, append-nil}
+use Rattle.std.specs.Prelude.{slice_set, All}
+use Rattle.std.proofs.lemmas.List.{drop_more, take_more_set, drop-set-lt, length-set, take_all, drop_all}
+use Rattle.std.proofs.lemmas.List.Sums.{get_or-le-sum_by}
+use Rattle.std.proofs.lemmas.List.Elements.{All-append}
+use Rattle.frame_word.specs.Seats.{KnownTable}
+use Rattle.stock_word.specs.Stock.{Words}
+use Rattle.cpu_part.specs.Cpus.{KnownCpu}
+use Rattle.mem_machine.specs.Machines.{KnownMachine}
+use Rattle.mem_system.specs.Boots.{AllShut}
+use Rattle.mem_system.specs.Commands.{BySteps}
+use Rattle.mem_system.specs.Ends.{Happens, InTurn, IsSpent, LeavesAlone, pins_of}
+
+-- the visits of the first i processors lead from the first machine to this one, and the others are as they were
+pub record SoFar (t : KnownTable) (P : Happens) (i : ℕ) (m : KnownMachine) (cpus : List KnownCpu) (x : KnownMachine) (now : List KnownCpu) : Type 0 where
+  pub long : length now ≡ length cpus
+  pub left : drop i now ≡ drop i cpus
+  pub turns : (n : KnownMachine) (rest : List KnownCpu) → InTurn t P x (drop i cpus) n rest → InTurn t P m cpus n (take i now ++ rest)
+  pub shut : AllShut x
+
+pub so_far_start : (t : KnownTable) (P : Happens) (m : KnownMachine) (cpus : List KnownCpu) → AllShut m → SoFar t P 0 m cpus m cpus
+so_far_start t P m cpus shut = record { long = refl; left = refl; turns = λ n rest turn. turn; shut = shut }
+
+pub same_next : (i : ℕ) (cpus now : List KnownCpu) (any : KnownCpu) → i < length cpus → length now ≡ length cpus → drop i now ≡ drop i cpus
+    → get_or now i any ∷ drop (i + 1) now ≡ get_or cpus i any ∷ drop (i + 1) cpus
+same_next i cpus now any inside long left = sym (drop_more now i any (omega (arith, inside, long))) ∙ left ∙ drop_more cpus i any inside
+
+-- a processor that was not visited yet is as it was
+pub same_at : (cpus now : List KnownCpu) (i : ℕ) (any : KnownCpu) → i < length now → length now ≡ length cpus → drop i now ≡ drop i cpus
+    → get_or now i any ≡ get_or cpus i any
+same_at cpus now i any inside long left = ap (λ (l : List KnownCpu). get_or l 0 any) (same_next i cpus now any (omega (arith, inside, long)) long left)
+
+pub so_far_more : (t : KnownTable) (P : Happens) (i : ℕ) (m : KnownMachine) (cpus : List KnownCpu) (x y : KnownMachine) (now : List KnownCpu) (any d : KnownCpu)
+    → SoFar t P i m cpus x now → i < length now → BySteps t x (get_or now i any) y d (λ steps. P x (get_or now i any) steps y d) → AllShut y
+    → SoFar t P (i + 1) m cpus y (slice_set now i d)
+so_far_more t P i m cpus x y now any d so_far inside one shut =
+    let long = so_far.long in
+    let within : i < length cpus = omega (arith, inside, long) in
+    let next = same_next i cpus now any within long so_far.left in
+    let same : get_or now i any ≡ get_or cpus i any = ap (λ (l : List KnownCpu). get_or l 0 any) next in
+    let its : BySteps t x (get_or cpus i any) y d (λ steps. P x (get_or cpus i any) steps y d) =
+    subst (λ (c : KnownCpu). BySteps t x c y d (λ steps. P x c steps y d)) same one in
+    record {
+      long = length-set now i d ∙ long;
+      left = drop-set-lt (i + 1) now i d (omega arith) ∙ ap (λ (l : List KnownCpu). drop 1 l) next;
+      turns = λ n rest turn. subst (λ (l : List KnownCpu). InTurn t P m cpus n l)
+          (sym (append_assoc (take i now) (d ∷ []) rest) ∙ ap (λ (l : List KnownCpu). l ++ rest) (sym (take_more_set now i d inside)))
+          (so_far.turns n (d ∷ rest) (subst (λ (l : List KnownCpu). InTurn t P x l n (d ∷ rest)) (sym (drop_more cpus i any within)) (y, its, turn)));
+      shut = shut;
+    }
+
+pub so_far_end : (t : KnownTable) (P : Happens) (i : ℕ) (m : KnownMachine) (cpus : List KnownCpu) (x : KnownMachine) (now : List KnownCpu)
+    → SoFar t P i m cpus x now → length now ≤ i → InTurn t P m cpus x now
+so_far_end t P i m cpus x now so_far past =
+    let long = so_far.long in
+    subst (λ (l : List KnownCpu). InTurn t P m cpus x l) (append-nil (take i now) ∙ take_all i now past)
+    (so_far.turns x [] (subst (λ (l : List KnownCpu). InTurn t P x l x []) (sym (drop_all i cpus (omega (arith, past, long)))) refl))
+
+-- ---- what holds of each
+
+pub all_still : (P Q : KnownCpu → Type 0) (cpus : List KnownCpu) → ((c : KnownCpu) → P c → Q c) → All P cpus → All Q cpus
+all_still P Q cpus still all = λ k any inside. still (get_or cpus k any) (all k any inside)
+
+nothing_left : (l : List ℕ) → length l ≡ 0 → l ≡ []
+nothing_left [] h = refl
+nothing_left (x ∷ xs) h = absurd (omega (arith, h))
+
+pub no_pin_at : (cpus now : List KnownCpu) (i : ℕ) (any : KnownCpu) → i < length now → length now ≡ length cpus → drop i now ≡ drop i cpus → pins_of cpus ≡ 0
+    → (get_or now i any).pins ≡ []
+no_pin_at cpus now i any inside long left none =
+    let within : i < length cpus = omega (arith, inside, long) in
+    let part = get_or-le-sum_by (λ (c : KnownCpu). length c.pins) cpus i any within in
+    ap (λ (l : List KnownCpu). (get_or l 0 any).pins) (same_next i cpus now any within long left) ∙ nothing_left _ (omega (arith, part, none))
+
+pub spent_still : (t : KnownTable) (w : Words) (x y : KnownMachine) → LeavesAlone x y → (c : KnownCpu) → IsSpent t w x c → IsSpent t w y c
+spent_still t w x y alone c spent =
+    record { tied = spent.tied; idle = spent.idle; none_lent = alone.none_lent c.number spent.none_lent; drained = alone.drained c.number spent.drained }
+
+all_of_one : (P : KnownCpu → Type 0) (d : KnownCpu) → P d → All P (d ∷ [])
+all_of_one P d one zero any inside = one
+all_of_one P d one (suc k) any inside = absurd (omega (arith, inside))
+
+pub all_more : (P : KnownCpu → Type 0) (now : List KnownCpu) (i : ℕ) (d : KnownCpu) → i < length now → All P (take i now) → P d
+    → All P (take (i + 1) (slice_set now i d))
+all_more P now i d inside all one = subst (All P) (sym (take_more_set now i d inside)) (All-append P (take i now) (d ∷ []) all (all_of_one P d one))
+
+pub all_taken : (P : KnownCpu → Type 0) (now : List KnownCpu) (i : ℕ) → length now ≤ i → All P (take i now) → All P now
+all_taken P now i past all = subst (All P) (take_all i now past) all

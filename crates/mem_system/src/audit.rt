@@ -1,0 +1,44 @@
+//! What is counted where a system ends.
+
+ghost use Rattle.std.specs.Prelude.{◌≡◌};
+ghost use Rattle.mem_machine.specs.Machines.{BalancesCounts};
+ghost use Rattle.mem_system.specs.Ends.{Tells};
+
+use cpu_part::{BootName, Tables};
+use mem_machine::Machine;
+
+/// What was counted where a system ended. A count of units stays at 2^64 - 1.
+#[derive(Clone, Copy, Debug, PartialEq, Eq)]
+pub struct Audit {
+    /// The frames of the zone, 16 to 65,536.
+    pub frames: u32,
+    /// The frames that are free.
+    pub free: u32,
+    /// The frames that are charged to a group. Each frame is free or charged.
+    pub charged: u32,
+    /// The units of which the zone or a processor had the last put.
+    pub last_puts: u64,
+    /// The units that a freeze took out of use.
+    pub freezes: u64,
+    /// The fresh frames of killed groups, which were dropped.
+    pub drops: u64,
+    /// The units that came back: each after a last put, a freeze or a drop.
+    pub returns: u64,
+}
+
+// Counts the places of the frames, and tells them with the machine's counts.
+pub(crate) fn take_audit<N: BootName>(tables: &Tables<N>, machine: &Machine<N>) -> Audit
+    ensures { Tells N.frames machine.now result }
+{
+    let places = machine.count_places(tables);
+    let counts = machine.counts();
+    Audit {
+        frames: tables.frames.frames(),
+        free: places.free,
+        charged: places.charged,
+        last_puts: counts.last_puts,
+        freezes: counts.freezes,
+        drops: counts.drops,
+        returns: counts.returns,
+    }
+}

@@ -1,0 +1,77 @@
+//! The visits of the processors at the end: each is settled, and then each list is given back and each stock drained.
+
+ghost use Rattle.std.specs.Prelude.{◌≡◌, [], All};
+ghost use Rattle.frame_word.specs.Seats.{IsShut};
+ghost use Rattle.mem_machine.specs.Machines.{KnownMachine};
+ghost use Rattle.mem_system.specs.Boots.{AllShut};
+ghost use Rattle.mem_system.specs.Commands.{BySteps};
+ghost use Rattle.mem_system.specs.Ends.{InTurn, Rests, Empties, IsRested, IsSpent, LeavesAlone, pins_of};
+
+use cpu_part::{BootName, Cpu, Tables};
+use mem_machine::Machine;
+
+// Settles the processor in a visit.
+fn rest_cpu<N: BootName>(machine: &mut Machine<N>, tables: &Tables<N>, cpu: &mut Cpu<N>)
+    requires shut { AllShut machine.old }
+    requires no_pin { cpu.old.pins ≡ [] }
+    ensures rests { BySteps N.frames machine.old cpu.old machine.new cpu.new
+        (λ steps. Rests machine.old cpu.old steps machine.new cpu.new) }
+    ensures shut { AllShut machine.new }
+    ensures rested { IsRested cpu.new }
+{
+    machine.open(tables, cpu);
+    machine.settle(tables, cpu);
+    machine.shut(tables, cpu);
+}
+
+// Gives the list of the processor, which is settled, back to the zone and drains its stock, in a visit.
+fn empty_cpu<N: BootName>(machine: &mut Machine<N>, tables: &Tables<N>, cpu: &mut Cpu<N>)
+    requires shut { AllShut machine.old }
+    requires rested { IsRested cpu.old }
+    ensures empties { BySteps N.frames machine.old cpu.old machine.new cpu.new
+        (λ steps. Empties machine.old cpu.old steps machine.new cpu.new) }
+    ensures shut { AllShut machine.new }
+    ensures spent { IsSpent N.frames N.stocks machine.new cpu.new }
+    ensures others { LeavesAlone machine.old machine.new }
+{
+    machine.open(tables, cpu);
+    let listed = cpu.list_len() as u32;
+    machine.drain_list(tables, cpu, listed);
+    machine.drain_stock(tables, cpu.number());
+    machine.shut(tables, cpu);
+    machine.see_none_lent(cpu);
+}
+
+// Settles the processors, one after the other.
+pub(crate) fn rest_all<N: BootName>(
+    machine: &mut Machine<N>,
+    tables: &Tables<N>,
+    cpus: &mut [Cpu<N>],
+)
+    requires shut { AllShut machine.old }
+    requires no_pin { pins_of cpus.old ≡ 0 }
+    ensures rests { InTurn N.frames Rests machine.old cpus.old machine.new cpus.new }
+    ensures shut { AllShut machine.new }
+    ensures rested { All IsRested cpus.new }
+{
+    for cpu in cpus.iter_mut() {
+        rest_cpu(machine, tables, cpu);
+    }
+}
+
+// Gives the lists of the processors, which are settled, back to the zone and drains their stocks, one after the other.
+pub(crate) fn empty_all<N: BootName>(
+    machine: &mut Machine<N>,
+    tables: &Tables<N>,
+    cpus: &mut [Cpu<N>],
+)
+    requires shut { AllShut machine.old }
+    requires rested { All IsRested cpus.old }
+    ensures empties { InTurn N.frames Empties machine.old cpus.old machine.new cpus.new }
+    ensures shut { AllShut machine.new }
+    ensures spent { All (λ c. IsSpent N.frames N.stocks machine.new c) cpus.new }
+{
+    for cpu in cpus.iter_mut() {
+        empty_cpu(machine, tables, cpu);
+    }
+}
