@@ -1,7 +1,8 @@
 -- Serves the end of a system: what the closed tables tell, where each processor has nothing left.
-use Rattle.std.proofs.Common.{◌≡◌, ℕ, zero, suc, ◌-◌, ◌<◌, ◌≤◌, ◌==◌, false, true, List, [], ◌∷◌, ◌++◌, length, map, take, drop, get_or, refl, sym, ap}
+use Rattle.std.proofs.Common.{◌≡◌, ℕ, zero, suc, ◌+◌, ◌-◌, ◌<◌, ◌≤◌, ◌==◌, false, true, List, [], ◌∷◌, ◌++◌, length, map, take, drop, get_or, refl, sym, ap}
 use Rattle.std.proofs.Common.{◌∙◌, subst, inl, inr, arith, append-nil, eq-eqb}
-use Rattle.std.specs.Prelude.{All, is_some, slice_index}
+use Rattle.std.specs.Prelude.{All, is_some, min, slice_index}
+use Rattle.group_tree.specs.Room.{max_count}
 use Rattle.std.proofs.lemmas.Bool.{cond-true, cond-false, ne_eqb, false≢true}
 use Rattle.std.proofs.lemmas.List.{take_all, drop_all}
 use Rattle.seat_sums.specs.Totals.{sum_over}
@@ -19,8 +20,8 @@ use Rattle.mem_machine.specs.Machines.{KnownMachine, IsConsistent, home_of}
 use Rattle.mem_machine.specs.Ending.{NoneLentTo}
 use Rattle.mem_machine.proofs.NoneLent.{lent_noted, each_is_placed}
 use Rattle.mem_system.specs.declared.audit.Audit.{Audit}
-use Rattle.mem_system.specs.Boots.{KnownLocked, AllShut}
-use Rattle.mem_system.specs.Ends.{Happens, InTurn, Rests, Empties, IsSpent, Tells, IsClosed, Ends, frame_seat_of, stock_seat_of, pins_of}
+use Rattle.mem_system.specs.Boots.{KnownLocked, IsQuiet, AllShut}
+use Rattle.mem_system.specs.Ends.{Happens, InTurn, Rests, Empties, IsSpent, Tells, IsClosed, HasNoPage, Ends, frame_seat_of, stock_seat_of, drops_of, pins_of}
 
 -- as many processors are visited as there are
 pub turn_long : (t : KnownTable) (P : Happens) (m : KnownMachine) (cpus : List KnownCpu) (n : KnownMachine) (after : List KnownCpu) → InTurn t P m cpus n after
@@ -130,7 +131,7 @@ module _ (t : KnownTable) (w : Words) (m : KnownMachine) (cpus : List KnownCpu) 
       ]
 
   -- each processor's part is one of them
-  found : (p : ℕ) → 1 ≤ p → p ≤ t.cpus → (c : KnownCpu) × (c.number ≡ p) × IsSpent t w m c × ((account_of m.stock.view p).book ≡ 0)
+  found : (p : ℕ) → 1 ≤ p → p ≤ t.cpus → (c : KnownCpu) × (c.number ≡ p) × IsSpent t w m c × HasNoPage m closed.stock_words p
   found p some within =
       let same = ok.sizes.cpus in
       let at = closed.each p some (omega (arith, within, same)) in
@@ -150,7 +151,13 @@ module _ (t : KnownTable) (w : Words) (m : KnownMachine) (cpus : List KnownCpu) 
       let noted = words.reported ∙ ok.noted (view_in (map stock_seat_of cpus) k).number in
       let balanced = words.balanced in
       let book : (account_of m.stock.view (view_in (map stock_seat_of cpus) k).number).book ≡ 0 = omega (arith, balanced, empty, fresh, noted) in
-      (c, number, spent, ap (λ (q : ℕ). (account_of m.stock.view q).book) (sym at.2) ∙ book)
+      (
+        c,
+        number,
+        spent,
+        subst (λ (q : ℕ). HasNoPage m closed.stock_words q) at.2
+            (record { stock = words.stock; encoded = words.encoded; empty = empty; none_reported = noted; book = book }),
+      )
 
   none_lent : (p : ℕ) → NoneLentTo p m.spots
   none_lent p f is =
@@ -161,12 +168,17 @@ module _ (t : KnownTable) (w : Words) (m : KnownMachine) (cpus : List KnownCpu) 
       let its = found p noted.2 (omega (arith, rule, zone)) in
       subst (λ (q : ℕ). NoneLentTo q m.spots) its.1 its.2.none_lent f is
 
+-- the processors' own drops count as returns too
+drops_join : (a b c k most : ℕ) → min (min (a + b + c) most + k) most ≡ min (a + b + min (c + k) most) most
+drops_join a b c k most = omega arith
+
 -- the whole end
 pub all_ends : (t : KnownTable) (w : Words) (l : KnownLocked) (cpus : List KnownCpu) (x : KnownMachine) (rested : List KnownCpu) (y : KnownMachine)
-    (spent : List KnownCpu) (a : Audit) (frame_seats : List KnownSeat) (stock_seats : List Seated) → pins_of cpus ≡ 0
-    → InTurn t Rests l.machine cpus x rested → InTurn t Empties x rested y spent → AllShut y → All (λ c. IsSpent t w y c) spent → Tells t y a
+    (spent : List KnownCpu) (a : Audit) (frame_seats : List KnownSeat) (stock_seats : List Seated) (drops : ℕ) → IsQuiet t w l → pins_of cpus ≡ 0
+    → drops ≡ min (drops_of cpus) max_count
+    → InTurn t Rests l.machine cpus x rested → InTurn t Empties x rested y spent → AllShut y → All (λ c. IsSpent t w y c) spent → Tells t y drops a
     → IsClosed t w y frame_seats stock_seats → frame_seats ≡ map frame_seat_of spent → stock_seats ≡ map stock_seat_of spent → Ends t w l cpus a
-all_ends t w l cpus x rested y spent a frame_seats stock_seats no_pin rests empties shut all tells closing frames stocks =
+all_ends t w l cpus x rested y spent a frame_seats stock_seats drops quiet no_pin drops_are rests empties shut all tells closing frames stocks =
     let closed : IsClosed t w y (map frame_seat_of spent) (map stock_seat_of spent) =
     subst (λ (z : List KnownSeat × List Seated). IsClosed t w y z.0 z.1) (λ i. (frames i, stocks i)) closing in
     let none = none_lent t w y spent shut all closed in
@@ -176,6 +188,7 @@ all_ends t w l cpus x rested y spent a frame_seats stock_seats no_pin rests empt
     let charged = tells.charged in
     let count = tells.frames in
     record {
+      quiet = quiet;
       no_pin = no_pin;
       settled = x;
       rested = rested;
@@ -186,17 +199,18 @@ all_ends t w l cpus x rested y spent a frame_seats stock_seats no_pin rests empt
       all_spent = all;
       none_lent = none;
       no_page = λ p some within. (found t w y spent shut all closed p some within).3;
+      stock_words = closed.stock_words;
       words = closed.words;
       last_words = record { rule = closed.rule; references = word_of_frame t w y spent shut all closed };
-      tells = tells;
+      tells = subst (λ (k : ℕ). Tells t y k a) drops_are tells;
       adds_up = record {
         places = omega (arith, placed, sized, free, charged, count);
         balances =
             let last_puts = tells.last_puts in
             let freezes = tells.freezes in
-            let drops = tells.drops in
+            let dropped = tells.drops in
             let returns = tells.returns in
             let balanced = closed.consistent.balances in
-            omega (arith, last_puts, freezes, drops, returns, balanced);
+            rw (last_puts, freezes, dropped, returns, balanced) (drops_join y.counts.last_puts y.counts.freezes y.counts.drops drops max_count);
       };
     }

@@ -3,8 +3,9 @@ use Rattle.std.specs.Prelude.{◌≡◌, ℕ, ◌+◌, ◌≤◌, ◌<◌, false
 use Rattle.frame_word.specs.ReferenceRule.{ReferenceRule}
 use Rattle.step_rules.specs.State.{one_if}
 use Rattle.frame_word.specs.Seats.{KnownTable, KnownSeat, view_of}
-use Rattle.stock_word.specs.Stock.{Words, Seated, account_of, view_in}
-use Rattle.stock_word.specs.StockRule.{IsStockOf}
+use Rattle.stock_word.specs.declared.view.Stock.{Stock}
+use Rattle.stock_word.specs.Stock.{Words, Seated, account_of, view_in, word_of, pages_of}
+use Rattle.stock_word.specs.StockRule.{IsStockOf, stock_place, report_place}
 use Rattle.group_tree.specs.Room.{max_count}
 use Rattle.cpu_part.specs.Cpus.{KnownCpu, IsTied, IsIdle}
 use Rattle.step_rules.specs.After.{Run}
@@ -15,12 +16,16 @@ use Rattle.mem_machine.specs.Stocks.{Drains, stock_group}
 use Rattle.mem_machine.specs.Steps.{open_steps, shut_steps, drain_list_steps, drain_steps}
 use Rattle.mem_machine.specs.Ending.{frames_free, frames_in_groups, NoneLentTo}
 use Rattle.mem_system.specs.declared.audit.Audit.{Audit}
-use Rattle.mem_system.specs.Boots.{KnownLocked}
+use Rattle.mem_system.specs.Boots.{KnownLocked, IsQuiet}
 use Rattle.mem_system.specs.Commands.{BySteps, with_visit_of}
 
 -- the pins of the processors
 abbrev pub pins_of : List KnownCpu → ℕ
 pins_of cpus = sum_by (λ c. length c.pins) cpus
+
+-- how often fresh frames went back to the lists of the processors
+abbrev pub drops_of : List KnownCpu → ℕ
+drops_of cpus = sum_by (λ c. c.drops) cpus
 
 -- what happens in a visit: the steps by which the machine and the processor's part before lead to those after
 abbrev pub Happens : Type 1
@@ -67,15 +72,16 @@ pub record LeavesAlone (m n : KnownMachine) : Type 0 where
   pub none_lent : (p : ℕ) → NoneLentTo p m.spots → NoneLentTo p n.spots
   pub drained : (p : ℕ) → (account_of m.stock.view p).filled ≡ false → (account_of n.stock.view p).filled ≡ false
 
--- what the audit tells of the machine
-pub record Tells (t : KnownTable) (m : KnownMachine) (a : Audit) : Type 0 where
+-- What the audit tells of the machine, with so many drops of the processors' own, each of which is a return too. A count stays
+-- at its greatest
+pub record Tells (t : KnownTable) (m : KnownMachine) (own : ℕ) (a : Audit) : Type 0 where
   pub frames : a.frames ≡ t.frames
   pub free : a.free ≡ frames_free m.spots
   pub charged : a.charged ≡ frames_in_groups m.spots
   pub last_puts : a.last_puts ≡ m.counts.last_puts
   pub freezes : a.freezes ≡ m.counts.freezes
-  pub drops : a.drops ≡ m.counts.drops
-  pub returns : a.returns ≡ m.counts.returns
+  pub drops : a.drops ≡ min (m.counts.drops + own) max_count
+  pub returns : a.returns ≡ min (m.counts.returns + own) max_count
 
 -- Each frame is free or charged, and each unit that came back was put last, frozen or dropped, as far as the counts go, which
 -- stay at their greatest
@@ -106,9 +112,18 @@ pub record AreLastWords (t : KnownTable) (m : KnownMachine) (cpus : List KnownCp
   pub rule : ReferenceRule t.frames t.cpus words ((m.seat.view ∷ map view_of (map frame_seat_of cpus)) ∷ [])
   pub references : (f : ℕ) → f < t.frames → slice_index words f ≡ one_if (is_some (home_of m.links f))
 
+-- the words of processor p's stock have no page, and neither has its book
+pub record HasNoPage (m : KnownMachine) (stock_words : List ℕ) (p : ℕ) : Type 0 where
+  pub stock : Stock
+  pub encoded : slice_index stock_words (stock_place p) ≡ word_of stock
+  pub empty : pages_of stock ≡ 0
+  pub none_reported : slice_index stock_words (report_place p) ≡ 0
+  pub book : (account_of m.stock.view p).book ≡ 0
+
 -- The end of a boot where no pin remains: each processor is settled, each list is given back and each stock drained. No frame
 -- is lent to anyone then, no page is in a stock, and the audit tells what was counted
 pub record Ends (t : KnownTable) (w : Words) (l : KnownLocked) (cpus : List KnownCpu) (a : Audit) : Type 0 where
+  pub quiet : IsQuiet t w l
   pub no_pin : pins_of cpus ≡ 0
   pub settled : KnownMachine
   pub rested : List KnownCpu
@@ -118,8 +133,9 @@ pub record Ends (t : KnownTable) (w : Words) (l : KnownLocked) (cpus : List Know
   pub empties : InTurn t Empties settled rested last spent
   pub all_spent : All (λ c. IsSpent t w last c) spent
   pub none_lent : (p : ℕ) → NoneLentTo p last.spots
-  pub no_page : (p : ℕ) → 1 ≤ p → p ≤ t.cpus → (account_of last.stock.view p).book ≡ 0
+  pub stock_words : List ℕ
+  pub no_page : (p : ℕ) → 1 ≤ p → p ≤ t.cpus → HasNoPage last stock_words p
   pub words : List ℕ
   pub last_words : AreLastWords t last spent words
-  pub tells : Tells t last a
+  pub tells : Tells t last (min (drops_of cpus) max_count) a
   pub adds_up : AddsUp a

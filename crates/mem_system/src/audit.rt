@@ -20,15 +20,19 @@ pub struct Audit {
     pub last_puts: u64,
     /// The units that a freeze took out of use.
     pub freezes: u64,
-    /// The fresh frames of killed groups, which were dropped.
+    /// The fresh frames that were dropped: those of killed groups, and those that went back to a processor's list.
     pub drops: u64,
     /// The units that came back: each after a last put, a freeze or a drop.
     pub returns: u64,
 }
 
-// Counts the places of the frames, and tells them with the machine's counts.
-pub(crate) fn take_audit<N: BootName>(tables: &Tables<N>, machine: &Machine<N>) -> Audit
-    ensures { Tells N.frames machine.now result }
+// Counts the frames by their places, and tells the counts of the machine, with so many drops of the processors' own.
+pub(crate) fn take_audit<N: BootName>(
+    tables: &Tables<N>,
+    machine: &Machine<N>,
+    drops: u64,
+) -> Audit
+    ensures { Tells N.frames machine.now drops result }
 {
     let places = machine.count_places(tables);
     let counts = machine.counts();
@@ -38,7 +42,7 @@ pub(crate) fn take_audit<N: BootName>(tables: &Tables<N>, machine: &Machine<N>) 
         charged: places.charged,
         last_puts: counts.last_puts,
         freezes: counts.freezes,
-        drops: counts.drops,
-        returns: counts.returns,
+        drops: counts.drops.saturating_add(drops),
+        returns: counts.returns.saturating_add(drops),
     }
 }

@@ -1,12 +1,13 @@
 //! The end of a system: the machine is taken apart, and the two tables are closed.
 
-ghost use Rattle.std.specs.Prelude.{◌≡◌, ◌<◌, ◌≤◌, ◌^◌, length, map, All, IfOk, IfErr};
+ghost use Rattle.std.specs.Prelude.{◌≡◌, ◌<◌, ◌≤◌, ◌^◌, min, length, map, All, IfOk, IfErr};
 ghost use Rattle.std.specs.Vec.{vec_capacity};
+ghost use Rattle.group_tree.specs.Room.{max_count};
 ghost use Rattle.frame_word.specs.Seats.{AreSeatsAt};
 ghost use Rattle.stock_word.specs.Stock.{AreOf};
 ghost use Rattle.cpu_part.specs.Cpus.{IsIdle};
 ghost use Rattle.mem_system.specs.Boots.{HasRoom};
-ghost use Rattle.mem_system.specs.Ends.{Ends, IsClosed, frame_seat_of, stock_seat_of, pins_of};
+ghost use Rattle.mem_system.specs.Ends.{Ends, IsClosed, frame_seat_of, stock_seat_of, drops_of, pins_of};
 
 use crate::audit::{Audit, take_audit};
 use crate::locked::Locked;
@@ -35,6 +36,17 @@ fn count_pins<N: BootName>(cpus: &[Cpu<N>]) -> u64
         pins += cpu.pins() as u64;
     }
     pins
+}
+
+// How often fresh frames went back to their processors' lists. The sum stays at 2^64 - 1.
+fn count_drops<N: BootName>(cpus: &[Cpu<N>]) -> u64
+    ensures { result ≡ min (drops_of cpus.now) max_count }
+{
+    let mut drops: u64 = 0;
+    for cpu in cpus {
+        drops = drops.saturating_add(cpu.drops());
+    }
+    drops
 }
 
 // The seats of the processors, which have nothing left, in two lists that have room for them.
@@ -98,6 +110,7 @@ pub fn end<N: BootName>(
             pins,
         });
     }
+    let drops = count_drops(&cpus);
     let Locked {
         mut machine,
         sizes: _,
@@ -106,7 +119,7 @@ pub fn end<N: BootName>(
     } = locked;
     rest_all(&mut machine, &tables, &mut cpus);
     empty_all(&mut machine, &tables, &mut cpus);
-    let audit = take_audit(&tables, &machine);
+    let audit = take_audit(&tables, &machine, drops);
     let (frame_seats, stock_seats) = gather_seats(cpus, frame_seats, stock_seats);
     close(tables, machine, frame_seats, stock_seats);
     Ok(audit)

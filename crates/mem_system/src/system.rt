@@ -7,6 +7,7 @@ ghost use Rattle.mem_system.specs.Commands.{BySteps, IsOfZone, Serves};
 
 use crate::booted::Boot;
 use crate::command::{Cmd, Reply};
+use crate::gates::{Gate, NoGate};
 use crate::locked::Locked;
 use crate::serving::serve;
 use cpu_part::{BootName, Cpu, Tables};
@@ -38,7 +39,8 @@ impl Boot {
 impl<N: BootName> Locked<N> {
     /// The group of this path; None where no group has it.
     pub fn find(&self, path: &[u8]) -> Option<GroupId>
-        ensures { result ≡ number_at self.now.machine.ledger.groups path.now }
+        ensures found { result ≡ number_at self.now.machine.ledger.groups path.now }
+        ensures quiet { IsQuiet N.frames N.stocks self.now }
     {
         self.machine.charges().tree().find(path)
     }
@@ -50,8 +52,11 @@ impl<N: BootName> System<N> {
         &self.tables
     }
 
-    /// The group of this path; None where no group has it. It takes the lock, and settles nothing.
-    pub fn find<R: Wait>(&self, rt: &R, path: &[u8]) -> Option<GroupId> {
+    /// The group of this path; None where no group has it. It takes the lock, and settles nothing. As with `visit`, it is said
+    /// that there was such a value behind the lock.
+    pub fn find<R: Wait>(&self, rt: &R, path: &[u8]) -> Option<GroupId>
+        ensures { (l : KnownLocked) × IsQuiet N.frames N.stocks l × (result ≡ number_at l.machine.ledger.groups path.now) }
+    {
         self.locked.lock(rt).find(path)
     }
 
@@ -64,7 +69,25 @@ impl<N: BootName> System<N> {
             (λ steps. Serves N.frames cmd.now l cpu.old result steps k cpu.new) }
         ensures settled { (cpu.new.fresh ≡ []) × (cpu.new.back ≡ []) }
     {
+        self.visit_with(rt, cpu, cmd, &NoGate)
+    }
+
+    /// Serves one command of the processor as `visit` does, and calls the gate's `inside` once, while it holds the lock and
+    /// before the command is served.
+    pub fn visit_with<R: Wait, G: Gate>(
+        &self,
+        rt: &R,
+        cpu: &mut Cpu<N>,
+        cmd: &Cmd<'_>,
+        gate: &G,
+    ) -> Reply
+        requires { IsOfZone N.frames cmd.now }
+        ensures served { (l k : KnownLocked) × IsQuiet N.frames N.stocks l × BySteps N.frames l.machine cpu.old k.machine cpu.new
+            (λ steps. Serves N.frames cmd.now l cpu.old result steps k cpu.new) }
+        ensures settled { (cpu.new.fresh ≡ []) × (cpu.new.back ≡ []) }
+    {
         let mut locked = self.locked.lock(rt);
+        gate.inside(cpu.number());
         serve(&mut *locked, &self.tables, cpu, cmd)
     }
 }

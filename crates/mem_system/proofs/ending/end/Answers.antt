@@ -1,9 +1,11 @@
 use Rattle.std.proofs.Common.{◌≡◌, ◌∙◌, List, length, map, All, ap, sym, subst, arith}
 use Rattle.frame_word.specs.Seats.{AreSeatsAt}
 use Rattle.stock_word.specs.Stock.{AreOf}
+use Rattle.std.specs.Prelude.{min}
+use Rattle.group_tree.specs.Room.{max_count}
 use Rattle.cpu_part.specs.Cpus.{KnownCpu, IsIdle}
 use Rattle.mem_system.specs.Boots.{KnownLocked}
-use Rattle.mem_system.specs.Ends.{InTurn, Rests, Empties, Ends, IsRested, frame_seat_of, stock_seat_of, pins_of}
+use Rattle.mem_system.specs.Ends.{InTurn, Rests, Empties, Ends, IsRested, frame_seat_of, stock_seat_of, drops_of, pins_of}
 use Rattle.mem_system.proofs.Closing.{turn_long, written_back, idle_all, frame_seats_at, stock_seats_at, long_frames, long_stocks, all_ends}
 use Rattle.mem_system.proofs.ending.end.Goals as goal
 
@@ -77,6 +79,7 @@ returns-clause-ends g c =
     let read : c.deref.result.now ≡ c.args.cpus.items = c.deref.ensures.value in
     let none : pins_of c.args.cpus.items ≡ 0 =
     let counted = c.count_pins-pins.ensures in let zero = c.if-pins-gt0.false in sym (ap pins_of read) ∙ sym counted ∙ omega (arith, zero) in
+    let dropped = c.count_drops-drops.ensures ∙ ap (λ (l : List KnownCpu). min (drops_of l) max_count) c.deref-2.ensures.value in
     let rests : InTurn t Rests c.locked.inside.machine c.args.cpus.items c.rest_all.new.machine c.rest_all.new.cpus =
     subst (λ (l : List KnownCpu). InTurn t Rests c.locked.inside.machine l c.rest_all.new.machine c.rest_all.new.cpus) first c.rest_all.ensures.rests in
     let empties : InTurn t Empties c.rest_all.new.machine c.rest_all.new.cpus c.empty_all.new.machine c.empty_all.new.cpus =
@@ -84,5 +87,5 @@ returns-clause-ends g c =
     c.empty_all.ensures.empties in
     subst (λ (l : KnownLocked). Ends t w l c.args.cpus.items c.take_audit-audit.result) c.locked.view_is
     (all_ends t w (record { machine = c.locked.inside.machine; sizes = c.locked.inside.sizes }) c.args.cpus.items c.rest_all.new.machine c.rest_all.new.cpus
-    c.empty_all.new.machine c.empty_all.new.cpus c.take_audit-audit.result _ _ none rests empties c.empty_all.ensures.shut c.empty_all.ensures.spent
+    c.empty_all.new.machine c.empty_all.new.cpus c.take_audit-audit.result _ _ _ c.locked.invariant.0 none dropped rests empties c.empty_all.ensures.shut c.empty_all.ensures.spent
     c.take_audit-audit.ensures c.close.ensures frames stocks)

@@ -1,4 +1,4 @@
-use Rattle.mem_system.proofs.system.System.visit.Goals as goal
+use Rattle.mem_system.proofs.system.System.visit_with.Goals as goal
 
 pub returns : goal.returns
 returns g c = record {
