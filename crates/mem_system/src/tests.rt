@@ -5,6 +5,7 @@ use crate::audit::Audit;
 use crate::booted::Boot;
 use crate::booting::boot;
 use crate::command::{Cmd, Reply};
+use crate::gates::Gate;
 use crate::system::System;
 use cpu_part::{BootName, Cpu};
 use group_tree::fault::Fault;
@@ -13,8 +14,25 @@ use std::alloc::Global;
 use std::marker::Brand;
 use std::process::Abort;
 use std::sync::Wait;
+use std::sync::atomic::{AtomicU32, Ordering};
 use std::test::Fail;
 use zone_sizes::config::Config;
+
+// Adds up the numbers of the processors that it is called for inside a visit.
+#[derive(Drop)]
+struct Counter {
+    inside: AtomicU32,
+}
+
+impl Gate for Counter {
+    fn before(&self, _cpu: u32, _line: usize) {}
+
+    fn inside(&self, cpu: u32) {
+        self.inside.fetch_add(cpu, Ordering::SeqCst);
+    }
+
+    fn after(&self, _cpu: u32, _line: usize) {}
+}
 
 // The file of `/a` reads as this text.
 fn reads<N: BootName, R: Wait + Abort>(
@@ -84,6 +102,11 @@ fn takes_out<N: BootName, R: Wait + Abort>(rt: &R, system: &System<N>, cpu: &mut
     assert!(rt; system.visit(rt, cpu, &Cmd::Dirty { frame }) == refused);
     assert!(rt; system.visit(rt, cpu, &Cmd::Clean { frame }) == refused);
     assert!(rt; system.visit(rt, cpu, &Cmd::Release { frame }) == refused);
+    let gate = Counter {
+        inside: AtomicU32::new(0),
+    };
+    assert!(rt; system.visit_with(rt, cpu, &Cmd::Settle, &gate) == Reply::Done);
+    assert_eq!(rt; gate.inside.load(Ordering::SeqCst), 2);
 }
 
 // Shuts the system down, which no processor has a pin in.
