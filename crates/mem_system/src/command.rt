@@ -56,6 +56,8 @@ pub enum Cmd<'a> {
 pub enum Reply {
     /// The group that was made.
     Group(GroupId),
+    /// The first frame of what was allocated.
+    Frame(u32),
     /// It was done.
     Done,
     /// The text of the file.
@@ -74,6 +76,8 @@ pub enum Reply {
     Left(u64),
     /// The unit came back: its pages are off the charge of its group.
     Returned,
+    /// A limit has no room: that of this group, which has this path.
+    OverLimit { group: GroupId, path: PathText },
     /// It is refused, for this reason.
     Refused(Fault),
 }

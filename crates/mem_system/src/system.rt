@@ -39,7 +39,8 @@ impl Boot {
 impl<N: BootName> Locked<N> {
     /// The group of this path; None where no group has it.
     pub fn find(&self, path: &[u8]) -> Option<GroupId>
-        ensures { result ≡ number_at self.now.machine.ledger.groups path.now }
+        ensures found { result ≡ number_at self.now.machine.ledger.groups path.now }
+        ensures quiet { IsQuiet N.frames N.stocks self.now }
     {
         self.machine.charges().tree().find(path)
     }
@@ -51,8 +52,11 @@ impl<N: BootName> System<N> {
         &self.tables
     }
 
-    /// The group of this path; None where no group has it. It takes the lock, and settles nothing.
-    pub fn find<R: Wait>(&self, rt: &R, path: &[u8]) -> Option<GroupId> {
+    /// The group of this path; None where no group has it. It takes the lock, and settles nothing. As with `visit`, it is said
+    /// that there was such a value behind the lock.
+    pub fn find<R: Wait>(&self, rt: &R, path: &[u8]) -> Option<GroupId>
+        ensures { (l : KnownLocked) × IsQuiet N.frames N.stocks l × (result ≡ number_at l.machine.ledger.groups path.now) }
+    {
         self.locked.lock(rt).find(path)
     }
 

@@ -1,0 +1,42 @@
+-- What is written for answers to lines.
+use Rattle.std.specs.Prelude.{ℕ, List, ◌++◌, codes}
+use Rattle.std.specs.Fmt.{decimal}
+use Rattle.cpu_part.specs.declared.answers.Fast as cpu
+use Rattle.cpu_part.specs.declared.answers.Fast.TheVariants.{Got, FreshFull, ListEmpty, OtherGroup, Drained, NoStock}
+use Rattle.frame_word.specs.declared.answers.Get.{Get}
+use Rattle.frame_word.specs.declared.answers.Get.TheVariants.{Held, Zero, Raced, Full}
+use Rattle.frame_word.specs.declared.answers.Put as word
+use Rattle.frame_word.specs.declared.answers.Put.TheVariants.{Left, Last}
+use Rattle.reply_texts.specs.declared.answered.Answer.{Answer}
+use Rattle.reply_texts.specs.declared.answered.Answer.TheVariants as answer
+use Rattle.reply_texts.specs.Replies.{reply_text}
+
+-- what is written for a frame asked for without the lock
+abbrev pub fast_text : cpu.Fast → List ℕ
+fast_text (Got f) = codes "frame " ++ decimal f ++ codes "\n"
+fast_text FreshFull = codes "fresh-full\n"
+fast_text ListEmpty = codes "list-empty\n"
+fast_text OtherGroup = codes "other-group\n"
+fast_text Drained = codes "drained\n"
+fast_text NoStock = codes "no-stock\n"
+
+-- what is written for a pin asked for
+abbrev pub get_text : Get → List ℕ
+get_text Held = codes "held\n"
+get_text Zero = codes "zero\n"
+get_text (Raced found) = codes "raced\n"
+get_text Full = codes "full\n"
+
+-- what is written for a pin taken off
+abbrev pub put_text : word.Put → List ℕ
+put_text (Left n) = codes "left " ++ decimal n ++ codes "\n"
+put_text Last = codes "last\n"
+
+-- what is written for the answer to a line
+abbrev pub answer_text : Answer → List ℕ
+answer_text (answer.Served reply) = reply_text reply
+answer_text answer.Settled = codes "settled\n"
+answer_text (answer.Fast fast) = fast_text fast
+answer_text (answer.Got get) = get_text get
+answer_text (answer.Put put) = put_text put
+answer_text answer.Listed = codes "listed\n"
