@@ -1,13 +1,13 @@
 -- What the lines of a script name is there, by the sizes that it was read with.
-use Rattle.std.proofs.Common.{◌≡◌, ◌≢◌, ℕ, zero, suc, ◌≤◌, ◌<◌, List, [], ◌∷◌, All, length, get_or, arith}
+use Rattle.std.proofs.Common.{ℕ, zero, suc, List, [], ◌∷◌, All, arith}
 use Rattle.std.specs.List.{AllZip}
 use Rattle.zone_sizes.specs.declared.config.Config.{Config}
 use Rattle.script_lines.specs.declared.line.Command.{Command}
-use Rattle.script_lines.specs.declared.line.Command.TheVariants.{Mkdir, Rmdir, Write, Read, Alloc, Fast, Release, Get, Put, Settle, Touch}
-use Rattle.script_lines.specs.declared.line.Command.TheVariants.{Dirty, Clean, Owner, Blocks, Show}
+use Rattle.script_lines.specs.declared.line.Command.TheVariants.{Fast, Release, Get, Put, Touch}
+use Rattle.script_lines.specs.declared.line.Command.TheVariants.{Dirty, Clean, Owner}
 use Rattle.script_lines.specs.declared.line.Line.{Line}
 use Rattle.script_lines.specs.declared.line.Line.TheVariants.{Go, At}
-use Rattle.script_lines.specs.Script.{HasArguments, IsCommandText, IsLineText, IsScript, asking_texts, texts_of}
+use Rattle.script_lines.specs.Script.{IsCommandText, IsLineText, IsScript, asking_texts, texts_of}
 use Rattle.script_replay.specs.Ranges.{LineIsThere, NamesInRange}
 
 -- what the command's text names is in range

@@ -1,7 +1,11 @@
 -- What a command is answered at a processor, and what it does there and behind the lock.
-use Rattle.std.specs.Prelude.{◌≡◌, ◌⊎◌, ℕ, ◌+◌, ◌<◌, ◌≤◌, List, length}
+use Rattle.std.specs.Prelude.{◌≡◌, ◌≢◌, ◌⊎◌, ℕ, ◌+◌, ◌<◌, ◌≤◌, List, Some, None, length}
+use Rattle.std.specs.Borrow.{Bor}
 use Rattle.frame_word.specs.Seats.{KnownTable}
-use Rattle.group_tree.specs.declared.fault.Fault.TheVariants.{NoFrames, PinsFull, NotPinned}
+use Rattle.group_tree.specs.Groups.{number_at}
+use Rattle.group_tree.specs.declared.fault.Fault.TheVariants.{NoGroup, PinsFull, NotPinned}
+use Rattle.cpu_part.specs.declared.answers.Fast as cpu
+use Rattle.cpu_part.specs.declared.answers.Fast.TheVariants.{Got}
 use Rattle.cpu_part.specs.declared.answers.Dropped.TheVariants as dropped
 use Rattle.cpu_part.specs.Cpus.{KnownCpu, times}
 use Rattle.cpu_part.specs.Calls.{FastAnswers, DropAnswers, PinAnswers, UnpinAnswers}
@@ -62,13 +66,40 @@ abbrev pub AnswersSettle : KnownTable → KnownLocked → KnownCpu → Answer �
 AnswersSettle t l c answer.Settled k d = SettlesCaller t l c k d
 AnswersSettle t l c other k d = ⊥
 
+-- the path is that of a group, and a call that takes no lock gets no frame for it, which the processor saw
+pub record GetsNoneFast (path : List ℕ) (l : KnownLocked) (c seen : KnownCpu) : Type 0 where
+  pub group : ℕ
+  pub found : number_at l.machine.ledger.groups path ≡ Some group
+  pub fast : cpu.Fast
+  pub answers : FastAnswers group fast c seen
+  pub none : (f : ℕ) → fast ≢ Got f
+
+-- no group has the path, and nothing changed
+abbrev pub FindsNoGroup : List ℕ → KnownLocked → KnownCpu → Reply → KnownLocked → KnownCpu → Type 0
+FindsNoGroup path l c reply k d = (number_at l.machine.ledger.groups path ≡ None) × (reply ≡ Refused NoGroup) × (k ≡ l) × (d ≡ c)
+
+-- Alloc of a single frame: without the lock one of the list, where it can be; else the command is served under the lock
+abbrev pub AnswersFrame : KnownTable → Bor (List ℕ) → KnownLocked → KnownCpu → Answer → KnownLocked → KnownCpu → Type 0
+AnswersFrame t path l c (answer.Fast (Got f)) k d =
+    (g : ℕ) × (number_at l.machine.ledger.groups path.now ≡ Some g) × FastAnswers g (Got f) c d × (k ≡ l)
+AnswersFrame t path l c (answer.Served reply) k d =
+    FindsNoGroup path.now l c reply k d
+    ⊎ ((seen : KnownCpu) × GetsNoneFast path.now l c seen × IsServed t (cmd.Alloc path 0) l seen reply k d)
+AnswersFrame t path l c other k d = ⊥
+
+-- Alloc: a single frame; or a block, which is always served under the lock
+pub record AnswersAlloc (t : KnownTable) (path : Bor (List ℕ)) (order : ℕ) (l : KnownLocked) (c : KnownCpu) (said : Answer) (k : KnownLocked)
+    (d : KnownCpu) : Type 0 where
+  pub single : order ≡ 0 → AnswersFrame t path l c said k d
+  pub block : order ≢ 0 → RepliesServed t (cmd.Alloc path order) l c said k d
+
 -- what a command is answered, but for those whose answer is a text of any length
 abbrev pub Answers : KnownTable → Command → KnownLocked → KnownCpu → Answer → KnownLocked → KnownCpu → Type 0
 Answers t (Mkdir path) l c answer k d = RepliesServed t (cmd.Mkdir path) l c answer k d
 Answers t (Rmdir path) l c answer k d = RepliesServed t (cmd.Rmdir path) l c answer k d
 Answers t (Write path file value) l c answer k d = RepliesServed t (cmd.Write path file value) l c answer k d
 Answers t (Read path file) l c answer k d = RepliesServed t (cmd.Read path file) l c answer k d
-Answers t (Alloc path order) l c said k d = (said ≡ answer.Served (Refused NoFrames)) × (k ≡ l) × (d ≡ c)
+Answers t (Alloc path order) l c answer k d = AnswersAlloc t path order l c answer k d
 Answers t (Fast group) l c answer k d = AnswersFast group l c answer k d
 Answers t (Release frame) l c answer k d = AnswersRelease t frame l c answer k d
 Answers t (Get frame) l c answer k d = AnswersGet frame l c answer k d

@@ -3,11 +3,11 @@
 ghost use Rattle.std.specs.Prelude.{◌≡◌, ◌++◌, ◌<◌, ℕ, IfOk, List};
 ghost use Rattle.std.specs.String.{string_bytes};
 ghost use Rattle.mem_system.specs.Commands.{IsOfZone};
-ghost use Rattle.script_replay.specs.Answers.{Answers, AnswersRelease, AnswersSettle, AnswersText, RepliesServed};
+ghost use Rattle.script_replay.specs.Answers.{Answers, AnswersAlloc, AnswersFrame, AnswersRelease, AnswersSettle, AnswersText, RepliesServed};
 ghost use Rattle.script_replay.specs.Ranges.{HasAnswer, NamesInRange};
 
 use crate::unlocked::{get, lists, put};
-use cpu_part::{BootName, Cpu, Tables};
+use cpu_part::{BootName, Cpu, Fast, Tables};
 use group_tree::fault::Fault;
 use mem_system::{Cmd, Locked, Reply, blocks, serve, show};
 use reply_texts::Answer;
@@ -61,7 +61,7 @@ fn answer_to<N: BootName>(
             served(locked, tables, cpu, &Cmd::Write { path, file, value })
         }
         Command::Read { path, file } => served(locked, tables, cpu, &Cmd::Read { path, file }),
-        Command::Alloc { .. } => Answer::Served(Reply::Refused(Fault::NoFrames)),
+        Command::Alloc { path, order } => alloc(locked, tables, cpu, path, order),
         Command::Fast { group } => Answer::Fast(cpu.alloc_fast(tables, group)),
         Command::Release { frame } => release(locked, tables, cpu, frame),
         Command::Get { frame } => get(tables, cpu, frame),
@@ -94,6 +94,41 @@ fn settle<N: BootName>(locked: &mut Locked<N>, tables: &Tables<N>, cpu: &mut Cpu
 {
     let _done = serve(locked, tables, cpu, &Cmd::Settle);
     Answer::Settled
+}
+
+// Takes a block, which may be a single frame.
+fn alloc<N: BootName>(
+    locked: &mut Locked<N>,
+    tables: &Tables<N>,
+    cpu: &mut Cpu<N>,
+    path: &[u8],
+    order: u32,
+) -> Answer
+    ensures { AnswersAlloc N.frames path.entry order locked.old cpu.old result locked.new cpu.new }
+{
+    if order == 0 {
+        alloc_frame(locked, tables, cpu, path)
+    } else {
+        served(locked, tables, cpu, &Cmd::Alloc { path, order })
+    }
+}
+
+// Takes a frame, without the lock where it can be.
+fn alloc_frame<N: BootName>(
+    locked: &mut Locked<N>,
+    tables: &Tables<N>,
+    cpu: &mut Cpu<N>,
+    path: &[u8],
+) -> Answer
+    ensures { AnswersFrame N.frames path.entry locked.old cpu.old result locked.new cpu.new }
+{
+    let Some(group) = locked.find(path) else {
+        return Answer::Served(Reply::Refused(Fault::NoGroup));
+    };
+    match cpu.alloc_fast(tables, group.number()) {
+        Fast::Got(frame) => Answer::Fast(Fast::Got(frame)),
+        _ => served(locked, tables, cpu, &Cmd::Alloc { path, order: 0 }),
+    }
 }
 
 // Lists a fresh frame again, without the lock where it can be.

@@ -5,8 +5,9 @@ ghost use Rattle.script_replay.specs.Ranges.{HasAnswer, LineIsThere, NamesInRang
 ghost use Rattle.mem_system.specs.Commands.{IsOfZone};
 
 use crate::unlocked::{get, lists, put};
-use cpu_part::{BootName, Cpu};
-use mem_system::{Cmd, System};
+use cpu_part::{BootName, Cpu, Fast};
+use group_tree::fault::Fault;
+use mem_system::{Cmd, Reply, System};
 use reply_texts::Answer;
 use script_lines::line::{Command, Line};
 use std::alloc::{AllocError, Global};
@@ -76,7 +77,12 @@ fn answer_by_visit<N: BootName, R: Wait>(
         Command::Rmdir { path } => Cmd::Rmdir { path },
         Command::Write { path, file, value } => Cmd::Write { path, file, value },
         Command::Read { path, file } => Cmd::Read { path, file },
-        Command::Alloc { .. } => Cmd::Settle,
+        Command::Alloc { path, order } => {
+            if order == 0 {
+                return alloc_frame(rt, system, cpu, path);
+            }
+            Cmd::Alloc { path, order }
+        }
         Command::Touch { frame } => Cmd::Touch { frame },
         Command::Dirty { frame } => Cmd::Dirty { frame },
         Command::Clean { frame } => Cmd::Clean { frame },
@@ -97,4 +103,20 @@ fn answer_by_visit<N: BootName, R: Wait>(
         Command::Blocks | Command::Show => unreachable!(),
     };
     Answer::Served(system.visit(rt, cpu, &cmd))
+}
+
+// Takes a frame, without the lock where it can be.
+fn alloc_frame<N: BootName, R: Wait>(
+    rt: &R,
+    system: &System<N>,
+    cpu: &mut Cpu<N>,
+    path: &[u8],
+) -> Answer {
+    let Some(group) = system.find(rt, path) else {
+        return Answer::Served(Reply::Refused(Fault::NoGroup));
+    };
+    match cpu.alloc_fast(system.tables(), group.number()) {
+        Fast::Got(frame) => Answer::Fast(Fast::Got(frame)),
+        _ => Answer::Served(system.visit(rt, cpu, &Cmd::Alloc { path, order: 0 })),
+    }
 }
