@@ -2,6 +2,8 @@
 //! processor makes under that lock.
 #![tactic(auto)]
 
+#[cfg(test)]
+mod alloc_tests;
 mod allocated;
 mod audit;
 mod booted;

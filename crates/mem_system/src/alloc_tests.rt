@@ -1,0 +1,204 @@
+//! Allocations of one processor for the group `/a`: what they answer, and what is charged then.
+ghost use Rattle.std.specs.Prelude.{◌≡◌};
+
+use crate::booted::Boot;
+use crate::booting::boot;
+use crate::command::{Cmd, Reply};
+use crate::system::System;
+use cpu_part::{BootName, Cpu};
+use group_tree::fault::Fault;
+use std::alloc::Global;
+use std::marker::Brand;
+use std::process::Abort;
+use std::sync::Wait;
+use std::test::Fail;
+use zone_sizes::config::Config;
+
+// What an allocation answers.
+#[derive(Clone, Copy, Debug, PartialEq, Eq)]
+enum Told {
+    Frame(u32),
+    OverLimit,
+    Refused(Fault),
+}
+
+// What the processor asks for.
+#[derive(Clone, Copy, Debug, PartialEq, Eq)]
+enum Line {
+    Alloc(u32, Told),
+    Release(u32),
+    Settle,
+}
+
+// A zone of so many frames, the limit of the group, what is asked for, and what the group's files read then.
+#[derive(Clone, Copy, Debug, PartialEq, Eq)]
+struct Row {
+    frames: u32,
+    limit: &'static [u8],
+    lines: [Line; 3],
+    current: &'static [u8],
+    peak: &'static [u8],
+    events: &'static [u8],
+}
+
+const NO_EVENT: &[u8] = b"low 0\nhigh 0\nmax 0\noom 0\noom_kill 0\n";
+
+const ROWS: [Row; 6] = [
+    // a frame, with a stock of three pages
+    Row {
+        frames: 16,
+        limit: b"max",
+        lines: [Line::Alloc(0, Told::Frame(0)), Line::Settle, Line::Settle],
+        current: b"16384\n",
+        peak: b"16384\n",
+        events: NO_EVENT,
+    },
+    // a batch that doesn't fit is no event
+    Row {
+        frames: 16,
+        limit: b"8K",
+        lines: [Line::Alloc(0, Told::Frame(0)), Line::Settle, Line::Settle],
+        current: b"4096\n",
+        peak: b"4096\n",
+        events: NO_EVENT,
+    },
+    Row {
+        frames: 16,
+        limit: b"32K",
+        lines: [Line::Alloc(4, Told::OverLimit), Line::Settle, Line::Settle],
+        current: b"0\n",
+        peak: b"0\n",
+        events: b"low 0\nhigh 0\nmax 1\noom 0\noom_kill 0\n",
+    },
+    Row {
+        frames: 1024,
+        limit: b"max",
+        lines: [
+            Line::Alloc(11, Told::Refused(Fault::BadOrder)),
+            Line::Alloc(10, Told::Frame(0)),
+            Line::Settle,
+        ],
+        current: b"4194304\n",
+        peak: b"4194304\n",
+        events: NO_EVENT,
+    },
+    // the charge of a stock was granted and taken back
+    Row {
+        frames: 16,
+        limit: b"max",
+        lines: [
+            Line::Alloc(3, Told::Frame(0)),
+            Line::Alloc(3, Told::Frame(8)),
+            Line::Alloc(0, Told::Refused(Fault::NoFrames)),
+        ],
+        current: b"65536\n",
+        peak: b"81920\n",
+        events: NO_EVENT,
+    },
+    // the processor's own list goes back for a block
+    Row {
+        frames: 16,
+        limit: b"max",
+        lines: [
+            Line::Alloc(0, Told::Frame(0)),
+            Line::Release(0),
+            Line::Alloc(4, Told::Frame(0)),
+        ],
+        current: b"77824\n",
+        peak: b"77824\n",
+        events: NO_EVENT,
+    },
+];
+
+// Whether the reply is what is told.
+fn is_told(reply: &Reply, told: &Told) -> bool {
+    let asked: &[u8] = b"/a";
+    match reply {
+        Reply::Frame(frame) => *told == Told::Frame(*frame),
+        Reply::OverLimit { group, path } => {
+            *told == Told::OverLimit && group.number() == 1 && path.as_bytes() == asked
+        }
+        Reply::Refused(fault) => *told == Told::Refused(*fault),
+        _ => false,
+    }
+}
+
+// The processor asks for one thing.
+fn asks<N: BootName, R: Wait + Abort>(rt: &R, system: &System<N>, cpu: &mut Cpu<N>, line: &Line) {
+    let path: &[u8] = b"/a";
+    match line {
+        Line::Alloc(order, told) => {
+            let order = *order;
+            let reply = system.visit(rt, cpu, &Cmd::Alloc { path, order });
+            assert!(rt; is_told(&reply, told));
+        }
+        Line::Release(number) => {
+            let frame = system.tables().frames.frame(*number);
+            let frame = frame.expect(rt, "a frame").number();
+            let reply = system.visit(rt, cpu, &Cmd::Release { frame });
+            assert!(rt; reply == Reply::Returned);
+        }
+        Line::Settle => assert!(rt; system.visit(rt, cpu, &Cmd::Settle) == Reply::Done),
+    }
+}
+
+// The file of `/a` reads as this text.
+fn reads<N: BootName, R: Wait + Abort>(
+    rt: &R,
+    system: &System<N>,
+    cpu: &mut Cpu<N>,
+    file: &[u8],
+    text: &[u8],
+) {
+    let path: &[u8] = b"/a";
+    match system.visit(rt, cpu, &Cmd::Read { path, file }) {
+        Reply::Text(found) => assert!(rt; found.as_bytes() == text),
+        _ => panic!(rt; "no text"),
+    }
+}
+
+// The processor makes the group, limits it, asks for all of the row and reads the files.
+fn plays<N: BootName, R: Wait + Abort>(rt: &R, system: &System<N>, cpu: &mut Cpu<N>, row: &Row) {
+    let path: &[u8] = b"/a";
+    let file: &[u8] = b"memory.max";
+    let value = row.limit;
+    let _made = system.visit(rt, cpu, &Cmd::Mkdir { path });
+    assert!(rt; system.visit(rt, cpu, &Cmd::Write { path, file, value }) == Reply::Done);
+    for line in &row.lines {
+        asks(rt, system, cpu, line);
+    }
+    reads(rt, system, cpu, b"memory.current", row.current);
+    reads(rt, system, cpu, b"memory.peak", row.peak);
+    reads(rt, system, cpu, b"memory.events", row.events);
+}
+
+// The life of a system of one processor.
+fn lives<N: BootName, R: Wait + Abort>(rt: &R, alloc: Global, boot: Boot, row: &Row)
+    requires { (boot.frames ≡ N.frames) × (boot.stocks ≡ N.stocks) }
+{
+    let (system, mut cpus) = boot.start::<N>(alloc).expect(rt, "memory");
+    for cpu in cpus.iter_mut() {
+        plays(rt, &system, cpu, row);
+    }
+    assert!(rt; cpus.len() == system.tables().frames.cpus() as usize);
+    match system.shutdown(cpus) {
+        Ok(audit) => assert!(rt; audit.frames == row.frames),
+        Err(_) => panic!(rt; "a pin"),
+    }
+}
+
+#[test]
+fn allocations_answer_as_the_rows_say(rt: HostRuntime) -> Result<(), Fail> {
+    for row in &ROWS {
+        let sizes = Config {
+            frames: row.frames,
+            cpus: 1,
+            batch: 4,
+            high: 8,
+            stock: 4,
+        };
+        let boot = boot(rt.alloc(), sizes).expect(&rt, "a boot");
+        lives::<Brand, _>(&rt, rt.alloc(), boot, row);
+    }
+    Ok(())
+}
