@@ -167,3 +167,6 @@ fn size(found: &ArgMatches<'_>, name: &str, most: u32) -> Option<u32>
         Some(size)
     }
 }
+
+#[cfg(test)]
+mod tests;

@@ -1,0 +1,119 @@
+use crate::command_line::options;
+use crate::fault::LineFault;
+use std::test::Fail;
+use zone_sizes::config::Config;
+
+#[test]
+fn has_defaults(rt: HostRuntime) -> Result<(), Fail> {
+    let found = options(rt.alloc(), &["replay"])?;
+    let defaults = Config {
+        frames: 16,
+        cpus: 2,
+        batch: 4,
+        high: 8,
+        stock: 4,
+    };
+    assert!(rt; found.sizes == defaults && !found.is_audited);
+    Ok(())
+}
+
+#[test]
+fn takes_the_greatest_values(rt: HostRuntime) -> Result<(), Fail> {
+    let words = [
+        "replay",
+        "--frames=65536",
+        "--cpus",
+        "16",
+        "--batch",
+        "64",
+        "--high",
+        "256",
+        "--stock",
+        "64",
+        "--audit",
+    ];
+    let found = options(rt.alloc(), &words)?;
+    let greatest = Config {
+        frames: 65_536,
+        cpus: 16,
+        batch: 64,
+        high: 256,
+        stock: 64,
+    };
+    assert!(rt; found.sizes == greatest && found.is_audited);
+    Ok(())
+}
+
+// What is told of the words, or the empty text where they are taken.
+fn told<R: AllocGlobal>(rt: &R, words: &[&str]) -> Result<String, Fail> {
+    match options(rt.alloc(), words) {
+        Ok(_) => Ok(String::new(rt.alloc())),
+        Err(LineFault::Words(text)) => Ok(text),
+        Err(LineFault::NoMemory(error)) => Err(error)?,
+    }
+}
+
+#[test]
+fn tells_what_is_wrong(rt: HostRuntime) -> Result<(), Fail> {
+    let below = told(&rt, &["replay", "--frames", "0"])?;
+    assert!(rt;
+        below.as_str().starts_with(
+            "error: invalid value '0' for '--frames <N>': 0 is not in 1..=65536\n"
+        ),
+        "{below}"
+    );
+    let unknown = told(&rt, &["play"])?;
+    assert!(rt;
+        unknown
+            .as_str()
+            .starts_with("error: unrecognized subcommand 'play'\n"),
+        "{unknown}"
+    );
+    let help = told(&rt, &["replay", "--help"])?;
+    assert!(rt;
+        help.as_str().starts_with(
+            "Runs the lines of a script, one after the other\n\nUsage: memcg replay [OPTIONS]\n"
+        ),
+        "{help}"
+    );
+    Ok(())
+}
+
+#[test]
+fn refuses_each_value_past_its_range(rt: HostRuntime) -> Result<(), Fail> {
+    let past = [
+        "--frames=65537",
+        "--cpus=17",
+        "--cpus=0",
+        "--batch=65",
+        "--batch=0",
+        "--high=257",
+        "--high=0",
+        "--stock=65",
+        "--stock=0",
+        "--frames=1.5",
+        "--audit=1",
+    ];
+    for word in past {
+        let text = told(&rt, &["replay", word])?;
+        assert!(rt; text.as_str().starts_with("error: "), "{word}");
+    }
+    Ok(())
+}
+
+#[test]
+fn refuses_what_it_does_not_have(rt: HostRuntime) -> Result<(), Fail> {
+    for words in [
+        [].as_slice(),
+        &["run"],
+        &["replay", "--frames=1", "--frames=1"],
+        &["replay", "--audit", "--audit"],
+        &["replay", "x"],
+        &["--help"],
+        &["help"],
+    ] {
+        let text = told(&rt, words)?;
+        assert!(rt; !text.is_empty(), "{words:?}");
+    }
+    Ok(())
+}

@@ -1,0 +1,171 @@
+//! Scripts and what they are answered.
+
+/// A run of the program that ends well.
+#[derive(Clone, Copy, Debug)]
+pub struct Row {
+    /// What it shows.
+    pub name: &'static str,
+    /// The words of the command line, with a space between each two.
+    pub words: &'static str,
+    pub script: &'static str,
+    /// What the lines are answered.
+    pub answers: &'static str,
+    /// What is told of the end.
+    pub ending: &'static str,
+}
+
+// A run without an audit.
+fn unaudited(
+    name: &'static str,
+    words: &'static str,
+    script: &'static str,
+    answers: &'static str,
+) -> Row {
+    Row {
+        name,
+        words,
+        script,
+        answers,
+        ending: "",
+    }
+}
+
+/// Groups, files and refusals, and blocks of each order.
+pub fn group_rows() -> [Row; 10] {
+    [
+        unaudited(
+            "groups and frames are shown",
+            "replay --frames 16 --cpus 1 --batch 1 --high 1 --stock 1",
+            "1 mkdir /a\n1 mkdir /a/b\n1 alloc /a 0\n1 alloc /a/b 0\n1 mkdir /a\n1 show\n",
+            "group 1\ngroup 2\nframe 0\nframe 1\nrefused 2 Exists\n0 /a\n1 /a/b\n2-15 free\ncurrent /a 8192\ncurrent /a/b 4096\n",
+        ),
+        unaudited(
+            "paths are refused as the tree does",
+            "replay --cpus 1 --batch 1 --high 1 --stock 1",
+            "1 mkdir /user@1000.service\n1 mkdir /..\n1 mkdir /a/a/a/a/a/a/a/a/a\n1 alloc /b 0\n",
+            "group 1\nrefused 3 BadName\nrefused 5 TooDeep\nrefused 6 NoGroup\n",
+        ),
+        unaudited(
+            "limits are rounded up to pages",
+            "replay",
+            "1 mkdir /a\n1 write /a memory.max 5000\n1 read /a memory.max\n1 write /a memory.max  1k \n1 read /a memory.max\n",
+            "group 1\nok\n8192\nok\n4096\n",
+        ),
+        unaudited(
+            "limits past the greatest are none",
+            "replay",
+            "1 mkdir /a\n1 write /a memory.max 4096\n1 write /a memory.max 18446744073709551616\n1 read /a memory.max\n1 write /a memory.max 16777215T\n1 read /a memory.max\n1 write /a memory.max 17592186040320\n1 read /a memory.max\n1 write /a memory.max 17592186040321\n1 read /a memory.max\n",
+            "group 1\nok\nrefused 13 BadNumber\n4096\nok\nmax\nok\n17592186040320\nok\nmax\n",
+        ),
+        unaudited(
+            "a group with children or pages is not taken out",
+            "replay",
+            "1 mkdir /a\n1 mkdir /a/b\n1 rmdir /a\n1 alloc /a/b 0\n1 settle\n2 get 0\n1 rmdir /a/b\n1 read / memory.current\n1 write /a memory.peak 0\n",
+            "group 1\ngroup 2\nrefused 7 HasChildren\nframe 0\nsettled\nheld\nrefused 8 Busy\nrefused 10 NoFile\nrefused 11 ReadOnly\n",
+        ),
+        unaudited(
+            "a great zone has blocks of order ten",
+            "replay --frames 1024",
+            "1 mkdir /a\n1 alloc /a 11\n1 alloc /a 10\n1 read /a memory.current\n1 blocks\n",
+            "group 1\nrefused 19 BadOrder\nframe 0\n4194304\nnone\n",
+        ),
+        unaudited(
+            "a zone of 11 frames has three blocks",
+            "replay --frames 11",
+            "1 blocks\n1 mkdir /a\n1 alloc /a 4\n1 alloc /b 11\n1 alloc /a 4294967295\n1 show\n",
+            "0:10 1:8 3:0\ngroup 1\nrefused 16 NoFrames\nrefused 6 NoGroup\nrefused 19 BadOrder\n0-10 free\ncurrent /a 0\n",
+        ),
+        unaudited(
+            "blocks of every order are taken",
+            "replay --cpus 1 --batch 1 --high 1 --stock 1",
+            "1 blocks\n1 mkdir /a\n1 alloc /a 0\n1 alloc /a 2\n1 blocks\n1 alloc /a 3\n1 blocks\n",
+            "4:0\ngroup 1\nframe 0\nframe 4\n0:1 1:2 3:8\nframe 8\n0:1 1:2\n",
+        ),
+        unaudited(
+            "frames above 1024 are taken",
+            "replay --frames 1104",
+            "1 alloc / 10\n1 alloc / 10\n1 alloc / 6\n1 alloc / 2\n1 blocks\n1 show\n",
+            "frame 0\nrefused 16 NoFrames\nframe 1024\nframe 1088\n2:1092 3:1096\n0-1091 /\n1092-1103 free\n",
+        ),
+        unaudited(
+            "no frame is free",
+            "replay --frames 1",
+            "1 alloc / 0\n1 alloc / 0\n1 alloc /a 0\n1 show\n",
+            "frame 0\nrefused 16 NoFrames\nrefused 6 NoGroup\n0 /\n",
+        ),
+    ]
+}
+
+/// Processors: their lists, their stocks and their references.
+pub fn processor_rows() -> [Row; 11] {
+    [
+        unaudited(
+            "a stock of pages and a list of frames are had at once",
+            "replay",
+            "1 mkdir /a\n1 alloc /a 0\n1 read /a memory.current\n1 blocks\n2 get 5\n2 get 1\n2 put 5\n2 release 5\n2 fast 1\n",
+            "group 1\nframe 0\n16384\n2:4 3:8\nzero\nzero\nrefused 21 NotPinned\nrefused 20 NotKept\nlist-empty\n",
+        ),
+        unaudited(
+            "a limit below a stock has room for a page",
+            "replay",
+            "1 mkdir /a\n1 write /a memory.max 8K\n1 alloc /a 0\n1 read /a memory.current\n1 read /a memory.events\n",
+            "group 1\nok\nframe 0\n4096\nlow 0\nhigh 0\nmax 0\noom 0\noom_kill 0\n",
+        ),
+        unaudited(
+            "a great block goes over the limit",
+            "replay",
+            "1 mkdir /a\n1 write /a memory.max 32K\n1 alloc /a 4\n1 read /a memory.events\n",
+            "group 1\nok\nrefused 15 OverLimit /a\nlow 0\nhigh 0\nmax 1\noom 0\noom_kill 0\n",
+        ),
+        unaudited(
+            "a charge without a frame is taken back",
+            "replay",
+            "1 mkdir /a\n1 alloc /a 3\n1 alloc /a 3\n1 dirty 0\n1 dirty 8\n1 alloc /a 0\n1 read /a memory.current\n1 read /a memory.peak\n",
+            "group 1\nframe 0\nframe 8\nok\nok\nrefused 16 NoFrames\n65536\n81920\n",
+        ),
+        Row {
+            name: "a reference outlives a release",
+            words: "replay --audit",
+            script: "1 mkdir /a\n1 alloc /a 0\n1 settle\n2 get 0\n1 release 0\n",
+            answers: "group 1\nframe 0\nsettled\nheld\nleft 1\n",
+            ending: "held 1\naudit frames 16 free 16 charged 0\naudit puts 1 freezes 0 drops 0 returns 1\n",
+        },
+        unaudited(
+            "the own list goes back for a block",
+            "replay",
+            "1 mkdir /a\n1 alloc /a 0\n1 release 0\n1 read /a memory.current\n1 alloc /a 4\n1 read /a memory.current\n1 blocks\n",
+            "group 1\nframe 0\nlisted\n16384\nframe 0\n81920\nnone\n",
+        ),
+        unaudited(
+            "a list that stands at its mark is cut",
+            "replay --batch 2 --high 2",
+            "1 mkdir /a\n1 alloc /a 0\n1 alloc /a 0\n1 alloc /a 0\n1 release 0\n1 release 1\n1 blocks\n1 read /a memory.current\n1 read /a memory.peak\n",
+            "group 1\nframe 0\nframe 1\nframe 2\nreturned\nreturned\n0:0 0:3 2:4 3:8\n8192\n16384\n",
+        ),
+        unaudited(
+            "a frame goes from one group to another",
+            "replay --batch 1 --high 1 --stock 1",
+            "1 mkdir /a\n1 mkdir /b\n1 alloc /a 0\n1 settle\n1 release 0\n1 alloc /b 0\n1 settle\n2 get 0\n2 owner 0\n",
+            "group 1\ngroup 2\nframe 0\nsettled\nreturned\nframe 0\nsettled\nheld\n/b\n",
+        ),
+        unaudited(
+            "frames are taken without the lock",
+            "replay",
+            "1 mkdir /a\n1 fast 1\n1 alloc /a 0\n1 fast 1\n1 fast 2\n2 owner 1\n1 fast 1\n1 fast 1\n1 fast 1\n2 fast 63\n",
+            "group 1\nlist-empty\nframe 0\nframe 1\nother-group\ncpu 1\nframe 2\nframe 3\nlist-empty\nlist-empty\n",
+        ),
+        unaudited(
+            "units are marked, and references counted",
+            "replay",
+            "1 mkdir /a\n1 alloc /a 0\n1 settle\n1 touch 0\n1 touch 0\n1 clean 0\n1 get 0\n1 put 0\n2 put 0\n1 owner 15\ngo\n1 release 0\n",
+            "group 1\nframe 0\nsettled\nmarked\nactive\nok\nheld\nleft 1\nrefused 21 NotPinned\nfree\nreturned\n",
+        ),
+        Row {
+            name: "nothing happened",
+            words: "replay --audit",
+            script: "",
+            answers: "",
+            ending: "audit frames 16 free 16 charged 0\naudit puts 0 freezes 0 drops 0 returns 0\n",
+        },
+    ]
+}
