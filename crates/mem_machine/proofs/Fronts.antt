@@ -1,30 +1,25 @@
 -- What the own stock holds, the room for more pages, and the front of a list that is paid for. Serves `own_stock`, `see_room` and `take_front`.
-use Rattle.std.proofs.Common.{◌≡◌, ℕ, ◌+◌, ◌-◌, ◌*◌, ◌^◌, ◌<◌, ◌≤◌, ◌==◌, Bool, true, false, Option, Some, None, List, [], ◌∷◌, ◌++◌, length, zero, suc}
+use Rattle.std.proofs.Common.{◌≡◌, ℕ, ◌+◌, ◌-◌, ◌*◌, ◌<◌, ◌≤◌, ◌==◌, Bool, true, false, List, [], ◌∷◌, ◌++◌, length, zero, suc}
 use Rattle.std.proofs.Common.{refl, sym, ap, ◌∙◌, subst, inl, inr, arith, cond, eq-eqb, length-append}
 use Rattle.std.specs.Prelude.{◌&&◌, is_some, not, nat_le, nat_lt}
-use Rattle.std.proofs.lemmas.Bool.{cases_eq, ne_eqb, and_from, le-leb, lt-ltb}
+use Rattle.std.proofs.lemmas.Bool.{cases_eq, ne_eqb, and_from, le-leb}
 use Rattle.group_tree.specs.declared.group.Group.{Group}
 use Rattle.group_tree.specs.Groups.{in_subtree}
 use Rattle.group_charge.specs.Charges.{current_of}
 use Rattle.frame_word.specs.Views.{note_of}
 use Rattle.frame_word.specs.Seats.{KnownTable}
-use Rattle.stock_word.specs.declared.view.Account.{Account}
 use Rattle.stock_word.specs.declared.view.Stock.{Stock}
-use Rattle.stock_word.specs.declared.view.Stock.TheVariants as stock_is
 use Rattle.stock_word.specs.Stock.{Words, Seated, account_of, stocked, pages_of, group_of, is_held}
 use Rattle.stock_word.specs.Kinds.{after_took}
 use Rattle.stock_word.specs.Calls.{with_view}
 use Rattle.cpu_part.specs.Cpus.{KnownCpu, IsTied, times}
 use Rattle.cpu_part.specs.Calls.{TakesFront}
-use Rattle.step_rules.specs.declared.phase.Stage.TheVariants.{FreshAt}
-use Rattle.step_rules.specs.declared.phase.Phase.{Phase}
-use Rattle.step_rules.specs.declared.phase.Phase.TheVariants as phase
 use Rattle.step_rules.specs.declared.step.Action.TheVariants.{Consume}
 use Rattle.step_rules.specs.declared.step.Answer.TheVariants.{Took}
 use Rattle.step_rules.specs.Phases.{keeper_of}
-use Rattle.step_rules.specs.State.{State, Part, with_at, one_if, sum_to, front_of, without, is_cpu}
+use Rattle.step_rules.specs.State.{Part, with_at, one_if, sum_to, front_of, without, is_cpu}
 use Rattle.step_rules.specs.Usage.{is_below, frames_kept, stock_below, pages_prepaid, pages_pending, usage_of}
-use Rattle.step_rules.specs.After.{after, paid, consumed}
+use Rattle.step_rules.specs.After.{paid, consumed}
 use Rattle.step_rules.specs.Legal.{is_legal, IsAnswer}
 use Rattle.step_rules.proofs.Basics.{at_same, at_other}
 use Rattle.step_rules.proofs.Sums.{sum_none}
@@ -34,7 +29,6 @@ use Rattle.mem_machine.specs.Spots.{spot_at, some_cpu}
 use Rattle.mem_machine.specs.Machines.{KnownMachine, IsConsistent, Visits}
 use Rattle.mem_machine.specs.Local.{local_of, phase_of, part_of, part_with, IsLocalRun}
 use Rattle.mem_machine.specs.Steps.{take_front_steps}
-use Rattle.mem_machine.specs.Stocks.{stock_group}
 use Rattle.mem_machine.specs.Paying.{IsOfSize, IsOwnStock, HoldsPage, PaysForFront, HasRoomFor, pages_held}
 use Rattle.mem_machine.proofs.Reaching.{cpu_step, run_one}
 use Rattle.mem_machine.proofs.Holds.{own_part, seated_cpu}

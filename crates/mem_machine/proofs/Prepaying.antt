@@ -271,7 +271,7 @@ usage_falls groups (x ∷ xs) g n m =
     let b = sum_by-cons (share groups m) x xs in
     omega (arith, here, rest, a, b)
 
-current_falls : (l : Ledger) (o : Option ℕ) (n m : ℕ) → current_of (uncharged l o n) m ≤ current_of l m
+pub current_falls : (l : Ledger) (o : Option ℕ) (n m : ℕ) → current_of (uncharged l o n) m ≤ current_of l m
 current_falls l None n m = omega arith
 current_falls l (Some g) n m = usage_falls l.groups l.accounts g n m
 

@@ -14,8 +14,10 @@ use Rattle.mem_machine.specs.Local.{IsLocalRun, local_of}
 use Rattle.mem_machine.specs.Stocks.{DrainsAllBelow}
 use Rattle.mem_machine.specs.Settling.{Settles, settle_steps}
 use Rattle.mem_machine.specs.Steps.{Drain, open_steps, shut_steps, make_steps, remove_steps, set_max_steps, drain_stocks_steps}
+-- how a call is said by its steps
+pub use Rattle.mem_alloc.specs.Stepping.{BySteps, Stays}
 use Rattle.mem_system.specs.declared.command.Cmd.{Cmd}
-use Rattle.mem_system.specs.declared.command.Cmd.TheVariants.{Mkdir, Rmdir, Write, Read, Settle, Owner, Touch, Dirty, Clean, Release}
+use Rattle.mem_system.specs.declared.command.Cmd.TheVariants.{Mkdir, Rmdir, Write, Read, Settle, Owner, Touch, Dirty, Clean, Release, Alloc}
 use Rattle.mem_system.specs.declared.command.Reply.{Reply}
 use Rattle.mem_system.specs.declared.command.Reply.TheVariants.{Group, Done, Refused}
 use Rattle.mem_system.specs.Boots.{KnownLocked}
@@ -24,11 +26,7 @@ use Rattle.mem_system.specs.Files.{IsFileOf, Reads, RefusesWrite, IsAbove}
 use Rattle.mem_system.specs.Owners.{TellsPlace}
 use Rattle.mem_system.specs.Kept.{TouchesFrame, NotesDirt}
 use Rattle.mem_system.specs.Releases.{ReleasesFrame}
-
--- A list of local steps with their answers leads the processor from the machine and its part before to those after, and this
--- holds of that list
-abbrev pub BySteps : KnownTable → KnownMachine → KnownCpu → KnownMachine → KnownCpu → (Run → Type 0) → Type 0
-BySteps t m c n d P = (steps : Run) × P steps × IsLocalRun c.number (local_of t m c) steps (local_of t n d)
+use Rattle.mem_system.specs.Allocs.{Allocates, FreshOf}
 
 -- Mkdir: the group is made, as the machine makes it; or it is refused for the first cause that holds, and nothing changed
 abbrev pub MakesGroup : KnownMachine → List ℕ → Reply → Run → KnownMachine → Type 0
@@ -89,12 +87,6 @@ Writes t m path name value Done steps after = WritesLimit t m path name value st
 Writes t m path name value (Refused fault) steps after = RefusesWrite m.ledger.groups path name value fault × (after ≡ m) × (steps ≡ [])
 Writes t m path name value other steps after = ⊥
 
--- nothing changed, without a step
-pub record Stays (m : KnownMachine) (c : KnownCpu) (steps : Run) (n : KnownMachine) (d : KnownCpu) : Type 0 where
-  pub machine : n ≡ m
-  pub cpu : d ≡ c
-  pub steps_are : steps ≡ []
-
 -- a frame that the command names is one of the zone's
 abbrev pub IsOfZone : KnownTable → Cmd → Type 0
 IsOfZone t (Owner f) = f < t.frames
@@ -116,6 +108,12 @@ Obeys t sizes (Touch f) m c reply steps n d = TouchesFrame m f reply steps n × 
 Obeys t sizes (Dirty f) m c reply steps n d = NotesDirt true m f reply steps n × (d ≡ c)
 Obeys t sizes (Clean f) m c reply steps n d = NotesDirt false m f reply steps n × (d ≡ c)
 Obeys t sizes (Release f) m c reply steps n d = ReleasesFrame sizes f m c reply steps n d
+Obeys t sizes (Alloc path order) m c reply steps n d = Allocates t sizes path.now order m c reply steps n d
+
+-- the fresh frames after a command: the one frame that an Alloc of order 0 answered, and after all else none
+abbrev pub FreshAfter : Cmd → Reply → List ℕ → Type 0
+FreshAfter (Alloc path order) reply fresh = FreshOf reply order fresh
+FreshAfter other reply fresh = fresh ≡ []
 
 -- the machine with p's visit open (1) or shut (0)
 abbrev pub with_visit_of : KnownMachine → ℕ → ℕ → KnownMachine

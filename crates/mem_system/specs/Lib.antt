@@ -1,3 +1,4 @@
+pub mod Allocs
 pub mod Boots
 pub mod Commands
 pub mod Ends

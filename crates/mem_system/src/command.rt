@@ -49,6 +49,11 @@ pub enum Cmd<'a> {
     Release {
         frame: u32,
     },
+    /// Allocates a block of this order for the group of this path; order 0 is a single frame.
+    Alloc {
+        path: &'a [u8],
+        order: u32,
+    },
 }
 
 /// What a processor is answered.

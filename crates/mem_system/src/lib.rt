@@ -2,6 +2,7 @@
 //! processor makes under that lock.
 #![tactic(auto)]
 
+mod allocated;
 mod audit;
 mod booted;
 mod booting;

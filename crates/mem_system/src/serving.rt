@@ -4,9 +4,10 @@ ghost use Rattle.std.specs.Prelude.{◌≡◌, ◌+◌, ◌≤◌, [], length};
 ghost use Rattle.frame_word.specs.Seats.{NothingPasses};
 ghost use Rattle.zone_sizes.specs.Config.{IsValidConfig};
 ghost use Rattle.mem_machine.specs.Machines.{Visits};
-ghost use Rattle.mem_system.specs.Boots.{IsQuiet};
-ghost use Rattle.mem_system.specs.Commands.{BySteps, IsOfZone, Obeys, Serves};
+ghost use Rattle.mem_system.specs.Boots.{IsQuiet, IsSizedAs};
+ghost use Rattle.mem_system.specs.Commands.{BySteps, FreshAfter, IsOfZone, Obeys, Serves};
 
+use crate::allocated::allocate;
 use crate::command::{Cmd, Reply};
 use crate::directories::{make_group, remove_group};
 use crate::files::{read_file, write_file};
@@ -28,6 +29,7 @@ fn obey<N: BootName>(
 ) -> Reply
     requires zone { IsOfZone N.frames cmd.now }
     requires sizes { IsValidConfig sizes }
+    requires sized { IsSizedAs sizes N.frames N.stocks }
     requires visit { Visits N.frames machine.old cpu.old }
     requires settled { (cpu.old.fresh ≡ []) × (cpu.old.back ≡ []) }
     ensures obeyed { BySteps N.frames machine.old cpu.old machine.new cpu.new
@@ -35,8 +37,8 @@ fn obey<N: BootName>(
     ensures visit { Visits N.frames machine.new cpu.new }
     ensures opened { machine.new.seat.view.opened ≡ machine.old.seat.view.opened }
     ensures number { cpu.new.number ≡ cpu.old.number }
-    ensures settled { (cpu.new.fresh ≡ []) × (cpu.new.back ≡ []) }
-    ensures at_most_high { length cpu.old.list ≤ sizes.high → length cpu.new.list ≤ sizes.high }
+    ensures settled { FreshAfter cmd.now result cpu.new.fresh × (cpu.new.back ≡ []) }
+    ensures at_most_high { length cpu.old.list ≤ sizes.high → length cpu.new.list + length cpu.new.fresh ≤ sizes.high }
 {
     match cmd {
         Cmd::Mkdir { path } => make_group(machine, path),
@@ -49,6 +51,7 @@ fn obey<N: BootName>(
         Cmd::Dirty { frame } => note_dirt(machine, tables, *frame, true),
         Cmd::Clean { frame } => note_dirt(machine, tables, *frame, false),
         Cmd::Release { frame } => release_frame(machine, tables, cpu, sizes, *frame),
+        Cmd::Alloc { path, order } => allocate(machine, tables, cpu, sizes, path, *order),
     }
 }
 
@@ -65,8 +68,8 @@ pub fn serve<N: BootName>(
         (λ steps. Serves N.frames cmd.now locked.old cpu.old result steps locked.new cpu.new) }
     ensures before { IsQuiet N.frames N.stocks locked.old }
     ensures after { IsQuiet N.frames N.stocks locked.new }
-    ensures settled { (cpu.new.fresh ≡ []) × (cpu.new.back ≡ []) }
-    ensures at_most_high { length cpu.old.list ≤ locked.old.sizes.high → length cpu.new.list ≤ locked.old.sizes.high }
+    ensures settled { FreshAfter cmd.now result cpu.new.fresh × (cpu.new.back ≡ []) }
+    ensures at_most_high { length cpu.old.list ≤ locked.old.sizes.high → length cpu.new.list + length cpu.new.fresh ≤ locked.old.sizes.high }
     ensures still { NothingPasses N.frames locked.new.machine.seat cpu.new.seat }
 {
     locked.machine.open(tables, cpu);

@@ -3,7 +3,7 @@
 ghost use Rattle.std.specs.Prelude.{◌≡◌, [], IfOk};
 ghost use Rattle.group_tree.specs.Groups.{number_at};
 ghost use Rattle.mem_system.specs.Boots.{KnownLocked, IsQuiet, first_cpus};
-ghost use Rattle.mem_system.specs.Commands.{BySteps, IsOfZone, Serves};
+ghost use Rattle.mem_system.specs.Commands.{BySteps, FreshAfter, IsOfZone, Serves};
 
 use crate::booted::Boot;
 use crate::command::{Cmd, Reply};
@@ -67,7 +67,7 @@ impl<N: BootName> System<N> {
         requires { IsOfZone N.frames cmd.now }
         ensures served { (l k : KnownLocked) × IsQuiet N.frames N.stocks l × BySteps N.frames l.machine cpu.old k.machine cpu.new
             (λ steps. Serves N.frames cmd.now l cpu.old result steps k cpu.new) }
-        ensures settled { (cpu.new.fresh ≡ []) × (cpu.new.back ≡ []) }
+        ensures settled { FreshAfter cmd.now result cpu.new.fresh × (cpu.new.back ≡ []) }
     {
         self.visit_with(rt, cpu, cmd, &NoGate)
     }
@@ -84,7 +84,7 @@ impl<N: BootName> System<N> {
         requires { IsOfZone N.frames cmd.now }
         ensures served { (l k : KnownLocked) × IsQuiet N.frames N.stocks l × BySteps N.frames l.machine cpu.old k.machine cpu.new
             (λ steps. Serves N.frames cmd.now l cpu.old result steps k cpu.new) }
-        ensures settled { (cpu.new.fresh ≡ []) × (cpu.new.back ≡ []) }
+        ensures settled { FreshAfter cmd.now result cpu.new.fresh × (cpu.new.back ≡ []) }
     {
         let mut locked = self.locked.lock(rt);
         gate.inside(cpu.number());

@@ -1,8 +1,8 @@
-use Rattle.std.proofs.Common.{ℕ, ◌≤◌, List, length, ap, sym, ◌∙◌, refl, subst}
+use Rattle.std.proofs.Common.{ℕ, ◌+◌, ◌≤◌, List, length, ap, sym, ◌∙◌, refl, subst}
 use Rattle.cpu_part.specs.Cpus.{KnownCpu}
 use Rattle.mem_machine.specs.Machines.{KnownMachine}
 use Rattle.mem_system.specs.Boots.{KnownLocked, IsQuiet}
-use Rattle.mem_system.specs.Commands.{BySteps, Serves, with_visit_of}
+use Rattle.mem_system.specs.Commands.{BySteps, FreshAfter, Serves, with_visit_of}
 use Rattle.mem_system.proofs.Visiting.{all_shut, settled_opened, served}
 use Rattle.mem_system.proofs.serving.serve.Goals as goal
 
@@ -47,9 +47,13 @@ returns g c =
         valid = quiet.valid;
         sized = quiet.sized;
       };
-      settled = (ap (λ (y : KnownCpu). y.fresh) same ∙ c.obey-reply.ensures.settled.0, ap (λ (y : KnownCpu). y.back) same ∙ c.obey-reply.ensures.settled.1);
-      at_most_high = subst (λ (l : KnownLocked). length c.args.cpu.now.list ≤ l.sizes.high → length c.shut.new.cpu.list ≤ l.sizes.high) c.locked.view_is
-          (λ within. subst (λ (y : KnownCpu). length y.list ≤ c.locked.inside.sizes.high) (sym same) (c.obey-reply.ensures.at_most_high
+      settled = (
+        subst (λ (y : KnownCpu). FreshAfter c.args.cmd.now c.obey-reply.result y.fresh) (sym same) c.obey-reply.ensures.settled.0,
+        ap (λ (y : KnownCpu). y.back) same ∙ c.obey-reply.ensures.settled.1,
+      );
+      at_most_high = subst (λ (l : KnownLocked). length c.args.cpu.now.list ≤ l.sizes.high → length c.shut.new.cpu.list + length c.shut.new.cpu.fresh ≤ l.sizes.high)
+          c.locked.view_is
+          (λ within. subst (λ (y : KnownCpu). length y.list + length y.fresh ≤ c.locked.inside.sizes.high) (sym same) (c.obey-reply.ensures.at_most_high
           (subst (λ (l : List ℕ). length l ≤ c.locked.inside.sizes.high)
           (sym (c.settle.ensures.others.list ∙ ap (λ (y : KnownCpu). y.list) c.open.ensures.cpu)) within)));
       still = c.shut.ensures.still;

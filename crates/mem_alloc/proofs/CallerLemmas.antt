@@ -1,0 +1,36 @@
+-- What crates above cite: the group over whose limit a charge would have gone is there.
+use Rattle.std.proofs.Common.{◌≡◌, ℕ, ◌^◌, true, sym, subst}
+use Rattle.std.specs.Prelude.{Err}
+use Rattle.frame_word.specs.Seats.{KnownTable}
+use Rattle.group_tree.specs.Groups.{has_group}
+use Rattle.group_tree.proofs.CallerLemmas.{in_subtree-above}
+use Rattle.cpu_part.specs.Cpus.{KnownCpu}
+use Rattle.zone_sizes.specs.declared.config.Config.{Config}
+use Rattle.step_rules.specs.After.{Run}
+use Rattle.mem_machine.specs.Machines.{KnownMachine}
+use Rattle.mem_alloc.specs.declared.faults.AllocFault.TheVariants.{Over}
+use Rattle.mem_alloc.specs.Room.{IsOverAt}
+use Rattle.mem_alloc.specs.Frames.{AllocatesFrame}
+use Rattle.mem_alloc.specs.Blocks.{AllocatesBlock}
+use Rattle.mem_alloc.proofs.Lowering.{lowered_there}
+use Rattle.mem_alloc.proofs.Filling.{refused_lowers}
+
+over_there : (t : KnownTable) (g pages over : ℕ) (m n : KnownMachine) (steps : Run) → IsOverAt t g pages over m steps n → has_group n.ledger.groups over ≡ true
+over_there t g pages over m n steps h =
+    lowered_there h.cleared n over (refused_lowers t g pages over h.cleared n h.last h.refused)
+    (in_subtree-above h.cleared.ledger.groups over g h.refused.lowest.on_path)
+
+-- after a frame was refused
+pub frame_over_there : (t : KnownTable) (sizes : Config) (g over : ℕ) (m n : KnownMachine) (c d : KnownCpu) (steps : Run)
+    → AllocatesFrame t sizes g (Err (Over over)) m c steps n d → has_group n.ledger.groups over ≡ true
+frame_over_there t sizes g over m n c d steps h =
+    let last = h.refuses.refuses.refuses in
+    let named = last.named in
+    let same : last.over ≡ over = cc in
+    subst (λ (o : ℕ). has_group n.ledger.groups o ≡ true) same
+    (over_there t g 1 last.over h.refuses.emptied n h.refuses.refuses.later last.refuses)
+
+-- after a block was refused
+pub block_over_there : (t : KnownTable) (g k over : ℕ) (m n : KnownMachine) (c d : KnownCpu) (steps : Run)
+    → AllocatesBlock t g k (Err (Over over)) m c steps n d → has_group n.ledger.groups over ≡ true
+block_over_there t g k over m n c d steps h = over_there t g (2 ^ k) over m n steps h.1.refuses

@@ -1,0 +1,392 @@
+-- What is kept on the way to a frame, and how the parts of an allocation fit together. Serves `charge_frame`, `pay_for_frame`, `fill_list` and
+-- `alloc_frame`.
+use Rattle.std.proofs.Common.{◌≡◌, ℕ, ◌+◌, ◌<◌, ◌≤◌, false, List, [], ◌∷◌, ◌++◌, length, refl, sym, ap, ◌∙◌, subst, inl, inr}
+use Rattle.std.proofs.Common.{arith, length-append}
+use Rattle.std.specs.Prelude.{Result, Ok, Err, IsErr, IfErr}
+use Rattle.std.proofs.lemmas.Bool.{false≢true}
+use Rattle.std.proofs.lemmas.List.{append_assoc, append-nil}
+use Rattle.zone_blocks.specs.Areas.{HasNoneFrom}
+use Rattle.frame_word.specs.Seats.{KnownTable}
+use Rattle.group_tree.specs.Room.{IsLowestOver}
+use Rattle.group_charge.specs.Charges.{current_of}
+use Rattle.stock_word.specs.declared.view.Account.{Account}
+use Rattle.stock_word.specs.Stock.{account_of}
+use Rattle.cpu_part.specs.Cpus.{KnownCpu}
+use Rattle.zone_sizes.specs.declared.config.Config.{Config}
+use Rattle.zone_sizes.specs.Config.{IsValidConfig}
+use Rattle.step_rules.specs.After.{Run}
+use Rattle.mem_machine.specs.Machines.{KnownMachine, is_killed}
+use Rattle.mem_machine.specs.Local.{IsLocalRun, local_of}
+use Rattle.mem_machine.specs.Lending.{LendsMany, Refills}
+use Rattle.mem_machine.specs.Paying.{HoldsPage, PaysForFront}
+use Rattle.mem_machine.specs.Stocks.{Drains, Fills, stock_group}
+use Rattle.mem_machine.specs.Steps.{drain_steps, fill_steps, over_steps, take_front_steps}
+use Rattle.mem_machine.proofs.Prepaying.{filled_account, filled_at}
+use Rattle.mem_machine.proofs.Reaching.{run_both}
+use Rattle.mem_alloc.specs.declared.faults.AllocFault.{AllocFault}
+use Rattle.mem_alloc.specs.declared.faults.AllocFault.TheVariants.{Over, NoFrames, Killed}
+use Rattle.mem_alloc.specs.Stepping.{BySteps}
+use Rattle.mem_alloc.specs.Room.{IsRefusedAt, MakesRoom, IsOverAt, with_max_noted_at}
+use Rattle.mem_alloc.specs.Charging.{FillsAfterRoom, IsOverForOne, ChargesFrame, RefusesFrame, DrainsOwn, PaysForFrame}
+use Rattle.mem_alloc.specs.Charging.{RefusesToPay}
+use Rattle.mem_alloc.specs.Frames.{FillsList, HasNoFrame, GetsFrame, AllocatesFrame}
+use Rattle.mem_alloc.proofs.Lowering.{Lowers, lowers_none, lowers_both, drain_lowers, all_lower, note_lowers}
+
+-- ---- what is kept
+
+-- the visits, and the processor's number and lists
+pub record KeepsPart (m : KnownMachine) (c : KnownCpu) (n : KnownMachine) (d : KnownCpu) : Type 0 where
+  pub opened : n.seat.view.opened ≡ m.seat.view.opened
+  pub number : d.number ≡ c.number
+  pub list : d.list ≡ c.list
+  pub fresh : d.fresh ≡ c.fresh
+  pub back : d.back ≡ c.back
+
+pub keeps_both : (m x n : KnownMachine) (c y d : KnownCpu) → KeepsPart m c x y → KeepsPart x y n d → KeepsPart m c n d
+keeps_both m x n c y d a b = record {
+  opened = b.opened ∙ a.opened;
+  number = b.number ∙ a.number;
+  list = b.list ∙ a.list;
+  fresh = b.fresh ∙ a.fresh;
+  back = b.back ∙ a.back;
+}
+
+pub lowers_keep : (m n : KnownMachine) (c d : KnownCpu) → Lowers m n → d ≡ c → KeepsPart m c n d
+lowers_keep m n c d l same = record {
+  opened = ap (λ (y : KnownMachine). y.seat.view.opened) l.same;
+  number = ap (λ (e : KnownCpu). e.number) same;
+  list = ap (λ (e : KnownCpu). e.list) same;
+  fresh = ap (λ (e : KnownCpu). e.fresh) same;
+  back = ap (λ (e : KnownCpu). e.back) same;
+}
+
+fills_keep : (g k : ℕ) (m n : KnownMachine) (c d : KnownCpu) → Fills g k m c n d → KeepsPart m c n d
+fills_keep g k m n c d f = record {
+  opened = ap (λ (y : KnownMachine). y.seat.view.opened) f.machine;
+  number = ap (λ (e : KnownCpu). e.number) f.cpu;
+  list = ap (λ (e : KnownCpu). e.list) f.cpu;
+  fresh = ap (λ (e : KnownCpu). e.fresh) f.cpu;
+  back = ap (λ (e : KnownCpu). e.back) f.cpu;
+}
+
+pub refused_lowers : (t : KnownTable) (g pages over : ℕ) (m n : KnownMachine) (steps : Run) → IsRefusedAt t g pages over m steps n → Lowers m n
+refused_lowers t g pages over m n steps r =
+    lowers_both m (with_max_noted_at m over) n (note_lowers m over) (all_lower over t.cpus (with_max_noted_at m over) n r.drains r.all)
+
+pub makes_lower : (t : KnownTable) (g pages : ℕ) (before : List ℕ) (m n : KnownMachine) (steps : Run) → MakesRoom t g pages before m steps n → Lowers m n
+makes_lower t g pages [] m n steps h = subst (λ (x : KnownMachine). Lowers m x) (sym h.0) (lowers_none m)
+makes_lower t g pages (over ∷ later) m n steps h =
+    lowers_both m h.0 n (refused_lowers t g pages over m h.0 h.1 h.3) (makes_lower t g pages later h.0 n h.2 h.5)
+
+pub over_lowers : (t : KnownTable) (g pages over : ℕ) (m n : KnownMachine) (steps : Run) → IsOverAt t g pages over m steps n → Lowers m n
+over_lowers t g pages over m n steps h =
+    lowers_both m h.cleared n (makes_lower t g pages h.before m h.cleared h.making h.makes) (refused_lowers t g pages over h.cleared n h.last h.refused)
+
+after_room_keeps : (t : KnownTable) (g k : ℕ) (m n : KnownMachine) (c d : KnownCpu) (steps : Run) → FillsAfterRoom t g k m c steps n d → KeepsPart m c n d
+after_room_keeps t g k m n c d steps h =
+    keeps_both m h.cleared n c c d (lowers_keep m h.cleared c c (makes_lower t g k h.before m h.cleared h.making h.makes) refl)
+    (fills_keep g k h.cleared n c d h.fills)
+
+charges_keep : (t : KnownTable) (sizes : Config) (g : ℕ) (m n : KnownMachine) (c d : KnownCpu) (steps : Run)
+    → ChargesFrame t sizes g m c steps n d → KeepsPart m c n d
+charges_keep t sizes g m n c d steps (inl h) = fills_keep g sizes.stock m n c d h.fills
+charges_keep t sizes g m n c d steps (inr h) = after_room_keeps t g 1 m n c d h.later h.fills
+
+pub pays_keep : (t : KnownTable) (sizes : Config) (g : ℕ) (m n : KnownMachine) (c d : KnownCpu) (steps : Run)
+    → PaysForFrame t sizes g m c steps n d → KeepsPart m c n d
+pays_keep t sizes g m n c d steps (inl h) =
+    lowers_keep m n c d (subst (λ (x : KnownMachine). Lowers m x) (sym h.machine) (lowers_none m)) h.cpu
+pays_keep t sizes g m n c d steps (inr h) =
+    keeps_both m h.emptied n c c d (lowers_keep m h.emptied c c (drain_lowers m h.emptied c.number h.drains.back h.drains.drains) refl)
+    (charges_keep t sizes g h.emptied n c d h.later h.charges)
+
+pub refuses_keep : (t : KnownTable) (sizes : Config) (g : ℕ) (cause : AllocFault) (m n : KnownMachine) (c d : KnownCpu) (steps : Run)
+    → RefusesToPay t sizes g cause m c steps n d → KeepsPart m c n d
+refuses_keep t sizes g cause m n c d steps h =
+    let over = h.refuses.refuses in
+    keeps_both m h.emptied n c c d (lowers_keep m h.emptied c c (drain_lowers m h.emptied c.number h.drains.back h.drains.drains) refl)
+    (lowers_keep h.emptied n c d (over_lowers t g 1 over.over h.emptied n h.refuses.later over.refuses) over.cpu)
+
+-- ---- the stock holds a page
+
+filled_page : (g k : ℕ) (m n : KnownMachine) (c d : KnownCpu) → Fills g k m c n d → 1 ≤ k → c.fresh ≡ [] → HoldsPage n d g
+filled_page g k m n c d f some none =
+    let at : account_of n.stock.view d.number ≡ filled_account m.stock.view c.number g k =
+    (λ i. account_of (f.machine i).stock.view (f.cpu i).number) ∙ filled_at m.stock.view c.number g k in
+    let book : (account_of n.stock.view d.number).book ≡ (account_of m.stock.view c.number).book + k = ap (λ (a : Account). a.book) at in
+    let fresh : length d.fresh ≡ 0 = ap (λ (e : KnownCpu). length e.fresh) f.cpu ∙ ap length none in
+    record { group = ap (λ (a : Account). a.group) at; held = ap (λ (a : Account). a.filled) at; some = omega (arith, book, fresh, some) }
+
+pub charged_page : (t : KnownTable) (sizes : Config) (g : ℕ) (m n : KnownMachine) (c d : KnownCpu) (steps : Run) → IsValidConfig sizes
+    → ChargesFrame t sizes g m c steps n d → c.fresh ≡ [] → HoldsPage n d g
+charged_page t sizes g m n c d steps valid (inl h) none = filled_page g sizes.stock m n c d h.fills valid.stock_low none
+charged_page t sizes g m n c d steps valid (inr h) none = filled_page g 1 h.fills.cleared n c d h.fills.fills (omega arith) none
+
+pub paid_page : (t : KnownTable) (sizes : Config) (g : ℕ) (m n : KnownMachine) (c d : KnownCpu) (steps : Run) → IsValidConfig sizes
+    → PaysForFrame t sizes g m c steps n d → c.fresh ≡ [] → HoldsPage n d g
+paid_page t sizes g m n c d steps valid (inl h) none =
+    subst (λ (x : KnownMachine × KnownCpu). HoldsPage x.0 x.1 g) (λ i. (sym h.machine i, sym h.cpu i)) h.page
+paid_page t sizes g m n c d steps valid (inr h) none = charged_page t sizes g h.emptied n c d h.later valid h.charges none
+
+-- ---- frames that are lent
+
+pub record LentPart (frames : List ℕ) (m : KnownMachine) (c : KnownCpu) (n : KnownMachine) (d : KnownCpu) : Type 0 where
+  pub opened : n.seat.view.opened ≡ m.seat.view.opened
+  pub number : d.number ≡ c.number
+  pub list : d.list ≡ c.list ++ frames
+  pub fresh : d.fresh ≡ c.fresh
+  pub back : d.back ≡ c.back
+  pub stock : n.stock ≡ m.stock
+
+pub lent_part : (frames : List ℕ) (m n : KnownMachine) (c d : KnownCpu) → LendsMany frames m c n d → LentPart frames m c n d
+lent_part [] m n c d h = record {
+  opened = ap (λ (y : KnownMachine). y.seat.view.opened) h.0;
+  number = ap (λ (e : KnownCpu). e.number) h.1;
+  list = ap (λ (e : KnownCpu). e.list) h.1 ∙ sym (append-nil c.list);
+  fresh = ap (λ (e : KnownCpu). e.fresh) h.1;
+  back = ap (λ (e : KnownCpu). e.back) h.1;
+  stock = ap (λ (y : KnownMachine). y.stock) h.0;
+}
+lent_part (f ∷ frames) m n c d h =
+    let one = h.2 in
+    let more = lent_part frames h.0 n h.1 d h.3 in
+    record {
+      opened = more.opened ∙ ap (λ (y : KnownMachine). y.seat.view.opened) one.machine;
+      number = more.number ∙ ap (λ (e : KnownCpu). e.number) one.cpu;
+      list = more.list ∙ ap (λ (e : KnownCpu). e.list ++ frames) one.cpu ∙ append_assoc c.list (f ∷ []) frames;
+      fresh = more.fresh ∙ ap (λ (e : KnownCpu). e.fresh) one.cpu;
+      back = more.back ∙ ap (λ (e : KnownCpu). e.back) one.cpu;
+      stock = more.stock ∙ ap (λ (y : KnownMachine). y.stock) one.machine;
+    }
+
+pub lent_page : (frames : List ℕ) (g : ℕ) (m n : KnownMachine) (c d : KnownCpu) → LendsMany frames m c n d → HoldsPage m c g → HoldsPage n d g
+lent_page frames g m n c d lends page =
+    let l = lent_part frames m n c d lends in
+    let at : account_of n.stock.view d.number ≡ account_of m.stock.view c.number = λ i. account_of (l.stock i).view (l.number i) in
+    let book : (account_of n.stock.view d.number).book ≡ (account_of m.stock.view c.number).book = ap (λ (a : Account). a.book) at in
+    let fresh : length d.fresh ≡ length c.fresh = ap length l.fresh in
+    let some = page.some in
+    record {
+      group = ap (λ (a : Account). a.group) at ∙ page.group;
+      held = ap (λ (a : Account). a.filled) at ∙ page.held;
+      some = omega (arith, book, fresh, some);
+    }
+
+-- ---- the parts put together
+
+-- the batch fits
+pub batch_fits : (t : KnownTable) (sizes : Config) (g : ℕ) (m k n : KnownMachine) (c e d : KnownCpu) → k ≡ m → e ≡ c → Fills g sizes.stock k e n d
+    → IsLocalRun e.number (local_of t k e) (fill_steps e.number g sizes.stock) (local_of t n d)
+    → BySteps t m c n d (λ steps. ChargesFrame t sizes g m c steps n d)
+batch_fits t sizes g m k n c e d same mine fills steps =
+    subst (λ (x : KnownMachine × KnownCpu). BySteps t x.0 x.1 n d (λ steps. ChargesFrame t sizes g x.0 x.1 steps n d)) (λ i. (same i, mine i)) (
+      fill_steps e.number g sizes.stock,
+      inl (record { fills = fills; steps_are = refl }),
+      steps,
+    )
+
+-- the batch doesn't fit, and then one page is charged, or is refused
+module _ (t : KnownTable) (sizes : Config) (g over : ℕ) (m k x n : KnownMachine) (c e y d : KnownCpu) (same : k ≡ m) (mine : e ≡ c) (stays : x ≡ k) (its : y ≡ e)
+    (low : IsLowestOver k.ledger.groups (current_of k.ledger) g sizes.stock over)
+    (refusing : IsLocalRun e.number (local_of t k e) (over_steps g sizes.stock over) (local_of t k e)) where
+  lowest : IsLowestOver m.ledger.groups (current_of m.ledger) g sizes.stock over
+  lowest = subst (λ (z : KnownMachine). IsLowestOver z.ledger.groups (current_of z.ledger) g sizes.stock over) same low
+
+  refused : IsLocalRun c.number (local_of t m c) (over_steps g sizes.stock over) (local_of t m c)
+  refused = subst (λ (z : KnownMachine × KnownCpu). IsLocalRun z.1.number (local_of t z.0 z.1) (over_steps g sizes.stock over) (local_of t z.0 z.1))
+      (λ i. (same i, mine i)) refusing
+
+  pub one_fits : BySteps t x y n d (λ steps. FillsAfterRoom t g 1 x y steps n d) → BySteps t m c n d (λ steps. ChargesFrame t sizes g m c steps n d)
+  one_fits b =
+      let here = subst (λ (z : KnownMachine × KnownCpu). BySteps t z.0 z.1 n d (λ steps. FillsAfterRoom t g 1 z.0 z.1 steps n d))
+      (λ i. ((stays ∙ same) i, (its ∙ mine) i)) b in (
+        over_steps g sizes.stock over ++ here.0,
+        inr (record { over = over; batch = lowest; later = here.0; fills = here.1; steps_are = refl }),
+        run_both c.number (over_steps g sizes.stock over) here.0 (local_of t m c) (local_of t m c) (local_of t n d) refused here.2,
+      )
+
+  pub none_fits : (cause : AllocFault) → BySteps t x y n d (λ steps. IsOverForOne t g cause x y steps n d)
+      → BySteps t m c n d (λ steps. RefusesFrame t sizes g cause m c steps n d)
+  none_fits cause b =
+      let here = subst (λ (z : KnownMachine × KnownCpu). BySteps t z.0 z.1 n d (λ steps. IsOverForOne t g cause z.0 z.1 steps n d))
+      (λ i. ((stays ∙ same) i, (its ∙ mine) i)) b in (
+        over_steps g sizes.stock over ++ here.0,
+        record { over = over; batch = lowest; later = here.0; refuses = here.1; steps_are = refl },
+        run_both c.number (over_steps g sizes.stock over) here.0 (local_of t m c) (local_of t m c) (local_of t n d) refused here.2,
+      )
+
+-- the own stock is drained first
+module _ (t : KnownTable) (sizes : Config) (g back q : ℕ) (m k x n : KnownMachine) (c e d : KnownCpu) (same : k ≡ m) (mine : e ≡ c) (named : q ≡ e.number)
+    (lacks : ¬ HoldsPage m c g) (drains : Drains k q back x) (draining : (h : KnownCpu) → IsLocalRun h.number (local_of t k h)
+    (drain_steps q (stock_group k q) back) (local_of t x h)) where
+  number_is : q ≡ c.number
+  number_is = named ∙ ap (λ (h : KnownCpu). h.number) mine
+
+  drained : Drains m c.number back x
+  drained = subst (λ (z : KnownMachine × ℕ). Drains z.0 z.1 back x) (λ i. (same i, number_is i)) drains
+
+  drained_own : DrainsOwn g m c (drain_steps c.number (stock_group m c.number) back) x
+  drained_own = record { lacks = lacks; back = back; drains = drained; steps_are = refl }
+
+  by_drain : IsLocalRun c.number (local_of t m c) (drain_steps c.number (stock_group m c.number) back) (local_of t x c)
+  by_drain = subst (λ (z : KnownMachine × ℕ). IsLocalRun c.number (local_of t z.0 c) (drain_steps z.1 (stock_group z.0 z.1) back) (local_of t x c))
+      (λ i. (same i, number_is i)) (draining c)
+
+  pub pays_anew : BySteps t x e n d (λ steps. ChargesFrame t sizes g x e steps n d) → BySteps t m c n d (λ steps. PaysForFrame t sizes g m c steps n d)
+  pays_anew b =
+      let here = subst (λ (z : KnownCpu). BySteps t x z n d (λ steps. ChargesFrame t sizes g x z steps n d)) mine b in (
+        drain_steps c.number (stock_group m c.number) back ++ here.0,
+        inr (record {
+          emptied = x;
+          first = drain_steps c.number (stock_group m c.number) back;
+          later = here.0;
+          drains = drained_own;
+          charges = here.1;
+          steps_are = refl;
+        }),
+        run_both c.number (drain_steps c.number (stock_group m c.number) back) here.0 (local_of t m c) (local_of t x c) (local_of t n d) by_drain here.2,
+      )
+
+  pub refuses_anew : (cause : AllocFault) → BySteps t x e n d (λ steps. RefusesFrame t sizes g cause x e steps n d)
+      → BySteps t m c n d (λ steps. RefusesToPay t sizes g cause m c steps n d)
+  refuses_anew cause b =
+      let here = subst (λ (z : KnownCpu). BySteps t x z n d (λ steps. RefusesFrame t sizes g cause x z steps n d)) mine b in (
+        drain_steps c.number (stock_group m c.number) back ++ here.0,
+        record {
+          emptied = x;
+          first = drain_steps c.number (stock_group m c.number) back;
+          later = here.0;
+          drains = drained_own;
+          refuses = here.1;
+          steps_are = refl;
+        },
+        run_both c.number (drain_steps c.number (stock_group m c.number) back) here.0 (local_of t m c) (local_of t x c) (local_of t n d) by_drain here.2,
+      )
+
+-- ---- the list
+
+none_lent : (frames : List ℕ) (m n : KnownMachine) (c d : KnownCpu) → length frames ≡ 0 → LendsMany frames m c n d → (n ≡ m) × (d ≡ c)
+none_lent [] m n c d none h = h
+none_lent (f ∷ frames) m n c d none h = absurd (omega (arith, none))
+
+-- no frame is free: none was lent, and the stock is drained
+pub no_frame : (t : KnownTable) (sizes : Config) (count back q : ℕ) (m k n : KnownMachine) (c e : KnownCpu) → Refills t count m c k e → count ≤ 0 → c.list ≡ []
+    → (count < sizes.batch → HasNoneFrom k.blocks 0) → 1 ≤ sizes.batch → q ≡ e.number → Drains k q back n
+    → ((h : KnownCpu) → IsLocalRun h.number (local_of t k h) (drain_steps q (stock_group k q) back) (local_of t n h))
+    → BySteps t m c n e (λ steps. HasNoFrame NoFrames m c steps n e)
+no_frame t sizes count back q m k n c e refills few empty fewer some named drains steps =
+    let all = refills.all in
+    let same = none_lent refills.frames m k c e (omega (arith, few, all)) refills.lends in
+    let number : q ≡ c.number = named ∙ ap (λ (h : KnownCpu). h.number) same.1 in
+    let none : HasNoneFrom m.blocks 0 = subst (λ (x : KnownMachine). HasNoneFrom x.blocks 0) same.0 (fewer (omega (arith, few, some))) in
+    subst (λ (z : KnownCpu). BySteps t m c n z (λ steps. HasNoFrame NoFrames m c steps n z)) (sym same.1) (
+      drain_steps c.number (stock_group m c.number) back,
+      record {
+        named = refl;
+        empty = empty;
+        none = none;
+        back = back;
+        drains = subst (λ (x : KnownMachine × ℕ). Drains x.0 x.1 back n) (λ i. (same.0 i, number i)) drains;
+        cpu = refl;
+        steps_are = refl;
+      },
+      subst (λ (x : KnownMachine × ℕ). IsLocalRun c.number (local_of t x.0 c) (drain_steps x.1 (stock_group x.0 x.1) back) (local_of t n c))
+          (λ i. (same.0 i, number i)) (steps c),
+    )
+
+-- what a list that has a frame leaves
+pub record FilledPart (sizes : Config) (m : KnownMachine) (c : KnownCpu) (n : KnownMachine) (d : KnownCpu) : Type 0 where
+  pub opened : n.seat.view.opened ≡ m.seat.view.opened
+  pub number : d.number ≡ c.number
+  pub fresh : d.fresh ≡ c.fresh
+  pub back : d.back ≡ c.back
+  pub high : length c.list ≤ sizes.high → length d.list ≤ sizes.high
+
+pub filled_part : (sizes : Config) (m n : KnownMachine) (c d : KnownCpu) (steps : Run) → IsValidConfig sizes → FillsList sizes m c steps n d
+    → FilledPart sizes m c n d
+filled_part sizes m n c d steps valid (inl h) = record {
+  opened = ap (λ (y : KnownMachine). y.seat.view.opened) h.stays.machine;
+  number = ap (λ (e : KnownCpu). e.number) h.stays.cpu;
+  fresh = ap (λ (e : KnownCpu). e.fresh) h.stays.cpu;
+  back = ap (λ (e : KnownCpu). e.back) h.stays.cpu;
+  high = λ low. let a : length d.list ≡ length c.list = ap (λ (e : KnownCpu). length e.list) h.stays.cpu in omega (arith, a, low);
+}
+filled_part sizes m n c d steps valid (inr h) =
+    let l = lent_part h.frames m n c d h.lends in
+    record {
+      opened = l.opened;
+      number = l.number;
+      fresh = l.fresh;
+      back = l.back;
+      high = λ low.
+          let a : length d.list ≡ length c.list + length h.frames = ap length l.list ∙ length-append c.list h.frames in
+          let b : length c.list ≡ 0 = ap length h.empty in
+          let e = h.at_most in
+          let v = valid.high_low in
+          omega (arith, a, b, e, v);
+    }
+
+-- ---- the whole allocation
+
+module _ (t : KnownTable) (sizes : Config) (g : ℕ) (m : KnownMachine) (c : KnownCpu) (alive : is_killed m.killed g ≡ false) where
+  -- a charge is refused for good
+  pub not_paid : (r : Result ℕ AllocFault) (x : AllocFault) (n : KnownMachine) (d : KnownCpu) → IsErr r → IfErr r (λ e. e ≡ x)
+      → BySteps t m c n d (λ steps. RefusesToPay t sizes g x m c steps n d) → BySteps t m c n d (λ steps. AllocatesFrame t sizes g r m c steps n d)
+  not_paid (Ok f) x n d not is b = absurd (false≢true not)
+  not_paid (Err (Over h)) x n d not is b = (
+    b.0,
+    record { alive = alive; refuses = subst (λ (z : AllocFault). RefusesToPay t sizes g z m c b.0 n d) (sym is) b.1 },
+    b.2,
+  )
+  not_paid (Err NoFrames) x n d not is b = let e = is ∙ b.1.refuses.refuses.named in cc
+  not_paid (Err Killed) x n d not is b = let e = is ∙ b.1.refuses.refuses.named in cc
+
+  module _ (k : KnownMachine) (y : KnownCpu) (number : y.number ≡ c.number) (pays : BySteps t m c k y (λ steps. PaysForFrame t sizes g m c steps k y)) where
+    -- no frame is free
+    pub not_found : (r : Result ℕ AllocFault) (x : AllocFault) (n : KnownMachine) (d : KnownCpu) → IsErr r → IfErr r (λ e. e ≡ x)
+        → BySteps t k y n d (λ steps. HasNoFrame x k y steps n d) → BySteps t m c n d (λ steps. AllocatesFrame t sizes g r m c steps n d)
+    not_found (Ok f) x n d not is b = absurd (false≢true not)
+    not_found (Err (Over h)) x n d not is b = let e = is ∙ b.1.named in cc
+    not_found (Err NoFrames) x n d not is b = (
+      pays.0 ++ b.0,
+      record {
+        paid = k;
+        payer = y;
+        paying = pays.0;
+        draining = b.0;
+        alive = alive;
+        pays = pays.1;
+        none = subst (λ (z : AllocFault). HasNoFrame z k y b.0 n d) (sym is) b.1;
+        steps_are = refl;
+      },
+      run_both c.number pays.0 b.0 (local_of t m c) (local_of t k y) (local_of t n d) pays.2
+          (subst (λ (p : ℕ). IsLocalRun p (local_of t k y) b.0 (local_of t n d)) number b.2),
+    )
+    not_found (Err Killed) x n d not is b = let e = is ∙ b.1.named in cc
+
+    -- the front of the list is paid for
+    pub gets_frame : (f : ℕ) (l n : KnownMachine) (z d : KnownCpu) → z.number ≡ y.number → BySteps t k y l z (λ steps. FillsList sizes k y steps l z)
+        → PaysForFront g f l z n d → IsLocalRun z.number (local_of t l z) (take_front_steps z.number g) (local_of t n d)
+        → BySteps t m c n d (λ steps. GetsFrame t sizes g f m c steps n d)
+    gets_frame f l n z d named fills takes steps =
+        let last : IsLocalRun c.number (local_of t l z) (take_front_steps c.number g) (local_of t n d) =
+        subst (λ (p : ℕ). IsLocalRun p (local_of t l z) (take_front_steps p g) (local_of t n d)) (named ∙ number) steps in
+        let next : IsLocalRun c.number (local_of t k y) fills.0 (local_of t l z) =
+        subst (λ (p : ℕ). IsLocalRun p (local_of t k y) fills.0 (local_of t l z)) number fills.2 in (
+          pays.0 ++ (fills.0 ++ take_front_steps c.number g),
+          record {
+            paid = k;
+            payer = y;
+            filled = l;
+            filler = z;
+            paying = pays.0;
+            filling = fills.0;
+            alive = alive;
+            pays = pays.1;
+            fills = fills.1;
+            takes = takes;
+            steps_are = refl;
+          },
+          run_both c.number pays.0 (fills.0 ++ take_front_steps c.number g) (local_of t m c) (local_of t k y) (local_of t n d) pays.2
+              (run_both c.number fills.0 (take_front_steps c.number g) (local_of t k y) (local_of t l z) (local_of t n d) next last),
+        )

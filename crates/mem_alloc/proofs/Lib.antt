@@ -1,0 +1,5 @@
+pub mod Lowering
+pub mod Making
+pub mod Filling
+pub mod Taking
+pub mod CallerLemmas

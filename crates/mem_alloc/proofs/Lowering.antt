@@ -1,0 +1,195 @@
+-- What notes and drains leave as it was: usage is no higher, and no stock is filled. Serves all calls.
+use Rattle.std.proofs.Common.{◌≡◌, ℕ, zero, suc, ◌+◌, ◌-◌, ◌<◌, ◌≤◌, ◌==◌, true, false, Option, Some, None, List, [], ◌∷◌, map, refl, sym, ap, ◌∙◌}
+use Rattle.std.proofs.Common.{subst, inl, inr, arith, cond, eq-eqb}
+use Rattle.std.specs.List.{sum_by}
+use Rattle.std.proofs.lemmas.Bool.{cases_eq, cases_lt, ne_eqb, cond-true, cond-false, false≢true}
+use Rattle.std.proofs.lemmas.List.Sums.{sum_by-cons}
+use Rattle.frame_word.specs.Seats.{KnownTable, KnownSeat, IsOpen, NothingPasses, LentIsBorrowed}
+use Rattle.group_tree.specs.declared.group.Group.{Group}
+use Rattle.group_tree.specs.Groups.{has_group, in_subtree, limit_of}
+use Rattle.group_tree.specs.Room.{fits_limit, PathHasRoom}
+use Rattle.group_charge.specs.declared.account.Account as charge
+use Rattle.group_charge.specs.Charges.{Ledger, current_of, usage_of, noted, added, taken, peaked, charged, with_charge, with_uncharge}
+use Rattle.group_charge.proofs.CallerLemmas.{sum-map_same}
+use Rattle.group_charge.proofs.SumLemmas.{share}
+use Rattle.stock_word.specs.declared.view.Account.{Account}
+use Rattle.stock_word.specs.declared.view.StockView.{StockView}
+use Rattle.stock_word.specs.Stock.{account_of}
+use Rattle.stock_word.specs.Kinds.{draining}
+use Rattle.stock_word.specs.Calls.{with_view, after_look}
+use Rattle.cpu_part.specs.Cpus.{KnownCpu}
+use Rattle.step_rules.specs.State.{sum_to}
+use Rattle.mem_machine.specs.Machines.{KnownMachine, Visits, is_killed}
+use Rattle.mem_machine.specs.Paying.{HasRoomFor}
+use Rattle.mem_machine.specs.Steps.{Drain}
+use Rattle.mem_machine.specs.Stocks.{Drains, DrainsBelow, DrainsAllBelow, stock_group, uncharged}
+use Rattle.mem_machine.proofs.Draining.{groups_stay, drained_at, drained_else}
+use Rattle.mem_machine.proofs.Prepaying.{current_falls}
+use Rattle.mem_alloc.specs.Room.{ClearsBelow, has_room_for, with_max_noted_at}
+
+-- only the charges and the stocks changed: the groups stay, no usage is higher, and no stock is filled that wasn't
+pub record Lowers (m n : KnownMachine) : Type 0 where
+  pub same : n ≡ record m { ledger = n.ledger; stock = n.stock }
+  pub groups : n.ledger.groups ≡ m.ledger.groups
+  pub falls : (h : ℕ) → current_of n.ledger h ≤ current_of m.ledger h
+  pub emptied : (p : ℕ) → (account_of m.stock.view p).filled ≡ false → (account_of n.stock.view p).filled ≡ false
+
+pub lowers_none : (m : KnownMachine) → Lowers m m
+lowers_none m = record { same = refl; groups = refl; falls = λ h. omega arith; emptied = λ p is. is }
+
+pub lowers_both : (m x n : KnownMachine) → Lowers m x → Lowers x n → Lowers m n
+lowers_both m x n a b = record {
+  same = b.same ∙ ap (λ (y : KnownMachine). record y { ledger = n.ledger; stock = n.stock }) a.same;
+  groups = b.groups ∙ a.groups;
+  falls = λ h. let u = a.falls h in let v = b.falls h in omega (arith, u, v);
+  emptied = λ p is. b.emptied p (a.emptied p is);
+}
+
+emptied_at : (view : StockView) (q k p : ℕ) → (account_of view p).filled ≡ false → (account_of (draining view q k) p).filled ≡ false
+emptied_at view q k p is = elim (cases_eq p q) [
+  | inl e ↦ ap (λ (j : ℕ). (account_of (draining view q k) j).filled) e ∙ ap (λ (a : Account). a.filled) (drained_at view q k)
+  | inr ne ↦ ap (λ (a : Account). a.filled) (drained_else view q k p ne) ∙ is
+]
+
+pub drain_lowers : (m n : KnownMachine) (q k : ℕ) → Drains m q k n → Lowers m n
+drain_lowers m n q k d = record {
+  same = d.machine ∙ sym (ap (λ (y : KnownMachine). record m { ledger = y.ledger; stock = y.stock }) d.machine);
+  groups = ap (λ (y : KnownMachine). y.ledger.groups) d.machine ∙ groups_stay m.ledger (stock_group m q) k;
+  falls = λ h.
+      let a : current_of n.ledger h ≡ current_of (uncharged m.ledger (stock_group m q) k) h = ap (λ (y : KnownMachine). current_of y.ledger h) d.machine in
+      let b = current_falls m.ledger (stock_group m q) k h in
+      omega (arith, a, b);
+  emptied = λ p is. ap (λ (y : KnownMachine). (account_of y.stock.view p).filled) d.machine ∙ emptied_at m.stock.view q k p is;
+}
+
+look_lowers : (m n : KnownMachine) (q : ℕ) (o : Option ℕ) → n ≡ record m { stock = with_view m.stock (after_look m.stock.view q o) } → Lowers m n
+look_lowers m n q None is = record {
+  same = is ∙ sym (ap (λ (y : KnownMachine). record m { ledger = y.ledger; stock = y.stock }) is);
+  groups = ap (λ (y : KnownMachine). y.ledger.groups) is;
+  falls = λ h. let a : current_of n.ledger h ≡ current_of m.ledger h = ap (λ (y : KnownMachine). current_of y.ledger h) is in omega (arith, a);
+  emptied = λ p e. ap (λ (y : KnownMachine). (account_of y.stock.view p).filled) is ∙ emptied_at m.stock.view q 0 p e;
+}
+look_lowers m n q (Some g) is = record {
+  same = is ∙ sym (ap (λ (y : KnownMachine). record m { ledger = y.ledger; stock = y.stock }) is);
+  groups = ap (λ (y : KnownMachine). y.ledger.groups) is;
+  falls = λ h. let a : current_of n.ledger h ≡ current_of m.ledger h = ap (λ (y : KnownMachine). current_of y.ledger h) is in omega (arith, a);
+  emptied = λ p e. ap (λ (y : KnownMachine). (account_of y.stock.view p).filled) is ∙ e;
+}
+
+below_lowers : (g q : ℕ) (m n : KnownMachine) (drains : List Drain) → DrainsBelow g m q drains n → Lowers m n
+below_lowers g q m n [] h = look_lowers m n q (stock_group m q) h.1
+below_lowers g q m n (drain ∷ []) h = drain_lowers m n q drain.pages h.1.drains
+below_lowers g q m n (one ∷ two ∷ more) h = absurd h
+
+pub all_lower : (g k : ℕ) (m n : KnownMachine) (drains : List Drain) → DrainsAllBelow g k drains m n → Lowers m n
+all_lower g zero m n drains h = subst (λ (x : KnownMachine). Lowers m x) (sym h.1) (lowers_none m)
+all_lower g (suc k) m n drains h = lowers_both m h.2 n (all_lower g k m h.2 h.0 h.4) (below_lowers g (suc k) h.2 n h.1 h.5)
+
+usage_noted : (groups : List Group) (xs : List charge.Account) (g m : ℕ) → usage_of groups (map (noted groups g) xs) m ≡ usage_of groups xs m
+unfolding usage_of
+usage_noted groups xs g m = sum-map_same (share groups m) (noted groups g) (λ a. refl) xs
+
+pub note_lowers : (m : KnownMachine) (g : ℕ) → Lowers m (with_max_noted_at m g)
+note_lowers m g = record {
+  same = refl;
+  groups = refl;
+  falls = λ h. let a : current_of (with_max_noted_at m g).ledger h ≡ current_of m.ledger h = usage_noted m.ledger.groups m.ledger.accounts g h in omega (arith, a);
+  emptied = λ p is. is;
+}
+
+pub clears_lower : (t : KnownTable) (g : ℕ) (m n : KnownMachine) → ClearsBelow t g m n → Lowers m n
+clears_lower t g m n c = lowers_both m (with_max_noted_at m g) n (note_lowers m g) (all_lower g t.cpus (with_max_noted_at m g) n c.drains c.all)
+
+-- ---- what stays
+
+pub lowered_visit : (t : KnownTable) (m n : KnownMachine) (c d : KnownCpu) → Lowers m n → d ≡ c → Visits t m c → Visits t n d
+lowered_visit t m n c d l cpu v =
+    let seat : n.seat ≡ m.seat = ap (λ (y : KnownMachine). y.seat) l.same in
+    subst (λ (x : KnownCpu). Visits t n x) (sym cpu) (record {
+      is_open = subst (λ (s : KnownSeat). IsOpen s c.number) (sym seat) v.is_open;
+      still = subst (λ (s : KnownSeat). NothingPasses t s c.seat) (sym seat) v.still;
+      lent = subst (λ (s : KnownSeat). LentIsBorrowed t s c.seat) (sym seat) v.lent;
+    })
+
+pub lowered_there : (m n : KnownMachine) (g : ℕ) → Lowers m n → has_group m.ledger.groups g ≡ true → has_group n.ledger.groups g ≡ true
+lowered_there m n g l there = ap (λ (x : List Group). has_group x g) l.groups ∙ there
+
+pub lowered_alive : (m n : KnownMachine) (g : ℕ) → Lowers m n → is_killed m.killed g ≡ false → is_killed n.killed g ≡ false
+lowered_alive m n g l alive = ap (λ (y : KnownMachine). is_killed y.killed g) l.same ∙ alive
+
+pub lowered_fits : (m n : KnownMachine) (pages : ℕ) → Lowers m n → HasRoomFor m pages → HasRoomFor n pages
+lowered_fits m n pages l fits = let a = l.falls 0 in omega (arith, a, fits)
+
+-- ---- each try that is refused, where there is room then, lowers the sum of all usages
+
+sum_le : (n : ℕ) (f g : ℕ → ℕ) → ((i : ℕ) → f i ≤ g i) → sum_to n f ≤ sum_to n g
+unfolding sum_to
+sum_le zero f g each = omega arith
+sum_le (suc n) f g each = let a = sum_le n f g each in let b = each n in omega (arith, a, b)
+
+sum_less : (n : ℕ) (f g : ℕ → ℕ) (k : ℕ) → k < n → ((i : ℕ) → f i ≤ g i) → f k < g k → sum_to n f < sum_to n g
+unfolding sum_to
+sum_less zero f g k inside each less = absurd (omega (arith, inside))
+sum_less (suc n) f g k inside each less = elim (cases_eq k n) [
+  | inl e ↦
+      let a = sum_le n f g each in
+      let b : f n < g n = subst (λ (j : ℕ). f j < g j) e less in
+      omega (arith, a, b)
+  | inr ne ↦ let a = sum_less n f g k (omega (arith, inside, ne)) each less in let b = each n in omega (arith, a, b)
+]
+
+room_falls : (o : Option ℕ) (a b pages : ℕ) → fits_limit o (a + pages) ≡ false → fits_limit o (b + pages) ≡ true → b ≤ a → b < a
+room_falls o a b pages was now low = elim (cases_lt b a) [
+  | inl less ↦ less
+  | inr enough ↦
+      let same : a ≡ b = omega (arith, low, enough) in
+      absurd (false≢true (sym was ∙ ap (λ (x : ℕ). fits_limit o (x + pages)) same ∙ now))
+]
+
+-- the sum of the usages of all groups
+abbrev pub all_usages : KnownMachine → ℕ
+all_usages m = sum_to 64 (current_of m.ledger)
+
+pub usages_fall : (m n : KnownMachine) (over pages : ℕ) → Lowers m n → over < 64 → has_room_for m over pages ≡ false → has_room_for n over pages ≡ true
+    → all_usages n < all_usages m
+usages_fall m n over pages l inside was now =
+    let limit : limit_of n.ledger.groups over ≡ limit_of m.ledger.groups over = ap (λ (x : List Group). limit_of x over) l.groups in
+    let less = room_falls (limit_of m.ledger.groups over) (current_of m.ledger over) (current_of n.ledger over) pages was
+    (ap (λ (o : Option ℕ). fits_limit o (current_of n.ledger over + pages)) (sym limit) ∙ now) (l.falls over) in
+    sum_less 64 (current_of n.ledger) (current_of m.ledger) over inside l.falls less
+
+-- ---- a charge that is taken back leaves the usages as they were
+
+charged_share : (groups : List Group) (all : List charge.Account) (g n m : ℕ) (x : charge.Account)
+    → share groups m (taken g n (peaked groups all g (added g n x))) ≡ share groups m x
+charged_share groups all g n m x = elim (cases_eq x.group g) [
+  | inl e ↦
+      let is : (x.group == g) ≡ true = eq-eqb x.group g e in
+      let back : x.pages + n - n ≡ x.pages = omega arith in
+      ap (λ (y : charge.Account). share groups m (taken g n (peaked groups all g y))) (cond-true (x.group == g) (record x { pages = x.pages + n }) x is)
+      ∙ ap (λ (y : charge.Account). share groups m y)
+      (cond-true (x.group == g) (let y = peaked groups all g (record x { pages = x.pages + n }) in record y { pages = x.pages + n - n })
+      (peaked groups all g (record x { pages = x.pages + n })) is)
+      ∙ ap (λ (k : ℕ). cond (in_subtree groups m x.group) k 0) back
+  | inr ne ↦
+      let is : (x.group == g) ≡ false = ne_eqb x.group g ne in
+      ap (λ (y : charge.Account). share groups m (taken g n (peaked groups all g y))) (cond-false (x.group == g) (record x { pages = x.pages + n }) x is)
+      ∙ ap (λ (y : charge.Account). share groups m y)
+      (cond-false (x.group == g) (let y = peaked groups all g x in record y { pages = x.pages - n }) (peaked groups all g x) is)
+]
+
+charged_back : (groups : List Group) (all xs : List charge.Account) (g n m : ℕ)
+    → sum_by (share groups m) (map (taken g n) (map (peaked groups all g) (map (added g n) xs))) ≡ sum_by (share groups m) xs
+charged_back groups all [] g n m = refl
+charged_back groups all (x ∷ xs) g n m =
+    sum_by-cons (share groups m) (taken g n (peaked groups all g (added g n x))) (map (taken g n) (map (peaked groups all g) (map (added g n) xs)))
+    ∙ (λ i. charged_share groups all g n m x i + charged_back groups all xs g n m i)
+    ∙ sym (sum_by-cons (share groups m) x xs)
+
+pub usage_back : (l : Ledger) (g n m : ℕ) → current_of (with_uncharge (with_charge l g n) g n) m ≡ current_of l m
+unfolding usage_of charged
+usage_back l g n m = charged_back l.groups (map (added g n) l.accounts) l.accounts g n m
+
+pub room_back : (l : Ledger) (g n : ℕ) → PathHasRoom l.groups (current_of l) g n
+    → PathHasRoom l.groups (current_of (with_uncharge (with_charge l g n) g n)) g n
+room_back l g n room = λ h on. subst (λ (u : ℕ). fits_limit (limit_of l.groups h) (u + n) ≡ true) (sym (usage_back l g n h)) (room h on)

@@ -1,0 +1,159 @@
+-- Tries that are refused, one after the other. Serves the loops of `fill_one` and `take_charged`.
+use Rattle.std.proofs.Common.{◌≡◌, ℕ, true, false, List, [], ◌∷◌, ◌++◌, refl, sym, ap, ◌∙◌, subst}
+use Rattle.std.specs.Prelude.{Result, Ok, Err, IsErr, IfErr, IfOk, OnOk, MatchResult}
+use Rattle.std.proofs.lemmas.Bool.{false≢true}
+use Rattle.std.proofs.lemmas.List.{append_assoc, append-nil}
+use Rattle.frame_word.specs.Seats.{KnownTable}
+use Rattle.group_tree.specs.Room.{IsLowestOver}
+use Rattle.group_charge.specs.Charges.{current_of}
+use Rattle.cpu_part.specs.Cpus.{KnownCpu}
+use Rattle.step_rules.specs.After.{Run}
+use Rattle.mem_machine.specs.Machines.{KnownMachine}
+use Rattle.mem_machine.specs.Local.{IsLocalRun, local_of}
+use Rattle.mem_machine.specs.Steps.{over_steps, note_max_steps, drain_stocks_steps, fill_steps}
+use Rattle.mem_machine.specs.Stocks.{Fills}
+use Rattle.mem_machine.proofs.Reaching.{run_both}
+use Rattle.mem_alloc.specs.Stepping.{BySteps}
+use Rattle.mem_alloc.specs.Room.{ClearsBelow, IsRefusedAt, MakesRoom, IsOverAt, has_room_for}
+use Rattle.mem_alloc.specs.declared.faults.AllocFault.{AllocFault}
+use Rattle.mem_alloc.specs.declared.faults.AllocFault.TheVariants.{Over}
+use Rattle.mem_alloc.specs.Charging.{FillsAfterRoom, IsOverForOne}
+use Rattle.mem_alloc.proofs.Lowering.{Lowers, lowers_none, lowers_both, clears_lower}
+
+-- tries that were refused, and then one more
+room_more : (t : KnownTable) (g pages over : ℕ) (before : List ℕ) (m x n : KnownMachine) (making last : Run) → MakesRoom t g pages before m making x
+    → IsRefusedAt t g pages over x last n → has_room_for n over pages ≡ true → MakesRoom t g pages (before ++ over ∷ []) m (making ++ last) n
+room_more t g pages over [] m x n making last makes refused room = (
+  n,
+  last,
+  [],
+  subst (λ (y : KnownMachine). IsRefusedAt t g pages over y last n) makes.0 refused,
+  room,
+  (refl, refl),
+  ap (λ (r : Run). r ++ last) makes.1 ∙ sym (append-nil last),
+)
+room_more t g pages over (h ∷ before) m x n making last makes refused room = (
+  makes.0,
+  makes.1,
+  makes.2 ++ last,
+  makes.3,
+  makes.4,
+  room_more t g pages over before makes.0 x n makes.2 last makes.5 refused room,
+  ap (λ (r : Run). r ++ last) makes.6 ∙ append_assoc makes.1 makes.2 last,
+)
+
+-- what the loops keep: the tries so far were refused at groups that have room now, and nothing else happened
+pub record RoomSoFar (t : KnownTable) (g pages : ℕ) (c : KnownCpu) (m n : KnownMachine) : Type 0 where
+  pub before : List ℕ
+  pub making : Run
+  pub makes : MakesRoom t g pages before m making n
+  pub runs : IsLocalRun c.number (local_of t m c) making (local_of t n c)
+  pub lowers : Lowers m n
+
+pub so_far_none : (t : KnownTable) (g pages : ℕ) (c : KnownCpu) (m : KnownMachine) → RoomSoFar t g pages c m m
+so_far_none t g pages c m = record { before = []; making = []; makes = (refl, refl); runs = refl; lowers = lowers_none m }
+
+module _ (t : KnownTable) (g pages : ℕ) (c : KnownCpu) (m x : KnownMachine) (so_far : RoomSoFar t g pages c m x) where
+  -- one more try was refused, by its steps
+  module _ (y z n : KnownMachine) (d : KnownCpu) (over : ℕ) (same : y ≡ x) (mine : d ≡ c)
+      (low : IsLowestOver z.ledger.groups (current_of z.ledger) g pages over) (before_it : z ≡ x)
+      (refusing : IsLocalRun d.number (local_of t z d) (over_steps g pages over) (local_of t z d)) (clears : ClearsBelow t over y n) where
+    its : ClearsBelow t over x n
+    its = subst (λ (k : KnownMachine). ClearsBelow t over k n) same clears
+
+    refused : IsRefusedAt t g pages over x (over_steps g pages over ++ (note_max_steps over ++ drain_stocks_steps its.drains)) n
+    refused = record {
+      lowest = subst (λ (k : KnownMachine). IsLowestOver k.ledger.groups (current_of k.ledger) g pages over) before_it low;
+      drains = its.drains;
+      all = its.all;
+      drained = its.drained;
+      steps_are = refl;
+    }
+
+    runs_on : IsLocalRun c.number (local_of t m c) (so_far.making ++ (over_steps g pages over ++ (note_max_steps over ++ drain_stocks_steps its.drains)))
+        (local_of t n c)
+    runs_on = run_both c.number so_far.making (over_steps g pages over ++ (note_max_steps over ++ drain_stocks_steps its.drains)) (local_of t m c)
+        (local_of t x c) (local_of t n c) so_far.runs
+        (run_both c.number (over_steps g pages over) (note_max_steps over ++ drain_stocks_steps its.drains) (local_of t x c) (local_of t x c)
+        (local_of t n c)
+        (subst (λ (k : KnownMachine × KnownCpu). IsLocalRun k.1.number (local_of t k.0 k.1) (over_steps g pages over) (local_of t k.0 k.1))
+        (λ i. (before_it i, mine i)) refusing)
+        (its.steps c))
+
+    -- and its group has room now
+    pub so_far_more : has_room_for n over pages ≡ true → RoomSoFar t g pages c m n
+    so_far_more room = record {
+      before = so_far.before ++ over ∷ [];
+      making = so_far.making ++ (over_steps g pages over ++ (note_max_steps over ++ drain_stocks_steps its.drains));
+      makes = room_more t g pages over so_far.before m x n so_far.making
+          (over_steps g pages over ++ (note_max_steps over ++ drain_stocks_steps its.drains)) so_far.makes refused room;
+      runs = runs_on;
+      lowers = lowers_both m x n so_far.lowers (clears_lower t over x n its);
+    }
+
+    -- or has none still
+    pub so_far_over : has_room_for n over pages ≡ false → BySteps t m c n c (λ steps. IsOverAt t g pages over m steps n)
+    so_far_over none = (
+      so_far.making ++ (over_steps g pages over ++ (note_max_steps over ++ drain_stocks_steps its.drains)),
+      record {
+        before = so_far.before;
+        cleared = x;
+        making = so_far.making;
+        last = over_steps g pages over ++ (note_max_steps over ++ drain_stocks_steps its.drains);
+        makes = so_far.makes;
+        refused = refused;
+        still = none;
+        steps_are = refl;
+      },
+      runs_on,
+    )
+
+    pub lowers_here : Lowers x n
+    lowers_here = clears_lower t over x n its
+
+  -- the pages are granted, and fill the stock
+  pub so_far_fills : (y : KnownCpu) → y ≡ c → (n : KnownMachine) (d : KnownCpu) → Fills g pages x y n d
+      → IsLocalRun y.number (local_of t x y) (fill_steps y.number g pages) (local_of t n d)
+      → BySteps t m c n d (λ steps. FillsAfterRoom t g pages m c steps n d)
+  so_far_fills y mine n d fills steps = (
+    so_far.making ++ fill_steps c.number g pages,
+    record {
+      before = so_far.before;
+      cleared = x;
+      making = so_far.making;
+      makes = so_far.makes;
+      fills = subst (λ (k : KnownCpu). Fills g pages x k n d) mine fills;
+      steps_are = refl;
+    },
+    run_both c.number so_far.making (fill_steps c.number g pages) (local_of t m c) (local_of t x c) (local_of t n d) so_far.runs
+        (subst (λ (k : KnownCpu). IsLocalRun k.number (local_of t x k) (fill_steps k.number g pages) (local_of t n d)) mine steps),
+  )
+
+-- an answer that is a refusal, of this cause
+pub refused_with : {T E : Type 0} (r : Result T E) (x : E) (P : T → Type 0) (Q : E → Type 0) → IsErr r → IfErr r (λ e. e ≡ x)
+    → ((e : E) → e ≡ x → Q e) → MatchResult r P Q
+refused_with (Ok v) x P Q not is q = absurd (false≢true not)
+refused_with (Err e) x P Q is same q = q e same
+
+-- a refusal for good of a charge of one page
+pub over_for_one : (t : KnownTable) (g over : ℕ) (cause : AllocFault) (m : KnownMachine) (c : KnownCpu) (n : KnownMachine) (d : KnownCpu) → cause ≡ Over over
+    → d ≡ c → BySteps t m c n c (λ steps. IsOverAt t g 1 over m steps n) → BySteps t m c n d (λ steps. IsOverForOne t g cause m c steps n d)
+over_for_one t g over cause m c n d named cpu b = (
+  b.0,
+  record { over = over; named = named; refuses = b.1; cpu = cpu },
+  subst (λ (k : KnownCpu). IsLocalRun c.number (local_of t m c) b.0 (local_of t n k)) (sym cpu) b.2,
+)
+
+-- what holds of an answer in either case
+pub match_both : {T E : Type 0} (r : Result T E) (P R : T → Type 0) (Q S : E → Type 0) → ((v : T) → P v → R v) → ((e : E) → Q e → S e)
+    → MatchResult r P Q → MatchResult r R S
+match_both (Ok v) P R Q S one two is = one v is
+match_both (Err e) P R Q S one two is = two e is
+
+pub on_ok_from : {T E : Type 0} (r : Result T E) (P : T → Type 0) (Q : E → Type 0) (X : Type 0) → ((v : T) → P v → X) → MatchResult r P Q → OnOk r X
+on_ok_from (Ok v) P Q X one is = one v is
+on_ok_from (Err e) P Q X one is = tt
+
+pub if_ok_none : {T E : Type 0} (r : Result T E) (P : T → Type 0) → IsErr r → IfOk r P
+if_ok_none (Ok v) P not = absurd (false≢true not)
+if_ok_none (Err e) P not = tt

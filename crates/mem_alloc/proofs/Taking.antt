@@ -1,0 +1,237 @@
+-- Blocks that are charged and taken. Serves `take_charged`, `take_again` and `alloc_block`.
+use Rattle.std.proofs.Common.{◌≡◌, ℕ, ◌^◌, ◌<◌, ◌≤◌, true, false, List, [], ◌∷◌, ◌++◌, length, take, refl, sym, ap, ◌∙◌, subst, inl, inr, arith}
+use Rattle.std.specs.Prelude.{Result, Ok, Err, IsErr, IfErr}
+use Rattle.std.proofs.lemmas.Bool.{cases_lt, false≢true}
+use Rattle.std.proofs.lemmas.List.{append-nil, length-append, take_all}
+use Rattle.frame_word.specs.Seats.{KnownTable}
+use Rattle.group_tree.specs.declared.group.Group.{Group}
+use Rattle.group_tree.specs.Groups.{has_group}
+use Rattle.group_tree.specs.Room.{PathHasRoom, IsLowestOver}
+use Rattle.group_charge.specs.declared.charges.Over.{Over as OverLimit}
+use Rattle.group_charge.specs.Charges.{current_of, with_charge, with_uncharge}
+use Rattle.cpu_part.specs.Cpus.{KnownCpu}
+use Rattle.step_rules.specs.After.{Run}
+use Rattle.step_rules.specs.State.{State}
+use Rattle.mem_machine.specs.declared.blocks.TakeFault.{TakeFault}
+use Rattle.mem_machine.specs.declared.blocks.TakeFault.TheVariants as fault
+use Rattle.mem_machine.specs.Machines.{KnownMachine, is_killed}
+use Rattle.mem_machine.specs.Local.{IsLocalRun, local_of}
+use Rattle.mem_machine.specs.Lending.{TakesManyBack}
+use Rattle.mem_machine.specs.Blocks.{TakesBlock, TakesNoBlock, RefusesBlock, block_steps, taken_steps, unplaced_steps}
+use Rattle.mem_machine.specs.Paying.{HasRoomFor}
+use Rattle.mem_machine.specs.Steps.{over_steps, drain_list_steps}
+use Rattle.mem_machine.proofs.Reaching.{run_both}
+use Rattle.mem_alloc.specs.declared.faults.AllocFault.{AllocFault}
+use Rattle.mem_alloc.specs.declared.faults.AllocFault.TheVariants.{Over, NoFrames, Killed}
+use Rattle.mem_alloc.specs.Stepping.{BySteps}
+use Rattle.mem_alloc.specs.Room.{IsOverAt}
+use Rattle.mem_alloc.specs.Blocks.{TakesAfterRoom, FindsNoBlock, ChargesBlock, HasRoomStill, LeavesRoom, TakesAfterList, FindsNoneAgain, TakesAgain}
+use Rattle.mem_alloc.specs.Blocks.{TriesAgain, AllocatesBlock}
+use Rattle.mem_alloc.proofs.Lowering.{Lowers, lowered_fits, usage_back, room_back}
+use Rattle.mem_alloc.proofs.Making.{RoomSoFar}
+
+-- ---- one try
+
+-- the limit of a group had no room
+pub is_refused : (m n : KnownMachine) (g k : ℕ) (e : TakeFault) (o : OverLimit) → e ≡ fault.Over o → RefusesBlock m g k e n
+    → IsLowestOver m.ledger.groups (current_of m.ledger) g (2 ^ k) o.group × (n ≡ m)
+is_refused m n g k e o is refuses = subst (λ (x : TakeFault). RefusesBlock m g k x n) is refuses
+
+pub by_refusal : (p g k : ℕ) (a b : State) (e : TakeFault) (o : OverLimit) → e ≡ fault.Over o → IsLocalRun p a (block_steps g k (Err e)) b
+    → IsLocalRun p a (over_steps g (2 ^ k) o.group) b
+by_refusal p g k a b e o is steps = subst (λ (x : TakeFault). IsLocalRun p a (block_steps g k (Err x)) b) is steps
+
+-- no block was free
+pub is_none : (m n : KnownMachine) (g k : ℕ) (e : TakeFault) → e ≡ fault.NoBlock → RefusesBlock m g k e n → TakesNoBlock m g k n
+is_none m n g k e is refuses = subst (λ (x : TakeFault). RefusesBlock m g k x n) is refuses
+
+pub by_none : (p g k : ℕ) (a b : State) (e : TakeFault) → e ≡ fault.NoBlock → IsLocalRun p a (block_steps g k (Err e)) b
+    → IsLocalRun p a (unplaced_steps g k) b
+by_none p g k a b e is steps = subst (λ (x : TakeFault). IsLocalRun p a (block_steps g k (Err x)) b) is steps
+
+-- ---- after the tries that were refused
+
+module _ (t : KnownTable) (g k : ℕ) (c : KnownCpu) (m x : KnownMachine) (so_far : RoomSoFar t g (2 ^ k) c m x) (y : KnownCpu) (mine : y ≡ c)
+    (n : KnownMachine) (d : KnownCpu) where
+  runs_on : (steps : Run) → IsLocalRun y.number (local_of t x y) steps (local_of t n d)
+      → IsLocalRun c.number (local_of t m c) (so_far.making ++ steps) (local_of t n d)
+  runs_on steps run = run_both c.number so_far.making steps (local_of t m c) (local_of t x c) (local_of t n d) so_far.runs
+      (subst (λ (e : KnownCpu). IsLocalRun e.number (local_of t x e) steps (local_of t n d)) mine run)
+
+  pub so_far_takes : (head : ℕ) → TakesBlock x g k head n → IsLocalRun y.number (local_of t x y) (taken_steps g k head) (local_of t n d)
+      → BySteps t m c n d (λ steps. TakesAfterRoom t g k head m steps n)
+  so_far_takes head takes run = (
+    so_far.making ++ taken_steps g k head,
+    record { before = so_far.before; cleared = x; making = so_far.making; makes = so_far.makes; takes = takes; steps_are = refl },
+    runs_on (taken_steps g k head) run,
+  )
+
+  pub so_far_no_block : TakesNoBlock x g k n → IsLocalRun y.number (local_of t x y) (unplaced_steps g k) (local_of t n d)
+      → BySteps t m c n d (λ steps. FindsNoBlock t g k m steps n)
+  so_far_no_block none run = (
+    so_far.making ++ unplaced_steps g k,
+    record { before = so_far.before; cleared = x; making = so_far.making; makes = so_far.makes; none = none; steps_are = refl },
+    runs_on (unplaced_steps g k) run,
+  )
+
+  -- what a call for which no block is free leaves
+  pub room_still : TakesNoBlock x g k n → has_group m.ledger.groups g ≡ true → HasRoomFor m (2 ^ k) → HasRoomStill g k m n
+  room_still none there fits =
+      let ledger : n.ledger ≡ with_uncharge (with_charge x.ledger g (2 ^ k)) g (2 ^ k) = ap (λ (z : KnownMachine). z.ledger) none.machine in
+      let groups : n.ledger.groups ≡ m.ledger.groups = ap (λ (z : KnownMachine). z.ledger.groups) none.machine ∙ so_far.lowers.groups in
+      let here : HasRoomFor x (2 ^ k) = lowered_fits m x (2 ^ k) so_far.lowers fits in
+      let back : current_of n.ledger 0 ≡ current_of x.ledger 0 = ap (λ l. current_of l 0) ledger ∙ usage_back x.ledger g (2 ^ k) 0 in
+      record {
+        there = ap (λ (l : List Group). has_group l g) groups ∙ there;
+        killed = ap (λ (z : KnownMachine). z.killed) none.machine ∙ ap (λ (z : KnownMachine). z.killed) so_far.lowers.same;
+        fits = omega (arith, here, back);
+        room = subst (λ l. PathHasRoom l.groups (current_of l) g (2 ^ k)) (sym ledger) (room_back x.ledger g (2 ^ k) none.room);
+      }
+
+  pub none_opened : TakesNoBlock x g k n → n.seat.view.opened ≡ m.seat.view.opened
+  none_opened none = ap (λ (z : KnownMachine). z.seat.view.opened) none.machine ∙ ap (λ (z : KnownMachine). z.seat.view.opened) so_far.lowers.same
+
+  pub taken_opened : (head : ℕ) → TakesBlock x g k head n → n.seat.view.opened ≡ m.seat.view.opened
+  taken_opened head takes = ap (λ (z : KnownMachine). z.seat.view.opened) takes.machine ∙ ap (λ (z : KnownMachine). z.seat.view.opened) so_far.lowers.same
+
+-- a charge is refused for good
+pub over_charges : (t : KnownTable) (g k over : ℕ) (r : Result ℕ AllocFault) (x : AllocFault) (m n : KnownMachine) (c d : KnownCpu) → IsErr r
+    → IfErr r (λ e. e ≡ x) → x ≡ Over over → d ≡ c → BySteps t m c n c (λ steps. IsOverAt t g (2 ^ k) over m steps n)
+    → BySteps t m c n d (λ steps. ChargesBlock t g k r m steps n)
+over_charges t g k over (Ok h) x m n c d not is named cpu b = absurd (false≢true not)
+over_charges t g k over (Err (Over h)) x m n c d not is named cpu b =
+    let e : Over h ≡ Over over = is ∙ named in
+    let same : over ≡ h = cc in (
+      b.0,
+      subst (λ (o : ℕ). IsOverAt t g (2 ^ k) o m b.0 n) same b.1,
+      subst (λ (e : KnownCpu). IsLocalRun c.number (local_of t m c) b.0 (local_of t n e)) (sym cpu) b.2,
+    )
+over_charges t g k over (Err NoFrames) x m n c d not is named cpu b = let e = is ∙ named in cc
+over_charges t g k over (Err Killed) x m n c d not is named cpu b = let e = is ∙ named in cc
+
+pub over_leaves : (g k over : ℕ) (r : Result ℕ AllocFault) (x : AllocFault) (m n : KnownMachine) → IsErr r → IfErr r (λ e. e ≡ x) → x ≡ Over over
+    → Lowers m n → LeavesRoom g k r m n
+over_leaves g k over (Ok h) x m n not is named l = absurd (false≢true not)
+over_leaves g k over (Err e) x m n not is named l = record {
+  opened = ap (λ (z : KnownMachine). z.seat.view.opened) l.same;
+  still = λ none. let other = is ∙ named in cc;
+}
+
+-- ---- the list given back
+
+pub record BackPart (frames : List ℕ) (m : KnownMachine) (c : KnownCpu) (n : KnownMachine) (d : KnownCpu) : Type 0 where
+  pub split : c.list ≡ frames ++ d.list
+  pub number : d.number ≡ c.number
+  pub fresh : d.fresh ≡ c.fresh
+  pub back : d.back ≡ c.back
+  pub opened : n.seat.view.opened ≡ m.seat.view.opened
+  pub ledger : n.ledger ≡ m.ledger
+  pub killed : n.killed ≡ m.killed
+
+pub back_part : (frames : List ℕ) (m n : KnownMachine) (c d : KnownCpu) → TakesManyBack frames m c n d → BackPart frames m c n d
+back_part [] m n c d h = record {
+  split = sym (ap (λ (e : KnownCpu). e.list) h.1);
+  number = ap (λ (e : KnownCpu). e.number) h.1;
+  fresh = ap (λ (e : KnownCpu). e.fresh) h.1;
+  back = ap (λ (e : KnownCpu). e.back) h.1;
+  opened = ap (λ (z : KnownMachine). z.seat.view.opened) h.0;
+  ledger = ap (λ (z : KnownMachine). z.ledger) h.0;
+  killed = ap (λ (z : KnownMachine). z.killed) h.0;
+}
+back_part (f ∷ frames) m n c d h =
+    let one = h.2 in
+    let more = back_part frames h.0 n h.1 d h.3 in
+    record {
+      split = one.front ∙ ap (λ (l : List ℕ). f ∷ l) (sym (ap (λ (e : KnownCpu). e.list) one.cpu) ∙ more.split);
+      number = more.number ∙ ap (λ (e : KnownCpu). e.number) one.cpu;
+      fresh = more.fresh ∙ ap (λ (e : KnownCpu). e.fresh) one.cpu;
+      back = more.back ∙ ap (λ (e : KnownCpu). e.back) one.cpu;
+      opened = more.opened ∙ ap (λ (z : KnownMachine). z.seat.view.opened) one.machine;
+      ledger = more.ledger ∙ ap (λ (z : KnownMachine). z.ledger) one.machine;
+      killed = more.killed ∙ ap (λ (z : KnownMachine). z.killed) one.machine;
+    }
+
+-- where as many were asked for as the list has, all came back
+pub all_back : (k count : ℕ) (list left : List ℕ) → k ≤ count → count ≡ length list → (k < count → left ≡ []) → list ≡ take k list ++ left → take k list ≡ list
+all_back k count list left few counts rest split = elim (cases_lt k count) [
+  | inl less ↦ sym (split ∙ ap (λ (l : List ℕ). take k list ++ l) (rest less) ∙ append-nil (take k list))
+  | inr enough ↦ take_all k list (omega (arith, counts, enough))
+]
+
+-- the usage and the limits are what they were, so the second try isn't refused
+pub never_over : (m n : KnownMachine) (g pages over : ℕ) → n.ledger ≡ m.ledger → PathHasRoom m.ledger.groups (current_of m.ledger) g pages
+    → IsLowestOver n.ledger.groups (current_of n.ledger) g pages over → ⊥
+never_over m n g pages over same room low =
+    let here = subst (λ l. IsLowestOver l.groups (current_of l) g pages over) same low in
+    false≢true (sym here.over ∙ room over here.on_path)
+
+-- what the second try leaves
+module _ (t : KnownTable) (g k : ℕ) (m x n : KnownMachine) (c y d : KnownCpu) (count listed : ℕ) (counts : listed ≡ length c.list) (few : count ≤ listed)
+    (gives : TakesManyBack (take count c.list) m c x y) (rest : count < listed → y.list ≡ []) (stays : d ≡ y)
+    (giving : IsLocalRun c.number (local_of t m c) (drain_list_steps c.number (take count c.list)) (local_of t x y)) where
+  part : BackPart (take count c.list) m c x y
+  part = back_part (take count c.list) m x c y gives
+
+  whole : take count c.list ≡ c.list
+  whole = all_back count listed c.list y.list few counts rest part.split
+
+  given : TakesManyBack c.list m c x d
+  given = subst (λ (z : List ℕ × KnownCpu). TakesManyBack z.0 m c x z.1) (λ i. (whole i, sym stays i)) gives
+
+  by_giving : IsLocalRun c.number (local_of t m c) (drain_list_steps c.number c.list) (local_of t x y)
+  by_giving = subst (λ (z : List ℕ). IsLocalRun c.number (local_of t m c) (drain_list_steps c.number z) (local_of t x y)) whole giving
+
+  then : (steps : Run) → IsLocalRun y.number (local_of t x y) steps (local_of t n d)
+      → IsLocalRun c.number (local_of t m c) (drain_list_steps c.number c.list ++ steps) (local_of t n d)
+  then steps run = run_both c.number (drain_list_steps c.number c.list) steps (local_of t m c) (local_of t x y) (local_of t n d) by_giving
+      (subst (λ (p : ℕ). IsLocalRun p (local_of t x y) steps (local_of t n d)) part.number run)
+
+  pub takes_after : (head : ℕ) → TakesBlock x g k head n → IsLocalRun y.number (local_of t x y) (taken_steps g k head) (local_of t n d)
+      → BySteps t m c n d (λ steps. TakesAfterList g k head m c steps n d)
+  takes_after head takes run = (
+    drain_list_steps c.number c.list ++ taken_steps g k head,
+    record { returned = x; gives = given; takes = takes; steps_are = refl },
+    then (taken_steps g k head) run,
+  )
+
+  pub finds_none : TakesNoBlock x g k n → IsLocalRun y.number (local_of t x y) (unplaced_steps g k) (local_of t n d)
+      → BySteps t m c n d (λ steps. FindsNoneAgain g k m c steps n d)
+  finds_none none run = (
+    drain_list_steps c.number c.list ++ unplaced_steps g k,
+    record { returned = x; gives = given; none = none; steps_are = refl },
+    then (unplaced_steps g k) run,
+  )
+
+  pub list_shrinks : length d.list ≤ length c.list
+  list_shrinks =
+      let a = ap length part.split ∙ length-append (take count c.list) y.list in
+      let b = ap (λ (e : KnownCpu). length e.list) stays in
+      omega (arith, a, b)
+
+-- the first try found no free block
+pub first_none : (t : KnownTable) (g k : ℕ) (m z x : KnownMachine) (c e y : KnownCpu) (cause : AllocFault) → cause ≡ NoFrames → z ≡ m → e ≡ c
+    → BySteps t z e x y (λ steps. ChargesBlock t g k (Err cause) z steps x) → BySteps t m c x y (λ steps. FindsNoBlock t g k m steps x)
+first_none t g k m z x c e y cause named same mine b =
+    let told = subst (λ (f : AllocFault). BySteps t z e x y (λ steps. ChargesBlock t g k (Err f) z steps x)) named b in
+    subst (λ (w : KnownMachine × KnownCpu). BySteps t w.0 w.1 x y (λ steps. FindsNoBlock t g k w.0 steps x)) (λ i. (same i, mine i)) told
+
+-- ---- the whole allocation
+
+module _ (t : KnownTable) (g k : ℕ) (m : KnownMachine) (c : KnownCpu) (alive : is_killed m.killed g ≡ false) where
+  by_answer : (r : Result ℕ AllocFault) (x n : KnownMachine) (d : KnownCpu) (first later : Run) → TakesAgain g k r x c later n d
+      → (TakesAgain g k r x c later n d → TriesAgain t g k r m c (first ++ later) n d)
+      → IsLocalRun c.number (local_of t m c) (first ++ later) (local_of t n d) → BySteps t m c n d (λ steps. AllocatesBlock t g k r m c steps n d)
+  by_answer (Ok head) x n d first later told tries run = (first ++ later, (alive, inr (tries told)), run)
+  by_answer (Err (Over over)) x n d first later told tries run = absurd told
+  by_answer (Err NoFrames) x n d first later told tries run = (first ++ later, (alive, tries told), run)
+  by_answer (Err Killed) x n d first later told tries run = absurd told
+
+  -- the second one does
+  pub decides_again : (r : Result ℕ AllocFault) (x n : KnownMachine) (y d : KnownCpu) → y ≡ c → BySteps t m c x y (λ steps. FindsNoBlock t g k m steps x)
+      → BySteps t x y n d (λ steps. TakesAgain g k r x y steps n d) → BySteps t m c n d (λ steps. AllocatesBlock t g k r m c steps n d)
+  decides_again r x n y d mine first again_there =
+      let again = subst (λ (z : KnownCpu). BySteps t x z n d (λ steps. TakesAgain g k r x z steps n d)) mine again_there in
+      let before = subst (λ (z : KnownCpu). IsLocalRun c.number (local_of t m c) first.0 (local_of t x z)) mine first.2 in
+      let run = run_both c.number first.0 again.0 (local_of t m c) (local_of t x c) (local_of t n d) before again.2 in
+      by_answer r x n d first.0 again.0 again.1
+      (λ told. record { charged = x; first = first.0; later = again.0; none = first.1; again = told; steps_are = refl }) run

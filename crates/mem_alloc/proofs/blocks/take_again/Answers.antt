@@ -1,0 +1,83 @@
+use Rattle.std.proofs.Common.{◌+◌, ◌^◌, ◌<◌, sym, ap, ◌∙◌, subst}
+use Rattle.group_tree.specs.Groups.{has_group}
+use Rattle.group_charge.specs.Charges.{current_of}
+use Rattle.cpu_part.specs.Cpus.{KnownCpu}
+use Rattle.mem_machine.specs.Machines.{KnownMachine, is_killed}
+use Rattle.mem_alloc.proofs.Taking.{is_refused, is_none, by_none, back_part, never_over, takes_after, finds_none, list_shrinks}
+use Rattle.mem_alloc.proofs.blocks.take_again.Goals as goal
+
+pub take_block-requires-clause-there : goal.take_block-requires-clause-there
+take_block-requires-clause-there g c =
+    ap (λ l. has_group l.groups c.args.group) (back_part _ _ _ _ _ c.drain_list.ensures.takes).ledger ∙ c.requires.there
+
+pub take_block-requires-clause-alive : goal.take_block-requires-clause-alive
+take_block-requires-clause-alive g c =
+    ap (λ l. is_killed l c.args.group) (back_part _ _ _ _ _ c.drain_list.ensures.takes).killed ∙ c.requires.alive
+
+pub take_block-requires-clause-fits : goal.take_block-requires-clause-fits
+take_block-requires-clause-fits g c =
+    subst (λ l. current_of l 0 + 2 ^ c.args.order < 2 ^ 32) (sym (back_part _ _ _ _ _ c.drain_list.ensures.takes).ledger) c.requires.fits
+
+pub take_block-requires-clause-none_back : goal.take_block-requires-clause-none_back
+take_block-requires-clause-none_back g c = (back_part _ _ _ _ _ c.drain_list.ensures.takes).back ∙ c.requires.settled.1
+
+pub unreachable-requires : goal.unreachable-requires
+unreachable-requires g c =
+    never_over c.args.machine.now c.drain_list.new.self c.args.group (2 ^ c.args.order) c.in-Err-Over.field-0-0.group (back_part _ _ _ _ _ c.drain_list.ensures.takes).ledger c.requires.room
+    (is_refused c.drain_list.new.self c.take_block.new.self c.args.group c.args.order c.in-Err-Over.field-0 c.in-Err-Over.field-0-0 c.in-Err-Over.field-0-is c.in-Err-Over.ensures.refuses).0
+
+pub returns-in-Ok-clause-takes : goal.returns-in-Ok-clause-takes
+returns-in-Ok-clause-takes g c =
+    takes_after g.N.BootName.frames c.args.group c.args.order _ _ _ _ _ _ c.drain_list.result c.list_len-listed.result c.list_len-listed.ensures.count
+    c.drain_list.ensures.at_most c.drain_list.ensures.takes c.drain_list.ensures.fewer_only_at_the_end c.in-Ok.ensures.cpu c.drain_list.ensures.steps
+    c.in-Ok.head c.in-Ok.ensures.takes c.in-Ok.ensures.steps
+
+pub returns-in-Ok-clause-opened : goal.returns-in-Ok-clause-opened
+returns-in-Ok-clause-opened g c =
+    ap (λ (z : KnownMachine). z.seat.view.opened) c.in-Ok.ensures.takes.machine ∙ (back_part _ _ _ _ _ c.drain_list.ensures.takes).opened
+
+pub returns-in-Ok-clause-number : goal.returns-in-Ok-clause-number
+returns-in-Ok-clause-number g c =
+    ap (λ (e : KnownCpu). e.number) c.in-Ok.ensures.cpu ∙ (back_part _ _ _ _ _ c.drain_list.ensures.takes).number
+
+pub returns-in-Ok-clause-settled : goal.returns-in-Ok-clause-settled
+returns-in-Ok-clause-settled g c =
+    let part = back_part _ _ _ _ _ c.drain_list.ensures.takes in (
+      ap (λ (e : KnownCpu). e.fresh) c.in-Ok.ensures.cpu ∙ part.fresh ∙ c.requires.settled.0,
+      ap (λ (e : KnownCpu). e.back) c.in-Ok.ensures.cpu ∙ part.back ∙ c.requires.settled.1,
+    )
+
+pub returns-in-Ok-clause-list : goal.returns-in-Ok-clause-list
+returns-in-Ok-clause-list g c =
+    list_shrinks g.N.BootName.frames c.args.group c.args.order _ _ c.take_block.new.self _ _ _ c.drain_list.result c.list_len-listed.result
+    c.list_len-listed.ensures.count
+    c.drain_list.ensures.at_most c.drain_list.ensures.takes c.drain_list.ensures.fewer_only_at_the_end c.in-Ok.ensures.cpu c.drain_list.ensures.steps
+
+pub returns-in-Err-NoBlock-clause-takes : goal.returns-in-Err-NoBlock-clause-takes
+returns-in-Err-NoBlock-clause-takes g c =
+    finds_none g.N.BootName.frames c.args.group c.args.order _ _ _ _ _ _ c.drain_list.result c.list_len-listed.result c.list_len-listed.ensures.count
+    c.drain_list.ensures.at_most c.drain_list.ensures.takes c.drain_list.ensures.fewer_only_at_the_end c.in-Err-NoBlock.ensures.cpu c.drain_list.ensures.steps
+    (is_none _ _ c.args.group c.args.order c.in-Err-NoBlock.field-0 c.in-Err-NoBlock.field-0-is c.in-Err-NoBlock.ensures.refuses)
+    (by_none _ c.args.group c.args.order _ _ c.in-Err-NoBlock.field-0 c.in-Err-NoBlock.field-0-is c.in-Err-NoBlock.ensures.steps)
+
+pub returns-in-Err-NoBlock-clause-opened : goal.returns-in-Err-NoBlock-clause-opened
+returns-in-Err-NoBlock-clause-opened g c =
+    let none = is_none _ _ c.args.group c.args.order c.in-Err-NoBlock.field-0 c.in-Err-NoBlock.field-0-is c.in-Err-NoBlock.ensures.refuses in
+    ap (λ (z : KnownMachine). z.seat.view.opened) none.machine ∙ (back_part _ _ _ _ _ c.drain_list.ensures.takes).opened
+
+pub returns-in-Err-NoBlock-clause-number : goal.returns-in-Err-NoBlock-clause-number
+returns-in-Err-NoBlock-clause-number g c =
+    ap (λ (e : KnownCpu). e.number) c.in-Err-NoBlock.ensures.cpu ∙ (back_part _ _ _ _ _ c.drain_list.ensures.takes).number
+
+pub returns-in-Err-NoBlock-clause-settled : goal.returns-in-Err-NoBlock-clause-settled
+returns-in-Err-NoBlock-clause-settled g c =
+    let part = back_part _ _ _ _ _ c.drain_list.ensures.takes in (
+      ap (λ (e : KnownCpu). e.fresh) c.in-Err-NoBlock.ensures.cpu ∙ part.fresh ∙ c.requires.settled.0,
+      ap (λ (e : KnownCpu). e.back) c.in-Err-NoBlock.ensures.cpu ∙ part.back ∙ c.requires.settled.1,
+    )
+
+pub returns-in-Err-NoBlock-clause-list : goal.returns-in-Err-NoBlock-clause-list
+returns-in-Err-NoBlock-clause-list g c =
+    list_shrinks g.N.BootName.frames c.args.group c.args.order _ _ c.take_block.new.self _ _ _ c.drain_list.result c.list_len-listed.result
+    c.list_len-listed.ensures.count
+    c.drain_list.ensures.at_most c.drain_list.ensures.takes c.drain_list.ensures.fewer_only_at_the_end c.in-Err-NoBlock.ensures.cpu c.drain_list.ensures.steps

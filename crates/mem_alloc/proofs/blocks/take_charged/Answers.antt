@@ -1,0 +1,98 @@
+use Rattle.std.proofs.Common.{◌≡◌, ℕ, ◌^◌, true, false, refl, sym, ◌∙◌, subst, rules}
+use Rattle.std.specs.Prelude.{IfErr}
+use Rattle.group_tree.specs.Groups.{has_group}
+use Rattle.group_tree.proofs.CallerLemmas.{in_subtree-above}
+use Rattle.mem_machine.specs.Machines.{KnownMachine}
+use Rattle.mem_machine.specs.Local.{IsLocalRun, local_of}
+use Rattle.mem_machine.specs.Steps.{over_steps}
+use Rattle.cpu_part.specs.Cpus.{KnownCpu}
+use Rattle.mem_alloc.specs.Room.{ClearsBelow, has_room_for}
+use Rattle.mem_alloc.proofs.Lowering.{Lowers, lowers_both, lowered_visit, clears_lower, usages_fall}
+use Rattle.mem_alloc.proofs.Making.{so_far_more, so_far_over}
+use Rattle.mem_alloc.proofs.Taking.{is_refused, by_refusal, is_none, by_none, so_far_takes, so_far_no_block, room_still, none_opened, over_charges, over_leaves}
+use Rattle.mem_alloc.proofs.blocks.take_charged.Goals as goal
+
+pub returns-in-Ok-clause-charges : goal.returns-in-Ok-clause-charges
+returns-in-Ok-clause-charges g c =
+    so_far_takes g.N.BootName.frames c.args.group c.args.order c.args.cpu.now c.args.machine.now c.tries.machine c.tries.invariant.0 c.tries.cpu
+    c.tries.invariant.1 c.take_block.new.self c.take_block.new.cpu c.in-Ok.head c.in-Ok.ensures.takes c.in-Ok.ensures.steps
+
+pub returns-in-Err-NoBlock-clause-charges : goal.returns-in-Err-NoBlock-clause-charges
+returns-in-Err-NoBlock-clause-charges g c =
+    so_far_no_block g.N.BootName.frames c.args.group c.args.order c.args.cpu.now c.args.machine.now c.tries.machine c.tries.invariant.0 c.tries.cpu
+    c.tries.invariant.1 c.take_block.new.self c.take_block.new.cpu
+    (is_none _ _ c.args.group c.args.order c.in-Err-NoBlock.field-0 c.in-Err-NoBlock.field-0-is c.in-Err-NoBlock.ensures.refuses)
+    (by_none c.tries.cpu.number c.args.group c.args.order _ _ c.in-Err-NoBlock.field-0 c.in-Err-NoBlock.field-0-is c.in-Err-NoBlock.ensures.steps)
+
+pub returns-in-Err-NoBlock-clause-leaves : goal.returns-in-Err-NoBlock-clause-leaves
+returns-in-Err-NoBlock-clause-leaves g c =
+    let none = is_none _ _ c.args.group c.args.order c.in-Err-NoBlock.field-0 c.in-Err-NoBlock.field-0-is c.in-Err-NoBlock.ensures.refuses in
+    record {
+      opened = none_opened g.N.BootName.frames c.args.group c.args.order c.args.cpu.now c.args.machine.now c.tries.machine c.tries.invariant.0 c.tries.cpu
+          c.tries.invariant.1 c.take_block.new.self c.take_block.new.cpu none;
+      still = λ _. room_still g.N.BootName.frames c.args.group c.args.order c.args.cpu.now c.args.machine.now c.tries.machine c.tries.invariant.0 c.tries.cpu
+          c.tries.invariant.1 c.take_block.new.self c.take_block.new.cpu none c.requires.there c.requires.fits;
+    }
+
+pub make_room-requires : goal.make_room-requires
+make_room-requires g c =
+    let r = is_refused _ _ c.args.group c.args.order c.in-Err-Over.field-0 c.in-Err-Over.over c.in-Err-Over.field-0-is c.in-Err-Over.ensures.refuses in
+    subst (λ (y : KnownMachine). has_group y.ledger.groups c.in-Err-Over.over.group ≡ true) (sym r.1)
+    (in_subtree-above c.tries.machine.ledger.groups c.in-Err-Over.over.group c.args.group r.0.on_path)
+
+pub tries-smaller : goal.tries-smaller
+tries-smaller g c =
+    let r = is_refused _ _ c.args.group c.args.order c.in-Err-Over.field-0 c.in-Err-Over.over c.in-Err-Over.field-0-is c.in-Err-Over.ensures.refuses in
+    usages_fall c.tries.machine c.make_room.new.machine c.in-Err-Over.over.group (2 ^ c.args.order)
+    (clears_lower g.N.BootName.frames c.in-Err-Over.over.group c.tries.machine c.make_room.new.machine
+    (subst (λ (y : KnownMachine). ClearsBelow g.N.BootName.frames c.in-Err-Over.over.group y c.make_room.new.machine) r.1
+    c.make_room.ensures.clears)) c.make_room.ensures.fits r.0.over
+    (subst (λ (n : ℕ). has_room_for c.make_room.new.machine c.in-Err-Over.over.group n ≡ true) c.frames-pages.ensures.frames
+    c.in_ok-make_room-in-Err-Over.ensures.room)
+
+pub tries-preserved : goal.tries-preserved
+tries-preserved g c =
+    let t = g.N.BootName.frames in
+    let r = is_refused _ _ c.args.group c.args.order c.in-Err-Over.field-0 c.in-Err-Over.over c.in-Err-Over.field-0-is c.in-Err-Over.ensures.refuses in
+    let run = subst (λ (z : KnownMachine × KnownCpu). IsLocalRun c.tries.cpu.number (local_of t c.tries.machine c.tries.cpu)
+    (over_steps c.args.group (2 ^ c.args.order) c.in-Err-Over.over.group) (local_of t z.0 z.1)) (λ i. (r.1 i, c.in-Err-Over.ensures.cpu i))
+    (by_refusal c.tries.cpu.number c.args.group c.args.order _ _ c.in-Err-Over.field-0 c.in-Err-Over.over c.in-Err-Over.field-0-is c.in-Err-Over.ensures.steps) in (
+      so_far_more t c.args.group (2 ^ c.args.order) c.args.cpu.now c.args.machine.now c.tries.machine c.tries.invariant.0 c.take_block.new.self c.tries.machine
+          c.make_room.new.machine c.tries.cpu c.in-Err-Over.over.group r.1 c.tries.invariant.1 r.0 refl run c.make_room.ensures.clears
+          (subst (λ (n : ℕ). has_room_for c.make_room.new.machine c.in-Err-Over.over.group n ≡ true) c.frames-pages.ensures.frames
+          c.in_ok-make_room-in-Err-Over.ensures.room),
+      c.in-Err-Over.ensures.cpu ∙ c.tries.invariant.1,
+    )
+
+pub returns-in_err-make_room-in-Err-Over-clause-charges : goal.returns-in_err-make_room-in-Err-Over-clause-charges
+returns-in_err-make_room-in-Err-Over-clause-charges g c =
+    let t = g.N.BootName.frames in
+    let r = is_refused _ _ c.args.group c.args.order c.in-Err-Over.field-0 c.in-Err-Over.over c.in-Err-Over.field-0-is c.in-Err-Over.ensures.refuses in
+    let run = subst (λ (z : KnownMachine × KnownCpu). IsLocalRun c.tries.cpu.number (local_of t c.tries.machine c.tries.cpu)
+    (over_steps c.args.group (2 ^ c.args.order) c.in-Err-Over.over.group) (local_of t z.0 z.1)) (λ i. (r.1 i, c.in-Err-Over.ensures.cpu i))
+    (by_refusal c.tries.cpu.number c.args.group c.args.order _ _ c.in-Err-Over.field-0 c.in-Err-Over.over c.in-Err-Over.field-0-is c.in-Err-Over.ensures.steps) in
+    let x = c.in_err-make_room-in-Err-Over.field-0.0 in
+    let is : IfErr c.from_residual.result (λ e. e ≡ x) = search rules in
+    over_charges t c.args.group c.args.order c.in-Err-Over.over.group c.from_residual.result x c.args.machine.now c.make_room.new.machine c.args.cpu.now
+    c.take_block.new.cpu c.from_residual.ensures.0 is c.in_err-make_room-in-Err-Over.ensures.room.0 (c.in-Err-Over.ensures.cpu ∙ c.tries.invariant.1)
+    (so_far_over t c.args.group (2 ^ c.args.order) c.args.cpu.now c.args.machine.now c.tries.machine c.tries.invariant.0 c.take_block.new.self c.tries.machine
+    c.make_room.new.machine c.tries.cpu c.in-Err-Over.over.group r.1 c.tries.invariant.1 r.0 refl run c.make_room.ensures.clears
+    (subst (λ (n : ℕ). has_room_for c.make_room.new.machine c.in-Err-Over.over.group n ≡ false) c.frames-pages.ensures.frames
+    c.in_err-make_room-in-Err-Over.ensures.room.1))
+
+pub returns-in_err-make_room-in-Err-Over-clause-visit : goal.returns-in_err-make_room-in-Err-Over-clause-visit
+returns-in_err-make_room-in-Err-Over-clause-visit g c =
+    lowered_visit g.N.BootName.frames _ _ _ c.take_block.new.cpu (clears_lower g.N.BootName.frames c.in-Err-Over.over.group _ _ c.make_room.ensures.clears) refl
+    c.in-Err-Over.ensures.visit
+
+pub returns-in_err-make_room-in-Err-Over-clause-leaves : goal.returns-in_err-make_room-in-Err-Over-clause-leaves
+returns-in_err-make_room-in-Err-Over-clause-leaves g c =
+    let t = g.N.BootName.frames in
+    let r = is_refused _ _ c.args.group c.args.order c.in-Err-Over.field-0 c.in-Err-Over.over c.in-Err-Over.field-0-is c.in-Err-Over.ensures.refuses in
+    let x = c.in_err-make_room-in-Err-Over.field-0.0 in
+    let is : IfErr c.from_residual.result (λ e. e ≡ x) = search rules in
+    let clears = clears_lower t c.in-Err-Over.over.group c.take_block.new.self c.make_room.new.machine c.make_room.ensures.clears in
+    over_leaves c.args.group c.args.order c.in-Err-Over.over.group c.from_residual.result x c.args.machine.now c.make_room.new.machine
+    c.from_residual.ensures.0 is c.in_err-make_room-in-Err-Over.ensures.room.0
+    (lowers_both c.args.machine.now c.tries.machine c.make_room.new.machine c.tries.invariant.0.lowers
+    (subst (λ (y : KnownMachine). Lowers y c.make_room.new.machine) r.1 clears))

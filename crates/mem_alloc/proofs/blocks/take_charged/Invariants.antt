@@ -1,0 +1,10 @@
+use Rattle.std.proofs.Common.{◌≡◌, ◌^◌}
+use Rattle.mem_alloc.proofs.Lowering.{all_usages}
+use Rattle.mem_alloc.proofs.Making.{RoomSoFar}
+use Rattle.mem_alloc.proofs.blocks.take_charged.Given as goal
+
+abbrev pub invariant-tries : goal.invariant-tries
+invariant-tries g l = RoomSoFar g.N.BootName.frames l.group (2 ^ l.order) l.fn.cpu l.fn.machine l.machine × (l.cpu ≡ l.fn.cpu)
+
+abbrev pub decreases-tries : goal.decreases-tries
+decreases-tries g l = all_usages l.machine

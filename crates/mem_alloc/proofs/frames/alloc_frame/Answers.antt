@@ -1,0 +1,93 @@
+use Rattle.std.proofs.Common.{◌≡◌, ◌∷◌, ◌++◌, [], length, false, sym, ap, ◌∙◌, arith, rules}
+use Rattle.std.specs.Prelude.{IfErr}
+use Rattle.mem_machine.specs.Machines.{KnownMachine, is_killed}
+use Rattle.cpu_part.specs.Cpus.{KnownCpu}
+use Rattle.mem_alloc.proofs.Lowering.{drain_lowers}
+use Rattle.mem_alloc.proofs.Making.{refused_with, if_ok_none}
+use Rattle.mem_alloc.proofs.Filling.{keeps_both, lowers_keep, pays_keep, refuses_keep, filled_part, not_paid, not_found, gets_frame}
+use Rattle.mem_alloc.proofs.frames.alloc_frame.Goals as goal
+
+pub returns-in_err-pay_for_frame : goal.returns-in_err-pay_for_frame
+returns-in_err-pay_for_frame g c =
+    let t = g.N.BootName.frames in
+    let alive : is_killed c.args.machine.now.killed c.args.group ≡ false = sym c.is_killed.ensures ∙ c.if-is_killed.false in
+    let r = c.from_residual.result in
+    let x = c.in_err-pay_for_frame.field-0.0 in
+    let not = c.from_residual.ensures.0 in
+    let is : IfErr r (λ e. e ≡ x) = search rules in
+    let refused = c.in_err-pay_for_frame.ensures.pays in
+    let k = refuses_keep t c.args.sizes c.args.group x _ _ _ _ refused.0 refused.1 in
+    let fresh = k.fresh ∙ c.requires.settled.0 in
+    record {
+      allocates = not_paid t c.args.sizes c.args.group c.args.machine.now c.args.cpu.now alive r x _ _ not is refused;
+      visit = c.in_err-pay_for_frame.ensures.visit;
+      opened = k.opened;
+      number = k.number;
+      fresh = refused_with r x _ _ not is (λ e same. fresh);
+      back = k.back ∙ c.requires.settled.1;
+      at_most_high = λ low. let a = ap length k.list in let b = ap length k.fresh in omega (arith, a, b, low);
+      frame = if_ok_none r _ not;
+    }
+
+pub returns-in_err-fill_list : goal.returns-in_err-fill_list
+returns-in_err-fill_list g c =
+    let t = g.N.BootName.frames in
+    let alive : is_killed c.args.machine.now.killed c.args.group ≡ false = sym c.is_killed.ensures ∙ c.if-is_killed.false in
+    let r = c.from_residual-in_err-fill_list.result in
+    let x = c.in_err-fill_list.field-0.0 in
+    let not = c.from_residual-in_err-fill_list.ensures.0 in
+    let is : IfErr r (λ e. e ≡ x) = search rules in
+    let paid = c.in_ok-pay_for_frame.ensures.pays in
+    let none = c.in_err-fill_list.ensures.fills in
+    let first = pays_keep t c.args.sizes c.args.group _ _ _ _ paid.0 paid.1 in
+    let then = lowers_keep _ _ _ _ (drain_lowers _ _ _ none.1.back none.1.drains) none.1.cpu in
+    let k = keeps_both _ _ _ _ _ _ first then in
+    let fresh = k.fresh ∙ c.requires.settled.0 in
+    record {
+      allocates = not_found t c.args.sizes c.args.group c.args.machine.now c.args.cpu.now alive _ _ first.number paid r x _ _ not is none;
+      visit = c.in_err-fill_list.ensures.visit;
+      opened = k.opened;
+      number = k.number;
+      fresh = refused_with r x _ _ not is (λ e same. fresh);
+      back = k.back ∙ c.requires.settled.1;
+      at_most_high = λ low. let a = ap length k.list in let b = ap length k.fresh in omega (arith, a, b, low);
+      frame = if_ok_none r _ not;
+    }
+
+pub take_front-requires-clause-none_fresh : goal.take_front-requires-clause-none_fresh
+take_front-requires-clause-none_fresh g c =
+    let paid = c.in_ok-pay_for_frame.ensures.pays in
+    let fills = c.in_ok-fill_list.ensures.fills in
+    let first = pays_keep g.N.BootName.frames c.args.sizes c.args.group _ _ _ _ paid.0 paid.1 in
+    (filled_part c.args.sizes _ _ _ _ fills.0 c.requires.sizes fills.1).fresh ∙ first.fresh ∙ c.requires.settled.0
+
+pub returns : goal.returns
+returns g c =
+    let t = g.N.BootName.frames in
+    let alive : is_killed c.args.machine.now.killed c.args.group ≡ false = sym c.is_killed.ensures ∙ c.if-is_killed.false in
+    let paid = c.in_ok-pay_for_frame.ensures.pays in
+    let fills = c.in_ok-fill_list.ensures.fills in
+    let first = pays_keep t c.args.sizes c.args.group _ _ _ _ paid.0 paid.1 in
+    let next = filled_part c.args.sizes _ _ _ _ fills.0 c.requires.sizes fills.1 in
+    let takes = c.take_front.ensures.pays in
+    let cpu = takes.takes.2 in
+    let none = next.fresh ∙ first.fresh ∙ c.requires.settled.0 in
+    let fresh = ap (λ (e : KnownCpu). e.fresh) cpu ∙ ap (λ l. l ++ c.take_front.result ∷ []) none in
+    record {
+      allocates = gets_frame t c.args.sizes c.args.group c.args.machine.now c.args.cpu.now alive _ _ first.number paid c.take_front.result _ _ _ _ next.number
+          fills takes c.take_front.ensures.steps;
+      visit = c.take_front.ensures.visit;
+      opened = ap (λ (y : KnownMachine). y.seat.view.opened) takes.machine ∙ next.opened ∙ first.opened;
+      number = ap (λ (e : KnownCpu). e.number) cpu ∙ next.number ∙ first.number;
+      fresh = fresh;
+      back = ap (λ (e : KnownCpu). e.back) cpu ∙ next.back ∙ first.back ∙ c.requires.settled.1;
+      at_most_high = λ low.
+          let a = ap length first.list in
+          let b = ap length c.requires.settled.0 in
+          let full = next.high (omega (arith, a, b, low)) in
+          let d = ap length takes.takes.1 in
+          let e = ap (λ (e : KnownCpu). length e.list) cpu in
+          let f = ap length fresh in
+          omega (arith, full, d, e, f);
+      frame = c.take_front.ensures.frame;
+    }

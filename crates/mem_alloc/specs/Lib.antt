@@ -1,0 +1,5 @@
+pub mod Stepping
+pub mod Room
+pub mod Charging
+pub mod Frames
+pub mod Blocks

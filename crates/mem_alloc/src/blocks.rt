@@ -1,0 +1,117 @@
+//! Blocks of frames: they come from the zone, and are kept units at once.
+
+ghost use Rattle.std.specs.Prelude.{◌≡◌, ◌+◌, ◌^◌, ◌≤◌, [], length, IsTrue, false};
+ghost use Rattle.group_tree.specs.Groups.{has_group};
+ghost use Rattle.group_tree.specs.Room.{PathHasRoom};
+ghost use Rattle.group_charge.specs.Charges.{current_of};
+ghost use Rattle.mem_machine.specs.Machines.{Visits, is_killed};
+ghost use Rattle.mem_machine.specs.Paying.{HasRoomFor, IsOfSize};
+ghost use Rattle.mem_alloc.specs.Stepping.{BySteps};
+ghost use Rattle.mem_alloc.specs.Blocks.{AllocatesBlock, ChargesBlock, TakesAgain, LeavesRoom};
+
+use crate::faults::AllocFault;
+use crate::room::make_room;
+use cpu_part::{BootName, Cpu, Tables};
+use frame_word::Frame;
+use group_tree::group::GroupId;
+use mem_machine::{Machine, TakeFault};
+use zone_blocks::order::Order;
+
+// Charges a block to the group and takes it, as soon as every limit has room.
+fn take_charged<N: BootName>(
+    machine: &mut Machine<N>,
+    tables: &Tables<N>,
+    cpu: &mut Cpu<N>,
+    group: GroupId,
+    order: Order,
+) -> Result<Frame, AllocFault>
+    requires visit { Visits N.frames machine.old cpu.old }
+    requires there { IsTrue (has_group machine.old.ledger.groups group) }
+    requires alive { is_killed machine.old.killed group ≡ false }
+    requires fits { HasRoomFor machine.old (2 ^ order) }
+    requires none_back { cpu.old.back ≡ [] }
+    ensures charges { BySteps N.frames machine.old cpu.old machine.new cpu.new
+        (λ steps. ChargesBlock N.frames group order result machine.old steps machine.new) }
+    ensures cpu { cpu.new ≡ cpu.old }
+    ensures visit { Visits N.frames machine.new cpu.new }
+    ensures leaves { LeavesRoom group order result machine.old machine.new }
+{
+    let pages = order.frames();
+    'tries: loop {
+        match machine.take_block(tables, cpu, group, order) {
+            Ok(head) => return Ok(head),
+            Err(TakeFault::NoBlock) => return Err(AllocFault::NoFrames),
+            Err(TakeFault::Over(over)) => make_room(machine, tables, over.group, pages)?,
+        }
+    }
+}
+
+// Gives the processor's list back to the zone, and takes the block then, for which every limit has room.
+fn take_again<N: BootName>(
+    machine: &mut Machine<N>,
+    tables: &Tables<N>,
+    cpu: &mut Cpu<N>,
+    group: GroupId,
+    order: Order,
+) -> Result<Frame, AllocFault>
+    requires visit { Visits N.frames machine.old cpu.old }
+    requires there { IsTrue (has_group machine.old.ledger.groups group) }
+    requires alive { is_killed machine.old.killed group ≡ false }
+    requires fits { HasRoomFor machine.old (2 ^ order) }
+    requires room { PathHasRoom machine.old.ledger.groups (current_of machine.old.ledger) group (2 ^ order) }
+    requires settled { (cpu.old.fresh ≡ []) × (cpu.old.back ≡ []) }
+    ensures takes { BySteps N.frames machine.old cpu.old machine.new cpu.new
+        (λ steps. TakesAgain group order result machine.old cpu.old steps machine.new cpu.new) }
+    ensures visit { Visits N.frames machine.new cpu.new }
+    ensures opened { machine.new.seat.view.opened ≡ machine.old.seat.view.opened }
+    ensures number { cpu.new.number ≡ cpu.old.number }
+    ensures settled { (cpu.new.fresh ≡ []) × (cpu.new.back ≡ []) }
+    ensures list { length cpu.new.list ≤ length cpu.old.list }
+{
+    let listed = cpu.list_len() as u32;
+    machine.drain_list(tables, cpu, listed);
+    match machine.take_block(tables, cpu, group, order) {
+        Ok(head) => Ok(head),
+        Err(TakeFault::NoBlock) => Err(AllocFault::NoFrames),
+        Err(TakeFault::Over(_)) => unreachable!(),
+    }
+}
+
+/// Allocates a block of this order for a group that is there, for the processor that is visited and was settled: 2^`order` pages
+/// are charged to the group, and the block is a kept unit of it at once, which goes by its head.
+///
+/// `Killed`: the group is killed, and nothing changed. Else a limit that has no room for the pages is noted (`max`) at its group,
+/// the lowest of the path, and the stocks of that group's subtree are drained: where it has no room still, the answer is `Over`.
+/// Where no block of the order or above is free, the processor's own list goes back to the zone, and the block is tried once
+/// more. `NoFrames`: there is none then; the pages went back, and the peaks stand. The zone has at most 65,536 frames and 64
+/// processors.
+pub fn alloc_block<N: BootName>(
+    machine: &mut Machine<N>,
+    tables: &Tables<N>,
+    cpu: &mut Cpu<N>,
+    group: GroupId,
+    order: Order,
+) -> Result<Frame, AllocFault>
+    requires visit { Visits N.frames machine.old cpu.old }
+    requires size { IsOfSize N.frames }
+    requires there { IsTrue (has_group machine.old.ledger.groups group) }
+    requires settled { (cpu.old.fresh ≡ []) × (cpu.old.back ≡ []) }
+    ensures allocates { BySteps N.frames machine.old cpu.old machine.new cpu.new
+        (λ steps. AllocatesBlock N.frames group order result machine.old cpu.old steps machine.new cpu.new) }
+    ensures visit { Visits N.frames machine.new cpu.new }
+    ensures opened { machine.new.seat.view.opened ≡ machine.old.seat.view.opened }
+    ensures number { cpu.new.number ≡ cpu.old.number }
+    ensures settled { (cpu.new.fresh ≡ []) × (cpu.new.back ≡ []) }
+    ensures list { length cpu.new.list ≤ length cpu.old.list }
+{
+    if machine.is_killed(group) {
+        return Err(AllocFault::Killed);
+    }
+    let _pages = order.frames();
+    machine.see_room(tables, cpu);
+    match take_charged(machine, tables, cpu, group, order) {
+        Ok(head) => Ok(head),
+        Err(AllocFault::NoFrames) => take_again(machine, tables, cpu, group, order),
+        Err(cause) => Err(cause),
+    }
+}

@@ -1,0 +1,124 @@
+//! Pages charged for single frames: they come through the processor's stock.
+
+ghost use Rattle.std.specs.Prelude.{◌≡◌, ◌↔◌, ◌<◌, [], IsTrue, false, MatchResult, OnOk};
+ghost use Rattle.zone_sizes.specs.Config.{IsValidConfig};
+ghost use Rattle.group_tree.specs.Groups.{has_group};
+ghost use Rattle.stock_word.specs.Stock.{account_of};
+ghost use Rattle.mem_machine.specs.Machines.{Visits, is_killed};
+ghost use Rattle.mem_machine.specs.Paying.{HasRoomFor, HoldsPage, IsOfSize};
+ghost use Rattle.mem_alloc.specs.Stepping.{BySteps};
+ghost use Rattle.mem_alloc.specs.Charging.{FillsAfterRoom, ChargesFrame, IsOverForOne, RefusesFrame, PaysForFrame, RefusesToPay};
+
+use crate::faults::AllocFault;
+use crate::room::make_room;
+use cpu_part::{BootName, Cpu, Tables};
+use group_tree::group::GroupId;
+use mem_machine::Machine;
+use stock_word::Stock;
+use zone_sizes::config::Config;
+
+// Whether the processor's stock holds a page of the group.
+fn holds_page<N: BootName>(
+    machine: &mut Machine<N>,
+    tables: &Tables<N>,
+    cpu: &mut Cpu<N>,
+    group: GroupId,
+) -> bool
+    ensures holds { IsTrue result ↔ HoldsPage machine.old cpu.old group }
+    ensures machine { machine.new ≡ machine.old }
+    ensures cpu { cpu.new ≡ cpu.old }
+{
+    let number = group.number();
+    match machine.own_stock(tables, cpu) {
+        Stock::HeldBy { group: own, pages } => own == number && pages > 0,
+        _ => false,
+    }
+}
+
+// Charges one page to the group and fills the processor's stock with it, as soon as every limit has room.
+fn fill_one<N: BootName>(
+    machine: &mut Machine<N>,
+    tables: &Tables<N>,
+    cpu: &mut Cpu<N>,
+    group: GroupId,
+) -> Result<(), AllocFault>
+    requires visit { Visits N.frames machine.old cpu.old }
+    requires there { IsTrue (has_group machine.old.ledger.groups group) }
+    requires alive { is_killed machine.old.killed group ≡ false }
+    requires fits { HasRoomFor machine.old 1 }
+    requires none_fresh { cpu.old.fresh ≡ [] }
+    requires drained { (account_of machine.old.stock.view cpu.old.number).filled ≡ false }
+    ensures fills { MatchResult result
+        (λ done. BySteps N.frames machine.old cpu.old machine.new cpu.new
+        (λ steps. FillsAfterRoom N.frames group 1 machine.old cpu.old steps machine.new cpu.new))
+        (λ cause. BySteps N.frames machine.old cpu.old machine.new cpu.new
+        (λ steps. IsOverForOne N.frames group cause machine.old cpu.old steps machine.new cpu.new)) }
+    ensures visit { Visits N.frames machine.new cpu.new }
+{
+    'tries: loop {
+        let Err(over) = machine.fill_stock(tables, cpu, group, 1) else {
+            return Ok(());
+        };
+        make_room(machine, tables, over.group, 1)?;
+    }
+}
+
+// Charges pages to the group and fills the processor's stock with them, which is drained: as many as it takes at once where
+// every limit has room for them, else one.
+fn charge_frame<N: BootName>(
+    machine: &mut Machine<N>,
+    tables: &Tables<N>,
+    cpu: &mut Cpu<N>,
+    sizes: Config,
+    group: GroupId,
+) -> Result<(), AllocFault>
+    requires visit { Visits N.frames machine.old cpu.old }
+    requires size { IsOfSize N.frames }
+    requires sizes { IsValidConfig sizes }
+    requires there { IsTrue (has_group machine.old.ledger.groups group) }
+    requires alive { is_killed machine.old.killed group ≡ false }
+    requires none_fresh { cpu.old.fresh ≡ [] }
+    requires drained { (account_of machine.old.stock.view cpu.old.number).filled ≡ false }
+    ensures charges { MatchResult result
+        (λ done. BySteps N.frames machine.old cpu.old machine.new cpu.new
+        (λ steps. ChargesFrame N.frames sizes group machine.old cpu.old steps machine.new cpu.new))
+        (λ cause. BySteps N.frames machine.old cpu.old machine.new cpu.new
+        (λ steps. RefusesFrame N.frames sizes group cause machine.old cpu.old steps machine.new cpu.new)) }
+    ensures visit { Visits N.frames machine.new cpu.new }
+{
+    machine.see_room(tables, cpu);
+    let Err(_batch) = machine.fill_stock(tables, cpu, group, sizes.stock) else {
+        return Ok(());
+    };
+    fill_one(machine, tables, cpu, group)
+}
+
+// Sees to it that the processor's stock holds a page of the group.
+pub(crate) fn pay_for_frame<N: BootName>(
+    machine: &mut Machine<N>,
+    tables: &Tables<N>,
+    cpu: &mut Cpu<N>,
+    sizes: Config,
+    group: GroupId,
+) -> Result<(), AllocFault>
+    requires visit { Visits N.frames machine.old cpu.old }
+    requires size { IsOfSize N.frames }
+    requires sizes { IsValidConfig sizes }
+    requires there { IsTrue (has_group machine.old.ledger.groups group) }
+    requires alive { is_killed machine.old.killed group ≡ false }
+    requires none_fresh { cpu.old.fresh ≡ [] }
+    ensures pays { MatchResult result
+        (λ done. BySteps N.frames machine.old cpu.old machine.new cpu.new
+        (λ steps. PaysForFrame N.frames sizes group machine.old cpu.old steps machine.new cpu.new))
+        (λ cause. BySteps N.frames machine.old cpu.old machine.new cpu.new
+        (λ steps. RefusesToPay N.frames sizes group cause machine.old cpu.old steps machine.new cpu.new)) }
+    ensures visit { Visits N.frames machine.new cpu.new }
+    ensures page { OnOk result (HoldsPage machine.new cpu.new group) }
+{
+    if holds_page(machine, tables, cpu, group) {
+        return Ok(());
+    }
+    let number = cpu.number();
+    machine.drain_stock(tables, number);
+    charge_frame(machine, tables, cpu, sizes, group)
+}

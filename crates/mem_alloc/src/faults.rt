@@ -1,0 +1,14 @@
+//! Why nothing was allocated.
+
+use group_tree::group::GroupId;
+
+/// Why nothing was allocated. No frame and no charge was given then.
+#[derive(Clone, Copy, Debug, PartialEq, Eq)]
+pub enum AllocFault {
+    /// The limit of this group has no room for the pages, after the stocks of its subtree were drained.
+    Over(GroupId),
+    /// No sufficient free block is there.
+    NoFrames,
+    /// The group is killed.
+    Killed,
+}
