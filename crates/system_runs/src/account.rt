@@ -4,10 +4,12 @@ use crate::charging::{charge, prepay};
 use crate::steps::{
     answers, begin, done, drain, end, give_back, keep, lend, refill, step, take_back,
 };
+use crate::tally::Tally;
 use crate::units::Units;
 use group_tree::fault::Fault;
 use group_tree::group::GroupId;
 use mem_core::zone::Core;
+use mem_machine::Counts;
 use std::alloc::{AllocError, Global};
 use std::process::Abort;
 use step_rules::phase::Phase;
@@ -15,25 +17,35 @@ use step_rules::step::{Action, Answer};
 use zone_blocks::order::Order;
 use zone_sizes::config::Config;
 
-/// A core, and beside it what a core doesn't tell: the lists of kept units, and which processors saw last that their stock has
-/// no page.
+/// A core, and beside it what a core doesn't tell: the lists of kept units, which processors saw last that their stock has no
+/// page, how often each kind of answer came, and what is counted of units.
 #[derive(Drop)]
 pub struct Account {
     pub core: Core,
     pub units: Units,
     pub sizes: Config,
     pub saw_none: [bool; 17],
+    pub tally: Tally,
+    pub counts: Counts,
 }
 
 impl Account {
     /// Nothing was done yet.
     pub fn new(rt: &impl Abort, alloc: Global, sizes: &Config) -> Result<Account, AllocError> {
         assert!(rt; sizes.is_valid());
+        let counts = Counts {
+            last_puts: 0,
+            freezes: 0,
+            drops: 0,
+            returns: 0,
+        };
         Ok(Account {
             core: Core::new(alloc, sizes.frames, sizes.cpus)?,
             units: Units::new(alloc, sizes.frames)?,
             sizes: *sizes,
             saw_none: [false; 17],
+            tally: Tally::new(),
+            counts,
         })
     }
 
@@ -47,6 +59,23 @@ impl Account {
     pub fn note_drain(&mut self, rt: &impl Abort, cpu: u32) {
         assert!(rt; cpu < 17);
         self.saw_none[cpu as usize] = false;
+    }
+
+    /// The last reference of a unit was put.
+    pub fn note_last(&mut self) {
+        self.counts.last_puts = self.counts.last_puts.saturating_add(1);
+    }
+
+    /// A fresh frame went back to a list.
+    pub fn note_drop(&mut self) {
+        self.counts.drops = self.counts.drops.saturating_add(1);
+        self.counts.returns = self.counts.returns.saturating_add(1);
+    }
+
+    // A unit in the zone's hand comes back.
+    fn bring_back(&mut self, rt: &impl Abort, frame: u32) {
+        done(rt, &mut self.core, 0, Action::Return { frame });
+        self.counts.returns = self.counts.returns.saturating_add(1);
     }
 
     // The order of the unit that the frame heads, if it does.
@@ -85,7 +114,7 @@ impl Account {
         for _ in 0..self.core.back(cpu).len() {
             if let Some(frame) = self.core.back(cpu).first().copied() {
                 take_back(rt, &mut self.core, cpu, frame);
-                done(rt, &mut self.core, 0, Action::Return { frame });
+                self.bring_back(rt, frame);
             }
         }
     }
@@ -118,7 +147,8 @@ impl Account {
             Answer::Left(left) => return Some(u64::from(left)),
             answer => assert_eq!(rt; answer, Answer::Last),
         }
-        done(rt, &mut self.core, 0, Action::Return { frame });
+        self.note_last();
+        self.bring_back(rt, frame);
         if order.exponent() == 0 {
             self.list_frame(rt, cpu, frame);
         }
@@ -126,14 +156,16 @@ impl Account {
     }
 
     // A single frame for a group that is there: from the list, which is refilled where it is empty, paid from the stock.
-    fn alloc_single(&mut self, rt: &impl Abort, cpu: u32, group: GroupId) -> Result<u32, Fault> {
+    fn take_single(&mut self, rt: &impl Abort, cpu: u32, group: GroupId) -> Result<u32, Fault> {
         let Config {
             cpus,
             stock,
             batch,
             ..
         } = self.sizes;
-        prepay(rt, &mut self.core, cpus, cpu, group, stock)?;
+        if prepay(rt, &mut self.core, cpus, cpu, group, stock)? {
+            self.note_stock(rt, cpu);
+        }
         if self.core.list_len(cpu) == 0 {
             refill(rt, &mut self.core, cpu, batch);
         }
@@ -176,7 +208,7 @@ impl Account {
     }
 
     // A block of two frames or more for a group that is there.
-    fn alloc_block(
+    fn take_block(
         &mut self,
         rt: &impl Abort,
         cpu: u32,
@@ -195,7 +227,7 @@ impl Account {
     }
 
     /// A frame, or a block of this order, for the group of the path.
-    pub fn alloc(
+    pub fn take(
         &mut self,
         rt: &impl Abort,
         cpu: u32,
@@ -209,9 +241,9 @@ impl Account {
             return Err(Fault::BadOrder);
         };
         if order.exponent() == 0 {
-            self.alloc_single(rt, cpu, group)
+            self.take_single(rt, cpu, group)
         } else {
-            self.alloc_block(rt, cpu, group, order)
+            self.take_block(rt, cpu, group, order)
         }
     }
 }

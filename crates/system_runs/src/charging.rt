@@ -61,7 +61,7 @@ fn charge_stock(
     Ok(1)
 }
 
-/// The processor's stock has a page of the group, or is drained and filled.
+/// The processor's stock has a page of the group, or is drained and filled. It tells whether it was filled.
 pub fn prepay(
     rt: &impl Abort,
     core: &mut Core,
@@ -69,12 +69,12 @@ pub fn prepay(
     cpu: u32,
     group: GroupId,
     stock: u32,
-) -> Result<(), Fault> {
+) -> Result<bool, Fault> {
     if core.stock_group(cpu) == Some(group) && core.stock_pages(cpu) > 0 {
-        return Ok(());
+        return Ok(false);
     }
     drain(rt, core, cpu);
     let pages = charge_stock(rt, core, cpus, group, stock)?;
     done(rt, core, 0, Action::Fill { cpu, group, pages });
-    Ok(())
+    Ok(true)
 }

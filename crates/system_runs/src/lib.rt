@@ -13,6 +13,8 @@ mod ends;
 #[cfg(test)]
 mod groups;
 #[cfg(test)]
+mod large;
+#[cfg(test)]
 mod plays;
 #[cfg(test)]
 mod quick;
@@ -22,6 +24,8 @@ mod rows;
 mod runs;
 #[cfg(test)]
 mod steps;
+#[cfg(test)]
+mod tally;
 #[cfg(test)]
 mod turns;
 #[cfg(test)]

@@ -2,6 +2,7 @@
 
 use crate::account::Account;
 use crate::steps::step;
+use crate::tally::{kind_of_drop, kind_of_fast, kind_of_get, kind_of_put};
 use cpu_part::{Dropped, Fast};
 use frame_word::{Get, Put};
 use group_tree::fault::Fault;
@@ -15,8 +16,8 @@ fn saw_none(rt: &impl Abort, account: &Account, cpu: u32, group: GroupId) -> boo
     account.core.stock_group(cpu) == Some(group) && account.saw_none[cpu as usize]
 }
 
-// The front of the list is paid for, or not.
-fn paid(rt: &impl Abort, account: &mut Account, cpu: u32, group: GroupId, fast: Fast) {
+// The front of the list is paid for, or not. It tells which.
+fn paid(rt: &impl Abort, account: &mut Account, cpu: u32, group: GroupId, fast: Fast) -> bool {
     let front = account.core.front(cpu);
     let action = Action::Consume { group };
     let answer = step(rt, &mut account.core, cpu, action);
@@ -34,27 +35,41 @@ fn paid(rt: &impl Abort, account: &mut Account, cpu: u32, group: GroupId, fast: 
         }
         Fast::FreshFull | Fast::ListEmpty => panic!(rt; "neither full nor empty"),
     }
+    answer == Answer::Took
 }
 
-/// A frame is taken on the fast path, or not. That the stock has no page is told by what the processor saw of it last.
-pub fn follow_fast(rt: &impl Abort, account: &mut Account, cpu: u32, group: GroupId, fast: Fast) {
+/// A frame is taken on the fast path, or not; it tells which. That the stock has no page is told by what the processor saw of it
+/// last.
+pub fn follow_fast(
+    rt: &impl Abort,
+    account: &mut Account,
+    cpu: u32,
+    group: GroupId,
+    fast: Fast,
+) -> bool {
+    account.tally.note(kind_of_fast(&fast));
     if account.core.fresh(cpu).len() >= 32 {
         assert_eq!(rt; fast, Fast::FreshFull);
+        false
     } else if account.core.list_len(cpu) == 0 {
         assert_eq!(rt; fast, Fast::ListEmpty);
+        false
     } else if saw_none(rt, account, cpu, group) {
         assert_eq!(rt; fast, Fast::NoStock);
+        false
     } else {
-        paid(rt, account, cpu, group, fast);
+        paid(rt, account, cpu, group, fast)
     }
 }
 
 /// A fresh frame goes back to the list, or not.
 pub fn follow_drop(rt: &impl Abort, account: &mut Account, cpu: u32, frame: u32, dropped: Dropped) {
+    account.tally.note(kind_of_drop(&dropped));
     let answer = step(rt, &mut account.core, cpu, Action::Credit { frame });
     match dropped {
         Dropped::Listed => {
             assert_eq!(rt; answer, Answer::Back);
+            account.note_drop();
             account.note_stock(rt, cpu);
         }
         Dropped::NeedVisit => {
@@ -67,19 +82,20 @@ pub fn follow_drop(rt: &impl Abort, account: &mut Account, cpu: u32, frame: u32,
 // How many references a processor may have with its back frames.
 const MOST_PINS: usize = 256;
 
-/// The processor asks for a reference.
+/// The processor asks for a reference; it is answered so.
 pub fn follow_get(
     rt: &impl Abort,
     account: &mut Account,
     cpu: u32,
     frame: u32,
     got: Result<Get, Fault>,
-) {
+) -> Result<Get, Fault> {
+    account.tally.note(kind_of_get(&got));
     let pins = account.core.pins(cpu) as usize;
     let back = account.core.back(cpu).len();
     if pins.saturating_add(back) >= MOST_PINS {
         assert_eq!(rt; got, Err(Fault::PinsFull));
-        return;
+        return Err(Fault::PinsFull);
     }
     let wanted = match step(rt, &mut account.core, cpu, Action::Get { frame }) {
         Answer::Held => Get::Held,
@@ -90,14 +106,17 @@ pub fn follow_get(
         }
     };
     assert_eq!(rt; got, Ok(wanted));
+    Ok(wanted)
 }
 
 /// The processor gives a reference up.
 pub fn follow_put(rt: &impl Abort, account: &mut Account, cpu: u32, frame: u32, put: Put) {
+    account.tally.note(kind_of_put(&put));
     let wanted = match step(rt, &mut account.core, cpu, Action::Put { frame }) {
         Answer::Left(left) => Put::Left(u64::from(left)),
         answer => {
             assert_eq!(rt; answer, Answer::Last);
+            account.note_last();
             Put::Last
         }
     };

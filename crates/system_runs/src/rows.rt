@@ -3,9 +3,10 @@
 ghost use Rattle.std.specs.Prelude.{◌≡◌};
 
 use crate::account::Account;
-use crate::ends::spend_all;
-use crate::plays::visit;
-use cpu_part::{BootName, Cpu};
+use crate::ends::shuts_down;
+use crate::plays::{get, visit};
+use cpu_part::{BootName, Cpu, Tables};
+use frame_word::Get;
 use group_tree::fault::Fault;
 use mem_system::{Boot, Cmd, Reply, System, boot};
 use std::alloc::Global;
@@ -33,7 +34,7 @@ struct Row {
 const MAX: &[u8] = b"memory.max";
 
 // Refused while /a and /a/b are there, and nothing else happens then.
-const REFUSED: [Row; 20] = [
+const REFUSED: [Row; 23] = [
     Row {
         cmd: Cmd::Mkdir { path: b"/x/y" },
         fault: Fault::NoParent,
@@ -131,7 +132,25 @@ const REFUSED: [Row; 20] = [
         fault: Fault::NoFile,
     },
     Row {
+        cmd: Cmd::Alloc {
+            path: b"/x",
+            order: 0,
+        },
+        fault: Fault::NoGroup,
+    },
+    Row {
+        cmd: Cmd::Alloc {
+            path: b"/a",
+            order: 11,
+        },
+        fault: Fault::BadOrder,
+    },
+    Row {
         cmd: Cmd::Touch { frame: 15 },
+        fault: Fault::NotKept,
+    },
+    Row {
+        cmd: Cmd::Touch { frame: 1 },
         fault: Fault::NotKept,
     },
     Row {
@@ -148,7 +167,24 @@ const REFUSED: [Row; 20] = [
     },
 ];
 
-// The two tables of a system, its account, and who asks.
+// The limit of /a is 16 pages, or none; and a frame is taken for the group below it.
+const LIMITED: Cmd<'static> = Cmd::Write {
+    path: b"/a",
+    file: MAX,
+    value: b"64K",
+};
+
+const UNLIMITED: Cmd<'static> = Cmd::Write {
+    path: b"/a",
+    file: MAX,
+    value: b"max",
+};
+
+const SINGLE: Cmd<'static> = Cmd::Alloc {
+    path: b"/a/b",
+    order: 0,
+};
+
 // The file of `/a` reads as this text.
 fn reads<N: BootName, R: Wait + Abort>(
     rt: &R,
@@ -233,37 +269,156 @@ fn tree_full<N: BootName, R: Wait + Abort>(
     answers(rt, alloc, system, cpu, account, &cmd, &wanted);
 }
 
+// A group with a kept frame and one below it, and a limit of 16 pages: each row is refused.
+fn refuses_rows<N: BootName, R: Wait + Abort>(
+    rt: &R,
+    alloc: Global,
+    system: &System<N>,
+    cpu: &mut Cpu<N>,
+    account: &mut Account,
+) {
+    visit(rt, alloc, system, cpu, account, &Cmd::Mkdir { path: b"/a" });
+    visit(
+        rt,
+        alloc,
+        system,
+        cpu,
+        account,
+        &Cmd::Mkdir { path: b"/a/b" },
+    );
+    answers(rt, alloc, system, cpu, account, &LIMITED, &Reply::Done);
+    answers(rt, alloc, system, cpu, account, &SINGLE, &Reply::Frame(0));
+    let state = State {
+        current: 16_384,
+        peak: 16_384,
+        max: 0,
+    };
+    all_refused(rt, alloc, system, cpu, account, &state);
+}
+
+// The stock is drained before a group is refused as busy.
+fn refuses_busy<N: BootName, R: Wait + Abort>(
+    rt: &R,
+    alloc: Global,
+    system: &System<N>,
+    cpu: &mut Cpu<N>,
+    account: &mut Account,
+) {
+    let cmd = Cmd::Rmdir { path: b"/a/b" };
+    let wanted = Reply::Refused(Fault::Busy);
+    answers(rt, alloc, system, cpu, account, &cmd, &wanted);
+    let state = State {
+        current: 4_096,
+        peak: 16_384,
+        max: 0,
+    };
+    shows(rt, alloc, system, cpu, &state);
+}
+
+// A block of 32 pages is more than the limit, and that is noted.
+fn refuses_over<N: BootName, R: Wait + Abort>(
+    rt: &R,
+    alloc: Global,
+    system: &System<N>,
+    cpu: &mut Cpu<N>,
+    account: &mut Account,
+) {
+    let cmd = Cmd::Alloc {
+        path: b"/a/b",
+        order: 5,
+    };
+    match visit(rt, alloc, system, cpu, account, &cmd) {
+        Reply::OverLimit { group, path } => {
+            assert_eq!(rt; group.number(), 1);
+            assert!(rt; path.as_bytes() == b"/a".as_slice());
+        }
+        _ => panic!(rt; "not over the limit"),
+    }
+    let state = State {
+        current: 4_096,
+        peak: 16_384,
+        max: 1,
+    };
+    shows(rt, alloc, system, cpu, &state);
+}
+
+// Without a limit, a block of all frames is charged and then not found: the peak stays.
+fn refuses_block<N: BootName, R: Wait + Abort>(
+    rt: &R,
+    alloc: Global,
+    system: &System<N>,
+    cpu: &mut Cpu<N>,
+    account: &mut Account,
+) {
+    let cmd = Cmd::Alloc {
+        path: b"/a",
+        order: 4,
+    };
+    let wanted = Reply::Refused(Fault::NoFrames);
+    answers(rt, alloc, system, cpu, account, &UNLIMITED, &Reply::Done);
+    answers(rt, alloc, system, cpu, account, &cmd, &wanted);
+    let state = State {
+        current: 4_096,
+        peak: 69_632,
+        max: 1,
+    };
+    shows(rt, alloc, system, cpu, &state);
+    assert_eq!(rt; cpu.list_len(), 0);
+}
+
+// So many references on the frame of this number are asked for, with this answer.
+fn pins<N: BootName>(
+    rt: &impl Abort,
+    tables: &Tables<N>,
+    cpu: &mut Cpu<N>,
+    account: &mut Account,
+    number: u32,
+    times: u32,
+    wanted: &Result<Get, Fault>,
+) {
+    for _ in 0..times {
+        let frame = tables.frames.frame(number).expect(rt, "a frame");
+        assert_eq!(rt; get(rt, tables, cpu, account, frame), *wanted);
+    }
+}
+
+// 255 references on a frame are all, and 256 pins of a processor.
+fn refuses_pins<N: BootName, R: Wait + Abort>(
+    rt: &R,
+    alloc: Global,
+    system: &System<N>,
+    cpu: &mut Cpu<N>,
+    account: &mut Account,
+) {
+    let tables = system.tables();
+    pins(rt, tables, cpu, account, 0, 254, &Ok(Get::Held));
+    pins(rt, tables, cpu, account, 0, 1, &Ok(Get::Full));
+    answers(rt, alloc, system, cpu, account, &SINGLE, &Reply::Frame(1));
+    pins(rt, tables, cpu, account, 1, 1, &Ok(Get::Zero));
+    answers(rt, alloc, system, cpu, account, &Cmd::Settle, &Reply::Done);
+    pins(rt, tables, cpu, account, 1, 2, &Ok(Get::Held));
+    pins(rt, tables, cpu, account, 1, 1, &Err(Fault::PinsFull));
+    let state = State {
+        current: 20_480,
+        peak: 69_632,
+        max: 1,
+    };
+    shows(rt, alloc, system, cpu, &state);
+}
+
 // The life of a system that refuses.
 fn lives<N: BootName, R: Wait + Abort>(rt: &R, alloc: Global, boot: Boot, account: &mut Account)
     requires { (boot.frames ≡ N.frames) × (boot.stocks ≡ N.stocks) }
 {
     let (system, mut cpus) = boot.start::<N>(alloc).expect(rt, "memory");
     let cpu = cpus.first_mut().expect(rt, "a processor");
-    let made = visit(
-        rt,
-        alloc,
-        &system,
-        cpu,
-        account,
-        &Cmd::Mkdir { path: b"/a" },
-    );
-    assert!(rt; made != Reply::Refused(Fault::BadName));
-    let _ = visit(
-        rt,
-        alloc,
-        &system,
-        cpu,
-        account,
-        &Cmd::Mkdir { path: b"/a/b" },
-    );
-    let state = State {
-        current: 0,
-        peak: 0,
-        max: 0,
-    };
-    all_refused(rt, alloc, &system, cpu, account, &state);
+    refuses_rows(rt, alloc, &system, cpu, account);
+    refuses_busy(rt, alloc, &system, cpu, account);
+    refuses_over(rt, alloc, &system, cpu, account);
+    refuses_block(rt, alloc, &system, cpu, account);
+    refuses_pins(rt, alloc, &system, cpu, account);
     tree_full(rt, alloc, &system, cpu, account);
-    spend_all(rt, cpus);
+    shuts_down(rt, system, cpus, account);
 }
 
 // Each command is refused for its cause, and nothing changes.

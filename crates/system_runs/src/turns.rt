@@ -9,6 +9,10 @@ use mem_system::Cmd;
 pub enum Turn {
     /// It asks for this under the lock.
     Visit(Cmd<'static>),
+    /// It takes a block of this order for the group of the path; a single frame on the fast path, where that has one.
+    Alloc { path: &'static [u8], order: u32 },
+    /// It releases the frame; a fresh one on the fast path, where that takes it.
+    Release(u32),
     /// It takes the front of its list for the group.
     Fast(GroupId),
     /// It asks for a reference on the frame.
@@ -56,15 +60,15 @@ pub fn file(number: u32) -> &'static [u8] {
 // A limit that is written, or none.
 fn value(number: u32) -> &'static [u8] {
     match number % 16 {
-        0 | 1 | 2 | 3 => b"max",
-        4 | 5 => b"64K",
-        6 => b" 32768 ",
-        7 => b"16k",
-        8 => b"5000",
-        9 => b"0",
-        10 | 11 => b"128K",
-        12 | 13 => b"80K",
-        14 => b"4KB",
+        0 | 1 | 2 => b"max",
+        3 | 4 => b"64K",
+        5 => b" 32768 ",
+        6 => b"16k",
+        7 => b"5000",
+        8 => b"0",
+        9 | 10 => b"128K",
+        11 => b"80K",
+        12 | 13 => b"4KB",
         _ => b"18446744073709551616",
     }
 }
@@ -128,8 +132,8 @@ fn group_turn(words: &Words) -> Cmd<'static> {
     let file = file(words.second >> 8);
     let value = value(words.second >> 16);
     match words.first % 8 {
-        0 | 1 | 2 => Cmd::Mkdir { path },
-        3 => Cmd::Rmdir { path },
+        0 | 1 => Cmd::Mkdir { path },
+        2 | 3 => Cmd::Rmdir { path },
         4 => Cmd::Write { path, file, value },
         5 | 6 => Cmd::Write {
             path,
@@ -145,7 +149,9 @@ fn frame_turn(account: &Account, cpu: u32, words: &Words) -> Cmd<'static> {
     let frame = some_frame(account, cpu, words);
     match words.first % 8 {
         0 => Cmd::Settle,
-        1 => Cmd::Owner { frame },
+        1 => Cmd::Owner {
+            frame: any(account, words.second >> 8),
+        },
         2 | 3 => Cmd::Touch { frame },
         4 => Cmd::Dirty { frame },
         5 => Cmd::Clean { frame },
@@ -158,18 +164,52 @@ fn quick_turn(account: &Account, cpu: u32, words: &Words) -> Turn {
     let frame = some_frame(account, cpu, words);
     let number = any(account, words.first >> 8);
     match words.first % 8 {
-        0 | 1 => Turn::Fast(paying_group(account, cpu, words)),
-        2 | 3 => Turn::Get(frame),
-        4 | 5 => Turn::Put(pinned(account, cpu, number).unwrap_or(frame)),
+        0 | 1 | 2 => Turn::Fast(paying_group(account, cpu, words)),
+        3 | 4 => Turn::Get(frame),
+        5 | 6 => Turn::Put(pinned(account, cpu, number).unwrap_or(frame)),
         _ => Turn::Drop(fresh(account, cpu, number).unwrap_or(frame)),
+    }
+}
+
+// A block that is taken, or a frame that is released.
+fn alloc_turn(account: &Account, cpu: u32, words: &Words) -> Turn {
+    let path = path(words.first >> 8);
+    let order = (words.first >> 12) % 5;
+    match words.first % 8 {
+        0 | 1 | 2 => Turn::Alloc { path, order: 0 },
+        3 => Turn::Visit(Cmd::Alloc { path, order: 0 }),
+        4 => Turn::Alloc { path, order },
+        5 => Turn::Alloc {
+            path,
+            order: 8 + order,
+        },
+        _ => Turn::Release(some_frame(account, cpu, words)),
+    }
+}
+
+// A fresh frame of the processor, whose stock was drained.
+fn drained_fresh(account: &Account, cpu: u32, words: &Words) -> Option<u32> {
+    if account.core.is_drained(cpu) && words.second.is_multiple_of(2) {
+        fresh(account, cpu, words.first)
+    } else {
+        None
     }
 }
 
 /// What the processor does by these words.
 pub fn draw(account: &Account, cpu: u32, words: &Words) -> Turn {
-    match (words.first >> 28) % 4 {
-        0 => Turn::Visit(group_turn(words)),
-        1 => Turn::Visit(frame_turn(account, cpu, words)),
-        _ => quick_turn(account, cpu, words),
+    match drained_fresh(account, cpu, words) {
+        Some(frame) => Turn::Release(frame),
+        None => any_turn(account, cpu, words),
+    }
+}
+
+// What the processor does by these words, whatever it has.
+fn any_turn(account: &Account, cpu: u32, words: &Words) -> Turn {
+    match (words.first >> 28) % 16 {
+        0 | 1 | 2 => Turn::Visit(group_turn(words)),
+        3 | 4 | 5 => Turn::Visit(frame_turn(account, cpu, words)),
+        6 | 7 | 8 | 9 | 10 => quick_turn(account, cpu, words),
+        _ => alloc_turn(account, cpu, words),
     }
 }

@@ -2,6 +2,7 @@
 
 use crate::account::Account;
 use crate::groups::{make, read, remove, write};
+use crate::tally::kind_of_reply;
 use group_tree::fault::Fault;
 use group_tree::group::GroupId;
 use mem_system::{Cmd, Reply};
@@ -88,6 +89,30 @@ fn release(rt: &impl Abort, account: &mut Account, cpu: u32, frame: u32) -> Repl
     }
 }
 
+// The limit of a group has no room.
+fn over_limit(rt: &impl Abort, account: &Account, group: GroupId) -> Reply {
+    let tree = account.core.tree();
+    assert!(rt; tree.contains(group));
+    let path = *tree.path_of(group);
+    Reply::OverLimit { group, path }
+}
+
+// Why nothing was taken.
+fn not_taken(rt: &impl Abort, account: &Account, fault: &Fault) -> Reply {
+    match fault {
+        Fault::OverLimit { group } => over_limit(rt, account, *group),
+        fault => Reply::Refused(*fault),
+    }
+}
+
+// A frame or a block is taken.
+fn take(rt: &impl Abort, account: &mut Account, cpu: u32, path: &[u8], order: u32) -> Reply {
+    match account.take(rt, cpu, path, order) {
+        Ok(frame) => Reply::Frame(frame),
+        Err(fault) => not_taken(rt, account, &fault),
+    }
+}
+
 // What a command answers that doesn't read.
 fn obey(rt: &impl Abort, account: &mut Account, cpu: u32, cmd: &Cmd<'_>) -> Reply {
     let cpus = account.sizes.cpus;
@@ -98,6 +123,7 @@ fn obey(rt: &impl Abort, account: &mut Account, cpu: u32, cmd: &Cmd<'_>) -> Repl
             done_or(write(rt, &mut account.core, cpus, (path, file), value))
         }
         Cmd::Read { .. } => panic!(rt; "a read"),
+        Cmd::Alloc { path, order } => take(rt, account, cpu, path, *order),
         Cmd::Settle => Reply::Done,
         Cmd::Owner { frame } => owner(rt, account, *frame),
         Cmd::Touch { frame } => touch(rt, account, *frame),
@@ -134,6 +160,7 @@ pub fn follow(
     cmd: &Cmd<'_>,
     reply: &Reply,
 ) {
+    account.tally.note(kind_of_reply(reply));
     account.begin(rt, cpu);
     match cmd {
         Cmd::Read { path, file } => reads(rt, alloc, account, (path, file), reply),
