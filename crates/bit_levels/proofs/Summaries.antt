@@ -64,23 +64,6 @@ summary_set lower upper h i word v mark e l is =
       ];
     }
 
--- one number set, whose word has a member before and after, or neither: its mark stands
-pub summary_stands : (lower upper : List Bool) → IsSummaryOf lower upper → (i word : ℕ) (v had has : Bool) → word ≡ i / 64 → has ≡ had
-    → ((had ≡ true) ↔ HasSomeIn lower (word * 64) (word * 64 + 64)) → ((has ≡ true) ↔ HasSomeIn (set lower i v) (word * 64) (word * 64 + 64))
-    → IsSummaryOf (set lower i v) upper
-summary_stands lower upper h i word v had has e eh was is = record {
-  count = h.count ∙ sym (rw (length-set lower i v) refl);
-  marks = λ w. elim (cases_eq w word) [
-    | inl same ↦
-        let m = h.marks word in
-        rw same ((λ t. is.0 (eh ∙ was.1 (m.0 t))), (λ s. m.1 (was.0 (sym eh ∙ is.1 s))))
-    | inr ne ↦
-        let m = h.marks w in
-        let moved = moved_some lower i v (w * 64) (w * 64 + 64) (outside w word i ne e) in
-        ((λ t. moved.0 (m.0 t)), (λ s. m.1 (moved.1 s)))
-  ];
-}
-
 -- ---- the last member below a number
 
 -- no member in the words up to this one

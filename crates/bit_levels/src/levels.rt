@@ -61,20 +61,18 @@ impl BitLevels {
         requires { number < length self.old }
         ensures { self.new ≡ slice_set self.old number value }
     {
-        let word = number / 64;
-        let had = self.bits.has_in_word(word);
         self.bits.set(number, value);
+        let word = number / 64;
         let has = self.bits.has_in_word(word);
-        // Mostly the word keeps or gets members beside this one, and its mark stands.
-        if has == had {
-            return;
-        }
+        // Written in any case: whether a mark changes is hard to foresee, and its word is at hand.
         self.summary.set(word, has);
         self.top.set(word / 64, self.summary.has_in_word(word / 64));
     }
 
     /// The nearest number below this one that is in the set: by one look at each level, and at the
     /// topmost words, each of which stands for 262,144 numbers.
+    // So that the first look, which mostly tells, costs no call.
+    #[inline(always)]
     pub fn last_below(&self, number: usize) -> Option<usize>
         requires { number ≤ length self.now }
         ensures { MatchOption result (HasNoneIn self.now 0 number) (IsLastIn self.now 0 number) }
@@ -89,6 +87,7 @@ impl BitLevels {
 }
 
 /// The last number below this one that is in the set, which has a summary.
+#[inline(never)]
 fn last_by_summary(set: &Bits, summary: &Bits, number: usize) -> Option<usize>
     requires summary { IsSummaryOf set.now summary.now }
     requires within { number ≤ length set.now }

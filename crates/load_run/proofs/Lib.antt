@@ -1,1 +1,2 @@
-pub mod Serving
+pub mod Answering
+pub mod Putting

@@ -1,43 +1,46 @@
 -- What a script is answered.
-use Rattle.std.specs.Prelude.{◌≡◌, ℕ, Option, List, [], ◌∷◌, ◌++◌}
+use Rattle.std.specs.Prelude.{◌≡◌, ℕ, Bool, Option, List, ◌++◌}
 use Rattle.std.specs.Io.KnownBytes.{Appends}
-use Rattle.script_desk.specs.declared.reply.Reply.{Reply}
-use Rattle.script_desk.specs.Desk.{AnswersAlloc, AnswersMkdir, AnswersRead, AnswersWrite, DeskState, IsNewDesk}
-use Rattle.script_desk.specs.Texts.{blocks_text, reply_text, show_text}
-use Rattle.script_lines.specs.declared.line.Command.{Command}
-use Rattle.script_lines.specs.declared.line.Command.TheVariants.{Mkdir, Alloc, Write, Read, Blocks, Show}
+use Rattle.frame_word.specs.Seats.{KnownTable}
+use Rattle.stock_word.specs.Stock.{Words}
+use Rattle.zone_sizes.specs.declared.config.Config.{Config}
+use Rattle.zone_sizes.specs.Config.{IsValidConfig}
+use Rattle.mem_machine.specs.Machines.{IsFirst}
+use Rattle.mem_system.specs.Boots.{IsSizedAs, first_cpus}
 use Rattle.script_lines.specs.declared.line.Line.{Line}
 use Rattle.script_lines.specs.Script.{IsScript}
+use Rattle.script_replay.specs.Lines.{ServesAll, Standing}
+use Rattle.load_run.specs.Ending.{TellsEnd}
 
--- a command at a desk d is answered this text, and the desk is e then
-abbrev pub Serves : DeskState → Command → List ℕ → DeskState → Type 0
-Serves d (Mkdir path) text e = (reply : Reply) × AnswersMkdir d e path.now reply × (text ≡ reply_text reply)
-Serves d (Alloc path order) text e = (reply : Reply) × AnswersAlloc d e path.now order reply × (text ≡ reply_text reply)
-Serves d (Write path file value) text e = (reply : Reply) × AnswersWrite d e path.now file.now value.now reply × (text ≡ reply_text reply)
-Serves d (Read path file) text e = (reply : Reply) × (e ≡ d) × AnswersRead d path.now file.now reply × (text ≡ reply_text reply)
-Serves d Blocks text e = (e ≡ d) × (text ≡ blocks_text d.zone.blocks)
-Serves d Show text e = (e ≡ d) × (text ≡ show_text d)
+-- what stands after a boot with these sizes, under these tables: the machine of a new boot, and the parts of the processors,
+-- which did nothing yet
+pub record StandsAtFirst (sizes : Config) (t : KnownTable) (w : Words) (s : Standing) : Type 0 where
+  pub sized : IsSizedAs sizes t w
+  pub machine : IsFirst t w s.locked.machine
+  pub sizes_are : s.locked.sizes ≡ sizes
+  pub cpus : s.cpus ≡ first_cpus t w 1 sizes.cpus
 
--- the lines are served one after the other, and their texts stand one after the other
-abbrev pub ServesAll : DeskState → List Line → List ℕ → DeskState → Type 0
-ServesAll d [] text e = (text ≡ []) × (e ≡ d)
-ServesAll d (line ∷ lines) text e =
-    (first : List ℕ) × (rest : List ℕ) × (mid : DeskState)
-    × Serves d line.command first mid × ServesAll mid lines rest e × (text ≡ first ++ rest)
+-- what a boot with these sizes answers to the lines, one after the other, and then tells of its end
+pub record AreAnswers (sizes : Config) (is_audited : Bool) (lines : List Line) (text : List ℕ) : Type 0 where
+  pub frames : KnownTable
+  pub stocks : Words
+  pub start : Standing
+  pub end : Standing
+  pub answers : List ℕ
+  pub ending : List ℕ
+  pub first : StandsAtFirst sizes frames stocks start
+  pub served : ServesAll frames start lines answers end
+  pub ends : TellsEnd frames stocks is_audited end ending
+  pub text_is : text ≡ answers ++ ending
 
--- what a new desk with so many frames answers to the lines
-pub record AreAnswers (frames : ℕ) (lines : List Line) (text : List ℕ) : Type 0 where
-  pub start : DeskState
-  pub end : DeskState
-  pub new : IsNewDesk frames start
-  pub served : ServesAll start lines text end
-
--- the input is a script for one processor, and the text is what it is answered
+-- the input is a script, and the text is what it is answered by a boot whose sizes are in their ranges
 pub record IsAnswered (input text : List ℕ) : Type 0 where
-  pub frames : ℕ
+  pub sizes : Config
+  pub valid : IsValidConfig sizes
+  pub is_audited : Bool
   pub lines : List Line
-  pub script : IsScript 1 input lines
-  pub answers : AreAnswers frames lines text
+  pub script : IsScript sizes input lines
+  pub answers : AreAnswers sizes is_audited lines text
 
 -- and a writer that held the bytes `before`, where they are known, was given all of its answers
 pub record IsReplayed (input : List ℕ) (before after : Option (List ℕ)) : Type 0 where

@@ -1,3 +1,4 @@
 pub mod Answers
+pub mod Ending
 pub mod Fault
 pub mod Settings

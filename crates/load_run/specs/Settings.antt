@@ -1,5 +1,5 @@
 -- The sizes that the command line may ask for.
-use Rattle.std.specs.Prelude.{◌≡◌, ◌≤◌}
+use Rattle.std.specs.Prelude.{◌≤◌}
 use Rattle.zone_sizes.specs.declared.config.Config.{Config}
 
 -- each size is in the range of its own option
@@ -14,10 +14,3 @@ pub record HasSizesInRange (c : Config) : Type 0 where
   pub high_high : c.high ≤ 256
   pub stock_low : 1 ≤ c.stock
   pub stock_high : c.stock ≤ 64
-
--- one processor, whose list and stock take one at a time
-pub record IsSingle (c : Config) : Type 0 where
-  pub cpus : c.cpus ≡ 1
-  pub batch : c.batch ≡ 1
-  pub high : c.high ≡ 1
-  pub stock : c.stock ≡ 1

@@ -5,12 +5,21 @@ ghost use Rattle.load_run.specs.Settings.{HasSizesInRange};
 
 use crate::fault::LineFault;
 use clap::error::ErrorKind;
-use clap::{Arg, ArgMatches, Command, Error, value_parser};
-use zone_sizes::config::Config;
+use clap::{Arg, ArgAction, ArgMatches, Command, Error, value_parser};
 use std::alloc::{AllocError, Global};
 use std::convert::AsStr;
 use std::rt::Env;
 use std::{env, io};
+use zone_sizes::config::Config;
+
+/// What the words of the command line ask for.
+#[derive(Clone, Copy, Debug, PartialEq, Eq)]
+pub struct Settings {
+    /// The sizes to boot with.
+    pub sizes: Config,
+    /// Whether the end is told: the pins that are still held, and what was counted.
+    pub is_audited: bool,
+}
 
 /// The words of the command line that follow the program's name. A word that isn't UTF-8 is a fault of the
 /// words.
@@ -29,19 +38,19 @@ pub fn words<R: Env + AllocGlobal>(rt: &R) -> Result<Vec<String>, LineFault> {
 
 /// Reads the words that follow the program's name: `replay`, and then any of `--frames`, `--cpus`, `--batch`,
 /// `--high` and `--stock`, each at most once, with a whole number in its own range: frames 1 to 65,536,
-/// processors 1 to 16, batch 1 to 64, high 1 to 256, stock 1 to 64. `Config::is_valid` asks more: high is at
-/// least batch. One that is left out is 16, 2, 4, 8, 4 in turn. Anything else is a fault of the words, a
-/// request for help too.
-pub fn options<S: AsStr>(alloc: Global, words: &[S]) -> Result<Config, LineFault>
-    ensures in_range { IfOk result HasSizesInRange }
+/// processors 1 to 16, batch 1 to 64, high 1 to 256, stock 1 to 64; and `--audit`, at most once.
+/// `Config::is_valid` asks more: high is at least batch. A size that is left out is 16, 2, 4, 8, 4 in turn.
+/// Anything else is a fault of the words, a request for help too.
+pub fn options<S: AsStr>(alloc: Global, words: &[S]) -> Result<Settings, LineFault>
+    ensures in_range { IfOk result (λ o. HasSizesInRange o.sizes) }
 {
     let mut command = memcg(alloc)?;
     let found = match command.try_get_matches_from_mut(words) {
         Ok(found) => found,
         Err(error) => return Err(fault_of(alloc, &error)),
     };
-    match sizes(&found) {
-        Some(config) => Ok(config),
+    match read_settings(&found) {
+        Some(options) => Ok(options),
         None => {
             let text = "an option has no value in its range";
             let error = command.error(ErrorKind::InvalidValue, text)?;
@@ -81,34 +90,34 @@ fn replay<'a>(alloc: Global) -> Result<Command<'a>, AllocError> {
             65_536,
             "16",
         ))?
-        .arg(size_option(
-            alloc,
-            "cpus",
-            "Processors, 1 to 16; so far only 1 runs",
-            16,
-            "2",
-        ))?
+        .arg(size_option(alloc, "cpus", "Processors, 1 to 16", 16, "2"))?
         .arg(size_option(
             alloc,
             "batch",
-            "Frames by which a processor's list is refilled, 1 to 64; so far only 1 runs",
+            "Frames by which a processor's list is refilled, 1 to 64",
             64,
             "4",
         ))?
         .arg(size_option(
             alloc,
             "high",
-            "Frames at which a processor's list gives back, batch to 256; so far only 1 runs",
+            "Frames at which a processor's list gives back, batch to 256",
             256,
             "8",
         ))?
         .arg(size_option(
             alloc,
             "stock",
-            "Pages that a processor prepays, 1 to 64; so far only 1 runs",
+            "Pages that a processor prepays, 1 to 64",
             64,
             "4",
-        ))
+        ))?
+        .arg(
+            Arg::new(alloc, "audit")
+                .long("audit")
+                .help("Tells at the end which pins were held, and what was counted")
+                .action(ArgAction::SetTrue),
+        )
 }
 
 // A number option from 1 to `most`.
@@ -127,10 +136,18 @@ fn size_option<'a>(
         .default_value(default)
 }
 
-fn sizes(found: &ArgMatches<'_>) -> Option<Config>
-    ensures { IfSome result HasSizesInRange }
+fn read_settings(found: &ArgMatches<'_>) -> Option<Settings>
+    ensures { IfSome result (λ o. HasSizesInRange o.sizes) }
 {
     let replay = found.subcommand_matches("replay")?;
+    let sizes = sizes(replay)?;
+    let is_audited = replay.get_flag("audit");
+    Some(Settings { sizes, is_audited })
+}
+
+fn sizes(replay: &ArgMatches<'_>) -> Option<Config>
+    ensures { IfSome result HasSizesInRange }
+{
     Some(Config {
         frames: size(replay, "frames", 65_536)?,
         cpus: size(replay, "cpus", 16)?,
@@ -150,6 +167,3 @@ fn size(found: &ArgMatches<'_>, name: &str, most: u32) -> Option<u32>
         Some(size)
     }
 }
-
-#[cfg(test)]
-mod tests;

@@ -28,7 +28,7 @@ pub enum ProgramFault {
     /// The script gives no lines.
     #[error("{0}")]
     Script(ScriptFault),
-    /// A size is out of its range, or so far other than 1.
+    /// A size is out of its range.
     #[error("refused {number} {name}", number = Fault::BadConfig.number(), name = Fault::BadConfig.name())]
     BadConfig,
     /// The script can't be read.

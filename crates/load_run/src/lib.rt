@@ -2,6 +2,7 @@
 #![tactic(auto)]
 
 pub mod command_line;
+pub mod ending;
 pub mod fault;
 pub mod program;
-pub mod replay;
+pub mod running;

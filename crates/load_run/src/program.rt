@@ -1,27 +1,32 @@
 //! The program over any reader and two writers.
 
-ghost use Rattle.std.specs.Prelude.{◌≡◌, ◌≤◌, ◌↔◌, IfErr, IfOk, IfSome, IsTrue, OnOk, take};
+ghost use Rattle.std.specs.Prelude.{◌≡◌, ◌≤◌, [], All, IfErr, IfOk, IfSome, OnOk, take};
 ghost use Rattle.std.specs.Io.KnownBytes.{Appends};
 ghost use Rattle.load_run.specs.Answers.{IsAnswered, IsReplayed};
 ghost use Rattle.load_run.specs.Fault.{TellsFirstBadLine, status_of};
 ghost use Rattle.script_lines.specs.Script.{IsScript};
-ghost use Rattle.load_run.specs.Settings.{HasSizesInRange, IsSingle};
+ghost use Rattle.script_replay.specs.Ranges.{LineIsThere};
+ghost use Rattle.load_run.specs.Settings.{HasSizesInRange};
+ghost use Rattle.load_run.specs.Answers.{AreAnswers};
+ghost use Rattle.zone_sizes.specs.Config.{IsValidConfig};
 
-use crate::command_line::options;
+use crate::command_line::{Settings, options};
 use crate::fault::{LineFault, ProgramFault};
-use crate::replay::replay_lines;
-use zone_sizes::config::Config;
+use crate::running::run;
+use mem_system::{BootFault, boot};
 use script_lines::line::Line;
 use script_lines::script::{MOST_INPUT, parse_script};
 use std::alloc::{AllocError, Global};
 use std::convert::AsStr;
 use std::io::{ErrorKind, Read, Write};
+use std::marker::Brand;
+use zone_sizes::config::Config;
 
 /// Runs the program: the words that follow its name, the script, the answers and the faults. It gives the
 /// status to end with.
 ///
 /// First the options are read, then the whole script is read and parsed, then the configuration checked,
-/// then the lines run. The answers are gathered and written once; where anything fails, none are. A fault
+/// then a boot replays the lines and ends. The answers are gathered and written once; where anything fails, none are. A fault
 /// is told in one line, those of the words in clap's text. The status is 0; 2 after a fault of the words,
 /// a bad line or a bad configuration; 1 where the script can't be read or the answers can't be written,
 /// and where memory runs out.
@@ -55,37 +60,46 @@ fn answers_to<S: AsStr, I: Read>(
     ensures answered { IfOk result (λ answers. IfSome (I.remaining input.old) (λ bytes. IsAnswered bytes answers.items)) }
     ensures bad_line { IfErr result (λ fault. IfSome (I.remaining input.old) (λ bytes. TellsFirstBadLine (take 1048577 bytes) fault)) }
 {
-    let config = options(alloc, words).map_err(ProgramFault::Line)?;
+    let options = options(alloc, words).map_err(ProgramFault::Line)?;
     let script = read_script(alloc, input)?;
-    let lines = lines_of(alloc, &script, &config)?;
-    if !config.is_valid() || !is_single(&config) {
-        return Err(ProgramFault::BadConfig);
-    }
-    replay_lines(alloc, config, &lines).map_err(ProgramFault::NoMemory)
+    let lines = lines_of(alloc, &script, &options.sizes)?;
+    answers_of(alloc, &options, &lines)
 }
 
 // The lines of the script.
 fn lines_of<'a>(
     alloc: Global,
     script: &'a [u8],
-    config: &Config,
+    sizes: &Config,
 ) -> Result<Vec<Line<'a>>, ProgramFault>
-    requires { HasSizesInRange config.now }
-    ensures lines { IfOk result (λ lines. IsScript config.now.cpus script.now lines.items) }
+    requires { HasSizesInRange sizes.now }
+    ensures lines { IfOk result (λ lines. IsScript sizes.now script.now lines.items) }
     ensures bad_line { IfErr result (TellsFirstBadLine script.now) }
 {
-    match parse_script(alloc, script, config.cpus) {
+    match parse_script(alloc, script, sizes) {
         Ok(lines) => Ok(lines),
         Err(fault) => Err(ProgramFault::Script(fault)),
     }
 }
 
-// Whether there is one processor, whose list and stock take one at a time: the only configuration until
-// the whole machine is there.
-fn is_single(config: &Config) -> bool
-    ensures { IsTrue result ↔ IsSingle config.now }
+// What a new boot answers to the lines.
+fn answers_of(
+    alloc: Global,
+    options: &Settings,
+    lines: &[Line<'_>],
+) -> Result<Vec<u8>, ProgramFault>
+    requires { All (LineIsThere options.now.sizes.frames options.now.sizes.cpus) lines.now }
+    ensures answers { IfOk result (λ text. AreAnswers options.now.sizes options.now.is_audited lines.now text.items) }
+    ensures valid { IfOk result (λ _. IsValidConfig options.now.sizes) }
+    ensures other { IfErr result (TellsFirstBadLine []) }
 {
-    config.cpus == 1 && config.batch == 1 && config.high == 1 && config.stock == 1
+    match boot(alloc, options.sizes) {
+        Ok(boot) => run::<Brand>(alloc, boot, lines, options.is_audited).map_err(
+            ProgramFault::NoMemory,
+        ),
+        Err(BootFault::BadConfig) => Err(ProgramFault::BadConfig),
+        Err(BootFault::NoMemory) => Err(ProgramFault::NoMemory(AllocError)),
+    }
 }
 
 // Reads all of the script. Where it is longer than a script may be, one byte more tells so.
@@ -125,6 +139,3 @@ pub fn tell<F: Write>(faults: &mut F, fault: &ProgramFault) -> u8
     let _ = faults.flush();
     fault.status()
 }
-
-#[cfg(test)]
-mod tests;

@@ -1,4 +1,5 @@
 mod Linking
 mod Lists
+mod Packing
 mod Pairs
 mod Records

@@ -5,6 +5,7 @@
 pub mod laws;
 pub mod links;
 pub mod lru;
+mod packed;
 mod queue;
 pub mod record;
 #[cfg(test)]

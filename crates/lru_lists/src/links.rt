@@ -1,8 +1,11 @@
 //! The records of all frames, through which the lists of all owners are linked.
 
-ghost use Rattle.std.specs.Prelude.{◌≡◌, ◌<◌, ◌++◌, [], ◌∷◌, None, Some, IfOk, length, slice_set};
+ghost use Rattle.std.specs.Prelude.{◌≡◌, ◌<◌, ◌++◌, [], ◌∷◌, None, Some, IfOk, IfSome, length, slice_set};
 ghost use Rattle.lru_lists.specs.Queue.{link_at, units_of, without, AreNowhere, IsLinked, StaysElsewhere, SameUse, newest_link, unlinked, nowhere};
+ghost use Rattle.lru_lists.specs.Queue.{with_newer, with_older};
+ghost use Rattle.lru_lists.specs.Packed.{IsNumber};
 
+use crate::packed::{Packed, number};
 use crate::queue::{self, Queue};
 use crate::record::{Home, Link};
 use std::alloc::{AllocError, Global};
@@ -11,7 +14,7 @@ use std::marker::Model;
 /// One record for each frame of a zone, seen as their list.
 #[derive(Debug, Drop)]
 pub struct Links {
-    pub(crate) records: Vec<Link>,
+    records: Vec<Packed>,
 }
 
 impl Model for Links {
@@ -20,7 +23,9 @@ impl Model for Links {
 
     ghost Value = { List Link };
 
-    ghost view = { λ l. l.records.items };
+    ghost use Rattle.lru_lists.specs.Packed.{links_of};
+
+    ghost view = { λ l. links_of l.records.items };
 
     ghost invariant = { λ l. length l.records.items < 2 ^ 32 };
 }
@@ -31,7 +36,7 @@ impl Links {
         ensures frames { IfOk result (λ links. length links ≡ frames) }
         ensures nowhere { IfOk result (λ links. AreNowhere links) }
     {
-        let records = vec![in alloc; Link::NOWHERE; frames as usize]?;
+        let records = vec![in alloc; Packed::NOWHERE; frames as usize]?;
         Ok(Links { records })
     }
 
@@ -48,7 +53,7 @@ impl Links {
         requires { frame < length self.now }
         ensures { result ≡ (link_at self.now frame).home }
     {
-        self.records[frame as usize].home
+        self.records[frame as usize].home()
     }
 
     // Puts a unit that stands on no list behind the newest of this one, unmarked.
@@ -62,7 +67,9 @@ impl Links {
         ensures others { StaysElsewhere self.old self.new home unit }
         ensures used { SameUse self.old self.new unit }
     {
-        queue::push_newest(self.records.as_mut_slice(), queue, home, unit);
+        // By this it is known that there are fewer than 2^32 records.
+        let _ = &self.records;
+        queue::push_newest(self, queue, home, unit);
     }
 
     // Takes a unit that stands on the list out of it.
@@ -75,7 +82,9 @@ impl Links {
         ensures others { StaysElsewhere self.old self.new home unit }
         ensures used { SameUse self.old self.new unit }
     {
-        queue::unlink(self.records.as_mut_slice(), queue, home, unit);
+        // By this it is known that there are fewer than 2^32 records.
+        let _ = &self.records;
+        queue::unlink(self, queue, home, unit);
     }
 
     // Forgets what was kept of a frame.
@@ -83,7 +92,7 @@ impl Links {
         requires { frame < length self.old }
         ensures { self.new ≡ slice_set self.old frame nowhere }
     {
-        self.records[frame as usize] = Link::NOWHERE;
+        self.records[frame as usize] = Packed::NOWHERE;
     }
 
     // Marks a unit, or not.
@@ -107,6 +116,38 @@ impl Links {
         requires { frame < length self.now }
         ensures { result ≡ link_at self.now frame }
     {
-        self.records[frame as usize]
+        self.records[frame as usize].link()
+    }
+
+    // Keeps this of a frame.
+    pub(crate) fn put(&mut self, frame: u32, link: Link)
+        requires frame { frame < length self.old }
+        requires older { IsNumber link.older }
+        requires newer { IsNumber link.newer }
+        ensures { self.new ≡ slice_set self.old frame link }
+    {
+        self.records[frame as usize] = Packed::of(link);
+    }
+
+    // The unit just before `newer` now has it as its next, where there is such a unit.
+    pub(crate) fn set_newer(&mut self, unit: Option<u32>, newer: Option<u32>)
+        requires unit { IfSome unit (λ u. u < length self.old) }
+        requires newer { IsNumber newer }
+        ensures { self.new ≡ with_newer self.old unit newer }
+    {
+        if let Some(unit) = unit {
+            self.records[unit as usize].newer = number(newer);
+        }
+    }
+
+    // The unit just after `older` now has it as its previous, where there is such a unit.
+    pub(crate) fn set_older(&mut self, unit: Option<u32>, older: Option<u32>)
+        requires unit { IfSome unit (λ u. u < length self.old) }
+        requires older { IsNumber older }
+        ensures { self.new ≡ with_older self.old unit older }
+    {
+        if let Some(unit) = unit {
+            self.records[unit as usize].older = number(older);
+        }
     }
 }

@@ -2,8 +2,9 @@
 
 ghost use Rattle.std.specs.Prelude.{◌≡◌, ◌<◌, ◌-◌, ◌^◌, ◌++◌, [], ◌∷◌, None, Some, IfSome, length};
 ghost use Rattle.lru_lists.specs.Queue.{link_at, units_of, without, IsLinked, StaysElsewhere, SameUse, newest_link, unlinked};
-ghost use Rattle.lru_lists.specs.Queue.{with_newer, with_older, pushed_queue, queue_without};
+ghost use Rattle.lru_lists.specs.Queue.{pushed_queue, queue_without};
 
+use crate::links::Links;
 use crate::record::{Home, Link};
 
 /// The ends and the length of one list.
@@ -24,26 +25,6 @@ impl Queue {
         newest: None,
         length: 0,
     };
-}
-
-// The unit just before `newer` now has it as its next, where there is such a unit.
-fn set_newer(links: &mut [Link], unit: Option<u32>, newer: Option<u32>)
-    requires { IfSome unit (λ u. u < length links.old) }
-    ensures { links.new ≡ with_newer links.old unit newer }
-{
-    if let Some(unit) = unit {
-        links[unit as usize].newer = newer;
-    }
-}
-
-// The unit just after `older` now has it as its previous, where there is such a unit.
-fn set_older(links: &mut [Link], unit: Option<u32>, older: Option<u32>)
-    requires { IfSome unit (λ u. u < length links.old) }
-    ensures { links.new ≡ with_older links.old unit older }
-{
-    if let Some(unit) = unit {
-        links[unit as usize].older = older;
-    }
 }
 
 impl Queue {
@@ -85,7 +66,7 @@ impl Queue {
 }
 
 // Puts a unit that stands on no list behind the newest of this one, unmarked.
-pub(crate) fn push_newest(links: &mut [Link], queue: &mut Queue, home: Home, unit: u32)
+pub(crate) fn push_newest(links: &mut Links, queue: &mut Queue, home: Home, unit: u32)
     requires frames { length links.old < 2 ^ 32 }
     requires unit { unit < length links.old }
     requires away { (link_at links.old unit).home ≡ None }
@@ -96,20 +77,22 @@ pub(crate) fn push_newest(links: &mut [Link], queue: &mut Queue, home: Home, uni
     ensures others { StaysElsewhere links.old links.new home unit }
     ensures used { SameUse links.old links.new unit }
 {
-    let is_dirty = links[unit as usize].is_dirty;
-    set_newer(links, queue.newest, Some(unit));
-    links[unit as usize] = Link {
+    let is_dirty = links.link(unit).is_dirty;
+    links.set_newer(queue.newest, Some(unit));
+    let link = Link {
         home: Some(home),
         older: queue.newest,
         newer: None,
         is_marked: false,
         is_dirty,
     };
+    links.put(unit, link);
     *queue = queue.pushed(unit);
 }
 
 // Takes a unit that stands on the list out of it.
-pub(crate) fn unlink(links: &mut [Link], queue: &mut Queue, home: Home, unit: u32)
+pub(crate) fn unlink(links: &mut Links, queue: &mut Queue, home: Home, unit: u32)
+    requires frames { length links.old < 2 ^ 32 }
     requires linked { IsLinked links.old home queue.old (units_of links.old queue.old) }
     requires unit { (link_at links.old unit).home ≡ Some home }
     ensures units { units_of links.new queue.new ≡ without unit (units_of links.old queue.old) }
@@ -118,17 +101,18 @@ pub(crate) fn unlink(links: &mut [Link], queue: &mut Queue, home: Home, unit: u3
     ensures others { StaysElsewhere links.old links.new home unit }
     ensures used { SameUse links.old links.new unit }
 {
-    let link = links[unit as usize];
+    let link = links.link(unit);
     let older = link.older;
     let newer = link.newer;
-    set_newer(links, older, newer);
-    set_older(links, newer, older);
-    links[unit as usize] = Link {
+    links.set_newer(older, newer);
+    links.set_older(newer, older);
+    let unlinked = Link {
         home: None,
         older: None,
         newer: None,
         is_marked: link.is_marked,
         is_dirty: link.is_dirty,
     };
+    links.put(unit, unlinked);
     *queue = queue.without(older, newer);
 }

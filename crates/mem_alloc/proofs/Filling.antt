@@ -186,7 +186,8 @@ batch_fits t sizes g m k n c e d same mine fills steps =
     )
 
 -- the batch doesn't fit, and then one page is charged, or is refused
-module _ (t : KnownTable) (sizes : Config) (g over : ℕ) (m k x n : KnownMachine) (c e y d : KnownCpu) (same : k ≡ m) (mine : e ≡ c) (stays : x ≡ k) (its : y ≡ e)
+module _ (t : KnownTable) (sizes : Config) (g over : ℕ) (m k x n : KnownMachine) (c e y d : KnownCpu) (same : k ≡ m) (mine : e ≡ c)
+    (stays : x ≡ k) (its : y ≡ e)
     (low : IsLowestOver k.ledger.groups (current_of k.ledger) g sizes.stock over)
     (refusing : IsLocalRun e.number (local_of t k e) (over_steps g sizes.stock over) (local_of t k e)) where
   lowest : IsLowestOver m.ledger.groups (current_of m.ledger) g sizes.stock over

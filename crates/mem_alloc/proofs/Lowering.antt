@@ -93,7 +93,9 @@ pub note_lowers : (m : KnownMachine) (g : ℕ) → Lowers m (with_max_noted_at m
 note_lowers m g = record {
   same = refl;
   groups = refl;
-  falls = λ h. let a : current_of (with_max_noted_at m g).ledger h ≡ current_of m.ledger h = usage_noted m.ledger.groups m.ledger.accounts g h in omega (arith, a);
+  falls = λ h.
+      let a : current_of (with_max_noted_at m g).ledger h ≡ current_of m.ledger h = usage_noted m.ledger.groups m.ledger.accounts g h in
+      omega (arith, a);
   emptied = λ p is. is;
 }
 

@@ -25,7 +25,8 @@ pub record FillsAfterRoom (t : KnownTable) (g pages : ℕ) (m : KnownMachine) (c
   pub steps_are : steps ≡ making ++ fill_steps c.number g pages
 
 -- the charge of one page is refused for good, at the group that the cause names
-pub record IsOverForOne (t : KnownTable) (g : ℕ) (cause : AllocFault) (m : KnownMachine) (c : KnownCpu) (steps : Run) (n : KnownMachine) (d : KnownCpu) : Type 0 where
+pub record IsOverForOne (t : KnownTable) (g : ℕ) (cause : AllocFault) (m : KnownMachine) (c : KnownCpu) (steps : Run)
+    (n : KnownMachine) (d : KnownCpu) : Type 0 where
   pub over : ℕ
   pub named : cause ≡ Over over
   pub refuses : IsOverAt t g 1 over m steps n

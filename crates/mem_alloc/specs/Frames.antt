@@ -45,7 +45,8 @@ pub record HasNoFrame (cause : AllocFault) (m : KnownMachine) (c : KnownCpu) (st
   pub steps_are : steps ≡ drain_steps c.number (stock_group m c.number) back
 
 -- a page of the group is in the processor's stock, a frame on its list, and the front of the list is paid for with the page
-pub record GetsFrame (t : KnownTable) (sizes : Config) (g f : ℕ) (m : KnownMachine) (c : KnownCpu) (steps : Run) (n : KnownMachine) (d : KnownCpu) : Type 0 where
+pub record GetsFrame (t : KnownTable) (sizes : Config) (g f : ℕ) (m : KnownMachine) (c : KnownCpu) (steps : Run)
+    (n : KnownMachine) (d : KnownCpu) : Type 0 where
   pub paid : KnownMachine
   pub payer : KnownCpu
   pub filled : KnownMachine
@@ -65,7 +66,8 @@ pub record IsNotPaid (t : KnownTable) (sizes : Config) (g : ℕ) (cause : AllocF
   pub refuses : RefusesToPay t sizes g cause m c steps n d
 
 -- a page of the group is in the processor's stock, but no frame is free
-pub record FindsNoFrame (t : KnownTable) (sizes : Config) (g : ℕ) (m : KnownMachine) (c : KnownCpu) (steps : Run) (n : KnownMachine) (d : KnownCpu) : Type 0 where
+pub record FindsNoFrame (t : KnownTable) (sizes : Config) (g : ℕ) (m : KnownMachine) (c : KnownCpu) (steps : Run)
+    (n : KnownMachine) (d : KnownCpu) : Type 0 where
   pub paid : KnownMachine
   pub payer : KnownCpu
   pub paying : Run

@@ -135,7 +135,8 @@ booked_within t stock q g inside group =
 -- other charges and another seat of the stocks
 pub stocks_consistent : (t : KnownTable) (w : Words) (m : KnownMachine) (l : Ledger) (stock : Seated)
     → IsConsistent t w m → stock.table ≡ m.stock.table → IsMachine stock.view
-    → ((p : ℕ) → (account_of stock.view p).noted ≡ 0) → ((p : ℕ) → (account_of stock.view p).book < 65536) → ((g : ℕ) → pages_of l g ≡ frames_charged m.spots g + pages_booked t stock g)
+    → ((p : ℕ) → (account_of stock.view p).noted ≡ 0) → ((p : ℕ) → (account_of stock.view p).book < 65536)
+    → ((g : ℕ) → pages_of l g ≡ frames_charged m.spots g + pages_booked t stock g)
     → IsConsistent t w (record m { ledger = l; stock = stock })
 stocks_consistent t w m l stock ok table machine noted bounded charged = record {
   sizes = let s = ok.sizes in record { spots = s.spots; links = s.links; lists = s.lists; killed = s.killed; cpus = s.cpus };

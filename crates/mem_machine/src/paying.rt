@@ -47,7 +47,8 @@ impl<N: BootName> Machine<N> {
         ensures pays { PaysForFront group result self.old cpu.old self.new cpu.new }
         ensures frame { result < N.frames.frames }
         ensures visit { Visits N.frames self.new cpu.new }
-        ensures steps { IsLocalRun cpu.old.number (local_of N.frames self.old cpu.old) (take_front_steps cpu.old.number group) (local_of N.frames self.new cpu.new) }
+        ensures steps { IsLocalRun cpu.old.number (local_of N.frames self.old cpu.old)
+            (take_front_steps cpu.old.number group) (local_of N.frames self.new cpu.new) }
     {
         let _number = cpu.number();
         cpu.take_front(tables, &mut self.stock, group.number())

@@ -47,3 +47,8 @@ module _ (t : KnownTable) (w : Words) where
   -- nothing is left in any of them
   pub cpus_idle : (p n : ℕ) → All IsIdle (first_cpus t w p n)
   cpus_idle p n = idle_at p n
+
+  -- there are n of them
+  pub cpus_long : (p n : ℕ) → length (first_cpus t w p n) ≡ n
+  cpus_long p zero = refl
+  cpus_long p (suc n) = let rest = cpus_long (p + 1) n in omega (arith, rest)

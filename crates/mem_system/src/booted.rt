@@ -1,6 +1,6 @@
 //! A boot, and how it starts.
 
-ghost use Rattle.std.specs.Prelude.{◌≡◌, All, IfOk};
+ghost use Rattle.std.specs.Prelude.{◌≡◌, length, All, IfOk};
 ghost use Rattle.frame_word.specs.Seats.{first_cpu_seats};
 ghost use Rattle.stock_word.specs.Stock.{first_seats};
 ghost use Rattle.mem_machine.specs.Machines.{IsFirst};
@@ -52,6 +52,7 @@ impl Boot {
         ensures machine { IfOk result (λ r. IsFirst N.frames N.stocks r.1.machine) }
         ensures sizes { IfOk result (λ r. r.1.sizes ≡ self.sizes) }
         ensures cpus { IfOk result (λ r. r.2.items ≡ first_cpus N.frames N.stocks 1 self.sizes.cpus) }
+        ensures count { IfOk result (λ r. length r.2.items ≡ N.frames.cpus) }
     {
         let Boot {
             sizes,

@@ -1,6 +1,6 @@
 //! The system: the tables that all processors share, and the zone's lock.
 
-ghost use Rattle.std.specs.Prelude.{◌≡◌, [], IfOk};
+ghost use Rattle.std.specs.Prelude.{◌≡◌, [], length, IfOk};
 ghost use Rattle.group_tree.specs.Groups.{number_at};
 ghost use Rattle.mem_system.specs.Boots.{KnownLocked, IsQuiet, first_cpus};
 ghost use Rattle.mem_system.specs.Commands.{BySteps, FreshAfter, IsOfZone, Serves};
@@ -28,7 +28,8 @@ impl Boot {
     pub fn start<N: BootName>(self, alloc: Global) -> Result<(System<N>, Vec<Cpu<N>>), AllocError>
         requires frames { self.frames ≡ N.frames }
         requires stocks { self.stocks ≡ N.stocks }
-        ensures { IfOk result (λ r. r.1.items ≡ first_cpus N.frames N.stocks 1 self.sizes.cpus) }
+        ensures cpus { IfOk result (λ r. r.1.items ≡ first_cpus N.frames N.stocks 1 self.sizes.cpus) }
+        ensures count { IfOk result (λ r. length r.1.items ≡ N.frames.cpus) }
     {
         let (tables, locked, cpus) = self.part(alloc)?;
         let locked = Mutex::new(locked);
@@ -47,8 +48,11 @@ impl<N: BootName> Locked<N> {
 }
 
 impl<N: BootName> System<N> {
-    /// The tables, for the calls that take no lock.
-    pub fn tables(&self) -> &Tables<N> {
+    /// The tables, for the calls that take no lock: those that N names.
+    pub fn tables(&self) -> &Tables<N>
+        ensures frames { result.now.frames ≡ N.frames }
+        ensures stocks { result.now.stocks ≡ N.stocks }
+    {
         &self.tables
     }
 

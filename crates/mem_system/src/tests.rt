@@ -1,9 +1,11 @@
 //! A boot of 16 frames and two processors starts, and a group is made, read, limited and taken out by visits.
-ghost use Rattle.std.specs.Prelude.{◌≡◌, ◌<◌};
+ghost use Rattle.std.specs.Prelude.{◌≡◌, ◌<◌, length};
 
+use crate::audit::Audit;
 use crate::booted::Boot;
 use crate::booting::boot;
 use crate::command::{Cmd, Reply};
+use crate::gates::Gate;
 use crate::system::System;
 use cpu_part::{BootName, Cpu};
 use group_tree::fault::Fault;
@@ -12,8 +14,25 @@ use std::alloc::Global;
 use std::marker::Brand;
 use std::process::Abort;
 use std::sync::Wait;
+use std::sync::atomic::{AtomicU32, Ordering};
 use std::test::Fail;
 use zone_sizes::config::Config;
+
+// Adds up the numbers of the processors that it is called for inside a visit.
+#[derive(Drop)]
+struct Counter {
+    inside: AtomicU32,
+}
+
+impl Gate for Counter {
+    fn before(&self, _cpu: u32, _line: usize) {}
+
+    fn inside(&self, cpu: u32) {
+        self.inside.fetch_add(cpu, Ordering::SeqCst);
+    }
+
+    fn after(&self, _cpu: u32, _line: usize) {}
+}
 
 // The file of `/a` reads as this text.
 fn reads<N: BootName, R: Wait + Abort>(
@@ -83,15 +102,37 @@ fn takes_out<N: BootName, R: Wait + Abort>(rt: &R, system: &System<N>, cpu: &mut
     assert!(rt; system.visit(rt, cpu, &Cmd::Dirty { frame }) == refused);
     assert!(rt; system.visit(rt, cpu, &Cmd::Clean { frame }) == refused);
     assert!(rt; system.visit(rt, cpu, &Cmd::Release { frame }) == refused);
+    let gate = Counter {
+        inside: AtomicU32::new(0),
+    };
+    assert!(rt; system.visit_with(rt, cpu, &Cmd::Settle, &gate) == Reply::Done);
+    assert_eq!(rt; gate.inside.load(Ordering::SeqCst), 2);
 }
 
-// The part of a processor that has nothing left.
-fn spend<N: BootName>(rt: &impl Abort, cpu: Cpu<N>) {
-    assert!(rt; cpu.is_idle());
-    let _ = cpu.into_seats();
+// Shuts the system down, which no processor has a pin in.
+fn ends<N: BootName>(rt: &impl Abort, system: System<N>, cpus: Vec<Cpu<N>>) -> Audit
+    requires { length cpus.items ≡ N.frames.cpus }
+{
+    match system.shutdown(cpus) {
+        Ok(audit) => audit,
+        Err(_held) => panic!(rt; "pins remain"),
+    }
 }
 
-// The whole life of a system, but for its end, which isn't there yet.
+// What is counted where nothing was charged.
+fn nothing_was_charged() -> Audit {
+    Audit {
+        frames: 16,
+        free: 16,
+        charged: 0,
+        last_puts: 0,
+        freezes: 0,
+        drops: 0,
+        returns: 0,
+    }
+}
+
+// The whole life of a system.
 fn lives<N: BootName, R: Wait + Abort>(rt: &R, alloc: Global, boot: Boot)
     requires { (boot.frames ≡ N.frames) × (boot.stocks ≡ N.stocks) }
 {
@@ -107,10 +148,7 @@ fn lives<N: BootName, R: Wait + Abort>(rt: &R, alloc: Global, boot: Boot)
             takes_out(rt, &system, cpu);
         }
     }
-    while let Some(cpu) = cpus.pop() {
-        spend(rt, cpu);
-    }
-    cpus.destroy_empty();
+    assert_eq!(rt; ends(rt, system, cpus), nothing_was_charged());
 }
 
 #[test]
@@ -137,5 +175,35 @@ fn bad_sizes_are_refused(rt: HostRuntime) -> Result<(), Fail> {
         stock: 4,
     };
     assert!(&rt; boot(rt.alloc(), sizes).is_err());
+    Ok(())
+}
+
+// Starts the boot and shuts it down; None where memory is wanting.
+fn starts_and_ends<N: BootName, R: Abort>(rt: &R, alloc: Global, boot: Boot) -> Option<Audit>
+    requires { (boot.frames ≡ N.frames) × (boot.stocks ≡ N.stocks) }
+{
+    let (system, cpus) = boot.start::<N>(alloc).ok()?;
+    Some(ends(rt, system, cpus))
+}
+
+// A boot's whole life; None where memory is wanting.
+fn boots_and_ends<R: Abort>(rt: &R, alloc: Global) -> Option<Audit> {
+    let sizes = Config {
+        frames: 16,
+        cpus: 2,
+        batch: 4,
+        high: 8,
+        stock: 4,
+    };
+    let boot = boot(alloc, sizes).ok()?;
+    starts_and_ends::<Brand, _>(rt, alloc, boot)
+}
+
+// The script `tests/refused-boots` runs this with each of its allocations refused in turn: the second life is whole.
+#[test]
+fn a_second_boot_lives_where_the_first_was_refused(rt: HostRuntime) -> Result<(), Fail> {
+    if boots_and_ends(&rt, rt.alloc()) != Some(nothing_was_charged()) {
+        assert!(&rt; boots_and_ends(&rt, rt.alloc()) == Some(nothing_was_charged()));
+    }
     Ok(())
 }

@@ -1,21 +1,25 @@
 -- How far a script was read.
-use Rattle.std.proofs.Common.{◌≡◌, ℕ, ◌+◌, ◌-◌, ◌<◌, ◌≤◌, List, [], ◌∷◌, ◌++◌, length, true, false, not, cond, take, Option, Some, None}
+use Rattle.std.proofs.Common.{◌≡◌, ℕ, ◌+◌, ◌-◌, ◌<◌, ◌≤◌, List, [], ◌∷◌, ◌++◌, length, Bool, true, false, not, cond, ◌||◌, ap₂, take, Option, Some, None}
 use Rattle.std.proofs.Common.{MatchOption, IfSome, ◌==◌, drop, get_or, slice_get, refl, sym, ap, subst, ◌∙◌, arith, inl, inr, zero-add}
 use Rattle.std.specs.List.{AllZip, enumerate_from}
 use Rattle.std.proofs.lemmas.Bool.{cases_lt}
-use Rattle.std.proofs.lemmas.List.{append-nil, length-take, take-append-drop, take_all, take_more}
+use Rattle.std.proofs.Math.Bool.{or-false}
+use Rattle.std.proofs.lemmas.List.Folds.{list_any-append}
+use Rattle.std.proofs.lemmas.List.{append-nil, take-append-drop, take_all, take_more}
 use Rattle.std.proofs.lemmas.List.Sums.{sum_by-append}
 use Rattle.std.proofs.lemmas.List.Elements.{filter-append}
 use Rattle.std.proofs.lemmas.List.Splits.{length-slice_split}
 use Rattle.std.proofs.lemmas.Option.{get_or_from_slice_get, slice_get-get_or}
 use Rattle.std.proofs.lemmas.List.FromFn.{get_or-enumerate_from, length-enumerate_from}
-use Rattle.script_lines.specs.Script.{AreLines, IsFirstBadLine, IsGoodLine, IsLineText, IsScript, asking_texts, ended_lines, is_skipped, texts_of}
+use Rattle.script_lines.specs.Script.{AreLines, IsFirstBadLine, IsGoodLine, IsLineText, IsScript, asking_texts, ended_lines, has_go, is_go, is_skipped, texts_of}
+use Rattle.zone_sizes.specs.declared.config.Config.{Config}
 use Rattle.script_lines.specs.declared.line.Line.{Line}
 
--- the first lines of the script were good, and are these
-pub record IsReadTo (cpus : ℕ) (script : List ℕ) (count : ℕ) (lines : List Line) : Type 0 where
-  pub good : (n : ℕ) → 1 ≤ n → n ≤ count → IsGoodLine cpus script n
-  pub says : AreLines cpus (take count (texts_of script)) lines
+-- the first lines of the script were good, and are these, with a `go` or none
+pub record IsReadTo (sizes : Config) (script : List ℕ) (count : ℕ) (went : Bool) (lines : List Line) : Type 0 where
+  pub good : (n : ℕ) → 1 ≤ n → n ≤ count → IsGoodLine sizes script n
+  pub says : AreLines sizes (take count (texts_of script)) lines
+  pub went_is : went ≡ has_go (take count (texts_of script))
 
 -- the text of the next line
 pub record IsNext (script : List ℕ) (count index : ℕ) (text : List ℕ) : Type 0 where
@@ -46,45 +50,58 @@ next_text script count index text next =
     let below : count < length (texts_of script) = rw (← next.index_is) inside in
     take_more (texts_of script) count text below ∙ ap (λ (t : List ℕ). take count (texts_of script) ++ t ∷ []) here
 
+-- whether there is a `go` up to and with the next
+next_go : (script : List ℕ) (count index : ℕ) (text : List ℕ) (went now : Bool) → IsNext script count index text
+    → went ≡ has_go (take count (texts_of script)) → now ≡ (went || is_go text) → now ≡ has_go (take (count + 1) (texts_of script))
+next_go script count index text went now next is now_is =
+    let more : has_go (take (count + 1) (texts_of script)) ≡ has_go (take count (texts_of script) ++ text ∷ [])
+    = ap has_go (next_text script count index text next) in
+    let parts : has_go (take count (texts_of script) ++ text ∷ []) ≡ (has_go (take count (texts_of script)) || has_go (text ∷ []))
+    = list_any-append is_go (take count (texts_of script)) (text ∷ []) in
+    let one : has_go (text ∷ []) ≡ is_go text = or-false (is_go text) in
+    now_is ∙ ap₂ (λ (a b : Bool). a || b) is (sym one) ∙ sym parts ∙ sym more
+
 -- every line up to and with the next is good
-more_good : (cpus : ℕ) (script : List ℕ) (count : ℕ) → ((n : ℕ) → 1 ≤ n → n ≤ count → IsGoodLine cpus script n)
-    → IsGoodLine cpus script (count + 1) → (n : ℕ) → 1 ≤ n → n ≤ count + 1 → IsGoodLine cpus script n
-more_good cpus script count before last n low high =
+more_good : (sizes : Config) (script : List ℕ) (count : ℕ) → ((n : ℕ) → 1 ≤ n → n ≤ count → IsGoodLine sizes script n)
+    → IsGoodLine sizes script (count + 1) → (n : ℕ) → 1 ≤ n → n ≤ count + 1 → IsGoodLine sizes script n
+more_good sizes script count before last n low high =
     elim (cases_lt count n) [
       | inl past ↦ let is_last : n ≡ count + 1 = omega arith in rw is_last last
       | inr within ↦ before n low within
     ]
 
 -- a line that asks for nothing
-pub passes_over : (cpus : ℕ) (script : List ℕ) (count : ℕ) (lines : List Line) (index : ℕ) (text : List ℕ)
-    → IsReadTo cpus script count lines → IsNext script count index text → IsGoodLine cpus script (index + 1)
-    → is_skipped text ≡ true → IsReadTo cpus script (count + 1) lines
-passes_over cpus script count lines index text so_far next good skipped =
+pub passes_over : (sizes : Config) (script : List ℕ) (count : ℕ) (went now : Bool) (lines : List Line) (index : ℕ) (text : List ℕ)
+    → IsReadTo sizes script count went lines → IsNext script count index text → IsGoodLine sizes script (index + 1)
+    → is_skipped text ≡ true → now ≡ (went || is_go text) → IsReadTo sizes script (count + 1) now lines
+passes_over sizes script count went now lines index text so_far next good skipped is =
     let asked = ap asking_texts (next_text script count index text next) ∙ asking_push (take count (texts_of script)) text in
     let same : asking_texts (take (count + 1) (texts_of script)) ≡ asking_texts (take count (texts_of script)) ++ [] = asked ∙ rw skipped refl in
     record {
-      good = more_good cpus script count so_far.good (rw (← next.index_is) good);
-      says = let P : List (List ℕ) → Type 0 = λ texts. AllZip (λ t l. IsLineText cpus l t) texts lines in
+      good = more_good sizes script count so_far.good (rw (← next.index_is) good);
+      says = let P : List (List ℕ) → Type 0 = λ texts. AllZip (λ t l. IsLineText sizes l t) texts lines in
           subst P (sym (same ∙ append-nil (asking_texts (take count (texts_of script))))) so_far.says;
+      went_is = next_go script count index text went now next so_far.went_is is;
     }
 
 -- a line that asks for something
-pub takes_line : (cpus : ℕ) (script : List ℕ) (count : ℕ) (lines : List Line) (index : ℕ) (text : List ℕ) (line : Line)
-    → IsReadTo cpus script count lines → IsNext script count index text → IsGoodLine cpus script (index + 1)
-    → is_skipped text ≡ false → IsLineText cpus line text → IsReadTo cpus script (count + 1) (lines ++ line ∷ [])
-takes_line cpus script count lines index text line so_far next good asks is =
+pub takes_line : (sizes : Config) (script : List ℕ) (count : ℕ) (went now : Bool) (lines : List Line) (index : ℕ) (text : List ℕ) (line : Line)
+    → IsReadTo sizes script count went lines → IsNext script count index text → IsGoodLine sizes script (index + 1)
+    → is_skipped text ≡ false → IsLineText sizes line text → now ≡ (went || is_go text) → IsReadTo sizes script (count + 1) now (lines ++ line ∷ [])
+takes_line sizes script count went now lines index text line so_far next good asks is now_is =
     let asked = ap asking_texts (next_text script count index text next) ∙ asking_push (take count (texts_of script)) text in
     let same : asking_texts (take (count + 1) (texts_of script)) ≡ asking_texts (take count (texts_of script)) ++ text ∷ [] = asked ∙ rw asks refl in
     record {
-      good = more_good cpus script count so_far.good (rw (← next.index_is) good);
-      says = rw same (zip_push (λ t l. IsLineText cpus l t) _ lines text line so_far.says is);
+      good = more_good sizes script count so_far.good (rw (← next.index_is) good);
+      says = rw same (zip_push (λ t l. IsLineText sizes l t) _ lines text line so_far.says is);
+      went_is = next_go script count index text went now next so_far.went_is now_is;
     }
 
 -- the next line is the first that isn't good
-pub is_first_bad : (cpus : ℕ) (script : List ℕ) (count : ℕ) (lines : List Line) (index : ℕ) (text : List ℕ)
-    → IsReadTo cpus script count lines → IsNext script count index text → ¬ IsGoodLine cpus script (index + 1)
-    → IsFirstBadLine cpus script (index + 1)
-is_first_bad cpus script count lines index text so_far next bad =
+pub is_first_bad : (sizes : Config) (script : List ℕ) (count : ℕ) (went : Bool) (lines : List Line) (index : ℕ) (text : List ℕ)
+    → IsReadTo sizes script count went lines → IsNext script count index text → ¬ IsGoodLine sizes script (index + 1)
+    → IsFirstBadLine sizes script (index + 1)
+is_first_bad sizes script count went lines index text so_far next bad =
     let at = next.index_is in
     let inside = next.inside in
     record {
@@ -94,54 +111,71 @@ is_first_bad cpus script count lines index text so_far next bad =
       first = λ k low below. so_far.good k low (omega arith);
     }
 
+-- a second `go` comes after a first
+abbrev pub IsOnce : List ℕ → ℕ → List ℕ → Type 0
+IsOnce script count text = is_go text ≡ true → has_go (take count (texts_of script)) ≡ false
+
 -- what makes a line good
-pub is_good : (cpus : ℕ) (script : List ℕ) (count index : ℕ) (text : List ℕ) (over : Option ℕ)
+pub is_good : (sizes : Config) (script : List ℕ) (count index : ℕ) (text : List ℕ) (over : Option ℕ)
     → IsNext script count index text → length text ≤ 1024 → IsOver script over
-    → IfSome over (λ first. index + 1 < first) → (is_skipped text ≡ false → (line : Line) × IsLineText cpus line text)
-    → IsGoodLine cpus script (index + 1)
-is_good cpus script count index text None next short is_over near says = record {
+    → IfSome over (λ first. index + 1 < first) → (is_skipped text ≡ false → (line : Line) × IsLineText sizes line text)
+    → IsOnce script count text → IsGoodLine sizes script (index + 1)
+is_good sizes script count index text None next short is_over near says once = record {
   text = text;
   is_text = let e : index + 1 - 1 ≡ index = omega arith in rw e next.is_text;
   short = short;
   within = λ long. let fits : length script ≤ 1048576 = is_over in absurd (omega arith);
   says = says;
+  once = let at = next.index_is in let e : index + 1 - 1 ≡ count = omega arith in rw e once;
 }
-is_good cpus script count index text (Some first) next short is_over near says = record {
+is_good sizes script count index text (Some first) next short is_over near says once = record {
   text = text;
   is_text = let e : index + 1 - 1 ≡ index = omega arith in rw e next.is_text;
   short = short;
   within = λ long. let last = is_over.1 in let below : index + 1 < first = near in omega arith;
   says = says;
+  once = let at = next.index_is in let e : index + 1 - 1 ≡ count = omega arith in rw e once;
 }
 
 -- a good line has the text of the next line
-same_text_at : (cpus : ℕ) (script : List ℕ) (count index : ℕ) (text : List ℕ) → IsNext script count index text
-    → (good : IsGoodLine cpus script (index + 1)) → good.text ≡ text
-same_text_at cpus script count index text next good =
+same_text_at : (sizes : Config) (script : List ℕ) (count index : ℕ) (text : List ℕ) → IsNext script count index text
+    → (good : IsGoodLine sizes script (index + 1)) → good.text ≡ text
+same_text_at sizes script count index text next good =
     let e : index + 1 - 1 ≡ index = omega arith in
     let h : slice_get (texts_of script) index ≡ Some good.text = rw e at good.is_text in
     let is = next.is_text in cc
 
-pub not_long : (cpus : ℕ) (script : List ℕ) (count index : ℕ) (text : List ℕ) → IsNext script count index text
-    → 1024 < length text → ¬ IsGoodLine cpus script (index + 1)
-not_long cpus script count index text next long good =
-    let same = ap length (same_text_at cpus script count index text next good) in
+pub not_long : (sizes : Config) (script : List ℕ) (count index : ℕ) (text : List ℕ) → IsNext script count index text
+    → 1024 < length text → ¬ IsGoodLine sizes script (index + 1)
+not_long sizes script count index text next long good =
+    let same = ap length (same_text_at sizes script count index text next good) in
     let short = good.short in omega arith
 
-pub not_far : (cpus : ℕ) (script : List ℕ) (index : ℕ) (over : Option ℕ) → IsOver script over
-    → ¬ IfSome over (λ first. index + 1 < first) → ¬ IsGoodLine cpus script (index + 1)
-not_far cpus script index None is_over far good = far tt
-not_far cpus script index (Some first) is_over far good =
+pub not_far : (sizes : Config) (script : List ℕ) (index : ℕ) (over : Option ℕ) → IsOver script over
+    → ¬ IfSome over (λ first. index + 1 < first) → ¬ IsGoodLine sizes script (index + 1)
+not_far sizes script index None is_over far good = far tt
+not_far sizes script index (Some first) is_over far good =
     let within = good.within is_over.0 in let last = is_over.1 in far (omega arith)
 
-pub not_said : (cpus : ℕ) (script : List ℕ) (count index : ℕ) (text : List ℕ) → IsNext script count index text
-    → is_skipped text ≡ false → ((line : Line) → ¬ IsLineText cpus line text) → ¬ IsGoodLine cpus script (index + 1)
-not_said cpus script count index text next asks none good =
-    let same = same_text_at cpus script count index text next good in
+pub not_said : (sizes : Config) (script : List ℕ) (count index : ℕ) (text : List ℕ) → IsNext script count index text
+    → is_skipped text ≡ false → ((line : Line) → ¬ IsLineText sizes line text) → ¬ IsGoodLine sizes script (index + 1)
+not_said sizes script count index text next asks none good =
+    let same = same_text_at sizes script count index text next good in
     let asked : is_skipped good.text ≡ false = rw same asks in
     let said = good.says asked in
-    let P : List ℕ → Type 0 = λ t. IsLineText cpus said.0 t in
+    let P : List ℕ → Type 0 = λ t. IsLineText sizes said.0 t in
     none said.0 (subst P same said.1)
+
+-- a second `go` isn't good
+pub not_once : (sizes : Config) (script : List ℕ) (count index : ℕ) (text : List ℕ) → IsNext script count index text
+    → is_go text ≡ true → has_go (take count (texts_of script)) ≡ true → ¬ IsGoodLine sizes script (index + 1)
+not_once sizes script count index text next goes before good =
+    let same = same_text_at sizes script count index text next good in
+    let now : is_go good.text ≡ true = rw same goes in
+    let at = next.index_is in
+    let e : index + 1 - 1 ≡ count = omega arith in
+    let first : has_go (take count (texts_of script)) ≡ false = rw (← e) (good.once now) in
+    cc
 
 -- a beginning of a script has no more line feeds than the script
 ended_more : (n : ℕ) (script : List ℕ) → ended_lines (take n script) ≤ ended_lines script
@@ -152,25 +186,25 @@ ended_more n script =
     omega arith
 
 -- the last of the lines is within the bytes that a script may have
-fits_when_good : (cpus : ℕ) (script : List ℕ) (over : Option ℕ) → IsOver script over
-    → ((n : ℕ) → 1 ≤ n → n ≤ length (texts_of script) → IsGoodLine cpus script n) → length script ≤ 1048576
-fits_when_good cpus script None is_over good = is_over
-fits_when_good cpus script (Some first) is_over good =
+fits_when_good : (sizes : Config) (script : List ℕ) (over : Option ℕ) → IsOver script over
+    → ((n : ℕ) → 1 ≤ n → n ≤ length (texts_of script) → IsGoodLine sizes script n) → length script ≤ 1048576
+fits_when_good sizes script None is_over good = is_over
+fits_when_good sizes script (Some first) is_over good =
     let count = length-slice_split (λ b. b == 10) script in
     let ended = ended_more 1048576 script in
     let last = (good (length (texts_of script)) (omega arith) (omega arith)).within is_over.0 in
     absurd (omega arith)
 
 -- after the last line
-pub is_whole : (cpus : ℕ) (script : List ℕ) (count : ℕ) (lines : List Line) (over : Option ℕ)
-    → IsReadTo cpus script count lines → count ≡ length (texts_of script) → IsOver script over
-    → IsScript cpus script lines
-is_whole cpus script count lines over so_far all is_over =
-    let good : (n : ℕ) → 1 ≤ n → n ≤ length (texts_of script) → IsGoodLine cpus script n = λ n low high. so_far.good n low (omega arith) in
+pub is_whole : (sizes : Config) (script : List ℕ) (count : ℕ) (went : Bool) (lines : List Line) (over : Option ℕ)
+    → IsReadTo sizes script count went lines → count ≡ length (texts_of script) → IsOver script over
+    → IsScript sizes script lines
+is_whole sizes script count went lines over so_far all is_over =
+    let good : (n : ℕ) → 1 ≤ n → n ≤ length (texts_of script) → IsGoodLine sizes script n = λ n low high. so_far.good n low (omega arith) in
     let taken : take count (texts_of script) ≡ texts_of script = take_all count (texts_of script) (omega arith) in
-    let P : List (List ℕ) → Type 0 = λ texts. AreLines cpus texts lines in
+    let P : List (List ℕ) → Type 0 = λ texts. AreLines sizes texts lines in
     record {
-      fits = fits_when_good cpus script over is_over good;
+      fits = fits_when_good sizes script over is_over good;
       good = good;
       says = subst P taken so_far.says;
     }

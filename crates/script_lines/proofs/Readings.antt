@@ -1,13 +1,17 @@
 -- What a text says, once it is cut at its first space.
-use Rattle.std.proofs.Common.{◌≡◌, ℕ, List, ◌∷◌, ◌++◌, Option, None, Some, MatchOption, ◌⊎◌, inl, inr, subst, sym, ap, ◌∙◌, codes}
-use Rattle.script_lines.specs.Script.{IsAllocText, IsCommandText, IsCut, IsLineText, IsPathText, IsReadText, IsWriteText, WritesNumber}
+use Rattle.std.proofs.Common.{◌≡◌, ◌≢◌, ℕ, List, ◌∷◌, ◌++◌, Option, None, Some, MatchOption, subst, sym, ap, ◌∙◌, codes, refl, Bool, true, false}
+use Rattle.zone_sizes.specs.declared.config.Config.{Config}
+use Rattle.script_lines.specs.Script.{HasArguments, IsAllocText, IsCommandText, IsCut, IsLineText, IsPathText}
+use Rattle.script_lines.specs.Script.{IsReadText, IsRequestText, IsWriteText, WritesNumber, is_go}
 use Rattle.script_lines.specs.declared.line.Command.{Command}
-use Rattle.script_lines.specs.declared.line.Command.TheVariants.{Mkdir, Alloc, Write, Read, Blocks, Show}
+use Rattle.script_lines.specs.declared.line.Command.TheVariants.{Settle}
+use Rattle.script_lines.specs.declared.line.Command.TheVariants.{Blocks, Show}
 use Rattle.script_lines.specs.declared.line.Line.{Line}
-use Rattle.script_lines.specs.Verb.{verb_named}
+use Rattle.script_lines.specs.declared.line.Line.TheVariants.{Go, At}
+use Rattle.script_lines.specs.Verb.{its_verb, name_of, verb_named}
 use Rattle.script_lines.specs.declared.verb.Verb.{Verb}
 use Rattle.script_lines.specs.declared.verb.Verb.TheVariants as verb
-use Rattle.script_lines.proofs.Verbs.{name_no_space}
+use Rattle.script_lines.proofs.Verbs.{name_no_space, named, verb_named-name_of}
 use Rattle.script_lines.proofs.Cuts.{NoSpace, cut_once, digits_no_space, no_cut, path_no_space}
 
 -- what a `None` says
@@ -62,124 +66,94 @@ write_parts text w r v s cut next path file value is =
 pub write_joined : (text w r v s : List ℕ) → IsCut text w r → IsCut r v s → IsPathText w → IsPathText v → IsWriteText w v s text
 write_joined text w r v s cut next path file = record { parts = cut.parts ∙ ap (λ rest. w ++ 32 ∷ rest) next.parts; path_text = path; file_text = file }
 
--- a line has a space
-pub line_has_space : (cpus : ℕ) (text : List ℕ) → NoSpace text → (line : Line) → ¬ IsLineText cpus line text
-line_has_space cpus text none line is = no_cut text is.digits is.command none is.parts
+-- a request has a space
+pub request_has_space : (sizes : Config) (text : List ℕ) → NoSpace text → (processor : ℕ) (command : Command) → ¬ IsRequestText sizes processor command text
+request_has_space sizes text none processor command is = no_cut text is.digits is.rest none is.parts
 
 -- the processor and the command are the parts of the cut
-pub line_parts : (cpus : ℕ) (text w r : List ℕ) → IsCut text w r → (line : Line) → IsLineText cpus line text
-    → WritesNumber w line.processor × IsCommandText line.command r
-line_parts cpus text w r cut line is =
-    let same = cut_once text w r is.digits is.command cut (digits_no_space is.digits is.writes.digits.1) is.parts in
-    let is_number : WritesNumber w line.processor = rw same.0 is.writes in
-    let is_command : IsCommandText line.command r = rw same.1 is.command_text in
+pub request_parts : (sizes : Config) (text w r : List ℕ) → IsCut text w r → (processor : ℕ) (command : Command)
+    → IsRequestText sizes processor command text → WritesNumber w processor × IsCommandText sizes command r
+request_parts sizes text w r cut processor command is =
+    let same = cut_once text w r is.digits is.rest cut (digits_no_space is.digits is.writes.digits.1) is.parts in
+    let is_number : WritesNumber w processor = rw same.0 is.writes in
+    let is_command : IsCommandText sizes command r = rw same.1 is.command_text in
     (is_number, is_command)
 
+-- a line other than `go` is a request
+pub no_line : (sizes : Config) (text : List ℕ) → is_go text ≡ false
+    → ((processor : ℕ) (command : Command) → ¬ IsRequestText sizes processor command text) → (line : Line) → ¬ IsLineText sizes line text
+no_line sizes text other none Go is = let e : is_go text ≡ true = rw is refl in cc
+no_line sizes text other none (At processor command) is = none processor command is
+
 -- what the word before the first space and the rest of the text are, where the text is that of a command
-abbrev pub HasCommandParts : Command → List ℕ → List ℕ → Type 0
-HasCommandParts (Mkdir path) w r = (w ≡ codes "mkdir") × IsPathText r
-HasCommandParts (Alloc path order) w r = (w ≡ codes "alloc") × IsAllocText path.now order r
-HasCommandParts (Write path file value) w r = (w ≡ codes "write") × IsWriteText path.now file.now value.now r
-HasCommandParts (Read path file) w r = (w ≡ codes "read") × IsReadText path.now file.now r
-HasCommandParts Blocks w r = ⊥
-HasCommandParts Show w r = ⊥
+pub command_parts : (sizes : Config) (text w r : List ℕ) → IsCut text w r → (command : Command) → IsCommandText sizes command text
+    → (w ≡ name_of (its_verb command)) × HasArguments sizes command r
+command_parts sizes text w r cut Settle is = absurd (no_cut (codes "settle") w r (name_no_space verb.Settle) (sym is ∙ cut.parts))
+command_parts sizes text w r cut Blocks is = absurd (no_cut (codes "blocks") w r (name_no_space verb.Blocks) (sym is ∙ cut.parts))
+command_parts sizes text w r cut Show is = absurd (no_cut (codes "show") w r (name_no_space verb.Show) (sym is ∙ cut.parts))
+command_parts sizes text w r cut command is =
+    let same = cut_once text w r (name_of (its_verb command)) is.0 cut (name_no_space (its_verb command)) is.1 in
+    let has : HasArguments sizes command r = rw same.1 is.2 in
+    (same.0, has)
 
--- the command's own name
-abbrev pub verb_of_command : Command → Verb
-verb_of_command (Mkdir path) = verb.Mkdir
-verb_of_command (Alloc path order) = verb.Alloc
-verb_of_command (Write path file value) = verb.Write
-verb_of_command (Read path file) = verb.Read
-verb_of_command Blocks = verb.Blocks
-verb_of_command Show = verb.Show
+-- whether a command of this name stands alone
+abbrev pub stands_alone : Verb → Bool
+stands_alone verb.Settle = true
+stands_alone verb.Blocks = true
+stands_alone verb.Show = true
+stands_alone v = false
 
-pub command_parts : (text w r : List ℕ) → IsCut text w r → (command : Command) → IsCommandText command text → HasCommandParts command w r
-command_parts text w r cut (Mkdir path) is =
-    let same = cut_once text w r (codes "mkdir") path.now cut (name_no_space verb.Mkdir) is.1 in
-    let is_path : IsPathText r = rw same.1 is.0 in
-    (same.0, is_path)
-command_parts text w r cut (Alloc path order) is =
-    let same = cut_once text w r (codes "alloc") is.0 cut (name_no_space verb.Alloc) is.1 in
-    let is_alloc : IsAllocText path.now order r = rw same.1 is.2 in
-    (same.0, is_alloc)
-command_parts text w r cut (Write path file value) is =
-    let same = cut_once text w r (codes "write") is.0 cut (name_no_space verb.Write) is.1 in
-    let is_write : IsWriteText path.now file.now value.now r = rw same.1 is.2 in
-    (same.0, is_write)
-command_parts text w r cut (Read path file) is =
-    let same = cut_once text w r (codes "read") is.0 cut (name_no_space verb.Read) is.1 in
-    let is_read : IsReadText path.now file.now r = rw same.1 is.2 in
-    (same.0, is_read)
-command_parts text w r cut Blocks is = no_cut (codes "blocks") w r (name_no_space verb.Blocks) (sym is ∙ cut.parts)
-command_parts text w r cut Show is = no_cut (codes "show") w r (name_no_space verb.Show) (sym is ∙ cut.parts)
-
--- a command without a space is `blocks` or `show`
-pub command_alone : (text : List ℕ) → NoSpace text → (command : Command) → IsCommandText command text
-    → (verb_named text ≡ Some verb.Blocks) ⊎ (verb_named text ≡ Some verb.Show)
-command_alone text none (Mkdir path) is = absurd (no_cut text (codes "mkdir") path.now none is.1)
-command_alone text none (Alloc path order) is = absurd (no_cut text (codes "alloc") is.0 none is.1)
-command_alone text none (Write path file value) is = absurd (no_cut text (codes "write") is.0 none is.1)
-command_alone text none (Read path file) is = absurd (no_cut text (codes "read") is.0 none is.1)
-command_alone text none Blocks is = inl (ap verb_named is)
-command_alone text none Show is = inr (ap verb_named is)
+-- a command without a space stands alone
+pub command_alone : (sizes : Config) (text : List ℕ) → NoSpace text → (command : Command) → IsCommandText sizes command text
+    → (verb_named text ≡ Some (its_verb command)) × (stands_alone (its_verb command) ≡ true)
+command_alone sizes text none Settle is = (ap verb_named is, refl)
+command_alone sizes text none Blocks is = (ap verb_named is, refl)
+command_alone sizes text none Show is = (ap verb_named is, refl)
+command_alone sizes text none command is = absurd (no_cut text (name_of (its_verb command)) is.0 none is.1)
 
 -- the word before the first space is the name of the command
-pub command_named : (text w r : List ℕ) → IsCut text w r → (command : Command) → IsCommandText command text → (v : Verb) × (verb_named w ≡ Some v)
-command_named text w r cut (Mkdir path) is = (verb.Mkdir, ap verb_named (command_parts text w r cut (Mkdir path) is).0)
-command_named text w r cut (Alloc path order) is = (verb.Alloc, ap verb_named (command_parts text w r cut (Alloc path order) is).0)
-command_named text w r cut (Write path file value) is = (verb.Write, ap verb_named (command_parts text w r cut (Write path file value) is).0)
-command_named text w r cut (Read path file) is = (verb.Read, ap verb_named (command_parts text w r cut (Read path file) is).0)
-command_named text w r cut Blocks is = absurd (command_parts text w r cut Blocks is)
-command_named text w r cut Show is = absurd (command_parts text w r cut Show is)
+pub command_named : (sizes : Config) (text w r : List ℕ) → IsCut text w r → (command : Command) → IsCommandText sizes command text
+    → verb_named w ≡ Some (its_verb command)
+command_named sizes text w r cut command is = ap verb_named (command_parts sizes text w r cut command is).0 ∙ verb_named-name_of (its_verb command)
 
--- the word before the first space is the name of this command alone
-pub named_parts : (text w r : List ℕ) (v : Verb) → IsCut text w r → verb_named w ≡ Some v → (command : Command)
-    → IsCommandText command text → (verb_of_command command ≡ v) × HasCommandParts command w r
-named_parts text w r v cut e (Mkdir path) is =
-    let parts = command_parts text w r cut (Mkdir path) is in
-    let h : verb_named w ≡ Some verb.Mkdir = ap verb_named parts.0 in
-    (cc, parts)
-named_parts text w r v cut e (Alloc path order) is =
-    let parts = command_parts text w r cut (Alloc path order) is in
-    let h : verb_named w ≡ Some verb.Alloc = ap verb_named parts.0 in
-    (cc, parts)
-named_parts text w r v cut e (Write path file value) is =
-    let parts = command_parts text w r cut (Write path file value) is in
-    let h : verb_named w ≡ Some verb.Write = ap verb_named parts.0 in
-    (cc, parts)
-named_parts text w r v cut e (Read path file) is =
-    let parts = command_parts text w r cut (Read path file) is in
-    let h : verb_named w ≡ Some verb.Read = ap verb_named parts.0 in
-    (cc, parts)
-named_parts text w r v cut e Blocks is = absurd (command_parts text w r cut Blocks is)
-named_parts text w r v cut e Show is = absurd (command_parts text w r cut Show is)
+-- no command is that of the text where none has the arguments
+pub no_command : (sizes : Config) (text w r : List ℕ) (v : Verb) → IsCut text w r → verb_named w ≡ Some v
+    → ((command : Command) → its_verb command ≡ v → ¬ HasArguments sizes command r) → (command : Command) → ¬ IsCommandText sizes command text
+no_command sizes text w r v cut named none command is =
+    let is_named = command_named sizes text w r cut command is in
+    none command (cc) (command_parts sizes text w r cut command is).1
 
--- after the name of a command stand the arguments of that command
-pub no_alloc : (text w r : List ℕ) → IsCut text w r → verb_named w ≡ Some verb.Alloc
-    → ((path : List ℕ) (order : ℕ) → ¬ IsAllocText path order r) → (command : Command) → ¬ IsCommandText command text
-no_alloc text w r cut e none (Alloc path order) is = none path.now order (named_parts text w r verb.Alloc cut e (Alloc path order) is).1.1
-no_alloc text w r cut e none (Mkdir path) is = let same = (named_parts text w r verb.Alloc cut e (Mkdir path) is).0 in cc
-no_alloc text w r cut e none (Write path file value) is = let same = (named_parts text w r verb.Alloc cut e (Write path file value) is).0 in cc
-no_alloc text w r cut e none (Read path file) is = let same = (named_parts text w r verb.Alloc cut e (Read path file) is).0 in cc
-no_alloc text w r cut e none Blocks is = let same = (named_parts text w r verb.Alloc cut e Blocks is).0 in cc
-no_alloc text w r cut e none Show is = let same = (named_parts text w r verb.Alloc cut e Show is).0 in cc
+-- the command of the text has this name and these arguments
+pub is_command : (sizes : Config) (text w r : List ℕ) (v : Verb) → IsCut text w r → verb_named w ≡ Some v → (command : Command)
+    → its_verb command ≡ v → HasArguments sizes command r → IsCommandText sizes command text
+is_command sizes text w r v cut e Settle same has = absurd has
+is_command sizes text w r v cut e Blocks same has = absurd has
+is_command sizes text w r v cut e Show same has = absurd has
+is_command sizes text w r v cut e command same has =
+    let is_name : w ≡ name_of (its_verb command) = named w (its_verb command) (e ∙ ap Some (sym same)) in
+    (r, cut.parts ∙ ap (λ (x : List ℕ). x ++ 32 ∷ r) is_name, has)
 
-pub no_write : (text w r : List ℕ) → IsCut text w r → verb_named w ≡ Some verb.Write
-    → ((path file value : List ℕ) → ¬ IsWriteText path file value r) → (command : Command)
-    → ¬ IsCommandText command text
-no_write text w r cut e none (Write path file value) is =
-    none path.now file.now value.now (named_parts text w r verb.Write cut e (Write path file value) is).1.1
-no_write text w r cut e none (Mkdir path) is = let same = (named_parts text w r verb.Write cut e (Mkdir path) is).0 in cc
-no_write text w r cut e none (Alloc path order) is = let same = (named_parts text w r verb.Write cut e (Alloc path order) is).0 in cc
-no_write text w r cut e none (Read path file) is = let same = (named_parts text w r verb.Write cut e (Read path file) is).0 in cc
-no_write text w r cut e none Blocks is = let same = (named_parts text w r verb.Write cut e Blocks is).0 in cc
-no_write text w r cut e none Show is = let same = (named_parts text w r verb.Write cut e Show is).0 in cc
+-- what the arguments say is what the text says
+pub from_arguments : (sizes : Config) (text w r : List ℕ) (v : Verb) (found : Option Command) → IsCut text w r → verb_named w ≡ Some v
+    → MatchOption found ((command : Command) → its_verb command ≡ v → ¬ HasArguments sizes command r)
+    (λ command. (its_verb command ≡ v) × HasArguments sizes command r)
+    → MatchOption found ((command : Command) → ¬ IsCommandText sizes command text) (λ command. IsCommandText sizes command text)
+from_arguments sizes text w r v None cut e is = no_command sizes text w r v cut e is
+from_arguments sizes text w r v (Some command) cut e is = is_command sizes text w r v cut e command is.0 is.1
 
-pub no_read : (text w r : List ℕ) → IsCut text w r → verb_named w ≡ Some verb.Read
-    → ((path file : List ℕ) → ¬ IsReadText path file r) → (command : Command) → ¬ IsCommandText command text
-no_read text w r cut e none (Read path file) is = none path.now file.now (named_parts text w r verb.Read cut e (Read path file) is).1.1
-no_read text w r cut e none (Mkdir path) is = let same = (named_parts text w r verb.Read cut e (Mkdir path) is).0 in cc
-no_read text w r cut e none (Alloc path order) is = let same = (named_parts text w r verb.Read cut e (Alloc path order) is).0 in cc
-no_read text w r cut e none (Write path file value) is = let same = (named_parts text w r verb.Read cut e (Write path file value) is).0 in cc
-no_read text w r cut e none Blocks is = let same = (named_parts text w r verb.Read cut e Blocks is).0 in cc
-no_read text w r cut e none Show is = let same = (named_parts text w r verb.Read cut e Show is).0 in cc
+-- a name that isn't of a command that stands alone
+pub not_alone : (sizes : Config) (text : List ℕ) (v : Verb) → NoSpace text → verb_named text ≡ Some v → stands_alone v ≡ false
+    → (command : Command) → ¬ IsCommandText sizes command text
+not_alone sizes text v none e other command is =
+    let alone = command_alone sizes text none command is in
+    let same : Some (its_verb command) ≡ Some v = sym alone.0 ∙ e in
+    let is_v : its_verb command ≡ v = cc in
+    let told : stands_alone v ≡ true = ap stands_alone (sym is_v) ∙ alone.1 in
+    cc
+
+-- a name that is none of three
+pub is_other : (v : Verb) → v ≢ verb.Settle → v ≢ verb.Blocks → v ≢ verb.Show → stands_alone v ≡ false
+is_other verb.Settle a b d = absurd (a refl)
+is_other verb.Blocks a b d = absurd (b refl)
+is_other verb.Show a b d = absurd (d refl)
+is_other v a b d = refl

@@ -1,28 +1,30 @@
 -- The names of the commands.
-use Rattle.std.proofs.Common.{◌≡◌, ◌≢◌, ℕ, zero, suc, Bool, true, false, cond, List, [], ◌∷◌, ◌⊎◌, inl, inr, Option, Some, codes, refl, ap}
+use Rattle.std.proofs.Common.{◌≡◌, ◌≢◌, ℕ, zero, suc, Bool, true, false, cond, List, [], ◌∷◌, ◌⊎◌, inl, inr, Option, Some, refl, ap}
 use Rattle.std.proofs.Common.{◌∙◌, eqb, arith, nat_eq}
 use Rattle.std.specs.Cmp.Lexicographic.{pointwise, same_text}
-use Rattle.script_lines.specs.Verb.{named_commands, verb_named}
+use Rattle.script_lines.specs.Verb.{name_of, named_commands, verb_named}
 use Rattle.std.specs.Map.{lookup}
 use Rattle.script_lines.specs.declared.verb.Verb.{Verb}
-use Rattle.script_lines.specs.declared.verb.Verb.TheVariants.{Mkdir, Alloc, Write, Read, Blocks, Show}
+use Rattle.script_lines.specs.declared.verb.Verb.TheVariants.{Mkdir, Rmdir, Write, Read, Alloc, Fast, Release, Get, Put, Settle, Touch}
+use Rattle.script_lines.specs.declared.verb.Verb.TheVariants.{Dirty, Clean, Owner, Blocks, Show}
 use Rattle.script_lines.proofs.Cuts.{NoSpace}
-
--- the name of a command
-abbrev pub name_of : Verb → List ℕ
-name_of Mkdir = codes "mkdir"
-name_of Alloc = codes "alloc"
-name_of Write = codes "write"
-name_of Read = codes "read"
-name_of Blocks = codes "blocks"
-name_of Show = codes "show"
 
 -- each name is that of its command
 pub verb_named-name_of : (v : Verb) → verb_named (name_of v) ≡ Some v
 verb_named-name_of Mkdir = refl
-verb_named-name_of Alloc = refl
+verb_named-name_of Rmdir = refl
 verb_named-name_of Write = refl
 verb_named-name_of Read = refl
+verb_named-name_of Alloc = refl
+verb_named-name_of Fast = refl
+verb_named-name_of Release = refl
+verb_named-name_of Get = refl
+verb_named-name_of Put = refl
+verb_named-name_of Settle = refl
+verb_named-name_of Touch = refl
+verb_named-name_of Dirty = refl
+verb_named-name_of Clean = refl
+verb_named-name_of Owner = refl
 verb_named-name_of Blocks = refl
 verb_named-name_of Show = refl
 
@@ -47,7 +49,7 @@ named_in (c ∷ cs) text v names e =
 
 -- a text that names a command is its name
 pub named : (text : List ℕ) (v : Verb) → verb_named text ≡ Some v → text ≡ name_of v
-named text v e = named_in named_commands text v (refl, (refl, (refl, (refl, (refl, (refl, tt)))))) e
+named text v e = named_in named_commands text v (refl, (refl, (refl, (refl, (refl, (refl, (refl, (refl, (refl, (refl, (refl, (refl, (refl, (refl, (refl, (refl, tt)))))))))))))))) e
 
 -- whether a text has no space
 abbrev has_no_space : List ℕ → Bool
@@ -66,8 +68,18 @@ no_space_told (b ∷ bs) e (suc k) d h = no_space_told bs (told b (eqb b 32) (ha
 -- no name has a space
 pub name_no_space : (v : Verb) → NoSpace (name_of v)
 name_no_space Mkdir = no_space_told (name_of Mkdir) refl
-name_no_space Alloc = no_space_told (name_of Alloc) refl
+name_no_space Rmdir = no_space_told (name_of Rmdir) refl
 name_no_space Write = no_space_told (name_of Write) refl
 name_no_space Read = no_space_told (name_of Read) refl
+name_no_space Alloc = no_space_told (name_of Alloc) refl
+name_no_space Fast = no_space_told (name_of Fast) refl
+name_no_space Release = no_space_told (name_of Release) refl
+name_no_space Get = no_space_told (name_of Get) refl
+name_no_space Put = no_space_told (name_of Put) refl
+name_no_space Settle = no_space_told (name_of Settle) refl
+name_no_space Touch = no_space_told (name_of Touch) refl
+name_no_space Dirty = no_space_told (name_of Dirty) refl
+name_no_space Clean = no_space_told (name_of Clean) refl
+name_no_space Owner = no_space_told (name_of Owner) refl
 name_no_space Blocks = no_space_told (name_of Blocks) refl
 name_no_space Show = no_space_told (name_of Show) refl

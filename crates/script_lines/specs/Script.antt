@@ -1,11 +1,16 @@
 -- The form of a script: lines that each end with a line feed, which the last may lack.
-use Rattle.std.specs.Prelude.{◌≡◌, ◌≢◌, ℕ, Bool, true, false, not, ◌==◌, ◌-◌, ◌^◌, ◌<◌, ◌≤◌, List, [], ◌∷◌, ◌++◌, All, codes}
+use Rattle.std.specs.Prelude.{◌≡◌, ◌≢◌, ℕ, Bool, true, false, not, ◌==◌, ◌-◌, ◌^◌, ◌<◌, ◌≤◌, List, [], ◌∷◌, ◌++◌, All, codes, nat_eq}
 use Rattle.std.specs.Prelude.{count_by, filter, length, slice_get, take, Some, ⊤}
-use Rattle.std.specs.List.{AllZip, slice_split}
+use Rattle.std.specs.List.{AllZip, list_any, slice_split}
+use Rattle.std.specs.Cmp.Lexicographic.{pointwise}
 use Rattle.std.specs.Str.Parse.{IsNumeral, digits_value}
+use Rattle.zone_sizes.specs.declared.config.Config.{Config}
 use Rattle.script_lines.specs.declared.line.Line.{Line}
+use Rattle.script_lines.specs.declared.line.Line.TheVariants.{Go, At}
 use Rattle.script_lines.specs.declared.line.Command.{Command}
-use Rattle.script_lines.specs.declared.line.Command.TheVariants.{Mkdir, Alloc, Write, Read, Blocks, Show}
+use Rattle.script_lines.specs.declared.line.Command.TheVariants.{Mkdir, Rmdir, Write, Read, Alloc, Fast, Release, Get, Put, Settle, Touch}
+use Rattle.script_lines.specs.declared.line.Command.TheVariants.{Dirty, Clean, Owner, Blocks, Show}
+use Rattle.script_lines.specs.Verb.{its_verb, name_of}
 use Rattle.script_lines.specs.declared.fault.ScriptFault.{ScriptFault}
 use Rattle.script_lines.specs.declared.fault.ScriptFault.TheVariants.{BadLine, NoMemory}
 
@@ -49,25 +54,64 @@ pub record IsWriteText (path file value text : List ℕ) : Type 0 where
   pub path_text : IsPathText path
   pub file_text : IsPathText file
 
--- `mkdir PATH`, `alloc PATH ORDER`, `write PATH FILE VALUE`, `read PATH FILE`, `blocks` or `show`
-abbrev pub IsCommandText : Command → List ℕ → Type 0
-IsCommandText (Mkdir path) text = IsPathText path.now × (text ≡ codes "mkdir" ++ 32 ∷ path.now)
-IsCommandText (Alloc path order) text = (arguments : List ℕ) × (text ≡ codes "alloc" ++ 32 ∷ arguments) × IsAllocText path.now order arguments
-IsCommandText (Write path file value) text =
-    (arguments : List ℕ) × (text ≡ codes "write" ++ 32 ∷ arguments) × IsWriteText path.now file.now value.now arguments
-IsCommandText (Read path file) text = (arguments : List ℕ) × (text ≡ codes "read" ++ 32 ∷ arguments) × IsReadText path.now file.now arguments
-IsCommandText Blocks text = text ≡ codes "blocks"
-IsCommandText Show text = text ≡ codes "show"
+-- a frame of the zone, by its number
+pub record IsFrameText (sizes : Config) (frame : ℕ) (text : List ℕ) : Type 0 where
+  pub writes : WritesNumber text frame
+  pub in_zone : frame < sizes.frames
 
--- `P COMMAND`, where P is the number of one of so many processors
-pub record IsLineText (cpus : ℕ) (line : Line) (text : List ℕ) : Type 0 where
+-- the number of a group, which needn't be there: 0 to 63
+pub record IsGroupText (group : ℕ) (text : List ℕ) : Type 0 where
+  pub writes : WritesNumber text group
+  pub low : group < 64
+
+-- `PATH` alone
+abbrev pub IsPath : List ℕ → List ℕ → Type 0
+IsPath path text = IsPathText path × (path ≡ text)
+
+-- what follows the name of a command and a space; nothing may follow `settle`, `blocks` and `show`
+abbrev pub HasArguments : Config → Command → List ℕ → Type 0
+HasArguments sizes (Mkdir path) text = IsPath path.now text
+HasArguments sizes (Rmdir path) text = IsPath path.now text
+HasArguments sizes (Write path file value) text = IsWriteText path.now file.now value.now text
+HasArguments sizes (Read path file) text = IsReadText path.now file.now text
+HasArguments sizes (Alloc path order) text = IsAllocText path.now order text
+HasArguments sizes (Fast group) text = IsGroupText group text
+HasArguments sizes (Release frame) text = IsFrameText sizes frame text
+HasArguments sizes (Get frame) text = IsFrameText sizes frame text
+HasArguments sizes (Put frame) text = IsFrameText sizes frame text
+HasArguments sizes (Touch frame) text = IsFrameText sizes frame text
+HasArguments sizes (Dirty frame) text = IsFrameText sizes frame text
+HasArguments sizes (Clean frame) text = IsFrameText sizes frame text
+HasArguments sizes (Owner frame) text = IsFrameText sizes frame text
+HasArguments sizes Settle text = ⊥
+HasArguments sizes Blocks text = ⊥
+HasArguments sizes Show text = ⊥
+
+-- the name of a command and its arguments after a space; or the name alone
+abbrev pub IsCommandText : Config → Command → List ℕ → Type 0
+IsCommandText sizes Settle text = text ≡ codes "settle"
+IsCommandText sizes Blocks text = text ≡ codes "blocks"
+IsCommandText sizes Show text = text ≡ codes "show"
+IsCommandText sizes command text = (arguments : List ℕ) × (text ≡ name_of (its_verb command) ++ 32 ∷ arguments) × HasArguments sizes command arguments
+
+-- `P COMMAND`, where P is the number of a processor
+pub record IsRequestText (sizes : Config) (processor : ℕ) (command : Command) (text : List ℕ) : Type 0 where
   pub digits : List ℕ
-  pub command : List ℕ
-  pub parts : text ≡ digits ++ 32 ∷ command
-  pub writes : WritesNumber digits line.processor
-  pub low : 1 ≤ line.processor
-  pub high : line.processor ≤ cpus
-  pub command_text : IsCommandText line.command command
+  pub rest : List ℕ
+  pub parts : text ≡ digits ++ 32 ∷ rest
+  pub writes : WritesNumber digits processor
+  pub low : 1 ≤ processor
+  pub high : processor ≤ sizes.cpus
+  pub command_text : IsCommandText sizes command rest
+
+-- whether the text is `go`
+abbrev pub is_go : List ℕ → Bool
+is_go text = pointwise nat_eq text (codes "go")
+
+-- `P COMMAND`, or `go`
+abbrev pub IsLineText : Config → Line → List ℕ → Type 0
+IsLineText sizes Go text = text ≡ codes "go"
+IsLineText sizes (At processor command) text = IsRequestText sizes processor command text
 
 -- an empty text, or a comment
 abbrev pub is_skipped : List ℕ → Bool
@@ -79,35 +123,40 @@ abbrev pub asking_texts : List (List ℕ) → List (List ℕ)
 asking_texts texts = filter (λ text. not (is_skipped text)) texts
 
 -- the lines are what the asking texts say, in order
-abbrev pub AreLines : ℕ → List (List ℕ) → List Line → Type 0
-AreLines cpus texts lines = AllZip (λ text line. IsLineText cpus line text) (asking_texts texts) lines
+abbrev pub AreLines : Config → List (List ℕ) → List Line → Type 0
+AreLines sizes texts lines = AllZip (λ text line. IsLineText sizes line text) (asking_texts texts) lines
+
+-- whether one of the texts is `go`
+abbrev pub has_go : List (List ℕ) → Bool
+has_go texts = list_any is_go texts
 
 -- the bytes of a script that are line feeds, so the lines that end in it
 abbrev pub ended_lines : List ℕ → ℕ
 ended_lines script = count_by (λ b. b == 10) script
 
--- the n-th line is not too long, is within the bytes that a script may have, and says what a line may
-pub record IsGoodLine (cpus : ℕ) (script : List ℕ) (n : ℕ) : Type 0 where
+-- the n-th line is not too long, is within the bytes that a script may have, says what a line may, and isn't a second `go`
+pub record IsGoodLine (sizes : Config) (script : List ℕ) (n : ℕ) : Type 0 where
   pub text : List ℕ
   pub is_text : slice_get (texts_of script) (n - 1) ≡ Some text
   pub short : length text ≤ 1024
   pub within : 1048576 < length script → n ≤ ended_lines (take 1048576 script)
-  pub says : is_skipped text ≡ false → (line : Line) × IsLineText cpus line text
+  pub says : is_skipped text ≡ false → (line : Line) × IsLineText sizes line text
+  pub once : is_go text ≡ true → has_go (take (n - 1) (texts_of script)) ≡ false
 
 -- a script of at most 1,048,576 bytes, in which every line is good, and its lines
-pub record IsScript (cpus : ℕ) (script : List ℕ) (lines : List Line) : Type 0 where
+pub record IsScript (sizes : Config) (script : List ℕ) (lines : List Line) : Type 0 where
   pub fits : length script ≤ 1048576
-  pub good : (n : ℕ) → 1 ≤ n → n ≤ length (texts_of script) → IsGoodLine cpus script n
-  pub says : AreLines cpus (texts_of script) lines
+  pub good : (n : ℕ) → 1 ≤ n → n ≤ length (texts_of script) → IsGoodLine sizes script n
+  pub says : AreLines sizes (texts_of script) lines
 
 -- the n-th line of the script, counted from 1, is the first that isn't good
-pub record IsFirstBadLine (cpus : ℕ) (script : List ℕ) (n : ℕ) : Type 0 where
+pub record IsFirstBadLine (sizes : Config) (script : List ℕ) (n : ℕ) : Type 0 where
   pub low : 1 ≤ n
   pub high : n ≤ length (texts_of script)
-  pub bad : ¬ IsGoodLine cpus script n
-  pub first : (k : ℕ) → 1 ≤ k → k < n → IsGoodLine cpus script k
+  pub bad : ¬ IsGoodLine sizes script n
+  pub first : (k : ℕ) → 1 ≤ k → k < n → IsGoodLine sizes script k
 
 -- what the fault says of the script
-abbrev pub NamesFirstBadLine : ℕ → List ℕ → ScriptFault → Type 0
-NamesFirstBadLine cpus script (BadLine n) = IsFirstBadLine cpus script n
-NamesFirstBadLine cpus script NoMemory = ⊤
+abbrev pub NamesFirstBadLine : Config → List ℕ → ScriptFault → Type 0
+NamesFirstBadLine sizes script (BadLine n) = IsFirstBadLine sizes script n
+NamesFirstBadLine sizes script NoMemory = ⊤

@@ -1,26 +1,28 @@
 //! The lines of a script.
 
-/// One line of a script: a processor, and what is done there.
+/// One line of a script.
 #[derive(Clone, Copy, Debug, PartialEq, Eq)]
-pub struct Line<'a> {
-    /// The processor that the line names, from 1.
-    pub processor: u32,
-    /// What the line asks for.
-    pub command: Command<'a>,
+pub enum Line<'a> {
+    /// From here on each processor may run its own lines beside the others.
+    Go,
+    /// What is done at a processor, which goes by its number, from 1.
+    At {
+        processor: u32,
+        command: Command<'a>,
+    },
 }
 
 /// What a line asks for. A path and a file's name are runs of bytes above 32 and below 127: whether they are
-/// those of a group and a file is not for the line to say.
+/// those of a group and a file is not for the line to say. A frame is one of the zone's.
 #[derive(Clone, Copy, Debug, PartialEq, Eq)]
 pub enum Command<'a> {
     /// Makes the group of this path.
     Mkdir {
         path: &'a [u8],
     },
-    /// Takes a block of 2^order frames, charged to the group of this path.
-    Alloc {
+    /// Takes out the group of this path.
+    Rmdir {
         path: &'a [u8],
-        order: u32,
     },
     /// Writes a value, which may be any bytes and none, to a file of the group of this path.
     Write {
@@ -32,6 +34,45 @@ pub enum Command<'a> {
     Read {
         path: &'a [u8],
         file: &'a [u8],
+    },
+    /// Takes a block of 2^order frames, charged to the group of this path.
+    Alloc {
+        path: &'a [u8],
+        order: u32,
+    },
+    /// Takes a frame from the processor's list for the group of this number, 0 to 63, without the lock.
+    Fast {
+        group: u32,
+    },
+    /// Releases the unit which this frame heads.
+    Release {
+        frame: u32,
+    },
+    /// Pins this frame.
+    Get {
+        frame: u32,
+    },
+    /// Takes a pin from this frame.
+    Put {
+        frame: u32,
+    },
+    /// Settles the processor, and nothing else.
+    Settle,
+    /// Notes that the unit which this frame heads was used.
+    Touch {
+        frame: u32,
+    },
+    /// Notes that the pages of the unit which this frame heads are dirty.
+    Dirty {
+        frame: u32,
+    },
+    /// Notes that the pages of the unit which this frame heads aren't dirty.
+    Clean {
+        frame: u32,
+    },
+    /// Tells where this frame is.
+    Owner {
+        frame: u32,
     },
     /// Tells the blocks of the zone's free areas.
     Blocks,

@@ -2,9 +2,10 @@
 
 ghost use Rattle.std.specs.Prelude.{◌≡◌, ◌≢◌, ◌↔◌, ℕ, ◌+◌, ◌<◌, ◌≤◌, All, IfErr, IfOk, IfSome, IsTrue, List, MatchOption};
 ghost use Rattle.std.specs.Prelude.{length, take};
-ghost use Rattle.script_lines.specs.Script.{IsAllocText, IsCommandText, IsCut, IsFirstBadLine, IsLineText, IsPathText, IsReadText, IsScript, IsWriteText};
-ghost use Rattle.script_lines.specs.Script.{NamesFirstBadLine, ended_lines, is_skipped};
-ghost use Rattle.script_lines.specs.Verb.{IsNames};
+ghost use Rattle.script_lines.specs.Script.{HasArguments, IsAllocText, IsCommandText, IsCut, IsFirstBadLine, IsFrameText, IsGroupText, IsLineText};
+ghost use Rattle.script_lines.specs.Script.{IsPathText, IsReadText, IsRequestText, IsScript, IsWriteText, NamesFirstBadLine, ended_lines};
+ghost use Rattle.script_lines.specs.Script.{is_go, is_skipped};
+ghost use Rattle.script_lines.specs.Verb.{IsNames, its_verb, on_frame};
 ghost use Rattle.script_lines.specs.declared.line.Command.{Command};
 ghost use Rattle.script_lines.specs.declared.line.Line.{Line};
 
@@ -13,6 +14,10 @@ use crate::line::{Command, Line};
 use crate::number::number;
 use crate::verb::{Names, Verb, command_names, verb_of};
 use std::alloc::Global;
+use zone_sizes::config::Config;
+
+/// The numbers of groups, from 0.
+const MOST_GROUPS: u32 = 64;
 
 /// The most bytes that a script has.
 pub const MOST_INPUT: usize = 1_048_576;
@@ -22,31 +27,37 @@ const MOST_LINE: usize = 1_024;
 
 /// The lines of a script in their order, without the empty ones and those that begin with `#`.
 ///
-/// Each line ends with a line feed, which the last may lack, and is `P COMMAND`, with a single space
+/// Each line ends with a line feed, which the last may lack, and is `go` or `P COMMAND`, with a single space
 /// between words and none at either end, but for the value of `write`, which is all that follows the space
-/// after the file's name. P is a processor, 1 to `cpus`. A line that isn't so, or
-/// is longer than 1,024 bytes, is a bad line, and so is the one in which the byte stands that is past
-/// 1,048,576. The fault names the first bad line.
+/// after the file's name. P is a processor and a frame one of the zone's, by the configuration's sizes. A line
+/// that isn't so, is longer than 1,024 bytes, or is a second `go`, is a bad line, and so is the one in which
+/// the byte stands that is past 1,048,576. The fault names the first bad line.
 pub fn parse_script<'a>(
     alloc: Global,
     input: &'a [u8],
-    cpus: u32,
+    sizes: &Config,
 ) -> Result<Vec<Line<'a>>, ScriptFault>
-    ensures ok { IfOk result (λ lines. IsScript cpus input.now lines.items) }
-    ensures bad_line { IfErr result (NamesFirstBadLine cpus input.now) }
+    ensures ok { IfOk result (λ lines. IsScript sizes.now input.now lines.items) }
+    ensures bad_line { IfErr result (NamesFirstBadLine sizes.now input.now) }
 {
     let names = command_names(alloc)?;
     let over = line_over(input);
     let mut lines = Vec::new(alloc);
+    let mut went = false;
     for (index, text) in input.split(|byte| *byte == b'\n').enumerate() {
         let number = index + 1;
         if text.len() > MOST_LINE || !is_within(number, over) {
             return Err(ScriptFault::BadLine(number));
         }
+        let goes = is_go(text);
+        if went && goes {
+            return Err(ScriptFault::BadLine(number));
+        }
+        went = went || goes;
         if is_skipped(text) {
             continue;
         }
-        match parse_line(&names, text, cpus) {
+        match parse_line(&names, text, sizes) {
             Some(line) => lines.push(line)?,
             None => return Err(ScriptFault::BadLine(number)),
         }
@@ -90,49 +101,129 @@ fn is_skipped(text: &[u8]) -> bool
     }
 }
 
-fn parse_line<'a>(names: &Names, text: &'a [u8], cpus: u32) -> Option<Line<'a>>
+// Whether a line is `go`.
+fn is_go(text: &[u8]) -> bool
+    ensures { result ≡ is_go text.now }
+{
+    text == b"go".as_slice()
+}
+
+fn parse_line<'a>(names: &Names, text: &'a [u8], sizes: &Config) -> Option<Line<'a>>
     requires { IsNames names.now }
-    ensures { MatchOption result ((line : Line) → ¬ IsLineText cpus line text.entry.now)
-        (λ line. IsLineText cpus line text.entry.now) }
+    ensures { MatchOption result ((line : Line) → ¬ IsLineText sizes.now line text.entry.now)
+        (λ line. IsLineText sizes.now line text.entry.now) }
+{
+    if is_go(text) {
+        return Some(Line::Go);
+    }
+    let (processor, command) = parse_request(names, text, sizes)?;
+    Some(Line::At { processor, command })
+}
+
+// The processor and the command.
+fn parse_request<'a>(names: &Names, text: &'a [u8], sizes: &Config) -> Option<(u32, Command<'a>)>
+    requires { IsNames names.now }
+    ensures { MatchOption result
+        ((processor : ℕ) (command : Command) → ¬ IsRequestText sizes.now processor command text.entry.now)
+        (λ r. IsRequestText sizes.now r.0 r.1 text.entry.now) }
 {
     let (processor, rest) = first_word(text)?;
     let processor = number(processor)?;
-    if processor < 1 || cpus < processor {
+    if processor < 1 || sizes.cpus < processor {
         return None;
     }
-    let command = parse_command(names, rest)?;
-    Some(Line { processor, command })
+    let command = parse_command(names, rest, sizes)?;
+    Some((processor, command))
 }
 
-fn parse_command<'a>(names: &Names, text: &'a [u8]) -> Option<Command<'a>>
+fn parse_command<'a>(names: &Names, text: &'a [u8], sizes: &Config) -> Option<Command<'a>>
     requires { IsNames names.now }
-    ensures { MatchOption result ((command : Command) → ¬ IsCommandText command text.entry.now)
-        (λ command. IsCommandText command text.entry.now) }
+    ensures { MatchOption result ((command : Command) → ¬ IsCommandText sizes.now command text.entry.now)
+        (λ command. IsCommandText sizes.now command text.entry.now) }
 {
     match first_word(text) {
         None => match verb_of(names, text)? {
+            Verb::Settle => Some(Command::Settle),
             Verb::Blocks => Some(Command::Blocks),
             Verb::Show => Some(Command::Show),
-            Verb::Mkdir | Verb::Alloc | Verb::Write | Verb::Read => None,
+            _ => None,
         },
-        Some((name, arguments)) => match verb_of(names, name)? {
-            Verb::Mkdir => Some(Command::Mkdir {
-                path: path_of(arguments)?,
-            }),
-            Verb::Alloc => {
-                let (path, order) = parse_alloc(arguments)?;
-                Some(Command::Alloc { path, order })
-            }
-            Verb::Write => {
-                let (path, file, value) = parse_write(arguments)?;
-                Some(Command::Write { path, file, value })
-            }
-            Verb::Read => {
-                let (path, file) = parse_read(arguments)?;
-                Some(Command::Read { path, file })
-            }
-            Verb::Blocks | Verb::Show => None,
-        },
+        Some((name, arguments)) => parse_arguments(verb_of(names, name)?, arguments, sizes),
+    }
+}
+
+// The command, whose name this is, with its arguments.
+fn parse_arguments<'a>(verb: Verb, arguments: &'a [u8], sizes: &Config) -> Option<Command<'a>>
+    ensures { MatchOption result
+        ((command : Command) → its_verb command ≡ verb → ¬ HasArguments sizes.now command arguments.entry.now)
+        (λ command. (its_verb command ≡ verb) × HasArguments sizes.now command arguments.entry.now) }
+{
+    match verb {
+        Verb::Mkdir => Some(Command::Mkdir {
+            path: path_of(arguments)?,
+        }),
+        Verb::Rmdir => Some(Command::Rmdir {
+            path: path_of(arguments)?,
+        }),
+        Verb::Write => {
+            let (path, file, value) = parse_write(arguments)?;
+            Some(Command::Write { path, file, value })
+        }
+        Verb::Read => {
+            let (path, file) = parse_read(arguments)?;
+            Some(Command::Read { path, file })
+        }
+        Verb::Alloc => {
+            let (path, order) = parse_alloc(arguments)?;
+            Some(Command::Alloc { path, order })
+        }
+        Verb::Fast => {
+            let group = group_of(arguments)?;
+            Some(Command::Fast { group })
+        }
+        Verb::Settle | Verb::Blocks | Verb::Show => None,
+        _ => on_frame(verb, frame_of(arguments, sizes)?),
+    }
+}
+
+// The command about this frame. None where it is about none.
+fn on_frame<'a>(verb: Verb, frame: u32) -> Option<Command<'a>>
+    ensures { result ≡ on_frame verb frame }
+{
+    match verb {
+        Verb::Release => Some(Command::Release { frame }),
+        Verb::Get => Some(Command::Get { frame }),
+        Verb::Put => Some(Command::Put { frame }),
+        Verb::Touch => Some(Command::Touch { frame }),
+        Verb::Dirty => Some(Command::Dirty { frame }),
+        Verb::Clean => Some(Command::Clean { frame }),
+        Verb::Owner => Some(Command::Owner { frame }),
+        _ => None,
+    }
+}
+
+// The frame of the zone that has this number.
+fn frame_of(text: &[u8], sizes: &Config) -> Option<u32>
+    ensures { MatchOption result ((frame : ℕ) → ¬ IsFrameText sizes.now frame text.now)
+        (λ frame. IsFrameText sizes.now frame text.now) }
+{
+    let frame = number(text)?;
+    if frame < sizes.frames {
+        Some(frame)
+    } else {
+        None
+    }
+}
+
+// The number of a group.
+fn group_of(text: &[u8]) -> Option<u32>
+    ensures { MatchOption result ((group : ℕ) → ¬ IsGroupText group text.now) (λ group. IsGroupText group text.now) }
+{
+    let group = number(text)?;
+    if group < MOST_GROUPS {
+        Some(group)
+    } else {
+        None
     }
 }
 

@@ -10,9 +10,19 @@ use std::alloc::{AllocError, Global};
 #[derive(Clone, Copy, Debug, PartialEq, Eq)]
 pub enum Verb {
     Mkdir,
-    Alloc,
+    Rmdir,
     Write,
     Read,
+    Alloc,
+    Fast,
+    Release,
+    Get,
+    Put,
+    Settle,
+    Touch,
+    Dirty,
+    Clean,
+    Owner,
     Blocks,
     Show,
 }
@@ -26,9 +36,19 @@ pub fn command_names(alloc: Global) -> Result<Names, AllocError>
 {
     let mut names = IndexMap::new(alloc);
     names.insert(b"mkdir".as_slice(), Verb::Mkdir)?;
-    names.insert(b"alloc".as_slice(), Verb::Alloc)?;
+    names.insert(b"rmdir".as_slice(), Verb::Rmdir)?;
     names.insert(b"write".as_slice(), Verb::Write)?;
     names.insert(b"read".as_slice(), Verb::Read)?;
+    names.insert(b"alloc".as_slice(), Verb::Alloc)?;
+    names.insert(b"fast".as_slice(), Verb::Fast)?;
+    names.insert(b"release".as_slice(), Verb::Release)?;
+    names.insert(b"get".as_slice(), Verb::Get)?;
+    names.insert(b"put".as_slice(), Verb::Put)?;
+    names.insert(b"settle".as_slice(), Verb::Settle)?;
+    names.insert(b"touch".as_slice(), Verb::Touch)?;
+    names.insert(b"dirty".as_slice(), Verb::Dirty)?;
+    names.insert(b"clean".as_slice(), Verb::Clean)?;
+    names.insert(b"owner".as_slice(), Verb::Owner)?;
     names.insert(b"blocks".as_slice(), Verb::Blocks)?;
     names.insert(b"show".as_slice(), Verb::Show)?;
     Ok(names)

@@ -190,6 +190,7 @@ impl FreeAreas {
     }
 
     /// Puts a block of the zone in, which shares no frame with one that is there.
+    #[inline(always)]
     pub fn insert(&mut self, block: Block)
         requires block { IsBlock self.old.frames block }
         requires apart { ¬ Overlaps self.old.blocks block }
@@ -209,6 +210,7 @@ impl FreeAreas {
     }
 
     /// Takes a block that is there out.
+    #[inline(always)]
     pub fn remove(&mut self, block: Block)
         requires { Contains self.old.blocks block }
         ensures blocks { Removes self.old.blocks block self.new.blocks }

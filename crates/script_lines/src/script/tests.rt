@@ -3,77 +3,75 @@ use crate::line::{Command, Line};
 use crate::script::parse_script;
 use std::process::Abort;
 use std::test::Fail;
+use zone_sizes::config::Config;
 
-const ONE_PROCESSOR: u32 = 1;
+// 16 frames and one processor.
+const SIZES: Config = Config {
+    frames: 16,
+    cpus: 1,
+    batch: 4,
+    high: 8,
+    stock: 4,
+};
 
 // The number of the first bad line, 0 where the script is good.
 fn bad_line(rt: &(impl Abort + AllocGlobal), script: &[u8]) -> usize {
-    match parse_script(rt.alloc(), script, ONE_PROCESSOR) {
+    match parse_script(rt.alloc(), script, &SIZES) {
         Ok(_) => 0,
         Err(ScriptFault::BadLine(number)) => number,
         Err(ScriptFault::NoMemory) => panic!(rt; "no memory"),
     }
 }
 
+// The command of the script's one line.
+fn command_of<'a>(rt: &(impl Abort + AllocGlobal), script: &'a [u8]) -> Command<'a> {
+    match parse_script(rt.alloc(), script, &SIZES) {
+        Ok(lines) => match lines.first() {
+            Some(Line::At { processor, command }) => {
+                assert_eq!(rt; *processor, 1);
+                *command
+            }
+            _ => panic!(rt; "no command"),
+        },
+        Err(_) => panic!(rt; "a bad script"),
+    }
+}
+
 #[test]
 fn reads_each_command(rt: HostRuntime) -> Result<(), Fail> {
-    let script = b"# a comment\n\n1 mkdir /a/b\n01 alloc /a 0010\n1 show";
-    let lines = parse_script(rt.alloc(), script.as_slice(), ONE_PROCESSOR)?;
+    let path: &[u8] = b"/a/b";
+    assert!(rt; command_of(&rt, b"# a comment\n\n1 mkdir /a/b\n") == Command::Mkdir { path });
+    assert!(rt; command_of(&rt, b"1 rmdir /a/b") == Command::Rmdir { path });
+    assert!(rt; command_of(&rt, b"01 alloc /a/b 0010") == Command::Alloc { path, order: 10 });
+    assert!(rt; command_of(&rt, b"1 fast 63") == Command::Fast { group: 63 });
+    assert!(rt; command_of(&rt, b"1 release 15") == Command::Release { frame: 15 });
+    assert!(rt; command_of(&rt, b"1 get 0") == Command::Get { frame: 0 });
+    assert!(rt; command_of(&rt, b"1 put 1") == Command::Put { frame: 1 });
+    assert!(rt; command_of(&rt, b"1 settle") == Command::Settle);
+    assert!(rt; command_of(&rt, b"1 touch 2") == Command::Touch { frame: 2 });
+    assert!(rt; command_of(&rt, b"1 dirty 3") == Command::Dirty { frame: 3 });
+    assert!(rt; command_of(&rt, b"1 clean 4") == Command::Clean { frame: 4 });
+    assert!(rt; command_of(&rt, b"1 owner 5") == Command::Owner { frame: 5 });
+    assert!(rt; command_of(&rt, b"1 blocks") == Command::Blocks);
+    assert!(rt; command_of(&rt, b"1 show") == Command::Show);
+    let script = b"1 show\ngo\n1 show";
+    let lines = parse_script(rt.alloc(), script.as_slice(), &SIZES)?;
     assert_eq!(rt; lines.len(), 3);
-    let mkdir = Command::Mkdir {
-        path: b"/a/b".as_slice(),
-    };
-    assert!(rt;
-        lines[0]
-            == Line {
-                processor: 1,
-                command: mkdir
-            }
-    );
-    let alloc = Command::Alloc {
-        path: b"/a".as_slice(),
-        order: 10,
-    };
-    assert!(rt;
-        lines[1]
-            == Line {
-                processor: 1,
-                command: alloc
-            }
-    );
-    assert!(rt;
-        lines[2]
-            == Line {
-                processor: 1,
-                command: Command::Show
-            }
-    );
+    assert!(rt; lines[1] == Line::Go);
     Ok(())
 }
 
 #[test]
-fn a_value_is_all_that_follows_the_space(rt: HostRuntime) -> Result<(), Fail> {
-    let script = b"1 write /a memory.max  \0 1k \n1 write /a x \n1 read /a memory.max\n";
-    let lines = parse_script(rt.alloc(), script.as_slice(), ONE_PROCESSOR)?;
-    assert_eq!(rt; lines.len(), 3);
-    let write = Command::Write {
-        path: b"/a".as_slice(),
-        file: b"memory.max".as_slice(),
-        value: b" \0 1k ".as_slice(),
-    };
-    assert!(rt; lines[0].command == write);
-    let empty = Command::Write {
-        path: b"/a".as_slice(),
-        file: b"x".as_slice(),
-        value: b"".as_slice(),
-    };
-    assert!(rt; lines[1].command == empty);
-    let read = Command::Read {
-        path: b"/a".as_slice(),
-        file: b"memory.max".as_slice(),
-    };
-    assert!(rt; lines[2].command == read);
-    Ok(())
+fn a_value_is_all_that_follows_the_space(rt: HostRuntime) {
+    let path: &[u8] = b"/a";
+    let file: &[u8] = b"memory.max";
+    let value: &[u8] = b" \0 1k ";
+    let write = Command::Write { path, file, value };
+    assert!(rt; command_of(&rt, b"1 write /a memory.max  \0 1k \n") == write);
+    let value: &[u8] = b"";
+    let empty = Command::Write { path, file, value };
+    assert!(rt; command_of(&rt, b"1 write /a memory.max \n") == empty);
+    assert!(rt; command_of(&rt, b"1 read /a memory.max\n") == Command::Read { path, file });
 }
 
 #[test]
@@ -82,11 +80,12 @@ fn names_the_first_bad_line(rt: HostRuntime) {
         bad_line(&rt, b"1 show\n#\n1 shown\n0 show\n".as_slice()),
         3
     );
+    assert_eq!(rt; bad_line(&rt, b"go\n1 show\n#go\ngo\n".as_slice()), 4);
 }
 
 #[test]
 fn refuses_what_is_not_in_the_grammar(rt: HostRuntime) {
-    let bad: [&[u8]; 31] = [
+    let bad: [&[u8]; 37] = [
         b"0 show".as_slice(),
         b"2 show".as_slice(),
         b"1  show".as_slice(),
@@ -100,8 +99,14 @@ fn refuses_what_is_not_in_the_grammar(rt: HostRuntime) {
         b"1 mkdir /a /b".as_slice(),
         b"1 mkdir /\x7f".as_slice(),
         b"1 show\0".as_slice(),
-        b"go".as_slice(),
+        b"go ".as_slice(),
         b"1 go".as_slice(),
+        b"1 get 16".as_slice(),
+        b"1 get 4294967296".as_slice(),
+        b"1 put".as_slice(),
+        b"1 fast 64".as_slice(),
+        b"1 settle 1".as_slice(),
+        b"1 owner /a".as_slice(),
         b"1 alloc /a".as_slice(),
         b"1 alloc /a ".as_slice(),
         b"1 alloc /a 4294967296".as_slice(),
@@ -149,10 +154,7 @@ fn a_script_has_1048576_bytes(rt: HostRuntime) -> Result<(), Fail> {
         script.push(b'\n')?;
     }
     assert_eq!(rt; script.len(), 1_048_576);
-    assert_eq!(rt;
-        parse_script(alloc, script.as_slice(), ONE_PROCESSOR)?.len(),
-        0
-    );
+    assert_eq!(rt; parse_script(alloc, script.as_slice(), &SIZES)?.len(), 0);
     script.push(b'#')?;
     assert_eq!(rt; bad_line(&rt, script.as_slice()), 1_025);
     script.pop();

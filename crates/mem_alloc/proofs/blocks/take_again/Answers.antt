@@ -23,8 +23,10 @@ take_block-requires-clause-none_back g c = (back_part _ _ _ _ _ c.drain_list.ens
 
 pub unreachable-requires : goal.unreachable-requires
 unreachable-requires g c =
-    never_over c.args.machine.now c.drain_list.new.self c.args.group (2 ^ c.args.order) c.in-Err-Over.field-0-0.group (back_part _ _ _ _ _ c.drain_list.ensures.takes).ledger c.requires.room
-    (is_refused c.drain_list.new.self c.take_block.new.self c.args.group c.args.order c.in-Err-Over.field-0 c.in-Err-Over.field-0-0 c.in-Err-Over.field-0-is c.in-Err-Over.ensures.refuses).0
+    never_over c.args.machine.now c.drain_list.new.self c.args.group (2 ^ c.args.order) c.in-Err-Over.field-0-0.group
+    (back_part _ _ _ _ _ c.drain_list.ensures.takes).ledger c.requires.room
+    (is_refused c.drain_list.new.self c.take_block.new.self c.args.group c.args.order c.in-Err-Over.field-0 c.in-Err-Over.field-0-0
+    c.in-Err-Over.field-0-is c.in-Err-Over.ensures.refuses).0
 
 pub returns-in-Ok-clause-takes : goal.returns-in-Ok-clause-takes
 returns-in-Ok-clause-takes g c =

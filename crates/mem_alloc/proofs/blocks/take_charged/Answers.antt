@@ -56,7 +56,8 @@ tries-preserved g c =
     let r = is_refused _ _ c.args.group c.args.order c.in-Err-Over.field-0 c.in-Err-Over.over c.in-Err-Over.field-0-is c.in-Err-Over.ensures.refuses in
     let run = subst (λ (z : KnownMachine × KnownCpu). IsLocalRun c.tries.cpu.number (local_of t c.tries.machine c.tries.cpu)
     (over_steps c.args.group (2 ^ c.args.order) c.in-Err-Over.over.group) (local_of t z.0 z.1)) (λ i. (r.1 i, c.in-Err-Over.ensures.cpu i))
-    (by_refusal c.tries.cpu.number c.args.group c.args.order _ _ c.in-Err-Over.field-0 c.in-Err-Over.over c.in-Err-Over.field-0-is c.in-Err-Over.ensures.steps) in (
+    (by_refusal c.tries.cpu.number c.args.group c.args.order _ _ c.in-Err-Over.field-0 c.in-Err-Over.over c.in-Err-Over.field-0-is
+    c.in-Err-Over.ensures.steps) in (
       so_far_more t c.args.group (2 ^ c.args.order) c.args.cpu.now c.args.machine.now c.tries.machine c.tries.invariant.0 c.take_block.new.self c.tries.machine
           c.make_room.new.machine c.tries.cpu c.in-Err-Over.over.group r.1 c.tries.invariant.1 r.0 refl run c.make_room.ensures.clears
           (subst (λ (n : ℕ). has_room_for c.make_room.new.machine c.in-Err-Over.over.group n ≡ true) c.frames-pages.ensures.frames
@@ -70,7 +71,8 @@ returns-in_err-make_room-in-Err-Over-clause-charges g c =
     let r = is_refused _ _ c.args.group c.args.order c.in-Err-Over.field-0 c.in-Err-Over.over c.in-Err-Over.field-0-is c.in-Err-Over.ensures.refuses in
     let run = subst (λ (z : KnownMachine × KnownCpu). IsLocalRun c.tries.cpu.number (local_of t c.tries.machine c.tries.cpu)
     (over_steps c.args.group (2 ^ c.args.order) c.in-Err-Over.over.group) (local_of t z.0 z.1)) (λ i. (r.1 i, c.in-Err-Over.ensures.cpu i))
-    (by_refusal c.tries.cpu.number c.args.group c.args.order _ _ c.in-Err-Over.field-0 c.in-Err-Over.over c.in-Err-Over.field-0-is c.in-Err-Over.ensures.steps) in
+    (by_refusal c.tries.cpu.number c.args.group c.args.order _ _ c.in-Err-Over.field-0 c.in-Err-Over.over c.in-Err-Over.field-0-is
+    c.in-Err-Over.ensures.steps) in
     let x = c.in_err-make_room-in-Err-Over.field-0.0 in
     let is : IfErr c.from_residual.result (λ e. e ≡ x) = search rules in
     over_charges t c.args.group c.args.order c.in-Err-Over.over.group c.from_residual.result x c.args.machine.now c.make_room.new.machine c.args.cpu.now

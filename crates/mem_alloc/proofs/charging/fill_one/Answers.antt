@@ -37,8 +37,8 @@ pub returns-in_err-make_room-clause-fills : goal.returns-in_err-make_room-clause
 returns-in_err-make_room-clause-fills g c =
     let is : IfErr c.from_residual.result (λ e. e ≡ c.in_err-make_room.field-0.0) = search rules in
     refused_with c.from_residual.result c.in_err-make_room.field-0.0 _ _ c.from_residual.ensures.0 is
-    (λ e same. over_for_one g.N.BootName.frames c.args.group c.in-Err.over.group e c.args.machine.now c.args.cpu.now c.make_room.new.machine c.fill_stock.new.cpu
-    (same ∙ c.in_err-make_room.ensures.room.0) (c.in-Err.ensures.unchanged.1 ∙ c.tries.invariant.1)
+    (λ e same. over_for_one g.N.BootName.frames c.args.group c.in-Err.over.group e c.args.machine.now c.args.cpu.now c.make_room.new.machine
+    c.fill_stock.new.cpu (same ∙ c.in_err-make_room.ensures.room.0) (c.in-Err.ensures.unchanged.1 ∙ c.tries.invariant.1)
     (so_far_over g.N.BootName.frames c.args.group 1 c.args.cpu.now c.args.machine.now c.tries.machine c.tries.invariant.0 c.fill_stock.new.self c.tries.machine
     c.make_room.new.machine c.tries.cpu c.in-Err.over.group c.in-Err.ensures.unchanged.0 c.tries.invariant.1 c.in-Err.ensures.over refl
     c.in-Err.ensures.refused c.make_room.ensures.clears c.in_err-make_room.ensures.room.1))

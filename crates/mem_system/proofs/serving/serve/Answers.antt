@@ -51,7 +51,8 @@ returns g c =
         subst (λ (y : KnownCpu). FreshAfter c.args.cmd.now c.obey-reply.result y.fresh) (sym same) c.obey-reply.ensures.settled.0,
         ap (λ (y : KnownCpu). y.back) same ∙ c.obey-reply.ensures.settled.1,
       );
-      at_most_high = subst (λ (l : KnownLocked). length c.args.cpu.now.list ≤ l.sizes.high → length c.shut.new.cpu.list + length c.shut.new.cpu.fresh ≤ l.sizes.high)
+      at_most_high = subst (λ (l : KnownLocked). length c.args.cpu.now.list ≤ l.sizes.high
+          → length c.shut.new.cpu.list + length c.shut.new.cpu.fresh ≤ l.sizes.high)
           c.locked.view_is
           (λ within. subst (λ (y : KnownCpu). length y.list + length y.fresh ≤ c.locked.inside.sizes.high) (sym same) (c.obey-reply.ensures.at_most_high
           (subst (λ (l : List ℕ). length l ≤ c.locked.inside.sizes.high)

@@ -1,0 +1,58 @@
+-- What a script is answered, from what was read of it.
+use Rattle.std.proofs.Common.{◌≡◌, ℕ, zero, suc, ◌+◌, Bool, refl, List, length, take, Option, None, Some, IfSome, Result, Ok, Err, IfOk, MatchResult, arith, ap, ◌∙◌, sym, subst}
+use Rattle.std.proofs.lemmas.List.{length-take, take_all}
+use Rattle.std.specs.Io.KnownBytes.{Appends}
+use Rattle.std.specs.Result.{IsErrAnd}
+use Rattle.frame_word.specs.Seats.{KnownTable}
+use Rattle.stock_word.specs.Stock.{Words}
+use Rattle.mem_system.specs.Boots.{IsSizedAs, first_cpus}
+use Rattle.zone_sizes.specs.declared.config.Config.{Config}
+use Rattle.zone_sizes.specs.Config.{IsValidConfig}
+use Rattle.script_lines.specs.declared.line.Line.{Line}
+use Rattle.script_lines.specs.Script.{IsScript}
+use Rattle.load_run.specs.Answers.{AreAnswers, IsAnswered, IsReplayed}
+
+-- the answers were written behind what the writer held, where the script is known
+pub replayed : (input before after : Option (List ℕ)) (text : List ℕ) → IfSome input (λ bytes. IsAnswered bytes text)
+    → Appends before after text → IfSome input (λ bytes. IsReplayed bytes before after)
+replayed None before after text is written = tt
+replayed (Some bytes) before after text is written = record { text = text; answered = is; written = written }
+
+-- what was read of an input is all of it, where it is a script, and is answered by what its lines are
+pub answered : (input : Option (List ℕ)) (script : List ℕ) (sizes : Config) (is_audited : Bool) (lines : List Line) (text : List ℕ)
+    → IfSome input (λ bytes. script ≡ take 1048577 bytes) → IsScript sizes script lines → IsValidConfig sizes
+    → AreAnswers sizes is_audited lines text → IfSome input (λ bytes. IsAnswered bytes text)
+answered None script sizes is_audited lines text read is valid answers = tt
+answered (Some bytes) script sizes is_audited lines text read is valid answers =
+    let fits = is.fits in
+    let len : length script ≡ length (take 1048577 bytes) = ap length read in
+    let taken = length-take 1048577 bytes in
+    let whole : take 1048577 bytes ≡ bytes = take_all 1048577 bytes (omega arith) in
+    let is_script : IsScript sizes bytes lines = subst (λ (all : List ℕ). IsScript sizes all lines) (read ∙ whole) is in
+    record { sizes = sizes; valid = valid; is_audited = is_audited; lines = lines; script = is_script; answers = answers }
+
+-- what is well stays so where an error becomes another
+pub kept : {T D E : Type 0} (r : Result T E) (s : Result T D) (P : T → Type 0) (Q : E → D → Type 0)
+    → MatchResult r (λ x. s ≡ Ok x) (λ e. IsErrAnd s (Q e)) → IfOk r P → IfOk s P
+kept (Ok x) s P Q cases is = subst (λ t. IfOk t P) (sym cases) is
+kept (Err e) (Ok y) P Q cases is = absurd cases
+kept (Err e) (Err d) P Q cases is = tt
+
+-- so does what follows from it
+pub weakened : {T E : Type 0} (r : Result T E) (P Q : T → Type 0) → ((x : T) → P x → Q x) → IfOk r P → IfOk r Q
+weakened (Ok x) P Q follows is = follows x is
+weakened (Err e) P Q follows is = tt
+
+-- and what comes from two facts
+pub joined : {T E : Type 0} (r : Result T E) (P Q R : T → Type 0) → ((x : T) → P x → Q x → R x) → IfOk r P → IfOk r Q → IfOk r R
+joined (Ok x) P Q R follows p q = follows x p q
+joined (Err e) P Q R follows p q = tt
+
+-- so many processors have so many parts
+pub first_long : (t : KnownTable) (w : Words) (p n : ℕ) → length (first_cpus t w p n) ≡ n
+first_long t w p zero = refl
+first_long t w p (suc n) = ap (λ (k : ℕ). suc k) (first_long t w (p + 1) n)
+
+-- the tables under their names have the sizes
+pub sized_as : (sizes : Config) (f t : KnownTable) (s w : Words) → IsSizedAs sizes f s → (f ≡ t) × (s ≡ w) → IsSizedAs sizes t w
+sized_as sizes f t s w sized names = subst (λ (b : KnownTable × Words). IsSizedAs sizes b.0 b.1) (λ i. (names.0 i, names.1 i)) sized

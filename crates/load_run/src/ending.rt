@@ -1,0 +1,110 @@
+//! The end of a run: every pin is put, the boot ends, and what was counted is told.
+
+ghost use Rattle.std.specs.Prelude.{◌≡◌, ◌++◌, [], IfOk, length};
+ghost use Rattle.std.specs.List.{AllZip};
+ghost use Rattle.std.specs.String.{string_bytes};
+ghost use Rattle.load_run.specs.Ending.{EndsHeld, LetsGo, audit_text, counts_text, held_text, places_text};
+
+use cpu_part::{BootName, Cpu, Tables};
+use mem_system::{Audit, Locked, Pinned, end};
+use std::alloc::AllocError;
+
+/// What a boot told at its end.
+#[derive(Clone, Copy, Debug, PartialEq, Eq)]
+pub struct Ended {
+    /// The pins that were still held, and were put then.
+    pub held: u64,
+    /// What was counted.
+    pub audit: Audit,
+}
+
+// Puts every pin of the processor.
+fn put_pins<N: BootName>(tables: &Tables<N>, cpu: &mut Cpu<N>)
+    ensures { LetsGo cpu.old cpu.new }
+{
+    while let Some(frame) = cpu.first_pin() {
+        let _put = cpu.put(tables, frame);
+    }
+}
+
+// Puts every pin of the processors.
+fn put_all<N: BootName>(tables: &Tables<N>, cpus: &mut [Cpu<N>])
+    ensures { AllZip LetsGo cpus.old cpus.new }
+{
+    for cpu in cpus.iter_mut() {
+        put_pins(tables, cpu);
+    }
+}
+
+/// Ends a boot. Where pins are still held, they are put first.
+pub fn finish<N: BootName>(tables: Tables<N>, locked: Locked<N>, cpus: Vec<Cpu<N>>) -> Ended
+    requires { length cpus.items ≡ N.frames.cpus }
+    ensures { EndsHeld N.frames N.stocks (record { locked = locked; cpus = cpus.items }) result.held result.audit }
+{
+    match end(tables, locked, cpus) {
+        Ok(audit) => Ended { held: 0, audit },
+        Err(pinned) => {
+            let Pinned {
+                tables,
+                locked,
+                mut cpus,
+                pins,
+            } = pinned;
+            put_all(&tables, &mut cpus);
+            match end(tables, locked, cpus) {
+                Ok(audit) => Ended { held: pins, audit },
+                Err(_) => unreachable!(),
+            }
+        }
+    }
+}
+
+/// Adds what is told of the end: the pins that were held, where there were any, and what was counted. It fails only for want of
+/// memory.
+pub fn write_end(ended: &Ended, text: &mut String) -> Result<(), AllocError>
+    ensures { IfOk result (λ _. string_bytes text.new ≡ string_bytes text.old ++ (held_text ended.now.held ++ audit_text ended.now.audit)) }
+{
+    write_held(ended.held, text)?;
+    write_audit(&ended.audit, text)
+}
+
+// A line with the pins that were held, where there were any.
+fn write_held(held: u64, text: &mut String) -> Result<(), AllocError>
+    ensures { IfOk result (λ _. string_bytes text.new ≡ string_bytes text.old ++ held_text held) }
+{
+    if held == 0 {
+        Ok(())
+    } else {
+        writeln!(text, "held {held}")
+    }
+}
+
+// The two lines of what was counted.
+fn write_audit(audit: &Audit, text: &mut String) -> Result<(), AllocError>
+    ensures { IfOk result (λ _. string_bytes text.new ≡ string_bytes text.old ++ audit_text audit.now) }
+{
+    write_places(audit, text)?;
+    write_counts(audit, text)
+}
+
+fn write_places(audit: &Audit, text: &mut String) -> Result<(), AllocError>
+    ensures { IfOk result (λ _. string_bytes text.new ≡ string_bytes text.old ++ places_text audit.now) }
+{
+    let frames = audit.frames;
+    let free = audit.free;
+    let charged = audit.charged;
+    writeln!(text, "audit frames {frames} free {free} charged {charged}")
+}
+
+fn write_counts(audit: &Audit, text: &mut String) -> Result<(), AllocError>
+    ensures { IfOk result (λ _. string_bytes text.new ≡ string_bytes text.old ++ counts_text audit.now) }
+{
+    let puts = audit.last_puts;
+    let freezes = audit.freezes;
+    let drops = audit.drops;
+    let returns = audit.returns;
+    writeln!(
+        text,
+        "audit puts {puts} freezes {freezes} drops {drops} returns {returns}"
+    )
+}

@@ -1,0 +1,33 @@
+-- The records as they are kept.
+use Rattle.std.specs.Prelude.{◌≡◌, ◌≢◌, ℕ, ◌-◌, ◌^◌, ◌==◌, ◌<◌, Option, Some, None, IfSome, List, map, if◌then◌else◌}
+use Rattle.lru_lists.specs.declared.record.Link.{Link}
+use Rattle.lru_lists.specs.declared.record.Home.{Home}
+use Rattle.lru_lists.specs.declared.record.LruList.{LruList}
+use Rattle.lru_lists.specs.declared.packed.Packed.{Packed}
+
+-- the neighbour that a number stands for: the greatest of 32 bits stands for none
+abbrev pub number_of : ℕ → Option ℕ
+number_of n = if n == 4294967295 then None else Some n
+
+-- a neighbour for which a number stands
+abbrev pub IsNumber : Option ℕ → Type 0
+IsNumber unit = IfSome unit (λ u. u < 4294967295)
+
+-- the home of an owner's list, where there is one
+abbrev pub home_of_list : Option LruList → ℕ → Option Home
+home_of_list None owner = None
+home_of_list (Some list) owner = Some (record { owner = owner; list = list })
+
+-- the record that is packed
+abbrev pub link_of : Packed → Link
+link_of p = record {
+  home = home_of_list p.list p.owner;
+  older = number_of p.older;
+  newer = number_of p.newer;
+  is_marked = p.is_marked;
+  is_dirty = p.is_dirty;
+}
+
+-- the records that are packed
+abbrev pub links_of : List Packed → List Link
+links_of records = map link_of records

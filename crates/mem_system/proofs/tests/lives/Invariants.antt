@@ -1,4 +1,0 @@
-use Rattle.mem_system.proofs.tests.lives.Given as goal
-
-abbrev pub decreases-loop-cpu : goal.decreases-loop-cpu
-decreases-loop-cpu g l = goal.left-loop-cpu g l

@@ -1,7 +1,0 @@
-use Rattle.std.proofs.Common.{◌≡◌, ◌++◌, take}
-use Rattle.std.specs.String.{string_bytes}
-use Rattle.script_desk.specs.Texts.{characters}
-use Rattle.script_desk.proofs.reply.push_characters.Given as goal
-
-abbrev pub invariant-loop-code : goal.invariant-loop-code
-invariant-loop-code l = string_bytes l.text ≡ string_bytes l.initial.text ++ characters (take l.code-index l.codes)

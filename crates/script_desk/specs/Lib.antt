@@ -1,3 +1,0 @@
-pub mod Desk
-pub mod Places
-pub mod Texts

@@ -1,0 +1,39 @@
+-- What the lines of a script name is there, by the sizes that it was read with.
+use Rattle.std.proofs.Common.{ℕ, zero, suc, List, [], ◌∷◌, All, arith}
+use Rattle.std.specs.List.{AllZip}
+use Rattle.zone_sizes.specs.declared.config.Config.{Config}
+use Rattle.script_lines.specs.declared.line.Command.{Command}
+use Rattle.script_lines.specs.declared.line.Command.TheVariants.{Fast, Release, Get, Put, Touch}
+use Rattle.script_lines.specs.declared.line.Command.TheVariants.{Dirty, Clean, Owner}
+use Rattle.script_lines.specs.declared.line.Line.{Line}
+use Rattle.script_lines.specs.declared.line.Line.TheVariants.{Go, At}
+use Rattle.script_lines.specs.Script.{IsCommandText, IsLineText, IsScript, asking_texts, texts_of}
+use Rattle.script_replay.specs.Ranges.{LineIsThere, NamesInRange}
+
+-- what the command's text names is in range
+named_in_range : (sizes : Config) (command : Command) (text : List ℕ) → IsCommandText sizes command text → NamesInRange sizes.frames command
+named_in_range sizes (Fast group) text is = is.2.low
+named_in_range sizes (Release frame) text is = is.2.in_zone
+named_in_range sizes (Get frame) text is = is.2.in_zone
+named_in_range sizes (Put frame) text is = is.2.in_zone
+named_in_range sizes (Touch frame) text is = is.2.in_zone
+named_in_range sizes (Dirty frame) text is = is.2.in_zone
+named_in_range sizes (Clean frame) text is = is.2.in_zone
+named_in_range sizes (Owner frame) text is = is.2.in_zone
+named_in_range sizes command text is = tt
+
+line_there : (sizes : Config) (line : Line) (text : List ℕ) → IsLineText sizes line text → LineIsThere sizes.frames sizes.cpus line
+line_there sizes Go text is = tt
+line_there sizes (At processor command) text is =
+    record { low = is.low; high = is.high; names = named_in_range sizes command is.rest is.command_text }
+
+lines_there : (sizes : Config) (texts : List (List ℕ)) (lines : List Line) → AllZip (λ text line. IsLineText sizes line text) texts lines
+    → All (LineIsThere sizes.frames sizes.cpus) lines
+lines_there sizes texts [] zip k d h = absurd (omega arith)
+lines_there sizes [] (line ∷ lines) zip k d h = absurd zip
+lines_there sizes (text ∷ texts) (line ∷ lines) zip zero d h = line_there sizes line text zip.0
+lines_there sizes (text ∷ texts) (line ∷ lines) zip (suc k) d h = lines_there sizes texts lines zip.1 k d (omega arith)
+
+-- so it is with all lines of a script
+pub script_there : (sizes : Config) (script : List ℕ) (lines : List Line) → IsScript sizes script lines → All (LineIsThere sizes.frames sizes.cpus) lines
+script_there sizes script lines is = lines_there sizes (asking_texts (texts_of script)) lines is.says
