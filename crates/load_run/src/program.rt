@@ -144,3 +144,5 @@ pub fn tell<F: Write>(faults: &mut F, fault: &ProgramFault) -> u8
 mod rows;
 #[cfg(test)]
 mod tests;
+#[cfg(test)]
+mod visits;

@@ -20,6 +20,7 @@ use mem_machine::Machine;
 use zone_sizes::config::Config;
 
 // Obeys the command inside the visit.
+#[inline(always)]
 fn obey<N: BootName>(
     machine: &mut Machine<N>,
     tables: &Tables<N>,
@@ -57,6 +58,7 @@ fn obey<N: BootName>(
 
 /// Serves one command of the processor, which holds the lock: its visit is opened, its fresh and back frames are settled, the
 /// command is obeyed, and the visit is shut. A frame that the command names is one of the zone's.
+#[inline(always)]
 pub fn serve<N: BootName>(
     locked: &mut Locked<N>,
     tables: &Tables<N>,

@@ -67,6 +67,7 @@ impl<N: BootName> System<N> {
     /// Serves one command of the processor: takes the lock, serves, and gives the lock back. A frame that the command names is
     /// one of the zone's. No clause can name what lies behind the lock, so it is said that there was such a value: no visit was
     /// open in it, and it was served as `serve` says.
+    #[inline(always)]
     pub fn visit<R: Wait>(&self, rt: &R, cpu: &mut Cpu<N>, cmd: &Cmd<'_>) -> Reply
         requires { IsOfZone N.frames cmd.now }
         ensures served { (l k : KnownLocked) × IsQuiet N.frames N.stocks l × BySteps N.frames l.machine cpu.old k.machine cpu.new
@@ -78,6 +79,7 @@ impl<N: BootName> System<N> {
 
     /// Serves one command of the processor as `visit` does, and calls the gate's `inside` once, while it holds the lock and
     /// before the command is served.
+    #[inline(always)]
     pub fn visit_with<R: Wait, G: Gate>(
         &self,
         rt: &R,

@@ -4,8 +4,9 @@ use crate::account::Account;
 use crate::turns::{file, path};
 use crate::visits::{owner, reads};
 use cpu_part::{BootName, Cpu, Tables};
+use mem_core::zone::Core;
 use mem_system::{Cmd, System};
-use std::alloc::Global;
+use std::alloc::{AllocError, Global};
 use std::process::Abort;
 use std::sync::Wait;
 
@@ -55,6 +56,37 @@ pub fn groups_alike<N: BootName, R: Wait + Abort>(
         assert_eq!(rt; system.find(rt, path), account.core.tree().find(path));
         files_alike(rt, alloc, system, looker, account, path);
     }
+}
+
+// The free blocks, by order and then by address, as the core's areas tell them.
+fn tell_blocks(core: &Core, text: &mut String) -> Result<(), AllocError> {
+    for block in core.areas().walk() {
+        if !text.is_empty() {
+            text.push(' ')?;
+        }
+        let order = block.order.exponent();
+        let at = block.at;
+        write!(text, "{order}:{at}")?;
+    }
+    if text.is_empty() {
+        text.push_str("none")?;
+    }
+    text.push('\n')?;
+    Ok(())
+}
+
+/// The same blocks are free.
+pub fn blocks_alike<N: BootName, R: Wait + Abort>(
+    rt: &R,
+    alloc: Global,
+    system: &System<N>,
+    looker: &mut Cpu<N>,
+    account: &Account,
+) {
+    let told = system.blocks(rt, alloc, looker).expect(rt, "memory");
+    let mut text = String::new(alloc);
+    assert!(rt; tell_blocks(&account.core, &mut text).is_ok());
+    assert!(rt; told.as_str() == text.as_str());
 }
 
 /// The processor has as many frames on its list, as many fresh, back and pinned, and the same fresh ones.

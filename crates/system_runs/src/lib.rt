@@ -7,6 +7,8 @@ mod account;
 #[cfg(test)]
 mod alike;
 #[cfg(test)]
+mod calls;
+#[cfg(test)]
 mod charging;
 #[cfg(test)]
 mod ends;

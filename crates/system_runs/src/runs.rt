@@ -3,7 +3,7 @@
 ghost use Rattle.std.specs.Prelude.{◌≡◌};
 
 use crate::account::Account;
-use crate::alike::{groups_alike, lists_alike, places_alike, units_alike};
+use crate::alike::{blocks_alike, groups_alike, lists_alike, places_alike, units_alike};
 use crate::ends::shuts_down;
 use crate::plays::play;
 use crate::tally::Tally;
@@ -60,6 +60,7 @@ fn compare<N: BootName, R: Wait + Abort>(
     account: &Account,
 ) {
     places_alike(rt, system, looker, account);
+    blocks_alike(rt, alloc, system, looker, account);
     groups_alike(rt, alloc, system, looker, account);
     units_alike(rt, account);
 }

@@ -1,10 +1,16 @@
+use crate::command_line::options;
 use crate::program::drive;
 use crate::program::rows::{Row, group_rows, processor_rows};
+use crate::program::visits::visit_all;
+use mem_system::boot;
+use script_lines::script::parse_script;
 use std::alloc::{AllocError, Global};
 use std::cmp::min;
 use std::io;
 use std::io::{ErrorKind, Read, Write};
+use std::marker::Brand;
 use std::process::Abort;
+use std::sync::Wait;
 use std::test::Fail;
 
 // A script that is read a few bytes at a time, and fails where it says so.
@@ -135,6 +141,33 @@ fn answers<R: AllocGlobal + Abort>(rt: &R, row: &Row) -> Result<(), AllocError> 
         row.name
     );
     assert!(rt; outcome.faults.is_empty(), "{}", row.name);
+    Ok(())
+}
+
+// The row is answered alike by visits, but for its end.
+fn visits_answer<R: AllocGlobal + Abort + Wait>(rt: &R, row: &Row) -> Result<(), Fail> {
+    let alloc = rt.alloc();
+    let words: Vec<&str> = row.words.split(' ').collect(alloc)?;
+    let sizes = options(alloc, &words)?.sizes;
+    let lines = parse_script(alloc, row.script.as_bytes(), &sizes)?;
+    let boot = boot(alloc, sizes).expect(rt, row.name);
+    let answers = visit_all::<Brand, _>(rt, alloc, boot, &lines)?;
+    assert!(rt;
+        answers.as_slice() == row.answers.as_bytes(),
+        "{}",
+        row.name
+    );
+    Ok(())
+}
+
+#[test]
+fn visits_answer_each_row(rt: HostRuntime) -> Result<(), Fail> {
+    for row in group_rows().iter() {
+        visits_answer(&rt, row)?;
+    }
+    for row in processor_rows().iter() {
+        visits_answer(&rt, row)?;
+    }
     Ok(())
 }
 
