@@ -49,7 +49,8 @@ named_in (c ∷ cs) text v names e =
 
 -- a text that names a command is its name
 pub named : (text : List ℕ) (v : Verb) → verb_named text ≡ Some v → text ≡ name_of v
-named text v e = named_in named_commands text v (refl, (refl, (refl, (refl, (refl, (refl, (refl, (refl, (refl, (refl, (refl, (refl, (refl, (refl, (refl, (refl, tt)))))))))))))))) e
+named text v e = named_in named_commands text v
+    (refl, (refl, (refl, (refl, (refl, (refl, (refl, (refl, (refl, (refl, (refl, (refl, (refl, (refl, (refl, (refl, tt)))))))))))))))) e
 
 -- whether a text has no space
 abbrev has_no_space : List ℕ → Bool

@@ -31,7 +31,7 @@ fn unaudited(
 }
 
 /// Groups, files and refusals, and blocks of each order.
-pub fn group_rows() -> [Row; 10] {
+pub fn group_rows() -> [Row; 12] {
     [
         unaudited(
             "groups and frames are shown",
@@ -52,10 +52,22 @@ pub fn group_rows() -> [Row; 10] {
             "group 1\nok\n8192\nok\n4096\n",
         ),
         unaudited(
-            "limits past the greatest are none",
+            "a number that is too great is refused",
             "replay",
-            "1 mkdir /a\n1 write /a memory.max 4096\n1 write /a memory.max 18446744073709551616\n1 read /a memory.max\n1 write /a memory.max 16777215T\n1 read /a memory.max\n1 write /a memory.max 17592186040320\n1 read /a memory.max\n1 write /a memory.max 17592186040321\n1 read /a memory.max\n",
-            "group 1\nok\nrefused 13 BadNumber\n4096\nok\nmax\nok\n17592186040320\nok\nmax\n",
+            "1 mkdir /a\n1 write /a memory.max 4096\n1 write /a memory.max 18446744073709551616\n1 read /a memory.max\n",
+            "group 1\nok\nrefused 13 BadNumber\n4096\n",
+        ),
+        unaudited(
+            "a limit of more pages than can be is none",
+            "replay",
+            "1 mkdir /a\n1 write /a memory.max 16777215T\n1 read /a memory.max\n",
+            "group 1\nok\nmax\n",
+        ),
+        unaudited(
+            "the greatest limit, and one byte more",
+            "replay",
+            "1 mkdir /a\n1 write /a memory.max 17592186040320\n1 read /a memory.max\n1 write /a memory.max 17592186040321\n1 read /a memory.max\n",
+            "group 1\nok\n17592186040320\nok\nmax\n",
         ),
         unaudited(
             "a group with children or pages is not taken out",

@@ -20,6 +20,6 @@ returns-in_default-alloc_fast g c = served_after g.N.BootName.frames c.args.path
   group = c.in-Some.group;
   found = sym c.in-Some.ensures.found;
   fast = c.alloc_fast.result;
-  answers = subst (λ (group : ℕ). FastAnswers group c.alloc_fast.result c.args.cpu.now c.alloc_fast.new.self) c.number.ensures.value c.alloc_fast.ensures.answer;
+  answers = subst (λ (g : ℕ). FastAnswers g c.alloc_fast.result c.args.cpu.now c.alloc_fast.new.self) c.number.ensures.value c.alloc_fast.ensures.answer;
   none = c.in_default-alloc_fast.not-Got;
 }) c.served.ensures

@@ -10,7 +10,7 @@ replay_lines-answers-requires g c =
     let w = g.N.BootName.stocks in
     let sized = sized_as c.args.boot.sizes _ t _ w c.requires.sized c.requires.names in
     let long : length c.deref_mut.result.now ≡ c.args.boot.sizes.cpus =
-    ap length (c.deref_mut.ensures.value ∙ c.in_ok-system.ensures) ∙ first_long t w 1 c.args.boot.sizes.cpus in
+    ap length (c.deref_mut.ensures.value ∙ c.in_ok-system.ensures.cpus) ∙ first_long t w 1 c.args.boot.sizes.cpus in
     subst (λ (b : ℕ × ℕ). All (LineIsThere b.0 b.1) c.args.lines.now) (λ i. (sym sized.frames i, sym long i)) c.requires.lines
 
 pub shut-requires : goal.shut-requires
@@ -20,5 +20,6 @@ shut-requires g c =
     let sized = sized_as c.args.boot.sizes _ t _ w c.requires.sized c.requires.names in
     let first = c.deref_mut.ensures.value in
     let long : length c.replay_lines-answers.new.cpus ≡ length c.in_ok-system.cpus.items = c.replay_lines-answers.auto.cpus ∙ ap length first in
-    let same = written_back c.in_ok-system.cpus.len c.replay_lines-answers.new.cpus c.in_ok-system.cpus.items long (sym c.deref_mut.ensures.len ∙ ap length first) in
-    ap length same ∙ long ∙ ap length c.in_ok-system.ensures ∙ first_long t w 1 c.args.boot.sizes.cpus ∙ sym sized.cpus
+    let size = sym c.deref_mut.ensures.len ∙ ap length first in
+    let same = written_back c.in_ok-system.cpus.len c.replay_lines-answers.new.cpus c.in_ok-system.cpus.items long size in
+    ap length same ∙ long ∙ ap length c.in_ok-system.ensures.cpus ∙ first_long t w 1 c.args.boot.sizes.cpus ∙ sym sized.cpus
