@@ -1,5 +1,5 @@
 -- What each command does to the machine, what it answers, and its steps.
-use Rattle.std.specs.Prelude.{◌≡◌, ℕ, true, false, ◌<◌, ◌≤◌, Option, Some, List, [], ◌++◌}
+use Rattle.std.specs.Prelude.{◌≡◌, ℕ, true, false, ◌<◌, ◌≤◌, Option, Some, None, List, [], ◌++◌}
 use Rattle.frame_word.specs.Seats.{KnownTable, seat_with_visit}
 use Rattle.group_tree.specs.Groups.{make_fault}
 use Rattle.group_tree.specs.declared.fault.Fault.TheVariants.{Busy}
@@ -28,9 +28,10 @@ use Rattle.mem_system.specs.Kept.{TouchesFrame, NotesDirt}
 use Rattle.mem_system.specs.Releases.{ReleasesFrame}
 use Rattle.mem_system.specs.Allocs.{Allocates, FreshOf}
 
--- Mkdir: the group is made, as the machine makes it; or it is refused for the first cause that holds, and nothing changed
+-- Mkdir: no cause of a refusal holds, and the group is made, as the machine makes it; or it is refused for the first cause that
+-- holds, and nothing changed
 abbrev pub MakesGroup : KnownMachine → List ℕ → Reply → Run → KnownMachine → Type 0
-MakesGroup m path (Group n) steps after = Makes m n path after × (steps ≡ make_steps path n)
+MakesGroup m path (Group n) steps after = (make_fault m.ledger.groups path ≡ None) × Makes m n path after × (steps ≡ make_steps path n)
 MakesGroup m path (Refused fault) steps after = (make_fault m.ledger.groups path ≡ Some fault) × (after ≡ m) × (steps ≡ [])
 MakesGroup m path other steps after = ⊥
 

@@ -46,7 +46,8 @@ pub record Empties (m : KnownMachine) (c : KnownCpu) (steps : Run) (n : KnownMac
   pub drained : KnownMachine
   pub drains : Drains emptied c.number pages drained
   pub machine : n ≡ with_visit_of drained c.number 0
-  pub steps_are : steps ≡ open_steps c.number ++ (drain_list_steps c.number c.list ++ (drain_steps c.number (stock_group emptied c.number) pages ++ shut_steps c.number))
+  pub steps_are : steps ≡ open_steps c.number
+      ++ (drain_list_steps c.number c.list ++ (drain_steps c.number (stock_group emptied c.number) pages ++ shut_steps c.number))
 
 -- so it is with these processors, one after the other, each by local steps of its own
 abbrev pub InTurn : KnownTable → Happens → KnownMachine → List KnownCpu → KnownMachine → List KnownCpu → Type 0
@@ -89,10 +90,11 @@ pub record AddsUp (a : Audit) : Type 0 where
   pub places : a.free + a.charged ≡ a.frames
   pub balances : a.returns ≡ min (a.last_puts + a.freezes + a.drops) max_count
 
--- the processor's seats at the two tables
+-- the processor's seat at the frames' table
 abbrev pub frame_seat_of : KnownCpu → KnownSeat
 frame_seat_of c = c.seat
 
+-- and that at the stocks' table
 abbrev pub stock_seat_of : KnownCpu → Seated
 stock_seat_of c = c.stock
 

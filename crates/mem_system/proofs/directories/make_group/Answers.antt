@@ -7,7 +7,7 @@ use Rattle.mem_system.proofs.directories.make_group.Goals as goal
 
 pub returns-in-Ok : goal.returns-in-Ok
 returns-in-Ok g c = record {
-  made = λ x. (make_steps c.args.path.now c.in-Ok.group, (c.in-Ok.ensures.made, refl), c.in-Ok.ensures.steps x);
+  made = λ x. (make_steps c.args.path.now c.in-Ok.group, (sym c.in-Ok.ensures.refused, c.in-Ok.ensures.made, refl), c.in-Ok.ensures.steps x);
   seat = ap (λ (k : KnownMachine). k.seat) c.in-Ok.ensures.made.machine;
 }
 
