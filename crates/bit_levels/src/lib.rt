@@ -4,6 +4,4 @@
 
 pub mod bits;
 pub mod levels;
-#[cfg(test)]
-mod tests;
 mod word;

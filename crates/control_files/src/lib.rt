@@ -3,6 +3,4 @@
 
 pub mod file;
 pub mod limit;
-#[cfg(test)]
-mod tests;
 pub mod text;

@@ -6,8 +6,4 @@
 
 pub mod account;
 pub mod charges;
-#[cfg(test)]
-mod plain;
-#[cfg(test)]
-mod tests;
 mod walks;

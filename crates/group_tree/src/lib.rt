@@ -9,6 +9,4 @@ pub mod fault;
 pub mod group;
 mod names;
 pub mod path;
-#[cfg(test)]
-mod tests;
 pub mod tree;

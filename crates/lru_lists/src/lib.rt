@@ -8,5 +8,3 @@ pub mod lru;
 mod packed;
 mod queue;
 pub mod record;
-#[cfg(test)]
-mod tests;

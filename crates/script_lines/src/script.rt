@@ -275,6 +275,3 @@ fn path_of(text: &[u8]) -> Option<&[u8]>
     }
     Some(text)
 }
-
-#[cfg(test)]
-mod tests;

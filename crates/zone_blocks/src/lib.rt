@@ -11,6 +11,4 @@ mod maximal;
 pub mod order;
 mod pairs;
 mod rings;
-#[cfg(test)]
-mod tests;
 pub mod walk;

@@ -6,5 +6,3 @@ pub mod buddy;
 mod frame;
 mod merge;
 mod split;
-#[cfg(test)]
-mod tests;

@@ -2,9 +2,10 @@ ghost use Rattle.std.specs.Prelude.{◌≡◌, ◌<◌, IfOk, length};
 ghost use Rattle.lru_lists.specs.Lists.{StandsIn, ChangesOwn, AllStand};
 ghost use Rattle.lru_lists.specs.Queue.{AreNowhere};
 
-use crate::links::Links;
-use crate::lru::{Lru, Touched};
-use crate::record::{Entry, LruList};
+use lru_lists::laws;
+use lru_lists::links::Links;
+use lru_lists::lru::{Lru, Touched};
+use lru_lists::record::{Entry, LruList};
 use rand_core::{Rng, SeedableRng};
 use rand_pcg::Pcg32;
 use std::alloc::{AllocError, Global};
@@ -194,6 +195,7 @@ fn step(
         None => word / 64 % OWNERS,
     } as usize;
     if owner < lists.len() && owner < plain.len() {
+        laws::one_of_all_changes();
         let mut lru = lists[owner];
         let called = call(rt, &mut lru, links, &mut plain[owner], unit, word);
         lists[owner] = lru;

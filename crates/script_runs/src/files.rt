@@ -1,5 +1,5 @@
-use crate::file::{File, file_named, file_text};
-use crate::limit::{Limit, read_limit, write_limit};
+use control_files::file::{File, file_named, file_text};
+use control_files::limit::{Limit, read_limit, write_limit};
 use group_charge::charges::Charges;
 use group_tree::fault::Fault;
 use group_tree::group::GroupId;

@@ -1,6 +1,6 @@
 //! The same calls on plain rows, with each usage summed anew when it is asked for, beside `Charges`.
 
-use crate::charges::{Charges, Over};
+use group_charge::charges::{Charges, Over};
 use group_tree::fault::Fault;
 use group_tree::group::{GroupId, MAX_GROUPS};
 use rand_core::{Rng, SeedableRng};

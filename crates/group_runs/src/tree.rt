@@ -1,7 +1,7 @@
-use crate::fault::Fault;
-use crate::group::{GroupId, MAX_GROUPS};
-use crate::path::PathText;
-use crate::tree::Tree;
+use group_tree::fault::Fault;
+use group_tree::group::{GroupId, MAX_GROUPS};
+use group_tree::path::PathText;
+use group_tree::tree::Tree;
 use std::test::Fail;
 
 #[test]

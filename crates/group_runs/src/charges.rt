@@ -1,5 +1,5 @@
-use crate::account::Counts;
-use crate::charges::{Charges, Over};
+use group_charge::account::Counts;
+use group_charge::charges::{Charges, Over};
 use group_tree::fault::Fault;
 use group_tree::group::GroupId;
 use std::process::Abort;

@@ -1,4 +1,4 @@
-use crate::levels::BitLevels;
+use bit_levels::levels::BitLevels;
 use std::test::Fail;
 
 // A bound of which no proof knows the number.

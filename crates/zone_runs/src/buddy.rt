@@ -1,4 +1,4 @@
-use crate::buddy::Buddy;
+use crate::pairs::pairs_of;
 use rand_core::{Rng, SeedableRng};
 use rand_pcg::Pcg32;
 use std::alloc::{AllocError, Global};
@@ -7,16 +7,7 @@ use std::test::Fail;
 use zone_blocks::areas::FreeAreas;
 use zone_blocks::block::Block;
 use zone_blocks::order::Order;
-use zone_blocks::walk::Walk;
-
-// The walk, as pairs of order and address.
-fn pairs_of(alloc: Global, walk: Walk<'_>) -> Result<Vec<(u32, u32)>, AllocError> {
-    let mut pairs = Vec::new(alloc);
-    for block in walk {
-        pairs.push((block.order.exponent(), block.at))?;
-    }
-    Ok(pairs)
-}
+use zone_buddy::buddy::Buddy;
 
 // The lines that the README shows.
 #[test]

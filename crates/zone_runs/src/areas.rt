@@ -1,18 +1,9 @@
-use crate::areas::FreeAreas;
-use crate::block::Block;
-use crate::laws;
-use crate::order::Order;
-use std::alloc::{AllocError, Global};
+use crate::pairs::pairs_of;
 use std::test::Fail;
-
-// The walk, as pairs of order and address.
-fn walk_of(alloc: Global, areas: &FreeAreas) -> Result<Vec<(u32, u32)>, AllocError> {
-    let mut pairs = Vec::new(alloc);
-    for block in areas.walk() {
-        pairs.push((block.order.exponent(), block.at))?;
-    }
-    Ok(pairs)
-}
+use zone_blocks::areas::FreeAreas;
+use zone_blocks::block::Block;
+use zone_blocks::laws;
+use zone_blocks::order::Order;
 
 // The lines that the README shows.
 #[test]
@@ -47,7 +38,7 @@ fn eleven_free_frames(rt: HostRuntime) -> Result<(), Fail> {
     let mut areas = FreeAreas::new(rt.alloc(), 11)?;
     assert!(rt; areas.walk().next().is_none());
     areas.set_from(&[true; 11]);
-    let pairs = walk_of(rt.alloc(), &areas)?;
+    let pairs = pairs_of(rt.alloc(), areas.walk())?;
     assert_eq!(rt; pairs.as_slice(), [(0, 10), (1, 8), (3, 0)].as_slice());
     Ok(())
 }
@@ -60,7 +51,7 @@ fn sixteen_frames_with_five_in_use(rt: HostRuntime) -> Result<(), Fail> {
     }
     let mut areas = FreeAreas::new(rt.alloc(), 16)?;
     areas.set_from(&free);
-    let pairs = walk_of(rt.alloc(), &areas)?;
+    let pairs = pairs_of(rt.alloc(), areas.walk())?;
     assert_eq!(rt; pairs.as_slice(), [(0, 1), (1, 2), (3, 8)].as_slice());
     Ok(())
 }

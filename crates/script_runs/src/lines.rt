@@ -1,6 +1,6 @@
-use crate::fault::ScriptFault;
-use crate::line::{Command, Line};
-use crate::script::parse_script;
+use script_lines::fault::ScriptFault;
+use script_lines::line::{Command, Line};
+use script_lines::script::parse_script;
 use std::process::Abort;
 use std::test::Fail;
 use zone_sizes::config::Config;

@@ -1,0 +1,10 @@
+//! Runs of the tree of groups and of its charges as tests, worked by hand and beside plain rows. Nothing but tests
+//! stands here.
+#![tactic(auto)]
+
+#[cfg(test)]
+mod charges;
+#[cfg(test)]
+mod plain;
+#[cfg(test)]
+mod tree;

@@ -1,0 +1,8 @@
+//! The texts that the program reads and writes, as tests: limits and files of a group, and scripts. Nothing but tests
+//! stands here.
+#![tactic(auto)]
+
+#[cfg(test)]
+mod files;
+#[cfg(test)]
+mod lines;
