@@ -1,5 +1,6 @@
 //! The same calls on plain rows, with each usage summed anew when it is asked for, beside `Charges`.
 
+use crate::calls;
 use group_charge::charges::{Charges, Over};
 use group_tree::fault::Fault;
 use group_tree::group::{GroupId, MAX_GROUPS};
@@ -198,8 +199,8 @@ fn make(
 fn remove(rt: &impl Abort, charges: &mut Charges, plain: &mut Plain, g: GroupId) {
     assert!(rt; charges.tree().contains(g));
     assert_eq!(rt; charges.tree().has_child(g), plain.has_child(g));
-    if g.number() != 0 && !charges.tree().has_child(g) && charges.current(g) == 0 {
-        charges.remove(g);
+    if g != GroupId::root() && !plain.has_child(g) && plain.usage(g) == 0 {
+        calls::remove(rt, charges, g);
         plain.rows[g.number() as usize].is_there = false;
     }
 }
@@ -211,28 +212,16 @@ fn set_max(
     g: GroupId,
     limit: Option<u32>,
 ) {
-    assert!(rt; charges.tree().contains(g));
-    charges.set_max(g, limit);
+    calls::set_max(rt, charges, g, limit);
     plain.rows[g.number() as usize].limit = limit;
-}
-
-fn charge(rt: &impl Abort, charges: &mut Charges, plain: &mut Plain, g: GroupId, n: u32) {
-    assert!(rt; charges.tree().contains(g));
-    assert!(rt; charges.fits(n));
-    assert_eq!(rt; charges.try_charge(g, n), plain.charge(g, n));
 }
 
 // Takes back n pages of the group, or as many as it has.
 fn uncharge(rt: &impl Abort, charges: &mut Charges, plain: &mut Plain, g: GroupId, n: u32) {
-    assert!(rt; charges.tree().contains(g));
-    let pages = charges.pages(g);
-    if n <= pages {
-        charges.uncharge(g, n);
-        plain.rows[g.number() as usize].pages = plain.row(g).pages.wrapping_sub(n);
-    } else {
-        charges.uncharge(g, pages);
-        plain.rows[g.number() as usize].pages = 0;
-    }
+    let pages = plain.row(g).pages;
+    let taken = n.min(pages);
+    calls::uncharge(rt, charges, g, taken);
+    plain.rows[g.number() as usize].pages = pages.wrapping_sub(taken);
 }
 
 // Makes one call, picked by two random words, on both.
@@ -255,7 +244,7 @@ fn call(
         2 => remove(rt, charges, plain, g),
         3 if few < 4 => set_max(rt, charges, plain, g, None),
         3 => set_max(rt, charges, plain, g, Some((word / 64) % 40)),
-        4 | 5 => charge(rt, charges, plain, g, few),
+        4 | 5 => calls::charge(rt, charges, g, few, plain.charge(g, few)),
         _ => uncharge(rt, charges, plain, g, 4 * few),
     }
     Ok(())

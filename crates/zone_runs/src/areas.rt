@@ -1,4 +1,5 @@
-use crate::pairs::pairs_of;
+use crate::walks::walks;
+use std::process::Abort;
 use std::test::Fail;
 use zone_blocks::areas::FreeAreas;
 use zone_blocks::block::Block;
@@ -38,8 +39,7 @@ fn eleven_free_frames(rt: HostRuntime) -> Result<(), Fail> {
     let mut areas = FreeAreas::new(rt.alloc(), 11)?;
     assert!(rt; areas.walk().next().is_none());
     areas.set_from(&[true; 11]);
-    let pairs = pairs_of(rt.alloc(), areas.walk())?;
-    assert_eq!(rt; pairs.as_slice(), [(0, 10), (1, 8), (3, 0)].as_slice());
+    walks(&rt, areas.walk(), &[(0, 10), (1, 8), (3, 0)]);
     Ok(())
 }
 
@@ -51,9 +51,16 @@ fn sixteen_frames_with_five_in_use(rt: HostRuntime) -> Result<(), Fail> {
     }
     let mut areas = FreeAreas::new(rt.alloc(), 16)?;
     areas.set_from(&free);
-    let pairs = pairs_of(rt.alloc(), areas.walk())?;
-    assert_eq!(rt; pairs.as_slice(), [(0, 1), (1, 2), (3, 8)].as_slice());
+    walks(&rt, areas.walk(), &[(0, 1), (1, 2), (3, 8)]);
     Ok(())
+}
+
+// The order of this exponent.
+fn order(rt: &impl Abort, exponent: u32) -> Order {
+    match Order::of(exponent) {
+        Some(order) => order,
+        None => panic!(rt; "no order {exponent}"),
+    }
 }
 
 // Puts a block in, if that may be done.
@@ -71,25 +78,30 @@ fn take(areas: &mut FreeAreas, at: u32, order: Order) {
     }
 }
 
+// The pair of the first block of this order has this bit.
+fn has_bit(rt: &impl Abort, areas: &FreeAreas, order: Order, bit: Option<bool>) {
+    assert_eq!(rt; areas.pair_bit(Block { at: 0, order }), bit, "{order:?}");
+}
+
 // Sixteen frames, of which a single frame is taken, and then four.
 #[test]
 fn bits_of_pairs(rt: HostRuntime) -> Result<(), Fail> {
-    let zero = Order::of(0).ok_or("order 0")?;
-    let one = Order::of(1).ok_or("order 1")?;
-    let two = Order::of(2).ok_or("order 2")?;
-    let three = Order::of(3).ok_or("order 3")?;
-    let four = Order::of(4).ok_or("order 4")?;
+    let zero = order(&rt, 0);
+    let one = order(&rt, 1);
+    let two = order(&rt, 2);
+    let three = order(&rt, 3);
+    let four = order(&rt, 4);
     let mut areas = FreeAreas::new(rt.alloc(), 16)?;
     areas.set_from(&[true; 16]);
     take(&mut areas, 0, four);
     for (at, order) in [(8, three), (4, two), (2, one), (1, zero)] {
         put(&mut areas, at, order);
     }
-    assert_eq!(rt; areas.pair_bit(Block { at: 0, order: two }), Some(true));
+    has_bit(&rt, &areas, two, Some(true));
     take(&mut areas, 4, two);
-    assert_eq!(rt; areas.pair_bit(Block { at: 0, order: zero }), Some(true));
-    assert_eq!(rt; areas.pair_bit(Block { at: 0, order: two }), Some(false));
-    assert_eq!(rt; areas.pair_bit(Block { at: 0, order: four }), None);
+    has_bit(&rt, &areas, zero, Some(true));
+    has_bit(&rt, &areas, two, Some(false));
+    has_bit(&rt, &areas, four, None);
     Ok(())
 }
 
@@ -100,8 +112,7 @@ fn a_whole_zone_is_blocks_of_the_greatest_order(rt: HostRuntime) -> Result<(), F
     areas.set_from(free.as_slice());
     let mut at = 0;
     for block in areas.walk() {
-        assert_eq!(rt; block.order.exponent(), 10);
-        assert_eq!(rt; block.at, at);
+        assert_eq!(rt; (block.order.exponent(), block.at), (10, at));
         at = at.wrapping_add(1024);
     }
     assert_eq!(rt; at, 65_536);
@@ -110,14 +121,13 @@ fn a_whole_zone_is_blocks_of_the_greatest_order(rt: HostRuntime) -> Result<(), F
 
 #[test]
 fn a_block_is_put_in_and_taken_out(rt: HostRuntime) -> Result<(), Fail> {
-    let one = Order::of(1).ok_or("order 1")?;
-    let two = Order::of(2).ok_or("order 2")?;
+    let one = order(&rt, 1);
+    let two = order(&rt, 2);
     let mut areas = FreeAreas::new(rt.alloc(), 16)?;
-    areas.insert(Block { at: 8, order: one });
+    put(&mut areas, 8, one);
     assert_eq!(rt; areas.first(one), Some(Block { at: 8, order: one }));
-    assert!(rt; areas.first(two).is_none());
-    assert!(rt; areas.smallest_from(two).is_none());
-    areas.remove(Block { at: 8, order: one });
+    assert_eq!(rt; (areas.first(two), areas.smallest_from(two)), (None, None));
+    take(&mut areas, 8, one);
     assert!(rt; areas.smallest_from(one).is_none());
     Ok(())
 }

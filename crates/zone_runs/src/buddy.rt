@@ -1,4 +1,4 @@
-use crate::pairs::pairs_of;
+use crate::walks::walks;
 use rand_core::{Rng, SeedableRng};
 use rand_pcg::Pcg32;
 use std::alloc::{AllocError, Global};
@@ -24,20 +24,30 @@ fn a_block_is_taken_and_given_back(rt: HostRuntime) -> Result<(), Fail> {
     Ok(())
 }
 
+// Takes a block, which has to be this one.
+fn takes(rt: &impl Abort, zone: &mut Buddy, order: Order, block: Option<Block>) {
+    assert_eq!(rt; zone.take(order), block);
+}
+
+// Gives the block, which has to be in use.
+fn gives(rt: &impl Abort, zone: &mut Buddy, block: Block) {
+    let given = block;
+    assert!(rt; zone.is_in_use(block));
+    zone.give(given);
+}
+
 #[test]
 fn sixteen_frames_one_by_one(rt: HostRuntime) -> Result<(), Fail> {
     let single = Order::of(0).ok_or("order 0")?;
     let mut zone = Buddy::new(rt.alloc(), 16)?;
     for at in 0..16 {
-        assert_eq!(rt; zone.take(single), Some(Block { at, order: single }));
+        takes(&rt, &mut zone, single, Some(Block { at, order: single }));
     }
-    assert!(rt; zone.take(single).is_none());
+    takes(&rt, &mut zone, single, None);
     for at in [7, 0, 12, 3, 15, 8, 1, 14, 6, 9, 2, 11, 5, 10, 4, 13] {
-        assert!(rt; zone.is_in_use(Block { at, order: single }));
-        zone.give(Block { at, order: single });
+        gives(&rt, &mut zone, Block { at, order: single });
     }
-    let pairs = pairs_of(rt.alloc(), zone.blocks())?;
-    assert_eq!(rt; pairs.as_slice(), [(4, 0)].as_slice());
+    walks(&rt, zone.blocks(), &[(4, 0)]);
     Ok(())
 }
 
@@ -48,31 +58,21 @@ fn the_greatest_zone_is_taken_and_given_back(rt: HostRuntime) -> Result<(), Fail
     let mut zone = Buddy::new(rt.alloc(), 65_536)?;
     for index in 0..64_u32 {
         let at = index * 1024;
-        assert_eq!(rt; zone.take(order), Some(Block { at, order }));
+        takes(&rt, &mut zone, order, Some(Block { at, order }));
     }
-    assert!(rt; zone.take(single).is_none());
+    takes(&rt, &mut zone, single, None);
     for index in 0..64_u32 {
         let at = index * 1024;
-        assert!(rt; zone.is_in_use(Block { at, order }));
-        zone.give(Block { at, order });
+        gives(&rt, &mut zone, Block { at, order });
     }
     let front = Block {
         at: 0,
         order: single,
     };
-    assert_eq!(rt; zone.take(single), Some(front));
-    assert_eq!(rt; pairs_of(rt.alloc(), zone.blocks())?.len(), 73);
-    assert!(rt;
-        zone.is_in_use(Block {
-            at: 0,
-            order: single
-        })
-    );
-    zone.give(Block {
-        at: 0,
-        order: single,
-    });
-    assert_eq!(rt; pairs_of(rt.alloc(), zone.blocks())?.len(), 64);
+    takes(&rt, &mut zone, single, Some(front));
+    assert_eq!(rt; zone.blocks().count(), 73);
+    gives(&rt, &mut zone, front);
+    assert_eq!(rt; zone.blocks().count(), 64);
     Ok(())
 }
 
@@ -80,11 +80,7 @@ fn the_greatest_zone_is_taken_and_given_back(rt: HostRuntime) -> Result<(), Fail
 fn one_frame_of_sixteen(rt: HostRuntime) -> Result<(), Fail> {
     let mut zone = Buddy::new(rt.alloc(), 16)?;
     zone.take_frame(5);
-    let pairs = pairs_of(rt.alloc(), zone.blocks())?;
-    assert_eq!(rt;
-        pairs.as_slice(),
-        [(0, 4), (1, 6), (2, 0), (3, 8)].as_slice()
-    );
+    walks(&rt, zone.blocks(), &[(0, 4), (1, 6), (2, 0), (3, 8)]);
     Ok(())
 }
 
@@ -129,9 +125,7 @@ fn take_or_give(
         let index = word as usize / 2 % held.len();
         let block = held.swap_remove(index);
         mark(free, &block, true);
-        let given = block;
-        assert!(rt; zone.is_in_use(block));
-        zone.give(given);
+        gives(rt, zone, block);
     }
     Ok(())
 }
@@ -192,10 +186,8 @@ fn compare(
             plain.set_from(free);
         }
         let wanted = maximal_of(rt.alloc(), free)?;
-        let found = pairs_of(rt.alloc(), zone.blocks())?;
-        assert!(rt; found.as_slice() == wanted.as_slice());
-        let set = pairs_of(rt.alloc(), plain.walk())?;
-        assert!(rt; set.as_slice() == wanted.as_slice());
+        walks(rt, zone.blocks(), wanted.as_slice());
+        walks(rt, plain.walk(), wanted.as_slice());
     }
     Ok(())
 }

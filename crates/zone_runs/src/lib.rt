@@ -11,4 +11,4 @@ mod levels;
 #[cfg(test)]
 mod lists;
 #[cfg(test)]
-mod pairs;
+mod walks;
