@@ -1,6 +1,7 @@
 use script_lines::fault::ScriptFault;
 use script_lines::line::{Command, Line};
 use script_lines::script::parse_script;
+use std::alloc::{AllocError, Global};
 use std::process::Abort;
 use std::test::Fail;
 use zone_sizes::config::Config;
@@ -23,16 +24,16 @@ fn bad_line(rt: &(impl Abort + AllocGlobal), script: &[u8]) -> usize {
     }
 }
 
-// The command of the script's one line.
-fn command_of<'a>(rt: &(impl Abort + AllocGlobal), script: &'a [u8]) -> Command<'a> {
+// The script's one line has this command, at the one processor.
+fn reads(rt: &(impl Abort + AllocGlobal), script: &[u8], command: Command<'_>) {
     match parse_script(rt.alloc(), script, &SIZES) {
-        Ok(lines) => match lines.first() {
-            Some(Line::At { processor, command }) => {
-                assert_eq!(rt; *processor, 1);
-                *command
-            }
-            _ => panic!(rt; "no command"),
-        },
+        Ok(lines) => {
+            let line = Line::At {
+                processor: 1,
+                command,
+            };
+            assert_eq!(rt; lines.first(), Some(&line), "{script:?}");
+        }
         Err(_) => panic!(rt; "a bad script"),
     }
 }
@@ -40,20 +41,28 @@ fn command_of<'a>(rt: &(impl Abort + AllocGlobal), script: &'a [u8]) -> Command<
 #[test]
 fn reads_each_command(rt: HostRuntime) -> Result<(), Fail> {
     let path: &[u8] = b"/a/b";
-    assert!(rt; command_of(&rt, b"# a comment\n\n1 mkdir /a/b\n") == Command::Mkdir { path });
-    assert!(rt; command_of(&rt, b"1 rmdir /a/b") == Command::Rmdir { path });
-    assert!(rt; command_of(&rt, b"01 alloc /a/b 0010") == Command::Alloc { path, order: 10 });
-    assert!(rt; command_of(&rt, b"1 fast 63") == Command::Fast { group: 63 });
-    assert!(rt; command_of(&rt, b"1 release 15") == Command::Release { frame: 15 });
-    assert!(rt; command_of(&rt, b"1 get 0") == Command::Get { frame: 0 });
-    assert!(rt; command_of(&rt, b"1 put 1") == Command::Put { frame: 1 });
-    assert!(rt; command_of(&rt, b"1 settle") == Command::Settle);
-    assert!(rt; command_of(&rt, b"1 touch 2") == Command::Touch { frame: 2 });
-    assert!(rt; command_of(&rt, b"1 dirty 3") == Command::Dirty { frame: 3 });
-    assert!(rt; command_of(&rt, b"1 clean 4") == Command::Clean { frame: 4 });
-    assert!(rt; command_of(&rt, b"1 owner 5") == Command::Owner { frame: 5 });
-    assert!(rt; command_of(&rt, b"1 blocks") == Command::Blocks);
-    assert!(rt; command_of(&rt, b"1 show") == Command::Show);
+    reads(
+        &rt,
+        b"# a comment\n\n1 mkdir /a/b\n",
+        Command::Mkdir { path },
+    );
+    reads(&rt, b"1 rmdir /a/b", Command::Rmdir { path });
+    reads(
+        &rt,
+        b"01 alloc /a/b 0010",
+        Command::Alloc { path, order: 10 },
+    );
+    reads(&rt, b"1 fast 63", Command::Fast { group: 63 });
+    reads(&rt, b"1 release 15", Command::Release { frame: 15 });
+    reads(&rt, b"1 get 0", Command::Get { frame: 0 });
+    reads(&rt, b"1 put 1", Command::Put { frame: 1 });
+    reads(&rt, b"1 settle", Command::Settle);
+    reads(&rt, b"1 touch 2", Command::Touch { frame: 2 });
+    reads(&rt, b"1 dirty 3", Command::Dirty { frame: 3 });
+    reads(&rt, b"1 clean 4", Command::Clean { frame: 4 });
+    reads(&rt, b"1 owner 5", Command::Owner { frame: 5 });
+    reads(&rt, b"1 blocks", Command::Blocks);
+    reads(&rt, b"1 show", Command::Show);
     let script = b"1 show\ngo\n1 show";
     let lines = parse_script(rt.alloc(), script.as_slice(), &SIZES)?;
     assert_eq!(rt; lines.len(), 3);
@@ -67,11 +76,11 @@ fn a_value_is_all_that_follows_the_space(rt: HostRuntime) {
     let file: &[u8] = b"memory.max";
     let value: &[u8] = b" \0 1k ";
     let write = Command::Write { path, file, value };
-    assert!(rt; command_of(&rt, b"1 write /a memory.max  \0 1k \n") == write);
+    reads(&rt, b"1 write /a memory.max  \0 1k \n", write);
     let value: &[u8] = b"";
     let empty = Command::Write { path, file, value };
-    assert!(rt; command_of(&rt, b"1 write /a memory.max \n") == empty);
-    assert!(rt; command_of(&rt, b"1 read /a memory.max\n") == Command::Read { path, file });
+    reads(&rt, b"1 write /a memory.max \n", empty);
+    reads(&rt, b"1 read /a memory.max\n", Command::Read { path, file });
 }
 
 #[test]
@@ -131,35 +140,39 @@ fn refuses_what_is_not_in_the_grammar(rt: HostRuntime) {
 
 #[test]
 fn a_line_has_1024_bytes(rt: HostRuntime) -> Result<(), Fail> {
-    let mut script = b"1 mkdir /".to_vec(rt.alloc())?;
-    for _ in 0..1_015 {
-        script.push(b'a')?;
-    }
-    assert_eq!(rt; script.len(), 1_024);
-    assert_eq!(rt; bad_line(&rt, script.as_slice()), 0);
-    script.push(b'\n')?;
-    assert_eq!(rt; bad_line(&rt, script.as_slice()), 0);
-    script.pop();
-    script.push(b'a')?;
-    assert_eq!(rt; bad_line(&rt, script.as_slice()), 1);
+    let mut line = [b'a'; 1_025];
+    line[..9].copy_from_slice(b"1 mkdir /");
+    assert_eq!(rt; bad_line(&rt, &line[..1_024]), 0);
+    assert_eq!(rt; bad_line(&rt, &line), 1);
+    line[1_024] = b'\n';
+    assert_eq!(rt; bad_line(&rt, &line), 0);
     Ok(())
+}
+
+// So many lines, each a comment of 1,024 bytes with its end.
+fn comments(alloc: Global, count: u32) -> Result<Vec<u8>, AllocError> {
+    let mut script = Vec::new(alloc);
+    let comment = [b'#'; 1_023];
+    for _ in 0..count {
+        script.extend_from_slice(&comment)?;
+        script.push(b'\n')?;
+    }
+    Ok(script)
 }
 
 #[test]
 fn a_script_has_1048576_bytes(rt: HostRuntime) -> Result<(), Fail> {
-    let alloc = rt.alloc();
-    let mut script = Vec::new(alloc);
-    for _ in 0..1_024 {
-        script.extend_from_slice(vec![in alloc; b'#'; 1_023]?.as_slice())?;
-        script.push(b'\n')?;
-    }
+    let mut script = comments(rt.alloc(), 1_024)?;
     assert_eq!(rt; script.len(), 1_048_576);
-    assert_eq!(rt; parse_script(alloc, script.as_slice(), &SIZES)?.len(), 0);
-    script.push(b'#')?;
-    assert_eq!(rt; bad_line(&rt, script.as_slice()), 1_025);
-    script.pop();
-    script.push(b'\n')?;
-    assert_eq!(rt; bad_line(&rt, script.as_slice()), 1_025);
+    assert_eq!(rt;
+        parse_script(rt.alloc(), script.as_slice(), &SIZES)?.len(),
+        0
+    );
+    for byte in [b'#', b'\n'] {
+        script.push(byte)?;
+        assert_eq!(rt; bad_line(&rt, script.as_slice()), 1_025);
+        script.pop();
+    }
     Ok(())
 }
 
