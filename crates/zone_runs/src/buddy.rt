@@ -1,4 +1,4 @@
-use crate::walks::walks;
+use crate::walks::{count, walks};
 use rand_core::{Rng, SeedableRng};
 use rand_pcg::Pcg32;
 use std::alloc::{AllocError, Global};
@@ -65,14 +65,11 @@ fn the_greatest_zone_is_taken_and_given_back(rt: HostRuntime) -> Result<(), Fail
         let at = index * 1024;
         gives(&rt, &mut zone, Block { at, order });
     }
-    let front = Block {
-        at: 0,
-        order: single,
-    };
-    takes(&rt, &mut zone, single, Some(front));
-    assert_eq!(rt; zone.blocks().count(), 73);
-    gives(&rt, &mut zone, front);
-    assert_eq!(rt; zone.blocks().count(), 64);
+    let at = 0;
+    takes(&rt, &mut zone, single, Some(Block { at, order: single }));
+    assert_eq!(rt; count(zone.blocks()), 73);
+    gives(&rt, &mut zone, Block { at, order: single });
+    assert_eq!(rt; count(zone.blocks()), 64);
     Ok(())
 }
 

@@ -10,3 +10,12 @@ pub fn walks(rt: &impl Abort, walk: Walk<'_>, pairs: &[(u32, u32)]) {
     }
     assert!(rt; rest.next().is_none());
 }
+
+/// How many blocks a walk has.
+pub fn count(walk: Walk<'_>) -> u32 {
+    let mut count = 0_u32;
+    for _ in walk {
+        count = count.wrapping_add(1);
+    }
+    count
+}
