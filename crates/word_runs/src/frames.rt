@@ -3,79 +3,80 @@
 ghost use Rattle.std.specs.Prelude.{◌≡◌, ◌<◌};
 
 use frame_word::{Frame, FrameSeat, FrameWords, Get, Put};
+use std::process::Abort;
 use std::test::Fail;
 use std::thread;
 
 #[test]
 fn get_is_full_at_255_references(rt: HostRuntime) -> Result<(), Fail> {
     let (words, mut zone, _) = FrameWords::new(rt.alloc(), 8, 1)?;
-    assert_eq!(rt; words.frames(), 8);
-    assert_eq!(rt; words.cpus(), 1);
-    let frame = words.frame(3).ok_or("no frame")?;
+    assert!(rt; words.frames() == 8);
+    assert!(rt; words.cpus() == 1);
+    let frame = words.frame(3).expect(&rt, "frame 3");
     words.unfreeze(&mut zone, frame, 255);
-    assert_eq!(rt; words.get(&mut zone, frame), Get::Full);
+    assert!(rt; words.get(&mut zone, frame) == Get::Full);
     Ok(())
 }
 
 #[test]
 fn freeze_waits_for_the_other_seat(rt: HostRuntime) -> Result<(), Fail> {
     let (words, mut zone, mut cpus) = FrameWords::new(rt.alloc(), 8, 1)?;
-    let frame = words.frame(3).ok_or("no frame")?;
-    let mut cpu = cpus.pop().ok_or("no seat")?;
+    let frame = words.frame(3).expect(&rt, "frame 3");
+    let mut cpu = cpus.pop().expect(&rt, "a seat");
     words.unfreeze(&mut zone, frame, 1);
     let got = words.get(&mut cpu, frame);
-    assert_eq!(rt; got, Get::Held);
+    assert!(rt; got == Get::Held);
     let early = words.freeze(&mut zone, frame, 1);
     assert!(rt; !early);
-    assert_eq!(rt; words.put(&mut cpu, frame), Put::Left(1));
+    assert!(rt; words.put(&mut cpu, frame) == Put::Left(1));
     assert!(rt; words.freeze(&mut zone, frame, 1));
-    assert_eq!(rt; words.get(&mut cpu, frame), Get::Zero);
+    assert!(rt; words.get(&mut cpu, frame) == Get::Zero);
     Ok(())
 }
 
 #[test]
 fn the_last_put_has_the_frame_in_hand(rt: HostRuntime) -> Result<(), Fail> {
     let (words, mut zone, mut cpus) = FrameWords::new(rt.alloc(), 8, 1)?;
-    let frame = words.frame(3).ok_or("no frame")?;
-    let mut cpu = cpus.pop().ok_or("no seat")?;
+    let frame = words.frame(3).expect(&rt, "frame 3");
+    let mut cpu = cpus.pop().expect(&rt, "a seat");
     words.unfreeze(&mut zone, frame, 1);
     let got = words.get(&mut cpu, frame);
-    assert_eq!(rt; got, Get::Held);
-    assert_eq!(rt; words.put(&mut zone, frame), Put::Left(1));
+    assert!(rt; got == Get::Held);
+    assert!(rt; words.put(&mut zone, frame) == Put::Left(1));
     let last = words.put(&mut cpu, frame);
-    assert_eq!(rt; last, Put::Last);
-    assert_eq!(rt; words.get(&mut zone, frame), Get::Zero);
+    assert!(rt; last == Put::Last);
+    assert!(rt; words.get(&mut zone, frame) == Get::Zero);
     words.unfreeze(&mut cpu, frame, 1);
-    assert_eq!(rt; words.get(&mut zone, frame), Get::Held);
+    assert!(rt; words.get(&mut zone, frame) == Get::Held);
     Ok(())
 }
 
 #[test]
 fn frame_3_goes_to_processor_2_and_back(rt: HostRuntime) -> Result<(), Fail> {
     let (words, mut zone, mut cpus) = FrameWords::new(rt.alloc(), 8, 2)?;
-    let frame = words.frame(3).ok_or("no frame")?;
+    let frame = words.frame(3).expect(&rt, "frame 3");
     assert!(rt; words.frame(8).is_none());
-    let mut second = cpus.pop().ok_or("no seat")?;
-    let mut first = cpus.pop().ok_or("no seat")?;
-    assert_eq!(rt; second.number(), 2);
+    let mut second = cpus.pop().expect(&rt, "a seat");
+    let mut first = cpus.pop().expect(&rt, "a seat");
+    assert!(rt; second.number() == 2);
     words.open_visit(&mut zone, &mut second);
     words.pass_out(&mut zone, frame, 2);
-    assert_eq!(rt; words.get(&mut first, frame), Get::Zero);
+    assert!(rt; words.get(&mut first, frame) == Get::Zero);
     words.take_in(&mut zone, &mut second, frame);
     words.shut_visit(&mut zone, &mut second);
-    assert_eq!(rt; words.get(&mut first, frame), Get::Zero);
+    assert!(rt; words.get(&mut first, frame) == Get::Zero);
     words.open_visit(&mut zone, &mut second);
     words.pass_back(&mut zone, &mut second, frame);
-    assert_eq!(rt; words.get(&mut first, frame), Get::Zero);
+    assert!(rt; words.get(&mut first, frame) == Get::Zero);
     words.collect(&mut zone, &mut second, frame);
     words.unfreeze(&mut zone, frame, 2);
     let mut seats = Vec::new(rt.alloc());
     seats.push(first)?;
     seats.push(second)?;
     let last = words.close(zone, seats);
-    assert_eq!(rt; last.word(frame), 2);
-    assert_eq!(rt; last.visit_word(1), 0);
-    assert_eq!(rt; last.visit_word(2), 1);
+    assert!(rt; last.word(frame) == 2);
+    assert!(rt; last.visit_word(1) == 0);
+    assert!(rt; last.visit_word(2) == 1);
     Ok(())
 }
 
@@ -99,9 +100,9 @@ fn rounds(words: &FrameWords, seat: &mut FrameSeat, frame: Frame) -> bool
 #[test]
 fn two_getters(rt: HostRuntime) -> Result<(), Fail> {
     let (words, mut zone, mut cpus) = FrameWords::new(rt.alloc(), 8, 2)?;
-    let frame = words.frame(5).ok_or("no frame")?;
-    let mut one = cpus.pop().ok_or("no seat")?;
-    let mut other = cpus.pop().ok_or("no seat")?;
+    let frame = words.frame(5).expect(&rt, "frame 5");
+    let mut one = cpus.pop().expect(&rt, "a seat");
+    let mut other = cpus.pop().expect(&rt, "a seat");
     words.unfreeze(&mut zone, frame, 1);
     let table = &words;
     let (first, second) = thread::join(

@@ -30,9 +30,9 @@ fn passes<N: BootName>(rt: &impl Abort, alloc: Global, parts: Parts<8>)
     let frame = tables.frames.frame(3).expect(rt, "frame 3");
     second.open(&tables, &mut zone);
     tables.frames.pass_out(&mut zone, frame, 2);
-    assert_eq!(rt; tables.frames.get(&mut zone, frame), Get::Zero);
-    assert_eq!(rt; first.get(&tables, frame), Ok(Get::Zero));
-    assert_eq!(rt; second.get(&tables, frame), Ok(Get::Zero));
+    assert!(rt; tables.frames.get(&mut zone, frame) == Get::Zero);
+    assert!(rt; first.get(&tables, frame) == Ok(Get::Zero));
+    assert!(rt; second.get(&tables, frame) == Ok(Get::Zero));
     assert!(rt; first.is_idle());
     assert!(rt; second.is_idle());
     let _ = first.into_seats();
@@ -82,26 +82,26 @@ fn takes_fronts<N: BootName>(
     let zeroth = tables.frames.frame(0).expect(rt, "frame 0");
     let first = tables.frames.frame(1).expect(rt, "frame 1");
     let second = tables.frames.frame(2).expect(rt, "frame 2");
-    assert_eq!(rt; take_by_books(tables, machine, cpu), Some(zeroth));
-    assert_eq!(rt; cpu.last_stock(), Stock::HeldBy { group: 1, pages: 1 });
-    assert_eq!(rt; take_by_books(tables, machine, cpu), Some(first));
-    assert_eq!(rt; cpu.fresh_len(), 2);
-    assert_eq!(rt; take_by_books(tables, machine, cpu), None);
-    assert_eq!(rt; cpu.alloc_fast(tables, 1), Fast::NoStock);
+    assert!(rt; take_by_books(tables, machine, cpu) == Some(zeroth));
+    assert!(rt; cpu.last_stock() == Stock::HeldBy { group: 1, pages: 1 });
+    assert!(rt; take_by_books(tables, machine, cpu) == Some(first));
+    assert!(rt; cpu.fresh_len() == 2);
+    assert!(rt; take_by_books(tables, machine, cpu) == None);
+    assert!(rt; cpu.alloc_fast(tables, 1) == Fast::NoStock);
     drops(rt, tables, cpu, zeroth);
-    assert_eq!(rt; take_by_books(tables, machine, cpu), Some(second));
-    assert_eq!(rt; cpu.list_len(), 254);
+    assert!(rt; take_by_books(tables, machine, cpu) == Some(second));
+    assert!(rt; cpu.list_len() == 254);
     drops(rt, tables, cpu, first);
     drops(rt, tables, cpu, second);
-    assert_eq!(rt; tables.stocks.drain(machine, 1), 2);
-    assert_eq!(rt; take_by_books(tables, machine, cpu), None);
-    assert_eq!(rt; cpu.look(tables, machine), Stock::DrainedOf { group: 1 });
+    assert!(rt; tables.stocks.drain(machine, 1) == 2);
+    assert!(rt; take_by_books(tables, machine, cpu) == None);
+    assert!(rt; cpu.look(tables, machine) == Stock::DrainedOf { group: 1 });
 }
 
 // Drops a frame that is fresh, and it is listed.
 fn drops<N: BootName>(rt: &impl Abort, tables: &Tables<N>, cpu: &mut Cpu<N>, frame: Frame) {
     assert!(rt; cpu.has_fresh(frame));
-    assert_eq!(rt; cpu.drop_fresh(tables, frame), Dropped::Listed);
+    assert!(rt; cpu.drop_fresh(tables, frame) == Dropped::Listed);
 }
 
 // 256 frames are listed. None of them is taken before there is a stock.
@@ -119,12 +119,12 @@ fn pays_inside_a_visit<N: BootName>(rt: &impl Abort, alloc: Global, parts: Parts
     let tables = Tables::<N>::new(frames, stocks);
     let mut cpu = Cpu::<N>::new(alloc, seats.0, payers.0).expect(rt, "memory");
     give_first(rt, &tables, &mut zone, &mut cpu, 256);
-    assert_eq!(rt; cpu.list_len(), 256);
-    assert_eq!(rt; take_by_books(&tables, &mut machine, &mut cpu), None);
+    assert!(rt; cpu.list_len() == 256);
+    assert!(rt; take_by_books(&tables, &mut machine, &mut cpu) == None);
     cpu.fill(&tables, &mut machine, 1, 2);
     takes_fronts(rt, &tables, &mut machine, &mut cpu);
-    assert_eq!(rt; cpu.number(), 1);
-    assert_eq!(rt; cpu.list_len(), 256);
+    assert!(rt; cpu.number() == 1);
+    assert!(rt; cpu.list_len() == 256);
     give_back(&tables, &mut zone, &mut cpu);
     assert!(rt; cpu.is_idle());
     let _ = cpu.into_seats();

@@ -90,15 +90,15 @@ fn hands_over<N: BootName>(rt: &impl Abort, alloc: Global, parts: Parts<8>)
     let frame = tables.frames.frame(3).expect(rt, "frame 3");
     second.open(&tables, &mut zone);
     tables.frames.pass_out(&mut zone, frame, 2);
-    assert_eq!(rt; first.get(&tables, frame), Ok(Get::Zero));
+    assert!(rt; first.get(&tables, frame) == Ok(Get::Zero));
     second.accept(&tables, &mut zone, frame);
-    assert_eq!(rt; second.list_len(), 1);
+    assert!(rt; second.list_len() == 1);
     second.shut(&tables, &mut zone);
     second.open(&tables, &mut zone);
     let front = take_back(&tables, &mut zone, &mut second);
-    assert_eq!(rt; front, Some(frame));
+    assert!(rt; front == Some(frame));
     second.shut(&tables, &mut zone);
-    assert_eq!(rt; second.list_len(), 0);
+    assert!(rt; second.list_len() == 0);
     assert!(rt; first.is_idle());
     assert!(rt; second.is_idle());
     let _ = first.into_seats();
@@ -142,23 +142,23 @@ fn pays<N: BootName>(rt: &impl Abort, alloc: Global, parts: Parts<8>)
     tables.frames.pass_out(&mut zone, listed, 1);
     cpu.accept(&tables, &mut zone, listed);
     cpu.fill(&tables, &mut machine, 1, 4);
-    assert_eq!(rt; cpu.last_stock(), Stock::HeldBy { group: 1, pages: 4 });
-    assert_eq!(rt; cpu.alloc_fast(&tables, 1), Fast::Got(paid));
-    assert_eq!(rt; cpu.look(&tables, &mut machine).pages(), 3);
-    assert_eq!(rt; cpu.alloc_fast(&tables, 2), Fast::OtherGroup);
-    assert_eq!(rt; tables.stocks.drain(&mut machine, 1), 3);
-    assert_eq!(rt; cpu.alloc_fast(&tables, 1), Fast::Drained);
+    assert!(rt; cpu.last_stock() == Stock::HeldBy { group: 1, pages: 4 });
+    assert!(rt; cpu.alloc_fast(&tables, 1) == Fast::Got(paid));
+    assert!(rt; cpu.look(&tables, &mut machine).pages() == 3);
+    assert!(rt; cpu.alloc_fast(&tables, 2) == Fast::OtherGroup);
+    assert!(rt; tables.stocks.drain(&mut machine, 1) == 3);
+    assert!(rt; cpu.alloc_fast(&tables, 1) == Fast::Drained);
     assert!(rt; cpu.has_fresh(paid));
-    assert_eq!(rt; cpu.drop_fresh(&tables, paid), Dropped::NeedVisit);
+    assert!(rt; cpu.drop_fresh(&tables, paid) == Dropped::NeedVisit);
     let fresh = cpu.hand_fresh(&tables, &mut zone, &mut machine);
-    assert_eq!(rt; fresh, Some(paid));
+    assert!(rt; fresh == Some(paid));
     cpu.collect(&tables, &mut zone, paid);
-    assert_eq!(rt; tables.stocks.absorb(&mut machine, 1), 1);
+    assert!(rt; tables.stocks.absorb(&mut machine, 1) == 1);
     nothing_booked(&machine);
     let front = cpu.hand_front(&tables, &mut zone);
-    assert_eq!(rt; front, Some(listed));
+    assert!(rt; front == Some(listed));
     cpu.collect(&tables, &mut zone, listed);
-    assert_eq!(rt; cpu.drops(), 0);
+    assert!(rt; cpu.drops() == 0);
     assert!(rt; cpu.is_idle());
     let _ = cpu.into_seats();
     let _ = tables.into_tables();
@@ -176,7 +176,7 @@ fn pin<N: BootName>(rt: &impl Abort, tables: &Tables<N>, cpu: &mut Cpu<N>, frame
     requires { frame < N.frames.frames }
 {
     for _ in 0..count {
-        assert_eq!(rt; cpu.get(tables, frame), Ok(Get::Held));
+        assert!(rt; cpu.get(tables, frame) == Ok(Get::Held));
     }
 }
 
@@ -203,6 +203,42 @@ fn take_last<N: BootName>(
     Some(frame)
 }
 
+// 256 pins on two frames, half on each, and no more.
+fn pin_all<N: BootName>(
+    rt: &impl Abort,
+    tables: &Tables<N>,
+    cpu: &mut Cpu<N>,
+    used: (Frame, Frame),
+    unused: Frame,
+)
+    requires used { (used.0 < N.frames.frames) × (used.1 < N.frames.frames) }
+    requires unused { unused < N.frames.frames }
+{
+    pin(rt, tables, cpu, used.0, 128);
+    pin(rt, tables, cpu, used.1, 128);
+    assert!(rt; cpu.pins() == 256);
+    assert!(rt; cpu.get(tables, used.0) == Err(Fault::PinsFull));
+    assert!(rt; cpu.get(tables, unused) == Err(Fault::PinsFull));
+    assert!(rt; cpu.holds(used.0));
+}
+
+// Beside a back frame: 254 pins on a frame and one on another, and no more.
+fn pin_the_rest<N: BootName>(
+    rt: &impl Abort,
+    tables: &Tables<N>,
+    cpu: &mut Cpu<N>,
+    used: (Frame, Frame),
+    unused: Frame,
+)
+    requires used { (used.0 < N.frames.frames) × (used.1 < N.frames.frames) }
+    requires unused { unused < N.frames.frames }
+{
+    pin(rt, tables, cpu, used.0, 254);
+    assert!(rt; cpu.get(tables, unused) == Ok(Get::Zero));
+    pin(rt, tables, cpu, used.1, 1);
+    assert!(rt; cpu.get(tables, used.1) == Err(Fault::PinsFull));
+}
+
 // 256 pins on two frames, of which the zone has a reference each; then 255 pins and a back frame.
 fn pins_run_out<N: BootName>(rt: &impl Abort, alloc: Global, parts: Parts<8>)
     requires { (parts.frames ≡ N.frames) × (parts.stocks ≡ N.stocks) }
@@ -224,26 +260,18 @@ fn pins_run_out<N: BootName>(rt: &impl Abort, alloc: Global, parts: Parts<8>)
     tables.frames.unfreeze(&mut zone, one, 1);
     tables.frames.unfreeze(&mut zone, other, 1);
     tables.frames.unfreeze(&mut zone, third, 1);
-    pin(rt, &tables, &mut cpu, one, 128);
-    pin(rt, &tables, &mut cpu, other, 128);
-    assert_eq!(rt; cpu.pins(), 256);
-    assert_eq!(rt; cpu.get(&tables, one), Err(Fault::PinsFull));
-    assert_eq!(rt; cpu.get(&tables, unused), Err(Fault::PinsFull));
-    assert!(rt; cpu.holds(one));
+    pin_all(rt, &tables, &mut cpu, (one, other), unused);
     unpin(rt, &tables, &mut cpu, 256);
     pin(rt, &tables, &mut cpu, one, 1);
-    assert_eq!(rt; tables.frames.put(&mut zone, one), Put::Left(1));
+    assert!(rt; tables.frames.put(&mut zone, one) == Put::Left(1));
     assert!(rt; cpu.holds(one));
-    assert_eq!(rt; cpu.put(&tables, one), Put::Last);
-    assert_eq!(rt; cpu.back_len(), 1);
-    pin(rt, &tables, &mut cpu, other, 254);
-    assert_eq!(rt; cpu.get(&tables, unused), Ok(Get::Zero));
-    pin(rt, &tables, &mut cpu, third, 1);
-    assert_eq!(rt; cpu.get(&tables, third), Err(Fault::PinsFull));
-    assert_eq!(rt; cpu.number(), 1);
+    assert!(rt; cpu.put(&tables, one) == Put::Last);
+    assert!(rt; cpu.back_len() == 1);
+    pin_the_rest(rt, &tables, &mut cpu, (other, third), unused);
+    assert!(rt; cpu.number() == 1);
     cpu.open(&tables, &mut zone);
     let back = take_last(&tables, &mut zone, &mut cpu);
-    assert_eq!(rt; back, Some(one));
+    assert!(rt; back == Some(one));
     unpin(rt, &tables, &mut cpu, 255);
     assert!(rt; cpu.is_idle());
     let _ = cpu.into_seats();
@@ -330,14 +358,14 @@ fn works_beside<N: BootName + Send + Sync, R: Threads + Abort + Sync>(
     first.fill(&tables, &mut machine, 1, 4);
     first.shut(&tables, &mut zone);
     let (back, last) = beside(rt, &tables, &mut first, &mut second, used);
-    assert_eq!(rt; back, 1000);
+    assert!(rt; back == 1000);
     assert!(rt; !last);
-    assert_eq!(rt; first.drops(), 1000);
-    assert_eq!(rt; first.number(), 1);
-    assert_eq!(rt; tables.stocks.drain(&mut machine, 1), 4);
+    assert!(rt; first.drops() == 1000);
+    assert!(rt; first.number() == 1);
+    assert!(rt; tables.stocks.drain(&mut machine, 1) == 4);
     first.open(&tables, &mut zone);
     let front = take_back(&tables, &mut zone, &mut first);
-    assert_eq!(rt; front, Some(listed));
+    assert!(rt; front == Some(listed));
     first.shut(&tables, &mut zone);
     assert!(rt; first.is_idle());
     assert!(rt; second.is_idle());
@@ -376,10 +404,10 @@ fn ends<N: BootName>(
     payers.push(first_payer).expect(rt, "memory");
     payers.push(second_payer).expect(rt, "memory");
     let words = frames.close(zone.0, seats);
-    assert_eq!(rt; words.word(used), 1);
+    assert!(rt; words.word(used) == 1);
     let books = stocks.close(zone.1, payers);
-    assert_eq!(rt; books.stock(1), Stock::DrainedOf { group: 1 });
-    assert_eq!(rt; books.reported(1), 0);
+    assert!(rt; books.stock(1) == Stock::DrainedOf { group: 1 });
+    assert!(rt; books.reported(1) == 0);
 }
 
 // Gives a frame of the zone's hand to a processor whose visit is open.
@@ -426,7 +454,7 @@ pub(crate) fn give_first<N: BootName>(
 fn take<N: BootName>(rt: &impl Abort, tables: &Tables<N>, cpu: &mut Cpu<N>, count: u32) {
     for n in 0..count {
         let frame = tables.frames.frame(n).expect(rt, "a frame");
-        assert_eq!(rt; cpu.alloc_fast(tables, 1), Fast::Got(frame));
+        assert!(rt; cpu.alloc_fast(tables, 1) == Fast::Got(frame));
     }
 }
 
@@ -435,7 +463,7 @@ fn drop_all<N: BootName>(rt: &impl Abort, tables: &Tables<N>, cpu: &mut Cpu<N>, 
     for n in 0..count {
         let frame = tables.frames.frame(n).expect(rt, "a frame");
         assert!(rt; cpu.has_fresh(frame));
-        assert_eq!(rt; cpu.drop_fresh(tables, frame), Dropped::Listed);
+        assert!(rt; cpu.drop_fresh(tables, frame) == Dropped::Listed);
     }
 }
 
@@ -463,16 +491,16 @@ fn fresh_runs_out<N: BootName>(rt: &impl Abort, alloc: Global, parts: Parts<40>)
     } = parts;
     let tables = Tables::<N>::new(frames, stocks);
     let mut cpu = Cpu::<N>::new(alloc, seats.0, payers.0).expect(rt, "memory");
-    assert_eq!(rt; cpu.alloc_fast(&tables, 1), Fast::ListEmpty);
+    assert!(rt; cpu.alloc_fast(&tables, 1) == Fast::ListEmpty);
     cpu.fill(&tables, &mut machine, 1, 40);
     give_first(rt, &tables, &mut zone, &mut cpu, 33);
     take(rt, &tables, &mut cpu, 32);
-    assert_eq!(rt; cpu.alloc_fast(&tables, 1), Fast::FreshFull);
-    assert_eq!(rt; cpu.fresh_len(), 32);
+    assert!(rt; cpu.alloc_fast(&tables, 1) == Fast::FreshFull);
+    assert!(rt; cpu.fresh_len() == 32);
     drop_all(rt, &tables, &mut cpu, 32);
-    assert_eq!(rt; cpu.list_len(), 33);
-    assert_eq!(rt; cpu.drops(), 32);
-    assert_eq!(rt; cpu.number(), 1);
+    assert!(rt; cpu.list_len() == 33);
+    assert!(rt; cpu.drops() == 32);
+    assert!(rt; cpu.number() == 1);
     give_back(&tables, &mut zone, &mut cpu);
     assert!(rt; cpu.is_idle());
     let _ = cpu.into_seats();

@@ -19,25 +19,16 @@ fn drained_with_a_fresh_page(rt: HostRuntime) -> Result<(), Fail> {
     let (words, mut machine, mut seats) = StockWords::new(rt.alloc(), 1)?;
     let mut seat = seats.pop().expect(&rt, "the seat of processor 1");
     words.fill(&mut machine, &mut seat, 1, 4);
-    assert_eq!(rt;
-        words.look(&mut machine, &mut seat),
-        Stock::HeldBy { group: 1, pages: 4 }
-    );
-    assert_eq!(rt; words.consume(&mut seat, 1), Consume::Took);
-    assert_eq!(rt;
-        words.look(&mut machine, &mut seat),
-        Stock::HeldBy { group: 1, pages: 3 }
-    );
-    assert_eq!(rt; words.consume(&mut seat, 2), Consume::OtherGroup);
-    assert_eq!(rt; words.drain(&mut machine, 1), 3);
-    assert_eq!(rt;
-        words.look(&mut machine, &mut seat),
-        Stock::DrainedOf { group: 1 }
-    );
-    assert_eq!(rt; words.consume(&mut seat, 1), Consume::Drained);
-    assert_eq!(rt; words.credit(&mut seat), Credit::Drained);
+    assert!(rt; words.look(&mut machine, &mut seat) == Stock::HeldBy { group: 1, pages: 4 });
+    assert!(rt; words.consume(&mut seat, 1) == Consume::Took);
+    assert!(rt; words.look(&mut machine, &mut seat) == Stock::HeldBy { group: 1, pages: 3 });
+    assert!(rt; words.consume(&mut seat, 2) == Consume::OtherGroup);
+    assert!(rt; words.drain(&mut machine, 1) == 3);
+    assert!(rt; words.look(&mut machine, &mut seat) == Stock::DrainedOf { group: 1 });
+    assert!(rt; words.consume(&mut seat, 1) == Consume::Drained);
+    assert!(rt; words.credit(&mut seat) == Credit::Drained);
     words.report(&mut machine, &mut seat, 1);
-    assert_eq!(rt; words.absorb(&mut machine, 1), 1);
+    assert!(rt; words.absorb(&mut machine, 1) == 1);
     nothing_booked(&machine);
     Ok(())
 }
@@ -62,29 +53,29 @@ fn take_left(words: &StockWords, machine: &mut StockSeat, seat: &mut StockSeat) 
 fn taken_by_the_books(rt: HostRuntime) -> Result<(), Fail> {
     let (words, mut machine, mut seats) = StockWords::new(rt.alloc(), 2)?;
     let mut seat = seats.pop().expect(&rt, "the seat of processor 2");
-    assert_eq!(rt; words.cpus(), 2);
-    assert_eq!(rt; seat.number(), 2);
-    assert_eq!(rt; seat.last(), Stock::NoGroup);
-    assert_eq!(rt; words.look(&mut machine, &mut seat), Stock::NoGroup);
+    assert!(rt; words.cpus() == 2);
+    assert!(rt; seat.number() == 2);
+    assert!(rt; seat.last() == Stock::NoGroup);
+    assert!(rt; words.look(&mut machine, &mut seat) == Stock::NoGroup);
     words.fill(&mut machine, &mut seat, 63, 2);
-    assert_eq!(rt;
-        words.look(&mut machine, &mut seat),
-        Stock::HeldBy {
-            group: 63,
-            pages: 2
-        }
+    assert!(rt;
+        words.look(&mut machine, &mut seat)
+            == Stock::HeldBy {
+                group: 63,
+                pages: 2
+            }
     );
-    assert_eq!(rt; take_left(&words, &mut machine, &mut seat), true);
-    assert_eq!(rt;
-        seat.last(),
-        Stock::HeldBy {
-            group: 63,
-            pages: 1
-        }
+    assert!(rt; take_left(&words, &mut machine, &mut seat));
+    assert!(rt;
+        seat.last()
+            == Stock::HeldBy {
+                group: 63,
+                pages: 1
+            }
     );
-    assert_eq!(rt; words.consume(&mut seat, 63), Consume::Took);
-    assert_eq!(rt; words.consume(&mut seat, 63), Consume::Empty);
-    assert_eq!(rt; words.look(&mut machine, &mut seat).pages(), 0);
+    assert!(rt; words.consume(&mut seat, 63) == Consume::Took);
+    assert!(rt; words.consume(&mut seat, 63) == Consume::Empty);
+    assert!(rt; words.look(&mut machine, &mut seat).pages() == 0);
     Ok(())
 }
 
@@ -168,11 +159,11 @@ fn drains_beside_consumes_and_credits(rt: HostRuntime) -> Result<(), Fail> {
         let (machine_after, seat_after, back) = round(&rt, &words, machine, seat);
         machine = machine_after;
         seat = seat_after;
-        assert_eq!(rt; back, 50);
+        assert!(rt; back == 50);
     }
     seats.push(seat)?;
     let closed = words.close(machine, seats);
-    assert_eq!(rt; closed.stock(1), Stock::DrainedOf { group: 1 });
-    assert_eq!(rt; closed.reported(1), 0);
+    assert!(rt; closed.stock(1) == Stock::DrainedOf { group: 1 });
+    assert!(rt; closed.reported(1) == 0);
     Ok(())
 }
