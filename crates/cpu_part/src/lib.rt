@@ -8,15 +8,11 @@ mod answers;
 mod boot_name;
 mod cpu;
 mod fast;
-#[cfg(test)]
-mod front_tests;
 mod moves;
 mod pins;
 mod readers;
 mod search;
 mod stocks;
-#[cfg(test)]
-mod tests;
 mod visit;
 
 pub use answers::{Dropped, Fast};

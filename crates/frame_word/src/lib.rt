@@ -18,8 +18,6 @@ pub mod laws;
 mod pairs;
 mod references;
 mod seat;
-#[cfg(test)]
-mod tests;
 mod view;
 mod words;
 

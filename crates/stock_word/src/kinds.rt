@@ -421,12 +421,4 @@ impl StockWords {
         let Place { seat } = other;
         self.table.shared.join_seat::<Both>(&mut place.seat, seat);
     }
-
-    /// A word as it is now. It tells nothing.
-    #[cfg(test)]
-    pub(crate) fn peek(&self, word: usize) -> u64
-        requires { word < 16 * (self.now.cpus + 1) }
-    {
-        self.table.shared.peek(word)
-    }
 }

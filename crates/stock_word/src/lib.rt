@@ -24,8 +24,6 @@ mod kinds;
 mod machine;
 mod make;
 mod seat;
-#[cfg(test)]
-mod tests;
 mod view;
 mod words;
 

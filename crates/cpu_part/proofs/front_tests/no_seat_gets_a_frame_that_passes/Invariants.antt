@@ -1,4 +1,0 @@
-use Rattle.cpu_part.proofs.front_tests.no_seat_gets_a_frame_that_passes.Given as goal
-
-abbrev pub ghosts-passes : goal.ghosts-passes
-ghosts-passes g a = record { frames = a.parts.frames; stocks = a.parts.stocks }

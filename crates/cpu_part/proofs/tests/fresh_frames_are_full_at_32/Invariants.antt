@@ -1,4 +1,0 @@
-use Rattle.cpu_part.proofs.tests.fresh_frames_are_full_at_32.Given as goal
-
-abbrev pub ghosts-fresh_runs_out : goal.ghosts-fresh_runs_out
-ghosts-fresh_runs_out g a = record { frames = a.parts.frames; stocks = a.parts.stocks }

@@ -1,0 +1,14 @@
+use Rattle.std.proofs.Common.{◌≡◌, ◌<◌, ◌≤◌, ℕ, [], length}
+use Rattle.frame_word.specs.Seats.{IsZoneSeat, IsOpen, NothingPasses, IsInOwnHand}
+use Rattle.word_runs.proofs.parts.give_first.Given as goal
+
+abbrev pub invariant-loop-n : goal.invariant-loop-n
+invariant-loop-n g l = record {
+  zone : IsZoneSeat g.N.BootName.frames l.zone;
+  opened : IsOpen l.zone l.cpu.number;
+  still : NothingPasses g.N.BootName.frames l.zone l.cpu.seat;
+  own : (k : ℕ) → l.n ≤ k → k < g.N.BootName.frames.frames → IsInOwnHand l.zone k;
+  number : l.cpu.number ≡ 1;
+  listed : length l.cpu.list ≡ l.n;
+  fresh : l.cpu.fresh ≡ [];
+}

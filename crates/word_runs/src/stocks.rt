@@ -1,0 +1,169 @@
+ghost use Rattle.std.specs.Prelude.{◌≡◌, ◌≤◌, ◌+◌, false, length};
+ghost use Rattle.stock_word.specs.Stock.{IsProcessor, IsMachine, IsSettled, account_of};
+ghost use Rattle.stock_word.specs.Kinds.{draining};
+
+use std::process::Abort;
+use std::test::Fail;
+use std::thread::{Threads, join};
+use stock_word::{Consume, Credit, Stock, StockSeat, StockWords};
+
+// By the books of the machine's seat, nothing is booked to the stock of processor 1.
+fn nothing_booked(machine: &StockSeat)
+    requires { (account_of machine.now.view 1).book ≡ 0 }
+{
+    let _ = machine;
+}
+
+#[test]
+fn drained_with_a_fresh_page(rt: HostRuntime) -> Result<(), Fail> {
+    let (words, mut machine, mut seats) = StockWords::new(rt.alloc(), 1)?;
+    let mut seat = seats.pop().expect(&rt, "the seat of processor 1");
+    words.fill(&mut machine, &mut seat, 1, 4);
+    assert!(rt; words.look(&mut machine, &mut seat) == Stock::HeldBy { group: 1, pages: 4 });
+    assert!(rt; words.consume(&mut seat, 1) == Consume::Took);
+    assert!(rt; words.look(&mut machine, &mut seat) == Stock::HeldBy { group: 1, pages: 3 });
+    assert!(rt; words.consume(&mut seat, 2) == Consume::OtherGroup);
+    assert!(rt; words.drain(&mut machine, 1) == 3);
+    assert!(rt; words.look(&mut machine, &mut seat) == Stock::DrainedOf { group: 1 });
+    assert!(rt; words.consume(&mut seat, 1) == Consume::Drained);
+    assert!(rt; words.credit(&mut seat) == Credit::Drained);
+    words.report(&mut machine, &mut seat, 1);
+    assert!(rt; words.absorb(&mut machine, 1) == 1);
+    nothing_booked(&machine);
+    Ok(())
+}
+
+// Takes a page of the stock, of whatever group it is, where one is left. Tells whether there was.
+fn take_left(words: &StockWords, machine: &mut StockSeat, seat: &mut StockSeat) -> bool
+    requires tables { (machine.old.table ≡ words.now.table) × (seat.old.table ≡ words.now.table) }
+    requires seats { IsMachine machine.old.view × IsProcessor words.now seat.old.view }
+    ensures tables { (machine.new.table ≡ words.now.table) × (seat.new.table ≡ words.now.table) }
+    ensures seats { IsMachine machine.new.view × IsProcessor words.now seat.new.view }
+{
+    match words.look(machine, seat) {
+        Stock::HeldBy { group, pages } if pages > 0 => {
+            words.consume_held(machine, seat, group);
+            true
+        }
+        _ => false,
+    }
+}
+
+#[test]
+fn taken_by_the_books(rt: HostRuntime) -> Result<(), Fail> {
+    let (words, mut machine, mut seats) = StockWords::new(rt.alloc(), 2)?;
+    let mut seat = seats.pop().expect(&rt, "the seat of processor 2");
+    assert!(rt; words.cpus() == 2);
+    assert!(rt; seat.number() == 2);
+    assert!(rt; seat.last() == Stock::NoGroup);
+    assert!(rt; words.look(&mut machine, &mut seat) == Stock::NoGroup);
+    words.fill(&mut machine, &mut seat, 63, 2);
+    assert!(rt;
+        words.look(&mut machine, &mut seat)
+            == Stock::HeldBy {
+                group: 63,
+                pages: 2
+            }
+    );
+    assert!(rt; take_left(&words, &mut machine, &mut seat));
+    assert!(rt;
+        seat.last()
+            == Stock::HeldBy {
+                group: 63,
+                pages: 1
+            }
+    );
+    assert!(rt; words.consume(&mut seat, 63) == Consume::Took);
+    assert!(rt; words.consume(&mut seat, 63) == Consume::Empty);
+    assert!(rt; words.look(&mut machine, &mut seat).pages() == 0);
+    Ok(())
+}
+
+// Takes and gives back pages of group 1 until it is told that the stock is drained, or for 100
+// steps. Tells how many pages it kept.
+fn work(words: &StockWords, seat: &mut StockSeat) -> u32
+    requires table { seat.old.table ≡ words.now.table }
+    requires processor { IsProcessor words.now seat.old.view }
+    requires settled { seat.old.view.fresh ≡ 0 }
+    ensures table { seat.new.table ≡ seat.old.table }
+    ensures number { seat.new.view.number ≡ seat.old.view.number }
+    ensures fresh { seat.new.view.fresh ≡ result }
+{
+    let mut fresh = 0;
+    for step in 0..100u32 {
+        if step % 3 < 2 {
+            match words.consume(seat, 1) {
+                Consume::Took => fresh += 1,
+                Consume::Drained => break,
+                Consume::Empty | Consume::OtherGroup => {}
+            }
+        } else if fresh > 0 {
+            match words.credit(seat) {
+                Credit::Back => fresh -= 1,
+                Credit::Drained => break,
+            }
+        }
+    }
+    fresh
+}
+
+// A fill with 50 pages; then the processor works in one thread while the machine drains in
+// another; then, with both seats in one thread, what is left is drained, and what is fresh is
+// reported and taken in. Tells how many pages came back.
+fn round<R: Threads + Sync>(
+    rt: &R,
+    words: &StockWords,
+    mut machine: StockSeat,
+    mut seat: StockSeat,
+) -> (StockSeat, StockSeat, u32)
+    requires tables { (machine.table ≡ words.now.table) × (seat.table ≡ words.now.table) }
+    requires numbers { IsMachine machine.view × (seat.view.number ≡ 1) × (1 ≤ words.now.cpus) }
+    requires settled { IsSettled machine.view seat.view }
+    ensures tables { (result.0.table ≡ words.now.table) × (result.1.table ≡ words.now.table) }
+    ensures numbers { IsMachine result.0.view × (result.1.view.number ≡ 1) }
+    ensures settled { IsSettled result.0.view result.1.view }
+{
+    words.fill(&mut machine, &mut seat, 1, 50);
+    let (drained, worked) = join(
+        rt,
+        move || -> (u32, StockSeat)
+            requires { (machine.table ≡ words.now.table) × IsMachine machine.view × (1 ≤ words.now.cpus) }
+            ensures { (result.1.table ≡ words.entry.now.table)
+                × (result.1.view ≡ draining machine.view 1 result.0)
+                × (result.0 ≤ (account_of machine.view 1).book) }
+        {
+            let mut own = machine;
+            (words.drain(&mut own, 1), own)
+        },
+        move || -> (u32, StockSeat)
+            requires { (seat.table ≡ words.now.table) × IsProcessor words.now seat.view × (seat.view.fresh ≡ 0) }
+            ensures { (result.1.table ≡ words.entry.now.table) × (result.1.view.number ≡ seat.view.number) × (result.1.view.fresh ≡ result.0) }
+        {
+            let mut own = seat;
+            (work(words, &mut own), own)
+        },
+    );
+    let (mut back, mut machine) = drained;
+    let (fresh, mut seat) = worked;
+    back = back.wrapping_add(words.drain(&mut machine, 1));
+    words.report(&mut machine, &mut seat, fresh);
+    back = back.wrapping_add(words.absorb(&mut machine, 1));
+    (machine, seat, back)
+}
+
+#[test]
+fn drains_beside_consumes_and_credits(rt: HostRuntime) -> Result<(), Fail> {
+    let (words, mut machine, mut seats) = StockWords::new(rt.alloc(), 1)?;
+    let mut seat = seats.pop().expect(&rt, "the seat of processor 1");
+    for _ in 0..200u64 {
+        let (machine_after, seat_after, back) = round(&rt, &words, machine, seat);
+        machine = machine_after;
+        seat = seat_after;
+        assert!(rt; back == 50);
+    }
+    seats.push(seat)?;
+    let closed = words.close(machine, seats);
+    assert!(rt; closed.stock(1) == Stock::DrainedOf { group: 1 });
+    assert!(rt; closed.reported(1) == 0);
+    Ok(())
+}
