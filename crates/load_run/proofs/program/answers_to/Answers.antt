@@ -19,5 +19,5 @@ returns-clause-answered g c =
     subst (λ (text : List ℕ). IsScript sizes text c.deref-2.result.now) c.deref.ensures.value
     (subst (λ (lines : List Line). IsScript sizes c.deref.result.now lines) (sym c.deref-2.ensures.value) c.in_ok-lines.ensures.lines) in
     joined c.answers_of.result _ _ _
-    (λ answers answer valid. answered _ _ _ _ _ _ c.in_ok-script.ensures.read is valid answer)
+    (λ answers answer valid. answered _ _ _ _ _ _ c.in_ok-options.ensures.asked c.in_ok-script.ensures.read is valid answer)
     c.answers_of.ensures.answers c.answers_of.ensures.valid
