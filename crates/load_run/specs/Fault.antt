@@ -1,5 +1,5 @@
 -- How the program ends.
-use Rattle.std.specs.Prelude.{◌≡◌, ℕ, List, Option, Some, ⊤, ⊥}
+use Rattle.std.specs.Prelude.{◌≡◌, ℕ, List, Option, Some, ⊤}
 use Rattle.load_run.specs.declared.command_line.Settings.{Settings}
 use Rattle.load_run.specs.declared.fault.LineFault.{LineFault}
 use Rattle.load_run.specs.declared.fault.LineFault.TheVariants as line

@@ -9,7 +9,7 @@ use Rattle.clap.specs.Simple.{Shape, new_shape}
 use Rattle.clap.specs.ValueTests.{is_unsigned_in}
 use Rattle.clap.specs.declared.builder.action.ArgAction.TheVariants.{SetTrue}
 use Rattle.clap.specs.declared.builder.value_parser.ValueParser.TheVariants.{Signed}
-use Rattle.clap.specs.Walk.{is_empty}
+use Rattle.clap.specs.Kinds.{Kinds}
 use Rattle.zone_sizes.specs.declared.config.Config.{Config}
 use Rattle.load_run.specs.declared.command_line.Settings.{Settings}
 use Rattle.load_run.specs.declared.fault.LineFault.{LineFault}
@@ -93,10 +93,14 @@ settings_in found = do
 abbrev pub settings_under : List ℕ → List Row → Option Settings
 settings_under name found = if bytes_eq name (codes "replay") then settings_in found else None
 
+-- what was found, where there is no fault
+abbrev pub if_none : Kinds → Option Settings → Option Settings
+if_none [] asked = asked
+if_none (fault ∷ faults) asked = None
+
 -- the settings that the words ask for: clap finds no fault in them, and finds these values behind `replay`
 unfoldable pub settings_of : List (List ℕ) → Option Settings
-settings_of words =
-    if is_empty (fault_of program words) then option_and_then (λ p. settings_under p.0 p.1) (subcommand_of program words) else None
+settings_of words = if_none (fault_of program words) (option_and_then (λ p. settings_under p.0 p.1) (subcommand_of program words))
 
 -- what the words are answered: the settings that they ask for; a fault where they ask for none; or that memory ran out
 abbrev pub Answers : Option Settings → Result Settings LineFault → Type 0
