@@ -1,7 +1,7 @@
 -- From what clap promises of a parse to the settings that the words ask for.
-use Rattle.std.proofs.Common.{◌≡◌, ◌∙◌, ◌<◌, ◌≤◌, ◌^◌, ◌⊎◌, ℕ, Bool, true, false, cond, List, [], ◌∷◌, Option, Some, None, Result, Ok, Err, refl, ap, ap₂, sym}
+use Rattle.std.proofs.Common.{◌≡◌, ◌∙◌, ◌<◌, ◌≤◌, ◌^◌, ◌⊎◌, ℕ, Bool, true, false, cond, List, [], ◌∷◌, Option, Some, None, Result, Ok, Err, IfOk, refl, ap, ap₂, sym, subst}
 use Rattle.std.proofs.Common.{arith, inl, inr}
-use Rattle.std.specs.Prelude.{codes, nat_lt, option_and_then, option_map, pos, unwrap_or, ◌||◌}
+use Rattle.std.specs.Prelude.{IsSome, OnOk, codes, nat_lt, option_and_then, option_map, pos, unwrap_or, ◌||◌}
 use Rattle.std.specs.Int.{int_max, int_min}
 use Rattle.std.specs.Option.{option_map_or}
 use Rattle.std.specs.Str.{bytes_eq}
@@ -156,3 +156,13 @@ answers_fault asked (NoMemory e) none = tt
 pub answers_memory : (asked : Option Settings) (fault : LineFault) → IsNoMemory fault → Answers asked (Err fault)
 answers_memory asked (Words text) memory = absurd memory
 answers_memory asked (NoMemory e) memory = tt
+
+-- settings that are answered are those that were asked for
+pub asked_ok : (asked : Option Settings) (r : Result Settings LineFault) → Answers asked r → IfOk r (λ s. asked ≡ Some s)
+asked_ok asked (Ok s) is = is
+asked_ok asked (Err fault) is = tt
+
+-- there are such settings, whatever comes after
+pub asked_some : {T E : Type 0} (asked : Option Settings) (s : Settings) (r : Result T E) → asked ≡ Some s → OnOk r (IsSome asked)
+asked_some asked s (Ok x) is = subst IsSome (sym is) refl
+asked_some asked s (Err e) is = tt
