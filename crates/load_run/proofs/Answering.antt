@@ -11,26 +11,27 @@ use Rattle.zone_sizes.specs.declared.config.Config.{Config}
 use Rattle.zone_sizes.specs.Config.{IsValidConfig}
 use Rattle.script_lines.specs.declared.line.Line.{Line}
 use Rattle.script_lines.specs.Script.{IsScript}
+use Rattle.load_run.specs.declared.command_line.Settings.{Settings}
 use Rattle.load_run.specs.Answers.{AreAnswers, IsAnswered, IsReplayed}
 
 -- the answers were written behind what the writer held, where the script is known
-pub replayed : (input before after : Option (List ℕ)) (text : List ℕ) → IfSome input (λ bytes. IsAnswered bytes text)
-    → Appends before after text → IfSome input (λ bytes. IsReplayed bytes before after)
-replayed None before after text is written = tt
-replayed (Some bytes) before after text is written = record { text = text; answered = is; written = written }
+pub replayed : (asked : Option Settings) (input before after : Option (List ℕ)) (text : List ℕ) → IfSome input (λ bytes. IsAnswered asked bytes text)
+    → Appends before after text → IfSome input (λ bytes. IsReplayed asked bytes before after)
+replayed asked None before after text is written = tt
+replayed asked (Some bytes) before after text is written = record { text = text; answered = is; written = written }
 
 -- what was read of an input is all of it, where it is a script, and is answered by what its lines are
-pub answered : (input : Option (List ℕ)) (script : List ℕ) (sizes : Config) (is_audited : Bool) (lines : List Line) (text : List ℕ)
-    → IfSome input (λ bytes. script ≡ take 1048577 bytes) → IsScript sizes script lines → IsValidConfig sizes
-    → AreAnswers sizes is_audited lines text → IfSome input (λ bytes. IsAnswered bytes text)
-answered None script sizes is_audited lines text read is valid answers = tt
-answered (Some bytes) script sizes is_audited lines text read is valid answers =
+pub answered : (asked : Option Settings) (input : Option (List ℕ)) (script : List ℕ) (settings : Settings) (lines : List Line) (text : List ℕ)
+    → asked ≡ Some settings → IfSome input (λ bytes. script ≡ take 1048577 bytes) → IsScript settings.sizes script lines → IsValidConfig settings.sizes
+    → AreAnswers settings.sizes settings.is_audited lines text → IfSome input (λ bytes. IsAnswered asked bytes text)
+answered asked None script settings lines text is_asked read is valid answers = tt
+answered asked (Some bytes) script settings lines text is_asked read is valid answers =
     let fits = is.fits in
     let len : length script ≡ length (take 1048577 bytes) = ap length read in
     let taken = length-take 1048577 bytes in
     let whole : take 1048577 bytes ≡ bytes = take_all 1048577 bytes (omega arith) in
-    let is_script : IsScript sizes bytes lines = subst (λ (all : List ℕ). IsScript sizes all lines) (read ∙ whole) is in
-    record { sizes = sizes; valid = valid; is_audited = is_audited; lines = lines; script = is_script; answers = answers }
+    let is_script : IsScript settings.sizes bytes lines = subst (λ (all : List ℕ). IsScript settings.sizes all lines) (read ∙ whole) is in
+    record { settings = settings; is_asked = is_asked; valid = valid; lines = lines; script = is_script; answers = answers }
 
 -- what is well stays so where an error becomes another
 pub kept : {T D E : Type 0} (r : Result T E) (s : Result T D) (P : T → Type 0) (Q : E → D → Type 0)

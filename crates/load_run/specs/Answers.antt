@@ -1,5 +1,5 @@
 -- What a script is answered.
-use Rattle.std.specs.Prelude.{◌≡◌, ℕ, Bool, Option, List, ◌++◌}
+use Rattle.std.specs.Prelude.{◌≡◌, ℕ, Bool, Option, Some, List, ◌++◌}
 use Rattle.std.specs.Io.KnownBytes.{Appends}
 use Rattle.frame_word.specs.Seats.{KnownTable}
 use Rattle.stock_word.specs.Stock.{Words}
@@ -10,6 +10,7 @@ use Rattle.mem_system.specs.Boots.{IsSizedAs, first_cpus}
 use Rattle.script_lines.specs.declared.line.Line.{Line}
 use Rattle.script_lines.specs.Script.{IsScript}
 use Rattle.script_replay.specs.Lines.{ServesAll, Standing}
+use Rattle.load_run.specs.declared.command_line.Settings.{Settings}
 use Rattle.load_run.specs.Ending.{TellsEnd}
 
 -- what stands after a boot with these sizes, under these tables: the machine of a new boot, and the parts of the processors,
@@ -33,17 +34,18 @@ pub record AreAnswers (sizes : Config) (is_audited : Bool) (lines : List Line) (
   pub ends : TellsEnd frames stocks is_audited end ending
   pub text_is : text ≡ answers ++ ending
 
--- the input is a script, and the text is what it is answered by a boot whose sizes are in their ranges
-pub record IsAnswered (input text : List ℕ) : Type 0 where
-  pub sizes : Config
-  pub valid : IsValidConfig sizes
-  pub is_audited : Bool
+-- these settings are asked for, their sizes may be, and the input is a script for them: the text is what a boot of these sizes
+-- answers to it, and tells of its end where they say so
+pub record IsAnswered (asked : Option Settings) (input text : List ℕ) : Type 0 where
+  pub settings : Settings
+  pub is_asked : asked ≡ Some settings
+  pub valid : IsValidConfig settings.sizes
   pub lines : List Line
-  pub script : IsScript sizes input lines
-  pub answers : AreAnswers sizes is_audited lines text
+  pub script : IsScript settings.sizes input lines
+  pub answers : AreAnswers settings.sizes settings.is_audited lines text
 
 -- and a writer that held the bytes `before`, where they are known, was given all of its answers
-pub record IsReplayed (input : List ℕ) (before after : Option (List ℕ)) : Type 0 where
+pub record IsReplayed (asked : Option Settings) (input : List ℕ) (before after : Option (List ℕ)) : Type 0 where
   pub text : List ℕ
-  pub answered : IsAnswered input text
+  pub answered : IsAnswered asked input text
   pub written : Appends before after text

@@ -1,6 +1,7 @@
 -- How the program ends.
-use Rattle.std.specs.Prelude.{ℕ, List, ⊤}
-use Rattle.zone_sizes.specs.declared.config.Config.{Config}
+use Rattle.std.specs.Prelude.{◌≡◌, ℕ, List, Option, Some, ⊤}
+use Rattle.load_run.specs.declared.command_line.Settings.{Settings}
+use Rattle.load_run.specs.declared.fault.LineFault.{LineFault}
 use Rattle.load_run.specs.declared.fault.LineFault.TheVariants as line
 use Rattle.script_lines.specs.declared.fault.ScriptFault.TheVariants as script
 use Rattle.load_run.specs.declared.fault.ProgramFault.{ProgramFault}
@@ -8,10 +9,16 @@ use Rattle.script_lines.specs.Script.{IsFirstBadLine}
 use Rattle.load_run.specs.Settings.{HasSizesInRange}
 use Rattle.load_run.specs.declared.fault.ProgramFault.TheVariants.{Line, Script, BadConfig, Input, Output, NoMemory}
 
--- where the fault is a bad line, it is the first that isn't good of what was read, for sizes that may be
-abbrev pub TellsFirstBadLine : List ℕ → ProgramFault → Type 0
-TellsFirstBadLine read (Script (script.BadLine n)) = (sizes : Config) × HasSizesInRange sizes × IsFirstBadLine sizes read n
-TellsFirstBadLine read fault = ⊤
+-- memory ran out
+abbrev pub IsNoMemory : LineFault → Type 0
+IsNoMemory (line.Words text) = ⊥
+IsNoMemory (line.NoMemory e) = ⊤
+
+-- where the fault is a bad line, it is the first that isn't good of what was read, for the sizes that were asked for
+abbrev pub TellsFirstBadLine : Option Settings → List ℕ → ProgramFault → Type 0
+TellsFirstBadLine asked read (Script (script.BadLine n)) =
+    (settings : Settings) × (asked ≡ Some settings) × HasSizesInRange settings.sizes × IsFirstBadLine settings.sizes read n
+TellsFirstBadLine asked read fault = ⊤
 
 -- 2 where the program was used wrongly, 1 where it failed at its work
 abbrev pub status_of : ProgramFault → ℕ

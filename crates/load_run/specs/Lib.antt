@@ -2,3 +2,4 @@ pub mod Answers
 pub mod Ending
 pub mod Fault
 pub mod Settings
+pub mod Words

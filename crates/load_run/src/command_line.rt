@@ -1,7 +1,12 @@
 //! The words of the command line.
 
-ghost use Rattle.std.specs.Prelude.{◌≤◌, IfOk, IfSome};
+ghost use Rattle.std.specs.Prelude.{◌≡◌, ◌≤◌, IfOk, IfSome, Some, codes, false, map, option_and_then};
+ghost use Rattle.clap.specs.Words.{app_of, found_of, kind_of, rows_of, rule_of, subcommand_rows_of};
+ghost use Rattle.clap.specs.declared.builder.command.Command.TheViews.{out-Command as fields_of};
+ghost use Rattle.load_run.specs.Fault.{IsNoMemory};
 ghost use Rattle.load_run.specs.Settings.{HasSizesInRange};
+ghost use Rattle.load_run.specs.Words.{Answers, flag_rule, is_given, program, replay_shape, settings_of};
+ghost use Rattle.load_run.specs.Words.{settings_under, size_in, size_rule, sizes_in};
 
 use crate::fault::LineFault;
 use clap::error::ErrorKind;
@@ -42,9 +47,10 @@ pub fn words<R: Env + AllocGlobal>(rt: &R) -> Result<Vec<String>, LineFault> {
 /// `Config::is_valid` asks more: high is at least batch. A size that is left out is 16, 2, 4, 8, 4 in turn.
 /// Anything else is a fault of the words, a request for help too.
 pub fn options<S: AsStr>(alloc: Global, words: &[S]) -> Result<Settings, LineFault>
+    ensures asked { Answers (settings_of (map S.text words.now)) result }
     ensures in_range { IfOk result (λ o. HasSizesInRange o.sizes) }
 {
-    let mut command = memcg(alloc)?;
+    let mut command = memcg(alloc).map_err(LineFault::NoMemory)?;
     let found = match command.try_get_matches_from_mut(words) {
         Ok(found) => found,
         Err(error) => return Err(fault_of(alloc, &error)),
@@ -53,24 +59,30 @@ pub fn options<S: AsStr>(alloc: Global, words: &[S]) -> Result<Settings, LineFau
         Some(options) => Ok(options),
         None => {
             let text = "an option has no value in its range";
-            let error = command.error(ErrorKind::InvalidValue, text)?;
+            let error = command
+                .error(ErrorKind::InvalidValue, text)
+                .map_err(LineFault::NoMemory)?;
             Err(fault_of(alloc, &error))
         }
     }
 }
 
-fn fault_of(alloc: Global, error: &Error) -> LineFault {
-    if error.kind() == ErrorKind::OutOfMemory {
-        return LineFault::NoMemory(AllocError);
-    }
-    match format!(in alloc; "{error}") {
-        Ok(text) => LineFault::Words(text),
-        Err(error) => LineFault::NoMemory(error),
+fn fault_of(alloc: Global, error: &Error) -> LineFault
+    ensures { kind_of error.now ≡ ErrorKind.OutOfMemory → IsNoMemory result }
+{
+    match error.kind() {
+        ErrorKind::OutOfMemory => LineFault::NoMemory(AllocError),
+        _ => match format!(in alloc; "{error}") {
+            Ok(text) => LineFault::Words(text),
+            Err(error) => LineFault::NoMemory(error),
+        },
     }
 }
 
 // The program as clap reads it.
-fn memcg<'a>(alloc: Global) -> Result<Command<'a>, AllocError> {
+fn memcg<'a>(alloc: Global) -> Result<Command<'a>, AllocError>
+    ensures app { IfOk result (λ command. app_of command ≡ program) }
+{
     Command::new(alloc, "memcg")
         .bin_name("memcg")?
         .no_binary_name(true)
@@ -80,7 +92,10 @@ fn memcg<'a>(alloc: Global) -> Result<Command<'a>, AllocError> {
 }
 
 // Its one subcommand.
-fn replay<'a>(alloc: Global) -> Result<Command<'a>, AllocError> {
+fn replay<'a>(alloc: Global) -> Result<Command<'a>, AllocError>
+    ensures shape { IfOk result (λ command. (app_of command).top ≡ replay_shape) }
+    ensures local { IfOk result (λ command. (fields_of command).has_globals ≡ false) }
+{
     Command::new(alloc, "replay")
         .about("Runs the lines of a script, one after the other")
         .arg(size_option(
@@ -112,12 +127,18 @@ fn replay<'a>(alloc: Global) -> Result<Command<'a>, AllocError> {
             64,
             "4",
         ))?
-        .arg(
-            Arg::new(alloc, "audit")
-                .long("audit")
-                .help("Tells at the end which pins were held, and what was counted")
-                .action(ArgAction::SetTrue),
-        )
+        .arg(audit_option(alloc))
+}
+
+// Whether the end is told.
+fn audit_option<'a>(alloc: Global) -> Arg<'a>
+    ensures rule { rule_of result ≡ flag_rule (codes "audit") }
+    ensures local { result.global ≡ false }
+{
+    Arg::new(alloc, "audit")
+        .long("audit")
+        .help("Tells at the end which pins were held, and what was counted")
+        .action(ArgAction::SetTrue)
 }
 
 // A number option from 1 to `most`.
@@ -127,7 +148,10 @@ fn size_option<'a>(
     help: &'a str,
     most: u32,
     default: &'a str,
-) -> Arg<'a> {
+) -> Arg<'a>
+    ensures rule { rule_of result ≡ size_rule name.entry.now most default.entry.now }
+    ensures local { result.global ≡ false }
+{
     Arg::new(alloc, name)
         .long(name)
         .value_name("N")
@@ -137,16 +161,18 @@ fn size_option<'a>(
 }
 
 fn read_settings(found: &ArgMatches<'_>) -> Option<Settings>
-    ensures { IfSome result (λ o. HasSizesInRange o.sizes) }
+    ensures asked { result ≡ option_and_then (λ p. settings_under p.0 p.1) (subcommand_rows_of found.now) }
+    ensures in_range { IfSome result (λ o. HasSizesInRange o.sizes) }
 {
     let replay = found.subcommand_matches("replay")?;
     let sizes = sizes(replay)?;
-    let is_audited = replay.get_flag("audit");
+    let is_audited = is_set(replay, "audit");
     Some(Settings { sizes, is_audited })
 }
 
 fn sizes(replay: &ArgMatches<'_>) -> Option<Config>
-    ensures { IfSome result HasSizesInRange }
+    ensures asked { result ≡ sizes_in (rows_of (found_of replay.now)) }
+    ensures in_range { IfSome result HasSizesInRange }
 {
     Some(Config {
         frames: size(replay, "frames", 65_536)?,
@@ -157,8 +183,16 @@ fn sizes(replay: &ArgMatches<'_>) -> Option<Config>
     })
 }
 
+// Whether an option without a value is given.
+fn is_set(found: &ArgMatches<'_>, name: &str) -> bool
+    ensures { result ≡ is_given name.now (rows_of (found_of found.now)) }
+{
+    found.get_one::<bool>(name).unwrap_or(false)
+}
+
 fn size(found: &ArgMatches<'_>, name: &str, most: u32) -> Option<u32>
-    ensures { IfSome result (λ size. (1 ≤ size) × (size ≤ most)) }
+    ensures asked { result ≡ size_in name.now most (rows_of (found_of found.now)) }
+    ensures in_range { IfSome result (λ size. (1 ≤ size) × (size ≤ most)) }
 {
     let size = found.get_one::<u32>(name)?;
     if size < 1 || most < size {

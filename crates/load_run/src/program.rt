@@ -1,12 +1,13 @@
 //! The program over any reader and two writers.
 
-ghost use Rattle.std.specs.Prelude.{◌≡◌, ◌≤◌, [], All, IfErr, IfOk, IfSome, OnOk, take};
+ghost use Rattle.std.specs.Prelude.{◌≡◌, ◌≤◌, [], All, IfErr, IfOk, IfSome, IsSome, OnOk, Some, map, take};
 ghost use Rattle.std.specs.Io.KnownBytes.{Appends};
 ghost use Rattle.load_run.specs.Answers.{IsAnswered, IsReplayed};
 ghost use Rattle.load_run.specs.Fault.{TellsFirstBadLine, status_of};
 ghost use Rattle.script_lines.specs.Script.{IsScript};
 ghost use Rattle.script_replay.specs.Ranges.{LineIsThere};
 ghost use Rattle.load_run.specs.Settings.{HasSizesInRange};
+ghost use Rattle.load_run.specs.Words.{settings_of};
 ghost use Rattle.load_run.specs.Answers.{AreAnswers};
 ghost use Rattle.zone_sizes.specs.Config.{IsValidConfig};
 
@@ -20,14 +21,13 @@ use std::alloc::{AllocError, Global};
 use std::convert::AsStr;
 use std::io::{ErrorKind, Read, Write};
 use std::marker::Brand;
-use zone_sizes::config::Config;
 
 /// Runs the program: the words that follow its name, the script, the answers and the faults. It gives the
 /// status to end with.
 ///
 /// First the options are read, then the whole script is read and parsed, then the configuration checked,
-/// then a boot replays the lines and ends. The answers are gathered and written once; where anything fails, none are. A fault
-/// is told in one line, those of the words in clap's text. The status is 0; 2 after a fault of the words,
+/// then a boot replays the lines and ends. The answers are gathered and written once; where anything fails,
+/// none are. A fault is told in one line, those of the words in clap's text. The status is 0; 2 after a fault of the words,
 /// a bad line or a bad configuration; 1 where the script can't be read or the answers can't be written,
 /// and where memory runs out.
 pub fn drive<S: AsStr, I: Read, O: Write, F: Write>(
@@ -40,7 +40,9 @@ pub fn drive<S: AsStr, I: Read, O: Write, F: Write>(
     ensures status { result ≤ 2 }
     ensures quiet { result ≡ 2 → O.contents output.new ≡ O.contents output.old }
     ensures silent { result ≡ 0 → F.contents faults.new ≡ F.contents faults.old }
-    ensures replayed { result ≡ 0 → IfSome (I.remaining input.old) (λ bytes. IsReplayed bytes (O.contents output.old) (O.contents output.new)) }
+    ensures asked { result ≡ 0 → IsSome (settings_of (map S.text words.now)) }
+    ensures replayed { result ≡ 0 → IfSome (I.remaining input.old) (λ bytes.
+        IsReplayed (settings_of (map S.text words.now)) bytes (O.contents output.old) (O.contents output.new)) }
 {
     match answers_to(alloc, words, input) {
         Ok(answers) => match write_answers(output, &answers) {
@@ -57,12 +59,15 @@ fn answers_to<S: AsStr, I: Read>(
     words: &[S],
     input: &mut I,
 ) -> Result<Vec<u8>, ProgramFault>
-    ensures answered { IfOk result (λ answers. IfSome (I.remaining input.old) (λ bytes. IsAnswered bytes answers.items)) }
-    ensures bad_line { IfErr result (λ fault. IfSome (I.remaining input.old) (λ bytes. TellsFirstBadLine (take 1048577 bytes) fault)) }
+    ensures asked { OnOk result (IsSome (settings_of (map S.text words.now))) }
+    ensures answered { IfOk result (λ answers. IfSome (I.remaining input.old) (λ bytes.
+        IsAnswered (settings_of (map S.text words.now)) bytes answers.items)) }
+    ensures bad_line { IfErr result (λ fault. IfSome (I.remaining input.old) (λ bytes.
+        TellsFirstBadLine (settings_of (map S.text words.now)) (take 1048577 bytes) fault)) }
 {
     let options = options(alloc, words).map_err(ProgramFault::Line)?;
     let script = read_script(alloc, input)?;
-    let lines = lines_of(alloc, &script, &options.sizes)?;
+    let lines = lines_of(alloc, &script, &options)?;
     answers_of(alloc, &options, &lines)
 }
 
@@ -70,13 +75,13 @@ fn answers_to<S: AsStr, I: Read>(
 fn lines_of<'a>(
     alloc: Global,
     script: &'a [u8],
-    sizes: &Config,
+    options: &Settings,
 ) -> Result<Vec<Line<'a>>, ProgramFault>
-    requires { HasSizesInRange sizes.now }
-    ensures lines { IfOk result (λ lines. IsScript sizes.now script.now lines.items) }
-    ensures bad_line { IfErr result (TellsFirstBadLine script.now) }
+    requires { HasSizesInRange options.now.sizes }
+    ensures lines { IfOk result (λ lines. IsScript options.now.sizes script.now lines.items) }
+    ensures bad_line { IfErr result (TellsFirstBadLine (Some options.now) script.now) }
 {
-    match parse_script(alloc, script, sizes) {
+    match parse_script(alloc, script, &options.sizes) {
         Ok(lines) => Ok(lines),
         Err(fault) => Err(ProgramFault::Script(fault)),
     }
@@ -91,7 +96,7 @@ fn answers_of(
     requires { All (LineIsThere options.now.sizes.frames options.now.sizes.cpus) lines.now }
     ensures answers { IfOk result (λ text. AreAnswers options.now.sizes options.now.is_audited lines.now text.items) }
     ensures valid { IfOk result (λ _. IsValidConfig options.now.sizes) }
-    ensures other { IfErr result (TellsFirstBadLine []) }
+    ensures other { IfErr result (TellsFirstBadLine (Some options.now) []) }
 {
     match boot(alloc, options.sizes) {
         Ok(boot) => run::<Brand>(alloc, boot, lines, options.is_audited).map_err(

@@ -1,4 +1,4 @@
-use crate::command_line::options;
+use crate::command_line::{Settings, options};
 use crate::fault::LineFault;
 use std::test::Fail;
 use zone_sizes::config::Config;
@@ -41,6 +41,60 @@ fn takes_the_greatest_values(rt: HostRuntime) -> Result<(), Fail> {
         stock: 64,
     };
     assert!(rt; found.sizes == greatest && found.is_audited);
+    Ok(())
+}
+
+#[test]
+fn reads_both_spellings_in_any_order(rt: HostRuntime) -> Result<(), Fail> {
+    let attached = [
+        "replay",
+        "--frames=40",
+        "--cpus=3",
+        "--batch=5",
+        "--high=12",
+        "--stock=7",
+        "--audit",
+    ];
+    let parted = [
+        "replay", "--audit", "--stock", "+7", "--high", "012", "--batch", "5", "--cpus", "3",
+        "--frames", "40", "--",
+    ];
+    let wanted = Settings {
+        sizes: Config {
+            frames: 40,
+            cpus: 3,
+            batch: 5,
+            high: 12,
+            stock: 7,
+        },
+        is_audited: true,
+    };
+    assert!(rt; options(rt.alloc(), &attached)? == wanted);
+    assert!(rt; options(rt.alloc(), &parted)? == wanted);
+    Ok(())
+}
+
+#[test]
+fn reads_each_option_alone(rt: HostRuntime) -> Result<(), Fail> {
+    let cases = [
+        ("--frames=9", [9, 2, 4, 8, 4]),
+        ("--cpus=9", [16, 9, 4, 8, 4]),
+        ("--batch=9", [16, 2, 9, 8, 4]),
+        ("--high=9", [16, 2, 4, 9, 4]),
+        ("--stock=9", [16, 2, 4, 8, 9]),
+    ];
+    for (word, wanted) in cases {
+        let found = options(rt.alloc(), &["replay", word])?;
+        let sizes = found.sizes;
+        let values = [
+            sizes.frames,
+            sizes.cpus,
+            sizes.batch,
+            sizes.high,
+            sizes.stock,
+        ];
+        assert!(rt; values == wanted && !found.is_audited, "{word}");
+    }
     Ok(())
 }
 
@@ -92,6 +146,9 @@ fn refuses_each_value_past_its_range(rt: HostRuntime) -> Result<(), Fail> {
         "--stock=65",
         "--stock=0",
         "--frames=1.5",
+        "--frames=-1",
+        "--frames=",
+        "--frames",
         "--audit=1",
     ];
     for word in past {

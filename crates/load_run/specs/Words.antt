@@ -1,0 +1,109 @@
+-- What the words of a command line ask for: what clap finds in them by the options of the program.
+use Rattle.std.specs.Prelude.{◌≡◌, ℕ, Bool, true, false, List, [], ◌∷◌, Option, Some, None, Result, Ok, Err, ⊤, pos}
+use Rattle.std.specs.Prelude.{codes, if◌then◌else◌, option_and_then, option_map}
+use Rattle.std.specs.Option.{option_map_or}
+use Rattle.std.specs.Str.{bytes_eq}
+use Rattle.std.specs.Str.Parse.{digits_value, without_leading_plus}
+use Rattle.clap.specs.Words.{App, Row, Rule, fault_of, new_rule, one_of, subcommand_of}
+use Rattle.clap.specs.Simple.{Shape, new_shape}
+use Rattle.clap.specs.ValueTests.{is_unsigned_in}
+use Rattle.clap.specs.declared.builder.action.ArgAction.TheVariants.{SetTrue}
+use Rattle.clap.specs.declared.builder.value_parser.ValueParser.TheVariants.{Signed}
+use Rattle.clap.specs.Kinds.{Kinds}
+use Rattle.zone_sizes.specs.declared.config.Config.{Config}
+use Rattle.load_run.specs.declared.command_line.Settings.{Settings}
+use Rattle.load_run.specs.declared.fault.LineFault.{LineFault}
+use Rattle.load_run.specs.declared.fault.LineFault.TheVariants.{Words, NoMemory}
+
+-- an option whose value is a whole number from 1 to `most`, and the value that stands where it is left out
+abbrev pub size_rule : List ℕ → ℕ → List ℕ → Rule
+size_rule name most default = record (new_rule name) {
+  long = Some name;
+  value_names = 1;
+  parser = Some (Signed (pos 1) (pos most));
+  defaults = default ∷ [];
+}
+
+-- an option without a value: it is given or it isn't
+abbrev pub flag_rule : List ℕ → Rule
+flag_rule name = record (new_rule name) {
+  long = Some name;
+  action = Some SetTrue;
+}
+
+-- the options of `replay`
+abbrev pub replay_rules : List Rule
+replay_rules =
+    size_rule (codes "frames") 65536 (codes "16")
+    ∷ size_rule (codes "cpus") 16 (codes "2")
+    ∷ size_rule (codes "batch") 64 (codes "4")
+    ∷ size_rule (codes "high") 256 (codes "8")
+    ∷ size_rule (codes "stock") 64 (codes "4")
+    ∷ flag_rule (codes "audit")
+    ∷ []
+
+-- the subcommand `replay`
+abbrev pub replay_shape : Shape
+replay_shape = record (new_shape (codes "replay")) { rules = replay_rules }
+
+-- the program: it wants its one subcommand, and its own name is not among the words
+abbrev pub program : App
+program = record {
+  top = record (new_shape (codes "memcg")) {
+    no_binary_name = true;
+    subcommand_required = true;
+    is_leaf = false;
+  };
+  subs = replay_shape ∷ [];
+}
+
+-- the number that a text writes, in decimal digits, perhaps behind a plus, where it is from 1 to `most`
+abbrev pub number_in : ℕ → List ℕ → Option ℕ
+number_in most text = if is_unsigned_in 1 most text then Some (digits_value 10 (without_leading_plus text)) else None
+
+-- the value of an option, given or left out
+abbrev pub size_in : List ℕ → ℕ → List Row → Option ℕ
+size_in name most found = option_and_then (number_in most) (one_of name found)
+
+-- whether an option without a value is given
+abbrev pub is_given : List ℕ → List Row → Bool
+is_given name found = option_map_or (λ text. bytes_eq text (codes "true")) (one_of name found) false
+
+infixl 10 ◌>>=◌
+abbrev ◌>>=◌ : {A B : Type 0} → Option A → (A → Option B) → Option B
+o >>= f = option_and_then f o
+
+-- each size is the value of its own option
+abbrev pub sizes_in : List Row → Option Config
+sizes_in found = do
+  frames ← size_in (codes "frames") 65536 found
+  cpus ← size_in (codes "cpus") 16 found
+  batch ← size_in (codes "batch") 64 found
+  high ← size_in (codes "high") 256 found
+  stock ← size_in (codes "stock") 64 found
+  Some (record { frames = frames; cpus = cpus; batch = batch; high = high; stock = stock })
+
+-- the sizes, and whether `--audit` is given
+abbrev pub settings_in : List Row → Option Settings
+settings_in found = do
+  sizes ← sizes_in found
+  Some (record { sizes = sizes; is_audited = is_given (codes "audit") found })
+
+-- what stands in the words of `replay`
+abbrev pub settings_under : List ℕ → List Row → Option Settings
+settings_under name found = if bytes_eq name (codes "replay") then settings_in found else None
+
+-- what was found, where there is no fault
+abbrev pub if_none : Kinds → Option Settings → Option Settings
+if_none [] asked = asked
+if_none (fault ∷ faults) asked = None
+
+-- the settings that the words ask for: clap finds no fault in them, and finds these values behind `replay`
+unfoldable pub settings_of : List (List ℕ) → Option Settings
+settings_of words = if_none (fault_of program words) (option_and_then (λ p. settings_under p.0 p.1) (subcommand_of program words))
+
+-- what the words are answered: the settings that they ask for; a fault where they ask for none; or that memory ran out
+abbrev pub Answers : Option Settings → Result Settings LineFault → Type 0
+Answers asked (Ok settings) = asked ≡ Some settings
+Answers asked (Err (Words text)) = asked ≡ None
+Answers asked (Err (NoMemory e)) = ⊤
