@@ -16,9 +16,9 @@ pub fn places_alike<N: BootName>(
     for number in 0..tables.frames.frames() {
         let frame = tables.frames.frame(number).expect(rt, "a frame");
         let at = number as usize;
-        assert_eq!(rt; Some(machine.place(frame)), plain.places.get(at).copied());
-        assert_eq!(rt; Some(machine.unit(frame)), plain.units.get(at).copied());
-        assert_eq!(rt; machine.is_kept(frame), machine.unit(frame).is_some());
+        assert!(rt; Some(machine.place(frame)) == plain.places.get(at).copied());
+        assert!(rt; Some(machine.unit(frame)) == plain.units.get(at).copied());
+        assert!(rt; machine.is_kept(frame) == machine.unit(frame).is_some());
     }
 }
 
@@ -26,16 +26,15 @@ pub fn places_alike<N: BootName>(
 fn group_alike<N: BootName>(rt: &impl Abort, machine: &Machine<N>, plain: &Plain, group: GroupId) {
     let charges = machine.charges();
     let is_there = group == GroupId::root() || plain.path_of(group).is_some();
-    assert_eq!(rt; charges.tree().contains(group), is_there);
+    assert!(rt; charges.tree().contains(group) == is_there);
     if !charges.tree().contains(group) {
         return;
     }
     let peak = plain.peaks.get(group.number() as usize).copied();
-    assert_eq!(rt; u64::from(machine.current(group)), plain.usage(group));
-    assert_eq!(rt; Some(u64::from(charges.peak(group))), peak);
-    assert_eq!(rt;
-        Some(machine.is_killed(group)),
-        plain.killed.get(group.number() as usize).copied()
+    assert!(rt; u64::from(machine.current(group)) == plain.usage(group));
+    assert!(rt; Some(u64::from(charges.peak(group))) == peak);
+    assert!(rt;
+        Some(machine.is_killed(group)) == plain.killed.get(group.number() as usize).copied()
     );
 }
 
@@ -46,14 +45,14 @@ pub fn groups_alike<N: BootName>(rt: &impl Abort, machine: &Machine<N>, plain: &
             group_alike(rt, machine, plain, group);
         }
     }
-    assert_eq!(rt; machine.counts(), plain.counts);
+    assert!(rt; machine.counts() == plain.counts);
 }
 
 /// The processor has as many frames on its list, and the same fresh ones.
 pub fn lists_alike<N: BootName>(rt: &impl Abort, tables: &Tables<N>, cpu: &Cpu<N>, plain: &Plain) {
     let seat = plain.seat(rt, cpu.number());
-    assert_eq!(rt; cpu.list_len(), seat.list.len());
-    assert_eq!(rt; cpu.fresh_len(), seat.fresh.len());
+    assert!(rt; cpu.list_len() == seat.list.len());
+    assert!(rt; cpu.fresh_len() == seat.fresh.len());
     for fresh in seat.fresh.iter() {
         let frame = tables.frames.frame(*fresh).expect(rt, "a frame");
         assert!(rt; cpu.has_fresh(frame));

@@ -37,7 +37,7 @@ fn made_group(rt: &impl Abort, plain: &mut Plain, path: u32, group: GroupId) {
 
 // A group that is used for nothing goes.
 fn removed(rt: &impl Abort, plain: &mut Plain, group: GroupId) {
-    assert_eq!(rt; plain.usage(group), 0);
+    assert!(rt; plain.usage(group) == 0);
     let number = group.number() as usize;
     assert!(rt; number < plain.paths.len());
     plain.paths[number] = None;
@@ -115,7 +115,7 @@ fn took_block(
     if over.is_some() {
         return;
     }
-    assert_eq!(rt; head, plain.front(unit.order.exponent()));
+    assert!(rt; head == plain.front(unit.order.exponent()));
     plain.raise_peaks(rt, unit.group, unit.order.frames());
     if let Some(head) = head {
         plain.keep(rt, head, unit);
@@ -127,29 +127,29 @@ fn paid(rt: &impl Abort, plain: &mut Plain, cpu: u32, group: GroupId, fast: Fast
     let seat = plain.seat_mut(rt, cpu);
     match fast {
         Fast::Got(frame) => {
-            assert_eq!(rt; seat.list.pop_front(), Some(frame.number()));
-            assert_eq!(rt; seat.group, Some(group));
+            assert!(rt; seat.list.pop_front() == Some(frame.number()));
+            assert!(rt; seat.group == Some(group));
             seat.pages = seat.pages.checked_sub(1).expect(rt, "a page");
             assert!(rt; seat.fresh.push(frame.number()).is_ok());
         }
-        Fast::FreshFull => assert_eq!(rt; seat.fresh.len(), 32),
+        Fast::FreshFull => assert!(rt; seat.fresh.len() == 32),
         Fast::ListEmpty => assert!(rt; seat.list.is_empty()),
         Fast::OtherGroup => assert!(rt; seat.group != Some(group)),
-        Fast::Drained | Fast::NoStock => assert_eq!(rt; seat.pages, 0),
+        Fast::Drained | Fast::NoStock => assert!(rt; seat.pages == 0),
     }
 }
 
 // A fresh frame is given back to the end of the list, or not.
 fn gave_back(rt: &impl Abort, plain: &mut Plain, cpu: u32, frame: u32, dropped: Dropped) {
     let seat = plain.seat_mut(rt, cpu);
-    assert_eq!(rt; seat.fresh.first().copied(), Some(frame));
+    assert!(rt; seat.fresh.first().copied() == Some(frame));
     match dropped {
         Dropped::Listed => {
             seat.fresh.remove(0);
             seat.pages = seat.pages.saturating_add(1);
             assert!(rt; seat.list.push_back(frame).is_ok());
         }
-        Dropped::NeedVisit => assert_eq!(rt; seat.pages, 0),
+        Dropped::NeedVisit => assert!(rt; seat.pages == 0),
     }
 }
 
@@ -168,11 +168,11 @@ pub fn recount(rt: &impl Abort, plain: &mut Plain, cpu: u32, made: &Made) {
         Made::Prepaid { group, pages, over } => prepaid(rt, plain, cpu, group, pages, over),
         Made::DrainedStock { cpu, pages } => {
             let drained = drain(rt, plain, cpu);
-            assert_eq!(rt; drained, pages);
+            assert!(rt; drained == pages);
         }
         Made::DrainedBelow { group, pages } => {
             let drained = drained_below(rt, plain, group);
-            assert_eq!(rt; drained, pages);
+            assert!(rt; drained == pages);
         }
         Made::Settled { frames } => settled(rt, plain, cpu, frames),
         Made::TookBlock {
@@ -182,7 +182,7 @@ pub fn recount(rt: &impl Abort, plain: &mut Plain, cpu: u32, made: &Made) {
             over,
         } => took_block(rt, plain, ChargedUnit { group, order }, head, over),
         Made::Released { frame, left } => {
-            assert_eq!(rt; left, None);
+            assert!(rt; left == None);
             plain.free(rt, frame);
         }
         Made::Paid { group, answer } => paid(rt, plain, cpu, group, answer),

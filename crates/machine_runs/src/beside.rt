@@ -21,7 +21,7 @@ fn step(rt: &impl Abort, core: &mut Core, seat: u32, action: Action) -> Answer {
 // A step that is made.
 fn done(rt: &impl Abort, core: &mut Core, seat: u32, action: Action) {
     let answer = step(rt, core, seat, action);
-    assert_eq!(rt; answer, Answer::Done);
+    assert!(rt; answer == Answer::Done);
 }
 
 /// The processor takes the lock, and its visit begins.
@@ -63,7 +63,7 @@ fn made_group(rt: &impl Abort, core: &mut Core, number: u32, group: Option<Group
     let path = PathText::of(path(number)).expect(rt, "a short path");
     let wanted = group.map_or(Answer::Illegal, Answer::Number);
     let answer = step(rt, core, 0, Action::Make { path });
-    assert_eq!(rt; answer, wanted);
+    assert!(rt; answer == wanted);
 }
 
 // The stock of a processor is drained, and its pages go back.
@@ -92,7 +92,7 @@ fn prepaid(
 ) {
     drain(rt, core, cpu);
     let answer = step(rt, core, 0, Action::Grant { group, pages });
-    assert_eq!(rt; answer, over.map_or(Answer::Granted, Answer::Over));
+    assert!(rt; answer == over.map_or(Answer::Granted, Answer::Over));
     if over.is_none() {
         done(rt, core, 0, Action::Fill { cpu, group, pages });
     }
@@ -126,7 +126,7 @@ fn settled(rt: &impl Abort, core: &mut Core, cpu: u32, frames: u32) {
             done(rt, core, cpu, Action::Report { pages: 1 });
             done(rt, core, 0, Action::Collect { frame, cpu });
             let answer = step(rt, core, 0, Action::Absorb { cpu });
-            assert_eq!(rt; answer, Answer::Pages(1));
+            assert!(rt; answer == Answer::Pages(1));
             done(rt, core, 0, Action::Unfreeze { frame, count: 1 });
             done(rt, core, 0, Action::Publish { frame });
         }
@@ -141,7 +141,7 @@ fn placed(rt: &impl Abort, core: &mut Core, group: GroupId, order: Order, head: 
         |at| Answer::Placed(Block { at, order }),
     );
     let answer = step(rt, core, 0, Action::PlaceBlock { group, order });
-    assert_eq!(rt; answer, wanted);
+    assert!(rt; answer == wanted);
     let pages = order.frames();
     match head {
         Some(frame) => {
@@ -163,7 +163,7 @@ fn took_block(
 ) {
     let pages = order.frames();
     let answer = step(rt, core, 0, Action::Grant { group, pages });
-    assert_eq!(rt; answer, over.map_or(Answer::Granted, Answer::Over));
+    assert!(rt; answer == over.map_or(Answer::Granted, Answer::Over));
     if over.is_none() {
         placed(rt, core, group, order, head);
     }
@@ -175,10 +175,10 @@ fn released(rt: &impl Abort, core: &mut Core, frame: u32, left: Option<u64>) {
     match left {
         Some(left) => {
             let few = u32::try_from(left).ok().expect(rt, "few references");
-            assert_eq!(rt; answer, Answer::Left(few));
+            assert!(rt; answer == Answer::Left(few));
         }
         None => {
-            assert_eq!(rt; answer, Answer::Last);
+            assert!(rt; answer == Answer::Last);
             done(rt, core, 0, Action::Return { frame });
         }
     }
@@ -187,21 +187,21 @@ fn released(rt: &impl Abort, core: &mut Core, frame: u32, left: Option<u64>) {
 // A frame is paid for, or not. That the stock has no page is told by what the processor saw of it last, without a step.
 fn paid(rt: &impl Abort, core: &mut Core, cpu: u32, group: GroupId, fast: Fast) {
     if fast == Fast::NoStock {
-        assert_eq!(rt; core.stock_pages(cpu), 0);
+        assert!(rt; core.stock_pages(cpu) == 0);
         return;
     }
     let front = core.front(cpu);
     let answer = step(rt, core, cpu, Action::Consume { group });
     let wanted = match fast {
         Fast::Got(frame) => {
-            assert_eq!(rt; frame.number(), front);
+            assert!(rt; frame.number() == front);
             Answer::Took
         }
         Fast::FreshFull | Fast::ListEmpty => Answer::Illegal,
         Fast::OtherGroup => Answer::OtherGroup,
         Fast::Drained | Fast::NoStock => Answer::Drained,
     };
-    assert_eq!(rt; answer, wanted);
+    assert!(rt; answer == wanted);
 }
 
 // A fresh frame is given back, or not.
@@ -211,7 +211,7 @@ fn gave_back(rt: &impl Abort, core: &mut Core, cpu: u32, frame: u32, dropped: Dr
         Dropped::NeedVisit => Answer::Drained,
     };
     let answer = step(rt, core, cpu, Action::Credit { frame });
-    assert_eq!(rt; answer, wanted);
+    assert!(rt; answer == wanted);
 }
 
 /// The steps of a call of this processor.
@@ -227,11 +227,11 @@ pub fn follow(rt: &impl Abort, core: &mut Core, cpu: u32, made: &Made) {
         Made::Prepaid { group, pages, over } => prepaid(rt, core, cpu, group, pages, over),
         Made::DrainedStock { cpu, pages } => {
             let drained = drain(rt, core, cpu);
-            assert_eq!(rt; drained, pages);
+            assert!(rt; drained == pages);
         }
         Made::DrainedBelow { group, pages } => {
             let drained = drained_below(rt, core, group);
-            assert_eq!(rt; drained, pages);
+            assert!(rt; drained == pages);
         }
         Made::Settled { frames } => settled(rt, core, cpu, frames),
         Made::TookBlock {
@@ -267,25 +267,22 @@ pub fn places_agree<N: BootName>(
         let here = machine.place(frame);
         let there = core.place(number);
         assert!(rt; place_agrees(core, number, here, there));
-        assert_eq!(rt; machine.is_kept(frame), core.references(0, number) == 1);
+        assert!(rt; machine.is_kept(frame) == (core.references(0, number) == 1));
     }
 }
 
 // A group has the same usage, peak, limit and counts of events, if it is there.
 fn group_agrees<N: BootName>(rt: &impl Abort, machine: &Machine<N>, core: &Core, group: GroupId) {
     let charges = machine.charges();
-    assert_eq!(rt; charges.tree().contains(group), core.tree().contains(group));
+    assert!(rt; charges.tree().contains(group) == core.tree().contains(group));
     if !charges.tree().contains(group) || !core.tree().contains(group) {
         return;
     }
-    assert_eq!(rt; u128::from(machine.current(group)), core.current(group));
-    assert_eq!(rt; u128::from(charges.peak(group)), core.peak(group));
-    assert_eq!(rt; charges.max(group), core.max(group));
-    assert_eq!(rt; charges.events(group).max, core.events(group).max);
-    assert_eq!(rt;
-        charges.events_local(group).max,
-        core.events_local(group).max
-    );
+    assert!(rt; u128::from(machine.current(group)) == core.current(group));
+    assert!(rt; u128::from(charges.peak(group)) == core.peak(group));
+    assert!(rt; charges.max(group) == core.max(group));
+    assert!(rt; charges.events(group).max == core.events(group).max);
+    assert!(rt; charges.events_local(group).max == core.events_local(group).max);
 }
 
 /// Each group has the same usage, peak, limit and counts of events.
@@ -300,8 +297,8 @@ pub fn groups_agree<N: BootName>(rt: &impl Abort, machine: &Machine<N>, core: &C
 /// The processor has as many frames on its list, and the same fresh ones.
 pub fn lists_agree<N: BootName>(rt: &impl Abort, tables: &Tables<N>, cpu: &Cpu<N>, core: &Core) {
     let number = cpu.number();
-    assert_eq!(rt; cpu.list_len(), core.list_len(number));
-    assert_eq!(rt; cpu.fresh_len(), core.fresh(number).len());
+    assert!(rt; cpu.list_len() == core.list_len(number));
+    assert!(rt; cpu.fresh_len() == core.fresh(number).len());
     for fresh in core.fresh(number) {
         let frame = tables.frames.frame(*fresh).expect(rt, "a frame");
         assert!(rt; cpu.has_fresh(frame));

@@ -11,7 +11,7 @@ use mem_machine::{Machine, Released, TakeFault};
 use zone_blocks::order::Order;
 
 /// What a turn is made of: a random word, and a fresh frame of the processor if there is one.
-#[derive(Clone, Copy, Debug, PartialEq, Eq)]
+#[derive(Clone, Copy)]
 pub struct Turn {
     pub word: u32,
     pub fresh: u32,

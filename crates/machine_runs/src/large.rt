@@ -64,11 +64,11 @@ fn lends_sixty_four<const F: u32, N: BootName>(rt: &impl Abort, alloc: Global, p
     let tables = Tables::<N>::new(frames, stocks);
     let mut cpu = Cpu::<N>::new(alloc, last.frames, last.stock).expect(rt, "memory");
     let mut machine = Machine::<N>::new(alloc, &tables, zone, machine).expect(rt, "memory");
-    assert_eq!(rt; cpu.number(), 16);
+    assert!(rt; cpu.number() == 16);
     machine.open(&tables, &mut cpu);
-    assert_eq!(rt; machine.refill(&tables, &mut cpu, 64), 64);
-    assert_eq!(rt; cpu.list_len(), 64);
-    assert_eq!(rt; machine.drain_list(&tables, &mut cpu, 64), 64);
+    assert!(rt; machine.refill(&tables, &mut cpu, 64) == 64);
+    assert!(rt; cpu.list_len() == 64);
+    assert!(rt; machine.drain_list(&tables, &mut cpu, 64) == 64);
     machine.shut(&tables, &mut cpu);
     assert!(rt; cpu.is_idle());
     let _ = cpu.into_seats();

@@ -11,6 +11,8 @@ mod beside;
 #[cfg(test)]
 mod calls;
 #[cfg(test)]
+mod few;
+#[cfg(test)]
 mod follower;
 #[cfg(test)]
 mod large;

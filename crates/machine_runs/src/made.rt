@@ -5,7 +5,7 @@ use group_tree::group::GroupId;
 use zone_blocks::order::Order;
 
 /// A call and its answers.
-#[derive(Clone, Copy, Debug, PartialEq, Eq)]
+#[derive(Clone, Copy)]
 pub enum Made {
     /// No call was made: one of its conditions doesn't hold.
     Nothing,

@@ -17,8 +17,6 @@ mod settling;
 mod spot;
 mod start;
 mod stocks;
-#[cfg(test)]
-mod tests;
 mod visits;
 
 pub use blocks::TakeFault;

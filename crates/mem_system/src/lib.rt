@@ -2,8 +2,6 @@
 //! processor makes under that lock.
 #![tactic(auto)]
 
-#[cfg(test)]
-mod alloc_tests;
 mod allocated;
 mod audit;
 mod booted;
@@ -22,8 +20,6 @@ mod serving;
 mod shown;
 mod shutting;
 mod system;
-#[cfg(test)]
-mod tests;
 
 pub use audit::Audit;
 pub use booted::Boot;

@@ -2,13 +2,13 @@
 
 mod moves;
 
-use std::alloc::{AllocError, Global};
+use std::alloc::Global;
 
-/// Frames of the zone that is recounted.
+/// Frames of the zone that is recounted. No step of another is made.
 pub const FRAMES: u32 = 8;
 
 // Where a frame is: with the zone, with a processor, or kept by a group of this number.
-#[derive(Clone, Copy, Debug, PartialEq, Eq)]
+#[derive(Clone, Copy)]
 pub enum Spot {
     Free,
     Out(u32),
@@ -19,6 +19,17 @@ pub enum Spot {
     BackReturning(u32, u32),
     InHand(u32, bool),
     Live(u32),
+}
+
+// What a frame is looked for as.
+#[derive(Clone, Copy)]
+pub enum Sought {
+    // Between the zone and this processor.
+    Passing(u32),
+    // Fresh at this processor.
+    Fresh(u32),
+    // In the zone's hand, since its last reference is gone.
+    Ended,
 }
 
 // The last fill of a processor's stock.
@@ -33,59 +44,48 @@ struct Filled {
 pub struct Recount {
     pub holder: Option<u32>,
     is_visiting: bool,
-    spots: Vec<Spot>,
+    spots: [Spot; 8],
     // A seat and a frame for each reference.
     references: Vec<(u32, u32)>,
-    // A processor and a group for each page.
-    stocks: Vec<(u32, u32)>,
+    // A processor, or 0 while it is pending, and a group for each page.
+    pages: Vec<(u32, u32)>,
     // A processor and a frame, each list from its front on.
     lists: Vec<(u32, u32)>,
-    // The group of each page.
-    pending: Vec<u32>,
     fills: Vec<Filled>,
 }
 
-fn parent(group: u32) -> u32 {
-    match group {
-        2 => 1,
-        _ => 0,
-    }
-}
-
-// The group is this one or an ancestor of the other.
+// The group is this one or an ancestor of the other: group 2 is below group 1.
 fn is_on_path(group: u32, below: u32) -> bool {
-    let mut at = below;
-    for _step in 0..3u32 {
-        if at == group {
-            return true;
-        }
-        at = parent(at);
-    }
-    false
+    group == 0 || group == below || group == 1 && below == 2
 }
 
-fn limit(group: u32) -> Option<u32> {
-    match group {
-        1 => Some(6),
-        2 => Some(3),
-        _ => None,
-    }
-}
-
-fn count(pairs: &[(u32, u32)], wanted: (u32, u32)) -> u32 {
+// How many pairs have these numbers, where there are such.
+fn count(pairs: &[(u32, u32)], first: Option<u32>, second: Option<u32>) -> u32 {
     let mut number = 0u32;
-    for pair in pairs {
-        if *pair == wanted {
+    for (one, other) in pairs {
+        if first.unwrap_or(*one) == *one && second.unwrap_or(*other) == *other {
             number = number.saturating_add(1);
         }
     }
     number
 }
 
+// The second number of the first pair with this one.
+fn first_of(pairs: &[(u32, u32)], wanted: u32) -> Option<u32> {
+    for (one, other) in pairs {
+        if *one == wanted {
+            return Some(*other);
+        }
+    }
+    None
+}
+
+// Takes out one pair of these numbers.
 fn take_out(pairs: &mut Vec<(u32, u32)>, wanted: (u32, u32)) {
-    if let Some(index) = pairs.iter().position(|pair| *pair == wanted) {
-        if index < pairs.len() {
+    for index in 0..pairs.len() {
+        if pairs[index] == wanted {
             let _ = pairs.remove(index);
+            return;
         }
     }
 }
@@ -101,119 +101,72 @@ fn keeper(spot: Spot) -> Option<u32> {
     }
 }
 
-fn is_kept_below(spot: Spot, group: u32) -> bool {
-    match keeper(spot) {
-        Some(owner) => is_on_path(group, owner),
-        None => false,
-    }
-}
-
-// The frame passes for this processor, or for any.
-fn is_passing(spot: Spot, cpu: Option<u32>) -> bool {
-    let at = match spot {
-        Spot::Out(at) => Some(at),
-        Spot::Returning(at) => Some(at),
-        Spot::BackReturning(at, _) => Some(at),
-        _ => None,
-    };
-    match at {
-        None => false,
-        Some(at) => match cpu {
-            None => true,
-            Some(cpu) => at == cpu,
-        },
+fn suits(spot: Spot, sought: Sought) -> bool {
+    match (spot, sought) {
+        (Spot::Out(at), Sought::Passing(cpu)) => at == cpu,
+        (Spot::Returning(at), Sought::Passing(cpu)) => at == cpu,
+        (Spot::BackReturning(at, _), Sought::Passing(cpu)) => at == cpu,
+        (Spot::Fresh(at, _), Sought::Fresh(cpu)) => at == cpu,
+        (Spot::InHand(_, is_ended), Sought::Ended) => is_ended,
+        _ => false,
     }
 }
 
 impl Recount {
-    pub fn new(alloc: Global) -> Result<Recount, AllocError> {
-        Ok(Recount {
+    pub fn new(alloc: Global) -> Recount {
+        Recount {
             holder: Some(1),
             is_visiting: false,
-            spots: vec![in alloc; Spot::Free; FRAMES as usize]?,
+            spots: [Spot::Free; 8],
             references: Vec::new(alloc),
-            stocks: Vec::new(alloc),
+            pages: Vec::new(alloc),
             lists: Vec::new(alloc),
-            pending: Vec::new(alloc),
             fills: Vec::new(alloc),
-        })
-    }
-
-    pub fn spot(&self, frame: u32) -> Option<Spot> {
-        match self.spots.get(frame as usize) {
-            Some(spot) => Some(*spot),
-            None => None,
         }
     }
 
-    pub fn is_free(&self, frame: u32) -> bool {
-        self.spot(frame) == Some(Spot::Free)
-    }
-
-    pub fn is_fresh(&self, frame: u32) -> bool {
-        matches!(self.spot(frame), Some(Spot::Fresh(..)))
+    fn spot(&self, frame: u32) -> Spot {
+        self.spots[(frame % FRAMES) as usize]
     }
 
     fn set(&mut self, frame: u32, spot: Spot) {
-        let place = frame as usize;
-        if place < self.spots.len() {
-            self.spots[place] = spot;
-        }
+        self.spots[(frame % FRAMES) as usize] = spot;
+    }
+
+    pub fn is_free(&self, frame: u32) -> bool {
+        matches!(self.spot(frame), Spot::Free)
+    }
+
+    pub fn is_fresh(&self, frame: u32) -> bool {
+        matches!(self.spot(frame), Spot::Fresh(..))
     }
 
     pub fn references(&self, seat: u32, frame: u32) -> u32 {
-        count(self.references.as_slice(), (seat, frame))
+        count(self.references.as_slice(), Some(seat), Some(frame))
     }
 
     fn all_references(&self, frame: u32) -> u32 {
-        let mut number = 0u32;
-        for pair in self.references.as_slice() {
-            if pair.1 == frame {
-                number = number.saturating_add(1);
-            }
-        }
-        number
+        count(self.references.as_slice(), None, Some(frame))
+    }
+
+    pub fn held(&self, seat: u32) -> Option<u32> {
+        first_of(self.references.as_slice(), seat)
     }
 
     pub fn stock(&self, cpu: u32) -> u32 {
-        let mut number = 0u32;
-        for pair in self.stocks.as_slice() {
-            if pair.0 == cpu {
-                number = number.saturating_add(1);
-            }
+        if cpu == 0 {
+            0
+        } else {
+            count(self.pages.as_slice(), Some(cpu), None)
         }
-        number
     }
 
     pub fn pending(&self, group: u32) -> u32 {
-        let mut number = 0u32;
-        for owner in self.pending.as_slice() {
-            if *owner == group {
-                number = number.saturating_add(1);
-            }
-        }
-        number
+        count(self.pages.as_slice(), Some(0), Some(group))
     }
 
     pub fn front(&self, cpu: u32) -> Option<u32> {
-        for pair in self.lists.as_slice() {
-            if pair.0 == cpu {
-                return Some(pair.1);
-            }
-        }
-        None
-    }
-
-    fn fresh(&self, cpu: u32) -> u32 {
-        let mut number = 0u32;
-        for spot in self.spots.as_slice() {
-            if let Spot::Fresh(at, _) = *spot {
-                if at == cpu {
-                    number = number.saturating_add(1);
-                }
-            }
-        }
-        number
+        first_of(self.lists.as_slice(), cpu)
     }
 
     fn last_fill(&self, cpu: u32) -> Option<Filled> {
@@ -235,39 +188,23 @@ impl Recount {
 
     fn kept_pages(&self, group: u32) -> u32 {
         let mut pages = 0u32;
-        for spot in self.spots.as_slice() {
-            if is_kept_below(*spot, group) {
-                pages = pages.saturating_add(1);
-            }
-        }
-        pages
-    }
-
-    fn prepaid_pages(&self, group: u32) -> u32 {
-        let mut pages = 0u32;
-        for pair in self.stocks.as_slice() {
-            if is_on_path(group, pair.1) {
-                pages = pages.saturating_add(1);
-            }
-        }
-        pages
-    }
-
-    fn pending_pages(&self, group: u32) -> u32 {
-        let mut pages = 0u32;
-        for owner in self.pending.as_slice() {
-            if is_on_path(group, *owner) {
-                pages = pages.saturating_add(1);
+        for frame in 0..FRAMES {
+            match keeper(self.spot(frame)) {
+                Some(owner) if is_on_path(group, owner) => pages = pages.saturating_add(1),
+                _ => {}
             }
         }
         pages
     }
 
     pub fn usage(&self, group: u32) -> u32 {
-        let pages = self
-            .kept_pages(group)
-            .saturating_add(self.prepaid_pages(group));
-        pages.saturating_add(self.pending_pages(group))
+        let mut pages = self.kept_pages(group);
+        for (_, owner) in self.pages.as_slice() {
+            if is_on_path(group, *owner) {
+                pages = pages.saturating_add(1);
+            }
+        }
+        pages
     }
 
     // The processor holds the lock, and no visit is open.
@@ -279,133 +216,42 @@ impl Recount {
         self.is_visiting && self.holder == Some(cpu)
     }
 
-    fn passes(&self, cpu: Option<u32>) -> bool {
-        for spot in self.spots.as_slice() {
-            if is_passing(*spot, cpu) {
-                return true;
-            }
-        }
-        false
-    }
-
-    fn passes_at(&self, frame: u32, cpu: u32) -> bool {
-        match self.spot(frame) {
-            Some(spot) => is_passing(spot, Some(cpu)),
-            None => false,
-        }
-    }
-
-    pub fn passing(&self, cpu: u32) -> Option<u32> {
+    // The first frame that is looked for.
+    pub fn first(&self, sought: Sought) -> Option<u32> {
         for frame in 0..FRAMES {
-            if self.passes_at(frame, cpu) {
+            if suits(self.spot(frame), sought) {
                 return Some(frame);
             }
         }
         None
     }
 
-    fn is_ended(&self, frame: u32) -> bool {
-        match self.spot(frame) {
-            Some(Spot::InHand(_, is_ended)) => is_ended,
-            _ => false,
-        }
+    fn passes(&self, cpu: u32) -> bool {
+        self.first(Sought::Passing(cpu)).is_some()
     }
 
-    fn is_fresh_at(&self, frame: u32, cpu: u32) -> bool {
-        match self.spot(frame) {
-            Some(Spot::Fresh(at, _)) => at == cpu,
-            _ => false,
-        }
-    }
-
-    pub fn fresh_frame(&self, cpu: u32) -> Option<u32> {
-        for frame in 0..FRAMES {
-            if self.is_fresh_at(frame, cpu) {
-                return Some(frame);
-            }
-        }
-        None
-    }
-
-    pub fn held(&self, seat: u32) -> Option<u32> {
-        for pair in self.references.as_slice() {
-            if pair.0 == seat {
-                return Some(pair.1);
-            }
-        }
-        None
-    }
-
-    pub fn ended(&self) -> Option<u32> {
-        for frame in 0..FRAMES {
-            if self.is_ended(frame) {
-                return Some(frame);
-            }
-        }
-        None
-    }
-
-    fn push_pending(&mut self, group: u32, pages: u32) -> Result<(), AllocError> {
-        for _page in 0..pages {
-            self.pending.push(group)?;
-        }
-        Ok(())
-    }
-
-    fn take_page(&mut self, group: u32) {
-        if let Some(index) = self.pending.iter().position(|owner| *owner == group) {
-            if index < self.pending.len() {
-                let _ = self.pending.remove(index);
-            }
-        }
-    }
-
-    fn take_pending(&mut self, group: u32, pages: u32) {
-        for _page in 0..pages {
-            self.take_page(group);
-        }
-    }
-
-    // How many of the frames from this one on are free.
-    fn free_from(&self, at: u32, frames: u32) -> u32 {
-        let mut number = 0u32;
+    // All frames of the block are there and free.
+    fn is_block(&self, at: u32, frames: u32) -> bool {
         for frame in at..at.saturating_add(frames) {
-            if self.is_free(frame) {
-                number = number.saturating_add(1);
+            if frame >= FRAMES || !self.is_free(frame) {
+                return false;
             }
         }
-        number
+        true
     }
 
-    // The frames of the greatest free block in which a free frame is.
-    fn reach(&self, frame: u32) -> u32 {
-        let mut best = 1u32;
-        for order in 1..7u32 {
-            let size = 1u32 << order;
-            let at = (frame >> order) << order;
-            if self.free_from(at, size) == size {
-                best = size;
-            }
-        }
-        best
-    }
-
-    // The first free frame whose greatest free block has so many frames.
-    fn first_that_reaches(&self, size: u32) -> Option<u32> {
-        for frame in 0..FRAMES {
-            if self.is_free(frame) && self.reach(frame) == size {
-                return Some(frame);
-            }
-        }
-        None
-    }
-
-    // The first frame of the smallest of the greatest free blocks.
+    // The first frame of the smallest of the free blocks that are in no greater one.
     fn smallest(&self) -> Option<u32> {
-        for order in 0..7u32 {
-            let found = self.first_that_reaches(1u32 << order);
-            if found.is_some() {
-                return found;
+        for place in 0..32u32 {
+            let order = place / 8;
+            let at = place % 8;
+            let greater = order + 1;
+            let is_first = at % (1 << order) == 0;
+            if is_first
+                && self.is_block(at, 1 << order)
+                && !self.is_block((at >> greater) << greater, 1 << greater)
+            {
+                return Some(at);
             }
         }
         None

@@ -1,12 +1,10 @@
 //! Allocations of one processor for the group `/a`: what they answer, and what is charged then.
 ghost use Rattle.std.specs.Prelude.{◌≡◌};
 
-use crate::booted::Boot;
-use crate::booting::boot;
-use crate::command::{Cmd, Reply};
-use crate::system::System;
+use crate::life::reads;
 use cpu_part::{BootName, Cpu};
 use group_tree::fault::Fault;
+use mem_system::{Boot, Cmd, Reply, System, boot};
 use std::alloc::Global;
 use std::marker::Brand;
 use std::process::Abort;
@@ -15,7 +13,6 @@ use std::test::Fail;
 use zone_sizes::config::Config;
 
 // What an allocation answers.
-#[derive(Clone, Copy, Debug, PartialEq, Eq)]
 enum Told {
     Frame(u32),
     OverLimit,
@@ -23,7 +20,6 @@ enum Told {
 }
 
 // What the processor asks for.
-#[derive(Clone, Copy, Debug, PartialEq, Eq)]
 enum Line {
     Alloc(u32, Told),
     Release(u32),
@@ -31,7 +27,6 @@ enum Line {
 }
 
 // A zone of so many frames, the limit of the group, what is asked for, and what the group's files read then.
-#[derive(Clone, Copy, Debug, PartialEq, Eq)]
 struct Row {
     frames: u32,
     limit: &'static [u8],
@@ -113,12 +108,12 @@ const ROWS: [Row; 6] = [
 // Whether the reply is what is told.
 fn is_told(reply: &Reply, told: &Told) -> bool {
     let asked: &[u8] = b"/a";
-    match reply {
-        Reply::Frame(frame) => *told == Told::Frame(*frame),
-        Reply::OverLimit { group, path } => {
-            *told == Told::OverLimit && group.number() == 1 && path.as_bytes() == asked
+    match (reply, told) {
+        (Reply::Frame(frame), Told::Frame(wanted)) => *frame == *wanted,
+        (Reply::OverLimit { group, path }, Told::OverLimit) => {
+            group.number() == 1 && path.as_bytes() == asked
         }
-        Reply::Refused(fault) => *told == Told::Refused(*fault),
+        (Reply::Refused(fault), Told::Refused(wanted)) => *fault == *wanted,
         _ => false,
     }
 }
@@ -139,21 +134,6 @@ fn asks<N: BootName, R: Wait + Abort>(rt: &R, system: &System<N>, cpu: &mut Cpu<
             assert!(rt; reply == Reply::Returned);
         }
         Line::Settle => assert!(rt; system.visit(rt, cpu, &Cmd::Settle) == Reply::Done),
-    }
-}
-
-// The file of `/a` reads as this text.
-fn reads<N: BootName, R: Wait + Abort>(
-    rt: &R,
-    system: &System<N>,
-    cpu: &mut Cpu<N>,
-    file: &[u8],
-    text: &[u8],
-) {
-    let path: &[u8] = b"/a";
-    match system.visit(rt, cpu, &Cmd::Read { path, file }) {
-        Reply::Text(found) => assert!(rt; found.as_bytes() == text),
-        _ => panic!(rt; "no text"),
     }
 }
 

@@ -1,15 +1,10 @@
 //! A boot of 16 frames and two processors starts, and a group is made, read, limited and taken out by visits.
 ghost use Rattle.std.specs.Prelude.{◌≡◌, ◌<◌, length};
 
-use crate::audit::Audit;
-use crate::booted::Boot;
-use crate::booting::boot;
-use crate::command::{Cmd, Reply};
-use crate::gates::Gate;
-use crate::system::System;
 use cpu_part::{BootName, Cpu};
 use group_tree::fault::Fault;
 use group_tree::group::GroupId;
+use mem_system::{Audit, Boot, Cmd, Gate, Reply, System, boot};
 use std::alloc::Global;
 use std::marker::Brand;
 use std::process::Abort;
@@ -17,6 +12,15 @@ use std::sync::Wait;
 use std::sync::atomic::{AtomicU32, Ordering};
 use std::test::Fail;
 use zone_sizes::config::Config;
+
+/// 16 frames and two processors.
+pub const SIZES: Config = Config {
+    frames: 16,
+    cpus: 2,
+    batch: 4,
+    high: 8,
+    stock: 4,
+};
 
 // Adds up the numbers of the processors that it is called for inside a visit.
 #[derive(Drop)]
@@ -34,8 +38,8 @@ impl Gate for Counter {
     fn after(&self, _cpu: u32, _line: usize) {}
 }
 
-// The file of `/a` reads as this text.
-fn reads<N: BootName, R: Wait + Abort>(
+/// The file of `/a` reads as this text.
+pub fn reads<N: BootName, R: Wait + Abort>(
     rt: &R,
     system: &System<N>,
     cpu: &mut Cpu<N>,
@@ -106,11 +110,11 @@ fn takes_out<N: BootName, R: Wait + Abort>(rt: &R, system: &System<N>, cpu: &mut
         inside: AtomicU32::new(0),
     };
     assert!(rt; system.visit_with(rt, cpu, &Cmd::Settle, &gate) == Reply::Done);
-    assert_eq!(rt; gate.inside.load(Ordering::SeqCst), 2);
+    assert!(rt; gate.inside.load(Ordering::SeqCst) == 2);
 }
 
-// Shuts the system down, which no processor has a pin in.
-fn ends<N: BootName>(rt: &impl Abort, system: System<N>, cpus: Vec<Cpu<N>>) -> Audit
+/// Shuts the system down, which no processor has a pin in.
+pub fn ends<N: BootName>(rt: &impl Abort, system: System<N>, cpus: Vec<Cpu<N>>) -> Audit
     requires { length cpus.items ≡ N.frames.cpus }
 {
     match system.shutdown(cpus) {
@@ -119,8 +123,8 @@ fn ends<N: BootName>(rt: &impl Abort, system: System<N>, cpus: Vec<Cpu<N>>) -> A
     }
 }
 
-// What is counted where nothing was charged.
-fn nothing_was_charged() -> Audit {
+/// What is counted of 16 frames where nothing was charged.
+pub fn nothing_was_charged() -> Audit {
     Audit {
         frames: 16,
         free: 16,
@@ -137,7 +141,7 @@ fn lives<N: BootName, R: Wait + Abort>(rt: &R, alloc: Global, boot: Boot)
     requires { (boot.frames ≡ N.frames) × (boot.stocks ≡ N.stocks) }
 {
     let (system, mut cpus) = boot.start::<N>(alloc).expect(rt, "memory");
-    assert_eq!(rt; cpus.len(), 2);
+    assert!(rt; cpus.len() == 2);
     let root: &[u8] = b"/";
     assert!(rt; system.find(rt, root) == Some(GroupId::root()));
     for (at, cpu) in cpus.iter_mut().enumerate() {
@@ -148,62 +152,19 @@ fn lives<N: BootName, R: Wait + Abort>(rt: &R, alloc: Global, boot: Boot)
             takes_out(rt, &system, cpu);
         }
     }
-    assert_eq!(rt; ends(rt, system, cpus), nothing_was_charged());
+    assert!(rt; ends(rt, system, cpus) == nothing_was_charged());
 }
 
 #[test]
 fn a_group_is_made_and_read(rt: HostRuntime) -> Result<(), Fail> {
-    let sizes = Config {
-        frames: 16,
-        cpus: 2,
-        batch: 4,
-        high: 8,
-        stock: 4,
-    };
-    let boot = boot(rt.alloc(), sizes).expect(&rt, "a boot");
+    let boot = boot(rt.alloc(), SIZES).expect(&rt, "a boot");
     lives::<Brand, _>(&rt, rt.alloc(), boot);
     Ok(())
 }
 
 #[test]
 fn bad_sizes_are_refused(rt: HostRuntime) -> Result<(), Fail> {
-    let sizes = Config {
-        frames: 16,
-        cpus: 17,
-        batch: 4,
-        high: 8,
-        stock: 4,
-    };
+    let sizes = Config { cpus: 17, ..SIZES };
     assert!(&rt; boot(rt.alloc(), sizes).is_err());
-    Ok(())
-}
-
-// Starts the boot and shuts it down; None where memory is wanting.
-fn starts_and_ends<N: BootName, R: Abort>(rt: &R, alloc: Global, boot: Boot) -> Option<Audit>
-    requires { (boot.frames ≡ N.frames) × (boot.stocks ≡ N.stocks) }
-{
-    let (system, cpus) = boot.start::<N>(alloc).ok()?;
-    Some(ends(rt, system, cpus))
-}
-
-// A boot's whole life; None where memory is wanting.
-fn boots_and_ends<R: Abort>(rt: &R, alloc: Global) -> Option<Audit> {
-    let sizes = Config {
-        frames: 16,
-        cpus: 2,
-        batch: 4,
-        high: 8,
-        stock: 4,
-    };
-    let boot = boot(alloc, sizes).ok()?;
-    starts_and_ends::<Brand, _>(rt, alloc, boot)
-}
-
-// The script `tests/refused-boots` runs this with each of its allocations refused in turn: the second life is whole.
-#[test]
-fn a_second_boot_lives_where_the_first_was_refused(rt: HostRuntime) -> Result<(), Fail> {
-    if boots_and_ends(&rt, rt.alloc()) != Some(nothing_was_charged()) {
-        assert!(&rt; boots_and_ends(&rt, rt.alloc()) == Some(nothing_was_charged()));
-    }
     Ok(())
 }

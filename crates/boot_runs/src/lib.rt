@@ -1,0 +1,9 @@
+//! Boots of a system, their lives and their ends. Nothing but tests stands here.
+#![tactic(auto)]
+
+#[cfg(test)]
+mod life;
+#[cfg(test)]
+mod rows;
+#[cfg(test)]
+mod second;
