@@ -1,5 +1,5 @@
 -- Serves the contract of `options`: clap found no fault in the words and these values, or a fault.
-use Rattle.std.proofs.Common.{◌≡◌, ◌∙◌, ap, sym, subst, rules, inl, inr, IfOk, List, [], ℕ, map, option_and_then}
+use Rattle.std.proofs.Common.{◌≡◌, ◌∙◌, ap, sym, subst, inl, inr, IfOk, List, [], ℕ, map, option_and_then}
 use Rattle.clap.specs.Words.{App, Row, app_of, fault_of, is_simple, is_simple_and_free, subcommand_of, subcommand_rows_of}
 use Rattle.clap.specs.Kinds.{HasKind}
 use Rattle.load_run.specs.Words.{program, settings_under}
