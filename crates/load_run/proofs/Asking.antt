@@ -1,7 +1,7 @@
 -- From what clap promises of a parse to the settings that the words ask for.
-use Rattle.std.proofs.Common.{◌≡◌, ◌∙◌, ◌<◌, ◌≤◌, ◌^◌, ◌⊎◌, ℕ, Bool, true, false, cond, List, [], ◌∷◌, Option, Some, None, Result, Ok, Err, IfOk, refl, ap, ap₂, sym, subst}
-use Rattle.std.proofs.Common.{arith, inl, inr}
-use Rattle.std.specs.Prelude.{IsSome, OnOk, codes, nat_lt, option_and_then, option_map, pos, unwrap_or, ◌||◌}
+use Rattle.std.proofs.Common.{◌≡◌, ◌∙◌, ◌<◌, ◌≤◌, ◌^◌, ℕ, Bool, true, false, cond, List, [], ◌∷◌, Option, Some, None, Result, Ok, Err, IfOk}
+use Rattle.std.proofs.Common.{arith, refl, ap, ap₂, sym, subst}
+use Rattle.std.specs.Prelude.{IsSome, OnOk, codes, nat_lt, option_and_then, pos, unwrap_or, ◌||◌}
 use Rattle.std.specs.Int.{int_max, int_min}
 use Rattle.std.specs.Option.{option_map_or}
 use Rattle.std.specs.Str.{bytes_eq}
@@ -15,7 +15,6 @@ use Rattle.clap.specs.declared.builder.command.Command.{Command}
 use Rattle.clap.specs.declared.builder.command.Command.TheViews.{out-Command as fields_of}
 use Rattle.clap.specs.Values.{IsUnsignedIn}
 use Rattle.clap.specs.ValueTests.{is_unsigned_in}
-use Rattle.clap.specs.declared.builder.value_parser.ValueParser.{ValueParser}
 use Rattle.clap.specs.declared.builder.value_parser.ValueParser.TheVariants.{Signed, Unsigned}
 use Rattle.clap.specs.declared.error.kind.ErrorKind.{ErrorKind}
 use Rattle.clap.specs.declared.parser.matches.Found.{Found}
@@ -71,7 +70,8 @@ is_number E most n t parsed low high =
     let v = digits_value 10 (without_leading_plus t) in
     let is : n ≡ v = parsed.1 in
     let small : v < 2 ^ 64 = omega (arith, parsed.0.1) in
-    let passes : is_unsigned_in 1 most t ≡ true = Accepts-accepts false (Unsigned 1 most) t (parsed.0.0, small, omega (arith, is, low), omega (arith, is, high)) in
+    let passes : is_unsigned_in 1 most t ≡ true =
+    Accepts-accepts false (Unsigned 1 most) t (parsed.0.0, small, omega (arith, is, low), omega (arith, is, high)) in
     ap (λ (b : Bool). cond b (Some v) None) passes ∙ ap (λ (k : ℕ). Some k) (sym is)
 
 one_number : (E : Type 0) (most n : ℕ) (t : List ℕ) → ParsesUnsigned {E = E} 32 10 t (Ok n) → number_in most t ≡ kept most n
@@ -120,7 +120,8 @@ read_as_row E G parses most fits found name r none value =
 
 -- an option without a value, by what clap reads of it
 pub given_read : (E : Type 0) (text : Option (List ℕ)) (r : Option Bool) → (text ≡ None → r ≡ None)
-    → ((t : List ℕ) → text ≡ Some t → ReadsOne {T = Bool} {E = E} ParsesBool t r) → unwrap_or r false ≡ option_map_or (λ t. bytes_eq t (codes "true")) text false
+    → ((t : List ℕ) → text ≡ Some t → ReadsOne {T = Bool} {E = E} ParsesBool t r)
+    → unwrap_or r false ≡ option_map_or (λ t. bytes_eq t (codes "true")) text false
 given_read E None r none value = ap (λ o. unwrap_or o false) (none refl)
 given_read E (Some t) (Some true) none value = sym ((bytes_eq-Decides t (codes "true")).1 (value t refl))
 given_read E (Some t) (Some false) none value = sym (ap (λ (u : List ℕ). bytes_eq u (codes "true")) (value t refl))
@@ -136,14 +137,16 @@ given_read E (Some t) None none value = go (bytes_eq t (codes "true")) refl
 pub asked_found : (words : List (List ℕ)) → fault_of program words ≡ []
     → settings_of words ≡ option_and_then (λ (p : List ℕ × List Row). settings_under p.0 p.1) (subcommand_of program words)
 unfolding settings_of
-asked_found words none = ap (λ (kinds : Kinds). if_none kinds (option_and_then (λ (p : List ℕ × List Row). settings_under p.0 p.1) (subcommand_of program words))) none
+asked_found words none =
+    ap (λ (kinds : Kinds). if_none kinds (option_and_then (λ (p : List ℕ × List Row). settings_under p.0 p.1) (subcommand_of program words))) none
 
 -- and there are none where it found one
 pub asked_nothing : (words : List (List ℕ)) (kind : ErrorKind) → IsAmong kind (fault_of program words) → settings_of words ≡ None
 unfolding settings_of
 asked_nothing words kind among = go (fault_of program words) among
   where
-    go : (kinds : Kinds) → IsAmong kind kinds → if_none kinds (option_and_then (λ (p : List ℕ × List Row). settings_under p.0 p.1) (subcommand_of program words)) ≡ None
+    go : (kinds : Kinds) → IsAmong kind kinds
+        → if_none kinds (option_and_then (λ (p : List ℕ × List Row). settings_under p.0 p.1) (subcommand_of program words)) ≡ None
     go [] none = absurd none
     go (k ∷ rest) some = refl
 

@@ -16,8 +16,9 @@ returns c =
     let batch = option_added _ _ _ _ _ cpus c.size_option-3.ensures.rule c.size_option-3.ensures.local c.in_ok-arg-3.ensures in
     let high = option_added _ _ _ _ _ batch c.size_option-4.ensures.rule c.size_option-4.ensures.local c.in_ok-arg-4.ensures in
     let stock = option_added _ _ _ _ _ high c.size_option-5.ensures.rule c.size_option-5.ensures.local c.in_ok-arg-5.ensures in
+    let rule = c.audit_option.ensures.rule in
     let local = c.audit_option.ensures.local in
     record {
-      shape = IfOk-weaker c.arg-6.result _ _ (λ command added. ap (λ (a : App). a.top) (option_added _ command _ _ _ stock c.audit_option.ensures.rule local added).0) c.arg-6.ensures;
-      local = IfOk-weaker c.arg-6.result _ _ (λ command added. (option_added _ command _ _ _ stock c.audit_option.ensures.rule local added).1) c.arg-6.ensures;
+      shape = IfOk-weaker c.arg-6.result _ _ (λ command added. ap (λ (a : App). a.top) (option_added _ command _ _ _ stock rule local added).0) c.arg-6.ensures;
+      local = IfOk-weaker c.arg-6.result _ _ (λ command added. (option_added _ command _ _ _ stock rule local added).1) c.arg-6.ensures;
     }

@@ -17,14 +17,16 @@ answers_of-requires g c =
 pub returns-clause-asked : goal.returns-clause-asked
 returns-clause-asked g c =
     let asked = settings_of (map g.S.AsStr.text c.args.words.now) in
-    let ok : IfOk c.map_err.result (λ s. asked ≡ Some s) = kept c.options.result c.map_err.result _ _ c.map_err.ensures.cases (asked_ok asked _ c.options.ensures.asked) in
+    let ok : IfOk c.map_err.result (λ s. asked ≡ Some s) =
+    kept c.options.result c.map_err.result _ _ c.map_err.ensures.cases (asked_ok asked _ c.options.ensures.asked) in
     let is_asked : asked ≡ Some c.in_ok-options.options = rw c.in_ok-options.was at ok in
     asked_some asked _ c.answers_of.result is_asked
 
 pub returns-clause-answered : goal.returns-clause-answered
 returns-clause-answered g c =
     let asked = settings_of (map g.S.AsStr.text c.args.words.now) in
-    let ok : IfOk c.map_err.result (λ s. asked ≡ Some s) = kept c.options.result c.map_err.result _ _ c.map_err.ensures.cases (asked_ok asked _ c.options.ensures.asked) in
+    let ok : IfOk c.map_err.result (λ s. asked ≡ Some s) =
+    kept c.options.result c.map_err.result _ _ c.map_err.ensures.cases (asked_ok asked _ c.options.ensures.asked) in
     let is_asked : asked ≡ Some c.in_ok-options.options = rw c.in_ok-options.was at ok in
     let sizes = c.in_ok-options.options.sizes in
     let is : IsScript sizes c.in_ok-script.script.items c.deref-2.result.now =

@@ -1,4 +1,4 @@
-use Rattle.std.proofs.Common.{◌≡◌, ◌∙◌, ℕ, List, All, length, ap, sym, subst}
+use Rattle.std.proofs.Common.{◌≡◌, ◌∙◌, ℕ, All, length, ap, sym, subst}
 use Rattle.mem_system.proofs.Closing.{written_back}
 use Rattle.script_replay.specs.Ranges.{LineIsThere}
 use Rattle.load_run.proofs.Answering.{first_long, sized_as}
