@@ -71,8 +71,7 @@ fn served<N: BootName>(
     ensures { IfOk result (λ _. TellsAnswer (λ said. RepliesServed N.frames cmd.now locked.old cpu.old said locked.new cpu.new)
         (string_bytes text.old) (string_bytes text.new)) }
 {
-    let reply = serve(locked, tables, cpu, cmd);
-    write_reply(&reply, text)
+    write_reply(&serve(locked, tables, cpu, cmd), text)
 }
 
 // Settles the processor.

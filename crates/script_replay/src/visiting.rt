@@ -97,8 +97,7 @@ fn visited<N: BootName, R: Wait>(
 ) -> Result<(), AllocError>
     requires { IsOfZone N.frames cmd.now }
 {
-    let reply = system.visit(rt, cpu, cmd);
-    write_reply(&reply, text)
+    write_reply(&system.visit(rt, cpu, cmd), text)
 }
 
 // Takes a frame, without the lock where it can be, and adds what is answered.

@@ -3,7 +3,6 @@ use Rattle.std.specs.String.{string_bytes}
 use Rattle.reply_texts.specs.Answer.{Answer}
 use Rattle.reply_texts.specs.Answer as answer
 use Rattle.script_lines.specs.declared.line.Command.{Command}
-use Rattle.script_lines.specs.declared.line.Command.TheVariants.{Fast, Get, Put}
 use Rattle.script_replay.specs.Answers.{AnswersFast, AnswersText}
 use Rattle.script_replay.proofs.Telling.{told}
 use Rattle.script_replay.proofs.answering.answer_text.Goals as goal
