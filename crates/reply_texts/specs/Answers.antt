@@ -7,8 +7,8 @@ use Rattle.frame_word.specs.declared.answers.Get.{Get}
 use Rattle.frame_word.specs.declared.answers.Get.TheVariants.{Held, Zero, Raced, Full}
 use Rattle.frame_word.specs.declared.answers.Put as word
 use Rattle.frame_word.specs.declared.answers.Put.TheVariants.{Left, Last}
-use Rattle.reply_texts.specs.declared.answered.Answer.{Answer}
-use Rattle.reply_texts.specs.declared.answered.Answer.TheVariants as answer
+use Rattle.reply_texts.specs.Answer.{Answer}
+use Rattle.reply_texts.specs.Answer as answer
 use Rattle.reply_texts.specs.Replies.{reply_text}
 
 -- what is written for a frame asked for without the lock

@@ -1,2 +1,3 @@
 pub mod Replies
+pub mod Answer
 pub mod Answers

@@ -1,12 +1,11 @@
 //! What is written for each answer to a line of a script.
 #![tactic(auto)]
 
-mod answered;
+mod numbers;
 mod refusals;
 mod replies;
 mod steps;
 
-pub use answered::Answer;
 pub use refusals::write_refusal;
 pub use replies::write_reply;
-pub use steps::{write_fast, write_get, write_put};
+pub use steps::{write_fast, write_get, write_listed, write_put, write_settled};

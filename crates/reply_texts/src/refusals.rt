@@ -4,6 +4,7 @@ ghost use Rattle.std.specs.Prelude.{◌≡◌, ◌++◌, IfOk};
 ghost use Rattle.std.specs.String.{string_bytes};
 ghost use Rattle.reply_texts.specs.Replies.{over_limit_text, refusal_words, refusal_text};
 
+use crate::numbers::push_number;
 use group_tree::fault::Fault;
 use group_tree::group::GroupId;
 use group_tree::path::PathText;
@@ -36,7 +37,8 @@ pub(crate) fn write_over_limit(
 fn push_words(fault: &Fault, text: &mut String) -> Result<(), AllocError>
     ensures { IfOk result (λ _. string_bytes text.new ≡ string_bytes text.old ++ refusal_words fault.now) }
 {
-    let number = fault.number();
-    let name = fault.name();
-    write!(text, "refused {number} {name}")
+    text.push_str("refused ")?;
+    push_number(u64::from(fault.number()), text)?;
+    text.push_str(" ")?;
+    text.push_str(fault.name())
 }

@@ -1,9 +1,11 @@
-//! What is written for the calls that take no lock.
+//! What is written for the calls that take no lock, and for a processor that was settled.
 
 ghost use Rattle.std.specs.Prelude.{◌≡◌, ◌++◌, IfOk};
 ghost use Rattle.std.specs.String.{string_bytes};
-ghost use Rattle.reply_texts.specs.Answers.{fast_text, get_text, put_text};
+ghost use Rattle.reply_texts.specs.Answer.{Listed, Settled};
+ghost use Rattle.reply_texts.specs.Answers.{answer_text, fast_text, get_text, put_text};
 
+use crate::numbers::write_number;
 use cpu_part::Fast;
 use frame_word::{Get, Put};
 use std::alloc::AllocError;
@@ -13,10 +15,7 @@ pub fn write_fast(fast: &Fast, text: &mut String) -> Result<(), AllocError>
     ensures { IfOk result (λ _. string_bytes text.new ≡ string_bytes text.old ++ fast_text fast.now) }
 {
     match fast {
-        Fast::Got(frame) => {
-            let number = frame.number();
-            writeln!(text, "frame {number}")
-        }
+        Fast::Got(frame) => write_number("frame ", u64::from(frame.number()), text),
         Fast::FreshFull => text.push_str("fresh-full\n"),
         Fast::ListEmpty => text.push_str("list-empty\n"),
         Fast::OtherGroup => text.push_str("other-group\n"),
@@ -42,7 +41,21 @@ pub fn write_put(put: &Put, text: &mut String) -> Result<(), AllocError>
     ensures { IfOk result (λ _. string_bytes text.new ≡ string_bytes text.old ++ put_text put.now) }
 {
     match put {
-        Put::Left(references) => writeln!(text, "left {references}"),
+        Put::Left(references) => write_number("left ", *references, text),
         Put::Last => text.push_str("last\n"),
     }
+}
+
+/// Adds the line for a fresh frame that stands at the end of the list again. It fails only for want of memory.
+pub fn write_listed(text: &mut String) -> Result<(), AllocError>
+    ensures { IfOk result (λ _. string_bytes text.new ≡ string_bytes text.old ++ answer_text Listed) }
+{
+    text.push_str("listed\n")
+}
+
+/// Adds the line for a processor that was settled, and nothing else. It fails only for want of memory.
+pub fn write_settled(text: &mut String) -> Result<(), AllocError>
+    ensures { IfOk result (λ _. string_bytes text.new ≡ string_bytes text.old ++ answer_text Settled) }
+{
+    text.push_str("settled\n")
 }

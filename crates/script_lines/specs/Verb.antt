@@ -1,9 +1,7 @@
 -- The names of the commands.
-use Rattle.std.specs.Prelude.{◌≡◌, ℕ, List, [], ◌∷◌, Option, Some, None, codes, nat_eq}
+use Rattle.std.specs.Prelude.{ℕ, List, [], ◌∷◌, Option, Some, None, codes, nat_eq}
 use Rattle.std.specs.Cmp.Lexicographic.{pointwise}
-use Rattle.std.specs.HashMap.{HashMap, get_by}
 use Rattle.std.specs.Map.{lookup}
-use Rattle.std.specs.Borrow.{Bor}
 use Rattle.script_lines.specs.declared.line.Command.{Command}
 use Rattle.script_lines.specs.declared.line.Command.TheVariants as command
 use Rattle.script_lines.specs.declared.verb.Verb.{Verb}
@@ -70,7 +68,3 @@ named_commands =
 -- the command of this name
 abbrev pub verb_named : List ℕ → Option Verb
 verb_named name = lookup (λ key. pointwise nat_eq name key) named_commands
-
--- the table has each command at its name, and no other name
-abbrev pub IsNames : {S : Type 0} → HashMap (Bor (List ℕ)) Verb S → Type 0
-IsNames names = (name : List ℕ) → get_by (λ key. pointwise nat_eq name key.now) names ≡ verb_named name

@@ -1,3 +1,4 @@
 pub mod Fronts
 pub mod InRange
 pub mod Serving
+pub mod Telling

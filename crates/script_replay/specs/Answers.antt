@@ -1,5 +1,5 @@
 -- What a command is answered at a processor, and what it does there and behind the lock.
-use Rattle.std.specs.Prelude.{◌≡◌, ◌≢◌, ◌⊎◌, ℕ, ◌+◌, ◌<◌, ◌≤◌, List, Some, None, length}
+use Rattle.std.specs.Prelude.{◌≡◌, ◌≢◌, ◌⊎◌, ℕ, ◌+◌, ◌<◌, ◌≤◌, List, ◌++◌, Some, None, length}
 use Rattle.std.specs.Borrow.{Bor}
 use Rattle.frame_word.specs.Seats.{KnownTable}
 use Rattle.group_tree.specs.Groups.{number_at}
@@ -18,8 +18,8 @@ use Rattle.mem_system.specs.declared.command.Reply.TheVariants.{Refused}
 use Rattle.mem_system.specs.Boots.{KnownLocked}
 use Rattle.mem_system.specs.Commands.{BySteps, Serves}
 use Rattle.mem_system.specs.Shown.{SettlesCaller}
-use Rattle.reply_texts.specs.declared.answered.Answer.{Answer}
-use Rattle.reply_texts.specs.declared.answered.Answer.TheVariants as answer
+use Rattle.reply_texts.specs.Answer.{Answer}
+use Rattle.reply_texts.specs.Answer as answer
 use Rattle.reply_texts.specs.Answers.{answer_text}
 use Rattle.script_lines.specs.declared.line.Command.{Command}
 use Rattle.script_lines.specs.declared.line.Command.TheVariants.{Mkdir, Rmdir, Write, Read, Alloc, Fast, Release, Get, Put, Settle, Touch}
@@ -28,6 +28,10 @@ use Rattle.script_lines.specs.declared.line.Command.TheVariants.{Dirty, Clean, O
 -- the command was served under the lock, by steps
 abbrev pub IsServed : KnownTable → Cmd → KnownLocked → KnownCpu → Reply → KnownLocked → KnownCpu → Type 0
 IsServed t command l c reply k d = BySteps t l.machine c k.machine d (λ steps. Serves t command l c reply steps k d)
+
+-- behind the text before stands what is written for an answer of which this is so
+abbrev pub TellsAnswer : (Answer → Type 0) → List ℕ → List ℕ → Type 0
+TellsAnswer is before after = (text : List ℕ) × ((said : Answer) × is said × (text ≡ answer_text said)) × (after ≡ before ++ text)
 
 -- so it was, and its reply is the answer
 abbrev pub RepliesServed : KnownTable → Cmd → KnownLocked → KnownCpu → Answer → KnownLocked → KnownCpu → Type 0

@@ -1,7 +1,7 @@
 -- What a line names is there.
 use Rattle.std.specs.Prelude.{ℕ, ◌≤◌, ◌<◌}
 use Rattle.script_lines.specs.declared.line.Command.{Command}
-use Rattle.script_lines.specs.declared.line.Command.TheVariants.{Fast, Release, Get, Put, Touch, Dirty, Clean, Owner, Blocks, Show}
+use Rattle.script_lines.specs.declared.line.Command.TheVariants.{Fast, Release, Get, Put, Touch, Dirty, Clean, Owner}
 use Rattle.script_lines.specs.declared.line.Line.{Line}
 use Rattle.script_lines.specs.declared.line.Line.TheVariants.{Go, At}
 
@@ -27,9 +27,3 @@ pub record IsThere (frames cpus processor : ℕ) (command : Command) : Type 0 wh
 abbrev pub LineIsThere : ℕ → ℕ → Line → Type 0
 LineIsThere frames cpus Go = Unit {0}
 LineIsThere frames cpus (At processor command) = IsThere frames cpus processor command
-
--- a command whose answer isn't a text of any length
-abbrev pub HasAnswer : Command → Type 0
-HasAnswer Blocks = ⊥
-HasAnswer Show = ⊥
-HasAnswer other = Unit {0}

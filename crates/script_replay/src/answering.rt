@@ -1,20 +1,22 @@
 //! One command, answered at a processor by value of what lies behind the lock.
 
-ghost use Rattle.std.specs.Prelude.{◌≡◌, ◌++◌, ◌<◌, ℕ, IfOk, List};
+ghost use Rattle.std.specs.Prelude.{◌≡◌, ◌++◌, ◌<◌, IfOk, List, ℕ};
 ghost use Rattle.std.specs.String.{string_bytes};
 ghost use Rattle.mem_system.specs.Commands.{IsOfZone};
-ghost use Rattle.script_replay.specs.Answers.{Answers, AnswersAlloc, AnswersFrame, AnswersRelease, AnswersSettle, AnswersText, RepliesServed};
-ghost use Rattle.script_replay.specs.Ranges.{HasAnswer, NamesInRange};
+ghost use Rattle.script_replay.specs.Answers.{AnswersAlloc, AnswersFrame, AnswersRelease, AnswersSettle, AnswersText, RepliesServed};
+ghost use Rattle.script_replay.specs.Answers.{TellsAnswer};
+ghost use Rattle.script_replay.specs.Ranges.{NamesInRange};
 
 use crate::unlocked::{get, lists, put};
 use cpu_part::{BootName, Cpu, Fast, Tables};
 use group_tree::fault::Fault;
-use mem_system::{Cmd, Locked, Reply, blocks, serve, show};
-use reply_texts::Answer;
+use mem_system::{Cmd, Locked, blocks, serve, show};
+use reply_texts::{write_fast, write_listed, write_refusal, write_reply, write_settled};
 use script_lines::line::Command;
 use std::alloc::{AllocError, Global};
 
-// Serves a command and adds what it is answered. Where memory is wanting the command was served all the same.
+// Serves a command and adds what it is answered. Where memory is wanting the command was served all the same. Each text is
+// written where the answer is made: a reply has room for a path of 512 bytes, and to hand one on is to copy it.
 pub(crate) fn answer_text<N: BootName>(
     alloc: Global,
     locked: &mut Locked<N>,
@@ -27,7 +29,25 @@ pub(crate) fn answer_text<N: BootName>(
     ensures { IfOk result (λ _. (said : List ℕ) × AnswersText N.frames command.now locked.old cpu.old said locked.new cpu.new
         × (string_bytes text.new ≡ string_bytes text.old ++ said)) }
 {
-    match command {
+    match *command {
+        Command::Mkdir { path } => served(locked, tables, cpu, &Cmd::Mkdir { path }, text),
+        Command::Rmdir { path } => served(locked, tables, cpu, &Cmd::Rmdir { path }, text),
+        Command::Write { path, file, value } => {
+            served(locked, tables, cpu, &Cmd::Write { path, file, value }, text)
+        }
+        Command::Read { path, file } => {
+            served(locked, tables, cpu, &Cmd::Read { path, file }, text)
+        }
+        Command::Alloc { path, order } => alloc_block(locked, tables, cpu, path, order, text),
+        Command::Fast { group } => write_fast(&cpu.alloc_fast(tables, group), text),
+        Command::Release { frame } => release(locked, tables, cpu, frame, text),
+        Command::Get { frame } => get(tables, cpu, frame, text),
+        Command::Put { frame } => put(tables, cpu, frame, text),
+        Command::Settle => settle(locked, tables, cpu, text),
+        Command::Touch { frame } => served(locked, tables, cpu, &Cmd::Touch { frame }, text),
+        Command::Dirty { frame } => served(locked, tables, cpu, &Cmd::Dirty { frame }, text),
+        Command::Clean { frame } => served(locked, tables, cpu, &Cmd::Clean { frame }, text),
+        Command::Owner { frame } => served(locked, tables, cpu, &Cmd::Owner { frame }, text),
         Command::Blocks => {
             let told = blocks(locked, tables, cpu, alloc)?;
             text.push_str(told.as_str())
@@ -36,42 +56,6 @@ pub(crate) fn answer_text<N: BootName>(
             let told = show(locked, tables, cpu, alloc)?;
             text.push_str(told.as_str())
         }
-        _ => {
-            let answer = answer_to(locked, tables, cpu, command);
-            answer.write_to(text)
-        }
-    }
-}
-
-// Serves a command, other than those whose answer is a text of any length.
-fn answer_to<N: BootName>(
-    locked: &mut Locked<N>,
-    tables: &Tables<N>,
-    cpu: &mut Cpu<N>,
-    command: &Command<'_>,
-) -> Answer
-    requires names { NamesInRange N.frames.frames command.now }
-    requires answer { HasAnswer command.now }
-    ensures { Answers N.frames command.now locked.old cpu.old result locked.new cpu.new }
-{
-    match *command {
-        Command::Mkdir { path } => served(locked, tables, cpu, &Cmd::Mkdir { path }),
-        Command::Rmdir { path } => served(locked, tables, cpu, &Cmd::Rmdir { path }),
-        Command::Write { path, file, value } => {
-            served(locked, tables, cpu, &Cmd::Write { path, file, value })
-        }
-        Command::Read { path, file } => served(locked, tables, cpu, &Cmd::Read { path, file }),
-        Command::Alloc { path, order } => alloc(locked, tables, cpu, path, order),
-        Command::Fast { group } => Answer::Fast(cpu.alloc_fast(tables, group)),
-        Command::Release { frame } => release(locked, tables, cpu, frame),
-        Command::Get { frame } => get(tables, cpu, frame),
-        Command::Put { frame } => put(tables, cpu, frame),
-        Command::Settle => settle(locked, tables, cpu),
-        Command::Touch { frame } => served(locked, tables, cpu, &Cmd::Touch { frame }),
-        Command::Dirty { frame } => served(locked, tables, cpu, &Cmd::Dirty { frame }),
-        Command::Clean { frame } => served(locked, tables, cpu, &Cmd::Clean { frame }),
-        Command::Owner { frame } => served(locked, tables, cpu, &Cmd::Owner { frame }),
-        Command::Blocks | Command::Show => unreachable!(),
     }
 }
 
@@ -81,35 +65,46 @@ fn served<N: BootName>(
     tables: &Tables<N>,
     cpu: &mut Cpu<N>,
     cmd: &Cmd<'_>,
-) -> Answer
+    text: &mut String,
+) -> Result<(), AllocError>
     requires { IsOfZone N.frames cmd.now }
-    ensures { RepliesServed N.frames cmd.now locked.old cpu.old result locked.new cpu.new }
+    ensures { IfOk result (λ _. TellsAnswer (λ said. RepliesServed N.frames cmd.now locked.old cpu.old said locked.new cpu.new)
+        (string_bytes text.old) (string_bytes text.new)) }
 {
-    Answer::Served(serve(locked, tables, cpu, cmd))
+    write_reply(&serve(locked, tables, cpu, cmd), text)
 }
 
 // Settles the processor.
-fn settle<N: BootName>(locked: &mut Locked<N>, tables: &Tables<N>, cpu: &mut Cpu<N>) -> Answer
-    ensures { AnswersSettle N.frames locked.old cpu.old result locked.new cpu.new }
+fn settle<N: BootName>(
+    locked: &mut Locked<N>,
+    tables: &Tables<N>,
+    cpu: &mut Cpu<N>,
+    text: &mut String,
+) -> Result<(), AllocError>
+    ensures { IfOk result (λ _. TellsAnswer (λ said. AnswersSettle N.frames locked.old cpu.old said locked.new cpu.new)
+        (string_bytes text.old) (string_bytes text.new)) }
 {
     let _done = serve(locked, tables, cpu, &Cmd::Settle);
-    Answer::Settled
+    write_settled(text)
 }
 
 // Takes a block, which may be a single frame.
-fn alloc<N: BootName>(
+fn alloc_block<N: BootName>(
     locked: &mut Locked<N>,
     tables: &Tables<N>,
     cpu: &mut Cpu<N>,
     path: &[u8],
     order: u32,
-) -> Answer
-    ensures { AnswersAlloc N.frames path.entry order locked.old cpu.old result locked.new cpu.new }
+    text: &mut String,
+) -> Result<(), AllocError>
+    ensures { IfOk result (λ _. TellsAnswer
+        (λ said. AnswersAlloc N.frames path.entry order locked.old cpu.old said locked.new cpu.new)
+        (string_bytes text.old) (string_bytes text.new)) }
 {
     if order == 0 {
-        alloc_frame(locked, tables, cpu, path)
+        alloc_frame(locked, tables, cpu, path, text)
     } else {
-        served(locked, tables, cpu, &Cmd::Alloc { path, order })
+        served(locked, tables, cpu, &Cmd::Alloc { path, order }, text)
     }
 }
 
@@ -119,15 +114,17 @@ fn alloc_frame<N: BootName>(
     tables: &Tables<N>,
     cpu: &mut Cpu<N>,
     path: &[u8],
-) -> Answer
-    ensures { AnswersFrame N.frames path.entry locked.old cpu.old result locked.new cpu.new }
+    text: &mut String,
+) -> Result<(), AllocError>
+    ensures { IfOk result (λ _. TellsAnswer (λ said. AnswersFrame N.frames path.entry locked.old cpu.old said locked.new cpu.new)
+        (string_bytes text.old) (string_bytes text.new)) }
 {
     let Some(group) = locked.find(path) else {
-        return Answer::Served(Reply::Refused(Fault::NoGroup));
+        return write_refusal(&Fault::NoGroup, text);
     };
     match cpu.alloc_fast(tables, group.number()) {
-        Fast::Got(frame) => Answer::Fast(Fast::Got(frame)),
-        _ => served(locked, tables, cpu, &Cmd::Alloc { path, order: 0 }),
+        Fast::Got(frame) => write_fast(&Fast::Got(frame), text),
+        _ => served(locked, tables, cpu, &Cmd::Alloc { path, order: 0 }, text),
     }
 }
 
@@ -137,12 +134,14 @@ fn release<N: BootName>(
     tables: &Tables<N>,
     cpu: &mut Cpu<N>,
     number: u32,
-) -> Answer
+    text: &mut String,
+) -> Result<(), AllocError>
     requires { number < N.frames.frames }
-    ensures { AnswersRelease N.frames number locked.old cpu.old result locked.new cpu.new }
+    ensures { IfOk result (λ _. TellsAnswer (λ said. AnswersRelease N.frames number locked.old cpu.old said locked.new cpu.new)
+        (string_bytes text.old) (string_bytes text.new)) }
 {
     if lists(tables, cpu, number) {
-        return Answer::Listed;
+        return write_listed(text);
     }
-    served(locked, tables, cpu, &Cmd::Release { frame: number })
+    served(locked, tables, cpu, &Cmd::Release { frame: number }, text)
 }

@@ -1,16 +1,17 @@
 //! The commands that take no lock.
 
-ghost use Rattle.std.specs.Prelude.{◌≡◌, ◌≤◌, ◌<◌, MatchBool};
+ghost use Rattle.std.specs.Prelude.{◌≡◌, ◌≤◌, ◌<◌, IfOk, MatchBool};
+ghost use Rattle.std.specs.String.{string_bytes};
 ghost use Rattle.cpu_part.specs.declared.answers.Dropped.TheVariants.{Listed};
 ghost use Rattle.cpu_part.specs.Cpus.{times};
 ghost use Rattle.cpu_part.specs.Calls.{DropAnswers};
 ghost use Rattle.mem_system.specs.Boots.{KnownLocked};
-ghost use Rattle.script_replay.specs.Answers.{AnswersGet, AnswersPut, CanNotList};
+ghost use Rattle.script_replay.specs.Answers.{AnswersGet, AnswersPut, CanNotList, TellsAnswer};
 
 use cpu_part::{BootName, Cpu, Dropped, Tables};
 use group_tree::fault::Fault;
-use mem_system::Reply;
-use reply_texts::Answer;
+use reply_texts::{write_get, write_put, write_refusal};
+use std::alloc::AllocError;
 
 // Lists the frame again, where it is fresh at the processor and its page can be credited.
 pub(crate) fn lists<N: BootName>(tables: &Tables<N>, cpu: &mut Cpu<N>, number: u32) -> bool
@@ -28,26 +29,38 @@ pub(crate) fn lists<N: BootName>(tables: &Tables<N>, cpu: &mut Cpu<N>, number: u
     }
 }
 
-// Pins the frame, without the lock.
-pub(crate) fn get<N: BootName>(tables: &Tables<N>, cpu: &mut Cpu<N>, number: u32) -> Answer
+// Pins the frame, without the lock, and adds what is answered.
+pub(crate) fn get<N: BootName>(
+    tables: &Tables<N>,
+    cpu: &mut Cpu<N>,
+    number: u32,
+    text: &mut String,
+) -> Result<(), AllocError>
     requires { number < N.frames.frames }
-    ensures { (l : KnownLocked) → AnswersGet number l cpu.old result l cpu.new }
+    ensures { (l : KnownLocked) → IfOk result (λ _. TellsAnswer (λ said. AnswersGet number l cpu.old said l cpu.new)
+        (string_bytes text.old) (string_bytes text.new)) }
 {
     let frame = tables.frames.frame(number).unwrap();
     match cpu.get(tables, frame) {
-        Ok(got) => Answer::Got(got),
-        Err(fault) => Answer::Served(Reply::Refused(fault)),
+        Ok(got) => write_get(&got, text),
+        Err(fault) => write_refusal(&fault, text),
     }
 }
 
-// Takes a pin from the frame, without the lock.
-pub(crate) fn put<N: BootName>(tables: &Tables<N>, cpu: &mut Cpu<N>, number: u32) -> Answer
+// Takes a pin from the frame, without the lock, and adds what is answered.
+pub(crate) fn put<N: BootName>(
+    tables: &Tables<N>,
+    cpu: &mut Cpu<N>,
+    number: u32,
+    text: &mut String,
+) -> Result<(), AllocError>
     requires { number < N.frames.frames }
-    ensures { (l : KnownLocked) → AnswersPut number l cpu.old result l cpu.new }
+    ensures { (l : KnownLocked) → IfOk result (λ _. TellsAnswer (λ said. AnswersPut number l cpu.old said l cpu.new)
+        (string_bytes text.old) (string_bytes text.new)) }
 {
     let frame = tables.frames.frame(number).unwrap();
     if !cpu.holds(frame) {
-        return Answer::Served(Reply::Refused(Fault::NotPinned));
+        return write_refusal(&Fault::NotPinned, text);
     }
-    Answer::Put(cpu.put(tables, frame))
+    write_put(&cpu.put(tables, frame), text)
 }

@@ -1,14 +1,14 @@
 //! Lines, served one after the other by visits: each command takes the zone's lock by itself.
 
 ghost use Rattle.std.specs.Prelude.{◌≤◌, ◌<◌, All, length};
-ghost use Rattle.script_replay.specs.Ranges.{HasAnswer, LineIsThere, NamesInRange};
+ghost use Rattle.script_replay.specs.Ranges.{LineIsThere, NamesInRange};
 ghost use Rattle.mem_system.specs.Commands.{IsOfZone};
 
 use crate::unlocked::{get, lists, put};
 use cpu_part::{BootName, Cpu, Fast};
 use group_tree::fault::Fault;
-use mem_system::{Cmd, Reply, System};
-use reply_texts::Answer;
+use mem_system::{Cmd, System};
+use reply_texts::{write_fast, write_listed, write_refusal, write_reply, write_settled};
 use script_lines::line::{Command, Line};
 use std::alloc::{AllocError, Global};
 use std::sync::Wait;
@@ -45,7 +45,37 @@ fn visit_line<N: BootName, R: Wait>(
 ) -> Result<(), AllocError>
     requires { NamesInRange N.frames.frames command.now }
 {
-    match command {
+    let tables = system.tables();
+    match *command {
+        Command::Mkdir { path } => visited(rt, system, cpu, &Cmd::Mkdir { path }, text),
+        Command::Rmdir { path } => visited(rt, system, cpu, &Cmd::Rmdir { path }, text),
+        Command::Write { path, file, value } => {
+            visited(rt, system, cpu, &Cmd::Write { path, file, value }, text)
+        }
+        Command::Read { path, file } => visited(rt, system, cpu, &Cmd::Read { path, file }, text),
+        Command::Alloc { path, order } => {
+            if order == 0 {
+                return alloc_frame(rt, system, cpu, path, text);
+            }
+            visited(rt, system, cpu, &Cmd::Alloc { path, order }, text)
+        }
+        Command::Fast { group } => write_fast(&cpu.alloc_fast(tables, group), text),
+        Command::Release { frame } => {
+            if lists(tables, cpu, frame) {
+                return write_listed(text);
+            }
+            visited(rt, system, cpu, &Cmd::Release { frame }, text)
+        }
+        Command::Get { frame } => get(tables, cpu, frame, text),
+        Command::Put { frame } => put(tables, cpu, frame, text),
+        Command::Settle => {
+            let _done = system.visit(rt, cpu, &Cmd::Settle);
+            write_settled(text)
+        }
+        Command::Touch { frame } => visited(rt, system, cpu, &Cmd::Touch { frame }, text),
+        Command::Dirty { frame } => visited(rt, system, cpu, &Cmd::Dirty { frame }, text),
+        Command::Clean { frame } => visited(rt, system, cpu, &Cmd::Clean { frame }, text),
+        Command::Owner { frame } => visited(rt, system, cpu, &Cmd::Owner { frame }, text),
         Command::Blocks => {
             let told = system.blocks(rt, alloc, cpu)?;
             text.push_str(told.as_str())
@@ -54,69 +84,35 @@ fn visit_line<N: BootName, R: Wait>(
             let told = system.show(rt, alloc, cpu)?;
             text.push_str(told.as_str())
         }
-        _ => {
-            let answer = answer_by_visit(rt, system, cpu, command);
-            answer.write_to(text)
-        }
     }
 }
 
-// Serves a command, other than those whose answer is a text of any length.
-fn answer_by_visit<N: BootName, R: Wait>(
+// What a visit serves, and adds what it is answered.
+fn visited<N: BootName, R: Wait>(
     rt: &R,
     system: &System<N>,
     cpu: &mut Cpu<N>,
-    command: &Command<'_>,
-) -> Answer
-    requires names { NamesInRange N.frames.frames command.now }
-    requires answer { HasAnswer command.now }
+    cmd: &Cmd<'_>,
+    text: &mut String,
+) -> Result<(), AllocError>
+    requires { IsOfZone N.frames cmd.now }
 {
-    let tables = system.tables();
-    let cmd = match *command {
-        Command::Mkdir { path } => Cmd::Mkdir { path },
-        Command::Rmdir { path } => Cmd::Rmdir { path },
-        Command::Write { path, file, value } => Cmd::Write { path, file, value },
-        Command::Read { path, file } => Cmd::Read { path, file },
-        Command::Alloc { path, order } => {
-            if order == 0 {
-                return alloc_frame(rt, system, cpu, path);
-            }
-            Cmd::Alloc { path, order }
-        }
-        Command::Touch { frame } => Cmd::Touch { frame },
-        Command::Dirty { frame } => Cmd::Dirty { frame },
-        Command::Clean { frame } => Cmd::Clean { frame },
-        Command::Owner { frame } => Cmd::Owner { frame },
-        Command::Fast { group } => return Answer::Fast(cpu.alloc_fast(tables, group)),
-        Command::Release { frame } => {
-            if lists(tables, cpu, frame) {
-                return Answer::Listed;
-            }
-            Cmd::Release { frame }
-        }
-        Command::Get { frame } => return get(tables, cpu, frame),
-        Command::Put { frame } => return put(tables, cpu, frame),
-        Command::Settle => {
-            let _done = system.visit(rt, cpu, &Cmd::Settle);
-            return Answer::Settled;
-        }
-        Command::Blocks | Command::Show => unreachable!(),
-    };
-    Answer::Served(system.visit(rt, cpu, &cmd))
+    write_reply(&system.visit(rt, cpu, cmd), text)
 }
 
-// Takes a frame, without the lock where it can be.
+// Takes a frame, without the lock where it can be, and adds what is answered.
 fn alloc_frame<N: BootName, R: Wait>(
     rt: &R,
     system: &System<N>,
     cpu: &mut Cpu<N>,
     path: &[u8],
-) -> Answer {
+    text: &mut String,
+) -> Result<(), AllocError> {
     let Some(group) = system.find(rt, path) else {
-        return Answer::Served(Reply::Refused(Fault::NoGroup));
+        return write_refusal(&Fault::NoGroup, text);
     };
     match cpu.alloc_fast(system.tables(), group.number()) {
-        Fast::Got(frame) => Answer::Fast(Fast::Got(frame)),
-        _ => Answer::Served(system.visit(rt, cpu, &Cmd::Alloc { path, order: 0 })),
+        Fast::Got(frame) => write_fast(&Fast::Got(frame), text),
+        _ => visited(rt, system, cpu, &Cmd::Alloc { path, order: 0 }, text),
     }
 }
