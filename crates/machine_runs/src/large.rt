@@ -3,6 +3,7 @@ ghost use Rattle.std.specs.Prelude.{◌≡◌, ◌≤◌};
 ghost use Rattle.frame_word.specs.Seats.{first_zone_view, first_cpu_view};
 ghost use Rattle.stock_word.specs.Stock.{first_machine, first_processor};
 
+use crate::few::lends_and_takes_back;
 use crate::parts::Seats;
 use cpu_part::{BootName, Cpu, Tables};
 use frame_word::{FrameSeat, FrameWords};
@@ -65,11 +66,7 @@ fn lends_sixty_four<const F: u32, N: BootName>(rt: &impl Abort, alloc: Global, p
     let mut cpu = Cpu::<N>::new(alloc, last.frames, last.stock).expect(rt, "memory");
     let mut machine = Machine::<N>::new(alloc, &tables, zone, machine).expect(rt, "memory");
     assert!(rt; cpu.number() == 16);
-    machine.open(&tables, &mut cpu);
-    assert!(rt; machine.refill(&tables, &mut cpu, 64) == 64);
-    assert!(rt; cpu.list_len() == 64);
-    assert!(rt; machine.drain_list(&tables, &mut cpu, 64) == 64);
-    machine.shut(&tables, &mut cpu);
+    lends_and_takes_back(rt, &tables, &mut machine, &mut cpu, 64);
     assert!(rt; cpu.is_idle());
     let _ = cpu.into_seats();
     let _ = tables.into_tables();

@@ -190,8 +190,8 @@ fn runs_large<N: BootName>(
 // 1,000 random calls on 64 frames do what the steps of the core do.
 #[test]
 fn a_thousand_calls_are_steps_of_a_core(rt: HostRuntime) -> Result<(), Fail> {
-    let parts = make_parts::<64>(&rt, rt.alloc())?;
     let mut beside = Follower::Steps(Core::new(rt.alloc(), 64, 4)?);
+    let parts = make_parts::<64>(&rt, rt.alloc())?;
     let tally = runs_small::<Brand>(&rt, rt.alloc(), parts, &mut beside, 1_000);
     tally.holds(&rt, 3);
     Ok(())
@@ -200,8 +200,8 @@ fn a_thousand_calls_are_steps_of_a_core(rt: HostRuntime) -> Result<(), Fail> {
 // 20,000 random calls on 2,048 frames do what a plain recount of their answers tells.
 #[test]
 fn twenty_thousand_calls_are_counted_again(rt: HostRuntime) -> Result<(), Fail> {
-    let parts = make_parts::<2048>(&rt, rt.alloc())?;
     let mut beside = Follower::Recount(Plain::new(rt.alloc(), 2_048)?);
+    let parts = make_parts::<2048>(&rt, rt.alloc())?;
     let tally = runs_large::<Brand>(&rt, rt.alloc(), parts, &mut beside, 20_000);
     tally.holds(&rt, 20);
     Ok(())

@@ -145,7 +145,7 @@ impl Account {
         self.units.take_off(frame);
         match step(rt, &mut self.core, 0, Action::Put { frame }) {
             Answer::Left(left) => return Some(u64::from(left)),
-            answer => assert_eq!(rt; answer, Answer::Last),
+            answer => assert!(rt; answer == Answer::Last),
         }
         self.note_last();
         self.bring_back(rt, frame);
@@ -185,7 +185,7 @@ impl Account {
         match step(rt, &mut self.core, 0, Action::PlaceBlock { group, order }) {
             Answer::Placed(block) => Some(block.at),
             answer => {
-                assert_eq!(rt; answer, Answer::NoFreeBlock);
+                assert!(rt; answer == Answer::NoFreeBlock);
                 None
             }
         }

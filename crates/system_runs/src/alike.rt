@@ -23,7 +23,7 @@ pub fn places_alike<N: BootName, R: Wait + Abort>(
             frame: frame.number(),
         };
         let wanted = owner(rt, account, number);
-        assert_eq!(rt; system.visit(rt, looker, &cmd), wanted);
+        assert!(rt; system.visit(rt, looker, &cmd) == wanted);
     }
 }
 
@@ -53,7 +53,7 @@ pub fn groups_alike<N: BootName, R: Wait + Abort>(
 ) {
     for number in [1, 4, 6, 9, 11, 13] {
         let path = path(number);
-        assert_eq!(rt; system.find(rt, path), account.core.tree().find(path));
+        assert!(rt; system.find(rt, path) == account.core.tree().find(path));
         files_alike(rt, alloc, system, looker, account, path);
     }
 }
@@ -98,10 +98,10 @@ pub fn lists_alike<N: BootName>(
 ) {
     let number = cpu.number();
     let core = &account.core;
-    assert_eq!(rt; cpu.list_len(), core.list_len(number));
-    assert_eq!(rt; cpu.fresh_len(), core.fresh(number).len());
-    assert_eq!(rt; cpu.back_len(), core.back(number).len());
-    assert_eq!(rt; cpu.pins(), core.pins(number) as usize);
+    assert!(rt; cpu.list_len() == core.list_len(number));
+    assert!(rt; cpu.fresh_len() == core.fresh(number).len());
+    assert!(rt; cpu.back_len() == core.back(number).len());
+    assert!(rt; cpu.pins() == core.pins(number) as usize);
     for fresh in core.fresh(number) {
         let frame = tables.frames.frame(*fresh).expect(rt, "a frame");
         assert!(rt; cpu.has_fresh(frame));
@@ -112,6 +112,6 @@ pub fn lists_alike<N: BootName>(
 pub fn units_alike(rt: &impl Abort, account: &Account) {
     for frame in 0..account.sizes.frames {
         let is_kept = account.units.find(frame).is_some();
-        assert_eq!(rt; account.core.references(0, frame) == 1, is_kept);
+        assert!(rt; (account.core.references(0, frame) == 1) == is_kept);
     }
 }

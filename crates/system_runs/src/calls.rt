@@ -41,8 +41,8 @@ fn serves<N: BootName>(
     cpu: &mut Cpu<N>,
 ) {
     let group = GroupId::of(1).expect(rt, "a group");
-    assert_eq!(rt; serve(locked, tables, cpu, &MKDIR), Reply::Group(group));
-    assert_eq!(rt; locked.find(b"/a"), Some(group));
+    assert!(rt; serve(locked, tables, cpu, &MKDIR) == Reply::Group(group));
+    assert!(rt; locked.find(b"/a") == Some(group));
     let told = show(locked, tables, cpu, alloc);
     is_text(rt, told, "0-15 free\ncurrent /a 0\n");
     is_text(rt, blocks(locked, tables, cpu, alloc), "4:0\n");
@@ -57,7 +57,7 @@ fn parts_live<N: BootName>(rt: &impl Abort, alloc: Global, boot: Boot)
     serves(rt, alloc, &mut locked, &tables, cpu);
     assert!(rt; cpus.len() == tables.frames.cpus() as usize);
     match end(tables, locked, cpus) {
-        Ok(audit) => assert_eq!(rt; audit, NOTHING),
+        Ok(audit) => assert!(rt; audit == NOTHING),
         Err(_pinned) => panic!(rt; "a pin remains"),
     }
 }
@@ -71,8 +71,8 @@ fn tells<N: BootName, R: Wait + Abort>(
 ) {
     let group = GroupId::of(1).expect(rt, "a group");
     let reply = system.visit_with(rt, cpu, &MKDIR, &NoGate);
-    assert_eq!(rt; reply, Reply::Group(group));
-    assert_eq!(rt; system.find(rt, b"/a"), Some(group));
+    assert!(rt; reply == Reply::Group(group));
+    assert!(rt; system.find(rt, b"/a") == Some(group));
     let told = system.show(rt, alloc, cpu);
     is_text(rt, told, "0-15 free\ncurrent /a 0\n");
     is_text(rt, system.blocks(rt, alloc, cpu), "4:0\n");
@@ -87,7 +87,7 @@ fn system_lives<N: BootName, R: Wait + Abort>(rt: &R, alloc: Global, boot: Boot)
     tells(rt, alloc, &system, cpu);
     assert!(rt; cpus.len() == system.tables().frames.cpus() as usize);
     let audit = ended(rt, system.shutdown(cpus));
-    assert_eq!(rt; audit, NOTHING);
+    assert!(rt; audit == NOTHING);
 }
 
 const SIZES: Config = Config {

@@ -63,17 +63,17 @@ fn audit_alike(rt: &impl Abort, account: &Account, audit: &Audit) {
     let frames = account.sizes.frames;
     let free = count_free(rt, account);
     let counts = account.counts;
-    assert_eq!(rt;
-        *audit,
-        Audit {
-            frames,
-            free,
-            charged: frames.saturating_sub(free),
-            last_puts: counts.last_puts,
-            freezes: counts.freezes,
-            drops: counts.drops,
-            returns: counts.returns,
-        }
+    assert!(rt;
+        *audit
+            == Audit {
+                frames,
+                free,
+                charged: frames.saturating_sub(free),
+                last_puts: counts.last_puts,
+                freezes: counts.freezes,
+                drops: counts.drops,
+                returns: counts.returns,
+            }
     );
 }
 
@@ -101,7 +101,7 @@ fn ends_later<N: BootName>(rt: &impl Abort, held: Held<N>, account: &mut Account
         mut cpus,
         pins,
     } = held;
-    assert_eq!(rt; pins, count_pins(account));
+    assert!(rt; pins == count_pins(account));
     for cpu in cpus.iter_mut() {
         put_all(rt, &system, cpu, account);
     }
@@ -120,7 +120,7 @@ pub fn shuts_down<N: BootName>(
     match system.shutdown(cpus) {
         Err(held) => ends_later(rt, held, account),
         Ok(audit) => {
-            assert_eq!(rt; count_pins(account), 0);
+            assert!(rt; count_pins(account) == 0);
             follow_end(rt, account);
             audit_alike(rt, account, &audit);
         }

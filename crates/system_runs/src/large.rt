@@ -3,6 +3,7 @@
 ghost use Rattle.std.specs.Prelude.{◌≡◌, ◌<◌};
 
 use crate::ends::ended;
+use crate::rows::reads;
 use cpu_part::{BootName, Cpu, Dropped, Fast};
 use frame_word::{Get, Put};
 use mem_system::{Audit, Boot, Cmd, Reply, System, boot};
@@ -68,7 +69,7 @@ fn release<N: BootName, R: Wait + Abort>(
     let frame = system.tables().frames.frame(number).expect(rt, "a frame");
     let frame = frame.number();
     let reply = system.visit(rt, cpu, &Cmd::Release { frame });
-    assert_eq!(rt; reply, Reply::Returned);
+    assert!(rt; reply == Reply::Returned);
     assert!(rt; cpu.list_len() <= 256);
 }
 
@@ -84,21 +85,6 @@ fn release_all<N: BootName, R: Wait + Abort>(
     }
 }
 
-// The group of the path uses so much.
-fn uses<N: BootName, R: Wait + Abort>(
-    rt: &R,
-    system: &System<N>,
-    cpu: &mut Cpu<N>,
-    path: &[u8],
-    text: &[u8],
-) {
-    let file: &[u8] = b"memory.current";
-    match system.visit(rt, cpu, &Cmd::Read { path, file }) {
-        Reply::Text(found) => assert!(rt; found.as_bytes() == text),
-        _ => panic!(rt; "no text"),
-    }
-}
-
 // A kept unit is pinned and put, touched and noted as dirty and clean.
 fn use_unit<N: BootName, R: Wait + Abort>(
     rt: &R,
@@ -108,15 +94,15 @@ fn use_unit<N: BootName, R: Wait + Abort>(
 ) {
     let tables = system.tables();
     let frame = tables.frames.frame(number).expect(rt, "a frame");
-    assert_eq!(rt; cpu.get(tables, frame), Ok(Get::Held));
-    assert_eq!(rt; cpu.pins(), 1);
+    assert!(rt; cpu.get(tables, frame) == Ok(Get::Held));
+    assert!(rt; cpu.pins() == 1);
     assert!(rt; cpu.holds(frame));
-    assert_eq!(rt; cpu.put(tables, frame), Put::Left(1));
+    assert!(rt; cpu.put(tables, frame) == Put::Left(1));
     let frame = frame.number();
-    assert_eq!(rt; system.visit(rt, cpu, &Cmd::Touch { frame }), Reply::Marked);
-    assert_eq!(rt; system.visit(rt, cpu, &Cmd::Touch { frame }), Reply::Active);
-    assert_eq!(rt; system.visit(rt, cpu, &Cmd::Dirty { frame }), Reply::Done);
-    assert_eq!(rt; system.visit(rt, cpu, &Cmd::Clean { frame }), Reply::Done);
+    assert!(rt; system.visit(rt, cpu, &Cmd::Touch { frame }) == Reply::Marked);
+    assert!(rt; system.visit(rt, cpu, &Cmd::Touch { frame }) == Reply::Active);
+    assert!(rt; system.visit(rt, cpu, &Cmd::Dirty { frame }) == Reply::Done);
+    assert!(rt; system.visit(rt, cpu, &Cmd::Clean { frame }) == Reply::Done);
 }
 
 // A fresh frame goes back to the list.
@@ -130,7 +116,7 @@ fn drop_one<N: BootName, R: Wait + Abort>(
     let number = take_one(rt, system, cpu, path);
     let frame = tables.frames.frame(number).expect(rt, "a frame");
     assert!(rt; cpu.has_fresh(frame));
-    assert_eq!(rt; cpu.drop_fresh(tables, frame), Dropped::Listed);
+    assert!(rt; cpu.drop_fresh(tables, frame) == Dropped::Listed);
 }
 
 // A processor makes a group, takes 500 single frames and a block of 1,024 for it, gives all back, and takes the group out.
@@ -150,12 +136,12 @@ fn works<N: BootName, R: Wait + Abort>(
     let block = frame_of(rt, system, cpu, path, 10);
     assert!(rt; block.is_multiple_of(1_024));
     // 500 frames, 12 pages in the stock and 1,024 frames.
-    uses(rt, system, cpu, path, b"6291456\n");
+    reads(rt, system, cpu, (path, b"memory.current"), b"6291456\n");
     use_unit(rt, system, cpu, block);
     release(rt, system, cpu, block);
     release_all(rt, system, cpu, frames.as_slice());
-    uses(rt, system, cpu, path, b"49152\n");
-    assert_eq!(rt; system.visit(rt, cpu, &Cmd::Rmdir { path }), Reply::Done);
+    reads(rt, system, cpu, (path, b"memory.current"), b"49152\n");
+    assert!(rt; system.visit(rt, cpu, &Cmd::Rmdir { path }) == Reply::Done);
 }
 
 // All processors work, one after the other.
@@ -163,23 +149,23 @@ fn lives<N: BootName, R: Wait + Abort>(rt: &R, alloc: Global, boot: Boot)
     requires { (boot.frames ≡ N.frames) × (boot.stocks ≡ N.stocks) }
 {
     let (system, mut cpus) = boot.start::<N>(alloc).expect(rt, "memory");
-    assert_eq!(rt; cpus.len(), 16);
+    assert!(rt; cpus.len() == 16);
     for cpu in cpus.iter_mut() {
         works(rt, alloc, &system, cpu);
     }
     assert!(rt; cpus.len() == system.tables().frames.cpus() as usize);
     let audit = ended(rt, system.shutdown(cpus));
-    assert_eq!(rt;
-        audit,
-        Audit {
-            frames: 65_536,
-            free: 65_536,
-            charged: 0,
-            last_puts: 8_016,
-            freezes: 0,
-            drops: 16,
-            returns: 8_032,
-        }
+    assert!(rt;
+        audit
+            == Audit {
+                frames: 65_536,
+                free: 65_536,
+                charged: 0,
+                last_puts: 8_016,
+                freezes: 0,
+                drops: 16,
+                returns: 8_032,
+            }
     );
 }
 

@@ -68,7 +68,7 @@ fn found_fast<N: BootName, R: Wait + Abort>(
 ) -> bool {
     let found = system.find(rt, path);
     look_in(rt, &mut account.core, cpu.number());
-    assert_eq!(rt; found, account.core.tree().find(path));
+    assert!(rt; found == account.core.tree().find(path));
     match found {
         Some(group) => fast(rt, system.tables(), cpu, account, group),
         None => true,
@@ -98,7 +98,7 @@ fn put<N: BootName>(
     frame: Frame,
 ) {
     let has_pin = account.core.references(cpu.number(), frame.number()) > 0;
-    assert_eq!(rt; cpu.holds(frame), has_pin);
+    assert!(rt; cpu.holds(frame) == has_pin);
     if cpu.holds(frame) {
         let put = cpu.put(tables, frame);
         follow_put(rt, account, cpu.number(), frame.number(), put);
@@ -127,7 +127,7 @@ fn drop_fresh<N: BootName>(
 ) -> bool {
     let number = cpu.number();
     let is_fresh = account.core.fresh(number).contains(&frame.number());
-    assert_eq!(rt; cpu.has_fresh(frame), is_fresh);
+    assert!(rt; cpu.has_fresh(frame) == is_fresh);
     if !cpu.has_fresh(frame) {
         return false;
     }

@@ -23,14 +23,14 @@ fn paid(rt: &impl Abort, account: &mut Account, cpu: u32, group: GroupId, fast: 
     let answer = step(rt, &mut account.core, cpu, action);
     match fast {
         Fast::Got(frame) => {
-            assert_eq!(rt; answer, Answer::Took);
-            assert_eq!(rt; frame.number(), front);
+            assert!(rt; answer == Answer::Took);
+            assert!(rt; frame.number() == front);
             account.note_stock(rt, cpu);
         }
-        Fast::NoStock => assert_eq!(rt; answer, Answer::Empty),
-        Fast::OtherGroup => assert_eq!(rt; answer, Answer::OtherGroup),
+        Fast::NoStock => assert!(rt; answer == Answer::Empty),
+        Fast::OtherGroup => assert!(rt; answer == Answer::OtherGroup),
         Fast::Drained => {
-            assert_eq!(rt; answer, Answer::Drained);
+            assert!(rt; answer == Answer::Drained);
             account.note_drain(rt, cpu);
         }
         Fast::FreshFull | Fast::ListEmpty => panic!(rt; "neither full nor empty"),
@@ -49,13 +49,13 @@ pub fn follow_fast(
 ) -> bool {
     account.tally.note(kind_of_fast(&fast));
     if account.core.fresh(cpu).len() >= 32 {
-        assert_eq!(rt; fast, Fast::FreshFull);
+        assert!(rt; fast == Fast::FreshFull);
         false
     } else if account.core.list_len(cpu) == 0 {
-        assert_eq!(rt; fast, Fast::ListEmpty);
+        assert!(rt; fast == Fast::ListEmpty);
         false
     } else if saw_none(rt, account, cpu, group) {
-        assert_eq!(rt; fast, Fast::NoStock);
+        assert!(rt; fast == Fast::NoStock);
         false
     } else {
         paid(rt, account, cpu, group, fast)
@@ -68,12 +68,12 @@ pub fn follow_drop(rt: &impl Abort, account: &mut Account, cpu: u32, frame: u32,
     let answer = step(rt, &mut account.core, cpu, Action::Credit { frame });
     match dropped {
         Dropped::Listed => {
-            assert_eq!(rt; answer, Answer::Back);
+            assert!(rt; answer == Answer::Back);
             account.note_drop();
             account.note_stock(rt, cpu);
         }
         Dropped::NeedVisit => {
-            assert_eq!(rt; answer, Answer::Drained);
+            assert!(rt; answer == Answer::Drained);
             account.note_drain(rt, cpu);
         }
     }
@@ -94,18 +94,18 @@ pub fn follow_get(
     let pins = account.core.pins(cpu) as usize;
     let back = account.core.back(cpu).len();
     if pins.saturating_add(back) >= MOST_PINS {
-        assert_eq!(rt; got, Err(Fault::PinsFull));
+        assert!(rt; got == Err(Fault::PinsFull));
         return Err(Fault::PinsFull);
     }
     let wanted = match step(rt, &mut account.core, cpu, Action::Get { frame }) {
         Answer::Held => Get::Held,
         Answer::Full => Get::Full,
         answer => {
-            assert_eq!(rt; answer, Answer::Zero);
+            assert!(rt; answer == Answer::Zero);
             Get::Zero
         }
     };
-    assert_eq!(rt; got, Ok(wanted));
+    assert!(rt; got == Ok(wanted));
     Ok(wanted)
 }
 
@@ -115,10 +115,10 @@ pub fn follow_put(rt: &impl Abort, account: &mut Account, cpu: u32, frame: u32, 
     let wanted = match step(rt, &mut account.core, cpu, Action::Put { frame }) {
         Answer::Left(left) => Put::Left(u64::from(left)),
         answer => {
-            assert_eq!(rt; answer, Answer::Last);
+            assert!(rt; answer == Answer::Last);
             account.note_last();
             Put::Last
         }
     };
-    assert_eq!(rt; put, wanted);
+    assert!(rt; put == wanted);
 }

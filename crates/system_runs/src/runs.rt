@@ -20,7 +20,7 @@ use std::test::Fail;
 use zone_sizes::config::Config;
 
 // How many turns, drawn from which seed.
-#[derive(Clone, Copy, Debug, PartialEq, Eq)]
+#[derive(Clone, Copy)]
 struct Draws {
     seed: u64,
     turns: u32,

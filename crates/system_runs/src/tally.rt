@@ -7,7 +7,7 @@ use mem_system::Reply;
 use std::process::Abort;
 
 /// A kind of answer.
-#[derive(Clone, Copy, Debug, PartialEq, Eq)]
+#[derive(Clone, Copy)]
 pub enum Kind {
     Group,
     Done,
@@ -125,7 +125,7 @@ pub fn kind_of_drop(dropped: &Dropped) -> Kind {
 }
 
 /// How often each kind of answer came.
-#[derive(Clone, Copy, Debug, PartialEq, Eq)]
+#[derive(Clone, Copy)]
 pub struct Tally {
     counts: [u32; 37],
 }
@@ -145,7 +145,7 @@ impl Tally {
     /// Each kind but the last came so many times at least.
     pub fn holds(&self, rt: &impl Abort, times: u32) {
         for count in &self.counts[..36] {
-            assert!(rt; *count >= times, "{self:?}");
+            assert!(rt; *count >= times);
         }
     }
 }

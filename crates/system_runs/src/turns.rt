@@ -5,7 +5,7 @@ use group_tree::group::GroupId;
 use mem_system::Cmd;
 
 /// What a processor does.
-#[derive(Clone, Copy, Debug, PartialEq, Eq)]
+#[derive(Clone, Copy)]
 pub enum Turn {
     /// It asks for this under the lock.
     Visit(Cmd<'static>),
@@ -24,7 +24,7 @@ pub enum Turn {
 }
 
 /// A random word and another.
-#[derive(Clone, Copy, Debug, PartialEq, Eq)]
+#[derive(Clone, Copy)]
 pub struct Words {
     pub first: u32,
     pub second: u32,

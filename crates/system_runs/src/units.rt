@@ -4,7 +4,7 @@ use std::alloc::{AllocError, Global};
 use std::process::Abort;
 
 /// A kept unit, by its head: on the inactive or the active list of its group, marked or not, dirty or not.
-#[derive(Clone, Copy, Debug, PartialEq, Eq)]
+#[derive(Clone, Copy)]
 pub struct Unit {
     pub head: u32,
     pub is_active: bool,
