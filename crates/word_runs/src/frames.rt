@@ -35,20 +35,33 @@ fn freeze_waits_for_the_other_seat(rt: HostRuntime) -> Result<(), Fail> {
     Ok(())
 }
 
+// The zone and a processor have a reference each. Whose put is the last has the frame in hand.
+fn put_by_both(
+    rt: &impl Abort,
+    words: &FrameWords,
+    zone: &mut FrameSeat,
+    cpu: &mut FrameSeat,
+    frame: Frame,
+)
+    requires zone { IsZoneSeat words.now zone.old × (zone.old.view ≡ first_zone_view 8) }
+    requires cpu { (cpu.old.table ≡ words.now.table) × (cpu.old.view ≡ first_cpu_view 1) }
+    requires sizes { (words.now.frames ≡ 8) × (frame ≡ 3) }
+{
+    words.unfreeze(zone, frame, 1);
+    assert!(rt; words.get(cpu, frame) == Get::Held);
+    assert!(rt; words.put(zone, frame) == Put::Left(1));
+    assert!(rt; words.put(cpu, frame) == Put::Last);
+    assert!(rt; words.get(zone, frame) == Get::Zero);
+    words.unfreeze(cpu, frame, 1);
+    assert!(rt; words.get(zone, frame) == Get::Held);
+}
+
 #[test]
 fn the_last_put_has_the_frame_in_hand(rt: HostRuntime) -> Result<(), Fail> {
     let (words, mut zone, mut cpus) = FrameWords::new(rt.alloc(), 8, 1)?;
     let frame = words.frame(3).expect(&rt, "frame 3");
     let mut cpu = cpus.pop().expect(&rt, "a seat");
-    words.unfreeze(&mut zone, frame, 1);
-    let got = words.get(&mut cpu, frame);
-    assert!(rt; got == Get::Held);
-    assert!(rt; words.put(&mut zone, frame) == Put::Left(1));
-    let last = words.put(&mut cpu, frame);
-    assert!(rt; last == Put::Last);
-    assert!(rt; words.get(&mut zone, frame) == Get::Zero);
-    words.unfreeze(&mut cpu, frame, 1);
-    assert!(rt; words.get(&mut zone, frame) == Get::Held);
+    put_by_both(&rt, &words, &mut zone, &mut cpu, frame);
     Ok(())
 }
 

@@ -1,6 +1,7 @@
 //! Worked rows: what the answers are when calls of processors meet, which no clause says.
 ghost use Rattle.std.specs.Prelude.{◌≡◌, ◌≢◌, ◌+◌, ◌<◌, ◌≤◌, ℕ, [], length};
-ghost use Rattle.frame_word.specs.Seats.{holds, IsInOwnHand, IsOpen, IsShut, IsZoneSeat, NothingPasses, first_zone_view, first_cpu_view};
+ghost use Rattle.frame_word.specs.Seats.{IsInOwnHand, IsOpen, IsShut, IsZoneSeat, NothingPasses};
+ghost use Rattle.frame_word.specs.Seats.{first_cpu_view, first_zone_view, holds};
 ghost use Rattle.stock_word.specs.Stock.{IsMachine, first_machine, first_processor};
 ghost use Rattle.cpu_part.specs.Cpus.{IsIdle, first_cpu};
 

@@ -126,7 +126,9 @@ fn round<R: Threads + Sync>(
         },
         move || -> (u32, StockSeat)
             requires { (seat.table ≡ words.now.table) × IsProcessor words.now seat.view × (seat.view.fresh ≡ 0) }
-            ensures { (result.1.table ≡ words.entry.now.table) × (result.1.view.number ≡ seat.view.number) × (result.1.view.fresh ≡ result.0) }
+            ensures { (result.1.table ≡ words.entry.now.table)
+                × (result.1.view.number ≡ seat.view.number)
+                × (result.1.view.fresh ≡ result.0) }
         {
             let mut own = seat;
             (work(words, &mut own), own)
