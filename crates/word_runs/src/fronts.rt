@@ -1,11 +1,12 @@
 //! Worked rows: who gets a frame that passes, a list that is as long as it may be, and the fronts of
 //! it that are paid for inside a visit.
 ghost use Rattle.std.specs.Prelude.{◌≡◌, ◌≤◌, None};
+ghost use Rattle.frame_word.specs.Seats.{IsZoneSeat, first_zone_view};
 ghost use Rattle.stock_word.specs.Stock.{IsMachine};
 
-use crate::parts::{Parts, give_back, give_first, make_parts};
+use crate::parts::{Parts, give_back, give_first, give_up, make_parts, set_up};
 use cpu_part::{BootName, Cpu, Dropped, Fast, MOST_FRESH, Tables};
-use frame_word::{Frame, Get};
+use frame_word::{Frame, FrameSeat, Get};
 use std::alloc::Global;
 use std::marker::Brand;
 use std::process::Abort;
@@ -13,37 +14,38 @@ use std::test::Fail;
 use stock_word::{Stock, StockSeat};
 
 // Frame 3 passes for processor 2: no seat gets it.
-fn passes<N: BootName>(rt: &impl Abort, alloc: Global, parts: Parts<8>)
+fn passes<N: BootName>(
+    rt: &impl Abort,
+    tables: &Tables<N>,
+    zone: &mut FrameSeat,
+    first: &mut Cpu<N>,
+    second: &mut Cpu<N>,
+)
+    requires zone { IsZoneSeat N.frames zone.old × (zone.old.view ≡ first_zone_view 8) }
+    requires sizes { (N.frames.frames ≡ 8) × (N.frames.cpus ≡ 2) }
+    requires number { second.old.number ≡ 2 }
+{
+    let frame = tables.frames.frame(3).expect(rt, "frame 3");
+    second.open(tables, zone);
+    tables.frames.pass_out(zone, frame, 2);
+    assert!(rt; tables.frames.get(zone, frame) == Get::Zero);
+    assert!(rt; first.get(tables, frame) == Ok(Get::Zero));
+    assert!(rt; second.get(tables, frame) == Ok(Get::Zero));
+}
+
+// A boot, in which frame 3 passes.
+fn boot_of_passing<N: BootName>(rt: &impl Abort, alloc: Global, parts: Parts<8>)
     requires { (parts.frames ≡ N.frames) × (parts.stocks ≡ N.stocks) }
 {
-    let Parts {
-        frames,
-        stocks,
-        mut zone,
-        machine: _,
-        seats,
-        payers,
-    } = parts;
-    let tables = Tables::<N>::new(frames, stocks);
-    let mut first = Cpu::<N>::new(alloc, seats.0, payers.0).expect(rt, "memory");
-    let mut second = Cpu::<N>::new(alloc, seats.1, payers.1).expect(rt, "memory");
-    let frame = tables.frames.frame(3).expect(rt, "frame 3");
-    second.open(&tables, &mut zone);
-    tables.frames.pass_out(&mut zone, frame, 2);
-    assert!(rt; tables.frames.get(&mut zone, frame) == Get::Zero);
-    assert!(rt; first.get(&tables, frame) == Ok(Get::Zero));
-    assert!(rt; second.get(&tables, frame) == Ok(Get::Zero));
-    assert!(rt; first.is_idle());
-    assert!(rt; second.is_idle());
-    let _ = first.into_seats();
-    let _ = second.into_seats();
-    let _ = tables.into_tables();
+    let (tables, mut zone, _, mut first, mut second) = set_up::<N, 8>(rt, alloc, parts);
+    passes(rt, &tables, &mut zone, &mut first, &mut second);
+    give_up(rt, tables, first, second);
 }
 
 #[test]
 fn no_seat_gets_a_frame_that_passes(rt: HostRuntime) -> Result<(), Fail> {
     let parts = make_parts::<8>(&rt, rt.alloc())?;
-    passes::<Brand>(&rt, rt.alloc(), parts);
+    boot_of_passing::<Brand>(&rt, rt.alloc(), parts);
     Ok(())
 }
 
@@ -82,20 +84,30 @@ fn takes_fronts<N: BootName>(
     let zeroth = tables.frames.frame(0).expect(rt, "frame 0");
     let first = tables.frames.frame(1).expect(rt, "frame 1");
     let second = tables.frames.frame(2).expect(rt, "frame 2");
-    assert!(rt; take_by_books(tables, machine, cpu) == Some(zeroth));
-    assert!(rt; cpu.last_stock() == Stock::HeldBy { group: 1, pages: 1 });
-    assert!(rt; take_by_books(tables, machine, cpu) == Some(first));
-    assert!(rt; cpu.fresh_len() == 2);
-    assert!(rt; take_by_books(tables, machine, cpu) == None);
+    takes(rt, tables, machine, cpu, Some(zeroth));
+    takes(rt, tables, machine, cpu, Some(first));
+    takes(rt, tables, machine, cpu, None);
     assert!(rt; cpu.alloc_fast(tables, 1) == Fast::NoStock);
     drops(rt, tables, cpu, zeroth);
-    assert!(rt; take_by_books(tables, machine, cpu) == Some(second));
-    assert!(rt; cpu.list_len() == 254);
+    takes(rt, tables, machine, cpu, Some(second));
     drops(rt, tables, cpu, first);
     drops(rt, tables, cpu, second);
     assert!(rt; tables.stocks.drain(machine, 1) == 2);
-    assert!(rt; take_by_books(tables, machine, cpu) == None);
-    assert!(rt; cpu.look(tables, machine) == Stock::DrainedOf { group: 1 });
+    takes(rt, tables, machine, cpu, None);
+}
+
+// Takes this front by the books, or none.
+fn takes<N: BootName>(
+    rt: &impl Abort,
+    tables: &Tables<N>,
+    machine: &mut StockSeat,
+    cpu: &mut Cpu<N>,
+    front: Option<Frame>,
+)
+    requires { (machine.old.table ≡ N.stocks.table) × IsMachine machine.old.view }
+    ensures { machine.new ≡ machine.old }
+{
+    assert!(rt; take_by_books(tables, machine, cpu) == front);
 }
 
 // Drops a frame that is fresh, and it is listed.
@@ -108,27 +120,14 @@ fn drops<N: BootName>(rt: &impl Abort, tables: &Tables<N>, cpu: &mut Cpu<N>, fra
 fn pays_inside_a_visit<N: BootName>(rt: &impl Abort, alloc: Global, parts: Parts<256>)
     requires { (parts.frames ≡ N.frames) × (parts.stocks ≡ N.stocks) }
 {
-    let Parts {
-        frames,
-        stocks,
-        mut zone,
-        mut machine,
-        seats,
-        payers,
-    } = parts;
-    let tables = Tables::<N>::new(frames, stocks);
-    let mut cpu = Cpu::<N>::new(alloc, seats.0, payers.0).expect(rt, "memory");
+    let (tables, mut zone, mut machine, mut cpu, second) = set_up::<N, 256>(rt, alloc, parts);
     give_first(rt, &tables, &mut zone, &mut cpu, 256);
-    assert!(rt; cpu.list_len() == 256);
     assert!(rt; take_by_books(&tables, &mut machine, &mut cpu) == None);
     cpu.fill(&tables, &mut machine, 1, 2);
     takes_fronts(rt, &tables, &mut machine, &mut cpu);
-    assert!(rt; cpu.number() == 1);
-    assert!(rt; cpu.list_len() == 256);
+    assert!(rt; cpu.number() == 1 && cpu.list_len() == 256);
     give_back(&tables, &mut zone, &mut cpu);
-    assert!(rt; cpu.is_idle());
-    let _ = cpu.into_seats();
-    let _ = tables.into_tables();
+    give_up(rt, tables, cpu, second);
 }
 
 #[test]

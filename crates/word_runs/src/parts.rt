@@ -1,8 +1,9 @@
 //! Worked rows: what the answers are when calls of processors meet, which no clause says.
 ghost use Rattle.std.specs.Prelude.{◌≡◌, ◌≢◌, ◌+◌, ◌<◌, ◌≤◌, ℕ, [], length};
-ghost use Rattle.frame_word.specs.Seats.{IsInOwnHand, IsOpen, IsShut, IsZoneSeat, NothingPasses, first_zone_view, first_cpu_view};
-ghost use Rattle.stock_word.specs.Stock.{IsMachine, account_of, first_machine, first_processor};
-ghost use Rattle.cpu_part.specs.Cpus.{IsIdle};
+ghost use Rattle.frame_word.specs.Seats.{IsInOwnHand, IsOpen, IsShut, IsZoneSeat, NothingPasses};
+ghost use Rattle.frame_word.specs.Seats.{first_cpu_view, first_zone_view, holds};
+ghost use Rattle.stock_word.specs.Stock.{IsMachine, first_machine, first_processor};
+ghost use Rattle.cpu_part.specs.Cpus.{IsIdle, first_cpu};
 
 use cpu_part::{BootName, Cpu, Dropped, Fast, Tables};
 use frame_word::{Frame, FrameSeat, FrameWords, Get, Put};
@@ -53,6 +54,53 @@ pub(crate) fn make_parts<const F: u32>(
     })
 }
 
+// The two tables, the zone's two seats and both processors, as they are at first.
+pub(crate) fn set_up<N: BootName, const F: u32>(
+    rt: &impl Abort,
+    alloc: Global,
+    parts: Parts<F>,
+) -> (Tables<N>, FrameSeat, StockSeat, Cpu<N>, Cpu<N>)
+    requires { (parts.frames ≡ N.frames) × (parts.stocks ≡ N.stocks) }
+    ensures sizes { (N.frames.frames ≡ F) × (N.frames.cpus ≡ 2) × (N.stocks.cpus ≡ 2) }
+    ensures zone { (result.1.table ≡ N.frames.table) × (result.1.view ≡ first_zone_view F) }
+    ensures machine { (result.2.table ≡ N.stocks.table) × (result.2.view ≡ first_machine) }
+    ensures first { result.3 ≡ first_cpu result.3.seat result.3.stock }
+    ensures first_seat { (result.3.number ≡ 1) × (result.3.seat.view ≡ first_cpu_view 1) }
+    ensures second { result.4 ≡ first_cpu result.4.seat result.4.stock }
+    ensures second_seat { (result.4.number ≡ 2) × (result.4.seat.view ≡ first_cpu_view 2) }
+{
+    let Parts {
+        frames,
+        stocks,
+        zone,
+        machine,
+        seats,
+        payers,
+    } = parts;
+    let first = Cpu::<N>::new(alloc, seats.0, payers.0).expect(rt, "memory");
+    let second = Cpu::<N>::new(alloc, seats.1, payers.1).expect(rt, "memory");
+    (
+        Tables::<N>::new(frames, stocks),
+        zone,
+        machine,
+        first,
+        second,
+    )
+}
+
+// Gives the tables and the processors up, which have nothing left.
+pub(crate) fn give_up<N: BootName>(
+    rt: &impl Abort,
+    tables: Tables<N>,
+    first: Cpu<N>,
+    second: Cpu<N>,
+) {
+    assert!(rt; first.is_idle() && second.is_idle());
+    let _ = first.into_seats();
+    let _ = second.into_seats();
+    let _ = tables.into_tables();
+}
+
 // Hands the front of the list over, and the zone collects it.
 fn take_back<N: BootName>(
     tables: &Tables<N>,
@@ -72,38 +120,40 @@ fn take_back<N: BootName>(
     Some(frame)
 }
 
+// Frame 3 goes to processor 2, which lists it. Processor 1 doesn't get it while it passes.
+fn goes_over<N: BootName>(
+    rt: &impl Abort,
+    tables: &Tables<N>,
+    zone: &mut FrameSeat,
+    first: &mut Cpu<N>,
+    second: &mut Cpu<N>,
+) -> Frame
+    requires zone { IsZoneSeat N.frames zone.old × (zone.old.view ≡ first_zone_view 8) }
+    requires sizes { (N.frames.frames ≡ 8) × (N.frames.cpus ≡ 2) }
+    requires second { second.old ≡ first_cpu second.old.seat second.old.stock }
+    requires number { (second.old.number ≡ 2) × (second.old.seat.view ≡ first_cpu_view 2) }
+    ensures zone { IsZoneSeat N.frames zone.new × IsShut zone.new 2 }
+{
+    let frame = tables.frames.frame(3).expect(rt, "frame 3");
+    second.open(tables, zone);
+    tables.frames.pass_out(zone, frame, 2);
+    assert!(rt; first.get(tables, frame) == Ok(Get::Zero));
+    second.accept(tables, zone, frame);
+    assert!(rt; second.list_len() == 1);
+    second.shut(tables, zone);
+    frame
+}
+
 // Frame 3 goes to processor 2 and comes back.
 fn hands_over<N: BootName>(rt: &impl Abort, alloc: Global, parts: Parts<8>)
     requires { (parts.frames ≡ N.frames) × (parts.stocks ≡ N.stocks) }
 {
-    let Parts {
-        frames,
-        stocks,
-        mut zone,
-        machine: _,
-        seats,
-        payers,
-    } = parts;
-    let tables = Tables::<N>::new(frames, stocks);
-    let mut first = Cpu::<N>::new(alloc, seats.0, payers.0).expect(rt, "memory");
-    let mut second = Cpu::<N>::new(alloc, seats.1, payers.1).expect(rt, "memory");
-    let frame = tables.frames.frame(3).expect(rt, "frame 3");
-    second.open(&tables, &mut zone);
-    tables.frames.pass_out(&mut zone, frame, 2);
-    assert!(rt; first.get(&tables, frame) == Ok(Get::Zero));
-    second.accept(&tables, &mut zone, frame);
-    assert!(rt; second.list_len() == 1);
-    second.shut(&tables, &mut zone);
-    second.open(&tables, &mut zone);
-    let front = take_back(&tables, &mut zone, &mut second);
-    assert!(rt; front == Some(frame));
-    second.shut(&tables, &mut zone);
+    let (tables, mut zone, _, mut first, mut second) = set_up::<N, 8>(rt, alloc, parts);
+    goes_over(rt, &tables, &mut zone, &mut first, &mut second);
+    assert!(rt; second.number() == 2);
+    give_back(&tables, &mut zone, &mut second);
     assert!(rt; second.list_len() == 0);
-    assert!(rt; first.is_idle());
-    assert!(rt; second.is_idle());
-    let _ = first.into_seats();
-    let _ = second.into_seats();
-    let _ = tables.into_tables();
+    give_up(rt, tables, first, second);
 }
 
 #[test]
@@ -113,55 +163,72 @@ fn frame_3_goes_to_processor_2_and_back(rt: HostRuntime) -> Result<(), Fail> {
     Ok(())
 }
 
-// By the books of the machine's seat, nothing is booked to the stock of processor 1.
-fn nothing_booked(machine: &StockSeat)
-    requires { (account_of machine.now.view 1).book ≡ 0 }
+// Hands the oldest fresh frame over with its page, and the zone collects it.
+fn take_fresh<N: BootName>(
+    tables: &Tables<N>,
+    zone: &mut FrameSeat,
+    machine: &mut StockSeat,
+    cpu: &mut Cpu<N>,
+) -> Option<Frame>
+    requires zone { IsZoneSeat N.frames zone.old × IsOpen zone.old cpu.old.number }
+    requires machine { (machine.old.table ≡ N.stocks.table) × IsMachine machine.old.view }
+    requires still { NothingPasses N.frames zone.old cpu.old.seat }
+    ensures machine { (machine.new.table ≡ N.stocks.table) × IsMachine machine.new.view }
 {
-    let _ = machine;
+    let frame = cpu.hand_fresh(tables, zone, machine)?;
+    cpu.collect(tables, zone, frame);
+    Some(frame)
+}
+
+// Group 1, of which the stock has 4 pages, pays for a frame, and group 2 does not.
+fn pays_for<N: BootName>(
+    rt: &impl Abort,
+    tables: &Tables<N>,
+    machine: &mut StockSeat,
+    cpu: &mut Cpu<N>,
+    paid: Frame,
+)
+    requires { (machine.old.table ≡ N.stocks.table) × IsMachine machine.old.view }
+    ensures { machine.new ≡ machine.old }
+{
+    assert!(rt; cpu.last_stock() == Stock::HeldBy { group: 1, pages: 4 });
+    assert!(rt; cpu.alloc_fast(tables, 1) == Fast::Got(paid));
+    assert!(rt; cpu.look(tables, machine).pages() == 3);
+    assert!(rt; cpu.alloc_fast(tables, 2) == Fast::OtherGroup);
+}
+
+// The 3 pages that are left are drained: the frame, which is fresh, can't be dropped without a visit.
+fn is_drained<N: BootName>(
+    rt: &impl Abort,
+    tables: &Tables<N>,
+    machine: &mut StockSeat,
+    cpu: &mut Cpu<N>,
+    paid: Frame,
+)
+    requires machine { (machine.old.table ≡ N.stocks.table) × IsMachine machine.old.view × (1 ≤ N.stocks.cpus) }
+    ensures { (machine.new.table ≡ N.stocks.table) × IsMachine machine.new.view }
+{
+    assert!(rt; tables.stocks.drain(machine, 1) == 3);
+    assert!(rt; cpu.alloc_fast(tables, 1) == Fast::Drained);
+    assert!(rt; cpu.has_fresh(paid));
+    assert!(rt; cpu.drop_fresh(tables, paid) == Dropped::NeedVisit);
 }
 
 // Frames 0 and 1 are given to processor 1, whose stock is filled with 4 pages of group 1, and drained.
 fn pays<N: BootName>(rt: &impl Abort, alloc: Global, parts: Parts<8>)
     requires { (parts.frames ≡ N.frames) × (parts.stocks ≡ N.stocks) }
 {
-    let Parts {
-        frames,
-        stocks,
-        mut zone,
-        mut machine,
-        seats,
-        payers,
-    } = parts;
-    let tables = Tables::<N>::new(frames, stocks);
-    let mut cpu = Cpu::<N>::new(alloc, seats.0, payers.0).expect(rt, "memory");
+    let (tables, mut zone, mut machine, mut cpu, second) = set_up::<N, 8>(rt, alloc, parts);
     let paid = tables.frames.frame(0).expect(rt, "frame 0");
-    let listed = tables.frames.frame(1).expect(rt, "frame 1");
-    cpu.open(&tables, &mut zone);
-    tables.frames.pass_out(&mut zone, paid, 1);
-    cpu.accept(&tables, &mut zone, paid);
-    tables.frames.pass_out(&mut zone, listed, 1);
-    cpu.accept(&tables, &mut zone, listed);
     cpu.fill(&tables, &mut machine, 1, 4);
-    assert!(rt; cpu.last_stock() == Stock::HeldBy { group: 1, pages: 4 });
-    assert!(rt; cpu.alloc_fast(&tables, 1) == Fast::Got(paid));
-    assert!(rt; cpu.look(&tables, &mut machine).pages() == 3);
-    assert!(rt; cpu.alloc_fast(&tables, 2) == Fast::OtherGroup);
-    assert!(rt; tables.stocks.drain(&mut machine, 1) == 3);
-    assert!(rt; cpu.alloc_fast(&tables, 1) == Fast::Drained);
-    assert!(rt; cpu.has_fresh(paid));
-    assert!(rt; cpu.drop_fresh(&tables, paid) == Dropped::NeedVisit);
-    let fresh = cpu.hand_fresh(&tables, &mut zone, &mut machine);
-    assert!(rt; fresh == Some(paid));
-    cpu.collect(&tables, &mut zone, paid);
+    give_first(rt, &tables, &mut zone, &mut cpu, 2);
+    pays_for(rt, &tables, &mut machine, &mut cpu, paid);
+    is_drained(rt, &tables, &mut machine, &mut cpu, paid);
+    assert!(rt; cpu.drops() == 0 && cpu.number() == 1);
+    give_back(&tables, &mut zone, &mut cpu);
+    assert!(rt; take_fresh(&tables, &mut zone, &mut machine, &mut cpu) == Some(paid));
     assert!(rt; tables.stocks.absorb(&mut machine, 1) == 1);
-    nothing_booked(&machine);
-    let front = cpu.hand_front(&tables, &mut zone);
-    assert!(rt; front == Some(listed));
-    cpu.collect(&tables, &mut zone, listed);
-    assert!(rt; cpu.drops() == 0);
-    assert!(rt; cpu.is_idle());
-    let _ = cpu.into_seats();
-    let _ = tables.into_tables();
+    give_up(rt, tables, cpu, second);
 }
 
 #[test]
@@ -239,43 +306,61 @@ fn pin_the_rest<N: BootName>(
     assert!(rt; cpu.get(tables, used.1) == Err(Fault::PinsFull));
 }
 
+// Frames 1, 2 and 4, of each of which the zone has a reference now.
+fn three_in_use<N: BootName>(
+    rt: &impl Abort,
+    tables: &Tables<N>,
+    zone: &mut FrameSeat,
+) -> (Frame, Frame, Frame)
+    requires zone { IsZoneSeat N.frames zone.old × (zone.old.view ≡ first_zone_view 8) × (N.frames.frames ≡ 8) }
+    ensures zone { IsZoneSeat N.frames zone.new × IsShut zone.new 1 }
+    ensures held { 1 ≤ holds zone.new result.0 }
+    ensures frames { (result.0 < N.frames.frames) × (result.1 < N.frames.frames) × (result.2 < N.frames.frames) }
+{
+    let one = tables.frames.frame(1).expect(rt, "frame 1");
+    let other = tables.frames.frame(2).expect(rt, "frame 2");
+    let third = tables.frames.frame(4).expect(rt, "frame 4");
+    tables.frames.unfreeze(zone, one, 1);
+    tables.frames.unfreeze(zone, other, 1);
+    tables.frames.unfreeze(zone, third, 1);
+    (one, other, third)
+}
+
+// The frame is pinned once and goes out of use: it is a back frame.
+fn keeps_back<N: BootName>(
+    rt: &impl Abort,
+    tables: &Tables<N>,
+    zone: &mut FrameSeat,
+    cpu: &mut Cpu<N>,
+    frame: Frame,
+)
+    requires frame { (frame < N.frames.frames) × (1 ≤ holds zone.old frame) }
+    requires zone { IsZoneSeat N.frames zone.old × IsShut zone.old 1 }
+    ensures zone { IsZoneSeat N.frames zone.new × IsShut zone.new 1 }
+{
+    pin(rt, tables, cpu, frame, 1);
+    assert!(rt; tables.frames.put(zone, frame) == Put::Left(1));
+    assert!(rt; cpu.holds(frame));
+    assert!(rt; cpu.put(tables, frame) == Put::Last);
+    assert!(rt; cpu.back_len() == 1);
+}
+
 // 256 pins on two frames, of which the zone has a reference each; then 255 pins and a back frame.
 fn pins_run_out<N: BootName>(rt: &impl Abort, alloc: Global, parts: Parts<8>)
     requires { (parts.frames ≡ N.frames) × (parts.stocks ≡ N.stocks) }
 {
-    let Parts {
-        frames,
-        stocks,
-        mut zone,
-        machine: _,
-        seats,
-        payers,
-    } = parts;
-    let tables = Tables::<N>::new(frames, stocks);
-    let mut cpu = Cpu::<N>::new(alloc, seats.0, payers.0).expect(rt, "memory");
-    let one = tables.frames.frame(1).expect(rt, "frame 1");
-    let other = tables.frames.frame(2).expect(rt, "frame 2");
+    let (tables, mut zone, _, mut cpu, second) = set_up::<N, 8>(rt, alloc, parts);
     let unused = tables.frames.frame(3).expect(rt, "frame 3");
-    let third = tables.frames.frame(4).expect(rt, "frame 4");
-    tables.frames.unfreeze(&mut zone, one, 1);
-    tables.frames.unfreeze(&mut zone, other, 1);
-    tables.frames.unfreeze(&mut zone, third, 1);
+    let (one, other, third) = three_in_use(rt, &tables, &mut zone);
     pin_all(rt, &tables, &mut cpu, (one, other), unused);
     unpin(rt, &tables, &mut cpu, 256);
-    pin(rt, &tables, &mut cpu, one, 1);
-    assert!(rt; tables.frames.put(&mut zone, one) == Put::Left(1));
-    assert!(rt; cpu.holds(one));
-    assert!(rt; cpu.put(&tables, one) == Put::Last);
-    assert!(rt; cpu.back_len() == 1);
+    keeps_back(rt, &tables, &mut zone, &mut cpu, one);
     pin_the_rest(rt, &tables, &mut cpu, (other, third), unused);
     assert!(rt; cpu.number() == 1);
-    cpu.open(&tables, &mut zone);
-    let back = take_last(&tables, &mut zone, &mut cpu);
-    assert!(rt; back == Some(one));
+    give_back(&tables, &mut zone, &mut cpu);
+    assert!(rt; take_last(&tables, &mut zone, &mut cpu) == Some(one));
     unpin(rt, &tables, &mut cpu, 255);
-    assert!(rt; cpu.is_idle());
-    let _ = cpu.into_seats();
-    let _ = tables.into_tables();
+    give_up(rt, tables, cpu, second);
 }
 
 #[test]
@@ -330,6 +415,34 @@ fn beside<N: BootName + Send + Sync, R: Threads + Sync>(
     )
 }
 
+// Frame 5 is in use by the zone; processor 1 has frame 6 and 4 pages of group 1.
+fn begins<N: BootName>(
+    rt: &impl Abort,
+    tables: &Tables<N>,
+    zone: &mut FrameSeat,
+    machine: &mut StockSeat,
+    cpu: &mut Cpu<N>,
+) -> Frame
+    requires zone { IsZoneSeat N.frames zone.old × (zone.old.view ≡ first_zone_view 8) }
+    requires sizes { (N.frames.frames ≡ 8) × (N.frames.cpus ≡ 2) }
+    requires machine { (machine.old.table ≡ N.stocks.table) × (machine.old.view ≡ first_machine) }
+    requires cpu { cpu.old ≡ first_cpu cpu.old.seat cpu.old.stock }
+    requires number { (cpu.old.number ≡ 1) × (cpu.old.seat.view ≡ first_cpu_view 1) }
+    ensures zone { IsZoneSeat N.frames zone.new × IsShut zone.new 1 }
+    ensures machine { (machine.new.table ≡ N.stocks.table) × IsMachine machine.new.view }
+    ensures frame { result < 8 }
+{
+    let used = tables.frames.frame(5).expect(rt, "frame 5");
+    let listed = tables.frames.frame(6).expect(rt, "frame 6");
+    tables.frames.unfreeze(zone, used, 1);
+    cpu.open(tables, zone);
+    tables.frames.pass_out(zone, listed, 1);
+    cpu.accept(tables, zone, listed);
+    cpu.fill(tables, machine, 1, 4);
+    cpu.shut(tables, zone);
+    used
+}
+
 // Processor 1 takes and drops a page beside the pins of processor 2 on a frame in use.
 fn works_beside<N: BootName + Send + Sync, R: Threads + Abort + Sync>(
     rt: &R,
@@ -338,37 +451,13 @@ fn works_beside<N: BootName + Send + Sync, R: Threads + Abort + Sync>(
 )
     requires { (parts.frames ≡ N.frames) × (parts.stocks ≡ N.stocks) }
 {
-    let Parts {
-        frames,
-        stocks,
-        mut zone,
-        mut machine,
-        seats,
-        payers,
-    } = parts;
-    let tables = Tables::<N>::new(frames, stocks);
-    let mut first = Cpu::<N>::new(alloc, seats.0, payers.0).expect(rt, "memory");
-    let mut second = Cpu::<N>::new(alloc, seats.1, payers.1).expect(rt, "memory");
-    let used = tables.frames.frame(5).expect(rt, "frame 5");
-    let listed = tables.frames.frame(6).expect(rt, "frame 6");
-    tables.frames.unfreeze(&mut zone, used, 1);
-    first.open(&tables, &mut zone);
-    tables.frames.pass_out(&mut zone, listed, 1);
-    first.accept(&tables, &mut zone, listed);
-    first.fill(&tables, &mut machine, 1, 4);
-    first.shut(&tables, &mut zone);
-    let (back, last) = beside(rt, &tables, &mut first, &mut second, used);
-    assert!(rt; back == 1000);
-    assert!(rt; !last);
-    assert!(rt; first.drops() == 1000);
-    assert!(rt; first.number() == 1);
+    let (tables, mut zone, mut machine, mut first, mut second) = set_up::<N, 8>(rt, alloc, parts);
+    let used = begins(rt, &tables, &mut zone, &mut machine, &mut first);
+    assert!(rt; beside(rt, &tables, &mut first, &mut second, used) == (1000, false));
+    assert!(rt; first.drops() == 1000 && first.number() == 1);
     assert!(rt; tables.stocks.drain(&mut machine, 1) == 4);
-    first.open(&tables, &mut zone);
-    let front = take_back(&tables, &mut zone, &mut first);
-    assert!(rt; front == Some(listed));
-    first.shut(&tables, &mut zone);
-    assert!(rt; first.is_idle());
-    assert!(rt; second.is_idle());
+    give_back(&tables, &mut zone, &mut first);
+    assert!(rt; first.is_idle() && second.is_idle());
     ends(rt, alloc, tables, (zone, machine), (first, second), used);
 }
 
@@ -470,6 +559,8 @@ fn drop_all<N: BootName>(rt: &impl Abort, tables: &Tables<N>, cpu: &mut Cpu<N>, 
 // Hands over all listed frames, and the zone collects them.
 pub(crate) fn give_back<N: BootName>(tables: &Tables<N>, zone: &mut FrameSeat, cpu: &mut Cpu<N>)
     requires { IsZoneSeat N.frames zone.old × IsShut zone.old cpu.old.number }
+    ensures zone { IsZoneSeat N.frames zone.new × IsOpen zone.new cpu.new.number }
+    ensures still { NothingPasses N.frames zone.new cpu.new.seat }
 {
     cpu.open(tables, zone);
     for _ in 0..256u64 {
@@ -481,30 +572,17 @@ pub(crate) fn give_back<N: BootName>(tables: &Tables<N>, zone: &mut FrameSeat, c
 fn fresh_runs_out<N: BootName>(rt: &impl Abort, alloc: Global, parts: Parts<40>)
     requires { (parts.frames ≡ N.frames) × (parts.stocks ≡ N.stocks) }
 {
-    let Parts {
-        frames,
-        stocks,
-        mut zone,
-        mut machine,
-        seats,
-        payers,
-    } = parts;
-    let tables = Tables::<N>::new(frames, stocks);
-    let mut cpu = Cpu::<N>::new(alloc, seats.0, payers.0).expect(rt, "memory");
-    assert!(rt; cpu.alloc_fast(&tables, 1) == Fast::ListEmpty);
+    let (tables, mut zone, mut machine, mut cpu, second) = set_up::<N, 40>(rt, alloc, parts);
     cpu.fill(&tables, &mut machine, 1, 40);
     give_first(rt, &tables, &mut zone, &mut cpu, 33);
     take(rt, &tables, &mut cpu, 32);
     assert!(rt; cpu.alloc_fast(&tables, 1) == Fast::FreshFull);
     assert!(rt; cpu.fresh_len() == 32);
     drop_all(rt, &tables, &mut cpu, 32);
-    assert!(rt; cpu.list_len() == 33);
-    assert!(rt; cpu.drops() == 32);
-    assert!(rt; cpu.number() == 1);
+    assert!(rt; cpu.list_len() == 33 && cpu.drops() == 32 && cpu.number() == 1);
     give_back(&tables, &mut zone, &mut cpu);
-    assert!(rt; cpu.is_idle());
-    let _ = cpu.into_seats();
-    let _ = tables.into_tables();
+    assert!(rt; cpu.alloc_fast(&tables, 1) == Fast::ListEmpty);
+    give_up(rt, tables, cpu, second);
 }
 
 #[test]
