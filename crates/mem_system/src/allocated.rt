@@ -66,7 +66,7 @@ pub(crate) fn allocate<N: BootName>(
     requires settled { (cpu.old.fresh ≡ []) × (cpu.old.back ≡ []) }
     ensures allocates { BySteps N.frames machine.old cpu.old machine.new cpu.new
         (λ steps. Allocates N.frames sizes path.now order machine.old cpu.old (reply_of machine.new.ledger result) steps
-            machine.new cpu.new) }
+        machine.new cpu.new) }
     ensures groups { HasItsGroups machine.new.ledger result }
     ensures visit { Visits N.frames machine.new cpu.new }
     ensures opened { machine.new.seat.view.opened ≡ machine.old.seat.view.opened }

@@ -9,7 +9,11 @@ use cpu_part::{BootName, Tables};
 use mem_machine::{Machine, Place};
 
 // Where the frame is.
-pub(crate) fn tell_place<N: BootName>(machine: &Machine<N>, tables: &Tables<N>, frame: u32) -> Outcome
+pub(crate) fn tell_place<N: BootName>(
+    machine: &Machine<N>,
+    tables: &Tables<N>,
+    frame: u32,
+) -> Outcome
     requires { frame < N.frames.frames }
     ensures told { TellsPlace machine.now frame (reply_of machine.now.ledger result) }
     ensures groups { HasItsGroups machine.now.ledger result }

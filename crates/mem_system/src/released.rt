@@ -10,8 +10,8 @@ ghost use Rattle.mem_system.specs.Outcomes.{HasItsGroups, reply_of};
 ghost use Rattle.mem_system.specs.Releases.{CutsList, ListsFrame, ReleasesFrame};
 ghost use Rattle.mem_system.specs.Commands.{BySteps};
 
-use crate::outcome::Outcome;
 use crate::kept::find_unit;
+use crate::outcome::Outcome;
 use cpu_part::{BootName, Cpu, Tables};
 use frame_word::Frame;
 use group_tree::fault::Fault;

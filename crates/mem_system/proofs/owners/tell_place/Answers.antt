@@ -12,9 +12,10 @@ returns-in-Charged-clause-told g c =
     let legal = subst AreCharges c.charges.ensures c.tree-groups.ensures.legal in
     let there = keeper_there g.N.BootName.frames g.N.BootName.stocks c.args.machine.now c.unwrap-frame.result c.in-Charged.group
     c.in-Charged.ensures.consistent legal inside (sym c.in-Charged.ensures.place) in
-    let same : c.unwrap-frame.result ≡ c.args.frame = search rules in
-    (subst (λ (f : ℕ). place_of (spot_at c.args.machine.now.spots f) ≡ place.Charged c.in-Charged.group) same (sym c.in-Charged.ensures.place),
-    path_told _ _ there)
+    let same : c.unwrap-frame.result ≡ c.args.frame = search rules in (
+      subst (λ (f : ℕ). place_of (spot_at c.args.machine.now.spots f) ≡ place.Charged c.in-Charged.group) same (sym c.in-Charged.ensures.place),
+      path_told _ _ there,
+    )
 
 pub returns-in-Charged-clause-groups : goal.returns-in-Charged-clause-groups
 returns-in-Charged-clause-groups g c =
