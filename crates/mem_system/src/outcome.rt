@@ -1,7 +1,6 @@
 //! What a command came to, and how it is told.
 
 ghost use Rattle.std.specs.Prelude.{◌≡◌};
-ghost use Rattle.mem_system.specs.declared.outcome.Outcome.TheVariants as outcome;
 ghost use Rattle.mem_system.specs.Outcomes.{HasItsGroups, reply_of};
 
 use crate::command::Reply;
@@ -29,8 +28,7 @@ pub(crate) enum Outcome {
     Refused(Fault),
 }
 
-// The reply of the outcome: the path of a group that it names, and the text of a file. What needs room for a text is told by
-// calls of its own, so that all else makes no such room.
+// The reply of the outcome: the path of a group that it names, and the text of a file.
 #[inline(always)]
 pub(crate) fn tell(charges: &Charges, outcome: Outcome) -> Reply
     requires { HasItsGroups charges.now outcome }
@@ -40,47 +38,24 @@ pub(crate) fn tell(charges: &Charges, outcome: Outcome) -> Reply
         Outcome::Group(group) => Reply::Group(group),
         Outcome::Frame(frame) => Reply::Frame(frame),
         Outcome::Done => Reply::Done,
-        Outcome::Text(group, file) => tell_text(charges, group, file),
+        Outcome::Text(group, file) => match file_text(charges, group, file) {
+            Ok(text) => Reply::Text(text),
+            Err(fault) => Reply::Refused(fault),
+        },
         Outcome::Free => Reply::Free,
         Outcome::Lent(cpu) => Reply::Lent(cpu),
-        Outcome::Charged(group) => tell_charged(charges, group),
+        Outcome::Charged(group) => {
+            let path = *charges.tree().path_of(group);
+            Reply::Charged { group, path }
+        }
         Outcome::Marked => Reply::Marked,
         Outcome::Active => Reply::Active,
         Outcome::Left(left) => Reply::Left(left),
         Outcome::Returned => Reply::Returned,
-        Outcome::OverLimit(group) => tell_over_limit(charges, group),
+        Outcome::OverLimit(group) => {
+            let path = *charges.tree().path_of(group);
+            Reply::OverLimit { group, path }
+        }
         Outcome::Refused(fault) => Reply::Refused(fault),
     }
-}
-
-// The text of the file of the group, which isn't the root.
-#[inline(never)]
-fn tell_text(charges: &Charges, group: GroupId, file: File) -> Reply
-    requires { HasItsGroups charges.now (outcome.Text group file) }
-    ensures { result ≡ reply_of charges.now (outcome.Text group file) }
-{
-    match file_text(charges, group, file) {
-        Ok(text) => Reply::Text(text),
-        Err(fault) => Reply::Refused(fault),
-    }
-}
-
-// The group that a frame is charged to, with its path.
-#[inline(never)]
-fn tell_charged(charges: &Charges, group: GroupId) -> Reply
-    requires { HasItsGroups charges.now (outcome.Charged group) }
-    ensures { result ≡ reply_of charges.now (outcome.Charged group) }
-{
-    let path = *charges.tree().path_of(group);
-    Reply::Charged { group, path }
-}
-
-// The group whose limit has no room, with its path.
-#[inline(never)]
-fn tell_over_limit(charges: &Charges, group: GroupId) -> Reply
-    requires { HasItsGroups charges.now (outcome.OverLimit group) }
-    ensures { result ≡ reply_of charges.now (outcome.OverLimit group) }
-{
-    let path = *charges.tree().path_of(group);
-    Reply::OverLimit { group, path }
 }
