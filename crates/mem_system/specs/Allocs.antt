@@ -1,8 +1,7 @@
 -- What an Alloc does, and what it answers.
-use Rattle.std.specs.Prelude.{◌≡◌, ◌≢◌, ℕ, zero, ◌<◌, ◌≤◌, Option, Some, None, Result, Ok, Err, List, [], ◌∷◌}
+use Rattle.std.specs.Prelude.{◌≡◌, ◌≢◌, ℕ, zero, ◌<◌, ◌≤◌, Some, None, Result, Ok, Err, List, [], ◌∷◌}
 use Rattle.frame_word.specs.Seats.{KnownTable}
 use Rattle.group_tree.specs.declared.fault.Fault.TheVariants as fault
-use Rattle.group_tree.specs.declared.group.Group.{Group}
 use Rattle.group_tree.specs.Groups.{number_at, path_of}
 use Rattle.cpu_part.specs.Cpus.{KnownCpu}
 use Rattle.zone_sizes.specs.declared.config.Config.{Config}
@@ -47,12 +46,6 @@ Allocates t sizes path order m c (Refused fault.BadOrder) steps n d = HasBadOrde
 Allocates t sizes path order m c (Refused fault.NoFrames) steps n d = AllocatesFor t sizes path order (Err NoFrames) m c steps n d
 Allocates t sizes path order m c (Refused fault.Killed) steps n d = AllocatesFor t sizes path order (Err Killed) m c steps n d
 Allocates t sizes path order m c other steps n d = ⊥
-
--- how a refusal is told: with the path of the group whose limit has no room
-abbrev pub TellsCause : List Group → AllocFault → Reply → Type 0
-TellsCause groups (Over g) reply = (text : List ℕ) × (reply ≡ OverLimit g text) × (path_of groups g ≡ Some text)
-TellsCause groups NoFrames reply = reply ≡ Refused fault.NoFrames
-TellsCause groups Killed reply = reply ≡ Refused fault.Killed
 
 -- the fresh frames after an allocation of this order: the frame that it answered, where it is a single one
 abbrev pub FreshOf : Reply → ℕ → List ℕ → Type 0

@@ -10,7 +10,6 @@ use Rattle.cpu_part.specs.Cpus.{KnownCpu}
 use Rattle.zone_sizes.specs.declared.config.Config.{Config}
 use Rattle.step_rules.specs.After.{Run}
 use Rattle.mem_machine.specs.Machines.{KnownMachine, Makes}
-use Rattle.mem_machine.specs.Local.{IsLocalRun, local_of}
 use Rattle.mem_machine.specs.Stocks.{DrainsAllBelow}
 use Rattle.mem_machine.specs.Settling.{Settles, settle_steps}
 use Rattle.mem_machine.specs.Steps.{Drain, open_steps, shut_steps, make_steps, remove_steps, set_max_steps, drain_stocks_steps}

@@ -5,6 +5,7 @@ pub mod Ends
 pub mod Files
 pub mod Kept
 pub mod Leaves
+pub mod Outcomes
 pub mod Owners
 pub mod Releases
 pub mod Shown

@@ -6,34 +6,19 @@ ghost use Rattle.group_tree.specs.Groups.{has_group};
 ghost use Rattle.mem_machine.specs.Machines.{Visits};
 ghost use Rattle.mem_alloc.specs.declared.faults.AllocFault.TheVariants as cause_is;
 ghost use Rattle.mem_system.specs.Boots.{IsSizedAs};
-ghost use Rattle.mem_system.specs.Allocs.{Allocates, AllocatesAs, FreshOf, HasFreshFor, TellsCause};
+ghost use Rattle.mem_system.specs.Allocs.{Allocates, AllocatesAs, FreshOf, HasFreshFor};
+ghost use Rattle.mem_system.specs.Outcomes.{HasItsGroups, reply_of};
 ghost use Rattle.mem_system.specs.Commands.{BySteps};
 
-use crate::command::Reply;
+use crate::outcome::Outcome;
 use cpu_part::{BootName, Cpu, Tables};
 use frame_word::Frame;
-use group_charge::charges::Charges;
 use group_tree::fault::Fault;
 use group_tree::group::GroupId;
 use mem_alloc::{AllocFault, alloc_block, alloc_frame};
 use mem_machine::Machine;
 use zone_blocks::order::Order;
 use zone_sizes::config::Config;
-
-// What is answered where nothing was allocated.
-fn tell_cause(charges: &Charges, cause: AllocFault) -> Reply
-    requires { (g : ℕ) → cause ≡ cause_is.Over g → IsTrue (has_group charges.now.groups g) }
-    ensures { TellsCause charges.now.groups cause result }
-{
-    match cause {
-        AllocFault::Over(group) => {
-            let path = *charges.tree().path_of(group);
-            Reply::OverLimit { group, path }
-        }
-        AllocFault::NoFrames => Reply::Refused(Fault::NoFrames),
-        AllocFault::Killed => Reply::Refused(Fault::Killed),
-    }
-}
 
 // Allocates a single frame, or a block of an order above 0, for the group.
 fn allocate_as<N: BootName>(
@@ -74,28 +59,34 @@ pub(crate) fn allocate<N: BootName>(
     sizes: Config,
     path: &[u8],
     order: u32,
-) -> Reply
+) -> Outcome
     requires visit { Visits N.frames machine.old cpu.old }
     requires sizes { IsValidConfig sizes }
     requires sized { IsSizedAs sizes N.frames N.stocks }
     requires settled { (cpu.old.fresh ≡ []) × (cpu.old.back ≡ []) }
     ensures allocates { BySteps N.frames machine.old cpu.old machine.new cpu.new
-        (λ steps. Allocates N.frames sizes path.now order machine.old cpu.old result steps machine.new cpu.new) }
+        (λ steps. Allocates N.frames sizes path.now order machine.old cpu.old (reply_of machine.new.ledger result) steps
+        machine.new cpu.new) }
+    ensures groups { HasItsGroups machine.new.ledger result }
     ensures visit { Visits N.frames machine.new cpu.new }
     ensures opened { machine.new.seat.view.opened ≡ machine.old.seat.view.opened }
     ensures number { cpu.new.number ≡ cpu.old.number }
-    ensures fresh { FreshOf result order cpu.new.fresh }
+    ensures fresh { FreshOf (reply_of machine.new.ledger result) order cpu.new.fresh }
     ensures back { cpu.new.back ≡ [] }
     ensures at_most_high { length cpu.old.list ≤ sizes.high → length cpu.new.list + length cpu.new.fresh ≤ sizes.high }
 {
     let Some(group) = machine.charges().tree().find(path) else {
-        return Reply::Refused(Fault::NoGroup);
+        return Outcome::Refused(Fault::NoGroup);
     };
     let Some(order) = Order::of(order) else {
-        return Reply::Refused(Fault::BadOrder);
+        return Outcome::Refused(Fault::BadOrder);
     };
     match allocate_as(machine, tables, cpu, sizes, group, order) {
-        Ok(frame) => Reply::Frame(frame.number()),
-        Err(cause) => tell_cause(machine.charges(), cause),
+        Ok(frame) => Outcome::Frame(frame.number()),
+        Err(cause) => match cause {
+            AllocFault::Over(group) => Outcome::OverLimit(group),
+            AllocFault::NoFrames => Outcome::Refused(Fault::NoFrames),
+            AllocFault::Killed => Outcome::Refused(Fault::Killed),
+        },
     }
 }

@@ -4,9 +4,10 @@ ghost use Rattle.std.specs.Prelude.{◌≡◌, ◌<◌, MatchResult};
 ghost use Rattle.cpu_part.specs.Cpus.{KnownCpu};
 ghost use Rattle.mem_machine.specs.Machines.{Visits};
 ghost use Rattle.mem_system.specs.Leaves.{IsLeafAt, HasNoLeaf};
+ghost use Rattle.mem_system.specs.Outcomes.{HasItsGroups, reply_of};
 ghost use Rattle.mem_system.specs.Commands.{BySteps, MakesGroup, Removes};
 
-use crate::command::Reply;
+use crate::outcome::Outcome;
 use cpu_part::{BootName, Cpu, Tables};
 use group_charge::charges::Charges;
 use group_tree::fault::Fault;
@@ -14,14 +15,15 @@ use group_tree::group::GroupId;
 use mem_machine::Machine;
 
 // Makes the group of the path.
-pub(crate) fn make_group<N: BootName>(machine: &mut Machine<N>, path: &[u8]) -> Reply
+pub(crate) fn make_group<N: BootName>(machine: &mut Machine<N>, path: &[u8]) -> Outcome
     ensures made { (c : KnownCpu) → BySteps N.frames machine.old c machine.new c
-        (λ steps. MakesGroup machine.old path.now result steps machine.new) }
+        (λ steps. MakesGroup machine.old path.now (reply_of machine.new.ledger result) steps machine.new) }
+    ensures groups { HasItsGroups machine.new.ledger result }
     ensures seat { machine.new.seat ≡ machine.old.seat }
 {
     match machine.make(path) {
-        Ok(group) => Reply::Group(group),
-        Err(fault) => Reply::Refused(fault),
+        Ok(group) => Outcome::Group(group),
+        Err(fault) => Outcome::Refused(fault),
     }
 }
 
@@ -48,21 +50,22 @@ pub(crate) fn remove_group<N: BootName>(
     tables: &Tables<N>,
     cpu: &mut Cpu<N>,
     path: &[u8],
-) -> Reply
+) -> Outcome
     requires { Visits N.frames machine.old cpu.old }
     ensures removed { BySteps N.frames machine.old cpu.old machine.new cpu.new
-        (λ steps. Removes N.frames machine.old path.now result steps machine.new) }
+        (λ steps. Removes N.frames machine.old path.now (reply_of machine.new.ledger result) steps machine.new) }
     ensures cpu { cpu.new ≡ cpu.old }
+    ensures groups { HasItsGroups machine.new.ledger result }
     ensures seat { machine.new.seat ≡ machine.old.seat }
 {
     let group = match find_leaf(machine.charges(), path) {
         Ok(group) => group,
-        Err(fault) => return Reply::Refused(fault),
+        Err(fault) => return Outcome::Refused(fault),
     };
     machine.drain_stocks(tables, group);
     if machine.current(group) > 0 {
-        return Reply::Refused(Fault::Busy);
+        return Outcome::Refused(Fault::Busy);
     }
     machine.remove(tables, cpu, group);
-    Reply::Done
+    Outcome::Done
 }

@@ -5,11 +5,12 @@ ghost use Rattle.group_tree.specs.Groups.{has_group};
 ghost use Rattle.control_files.specs.declared.file.File.TheVariants.{Max};
 ghost use Rattle.control_files.specs.Limit.{ReadsAs};
 ghost use Rattle.cpu_part.specs.Cpus.{KnownCpu};
+ghost use Rattle.mem_system.specs.Outcomes.{HasItsGroups, reply_of};
 ghost use Rattle.mem_system.specs.Files.{Reads, IsFileOf, HasNoFile, RefusesWrite, IsAbove};
 ghost use Rattle.mem_system.specs.Commands.{BySteps, SetsLimit, Writes};
 
-use crate::command::Reply;
-use control_files::file::{File, file_named, file_text};
+use crate::outcome::Outcome;
+use control_files::file::{File, file_named};
 use control_files::limit::{Limit, read_limit};
 use cpu_part::{BootName, Tables};
 use group_charge::charges::Charges;
@@ -33,16 +34,13 @@ fn find_file(charges: &Charges, path: &[u8], name: &[u8]) -> Result<(GroupId, Fi
 }
 
 // The text of the file.
-pub(crate) fn read_file(charges: &Charges, path: &[u8], name: &[u8]) -> Reply
-    ensures { Reads charges.now path.now name.now result }
+pub(crate) fn read_file(charges: &Charges, path: &[u8], name: &[u8]) -> Outcome
+    ensures read { Reads charges.now path.now name.now (reply_of charges.now result) }
+    ensures groups { HasItsGroups charges.now result }
 {
-    let (group, file) = match find_file(charges, path, name) {
-        Ok(found) => found,
-        Err(fault) => return Reply::Refused(fault),
-    };
-    match file_text(charges, group, file) {
-        Ok(text) => Reply::Text(text),
-        Err(fault) => Reply::Refused(fault),
+    match find_file(charges, path, name) {
+        Ok(found) => Outcome::Text(found.0, found.1),
+        Err(fault) => Outcome::Refused(fault),
     }
 }
 
@@ -106,15 +104,16 @@ pub(crate) fn write_file<N: BootName>(
     path: &[u8],
     name: &[u8],
     value: &[u8],
-) -> Reply
+) -> Outcome
     ensures written { (c : KnownCpu) → BySteps N.frames machine.old c machine.new c
-        (λ steps. Writes N.frames machine.old path.now name.now value.now result steps machine.new) }
+        (λ steps. Writes N.frames machine.old path.now name.now value.now (reply_of machine.new.ledger result) steps machine.new) }
+    ensures groups { HasItsGroups machine.new.ledger result }
     ensures seat { machine.new.seat ≡ machine.old.seat }
 {
     let (group, limit) = match find_limit(machine.charges(), path, name, value) {
         Ok(found) => found,
-        Err(fault) => return Reply::Refused(fault),
+        Err(fault) => return Outcome::Refused(fault),
     };
     set_limit(machine, tables, group, limit);
-    Reply::Done
+    Outcome::Done
 }

@@ -4,9 +4,10 @@ ghost use Rattle.std.specs.Prelude.{◌≡◌, ◌≢◌, ◌<◌, None, MatchOp
 ghost use Rattle.cpu_part.specs.Cpus.{KnownCpu};
 ghost use Rattle.mem_machine.specs.Machines.{home_of};
 ghost use Rattle.mem_system.specs.Kept.{TouchesFrame, NotesDirt};
+ghost use Rattle.mem_system.specs.Outcomes.{HasItsGroups, reply_of};
 ghost use Rattle.mem_system.specs.Commands.{BySteps};
 
-use crate::command::Reply;
+use crate::outcome::Outcome;
 use cpu_part::{BootName, Tables};
 use frame_word::Frame;
 use group_tree::fault::Fault;
@@ -35,18 +36,19 @@ pub(crate) fn touch_frame<N: BootName>(
     machine: &mut Machine<N>,
     tables: &Tables<N>,
     frame: u32,
-) -> Reply
+) -> Outcome
     requires { frame < N.frames.frames }
     ensures touched { (c : KnownCpu) → BySteps N.frames machine.old c machine.new c
-        (λ steps. TouchesFrame machine.old frame result steps machine.new) }
+        (λ steps. TouchesFrame machine.old frame (reply_of machine.new.ledger result) steps machine.new) }
+    ensures groups { HasItsGroups machine.new.ledger result }
     ensures seat { machine.new.seat ≡ machine.old.seat }
 {
     let Some(frame) = find_unit(machine, tables, frame) else {
-        return Reply::Refused(Fault::NotKept);
+        return Outcome::Refused(Fault::NotKept);
     };
     match machine.touch(frame) {
-        Touched::Marked => Reply::Marked,
-        Touched::Moved => Reply::Active,
+        Touched::Marked => Outcome::Marked,
+        Touched::Moved => Outcome::Active,
     }
 }
 
@@ -56,15 +58,16 @@ pub(crate) fn note_dirt<N: BootName>(
     tables: &Tables<N>,
     frame: u32,
     is_dirty: bool,
-) -> Reply
+) -> Outcome
     requires { frame < N.frames.frames }
     ensures noted { (c : KnownCpu) → BySteps N.frames machine.old c machine.new c
-        (λ steps. NotesDirt is_dirty machine.old frame result steps machine.new) }
+        (λ steps. NotesDirt is_dirty machine.old frame (reply_of machine.new.ledger result) steps machine.new) }
+    ensures groups { HasItsGroups machine.new.ledger result }
     ensures seat { machine.new.seat ≡ machine.old.seat }
 {
     let Some(frame) = find_unit(machine, tables, frame) else {
-        return Reply::Refused(Fault::NotKept);
+        return Outcome::Refused(Fault::NotKept);
     };
     machine.set_dirty(frame, is_dirty);
-    Reply::Done
+    Outcome::Done
 }

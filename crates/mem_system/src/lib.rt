@@ -13,6 +13,7 @@ mod files;
 mod gates;
 mod kept;
 mod locked;
+mod outcome;
 mod owners;
 mod released;
 mod resting;

@@ -1,24 +1,30 @@
 //! Where a frame is.
 
 ghost use Rattle.std.specs.Prelude.{◌<◌};
+ghost use Rattle.mem_system.specs.Outcomes.{HasItsGroups, reply_of};
 ghost use Rattle.mem_system.specs.Owners.{TellsPlace};
 
-use crate::command::Reply;
+use crate::outcome::Outcome;
 use cpu_part::{BootName, Tables};
 use mem_machine::{Machine, Place};
 
-// Where the frame is, with the path of the group that it is charged to.
-pub(crate) fn tell_place<N: BootName>(machine: &Machine<N>, tables: &Tables<N>, frame: u32) -> Reply
+// Where the frame is.
+pub(crate) fn tell_place<N: BootName>(
+    machine: &Machine<N>,
+    tables: &Tables<N>,
+    frame: u32,
+) -> Outcome
     requires { frame < N.frames.frames }
-    ensures { TellsPlace machine.now frame result }
+    ensures told { TellsPlace machine.now frame (reply_of machine.now.ledger result) }
+    ensures groups { HasItsGroups machine.now.ledger result }
 {
     let frame = tables.frames.frame(frame).unwrap();
     match machine.place(frame) {
-        Place::Free => Reply::Free,
-        Place::Lent(cpu) => Reply::Lent(cpu),
+        Place::Free => Outcome::Free,
+        Place::Lent(cpu) => Outcome::Lent(cpu),
         Place::Charged(group) => {
-            let path = *machine.charges().tree().path_of(group);
-            Reply::Charged { group, path }
+            let _groups = machine.charges().tree();
+            Outcome::Charged(group)
         }
     }
 }

@@ -6,11 +6,12 @@ ghost use Rattle.step_rules.specs.declared.phase.ChargedUnit.{ChargedUnit};
 ghost use Rattle.mem_machine.specs.declared.spot.Spot.TheVariants.{Free, Head};
 ghost use Rattle.mem_machine.specs.Spots.{spot_at};
 ghost use Rattle.mem_machine.specs.Machines.{Visits};
+ghost use Rattle.mem_system.specs.Outcomes.{HasItsGroups, reply_of};
 ghost use Rattle.mem_system.specs.Releases.{CutsList, ListsFrame, ReleasesFrame};
 ghost use Rattle.mem_system.specs.Commands.{BySteps};
 
-use crate::command::Reply;
 use crate::kept::find_unit;
+use crate::outcome::Outcome;
 use cpu_part::{BootName, Cpu, Tables};
 use frame_word::Frame;
 use group_tree::fault::Fault;
@@ -80,13 +81,14 @@ pub(crate) fn release_frame<N: BootName>(
     cpu: &mut Cpu<N>,
     sizes: Config,
     frame: u32,
-) -> Reply
+) -> Outcome
     requires visit { Visits N.frames machine.old cpu.old }
     requires sizes { IsValidConfig sizes }
     requires frame { frame < N.frames.frames }
     requires none_fresh { cpu.old.fresh ≡ [] }
     ensures released { BySteps N.frames machine.old cpu.old machine.new cpu.new
-        (λ steps. ReleasesFrame sizes frame machine.old cpu.old result steps machine.new cpu.new) }
+        (λ steps. ReleasesFrame sizes frame machine.old cpu.old (reply_of machine.new.ledger result) steps machine.new cpu.new) }
+    ensures groups { HasItsGroups machine.new.ledger result }
     ensures visit { Visits N.frames machine.new cpu.new }
     ensures opened { machine.new.seat.view.opened ≡ machine.old.seat.view.opened }
     ensures number { cpu.new.number ≡ cpu.old.number }
@@ -94,16 +96,16 @@ pub(crate) fn release_frame<N: BootName>(
     ensures at_most_high { length cpu.old.list ≤ sizes.high → length cpu.new.list ≤ sizes.high }
 {
     let Some(frame) = find_unit(machine, tables, frame) else {
-        return Reply::Refused(Fault::NotKept);
+        return Outcome::Refused(Fault::NotKept);
     };
     let is_single = is_single(machine, frame);
     match machine.release(tables, cpu, frame) {
-        Released::Left(left) => Reply::Left(left),
+        Released::Left(left) => Outcome::Left(left),
         Released::Returned => {
             if is_single {
                 list_frame(machine, tables, cpu, sizes, frame);
             }
-            Reply::Returned
+            Outcome::Returned
         }
     }
 }

@@ -5,6 +5,7 @@ ghost use Rattle.frame_word.specs.Seats.{NothingPasses};
 ghost use Rattle.zone_sizes.specs.Config.{IsValidConfig};
 ghost use Rattle.mem_machine.specs.Machines.{Visits};
 ghost use Rattle.mem_system.specs.Boots.{IsQuiet, IsSizedAs};
+ghost use Rattle.mem_system.specs.Outcomes.{HasItsGroups, reply_of};
 ghost use Rattle.mem_system.specs.Commands.{BySteps, FreshAfter, IsOfZone, Obeys, Serves};
 
 use crate::allocated::allocate;
@@ -13,6 +14,7 @@ use crate::directories::{make_group, remove_group};
 use crate::files::{read_file, write_file};
 use crate::kept::{note_dirt, touch_frame};
 use crate::locked::Locked;
+use crate::outcome::{Outcome, tell};
 use crate::owners::tell_place;
 use crate::released::release_frame;
 use cpu_part::{BootName, Cpu, Tables};
@@ -27,18 +29,19 @@ fn obey<N: BootName>(
     cpu: &mut Cpu<N>,
     sizes: Config,
     cmd: &Cmd<'_>,
-) -> Reply
+) -> Outcome
     requires zone { IsOfZone N.frames cmd.now }
     requires sizes { IsValidConfig sizes }
     requires sized { IsSizedAs sizes N.frames N.stocks }
     requires visit { Visits N.frames machine.old cpu.old }
     requires settled { (cpu.old.fresh ≡ []) × (cpu.old.back ≡ []) }
     ensures obeyed { BySteps N.frames machine.old cpu.old machine.new cpu.new
-        (λ steps. Obeys N.frames sizes cmd.now machine.old cpu.old result steps machine.new cpu.new) }
+        (λ steps. Obeys N.frames sizes cmd.now machine.old cpu.old (reply_of machine.new.ledger result) steps machine.new cpu.new) }
+    ensures groups { HasItsGroups machine.new.ledger result }
     ensures visit { Visits N.frames machine.new cpu.new }
     ensures opened { machine.new.seat.view.opened ≡ machine.old.seat.view.opened }
     ensures number { cpu.new.number ≡ cpu.old.number }
-    ensures settled { FreshAfter cmd.now result cpu.new.fresh × (cpu.new.back ≡ []) }
+    ensures settled { FreshAfter cmd.now (reply_of machine.new.ledger result) cpu.new.fresh × (cpu.new.back ≡ []) }
     ensures at_most_high { length cpu.old.list ≤ sizes.high → length cpu.new.list + length cpu.new.fresh ≤ sizes.high }
 {
     match cmd {
@@ -46,7 +49,7 @@ fn obey<N: BootName>(
         Cmd::Rmdir { path } => remove_group(machine, tables, cpu, path),
         Cmd::Write { path, file, value } => write_file(machine, tables, path, file, value),
         Cmd::Read { path, file } => read_file(machine.charges(), path, file),
-        Cmd::Settle => Reply::Done,
+        Cmd::Settle => Outcome::Done,
         Cmd::Owner { frame } => tell_place(machine, tables, *frame),
         Cmd::Touch { frame } => touch_frame(machine, tables, *frame),
         Cmd::Dirty { frame } => note_dirt(machine, tables, *frame, true),
@@ -76,7 +79,7 @@ pub fn serve<N: BootName>(
 {
     locked.machine.open(tables, cpu);
     locked.machine.settle(tables, cpu);
-    let reply = obey(&mut locked.machine, tables, cpu, locked.sizes, cmd);
+    let outcome = obey(&mut locked.machine, tables, cpu, locked.sizes, cmd);
     locked.machine.shut(tables, cpu);
-    reply
+    tell(locked.machine.charges(), outcome)
 }

@@ -1,13 +1,25 @@
-use Rattle.std.proofs.Common.{◌<◌, rules, ap, sym, ◌∙◌, subst}
-use Rattle.group_charge.specs.Charges.{Ledger, AreCharges}
-use Rattle.group_tree.specs.Groups.{has_group}
+use Rattle.std.proofs.Common.{◌≡◌, ℕ, ◌<◌, rules, sym, subst}
+use Rattle.group_charge.specs.Charges.{AreCharges}
+use Rattle.mem_machine.specs.declared.spot.Place.TheVariants as place
+use Rattle.mem_machine.specs.Spots.{spot_at, place_of}
 use Rattle.mem_machine.proofs.Keepers.{keeper_there}
+use Rattle.mem_system.proofs.Telling.{path_told}
 use Rattle.mem_system.proofs.owners.tell_place.Goals as goal
 
-pub path_of-path-requires : goal.path_of-path-requires
-path_of-path-requires g c =
+pub returns-in-Charged-clause-told : goal.returns-in-Charged-clause-told
+returns-in-Charged-clause-told g c =
     let inside : c.unwrap-frame.result < g.N.BootName.frames.frames = search rules in
-    let legal = subst AreCharges c.charges.ensures c.tree.ensures.legal in
-    ap (λ l. has_group l c.in-Charged.group) (c.tree.ensures.tree ∙ ap (λ (l : Ledger). l.groups) c.charges.ensures)
-    ∙ keeper_there g.N.BootName.frames g.N.BootName.stocks c.args.machine.now c.unwrap-frame.result c.in-Charged.group c.in-Charged.ensures.consistent legal
+    let legal = subst AreCharges c.charges.ensures c.tree-groups.ensures.legal in
+    let there = keeper_there g.N.BootName.frames g.N.BootName.stocks c.args.machine.now c.unwrap-frame.result c.in-Charged.group
+    c.in-Charged.ensures.consistent legal inside (sym c.in-Charged.ensures.place) in
+    let same : c.unwrap-frame.result ≡ c.args.frame = search rules in (
+      subst (λ (f : ℕ). place_of (spot_at c.args.machine.now.spots f) ≡ place.Charged c.in-Charged.group) same (sym c.in-Charged.ensures.place),
+      path_told _ _ there,
+    )
+
+pub returns-in-Charged-clause-groups : goal.returns-in-Charged-clause-groups
+returns-in-Charged-clause-groups g c =
+    let inside : c.unwrap-frame.result < g.N.BootName.frames.frames = search rules in
+    let legal = subst AreCharges c.charges.ensures c.tree-groups.ensures.legal in
+    keeper_there g.N.BootName.frames g.N.BootName.stocks c.args.machine.now c.unwrap-frame.result c.in-Charged.group c.in-Charged.ensures.consistent legal
     inside (sym c.in-Charged.ensures.place)
