@@ -28,7 +28,10 @@ pub fn write_reply(reply: &Reply, text: &mut String) -> Result<(), AllocError>
         Reply::Left(references) => write_number("left ", *references, text),
         Reply::Returned => text.push_str("returned\n"),
         Reply::OverLimit { group, path } => write_over_limit(*group, path, text),
-        Reply::Refused(fault) => write_refusal(fault, text),
+        Reply::Refused(fault) => {
+            let fault = *fault;
+            write_refusal(&fault, text)
+        }
     }
 }
 
