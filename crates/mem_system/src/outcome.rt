@@ -9,22 +9,35 @@ use group_charge::charges::Charges;
 use group_tree::fault::Fault;
 use group_tree::group::GroupId;
 
-// What a command came to: a reply without its texts, so that it is small while the visit is shut.
-#[derive(Clone, Copy)]
-pub(crate) enum Outcome {
+/// What a command came to: a `Reply` without its texts, which the charges tell while the lock is held. It is small, so whoever
+/// writes a reply at once needs no room for a path.
+#[derive(Clone, Copy, Debug, PartialEq, Eq)]
+pub enum Outcome {
+    /// The group that was made.
     Group(GroupId),
+    /// The first frame of what was allocated.
     Frame(u32),
+    /// It was done.
     Done,
-    // The text of this file of the group.
+    /// The text of this file of the group.
     Text(GroupId, File),
+    /// The frame is free.
     Free,
+    /// The frame is lent to this processor.
     Lent(u32),
+    /// The frame is charged to this group.
     Charged(GroupId),
+    /// The unit is marked now, on the inactive list of its group.
     Marked,
+    /// The unit stands at the newest end of the active list of its group now, unmarked.
     Active,
+    /// So many references of processors are left on the unit: it stays charged, and isn't kept any more.
     Left(u64),
+    /// The unit came back: its pages are off the charge of its group.
     Returned,
+    /// A limit has no room: that of this group.
     OverLimit(GroupId),
+    /// It is refused, for this reason.
     Refused(Fault),
 }
 

@@ -11,6 +11,7 @@ use crate::gates::{Gate, NoGate};
 use crate::locked::Locked;
 use crate::serving::serve;
 use cpu_part::{BootName, Cpu, Tables};
+use group_charge::charges::Charges;
 use group_tree::group::GroupId;
 use std::alloc::{AllocError, Global};
 use std::sync::{Mutex, Wait};
@@ -44,6 +45,13 @@ impl<N: BootName> Locked<N> {
         ensures quiet { IsQuiet N.frames N.stocks self.now }
     {
         self.machine.charges().tree().find(path)
+    }
+
+    /// The charges of the groups, and the tree of their paths and limits.
+    pub fn charges(&self) -> &Charges
+        ensures { result.now ≡ self.now.machine.ledger }
+    {
+        self.machine.charges()
     }
 }
 

@@ -7,5 +7,5 @@ mod replies;
 mod steps;
 
 pub use refusals::write_refusal;
-pub use replies::write_reply;
+pub use replies::{write_outcome, write_reply};
 pub use steps::{write_fast, write_get, write_listed, write_put, write_settled};

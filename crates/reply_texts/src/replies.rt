@@ -2,13 +2,18 @@
 
 ghost use Rattle.std.specs.Prelude.{◌≡◌, ◌++◌, IfOk};
 ghost use Rattle.std.specs.String.{string_bytes};
+ghost use Rattle.mem_system.specs.declared.outcome.Outcome.TheVariants.{Text};
+ghost use Rattle.mem_system.specs.Outcomes.{HasItsGroups, reply_of};
 ghost use Rattle.reply_texts.specs.Replies.{path_text, reply_text};
 
 use crate::numbers::write_number;
 use crate::refusals::{write_over_limit, write_refusal};
+use control_files::file::{File, file_text};
+use group_charge::charges::Charges;
+use group_tree::group::GroupId;
 use group_tree::path::PathText;
 use machine_texts::push_characters;
-use mem_system::Reply;
+use mem_system::{Outcome, Reply};
 use std::alloc::AllocError;
 
 /// Adds what is written for a reply, with the line feed of each of its lines. It fails only for want of memory.
@@ -32,6 +37,53 @@ pub fn write_reply(reply: &Reply, text: &mut String) -> Result<(), AllocError>
             let fault = *fault;
             write_refusal(&fault, text)
         }
+    }
+}
+
+/// Adds what is written for the reply that these charges tell of an outcome: the same text as `write_reply` of it, with no reply
+/// made. It fails only for want of memory.
+pub fn write_outcome(
+    charges: &Charges,
+    outcome: &Outcome,
+    text: &mut String,
+) -> Result<(), AllocError>
+    requires { HasItsGroups charges.now outcome.now }
+    ensures { IfOk result (λ _. string_bytes text.new ≡ string_bytes text.old ++ reply_text (reply_of charges.now outcome.now)) }
+{
+    match *outcome {
+        Outcome::Group(group) => write_number("group ", u64::from(group.number()), text),
+        Outcome::Frame(number) => write_number("frame ", u64::from(number), text),
+        Outcome::Done => text.push_str("ok\n"),
+        Outcome::Text(group, file) => write_file(charges, group, file, text),
+        Outcome::Free => text.push_str("free\n"),
+        Outcome::Lent(cpu) => write_number("cpu ", u64::from(cpu), text),
+        Outcome::Charged(group) => write_path(charges.tree().path_of(group), text),
+        Outcome::Marked => text.push_str("marked\n"),
+        Outcome::Active => text.push_str("active\n"),
+        Outcome::Left(references) => write_number("left ", references, text),
+        Outcome::Returned => text.push_str("returned\n"),
+        Outcome::OverLimit(group) => {
+            write_over_limit(group, charges.tree().path_of(group), text)
+        }
+        Outcome::Refused(fault) => write_refusal(&fault, text),
+    }
+}
+
+// The text of a file of a group that is there and isn't the root.
+#[inline(never)]
+fn write_file(
+    charges: &Charges,
+    group: GroupId,
+    file: File,
+    text: &mut String,
+) -> Result<(), AllocError>
+    requires { HasItsGroups charges.now (Text group file) }
+    ensures { IfOk result (λ _. string_bytes text.new
+        ≡ string_bytes text.old ++ reply_text (reply_of charges.now (Text group file))) }
+{
+    match file_text(charges, group, file) {
+        Ok(told) => push_characters(text, told.as_bytes()),
+        Err(fault) => write_refusal(&fault, text),
     }
 }
 

@@ -10,13 +10,14 @@ ghost use Rattle.script_replay.specs.Ranges.{NamesInRange};
 use crate::unlocked::{get, lists, put};
 use cpu_part::{BootName, Cpu, Fast, Tables};
 use group_tree::fault::Fault;
-use mem_system::{Cmd, Locked, blocks, serve, show};
-use reply_texts::{write_fast, write_listed, write_refusal, write_reply, write_settled};
+use mem_system::{Cmd, Locked, blocks, carry_out, show};
+use reply_texts::{write_fast, write_listed, write_outcome, write_refusal, write_settled};
 use script_lines::line::Command;
 use std::alloc::{AllocError, Global};
 
 // Serves a command and adds what it is answered. Where memory is wanting the command was served all the same. Each text is
-// written where the answer is made: a reply has room for a path of 512 bytes, and to hand one on is to copy it.
+// written where the answer is made, and of a command under the lock from its outcome: a reply would have room for a path of
+// 512 bytes.
 pub(crate) fn answer_text<N: BootName>(
     alloc: Global,
     locked: &mut Locked<N>,
@@ -71,7 +72,8 @@ fn served<N: BootName>(
     ensures { IfOk result (λ _. TellsAnswer (λ said. RepliesServed N.frames cmd.now locked.old cpu.old said locked.new cpu.new)
         (string_bytes text.old) (string_bytes text.new)) }
 {
-    write_reply(&serve(locked, tables, cpu, cmd), text)
+    let outcome = carry_out(locked, tables, cpu, cmd);
+    write_outcome(locked.charges(), &outcome, text)
 }
 
 // Settles the processor.
@@ -84,7 +86,7 @@ fn settle<N: BootName>(
     ensures { IfOk result (λ _. TellsAnswer (λ said. AnswersSettle N.frames locked.old cpu.old said locked.new cpu.new)
         (string_bytes text.old) (string_bytes text.new)) }
 {
-    let _done = serve(locked, tables, cpu, &Cmd::Settle);
+    let _done = carry_out(locked, tables, cpu, &Cmd::Settle);
     write_settled(text)
 }
 
