@@ -6,7 +6,6 @@ ghost use Rattle.std.specs.Str.Parse.{IsNumeral, digits_value};
 
 /// The number that the word writes in decimal digits, leading zeros allowed. None where the word is empty,
 /// has another byte, or the number is above 2^32 - 1.
-#[inline(never)]
 pub fn number(word: &[u8]) -> Option<u32>
     ensures { SomeIff result (IsNumeral 10 word.now × (digits_value 10 word.now < 2 ^ 32)) (digits_value 10 word.now) }
 {

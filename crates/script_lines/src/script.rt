@@ -255,7 +255,6 @@ fn parse_read(arguments: &[u8]) -> Option<(&[u8], &[u8])>
 }
 
 // What stands before the first space, and what stands after it. None where there is no space.
-#[inline(never)]
 fn first_word(text: &[u8]) -> Option<(&[u8], &[u8])>
     ensures { MatchOption result (All (λ b. b ≢ 32) text.now) (λ p. IsCut text.now p.0.now p.1.now) }
 {
@@ -264,7 +263,6 @@ fn first_word(text: &[u8]) -> Option<(&[u8], &[u8])>
 }
 
 // The text, where it is a path or a file name: some bytes above 32 and below 127.
-#[inline(never)]
 fn path_of(text: &[u8]) -> Option<&[u8]>
     ensures { MatchOption result (¬ IsPathText text.now) (λ path. IsPathText text.now × (path.now ≡ text.now)) }
 {
