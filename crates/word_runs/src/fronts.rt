@@ -5,6 +5,7 @@ ghost use Rattle.frame_word.specs.Seats.{IsZoneSeat, first_zone_view};
 ghost use Rattle.stock_word.specs.Stock.{IsMachine};
 
 use crate::parts::{Parts, give_back, give_first, give_up, make_parts, set_up};
+use crate::rows::same;
 use cpu_part::{BootName, Cpu, Dropped, Fast, MOST_FRESH, Tables};
 use frame_word::{Frame, FrameSeat, Get};
 use std::alloc::Global;
@@ -28,9 +29,9 @@ fn passes<N: BootName>(
     let frame = tables.frames.frame(3).expect(rt, "frame 3");
     second.open(tables, zone);
     tables.frames.pass_out(zone, frame, 2);
-    assert!(rt; tables.frames.get(zone, frame) == Get::Zero);
-    assert!(rt; first.get(tables, frame) == Ok(Get::Zero));
-    assert!(rt; second.get(tables, frame) == Ok(Get::Zero));
+    same(rt, tables.frames.get(zone, frame), Get::Zero);
+    same(rt, first.get(tables, frame), Ok(Get::Zero));
+    same(rt, second.get(tables, frame), Ok(Get::Zero));
 }
 
 // A boot, in which frame 3 passes.
@@ -87,12 +88,12 @@ fn takes_fronts<N: BootName>(
     takes(rt, tables, machine, cpu, Some(zeroth));
     takes(rt, tables, machine, cpu, Some(first));
     takes(rt, tables, machine, cpu, None);
-    assert!(rt; cpu.alloc_fast(tables, 1) == Fast::NoStock);
+    same(rt, cpu.alloc_fast(tables, 1), Fast::NoStock);
     drops(rt, tables, cpu, zeroth);
     takes(rt, tables, machine, cpu, Some(second));
     drops(rt, tables, cpu, first);
     drops(rt, tables, cpu, second);
-    assert!(rt; tables.stocks.drain(machine, 1) == 2);
+    same(rt, tables.stocks.drain(machine, 1), 2);
     takes(rt, tables, machine, cpu, None);
 }
 
@@ -107,13 +108,13 @@ fn takes<N: BootName>(
     requires { (machine.old.table ≡ N.stocks.table) × IsMachine machine.old.view }
     ensures { machine.new ≡ machine.old }
 {
-    assert!(rt; take_by_books(tables, machine, cpu) == front);
+    same(rt, take_by_books(tables, machine, cpu), front);
 }
 
 // Drops a frame that is fresh, and it is listed.
 fn drops<N: BootName>(rt: &impl Abort, tables: &Tables<N>, cpu: &mut Cpu<N>, frame: Frame) {
     assert!(rt; cpu.has_fresh(frame));
-    assert!(rt; cpu.drop_fresh(tables, frame) == Dropped::Listed);
+    same(rt, cpu.drop_fresh(tables, frame), Dropped::Listed);
 }
 
 // 256 frames are listed. None of them is taken before there is a stock.
@@ -122,10 +123,11 @@ fn pays_inside_a_visit<N: BootName>(rt: &impl Abort, alloc: Global, parts: Parts
 {
     let (tables, mut zone, mut machine, mut cpu, second) = set_up::<N, 256>(rt, alloc, parts);
     give_first(rt, &tables, &mut zone, &mut cpu, 256);
-    assert!(rt; take_by_books(&tables, &mut machine, &mut cpu) == None);
+    same(rt, take_by_books(&tables, &mut machine, &mut cpu), None);
     cpu.fill(&tables, &mut machine, 1, 2);
     takes_fronts(rt, &tables, &mut machine, &mut cpu);
-    assert!(rt; cpu.number() == 1 && cpu.list_len() == 256);
+    same(rt, cpu.number(), 1);
+    same(rt, cpu.list_len(), 256);
     give_back(&tables, &mut zone, &mut cpu);
     give_up(rt, tables, cpu, second);
 }
