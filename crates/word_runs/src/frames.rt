@@ -1,35 +1,28 @@
 //! Worked rows: what the answers are when calls meet, which no clause says. Several calls stand in
-//! each row, so that every public call is made once and succeeds.
+//! each row, so that every call whose answer can vary is made once and succeeds.
 ghost use Rattle.std.specs.Prelude.{◌≡◌, ◌<◌};
 ghost use Rattle.frame_word.specs.Seats.{IsZoneSeat, first_cpu_view, first_zone_view};
 
 use crate::rows::same;
 use frame_word::{Frame, FrameSeat, FrameWords, Get, Put};
 use std::process::Abort;
-use std::test::Fail;
 use std::thread::{Threads, join};
 
 #[test]
-fn get_is_full_at_255_references(rt: HostRuntime) -> Result<(), Fail> {
-    let (words, mut zone, _) = FrameWords::new(rt.alloc(), 8, 1)?;
+fn get_is_full_at_255_references(rt: HostRuntime) {
+    let (words, mut zone, _) = FrameWords::new(rt.alloc(), 8, 1).expect(&rt, "memory");
     let frame = words.frame(3).expect(&rt, "frame 3");
     words.unfreeze(&mut zone, frame, 255);
     same(&rt, words.get(&mut zone, frame), Get::Full);
-    Ok(())
 }
 
 // The zone and a processor have a reference each: the zone's freeze comes too early, and then in time.
-fn freeze_early(
-    rt: &impl Abort,
-    words: &FrameWords,
-    zone: &mut FrameSeat,
-    cpu: &mut FrameSeat,
-    frame: Frame,
-)
+fn freeze_early(rt: &impl Abort, words: &FrameWords, zone: &mut FrameSeat, cpu: &mut FrameSeat)
     requires zone { IsZoneSeat words.now zone.old × (zone.old.view ≡ first_zone_view 8) }
     requires cpu { (cpu.old.table ≡ words.now.table) × (cpu.old.view ≡ first_cpu_view 1) }
-    requires sizes { (words.now.frames ≡ 8) × (frame ≡ 3) }
+    requires frames { words.now.frames ≡ 8 }
 {
+    let frame = words.frame(3).expect(rt, "frame 3");
     words.unfreeze(zone, frame, 1);
     same(rt, words.get(cpu, frame), Get::Held);
     same(rt, words.freeze(zone, frame, 1), false);
@@ -39,26 +32,19 @@ fn freeze_early(
 }
 
 #[test]
-fn freeze_waits_for_the_other_seat(rt: HostRuntime) -> Result<(), Fail> {
-    let (words, mut zone, mut cpus) = FrameWords::new(rt.alloc(), 8, 1)?;
-    let frame = words.frame(3).expect(&rt, "frame 3");
+fn freeze_waits_for_the_other_seat(rt: HostRuntime) {
+    let (words, mut zone, mut cpus) = FrameWords::new(rt.alloc(), 8, 1).expect(&rt, "memory");
     let mut cpu = cpus.pop().expect(&rt, "a seat");
-    freeze_early(&rt, &words, &mut zone, &mut cpu, frame);
-    Ok(())
+    freeze_early(&rt, &words, &mut zone, &mut cpu);
 }
 
 // The zone and a processor have a reference each. Whose put is the last has the frame in hand.
-fn put_by_both(
-    rt: &impl Abort,
-    words: &FrameWords,
-    zone: &mut FrameSeat,
-    cpu: &mut FrameSeat,
-    frame: Frame,
-)
+fn put_by_both(rt: &impl Abort, words: &FrameWords, zone: &mut FrameSeat, cpu: &mut FrameSeat)
     requires zone { IsZoneSeat words.now zone.old × (zone.old.view ≡ first_zone_view 8) }
     requires cpu { (cpu.old.table ≡ words.now.table) × (cpu.old.view ≡ first_cpu_view 1) }
-    requires sizes { (words.now.frames ≡ 8) × (frame ≡ 3) }
+    requires frames { words.now.frames ≡ 8 }
 {
+    let frame = words.frame(3).expect(rt, "frame 3");
     words.unfreeze(zone, frame, 1);
     same(rt, words.get(cpu, frame), Get::Held);
     same(rt, words.put(zone, frame), Put::Left(1));
@@ -69,12 +55,10 @@ fn put_by_both(
 }
 
 #[test]
-fn the_last_put_has_the_frame_in_hand(rt: HostRuntime) -> Result<(), Fail> {
-    let (words, mut zone, mut cpus) = FrameWords::new(rt.alloc(), 8, 1)?;
-    let frame = words.frame(3).expect(&rt, "frame 3");
+fn the_last_put_has_the_frame_in_hand(rt: HostRuntime) {
+    let (words, mut zone, mut cpus) = FrameWords::new(rt.alloc(), 8, 1).expect(&rt, "memory");
     let mut cpu = cpus.pop().expect(&rt, "a seat");
-    put_by_both(&rt, &words, &mut zone, &mut cpu, frame);
-    Ok(())
+    put_by_both(&rt, &words, &mut zone, &mut cpu);
 }
 
 // Frame 3 passes for processor 2, which takes it in and later passes it back. The zone collects it.
@@ -96,8 +80,8 @@ fn goes_and_comes(words: &FrameWords, zone: &mut FrameSeat, second: &mut FrameSe
 }
 
 #[test]
-fn frame_3_goes_to_processor_2_and_back(rt: HostRuntime) -> Result<(), Fail> {
-    let (words, mut zone, mut cpus) = FrameWords::new(rt.alloc(), 8, 2)?;
+fn frame_3_goes_to_processor_2_and_back(rt: HostRuntime) {
+    let (words, mut zone, mut cpus) = FrameWords::new(rt.alloc(), 8, 2).expect(&rt, "memory");
     let frame = words.frame(3).expect(&rt, "frame 3");
     let mut second = cpus.pop().expect(&rt, "a seat");
     goes_and_comes(&words, &mut zone, &mut second, frame);
@@ -105,7 +89,6 @@ fn frame_3_goes_to_processor_2_and_back(rt: HostRuntime) -> Result<(), Fail> {
     let last = words.close(zone, cpus);
     same(&rt, last.word(frame), 2);
     same(&rt, (last.visit_word(1), last.visit_word(2)), (0, 1));
-    Ok(())
 }
 
 // Gets the frame a thousand times, puts it where it was held, and tells whether a put was the last.
@@ -144,8 +127,8 @@ fn beside<R: Threads + Sync>(
 }
 
 #[test]
-fn two_getters(rt: HostRuntime) -> Result<(), Fail> {
-    let (words, mut zone, mut cpus) = FrameWords::new(rt.alloc(), 8, 2)?;
+fn two_getters(rt: HostRuntime) {
+    let (words, mut zone, mut cpus) = FrameWords::new(rt.alloc(), 8, 2).expect(&rt, "memory");
     let frame = words.frame(5).expect(&rt, "frame 5");
     let mut one = cpus.pop().expect(&rt, "a seat");
     let mut other = cpus.pop().expect(&rt, "a seat");
@@ -153,5 +136,4 @@ fn two_getters(rt: HostRuntime) -> Result<(), Fail> {
     let last = beside(&rt, &words, &mut one, &mut other, frame);
     same(&rt, last, (false, false));
     same(&rt, words.freeze(&mut zone, frame, 1), true);
-    Ok(())
 }

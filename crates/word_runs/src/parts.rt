@@ -9,10 +9,9 @@ use crate::rows::same;
 use cpu_part::{BootName, Cpu, Dropped, Fast, Tables};
 use frame_word::{Frame, FrameSeat, FrameWords, Get, Put};
 use group_tree::fault::Fault;
-use std::alloc::{AllocError, Global};
+use std::alloc::Global;
 use std::marker::Brand;
 use std::process::Abort;
-use std::test::Fail;
 use std::thread::{Threads, join};
 use stock_word::{Stock, StockSeat, StockWords};
 
@@ -34,25 +33,22 @@ pub(crate) struct Parts<const F: u32> {
     pub ghost second_pays: { (payers.1.table ≡ stocks.table) × (payers.1.view ≡ first_processor 2) },
 }
 
-pub(crate) fn make_parts<const F: u32>(
-    rt: &impl Abort,
-    alloc: Global,
-) -> Result<Parts<F>, AllocError>
+pub(crate) fn make_parts<const F: u32>(rt: &impl Abort, alloc: Global) -> Parts<F>
     requires { 1 ≤ F }
 {
-    let (frames, zone, mut seats) = FrameWords::new(alloc, F, 2)?;
-    let (stocks, machine, mut payers) = StockWords::new(alloc, 2)?;
+    let (frames, zone, mut seats) = FrameWords::new(alloc, F, 2).expect(rt, "memory");
+    let (stocks, machine, mut payers) = StockWords::new(alloc, 2).expect(rt, "memory");
     let second = seats.pop().expect(rt, "the second seat");
     let first = seats.pop().expect(rt, "the first seat");
     let payer = payers.pop().expect(rt, "the second stock seat");
-    Ok(Parts {
+    Parts {
         frames,
         stocks,
         zone,
         machine,
         seats: (first, second),
         payers: (payers.pop().expect(rt, "the first stock seat"), payer),
-    })
+    }
 }
 
 // The two tables, the zone's two seats and both processors, as they are at first.
@@ -87,6 +83,13 @@ pub(crate) fn set_up<N: BootName, const F: u32>(
         first,
         second,
     )
+}
+
+// The frame of this number.
+pub(crate) fn frame_of<N: BootName>(rt: &impl Abort, tables: &Tables<N>, number: u32) -> Frame
+    ensures { (result ≡ number) × (result < N.frames.frames) }
+{
+    tables.frames.frame(number).expect(rt, "a frame")
 }
 
 // Gives a processor up, which has nothing left.
@@ -140,7 +143,7 @@ fn goes_over<N: BootName>(
     requires number { (second.old.number ≡ 2) × (second.old.seat.view ≡ first_cpu_view 2) }
     ensures zone { IsZoneSeat N.frames zone.new × IsShut zone.new 2 }
 {
-    let frame = tables.frames.frame(3).expect(rt, "frame 3");
+    let frame = frame_of(rt, tables, 3);
     second.open(tables, zone);
     tables.frames.pass_out(zone, frame, 2);
     same(rt, first.get(tables, frame), Ok(Get::Zero));
@@ -163,10 +166,9 @@ fn hands_over<N: BootName>(rt: &impl Abort, alloc: Global, parts: Parts<8>)
 }
 
 #[test]
-fn frame_3_goes_to_processor_2_and_back(rt: HostRuntime) -> Result<(), Fail> {
-    let parts = make_parts::<8>(&rt, rt.alloc())?;
+fn frame_3_goes_to_processor_2_and_back(rt: HostRuntime) {
+    let parts = make_parts::<8>(&rt, rt.alloc());
     hands_over::<Brand>(&rt, rt.alloc(), parts);
-    Ok(())
 }
 
 // Hands the oldest fresh frame over with its page, and the zone collects it.
@@ -225,7 +227,7 @@ fn pays<N: BootName>(rt: &impl Abort, alloc: Global, parts: Parts<8>)
     requires { (parts.frames ≡ N.frames) × (parts.stocks ≡ N.stocks) }
 {
     let (tables, mut zone, mut machine, mut cpu, second) = set_up::<N, 8>(rt, alloc, parts);
-    let paid = tables.frames.frame(0).expect(rt, "frame 0");
+    let paid = frame_of(rt, &tables, 0);
     cpu.fill(&tables, &mut machine, 1, 4);
     give_first(rt, &tables, &mut zone, &mut cpu, 2);
     pays_for(rt, &tables, &mut machine, &mut cpu, paid);
@@ -243,10 +245,9 @@ fn pays<N: BootName>(rt: &impl Abort, alloc: Global, parts: Parts<8>)
 }
 
 #[test]
-fn group_1_pays_and_is_drained(rt: HostRuntime) -> Result<(), Fail> {
-    let parts = make_parts::<8>(&rt, rt.alloc())?;
+fn group_1_pays_and_is_drained(rt: HostRuntime) {
+    let parts = make_parts::<8>(&rt, rt.alloc());
     pays::<Brand>(&rt, rt.alloc(), parts);
-    Ok(())
 }
 
 // Pins the frame so many times.
@@ -328,9 +329,9 @@ fn three_in_use<N: BootName>(
     ensures held { 1 ≤ holds zone.new result.0 }
     ensures frames { (result.0 < N.frames.frames) × (result.1 < N.frames.frames) × (result.2 < N.frames.frames) }
 {
-    let one = tables.frames.frame(1).expect(rt, "frame 1");
-    let other = tables.frames.frame(2).expect(rt, "frame 2");
-    let third = tables.frames.frame(4).expect(rt, "frame 4");
+    let one = frame_of(rt, tables, 1);
+    let other = frame_of(rt, tables, 2);
+    let third = frame_of(rt, tables, 4);
     tables.frames.unfreeze(zone, one, 1);
     tables.frames.unfreeze(zone, other, 1);
     tables.frames.unfreeze(zone, third, 1);
@@ -361,7 +362,7 @@ fn pins_run_out<N: BootName>(rt: &impl Abort, alloc: Global, parts: Parts<8>)
     requires { (parts.frames ≡ N.frames) × (parts.stocks ≡ N.stocks) }
 {
     let (tables, mut zone, _, mut cpu, second) = set_up::<N, 8>(rt, alloc, parts);
-    let unused = tables.frames.frame(3).expect(rt, "frame 3");
+    let unused = frame_of(rt, &tables, 3);
     let (one, other, third) = three_in_use(rt, &tables, &mut zone);
     pin_all(rt, &tables, &mut cpu, (one, other), unused);
     unpin(rt, &tables, &mut cpu, 256);
@@ -375,10 +376,9 @@ fn pins_run_out<N: BootName>(rt: &impl Abort, alloc: Global, parts: Parts<8>)
 }
 
 #[test]
-fn pins_are_full_at_256(rt: HostRuntime) -> Result<(), Fail> {
-    let parts = make_parts::<8>(&rt, rt.alloc())?;
+fn pins_are_full_at_256(rt: HostRuntime) {
+    let parts = make_parts::<8>(&rt, rt.alloc());
     pins_run_out::<Brand>(&rt, rt.alloc(), parts);
-    Ok(())
 }
 
 // Processor 1 takes and drops a page of group 1 so many times, and tells how often the page came back.
@@ -443,12 +443,11 @@ fn begins<N: BootName>(
     ensures machine { (machine.new.table ≡ N.stocks.table) × IsMachine machine.new.view }
     ensures frame { result < 8 }
 {
-    let used = tables.frames.frame(5).expect(rt, "frame 5");
-    let listed = tables.frames.frame(6).expect(rt, "frame 6");
+    let used = frame_of(rt, tables, 5);
+    let listed = frame_of(rt, tables, 6);
     tables.frames.unfreeze(zone, used, 1);
     cpu.open(tables, zone);
-    tables.frames.pass_out(zone, listed, 1);
-    cpu.accept(tables, zone, listed);
+    give(tables, zone, cpu, listed);
     cpu.fill(tables, machine, 1, 4);
     cpu.shut(tables, zone);
     used
@@ -479,10 +478,9 @@ fn works_beside<N: BootName + Send + Sync, R: Threads + Abort + Sync>(
 }
 
 #[test]
-fn drops_beside_pins(rt: HostRuntime) -> Result<(), Fail> {
-    let parts = make_parts::<8>(&rt, rt.alloc())?;
+fn drops_beside_pins(rt: HostRuntime) {
+    let parts = make_parts::<8>(&rt, rt.alloc());
     works_beside::<Brand, _>(&rt, rt.alloc(), parts);
-    Ok(())
 }
 
 // The frames' words at the end: the frame in use has the zone's reference.
@@ -584,7 +582,7 @@ pub(crate) fn give_first<N: BootName>(
 {
     cpu.open(tables, zone);
     for n in 0..count {
-        let frame = tables.frames.frame(n).expect(rt, "a frame");
+        let frame = frame_of(rt, tables, n);
         give(tables, zone, cpu, frame);
     }
     cpu.shut(tables, zone);
@@ -593,7 +591,7 @@ pub(crate) fn give_first<N: BootName>(
 // Takes so many frames for group 1.
 fn take<N: BootName>(rt: &impl Abort, tables: &Tables<N>, cpu: &mut Cpu<N>, count: u32) {
     for n in 0..count {
-        let frame = tables.frames.frame(n).expect(rt, "a frame");
+        let frame = frame_of(rt, tables, n);
         same(rt, cpu.alloc_fast(tables, 1), Fast::Got(frame));
     }
 }
@@ -601,7 +599,7 @@ fn take<N: BootName>(rt: &impl Abort, tables: &Tables<N>, cpu: &mut Cpu<N>, coun
 // Drops the frames below this number, which are fresh.
 fn drop_all<N: BootName>(rt: &impl Abort, tables: &Tables<N>, cpu: &mut Cpu<N>, count: u32) {
     for n in 0..count {
-        let frame = tables.frames.frame(n).expect(rt, "a frame");
+        let frame = frame_of(rt, tables, n);
         assert!(rt; cpu.has_fresh(frame));
         same(rt, cpu.drop_fresh(tables, frame), Dropped::Listed);
     }
@@ -639,8 +637,7 @@ fn fresh_runs_out<N: BootName>(rt: &impl Abort, alloc: Global, parts: Parts<40>)
 }
 
 #[test]
-fn fresh_frames_are_full_at_32(rt: HostRuntime) -> Result<(), Fail> {
-    let parts = make_parts::<40>(&rt, rt.alloc())?;
+fn fresh_frames_are_full_at_32(rt: HostRuntime) {
+    let parts = make_parts::<40>(&rt, rt.alloc());
     fresh_runs_out::<Brand>(&rt, rt.alloc(), parts);
-    Ok(())
 }

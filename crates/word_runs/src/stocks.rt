@@ -4,7 +4,6 @@ ghost use Rattle.stock_word.specs.Kinds.{draining};
 
 use crate::rows::same;
 use std::process::Abort;
-use std::test::Fail;
 use std::thread::{Threads, join};
 use stock_word::{Consume, Credit, Stock, StockSeat, StockWords};
 
@@ -37,11 +36,10 @@ fn drained_beside_a_page(
 }
 
 #[test]
-fn drained_with_a_fresh_page(rt: HostRuntime) -> Result<(), Fail> {
-    let (words, mut machine, mut seats) = StockWords::new(rt.alloc(), 1)?;
+fn drained_with_a_fresh_page(rt: HostRuntime) {
+    let (words, mut machine, mut seats) = StockWords::new(rt.alloc(), 1).expect(&rt, "memory");
     let mut seat = seats.pop().expect(&rt, "the seat of processor 1");
     drained_beside_a_page(&rt, &words, &mut machine, &mut seat);
-    Ok(())
 }
 
 // Takes a page of the stock, of whatever group it is, where one is left. Tells whether there was.
@@ -81,11 +79,10 @@ fn takes_both(rt: &impl Abort, words: &StockWords, machine: &mut StockSeat, seat
 }
 
 #[test]
-fn taken_by_the_books(rt: HostRuntime) -> Result<(), Fail> {
-    let (words, mut machine, mut seats) = StockWords::new(rt.alloc(), 2)?;
+fn taken_by_the_books(rt: HostRuntime) {
+    let (words, mut machine, mut seats) = StockWords::new(rt.alloc(), 2).expect(&rt, "memory");
     let mut seat = seats.pop().expect(&rt, "the seat of processor 2");
     takes_both(&rt, &words, &mut machine, &mut seat);
-    Ok(())
 }
 
 // Takes and gives back pages of group 1 until it is told that the stock is drained, or for 100
@@ -163,8 +160,8 @@ fn round<R: Threads + Sync>(
 }
 
 #[test]
-fn drains_beside_consumes_and_credits(rt: HostRuntime) -> Result<(), Fail> {
-    let (words, mut machine, mut seats) = StockWords::new(rt.alloc(), 1)?;
+fn drains_beside_consumes_and_credits(rt: HostRuntime) {
+    let (words, mut machine, mut seats) = StockWords::new(rt.alloc(), 1).expect(&rt, "memory");
     let mut seat = seats.pop().expect(&rt, "the seat of processor 1");
     for _ in 0..200u64 {
         let (machine_after, seat_after, back) = round(&rt, &words, machine, seat);
@@ -176,5 +173,4 @@ fn drains_beside_consumes_and_credits(rt: HostRuntime) -> Result<(), Fail> {
     let closed = words.close(machine, seats);
     same(&rt, closed.stock(1), Stock::DrainedOf { group: 1 });
     same(&rt, closed.reported(1), 0);
-    Ok(())
 }
