@@ -29,16 +29,6 @@ pub payer_first : (w : Words) (s : Seated) (p : ℕ) → s ≡ record { table = 
     → (s.table ≡ w.table) × IsProcessor w s.view × (s.view.fresh ≡ 0)
 payer_first w s p is low high = subst (λ (x : Seated). (x.table ≡ w.table) × IsProcessor w x.view × (x.view.fresh ≡ 0)) (sym is) (refl, (low, high), refl)
 
--- the first seats are all of their table
-seat_at : (t : KnownTable) (p n k : ℕ) (any : KnownSeat) → k < length (first_cpu_seats t.table p n)
-    → (get_or (first_cpu_seats t.table p n) k any).table ≡ t.table
-seat_at t p zero k any lt = absurd (omega arith)
-seat_at t p (suc n) zero any lt = refl
-seat_at t p (suc n) (suc k) any lt = seat_at t (p + 1) n k any (omega arith)
-
-pub seats_at : (t : KnownTable) (p n : ℕ) → All (λ (s : KnownSeat). s.table ≡ t.table) (first_cpu_seats t.table p n)
-seats_at t p n = seat_at t p n
-
 module _ (t : KnownTable) (w : Words) where
   cpus_more : (p n : ℕ) → first_cpus t w p (suc n) ≡ first_cpus t w p n ++ part_at_first t w (p + n) ∷ []
   cpus_more p zero = ap (λ (m : ℕ). part_at_first t w m ∷ []) (let e : p ≡ p + 0 = omega arith in e)
