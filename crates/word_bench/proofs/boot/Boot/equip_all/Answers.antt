@@ -1,6 +1,5 @@
-use Rattle.std.proofs.Common.{◌<◌, length, ap, ◌∙◌, sym, arith, rules}
+use Rattle.std.proofs.Common.{◌<◌, length, ◌∙◌, arith, rules}
 use Rattle.std.proofs.lemmas.List.{length-set}
-use Rattle.cpu_part.specs.Cpus.{KnownCpu}
 use Rattle.word_bench.proofs.Dealing.{left_after}
 use Rattle.word_bench.proofs.boot.Boot.equip_all.Goals as goal
 
