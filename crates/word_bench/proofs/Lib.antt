@@ -1,2 +1,3 @@
 pub mod Boots
+pub mod Dealing
 pub mod Hands

@@ -1,10 +1,10 @@
 //! The tables of a boot with four processors, the zone's seats, and the processors' parts.
-ghost use Rattle.std.specs.Prelude.{◌≡◌, ◌+◌, ◌<◌, ◌≤◌, ℕ, [], IfOk};
-ghost use Rattle.frame_word.specs.Seats.{IsInOwnHand, IsOpen, IsShut, IsZoneSeat, IsCpuSeat, number_of, first_zone_view, first_cpu_view};
-ghost use Rattle.stock_word.specs.Stock.{IsMachine, account_of, no_account, first_machine, first_processor};
-ghost use Rattle.cpu_part.specs.Cpus.{first_cpu};
+ghost use Rattle.std.specs.Prelude.{◌≡◌, ◌+◌, ◌<◌, ◌≤◌, ℕ, [], All, IfOk};
+ghost use Rattle.frame_word.specs.Seats.{IsInOwnHand, IsOpen, IsShut, IsZoneSeat, first_zone_view, first_cpu_seats};
+ghost use Rattle.stock_word.specs.Stock.{IsMachine, account_of, no_account, first_machine, first_seats};
+ghost use Rattle.cpu_part.specs.Cpus.{IsIdle};
+ghost use Rattle.word_bench.specs.Dealt.{first_cpus};
 
-use anyhow::anyhow;
 use cpu_part::{BootName, Cpu, Tables};
 use frame_word::{Frame, FrameSeat, FrameWords};
 use std::alloc::{AllocError, Global};
@@ -12,86 +12,72 @@ use std::marker::PhantomData;
 use std::sync::Wait;
 use stock_word::{StockSeat, StockWords};
 
-/// The seats of one processor at the two tables.
-pub type Seats = (FrameSeat, StockSeat);
-
-/// The tables of so many frames and four processors, and all seats, as they are at first.
+/// The tables of 8 frames and four processors, and all seats, as they are at first.
 #[derive(Drop)]
 pub struct Parts {
     pub frames: FrameWords,
     pub stocks: StockWords,
     pub zone: FrameSeat,
     pub machine: StockSeat,
-    pub first: Seats,
-    pub second: Seats,
-    pub third: Seats,
-    pub fourth: Seats,
+    pub seats: Vec<FrameSeat>,
+    pub payers: Vec<StockSeat>,
     pub ghost sizes: { (frames.frames ≡ 8) × (frames.cpus ≡ 4) × (stocks.cpus ≡ 4) },
     pub ghost zone_is: { (zone.table ≡ frames.table) × (zone.view ≡ first_zone_view 8) },
     pub ghost machine_is: { (machine.table ≡ stocks.table) × (machine.view ≡ first_machine) },
-    pub ghost first_is: { (first.0.table ≡ frames.table) × (first.0.view ≡ first_cpu_view 1) },
-    pub ghost second_is: { (second.0.table ≡ frames.table) × (second.0.view ≡ first_cpu_view 2) },
-    pub ghost third_is: { (third.0.table ≡ frames.table) × (third.0.view ≡ first_cpu_view 3) },
-    pub ghost fourth_is: { (fourth.0.table ≡ frames.table) × (fourth.0.view ≡ first_cpu_view 4) },
-    pub ghost first_pays: { (first.1.table ≡ stocks.table) × (first.1.view ≡ first_processor 1) },
-    pub ghost second_pays: { (second.1.table ≡ stocks.table) × (second.1.view ≡ first_processor 2) },
-    pub ghost third_pays: { (third.1.table ≡ stocks.table) × (third.1.view ≡ first_processor 3) },
-    pub ghost fourth_pays: { (fourth.1.table ≡ stocks.table) × (fourth.1.view ≡ first_processor 4) },
+    pub ghost seats_are: { seats.items ≡ first_cpu_seats frames.table 1 4 },
+    pub ghost payers_are: { payers.items ≡ first_seats stocks.table 1 4 },
 }
 
 impl Parts {
-    pub fn new(alloc: Global) -> anyhow::Result<Parts> {
-        let (frames, zone, mut seats) = FrameWords::new(alloc, 8, 4)?;
-        let (stocks, machine, mut payers) = StockWords::new(alloc, 4)?;
-        let (Some(s), Some(r), Some(q), Some(p)) = (
-            seats.pop(),
-            seats.pop(),
-            seats.pop(),
-            seats.pop(),
-        ) else {
-            return Err(anyhow!("no seat"));
-        };
-        let (Some(d), Some(c), Some(b), Some(a)) = (
-            payers.pop(),
-            payers.pop(),
-            payers.pop(),
-            payers.pop(),
-        ) else {
-            return Err(anyhow!("no stock seat"));
-        };
+    pub fn new(alloc: Global) -> Result<Parts, AllocError> {
+        let (frames, zone, seats) = FrameWords::new(alloc, 8, 4)?;
+        let (stocks, machine, payers) = StockWords::new(alloc, 4)?;
         Ok(Parts {
             frames,
             stocks,
             zone,
             machine,
-            first: (p, a),
-            second: (q, b),
-            third: (r, c),
-            fourth: (s, d),
+            seats,
+            payers,
         })
     }
 }
 
-/// The parts of the first two of these processors.
-pub fn two_cpus<N: BootName>(
+/// A part for each processor, from its two seats.
+pub fn deal<N: BootName>(
     alloc: Global,
-    one: Seats,
-    other: Seats,
-) -> Result<(Cpu<N>, Cpu<N>), AllocError>
-    requires one { IsCpuSeat N.frames one.0 × (one.0.view ≡ first_cpu_view (number_of one.0)) × (one.1.table ≡ N.stocks.table)
-        × (one.1.view ≡ first_processor (number_of one.0)) × (number_of one.0 ≤ N.stocks.cpus) }
-    requires other { IsCpuSeat N.frames other.0 × (other.0.view ≡ first_cpu_view (number_of other.0)) × (other.1.table ≡ N.stocks.table)
-        × (other.1.view ≡ first_processor (number_of other.0)) × (number_of other.0 ≤ N.stocks.cpus) }
-    ensures { IfOk result (λ r. (r.0 ≡ first_cpu one.0 one.1) × (r.1 ≡ first_cpu other.0 other.1)) }
+    cpus: u32,
+    mut seats: Vec<FrameSeat>,
+    mut payers: Vec<StockSeat>,
+) -> Result<Vec<Cpu<N>>, AllocError>
+    requires seats { seats.items ≡ first_cpu_seats N.frames.table 1 cpus }
+    requires payers { payers.items ≡ first_seats N.stocks.table 1 cpus }
+    requires counts { (cpus ≡ N.frames.cpus) × (cpus ≡ N.stocks.cpus) }
+    ensures { IfOk result (λ made. made.items ≡ first_cpus N.frames N.stocks 1 cpus) }
 {
-    let first = Cpu::<N>::new(alloc, one.0, one.1)?;
-    match Cpu::<N>::new(alloc, other.0, other.1) {
-        Ok(second) => Ok((first, second)),
-        Err(error) => {
-            let _ = first.into_seats();
-            Err(error)
+    let mut made = Vec::with_capacity(alloc, cpus as usize)?;
+    for _dealt in 0..cpus {
+        let seat = seats.remove(0);
+        let payer = payers.remove(0);
+        match Cpu::<N>::new(alloc, seat, payer) {
+            Ok(cpu) => made.push_reserved(cpu),
+            Err(error) => {
+                spend(made);
+                return Err(error);
+            }
         }
     }
+    Ok(made)
+}
+
+// Spends parts of processors that did nothing.
+fn spend<N: BootName>(mut cpus: Vec<Cpu<N>>)
+    requires { All IsIdle cpus.items }
+{
+    while let Some(cpu) = cpus.pop() {
+        let _ = cpu.into_seats();
+    }
+    cpus.destroy_empty();
 }
 
 /// The zone's seats, how many frames were given, and how many processors are ready.
@@ -153,6 +139,18 @@ impl<N: BootName> Boot<N> {
         self.ready = number;
     }
 
+    /// Equips the four processors, one after the other.
+    pub fn equip_all(&mut self, tables: &Tables<N>, cpus: &mut [Cpu<N>])
+        requires frames { N.frames.frames ≡ 8 }
+        requires first { (self.old.given ≡ 0) × (self.old.ready ≡ 0) }
+        requires cpus { cpus.old ≡ first_cpus N.frames N.stocks 1 4 }
+        ensures { (self.new.given ≡ 4) × (self.new.ready ≡ 4) }
+    {
+        for cpu in cpus.iter_mut() {
+            self.equip(tables, cpu);
+        }
+    }
+
     /// Puts the next frame into use, with one reference of the zone's.
     pub fn put_into_use(&mut self, tables: &Tables<N>) -> Frame
         requires { (self.old.given < 8) × (N.frames.frames ≡ 8) }
@@ -166,8 +164,8 @@ impl<N: BootName> Boot<N> {
     }
 }
 
-/// Ends a processor's part, whose visit is open, once nothing of it is left.
-pub fn end<N: BootName, R: Wait>(
+// Ends a processor's part, whose visit is open, once nothing of it is left.
+fn end<N: BootName, R: Wait>(
     rt: &R,
     tables: &Tables<N>,
     zone: &mut FrameSeat,
@@ -197,4 +195,22 @@ pub fn end<N: BootName, R: Wait>(
         let _ = cpu.hand_back(tables, zone);
     }
     unreachable!()
+}
+
+/// Ends the processors' parts, whose visits are open.
+pub fn end_all<N: BootName, R: Wait>(
+    rt: &R,
+    tables: &Tables<N>,
+    mut zone: FrameSeat,
+    mut machine: StockSeat,
+    mut cpus: Vec<Cpu<N>>,
+)
+    requires zone { IsZoneSeat N.frames zone }
+    requires opened { (p : ℕ) → 1 ≤ p → p ≤ N.frames.cpus → IsOpen zone p }
+    requires machine { (machine.table ≡ N.stocks.table) × IsMachine machine.view }
+{
+    while let Some(cpu) = cpus.pop() {
+        end(rt, tables, &mut zone, &mut machine, cpu);
+    }
+    cpus.destroy_empty();
 }

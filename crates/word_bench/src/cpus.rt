@@ -2,7 +2,7 @@
 //! of `pins`, by one of these.
 ghost use Rattle.std.specs.Prelude.{◌≡◌, ◌<◌};
 
-use crate::boot::{Boot, Parts, end, two_cpus};
+use crate::boot::{Boot, Parts, deal, end_all};
 use crate::costs::{PAIRS, TRIES, Unit, each, tell};
 use crate::pins::tell_pins;
 use anyhow::anyhow;
@@ -46,31 +46,22 @@ fn time_one<N: BootName, R: Clock>(
     Ok(least)
 }
 
-fn run_two<N: BootName + Send + Sync, R: Threads + Sync>(
-    rt: &R,
-    tables: &Tables<N>,
-    one: &mut Cpu<N>,
-    other: &mut Cpu<N>,
-) -> (u64, u64) {
-    thread::join(rt, || pairs(tables, one), || pairs(tables, other))
-}
-
 // What a pair costs each of four threads, side by side.
 fn time_four<N: BootName + Send + Sync, R: Threads + Clock + Sync>(
     rt: &R,
     tables: &Tables<N>,
-    a: &mut Cpu<N>,
-    b: &mut Cpu<N>,
-    c: &mut Cpu<N>,
-    d: &mut Cpu<N>,
+    cpus: &mut [Cpu<N>],
 ) -> anyhow::Result<u128> {
     let mut least = u128::MAX;
     for _ in 0..TRIES {
         let start = Instant::now(rt)?;
-        thread::join(
+        thread::for_each_mut(
             rt,
-            || run_two(rt, tables, a, b),
-            || run_two(rt, tables, c, d),
+            cpus,
+            4,
+            &|_, cpu: &mut Cpu<N>| {
+                pairs(tables, cpu);
+            },
         );
         least = least.min(each(start.elapsed(rt)?, PAIRS));
     }
@@ -81,26 +72,26 @@ fn time_four<N: BootName + Send + Sync, R: Threads + Clock + Sync>(
 fn tell_all<N: BootName + Send + Sync, R: Threads + Print + Clock + Sync>(
     rt: &R,
     tables: &Tables<N>,
-    a: &mut Cpu<N>,
-    b: &mut Cpu<N>,
-    c: &mut Cpu<N>,
-    d: &mut Cpu<N>,
+    cpus: &mut [Cpu<N>],
     frames: &(Frame, Frame, Frame),
     unit: Unit,
 ) -> anyhow::Result<()>
     requires frames { (frames.now.0 < N.frames.frames) × (frames.now.1 < N.frames.frames) × (frames.now.2 < N.frames.frames) }
 {
-    let one = time_one(rt, tables, a)?;
+    let four = time_four(rt, tables, cpus)?;
+    let Some(first) = cpus.first_mut() else {
+        return Err(anyhow!("no processor"));
+    };
+    let one = time_one(rt, tables, first)?;
     tell(rt, "alloc_fast and drop_fresh, one thread", one, unit.one)?;
-    let four = time_four(rt, tables, a, b, c, d)?;
     tell(
         rt,
         "alloc_fast and drop_fresh, four threads",
         four,
         unit.four,
     )?;
-    tell_pins(rt, tables, a, frames, 8, unit)?;
-    tell_pins(rt, tables, a, frames, 256, unit)
+    tell_pins(rt, tables, first, frames, 8, unit)?;
+    tell_pins(rt, tables, first, frames, 256, unit)
 }
 
 // Makes four processors' parts, measures, and ends them.
@@ -117,43 +108,27 @@ fn with_four<N: BootName + Send + Sync, R: Threads + Wait + Print + Clock + Sync
         stocks,
         zone,
         machine,
-        first,
-        second,
-        third,
-        fourth,
+        seats,
+        payers,
     } = parts;
     let tables = Tables::<N>::new(frames, stocks);
+    let mut cpus = deal::<N>(alloc, 4, seats, payers)?;
     let mut boot = Boot::<N>::new(zone, machine);
-    let (mut a, mut b) = two_cpus::<N>(alloc, first, second)?;
-    let (mut c, mut d) = match two_cpus::<N>(alloc, third, fourth) {
-        Ok(others) => others,
-        Err(error) => {
-            let _ = a.into_seats();
-            let _ = b.into_seats();
-            return Err(error.into());
-        }
-    };
-    boot.equip(&tables, &mut a);
-    boot.equip(&tables, &mut b);
-    boot.equip(&tables, &mut c);
-    boot.equip(&tables, &mut d);
+    boot.equip_all(&tables, &mut cpus);
     let used = (
         boot.put_into_use(&tables),
         boot.put_into_use(&tables),
         boot.put_into_use(&tables),
     );
     let Boot {
-        mut zone,
-        mut machine,
+        zone,
+        machine,
         given: _,
         ready: _,
         of: _,
     } = boot;
-    let told = tell_all(rt, &tables, &mut a, &mut b, &mut c, &mut d, &used, unit);
-    end(rt, &tables, &mut zone, &mut machine, a);
-    end(rt, &tables, &mut zone, &mut machine, b);
-    end(rt, &tables, &mut zone, &mut machine, c);
-    end(rt, &tables, &mut zone, &mut machine, d);
+    let told = tell_all(rt, &tables, &mut cpus, &used, unit);
+    end_all(rt, &tables, zone, machine, cpus);
     told
 }
 

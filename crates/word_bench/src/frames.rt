@@ -1,13 +1,13 @@
 //! The unit: a pair of `get` and `put` on the words of frames, by one thread and by four.
-ghost use Rattle.std.specs.Prelude.{◌≡◌, ◌<◌, ◌≤◌};
+ghost use Rattle.std.specs.Prelude.{◌≡◌, ◌<◌, ◌≤◌, All};
+ghost use Rattle.frame_word.specs.Seats.{first_zone_view};
 
-use crate::costs::{PAIRS, TRIES, Unit, each, tell};
+use crate::costs::{PAIRS, Unit, Work, tell, time};
 use anyhow::anyhow;
 use frame_word::{Frame, FrameSeat, FrameWords, Get};
 use std::alloc::Global;
-use std::thread;
 use std::thread::Threads;
-use std::time::{Clock, Instant};
+use std::time::Clock;
 
 // Frames so far apart that no two of their words share a line of the cache.
 const APART: u32 = 64;
@@ -44,70 +44,44 @@ impl<'a> Worker<'a> {
     {
         Worker { words, seat, frame }
     }
+}
 
+impl<'a> Work for Worker<'a> {
     fn run(&mut self) -> u64 {
         pairs(self.words, &mut self.seat, self.frame)
     }
 }
 
-fn run_two<R: Threads + Sync>(rt: &R, one: &mut Worker, other: &mut Worker) -> (u64, u64) {
-    thread::join(rt, || one.run(), || other.run())
-}
-
-// What a pair costs one thread.
-fn time_one<R: Clock>(rt: &R, worker: &mut Worker) -> anyhow::Result<u128> {
-    let mut least = u128::MAX;
-    for _ in 0..TRIES {
-        let start = Instant::now(rt)?;
-        let held = worker.run();
-        least = least.min(each(start.elapsed(rt)?, PAIRS));
-        if held != PAIRS {
-            return Err(anyhow!("a get was refused"));
-        }
+// A worker for each of four processors' seats, with a frame that the zone puts into use.
+fn workers<'a>(
+    alloc: Global,
+    words: &'a FrameWords,
+    mut zone: FrameSeat,
+    mut cpus: Vec<FrameSeat>,
+) -> anyhow::Result<Vec<Worker<'a>>>
+    requires sizes { words.now.frames ≡ 256 }
+    requires zone { zone ≡ record { table = words.now.table; view = first_zone_view 256 } }
+    requires cpus { All (λ s. s.table ≡ words.now.table) cpus.items }
+{
+    let mut workers = Vec::with_capacity(alloc, 4)?;
+    for n in 0..4u32 {
+        let (Some(frame), Some(seat)) = (words.frame(n * APART), cpus.pop()) else {
+            return Err(anyhow!("no frame or no seat"));
+        };
+        words.unfreeze(&mut zone, frame, 1);
+        workers.push(Worker::new(words, seat, frame))?;
     }
-    Ok(least)
-}
-
-// What a pair costs each of four threads, side by side.
-fn time_four<R: Threads + Clock + Sync>(
-    rt: &R,
-    a: &mut Worker,
-    b: &mut Worker,
-    c: &mut Worker,
-    d: &mut Worker,
-) -> anyhow::Result<u128> {
-    let mut least = u128::MAX;
-    for _ in 0..TRIES {
-        let start = Instant::now(rt)?;
-        thread::join(rt, || run_two(rt, a, b), || run_two(rt, c, d));
-        least = least.min(each(start.elapsed(rt)?, PAIRS));
-    }
-    Ok(least)
+    Ok(workers)
 }
 
 /// Measures the unit, and prints it.
 pub fn measure<R: Threads + Print + Clock + Alloc<A = Global> + Sync>(
     rt: &R,
 ) -> anyhow::Result<Unit> {
-    let (words, mut zone, mut cpus) = FrameWords::new(rt.alloc(), 4 * APART, 3)?;
-    let e = words.frame(0).ok_or(anyhow!("no frame"))?;
-    let f = words.frame(APART).ok_or(anyhow!("no frame"))?;
-    let g = words.frame(2 * APART).ok_or(anyhow!("no frame"))?;
-    let h = words.frame(3 * APART).ok_or(anyhow!("no frame"))?;
-    words.unfreeze(&mut zone, e, 1);
-    words.unfreeze(&mut zone, f, 1);
-    words.unfreeze(&mut zone, g, 1);
-    words.unfreeze(&mut zone, h, 1);
-    let (Some(c), Some(b), Some(a)) = (cpus.pop(), cpus.pop(), cpus.pop()) else {
-        return Err(anyhow!("no seat"));
-    };
-    let mut first = Worker::new(&words, zone, e);
-    let mut second = Worker::new(&words, a, f);
-    let mut third = Worker::new(&words, b, g);
-    let mut fourth = Worker::new(&words, c, h);
-    let one = time_one(rt, &mut first)?;
-    let four = time_four(rt, &mut first, &mut second, &mut third, &mut fourth)?;
-    tell(rt, "get and put, one thread", one, one)?;
-    tell(rt, "get and put, four threads", four, four)?;
-    Ok(Unit { one, four })
+    let (words, zone, cpus) = FrameWords::new(rt.alloc(), 4 * APART, 4)?;
+    let mut workers = workers(rt.alloc(), &words, zone, cpus)?;
+    let unit = time(rt, workers.as_mut_slice())?;
+    tell(rt, "get and put, one thread", unit.one, unit.one)?;
+    tell(rt, "get and put, four threads", unit.four, unit.four)?;
+    Ok(unit)
 }

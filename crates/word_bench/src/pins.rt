@@ -58,6 +58,31 @@ fn unpin<N: BootName>(tables: &Tables<N>, cpu: &mut Cpu<N>) {
     }
 }
 
+// What a pair on the newest pin costs, and one on the pin that is sought longest.
+fn time_pins<N: BootName, R: Clock>(
+    rt: &R,
+    tables: &Tables<N>,
+    cpu: &mut Cpu<N>,
+    frame: Frame,
+) -> anyhow::Result<(u128, u128)>
+    requires { frame < N.frames.frames }
+{
+    let mut first = u128::MAX;
+    let mut last = u128::MAX;
+    for _ in 0..TRIES {
+        let start = Instant::now(rt)?;
+        let held = newest(tables, cpu, frame);
+        first = first.min(each(start.elapsed(rt)?, PAIRS));
+        let start = Instant::now(rt)?;
+        let sought = oldest(tables, cpu, frame);
+        last = last.min(each(start.elapsed(rt)?, PAIRS));
+        if held != PAIRS || sought != PAIRS {
+            return Err(anyhow!("a frame was not held"));
+        }
+    }
+    Ok((first, last))
+}
+
 /// Prints what a pair costs of a processor with so many pins, at least two. Between a get and its put
 /// there are all of them.
 pub fn tell_pins<N: BootName, R: Print + Clock>(
@@ -76,19 +101,7 @@ pub fn tell_pins<N: BootName, R: Print + Clock>(
     if cpu.pins() != pins - 1 {
         return Err(anyhow!("a pin is wanting"));
     }
-    let mut first = u128::MAX;
-    let mut last = u128::MAX;
-    for _ in 0..TRIES {
-        let start = Instant::now(rt)?;
-        let held = newest(tables, cpu, frames.2);
-        first = first.min(each(start.elapsed(rt)?, PAIRS));
-        let start = Instant::now(rt)?;
-        let sought = oldest(tables, cpu, frames.2);
-        last = last.min(each(start.elapsed(rt)?, PAIRS));
-        if held != PAIRS || sought != PAIRS {
-            return Err(anyhow!("a frame was not held"));
-        }
-    }
+    let (first, last) = time_pins(rt, tables, cpu, frames.2)?;
     println!(rt; "get and put of a processor with {pins} pins:")?;
     tell(rt, "  the newest pin", first, unit.one)?;
     tell(rt, "  the pin that is sought longest", last, unit.one)?;

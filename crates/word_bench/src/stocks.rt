@@ -1,13 +1,12 @@
 //! A pair of `consume` and `credit` on the words of stocks, by one thread and by four, one processor each.
 ghost use Rattle.std.specs.Prelude.{◌≡◌, ◌≤◌, ◌<◌, ℕ};
 ghost use Rattle.stock_word.specs.Stock.{IsProcessor, IsMachine, account_of, no_account};
+ghost use Rattle.stock_word.specs.Stock.{first_machine, first_seats};
 
-use crate::costs::{PAIRS, TRIES, Unit, each, tell};
-use anyhow::anyhow;
+use crate::costs::{PAIRS, Unit, Work, tell, time};
 use std::alloc::Global;
-use std::thread;
 use std::thread::Threads;
-use std::time::{Clock, Instant};
+use std::time::Clock;
 use stock_word::{Consume, Credit, StockSeat, StockWords};
 
 // Consumes and credits so many times, and tells how many pairs went through.
@@ -57,45 +56,31 @@ impl<'a> Worker<'a> {
             gap: [0; 8],
         }
     }
+}
 
+impl<'a> Work for Worker<'a> {
     fn run(&mut self) -> u64 {
         pairs(self.words, &mut self.seat)
     }
 }
 
-fn run_two<R: Threads + Sync>(rt: &R, one: &mut Worker, other: &mut Worker) -> (u64, u64) {
-    thread::join(rt, || one.run(), || other.run())
-}
-
-// What a pair costs one thread.
-fn time_one<R: Clock>(rt: &R, worker: &mut Worker) -> anyhow::Result<u128> {
-    let mut least = u128::MAX;
-    for _ in 0..TRIES {
-        let start = Instant::now(rt)?;
-        let made = worker.run();
-        least = least.min(each(start.elapsed(rt)?, PAIRS));
-        if made != PAIRS {
-            return Err(anyhow!("a stock gave no page"));
-        }
+// A worker for each of the four processors.
+fn workers<'a>(
+    alloc: Global,
+    words: &'a StockWords,
+    mut machine: StockSeat,
+    mut seats: Vec<StockSeat>,
+) -> anyhow::Result<Vec<Worker<'a>>>
+    requires cpus { words.now.cpus ≡ 4 }
+    requires machine { machine ≡ record { table = words.now.table; view = first_machine } }
+    requires seats { seats.items ≡ first_seats words.now.table 1 4 }
+{
+    let mut workers = Vec::with_capacity(alloc, 4)?;
+    for _dealt in 0..4u32 {
+        let seat = seats.remove(0);
+        workers.push(Worker::filled(words, &mut machine, seat))?;
     }
-    Ok(least)
-}
-
-// What a pair costs each of four threads, side by side.
-fn time_four<R: Threads + Clock + Sync>(
-    rt: &R,
-    a: &mut Worker,
-    b: &mut Worker,
-    c: &mut Worker,
-    d: &mut Worker,
-) -> anyhow::Result<u128> {
-    let mut least = u128::MAX;
-    for _ in 0..TRIES {
-        let start = Instant::now(rt)?;
-        thread::join(rt, || run_two(rt, a, b), || run_two(rt, c, d));
-        least = least.min(each(start.elapsed(rt)?, PAIRS));
-    }
-    Ok(least)
+    Ok(workers)
 }
 
 /// Measures the pair, and prints it.
@@ -103,18 +88,10 @@ pub fn measure<R: Threads + Print + Clock + Alloc<A = Global> + Sync>(
     rt: &R,
     unit: Unit,
 ) -> anyhow::Result<()> {
-    let (words, mut machine, mut seats) = StockWords::new(rt.alloc(), 4)?;
-    let (Some(d), Some(c), Some(b), Some(a)) = (seats.pop(), seats.pop(), seats.pop(), seats.pop())
-    else {
-        return Err(anyhow!("no seat"));
-    };
-    let mut first = Worker::filled(&words, &mut machine, a);
-    let mut second = Worker::filled(&words, &mut machine, b);
-    let mut third = Worker::filled(&words, &mut machine, c);
-    let mut fourth = Worker::filled(&words, &mut machine, d);
-    let one = time_one(rt, &mut first)?;
-    let four = time_four(rt, &mut first, &mut second, &mut third, &mut fourth)?;
-    tell(rt, "consume and credit, one thread", one, unit.one)?;
-    tell(rt, "consume and credit, four threads", four, unit.four)?;
+    let (words, machine, seats) = StockWords::new(rt.alloc(), 4)?;
+    let mut workers = workers(rt.alloc(), &words, machine, seats)?;
+    let pair = time(rt, workers.as_mut_slice())?;
+    tell(rt, "consume and credit, one thread", pair.one, unit.one)?;
+    tell(rt, "consume and credit, four threads", pair.four, unit.four)?;
     Ok(())
 }

@@ -1,85 +1,74 @@
 //! Worked rows: what the answers are when calls meet, which no clause says. Several calls stand in
-//! each row, so that every public call is made once and succeeds.
+//! each row, so that every call whose answer can vary is made once and succeeds.
 ghost use Rattle.std.specs.Prelude.{◌≡◌, ◌<◌};
 ghost use Rattle.frame_word.specs.Seats.{IsZoneSeat, first_cpu_view, first_zone_view};
 
+use crate::rows::same;
 use frame_word::{Frame, FrameSeat, FrameWords, Get, Put};
 use std::process::Abort;
-use std::test::Fail;
-use std::thread;
+use std::thread::{Threads, join};
 
 #[test]
-fn get_is_full_at_255_references(rt: HostRuntime) -> Result<(), Fail> {
-    let (words, mut zone, _) = FrameWords::new(rt.alloc(), 8, 1)?;
-    assert!(rt; words.frames() == 8);
-    assert!(rt; words.cpus() == 1);
+fn get_is_full_at_255_references(rt: HostRuntime) {
+    let (words, mut zone, _) = FrameWords::new(rt.alloc(), 8, 1).expect(&rt, "memory");
     let frame = words.frame(3).expect(&rt, "frame 3");
     words.unfreeze(&mut zone, frame, 255);
-    assert!(rt; words.get(&mut zone, frame) == Get::Full);
-    Ok(())
+    same(&rt, words.get(&mut zone, frame), Get::Full);
+}
+
+// The zone and a processor have a reference each: the zone's freeze comes too early, and then in time.
+fn freeze_early(rt: &impl Abort, words: &FrameWords, zone: &mut FrameSeat, cpu: &mut FrameSeat)
+    requires zone { IsZoneSeat words.now zone.old × (zone.old.view ≡ first_zone_view 8) }
+    requires cpu { (cpu.old.table ≡ words.now.table) × (cpu.old.view ≡ first_cpu_view 1) }
+    requires frames { words.now.frames ≡ 8 }
+{
+    let frame = words.frame(3).expect(rt, "frame 3");
+    words.unfreeze(zone, frame, 1);
+    same(rt, words.get(cpu, frame), Get::Held);
+    same(rt, words.freeze(zone, frame, 1), false);
+    same(rt, words.put(cpu, frame), Put::Left(1));
+    same(rt, words.freeze(zone, frame, 1), true);
+    same(rt, words.get(cpu, frame), Get::Zero);
 }
 
 #[test]
-fn freeze_waits_for_the_other_seat(rt: HostRuntime) -> Result<(), Fail> {
-    let (words, mut zone, mut cpus) = FrameWords::new(rt.alloc(), 8, 1)?;
-    let frame = words.frame(3).expect(&rt, "frame 3");
+fn freeze_waits_for_the_other_seat(rt: HostRuntime) {
+    let (words, mut zone, mut cpus) = FrameWords::new(rt.alloc(), 8, 1).expect(&rt, "memory");
     let mut cpu = cpus.pop().expect(&rt, "a seat");
-    words.unfreeze(&mut zone, frame, 1);
-    let got = words.get(&mut cpu, frame);
-    assert!(rt; got == Get::Held);
-    let early = words.freeze(&mut zone, frame, 1);
-    assert!(rt; !early);
-    assert!(rt; words.put(&mut cpu, frame) == Put::Left(1));
-    assert!(rt; words.freeze(&mut zone, frame, 1));
-    assert!(rt; words.get(&mut cpu, frame) == Get::Zero);
-    Ok(())
+    freeze_early(&rt, &words, &mut zone, &mut cpu);
 }
 
 // The zone and a processor have a reference each. Whose put is the last has the frame in hand.
-fn put_by_both(
-    rt: &impl Abort,
-    words: &FrameWords,
-    zone: &mut FrameSeat,
-    cpu: &mut FrameSeat,
-    frame: Frame,
-)
+fn put_by_both(rt: &impl Abort, words: &FrameWords, zone: &mut FrameSeat, cpu: &mut FrameSeat)
     requires zone { IsZoneSeat words.now zone.old × (zone.old.view ≡ first_zone_view 8) }
     requires cpu { (cpu.old.table ≡ words.now.table) × (cpu.old.view ≡ first_cpu_view 1) }
-    requires sizes { (words.now.frames ≡ 8) × (frame ≡ 3) }
+    requires frames { words.now.frames ≡ 8 }
 {
+    let frame = words.frame(3).expect(rt, "frame 3");
     words.unfreeze(zone, frame, 1);
-    assert!(rt; words.get(cpu, frame) == Get::Held);
-    assert!(rt; words.put(zone, frame) == Put::Left(1));
-    assert!(rt; words.put(cpu, frame) == Put::Last);
-    assert!(rt; words.get(zone, frame) == Get::Zero);
+    same(rt, words.get(cpu, frame), Get::Held);
+    same(rt, words.put(zone, frame), Put::Left(1));
+    same(rt, words.put(cpu, frame), Put::Last);
+    same(rt, words.get(zone, frame), Get::Zero);
     words.unfreeze(cpu, frame, 1);
-    assert!(rt; words.get(zone, frame) == Get::Held);
+    same(rt, words.get(zone, frame), Get::Held);
 }
 
 #[test]
-fn the_last_put_has_the_frame_in_hand(rt: HostRuntime) -> Result<(), Fail> {
-    let (words, mut zone, mut cpus) = FrameWords::new(rt.alloc(), 8, 1)?;
-    let frame = words.frame(3).expect(&rt, "frame 3");
+fn the_last_put_has_the_frame_in_hand(rt: HostRuntime) {
+    let (words, mut zone, mut cpus) = FrameWords::new(rt.alloc(), 8, 1).expect(&rt, "memory");
     let mut cpu = cpus.pop().expect(&rt, "a seat");
-    put_by_both(&rt, &words, &mut zone, &mut cpu, frame);
-    Ok(())
+    put_by_both(&rt, &words, &mut zone, &mut cpu);
 }
 
 // Frame 3 passes for processor 2, which takes it in and later passes it back. The zone collects it.
-fn goes_and_comes(
-    rt: &impl Abort,
-    words: &FrameWords,
-    zone: &mut FrameSeat,
-    second: &mut FrameSeat,
-    frame: Frame,
-)
+fn goes_and_comes(words: &FrameWords, zone: &mut FrameSeat, second: &mut FrameSeat, frame: Frame)
     requires zone { IsZoneSeat words.now zone.old × (zone.old.view ≡ first_zone_view 8) }
     requires second { (second.old.table ≡ words.now.table) × (second.old.view ≡ first_cpu_view 2) }
     requires sizes { (words.now.frames ≡ 8) × (words.now.cpus ≡ 2) × (frame ≡ 3) }
     ensures zone { IsZoneSeat words.now zone.new }
     ensures second { (second.new.table ≡ words.now.table) × (second.new.view.number ≡ 2) }
 {
-    assert!(rt; second.number() == 2);
     words.open_visit(zone, second);
     words.pass_out(zone, frame, 2);
     words.take_in(zone, second, frame);
@@ -91,18 +80,15 @@ fn goes_and_comes(
 }
 
 #[test]
-fn frame_3_goes_to_processor_2_and_back(rt: HostRuntime) -> Result<(), Fail> {
-    let (words, mut zone, mut cpus) = FrameWords::new(rt.alloc(), 8, 2)?;
+fn frame_3_goes_to_processor_2_and_back(rt: HostRuntime) {
+    let (words, mut zone, mut cpus) = FrameWords::new(rt.alloc(), 8, 2).expect(&rt, "memory");
     let frame = words.frame(3).expect(&rt, "frame 3");
     let mut second = cpus.pop().expect(&rt, "a seat");
-    let first = cpus.pop().expect(&rt, "a seat");
-    goes_and_comes(&rt, &words, &mut zone, &mut second, frame);
-    let mut seats = Vec::new(rt.alloc());
-    seats.push(first)?;
-    seats.push(second)?;
-    let last = words.close(zone, seats);
-    assert!(rt; last.word(frame) == 2 && last.visit_word(1) == 0 && last.visit_word(2) == 1);
-    Ok(())
+    goes_and_comes(&words, &mut zone, &mut second, frame);
+    cpus.push(second).expect(&rt, "memory");
+    let last = words.close(zone, cpus);
+    same(&rt, last.word(frame), 2);
+    same(&rt, (last.visit_word(1), last.visit_word(2)), (0, 1));
 }
 
 // Gets the frame a thousand times, puts it where it was held, and tells whether a put was the last.
@@ -122,20 +108,32 @@ fn rounds(words: &FrameWords, seat: &mut FrameSeat, frame: Frame) -> bool
     last
 }
 
+// Two seats get and put the frame side by side: whether a put of either was the last.
+fn beside<R: Threads + Sync>(
+    rt: &R,
+    words: &FrameWords,
+    one: &mut FrameSeat,
+    other: &mut FrameSeat,
+    frame: Frame,
+) -> (bool, bool)
+    requires tables { (one.old.table ≡ words.now.table) × (other.old.table ≡ words.now.table) }
+    requires frame { frame < words.now.frames }
+{
+    join(
+        rt,
+        || rounds(words, one, frame),
+        || rounds(words, other, frame),
+    )
+}
+
 #[test]
-fn two_getters(rt: HostRuntime) -> Result<(), Fail> {
-    let (words, mut zone, mut cpus) = FrameWords::new(rt.alloc(), 8, 2)?;
+fn two_getters(rt: HostRuntime) {
+    let (words, mut zone, mut cpus) = FrameWords::new(rt.alloc(), 8, 2).expect(&rt, "memory");
     let frame = words.frame(5).expect(&rt, "frame 5");
     let mut one = cpus.pop().expect(&rt, "a seat");
     let mut other = cpus.pop().expect(&rt, "a seat");
     words.unfreeze(&mut zone, frame, 1);
-    let table = &words;
-    let (first, second) = thread::join(
-        &rt,
-        || rounds(table, &mut one, frame),
-        || rounds(table, &mut other, frame),
-    );
-    assert!(rt; !first && !second);
-    assert!(rt; words.freeze(&mut zone, frame, 1));
-    Ok(())
+    let last = beside(&rt, &words, &mut one, &mut other, frame);
+    same(&rt, last, (false, false));
+    same(&rt, words.freeze(&mut zone, frame, 1), true);
 }

@@ -4,13 +4,13 @@ ghost use Rattle.std.specs.Prelude.{◌≡◌, ◌≤◌, None};
 ghost use Rattle.frame_word.specs.Seats.{IsZoneSeat, first_zone_view};
 ghost use Rattle.stock_word.specs.Stock.{IsMachine};
 
-use crate::parts::{Parts, give_back, give_first, give_up, make_parts, set_up};
+use crate::parts::{Parts, frame_of, give_back, give_first, give_up, make_parts, set_up};
+use crate::rows::same;
 use cpu_part::{BootName, Cpu, Dropped, Fast, MOST_FRESH, Tables};
 use frame_word::{Frame, FrameSeat, Get};
 use std::alloc::Global;
 use std::marker::Brand;
 use std::process::Abort;
-use std::test::Fail;
 use stock_word::{Stock, StockSeat};
 
 // Frame 3 passes for processor 2: no seat gets it.
@@ -25,12 +25,12 @@ fn passes<N: BootName>(
     requires sizes { (N.frames.frames ≡ 8) × (N.frames.cpus ≡ 2) }
     requires number { second.old.number ≡ 2 }
 {
-    let frame = tables.frames.frame(3).expect(rt, "frame 3");
+    let frame = frame_of(rt, tables, 3);
     second.open(tables, zone);
     tables.frames.pass_out(zone, frame, 2);
-    assert!(rt; tables.frames.get(zone, frame) == Get::Zero);
-    assert!(rt; first.get(tables, frame) == Ok(Get::Zero));
-    assert!(rt; second.get(tables, frame) == Ok(Get::Zero));
+    same(rt, tables.frames.get(zone, frame), Get::Zero);
+    same(rt, first.get(tables, frame), Ok(Get::Zero));
+    same(rt, second.get(tables, frame), Ok(Get::Zero));
 }
 
 // A boot, in which frame 3 passes.
@@ -43,10 +43,9 @@ fn boot_of_passing<N: BootName>(rt: &impl Abort, alloc: Global, parts: Parts<8>)
 }
 
 #[test]
-fn no_seat_gets_a_frame_that_passes(rt: HostRuntime) -> Result<(), Fail> {
-    let parts = make_parts::<8>(&rt, rt.alloc())?;
+fn no_seat_gets_a_frame_that_passes(rt: HostRuntime) {
+    let parts = make_parts::<8>(&rt, rt.alloc());
     boot_of_passing::<Brand>(&rt, rt.alloc(), parts);
-    Ok(())
 }
 
 // Takes the front of the list for the group of the stock, where the list has a frame, the fresh
@@ -81,18 +80,18 @@ fn takes_fronts<N: BootName>(
 )
     requires machine { (machine.old.table ≡ N.stocks.table) × IsMachine machine.old.view × (1 ≤ N.stocks.cpus) }
 {
-    let zeroth = tables.frames.frame(0).expect(rt, "frame 0");
-    let first = tables.frames.frame(1).expect(rt, "frame 1");
-    let second = tables.frames.frame(2).expect(rt, "frame 2");
+    let zeroth = frame_of(rt, tables, 0);
+    let first = frame_of(rt, tables, 1);
+    let second = frame_of(rt, tables, 2);
     takes(rt, tables, machine, cpu, Some(zeroth));
     takes(rt, tables, machine, cpu, Some(first));
     takes(rt, tables, machine, cpu, None);
-    assert!(rt; cpu.alloc_fast(tables, 1) == Fast::NoStock);
+    same(rt, cpu.alloc_fast(tables, 1), Fast::NoStock);
     drops(rt, tables, cpu, zeroth);
     takes(rt, tables, machine, cpu, Some(second));
     drops(rt, tables, cpu, first);
     drops(rt, tables, cpu, second);
-    assert!(rt; tables.stocks.drain(machine, 1) == 2);
+    same(rt, tables.stocks.drain(machine, 1), 2);
     takes(rt, tables, machine, cpu, None);
 }
 
@@ -107,13 +106,13 @@ fn takes<N: BootName>(
     requires { (machine.old.table ≡ N.stocks.table) × IsMachine machine.old.view }
     ensures { machine.new ≡ machine.old }
 {
-    assert!(rt; take_by_books(tables, machine, cpu) == front);
+    same(rt, take_by_books(tables, machine, cpu), front);
 }
 
 // Drops a frame that is fresh, and it is listed.
 fn drops<N: BootName>(rt: &impl Abort, tables: &Tables<N>, cpu: &mut Cpu<N>, frame: Frame) {
     assert!(rt; cpu.has_fresh(frame));
-    assert!(rt; cpu.drop_fresh(tables, frame) == Dropped::Listed);
+    same(rt, cpu.drop_fresh(tables, frame), Dropped::Listed);
 }
 
 // 256 frames are listed. None of them is taken before there is a stock.
@@ -122,17 +121,17 @@ fn pays_inside_a_visit<N: BootName>(rt: &impl Abort, alloc: Global, parts: Parts
 {
     let (tables, mut zone, mut machine, mut cpu, second) = set_up::<N, 256>(rt, alloc, parts);
     give_first(rt, &tables, &mut zone, &mut cpu, 256);
-    assert!(rt; take_by_books(&tables, &mut machine, &mut cpu) == None);
+    same(rt, take_by_books(&tables, &mut machine, &mut cpu), None);
     cpu.fill(&tables, &mut machine, 1, 2);
     takes_fronts(rt, &tables, &mut machine, &mut cpu);
-    assert!(rt; cpu.number() == 1 && cpu.list_len() == 256);
+    same(rt, cpu.number(), 1);
+    same(rt, cpu.list_len(), 256);
     give_back(&tables, &mut zone, &mut cpu);
     give_up(rt, tables, cpu, second);
 }
 
 #[test]
-fn fronts_are_paid_inside_a_visit(rt: HostRuntime) -> Result<(), Fail> {
-    let parts = make_parts::<256>(&rt, rt.alloc())?;
+fn fronts_are_paid_inside_a_visit(rt: HostRuntime) {
+    let parts = make_parts::<256>(&rt, rt.alloc());
     pays_inside_a_visit::<Brand>(&rt, rt.alloc(), parts);
-    Ok(())
 }

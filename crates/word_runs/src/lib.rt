@@ -9,4 +9,6 @@ mod fronts;
 #[cfg(test)]
 mod parts;
 #[cfg(test)]
+mod rows;
+#[cfg(test)]
 mod stocks;

@@ -5,13 +5,13 @@ ghost use Rattle.frame_word.specs.Seats.{first_cpu_view, first_zone_view, holds}
 ghost use Rattle.stock_word.specs.Stock.{IsMachine, first_machine, first_processor};
 ghost use Rattle.cpu_part.specs.Cpus.{IsIdle, first_cpu};
 
+use crate::rows::same;
 use cpu_part::{BootName, Cpu, Dropped, Fast, Tables};
 use frame_word::{Frame, FrameSeat, FrameWords, Get, Put};
 use group_tree::fault::Fault;
-use std::alloc::{AllocError, Global};
+use std::alloc::Global;
 use std::marker::Brand;
 use std::process::Abort;
-use std::test::Fail;
 use std::thread::{Threads, join};
 use stock_word::{Stock, StockSeat, StockWords};
 
@@ -33,25 +33,22 @@ pub(crate) struct Parts<const F: u32> {
     pub ghost second_pays: { (payers.1.table ≡ stocks.table) × (payers.1.view ≡ first_processor 2) },
 }
 
-pub(crate) fn make_parts<const F: u32>(
-    rt: &impl Abort,
-    alloc: Global,
-) -> Result<Parts<F>, AllocError>
+pub(crate) fn make_parts<const F: u32>(rt: &impl Abort, alloc: Global) -> Parts<F>
     requires { 1 ≤ F }
 {
-    let (frames, zone, mut seats) = FrameWords::new(alloc, F, 2)?;
-    let (stocks, machine, mut payers) = StockWords::new(alloc, 2)?;
+    let (frames, zone, mut seats) = FrameWords::new(alloc, F, 2).expect(rt, "memory");
+    let (stocks, machine, mut payers) = StockWords::new(alloc, 2).expect(rt, "memory");
     let second = seats.pop().expect(rt, "the second seat");
     let first = seats.pop().expect(rt, "the first seat");
     let payer = payers.pop().expect(rt, "the second stock seat");
-    Ok(Parts {
+    Parts {
         frames,
         stocks,
         zone,
         machine,
         seats: (first, second),
         payers: (payers.pop().expect(rt, "the first stock seat"), payer),
-    })
+    }
 }
 
 // The two tables, the zone's two seats and both processors, as they are at first.
@@ -88,6 +85,19 @@ pub(crate) fn set_up<N: BootName, const F: u32>(
     )
 }
 
+// The frame of this number.
+pub(crate) fn frame_of<N: BootName>(rt: &impl Abort, tables: &Tables<N>, number: u32) -> Frame
+    ensures { (result ≡ number) × (result < N.frames.frames) }
+{
+    tables.frames.frame(number).expect(rt, "a frame")
+}
+
+// Gives a processor up, which has nothing left.
+fn spend<N: BootName>(rt: &impl Abort, cpu: Cpu<N>) {
+    assert!(rt; cpu.is_idle());
+    let _ = cpu.into_seats();
+}
+
 // Gives the tables and the processors up, which have nothing left.
 pub(crate) fn give_up<N: BootName>(
     rt: &impl Abort,
@@ -95,9 +105,8 @@ pub(crate) fn give_up<N: BootName>(
     first: Cpu<N>,
     second: Cpu<N>,
 ) {
-    assert!(rt; first.is_idle() && second.is_idle());
-    let _ = first.into_seats();
-    let _ = second.into_seats();
+    spend(rt, first);
+    spend(rt, second);
     let _ = tables.into_tables();
 }
 
@@ -134,12 +143,12 @@ fn goes_over<N: BootName>(
     requires number { (second.old.number ≡ 2) × (second.old.seat.view ≡ first_cpu_view 2) }
     ensures zone { IsZoneSeat N.frames zone.new × IsShut zone.new 2 }
 {
-    let frame = tables.frames.frame(3).expect(rt, "frame 3");
+    let frame = frame_of(rt, tables, 3);
     second.open(tables, zone);
     tables.frames.pass_out(zone, frame, 2);
-    assert!(rt; first.get(tables, frame) == Ok(Get::Zero));
+    same(rt, first.get(tables, frame), Ok(Get::Zero));
     second.accept(tables, zone, frame);
-    assert!(rt; second.list_len() == 1);
+    same(rt, second.list_len(), 1);
     second.shut(tables, zone);
     frame
 }
@@ -150,17 +159,16 @@ fn hands_over<N: BootName>(rt: &impl Abort, alloc: Global, parts: Parts<8>)
 {
     let (tables, mut zone, _, mut first, mut second) = set_up::<N, 8>(rt, alloc, parts);
     goes_over(rt, &tables, &mut zone, &mut first, &mut second);
-    assert!(rt; second.number() == 2);
+    same(rt, second.number(), 2);
     give_back(&tables, &mut zone, &mut second);
-    assert!(rt; second.list_len() == 0);
+    same(rt, second.list_len(), 0);
     give_up(rt, tables, first, second);
 }
 
 #[test]
-fn frame_3_goes_to_processor_2_and_back(rt: HostRuntime) -> Result<(), Fail> {
-    let parts = make_parts::<8>(&rt, rt.alloc())?;
+fn frame_3_goes_to_processor_2_and_back(rt: HostRuntime) {
+    let parts = make_parts::<8>(&rt, rt.alloc());
     hands_over::<Brand>(&rt, rt.alloc(), parts);
-    Ok(())
 }
 
 // Hands the oldest fresh frame over with its page, and the zone collects it.
@@ -191,10 +199,10 @@ fn pays_for<N: BootName>(
     requires { (machine.old.table ≡ N.stocks.table) × IsMachine machine.old.view }
     ensures { machine.new ≡ machine.old }
 {
-    assert!(rt; cpu.last_stock() == Stock::HeldBy { group: 1, pages: 4 });
-    assert!(rt; cpu.alloc_fast(tables, 1) == Fast::Got(paid));
-    assert!(rt; cpu.look(tables, machine).pages() == 3);
-    assert!(rt; cpu.alloc_fast(tables, 2) == Fast::OtherGroup);
+    same(rt, cpu.last_stock(), Stock::HeldBy { group: 1, pages: 4 });
+    same(rt, cpu.alloc_fast(tables, 1), Fast::Got(paid));
+    same(rt, cpu.look(tables, machine).pages(), 3);
+    same(rt, cpu.alloc_fast(tables, 2), Fast::OtherGroup);
 }
 
 // The 3 pages that are left are drained: the frame, which is fresh, can't be dropped without a visit.
@@ -208,10 +216,10 @@ fn is_drained<N: BootName>(
     requires machine { (machine.old.table ≡ N.stocks.table) × IsMachine machine.old.view × (1 ≤ N.stocks.cpus) }
     ensures { (machine.new.table ≡ N.stocks.table) × IsMachine machine.new.view }
 {
-    assert!(rt; tables.stocks.drain(machine, 1) == 3);
-    assert!(rt; cpu.alloc_fast(tables, 1) == Fast::Drained);
+    same(rt, tables.stocks.drain(machine, 1), 3);
+    same(rt, cpu.alloc_fast(tables, 1), Fast::Drained);
     assert!(rt; cpu.has_fresh(paid));
-    assert!(rt; cpu.drop_fresh(tables, paid) == Dropped::NeedVisit);
+    same(rt, cpu.drop_fresh(tables, paid), Dropped::NeedVisit);
 }
 
 // Frames 0 and 1 are given to processor 1, whose stock is filled with 4 pages of group 1, and drained.
@@ -219,23 +227,27 @@ fn pays<N: BootName>(rt: &impl Abort, alloc: Global, parts: Parts<8>)
     requires { (parts.frames ≡ N.frames) × (parts.stocks ≡ N.stocks) }
 {
     let (tables, mut zone, mut machine, mut cpu, second) = set_up::<N, 8>(rt, alloc, parts);
-    let paid = tables.frames.frame(0).expect(rt, "frame 0");
+    let paid = frame_of(rt, &tables, 0);
     cpu.fill(&tables, &mut machine, 1, 4);
     give_first(rt, &tables, &mut zone, &mut cpu, 2);
     pays_for(rt, &tables, &mut machine, &mut cpu, paid);
     is_drained(rt, &tables, &mut machine, &mut cpu, paid);
-    assert!(rt; cpu.drops() == 0 && cpu.number() == 1);
+    same(rt, cpu.drops(), 0);
+    same(rt, cpu.number(), 1);
     give_back(&tables, &mut zone, &mut cpu);
-    assert!(rt; take_fresh(&tables, &mut zone, &mut machine, &mut cpu) == Some(paid));
-    assert!(rt; tables.stocks.absorb(&mut machine, 1) == 1);
+    same(
+        rt,
+        take_fresh(&tables, &mut zone, &mut machine, &mut cpu),
+        Some(paid),
+    );
+    same(rt, tables.stocks.absorb(&mut machine, 1), 1);
     give_up(rt, tables, cpu, second);
 }
 
 #[test]
-fn group_1_pays_and_is_drained(rt: HostRuntime) -> Result<(), Fail> {
-    let parts = make_parts::<8>(&rt, rt.alloc())?;
+fn group_1_pays_and_is_drained(rt: HostRuntime) {
+    let parts = make_parts::<8>(&rt, rt.alloc());
     pays::<Brand>(&rt, rt.alloc(), parts);
-    Ok(())
 }
 
 // Pins the frame so many times.
@@ -243,7 +255,7 @@ fn pin<N: BootName>(rt: &impl Abort, tables: &Tables<N>, cpu: &mut Cpu<N>, frame
     requires { frame < N.frames.frames }
 {
     for _ in 0..count {
-        assert!(rt; cpu.get(tables, frame) == Ok(Get::Held));
+        same(rt, cpu.get(tables, frame), Ok(Get::Held));
     }
 }
 
@@ -283,9 +295,9 @@ fn pin_all<N: BootName>(
 {
     pin(rt, tables, cpu, used.0, 128);
     pin(rt, tables, cpu, used.1, 128);
-    assert!(rt; cpu.pins() == 256);
-    assert!(rt; cpu.get(tables, used.0) == Err(Fault::PinsFull));
-    assert!(rt; cpu.get(tables, unused) == Err(Fault::PinsFull));
+    same(rt, cpu.pins(), 256);
+    same(rt, cpu.get(tables, used.0), Err(Fault::PinsFull));
+    same(rt, cpu.get(tables, unused), Err(Fault::PinsFull));
     assert!(rt; cpu.holds(used.0));
 }
 
@@ -301,9 +313,9 @@ fn pin_the_rest<N: BootName>(
     requires unused { unused < N.frames.frames }
 {
     pin(rt, tables, cpu, used.0, 254);
-    assert!(rt; cpu.get(tables, unused) == Ok(Get::Zero));
+    same(rt, cpu.get(tables, unused), Ok(Get::Zero));
     pin(rt, tables, cpu, used.1, 1);
-    assert!(rt; cpu.get(tables, used.1) == Err(Fault::PinsFull));
+    same(rt, cpu.get(tables, used.1), Err(Fault::PinsFull));
 }
 
 // Frames 1, 2 and 4, of each of which the zone has a reference now.
@@ -317,9 +329,9 @@ fn three_in_use<N: BootName>(
     ensures held { 1 ≤ holds zone.new result.0 }
     ensures frames { (result.0 < N.frames.frames) × (result.1 < N.frames.frames) × (result.2 < N.frames.frames) }
 {
-    let one = tables.frames.frame(1).expect(rt, "frame 1");
-    let other = tables.frames.frame(2).expect(rt, "frame 2");
-    let third = tables.frames.frame(4).expect(rt, "frame 4");
+    let one = frame_of(rt, tables, 1);
+    let other = frame_of(rt, tables, 2);
+    let third = frame_of(rt, tables, 4);
     tables.frames.unfreeze(zone, one, 1);
     tables.frames.unfreeze(zone, other, 1);
     tables.frames.unfreeze(zone, third, 1);
@@ -339,10 +351,10 @@ fn keeps_back<N: BootName>(
     ensures zone { IsZoneSeat N.frames zone.new × IsShut zone.new 1 }
 {
     pin(rt, tables, cpu, frame, 1);
-    assert!(rt; tables.frames.put(zone, frame) == Put::Left(1));
+    same(rt, tables.frames.put(zone, frame), Put::Left(1));
     assert!(rt; cpu.holds(frame));
-    assert!(rt; cpu.put(tables, frame) == Put::Last);
-    assert!(rt; cpu.back_len() == 1);
+    same(rt, cpu.put(tables, frame), Put::Last);
+    same(rt, cpu.back_len(), 1);
 }
 
 // 256 pins on two frames, of which the zone has a reference each; then 255 pins and a back frame.
@@ -350,24 +362,23 @@ fn pins_run_out<N: BootName>(rt: &impl Abort, alloc: Global, parts: Parts<8>)
     requires { (parts.frames ≡ N.frames) × (parts.stocks ≡ N.stocks) }
 {
     let (tables, mut zone, _, mut cpu, second) = set_up::<N, 8>(rt, alloc, parts);
-    let unused = tables.frames.frame(3).expect(rt, "frame 3");
+    let unused = frame_of(rt, &tables, 3);
     let (one, other, third) = three_in_use(rt, &tables, &mut zone);
     pin_all(rt, &tables, &mut cpu, (one, other), unused);
     unpin(rt, &tables, &mut cpu, 256);
     keeps_back(rt, &tables, &mut zone, &mut cpu, one);
     pin_the_rest(rt, &tables, &mut cpu, (other, third), unused);
-    assert!(rt; cpu.number() == 1);
+    same(rt, cpu.number(), 1);
     give_back(&tables, &mut zone, &mut cpu);
-    assert!(rt; take_last(&tables, &mut zone, &mut cpu) == Some(one));
+    same(rt, take_last(&tables, &mut zone, &mut cpu), Some(one));
     unpin(rt, &tables, &mut cpu, 255);
     give_up(rt, tables, cpu, second);
 }
 
 #[test]
-fn pins_are_full_at_256(rt: HostRuntime) -> Result<(), Fail> {
-    let parts = make_parts::<8>(&rt, rt.alloc())?;
+fn pins_are_full_at_256(rt: HostRuntime) {
+    let parts = make_parts::<8>(&rt, rt.alloc());
     pins_run_out::<Brand>(&rt, rt.alloc(), parts);
-    Ok(())
 }
 
 // Processor 1 takes and drops a page of group 1 so many times, and tells how often the page came back.
@@ -432,12 +443,11 @@ fn begins<N: BootName>(
     ensures machine { (machine.new.table ≡ N.stocks.table) × IsMachine machine.new.view }
     ensures frame { result < 8 }
 {
-    let used = tables.frames.frame(5).expect(rt, "frame 5");
-    let listed = tables.frames.frame(6).expect(rt, "frame 6");
+    let used = frame_of(rt, tables, 5);
+    let listed = frame_of(rt, tables, 6);
     tables.frames.unfreeze(zone, used, 1);
     cpu.open(tables, zone);
-    tables.frames.pass_out(zone, listed, 1);
-    cpu.accept(tables, zone, listed);
+    give(tables, zone, cpu, listed);
     cpu.fill(tables, machine, 1, 4);
     cpu.shut(tables, zone);
     used
@@ -453,19 +463,67 @@ fn works_beside<N: BootName + Send + Sync, R: Threads + Abort + Sync>(
 {
     let (tables, mut zone, mut machine, mut first, mut second) = set_up::<N, 8>(rt, alloc, parts);
     let used = begins(rt, &tables, &mut zone, &mut machine, &mut first);
-    assert!(rt; beside(rt, &tables, &mut first, &mut second, used) == (1000, false));
-    assert!(rt; first.drops() == 1000 && first.number() == 1);
-    assert!(rt; tables.stocks.drain(&mut machine, 1) == 4);
+    same(
+        rt,
+        beside(rt, &tables, &mut first, &mut second, used),
+        (1000, false),
+    );
+    same(rt, first.drops(), 1000);
+    same(rt, first.number(), 1);
+    same(rt, tables.stocks.drain(&mut machine, 1), 4);
     give_back(&tables, &mut zone, &mut first);
-    assert!(rt; first.is_idle() && second.is_idle());
+    assert!(rt; first.is_idle());
+    assert!(rt; second.is_idle());
     ends(rt, alloc, tables, (zone, machine), (first, second), used);
 }
 
 #[test]
-fn drops_beside_pins(rt: HostRuntime) -> Result<(), Fail> {
-    let parts = make_parts::<8>(&rt, rt.alloc())?;
+fn drops_beside_pins(rt: HostRuntime) {
+    let parts = make_parts::<8>(&rt, rt.alloc());
     works_beside::<Brand, _>(&rt, rt.alloc(), parts);
-    Ok(())
+}
+
+// The frames' words at the end: the frame in use has the zone's reference.
+fn close_frames(
+    rt: &impl Abort,
+    alloc: Global,
+    frames: FrameWords,
+    zone: FrameSeat,
+    seats: (FrameSeat, FrameSeat),
+    used: Frame,
+)
+    requires zone { zone.table ≡ frames.table }
+    requires seats { (seats.0.table ≡ frames.table) × (seats.1.table ≡ frames.table) }
+    requires sizes { (frames.frames ≡ 8) × (frames.cpus ≡ 2) }
+    requires used { used < 8 }
+{
+    let (first, second) = seats;
+    let mut seats = Vec::new(alloc);
+    seats.push(first).expect(rt, "memory");
+    seats.push(second).expect(rt, "memory");
+    let words = frames.close(zone, seats);
+    same(rt, words.word(used), 1);
+}
+
+// The stocks' words at the end: no stock has a page, and none is reported.
+fn close_stocks(
+    rt: &impl Abort,
+    alloc: Global,
+    stocks: StockWords,
+    machine: StockSeat,
+    payers: (StockSeat, StockSeat),
+)
+    requires machine { (machine.table ≡ stocks.table) × IsMachine machine.view }
+    requires payers { (payers.0.table ≡ stocks.table) × (payers.1.table ≡ stocks.table) }
+    requires sizes { stocks.cpus ≡ 2 }
+{
+    let (first, second) = payers;
+    let mut payers = Vec::new(alloc);
+    payers.push(first).expect(rt, "memory");
+    payers.push(second).expect(rt, "memory");
+    let books = stocks.close(machine, payers);
+    same(rt, books.stock(1), Stock::DrainedOf { group: 1 });
+    same(rt, books.reported(1), 0);
 }
 
 // The closed words: the frame in use has the zone's reference, every other frame none; no stock has a page.
@@ -486,17 +544,8 @@ fn ends<N: BootName>(
     let (frames, stocks) = tables.into_tables();
     let (first_seat, first_payer) = first.into_seats();
     let (second_seat, second_payer) = second.into_seats();
-    let mut seats = Vec::new(alloc);
-    seats.push(first_seat).expect(rt, "memory");
-    seats.push(second_seat).expect(rt, "memory");
-    let mut payers = Vec::new(alloc);
-    payers.push(first_payer).expect(rt, "memory");
-    payers.push(second_payer).expect(rt, "memory");
-    let words = frames.close(zone.0, seats);
-    assert!(rt; words.word(used) == 1);
-    let books = stocks.close(zone.1, payers);
-    assert!(rt; books.stock(1) == Stock::DrainedOf { group: 1 });
-    assert!(rt; books.reported(1) == 0);
+    close_frames(rt, alloc, frames, zone.0, (first_seat, second_seat), used);
+    close_stocks(rt, alloc, stocks, zone.1, (first_payer, second_payer));
 }
 
 // Gives a frame of the zone's hand to a processor whose visit is open.
@@ -533,7 +582,7 @@ pub(crate) fn give_first<N: BootName>(
 {
     cpu.open(tables, zone);
     for n in 0..count {
-        let frame = tables.frames.frame(n).expect(rt, "a frame");
+        let frame = frame_of(rt, tables, n);
         give(tables, zone, cpu, frame);
     }
     cpu.shut(tables, zone);
@@ -542,17 +591,17 @@ pub(crate) fn give_first<N: BootName>(
 // Takes so many frames for group 1.
 fn take<N: BootName>(rt: &impl Abort, tables: &Tables<N>, cpu: &mut Cpu<N>, count: u32) {
     for n in 0..count {
-        let frame = tables.frames.frame(n).expect(rt, "a frame");
-        assert!(rt; cpu.alloc_fast(tables, 1) == Fast::Got(frame));
+        let frame = frame_of(rt, tables, n);
+        same(rt, cpu.alloc_fast(tables, 1), Fast::Got(frame));
     }
 }
 
 // Drops the frames below this number, which are fresh.
 fn drop_all<N: BootName>(rt: &impl Abort, tables: &Tables<N>, cpu: &mut Cpu<N>, count: u32) {
     for n in 0..count {
-        let frame = tables.frames.frame(n).expect(rt, "a frame");
+        let frame = frame_of(rt, tables, n);
         assert!(rt; cpu.has_fresh(frame));
-        assert!(rt; cpu.drop_fresh(tables, frame) == Dropped::Listed);
+        same(rt, cpu.drop_fresh(tables, frame), Dropped::Listed);
     }
 }
 
@@ -576,18 +625,19 @@ fn fresh_runs_out<N: BootName>(rt: &impl Abort, alloc: Global, parts: Parts<40>)
     cpu.fill(&tables, &mut machine, 1, 40);
     give_first(rt, &tables, &mut zone, &mut cpu, 33);
     take(rt, &tables, &mut cpu, 32);
-    assert!(rt; cpu.alloc_fast(&tables, 1) == Fast::FreshFull);
-    assert!(rt; cpu.fresh_len() == 32);
+    same(rt, cpu.alloc_fast(&tables, 1), Fast::FreshFull);
+    same(rt, cpu.fresh_len(), 32);
     drop_all(rt, &tables, &mut cpu, 32);
-    assert!(rt; cpu.list_len() == 33 && cpu.drops() == 32 && cpu.number() == 1);
+    same(rt, cpu.list_len(), 33);
+    same(rt, cpu.drops(), 32);
+    same(rt, cpu.number(), 1);
     give_back(&tables, &mut zone, &mut cpu);
-    assert!(rt; cpu.alloc_fast(&tables, 1) == Fast::ListEmpty);
+    same(rt, cpu.alloc_fast(&tables, 1), Fast::ListEmpty);
     give_up(rt, tables, cpu, second);
 }
 
 #[test]
-fn fresh_frames_are_full_at_32(rt: HostRuntime) -> Result<(), Fail> {
-    let parts = make_parts::<40>(&rt, rt.alloc())?;
+fn fresh_frames_are_full_at_32(rt: HostRuntime) {
+    let parts = make_parts::<40>(&rt, rt.alloc());
     fresh_runs_out::<Brand>(&rt, rt.alloc(), parts);
-    Ok(())
 }

@@ -1,9 +1,9 @@
 ghost use Rattle.std.specs.Prelude.{◌≡◌, ◌≤◌, ◌+◌, false, length};
-ghost use Rattle.stock_word.specs.Stock.{IsProcessor, IsMachine, IsSettled, account_of};
+ghost use Rattle.stock_word.specs.Stock.{IsProcessor, IsMachine, IsSettled, account_of, first_machine, first_processor};
 ghost use Rattle.stock_word.specs.Kinds.{draining};
 
+use crate::rows::same;
 use std::process::Abort;
-use std::test::Fail;
 use std::thread::{Threads, join};
 use stock_word::{Consume, Credit, Stock, StockSeat, StockWords};
 
@@ -14,22 +14,32 @@ fn nothing_booked(machine: &StockSeat)
     let _ = machine;
 }
 
+// A page of the stock is fresh when the other three are drained. It is reported and taken in.
+fn drained_beside_a_page(
+    rt: &impl Abort,
+    words: &StockWords,
+    machine: &mut StockSeat,
+    seat: &mut StockSeat,
+)
+    requires tables { (machine.old.table ≡ words.now.table) × (seat.old.table ≡ words.now.table) }
+    requires views { (machine.old.view ≡ first_machine) × (seat.old.view ≡ first_processor 1) × (words.now.cpus ≡ 1) }
+{
+    words.fill(machine, seat, 1, 4);
+    same(rt, words.consume(seat, 1), Consume::Took);
+    same(rt, words.consume(seat, 2), Consume::OtherGroup);
+    same(rt, words.drain(machine, 1), 3);
+    same(rt, words.consume(seat, 1), Consume::Drained);
+    same(rt, words.credit(seat), Credit::Drained);
+    words.report(machine, seat, 1);
+    words.absorb(machine, 1);
+    nothing_booked(machine);
+}
+
 #[test]
-fn drained_with_a_fresh_page(rt: HostRuntime) -> Result<(), Fail> {
-    let (words, mut machine, mut seats) = StockWords::new(rt.alloc(), 1)?;
+fn drained_with_a_fresh_page(rt: HostRuntime) {
+    let (words, mut machine, mut seats) = StockWords::new(rt.alloc(), 1).expect(&rt, "memory");
     let mut seat = seats.pop().expect(&rt, "the seat of processor 1");
-    words.fill(&mut machine, &mut seat, 1, 4);
-    assert!(rt; words.look(&mut machine, &mut seat) == Stock::HeldBy { group: 1, pages: 4 });
-    assert!(rt; words.consume(&mut seat, 1) == Consume::Took);
-    assert!(rt; words.consume(&mut seat, 2) == Consume::OtherGroup);
-    assert!(rt; words.drain(&mut machine, 1) == 3);
-    assert!(rt; words.look(&mut machine, &mut seat) == Stock::DrainedOf { group: 1 });
-    assert!(rt; words.consume(&mut seat, 1) == Consume::Drained);
-    assert!(rt; words.credit(&mut seat) == Credit::Drained);
-    words.report(&mut machine, &mut seat, 1);
-    assert!(rt; words.absorb(&mut machine, 1) == 1);
-    nothing_booked(&machine);
-    Ok(())
+    drained_beside_a_page(&rt, &words, &mut machine, &mut seat);
 }
 
 // Takes a page of the stock, of whatever group it is, where one is left. Tells whether there was.
@@ -48,24 +58,31 @@ fn take_left(words: &StockWords, machine: &mut StockSeat, seat: &mut StockSeat) 
     }
 }
 
-#[test]
-fn taken_by_the_books(rt: HostRuntime) -> Result<(), Fail> {
-    let (words, mut machine, mut seats) = StockWords::new(rt.alloc(), 2)?;
-    let mut seat = seats.pop().expect(&rt, "the seat of processor 2");
-    assert!(rt; words.cpus() == 2 && seat.number() == 2 && seat.last() == Stock::NoGroup);
-    words.fill(&mut machine, &mut seat, 63, 2);
-    assert!(rt; take_left(&words, &mut machine, &mut seat));
-    assert!(rt;
-        seat.last()
-            == Stock::HeldBy {
-                group: 63,
-                pages: 1
-            }
+// Of the two pages of the stock, one is taken by the books, the other by its word.
+fn takes_both(rt: &impl Abort, words: &StockWords, machine: &mut StockSeat, seat: &mut StockSeat)
+    requires tables { (machine.old.table ≡ words.now.table) × (seat.old.table ≡ words.now.table) }
+    requires views { (machine.old.view ≡ first_machine) × (seat.old.view ≡ first_processor 2) × (words.now.cpus ≡ 2) }
+{
+    words.fill(machine, seat, 63, 2);
+    same(rt, take_left(words, machine, seat), true);
+    same(
+        rt,
+        seat.last(),
+        Stock::HeldBy {
+            group: 63,
+            pages: 1,
+        },
     );
-    assert!(rt; words.consume(&mut seat, 63) == Consume::Took);
-    assert!(rt; words.consume(&mut seat, 63) == Consume::Empty);
-    assert!(rt; words.look(&mut machine, &mut seat).pages() == 0);
-    Ok(())
+    same(rt, words.consume(seat, 63), Consume::Took);
+    same(rt, words.consume(seat, 63), Consume::Empty);
+    same(rt, words.look(machine, seat).pages(), 0);
+}
+
+#[test]
+fn taken_by_the_books(rt: HostRuntime) {
+    let (words, mut machine, mut seats) = StockWords::new(rt.alloc(), 2).expect(&rt, "memory");
+    let mut seat = seats.pop().expect(&rt, "the seat of processor 2");
+    takes_both(&rt, &words, &mut machine, &mut seat);
 }
 
 // Takes and gives back pages of group 1 until it is told that the stock is drained, or for 100
@@ -143,18 +160,17 @@ fn round<R: Threads + Sync>(
 }
 
 #[test]
-fn drains_beside_consumes_and_credits(rt: HostRuntime) -> Result<(), Fail> {
-    let (words, mut machine, mut seats) = StockWords::new(rt.alloc(), 1)?;
+fn drains_beside_consumes_and_credits(rt: HostRuntime) {
+    let (words, mut machine, mut seats) = StockWords::new(rt.alloc(), 1).expect(&rt, "memory");
     let mut seat = seats.pop().expect(&rt, "the seat of processor 1");
     for _ in 0..200u64 {
         let (machine_after, seat_after, back) = round(&rt, &words, machine, seat);
         machine = machine_after;
         seat = seat_after;
-        assert!(rt; back == 50);
+        same(&rt, back, 50);
     }
-    seats.push(seat)?;
+    seats.push(seat).expect(&rt, "memory");
     let closed = words.close(machine, seats);
-    assert!(rt; closed.stock(1) == Stock::DrainedOf { group: 1 });
-    assert!(rt; closed.reported(1) == 0);
-    Ok(())
+    same(&rt, closed.stock(1), Stock::DrainedOf { group: 1 });
+    same(&rt, closed.reported(1), 0);
 }
