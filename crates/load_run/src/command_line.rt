@@ -201,6 +201,3 @@ fn size(found: &ArgMatches<'_>, name: &str, most: u32) -> Option<u32>
         Some(size)
     }
 }
-
-#[cfg(test)]
-mod tests;

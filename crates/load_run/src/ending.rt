@@ -28,7 +28,7 @@ fn put_pins<N: BootName>(tables: &Tables<N>, cpu: &mut Cpu<N>)
 }
 
 // Puts every pin of the processors.
-pub(crate) fn put_all<N: BootName>(tables: &Tables<N>, cpus: &mut [Cpu<N>])
+fn put_all<N: BootName>(tables: &Tables<N>, cpus: &mut [Cpu<N>])
     ensures { AllZip LetsGo cpus.old cpus.new }
 {
     for cpu in cpus.iter_mut() {

@@ -144,10 +144,3 @@ pub fn tell<F: Write>(faults: &mut F, fault: &ProgramFault) -> u8
     let _ = faults.flush();
     fault.status()
 }
-
-#[cfg(test)]
-mod rows;
-#[cfg(test)]
-mod tests;
-#[cfg(test)]
-mod visits;

@@ -1,5 +1,6 @@
 //! What has to be alike on the plain side and in the machine.
 
+use crate::holds::holds;
 use crate::plain::Plain;
 use cpu_part::{BootName, Cpu, Tables};
 use group_tree::group::GroupId;
@@ -16,9 +17,21 @@ pub fn places_alike<N: BootName>(
     for number in 0..tables.frames.frames() {
         let frame = tables.frames.frame(number).expect(rt, "a frame");
         let at = number as usize;
-        assert!(rt; Some(machine.place(frame)) == plain.places.get(at).copied());
-        assert!(rt; Some(machine.unit(frame)) == plain.units.get(at).copied());
-        assert!(rt; machine.is_kept(frame) == machine.unit(frame).is_some());
+        holds(
+            rt,
+            Some(machine.place(frame)) == plain.places.get(at).copied(),
+            "places alike",
+        );
+        holds(
+            rt,
+            Some(machine.unit(frame)) == plain.units.get(at).copied(),
+            "places alike",
+        );
+        holds(
+            rt,
+            machine.is_kept(frame) == machine.unit(frame).is_some(),
+            "places alike",
+        );
     }
 }
 
@@ -31,10 +44,20 @@ fn group_alike<N: BootName>(rt: &impl Abort, machine: &Machine<N>, plain: &Plain
         return;
     }
     let peak = plain.peaks.get(group.number() as usize).copied();
-    assert!(rt; u64::from(machine.current(group)) == plain.usage(group));
-    assert!(rt; Some(u64::from(charges.peak(group))) == peak);
-    assert!(rt;
-        Some(machine.is_killed(group)) == plain.killed.get(group.number() as usize).copied()
+    holds(
+        rt,
+        u64::from(machine.current(group)) == plain.usage(group),
+        "group alike",
+    );
+    holds(
+        rt,
+        Some(u64::from(charges.peak(group))) == peak,
+        "group alike",
+    );
+    holds(
+        rt,
+        Some(machine.is_killed(group)) == plain.killed.get(group.number() as usize).copied(),
+        "group alike",
     );
 }
 
@@ -45,16 +68,16 @@ pub fn groups_alike<N: BootName>(rt: &impl Abort, machine: &Machine<N>, plain: &
             group_alike(rt, machine, plain, group);
         }
     }
-    assert!(rt; machine.counts() == plain.counts);
+    holds(rt, machine.counts() == plain.counts, "groups alike");
 }
 
 /// The processor has as many frames on its list, and the same fresh ones.
 pub fn lists_alike<N: BootName>(rt: &impl Abort, tables: &Tables<N>, cpu: &Cpu<N>, plain: &Plain) {
     let seat = plain.seat(rt, cpu.number());
-    assert!(rt; cpu.list_len() == seat.list.len());
-    assert!(rt; cpu.fresh_len() == seat.fresh.len());
+    holds(rt, cpu.list_len() == seat.list.len(), "lists alike");
+    holds(rt, cpu.fresh_len() == seat.fresh.len(), "lists alike");
     for fresh in seat.fresh.iter() {
         let frame = tables.frames.frame(*fresh).expect(rt, "a frame");
-        assert!(rt; cpu.has_fresh(frame));
+        holds(rt, cpu.has_fresh(frame), "lists alike");
     }
 }

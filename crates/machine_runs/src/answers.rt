@@ -1,5 +1,6 @@
 //! What the answers of a call change on the plain side, and what they have to be there.
 
+use crate::holds::holds;
 use crate::made::Made;
 use crate::plain::Plain;
 use cpu_part::{Dropped, Fast};
@@ -14,7 +15,7 @@ fn refilled(rt: &impl Abort, plain: &mut Plain, cpu: u32, batch: u32, frames: u3
         let frame = plain.front(0).expect(rt, "a free frame");
         plain.list(rt, cpu, frame);
     }
-    assert!(rt; frames == batch || plain.front(0).is_none());
+    holds(rt, frames == batch || plain.front(0).is_none(), "refilled");
 }
 
 // So many frames go back from the front of the list.
@@ -22,7 +23,11 @@ fn drained_list(rt: &impl Abort, plain: &mut Plain, cpu: u32, count: u32, frames
     for _ in 0..frames {
         plain.unlist(rt, cpu);
     }
-    assert!(rt; frames == count || plain.seat(rt, cpu).list.is_empty());
+    holds(
+        rt,
+        frames == count || plain.seat(rt, cpu).list.is_empty(),
+        "drained list",
+    );
 }
 
 // A group is made of the path: it was used for nothing yet.
@@ -37,7 +42,7 @@ fn made_group(rt: &impl Abort, plain: &mut Plain, path: u32, group: GroupId) {
 
 // A group that is used for nothing goes.
 fn removed(rt: &impl Abort, plain: &mut Plain, group: GroupId) {
-    assert!(rt; plain.usage(group) == 0);
+    holds(rt, plain.usage(group) == 0, "removed");
     let number = group.number() as usize;
     assert!(rt; number < plain.paths.len());
     plain.paths[number] = None;
@@ -101,7 +106,7 @@ fn settled(rt: &impl Abort, plain: &mut Plain, cpu: u32, frames: u32) {
     for _ in 0..frames {
         settled_one(rt, plain, cpu);
     }
-    assert!(rt; plain.seat(rt, cpu).fresh.is_empty());
+    holds(rt, plain.seat(rt, cpu).fresh.is_empty(), "settled");
 }
 
 // A block is taken where its place is by the free frames, or a limit has no room for it, or there is none.
@@ -115,7 +120,7 @@ fn took_block(
     if over.is_some() {
         return;
     }
-    assert!(rt; head == plain.front(unit.order.exponent()));
+    holds(rt, head == plain.front(unit.order.exponent()), "took block");
     plain.raise_peaks(rt, unit.group, unit.order.frames());
     if let Some(head) = head {
         plain.keep(rt, head, unit);
@@ -127,15 +132,15 @@ fn paid(rt: &impl Abort, plain: &mut Plain, cpu: u32, group: GroupId, fast: Fast
     let seat = plain.seat_mut(rt, cpu);
     match fast {
         Fast::Got(frame) => {
-            assert!(rt; seat.list.pop_front() == Some(frame.number()));
-            assert!(rt; seat.group == Some(group));
+            holds(rt, seat.list.pop_front() == Some(frame.number()), "paid");
+            holds(rt, seat.group == Some(group), "paid");
             seat.pages = seat.pages.checked_sub(1).expect(rt, "a page");
-            assert!(rt; seat.fresh.push(frame.number()).is_ok());
+            holds(rt, seat.fresh.push(frame.number()).is_ok(), "paid");
         }
-        Fast::FreshFull => assert!(rt; seat.fresh.len() == 32),
-        Fast::ListEmpty => assert!(rt; seat.list.is_empty()),
-        Fast::OtherGroup => assert!(rt; seat.group != Some(group)),
-        Fast::Drained | Fast::NoStock => assert!(rt; seat.pages == 0),
+        Fast::FreshFull => holds(rt, seat.fresh.len() == 32, "paid"),
+        Fast::ListEmpty => holds(rt, seat.list.is_empty(), "paid"),
+        Fast::OtherGroup => holds(rt, seat.group != Some(group), "paid"),
+        Fast::Drained | Fast::NoStock => holds(rt, seat.pages == 0, "paid"),
     }
 }
 
@@ -147,9 +152,9 @@ fn gave_back(rt: &impl Abort, plain: &mut Plain, cpu: u32, frame: u32, dropped: 
         Dropped::Listed => {
             seat.fresh.remove(0);
             seat.pages = seat.pages.saturating_add(1);
-            assert!(rt; seat.list.push_back(frame).is_ok());
+            holds(rt, seat.list.push_back(frame).is_ok(), "gave back");
         }
-        Dropped::NeedVisit => assert!(rt; seat.pages == 0),
+        Dropped::NeedVisit => holds(rt, seat.pages == 0, "gave back"),
     }
 }
 
@@ -168,11 +173,11 @@ pub fn recount(rt: &impl Abort, plain: &mut Plain, cpu: u32, made: &Made) {
         Made::Prepaid { group, pages, over } => prepaid(rt, plain, cpu, group, pages, over),
         Made::DrainedStock { cpu, pages } => {
             let drained = drain(rt, plain, cpu);
-            assert!(rt; drained == pages);
+            holds(rt, drained == pages, "recount");
         }
         Made::DrainedBelow { group, pages } => {
             let drained = drained_below(rt, plain, group);
-            assert!(rt; drained == pages);
+            holds(rt, drained == pages, "recount");
         }
         Made::Settled { frames } => settled(rt, plain, cpu, frames),
         Made::TookBlock {
@@ -182,7 +187,7 @@ pub fn recount(rt: &impl Abort, plain: &mut Plain, cpu: u32, made: &Made) {
             over,
         } => took_block(rt, plain, ChargedUnit { group, order }, head, over),
         Made::Released { frame, left } => {
-            assert!(rt; left == None);
+            holds(rt, left == None, "recount");
             plain.free(rt, frame);
         }
         Made::Paid { group, answer } => paid(rt, plain, cpu, group, answer),

@@ -1,5 +1,6 @@
 //! The core's side: the steps of each call, with the answers that they have to get, and what has to be alike then.
 
+use crate::holds::holds;
 use crate::made::{Made, path};
 use cpu_part::{BootName, Cpu, Dropped, Fast, Tables};
 use group_tree::group::GroupId;
@@ -21,7 +22,7 @@ fn step(rt: &impl Abort, core: &mut Core, seat: u32, action: Action) -> Answer {
 // A step that is made.
 fn done(rt: &impl Abort, core: &mut Core, seat: u32, action: Action) {
     let answer = step(rt, core, seat, action);
-    assert!(rt; answer == Answer::Done);
+    holds(rt, answer == Answer::Done, "done");
 }
 
 /// The processor takes the lock, and its visit begins.
@@ -45,7 +46,11 @@ fn refilled(rt: &impl Abort, core: &mut Core, cpu: u32, batch: u32, frames: u32)
         done(rt, core, 0, Action::PassOut { frame, cpu });
         done(rt, core, cpu, Action::TakeIn { frame });
     }
-    assert!(rt; frames == batch || core.areas().smallest_from(smallest).is_none());
+    holds(
+        rt,
+        frames == batch || core.areas().smallest_from(smallest).is_none(),
+        "refilled",
+    );
 }
 
 // So many frames go back from the front of the list.
@@ -55,7 +60,11 @@ fn drained_list(rt: &impl Abort, core: &mut Core, cpu: u32, count: u32, frames: 
         done(rt, core, cpu, Action::PassBack { frame });
         done(rt, core, 0, Action::Collect { frame, cpu });
     }
-    assert!(rt; frames == count || core.list_len(cpu) == 0);
+    holds(
+        rt,
+        frames == count || core.list_len(cpu) == 0,
+        "drained list",
+    );
 }
 
 // A group is made, or its path is refused.
@@ -63,7 +72,7 @@ fn made_group(rt: &impl Abort, core: &mut Core, number: u32, group: Option<Group
     let path = PathText::of(path(number)).expect(rt, "a short path");
     let wanted = group.map_or(Answer::Illegal, Answer::Number);
     let answer = step(rt, core, 0, Action::Make { path });
-    assert!(rt; answer == wanted);
+    holds(rt, answer == wanted, "made group");
 }
 
 // The stock of a processor is drained, and its pages go back.
@@ -92,7 +101,11 @@ fn prepaid(
 ) {
     drain(rt, core, cpu);
     let answer = step(rt, core, 0, Action::Grant { group, pages });
-    assert!(rt; answer == over.map_or(Answer::Granted, Answer::Over));
+    holds(
+        rt,
+        answer == over.map_or(Answer::Granted, Answer::Over),
+        "prepaid",
+    );
     if over.is_none() {
         done(rt, core, 0, Action::Fill { cpu, group, pages });
     }
@@ -126,12 +139,12 @@ fn settled(rt: &impl Abort, core: &mut Core, cpu: u32, frames: u32) {
             done(rt, core, cpu, Action::Report { pages: 1 });
             done(rt, core, 0, Action::Collect { frame, cpu });
             let answer = step(rt, core, 0, Action::Absorb { cpu });
-            assert!(rt; answer == Answer::Pages(1));
+            holds(rt, answer == Answer::Pages(1), "settled");
             done(rt, core, 0, Action::Unfreeze { frame, count: 1 });
             done(rt, core, 0, Action::Publish { frame });
         }
     }
-    assert!(rt; core.fresh(cpu).is_empty());
+    holds(rt, core.fresh(cpu).is_empty(), "settled");
 }
 
 // A block is placed, or none, for pages that were granted.
@@ -141,7 +154,7 @@ fn placed(rt: &impl Abort, core: &mut Core, group: GroupId, order: Order, head: 
         |at| Answer::Placed(Block { at, order }),
     );
     let answer = step(rt, core, 0, Action::PlaceBlock { group, order });
-    assert!(rt; answer == wanted);
+    holds(rt, answer == wanted, "placed");
     let pages = order.frames();
     match head {
         Some(frame) => {
@@ -163,7 +176,11 @@ fn took_block(
 ) {
     let pages = order.frames();
     let answer = step(rt, core, 0, Action::Grant { group, pages });
-    assert!(rt; answer == over.map_or(Answer::Granted, Answer::Over));
+    holds(
+        rt,
+        answer == over.map_or(Answer::Granted, Answer::Over),
+        "took block",
+    );
     if over.is_none() {
         placed(rt, core, group, order, head);
     }
@@ -175,10 +192,10 @@ fn released(rt: &impl Abort, core: &mut Core, frame: u32, left: Option<u64>) {
     match left {
         Some(left) => {
             let few = u32::try_from(left).ok().expect(rt, "few references");
-            assert!(rt; answer == Answer::Left(few));
+            holds(rt, answer == Answer::Left(few), "released");
         }
         None => {
-            assert!(rt; answer == Answer::Last);
+            holds(rt, answer == Answer::Last, "released");
             done(rt, core, 0, Action::Return { frame });
         }
     }
@@ -187,21 +204,21 @@ fn released(rt: &impl Abort, core: &mut Core, frame: u32, left: Option<u64>) {
 // A frame is paid for, or not. That the stock has no page is told by what the processor saw of it last, without a step.
 fn paid(rt: &impl Abort, core: &mut Core, cpu: u32, group: GroupId, fast: Fast) {
     if fast == Fast::NoStock {
-        assert!(rt; core.stock_pages(cpu) == 0);
+        holds(rt, core.stock_pages(cpu) == 0, "paid");
         return;
     }
     let front = core.front(cpu);
     let answer = step(rt, core, cpu, Action::Consume { group });
     let wanted = match fast {
         Fast::Got(frame) => {
-            assert!(rt; frame.number() == front);
+            holds(rt, frame.number() == front, "paid");
             Answer::Took
         }
         Fast::FreshFull | Fast::ListEmpty => Answer::Illegal,
         Fast::OtherGroup => Answer::OtherGroup,
         Fast::Drained | Fast::NoStock => Answer::Drained,
     };
-    assert!(rt; answer == wanted);
+    holds(rt, answer == wanted, "paid");
 }
 
 // A fresh frame is given back, or not.
@@ -211,7 +228,7 @@ fn gave_back(rt: &impl Abort, core: &mut Core, cpu: u32, frame: u32, dropped: Dr
         Dropped::NeedVisit => Answer::Drained,
     };
     let answer = step(rt, core, cpu, Action::Credit { frame });
-    assert!(rt; answer == wanted);
+    holds(rt, answer == wanted, "gave back");
 }
 
 /// The steps of a call of this processor.
@@ -227,11 +244,11 @@ pub fn follow(rt: &impl Abort, core: &mut Core, cpu: u32, made: &Made) {
         Made::Prepaid { group, pages, over } => prepaid(rt, core, cpu, group, pages, over),
         Made::DrainedStock { cpu, pages } => {
             let drained = drain(rt, core, cpu);
-            assert!(rt; drained == pages);
+            holds(rt, drained == pages, "follow");
         }
         Made::DrainedBelow { group, pages } => {
             let drained = drained_below(rt, core, group);
-            assert!(rt; drained == pages);
+            holds(rt, drained == pages, "follow");
         }
         Made::Settled { frames } => settled(rt, core, cpu, frames),
         Made::TookBlock {
@@ -266,8 +283,12 @@ pub fn places_agree<N: BootName>(
         let frame = tables.frames.frame(number).expect(rt, "a frame");
         let here = machine.place(frame);
         let there = core.place(number);
-        assert!(rt; place_agrees(core, number, here, there));
-        assert!(rt; machine.is_kept(frame) == (core.references(0, number) == 1));
+        holds(rt, place_agrees(core, number, here, there), "places agree");
+        holds(
+            rt,
+            machine.is_kept(frame) == (core.references(0, number) == 1),
+            "places agree",
+        );
     }
 }
 
@@ -278,11 +299,27 @@ fn group_agrees<N: BootName>(rt: &impl Abort, machine: &Machine<N>, core: &Core,
     if !charges.tree().contains(group) || !core.tree().contains(group) {
         return;
     }
-    assert!(rt; u128::from(machine.current(group)) == core.current(group));
-    assert!(rt; u128::from(charges.peak(group)) == core.peak(group));
-    assert!(rt; charges.max(group) == core.max(group));
-    assert!(rt; charges.events(group).max == core.events(group).max);
-    assert!(rt; charges.events_local(group).max == core.events_local(group).max);
+    holds(
+        rt,
+        u128::from(machine.current(group)) == core.current(group),
+        "group agrees",
+    );
+    holds(
+        rt,
+        u128::from(charges.peak(group)) == core.peak(group),
+        "group agrees",
+    );
+    holds(rt, charges.max(group) == core.max(group), "group agrees");
+    holds(
+        rt,
+        charges.events(group).max == core.events(group).max,
+        "group agrees",
+    );
+    holds(
+        rt,
+        charges.events_local(group).max == core.events_local(group).max,
+        "group agrees",
+    );
 }
 
 /// Each group has the same usage, peak, limit and counts of events.
@@ -297,10 +334,14 @@ pub fn groups_agree<N: BootName>(rt: &impl Abort, machine: &Machine<N>, core: &C
 /// The processor has as many frames on its list, and the same fresh ones.
 pub fn lists_agree<N: BootName>(rt: &impl Abort, tables: &Tables<N>, cpu: &Cpu<N>, core: &Core) {
     let number = cpu.number();
-    assert!(rt; cpu.list_len() == core.list_len(number));
-    assert!(rt; cpu.fresh_len() == core.fresh(number).len());
+    holds(rt, cpu.list_len() == core.list_len(number), "lists agree");
+    holds(
+        rt,
+        cpu.fresh_len() == core.fresh(number).len(),
+        "lists agree",
+    );
     for fresh in core.fresh(number) {
         let frame = tables.frames.frame(*fresh).expect(rt, "a frame");
-        assert!(rt; cpu.has_fresh(frame));
+        holds(rt, cpu.has_fresh(frame), "lists agree");
     }
 }

@@ -15,6 +15,8 @@ mod few;
 #[cfg(test)]
 mod follower;
 #[cfg(test)]
+mod holds;
+#[cfg(test)]
 mod large;
 #[cfg(test)]
 mod made;

@@ -1,8 +1,10 @@
 //! The tables and the seats of a boot with four processors.
 ghost use Rattle.std.specs.Prelude.{◌≡◌, ◌≤◌};
-ghost use Rattle.frame_word.specs.Seats.{first_zone_view, first_cpu_view};
-ghost use Rattle.stock_word.specs.Stock.{first_machine, first_processor};
+ghost use Rattle.frame_word.specs.Seats.{first_zone_view, first_cpu_view, number_of, IsCpuSeat};
+ghost use Rattle.stock_word.specs.Stock.{first_machine, first_processor, IsProcessor};
+ghost use Rattle.cpu_part.specs.Cpus.{first_cpu};
 
+use cpu_part::{BootName, Cpu};
 use frame_word::{FrameSeat, FrameWords};
 use std::alloc::{AllocError, Global};
 use std::process::Abort;
@@ -71,4 +73,20 @@ pub fn make_parts<const F: u32>(rt: &impl Abort, alloc: Global) -> Result<Parts<
         third,
         fourth,
     })
+}
+
+/// The part of the processor whose seats these are.
+pub fn new_cpu<N: BootName>(rt: &impl Abort, alloc: Global, seats: Seats) -> Cpu<N>
+    requires seat { IsCpuSeat N.frames seats.frames × (seats.frames.view ≡ first_cpu_view (number_of seats.frames)) }
+    requires stock { (seats.stock.table ≡ N.stocks.table) × IsProcessor N.stocks seats.stock.view × (seats.stock.view.fresh ≡ 0) }
+    requires same { seats.stock.view.number ≡ number_of seats.frames }
+    ensures { result ≡ first_cpu seats.frames seats.stock }
+{
+    Cpu::<N>::new(alloc, seats.frames, seats.stock).expect(rt, "memory")
+}
+
+/// A processor's part with nothing left is taken apart.
+pub fn close<N: BootName>(rt: &impl Abort, cpu: Cpu<N>) {
+    assert!(rt; cpu.is_idle());
+    let _ = cpu.into_seats();
 }

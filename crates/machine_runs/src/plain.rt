@@ -1,5 +1,6 @@
 //! The plain side: vectors that are changed by the answers of the calls alone.
 
+use crate::holds::holds;
 use crate::made::path;
 use group_tree::group::GroupId;
 use mem_machine::{Counts, Place};
@@ -145,7 +146,7 @@ impl Plain {
     pub fn list(&mut self, rt: &impl Abort, cpu: u32, frame: u32) {
         self.put_one(rt, frame as usize, &Place::Lent(cpu));
         let pushed = self.seat_mut(rt, cpu).list.push_back(frame);
-        assert!(rt; pushed.is_ok());
+        holds(rt, pushed.is_ok(), "list");
     }
 
     /// The front of the processor's list is free again, if there is one.

@@ -3,13 +3,12 @@
 ghost use Rattle.std.specs.Prelude.{◌≡◌};
 ghost use Rattle.frame_word.specs.Seats.{first_zone_view};
 ghost use Rattle.stock_word.specs.Stock.{first_machine};
-ghost use Rattle.cpu_part.specs.Cpus.{IsIdle};
 ghost use Rattle.machine_runs.specs.Visiting.{AllShut};
 
 use crate::calls::{Turn, fast, visit};
 use crate::follower::Follower;
 use crate::made::Made;
-use crate::parts::{Parts, make_parts};
+use crate::parts::{Parts, close, make_parts, new_cpu};
 use crate::plain::Plain;
 use crate::tally::Tally;
 use cpu_part::{BootName, Cpu, Tables};
@@ -58,14 +57,12 @@ fn finish<N: BootName>(
     beside: &mut Follower,
 )
     requires { AllShut machine.old }
-    ensures shut { AllShut machine.new }
-    ensures idle { IsIdle cpu.new }
+    ensures { AllShut machine.new }
 {
     play(rt, tables, machine, cpu, beside, 0x8000_000b);
     for _ in 0..32 {
         play(rt, tables, machine, cpu, beside, 0x8000_0c02);
     }
-    assert!(rt; cpu.is_idle());
 }
 
 // The machine of a new boot.
@@ -84,40 +81,105 @@ fn new_machine<N: BootName>(
     Machine::<N>::new(alloc, tables, zone, stock).expect(rt, "memory")
 }
 
+// The parts of the four processors.
+struct Four<N: BootName> {
+    first: Cpu<N>,
+    second: Cpu<N>,
+    third: Cpu<N>,
+    fourth: Cpu<N>,
+}
+
+// The machine and the processors stand as what runs beside.
+fn compare<N: BootName>(
+    rt: &impl Abort,
+    tables: &Tables<N>,
+    machine: &Machine<N>,
+    cpus: &Four<N>,
+    beside: &Follower,
+) {
+    beside.compare(rt, tables, machine);
+    beside.compare_lists(rt, tables, &cpus.first);
+    beside.compare_lists(rt, tables, &cpus.second);
+    beside.compare_lists(rt, tables, &cpus.third);
+    beside.compare_lists(rt, tables, &cpus.fourth);
+}
+
+// One call of the processor that the word names.
+fn play_one<N: BootName>(
+    rt: &impl Abort,
+    tables: &Tables<N>,
+    machine: &mut Machine<N>,
+    cpus: &mut Four<N>,
+    beside: &mut Follower,
+    word: u32,
+) -> Made
+    requires { AllShut machine.old }
+    ensures { AllShut machine.new }
+{
+    let cpu = match (word >> 24) % 4 {
+        0 => &mut cpus.first,
+        1 => &mut cpus.second,
+        2 => &mut cpus.third,
+        _ => &mut cpus.fourth,
+    };
+    play(rt, tables, machine, cpu, beside, word)
+}
+
 // So many random calls of four processors, compared with what runs beside at every twentieth. It tells how often each kind of
 // call did something.
 fn drive<N: BootName>(
     rt: &impl Abort,
     tables: &Tables<N>,
     machine: &mut Machine<N>,
-    cpus: (&mut Cpu<N>, &mut Cpu<N>, &mut Cpu<N>, &mut Cpu<N>),
+    cpus: &mut Four<N>,
     beside: &mut Follower,
     calls: u32,
 ) -> Tally
     requires { AllShut machine.old }
     ensures { AllShut machine.new }
 {
-    let (first, second, third, fourth) = cpus;
     let mut random = Pcg32::seed_from_u64(2_026);
     let mut tally = Tally::new();
     for call in 0..calls {
         let word = random.next_u32();
-        let made = match (word >> 24) % 4 {
-            0 => play(rt, tables, machine, first, beside, word),
-            1 => play(rt, tables, machine, second, beside, word),
-            2 => play(rt, tables, machine, third, beside, word),
-            _ => play(rt, tables, machine, fourth, beside, word),
-        };
+        let made = play_one(rt, tables, machine, cpus, beside, word);
         tally.note(&made);
         if call % 20 == 19 {
-            beside.compare(rt, tables, machine);
-            beside.compare_lists(rt, tables, first);
-            beside.compare_lists(rt, tables, second);
-            beside.compare_lists(rt, tables, third);
-            beside.compare_lists(rt, tables, fourth);
+            compare(rt, tables, machine, cpus, beside);
         }
     }
     tally
+}
+
+// Every processor gives back what it has.
+fn finish_all<N: BootName>(
+    rt: &impl Abort,
+    tables: &Tables<N>,
+    machine: &mut Machine<N>,
+    cpus: &mut Four<N>,
+    beside: &mut Follower,
+)
+    requires { AllShut machine.old }
+{
+    finish(rt, tables, machine, &mut cpus.first, beside);
+    finish(rt, tables, machine, &mut cpus.second, beside);
+    finish(rt, tables, machine, &mut cpus.third, beside);
+    finish(rt, tables, machine, &mut cpus.fourth, beside);
+    beside.compare(rt, tables, machine);
+}
+
+// The processors' parts, with nothing on any list, are taken apart.
+fn close_all<N: BootName>(rt: &impl Abort, cpus: Four<N>) {
+    let Four {
+        first,
+        second,
+        third,
+        fourth,
+    } = cpus;
+    close(rt, first);
+    close(rt, second);
+    close(rt, third);
+    close(rt, fourth);
 }
 
 // A boot runs beside a core or a recount, and ends with nothing on any list.
@@ -141,58 +203,41 @@ fn run<const F: u32, N: BootName>(
         fourth,
     } = parts;
     let tables = Tables::<N>::new(frames, stocks);
-    let mut first = Cpu::<N>::new(alloc, first.frames, first.stock).expect(rt, "memory");
-    let mut second = Cpu::<N>::new(alloc, second.frames, second.stock).expect(rt, "memory");
-    let mut third = Cpu::<N>::new(alloc, third.frames, third.stock).expect(rt, "memory");
-    let mut fourth = Cpu::<N>::new(alloc, fourth.frames, fourth.stock).expect(rt, "memory");
+    let mut cpus = Four {
+        first: new_cpu::<N>(rt, alloc, first),
+        second: new_cpu::<N>(rt, alloc, second),
+        third: new_cpu::<N>(rt, alloc, third),
+        fourth: new_cpu::<N>(rt, alloc, fourth),
+    };
     let mut machine = new_machine(rt, alloc, &tables, zone, machine);
-    let cpus = (&mut first, &mut second, &mut third, &mut fourth);
-    let tally = drive(rt, &tables, &mut machine, cpus, beside, calls);
-    finish(rt, &tables, &mut machine, &mut first, beside);
-    finish(rt, &tables, &mut machine, &mut second, beside);
-    finish(rt, &tables, &mut machine, &mut third, beside);
-    finish(rt, &tables, &mut machine, &mut fourth, beside);
-    beside.compare(rt, &tables, &machine);
-    let _ = first.into_seats();
-    let _ = second.into_seats();
-    let _ = third.into_seats();
-    let _ = fourth.into_seats();
+    let tally = drive(rt, &tables, &mut machine, &mut cpus, beside, calls);
+    finish_all(rt, &tables, &mut machine, &mut cpus, beside);
+    close_all(rt, cpus);
     let _ = tables.into_tables();
     tally
 }
 
-// A boot of 64 frames runs.
-fn runs_small<N: BootName>(
-    rt: &impl Abort,
-    alloc: Global,
-    parts: Parts<64>,
-    beside: &mut Follower,
-    calls: u32,
-) -> Tally
+// A boot of 64 frames runs beside a core.
+fn runs_small<N: BootName>(rt: &impl Abort, alloc: Global, parts: Parts<64>, calls: u32) -> Tally
     requires { (parts.frames ≡ N.frames) × (parts.stocks ≡ N.stocks) }
 {
-    run::<64, N>(rt, alloc, parts, beside, calls)
+    let mut beside = Follower::Steps(Core::new(alloc, 64, 4).expect(rt, "memory"));
+    run::<64, N>(rt, alloc, parts, &mut beside, calls)
 }
 
-// A boot of 2,048 frames runs.
-fn runs_large<N: BootName>(
-    rt: &impl Abort,
-    alloc: Global,
-    parts: Parts<2048>,
-    beside: &mut Follower,
-    calls: u32,
-) -> Tally
+// A boot of 2,048 frames runs beside a recount.
+fn runs_large<N: BootName>(rt: &impl Abort, alloc: Global, parts: Parts<2048>, calls: u32) -> Tally
     requires { (parts.frames ≡ N.frames) × (parts.stocks ≡ N.stocks) }
 {
-    run::<2048, N>(rt, alloc, parts, beside, calls)
+    let mut beside = Follower::Recount(Plain::new(alloc, 2_048).expect(rt, "memory"));
+    run::<2048, N>(rt, alloc, parts, &mut beside, calls)
 }
 
 // 1,000 random calls on 64 frames do what the steps of the core do.
 #[test]
 fn a_thousand_calls_are_steps_of_a_core(rt: HostRuntime) -> Result<(), Fail> {
-    let mut beside = Follower::Steps(Core::new(rt.alloc(), 64, 4)?);
     let parts = make_parts::<64>(&rt, rt.alloc())?;
-    let tally = runs_small::<Brand>(&rt, rt.alloc(), parts, &mut beside, 1_000);
+    let tally = runs_small::<Brand>(&rt, rt.alloc(), parts, 1_000);
     tally.holds(&rt, 3);
     Ok(())
 }
@@ -200,9 +245,8 @@ fn a_thousand_calls_are_steps_of_a_core(rt: HostRuntime) -> Result<(), Fail> {
 // 20,000 random calls on 2,048 frames do what a plain recount of their answers tells.
 #[test]
 fn twenty_thousand_calls_are_counted_again(rt: HostRuntime) -> Result<(), Fail> {
-    let mut beside = Follower::Recount(Plain::new(rt.alloc(), 2_048)?);
     let parts = make_parts::<2048>(&rt, rt.alloc())?;
-    let tally = runs_large::<Brand>(&rt, rt.alloc(), parts, &mut beside, 20_000);
+    let tally = runs_large::<Brand>(&rt, rt.alloc(), parts, 20_000);
     tally.holds(&rt, 20);
     Ok(())
 }

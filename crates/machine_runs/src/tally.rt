@@ -1,5 +1,6 @@
 //! How often each kind of call was made and answered well.
 
+use crate::holds::holds;
 use crate::made::Made;
 use cpu_part::{Dropped, Fast};
 use std::process::Abort;
@@ -75,7 +76,7 @@ impl Tally {
     /// Each kind of call did something so many times at least.
     pub fn holds(&self, rt: &impl Abort, times: u32) {
         for count in &self.counts {
-            assert!(rt; *count >= times);
+            holds(rt, *count >= times, "holds");
         }
     }
 }

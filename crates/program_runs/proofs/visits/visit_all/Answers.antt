@@ -2,7 +2,7 @@ use Rattle.std.proofs.Common.{◌≡◌, ◌∙◌, ℕ, All, length, ap, sym, s
 use Rattle.mem_system.proofs.Closing.{written_back}
 use Rattle.script_replay.specs.Ranges.{LineIsThere}
 use Rattle.load_run.proofs.Answering.{first_long, sized_as}
-use Rattle.load_run.proofs.program.visits.visit_all.Goals as goal
+use Rattle.program_runs.proofs.visits.visit_all.Goals as goal
 
 pub replay_lines-answers-requires : goal.replay_lines-answers-requires
 replay_lines-answers-requires g c =

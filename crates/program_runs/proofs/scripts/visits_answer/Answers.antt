@@ -4,7 +4,7 @@ use Rattle.script_lines.specs.declared.line.Line.{Line}
 use Rattle.script_lines.specs.Script.{IsScript}
 use Rattle.script_replay.specs.Ranges.{LineIsThere}
 use Rattle.script_replay.proofs.InRange.{script_there}
-use Rattle.load_run.proofs.program.tests.visits_answer.Goals as goal
+use Rattle.program_runs.proofs.scripts.visits_answer.Goals as goal
 
 pub visit_all-requires-clause-lines : goal.visit_all-requires-clause-lines
 visit_all-requires-clause-lines g c =

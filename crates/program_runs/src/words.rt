@@ -1,5 +1,7 @@
-use crate::command_line::{Settings, options};
-use crate::fault::LineFault;
+//! The words of the command line.
+
+use load_run::command_line::{Settings, options};
+use load_run::fault::LineFault;
 use std::test::Fail;
 use zone_sizes::config::Config;
 

@@ -1,7 +1,9 @@
-use crate::command_line::options;
-use crate::program::drive;
-use crate::program::rows::{Row, group_rows, processor_rows};
-use crate::program::visits::visit_all;
+//! Scripts over readers and writers in memory, those that fail too.
+
+use crate::rows::{Row, group_rows, processor_rows};
+use crate::visits::visit_all;
+use load_run::command_line::options;
+use load_run::program::drive;
 use mem_system::boot;
 use script_lines::script::parse_script;
 use std::alloc::{AllocError, Global};

@@ -1,0 +1,12 @@
+//! Runs of the program over readers and writers in memory, as tests: worked scripts and the words of the command line.
+//! Nothing but tests stands here.
+#![tactic(auto)]
+
+#[cfg(test)]
+mod rows;
+#[cfg(test)]
+mod scripts;
+#[cfg(test)]
+mod visits;
+#[cfg(test)]
+mod words;
