@@ -1,3 +1,4 @@
+//! Of the reading core, on which the program doesn't run.
 //! Which steps may be made: a line of the table for each action.
 
 ghost use Rattle.std.specs.Prelude.{◌≡◌};

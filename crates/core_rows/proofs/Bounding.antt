@@ -1,3 +1,4 @@
+-- Of the reading core, on which the program doesn't run.
 -- What bounds the numbers, and that every allowed step keeps it.
 use Rattle.std.proofs.Common.{◌≡◌, ℕ, ◌+◌, ◌-◌, ◌^◌, ◌<◌, ◌≤◌, ◌==◌, Bool, true, false, Option, Some, None, length, refl, sym, ◌∙◌, ap}
 use Rattle.std.proofs.Common.{arith, inl, inr, cond, zero, suc}

@@ -1,3 +1,4 @@
+-- Of the reading core, on which the program doesn't run.
 -- A list with one value changed shows the function with that value changed.
 use Rattle.std.proofs.Common.{◌≡◌, ℕ, ◌<◌, Some, List, length, get_or, set, sym, ◌∙◌, ap, subst, arith, inl, inr}
 use Rattle.std.specs.List.{slice_get}

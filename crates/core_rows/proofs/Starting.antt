@@ -1,3 +1,4 @@
+-- Of the reading core, on which the program doesn't run.
 -- Rows on which no step was made show the state at boot (for `Rows::new`).
 use Rattle.std.proofs.Common.{◌≡◌, ℕ, Option, Some, None, List, get_or, replicate, refl, ◌∙◌, ap, subst, arith, inl, inr}
 use Rattle.std.specs.Prelude.{All}

@@ -1,3 +1,4 @@
+-- Of the reading core, on which the program doesn't run.
 -- What is asked of rows before a step: that they are of the zone's size, and that no number is near its bound.
 use Rattle.std.specs.Prelude.{◌≡◌, ◌+◌, ◌^◌, ◌<◌, ◌≤◌, ℕ, true, false, List, All, replicate, length, vec_len, vec_capacity}
 use Rattle.step_rules.specs.Phases.{Kind, has_as, is_live}

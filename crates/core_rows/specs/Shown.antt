@@ -1,3 +1,4 @@
+-- Of the reading core, on which the program doesn't run.
 -- The state of the rules that rows of lists and numbers stand for.
 use Rattle.std.specs.Prelude.{ℕ, Option, Some, None, false}
 use Rattle.std.specs.List.{slice_get, slice_index_or}

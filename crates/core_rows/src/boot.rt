@@ -1,3 +1,4 @@
+//! Of the reading core, on which the program doesn't run.
 //! Rows on which no step was made, and which frames are free.
 
 ghost use Rattle.std.specs.Prelude.{◌≡◌, ◌≤◌, ◌+◌, IfOk, All, vec_capacity, vec_len, replicate, false};

@@ -1,3 +1,4 @@
+//! Of the reading core, on which the program doesn't run.
 //! Tests on who holds the lock.
 
 ghost use Rattle.std.specs.Prelude.{◌≡◌};

@@ -1,3 +1,4 @@
+//! Of the reading core, on which the program doesn't run.
 //! The rows of the memory controller's core: plain lists and numbers, and each change of one thing in them.
 #![tactic(auto)]
 

@@ -1,3 +1,4 @@
+//! Of the reading core, on which the program doesn't run.
 //! Tests on the phase of a frame, and how a step moves it on.
 
 ghost use Rattle.std.specs.Prelude.{◌≡◌};

@@ -1,3 +1,4 @@
+//! Of the reading core, on which the program doesn't run.
 //! The rows of the core: what stands behind the zone's lock.
 
 ghost use Rattle.std.specs.Prelude.{◌≡◌, ◌+◌, ◌-◌, ◌<◌, ◌≤◌, ◌^◌, Some, None, MatchOption, IfOk, length, vec_len};

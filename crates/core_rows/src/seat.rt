@@ -1,3 +1,4 @@
+//! Of the reading core, on which the program doesn't run.
 //! What is kept of one seat.
 
 ghost use Rattle.std.specs.Prelude.{◌≡◌, ◌+◌, ◌-◌, ◌<◌, ◌≤◌, ◌^◌, IfOk, vec_len, vec_capacity, length, replicate, slice_set};

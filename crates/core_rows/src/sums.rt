@@ -1,3 +1,4 @@
+//! Of the reading core, on which the program doesn't run.
 //! Sums and tests over all frames, seats and groups.
 
 ghost use Rattle.std.specs.Prelude.{◌≡◌, ◌+◌, ◌*◌, ◌^◌, ◌<◌, ◌≤◌, length, IfNone, IfSome, IsTrue, true, if◌then◌else◌};

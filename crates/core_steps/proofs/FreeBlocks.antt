@@ -1,3 +1,4 @@
+-- Of the reading core, on which the program doesn't run.
 -- Free blocks of an order, found by the maximal free blocks (for `Rows::free_block`).
 use Rattle.std.proofs.Common.{◌≡◌, ℕ, ◌+◌, ◌-◌, ◌%◌, ◌^◌, ◌≤◌, Bool, List, sym, ◌∙◌, ap, subst, arith}
 use Rattle.std.proofs.Math.Pow.{pow_mono, mod-mod-pow}

@@ -1,3 +1,4 @@
+-- Of the reading core, on which the program doesn't run.
 -- What a legal step finds: room on a list, pages in a book (for the actions in hand_over, references and stocks).
 use Rattle.std.proofs.Common.{◌≡◌, ℕ, ◌+◌, ◌-◌, ◌^◌, ◌<◌, ◌≤◌, ◌||◌, ◌==◌, true, false, length, sym, ap, arith, inl, inr, cond, eq-eqb}
 use Rattle.std.specs.Prelude.{nat_le}

@@ -1,3 +1,4 @@
+//! Of the reading core, on which the program doesn't run.
 //! Blocks that are placed, and units that come back.
 
 ghost use Rattle.std.specs.Prelude.{◌≡◌, ◌+◌, ◌<◌, ◌≤◌, ◌^◌, ◌++◌, true, IfNone, IfSome, take, drop, replicate, vec_len};

@@ -1,3 +1,4 @@
+//! Of the reading core, on which the program doesn't run.
 //! Frames that pass between the zone and a processor.
 
 ghost use Rattle.std.specs.Prelude.{◌≡◌, ◌≢◌, ◌+◌, ◌-◌, ◌<◌, ◌≤◌, ◌^◌, true, false, Some, length};

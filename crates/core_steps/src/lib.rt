@@ -1,3 +1,4 @@
+//! Of the reading core, on which the program doesn't run.
 //! The 29 actions of the rules over the rows of the core: what each is answered, and what it changes.
 #![tactic(auto)]
 

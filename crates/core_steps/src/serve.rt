@@ -1,3 +1,4 @@
+//! Of the reading core, on which the program doesn't run.
 //! Every step, made where it is legal.
 
 ghost use Rattle.std.specs.Prelude.{◌≡◌, ◌<◌, ◌^◌, true};

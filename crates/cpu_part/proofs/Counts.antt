@@ -1,6 +1,6 @@
 -- How often a frame stands in a list that grew, shrank or was parted.
 use Rattle.std.proofs.Common.{◌≡◌, ◌≢◌, ℕ, ◌+◌, ◌<◌, List, [], ◌∷◌, ◌++◌, length, get_or, cond, eqb, sym, refl, ap, ◌∙◌, subst, eq-eqb, ne_eqb, arith}
-use Rattle.std.proofs.lemmas.List.Sums.{sum_by-cons, sum_by_push, sum_by-remove}
+use Rattle.std.proofs.lemmas.List.Sums.{sum_by-cons, sum_by_push}
 use Rattle.std.proofs.lemmas.List.{get_or_default}
 use Rattle.std.proofs.lemmas.List.Sorted.{sum_by-IsPermutation, IsPermutation-swap_remove}
 use Rattle.std.specs.Prelude.{remove, IsPermutation}
@@ -21,9 +21,6 @@ times_front g x xs = sum_by-cons (test g) x xs
 
 pub times_end : (g x : ℕ) (xs : List ℕ) → times g (xs ++ x ∷ []) ≡ times g xs + test g x
 times_end g x xs = sum_by_push (test g) xs x
-
-pub times_without : (g : ℕ) (xs : List ℕ) (i : ℕ) → i < length xs → times g (remove xs i) + test g (get_or xs i 0) ≡ times g xs
-times_without g xs i inside = sum_by-remove (test g) xs i 0 inside
 
 pub times_parted : (g f : ℕ) (xs ys : List ℕ) → IsPermutation xs (f ∷ ys) → times g xs ≡ test g f + times g ys
 times_parted g f xs ys same = sym (sum_by-IsPermutation (test g) xs (f ∷ ys) same) ∙ times_front g f ys

@@ -1,14 +1,14 @@
 -- What the seat notes of the frames, after a change of the note of one and of what the lists have of it.
-use Rattle.std.proofs.Common.{◌≡◌, ◌≢◌, ℕ, ◌+◌, ◌<◌, ◌≤◌, List, [], ◌∷◌, ◌++◌, length, get_or, sym, refl, ap, ◌∙◌, subst, inl, inr, arith}
+use Rattle.std.proofs.Common.{◌≡◌, ◌≢◌, ℕ, ◌+◌, ◌<◌, ◌≤◌, List, [], ◌∷◌, ◌++◌, sym, refl, ap, ◌∙◌, subst, inl, inr, arith}
 use Rattle.std.proofs.lemmas.Bool.{cases_lt}
 use Rattle.std.proofs.lemmas.Bool.Decides.{eqb_tells}
-use Rattle.std.specs.Prelude.{remove, IsPermutation}
+use Rattle.std.specs.Prelude.{IsPermutation}
 use Rattle.frame_word.specs.declared.view.FrameNote.{FrameNote}
 use Rattle.frame_word.specs.declared.view.FrameView.{FrameView}
 use Rattle.frame_word.specs.Views.{note_of, changed, in_hands, looked, held, let_go, let_go_last, took_in, gave_back}
 use Rattle.frame_word.proofs.Notes.{note_here, note_else}
 use Rattle.cpu_part.specs.Cpus.{times, IsNoted, AreNoted}
-use Rattle.cpu_part.proofs.Counts.{test, test_here, test_other, times_front, times_end, times_without, times_parted}
+use Rattle.cpu_part.proofs.Counts.{test_here, test_other, times_front, times_end, times_parted}
 
 -- one frame's note and counts, along equations
 pub noted_along : (frames f b o r b' o' r' : ℕ) (k k' : FrameNote) → k' ≡ k → b' ≡ b → o' ≡ o → r' ≡ r → IsNoted frames f b o r k → IsNoted frames f b' o' r' k'
@@ -28,10 +28,6 @@ pub record SameCounts (g : ℕ) (list fresh back pins list' fresh' back' pins' :
   pub references : times g pins' ≡ times g pins
 
 module _ (frames f : ℕ) (list fresh back pins list' fresh' back' pins' : List ℕ) (v : FrameView) (noted : AreNoted frames list fresh back pins v) where
-  -- the counts stay, and so do the notes
-  pub noted_same : ((g : ℕ) → SameCounts g list fresh back pins list' fresh' back' pins') → AreNoted frames list' fresh' back' pins' v
-  noted_same same = λ g. noted_along frames g _ _ _ _ _ _ (note_of v g) (note_of v g) refl (same g).borrowed (same g).own (same g).references (noted g)
-
   -- one note changed, and the counts of other frames stay
   pub noted_changed : (change : FrameNote → FrameNote)
       → IsNoted frames f (times f list' + times f fresh') (times f back') (times f pins') (change (note_of v f))
@@ -66,23 +62,6 @@ module _ (frames f : ℕ) (list fresh back pins : List ℕ) (v : FrameView) (not
   -- the frame is one of the table, since it stands in a list or among the pins
   pub frame_inside : 1 ≤ times f list + times f fresh + times f back + times f pins → f < frames
   frame_inside some = elim (cases_lt f frames) [ inl below ↦ below | inr past ↦ let n = (noted f).in_table past in absurd (omega arith) ]
-
-  -- it is in a hand, since it stands in a list
-  pub frame_in_hand : 1 ≤ times f list + times f fresh + times f back → in_hands (note_of v f) ≡ 1
-  frame_in_hand some = let n = noted f in let a = n.borrowed_is in let b = n.own_is in let h = n.once in omega arith
-
-  -- the front of the list became fresh
-  pub noted_freshened : (rest fresh' : List ℕ) → list ≡ f ∷ rest → fresh' ≡ fresh ++ f ∷ [] → AreNoted frames rest fresh' back pins v
-  noted_freshened rest fresh' front end = noted_same frames f list fresh back pins rest fresh' back pins v noted
-      (λ g. let a = ap (times g) front ∙ times_front g f rest in let b = ap (times g) end ∙ times_end g f fresh in
-      record { borrowed = omega (arith, a, b); own = refl; references = refl })
-
-  -- a fresh frame went to the end of the list
-  pub noted_relisted : (list' fresh' : List ℕ) (i : ℕ) → list' ≡ list ++ f ∷ [] → i < length fresh → get_or fresh i 0 ≡ f → fresh' ≡ remove fresh i
-      → AreNoted frames list' fresh' back pins v
-  noted_relisted list' fresh' i end inside is rest = noted_same frames f list fresh back pins list' fresh' back pins v noted
-      (λ g. let a = ap (times g) end ∙ times_end g f list in let b = ap (times g) rest in let c = times_without g fresh i inside in let d = ap (test g) is in
-      record { borrowed = omega (arith, a, b, c, d); own = refl; references = refl })
 
   -- the frame was taken in, to the end of the list
   pub noted_accepted : (list' : List ℕ) → list' ≡ list ++ f ∷ [] → in_hands (note_of v f) ≡ 0 → f < frames

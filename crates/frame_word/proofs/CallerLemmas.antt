@@ -1,12 +1,11 @@
 -- Serves callers, and `get`. What a caller of `get`, `put`, `freeze` and the hand-over calls reads from their answers: the note of the
 -- frame after a change, and of other frames.
-use Rattle.std.proofs.Common.{◌≡◌, ◌≢◌, ℕ, ◌+◌, ◌-◌, ap, ◌∙◌, subst}
+use Rattle.std.proofs.Common.{◌≡◌, ◌≢◌, ℕ, ◌+◌, ap, ◌∙◌, subst}
 use Rattle.frame_word.specs.declared.view.FrameNote.{FrameNote}
 use Rattle.frame_word.specs.declared.answers.Get.{Get}
 use Rattle.frame_word.specs.declared.answers.Get.TheVariants.{Held}
-use Rattle.frame_word.specs.declared.answers.Put.TheVariants.{Left, Last}
-use Rattle.frame_word.specs.Views.{note_of, looked, held, let_go, let_go_last}
-use Rattle.frame_word.specs.Seats.{KnownSeat, holds, IsInOwnHand, seat_with, GetAnswers, PutAnswers}
+use Rattle.frame_word.specs.Views.{note_of, looked, held}
+use Rattle.frame_word.specs.Seats.{KnownSeat, holds, seat_with, GetAnswers}
 pub use Rattle.frame_word.proofs.Notes.{put_here, put_else, note_here, note_else, changed_twice}
 
 -- the note of the frame, and of another
@@ -19,9 +18,3 @@ note_elsewhere s t f g change is other = ap (λ r. note_of r.view g) is ∙ note
 pub held_one_more : (s t : KnownSeat) (f : ℕ) (a : Get) → GetAnswers s f a t → a ≡ Held → holds t f ≡ holds s f + 1
 held_one_more s t f a answer is = let h = subst (λ b. GetAnswers s f b t) is answer in ap (λ k. k.references) (note_after s t f
     (λ (k : FrameNote). held (looked h.0 k)) h.3)
-
-pub last_one_less : (s t : KnownSeat) (f : ℕ) → PutAnswers s f Last t → (holds t f ≡ holds s f - 1) × IsInOwnHand t f
-last_one_less s t f answer = let k = note_after s t f let_go_last answer.0 in (ap (λ n. n.references) k, ap (λ n. n.own) k)
-
-pub left_one_less : (s t : KnownSeat) (f n : ℕ) → PutAnswers s f (Left n) t → holds t f ≡ holds s f - 1
-left_one_less s t f n answer = ap (λ k. k.references) (note_after s t f (let_go n) answer.2)

@@ -1,5 +1,5 @@
 -- Serves `close`. The table at the end: one seat has all views, and the rule speaks of these alone.
-use Rattle.std.proofs.Common.{◌≡◌, ℕ, suc, List, [], ◌∷◌, length, map, refl, ap, subst, arith}
+use Rattle.std.proofs.Common.{◌≡◌, ℕ, List, [], ◌∷◌, length, map, refl, ap, subst, arith}
 use Rattle.atomic_table.specs.Table.{Final, Seen}
 use Rattle.seat_sums.specs.Totals.{sum_over}
 use Rattle.seat_sums.proofs.Totals.{total_whole}

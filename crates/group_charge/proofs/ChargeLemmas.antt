@@ -207,11 +207,6 @@ AreCharges-new l n path facts can least =
     }
 
 -- ---- lists of accounts
--- a charge leaves the number of accounts
-pub length-charged : (groups : List Group) (accounts : List Account) (g n : ℕ) → length (charged groups accounts g n) ≡ length accounts
-unfolding charged
-length-charged groups accounts g n =
-    length-map (map (added g n) accounts) (peaked groups (map (added g n) accounts) g) ∙ length-map accounts (added g n)
 
 -- ---- what a charge does to usage
 pub charge_rises : (l : Ledger) (g n : ℕ) → AreCharges l → IsTrue (has_group l.groups g) → UsageRises l (with_charge l g n) g n

@@ -6,8 +6,6 @@ use Rattle.std.proofs.lemmas.List.{get_or-replicate, get_or_past, length-replica
 use Rattle.group_tree.specs.declared.group.Group.{Group}
 use Rattle.group_tree.specs.Ancestors.{is_passed}
 use Rattle.group_tree.specs.Groups.{has_group, in_subtree}
-use Rattle.group_tree.specs.Room.{IsLowestOver, PathHasRoom, fits_limit, has_room}
-use Rattle.group_tree.specs.Groups.{limit_of}
 use Rattle.group_tree.proofs.GroupLemmas.{CanMake}
 use Rattle.group_tree.proofs.Walks.{passed_all}
 use Rattle.group_charge.specs.Charges.{Account, AreCharges, Ledger, current_of, initial_ledger, pages_of, with_charge, with_group_limit}
@@ -19,19 +17,6 @@ use Rattle.group_charge.proofs.ChargeLemmas.{all_known, charge_rises, uncharge_f
 use Rattle.group_charge.proofs.ReaderLemmas.{removed_usage}
 
 -- ---- room by what is stored
--- the room that the stored usages leave is the room that the sums leave
-pub room_as : (groups : List Group) (u v : ℕ → ℕ) (m n : ℕ) → u m ≡ v m → has_room groups u m n ≡ has_room groups v m n
-room_as groups u v m n e = ap (λ k. fits_limit (limit_of groups m) (k + n)) e
-
-pub path_room_as : (groups : List Group) (u v : ℕ → ℕ) (g n : ℕ) → ((m : ℕ) → u m ≡ v m) → PathHasRoom groups u g n → PathHasRoom groups v g n
-path_room_as groups u v g n same h = λ m on. sym (room_as groups u v m n (same m)) ∙ h m on
-
-pub lowest_over_as : (groups : List Group) (u v : ℕ → ℕ) (g n m : ℕ) → ((m : ℕ) → u m ≡ v m) → IsLowestOver groups u g n m → IsLowestOver groups v g n m
-lowest_over_as groups u v g n m same h = record {
-  on_path = h.on_path;
-  over = sym (room_as groups u v m n (same m)) ∙ h.over;
-  lowest = λ k on full. h.lowest k on (room_as groups u v k n (same k) ∙ full);
-}
 
 -- ---- at first
 pub stored_initial : AreUsages initial_ledger (replicate 64 0)
@@ -60,34 +45,6 @@ stored_charged l old new g n facts there are size walked = record {
       walked m ∙ ap (λ b. cond b (usage_by old m + n) (usage_by old m)) (passed_all l.groups g m)
       ∙ ap (λ u. cond (in_subtree l.groups m g) (u + n) u) (are.sums m) ∙ sym (charge_rises l g n facts there m);
 }
-
--- what was added is taken off again
-pub stored_refused : (l : Ledger) (old mid new : List ℕ) (g n : ℕ) (end : Option ℕ) → AreUsages l old → length new ≡ 64 →
-    UsagesPassed l.groups g end (λ pages. pages + n) old mid → UsagesPassed l.groups g end (λ pages. pages - n) mid new → AreUsages l new
-stored_refused l old mid new g n end are size up down = record {
-  size = size;
-  sums = λ m.
-      down m ∙
-      ⊎_elim
-      (λ t.
-      let more : usage_by mid m ≡ usage_by old m + n = up m ∙ cond-true (is_passed l.groups g end m) (usage_by old m + n) (usage_by old m) t in
-      let less : cond (is_passed l.groups g end m) (usage_by mid m - n) (usage_by mid m) ≡ usage_by mid m - n =
-      cond-true (is_passed l.groups g end m) (usage_by mid m - n) (usage_by mid m) t in
-      let back : usage_by mid m - n ≡ usage_by old m = omega arith in
-      less ∙ back)
-      (λ f.
-      cond-false (is_passed l.groups g end m) (usage_by mid m - n) (usage_by mid m) f
-      ∙ up m ∙ cond-false (is_passed l.groups g end m) (usage_by old m + n) (usage_by old m) f)
-      (cases_Bool (is_passed l.groups g end m))
-      ∙ are.sums m;
-}
-
--- whoever was passed has what was added
-pub enough_added : (groups : List Group) (old mid : List ℕ) (g n : ℕ) (end : Option ℕ) → UsagesPassed groups g end (λ pages. pages + n) old mid →
-    (m : ℕ) → IsTrue (is_passed groups g end m) → n ≤ usage_by mid m
-enough_added groups old mid g n end up m passed =
-    let more : usage_by mid m ≡ usage_by old m + n = up m ∙ cond-true (is_passed groups g end m) (usage_by old m + n) (usage_by old m) passed in
-    omega arith
 
 -- ---- after pages were taken back
 pub stored_taken : (l : Ledger) (old new : List ℕ) (g n : ℕ) → AreCharges l → IsTrue (has_group l.groups g) → n ≤ pages_of l g → AreUsages l old →

@@ -1,15 +1,14 @@
 -- Sums of pages over accounts, and lists of accounts that are changed one after another. Serves `current`, `try_charge`
 -- and `uncharge`.
-use Rattle.std.proofs.Common.{◌≡◌, ◌≢◌, ℕ, suc, ◌||◌, AllPairs, add-zero, ◌+◌, ◌-◌, ◌<◌, ◌≤◌, true, false, cond, max, IsTrue, ◌==◌, List, [], ◌∷◌}
-use Rattle.std.proofs.Common.{◌++◌, length, take, drop, map, get_or, All, refl, sym, ap, ◌∙◌, subst, arith, ⊎_elim}
+use Rattle.std.proofs.Common.{◌≡◌, ◌≢◌, ℕ, suc, ◌||◌, AllPairs, add-zero, ◌+◌, ◌-◌, ◌≤◌, true, false, cond, ◌==◌, List, [], ◌∷◌}
+use Rattle.std.proofs.Common.{map, get_or, refl, sym, ap, ◌∙◌, subst, arith, ⊎_elim}
 use Rattle.std.specs.List.{sum_by, list_any}
 use Rattle.std.proofs.lemmas.Bool.{cond-true, cond-false, cases_Bool, cond_both, or_parts, false_from_ne_true, false≢true, eqb-true}
 use Rattle.std.proofs.lemmas.List.Folds.{Any-from_list_any}
 use Rattle.std.proofs.lemmas.List.{get_or_default}
-use Rattle.std.proofs.lemmas.List.Elements.{All-map, All-append, All-take, All-drop}
-use Rattle.std.proofs.lemmas.List.Sums.{sum_by_more, sum_by_more_le_part, sum_by-le-sum_by, sum_by-cons, sum_by-append, sum_by-take-drop}
+use Rattle.std.proofs.lemmas.List.Sums.{sum_by-le-sum_by, sum_by-cons}
 use Rattle.group_tree.specs.declared.group.Group.{Group}
-use Rattle.group_tree.specs.Groups.{in_subtree, has_group}
+use Rattle.group_tree.specs.Groups.{in_subtree}
 use Rattle.group_charge.specs.Charges.{Account, usage_of, total_pages, added, taken, peaked}
 
 -- ---- the usage of a group, summed one account after another
@@ -20,18 +19,6 @@ share groups g a = cond (in_subtree groups g a.group) a.pages 0
 -- an account adds no more than its pages
 share-le : (groups : List Group) (g : ℕ) (a : Account) → share groups g a ≤ a.pages
 share-le groups g a = cond_both (in_subtree groups g a.group) a.pages 0 (λ x. x ≤ a.pages) (λ _. omega arith) (λ _. omega arith)
-
--- one account more adds its share
-pub usage_more : (groups : List Group) (xs : List Account) (g i : ℕ) (d : Account) → i < length xs →
-    usage_of groups (take (i + 1) xs) g ≡ usage_of groups (take i xs) g + share groups g (get_or xs i d)
-unfolding usage_of
-usage_more groups xs g i d lt = sum_by_more (share groups g) xs i d lt
-
--- the usage so far and the next pages fit into all pages
-pub usage-part : (groups : List Group) (xs : List Account) (g i : ℕ) (d : Account) → i < length xs →
-    usage_of groups (take i xs) g + (get_or xs i d).pages ≤ total_pages xs
-unfolding usage_of
-usage-part groups xs g i d lt = sum_by_more_le_part (share groups g) (λ a. a.pages) xs i d lt (share-le groups g)
 
 -- no usage is above all that is charged
 pub usage-le-total : (groups : List Group) (xs : List Account) (g : ℕ) → usage_of groups xs g ≤ total_pages xs
@@ -46,10 +33,6 @@ module _ {X : Type 0} (F : X → ℕ) (f : X → X) (same : (x : X) → F (f x) 
   sum-map_same (x ∷ xs) =
       sum_by-cons F (f x) (map f xs) ∙ ap (λ n. n + sum_by F (map f xs)) (same x) ∙ ap (λ n. F x + n) (sum-map_same xs) ∙ sym (sum_by-cons F x xs)
 
-  pub sum-in_place : (xs : List X) (i : ℕ) → sum_by F (map f (take i xs) ++ drop i xs) ≡ sum_by F xs
-  sum-in_place xs i =
-      sum_by-append F (map f (take i xs)) (drop i xs) ∙ ap (λ n. n + sum_by F (drop i xs)) (sum-map_same (take i xs)) ∙ sum_by-take-drop F xs i
-
 -- a raised peak changes no pages
 pub peaked-pages : (groups : List Group) (all : List Account) (g : ℕ) (a : Account) → (peaked groups all g a).pages ≡ a.pages
 peaked-pages groups all g a = refl
@@ -61,36 +44,6 @@ peaked-group groups all g a = refl
 -- nor what the account adds to a usage
 pub peaked-share : (groups : List Group) (all : List Account) (g m : ℕ) (a : Account) → share groups m (peaked groups all g a) ≡ share groups m a
 peaked-share groups all g m a = refl
-
--- peaks that are raised change no usage
-pub usage-in_place : (groups : List Group) (all xs : List Account) (g m i : ℕ) →
-    usage_of groups (map (peaked groups all g) (take i xs) ++ drop i xs) m ≡ usage_of groups xs m
-unfolding usage_of
-usage-in_place groups all xs g m i = sum-in_place (share groups m) (peaked groups all g) (peaked-share groups all g m) xs i
-
--- nor all that is charged
-pub total-in_place : (groups : List Group) (all xs : List Account) (g i : ℕ) → total_pages (map (peaked groups all g) (take i xs) ++ drop i xs) ≡ total_pages xs
-total-in_place groups all xs g i = sum-in_place (λ a. a.pages) (peaked groups all g) (peaked-pages groups all g) xs i
-
--- nor whose accounts these are
-pub known-in_place : (groups : List Group) (all xs : List Account) (g i : ℕ) → All (λ a. IsTrue (has_group groups a.group)) xs →
-    All (λ a. IsTrue (has_group groups a.group)) (map (peaked groups all g) (take i xs) ++ drop i xs)
-known-in_place groups all xs g i h =
-    All-append (λ a. IsTrue (has_group groups a.group)) (map (peaked groups all g) (take i xs)) (drop i xs)
-    (All-map (λ a. IsTrue (has_group groups a.group)) (peaked groups all g) (take i xs)
-    (λ k d lt. subst (λ n. IsTrue (has_group groups n)) (sym (peaked-group groups all g (get_or (take i xs) k d)))
-    (All-take (λ a. IsTrue (has_group groups a.group)) i xs h k d lt)))
-    (All-drop (λ a. IsTrue (has_group groups a.group)) i xs h)
-
--- the same usages raise the same peaks
-pub peaked-as : (groups : List Group) (all others : List Account) (g : ℕ) (a : Account) →
-    usage_of groups all a.group ≡ usage_of groups others a.group → peaked groups all g a ≡ peaked groups others g a
-peaked-as groups all others g a e = ap (λ n. record a { peak = cond (in_subtree groups a.group g) (max a.peak n) a.peak }) e
-
--- without accounts there is no usage
-pub usage_none : (groups : List Group) (g : ℕ) → usage_of groups [] g ≡ 0
-unfolding usage_of
-usage_none groups g = refl
 
 -- ---- pages that come to one group
 -- k for an account of g, and nothing for the others
@@ -184,10 +137,3 @@ total-taken g n (x ∷ xs) =
     let here : (taken g n x).pages ≤ x.pages =
     cond_both (x.group == g) (record x { pages = x.pages - n }) x (λ (y : Account). y.pages ≤ x.pages) (λ _. omega arith) (λ _. omega arith) in
     omega (arith, total-taken g n xs, sum_by-cons (λ (a : Account). a.pages) (taken g n x) (map (taken g n) xs), sum_by-cons (λ (a : Account). a.pages) x xs)
-
--- added pages change nothing of whose accounts these are
-pub known-added : (groups : List Group) (g n : ℕ) (xs : List Account) → All (λ a. IsTrue (has_group groups a.group)) xs →
-    All (λ a. IsTrue (has_group groups a.group)) (map (added g n) xs)
-known-added groups g n xs h =
-    All-map (λ a. IsTrue (has_group groups a.group)) (added g n) xs
-    (λ k d lt. subst (λ m. IsTrue (has_group groups m)) (sym (added-group g n (get_or xs k d))) (h k d lt))

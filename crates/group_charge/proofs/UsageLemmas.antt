@@ -175,10 +175,6 @@ cover_charged groups xs g n distinct there cover =
     (cases_Bool (in_subtree groups y.group g))))
 
 -- ---- lists with a smaller or an equal usage
-sum-le : (F G : Account → ℕ) (xs : List Account) → All (λ x. F x ≤ G x) xs → sum_by F xs ≤ sum_by G xs
-sum-le F G [] h = omega arith
-sum-le F G (x ∷ xs) h =
-    omega (arith, All-head (λ y. F y ≤ G y) x xs h, sum-le F G xs (All-tail (λ y. F y ≤ G y) x xs h), sum_by-cons F x xs, sum_by-cons G x xs)
 
 -- pages that are taken raise no share
 share-taken_le : (groups : List Group) (m g n : ℕ) (a : Account) → share groups m (taken g n a) ≤ share groups m a

@@ -1,14 +1,14 @@
 -- The walk from a group up to the root. Serves the contracts of `Tree::ancestors` and of the walk itself.
-use Rattle.std.proofs.Common.{◌≡◌, ℕ, zero, suc, ◌+◌, IsTrue, IfSome, Option, Some, None, is_some, true, false, List, [], ◌∷◌, slice_get, refl, sym}
+use Rattle.std.proofs.Common.{◌≡◌, ℕ, zero, suc, ◌+◌, IsTrue, IfSome, Option, Some, None, List, [], ◌∷◌, slice_get, refl, sym}
 use Rattle.std.proofs.Common.{ap, ◌∙◌, subst, arith, ⊎_elim, add-one}
 use Rattle.std.specs.Option.{option_map_or}
-use Rattle.std.proofs.lemmas.Bool.{cases_eq, true≢false}
-use Rattle.std.proofs.lemmas.Option.{none-some, same_Some}
+use Rattle.std.proofs.lemmas.Bool.{cases_eq}
+use Rattle.std.proofs.lemmas.Option.{none-some}
 use Rattle.group_tree.specs.declared.group.Group.{Group}
 use Rattle.group_tree.specs.Path.{depth_of, names_of}
-use Rattle.group_tree.specs.Groups.{has_group, path_of, parent_of, AreGroups}
-use Rattle.group_tree.specs.Ancestors.{depth_at, some_above, ancestors_of, ancestors_from, is_there, IsPathUp, IsWalk}
-use Rattle.group_tree.proofs.GroupLemmas.{parent_of-root, parent_of-below, parent-there, some_is}
+use Rattle.group_tree.specs.Groups.{has_group, parent_of, AreGroups}
+use Rattle.group_tree.specs.Ancestors.{depth_at, some_above, ancestors_of, ancestors_from, is_there, IsPathUp}
+use Rattle.group_tree.proofs.GroupLemmas.{parent_of-below, parent-there, some_is}
 use Rattle.group_tree.proofs.CallerLemmas.{parent_of-depth, path_of-there, root_path_of, in_subtree-above, in_subtree-parent_of}
 
 -- the root's path has no name

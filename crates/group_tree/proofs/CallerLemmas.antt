@@ -1,22 +1,22 @@
 -- Laws of the tree's definitions. Serves the walks, and crates above: what they cite first stands here.
-use Rattle.std.proofs.Common.{◌≡◌, ◌≢◌, ℕ, zero, suc, ◌+◌, ◌<◌, ◌≤◌, Bool, true, false, not, ◌&&◌, ◌==◌, IsTrue, Option, Some, None, is_some, List}
+use Rattle.std.proofs.Common.{◌≡◌, ◌≢◌, ℕ, zero, suc, ◌+◌, ◌<◌, ◌≤◌, Bool, true, false, ◌==◌, IsTrue, Option, Some, None, is_some, List}
 use Rattle.std.proofs.Common.{[], ◌∷◌, ◌++◌, length, map, drop, slice_get, IsSomeAnd, Contains, refl, sym, ap, ◌∙◌, subst, arith, inl, inr, ⊎_elim}
 use Rattle.std.proofs.Common.{◌⊎◌, length-append}
 use Rattle.std.specs.List.{find, starts_with}
 use Rattle.std.specs.Option.{option_map, option_and_then, option_or}
 use Rattle.std.specs.Str.{bytes_eq}
-use Rattle.std.proofs.lemmas.Bool.{eq-eqb, ne_eqb, and_from, both_ways, cases_Bool, cases_eq, cases_lt, true≢false, false≢true, false_from_ne_true}
-use Rattle.std.proofs.lemmas.Bool.{cond-true, cond-false, not_from_false}
+use Rattle.std.proofs.lemmas.Bool.{eq-eqb, ne_eqb, both_ways, cases_Bool, cases_eq, cases_lt, true≢false, false≢true, false_from_ne_true}
+use Rattle.std.proofs.lemmas.Bool.{cond-true, cond-false}
 use Rattle.std.proofs.lemmas.List.{append_assoc, append-nil, nil_from_length}
 use Rattle.std.proofs.lemmas.List.Elements.{All-contains}
 use Rattle.std.proofs.lemmas.List.Folds.{find-append}
 use Rattle.std.proofs.lemmas.Option.{none-some, same_Some}
 use Rattle.group_tree.specs.Path.{root_path, is_root, names_of, depth_of, parent_path, IsWellFormed}
-use Rattle.group_tree.specs.Groups.{Group, group_at, number_at, has_group, path_of, limit_of, begins, in_subtree, has_child, parent_of, with_group}
+use Rattle.group_tree.specs.Groups.{Group, group_at, number_at, has_group, path_of, limit_of, begins, in_subtree, parent_of, with_group}
 use Rattle.group_tree.specs.Groups.{without_group, with_limit, limited, AreGroups}
 use Rattle.group_tree.proofs.PathLemmas.{begins_names, begins_from_names, begins_from_well_formed, slashed, slashed-names, has_name, names-root}
 use Rattle.group_tree.proofs.PathLemmas.{root-from_test, names_parent, begins_parent, begins_root}
-use Rattle.group_tree.proofs.GroupLemmas.{CanMake, some_is, none_contains, is_some-map, has_group-is, group_at-contains, group_at-there}
+use Rattle.group_tree.proofs.GroupLemmas.{CanMake, some_is, is_some-map, has_group-is, group_at-contains, group_at-there}
 use Rattle.group_tree.proofs.GroupLemmas.{number_at-contains, number_at-there, path_of-at, path_of-is, path_of-formed, in_subtree-paths}
 use Rattle.group_tree.proofs.GroupLemmas.{parent_of-below, parent_of-root, group_at-without, limited-number, limited-path}
 
@@ -106,21 +106,6 @@ in_subtree-root groups h facts there =
     let root = root_path_of groups facts in
     in_subtree-paths groups 0 h root_path w.0 root w.1 ∙ begins_root root_path w.0 refl
 
--- a group with no child has itself alone in its subtree
-pub in_subtree-leaf : (groups : List Group) (g h : ℕ) → has_child groups g ≡ false → in_subtree groups g h ≡ true → h ≡ g
-unfolding has_child
-in_subtree-leaf groups g h leaf e =
-    let s = in_subtree-is groups g h e in
-    let w = path_of-is groups h s.below s.path_below in
-    let c = group_at-contains groups h w.0 w.1 in
-    ⊎_elim (λ same. same)
-    (λ other.
-    let test : not (w.0.number == g) ≡ true = not_from_false (w.0.number == g) (ne_eqb w.0.number g (λ same. other (sym c.1 ∙ same))) in
-    absurd (both_ways (not (w.0.number == g) && in_subtree groups g w.0.number)
-    (none_contains (λ x. not (x.number == g) && in_subtree groups g x.number) groups w.0 leaf c.0)
-    (and_from (not (w.0.number == g)) (in_subtree groups g w.0.number) test (ap (in_subtree groups g) c.1 ∙ e))))
-    (cases_eq h g)
-
 -- ---- one pair of groups decides the other
 names-injective : (a b : List ℕ) → IsWellFormed a → IsWellFormed b → names_of a ≡ names_of b → a ≡ b
 names-injective a b x y e =
@@ -178,36 +163,6 @@ front_front (n ∷ ns) (k ∷ ks) x y e h =
     let tail : ns ++ x ≡ ks ++ y = cc in
     let w = front_front ns ks x y tail (omega arith) in
     (w.0, ap (λ z. z ∷ ks) (sym head) ∙ ap (λ z. n ∷ z) w.1)
-
-pub in_subtree-line : (groups : List Group) (f g h : ℕ) → in_subtree groups f h ≡ true → in_subtree groups g h ≡ true →
-    (in_subtree groups f g ≡ true) ⊎ (in_subtree groups g f ≡ true)
-in_subtree-line groups f g h a b =
-    let s = in_subtree-is groups f h a in
-    let t = in_subtree-is groups g h b in
-    let same : s.below ≡ t.below = same_Some s.below t.below (sym s.path_below ∙ t.path_below) in
-    let both : names_of s.above ++ s.more ≡ names_of t.above ++ t.more = sym s.names ∙ ap names_of same ∙ t.names in
-    ⊎_elim
-    (λ le. let w = front_front (names_of s.above) (names_of t.above) s.more t.more both le in
-    inl (in_subtree-from groups f g (record {
-      above = s.above;
-      below = t.above;
-      more = w.0;
-      path_above = s.path_above;
-      path_below =
-          t.path_above;
-      names = w.1;
-    })))
-    (λ lt. let w = front_front (names_of t.above) (names_of s.above) t.more s.more (sym both) (omega arith) in
-    inr (in_subtree-from groups g f (record {
-      above = t.above;
-      below = s.above;
-      more = w.0;
-      path_above = t.path_above;
-      path_below =
-          s.path_above;
-      names = w.1;
-    })))
-    (le_or_lt (length (names_of s.above)) (length (names_of t.above)))
 
 -- ---- what a change leaves
 or-none : {X : Type 0} (o : Option X) → option_or o None ≡ o
@@ -373,10 +328,6 @@ parent_of-is groups h p e =
     (λ other. parent_of-cases groups h p (path_of groups h) refl other e)
     (cases_eq h 0)
 
-same_tests : (a b : Bool) → (a ≡ true → b ≡ true) → (b ≡ true → a ≡ true) → a ≡ b
-same_tests true b f g = sym (f refl)
-same_tests false b f g = sym (false_from_ne_true b (λ t. false≢true (g t)))
-
 -- the parent of a group has it in its subtree
 pub in_subtree-parent_of : (groups : List Group) (h p : ℕ) → AreGroups groups → parent_of groups h ≡ Some p → in_subtree groups p h ≡ true
 in_subtree-parent_of groups h p facts e =
@@ -457,51 +408,6 @@ in_subtree-with_new groups n h path facts can free t =
     absurd (none_below groups path facts can.formed can.below_root can.fresh (length (names_of w.0.path)) w.0 s.more
     (group_at-contains groups h w.0 w.1).0 (omega arith) names))
     (cases_eq h n)
-
--- a new group lies below its parent and those above that, and below no other
-pub in_subtree-with_new_above : (groups : List Group) (n g p : ℕ) (path : List ℕ) → AreGroups groups → CanMake groups path →
-    has_group groups n ≡ false → number_at groups (parent_path path) ≡ Some p → g ≢ n → in_subtree (with_group groups n path) g n ≡ in_subtree groups g p
-in_subtree-with_new_above groups n g p path facts can free e other =
-    let q = number_at-contains groups (parent_path path) p e in
-    let there = path_of-at groups q.0.number q.0 (group_at-there groups q.0 facts.numbers_distinct q.1) in
-    let parent : path_of groups p ≡ Some (parent_path path) = ap (path_of groups) (sym q.3) ∙ there ∙ ap Some q.2 in
-    let new = path_of-with_new groups n path free in
-    let old = path_of-with groups n g path other in
-    let name = names_parent path can.formed can.below_root in
-    same_tests (in_subtree (with_group groups n path) g n) (in_subtree groups g p)
-    (λ t.
-    let s = in_subtree-is (with_group groups n path) g n t in
-    let below : s.below ≡ path = same_Some s.below path (sym s.path_below ∙ new) in
-    let above : path_of groups g ≡ Some s.above = sym old ∙ s.path_above in
-    let w = path_of-is groups g s.above above in
-    ⊎_elim
-    (λ whole.
-    let same : s.above ≡ path = names-injective s.above path (path_of-formed groups g s.above facts.paths above) can.formed (whole ∙ ap names_of below) in
-    let found : number_at groups path ≡ Some w.0.number = ap (number_at groups) (sym (w.2 ∙ same))
-    ∙ number_at-there groups w.0 facts.paths_distinct (group_at-contains groups g w.0 w.1).0 in
-    absurd (both_ways (is_some (number_at groups path)) can.fresh (ap is_some found)))
-    (λ front. in_subtree-from groups g p (record {
-      above = s.above;
-      below = parent_path path;
-      more = front.0;
-      path_above = above;
-      path_below =
-          parent;
-      names = front.1;
-    }))
-    (above_last (names_of s.above) (names_of s.below) s.more (names_of (parent_path path)) name.0 s.names (ap names_of below ∙ name.1)))
-    (λ t.
-    let s = in_subtree-is groups g p t in
-    let below : s.below ≡ parent_path path = same_Some s.below (parent_path path) (sym s.path_below ∙ parent) in
-    in_subtree-from (with_group groups n path) g n (record {
-      above = s.above;
-      below = path;
-      more = s.more ++ name.0 ∷ [];
-      path_above = old ∙ s.path_above;
-      path_below = new;
-      names = name.1 ∙ ap (λ p. names_of p ++ name.0 ∷ []) (sym below) ∙ ap (λ ns. ns ++ name.0 ∷ []) s.names
-          ∙ append_assoc (names_of s.above) s.more (name.0 ∷ []);
-    }))
 
 -- a group lies one name below its parent
 pub parent_of-depth : (groups : List Group) (h p : ℕ) → AreGroups groups → parent_of groups h ≡ Some p →

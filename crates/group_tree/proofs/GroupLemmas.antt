@@ -1,6 +1,6 @@
 -- What holds of the groups of a tree, and how a change keeps it. Serves the invariant of `Tree` and the contracts of its calls.
 use Rattle.std.proofs.Common.{◌≡◌, ◌≢◌, ℕ, zero, suc, ◌+◌, ◌<◌, ◌≤◌, Bool, true, false, not, cond, leb, ◌&&◌, ◌||◌, ◌==◌, nat_eq, nat_le, nat_lt}
-use Rattle.std.proofs.Common.{IsTrue, IsSomeAnd, Option, Some, None, is_some, is_none, IsNone, List, [], ◌∷◌, ◌++◌, length, take, drop, get_or}
+use Rattle.std.proofs.Common.{IsTrue, IsSomeAnd, Option, Some, None, is_some, is_none, List, [], ◌∷◌, ◌++◌, length, take, drop, get_or}
 use Rattle.std.proofs.Common.{slice_get, map, filter, All, AllPairs, Contains, refl, sym, ap, ◌∙◌, subst, arith, ⊎_elim, lit≤, lit<}
 use Rattle.std.specs.List.{find, list_all, list_any, starts_with}
 use Rattle.std.specs.Option.{option_map, option_and_then, option_or}
@@ -396,10 +396,6 @@ parent-there groups n path facts e =
     let h = path_of-is groups n path e in
     subst (λ p. is_some (number_at groups (parent_path p)) ≡ true) h.2
     (All-contains (λ x. IsTrue (is_some (number_at groups (parent_path x.path)))) groups h.0 facts.parents (group_at-contains groups n h.0 h.1).0)
-
-pub none_is_no_some : {X : Type 0} (o : Option X) → IsNone o → is_some o ≡ true → ⊥
-none_is_no_some None h e = false≢true e
-none_is_no_some (Some x) h e = true≢false h
 
 -- ---- another limit
 pub limited-number : (n : ℕ) (limit : Option ℕ) (g : Group) → (limited n limit g).number ≡ g.number

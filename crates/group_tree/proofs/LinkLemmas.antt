@@ -1,7 +1,7 @@
 -- What a tree keeps by number beside its rows, and how a change keeps it. Serves the contracts of `Tree::new`, `make`,
 -- `set_max`, `remove`, `parent` and `depth`.
-use Rattle.std.proofs.Common.{◌≡◌, ◌≢◌, ℕ, ◌+◌, ◌<◌, false, not, cond, ◌==◌, IsTrue, All, Option, Some, None, List, [], ◌∷◌, ◌++◌, length, map}
-use Rattle.std.proofs.Common.{filter, get_or, set, replicate, Contains, is_some, true, refl, sym, ap, ◌∙◌, subst, arith, ⊎_elim, lit<, length-append}
+use Rattle.std.proofs.Common.{◌≡◌, ◌≢◌, ℕ, ◌+◌, ◌<◌, false, not, cond, ◌==◌, IsTrue, Option, Some, None, List, [], ◌∷◌, length, map}
+use Rattle.std.proofs.Common.{filter, get_or, set, replicate, Contains, is_some, refl, sym, ap, ◌∙◌, subst, arith, ⊎_elim, lit<, length-append}
 use Rattle.std.specs.Option.{option_and_then, option_map_or}
 use Rattle.std.proofs.lemmas.Bool.{both_ways, cases_Bool, cases_eq, cond-false, cond-true, eq-eqb, ne_eqb}
 use Rattle.std.proofs.lemmas.List.{get_or_default, get_or-set_other, get_or-set_same, get_or-replicate, length-set, length-replicate}
@@ -16,7 +16,7 @@ use Rattle.group_tree.specs.Links.{AreLinks, link_at, root_link}
 use Rattle.group_tree.specs.Ancestors.{depth_at}
 use Rattle.group_tree.proofs.PathLemmas.{names_parent}
 use Rattle.group_tree.proofs.GroupLemmas.{CanMake, All-one, some_is, has_group-contains, has_group-is, group_at-contains, number_at-contains}
-use Rattle.group_tree.proofs.GroupLemmas.{number_at-there, path_of-at, path_of-is, parent_of-below, parent-there, limited-number, limited-path}
+use Rattle.group_tree.proofs.GroupLemmas.{number_at-there, path_of-at, parent_of-below, parent-there, limited-number, limited-path}
 
 -- ---- at first
 one_number : (x : Group) → Contains initial_groups x → x.number ≡ 0

@@ -9,7 +9,7 @@ use Rattle.group_tree.proofs.AncestorLemmas.{ancestors_of-step, parent_of-none_r
 use Rattle.std.proofs.lemmas.Bool.{both_ways, cases_Bool, false_from_ne_true}
 use Rattle.group_tree.specs.declared.group.Group.{Group}
 use Rattle.group_tree.specs.Path.{depth_of}
-use Rattle.group_tree.specs.Groups.{has_group, in_subtree, path_of, parent_of, AreGroups}
+use Rattle.group_tree.specs.Groups.{has_group, in_subtree, parent_of, AreGroups}
 use Rattle.group_tree.proofs.CallerLemmas.{in_subtree-root, in_subtree-refl, in_subtree-trans, in_subtree-above, in_subtree-antisym}
 use Rattle.group_tree.proofs.CallerLemmas.{in_subtree-parent_of, in_subtree-above_parent, parent_of-depth}
 
@@ -25,10 +25,6 @@ parent_depth groups m p facts e =
 pub record WalkedTo (groups : List Group) (test : ℕ → Bool) (g m : ℕ) : Type 0 where
   pub on_path : in_subtree groups m g ≡ true
   pub passed : (k : ℕ) → in_subtree groups k g ≡ true → (test k ≡ true) ⊎ (in_subtree groups k m ≡ true)
-
--- the walk begins at g
-pub walked_start : (groups : List Group) (test : ℕ → Bool) (g : ℕ) → has_group groups g ≡ true → WalkedTo groups test g g
-walked_start groups test g there = record { on_path = in_subtree-refl groups g there; passed = λ k h. inr h }
 
 -- where m passes, the walk goes on to its parent
 pub walked_up : (groups : List Group) (test : ℕ → Bool) (g m p : ℕ) → AreGroups groups → WalkedTo groups test g m → test m ≡ true →

@@ -45,10 +45,6 @@ is_dots name = bytes_eq name (codes ".") || bytes_eq name (codes "..")
 unfoldable pub is_name : List ℕ → Bool
 is_name name = nat_le 1 (length name) && nat_le (length name) MAX_NAME && list_all is_name_byte name && not (is_dots name)
 
--- the same as a fact
-abbrev pub IsName : List ℕ → Type 0
-IsName name = IsTrue (is_name name)
-
 -- a path has at most 512 bytes, begins with a slash, and has names alone between its slashes
 unfoldable pub is_well_formed : List ℕ → Bool
 is_well_formed path = nat_le (length path) MAX_PATH && starts_with nat_eq path root_path && list_all is_name (names_of path)

@@ -1,4 +1,4 @@
-//! A host in thirty lines: it charges groups for the blocks that it takes from a zone, and prints what came of it.
+//! A small host: it charges groups for the blocks that it takes from a zone, and prints what came of it.
 #![tactic(auto)]
 
 ghost use Rattle.std.specs.Prelude.{◌≡◌, ◌^◌, IfNone, IfSome, IsTrue};

@@ -15,11 +15,11 @@ use Rattle.load_run.specs.Ending.{TellsEnd}
 
 -- what stands after a boot with these sizes, under these tables: the machine of a new boot, and the parts of the processors,
 -- which did nothing yet
-pub record StandsAtFirst (sizes : Config) (t : KnownTable) (w : Words) (s : Standing) : Type 0 where
-  pub sized : IsSizedAs sizes t w
-  pub machine : IsFirst t w s.locked.machine
-  pub sizes_are : s.locked.sizes ≡ sizes
-  pub cpus : s.cpus ≡ first_cpus t w 1 sizes.cpus
+pub record StandsAtFirst (sizes : Config) (table : KnownTable) (stock_table : Words) (first : Standing) : Type 0 where
+  pub sized : IsSizedAs sizes table stock_table
+  pub machine : IsFirst table stock_table first.locked.machine
+  pub sizes_are : first.locked.sizes ≡ sizes
+  pub cpus : first.cpus ≡ first_cpus table stock_table 1 sizes.cpus
 
 -- what a boot with these sizes answers to the lines, one after the other, and then tells of its end
 pub record AreAnswers (sizes : Config) (is_audited : Bool) (lines : List Line) (text : List ℕ) : Type 0 where

@@ -13,22 +13,22 @@ use Rattle.script_replay.specs.Lines.{Standing}
 
 -- a pin of each of these frames is put, one after the other
 abbrev pub PutsEach : List ℕ → KnownCpu → KnownCpu → Type 0
-PutsEach [] c d = d ≡ c
-PutsEach (f ∷ frames) c d = (answer : Put) × (mid : KnownCpu) × UnpinAnswers f answer c mid × PutsEach frames mid d
+PutsEach [] before after = after ≡ before
+PutsEach (f ∷ frames) before after = (answer : Put) × (mid : KnownCpu) × UnpinAnswers f answer before mid × PutsEach frames mid after
 
 -- every pin of the processor is put
-pub record LetsGo (c d : KnownCpu) : Type 0 where
+pub record LetsGo (before after : KnownCpu) : Type 0 where
   pub frames : List ℕ
-  pub puts : PutsEach frames c d
-  pub none_left : d.pins ≡ []
+  pub puts : PutsEach frames before after
+  pub none_left : after.pins ≡ []
 
 -- the boot ended, where so many pins were held: none; or every pin was put, and then it ended
-pub record EndsHeld (t : KnownTable) (w : Words) (s : Standing) (held : ℕ) (a : Audit) : Type 0 where
-  pub held_are : held ≡ pins_of s.cpus
+pub record EndsHeld (table : KnownTable) (stock_table : Words) (before : Standing) (held : ℕ) (audit : Audit) : Type 0 where
+  pub held_are : held ≡ pins_of before.cpus
   pub cpus : List KnownCpu
-  pub free : held ≡ 0 → cpus ≡ s.cpus
-  pub pinned : 1 ≤ held → AllZip LetsGo s.cpus cpus
-  pub ends : Ends t w s.locked cpus a
+  pub free : held ≡ 0 → cpus ≡ before.cpus
+  pub pinned : 1 ≤ held → AllZip LetsGo before.cpus cpus
+  pub ends : Ends table stock_table before.locked cpus audit
 
 -- how many frames there are, and where
 abbrev pub places_text : Audit → List ℕ
@@ -55,8 +55,8 @@ end_text true held a = held_text held ++ audit_text a
 end_text false held a = []
 
 -- so it is told, of a boot that ended
-pub record TellsEnd (t : KnownTable) (w : Words) (is_audited : Bool) (s : Standing) (text : List ℕ) : Type 0 where
+pub record TellsEnd (table : KnownTable) (stock_table : Words) (is_audited : Bool) (before : Standing) (text : List ℕ) : Type 0 where
   pub held : ℕ
   pub audit : Audit
-  pub ends : EndsHeld t w s held audit
+  pub ends : EndsHeld table stock_table before held audit
   pub text_is : text ≡ end_text is_audited held audit

@@ -85,10 +85,6 @@ is_some_of (Some u) f = elim (cases_eq u f) [
   | inr n ↦ inr (λ h. let k : Some u ≡ Some f = h in n (let j : u ≡ f = cc in j))
 ]
 
-pub none_or_some : (o : Option ℕ) → (o ≡ None) ⊎ ((u : ℕ) × (o ≡ Some u))
-none_or_some None = inl refl
-none_or_some (Some u) = inr (u, refl)
-
 -- ---- a push
 
 -- what a push leaves in the records and at the ends

@@ -65,25 +65,6 @@ after_among (x ∷ y ∷ ys) f n h = elim (cases_eq x f) [
 pub other_than_first : (x : ℕ) (xs : List ℕ) (n : ℕ) → is_among xs x ≡ false → is_among xs n ≡ true → x ≢ n
 other_than_first x xs n out in_it e = both_ways (is_among xs n) (subst (λ (v : ℕ). is_among xs v ≡ false) e out) in_it
 
-pub after_other : (xs : List ℕ) (f n : ℕ) → AreApart xs → after xs f ≡ Some n → f ≢ n
-after_other [] f n apart h = cc
-after_other (x ∷ []) f n apart h = elim (cases_eq x f) [
-  | inl e ↦ let t : (x == f) ≡ true = eq-eqb x f e in let k : None ≡ Some n = rw t at h in cc
-  | inr d ↦ let t : (x == f) ≡ false = ne_eqb x f d in let k : None ≡ Some n = rw t at h in cc
-]
-after_other (x ∷ y ∷ ys) f n apart h = elim (cases_eq x f) [
-  | inl e ↦
-      let t : (x == f) ≡ true = eq-eqb x f e in
-      let k : Some y ≡ Some n = rw t at h in
-      let j : y ≡ n = cc in
-      let u : (y == n) ≡ true = eq-eqb y n j in
-      let a : is_among (y ∷ ys) n ≡ true = rw u refl in
-      λ q. other_than_first x (y ∷ ys) n apart.0 a (e ∙ q)
-  | inr d ↦
-      let t : (x == f) ≡ false = ne_eqb x f d in
-      after_other (y ∷ ys) f n apart.1 (rw t at h)
-]
-
 pub before_none : (x : ℕ) (xs : List ℕ) (f : ℕ) → is_among xs f ≡ false → before_from x xs f ≡ None
 before_none x [] f h = refl
 before_none x (y ∷ ys) f h =
@@ -103,21 +84,6 @@ before_among x (y ∷ ys) f p h = elim (cases_eq y f) [
       let t : (y == f) ≡ false = ne_eqb y f d in
       let i = before_among y ys f p (rw t at h) in
       (elim (cases_Bool (x == p)) [ inl a ↦ rw a refl | inr a ↦ rw a (i.0) ], rw t (i.1))
-]
-
--- the unit before f is another than f
-pub before_other : (x : ℕ) (xs : List ℕ) (f p : ℕ) → AreApart (x ∷ xs) → before_from x xs f ≡ Some p → p ≢ f
-before_other x [] f p apart h = cc
-before_other x (y ∷ ys) f p apart h = elim (cases_eq y f) [
-  | inl e ↦
-      let t : (y == f) ≡ true = eq-eqb y f e in
-      let k : Some x ≡ Some p = rw t at h in
-      let j : x ≡ p = cc in
-      let u : is_among (y ∷ ys) f ≡ true = rw t refl in
-      λ q. other_than_first x (y ∷ ys) f apart.0 u (j ∙ q)
-  | inr d ↦
-      let t : (y == f) ≡ false = ne_eqb y f d in
-      before_other y ys f p apart.1 (rw t at h)
 ]
 
 -- ---- the ends once f is out

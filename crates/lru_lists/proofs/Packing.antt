@@ -1,6 +1,6 @@
 -- The records as they are packed, and what a write of one leaves.
 -- They serve the contracts of `Links`.
-use Rattle.std.proofs.Common.{◌≡◌, ℕ, ◌+◌, ◌<◌, ◌≤◌, false, Option, Some, None, IfSome, List, length, map, replicate, slice_set, sym, ◌∙◌, ap}
+use Rattle.std.proofs.Common.{◌≡◌, ℕ, ◌<◌, false, Option, Some, None, IfSome, List, length, replicate, slice_set, sym, ◌∙◌, ap}
 use Rattle.std.proofs.Common.{arith, inl, inr, refl, subst}
 use Rattle.std.proofs.Math.ListN.{get_or, get_or-map}
 use Rattle.std.proofs.lemmas.Bool.{cases_lt}

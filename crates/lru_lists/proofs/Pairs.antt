@@ -3,8 +3,8 @@
 use Rattle.std.proofs.Common.{◌≡◌, ◌≢◌, ℕ, zero, suc, ◌+◌, ◌<◌, ◌==◌, ◌⊎◌, Bool, true, false, Option, Some, None, List, [], ◌∷◌, ◌++◌, length}
 use Rattle.std.proofs.Common.{slice_index_or, slice_set, get_or-set_same, get_or-set_other, map, take, drop, option_map, sym, ◌∙◌, ap, subst, inl}
 use Rattle.std.proofs.Common.{inr, arith, refl, eq-eqb, add-one}
-use Rattle.std.proofs.lemmas.Bool.{cases_eq, cases_lt, ne_eqb, cases_Bool, true≢false, false≢true, or_parts, false_from_ne_true}
-use Rattle.std.proofs.lemmas.List.{length-append, get_or_append_left, get_or_push, append_assoc, length-map, length-set, map-append}
+use Rattle.std.proofs.lemmas.Bool.{cases_eq, ne_eqb, cases_Bool, true≢false, false≢true, or_parts, false_from_ne_true}
+use Rattle.std.proofs.lemmas.List.{append_assoc, length-map, length-set, map-append}
 use Rattle.lru_lists.specs.declared.record.Link.{Link}
 use Rattle.lru_lists.specs.declared.record.Home.{Home}
 use Rattle.lru_lists.specs.declared.record.Entry.{Entry}
@@ -14,7 +14,7 @@ use Rattle.lru_lists.specs.declared.lru.Lru.{Lru}
 use Rattle.lru_lists.specs.declared.queue.Queue.{Queue}
 use Rattle.lru_lists.specs.Queue.{oldest_of, after, link_at, nowhere, is_among, AreApart, without, IsLinked, units_of, StaysElsewhere, SameUse}
 use Rattle.lru_lists.specs.Queue.{newest_link, unlinked}
-use Rattle.lru_lists.specs.Lists.{active_of, inactive_of, is_marked_by_touch, first_entry, entry_after, KeepsUnits, AllStand, OthersStand}
+use Rattle.lru_lists.specs.Lists.{active_of, inactive_of, is_marked_by_touch, first_entry, entry_after, KeepsUnits, OthersStand}
 use Rattle.lru_lists.specs.Lists.{OneOfAllChanges, changed_at, home_of, queue_of, with_queue, StandsIn, MovesOnly, entries_of, marked, entry_of}
 use Rattle.lru_lists.specs.Lists.{entries_without, place_of, list_of, ChangesOwn, IsOnNone}
 use Rattle.lru_lists.proofs.Lists.{other_than_first}
@@ -113,10 +113,6 @@ queue_other lru Active Active q ne = absurd (ne refl)
 pub home_same : (lru : Lru) (list m : LruList) (q : Queue) → home_of (with_queue lru list q) m ≡ home_of lru m
 home_same lru Inactive m q = refl
 home_same lru Active m q = refl
-
-pub owner_same : (lru : Lru) (list : LruList) (q : Queue) → (with_queue lru list q).owner ≡ lru.owner
-owner_same lru Inactive q = refl
-owner_same lru Active q = refl
 
 pub cases_list : (m list : LruList) → (m ≡ list) ⊎ (m ≢ list)
 cases_list Inactive Inactive = inl refl
@@ -302,13 +298,6 @@ own_after_push before after lru list unit m away h =
     let k : list_of after lru.owner unit ≡ Some list = list_at_home after lru list unit h in
     changed_own before after lru.owner unit m (λ b a. let j : Some list ≡ None = sym k ∙ a in cc) (λ b. away) (λ a. let j : Some list ≡ None = sym k ∙ a in cc)
 
--- a unit that left a list of the owner for none
-pub own_after_pull : (before after : List Link) (lru : Lru) (list : LruList) (unit : ℕ) → MovesOnly before after lru.owner unit
-    → (link_at before unit).home ≡ Some (home_of lru list) → IsOnNone after unit → ChangesOwn before after lru.owner
-own_after_pull before after lru list unit m h gone =
-    let k : list_of before lru.owner unit ≡ Some list = list_at_home before lru list unit h in
-    changed_own before after lru.owner unit m (λ b a. let j : Some list ≡ None = sym k ∙ b in cc) (λ b. let j : Some list ≡ None = sym k ∙ b in cc) (λ a. gone)
-
 -- ---- a whole push and a whole pull
 
 -- what a push on one of the lists leaves
@@ -452,46 +441,11 @@ changed_lacks links unit change (x ∷ xs) out =
     let r : changed_at unit change (map (entry_of links) xs) ≡ map (entry_of links) xs = changed_lacks links unit change xs (p.1) in
     rw (p.0) (cc)
 
-pub remarked_keeps : (links : List Link) (owner unit : ℕ) (k : Link) → k.home ≡ (link_at links unit).home → list_of links owner unit ≢ None
-    → KeepsUnits links (slice_set links unit k) owner
-remarked_keeps links owner unit k same on = record {
-  frames = length-set links unit k;
-  others = λ f n. set_other links unit f k (λ e. on (subst (λ (v : ℕ). list_of links owner v ≡ None) e n));
-  units = λ f n h. n (sym (ap (λ (o : Option Home). place_of o owner) (part_set (λ (v : Link). v.home) links unit f k same)) ∙ h);
-}
-
--- a unit that stands on a list of the owner before and after
-pub moved_keeps : (before after : List Link) (lru : Lru) (list : LruList) (unit : ℕ) → MovesOnly before after lru.owner unit
-    → list_of before lru.owner unit ≢ None
-    → (link_at after unit).home ≡ Some (home_of lru list) → KeepsUnits before after lru.owner
-moved_keeps before after lru list unit m on there = record {
-  frames = m.frames;
-  others = λ f n. m.kept f (λ e. on (subst (λ (v : ℕ). list_of before lru.owner v ≡ None) e n)) n;
-  units = λ f n h. elim (cases_eq f unit) [
-    | inl e ↦
-        let k : list_of after lru.owner f ≡ Some list = list_at_home after lru list f (rw e there) in
-        let j : Some list ≡ None = sym k ∙ h in
-        cc
-    | inr d ↦ n (sym (ap (λ (o : Option Home). place_of o lru.owner) (m.home f d)) ∙ h)
-  ];
-}
-
 pub keeps_both : (a b c : List Link) (owner : ℕ) → KeepsUnits a b owner → KeepsUnits b c owner → KeepsUnits a c owner
 keeps_both a b c owner p q = record {
   frames = q.frames ∙ p.frames;
   others = λ f n. q.others f (ap (λ (v : Link). place_of v.home owner) (p.others f n) ∙ n) ∙ p.others f n;
   units = λ f n. q.units f (p.units f n);
-}
-
-pub keeps_none : (a : List Link) (owner : ℕ) → KeepsUnits a a owner
-keeps_none a owner = record { frames = refl; others = λ f n. refl; units = λ f n. n }
-
-pub keeps_changes : (before after : List Link) (owner : ℕ) → KeepsUnits before after owner → ChangesOwn before after owner
-keeps_changes before after owner k = record {
-  frames = k.frames;
-  kept = λ f b a. k.others f b;
-  joined = λ f b a. absurd (a (ap (λ (v : Link). place_of v.home owner) (k.others f b) ∙ b));
-  left = λ f b a. absurd (k.units f b a);
 }
 
 -- ---- the lists of other owners
@@ -553,27 +507,6 @@ one_of_all_changes before after lists new all lt stands c k any lk = elim (cases
       let old = all k any (rw (← length-set lists new.owner new) lk) in
       let ne : (slice_index_or lists k any).owner ≢ new.owner = λ q. n (sym (old.0) ∙ q) in
       rw got (old.0, (others_stand before after new.owner (slice_index_or lists k any) c ne (old.1)).0)
-]
-
--- the same, for the lists at a place of a slice that are written back there
-pub one_written_back : (before after : List Link) (lists : List Lru) (k : ℕ) (new : Lru) (any : Lru) → AllStand before lists
-    → k < length lists → new.owner ≡ (slice_index_or lists k any).owner → StandsIn after new
-    → ChangesOwn before after (slice_index_or lists k any).owner → AllStand after (slice_set lists k new)
-one_written_back before after lists k new any all lt same stands c =
-    let e : new.owner ≡ k = same ∙ (all k any lt).0 in
-    rw (← e) (one_of_all_changes before after lists new all (rw e lt) stands (rw same c))
-
--- one more owner's lists behind those that stand
-pub all_pushed : (links : List Link) (lists : List Lru) (new : Lru) → AllStand links lists → new.owner ≡ length lists
-    → StandsIn links new → AllStand links (lists ++ new ∷ [])
-all_pushed links lists new all e stands k any lt = elim (cases_lt k (length lists)) [
-  | inl l ↦
-      let got : slice_index_or (lists ++ new ∷ []) k any ≡ slice_index_or lists k any = get_or_append_left lists (new ∷ []) any k l in
-      rw got (all k any l)
-  | inr g ↦
-      let q : length lists ≡ k = (let lt' : k < length lists + 1 = rw (length-append lists (new ∷ [])) at lt in omega arith) in
-      let got : slice_index_or (lists ++ new ∷ []) k any ≡ new = get_or_push lists new any k q in
-      rw got (e ∙ q, stands)
 ]
 
 -- a pull takes the unit out of each list: of the other it changes nothing

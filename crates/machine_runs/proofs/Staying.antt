@@ -1,18 +1,18 @@
 -- A call leaves the visit open, and every other one as it was. Serves each call of the runs.
-use Rattle.std.proofs.Common.{◌≡◌, ◌≢◌, ℕ, Bool, true, false, Result, Ok, Err, List, [], ◌∷◌, zero, suc, refl, sym, ap, ◌∙◌, subst, inl, inr, get_or}
+use Rattle.std.proofs.Common.{◌≡◌, ℕ, Bool, true, false, Result, Ok, Err, List, [], ◌∷◌, zero, suc, refl, sym, ap, ◌∙◌, subst, inl, inr, get_or}
 use Rattle.std.specs.Prelude.{IfOk, IfErr, OnOk, OnErr}
 use Rattle.std.proofs.lemmas.Bool.{cases_eq}
 use Rattle.group_charge.specs.declared.charges.Over.{Over}
 use Rattle.frame_word.specs.Seats.{KnownTable, KnownSeat, NothingPasses, LentIsBorrowed, IsOpen, IsShut, seat_with_visit}
 use Rattle.frame_word.proofs.Notes.{put_here, put_else}
 use Rattle.cpu_part.specs.Cpus.{KnownCpu}
-use Rattle.mem_machine.specs.Machines.{KnownMachine, Visits, Makes}
+use Rattle.mem_machine.specs.Machines.{KnownMachine, Visits, AddsGroup}
 use Rattle.mem_machine.specs.Lending.{LendsMany, TakesManyBack, Refills}
 use Rattle.mem_machine.specs.Steps.{Drain}
-use Rattle.mem_machine.specs.Stocks.{Drains, DrainsBelow, DrainsAllBelow, DrainsSubtree, Prepays, IsOver}
+use Rattle.mem_machine.specs.Stocks.{DrainsBelow, DrainsAllBelow, Prepays, IsOver}
 use Rattle.stock_word.specs.Stock.{Words}
 use Rattle.mem_machine.specs.Machines.{is_killed, IsFirst}
-use Rattle.mem_machine.specs.Local.{fresh_group}
+use Rattle.mem_machine.specs.Local.{fresh_group, side}
 use Rattle.mem_machine.specs.Settling.{SettlesFresh, SettlesAllFresh, ReturnsAllBack, Settles, LeavesOthers}
 use Rattle.mem_machine.specs.declared.blocks.TakeFault.{TakeFault}
 use Rattle.mem_machine.specs.declared.blocks.TakeFault.TheVariants as fault
@@ -22,11 +22,11 @@ use Rattle.mem_machine.specs.declared.releasing.Released.TheVariants.{Left, Retu
 use Rattle.mem_machine.specs.Releasing.{Releases}
 use Rattle.machine_runs.specs.Visiting.{AllShut, Stays}
 
-pub stays : (t : KnownTable) (m : KnownMachine) (c : KnownCpu) → Visits t m c → Stays t m c m c
+pub stays : (t : KnownTable) (m : KnownMachine) (c : KnownCpu) → Visits t (side m c) → Stays t m c m c
 stays t m c visit = record { visit = visit; opened = refl; number = refl }
 
 -- the zone's seat and the processor's stay
-pub seats_stay : (t : KnownTable) (m n : KnownMachine) (c d : KnownCpu) → Visits t m c → n.seat ≡ m.seat → d.seat ≡ c.seat → d.number ≡ c.number
+pub seats_stay : (t : KnownTable) (m n : KnownMachine) (c d : KnownCpu) → Visits t (side m c) → n.seat ≡ m.seat → d.seat ≡ c.seat → d.number ≡ c.number
     → Stays t m c n d
 seats_stay t m n c d visit zone own number = record {
   visit = record {
@@ -39,38 +39,38 @@ seats_stay t m n c d visit zone own number = record {
 }
 
 -- the machine changed otherwise alone
-pub zone_stays : (t : KnownTable) (m n : KnownMachine) (c : KnownCpu) → Visits t m c → n.seat ≡ m.seat → Stays t m c n c
+pub zone_stays : (t : KnownTable) (m n : KnownMachine) (c : KnownCpu) → Visits t (side m c) → n.seat ≡ m.seat → Stays t m c n c
 zone_stays t m n c visit zone = seats_stay t m n c c visit zone refl refl
 
-pub made_stays : {E : Type 0} (r : Result ℕ E) (t : KnownTable) (m n : KnownMachine) (c : KnownCpu) (path : List ℕ) → Visits t m c
-    → IfOk r (λ g. Makes m g path n) → OnErr r (n ≡ m) → Stays t m c n c
+pub made_stays : {E : Type 0} (r : Result ℕ E) (t : KnownTable) (m n : KnownMachine) (c : KnownCpu) (path : List ℕ) → Visits t (side m c)
+    → IfOk r (λ g. AddsGroup m g path n) → OnErr r (n ≡ m) → Stays t m c n c
 made_stays (Ok g) t m n c path visit made same = zone_stays t m n c visit (ap (λ (k : KnownMachine). k.seat) made.machine)
 made_stays (Err e) t m n c path visit made same = zone_stays t m n c visit (ap (λ (k : KnownMachine). k.seat) same)
 
 -- ---- frames that go between the zone and the list
 
-lent_seats : (frames : List ℕ) (m : KnownMachine) (c : KnownCpu) (n : KnownMachine) (d : KnownCpu) → LendsMany frames m c n d
+lent_seats : (frames : List ℕ) (m : KnownMachine) (c : KnownCpu) (n : KnownMachine) (d : KnownCpu) → LendsMany frames (side m c) (side n d)
     → (n.seat.view.opened ≡ m.seat.view.opened) × (d.number ≡ c.number)
 lent_seats [] m c n d lends = (ap (λ (k : KnownMachine). k.seat.view.opened) lends.0, ap (λ (e : KnownCpu). e.number) lends.1)
 lent_seats (f ∷ frames) m c n d lends =
-    let rest = lent_seats frames lends.0 lends.1 n d lends.3 in
-    (rest.0 ∙ ap (λ (k : KnownMachine). k.seat.view.opened) lends.2.machine, rest.1 ∙ ap (λ (e : KnownCpu). e.number) lends.2.cpu)
+    let rest = lent_seats frames lends.0.machine lends.0.cpu n d lends.2 in
+    (rest.0 ∙ ap (λ (k : KnownMachine). k.seat.view.opened) lends.1.machine, rest.1 ∙ ap (λ (e : KnownCpu). e.number) lends.1.cpu)
 
-pub refill_stays : (t : KnownTable) (k : ℕ) (m : KnownMachine) (c : KnownCpu) (n : KnownMachine) (d : KnownCpu) → Refills t k m c n d → Visits t n d
+pub refill_stays : (t : KnownTable) (k : ℕ) (m : KnownMachine) (c : KnownCpu) (n : KnownMachine) (d : KnownCpu) → Refills t k (side m c) (side n d) → Visits t (side n d)
     → Stays t m c n d
 refill_stays t k m c n d refills visit =
     let both = lent_seats refills.frames m c n d refills.lends in
     record { visit = visit; opened = both.0; number = both.1 }
 
-taken_seats : (frames : List ℕ) (m : KnownMachine) (c : KnownCpu) (n : KnownMachine) (d : KnownCpu) → TakesManyBack frames m c n d
+taken_seats : (frames : List ℕ) (m : KnownMachine) (c : KnownCpu) (n : KnownMachine) (d : KnownCpu) → TakesManyBack frames (side m c) (side n d)
     → (n.seat.view.opened ≡ m.seat.view.opened) × (d.number ≡ c.number)
 taken_seats [] m c n d takes = (ap (λ (k : KnownMachine). k.seat.view.opened) takes.0, ap (λ (e : KnownCpu). e.number) takes.1)
 taken_seats (f ∷ frames) m c n d takes =
-    let rest = taken_seats frames takes.0 takes.1 n d takes.3 in
-    (rest.0 ∙ ap (λ (k : KnownMachine). k.seat.view.opened) takes.2.machine, rest.1 ∙ ap (λ (e : KnownCpu). e.number) takes.2.cpu)
+    let rest = taken_seats frames takes.0.machine takes.0.cpu n d takes.2 in
+    (rest.0 ∙ ap (λ (k : KnownMachine). k.seat.view.opened) takes.1.machine, rest.1 ∙ ap (λ (e : KnownCpu). e.number) takes.1.cpu)
 
 pub drain_list_stays : (t : KnownTable) (frames : List ℕ) (m : KnownMachine) (c : KnownCpu) (n : KnownMachine) (d : KnownCpu)
-    → TakesManyBack frames m c n d → Visits t n d → Stays t m c n d
+    → TakesManyBack frames (side m c) (side n d) → Visits t (side n d) → Stays t m c n d
 drain_list_stays t frames m c n d takes visit =
     let both = taken_seats frames m c n d takes in
     record { visit = visit; opened = both.0; number = both.1 }
@@ -87,7 +87,7 @@ all_below_seat g zero drains m n d = ap (λ (k : KnownMachine). k.seat) d.1
 all_below_seat g (suc k) drains m n d = below_seat g d.2 (suc k) d.1 n d.5 ∙ all_below_seat g k d.0 m d.2 d.4
 
 pub prepay_stays : (r : Result (Unit {0}) Over) (t : KnownTable) (g pages : ℕ) (m : KnownMachine) (c : KnownCpu) (n : KnownMachine) (d : KnownCpu)
-    → Visits t n d → OnOk r (Prepays t g pages m c n d) → IfErr r (λ e. IsOver t g pages e.group m c n d) → Stays t m c n d
+    → Visits t (side n d) → OnOk r (Prepays g pages (side m c) (side n d)) → IfErr r (λ e. IsOver g pages e.group (side m c) (side n d)) → Stays t m c n d
 prepay_stays (Ok x) t g pages m c n d visit prepays over = record {
   visit = visit;
   opened =
@@ -102,29 +102,29 @@ prepay_stays (Err e) t g pages m c n d visit prepays over = record {
 
 -- ---- fresh frames, blocks and releases
 
-fresh_one : (f : ℕ) (m : KnownMachine) (c : KnownCpu) (n : KnownMachine) (d : KnownCpu) → SettlesFresh f m c n d
+fresh_one : (f : ℕ) (m : KnownMachine) (c : KnownCpu) (n : KnownMachine) (d : KnownCpu) → SettlesFresh f (side m c) (side n d)
     → (b : Bool) → is_killed m.killed (fresh_group c) ≡ b → n.seat.view.opened ≡ m.seat.view.opened
 fresh_one f m c n d settles true e = ap (λ (k : KnownMachine). k.seat.view.opened) (settles.drops e).machine
 fresh_one f m c n d settles false e = ap (λ (k : KnownMachine). k.seat.view.opened) (settles.keeps e).machine
 
-fresh_opened : (frames : List ℕ) (m : KnownMachine) (c : KnownCpu) (n : KnownMachine) (d : KnownCpu) → SettlesAllFresh frames m c n d
+fresh_opened : (frames : List ℕ) (m : KnownMachine) (c : KnownCpu) (n : KnownMachine) (d : KnownCpu) → SettlesAllFresh frames (side m c) (side n d)
     → n.seat.view.opened ≡ m.seat.view.opened
 fresh_opened [] m c n d settles = ap (λ (k : KnownMachine). k.seat.view.opened) settles.0
 fresh_opened (f ∷ frames) m c n d settles =
-    fresh_opened frames settles.0 settles.1 n d settles.3
-    ∙ fresh_one f m c settles.0 settles.1 settles.2 (is_killed m.killed (fresh_group c)) refl
+    fresh_opened frames settles.0.machine settles.0.cpu n d settles.2
+    ∙ fresh_one f m c settles.0.machine settles.0.cpu settles.1 (is_killed m.killed (fresh_group c)) refl
 
-back_opened : (frames : List ℕ) (m : KnownMachine) (c : KnownCpu) (n : KnownMachine) (d : KnownCpu) → ReturnsAllBack frames m c n d
+back_opened : (frames : List ℕ) (m : KnownMachine) (c : KnownCpu) (n : KnownMachine) (d : KnownCpu) → ReturnsAllBack frames (side m c) (side n d)
     → n.seat.view.opened ≡ m.seat.view.opened
 back_opened [] m c n d returns = ap (λ (k : KnownMachine). k.seat.view.opened) returns.0
 back_opened (f ∷ frames) m c n d returns =
-    back_opened frames returns.0 returns.1 n d returns.3 ∙ ap (λ (k : KnownMachine). k.seat.view.opened) returns.2.machine
+    back_opened frames returns.0.machine returns.0.cpu n d returns.2 ∙ ap (λ (k : KnownMachine). k.seat.view.opened) returns.1.machine
 
-pub settle_stays : (t : KnownTable) (m : KnownMachine) (c : KnownCpu) (n : KnownMachine) (d : KnownCpu) → Settles m c n d → LeavesOthers c d
-    → Visits t n d → Stays t m c n d
+pub settle_stays : (t : KnownTable) (m : KnownMachine) (c : KnownCpu) (n : KnownMachine) (d : KnownCpu) → Settles (side m c) (side n d) → LeavesOthers c d
+    → Visits t (side n d) → Stays t m c n d
 settle_stays t m c n d settles others visit = record {
   visit = visit;
-  opened = back_opened c.back settles.machine settles.cpu n d settles.back ∙ fresh_opened c.fresh m c settles.machine settles.cpu settles.fresh;
+  opened = back_opened c.back settles.mid.machine settles.mid.cpu n d settles.back ∙ fresh_opened c.fresh m c settles.mid.machine settles.mid.cpu settles.fresh;
   number = others.number;
 }
 
@@ -133,7 +133,7 @@ refused_opened m g k (fault.Over over) n refuses = ap (λ (x : KnownMachine). x.
 refused_opened m g k fault.NoBlock n refuses = ap (λ (x : KnownMachine). x.seat.view.opened) refuses.machine
 
 pub block_stays : (r : Result ℕ TakeFault) (t : KnownTable) (g k : ℕ) (m : KnownMachine) (c : KnownCpu) (n : KnownMachine) (d : KnownCpu)
-    → IfOk r (λ head. TakesBlock m g k head n) → IfErr r (λ f. RefusesBlock m g k f n) → d ≡ c → Visits t n d → Stays t m c n d
+    → IfOk r (λ head. TakesBlock m g k head n) → IfErr r (λ f. RefusesBlock m g k f n) → d ≡ c → Visits t (side n d) → Stays t m c n d
 block_stays (Ok head) t g k m c n d takes refuses same visit = record {
   visit = visit;
   opened = ap (λ (x : KnownMachine). x.seat.view.opened) takes.machine;
@@ -145,7 +145,7 @@ block_stays (Err f) t g k m c n d takes refuses same visit = record {
   number = ap (λ (e : KnownCpu). e.number) same;
 }
 
-pub release_stays : (r : Released) (t : KnownTable) (f : ℕ) (m : KnownMachine) (c : KnownCpu) (n : KnownMachine) → Releases m f r n → Visits t n c
+pub release_stays : (r : Released) (t : KnownTable) (f : ℕ) (m : KnownMachine) (c : KnownCpu) (n : KnownMachine) → Releases m f r n → Visits t (side n c)
     → Stays t m c n c
 release_stays (Left left) t f m c n releases visit =
     record { visit = visit; opened = ap (λ (x : KnownMachine). x.seat.view.opened) releases.machine; number = refl }

@@ -1,83 +1,168 @@
-//! What has to be alike on the plain side and in the machine.
+//! What has to be alike in the account, the machine, the parts of the processors, and the core that makes the steps.
 
+ghost use Rattle.std.specs.Prelude.{◌<◌};
+
+use crate::account::{Account, Known};
 use crate::holds::holds;
-use crate::plain::Plain;
 use cpu_part::{BootName, Cpu, Tables};
+use frame_word::Frame;
 use group_tree::group::GroupId;
-use mem_machine::Machine;
+use mem_core::zone::Core;
+use mem_machine::{Machine, Place};
 use std::process::Abort;
+use step_rules::step::{self, Action, Answer, Step};
+
+// The frame stands at the same place, and heads the same kept unit or none.
+fn frame_alike<N: BootName>(rt: &impl Abort, machine: &Machine<N>, frame: Frame, known: &Known)
+    requires { frame < N.frames.frames }
+{
+    let is_kept = machine.is_kept(frame);
+    holds(rt, machine.place(frame) == known.place, "places");
+    holds(rt, machine.unit(frame) == known.unit, "units");
+    holds(rt, is_kept == known.unit.is_some(), "kept units");
+}
 
 /// Each frame stands at the same place, and heads the same kept unit or none.
-pub fn places_alike<N: BootName>(
+pub fn frames_alike<N: BootName>(
     rt: &impl Abort,
     tables: &Tables<N>,
     machine: &Machine<N>,
-    plain: &Plain,
+    account: &Account,
 ) {
     for number in 0..tables.frames.frames() {
-        let frame = tables.frames.frame(number).expect(rt, "a frame");
-        let at = number as usize;
-        holds(
-            rt,
-            Some(machine.place(frame)) == plain.places.get(at).copied(),
-            "places alike",
-        );
-        holds(
-            rt,
-            Some(machine.unit(frame)) == plain.units.get(at).copied(),
-            "places alike",
-        );
-        holds(
-            rt,
-            machine.is_kept(frame) == machine.unit(frame).is_some(),
-            "places alike",
-        );
+        if let Some(frame) = tables.frames.frame(number) {
+            frame_alike(rt, machine, frame, &account.frame(number));
+        }
     }
 }
 
 // A group is used as much, with its subtree, and was at most, if it is there.
-fn group_alike<N: BootName>(rt: &impl Abort, machine: &Machine<N>, plain: &Plain, group: GroupId) {
+fn group_alike<N: BootName>(
+    rt: &impl Abort,
+    machine: &Machine<N>,
+    account: &Account,
+    group: GroupId,
+) {
     let charges = machine.charges();
-    let is_there = group == GroupId::root() || plain.path_of(group).is_some();
-    assert!(rt; charges.tree().contains(group) == is_there);
+    let named = account.named(group);
+    let is_there = group == GroupId::root() || named.path.is_some();
+    holds(rt, charges.tree().contains(group) == is_there, "groups");
+    holds(rt, !machine.is_killed(group), "no group is killed");
     if !charges.tree().contains(group) {
         return;
     }
-    let peak = plain.peaks.get(group.number() as usize).copied();
-    holds(
-        rt,
-        u64::from(machine.current(group)) == plain.usage(group),
-        "group alike",
-    );
-    holds(
-        rt,
-        Some(u64::from(charges.peak(group))) == peak,
-        "group alike",
-    );
-    holds(
-        rt,
-        Some(machine.is_killed(group)) == plain.killed.get(group.number() as usize).copied(),
-        "group alike",
-    );
+    let (used, peak) = (machine.current(group), charges.peak(group));
+    holds(rt, u64::from(used) == account.usage(group), "usage");
+    holds(rt, u64::from(peak) == named.peak, "peaks");
 }
 
 /// The same groups are there, used as much, and what was counted is the same.
-pub fn groups_alike<N: BootName>(rt: &impl Abort, machine: &Machine<N>, plain: &Plain) {
+pub fn groups_alike<N: BootName>(rt: &impl Abort, machine: &Machine<N>, account: &Account) {
     for number in 0..8 {
-        if let Some(group) = GroupId::of(number) {
-            group_alike(rt, machine, plain, group);
-        }
+        let group = GroupId::of(number).unwrap_or(GroupId::root());
+        group_alike(rt, machine, account, group);
     }
-    holds(rt, machine.counts() == plain.counts, "groups alike");
+    holds(rt, machine.counts() == account.counts, "counts");
 }
 
-/// The processor has as many frames on its list, and the same fresh ones.
-pub fn lists_alike<N: BootName>(rt: &impl Abort, tables: &Tables<N>, cpu: &Cpu<N>, plain: &Plain) {
-    let seat = plain.seat(rt, cpu.number());
-    holds(rt, cpu.list_len() == seat.list.len(), "lists alike");
-    holds(rt, cpu.fresh_len() == seat.fresh.len(), "lists alike");
-    for fresh in seat.fresh.iter() {
-        let frame = tables.frames.frame(*fresh).expect(rt, "a frame");
-        holds(rt, cpu.has_fresh(frame), "lists alike");
+/// The processor has as many frames on its list and as many fresh ones, and the oldest fresh one is the same.
+pub fn lists_alike<N: BootName>(
+    rt: &impl Abort,
+    tables: &Tables<N>,
+    cpu: &Cpu<N>,
+    account: &Account,
+) {
+    let number = cpu.number();
+    let listed = account.count(number, false);
+    let fresh = account.count(number, true);
+    holds(rt, cpu.list_len() == listed, "lengths of lists");
+    holds(rt, cpu.fresh_len() == fresh, "numbers of fresh frames");
+    for at in 0..account.size {
+        let known = account.frame(at);
+        if known.place == Place::Lent(number) && known.fresh_for.is_some() {
+            let is_fresh = match tables.frames.frame(at) {
+                Some(frame) => cpu.has_fresh(frame),
+                None => false,
+            };
+            holds(rt, is_fresh, "fresh frames");
+        }
+    }
+}
+
+/// The core makes the steps since the last time, each with the answer that it has to get.
+pub fn make_steps(rt: &impl Abort, core: &mut Core, rows: &[(u32, Action, Answer)]) {
+    for (seat, action, wanted) in rows {
+        let step = Step {
+            seat: *seat,
+            action: *action,
+        };
+        let is_so = core.steps() < 1_000_000 && core.step(step) == *wanted;
+        holds(rt, is_so, "each step is answered as the call was");
+    }
+}
+
+// Where the frame has to stand in the core: a fresh one is lent to its processor by the machine, and kept by its group there.
+fn place_in_core(known: &Known) -> step::Place {
+    if let Some(group) = known.fresh_for {
+        return step::Place::Charged(group);
+    }
+    match known.place {
+        Place::Free => step::Place::Free,
+        Place::Lent(cpu) => step::Place::Listed(cpu),
+        Place::Charged(group) => step::Place::Charged(group),
+    }
+}
+
+// Whether the frame stands there in the core.
+fn is_there(core: &Core, frame: u32, known: &Known) -> bool {
+    if frame >= core.areas().frames() {
+        return false;
+    }
+    let is_kept = core.references(0, frame) == 1;
+    core.place(frame) == place_in_core(known) && is_kept == known.unit.is_some()
+}
+
+/// The frames stand there in the core too, and each processor has as many on its list and as many fresh ones.
+pub fn core_alike(rt: &impl Abort, core: &Core, account: &Account) {
+    for frame in 0..account.size {
+        let known = account.frame(frame);
+        holds(rt, is_there(core, frame, &known), "places in the core");
+    }
+    for cpu in 1..5 {
+        let listed = account.count(cpu, false);
+        let fresh = account.count(cpu, true);
+        holds(rt, core.list_len(cpu) == listed, "lists in the core");
+        holds(rt, core.fresh(cpu).len() == fresh, "fresh in the core");
+        let oldest = account.oldest(cpu, true);
+        holds(
+            rt,
+            core.fresh(cpu).first().copied() == oldest,
+            "fresh in the core",
+        );
+    }
+}
+
+// A group has the same usage, peak, limit and counts of events in the core, if it is there.
+fn group_in_core<N: BootName>(rt: &impl Abort, machine: &Machine<N>, core: &Core, group: GroupId) {
+    let charges = machine.charges();
+    let is_there = charges.tree().contains(group);
+    holds(rt, core.tree().contains(group) == is_there, "groups");
+    if !is_there || !core.tree().contains(group) {
+        return;
+    }
+    let used = u128::from(machine.current(group)) == core.current(group);
+    let peak = u128::from(charges.peak(group)) == core.peak(group);
+    let limit = charges.max(group) == core.max(group);
+    let events = charges.events(group).max == core.events(group).max;
+    let own = charges.events_local(group).max == core.events_local(group).max;
+    holds(rt, used && peak && limit, "groups in the core");
+    holds(rt, events && own, "events in the core");
+}
+
+/// Each group has the same usage, peak, limit and counts of events in the core.
+pub fn groups_in_core<N: BootName>(rt: &impl Abort, machine: &Machine<N>, core: &Core) {
+    for number in 0..8 {
+        let group = GroupId::of(number).unwrap_or(GroupId::root());
+        group_in_core(rt, machine, core, group);
     }
 }

@@ -2,6 +2,7 @@
 
 ghost use Rattle.mem_machine.specs.Machines.{Visits};
 ghost use Rattle.machine_runs.specs.Visiting.{AllShut, Stays};
+ghost use Rattle.mem_machine.specs.Local.{side};
 
 use crate::made::{Made, path};
 use cpu_part::{BootName, Cpu, Tables};
@@ -40,7 +41,7 @@ fn refill<N: BootName>(
     cpu: &mut Cpu<N>,
     word: u32,
 ) -> Made
-    requires { Visits N.frames machine.old cpu.old }
+    requires { Visits N.frames (side machine.old cpu.old) }
     ensures { Stays N.frames machine.old cpu.old machine.new cpu.new }
 {
     let batch = (word >> 8) % 9;
@@ -58,7 +59,7 @@ fn drain_list<N: BootName>(
     cpu: &mut Cpu<N>,
     word: u32,
 ) -> Made
-    requires { Visits N.frames machine.old cpu.old }
+    requires { Visits N.frames (side machine.old cpu.old) }
     ensures { Stays N.frames machine.old cpu.old machine.new cpu.new }
 {
     let count = (word >> 8) % 9;
@@ -68,7 +69,7 @@ fn drain_list<N: BootName>(
 
 // A group is made.
 fn make<N: BootName>(machine: &mut Machine<N>, cpu: &Cpu<N>, word: u32) -> Made
-    requires { Visits N.frames machine.old cpu.now }
+    requires { Visits N.frames (side machine.old cpu.now) }
     ensures { Stays N.frames machine.old cpu.now machine.new cpu.now }
 {
     let number = (word >> 8) % 4;
@@ -85,7 +86,7 @@ fn remove<N: BootName>(
     cpu: &mut Cpu<N>,
     word: u32,
 ) -> Made
-    requires { Visits N.frames machine.old cpu.old }
+    requires { Visits N.frames (side machine.old cpu.old) }
     ensures { Stays N.frames machine.old cpu.old machine.new cpu.new }
 {
     let group = some_group(word);
@@ -102,7 +103,7 @@ fn remove<N: BootName>(
 
 // A group gets another limit, or none.
 fn set_max<N: BootName>(machine: &mut Machine<N>, cpu: &Cpu<N>, word: u32) -> Made
-    requires { Visits N.frames machine.old cpu.now }
+    requires { Visits N.frames (side machine.old cpu.now) }
     ensures { Stays N.frames machine.old cpu.now machine.new cpu.now }
 {
     let group = some_group(word);
@@ -117,7 +118,7 @@ fn set_max<N: BootName>(machine: &mut Machine<N>, cpu: &Cpu<N>, word: u32) -> Ma
 
 // It is noted of a group that its usage was about to go over its limit.
 fn note_max<N: BootName>(machine: &mut Machine<N>, cpu: &Cpu<N>, word: u32) -> Made
-    requires { Visits N.frames machine.old cpu.now }
+    requires { Visits N.frames (side machine.old cpu.now) }
     ensures { Stays N.frames machine.old cpu.now machine.new cpu.now }
 {
     let group = some_group(word);
@@ -135,7 +136,7 @@ fn prepay<N: BootName>(
     cpu: &mut Cpu<N>,
     word: u32,
 ) -> Made
-    requires { Visits N.frames machine.old cpu.old }
+    requires { Visits N.frames (side machine.old cpu.old) }
     ensures { Stays N.frames machine.old cpu.old machine.new cpu.new }
 {
     let group = some_group(word);
@@ -161,7 +162,7 @@ fn drain_stock<N: BootName>(
     cpu: &Cpu<N>,
     word: u32,
 ) -> Made
-    requires { Visits N.frames machine.old cpu.now }
+    requires { Visits N.frames (side machine.old cpu.now) }
     ensures { Stays N.frames machine.old cpu.now machine.new cpu.now }
 {
     let number = (word >> 8) % 4 + 1;
@@ -179,7 +180,7 @@ fn drain_stocks<N: BootName>(
     cpu: &Cpu<N>,
     word: u32,
 ) -> Made
-    requires { Visits N.frames machine.old cpu.now }
+    requires { Visits N.frames (side machine.old cpu.now) }
     ensures { Stays N.frames machine.old cpu.now machine.new cpu.now }
 {
     let group = some_group(word);
@@ -192,7 +193,7 @@ fn drain_stocks<N: BootName>(
 
 // The fresh frames become kept units.
 fn settle<N: BootName>(tables: &Tables<N>, machine: &mut Machine<N>, cpu: &mut Cpu<N>) -> Made
-    requires { Visits N.frames machine.old cpu.old }
+    requires { Visits N.frames (side machine.old cpu.old) }
     ensures { Stays N.frames machine.old cpu.old machine.new cpu.new }
 {
     let frames = u32::try_from(cpu.fresh_len()).unwrap_or(0);
@@ -216,7 +217,7 @@ fn take_block<N: BootName>(
     cpu: &mut Cpu<N>,
     word: u32,
 ) -> Made
-    requires { Visits N.frames machine.old cpu.old }
+    requires { Visits N.frames (side machine.old cpu.old) }
     ensures { Stays N.frames machine.old cpu.old machine.new cpu.new }
 {
     let group = some_group(word);
@@ -252,7 +253,7 @@ fn release<N: BootName>(
     cpu: &Cpu<N>,
     word: u32,
 ) -> Made
-    requires { Visits N.frames machine.old cpu.now }
+    requires { Visits N.frames (side machine.old cpu.now) }
     ensures { Stays N.frames machine.old cpu.now machine.new cpu.now }
 {
     let some = (word >> 8).checked_rem(tables.frames.frames()).unwrap_or(0);
@@ -277,7 +278,7 @@ fn serve<N: BootName>(
     cpu: &mut Cpu<N>,
     word: u32,
 ) -> Made
-    requires { Visits N.frames machine.old cpu.old }
+    requires { Visits N.frames (side machine.old cpu.old) }
     ensures { Stays N.frames machine.old cpu.old machine.new cpu.new }
 {
     match word % 16 {
@@ -314,9 +315,8 @@ pub fn visit<N: BootName>(
 
 // The group of the processor's stock, or any group.
 fn paying_group<N: BootName>(cpu: &Cpu<N>, word: u32) -> GroupId {
-    let own = cpu.last_stock().group();
-    match own.and_then(GroupId::of) {
-        Some(group) if word & 64 == 0 => group,
+    match cpu.last_stock().group() {
+        Some(own) if word & 64 == 0 => GroupId::of(own).unwrap_or(GroupId::root()),
         _ => some_group(word),
     }
 }

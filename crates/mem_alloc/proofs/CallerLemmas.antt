@@ -14,15 +14,17 @@ use Rattle.mem_alloc.specs.Frames.{AllocatesFrame}
 use Rattle.mem_alloc.specs.Blocks.{AllocatesBlock}
 use Rattle.mem_alloc.proofs.Lowering.{lowered_there}
 use Rattle.mem_alloc.proofs.Filling.{refused_lowers}
+use Rattle.mem_machine.specs.Local.{side}
+use Rattle.mem_alloc.specs.Stepping.{course}
 
-over_there : (t : KnownTable) (g pages over : ℕ) (m n : KnownMachine) (steps : Run) → IsOverAt t g pages over m steps n → has_group n.ledger.groups over ≡ true
+over_there : (t : KnownTable) (g pages over : ℕ) (m n : KnownMachine) (steps : Run) → IsOverAt g pages over (course t m steps n) → has_group n.ledger.groups over ≡ true
 over_there t g pages over m n steps h =
     lowered_there h.cleared n over (refused_lowers t g pages over h.cleared n h.last h.refused)
     (in_subtree-above h.cleared.ledger.groups over g h.refused.lowest.on_path)
 
 -- after a frame was refused
 pub frame_over_there : (t : KnownTable) (sizes : Config) (g over : ℕ) (m n : KnownMachine) (c d : KnownCpu) (steps : Run)
-    → AllocatesFrame t sizes g (Err (Over over)) m c steps n d → has_group n.ledger.groups over ≡ true
+    → AllocatesFrame sizes g (Err (Over over)) (course t (side m c) steps (side n d)) → has_group n.ledger.groups over ≡ true
 frame_over_there t sizes g over m n c d steps h =
     let last = h.refuses.refuses.refuses in
     let named = last.named in
@@ -32,5 +34,5 @@ frame_over_there t sizes g over m n c d steps h =
 
 -- after a block was refused
 pub block_over_there : (t : KnownTable) (g k over : ℕ) (m n : KnownMachine) (c d : KnownCpu) (steps : Run)
-    → AllocatesBlock t g k (Err (Over over)) m c steps n d → has_group n.ledger.groups over ≡ true
+    → AllocatesBlock g k (Err (Over over)) (course t (side m c) steps (side n d)) → has_group n.ledger.groups over ≡ true
 block_over_there t g k over m n c d steps h = over_there t g (2 ^ k) over m n steps h.1.refuses

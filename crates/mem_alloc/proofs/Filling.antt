@@ -16,7 +16,7 @@ use Rattle.zone_sizes.specs.declared.config.Config.{Config}
 use Rattle.zone_sizes.specs.Config.{IsValidConfig}
 use Rattle.step_rules.specs.After.{Run}
 use Rattle.mem_machine.specs.Machines.{KnownMachine, is_killed}
-use Rattle.mem_machine.specs.Local.{IsLocalRun, local_of}
+use Rattle.mem_machine.specs.Local.{IsLocalRun, local_of, side}
 use Rattle.mem_machine.specs.Lending.{LendsMany, Refills}
 use Rattle.mem_machine.specs.Paying.{HoldsPage, PaysForFront}
 use Rattle.mem_machine.specs.Stocks.{Drains, Fills, stock_group}
@@ -24,8 +24,8 @@ use Rattle.mem_machine.specs.Steps.{drain_steps, fill_steps, over_steps, take_fr
 use Rattle.mem_machine.proofs.Prepaying.{filled_account, filled_at}
 use Rattle.mem_machine.proofs.Reaching.{run_both}
 use Rattle.mem_alloc.specs.declared.faults.AllocFault.{AllocFault}
-use Rattle.mem_alloc.specs.declared.faults.AllocFault.TheVariants.{Over, NoFrames, Killed}
-use Rattle.mem_alloc.specs.Stepping.{BySteps}
+use Rattle.mem_alloc.specs.declared.faults.AllocFault.TheVariants.{Over, NoFrames}
+use Rattle.mem_alloc.specs.Stepping.{BySteps, course}
 use Rattle.mem_alloc.specs.Room.{IsRefusedAt, MakesRoom, IsOverAt, with_max_noted_at}
 use Rattle.mem_alloc.specs.Charging.{FillsAfterRoom, IsOverForOne, ChargesFrame, RefusesFrame, DrainsOwn, PaysForFrame}
 use Rattle.mem_alloc.specs.Charging.{RefusesToPay}
@@ -60,7 +60,7 @@ lowers_keep m n c d l same = record {
   back = ap (λ (e : KnownCpu). e.back) same;
 }
 
-fills_keep : (g k : ℕ) (m n : KnownMachine) (c d : KnownCpu) → Fills g k m c n d → KeepsPart m c n d
+fills_keep : (g k : ℕ) (m n : KnownMachine) (c d : KnownCpu) → Fills g k (side m c) (side n d) → KeepsPart m c n d
 fills_keep g k m n c d f = record {
   opened = ap (λ (y : KnownMachine). y.seat.view.opened) f.machine;
   number = ap (λ (e : KnownCpu). e.number) f.cpu;
@@ -69,31 +69,31 @@ fills_keep g k m n c d f = record {
   back = ap (λ (e : KnownCpu). e.back) f.cpu;
 }
 
-pub refused_lowers : (t : KnownTable) (g pages over : ℕ) (m n : KnownMachine) (steps : Run) → IsRefusedAt t g pages over m steps n → Lowers m n
+pub refused_lowers : (t : KnownTable) (g pages over : ℕ) (m n : KnownMachine) (steps : Run) → IsRefusedAt g pages over (course t m steps n) → Lowers m n
 refused_lowers t g pages over m n steps r =
     lowers_both m (with_max_noted_at m over) n (note_lowers m over) (all_lower over t.cpus (with_max_noted_at m over) n r.drains r.all)
 
-pub makes_lower : (t : KnownTable) (g pages : ℕ) (before : List ℕ) (m n : KnownMachine) (steps : Run) → MakesRoom t g pages before m steps n → Lowers m n
+pub makes_lower : (t : KnownTable) (g pages : ℕ) (before : List ℕ) (m n : KnownMachine) (steps : Run) → MakesRoom g pages before (course t m steps n) → Lowers m n
 makes_lower t g pages [] m n steps h = subst (λ (x : KnownMachine). Lowers m x) (sym h.0) (lowers_none m)
 makes_lower t g pages (over ∷ later) m n steps h =
     lowers_both m h.0 n (refused_lowers t g pages over m h.0 h.1 h.3) (makes_lower t g pages later h.0 n h.2 h.5)
 
-pub over_lowers : (t : KnownTable) (g pages over : ℕ) (m n : KnownMachine) (steps : Run) → IsOverAt t g pages over m steps n → Lowers m n
+pub over_lowers : (t : KnownTable) (g pages over : ℕ) (m n : KnownMachine) (steps : Run) → IsOverAt g pages over (course t m steps n) → Lowers m n
 over_lowers t g pages over m n steps h =
     lowers_both m h.cleared n (makes_lower t g pages h.before m h.cleared h.making h.makes) (refused_lowers t g pages over h.cleared n h.last h.refused)
 
-after_room_keeps : (t : KnownTable) (g k : ℕ) (m n : KnownMachine) (c d : KnownCpu) (steps : Run) → FillsAfterRoom t g k m c steps n d → KeepsPart m c n d
+after_room_keeps : (t : KnownTable) (g k : ℕ) (m n : KnownMachine) (c d : KnownCpu) (steps : Run) → FillsAfterRoom g k (course t (side m c) steps (side n d)) → KeepsPart m c n d
 after_room_keeps t g k m n c d steps h =
     keeps_both m h.cleared n c c d (lowers_keep m h.cleared c c (makes_lower t g k h.before m h.cleared h.making h.makes) refl)
     (fills_keep g k h.cleared n c d h.fills)
 
 charges_keep : (t : KnownTable) (sizes : Config) (g : ℕ) (m n : KnownMachine) (c d : KnownCpu) (steps : Run)
-    → ChargesFrame t sizes g m c steps n d → KeepsPart m c n d
+    → ChargesFrame sizes g (course t (side m c) steps (side n d)) → KeepsPart m c n d
 charges_keep t sizes g m n c d steps (inl h) = fills_keep g sizes.stock m n c d h.fills
 charges_keep t sizes g m n c d steps (inr h) = after_room_keeps t g 1 m n c d h.later h.fills
 
 pub pays_keep : (t : KnownTable) (sizes : Config) (g : ℕ) (m n : KnownMachine) (c d : KnownCpu) (steps : Run)
-    → PaysForFrame t sizes g m c steps n d → KeepsPart m c n d
+    → PaysForFrame sizes g (course t (side m c) steps (side n d)) → KeepsPart m c n d
 pays_keep t sizes g m n c d steps (inl h) =
     lowers_keep m n c d (subst (λ (x : KnownMachine). Lowers m x) (sym h.machine) (lowers_none m)) h.cpu
 pays_keep t sizes g m n c d steps (inr h) =
@@ -101,7 +101,7 @@ pays_keep t sizes g m n c d steps (inr h) =
     (charges_keep t sizes g h.emptied n c d h.later h.charges)
 
 pub refuses_keep : (t : KnownTable) (sizes : Config) (g : ℕ) (cause : AllocFault) (m n : KnownMachine) (c d : KnownCpu) (steps : Run)
-    → RefusesToPay t sizes g cause m c steps n d → KeepsPart m c n d
+    → RefusesToPay sizes g cause (course t (side m c) steps (side n d)) → KeepsPart m c n d
 refuses_keep t sizes g cause m n c d steps h =
     let over = h.refuses.refuses in
     keeps_both m h.emptied n c c d (lowers_keep m h.emptied c c (drain_lowers m h.emptied c.number h.drains.back h.drains.drains) refl)
@@ -109,7 +109,7 @@ refuses_keep t sizes g cause m n c d steps h =
 
 -- ---- the stock holds a page
 
-filled_page : (g k : ℕ) (m n : KnownMachine) (c d : KnownCpu) → Fills g k m c n d → 1 ≤ k → c.fresh ≡ [] → HoldsPage n d g
+filled_page : (g k : ℕ) (m n : KnownMachine) (c d : KnownCpu) → Fills g k (side m c) (side n d) → 1 ≤ k → c.fresh ≡ [] → HoldsPage (side n d) g
 filled_page g k m n c d f some none =
     let at : account_of n.stock.view d.number ≡ filled_account m.stock.view c.number g k =
     (λ i. account_of (f.machine i).stock.view (f.cpu i).number) ∙ filled_at m.stock.view c.number g k in
@@ -118,14 +118,14 @@ filled_page g k m n c d f some none =
     record { group = ap (λ (a : Account). a.group) at; held = ap (λ (a : Account). a.filled) at; some = omega (arith, book, fresh, some) }
 
 pub charged_page : (t : KnownTable) (sizes : Config) (g : ℕ) (m n : KnownMachine) (c d : KnownCpu) (steps : Run) → IsValidConfig sizes
-    → ChargesFrame t sizes g m c steps n d → c.fresh ≡ [] → HoldsPage n d g
+    → ChargesFrame sizes g (course t (side m c) steps (side n d)) → c.fresh ≡ [] → HoldsPage (side n d) g
 charged_page t sizes g m n c d steps valid (inl h) none = filled_page g sizes.stock m n c d h.fills valid.stock_low none
 charged_page t sizes g m n c d steps valid (inr h) none = filled_page g 1 h.fills.cleared n c d h.fills.fills (omega arith) none
 
 pub paid_page : (t : KnownTable) (sizes : Config) (g : ℕ) (m n : KnownMachine) (c d : KnownCpu) (steps : Run) → IsValidConfig sizes
-    → PaysForFrame t sizes g m c steps n d → c.fresh ≡ [] → HoldsPage n d g
+    → PaysForFrame sizes g (course t (side m c) steps (side n d)) → c.fresh ≡ [] → HoldsPage (side n d) g
 paid_page t sizes g m n c d steps valid (inl h) none =
-    subst (λ (x : KnownMachine × KnownCpu). HoldsPage x.0 x.1 g) (λ i. (sym h.machine i, sym h.cpu i)) h.page
+    subst (λ (x : KnownMachine × KnownCpu). HoldsPage (side x.0 x.1) g) (λ i. (sym h.machine i, sym h.cpu i)) h.page
 paid_page t sizes g m n c d steps valid (inr h) none = charged_page t sizes g h.emptied n c d h.later valid h.charges none
 
 -- ---- frames that are lent
@@ -138,7 +138,7 @@ pub record LentPart (frames : List ℕ) (m : KnownMachine) (c : KnownCpu) (n : K
   pub back : d.back ≡ c.back
   pub stock : n.stock ≡ m.stock
 
-pub lent_part : (frames : List ℕ) (m n : KnownMachine) (c d : KnownCpu) → LendsMany frames m c n d → LentPart frames m c n d
+pub lent_part : (frames : List ℕ) (m n : KnownMachine) (c d : KnownCpu) → LendsMany frames (side m c) (side n d) → LentPart frames m c n d
 lent_part [] m n c d h = record {
   opened = ap (λ (y : KnownMachine). y.seat.view.opened) h.0;
   number = ap (λ (e : KnownCpu). e.number) h.1;
@@ -148,8 +148,8 @@ lent_part [] m n c d h = record {
   stock = ap (λ (y : KnownMachine). y.stock) h.0;
 }
 lent_part (f ∷ frames) m n c d h =
-    let one = h.2 in
-    let more = lent_part frames h.0 n h.1 d h.3 in
+    let one = h.1 in
+    let more = lent_part frames h.0.machine n h.0.cpu d h.2 in
     record {
       opened = more.opened ∙ ap (λ (y : KnownMachine). y.seat.view.opened) one.machine;
       number = more.number ∙ ap (λ (e : KnownCpu). e.number) one.cpu;
@@ -159,7 +159,7 @@ lent_part (f ∷ frames) m n c d h =
       stock = more.stock ∙ ap (λ (y : KnownMachine). y.stock) one.machine;
     }
 
-pub lent_page : (frames : List ℕ) (g : ℕ) (m n : KnownMachine) (c d : KnownCpu) → LendsMany frames m c n d → HoldsPage m c g → HoldsPage n d g
+pub lent_page : (frames : List ℕ) (g : ℕ) (m n : KnownMachine) (c d : KnownCpu) → LendsMany frames (side m c) (side n d) → HoldsPage (side m c) g → HoldsPage (side n d) g
 lent_page frames g m n c d lends page =
     let l = lent_part frames m n c d lends in
     let at : account_of n.stock.view d.number ≡ account_of m.stock.view c.number = λ i. account_of (l.stock i).view (l.number i) in
@@ -175,11 +175,11 @@ lent_page frames g m n c d lends page =
 -- ---- the parts put together
 
 -- the batch fits
-pub batch_fits : (t : KnownTable) (sizes : Config) (g : ℕ) (m k n : KnownMachine) (c e d : KnownCpu) → k ≡ m → e ≡ c → Fills g sizes.stock k e n d
+pub batch_fits : (t : KnownTable) (sizes : Config) (g : ℕ) (m k n : KnownMachine) (c e d : KnownCpu) → k ≡ m → e ≡ c → Fills g sizes.stock (side k e) (side n d)
     → IsLocalRun e.number (local_of t k e) (fill_steps e.number g sizes.stock) (local_of t n d)
-    → BySteps t m c n d (λ steps. ChargesFrame t sizes g m c steps n d)
+    → BySteps t (side m c) (side n d) (ChargesFrame sizes g)
 batch_fits t sizes g m k n c e d same mine fills steps =
-    subst (λ (x : KnownMachine × KnownCpu). BySteps t x.0 x.1 n d (λ steps. ChargesFrame t sizes g x.0 x.1 steps n d)) (λ i. (same i, mine i)) (
+    subst (λ (x : KnownMachine × KnownCpu). BySteps t (side x.0 x.1) (side n d) (ChargesFrame sizes g)) (λ i. (same i, mine i)) (
       fill_steps e.number g sizes.stock,
       inl (record { fills = fills; steps_are = refl }),
       steps,
@@ -197,19 +197,19 @@ module _ (t : KnownTable) (sizes : Config) (g over : ℕ) (m k x n : KnownMachin
   refused = subst (λ (z : KnownMachine × KnownCpu). IsLocalRun z.1.number (local_of t z.0 z.1) (over_steps g sizes.stock over) (local_of t z.0 z.1))
       (λ i. (same i, mine i)) refusing
 
-  pub one_fits : BySteps t x y n d (λ steps. FillsAfterRoom t g 1 x y steps n d) → BySteps t m c n d (λ steps. ChargesFrame t sizes g m c steps n d)
+  pub one_fits : BySteps t (side x y) (side n d) (FillsAfterRoom g 1) → BySteps t (side m c) (side n d) (ChargesFrame sizes g)
   one_fits b =
-      let here = subst (λ (z : KnownMachine × KnownCpu). BySteps t z.0 z.1 n d (λ steps. FillsAfterRoom t g 1 z.0 z.1 steps n d))
+      let here = subst (λ (z : KnownMachine × KnownCpu). BySteps t (side z.0 z.1) (side n d) (FillsAfterRoom g 1))
       (λ i. ((stays ∙ same) i, (its ∙ mine) i)) b in (
         over_steps g sizes.stock over ++ here.0,
         inr (record { over = over; batch = lowest; later = here.0; fills = here.1; steps_are = refl }),
         run_both c.number (over_steps g sizes.stock over) here.0 (local_of t m c) (local_of t m c) (local_of t n d) refused here.2,
       )
 
-  pub none_fits : (cause : AllocFault) → BySteps t x y n d (λ steps. IsOverForOne t g cause x y steps n d)
-      → BySteps t m c n d (λ steps. RefusesFrame t sizes g cause m c steps n d)
+  pub none_fits : (cause : AllocFault) → BySteps t (side x y) (side n d) (IsOverForOne g cause)
+      → BySteps t (side m c) (side n d) (RefusesFrame sizes g cause)
   none_fits cause b =
-      let here = subst (λ (z : KnownMachine × KnownCpu). BySteps t z.0 z.1 n d (λ steps. IsOverForOne t g cause z.0 z.1 steps n d))
+      let here = subst (λ (z : KnownMachine × KnownCpu). BySteps t (side z.0 z.1) (side n d) (IsOverForOne g cause))
       (λ i. ((stays ∙ same) i, (its ∙ mine) i)) b in (
         over_steps g sizes.stock over ++ here.0,
         record { over = over; batch = lowest; later = here.0; refuses = here.1; steps_are = refl },
@@ -218,7 +218,7 @@ module _ (t : KnownTable) (sizes : Config) (g over : ℕ) (m k x n : KnownMachin
 
 -- the own stock is drained first
 module _ (t : KnownTable) (sizes : Config) (g back q : ℕ) (m k x n : KnownMachine) (c e d : KnownCpu) (same : k ≡ m) (mine : e ≡ c) (named : q ≡ e.number)
-    (lacks : ¬ HoldsPage m c g) (drains : Drains k q back x) (draining : (h : KnownCpu) → IsLocalRun h.number (local_of t k h)
+    (lacks : ¬ HoldsPage (side m c) g) (drains : Drains k q back x) (draining : (h : KnownCpu) → IsLocalRun h.number (local_of t k h)
     (drain_steps q (stock_group k q) back) (local_of t x h)) where
   number_is : q ≡ c.number
   number_is = named ∙ ap (λ (h : KnownCpu). h.number) mine
@@ -226,16 +226,16 @@ module _ (t : KnownTable) (sizes : Config) (g back q : ℕ) (m k x n : KnownMach
   drained : Drains m c.number back x
   drained = subst (λ (z : KnownMachine × ℕ). Drains z.0 z.1 back x) (λ i. (same i, number_is i)) drains
 
-  drained_own : DrainsOwn g m c (drain_steps c.number (stock_group m c.number) back) x
+  drained_own : DrainsOwn g (side m c) (drain_steps c.number (stock_group m c.number) back) x
   drained_own = record { lacks = lacks; back = back; drains = drained; steps_are = refl }
 
   by_drain : IsLocalRun c.number (local_of t m c) (drain_steps c.number (stock_group m c.number) back) (local_of t x c)
   by_drain = subst (λ (z : KnownMachine × ℕ). IsLocalRun c.number (local_of t z.0 c) (drain_steps z.1 (stock_group z.0 z.1) back) (local_of t x c))
       (λ i. (same i, number_is i)) (draining c)
 
-  pub pays_anew : BySteps t x e n d (λ steps. ChargesFrame t sizes g x e steps n d) → BySteps t m c n d (λ steps. PaysForFrame t sizes g m c steps n d)
+  pub pays_anew : BySteps t (side x e) (side n d) (ChargesFrame sizes g) → BySteps t (side m c) (side n d) (PaysForFrame sizes g)
   pays_anew b =
-      let here = subst (λ (z : KnownCpu). BySteps t x z n d (λ steps. ChargesFrame t sizes g x z steps n d)) mine b in (
+      let here = subst (λ (z : KnownCpu). BySteps t (side x z) (side n d) (ChargesFrame sizes g)) mine b in (
         drain_steps c.number (stock_group m c.number) back ++ here.0,
         inr (record {
           emptied = x;
@@ -248,10 +248,10 @@ module _ (t : KnownTable) (sizes : Config) (g back q : ℕ) (m k x n : KnownMach
         run_both c.number (drain_steps c.number (stock_group m c.number) back) here.0 (local_of t m c) (local_of t x c) (local_of t n d) by_drain here.2,
       )
 
-  pub refuses_anew : (cause : AllocFault) → BySteps t x e n d (λ steps. RefusesFrame t sizes g cause x e steps n d)
-      → BySteps t m c n d (λ steps. RefusesToPay t sizes g cause m c steps n d)
+  pub refuses_anew : (cause : AllocFault) → BySteps t (side x e) (side n d) (RefusesFrame sizes g cause)
+      → BySteps t (side m c) (side n d) (RefusesToPay sizes g cause)
   refuses_anew cause b =
-      let here = subst (λ (z : KnownCpu). BySteps t x z n d (λ steps. RefusesFrame t sizes g cause x z steps n d)) mine b in (
+      let here = subst (λ (z : KnownCpu). BySteps t (side x z) (side n d) (RefusesFrame sizes g cause)) mine b in (
         drain_steps c.number (stock_group m c.number) back ++ here.0,
         record {
           emptied = x;
@@ -266,21 +266,21 @@ module _ (t : KnownTable) (sizes : Config) (g back q : ℕ) (m k x n : KnownMach
 
 -- ---- the list
 
-none_lent : (frames : List ℕ) (m n : KnownMachine) (c d : KnownCpu) → length frames ≡ 0 → LendsMany frames m c n d → (n ≡ m) × (d ≡ c)
+none_lent : (frames : List ℕ) (m n : KnownMachine) (c d : KnownCpu) → length frames ≡ 0 → LendsMany frames (side m c) (side n d) → (n ≡ m) × (d ≡ c)
 none_lent [] m n c d none h = h
 none_lent (f ∷ frames) m n c d none h = absurd (omega (arith, none))
 
 -- no frame is free: none was lent, and the stock is drained
-pub no_frame : (t : KnownTable) (sizes : Config) (count back q : ℕ) (m k n : KnownMachine) (c e : KnownCpu) → Refills t count m c k e → count ≤ 0 → c.list ≡ []
+pub no_frame : (t : KnownTable) (sizes : Config) (count back q : ℕ) (m k n : KnownMachine) (c e : KnownCpu) → Refills t count (side m c) (side k e) → count ≤ 0 → c.list ≡ []
     → (count < sizes.batch → HasNoneFrom k.blocks 0) → 1 ≤ sizes.batch → q ≡ e.number → Drains k q back n
     → ((h : KnownCpu) → IsLocalRun h.number (local_of t k h) (drain_steps q (stock_group k q) back) (local_of t n h))
-    → BySteps t m c n e (λ steps. HasNoFrame NoFrames m c steps n e)
+    → BySteps t (side m c) (side n e) (HasNoFrame NoFrames)
 no_frame t sizes count back q m k n c e refills few empty fewer some named drains steps =
     let all = refills.all in
     let same = none_lent refills.frames m k c e (omega (arith, few, all)) refills.lends in
     let number : q ≡ c.number = named ∙ ap (λ (h : KnownCpu). h.number) same.1 in
     let none : HasNoneFrom m.blocks 0 = subst (λ (x : KnownMachine). HasNoneFrom x.blocks 0) same.0 (fewer (omega (arith, few, some))) in
-    subst (λ (z : KnownCpu). BySteps t m c n z (λ steps. HasNoFrame NoFrames m c steps n z)) (sym same.1) (
+    subst (λ (z : KnownCpu). BySteps t (side m c) (side n z) (HasNoFrame NoFrames)) (sym same.1) (
       drain_steps c.number (stock_group m c.number) back,
       record {
         named = refl;
@@ -303,16 +303,16 @@ pub record FilledPart (sizes : Config) (m : KnownMachine) (c : KnownCpu) (n : Kn
   pub back : d.back ≡ c.back
   pub high : length c.list ≤ sizes.high → length d.list ≤ sizes.high
 
-pub filled_part : (sizes : Config) (m n : KnownMachine) (c d : KnownCpu) (steps : Run) → IsValidConfig sizes → FillsList sizes m c steps n d
+pub filled_part : (t : KnownTable) (sizes : Config) (m n : KnownMachine) (c d : KnownCpu) (steps : Run) → IsValidConfig sizes → FillsList sizes (course t (side m c) steps (side n d))
     → FilledPart sizes m c n d
-filled_part sizes m n c d steps valid (inl h) = record {
+filled_part t sizes m n c d steps valid (inl h) = record {
   opened = ap (λ (y : KnownMachine). y.seat.view.opened) h.stays.machine;
   number = ap (λ (e : KnownCpu). e.number) h.stays.cpu;
   fresh = ap (λ (e : KnownCpu). e.fresh) h.stays.cpu;
   back = ap (λ (e : KnownCpu). e.back) h.stays.cpu;
   high = λ low. let a : length d.list ≡ length c.list = ap (λ (e : KnownCpu). length e.list) h.stays.cpu in omega (arith, a, low);
 }
-filled_part sizes m n c d steps valid (inr h) =
+filled_part t sizes m n c d steps valid (inr h) =
     let l = lent_part h.frames m n c d h.lends in
     record {
       opened = l.opened;
@@ -329,46 +329,47 @@ filled_part sizes m n c d steps valid (inr h) =
 
 -- ---- the whole allocation
 
+-- the answer is a refusal of this cause
+answer_is : (r : Result ℕ AllocFault) (x : AllocFault) → IsErr r → IfErr r (λ e. e ≡ x) → r ≡ Err x
+answer_is (Ok f) x not is = absurd (false≢true not)
+answer_is (Err e) x not is = ap (λ (z : AllocFault). Err z) is
+
 module _ (t : KnownTable) (sizes : Config) (g : ℕ) (m : KnownMachine) (c : KnownCpu) (alive : is_killed m.killed g ≡ false) where
   -- a charge is refused for good
-  pub not_paid : (r : Result ℕ AllocFault) (x : AllocFault) (n : KnownMachine) (d : KnownCpu) → IsErr r → IfErr r (λ e. e ≡ x)
-      → BySteps t m c n d (λ steps. RefusesToPay t sizes g x m c steps n d) → BySteps t m c n d (λ steps. AllocatesFrame t sizes g r m c steps n d)
-  not_paid (Ok f) x n d not is b = absurd (false≢true not)
-  not_paid (Err (Over h)) x n d not is b = (
-    b.0,
-    record { alive = alive; refuses = subst (λ (z : AllocFault). RefusesToPay t sizes g z m c b.0 n d) (sym is) b.1 },
-    b.2,
-  )
-  not_paid (Err NoFrames) x n d not is b = let e = is ∙ b.1.refuses.refuses.named in cc
-  not_paid (Err Killed) x n d not is b = let e = is ∙ b.1.refuses.refuses.named in cc
+  refused_at : (over : ℕ) (n : KnownMachine) (d : KnownCpu) → BySteps t (side m c) (side n d) (RefusesToPay sizes g (Over over))
+      → BySteps t (side m c) (side n d) (AllocatesFrame sizes g (Err (Over over)))
+  refused_at over n d b = (b.0, record { alive = alive; refuses = b.1 }, b.2)
 
-  module _ (k : KnownMachine) (y : KnownCpu) (number : y.number ≡ c.number) (pays : BySteps t m c k y (λ steps. PaysForFrame t sizes g m c steps k y)) where
+  pub not_paid : (r : Result ℕ AllocFault) (x : AllocFault) (n : KnownMachine) (d : KnownCpu) → IsErr r → IfErr r (λ e. e ≡ x)
+      → BySteps t (side m c) (side n d) (RefusesToPay sizes g x) → BySteps t (side m c) (side n d) (AllocatesFrame sizes g r)
+  not_paid r x n d not is b =
+      let last = b.1.refuses.refuses in
+      subst (λ (z : Result ℕ AllocFault). BySteps t (side m c) (side n d) (AllocatesFrame sizes g z))
+      (sym (answer_is r x not is ∙ ap (λ (e : AllocFault). Err e) last.named))
+      (refused_at last.over n d (subst (λ (e : AllocFault). BySteps t (side m c) (side n d) (RefusesToPay sizes g e)) last.named b))
+
+  module _ (k : KnownMachine) (y : KnownCpu) (number : y.number ≡ c.number) (pays : BySteps t (side m c) (side k y) (PaysForFrame sizes g)) where
     -- no frame is free
-    pub not_found : (r : Result ℕ AllocFault) (x : AllocFault) (n : KnownMachine) (d : KnownCpu) → IsErr r → IfErr r (λ e. e ≡ x)
-        → BySteps t k y n d (λ steps. HasNoFrame x k y steps n d) → BySteps t m c n d (λ steps. AllocatesFrame t sizes g r m c steps n d)
-    not_found (Ok f) x n d not is b = absurd (false≢true not)
-    not_found (Err (Over h)) x n d not is b = let e = is ∙ b.1.named in cc
-    not_found (Err NoFrames) x n d not is b = (
+    none_found : (n : KnownMachine) (d : KnownCpu) → BySteps t (side k y) (side n d) (HasNoFrame NoFrames)
+        → BySteps t (side m c) (side n d) (AllocatesFrame sizes g (Err NoFrames))
+    none_found n d b = (
       pays.0 ++ b.0,
-      record {
-        paid = k;
-        payer = y;
-        paying = pays.0;
-        draining = b.0;
-        alive = alive;
-        pays = pays.1;
-        none = subst (λ (z : AllocFault). HasNoFrame z k y b.0 n d) (sym is) b.1;
-        steps_are = refl;
-      },
+      record { paid = side k y; paying = pays.0; draining = b.0; alive = alive; pays = pays.1; none = b.1; steps_are = refl },
       run_both c.number pays.0 b.0 (local_of t m c) (local_of t k y) (local_of t n d) pays.2
           (subst (λ (p : ℕ). IsLocalRun p (local_of t k y) b.0 (local_of t n d)) number b.2),
     )
-    not_found (Err Killed) x n d not is b = let e = is ∙ b.1.named in cc
+
+    pub not_found : (r : Result ℕ AllocFault) (x : AllocFault) (n : KnownMachine) (d : KnownCpu) → IsErr r → IfErr r (λ e. e ≡ x)
+        → BySteps t (side k y) (side n d) (HasNoFrame x) → BySteps t (side m c) (side n d) (AllocatesFrame sizes g r)
+    not_found r x n d not is b =
+        subst (λ (z : Result ℕ AllocFault). BySteps t (side m c) (side n d) (AllocatesFrame sizes g z))
+        (sym (answer_is r x not is ∙ ap (λ (e : AllocFault). Err e) b.1.named))
+        (none_found n d (subst (λ (e : AllocFault). BySteps t (side k y) (side n d) (HasNoFrame e)) b.1.named b))
 
     -- the front of the list is paid for
-    pub gets_frame : (f : ℕ) (l n : KnownMachine) (z d : KnownCpu) → z.number ≡ y.number → BySteps t k y l z (λ steps. FillsList sizes k y steps l z)
-        → PaysForFront g f l z n d → IsLocalRun z.number (local_of t l z) (take_front_steps z.number g) (local_of t n d)
-        → BySteps t m c n d (λ steps. GetsFrame t sizes g f m c steps n d)
+    pub gets_frame : (f : ℕ) (l n : KnownMachine) (z d : KnownCpu) → z.number ≡ y.number → BySteps t (side k y) (side l z) (FillsList sizes)
+        → PaysForFront g f (side l z) (side n d) → IsLocalRun z.number (local_of t l z) (take_front_steps z.number g) (local_of t n d)
+        → BySteps t (side m c) (side n d) (GetsFrame sizes g f)
     gets_frame f l n z d named fills takes steps =
         let last : IsLocalRun c.number (local_of t l z) (take_front_steps c.number g) (local_of t n d) =
         subst (λ (p : ℕ). IsLocalRun p (local_of t l z) (take_front_steps p g) (local_of t n d)) (named ∙ number) steps in
@@ -376,10 +377,8 @@ module _ (t : KnownTable) (sizes : Config) (g : ℕ) (m : KnownMachine) (c : Kno
         subst (λ (p : ℕ). IsLocalRun p (local_of t k y) fills.0 (local_of t l z)) number fills.2 in (
           pays.0 ++ (fills.0 ++ take_front_steps c.number g),
           record {
-            paid = k;
-            payer = y;
-            filled = l;
-            filler = z;
+            paid = side k y;
+            filled = side l z;
             paying = pays.0;
             filling = fills.0;
             alive = alive;

@@ -26,6 +26,7 @@ use Rattle.mem_machine.specs.Stocks.{Drains, DrainsBelow, DrainsAllBelow, stock_
 use Rattle.mem_machine.proofs.Draining.{groups_stay, drained_at, drained_else}
 use Rattle.mem_machine.proofs.Prepaying.{current_falls}
 use Rattle.mem_alloc.specs.Room.{ClearsBelow, has_room_for, with_max_noted_at}
+use Rattle.mem_machine.specs.Local.{side}
 
 -- only the charges and the stocks changed: the groups stay, no usage is higher, and no stock is filled that wasn't
 pub record Lowers (m n : KnownMachine) : Type 0 where
@@ -104,10 +105,10 @@ clears_lower t g m n c = lowers_both m (with_max_noted_at m g) n (note_lowers m 
 
 -- ---- what stays
 
-pub lowered_visit : (t : KnownTable) (m n : KnownMachine) (c d : KnownCpu) → Lowers m n → d ≡ c → Visits t m c → Visits t n d
+pub lowered_visit : (t : KnownTable) (m n : KnownMachine) (c d : KnownCpu) → Lowers m n → d ≡ c → Visits t (side m c) → Visits t (side n d)
 lowered_visit t m n c d l cpu v =
     let seat : n.seat ≡ m.seat = ap (λ (y : KnownMachine). y.seat) l.same in
-    subst (λ (x : KnownCpu). Visits t n x) (sym cpu) (record {
+    subst (λ (x : KnownCpu). Visits t (side n x)) (sym cpu) (record {
       is_open = subst (λ (s : KnownSeat). IsOpen s c.number) (sym seat) v.is_open;
       still = subst (λ (s : KnownSeat). NothingPasses t s c.seat) (sym seat) v.still;
       lent = subst (λ (s : KnownSeat). LentIsBorrowed t s c.seat) (sym seat) v.lent;

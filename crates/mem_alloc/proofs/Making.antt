@@ -9,11 +9,11 @@ use Rattle.group_charge.specs.Charges.{current_of}
 use Rattle.cpu_part.specs.Cpus.{KnownCpu}
 use Rattle.step_rules.specs.After.{Run}
 use Rattle.mem_machine.specs.Machines.{KnownMachine}
-use Rattle.mem_machine.specs.Local.{IsLocalRun, local_of}
+use Rattle.mem_machine.specs.Local.{IsLocalRun, local_of, side}
 use Rattle.mem_machine.specs.Steps.{over_steps, note_max_steps, drain_stocks_steps, fill_steps}
 use Rattle.mem_machine.specs.Stocks.{Fills}
 use Rattle.mem_machine.proofs.Reaching.{run_both}
-use Rattle.mem_alloc.specs.Stepping.{BySteps}
+use Rattle.mem_alloc.specs.Stepping.{BySteps, course, OfMachine}
 use Rattle.mem_alloc.specs.Room.{ClearsBelow, IsRefusedAt, MakesRoom, IsOverAt, has_room_for}
 use Rattle.mem_alloc.specs.declared.faults.AllocFault.{AllocFault}
 use Rattle.mem_alloc.specs.declared.faults.AllocFault.TheVariants.{Over}
@@ -21,13 +21,13 @@ use Rattle.mem_alloc.specs.Charging.{FillsAfterRoom, IsOverForOne}
 use Rattle.mem_alloc.proofs.Lowering.{Lowers, lowers_none, lowers_both, clears_lower}
 
 -- tries that were refused, and then one more
-room_more : (t : KnownTable) (g pages over : ℕ) (before : List ℕ) (m x n : KnownMachine) (making last : Run) → MakesRoom t g pages before m making x
-    → IsRefusedAt t g pages over x last n → has_room_for n over pages ≡ true → MakesRoom t g pages (before ++ over ∷ []) m (making ++ last) n
+room_more : (t : KnownTable) (g pages over : ℕ) (before : List ℕ) (m x n : KnownMachine) (making last : Run) → MakesRoom g pages before (course t m making x)
+    → IsRefusedAt g pages over (course t x last n) → has_room_for n over pages ≡ true → MakesRoom g pages (before ++ over ∷ []) (course t m (making ++ last) n)
 room_more t g pages over [] m x n making last makes refused room = (
   n,
   last,
   [],
-  subst (λ (y : KnownMachine). IsRefusedAt t g pages over y last n) makes.0 refused,
+  subst (λ (y : KnownMachine). IsRefusedAt g pages over (course t y last n)) makes.0 refused,
   room,
   (refl, refl),
   ap (λ (r : Run). r ++ last) makes.1 ∙ sym (append-nil last),
@@ -46,7 +46,7 @@ room_more t g pages over (h ∷ before) m x n making last makes refused room = (
 pub record RoomSoFar (t : KnownTable) (g pages : ℕ) (c : KnownCpu) (m n : KnownMachine) : Type 0 where
   pub before : List ℕ
   pub making : Run
-  pub makes : MakesRoom t g pages before m making n
+  pub makes : MakesRoom g pages before (course t m making n)
   pub runs : IsLocalRun c.number (local_of t m c) making (local_of t n c)
   pub lowers : Lowers m n
 
@@ -61,7 +61,7 @@ module _ (t : KnownTable) (g pages : ℕ) (c : KnownCpu) (m x : KnownMachine) (s
     its : ClearsBelow t over x n
     its = subst (λ (k : KnownMachine). ClearsBelow t over k n) same clears
 
-    refused : IsRefusedAt t g pages over x (over_steps g pages over ++ (note_max_steps over ++ drain_stocks_steps its.drains)) n
+    refused : IsRefusedAt g pages over (course t x (over_steps g pages over ++ (note_max_steps over ++ drain_stocks_steps its.drains)) n)
     refused = record {
       lowest = subst (λ (k : KnownMachine). IsLowestOver k.ledger.groups (current_of k.ledger) g pages over) before_it low;
       drains = its.drains;
@@ -92,7 +92,7 @@ module _ (t : KnownTable) (g pages : ℕ) (c : KnownCpu) (m x : KnownMachine) (s
     }
 
     -- or has none still
-    pub so_far_over : has_room_for n over pages ≡ false → BySteps t m c n c (λ steps. IsOverAt t g pages over m steps n)
+    pub so_far_over : has_room_for n over pages ≡ false → BySteps t (side m c) (side n c) (OfMachine (IsOverAt g pages over))
     so_far_over none = (
       so_far.making ++ (over_steps g pages over ++ (note_max_steps over ++ drain_stocks_steps its.drains)),
       record {
@@ -112,9 +112,9 @@ module _ (t : KnownTable) (g pages : ℕ) (c : KnownCpu) (m x : KnownMachine) (s
     lowers_here = clears_lower t over x n its
 
   -- the pages are granted, and fill the stock
-  pub so_far_fills : (y : KnownCpu) → y ≡ c → (n : KnownMachine) (d : KnownCpu) → Fills g pages x y n d
+  pub so_far_fills : (y : KnownCpu) → y ≡ c → (n : KnownMachine) (d : KnownCpu) → Fills g pages (side x y) (side n d)
       → IsLocalRun y.number (local_of t x y) (fill_steps y.number g pages) (local_of t n d)
-      → BySteps t m c n d (λ steps. FillsAfterRoom t g pages m c steps n d)
+      → BySteps t (side m c) (side n d) (FillsAfterRoom g pages)
   so_far_fills y mine n d fills steps = (
     so_far.making ++ fill_steps c.number g pages,
     record {
@@ -122,7 +122,7 @@ module _ (t : KnownTable) (g pages : ℕ) (c : KnownCpu) (m x : KnownMachine) (s
       cleared = x;
       making = so_far.making;
       makes = so_far.makes;
-      fills = subst (λ (k : KnownCpu). Fills g pages x k n d) mine fills;
+      fills = subst (λ (k : KnownCpu). Fills g pages (side x k) (side n d)) mine fills;
       steps_are = refl;
     },
     run_both c.number so_far.making (fill_steps c.number g pages) (local_of t m c) (local_of t x c) (local_of t n d) so_far.runs
@@ -137,7 +137,7 @@ refused_with (Err e) x P Q is same q = q e same
 
 -- a refusal for good of a charge of one page
 pub over_for_one : (t : KnownTable) (g over : ℕ) (cause : AllocFault) (m : KnownMachine) (c : KnownCpu) (n : KnownMachine) (d : KnownCpu) → cause ≡ Over over
-    → d ≡ c → BySteps t m c n c (λ steps. IsOverAt t g 1 over m steps n) → BySteps t m c n d (λ steps. IsOverForOne t g cause m c steps n d)
+    → d ≡ c → BySteps t (side m c) (side n c) (OfMachine (IsOverAt g 1 over)) → BySteps t (side m c) (side n d) (IsOverForOne g cause)
 over_for_one t g over cause m c n d named cpu b = (
   b.0,
   record { over = over; named = named; refuses = b.1; cpu = cpu },

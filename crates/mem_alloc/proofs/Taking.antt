@@ -15,7 +15,7 @@ use Rattle.step_rules.specs.State.{State}
 use Rattle.mem_machine.specs.declared.blocks.TakeFault.{TakeFault}
 use Rattle.mem_machine.specs.declared.blocks.TakeFault.TheVariants as fault
 use Rattle.mem_machine.specs.Machines.{KnownMachine, is_killed}
-use Rattle.mem_machine.specs.Local.{IsLocalRun, local_of}
+use Rattle.mem_machine.specs.Local.{IsLocalRun, local_of, side}
 use Rattle.mem_machine.specs.Lending.{TakesManyBack}
 use Rattle.mem_machine.specs.Blocks.{TakesBlock, TakesNoBlock, RefusesBlock, block_steps, taken_steps, unplaced_steps}
 use Rattle.mem_machine.specs.Paying.{HasRoomFor}
@@ -23,7 +23,7 @@ use Rattle.mem_machine.specs.Steps.{over_steps, drain_list_steps}
 use Rattle.mem_machine.proofs.Reaching.{run_both}
 use Rattle.mem_alloc.specs.declared.faults.AllocFault.{AllocFault}
 use Rattle.mem_alloc.specs.declared.faults.AllocFault.TheVariants.{Over, NoFrames, Killed}
-use Rattle.mem_alloc.specs.Stepping.{BySteps}
+use Rattle.mem_alloc.specs.Stepping.{BySteps, course, OfMachine}
 use Rattle.mem_alloc.specs.Room.{IsOverAt}
 use Rattle.mem_alloc.specs.Blocks.{TakesAfterRoom, FindsNoBlock, ChargesBlock, HasRoomStill, LeavesRoom, TakesAfterList, FindsNoneAgain, TakesAgain}
 use Rattle.mem_alloc.specs.Blocks.{TriesAgain, AllocatesBlock}
@@ -59,7 +59,7 @@ module _ (t : KnownTable) (g k : ℕ) (c : KnownCpu) (m x : KnownMachine) (so_fa
       (subst (λ (e : KnownCpu). IsLocalRun e.number (local_of t x e) steps (local_of t n d)) mine run)
 
   pub so_far_takes : (head : ℕ) → TakesBlock x g k head n → IsLocalRun y.number (local_of t x y) (taken_steps g k head) (local_of t n d)
-      → BySteps t m c n d (λ steps. TakesAfterRoom t g k head m steps n)
+      → BySteps t (side m c) (side n d) (OfMachine (TakesAfterRoom g k head))
   so_far_takes head takes run = (
     so_far.making ++ taken_steps g k head,
     record { before = so_far.before; cleared = x; making = so_far.making; makes = so_far.makes; takes = takes; steps_are = refl },
@@ -67,7 +67,7 @@ module _ (t : KnownTable) (g k : ℕ) (c : KnownCpu) (m x : KnownMachine) (so_fa
   )
 
   pub so_far_no_block : TakesNoBlock x g k n → IsLocalRun y.number (local_of t x y) (unplaced_steps g k) (local_of t n d)
-      → BySteps t m c n d (λ steps. FindsNoBlock t g k m steps n)
+      → BySteps t (side m c) (side n d) (OfMachine (FindsNoBlock g k))
   so_far_no_block none run = (
     so_far.making ++ unplaced_steps g k,
     record { before = so_far.before; cleared = x; making = so_far.making; makes = so_far.makes; none = none; steps_are = refl },
@@ -96,14 +96,14 @@ module _ (t : KnownTable) (g k : ℕ) (c : KnownCpu) (m x : KnownMachine) (so_fa
 
 -- a charge is refused for good
 pub over_charges : (t : KnownTable) (g k over : ℕ) (r : Result ℕ AllocFault) (x : AllocFault) (m n : KnownMachine) (c d : KnownCpu) → IsErr r
-    → IfErr r (λ e. e ≡ x) → x ≡ Over over → d ≡ c → BySteps t m c n c (λ steps. IsOverAt t g (2 ^ k) over m steps n)
-    → BySteps t m c n d (λ steps. ChargesBlock t g k r m steps n)
+    → IfErr r (λ e. e ≡ x) → x ≡ Over over → d ≡ c → BySteps t (side m c) (side n c) (OfMachine (IsOverAt g (2 ^ k) over))
+    → BySteps t (side m c) (side n d) (OfMachine (ChargesBlock g k r))
 over_charges t g k over (Ok h) x m n c d not is named cpu b = absurd (false≢true not)
 over_charges t g k over (Err (Over h)) x m n c d not is named cpu b =
     let e : Over h ≡ Over over = is ∙ named in
     let same : over ≡ h = cc in (
       b.0,
-      subst (λ (o : ℕ). IsOverAt t g (2 ^ k) o m b.0 n) same b.1,
+      subst (λ (o : ℕ). IsOverAt g (2 ^ k) o (course t m b.0 n)) same b.1,
       subst (λ (e : KnownCpu). IsLocalRun c.number (local_of t m c) b.0 (local_of t n e)) (sym cpu) b.2,
     )
 over_charges t g k over (Err NoFrames) x m n c d not is named cpu b = let e = is ∙ named in cc
@@ -128,7 +128,7 @@ pub record BackPart (frames : List ℕ) (m : KnownMachine) (c : KnownCpu) (n : K
   pub ledger : n.ledger ≡ m.ledger
   pub killed : n.killed ≡ m.killed
 
-pub back_part : (frames : List ℕ) (m n : KnownMachine) (c d : KnownCpu) → TakesManyBack frames m c n d → BackPart frames m c n d
+pub back_part : (frames : List ℕ) (m n : KnownMachine) (c d : KnownCpu) → TakesManyBack frames (side m c) (side n d) → BackPart frames m c n d
 back_part [] m n c d h = record {
   split = sym (ap (λ (e : KnownCpu). e.list) h.1);
   number = ap (λ (e : KnownCpu). e.number) h.1;
@@ -139,8 +139,8 @@ back_part [] m n c d h = record {
   killed = ap (λ (z : KnownMachine). z.killed) h.0;
 }
 back_part (f ∷ frames) m n c d h =
-    let one = h.2 in
-    let more = back_part frames h.0 n h.1 d h.3 in
+    let one = h.1 in
+    let more = back_part frames h.0.machine n h.0.cpu d h.2 in
     record {
       split = one.front ∙ ap (λ (l : List ℕ). f ∷ l) (sym (ap (λ (e : KnownCpu). e.list) one.cpu) ∙ more.split);
       number = more.number ∙ ap (λ (e : KnownCpu). e.number) one.cpu;
@@ -167,7 +167,7 @@ never_over m n g pages over same room low =
 
 -- what the second try leaves
 module _ (t : KnownTable) (g k : ℕ) (m x n : KnownMachine) (c y d : KnownCpu) (count listed : ℕ) (counts : listed ≡ length c.list) (few : count ≤ listed)
-    (gives : TakesManyBack (take count c.list) m c x y) (rest : count < listed → y.list ≡ []) (stays : d ≡ y)
+    (gives : TakesManyBack (take count c.list) (side m c) (side x y)) (rest : count < listed → y.list ≡ []) (stays : d ≡ y)
     (giving : IsLocalRun c.number (local_of t m c) (drain_list_steps c.number (take count c.list)) (local_of t x y)) where
   part : BackPart (take count c.list) m c x y
   part = back_part (take count c.list) m x c y gives
@@ -175,8 +175,8 @@ module _ (t : KnownTable) (g k : ℕ) (m x n : KnownMachine) (c y d : KnownCpu) 
   whole : take count c.list ≡ c.list
   whole = all_back count listed c.list y.list few counts rest part.split
 
-  given : TakesManyBack c.list m c x d
-  given = subst (λ (z : List ℕ × KnownCpu). TakesManyBack z.0 m c x z.1) (λ i. (whole i, sym stays i)) gives
+  given : TakesManyBack c.list (side m c) (side x d)
+  given = subst (λ (z : List ℕ × KnownCpu). TakesManyBack z.0 (side m c) (side x z.1)) (λ i. (whole i, sym stays i)) gives
 
   by_giving : IsLocalRun c.number (local_of t m c) (drain_list_steps c.number c.list) (local_of t x y)
   by_giving = subst (λ (z : List ℕ). IsLocalRun c.number (local_of t m c) (drain_list_steps c.number z) (local_of t x y)) whole giving
@@ -187,7 +187,7 @@ module _ (t : KnownTable) (g k : ℕ) (m x n : KnownMachine) (c y d : KnownCpu) 
       (subst (λ (p : ℕ). IsLocalRun p (local_of t x y) steps (local_of t n d)) part.number run)
 
   pub takes_after : (head : ℕ) → TakesBlock x g k head n → IsLocalRun y.number (local_of t x y) (taken_steps g k head) (local_of t n d)
-      → BySteps t m c n d (λ steps. TakesAfterList g k head m c steps n d)
+      → BySteps t (side m c) (side n d) (TakesAfterList g k head)
   takes_after head takes run = (
     drain_list_steps c.number c.list ++ taken_steps g k head,
     record { returned = x; gives = given; takes = takes; steps_are = refl },
@@ -195,7 +195,7 @@ module _ (t : KnownTable) (g k : ℕ) (m x n : KnownMachine) (c y d : KnownCpu) 
   )
 
   pub finds_none : TakesNoBlock x g k n → IsLocalRun y.number (local_of t x y) (unplaced_steps g k) (local_of t n d)
-      → BySteps t m c n d (λ steps. FindsNoneAgain g k m c steps n d)
+      → BySteps t (side m c) (side n d) (FindsNoneAgain g k)
   finds_none none run = (
     drain_list_steps c.number c.list ++ unplaced_steps g k,
     record { returned = x; gives = given; none = none; steps_are = refl },
@@ -210,27 +210,27 @@ module _ (t : KnownTable) (g k : ℕ) (m x n : KnownMachine) (c y d : KnownCpu) 
 
 -- the first try found no free block
 pub first_none : (t : KnownTable) (g k : ℕ) (m z x : KnownMachine) (c e y : KnownCpu) (cause : AllocFault) → cause ≡ NoFrames → z ≡ m → e ≡ c
-    → BySteps t z e x y (λ steps. ChargesBlock t g k (Err cause) z steps x) → BySteps t m c x y (λ steps. FindsNoBlock t g k m steps x)
+    → BySteps t (side z e) (side x y) (OfMachine (ChargesBlock g k (Err cause))) → BySteps t (side m c) (side x y) (OfMachine (FindsNoBlock g k))
 first_none t g k m z x c e y cause named same mine b =
-    let told = subst (λ (f : AllocFault). BySteps t z e x y (λ steps. ChargesBlock t g k (Err f) z steps x)) named b in
-    subst (λ (w : KnownMachine × KnownCpu). BySteps t w.0 w.1 x y (λ steps. FindsNoBlock t g k w.0 steps x)) (λ i. (same i, mine i)) told
+    let told = subst (λ (f : AllocFault). BySteps t (side z e) (side x y) (OfMachine (ChargesBlock g k (Err f)))) named b in
+    subst (λ (w : KnownMachine × KnownCpu). BySteps t (side w.0 w.1) (side x y) (OfMachine (FindsNoBlock g k))) (λ i. (same i, mine i)) told
 
 -- ---- the whole allocation
 
 module _ (t : KnownTable) (g k : ℕ) (m : KnownMachine) (c : KnownCpu) (alive : is_killed m.killed g ≡ false) where
-  by_answer : (r : Result ℕ AllocFault) (x n : KnownMachine) (d : KnownCpu) (first later : Run) → TakesAgain g k r x c later n d
-      → (TakesAgain g k r x c later n d → TriesAgain t g k r m c (first ++ later) n d)
-      → IsLocalRun c.number (local_of t m c) (first ++ later) (local_of t n d) → BySteps t m c n d (λ steps. AllocatesBlock t g k r m c steps n d)
+  by_answer : (r : Result ℕ AllocFault) (x n : KnownMachine) (d : KnownCpu) (first later : Run) → TakesAgain g k r (course t (side x c) later (side n d))
+      → (TakesAgain g k r (course t (side x c) later (side n d)) → TriesAgain g k r (course t (side m c) (first ++ later) (side n d)))
+      → IsLocalRun c.number (local_of t m c) (first ++ later) (local_of t n d) → BySteps t (side m c) (side n d) (AllocatesBlock g k r)
   by_answer (Ok head) x n d first later told tries run = (first ++ later, (alive, inr (tries told)), run)
   by_answer (Err (Over over)) x n d first later told tries run = absurd told
   by_answer (Err NoFrames) x n d first later told tries run = (first ++ later, (alive, tries told), run)
   by_answer (Err Killed) x n d first later told tries run = absurd told
 
   -- the second one does
-  pub decides_again : (r : Result ℕ AllocFault) (x n : KnownMachine) (y d : KnownCpu) → y ≡ c → BySteps t m c x y (λ steps. FindsNoBlock t g k m steps x)
-      → BySteps t x y n d (λ steps. TakesAgain g k r x y steps n d) → BySteps t m c n d (λ steps. AllocatesBlock t g k r m c steps n d)
+  pub decides_again : (r : Result ℕ AllocFault) (x n : KnownMachine) (y d : KnownCpu) → y ≡ c → BySteps t (side m c) (side x y) (OfMachine (FindsNoBlock g k))
+      → BySteps t (side x y) (side n d) (TakesAgain g k r) → BySteps t (side m c) (side n d) (AllocatesBlock g k r)
   decides_again r x n y d mine first again_there =
-      let again = subst (λ (z : KnownCpu). BySteps t x z n d (λ steps. TakesAgain g k r x z steps n d)) mine again_there in
+      let again = subst (λ (z : KnownCpu). BySteps t (side x z) (side n d) (TakesAgain g k r)) mine again_there in
       let before = subst (λ (z : KnownCpu). IsLocalRun c.number (local_of t m c) first.0 (local_of t x z)) mine first.2 in
       let run = run_both c.number first.0 again.0 (local_of t m c) (local_of t x c) (local_of t n d) before again.2 in
       by_answer r x n d first.0 again.0 again.1

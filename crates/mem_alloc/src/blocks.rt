@@ -6,8 +6,9 @@ ghost use Rattle.group_tree.specs.Room.{PathHasRoom};
 ghost use Rattle.group_charge.specs.Charges.{current_of};
 ghost use Rattle.mem_machine.specs.Machines.{Visits, is_killed};
 ghost use Rattle.mem_machine.specs.Paying.{HasRoomFor, IsOfSize};
-ghost use Rattle.mem_alloc.specs.Stepping.{BySteps};
+ghost use Rattle.mem_alloc.specs.Stepping.{BySteps, OfMachine};
 ghost use Rattle.mem_alloc.specs.Blocks.{AllocatesBlock, ChargesBlock, TakesAgain, LeavesRoom};
+ghost use Rattle.mem_machine.specs.Local.{side};
 
 use crate::faults::AllocFault;
 use crate::room::make_room;
@@ -25,15 +26,15 @@ fn take_charged<N: BootName>(
     group: GroupId,
     order: Order,
 ) -> Result<Frame, AllocFault>
-    requires visit { Visits N.frames machine.old cpu.old }
+    requires visit { Visits N.frames (side machine.old cpu.old) }
     requires there { IsTrue (has_group machine.old.ledger.groups group) }
     requires alive { is_killed machine.old.killed group ≡ false }
     requires fits { HasRoomFor machine.old (2 ^ order) }
     requires none_back { cpu.old.back ≡ [] }
-    ensures charges { BySteps N.frames machine.old cpu.old machine.new cpu.new
-        (λ steps. ChargesBlock N.frames group order result machine.old steps machine.new) }
+    ensures charges { BySteps N.frames (side machine.old cpu.old) (side machine.new cpu.new)
+        (OfMachine (ChargesBlock group order result)) }
     ensures cpu { cpu.new ≡ cpu.old }
-    ensures visit { Visits N.frames machine.new cpu.new }
+    ensures visit { Visits N.frames (side machine.new cpu.new) }
     ensures leaves { LeavesRoom group order result machine.old machine.new }
 {
     let pages = order.frames();
@@ -54,15 +55,14 @@ fn take_again<N: BootName>(
     group: GroupId,
     order: Order,
 ) -> Result<Frame, AllocFault>
-    requires visit { Visits N.frames machine.old cpu.old }
+    requires visit { Visits N.frames (side machine.old cpu.old) }
     requires there { IsTrue (has_group machine.old.ledger.groups group) }
     requires alive { is_killed machine.old.killed group ≡ false }
     requires fits { HasRoomFor machine.old (2 ^ order) }
     requires room { PathHasRoom machine.old.ledger.groups (current_of machine.old.ledger) group (2 ^ order) }
     requires settled { (cpu.old.fresh ≡ []) × (cpu.old.back ≡ []) }
-    ensures takes { BySteps N.frames machine.old cpu.old machine.new cpu.new
-        (λ steps. TakesAgain group order result machine.old cpu.old steps machine.new cpu.new) }
-    ensures visit { Visits N.frames machine.new cpu.new }
+    ensures takes { BySteps N.frames (side machine.old cpu.old) (side machine.new cpu.new) (TakesAgain group order result) }
+    ensures visit { Visits N.frames (side machine.new cpu.new) }
     ensures opened { machine.new.seat.view.opened ≡ machine.old.seat.view.opened }
     ensures number { cpu.new.number ≡ cpu.old.number }
     ensures settled { (cpu.new.fresh ≡ []) × (cpu.new.back ≡ []) }
@@ -92,13 +92,12 @@ pub fn alloc_block<N: BootName>(
     group: GroupId,
     order: Order,
 ) -> Result<Frame, AllocFault>
-    requires visit { Visits N.frames machine.old cpu.old }
+    requires visit { Visits N.frames (side machine.old cpu.old) }
     requires size { IsOfSize N.frames }
     requires there { IsTrue (has_group machine.old.ledger.groups group) }
     requires settled { (cpu.old.fresh ≡ []) × (cpu.old.back ≡ []) }
-    ensures allocates { BySteps N.frames machine.old cpu.old machine.new cpu.new
-        (λ steps. AllocatesBlock N.frames group order result machine.old cpu.old steps machine.new cpu.new) }
-    ensures visit { Visits N.frames machine.new cpu.new }
+    ensures allocates { BySteps N.frames (side machine.old cpu.old) (side machine.new cpu.new) (AllocatesBlock group order result) }
+    ensures visit { Visits N.frames (side machine.new cpu.new) }
     ensures opened { machine.new.seat.view.opened ≡ machine.old.seat.view.opened }
     ensures number { cpu.new.number ≡ cpu.old.number }
     ensures settled { (cpu.new.fresh ≡ []) × (cpu.new.back ≡ []) }
@@ -107,7 +106,7 @@ pub fn alloc_block<N: BootName>(
     if machine.is_killed(group) {
         return Err(AllocFault::Killed);
     }
-    let _pages = order.frames();
+    let _pages = order.frames(); // For the clauses.
     machine.see_room(tables, cpu);
     match take_charged(machine, tables, cpu, group, order) {
         Ok(head) => Ok(head),

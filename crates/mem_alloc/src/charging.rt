@@ -8,6 +8,7 @@ ghost use Rattle.mem_machine.specs.Machines.{Visits, is_killed};
 ghost use Rattle.mem_machine.specs.Paying.{HasRoomFor, HoldsPage, IsOfSize};
 ghost use Rattle.mem_alloc.specs.Stepping.{BySteps};
 ghost use Rattle.mem_alloc.specs.Charging.{FillsAfterRoom, ChargesFrame, IsOverForOne, RefusesFrame, PaysForFrame, RefusesToPay};
+ghost use Rattle.mem_machine.specs.Local.{side};
 
 use crate::faults::AllocFault;
 use crate::room::make_room;
@@ -24,7 +25,7 @@ fn holds_page<N: BootName>(
     cpu: &mut Cpu<N>,
     group: GroupId,
 ) -> bool
-    ensures holds { IsTrue result ↔ HoldsPage machine.old cpu.old group }
+    ensures holds { IsTrue result ↔ HoldsPage (side machine.old cpu.old) group }
     ensures machine { machine.new ≡ machine.old }
     ensures cpu { cpu.new ≡ cpu.old }
 {
@@ -42,18 +43,16 @@ fn fill_one<N: BootName>(
     cpu: &mut Cpu<N>,
     group: GroupId,
 ) -> Result<(), AllocFault>
-    requires visit { Visits N.frames machine.old cpu.old }
+    requires visit { Visits N.frames (side machine.old cpu.old) }
     requires there { IsTrue (has_group machine.old.ledger.groups group) }
     requires alive { is_killed machine.old.killed group ≡ false }
     requires fits { HasRoomFor machine.old 1 }
     requires none_fresh { cpu.old.fresh ≡ [] }
     requires drained { (account_of machine.old.stock.view cpu.old.number).filled ≡ false }
     ensures fills { MatchResult result
-        (λ done. BySteps N.frames machine.old cpu.old machine.new cpu.new
-        (λ steps. FillsAfterRoom N.frames group 1 machine.old cpu.old steps machine.new cpu.new))
-        (λ cause. BySteps N.frames machine.old cpu.old machine.new cpu.new
-        (λ steps. IsOverForOne N.frames group cause machine.old cpu.old steps machine.new cpu.new)) }
-    ensures visit { Visits N.frames machine.new cpu.new }
+        (λ done. BySteps N.frames (side machine.old cpu.old) (side machine.new cpu.new) (FillsAfterRoom group 1))
+        (λ cause. BySteps N.frames (side machine.old cpu.old) (side machine.new cpu.new) (IsOverForOne group cause)) }
+    ensures visit { Visits N.frames (side machine.new cpu.new) }
 {
     'tries: loop {
         let Err(over) = machine.fill_stock(tables, cpu, group, 1) else {
@@ -72,7 +71,7 @@ fn charge_frame<N: BootName>(
     sizes: Config,
     group: GroupId,
 ) -> Result<(), AllocFault>
-    requires visit { Visits N.frames machine.old cpu.old }
+    requires visit { Visits N.frames (side machine.old cpu.old) }
     requires size { IsOfSize N.frames }
     requires sizes { IsValidConfig sizes }
     requires there { IsTrue (has_group machine.old.ledger.groups group) }
@@ -80,11 +79,9 @@ fn charge_frame<N: BootName>(
     requires none_fresh { cpu.old.fresh ≡ [] }
     requires drained { (account_of machine.old.stock.view cpu.old.number).filled ≡ false }
     ensures charges { MatchResult result
-        (λ done. BySteps N.frames machine.old cpu.old machine.new cpu.new
-        (λ steps. ChargesFrame N.frames sizes group machine.old cpu.old steps machine.new cpu.new))
-        (λ cause. BySteps N.frames machine.old cpu.old machine.new cpu.new
-        (λ steps. RefusesFrame N.frames sizes group cause machine.old cpu.old steps machine.new cpu.new)) }
-    ensures visit { Visits N.frames machine.new cpu.new }
+        (λ done. BySteps N.frames (side machine.old cpu.old) (side machine.new cpu.new) (ChargesFrame sizes group))
+        (λ cause. BySteps N.frames (side machine.old cpu.old) (side machine.new cpu.new) (RefusesFrame sizes group cause)) }
+    ensures visit { Visits N.frames (side machine.new cpu.new) }
 {
     machine.see_room(tables, cpu);
     let Err(_batch) = machine.fill_stock(tables, cpu, group, sizes.stock) else {
@@ -101,19 +98,17 @@ pub(crate) fn pay_for_frame<N: BootName>(
     sizes: Config,
     group: GroupId,
 ) -> Result<(), AllocFault>
-    requires visit { Visits N.frames machine.old cpu.old }
+    requires visit { Visits N.frames (side machine.old cpu.old) }
     requires size { IsOfSize N.frames }
     requires sizes { IsValidConfig sizes }
     requires there { IsTrue (has_group machine.old.ledger.groups group) }
     requires alive { is_killed machine.old.killed group ≡ false }
     requires none_fresh { cpu.old.fresh ≡ [] }
     ensures pays { MatchResult result
-        (λ done. BySteps N.frames machine.old cpu.old machine.new cpu.new
-        (λ steps. PaysForFrame N.frames sizes group machine.old cpu.old steps machine.new cpu.new))
-        (λ cause. BySteps N.frames machine.old cpu.old machine.new cpu.new
-        (λ steps. RefusesToPay N.frames sizes group cause machine.old cpu.old steps machine.new cpu.new)) }
-    ensures visit { Visits N.frames machine.new cpu.new }
-    ensures page { OnOk result (HoldsPage machine.new cpu.new group) }
+        (λ done. BySteps N.frames (side machine.old cpu.old) (side machine.new cpu.new) (PaysForFrame sizes group))
+        (λ cause. BySteps N.frames (side machine.old cpu.old) (side machine.new cpu.new) (RefusesToPay sizes group cause)) }
+    ensures visit { Visits N.frames (side machine.new cpu.new) }
+    ensures page { OnOk result (HoldsPage (side machine.new cpu.new) group) }
 {
     if holds_page(machine, tables, cpu, group) {
         return Ok(());

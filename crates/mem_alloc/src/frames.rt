@@ -7,6 +7,7 @@ ghost use Rattle.mem_machine.specs.Machines.{Visits};
 ghost use Rattle.mem_machine.specs.Paying.{HoldsPage, IsOfSize};
 ghost use Rattle.mem_alloc.specs.Stepping.{BySteps};
 ghost use Rattle.mem_alloc.specs.Frames.{FillsList, HasNoFrame, AllocatesFrame};
+ghost use Rattle.mem_machine.specs.Local.{side};
 
 use crate::charging::pay_for_frame;
 use crate::faults::AllocFault;
@@ -24,17 +25,15 @@ fn fill_list<N: BootName>(
     sizes: Config,
     group: GroupId,
 ) -> Result<(), AllocFault>
-    requires visit { Visits N.frames machine.old cpu.old }
+    requires visit { Visits N.frames (side machine.old cpu.old) }
     requires sizes { IsValidConfig sizes }
     requires none_fresh { cpu.old.fresh ≡ [] }
-    requires page { HoldsPage machine.old cpu.old group }
+    requires page { HoldsPage (side machine.old cpu.old) group }
     ensures fills { MatchResult result
-        (λ done. BySteps N.frames machine.old cpu.old machine.new cpu.new
-        (λ steps. FillsList sizes machine.old cpu.old steps machine.new cpu.new))
-        (λ cause. BySteps N.frames machine.old cpu.old machine.new cpu.new
-        (λ steps. HasNoFrame cause machine.old cpu.old steps machine.new cpu.new)) }
-    ensures visit { Visits N.frames machine.new cpu.new }
-    ensures page { OnOk result (HoldsPage machine.new cpu.new group) }
+        (λ done. BySteps N.frames (side machine.old cpu.old) (side machine.new cpu.new) (FillsList sizes))
+        (λ cause. BySteps N.frames (side machine.old cpu.old) (side machine.new cpu.new) (HasNoFrame cause)) }
+    ensures visit { Visits N.frames (side machine.new cpu.new) }
+    ensures page { OnOk result (HoldsPage (side machine.new cpu.new) group) }
     ensures front { OnOk result (1 ≤ length cpu.new.list) }
 {
     if cpu.list_len() > 0 {
@@ -64,14 +63,13 @@ pub fn alloc_frame<N: BootName>(
     sizes: Config,
     group: GroupId,
 ) -> Result<Frame, AllocFault>
-    requires visit { Visits N.frames machine.old cpu.old }
+    requires visit { Visits N.frames (side machine.old cpu.old) }
     requires size { IsOfSize N.frames }
     requires sizes { IsValidConfig sizes }
     requires there { IsTrue (has_group machine.old.ledger.groups group) }
     requires settled { (cpu.old.fresh ≡ []) × (cpu.old.back ≡ []) }
-    ensures allocates { BySteps N.frames machine.old cpu.old machine.new cpu.new
-        (λ steps. AllocatesFrame N.frames sizes group result machine.old cpu.old steps machine.new cpu.new) }
-    ensures visit { Visits N.frames machine.new cpu.new }
+    ensures allocates { BySteps N.frames (side machine.old cpu.old) (side machine.new cpu.new) (AllocatesFrame sizes group result) }
+    ensures visit { Visits N.frames (side machine.new cpu.new) }
     ensures opened { machine.new.seat.view.opened ≡ machine.old.seat.view.opened }
     ensures number { cpu.new.number ≡ cpu.old.number }
     ensures fresh { MatchResult result (λ f. cpu.new.fresh ≡ f ∷ []) (λ cause. cpu.new.fresh ≡ []) }

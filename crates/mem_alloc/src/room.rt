@@ -38,7 +38,7 @@ pub(crate) fn make_room<N: BootName>(
         (λ cause. (cause ≡ fault.Over group) × (has_room_for machine.new group pages ≡ false)) }
     ensures fits { group < 64 }
 {
-    let _number = group.number();
+    let _number = group.number(); // For the clauses.
     machine.note_max(group);
     machine.drain_stocks(tables, group);
     if has_room_at(machine.charges(), group, pages) {

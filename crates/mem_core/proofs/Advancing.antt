@@ -1,3 +1,4 @@
+-- Of the reading core, on which the program doesn't run.
 -- One more step of a core (for `Core::step`).
 use Rattle.std.proofs.Common.{◌≡◌, ℕ, ◌+◌, ◌^◌, ◌<◌, refl, sym, ◌∙◌, ap, subst, arith, inl, inr}
 use Rattle.std.proofs.Common.{length-append, List, [], ◌∷◌, ◌++◌}

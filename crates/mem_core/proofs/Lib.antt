@@ -4,3 +4,4 @@ pub mod Pushing
 pub mod Playing
 pub mod AccountLemmas
 pub mod Accounting
+pub mod Keeping

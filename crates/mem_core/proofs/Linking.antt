@@ -1,3 +1,4 @@
+-- Of the reading core, on which the program doesn't run.
 -- What a core shows is what its rows show (for `Core::new`, `Core::step` and the readers).
 use Rattle.std.proofs.Common.{◌≡◌, ℕ, ◌^◌, ◌≤◌, List, [], ◌∷◌, zero, suc, map, refl, ap, arith}
 use Rattle.std.specs.List.{slice_get}

@@ -1,3 +1,4 @@
+-- Of the reading core, on which the program doesn't run.
 -- A run so far, and one step more (for `play`).
 use Rattle.std.proofs.Common.{◌≡◌, ℕ, ◌+◌, ◌<◌, ◌≤◌, List, [], ◌∷◌, ◌++◌, length, take, get_or, refl, sym, ◌∙◌, ap, subst, arith}
 use Rattle.std.specs.List.{zip}

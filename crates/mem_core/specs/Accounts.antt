@@ -1,3 +1,4 @@
+-- Of the reading core, on which the program doesn't run.
 -- What is counted of each group: its peak (memory.peak) and its events (memory.events, memory.events.local).
 use Rattle.std.specs.Prelude.{◌≡◌, ◌^◌, ◌<◌, ℕ, Bool, true, List, All, Option, Some, None}
 use Rattle.std.specs.List.{slice_index_or}

@@ -1,3 +1,4 @@
+-- Of the reading core, on which the program doesn't run.
 -- What a core keeps, and how a contract sees it.
 use Rattle.std.specs.Prelude.{◌≡◌, ◌*◌, ◌^◌, ◌<◌, ◌≤◌, map, vec_len, vec_capacity}
 use Rattle.zone_blocks.specs.Areas.{AreMaximalBlocks}

@@ -1,13 +1,38 @@
--- Which free block a core places.
-use Rattle.std.specs.Prelude.{ℕ, List, take, slice_get, IfSome}
+-- Of the reading core, on which the program doesn't run.
+-- What a core keeps over a run: the promise of `step_rules`, and which free block it places.
+use Rattle.std.specs.Prelude.{◌≡◌, ℕ, true, List, take, slice_get, IfSome}
 use Rattle.zone_blocks.specs.declared.block.Block.{Block}
 use Rattle.zone_blocks.specs.Areas.{AreMaximalBlocks, IsFrontOfSmallest}
 use Rattle.step_rules.specs.declared.step.Action.{Action}
 use Rattle.step_rules.specs.declared.step.Action.TheVariants.{PlaceBlock}
 use Rattle.step_rules.specs.declared.step.Answer.{Answer}
 use Rattle.step_rules.specs.declared.step.Answer.TheVariants.{Placed}
-use Rattle.step_rules.specs.State.{Zone, State, free_in}
+use Rattle.step_rules.specs.Phases.{keeper_of}
+use Rattle.step_rules.specs.State.{Zone, State, is_unheld, free_in}
+use Rattle.step_rules.specs.Usage.{usage_of}
 use Rattle.step_rules.specs.After.{Run, state_of}
+use Rattle.step_rules.specs.Promise.{Shown, IsShown, Promise}
+use Rattle.mem_core.specs.Shown.{CoreState, state_in}
+
+-- what a core shows, as the promise speaks of it; `current` is what its reader of that name tells
+abbrev pub shown_of : CoreState → Shown
+shown_of s = record {
+  areas = s.areas;
+  lists = λ p. ((state_in s).parts p).list;
+  keeper = λ f. keeper_of ((state_in s).phases f);
+  groups = s.groups;
+  stocks = λ p. ((state_in s).parts p).stock;
+  current = usage_of (state_in s);
+}
+
+-- the promise holds of what the core shows, where its lock is free
+abbrev pub KeepsPromise : CoreState → Run → Type 0
+KeepsPromise s run = is_unheld s.hold ≡ true → Promise s.zone run (shown_of s)
+
+-- each beginning of the run that leaves the lock free keeps the promise, for whatever shows its state
+abbrev pub AlwaysKeepsPromise : Zone → Run → Type 0
+AlwaysKeepsPromise zone run = (k : ℕ) → is_unheld (state_of zone (take k run)).hold ≡ true →
+    (shown : Shown) → IsShown (state_of zone (take k run)) shown → Promise zone (take k run) shown
 
 -- the one at the start of the smallest maximal free block of its order or above (Knuth: the least sufficient order is
 -- split)

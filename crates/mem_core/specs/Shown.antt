@@ -1,3 +1,4 @@
+-- Of the reading core, on which the program doesn't run.
 -- What a core shows, and of which runs it shows the state.
 use Rattle.std.specs.Prelude.{◌≡◌, ℕ, Bool, true, false, Option, Some, None, List, length}
 use Rattle.std.specs.List.{slice_get, slice_index_or}

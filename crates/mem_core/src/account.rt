@@ -1,3 +1,4 @@
+//! Of the reading core, on which the program doesn't run.
 //! What is kept of one group number.
 
 /// How often something happened to a group (memory.events). A count stays at 2^64 - 1.

@@ -1,3 +1,4 @@
+//! Of the reading core, on which the program doesn't run.
 //! How the accounts of the groups follow a step.
 
 ghost use Rattle.std.specs.Prelude.{◌≡◌, ◌^◌, ◌<◌, IfOk, true, false, vec_len, replicate};

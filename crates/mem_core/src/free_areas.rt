@@ -1,3 +1,4 @@
+//! Of the reading core, on which the program doesn't run.
 //! The free areas, told anew of the frames that are free.
 
 ghost use Rattle.std.specs.Prelude.{◌≡◌, ◌≤◌, vec_capacity};

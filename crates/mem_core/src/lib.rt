@@ -1,3 +1,4 @@
+//! Of the reading core, on which the program doesn't run.
 //! The core of the memory controller: a list of steps by processors, each legal or refused, under the rules of
 //! `step_rules`.
 #![tactic(auto)]

@@ -1,10 +1,11 @@
+//! Of the reading core, on which the program doesn't run.
 //! Whole runs: the promise of the core, for every list of steps.
 
 ghost use Rattle.std.specs.Prelude.{◌≡◌, ◌≤◌, IfOk, length};
 ghost use Rattle.std.specs.List.{zip};
 ghost use Rattle.step_rules.specs.After.{IsLegalRun};
 ghost use Rattle.mem_core.specs.Shown.{Shows, HasMaximalAreas};
-ghost use Rattle.mem_core.specs.Promise.{AlwaysPlacesFirst};
+ghost use Rattle.mem_core.specs.Promise.{KeepsPromise, AlwaysKeepsPromise, AlwaysPlacesFirst};
 
 use crate::zone::Core;
 use std::alloc::{AllocError, Global};
@@ -21,8 +22,9 @@ pub struct Played {
 
 /// Makes the steps one after another, from a core on which none was made. The pairs of each step and its answer are a
 /// legal run, and the core shows that run: its state is the one that the run defines, and its free areas are the
-/// maximal blocks of the free frames. A block that is placed is the first of the smallest. What follows for any legal
-/// run is said in `step_rules::laws`. By reading, it fails for want of memory alone: no clause
+/// maximal blocks of the free frames. After each of its beginnings that leaves the lock free the promise holds of whatever
+/// shows the state, and at the end of what the core shows. A block that is placed is the first of the smallest. What
+/// else follows for any legal run is said in `step_rules::laws`. By reading, it fails for want of memory alone: no clause
 /// says so.
 pub fn play(alloc: Global, frames: u32, cpus: u32, steps: &[Step]) -> Result<Played, AllocError>
     requires frames { frames ≤ 65536 }
@@ -31,6 +33,8 @@ pub fn play(alloc: Global, frames: u32, cpus: u32, steps: &[Step]) -> Result<Pla
     ensures zone { IfOk result (λ p. p.core.zone ≡ record { frames = frames; cpus = cpus }) }
     ensures shows { IfOk result (λ p. Shows p.core (zip steps.now p.answers.items)) }
     ensures areas { IfOk result (λ p. HasMaximalAreas p.core) }
+    ensures promise { IfOk result (λ p. AlwaysKeepsPromise (record { frames = frames; cpus = cpus }) (zip steps.now p.answers.items)) }
+    ensures promise_shown { IfOk result (λ p. KeepsPromise p.core (zip steps.now p.answers.items)) }
     ensures first { IfOk result (λ p. AlwaysPlacesFirst (record { frames = frames; cpus = cpus }) (zip steps.now p.answers.items)) }
 {
     let mut core = Core::new(alloc, frames, cpus)?;
@@ -42,7 +46,7 @@ pub fn play(alloc: Global, frames: u32, cpus: u32, steps: &[Step]) -> Result<Pla
 }
 
 /// The answers to the steps, made one after another from the beginning: one for each, with which the steps are a legal
-/// run. So the laws of `step_rules::laws` hold of them. A block that is placed is the first of the smallest, which
+/// run. So the laws of `step_rules::laws` hold of them, and each beginning that leaves the lock free keeps the promise. A block that is placed is the first of the smallest, which
 /// legality leaves open. By reading, it fails for want of memory alone: no clause
 /// says so.
 pub fn run(alloc: Global, frames: u32, cpus: u32, steps: &[Step]) -> Result<Vec<Answer>, AllocError>
@@ -50,6 +54,7 @@ pub fn run(alloc: Global, frames: u32, cpus: u32, steps: &[Step]) -> Result<Vec<
     requires cpus { cpus ≤ 16 }
     ensures one_each { IfOk result (λ answers. length answers.items ≡ length steps.now) }
     ensures legal { IfOk result (λ answers. IsLegalRun (record { frames = frames; cpus = cpus }) (zip steps.now answers.items)) }
+    ensures promise { IfOk result (λ answers. AlwaysKeepsPromise (record { frames = frames; cpus = cpus }) (zip steps.now answers.items)) }
     ensures first { IfOk result (λ answers. AlwaysPlacesFirst (record { frames = frames; cpus = cpus }) (zip steps.now answers.items)) }
 {
     let Played { core: _, answers } = play(alloc, frames, cpus, steps)?;

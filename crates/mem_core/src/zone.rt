@@ -1,3 +1,4 @@
+//! Of the reading core, on which the program doesn't run.
 //! The core: what stands behind the zone's lock, and how a step changes it.
 
 ghost use Rattle.std.specs.Prelude.{◌≡◌, ℕ, ◌+◌, ◌^◌, ◌<◌, ◌≤◌, ◌++◌, ◌∷◌, [], IfOk};
@@ -7,7 +8,7 @@ ghost use Rattle.step_rules.specs.Legal.{Allows};
 ghost use Rattle.step_rules.specs.Peaks.{UsageMoves};
 ghost use Rattle.step_rules.specs.After.{Run, after};
 ghost use Rattle.mem_core.specs.Shown.{CoreState, Shows, state_in, HasMaximalAreas};
-ghost use Rattle.mem_core.specs.Promise.{PlacesFirst};
+ghost use Rattle.mem_core.specs.Promise.{PlacesFirst, KeepsPromise};
 
 mod readers;
 
@@ -76,6 +77,7 @@ impl Core {
         ensures state { state_in self.new ≡ after (state_in self.old) step.seat step.action result }
         ensures steps { self.new.steps ≡ self.old.steps + 1 }
         ensures shows { (run : Run) → Shows self.old run → Shows self.new (run ++ (step, result) ∷ []) }
+        ensures promise { (run : Run) → Shows self.old run → KeepsPromise self.new (run ++ (step, result) ∷ []) }
         ensures first { PlacesFirst (state_in self.old) step.action result }
         ensures zone { self.new.zone ≡ self.old.zone }
         ensures areas { HasMaximalAreas self.new }

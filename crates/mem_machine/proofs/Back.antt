@@ -24,7 +24,7 @@ use Rattle.mem_machine.specs.declared.spot.Spot.TheVariants.{Free, Head}
 use Rattle.mem_machine.specs.declared.machine.Counts.{Counts}
 use Rattle.mem_machine.specs.Spots.{spot_at, free_of, head_group_of, some_cpu}
 use Rattle.mem_machine.specs.Machines.{KnownMachine, FitsSpot, IsConsistent, BalancesCounts, Visits, home_of}
-use Rattle.mem_machine.specs.Local.{IsLocalRun, local_of}
+use Rattle.mem_machine.specs.Local.{IsLocalRun, local_of, side}
 use Rattle.mem_machine.specs.Freeing.{FreesFrames}
 use Rattle.mem_machine.specs.Settling.{ReturnsBack, return_steps}
 use Rattle.mem_machine.specs.Freeing.{with_last_put}
@@ -67,14 +67,14 @@ pub back_inside : (t : KnownTable) (w : Words) (m : KnownMachine) → IsConsiste
 back_inside t w m ok i unit heads = (ok.units.heads i unit heads).block.inside
 
 -- and passes once it was handed
-pub back_passes : (t : KnownTable) (w : Words) (m now : KnownMachine) → m ≡ now → (c h : KnownCpu) → IsTied t w c → Visits t now c
+pub back_passes : (t : KnownTable) (w : Words) (m now : KnownMachine) → m ≡ now → (c h : KnownCpu) → IsTied t w c → Visits t (side now c)
     → (f : ℕ) (seat : KnownSeat) → f < t.frames → HandsBack f c h → seat ≡ m.seat → Passes seat h.seat f
 back_passes t w m now same c h tied visit f seat inside hands is =
     subst (λ (s : KnownSeat). Passes s h.seat f) (sym is)
     (handed_passes t m.seat c.seat c.number tied.seats.frame_number f (subst (λ (x : KnownMachine). NothingPasses t x.seat c.seat)
     (sym same) visit.still) h.seat (ap (λ (x : KnownCpu). x.seat) hands.2) inside)
 
-module _ (t : KnownTable) (w : Words) (m : KnownMachine) (c : KnownCpu) (tied : IsTied t w c) (ok : IsConsistent t w m) (visit : Visits t m c)
+module _ (t : KnownTable) (w : Words) (m : KnownMachine) (c : KnownCpu) (tied : IsTied t w c) (ok : IsConsistent t w m) (visit : Visits t (side m c))
     (f : ℕ) (was : WasBack t m f) (unit : ChargedUnit) (heads : spot_at m.spots f ≡ Head unit) (rest : List ℕ) (front : c.back ≡ f ∷ rest)
     (new : List Spot) (frees : FreesFrames m.spots f (2 ^ unit.order) new) (blocks : List Block) (areas : AreMaximalBlocks (free_of new) blocks)
     (counts : Counts) (counted : counts ≡ with_last_put m.counts) where
@@ -131,10 +131,10 @@ module _ (t : KnownTable) (w : Words) (m : KnownMachine) (c : KnownCpu) (tied : 
       return_run s c.number f unit _ v (own_part m c) (local_of t returned d) (back_phase c f (spot_at m.spots f) unit heads at.once)
       (λ i. record s { phases = λ x. sym (ph x) i; references = λ q x. sym (re q x) i; parts = λ q. sym (pa q) i })
 
-  pub returned_visits : Visits t returned d
+  pub returned_visits : Visits t (side returned d)
   returned_visits = handed_visits t w m c tied visit f (collected_from c.number) (λ k. refl) returned d refl refl refl
 
-  pub returned_does : ReturnsBack f m c returned d
+  pub returned_does : ReturnsBack f (side m c) (side returned d)
   returned_does = record {
     unit = unit;
     heads = heads;
@@ -151,11 +151,11 @@ pub record AllReturned (t : KnownTable) (w : Words) (now : KnownMachine) (c : Kn
     : Type 0 where
   pub consistent : IsConsistent t w n
   pub free_is : free ≡ free_of n.spots
-  pub returns : ReturnsBack f now c n d
-  pub visit : Visits t n d
+  pub returns : ReturnsBack f (side now c) (side n d)
+  pub visit : Visits t (side n d)
   pub steps : IsLocalRun c.number (local_of t now c) (return_steps c.number f) (local_of t n d)
 
-pub return_all : (t : KnownTable) (w : Words) (m now : KnownMachine) → m ≡ now → (c h d : KnownCpu) → IsTied t w c → IsConsistent t w m → Visits t now c
+pub return_all : (t : KnownTable) (w : Words) (m now : KnownMachine) → m ≡ now → (c h d : KnownCpu) → IsTied t w c → IsConsistent t w m → Visits t (side now c)
     → (before free : List Bool) → before ≡ free_of m.spots → (f : ℕ) → WasBack t m f → HandsBack f c h → d ≡ h → (i : ℕ) → i ≡ f
     → (unit : ChargedUnit) → spot_at m.spots i ≡ Head unit
     → (seat : KnownSeat) → seat ≡ seat_with m.seat f (collected_from h.number)
@@ -165,7 +165,7 @@ pub return_all : (t : KnownTable) (w : Words) (m now : KnownMachine) → m ≡ n
     → AllReturned t w now c f (record m { blocks = blocks; spots = spots; ledger = ledger; seat = seat; counts = counts }) d free
 return_all t w m now same c h d tied ok visit_now before free free_was f was hands stays i index unit heads_i seat collects spots frees_i blocks gives_i areas_i
     ledger uncharges counts counted =
-    let visit : Visits t m c = subst (λ (x : KnownMachine). Visits t x c) (sym same) visit_now in
+    let visit : Visits t (side m c) = subst (λ (x : KnownMachine). Visits t (side x c)) (sym same) visit_now in
     let rest = hands.0 in
     let front : c.back ≡ f ∷ rest = hands.1 in
     let heads : spot_at m.spots f ≡ Head unit = ap (spot_at m.spots) (sym index) ∙ heads_i in

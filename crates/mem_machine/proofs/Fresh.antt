@@ -31,7 +31,7 @@ use Rattle.mem_machine.specs.declared.spot.Spot.TheVariants.{Free, Lent, Head}
 use Rattle.mem_machine.specs.declared.machine.Counts.{Counts}
 use Rattle.mem_machine.specs.Spots.{spot_at, is_free, free_of, group_of as spot_group, head_group_of, some_cpu}
 use Rattle.mem_machine.specs.Machines.{KnownMachine, FitsSpot, IsConsistent, BalancesCounts, Visits, home_of, is_killed, pages_booked}
-use Rattle.mem_machine.specs.Local.{IsLocalRun, local_of, fresh_group, number_or_0}
+use Rattle.mem_machine.specs.Local.{IsLocalRun, local_of, fresh_group, number_or_0, side}
 use Rattle.mem_machine.specs.Steps.{zone_makes}
 use Rattle.mem_machine.specs.Blocks.{PlacesUnit}
 use Rattle.mem_machine.specs.Freeing.{FreesFrames}
@@ -98,7 +98,7 @@ frees_one spots new f k zero_is inside frees =
           ∙ sym (get_or-set_other spots f g Free Free ne)
     ])
 
-module _ (t : KnownTable) (w : Words) (m : KnownMachine) (c : KnownCpu) (tied : IsTied t w c) (ok : IsConsistent t w m) (visit : Visits t m c)
+module _ (t : KnownTable) (w : Words) (m : KnownMachine) (c : KnownCpu) (tied : IsTied t w c) (ok : IsConsistent t w m) (visit : Visits t (side m c))
     (f g : ℕ) (was : WasFresh t m c f g) (rest : List ℕ) (front : c.fresh ≡ f ∷ rest) where
   within : f < length m.spots
   within = let s = ok.sizes.spots in let a = was.inside in omega (arith, s, a)
@@ -178,10 +178,10 @@ module _ (t : KnownTable) (w : Words) (m : KnownMachine) (c : KnownCpu) (tied : 
         (keep_run s c.number f (fresh_unit c) _ v (own_part m c) (local_of t kept d)
         (λ i. record s { phases = λ x. sym (ph x) i; references = λ q x. sym (re q x) i; parts = λ q. sym (pa q) i }))
 
-    kept_visits : Visits t kept d
+    kept_visits : Visits t (side kept d)
     kept_visits = handed_visits t w m c tied visit f used (λ k. refl) kept d refl refl refl
 
-    kept_does : KeepsFresh g f m c kept d
+    kept_does : KeepsFresh g f (side m c) (side kept d)
     kept_does = record { listed = unit_listed t w m ok g was.fits lru lru read_g f links new added others all kept; machine = refl; cpu = (front, refl) }
 
   -- ---- dropped
@@ -258,10 +258,10 @@ module _ (t : KnownTable) (w : Words) (m : KnownMachine) (c : KnownCpu) (tied : 
         (drop_run s c.number f (fresh_unit c) _ v (own_part m c) (local_of t dropped d) (ap (is_killed m.killed) was.named ∙ killed)
         (λ i. record s { phases = λ x. sym (ph x) i; references = λ q x. sym (re q x) i; parts = λ q. sym (pa q) i }))
 
-    dropped_visits : Visits t dropped d
+    dropped_visits : Visits t (side dropped d)
     dropped_visits = handed_visits t w m c tied visit f (collected_from c.number) (λ k. refl) dropped d refl refl refl
 
-    dropped_does : DropsFresh g f m c dropped d
+    dropped_does : DropsFresh g f (side m c) (side dropped d)
     dropped_does = record { frees = frees; areas = areas; machine = λ i. record dropped { counts = counted i }; cpu = (front, refl) }
 
 -- ---- all of it, of the machine as it was seen before
@@ -270,11 +270,11 @@ pub record AllKept (t : KnownTable) (w : Words) (now : KnownMachine) (c : KnownC
     : Type 0 where
   pub consistent : IsConsistent t w n
   pub free_is : free ≡ free_of n.spots
-  pub keeps : KeepsFresh g f now c n d
-  pub visit : Visits t n d
+  pub keeps : KeepsFresh g f (side now c) (side n d)
+  pub visit : Visits t (side n d)
   pub steps : IsLocalRun c.number (local_of t now c) (keep_steps c.number f) (local_of t n d)
 
-pub keep_all : (t : KnownTable) (w : Words) (m now : KnownMachine) → m ≡ now → (c h : KnownCpu) → IsTied t w c → IsConsistent t w m → Visits t now c
+pub keep_all : (t : KnownTable) (w : Words) (m now : KnownMachine) → m ≡ now → (c h : KnownCpu) → IsTied t w c → IsConsistent t w m → Visits t (side now c)
     → (free : List Bool) → free ≡ free_of m.spots → (f g : ℕ) → WasFresh t m c f g → HandsFresh f c h → (i k o : ℕ) → i ≡ f → k ≡ 0 → o ≡ g
     → (mid seat : KnownSeat) → mid ≡ seat_with m.seat f (collected_from c.number) → seat ≡ seat_with mid f (unfrozen 1)
     → (stock : Seated) → stock ≡ with_page_absorbed m.stock c.number
@@ -288,7 +288,7 @@ pub keep_all : (t : KnownTable) (w : Words) (m now : KnownMachine) → m ≡ now
     }) h free
 keep_all t w m now same c h tied ok visit_now free free_is f g was hands i k o index zero_is owner mid seat collects unfreezes stock absorbs lru read
     links new added_i others all =
-    let visit : Visits t m c = subst (λ (x : KnownMachine). Visits t x c) (sym same) visit_now in
+    let visit : Visits t (side m c) = subst (λ (x : KnownMachine). Visits t (side x c)) (sym same) visit_now in
     let rest = hands.0 in
     let front : c.fresh ≡ f ∷ rest = hands.1 in
     let added : IsAdded m.links lru f links new = subst (λ (j : ℕ). IsAdded m.links lru j links new) index added_i in
@@ -320,11 +320,11 @@ pub record AllDropped (t : KnownTable) (w : Words) (now : KnownMachine) (c : Kno
     : Type 0 where
   pub consistent : IsConsistent t w n
   pub free_is : free ≡ free_of n.spots
-  pub drops : DropsFresh g f now c n d
-  pub visit : Visits t n d
+  pub drops : DropsFresh g f (side now c) (side n d)
+  pub visit : Visits t (side n d)
   pub steps : IsLocalRun c.number (local_of t now c) (drop_steps c.number f) (local_of t n d)
 
-pub drop_all : (t : KnownTable) (w : Words) (m now : KnownMachine) → m ≡ now → (c h : KnownCpu) → IsTied t w c → IsConsistent t w m → Visits t now c
+pub drop_all : (t : KnownTable) (w : Words) (m now : KnownMachine) → m ≡ now → (c h : KnownCpu) → IsTied t w c → IsConsistent t w m → Visits t (side now c)
     → (before free : List Bool) → before ≡ free_of m.spots → (f g : ℕ) → WasFresh t m c f g → is_killed now.killed g ≡ true → HandsFresh f c h
     → (i k : ℕ) → i ≡ f → k ≡ 0
     → (seat : KnownSeat) → seat ≡ seat_with m.seat f (collected_from c.number)
@@ -334,7 +334,7 @@ pub drop_all : (t : KnownTable) (w : Words) (m now : KnownMachine) → m ≡ now
     → AllDropped t w now c g f (record m { blocks = blocks; spots = spots; ledger = ledger; seat = seat; stock = stock; counts = counts }) h free
 drop_all t w m now same c h tied ok visit_now before free free_was f g was killed_now hands i k index zero_is seat collects stock absorbs spots frees_i blocks
     gives_i areas_i ledger uncharges counts counted =
-    let visit : Visits t m c = subst (λ (x : KnownMachine). Visits t x c) (sym same) visit_now in
+    let visit : Visits t (side m c) = subst (λ (x : KnownMachine). Visits t (side x c)) (sym same) visit_now in
     let killed : is_killed m.killed g ≡ true = ap (λ (x : KnownMachine). is_killed x.killed g) same ∙ killed_now in
     let rest = hands.0 in
     let front : c.fresh ≡ f ∷ rest = hands.1 in

@@ -27,7 +27,7 @@ use Rattle.mem_machine.specs.declared.spot.Spot.{Spot}
 use Rattle.mem_machine.specs.declared.spot.Spot.TheVariants.{Free, Lent, Head, Tail}
 use Rattle.mem_machine.specs.Spots.{spot_at, some_cpu}
 use Rattle.mem_machine.specs.Machines.{KnownMachine, IsConsistent, Visits}
-use Rattle.mem_machine.specs.Local.{local_of, phase_of, part_of, part_with, IsLocalRun}
+use Rattle.mem_machine.specs.Local.{local_of, phase_of, part_of, part_with, IsLocalRun, side}
 use Rattle.mem_machine.specs.Steps.{take_front_steps}
 use Rattle.mem_machine.specs.Paying.{IsOfSize, IsOwnStock, HoldsPage, PaysForFront, HasRoomFor, pages_held}
 use Rattle.mem_machine.proofs.Reaching.{cpu_step, run_one}
@@ -42,8 +42,8 @@ use Rattle.mem_machine.proofs.Shown.{fresh_phase}
 
 pub own_is : (t : KnownTable) (w : Words) (m now : KnownMachine) → m ≡ now → (c : KnownCpu) (stock : Stock) → IsTied t w c → IsConsistent t w m
     → (account_of m.stock.view c.number).book ≡ pages_of stock + c.stock.view.fresh + (account_of m.stock.view c.number).noted
-    → group_of stock ≡ (account_of m.stock.view c.number).group → is_held stock ≡ (account_of m.stock.view c.number).filled → IsOwnStock now c stock
-own_is t w m now same c stock tied ok balanced group held = subst (λ (x : KnownMachine). IsOwnStock x c stock) same (record {
+    → group_of stock ≡ (account_of m.stock.view c.number).group → is_held stock ≡ (account_of m.stock.view c.number).filled → IsOwnStock (side now c) stock
+own_is t w m now same c stock tied ok balanced group held = subst (λ (x : KnownMachine). IsOwnStock (side x c) stock) same (record {
   group = group;
   held = held;
   pages = let none = ok.noted c.number in let fresh = tied.within.pages_are in omega (arith, balanced, none, fresh);
@@ -105,10 +105,10 @@ room_for t w m now same c ok size usage pages few =
 
 -- ---- the front that is paid for
 
-pub has_page : (t : KnownTable) (w : Words) (m now : KnownMachine) → m ≡ now → (c : KnownCpu) (g : ℕ) → IsTied t w c → IsConsistent t w m → HoldsPage now c g
+pub has_page : (t : KnownTable) (w : Words) (m now : KnownMachine) → m ≡ now → (c : KnownCpu) (g : ℕ) → IsTied t w c → IsConsistent t w m → HoldsPage (side now c) g
     → 0 < stocked m.stock.view c.stock.view
 has_page t w m now same c g tied ok page =
-    let some : 1 ≤ pages_held m c = subst (λ (x : KnownMachine). 1 ≤ pages_held x c) (sym same) page.some in
+    let some : 1 ≤ pages_held (side m c) = subst (λ (x : KnownMachine). 1 ≤ pages_held (side x c)) (sym same) page.some in
     let none = ok.noted c.number in
     let fresh = tied.within.pages_are in
     let at : stocked m.stock.view c.stock.view ≡ (account_of m.stock.view c.number).book - c.stock.view.fresh - (account_of m.stock.view c.number).noted
@@ -116,7 +116,7 @@ has_page t w m now same c g tied ok page =
     omega (arith, some, none, fresh, at)
 
 pub left_after : (t : KnownTable) (w : Words) (m : KnownMachine) (c : KnownCpu) → IsTied t w c → IsConsistent t w m
-    → stocked m.stock.view c.stock.view - 1 ≡ pages_held m c - 1
+    → stocked m.stock.view c.stock.view - 1 ≡ pages_held (side m c) - 1
 left_after t w m c tied ok =
     let none = ok.noted c.number in
     let fresh = tied.within.pages_are in
@@ -140,10 +140,10 @@ and_no false = refl
 
 -- what the processor that is visited is once its front was paid for
 abbrev paid_cpu : KnownMachine → KnownCpu → ℕ → ℕ → List ℕ → KnownCpu
-paid_cpu m c g f rest = record c { list = rest; fresh = c.fresh ++ f ∷ []; stock = with_view c.stock (after_took c.stock.view g (pages_held m c - 1)) }
+paid_cpu m c g f rest = record c { list = rest; fresh = c.fresh ++ f ∷ []; stock = with_view c.stock (after_took c.stock.view g (pages_held (side m c) - 1)) }
 
-module _ (t : KnownTable) (w : Words) (m : KnownMachine) (c : KnownCpu) (tied : IsTied t w c) (ok : IsConsistent t w m) (visit : Visits t m c)
-    (g f : ℕ) (rest : List ℕ) (front : c.list ≡ f ∷ rest) (inside : f < t.frames) (page : HoldsPage m c g) (none : c.fresh ≡ []) where
+module _ (t : KnownTable) (w : Words) (m : KnownMachine) (c : KnownCpu) (tied : IsTied t w c) (ok : IsConsistent t w m) (visit : Visits t (side m c))
+    (g f : ℕ) (rest : List ℕ) (front : c.list ≡ f ∷ rest) (inside : f < t.frames) (page : HoldsPage (side m c) g) (none : c.fresh ≡ []) where
   abbrev d : KnownCpu
   d = paid_cpu m c g f rest
 
@@ -224,16 +224,16 @@ module _ (t : KnownTable) (w : Words) (m : KnownMachine) (c : KnownCpu) (tied : 
 -- all of it, of the machine as it was seen before
 pub record FrontPaid (t : KnownTable) (w : Words) (now : KnownMachine) (g f : ℕ) (c : KnownCpu) (n : KnownMachine) (d : KnownCpu) : Type 0 where
   pub consistent : IsConsistent t w n
-  pub pays : PaysForFront g f now c n d
-  pub visit : Visits t n d
+  pub pays : PaysForFront g f (side now c) (side n d)
+  pub visit : Visits t (side n d)
   pub steps : IsLocalRun c.number (local_of t now c) (take_front_steps c.number g) (local_of t n d)
 
-pub front_paid : (t : KnownTable) (w : Words) (m now : KnownMachine) → m ≡ now → (c : KnownCpu) → IsTied t w c → IsConsistent t w m → Visits t now c
-    → (g f h : ℕ) → h ≡ g → HoldsPage now c g → c.fresh ≡ [] → f < t.frames → (stock : Seated) → stock ≡ m.stock → (d : KnownCpu)
+pub front_paid : (t : KnownTable) (w : Words) (m now : KnownMachine) → m ≡ now → (c : KnownCpu) → IsTied t w c → IsConsistent t w m → Visits t (side now c)
+    → (g f h : ℕ) → h ≡ g → HoldsPage (side now c) g → c.fresh ≡ [] → f < t.frames → (stock : Seated) → stock ≡ m.stock → (d : KnownCpu)
     → TakesFront h (stocked m.stock.view c.stock.view - 1) f c d → FrontPaid t w now g f c (record m { stock = stock }) d
 front_paid t w m now same c tied ok visit_now g f h named page_now none inside stock is d takes =
-    let visit : Visits t m c = subst (λ (x : KnownMachine). Visits t x c) (sym same) visit_now in
-    let page : HoldsPage m c g = subst (λ (x : KnownMachine). HoldsPage x c g) (sym same) page_now in
+    let visit : Visits t (side m c) = subst (λ (x : KnownMachine). Visits t (side x c)) (sym same) visit_now in
+    let page : HoldsPage (side m c) g = subst (λ (x : KnownMachine). HoldsPage (side x c) g) (sym same) page_now in
     let rest = takes.0 in
     let left = left_after t w m c tied ok in
     let all : FrontPaid t w m g f c m (paid_cpu m c g f rest) = record {

@@ -15,7 +15,7 @@ use Rattle.step_rules.specs.Usage.{usage_of}
 use Rattle.step_rules.specs.Legal.{is_removable}
 use Rattle.step_rules.specs.State.{with_at}
 use Rattle.step_rules.proofs.Basics.{at_each}
-use Rattle.mem_machine.specs.Machines.{KnownMachine, is_killed, Makes}
+use Rattle.mem_machine.specs.Machines.{KnownMachine, is_killed, AddsGroup}
 use Rattle.mem_machine.specs.Local.{local_of, IsLocalRun}
 use Rattle.mem_machine.specs.Steps.{note_max_steps, set_max_steps, kill_steps, make_steps, remove_steps}
 use Rattle.mem_machine.proofs.Reaching.{zone_step, run_one}
@@ -74,7 +74,7 @@ unmarks marks g inside = λ i. λ k. (at_each (is_killed marks) g false (λ (h :
     (get_or-set_same marks g false false inside) (λ h ne. get_or-set_other marks g h false false ne)) k i
 
 make_runs : (t : KnownTable) (m n : KnownMachine) (g : ℕ) (path : List ℕ) → g < length m.killed → is_none (make_fault m.ledger.groups path) ≡ true
-    → Makes m g path n → (c : KnownCpu) → IsLocalRun c.number (local_of t m c) (make_steps path g) (local_of t n c)
+    → AddsGroup m g path n → (c : KnownCpu) → IsLocalRun c.number (local_of t m c) (make_steps path g) (local_of t n c)
 make_runs t m n g path inside allowed makes c =
     let s = local_of t m c in
     subst (λ (k : KnownMachine). IsLocalRun c.number s (make_steps path g) (local_of t k c)) (sym makes.machine)
@@ -88,7 +88,7 @@ none_of x e = ap is_none e
 
 module _ (t : KnownTable) (m now : KnownMachine) (same : m ≡ now) where
   pub makes : (l : Ledger) (marks : List Bool) (g : ℕ) (path : List ℕ) → IsLeastFreeNumber m.ledger.groups g → l ≡ with_new_group m.ledger g path
-      → marks ≡ slice_set m.killed g false → Makes now g path (record m { ledger = l; killed = marks })
+      → marks ≡ slice_set m.killed g false → AddsGroup now g path (record m { ledger = l; killed = marks })
   makes l marks g path least is set = record {
     least = subst (λ (k : KnownMachine). IsLeastFreeNumber k.ledger.groups g) same least;
     machine = (λ i. record m { ledger = is i; killed = set i })

@@ -22,7 +22,7 @@ use Rattle.mem_machine.specs.declared.spot.Spot.{Spot}
 use Rattle.mem_machine.specs.declared.spot.Spot.TheVariants.{Free, Lent, Head, Tail}
 use Rattle.mem_machine.specs.Spots.{spot_at}
 use Rattle.mem_machine.specs.Machines.{KnownMachine, IsSeated, Visits}
-use Rattle.mem_machine.specs.Local.{hold_of, local_of, phase_of, part_of, part_with, fresh_group, IsLocalRun}
+use Rattle.mem_machine.specs.Local.{hold_of, local_of, phase_of, part_of, part_with, fresh_group, IsLocalRun, side}
 use Rattle.mem_machine.specs.Steps.{open_steps, shut_steps}
 use Rattle.mem_machine.proofs.Reaching.{zone_step, run_one}
 
@@ -111,7 +111,7 @@ opens t m now same c d stays seat is shut =
     (open_runs t m (record m { seat = seat }) c (λ i. record m { seat = is i }) (subst (λ (k : KnownMachine). IsShut k.seat c.number) (sym same) shut))
 
 pub shuts : (t : KnownTable) (m now : KnownMachine) → m ≡ now → (c d : KnownCpu) → d ≡ c → (seat : KnownSeat) → seat ≡ seat_with_visit m.seat c.number 0
-    → Visits t now c → (account_of m.stock.view c.number).noted ≡ 0
+    → Visits t (side now c) → (account_of m.stock.view c.number).noted ≡ 0
     → IsLocalRun c.number (local_of t now c) (shut_steps c.number) (local_of t (record m { seat = seat }) d)
 shuts t m now same c d stays seat is visit noted =
     subst (λ (x : KnownMachine × KnownCpu). IsLocalRun c.number (local_of t x.0 c) (shut_steps c.number) (local_of t (record m { seat = seat }) x.1))

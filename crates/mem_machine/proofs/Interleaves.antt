@@ -7,7 +7,9 @@ use Rattle.mem_machine.specs.Local.{local_of, IsLocalRun}
 use Rattle.mem_machine.specs.Interleaving.{CallsInterleave, zone_of}
 
 pub calls_interleave : LocalRunsInterleave → CallsInterleave
-calls_interleave law t run steps mixed m n c d number shows leads mixes =
-    subst (λ (p : ℕ). ShowsLocal (zone_of t) (run ++ mixed) p (local_of t n d)) (sym number)
-    (law (zone_of t) run c.number (local_of t m c) mixed (local_of t n d) shows
-    (subst (λ (r : Run). IsLocalRun c.number (local_of t m c) r (local_of t n d)) (sym mixes.own) leads) mixes.follows)
+calls_interleave law t run steps mixed before after number shows leads mixes =
+    let c = before.cpu in
+    let now = local_of t after.machine after.cpu in
+    subst (λ (p : ℕ). ShowsLocal (zone_of t) (run ++ mixed) p now) (sym number)
+    (law (zone_of t) run c.number (local_of t before.machine c) mixed now shows
+    (subst (λ (r : Run). IsLocalRun c.number (local_of t before.machine c) r now) (sym mixes.own) leads) mixes.follows)

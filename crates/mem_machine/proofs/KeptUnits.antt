@@ -20,7 +20,7 @@ use Rattle.lru_lists.specs.declared.record.Home.{Home}
 use Rattle.lru_lists.specs.declared.record.LruList.TheVariants.{Inactive, Active}
 use Rattle.lru_lists.specs.declared.lru.Lru.{Lru}
 use Rattle.lru_lists.specs.Queue.{link_at}
-use Rattle.lru_lists.specs.Lists.{OthersStand, OneOfAllChanges, StandsIn, AllStand, ChangesOwn, MovesOnly, IsOnNone, entries_of, inactive_of, active_of}
+use Rattle.lru_lists.specs.Lists.{OthersStand, OneOfAllChanges, StandsIn, AllStand, ChangesOwn, MovesOnly, IsOnNone, place_of, entries_of, inactive_of, active_of}
 use Rattle.lru_lists.specs.Lists as lists
 use Rattle.step_rules.proofs.Placing.{within_cases}
 use Rattle.mem_machine.specs.declared.spot.Spot.{Spot}
@@ -109,6 +109,7 @@ module _ (t : KnownTable) (w : Words) (m : KnownMachine) (ok : IsConsistent t w 
             let same = (others_stand m.links links lru.owner (get_or m.lists h no_lists) added.changes apart (ok.lists h no_lists inside).1).1 in
             let stays : get_or (slice_set m.lists g new) h no_lists ≡ get_or m.lists h no_lists = get_or-set_other m.lists g h new no_lists ne in
             (ap (λ (l : Lru). entries_of links l Inactive) stays ∙ same Inactive, ap (λ (l : Lru). entries_of links l Active) stays ∙ same Active);
+        loose = λ y ne none. added.moves.kept y ne (ap (λ (x : Option Home). place_of x lru.owner) none);
       }
 
 -- ---- the records and the notes

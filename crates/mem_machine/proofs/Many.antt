@@ -11,7 +11,7 @@ use Rattle.step_rules.specs.State.{State}
 use Rattle.step_rules.specs.After.{Run}
 use Rattle.mem_machine.specs.Machines.{KnownMachine, Visits}
 use Rattle.mem_machine.specs.Lending.{LendsOne, LendsNone, LendsMany, LendsByStep, Refills, TakesOneBack, TakesNoneBack, TakesManyBack, TakesBackByStep}
-use Rattle.mem_machine.specs.Local.{local_of, IsLocalRun}
+use Rattle.mem_machine.specs.Local.{local_of, IsLocalRun, side}
 use Rattle.mem_machine.specs.Steps.{lend_steps, back_steps, drain_list_steps}
 use Rattle.mem_machine.proofs.Reaching.{run_both}
 
@@ -28,19 +28,19 @@ length_more frames f k all = let a = length-append frames (f ∷ []) in omega (a
 
 -- frames that are lent, and then one more
 lends_more : (frames : List ℕ) (f : ℕ) (m : KnownMachine) (c : KnownCpu) (x : KnownMachine) (y : KnownCpu) (n : KnownMachine) (d : KnownCpu)
-    → LendsMany frames m c x y → LendsOne f x y n d → LendsMany (frames ++ f ∷ []) m c n d
+    → LendsMany frames (side m c) (side x y) → LendsOne f (side x y) (side n d) → LendsMany (frames ++ f ∷ []) (side m c) (side n d)
 lends_more [] f m c x y n d before one =
-    (n, d, subst (λ (z : KnownMachine × KnownCpu). LendsOne f z.0 z.1 n d) (λ i. (before.0 i, before.1 i)) one, (refl, refl))
-lends_more (g ∷ frames) f m c x y n d before one = (before.0, before.1, before.2, lends_more frames f before.0 before.1 x y n d before.3 one)
+    (side n d, subst (λ (z : KnownMachine × KnownCpu). LendsOne f (side z.0 z.1) (side n d)) (λ i. (before.0 i, before.1 i)) one, (refl, refl))
+lends_more (g ∷ frames) f m c x y n d before one = (before.0, before.1, lends_more frames f before.0.machine before.0.cpu x y n d before.2 one)
 
 -- what the loop of `refill` keeps after k frames
 pub record LentSoFar (t : KnownTable) (k : ℕ) (m : KnownMachine) (c : KnownCpu) (n : KnownMachine) (d : KnownCpu) : Type 0 where
-  pub refills : Refills t k m c n d
-  pub visit : Visits t n d
+  pub refills : Refills t k (side m c) (side n d)
+  pub visit : Visits t (side n d)
   pub number : d.number ≡ c.number
   pub count : length d.list + length d.fresh ≡ length c.list + length c.fresh + k
 
-pub lent_start : (t : KnownTable) (m : KnownMachine) (c : KnownCpu) → Visits t m c → LentSoFar t 0 m c m c
+pub lent_start : (t : KnownTable) (m : KnownMachine) (c : KnownCpu) → Visits t (side m c) → LentSoFar t 0 m c m c
 lent_start t m c visit = record {
   refills = record { frames = []; all = refl; lends = (refl, refl); steps = refl };
   visit = visit;
@@ -49,7 +49,7 @@ lent_start t m c visit = record {
 }
 
 pub lent_more : (t : KnownTable) (k : ℕ) (m : KnownMachine) (c : KnownCpu) (x : KnownMachine) (y : KnownCpu) (n : KnownMachine) (d : KnownCpu)
-    → LentSoFar t k m c x y → LendsByStep t x y n d → Visits t n d → LentSoFar t (k + 1) m c n d
+    → LentSoFar t k m c x y → LendsByStep t (side x y) (side n d) → Visits t (side n d) → LentSoFar t (k + 1) m c n d
 lent_more t k m c x y n d before one visit =
     let so_far = before.refills in
     let f = one.frame in
@@ -71,7 +71,7 @@ lent_more t k m c x y n d before one visit =
 
 pub lent_end : (t : KnownTable) (k : ℕ) (m : KnownMachine) (c : KnownCpu) (x : KnownMachine) (y : KnownCpu) (n : KnownMachine) (d : KnownCpu)
     → LentSoFar t k m c x y
-    → LendsNone x y n d → LentSoFar t k m c n d × HasNoneFrom n.blocks 0
+    → LendsNone (side x y) (side n d) → LentSoFar t k m c n d × HasNoneFrom n.blocks 0
 lent_end t k m c x y n d before none = (
   subst (λ (z : KnownMachine × KnownCpu). LentSoFar t k m c z.0 z.1) (λ i. (sym none.machine i, sym none.cpu i)) before,
   subst (λ (z : KnownMachine). HasNoneFrom z.blocks 0) (sym none.machine) none.none,
@@ -81,27 +81,27 @@ lent_end t k m c x y n d before none = (
 
 -- frames that are taken back, and then one more
 takes_more : (frames : List ℕ) (f : ℕ) (m : KnownMachine) (c : KnownCpu) (x : KnownMachine) (y : KnownCpu) (n : KnownMachine) (d : KnownCpu)
-    → TakesManyBack frames m c x y → TakesOneBack f x y n d → TakesManyBack (frames ++ f ∷ []) m c n d
+    → TakesManyBack frames (side m c) (side x y) → TakesOneBack f (side x y) (side n d) → TakesManyBack (frames ++ f ∷ []) (side m c) (side n d)
 takes_more [] f m c x y n d before one =
-    (n, d, subst (λ (z : KnownMachine × KnownCpu). TakesOneBack f z.0 z.1 n d) (λ i. (before.0 i, before.1 i)) one, (refl, refl))
-takes_more (g ∷ frames) f m c x y n d before one = (before.0, before.1, before.2, takes_more frames f before.0 before.1 x y n d before.3 one)
+    (side n d, subst (λ (z : KnownMachine × KnownCpu). TakesOneBack f (side z.0 z.1) (side n d)) (λ i. (before.0 i, before.1 i)) one, (refl, refl))
+takes_more (g ∷ frames) f m c x y n d before one = (before.0, before.1, takes_more frames f before.0.machine before.0.cpu x y n d before.2 one)
 
 -- what the loop of `drain_list` keeps after k frames
 pub record TakenSoFar (t : KnownTable) (k : ℕ) (m : KnownMachine) (c : KnownCpu) (n : KnownMachine) (d : KnownCpu) : Type 0 where
   pub frames : List ℕ
   pub all : k ≡ length frames
   pub split : c.list ≡ frames ++ d.list
-  pub takes : TakesManyBack frames m c n d
-  pub visit : Visits t n d
+  pub takes : TakesManyBack frames (side m c) (side n d)
+  pub visit : Visits t (side n d)
   pub steps : IsLocalRun c.number (local_of t m c) (drain_list_steps c.number frames) (local_of t n d)
   pub number : d.number ≡ c.number
 
-pub taken_start : (t : KnownTable) (m : KnownMachine) (c : KnownCpu) → Visits t m c → TakenSoFar t 0 m c m c
+pub taken_start : (t : KnownTable) (m : KnownMachine) (c : KnownCpu) → Visits t (side m c) → TakenSoFar t 0 m c m c
 taken_start t m c visit =
     record { frames = []; all = refl; split = refl; takes = (refl, refl); visit = visit; steps = refl; number = refl }
 
 pub taken_more : (t : KnownTable) (k : ℕ) (m : KnownMachine) (c : KnownCpu) (x : KnownMachine) (y : KnownCpu) (n : KnownMachine) (d : KnownCpu)
-    → TakenSoFar t k m c x y → TakesBackByStep t x y n d → Visits t n d → TakenSoFar t (k + 1) m c n d
+    → TakenSoFar t k m c x y → TakesBackByStep t (side x y) (side n d) → Visits t (side n d) → TakenSoFar t (k + 1) m c n d
 taken_more t k m c x y n d before one visit =
     let f = one.frame in
     let left : y.list ≡ f ∷ d.list = one.takes.front ∙ ap (λ (l : List ℕ). f ∷ l) (sym (ap (λ (e : KnownCpu). e.list) one.takes.cpu)) in
@@ -118,7 +118,7 @@ taken_more t k m c x y n d before one visit =
 
 pub taken_end : (t : KnownTable) (k : ℕ) (m : KnownMachine) (c : KnownCpu) (x : KnownMachine) (y : KnownCpu) (n : KnownMachine) (d : KnownCpu)
     → TakenSoFar t k m c x y
-    → TakesNoneBack x y n d → TakenSoFar t k m c n d × (d.list ≡ [])
+    → TakesNoneBack (side x y) (side n d) → TakenSoFar t k m c n d × (d.list ≡ [])
 taken_end t k m c x y n d before none = (
   subst (λ (z : KnownMachine × KnownCpu). TakenSoFar t k m c z.0 z.1) (λ i. (sym none.machine i, sym none.cpu i)) before,
   ap (λ (e : KnownCpu). e.list) none.cpu ∙ none.none,
@@ -127,7 +127,7 @@ taken_end t k m c x y n d before none = (
 -- what was taken after k frames, said of the front of the list
 pub record TakesFront (t : KnownTable) (k : ℕ) (m : KnownMachine) (c : KnownCpu) (n : KnownMachine) (d : KnownCpu) : Type 0 where
   pub listed : k ≤ length c.list
-  pub takes : TakesManyBack (take k c.list) m c n d
+  pub takes : TakesManyBack (take k c.list) (side m c) (side n d)
   pub steps : IsLocalRun c.number (local_of t m c) (drain_list_steps c.number (take k c.list)) (local_of t n d)
 
 pub taken_front : (t : KnownTable) (k : ℕ) (m : KnownMachine) (c : KnownCpu) (n : KnownMachine) (d : KnownCpu) → TakenSoFar t k m c n d
@@ -139,7 +139,7 @@ taken_front t k m c n d so_far =
     sym ((λ i. take (all i) (so_far.split i)) ∙ take-append_seam so_far.frames d.list) in
     record {
       listed = omega (arith, long, all);
-      takes = subst (λ (l : List ℕ). TakesManyBack l m c n d) front so_far.takes;
+      takes = subst (λ (l : List ℕ). TakesManyBack l (side m c) (side n d)) front so_far.takes;
       steps = subst (λ (l : List ℕ). IsLocalRun c.number (local_of t m c) (drain_list_steps c.number l) (local_of t n d)) front so_far.steps;
     }
 

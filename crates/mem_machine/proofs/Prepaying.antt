@@ -1,13 +1,15 @@
 -- Pages are charged and fill the processor's stock. Serves `fill_stock` and `prepay`.
-use Rattle.std.proofs.Common.{◌≡◌, ℕ, ◌+◌, ◌-◌, ◌<◌, ◌≤◌, ◌==◌, ◌||◌, Bool, true, false, ◌^◌, Option, Some, None, List, [], ◌∷◌, length}
+use Rattle.std.proofs.Common.{◌≡◌, ℕ, ◌++◌, ◌+◌, ◌-◌, ◌<◌, ◌≤◌, ◌==◌, ◌||◌, Bool, true, false, ◌^◌, Option, Some, None, List, [], ◌∷◌, length}
 use Rattle.std.proofs.Common.{map, refl, sym, ap, ◌∙◌, subst, inl, inr, arith, cond, eq-eqb}
 use Rattle.std.specs.Prelude.{nat_le, Result, Ok, Err, OnOk, OnErr, IfErr}
-use Rattle.std.proofs.lemmas.Bool.{cases_eq, ne_eqb, and_from, cond-true, cond-false, cond_both, le-leb}
+use Rattle.std.proofs.lemmas.Bool.{cases_eq, ne_eqb, and_from, cond-true, cond-false, cond_both, le-leb, false≢true}
 use Rattle.std.proofs.lemmas.List.Sums.{sum_by-cons}
 use Rattle.frame_word.specs.Seats.{KnownTable}
 use Rattle.stock_word.specs.declared.view.Account.{Account}
 use Rattle.stock_word.specs.declared.view.StockView.{StockView}
-use Rattle.stock_word.specs.Stock.{Words, Seated, account_of}
+use Rattle.stock_word.specs.declared.view.Stock.{Stock}
+use Rattle.stock_word.specs.declared.view.Stock.TheVariants.{NoGroup, HeldBy, DrainedOf}
+use Rattle.stock_word.specs.Stock.{Words, Seated, account_of, pages_of, is_held}
 use Rattle.stock_word.specs.Kinds.{filling, after_fill}
 use Rattle.stock_word.specs.Calls.{with_view}
 use Rattle.stock_word.proofs.CallerLemmas.{account_of-with_account, account_of-with_account_other}
@@ -31,13 +33,14 @@ use Rattle.mem_machine.specs.declared.spot.Spot.{Spot}
 use Rattle.mem_machine.specs.declared.spot.Spot.TheVariants.{Free, Lent, Head, Tail}
 use Rattle.mem_machine.specs.Spots.{spot_at, count_of}
 use Rattle.mem_machine.specs.Machines.{KnownMachine, IsConsistent, Visits, is_killed, booked, pages_booked}
-use Rattle.mem_machine.specs.Local.{local_of, phase_of, part_of, part_with, IsLocalRun}
+use Rattle.mem_machine.specs.Local.{local_of, phase_of, part_of, part_with, IsLocalRun, Makes, side}
 use Rattle.mem_machine.specs.Steps.{drain_steps, fill_steps, over_steps}
-use Rattle.mem_machine.specs.Stocks.{uncharged, stock_group, Drains, Fills, Prepays, IsOver}
+use Rattle.mem_machine.specs.Stocks.{uncharged, stock_group, Drains, Fills, Prepays, IsOver, own_drain_steps, pages_held}
+use Rattle.mem_machine.specs.Paying.{IsOwnStock}
 use Rattle.mem_machine.proofs.Reaching.{zone_step, run_both}
 use Rattle.mem_machine.proofs.Holds.{zone_may_act, visits_open, own_part}
 use Rattle.mem_machine.proofs.Lends.{lent_listed}
-use Rattle.mem_machine.proofs.Draining.{booked_is, counts_own, counts_other, cond-same, stocks_consistent, nothing, pending_back, groups_stay, drained_at}
+use Rattle.mem_machine.proofs.Draining.{booked_is, counts_own, counts_other, cond-same, stocks_consistent, nothing, pending_back, groups_stay, drained_at, drained_account}
 use Rattle.mem_machine.proofs.Usage.{usage_is, balanced_alone}
 use Rattle.mem_machine.proofs.Grants.{is_granted, is_over}
 
@@ -154,7 +157,7 @@ phase_stays c s f (Head unit) none = refl
 phase_stays c s f (Tail g) none = refl
 
 pub fill_runs : (t : KnownTable) (w : Words) (m : KnownMachine) (c : KnownCpu) (g k : ℕ) → IsConsistent t w m
-    → AreCharges m.ledger → IsTied t w c → Visits t m c → c.fresh ≡ []
+    → AreCharges m.ledger → IsTied t w c → Visits t (side m c) → c.fresh ≡ []
     → has_group m.ledger.groups g ≡ true → is_killed m.killed g ≡ false → (account_of m.stock.view c.number).book ≡ 0
     → room.PathHasRoom m.ledger.groups (current_of m.ledger) g k
     → IsLocalRun c.number (local_of t m c) (fill_steps c.number g k) (local_of t (record m {
@@ -193,12 +196,12 @@ fill_runs t w m c g k ok facts tied visit none there alive empty has =
 -- what `fill_stock` leaves, of the machine as it was seen before
 pub record Filled (t : KnownTable) (w : Words) (m now : KnownMachine) (g k : ℕ) (c : KnownCpu) (l : Ledger) (stock : Seated) (d : KnownCpu) : Type 0 where
   pub consistent : IsConsistent t w (record m { ledger = l; stock = stock })
-  pub fills : Fills g k now c (record m { ledger = l; stock = stock }) d
-  pub visit : Visits t (record m { ledger = l; stock = stock }) d
+  pub fills : Fills g k (side now c) (side (record m { ledger = l; stock = stock }) d)
+  pub visit : Visits t (side (record m { ledger = l; stock = stock }) d)
   pub steps : IsLocalRun c.number (local_of t now c) (fill_steps c.number g k) (local_of t (record m { ledger = l; stock = stock }) d)
 
 filled_here : (t : KnownTable) (w : Words) (m : KnownMachine) (c : KnownCpu) (g k : ℕ) → IsConsistent t w m
-    → AreCharges m.ledger → IsTied t w c → Visits t m c → c.fresh ≡ [] → k < 65536
+    → AreCharges m.ledger → IsTied t w c → Visits t (side m c) → c.fresh ≡ [] → k < 65536
     → has_group m.ledger.groups g ≡ true → is_killed m.killed g ≡ false → (account_of m.stock.view c.number).book ≡ 0
     → room.PathHasRoom m.ledger.groups (current_of m.ledger) g k
     → Filled t w m m g k c (with_charge m.ledger g k) (with_view m.stock (filling m.stock.view c.number g k)) (record c {
@@ -213,13 +216,13 @@ filled_here t w m c g k ok facts tied visit none small there alive empty has = r
 }
 
 pub filled_all : (t : KnownTable) (w : Words) (m now : KnownMachine) (c : KnownCpu) (g k : ℕ) → m ≡ now
-    → IsConsistent t w m → AreCharges m.ledger → IsTied t w c → Visits t now c
+    → IsConsistent t w m → AreCharges m.ledger → IsTied t w c → Visits t (side now c)
     → c.fresh ≡ [] → k < 65536 → has_group now.ledger.groups g ≡ true → is_killed now.killed g ≡ false → (account_of m.stock.view c.number).book ≡ 0
     → room.PathHasRoom m.ledger.groups (current_of m.ledger) g k → (l : Ledger) (stock : Seated) (d : KnownCpu) (h : ℕ) → h ≡ g → l ≡ with_charge m.ledger g k
     → stock ≡ with_view m.stock (filling m.stock.view c.number h k) → d
     ≡ record c { stock = with_view c.stock (after_fill c.stock.view h k) } → Filled t w m now g k c l stock d
 filled_all t w m now c g k same ok facts tied visit none small there alive empty has l stock d h named charged filled seen =
-    let here = filled_here t w m c g k ok facts tied (subst (λ (x : KnownMachine). Visits t x c) (sym same) visit) none small
+    let here = filled_here t w m c g k ok facts tied (subst (λ (x : KnownMachine). Visits t (side x c)) (sym same) visit) none small
     (ap (λ (x : KnownMachine). has_group x.ledger.groups g) same ∙ there) (ap (λ (x : KnownMachine). is_killed x.killed g) same ∙ alive) empty has in
     let stock_is = filled ∙ ap (λ (n : ℕ). with_view m.stock (filling m.stock.view c.number n k)) named in
     let cpu_is = seen ∙ ap (λ (n : ℕ). record c { stock = with_view c.stock (after_fill c.stock.view n k) }) named in
@@ -232,11 +235,11 @@ filled_all t w m now c g k same ok facts tied visit none small there alive empty
 
 -- the grant is refused where a limit has no room, and nothing changes
 pub refused_all : (t : KnownTable) (w : Words) (m now : KnownMachine) → m ≡ now → (c : KnownCpu) (g k over : ℕ) → IsConsistent t w m → AreCharges m.ledger
-    → IsTied t w c → Visits t now c → c.fresh ≡ [] → has_group now.ledger.groups g ≡ true → is_killed now.killed g ≡ false
+    → IsTied t w c → Visits t (side now c) → c.fresh ≡ [] → has_group now.ledger.groups g ≡ true → is_killed now.killed g ≡ false
     → room.IsLowestOver now.ledger.groups (current_of now.ledger) g k over → IsLocalRun c.number (local_of t now c) (over_steps g k over) (local_of t now c)
 refused_all t w m now same c g k over ok facts tied visit none there alive low =
     subst (λ (x : KnownMachine). IsLocalRun c.number (local_of t x c) (over_steps g k over) (local_of t x c)) same
-    (let its : Visits t m c = subst (λ (x : KnownMachine). Visits t x c) (sym same) visit in
+    (let its : Visits t (side m c) = subst (λ (x : KnownMachine). Visits t (side x c)) (sym same) visit in
     let usage : (h : ℕ) → local.usage_of (local_of t m c) h ≡ current_of m.ledger h = usage_is t w m c ok facts its.lent tied (balanced_alone m c none) in (
       is_over t m c g k (ap (λ (x : KnownMachine). has_group x.ledger.groups g) same ∙ there)
           (ap (λ (x : KnownMachine). is_killed x.killed g) same ∙ alive) usage
@@ -275,9 +278,14 @@ pub current_falls : (l : Ledger) (o : Option ℕ) (n m : ℕ) → current_of (un
 current_falls l None n m = omega arith
 current_falls l (Some g) n m = usage_falls l.groups l.accounts g n m
 
+none_in : (stock : Stock) → is_held stock ≡ false → pages_of stock ≡ 0
+none_in NoGroup is = refl
+none_in (HeldBy g n) is = absurd (false≢true (sym is))
+none_in (DrainedOf g) is = refl
+
 module _ (m x : KnownMachine) (q p k : ℕ) (named : q ≡ p) (d : Drains m q k x) where
-  pub emptied_visits : (t : KnownTable) (c : KnownCpu) → Visits t m c → Visits t x c
-  emptied_visits t c visit = subst (λ (y : KnownMachine). Visits t y c) (sym d.machine) (record {
+  pub emptied_visits : (t : KnownTable) (c : KnownCpu) → Visits t (side m c) → Visits t (side x c)
+  emptied_visits t c visit = subst (λ (y : KnownMachine). Visits t (side y c)) (sym d.machine) (record {
     is_open = visit.is_open;
     still =
         visit.still;
@@ -304,34 +312,64 @@ module _ (m x : KnownMachine) (q p k : ℕ) (named : q ≡ p) (d : Drains m q k 
   pub emptied_own : Drains m p k x
   emptied_own = subst (λ (n : ℕ). Drains m n k x) named d
 
+  -- all of its pages came back, as a look at the stock tells
+  pub emptied_whole : (c : KnownCpu) (y : KnownMachine) (stock : Stock) → y ≡ x → c.number ≡ p → c.fresh ≡ [] → IsOwnStock (side y c) stock
+      → k ≡ pages_held (side m c)
+  emptied_whole c y stock same mine none looked =
+      let own : IsOwnStock (side x c) stock = subst (λ (z : KnownMachine). IsOwnStock (side z c) stock) same looked in
+      let its : c.number ≡ q = mine ∙ sym named in
+      let account : account_of x.stock.view c.number ≡ drained_account m.stock.view q k =
+      ap (account_of x.stock.view) its ∙ ap (λ (z : KnownMachine). account_of z.stock.view q) d.machine ∙ drained_at m.stock.view q k in
+      let empty : pages_of stock ≡ 0 = none_in stock (own.held ∙ ap (λ (a : Account). a.filled) account) in
+      let left : (account_of x.stock.view c.number).book ≡ (account_of m.stock.view q).book - k = ap (λ (a : Account). a.book) account in
+      let all : pages_of stock ≡ (account_of x.stock.view c.number).book - length c.fresh = own.pages in
+      let fresh : length c.fresh ≡ 0 = ap length none in
+      let booked = d.booked in
+      let book : (account_of m.stock.view c.number).book ≡ (account_of m.stock.view q).book = ap (λ (n : ℕ). (account_of m.stock.view n).book) its in
+      let whole : k ≡ (account_of m.stock.view c.number).book - length c.fresh = omega (arith, empty, left, all, fresh, booked, book) in
+      whole
+
   -- the steps of the drain, and then those of the fill or of the grant that is refused
-  module _ (t : KnownTable) (c : KnownCpu) (mine : c.number ≡ p)
+  module _ (t : KnownTable) (c : KnownCpu) (mine : c.number ≡ p) (whole : k ≡ pages_held (side m c))
       (drained : IsLocalRun c.number (local_of t m c) (drain_steps q (stock_group m q) k) (local_of t x c)) where
-    drained_own : IsLocalRun c.number (local_of t m c) (drain_steps c.number (stock_group m c.number) k) (local_of t x c)
-    drained_own = subst (λ (n : ℕ). IsLocalRun c.number (local_of t m c) (drain_steps n (stock_group m n) k) (local_of t x c)) (named ∙ sym mine) drained
+    its_number : q ≡ c.number
+    its_number = named ∙ sym mine
 
-    own_drain : Drains m c.number k x
-    own_drain = subst (λ (n : ℕ). Drains m n k x) (named ∙ sym mine) d
+    drained_own : IsLocalRun c.number (local_of t m c) (own_drain_steps (side m c)) (local_of t x c)
+    drained_own = subst (λ (z : ℕ × ℕ). IsLocalRun c.number (local_of t m c) (drain_steps z.0 (stock_group m z.0) z.1) (local_of t x c))
+        (λ i. (its_number i, whole i)) drained
 
-    pub prepays : (g pages : ℕ) (n : KnownMachine) (e : KnownCpu) → Fills g pages x c n e
-        → IsLocalRun c.number (local_of t x c) (fill_steps c.number g pages) (local_of t n e) → Prepays t g pages m c n e
-    prepays g pages n e fills steps = record {
-      emptied = x;
-      back = k;
-      drains = own_drain;
-      fills = fills;
-      steps = run_both c.number (drain_steps c.number (stock_group m c.number) k) (fill_steps c.number g pages) (local_of t m c) (local_of t x c)
-          (local_of t n e) drained_own steps;
-    }
+    own_drain : Drains m c.number (pages_held (side m c)) x
+    own_drain = subst (λ (z : ℕ × ℕ). Drains m z.0 z.1 x) (λ i. (its_number i, whole i)) d
 
-    pub is_refused : (g pages over : ℕ) (n : KnownMachine) (e : KnownCpu) → n ≡ x → e ≡ c → room.IsLowestOver x.ledger.groups (current_of x.ledger) g pages over
-        → IsLocalRun c.number (local_of t x c) (over_steps g pages over) (local_of t x c) → IsOver t g pages over m c n e
-    is_refused g pages over n e same stays low steps =
-        subst (λ (z : KnownMachine × KnownCpu). IsOver t g pages over m c z.0 z.1) (λ i. (sym same i, sym stays i)) (record {
-          back = k;
-          drains = own_drain;
-          lowest = low;
-          cpu = refl;
-          steps = run_both c.number (drain_steps c.number (stock_group m c.number) k) (over_steps g pages over) (local_of t m c) (local_of t x c)
-              (local_of t x c) drained_own steps;
-        })
+    -- what follows begins at the machine and the part that were looked at
+    module _ (y : KnownMachine) (e : KnownCpu) (same : y ≡ x) (stays : e ≡ c) (g pages : ℕ) (n : KnownMachine) (f : KnownCpu) where
+      pub prepays : Fills g pages (side y e) (side n f) → Prepays g pages (side m c) (side n f)
+      prepays fills = record {
+        emptied = x;
+        drains = own_drain;
+        fills = subst (λ (z : KnownMachine × KnownCpu). Fills g pages (side z.0 z.1) (side n f)) (λ i. (same i, stays i)) fills;
+      }
+
+      pub prepay_steps : Makes t (side y e) (fill_steps e.number g pages) (side n f)
+          → Makes t (side m c) (own_drain_steps (side m c) ++ fill_steps c.number g pages) (side n f)
+      prepay_steps steps = run_both c.number (own_drain_steps (side m c)) (fill_steps c.number g pages) (local_of t m c) (local_of t x c)
+          (local_of t n f) drained_own
+          (subst (λ (z : KnownMachine × KnownCpu). Makes t (side z.0 z.1) (fill_steps z.1.number g pages) (side n f)) (λ i. (same i, stays i)) steps)
+
+      -- where the grant was refused, nothing changed since
+      module _ (over : ℕ) (kept : n ≡ y) (own_kept : f ≡ e) where
+        pub is_refused : room.IsLowestOver y.ledger.groups (current_of y.ledger) g pages over → IsOver g pages over (side m c) (side n f)
+        is_refused low = subst (λ (z : KnownMachine × KnownCpu). IsOver g pages over (side m c) (side z.0 z.1))
+            (λ i. (sym (kept ∙ same) i, sym (own_kept ∙ stays) i)) (record {
+              drains = own_drain;
+              lowest = subst (λ (z : KnownMachine). room.IsLowestOver z.ledger.groups (current_of z.ledger) g pages over) same low;
+              cpu = refl;
+            })
+
+        pub refused_steps : Makes t (side y e) (over_steps g pages over) (side y e)
+            → Makes t (side m c) (own_drain_steps (side m c) ++ over_steps g pages over) (side n f)
+        refused_steps steps = subst (λ (z : KnownMachine × KnownCpu). Makes t (side m c) (own_drain_steps (side m c) ++ over_steps g pages over) (side z.0 z.1))
+            (λ i. (sym (kept ∙ same) i, sym (own_kept ∙ stays) i))
+            (run_both c.number (own_drain_steps (side m c)) (over_steps g pages over) (local_of t m c) (local_of t x c) (local_of t x c) drained_own
+            (subst (λ (z : KnownMachine × KnownCpu). Makes t (side z.0 z.1) (over_steps g pages over) (side z.0 z.1)) (λ i. (same i, stays i)) steps))

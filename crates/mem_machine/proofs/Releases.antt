@@ -36,7 +36,7 @@ use Rattle.mem_machine.specs.declared.spot.Spot.{Spot}
 use Rattle.mem_machine.specs.declared.spot.Spot.TheVariants.{Free, Head}
 use Rattle.mem_machine.specs.Spots.{spot_at, free_of, head_group_of, lent_to}
 use Rattle.mem_machine.specs.Machines.{KnownMachine, FitsSpot, IsConsistent, Visits, home_of, is_killed}
-use Rattle.mem_machine.specs.Local.{IsLocalRun, local_of, phase_of, references_of}
+use Rattle.mem_machine.specs.Local.{IsLocalRun, local_of, phase_of, references_of, side}
 use Rattle.mem_machine.specs.Freeing.{FreesFrames, with_last_put}
 use Rattle.mem_machine.specs.Releasing.{LeavesList, ReturnsUnit, release_steps}
 use Rattle.mem_machine.specs.declared.machine.Counts.{Counts}
@@ -61,7 +61,7 @@ module _ (s : KnownSeat) (f : ℕ) (change : FrameNote → FrameNote) where
 -- a visit stays open, with nothing passing, where the change leaves what was lent and handed over
 pub visit_stays : (t : KnownTable) (m n : KnownMachine) (c : KnownCpu) (f : ℕ) (change : FrameNote → FrameNote) → n.seat ≡ seat_with m.seat f change
     → ((k : FrameNote) → (change k).lent ≡ k.lent) → ((k : FrameNote) → (change k).passed_out ≡ k.passed_out)
-    → ((k : FrameNote) → (change k).collected ≡ k.collected) → Visits t m c → Visits t n c
+    → ((k : FrameNote) → (change k).collected ≡ k.collected) → Visits t (side m c) → Visits t (side n c)
 visit_stays t m n c f change seat lent out back visit = record {
   is_open = subst (λ (s : KnownSeat). get_or s.view.opened c.number 0 ≡ 1) (sym seat) visit.is_open;
   still = λ g inside. subst (λ (s : KnownSeat). get_or (note_of s.view g).passed_out (number_of c.seat) 0 + (note_of c.seat.view g).passed_back
@@ -266,15 +266,15 @@ read_head t w m ok f i inside is x unit read head =
 
 pub record AllLeft (t : KnownTable) (w : Words) (now : KnownMachine) (c : KnownCpu) (f left : ℕ) (n : KnownMachine) : Type 0 where
   pub consistent : IsConsistent t w n
-  pub visit : Visits t n c
+  pub visit : Visits t (side n c)
   pub steps : IsLocalRun c.number (local_of t now c) (release_steps f (Left left)) (local_of t n c)
 
-pub left_all : (t : KnownTable) (w : Words) (m now : KnownMachine) → m ≡ now → IsConsistent t w m → (c : KnownCpu) → Visits t now c → (f i : ℕ) → f < t.frames
+pub left_all : (t : KnownTable) (w : Words) (m now : KnownMachine) → m ≡ now → IsConsistent t w m → (c : KnownCpu) → Visits t (side now c) → (f i : ℕ) → f < t.frames
     → i ≡ f → home_of now.links f ≢ None → (links : List Link) (lists : List Lru) → LeavesList m.links m.lists i links lists → AllStand links lists
     → length links ≡ length m.links → length lists ≡ 64 → (left : ℕ) (seat : KnownSeat) → seat ≡ seat_with m.seat f (let_go left)
     → AllLeft t w now c f left (record m { links = links; lists = lists; seat = seat })
 left_all t w m now same ok c visit_now f i inside is kept_now links lists left_list stand linked listed left seat put =
-    let visit : Visits t m c = subst (λ (x : KnownMachine). Visits t x c) (sym same) visit_now in
+    let visit : Visits t (side m c) = subst (λ (x : KnownMachine). Visits t (side x c)) (sym same) visit_now in
     let kept : home_of m.links f ≢ None = subst (λ (x : KnownMachine). home_of x.links f ≢ None) (sym same) kept_now in
     let leaves : LeavesList m.links m.lists f links lists = subst (λ (x : ℕ). LeavesList m.links m.lists x links lists) is left_list in
     let sized : length links ≡ t.frames = linked ∙ ok.sizes.links in
@@ -290,10 +290,10 @@ pub record AllReturned (t : KnownTable) (w : Words) (now : KnownMachine) (c : Kn
   pub consistent : IsConsistent t w n
   pub free_is : free ≡ free_of n.spots
   pub returns : ReturnsUnit now f n
-  pub visit : Visits t n c
+  pub visit : Visits t (side n c)
   pub steps : IsLocalRun c.number (local_of t now c) (release_steps f Returned) (local_of t n c)
 
-pub returned_all : (t : KnownTable) (w : Words) (m now : KnownMachine) → m ≡ now → IsConsistent t w m → (c : KnownCpu) → Visits t now c → (f i : ℕ)
+pub returned_all : (t : KnownTable) (w : Words) (m now : KnownMachine) → m ≡ now → IsConsistent t w m → (c : KnownCpu) → Visits t (side now c) → (f i : ℕ)
     → f < t.frames → i ≡ f → home_of now.links f ≢ None → (links : List Link) (lists : List Lru) → LeavesList m.links m.lists i links lists
     → AllStand links lists → length links ≡ length m.links → length lists ≡ 64 → (seat : KnownSeat) → seat ≡ seat_with m.seat f let_go_last
     → (unit : ChargedUnit) → spot_at m.spots i ≡ Head unit
@@ -311,7 +311,7 @@ pub returned_all : (t : KnownTable) (w : Words) (m now : KnownMachine) → m ≡
     })
 returned_all t w m now same ok c visit_now f i inside is kept_now links lists left_list stand linked listed seat put unit head before free blocks spots
     ledger counts was frees_i gives_i areas_free uncharged counted =
-    let visit : Visits t m c = subst (λ (x : KnownMachine). Visits t x c) (sym same) visit_now in
+    let visit : Visits t (side m c) = subst (λ (x : KnownMachine). Visits t (side x c)) (sym same) visit_now in
     let kept : home_of m.links f ≢ None = subst (λ (x : KnownMachine). home_of x.links f ≢ None) (sym same) kept_now in
     let leaves : LeavesList m.links m.lists f links lists = subst (λ (x : ℕ). LeavesList m.links m.lists x links lists) is left_list in
     let sized : length links ≡ t.frames = linked ∙ ok.sizes.links in

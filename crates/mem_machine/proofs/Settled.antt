@@ -11,7 +11,7 @@ use Rattle.stock_word.specs.Stock.{group_of}
 use Rattle.cpu_part.specs.Cpus.{KnownCpu}
 use Rattle.step_rules.specs.State.{State}
 use Rattle.mem_machine.specs.Machines.{KnownMachine, Visits, is_killed}
-use Rattle.mem_machine.specs.Local.{IsLocalRun, local_of, fresh_group}
+use Rattle.mem_machine.specs.Local.{IsLocalRun, local_of, fresh_group, side}
 use Rattle.mem_machine.specs.Settling.{HandsOver, KeepsFresh, DropsFresh, SettlesFresh, SettlesAllFresh, ReturnsBack, ReturnsAllBack, LeavesOthers, Settles}
 use Rattle.mem_machine.specs.Settling.{fresh_steps, return_steps, settle_steps}
 use Rattle.mem_machine.proofs.Reaching.{run_both}
@@ -39,7 +39,7 @@ went_over f m c n d hands killed = record {
   killed = killed;
 }
 
-pub settled_over : (f : ℕ) (m : KnownMachine) (c : KnownCpu) (n : KnownMachine) (d : KnownCpu) → SettlesFresh f m c n d → WentOver f m c n d
+pub settled_over : (f : ℕ) (m : KnownMachine) (c : KnownCpu) (n : KnownMachine) (d : KnownCpu) → SettlesFresh f (side m c) (side n d) → WentOver f m c n d
 settled_over f m c n d one = elim (cases_Bool (is_killed m.killed (fresh_group c))) [
   | inl killed ↦ let drops = one.drops killed in went_over f m c n d drops.cpu (ap (λ (x : KnownMachine). x.killed) drops.machine)
   | inr alive ↦ let keeps = one.keeps alive in went_over f m c n d keeps.cpu (ap (λ (x : KnownMachine). x.killed) keeps.machine)
@@ -47,17 +47,17 @@ settled_over f m c n d one = elim (cases_Bool (is_killed m.killed (fresh_group c
 
 -- the two ways in which it goes
 pub settles_kept : (f g : ℕ) (m : KnownMachine) (c : KnownCpu) (n : KnownMachine) (d : KnownCpu) → fresh_group c ≡ g → is_killed m.killed g ≡ false
-    → KeepsFresh g f m c n d → SettlesFresh f m c n d
+    → KeepsFresh g f (side m c) (side n d) → SettlesFresh f (side m c) (side n d)
 settles_kept f g m c n d named alive keeps = record {
-  keeps = λ e. subst (λ (k : ℕ). KeepsFresh k f m c n d) (sym named) keeps;
+  keeps = λ e. subst (λ (k : ℕ). KeepsFresh k f (side m c) (side n d)) (sym named) keeps;
   drops = λ e. absurd (false≢true (sym (ap (is_killed m.killed) named ∙ alive) ∙ e));
 }
 
 pub settles_dropped : (f g : ℕ) (m : KnownMachine) (c : KnownCpu) (n : KnownMachine) (d : KnownCpu) → fresh_group c ≡ g → is_killed m.killed g ≡ true
-    → DropsFresh g f m c n d → SettlesFresh f m c n d
+    → DropsFresh g f (side m c) (side n d) → SettlesFresh f (side m c) (side n d)
 settles_dropped f g m c n d named killed drops = record {
   keeps = λ e. absurd (false≢true (sym e ∙ ap (is_killed m.killed) named ∙ killed));
-  drops = λ e. subst (λ (k : ℕ). DropsFresh k f m c n d) (sym named) drops;
+  drops = λ e. subst (λ (k : ℕ). DropsFresh k f (side m c) (side n d)) (sym named) drops;
 }
 
 pub steps_of : (b : Bool) (p f g : ℕ) (m : KnownMachine) (c : KnownCpu) (s t : State) → fresh_group c ≡ g → is_killed m.killed g ≡ b
@@ -82,11 +82,11 @@ of_no_group (DrainedOf g) e = absurd (none-some g (sym e))
 
 -- what is settled from here on is what is left of a settle from the beginning
 pub record FreshSoFar (t : KnownTable) (m : KnownMachine) (c : KnownCpu) (x : KnownMachine) (y : KnownCpu) : Type 0 where
-  pub settles : (n : KnownMachine) (d : KnownCpu) → SettlesAllFresh y.fresh x y n d → SettlesAllFresh c.fresh m c n d
+  pub settles : (n : KnownMachine) (d : KnownCpu) → SettlesAllFresh y.fresh (side x y) (side n d) → SettlesAllFresh c.fresh (side m c) (side n d)
   pub steps : (b : State)
       → IsLocalRun c.number (local_of t x y) (flat_map (fresh_steps (is_killed m.killed (fresh_group c)) c.number) y.fresh) b
       → IsLocalRun c.number (local_of t m c) (flat_map (fresh_steps (is_killed m.killed (fresh_group c)) c.number) c.fresh) b
-  pub visit : Visits t x y
+  pub visit : Visits t (side x y)
   pub others : LeavesOthers c y
   pub back : y.back ≡ c.back
   pub killed : is_killed x.killed (fresh_group y) ≡ is_killed m.killed (fresh_group c)
@@ -97,7 +97,7 @@ same_others c = record { number = refl; list = refl; pins = refl }
 pub both_others : (c d e : KnownCpu) → LeavesOthers c d → LeavesOthers d e → LeavesOthers c e
 both_others c d e a b = record { number = b.number ∙ a.number; list = b.list ∙ a.list; pins = b.pins ∙ a.pins }
 
-pub fresh_start : (t : KnownTable) (m : KnownMachine) (c : KnownCpu) → Visits t m c → FreshSoFar t m c m c
+pub fresh_start : (t : KnownTable) (m : KnownMachine) (c : KnownCpu) → Visits t (side m c) → FreshSoFar t m c m c
 fresh_start t m c visit = record {
   settles = λ n d rest. rest;
   steps = λ b rest. rest;
@@ -108,7 +108,7 @@ fresh_start t m c visit = record {
 }
 
 pub fresh_more : (t : KnownTable) (m : KnownMachine) (c : KnownCpu) (x : KnownMachine) (y : KnownCpu) (x' : KnownMachine) (y' : KnownCpu) (f : ℕ)
-    → FreshSoFar t m c x y → SettlesFresh f x y x' y' → Visits t x' y'
+    → FreshSoFar t m c x y → SettlesFresh f (side x y) (side x' y') → Visits t (side x' y')
     → IsLocalRun y.number (local_of t x y) (fresh_steps (is_killed x.killed (fresh_group y)) y.number f) (local_of t x' y') → FreshSoFar t m c x' y'
 fresh_more t m c x y x' y' f so_far one visit run =
     let over = settled_over f x y x' y' one in
@@ -117,7 +117,7 @@ fresh_more t m c x y x' y' f so_far one visit run =
     let run_c : IsLocalRun p (local_of t x y) (fresh_steps k p f) (local_of t x' y') =
     subst (λ (z : ℕ × Bool). IsLocalRun z.0 (local_of t x y) (fresh_steps z.1 z.0 f) (local_of t x' y')) (λ i. (so_far.others.number i, so_far.killed i)) run in
     record {
-      settles = λ n d rest. so_far.settles n d (subst (λ (l : List ℕ). SettlesAllFresh l x y n d) (sym over.front) (x', y', one, rest));
+      settles = λ n d rest. so_far.settles n d (subst (λ (l : List ℕ). SettlesAllFresh l (side x y) (side n d)) (sym over.front) (side x' y', one, rest));
       steps = λ b rest. so_far.steps b (subst (λ (l : List ℕ). IsLocalRun p (local_of t x y) (flat_map (fresh_steps k p) l) b) (sym over.front)
           (run_both p (fresh_steps k p f) (flat_map (fresh_steps k p) y'.fresh) (local_of t x y) (local_of t x' y') b run_c rest));
       visit = visit;
@@ -128,7 +128,7 @@ fresh_more t m c x y x' y' f so_far one visit run =
 
 -- none is left
 pub record FreshSettled (t : KnownTable) (m : KnownMachine) (c : KnownCpu) (n : KnownMachine) (d : KnownCpu) : Type 0 where
-  pub settles : SettlesAllFresh c.fresh m c n d
+  pub settles : SettlesAllFresh c.fresh (side m c) (side n d)
   pub steps : IsLocalRun c.number (local_of t m c) (flat_map (fresh_steps (is_killed m.killed (fresh_group c)) c.number) c.fresh) (local_of t n d)
   pub leaves : LeavesOthers c d × (d.back ≡ c.back) × (d.fresh ≡ [])
 
@@ -137,7 +137,7 @@ pub fresh_end : (t : KnownTable) (m : KnownMachine) (c : KnownCpu) (x : KnownMac
 fresh_end t m c x y n d so_far none =
     let k : Bool = is_killed m.killed (fresh_group c) in
     record {
-      settles = so_far.settles n d (subst (λ (l : List ℕ). SettlesAllFresh l x y n d) (sym none.0) (none.1, none.2));
+      settles = so_far.settles n d (subst (λ (l : List ℕ). SettlesAllFresh l (side x y) (side n d)) (sym none.0) (none.1, none.2));
       steps = so_far.steps (local_of t n d)
           (subst (λ (l : List ℕ). IsLocalRun c.number (local_of t x y) (flat_map (fresh_steps k c.number) l) (local_of t n d)) (sym none.0)
           (λ i. local_of t (sym none.1 i) (sym none.2 i)));
@@ -151,18 +151,18 @@ fresh_end t m c x y n d so_far none =
 -- ---- all back frames
 
 pub record BackSoFar (t : KnownTable) (m : KnownMachine) (c : KnownCpu) (x : KnownMachine) (y : KnownCpu) : Type 0 where
-  pub returns : (n : KnownMachine) (d : KnownCpu) → ReturnsAllBack y.back x y n d → ReturnsAllBack c.back m c n d
+  pub returns : (n : KnownMachine) (d : KnownCpu) → ReturnsAllBack y.back (side x y) (side n d) → ReturnsAllBack c.back (side m c) (side n d)
   pub steps : (b : State) → IsLocalRun c.number (local_of t x y) (flat_map (return_steps c.number) y.back) b
       → IsLocalRun c.number (local_of t m c) (flat_map (return_steps c.number) c.back) b
-  pub visit : Visits t x y
+  pub visit : Visits t (side x y)
   pub others : LeavesOthers c y
   pub fresh : y.fresh ≡ c.fresh
 
-pub back_start : (t : KnownTable) (m : KnownMachine) (c : KnownCpu) → Visits t m c → BackSoFar t m c m c
+pub back_start : (t : KnownTable) (m : KnownMachine) (c : KnownCpu) → Visits t (side m c) → BackSoFar t m c m c
 back_start t m c visit = record { returns = λ n d rest. rest; steps = λ b rest. rest; visit = visit; others = same_others c; fresh = refl }
 
 pub back_more : (t : KnownTable) (m : KnownMachine) (c : KnownCpu) (x : KnownMachine) (y : KnownCpu) (x' : KnownMachine) (y' : KnownCpu) (f : ℕ)
-    → BackSoFar t m c x y → ReturnsBack f x y x' y' → Visits t x' y'
+    → BackSoFar t m c x y → ReturnsBack f (side x y) (side x' y') → Visits t (side x' y')
     → IsLocalRun y.number (local_of t x y) (return_steps y.number f) (local_of t x' y') → BackSoFar t m c x' y'
 back_more t m c x y x' y' f so_far one visit run =
     let p : ℕ = c.number in
@@ -174,7 +174,7 @@ back_more t m c x y x' y' f so_far one visit run =
     let run_c : IsLocalRun p (local_of t x y) (return_steps p f) (local_of t x' y') =
     subst (λ (q : ℕ). IsLocalRun q (local_of t x y) (return_steps q f) (local_of t x' y')) so_far.others.number run in
     record {
-      returns = λ n d rest. so_far.returns n d (subst (λ (l : List ℕ). ReturnsAllBack l x y n d) (sym one.front) (x', y', one, rest));
+      returns = λ n d rest. so_far.returns n d (subst (λ (l : List ℕ). ReturnsAllBack l (side x y) (side n d)) (sym one.front) (side x' y', one, rest));
       steps = λ b rest. so_far.steps b (subst (λ (l : List ℕ). IsLocalRun p (local_of t x y) (flat_map (return_steps p) l) b) (sym one.front)
           (run_both p (return_steps p f) (flat_map (return_steps p) y'.back) (local_of t x y) (local_of t x' y') b run_c rest));
       visit = visit;
@@ -183,14 +183,14 @@ back_more t m c x y x' y' f so_far one visit run =
     }
 
 pub record BackSettled (t : KnownTable) (m : KnownMachine) (c : KnownCpu) (n : KnownMachine) (d : KnownCpu) : Type 0 where
-  pub returns : ReturnsAllBack c.back m c n d
+  pub returns : ReturnsAllBack c.back (side m c) (side n d)
   pub steps : IsLocalRun c.number (local_of t m c) (flat_map (return_steps c.number) c.back) (local_of t n d)
   pub leaves : LeavesOthers c d × (d.fresh ≡ c.fresh) × (d.back ≡ [])
 
 pub back_end : (t : KnownTable) (m : KnownMachine) (c : KnownCpu) (x : KnownMachine) (y : KnownCpu) (n : KnownMachine) (d : KnownCpu)
     → BackSoFar t m c x y → (y.back ≡ []) × (n ≡ x) × (d ≡ y) → BackSettled t m c n d
 back_end t m c x y n d so_far none = record {
-  returns = so_far.returns n d (subst (λ (l : List ℕ). ReturnsAllBack l x y n d) (sym none.0) (none.1, none.2));
+  returns = so_far.returns n d (subst (λ (l : List ℕ). ReturnsAllBack l (side x y) (side n d)) (sym none.0) (none.1, none.2));
   steps = so_far.steps (local_of t n d)
       (subst (λ (l : List ℕ). IsLocalRun c.number (local_of t x y) (flat_map (return_steps c.number) l) (local_of t n d)) (sym none.0)
       (λ i. local_of t (sym none.1 i) (sym none.2 i)));
@@ -208,19 +208,19 @@ pub fewer : (f : ℕ) (xs ys : List ℕ) → xs ≡ f ∷ ys → length ys < len
 fewer f xs ys is = let a : length xs ≡ length (f ∷ ys) = ap length is in omega (arith, a)
 
 pub record AllSettled (t : KnownTable) (m : KnownMachine) (c : KnownCpu) (n : KnownMachine) (d : KnownCpu) : Type 0 where
-  pub settles : Settles m c n d
+  pub settles : Settles (side m c) (side n d)
   pub others : LeavesOthers c d
   pub none_fresh : d.fresh ≡ []
   pub none_back : d.back ≡ []
-  pub steps : IsLocalRun c.number (local_of t m c) (settle_steps m c) (local_of t n d)
+  pub steps : IsLocalRun c.number (local_of t m c) (settle_steps (side m c)) (local_of t n d)
 
 pub settle_both : (t : KnownTable) (m : KnownMachine) (c : KnownCpu) (x : KnownMachine) (y : KnownCpu) (n : KnownMachine) (d : KnownCpu)
-    → SettlesAllFresh c.fresh m c x y → LeavesOthers c y × (y.back ≡ c.back) × (y.fresh ≡ [])
+    → SettlesAllFresh c.fresh (side m c) (side x y) → LeavesOthers c y × (y.back ≡ c.back) × (y.fresh ≡ [])
     → IsLocalRun c.number (local_of t m c) (flat_map (fresh_steps (is_killed m.killed (fresh_group c)) c.number) c.fresh) (local_of t x y)
-    → ReturnsAllBack y.back x y n d → LeavesOthers y d × (d.fresh ≡ y.fresh) × (d.back ≡ [])
+    → ReturnsAllBack y.back (side x y) (side n d) → LeavesOthers y d × (d.fresh ≡ y.fresh) × (d.back ≡ [])
     → IsLocalRun y.number (local_of t x y) (flat_map (return_steps y.number) y.back) (local_of t n d) → AllSettled t m c n d
 settle_both t m c x y n d fresh leaves run back leaves' run' = record {
-  settles = record { machine = x; cpu = y; fresh = fresh; back = subst (λ (l : List ℕ). ReturnsAllBack l x y n d) leaves.1 back };
+  settles = record { mid = side x y; fresh = fresh; back = subst (λ (l : List ℕ). ReturnsAllBack l (side x y) (side n d)) leaves.1 back };
   others = both_others c y d leaves.0 leaves'.0;
   none_fresh = leaves'.1 ∙ leaves.2;
   none_back = leaves'.2;

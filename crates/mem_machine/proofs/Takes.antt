@@ -31,7 +31,7 @@ use Rattle.mem_machine.specs.declared.spot.Spot.TheVariants.{Free, Lent, Head, T
 use Rattle.mem_machine.specs.Spots.{spot_at, is_free, free_of, group_of, head_group_of, some_cpu}
 use Rattle.mem_machine.specs.Machines.{KnownMachine, FitsSpot, IsConsistent, IsSeated, Visits, home_of}
 use Rattle.mem_machine.specs.Lending.{TakesBackByStep, TakesNoneBack}
-use Rattle.mem_machine.specs.Local.{local_of, phase_of, part_of, part_with, IsLocalRun}
+use Rattle.mem_machine.specs.Local.{local_of, phase_of, part_of, part_with, IsLocalRun, side}
 use Rattle.mem_machine.specs.Steps.{back_steps}
 use Rattle.mem_machine.proofs.Reaching.{zone_step, cpu_step}
 use Rattle.mem_machine.proofs.Holds.{zone_may_act, visits_open, seated_cpu}
@@ -60,7 +60,7 @@ pub without_front : (f : ℕ) (xs rest : List ℕ) → xs ≡ f ∷ rest → tim
 without_front f xs rest front none =
     ap (without f) front ∙ without_here f rest none
 
-module _ (t : KnownTable) (w : Words) (m : KnownMachine) (c : KnownCpu) (tied : IsTied t w c) (ok : IsConsistent t w m) (visit : Visits t m c)
+module _ (t : KnownTable) (w : Words) (m : KnownMachine) (c : KnownCpu) (tied : IsTied t w c) (ok : IsConsistent t w m) (visit : Visits t (side m c))
     (f : ℕ) (rest : List ℕ) (front : c.list ≡ f ∷ rest) (inside : f < t.frames) (lent : IsLent m.seat f c.number) where
   within : f < length m.spots
   within = let s = ok.sizes.spots in omega (arith, s, inside)
@@ -124,9 +124,7 @@ module _ (t : KnownTable) (w : Words) (m : KnownMachine) (c : KnownCpu) (tied : 
   no_one : ◌≡◌ {A = ℕ} 0 1 → ⊥
   no_one is = omega (arith, is)
 
-  pub take_visits : (blocks : List Block) → Visits t
-      (record m { blocks = blocks; spots = slice_set m.spots f Free; seat = seat_with m.seat f (collected_from c.number) })
-      (record c { list = rest; seat = seat_with c.seat f gave_back })
+  pub take_visits : (blocks : List Block) → Visits t (side (record m { blocks = blocks; spots = slice_set m.spots f Free; seat = seat_with m.seat f (collected_from c.number) }) (record c { list = rest; seat = seat_with c.seat f gave_back }))
   take_visits blocks = record {
     is_open = visit.is_open;
     still = collected_is_still t m.seat c.seat c.number tied.seats.frame_number f visit.still (seat_with c.seat f gave_back)
@@ -193,16 +191,16 @@ module _ (t : KnownTable) (w : Words) (m : KnownMachine) (c : KnownCpu) (tied : 
 pub record AllTaken (t : KnownTable) (w : Words) (now : KnownMachine) (c : KnownCpu) (n : KnownMachine) (d : KnownCpu) (free : List Bool) : Type 0 where
   pub consistent : IsConsistent t w n
   pub free_is : free ≡ free_of n.spots
-  pub takes : TakesBackByStep t now c n d
-  pub visit : Visits t n d
+  pub takes : TakesBackByStep t (side now c) (side n d)
+  pub visit : Visits t (side n d)
 
-pub take_all : (t : KnownTable) (w : Words) (m now : KnownMachine) → m ≡ now → (c h d : KnownCpu) → IsTied t w c → IsConsistent t w m → Visits t now c
+pub take_all : (t : KnownTable) (w : Words) (m now : KnownMachine) → m ≡ now → (c h d : KnownCpu) → IsTied t w c → IsConsistent t w m → Visits t (side now c)
     → (before free : List Bool) (k : ℕ) (blocks : List Block) (f i : ℕ) (seat : KnownSeat)
     → before ≡ free_of m.spots → k ≡ 0 → GivesFrames before (record { at = i; order = k }) free → AreMaximalBlocks free blocks
     → f < t.frames → IsLent m.seat f c.number → i ≡ f → HandsFront f c h → seat ≡ seat_with m.seat f (collected_from h.number) → d ≡ h
     → AllTaken t w now c (record m { blocks = blocks; spots = slice_set m.spots i Free; seat = seat }) d free
 take_all t w m now same c h d tied ok visit_now before free k blocks f i seat was zero_is gives areas inside lent index hands collected stays =
-    let visit : Visits t m c = subst (λ (x : KnownMachine). Visits t x c) (sym same) visit_now in
+    let visit : Visits t (side m c) = subst (λ (x : KnownMachine). Visits t (side x c)) (sym same) visit_now in
     let rest = hands.0 in
     let e : KnownCpu = record c { list = rest; seat = seat_with c.seat f gave_back } in
     let n : KnownMachine = record m { blocks = blocks; spots = slice_set m.spots f Free; seat = seat_with m.seat f (collected_from c.number) } in
@@ -238,11 +236,11 @@ take_all t w m now same c h d tied ok visit_now before free k blocks f i seat wa
 
 -- the list is empty
 pub taken_none : (m now : KnownMachine) → m ≡ now → (c d : KnownCpu) (seat : KnownSeat) → (c.list ≡ []) × (d ≡ c) → seat ≡ m.seat
-    → TakesNoneBack now c (record m { seat = seat }) d
+    → TakesNoneBack (side now c) (side (record m { seat = seat }) d)
 taken_none m now same c d seat none is = record { none = none.0; machine = (λ i. record m { seat = is i }) ∙ same; cpu = none.1 }
 
 -- the frame passes for the processor once it was handed
-pub passes_back_to : (t : KnownTable) (w : Words) (m now : KnownMachine) → m ≡ now → (c h : KnownCpu) → IsTied t w c → Visits t now c
+pub passes_back_to : (t : KnownTable) (w : Words) (m now : KnownMachine) → m ≡ now → (c h : KnownCpu) → IsTied t w c → Visits t (side now c)
     → (f : ℕ) (seat : KnownSeat)
     → f < t.frames → HandsFront f c h → seat ≡ m.seat → Passes seat h.seat f
 passes_back_to t w m now same c h tied visit f seat inside hands is =

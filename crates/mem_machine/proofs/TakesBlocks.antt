@@ -34,7 +34,7 @@ use Rattle.mem_machine.specs.declared.spot.Spot.TheVariants.{Free, Head, Tail}
 use Rattle.mem_machine.specs.Spots.{spot_at, is_free, is_in_hand, lent_to, free_of, group_of}
 use Rattle.mem_machine.specs.Machines.{KnownMachine, IsConsistent, Visits, is_killed}
 use Rattle.mem_machine.specs.Blocks.{PlacesUnit, TakesBlock, TakesNoBlock, taken_steps, unplaced_steps}
-use Rattle.mem_machine.specs.Local.{local_of, phase_of, IsLocalRun}
+use Rattle.mem_machine.specs.Local.{local_of, phase_of, IsLocalRun, side}
 use Rattle.mem_machine.proofs.Records.{length_free, free_at, free_is, free_inside, no_cpu_is}
 use Rattle.mem_machine.proofs.PlacesUnits.{in_block, off_block}
 use Rattle.mem_machine.proofs.KeptUnits.{IsAdded, IsUsed, JoinsCharges, unit_kept, unit_listed}
@@ -128,7 +128,7 @@ note_kept s f n h same x = elim (cases_eq x f) [
   | inr ne ↦ ap h (note_else s.view f x (unfrozen n) ne)
 ]
 
-pub unfrozen_visits : (t : KnownTable) (m n : KnownMachine) (c : KnownCpu) (f : ℕ) → n.seat ≡ seat_with m.seat f (unfrozen 1) → Visits t m c → Visits t n c
+pub unfrozen_visits : (t : KnownTable) (m n : KnownMachine) (c : KnownCpu) (f : ℕ) → n.seat ≡ seat_with m.seat f (unfrozen 1) → Visits t (side m c) → Visits t (side n c)
 unfrozen_visits t m n c f is visit =
     let p = c.seat.view.number in
     let out : (x : ℕ) → (note_of (seat_with m.seat f (unfrozen 1)).view x).passed_out ≡ (note_of m.seat.view x).passed_out =
@@ -169,12 +169,12 @@ pub record AllTaken (t : KnownTable) (w : Words) (now : KnownMachine) (c : Known
   pub consistent : IsConsistent t w n
   pub free_is : free ≡ free_of n.spots
   pub takes : TakesBlock now g k at n
-  pub visit : Visits t n d
+  pub visit : Visits t (side n d)
   pub steps : IsLocalRun c.number (local_of t now c) (taken_steps g k at) (local_of t n d)
 
 -- what is asked of the processor and of the group
 pub record MayTake (t : KnownTable) (m : KnownMachine) (c : KnownCpu) (g : ℕ) : Type 0 where
-  pub visit : Visits t m c
+  pub visit : Visits t (side m c)
   pub none_back : c.back ≡ []
   pub usage : (h : ℕ) → usage_of (local_of t m c) h ≡ current_of m.ledger h
   pub there : has_group m.ledger.groups g ≡ true

@@ -35,7 +35,7 @@ use Rattle.mem_machine.specs.declared.spot.Spot.{Spot}
 use Rattle.mem_machine.specs.declared.spot.Spot.TheVariants.{Free, Lent, Head, Tail}
 use Rattle.mem_machine.specs.Spots.{spot_at, some_cpu, group_of, count_of}
 use Rattle.mem_machine.specs.Machines.{KnownMachine, IsConsistent, booked, pages_booked}
-use Rattle.mem_machine.specs.Local.{number_or_0, fresh_group, phase_of, part_with, part_of, local_of}
+use Rattle.mem_machine.specs.Local.{number_or_0, fresh_group, phase_of, part_with, part_of, local_of, side}
 use Rattle.mem_machine.proofs.Records.{lent_spot}
 
 abbrev nothing : ℕ

@@ -1,5 +1,5 @@
 -- Blocks that are charged to a group and taken, and units that come onto its lists.
-use Rattle.std.specs.Prelude.{◌≡◌, ◌≢◌, ℕ, ◌^◌, ◌<◌, ◌==◌, false, Some, Result, Ok, Err, List, [], ◌∷◌, ◌++◌, length, if◌then◌else◌}
+use Rattle.std.specs.Prelude.{◌≡◌, ◌≢◌, ℕ, ◌^◌, ◌<◌, ◌==◌, false, Some, None, Result, Ok, Err, List, [], ◌∷◌, ◌++◌, length, if◌then◌else◌}
 use Rattle.zone_blocks.specs.declared.block.Block.{Block}
 use Rattle.zone_blocks.specs.Areas.{AreMaximalBlocks, HasNoneFrom, IsFrontOfSmallest}
 use Rattle.frame_word.specs.Views.{unfrozen}
@@ -7,6 +7,7 @@ use Rattle.frame_word.specs.Seats.{seat_with}
 use Rattle.group_tree.specs.Room.{PathHasRoom, IsLowestOver}
 use Rattle.group_charge.specs.Charges.{current_of, with_charge, with_uncharge}
 use Rattle.lru_lists.specs.declared.record.LruList.TheVariants.{Inactive}
+use Rattle.lru_lists.specs.Queue.{link_at}
 use Rattle.step_rules.specs.declared.step.Action.TheVariants.{Grant, Ungrant, PlaceBlock, Unfreeze, Publish}
 use Rattle.step_rules.specs.declared.step.Answer.TheVariants.{Done, Granted, Over, Placed, NoFreeBlock}
 use Rattle.step_rules.specs.After.{Run, is_within}
@@ -24,47 +25,49 @@ placed_spot spots g b f =
     if is_within b.at (2 ^ b.order) f then (if f == b.at then Head (record { group = g; order = b.order }) else Tail g) else spot_at spots f
 
 -- the block is a unit of the group, and all other frames have the records that they had
-pub record PlacesUnit (spots : List Spot) (g : ℕ) (b : Block) (after : List Spot) : Type 0 where
-  pub frames : length after ≡ length spots
-  pub records : (f : ℕ) → spot_at after f ≡ placed_spot spots g b f
+pub record PlacesUnit (before : List Spot) (group : ℕ) (block : Block) (after : List Spot) : Type 0 where
+  pub frames : length after ≡ length before
+  pub records : (f : ℕ) → spot_at after f ≡ placed_spot before group block f
 
--- the unit comes to the newest end of its group's inactive list, clean and unmarked, and every other frame and every other
--- list is as it was
-pub record ListsUnit (m : KnownMachine) (g f : ℕ) (n : KnownMachine) : Type 0 where
-  pub stands : home_of n.links f ≡ Some (record { owner = g; list = Inactive })
-  pub homes : (x : ℕ) → x ≢ f → home_of n.links x ≡ home_of m.links x
-  pub inactive : inactive_in n g ≡ inactive_in m g ++ record { number = f; is_marked = false; is_dirty = false } ∷ []
-  pub active : active_in n g ≡ active_in m g
-  pub others : (h : ℕ) → h < 64 → h ≢ g → (inactive_in n h ≡ inactive_in m h) × (active_in n h ≡ active_in m h)
+-- the unit comes to the newest end of its group's inactive list, clean and unmarked; every other frame and every other list is
+-- as it was, and each other frame on no list has the record that it had
+pub record ListsUnit (before : KnownMachine) (group frame : ℕ) (after : KnownMachine) : Type 0 where
+  pub stands : home_of after.links frame ≡ Some (record { owner = group; list = Inactive })
+  pub homes : (x : ℕ) → x ≢ frame → home_of after.links x ≡ home_of before.links x
+  pub inactive : inactive_in after group ≡ inactive_in before group ++ record { number = frame; is_marked = false; is_dirty = false } ∷ []
+  pub active : active_in after group ≡ active_in before group
+  pub others : (h : ℕ) → h < 64 → h ≢ group → (inactive_in after h ≡ inactive_in before h) × (active_in after h ≡ active_in before h)
+  pub loose : (x : ℕ) → x ≢ frame → home_of before.links x ≡ None → link_at after.links x ≡ link_at before.links x
 
 -- The group is charged for a block of this order, and has it: the front of the free block of the least sufficient order that
 -- has the least address. Its head is in use, with one reference of the zone, and stands on the group's inactive list
-pub record TakesBlock (m : KnownMachine) (g k at : ℕ) (n : KnownMachine) : Type 0 where
-  pub room : PathHasRoom m.ledger.groups (current_of m.ledger) g (2 ^ k)
-  pub front : IsFrontOfSmallest m.blocks k (record { at = at; order = k })
-  pub areas : AreMaximalBlocks (free_of n.spots) n.blocks
-  pub unit : PlacesUnit m.spots g (record { at = at; order = k }) n.spots
-  pub listed : ListsUnit m g at n
-  pub machine : n ≡ record m {
-    blocks = n.blocks;
-    spots = n.spots;
-    ledger = with_charge m.ledger g (2 ^ k);
-    links = n.links;
-    lists = n.lists;
-    seat = seat_with m.seat at (unfrozen 1);
+pub record TakesBlock (before : KnownMachine) (group order at : ℕ) (after : KnownMachine) : Type 0 where
+  pub room : PathHasRoom before.ledger.groups (current_of before.ledger) group (2 ^ order)
+  pub front : IsFrontOfSmallest before.blocks order (record { at = at; order = order })
+  pub areas : AreMaximalBlocks (free_of after.spots) after.blocks
+  pub unit : PlacesUnit before.spots group (record { at = at; order = order }) after.spots
+  pub listed : ListsUnit before group at after
+  pub machine : after ≡ record before {
+    blocks = after.blocks;
+    spots = after.spots;
+    ledger = with_charge before.ledger group (2 ^ order);
+    links = after.links;
+    lists = after.lists;
+    seat = seat_with before.seat at (unfrozen 1);
   }
 
 -- there is no free block of the order or above: the pages were charged and went back, so that the peaks alone may be higher
-pub record TakesNoBlock (m : KnownMachine) (g k : ℕ) (n : KnownMachine) : Type 0 where
-  pub room : PathHasRoom m.ledger.groups (current_of m.ledger) g (2 ^ k)
-  pub none : HasNoneFrom m.blocks k
-  pub machine : n ≡ record m { ledger = with_uncharge (with_charge m.ledger g (2 ^ k)) g (2 ^ k) }
+pub record TakesNoBlock (before : KnownMachine) (group order : ℕ) (after : KnownMachine) : Type 0 where
+  pub room : PathHasRoom before.ledger.groups (current_of before.ledger) group (2 ^ order)
+  pub none : HasNoneFrom before.blocks order
+  pub machine : after ≡ record before { ledger = with_uncharge (with_charge before.ledger group (2 ^ order)) group (2 ^ order) }
 
 -- The machine where no block was taken. A limit had no room for it, that of the named group the lowest, and nothing changed; or
 -- no free block of the order or above is there
 abbrev pub RefusesBlock : KnownMachine → ℕ → ℕ → TakeFault → KnownMachine → Type 0
-RefusesBlock m g k (fault.Over over) n = IsLowestOver m.ledger.groups (current_of m.ledger) g (2 ^ k) over.group × (n ≡ m)
-RefusesBlock m g k fault.NoBlock n = TakesNoBlock m g k n
+RefusesBlock before g k (fault.Over over) after =
+    IsLowestOver before.ledger.groups (current_of before.ledger) g (2 ^ k) over.group × (after ≡ before)
+RefusesBlock before g k fault.NoBlock after = TakesNoBlock before g k after
 
 -- the steps of a block of this order that is charged to the group and begins at this frame
 abbrev pub taken_steps : ℕ → ℕ → ℕ → Run

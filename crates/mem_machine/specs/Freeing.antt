@@ -8,9 +8,9 @@ use Rattle.mem_machine.specs.declared.spot.Spot.TheVariants.{Free}
 use Rattle.mem_machine.specs.Spots.{spot_at}
 
 -- so many frames from this one on are free, and all other frames have the records that they had
-pub record FreesFrames (spots : List Spot) (at n : ℕ) (after : List Spot) : Type 0 where
-  pub frames : length after ≡ length spots
-  pub records : (f : ℕ) → spot_at after f ≡ (if is_within at n f then Free else spot_at spots f)
+pub record FreesFrames (before : List Spot) (at count : ℕ) (after : List Spot) : Type 0 where
+  pub frames : length after ≡ length before
+  pub records : (f : ℕ) → spot_at after f ≡ (if is_within at count f then Free else spot_at before f)
 
 -- one more unit of which someone had the last put, and which came back
 abbrev pub with_last_put : Counts → Counts

@@ -1,31 +1,29 @@
 -- What the list of steps of a call means among the steps of other processors.
 use Rattle.std.specs.Prelude.{◌≡◌, ℕ, ◌++◌}
 use Rattle.frame_word.specs.Seats.{KnownTable}
-use Rattle.cpu_part.specs.Cpus.{KnownCpu}
 use Rattle.step_rules.specs.State.{Zone}
 use Rattle.step_rules.specs.After.{Run}
 use Rattle.step_rules.specs.Laws.{ShowsLocal}
 use Rattle.step_rules.specs.Reaches.{own_steps, IsInterleaved}
-use Rattle.mem_machine.specs.Machines.{KnownMachine}
-use Rattle.mem_machine.specs.Local.{local_of, IsLocalRun}
+use Rattle.mem_machine.specs.Local.{Side, local_of, Makes}
 
 -- the sizes of the zone that the table is of
 abbrev pub zone_of : KnownTable → Zone
 zone_of t = record { frames = t.frames; cpus = t.cpus }
 
 -- The run is legal, the processor holds the lock after it, and what it sees then is what the machine shows it
-abbrev pub Shows : KnownTable → Run → KnownMachine → KnownCpu → Type 0
-Shows t run m c = ShowsLocal (zone_of t) run c.number (local_of t m c)
+abbrev pub Shows : KnownTable → Run → Side → Type 0
+Shows t run now = ShowsLocal (zone_of t) run now.cpu.number (local_of t now.machine now.cpu)
 
--- `mixed` may follow the run: the steps in it of processor p and of the zone's seat are these, in this order; each of them is
+-- `mixed` may follow the run: the steps in it of this processor and of the zone's seat are these, in this order; each of them is
 -- answered as all seats' references and stocks decide where it stands; and each other step is allowed where it stands
-pub record IsMixed (t : KnownTable) (run : Run) (p : ℕ) (steps mixed : Run) : Type 0 where
-  pub own : own_steps p mixed ≡ steps
-  pub follows : IsInterleaved (zone_of t) run p mixed
+pub record IsMixed (table : KnownTable) (run : Run) (processor : ℕ) (steps mixed : Run) : Type 0 where
+  pub own : own_steps processor mixed ≡ steps
+  pub follows : IsInterleaved (zone_of table) run processor mixed
 
 -- Where a run shows a processor the machine, and a call leads by these steps to another machine and part of the processor, the
 -- run with the call's steps, and any steps of other processors between them, is legal, and shows the processor what the call
 -- left
 abbrev pub CallsInterleave : Type 0
-CallsInterleave = (t : KnownTable) (run steps mixed : Run) (m n : KnownMachine) (c d : KnownCpu) → d.number ≡ c.number → Shows t run m c →
-    IsLocalRun c.number (local_of t m c) steps (local_of t n d) → IsMixed t run c.number steps mixed → Shows t (run ++ mixed) n d
+CallsInterleave = (t : KnownTable) (run steps mixed : Run) (before after : Side) → after.cpu.number ≡ before.cpu.number → Shows t run before
+    → Makes t before steps after → IsMixed t run before.cpu.number steps mixed → Shows t (run ++ mixed) after

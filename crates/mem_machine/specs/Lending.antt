@@ -3,83 +3,81 @@ use Rattle.std.specs.Prelude.{◌≡◌, ℕ, List, [], ◌∷◌, ◌++◌, len
 use Rattle.zone_blocks.specs.Areas.{AreMaximalBlocks, HasNoneFrom, IsFrontOfSmallest}
 use Rattle.frame_word.specs.Views.{passed_out_to, took_in, gave_back, collected_from}
 use Rattle.frame_word.specs.Seats.{KnownTable, seat_with}
-use Rattle.cpu_part.specs.Cpus.{KnownCpu}
 use Rattle.mem_machine.specs.declared.spot.Spot.TheVariants.{Free, Lent}
 use Rattle.mem_machine.specs.Spots.{free_of}
-use Rattle.mem_machine.specs.Machines.{KnownMachine}
-use Rattle.mem_machine.specs.Local.{local_of, IsLocalRun}
+use Rattle.mem_machine.specs.Local.{Side, Makes}
 use Rattle.mem_machine.specs.Steps.{lend_steps, back_steps, refill_steps}
 
--- frame f, the free frame of the least sufficient order that has the least address, is at the end of the processor's list
-pub record LendsOne (f : ℕ) (m : KnownMachine) (c : KnownCpu) (n : KnownMachine) (d : KnownCpu) : Type 0 where
-  pub front : IsFrontOfSmallest m.blocks 0 (record { at = f; order = 0 })
-  pub areas : AreMaximalBlocks (free_of n.spots) n.blocks
-  pub machine : n ≡ record m {
-    blocks = n.blocks;
-    spots = slice_set m.spots f (Lent c.number);
-    seat = seat_with m.seat f (passed_out_to c.number);
+-- the frame, the free frame of the least sufficient order that has the least address, is at the end of the processor's list
+pub record LendsOne (frame : ℕ) (before after : Side) : Type 0 where
+  pub front : IsFrontOfSmallest before.machine.blocks 0 (record { at = frame; order = 0 })
+  pub areas : AreMaximalBlocks (free_of after.machine.spots) after.machine.blocks
+  pub machine : after.machine ≡ record before.machine {
+    blocks = after.machine.blocks;
+    spots = slice_set before.machine.spots frame (Lent before.cpu.number);
+    seat = seat_with before.machine.seat frame (passed_out_to before.cpu.number);
   }
-  pub cpu : d ≡ record c { list = c.list ++ f ∷ []; seat = seat_with c.seat f took_in }
+  pub cpu : after.cpu ≡ record before.cpu { list = before.cpu.list ++ frame ∷ []; seat = seat_with before.cpu.seat frame took_in }
 
--- frame f, which was free, is at the end of the processor's list; nothing else changed
-pub record LendsFrame (f : ℕ) (m : KnownMachine) (c : KnownCpu) (n : KnownMachine) (d : KnownCpu) : Type 0 where
-  pub areas : AreMaximalBlocks (free_of n.spots) n.blocks
-  pub machine : n ≡ record m {
-    blocks = n.blocks;
-    spots = slice_set m.spots f (Lent c.number);
-    seat = seat_with m.seat f (passed_out_to c.number);
+-- the frame, which was free, is at the end of the processor's list; nothing else changed
+pub record LendsFrame (frame : ℕ) (before after : Side) : Type 0 where
+  pub areas : AreMaximalBlocks (free_of after.machine.spots) after.machine.blocks
+  pub machine : after.machine ≡ record before.machine {
+    blocks = after.machine.blocks;
+    spots = slice_set before.machine.spots frame (Lent before.cpu.number);
+    seat = seat_with before.machine.seat frame (passed_out_to before.cpu.number);
   }
-  pub cpu : d ≡ record c { list = c.list ++ f ∷ []; seat = seat_with c.seat f took_in }
+  pub cpu : after.cpu ≡ record before.cpu { list = before.cpu.list ++ frame ∷ []; seat = seat_with before.cpu.seat frame took_in }
 
 -- there is no free frame, and nothing changed
-pub record LendsNone (m : KnownMachine) (c : KnownCpu) (n : KnownMachine) (d : KnownCpu) : Type 0 where
-  pub none : HasNoneFrom m.blocks 0
-  pub machine : n ≡ m
-  pub cpu : d ≡ c
+pub record LendsNone (before after : Side) : Type 0 where
+  pub none : HasNoneFrom before.machine.blocks 0
+  pub machine : after.machine ≡ before.machine
+  pub cpu : after.cpu ≡ before.cpu
 
 -- these frames are lent, one after the other
-abbrev pub LendsMany : List ℕ → KnownMachine → KnownCpu → KnownMachine → KnownCpu → Type 0
-LendsMany [] m c n d = (n ≡ m) × (d ≡ c)
-LendsMany (f ∷ frames) m c n d = (x : KnownMachine) × (y : KnownCpu) × LendsOne f m c x y × LendsMany frames x y n d
+abbrev pub LendsMany : List ℕ → Side → Side → Type 0
+LendsMany [] before after = (after.machine ≡ before.machine) × (after.cpu ≡ before.cpu)
+LendsMany (f ∷ frames) before after = (mid : Side) × LendsOne f before mid × LendsMany frames mid after
 
 -- one frame is lent, by its steps
-pub record LendsByStep (t : KnownTable) (m : KnownMachine) (c : KnownCpu) (n : KnownMachine) (d : KnownCpu) : Type 0 where
+pub record LendsByStep (table : KnownTable) (before after : Side) : Type 0 where
   pub frame : ℕ
-  pub lends : LendsOne frame m c n d
-  pub steps : IsLocalRun c.number (local_of t m c) (lend_steps c.number frame) (local_of t n d)
+  pub lends : LendsOne frame before after
+  pub steps : Makes table before (lend_steps before.cpu.number frame) after
 
 -- so many frames are lent, one after the other, by their steps
-pub record Refills (t : KnownTable) (count : ℕ) (m : KnownMachine) (c : KnownCpu) (n : KnownMachine) (d : KnownCpu) : Type 0 where
+pub record Refills (table : KnownTable) (count : ℕ) (before after : Side) : Type 0 where
   pub frames : List ℕ
   pub all : count ≡ length frames
-  pub lends : LendsMany frames m c n d
-  pub steps : IsLocalRun c.number (local_of t m c) (refill_steps c.number frames) (local_of t n d)
+  pub lends : LendsMany frames before after
+  pub steps : Makes table before (refill_steps before.cpu.number frames) after
 
--- frame f, the front of the processor's list, is free again
-pub record TakesOneBack (f : ℕ) (m : KnownMachine) (c : KnownCpu) (n : KnownMachine) (d : KnownCpu) : Type 0 where
+-- the frame, the front of the processor's list, is free again
+pub record TakesOneBack (frame : ℕ) (before after : Side) : Type 0 where
   pub rest : List ℕ
-  pub front : c.list ≡ f ∷ rest
-  pub areas : AreMaximalBlocks (free_of n.spots) n.blocks
-  pub machine : n ≡ record m {
-    blocks = n.blocks;
-    spots = slice_set m.spots f Free;
-    seat = seat_with m.seat f (collected_from c.number);
+  pub front : before.cpu.list ≡ frame ∷ rest
+  pub areas : AreMaximalBlocks (free_of after.machine.spots) after.machine.blocks
+  pub machine : after.machine ≡ record before.machine {
+    blocks = after.machine.blocks;
+    spots = slice_set before.machine.spots frame Free;
+    seat = seat_with before.machine.seat frame (collected_from before.cpu.number);
   }
-  pub cpu : d ≡ record c { list = rest; seat = seat_with c.seat f gave_back }
+  pub cpu : after.cpu ≡ record before.cpu { list = rest; seat = seat_with before.cpu.seat frame gave_back }
 
 -- the list is empty, and nothing changed
-pub record TakesNoneBack (m : KnownMachine) (c : KnownCpu) (n : KnownMachine) (d : KnownCpu) : Type 0 where
-  pub none : c.list ≡ []
-  pub machine : n ≡ m
-  pub cpu : d ≡ c
+pub record TakesNoneBack (before after : Side) : Type 0 where
+  pub none : before.cpu.list ≡ []
+  pub machine : after.machine ≡ before.machine
+  pub cpu : after.cpu ≡ before.cpu
 
 -- these frames are taken back, one after the other
-abbrev pub TakesManyBack : List ℕ → KnownMachine → KnownCpu → KnownMachine → KnownCpu → Type 0
-TakesManyBack [] m c n d = (n ≡ m) × (d ≡ c)
-TakesManyBack (f ∷ frames) m c n d = (x : KnownMachine) × (y : KnownCpu) × TakesOneBack f m c x y × TakesManyBack frames x y n d
+abbrev pub TakesManyBack : List ℕ → Side → Side → Type 0
+TakesManyBack [] before after = (after.machine ≡ before.machine) × (after.cpu ≡ before.cpu)
+TakesManyBack (f ∷ frames) before after = (mid : Side) × TakesOneBack f before mid × TakesManyBack frames mid after
 
 -- one frame is taken back, by its steps
-pub record TakesBackByStep (t : KnownTable) (m : KnownMachine) (c : KnownCpu) (n : KnownMachine) (d : KnownCpu) : Type 0 where
+pub record TakesBackByStep (table : KnownTable) (before after : Side) : Type 0 where
   pub frame : ℕ
-  pub takes : TakesOneBack frame m c n d
-  pub steps : IsLocalRun c.number (local_of t m c) (back_steps c.number frame) (local_of t n d)
+  pub takes : TakesOneBack frame before after
+  pub steps : Makes table before (back_steps before.cpu.number frame) after

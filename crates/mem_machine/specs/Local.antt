@@ -12,8 +12,11 @@ use Rattle.step_rules.specs.declared.phase.Stage.TheVariants.{FreshAt, Live, Bac
 use Rattle.step_rules.specs.declared.phase.Phase.{Phase}
 use Rattle.step_rules.specs.declared.phase.Phase.TheVariants as phase
 use Rattle.step_rules.specs.State.{State, Part}
+use Rattle.step_rules.specs.After.{Run}
 -- the lists of local steps that lead from one local state to another
 pub use Rattle.step_rules.specs.Reaches.{IsLocalRun}
+-- the machine, and the part of the processor that holds its lock
+pub use Rattle.mem_machine.specs.Machines.{Side, side}
 use Rattle.mem_machine.specs.declared.spot.Spot.{Spot}
 use Rattle.mem_machine.specs.declared.spot.Spot.TheVariants.{Free, Lent, Head, Tail}
 use Rattle.mem_machine.specs.Spots.{spot_at}
@@ -73,3 +76,11 @@ local_of t m c = record {
   parts = part_of m.stock c;
   pending = λ g. 0;
 }
+
+-- these steps lead the processor that holds the lock, by what it sees, from one side to another
+abbrev pub Makes : KnownTable → Side → Run → Side → Type 0
+Makes t before steps after = IsLocalRun before.cpu.number (local_of t before.machine before.cpu) steps (local_of t after.machine after.cpu)
+
+-- whichever processor holds the lock, these steps lead it from one machine to another, and its own part stays
+abbrev pub MakesForAny : KnownTable → KnownMachine → Run → KnownMachine → Type 0
+MakesForAny t before steps after = (cpu : KnownCpu) → Makes t (side before cpu) steps (side after cpu)

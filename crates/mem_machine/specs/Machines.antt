@@ -97,57 +97,66 @@ pub record FitsSpot (note : FrameNote) (home : Option Home) (spot : Spot) : Type
   pub kept : IfSome home (λ h. (h.owner < 64) × (head_group_of spot ≡ Some h.owner))
 
 -- the parts have the sizes of the tables, which agree
-pub record AreSized (t : KnownTable) (w : Words) (m : KnownMachine) : Type 0 where
-  pub spots : length m.spots ≡ t.frames
-  pub links : length m.links ≡ t.frames
-  pub lists : length m.lists ≡ 64
-  pub killed : length m.killed ≡ 64
-  pub cpus : w.cpus ≡ t.cpus
+pub record AreSized (table : KnownTable) (words : Words) (machine : KnownMachine) : Type 0 where
+  pub spots : length machine.spots ≡ table.frames
+  pub links : length machine.links ≡ table.frames
+  pub lists : length machine.lists ≡ 64
+  pub killed : length machine.killed ≡ 64
+  pub cpus : words.cpus ≡ table.cpus
 
 -- the seats are the zone's, at these tables
-pub record AreZoneSeats (t : KnownTable) (w : Words) (seat : KnownSeat) (stock : Seated) : Type 0 where
-  pub frames : IsZoneSeat t seat
-  pub table : stock.table ≡ w.table
+pub record AreZoneSeats (frame_table : KnownTable) (words : Words) (seat : KnownSeat) (stock : Seated) : Type 0 where
+  pub frames : IsZoneSeat frame_table seat
+  pub table : stock.table ≡ words.table
   pub stocks : IsMachine stock.view
 
 -- The machine is consistent. Its free areas are the maximal blocks of the free frames. Each frame is what its record says,
 -- to the zone's seat and to the lists. The charged frames are units of their groups. The lists stand. Nothing that was
 -- reported is unabsorbed. Each book fits a stock's word. What is charged to a group itself are the frames charged to it and the
 -- books of its stocks. Each unit that came back was put last, frozen or dropped
-pub record IsConsistent (t : KnownTable) (w : Words) (m : KnownMachine) : Type 0 where
-  pub sizes : AreSized t w m
-  pub seats : AreZoneSeats t w m.seat m.stock
-  pub areas : AreMaximalBlocks (free_of m.spots) m.blocks
-  pub spots : (f : ℕ) → f < t.frames → FitsSpot (note_of m.seat.view f) (home_of m.links f) (spot_at m.spots f)
-  pub units : AreUnits m.spots
-  pub lists : AllStand m.links m.lists
-  pub noted : (p : ℕ) → (account_of m.stock.view p).noted ≡ 0
-  pub bounded : (p : ℕ) → (account_of m.stock.view p).book < 65536
-  pub charged : (g : ℕ) → pages_of m.ledger g ≡ frames_charged m.spots g + pages_booked t m.stock g
-  pub balances : BalancesCounts m.counts
+pub record IsConsistent (table : KnownTable) (words : Words) (machine : KnownMachine) : Type 0 where
+  pub sizes : AreSized table words machine
+  pub seats : AreZoneSeats table words machine.seat machine.stock
+  pub areas : AreMaximalBlocks (free_of machine.spots) machine.blocks
+  pub spots : (f : ℕ) → f < table.frames → FitsSpot (note_of machine.seat.view f) (home_of machine.links f) (spot_at machine.spots f)
+  pub units : AreUnits machine.spots
+  pub lists : AllStand machine.links machine.lists
+  pub noted : (p : ℕ) → (account_of machine.stock.view p).noted ≡ 0
+  pub bounded : (p : ℕ) → (account_of machine.stock.view p).book < 65536
+  pub charged : (g : ℕ) → pages_of machine.ledger g ≡ frames_charged machine.spots g + pages_booked table machine.stock g
+  pub balances : BalancesCounts machine.counts
 
 -- a group of this path was made, and got the least free number
-pub record Makes (m : KnownMachine) (n : ℕ) (path : List ℕ) (after : KnownMachine) : Type 0 where
-  pub least : IsLeastFreeNumber m.ledger.groups n
-  pub machine : after ≡ record m { ledger = with_new_group m.ledger n path; killed = slice_set m.killed n false }
+pub record AddsGroup (before : KnownMachine) (number : ℕ) (path : List ℕ) (after : KnownMachine) : Type 0 where
+  pub least : IsLeastFreeNumber before.ledger.groups number
+  pub machine : after ≡ record before { ledger = with_new_group before.ledger number path; killed = slice_set before.killed number false }
+
+-- the machine, and the part of the processor that holds its lock
+pub record Side : Type 0 where
+  pub machine : KnownMachine
+  pub cpu : KnownCpu
+
+-- the side of this machine and this part
+abbrev pub side : KnownMachine → KnownCpu → Side
+side machine cpu = record { machine = machine; cpu = cpu }
 
 -- the processor's visit is open, nothing passes for it, and what is lent to it are its listed and fresh frames
-pub record Visits (t : KnownTable) (m : KnownMachine) (c : KnownCpu) : Type 0 where
-  pub is_open : IsOpen m.seat c.number
-  pub still : NothingPasses t m.seat c.seat
-  pub lent : LentIsBorrowed t m.seat c.seat
+pub record Visits (table : KnownTable) (now : Side) : Type 0 where
+  pub is_open : IsOpen now.machine.seat now.cpu.number
+  pub still : NothingPasses table now.machine.seat now.cpu.seat
+  pub lent : LentIsBorrowed table now.machine.seat now.cpu.seat
 
 -- the processor is one of the table's
-pub record IsSeated (t : KnownTable) (c : KnownCpu) : Type 0 where
-  pub some_number : 1 ≤ c.number
-  pub cpus : c.number ≤ t.cpus
+pub record IsSeated (table : KnownTable) (cpu : KnownCpu) : Type 0 where
+  pub some_number : 1 ≤ cpu.number
+  pub cpus : cpu.number ≤ table.cpus
 
 -- no frame is lent or charged, there is the root alone, no group is killed and nothing came back yet
-pub record IsFirst (t : KnownTable) (w : Words) (m : KnownMachine) : Type 0 where
-  pub spots : m.spots ≡ replicate t.frames Free
-  pub ledger : m.ledger ≡ initial_ledger
-  pub nowhere : AreNowhere m.links
-  pub seat : m.seat ≡ record { table = t.table; view = first_zone_view t.frames }
-  pub stock : m.stock ≡ record { table = w.table; view = first_machine }
-  pub killed : m.killed ≡ replicate 64 false
-  pub counts : m.counts ≡ no_counts
+pub record IsFirst (table : KnownTable) (words : Words) (machine : KnownMachine) : Type 0 where
+  pub spots : machine.spots ≡ replicate table.frames Free
+  pub ledger : machine.ledger ≡ initial_ledger
+  pub nowhere : AreNowhere machine.links
+  pub seat : machine.seat ≡ record { table = table.table; view = first_zone_view table.frames }
+  pub stock : machine.stock ≡ record { table = words.table; view = first_machine }
+  pub killed : machine.killed ≡ replicate 64 false
+  pub counts : machine.counts ≡ no_counts

@@ -27,45 +27,45 @@ lists_in lists g = slice_index_or lists g no_lists
 
 -- the unit is off the list that it stood on, of the group of this number; every other unit stands on the list that it
 -- stood on, at its place there, marked and dirty as it was, and each frame on no list has the record that it had
-pub record LeavesList (before : List Link) (old : List Lru) (f : ℕ) (after : List Link) (new : List Lru) : Type 0 where
+pub record LeavesList (before : List Link) (old : List Lru) (frame : ℕ) (after : List Link) (new : List Lru) : Type 0 where
   pub group : ℕ
   pub list : LruList
-  pub stands : home_of before f ≡ Some (record { owner = group; list = list })
-  pub forgotten : link_at after f ≡ nowhere
-  pub homes : (g : ℕ) → g ≢ f → home_of after g ≡ home_of before g
+  pub stands : home_of before frame ≡ Some (record { owner = group; list = list })
+  pub forgotten : link_at after frame ≡ nowhere
+  pub homes : (g : ℕ) → g ≢ frame → home_of after g ≡ home_of before g
   pub loose : (g : ℕ) → home_of before g ≡ None → link_at after g ≡ link_at before g
-  pub inactive : inactive_of after (lists_in new group) ≡ entries_without f (inactive_of before (lists_in old group))
-  pub active : active_of after (lists_in new group) ≡ entries_without f (active_of before (lists_in old group))
+  pub inactive : inactive_of after (lists_in new group) ≡ entries_without frame (inactive_of before (lists_in old group))
+  pub active : active_of after (lists_in new group) ≡ entries_without frame (active_of before (lists_in old group))
   pub others : (g : ℕ) → g < 64 → g ≢ group
       → (inactive_of after (lists_in new g) ≡ inactive_of before (lists_in old g)) × (active_of after (lists_in new g) ≡ active_of before (lists_in old g))
 
 -- the unit is off its list, and so many references of processors are left; nothing else changed
-pub record LeavesReferences (m : KnownMachine) (f left : ℕ) (n : KnownMachine) : Type 0 where
-  pub list : LeavesList m.links m.lists f n.links n.lists
+pub record LeavesReferences (before : KnownMachine) (frame left : ℕ) (after : KnownMachine) : Type 0 where
+  pub list : LeavesList before.links before.lists frame after.links after.lists
   pub some : 1 ≤ left
-  pub machine : n ≡ record m { links = n.links; lists = n.lists; seat = seat_with m.seat f (let_go left) }
+  pub machine : after ≡ record before { links = after.links; lists = after.lists; seat = seat_with before.seat frame (let_go left) }
 
 -- the unit is off its list and came back: its frames are free, and its pages off the charge of its group; nothing else changed
-pub record ReturnsUnit (m : KnownMachine) (f : ℕ) (n : KnownMachine) : Type 0 where
+pub record ReturnsUnit (before : KnownMachine) (frame : ℕ) (after : KnownMachine) : Type 0 where
   pub unit : ChargedUnit
-  pub heads : spot_at m.spots f ≡ Head unit
-  pub list : LeavesList m.links m.lists f n.links n.lists
-  pub frees : FreesFrames m.spots f (2 ^ unit.order) n.spots
-  pub areas : AreMaximalBlocks (free_of n.spots) n.blocks
-  pub machine : n ≡ record m {
-    blocks = n.blocks;
-    spots = n.spots;
-    ledger = with_uncharge m.ledger unit.group (2 ^ unit.order);
-    links = n.links;
-    lists = n.lists;
-    seat = seat_with m.seat f let_go_last;
-    counts = with_last_put m.counts;
+  pub heads : spot_at before.spots frame ≡ Head unit
+  pub list : LeavesList before.links before.lists frame after.links after.lists
+  pub frees : FreesFrames before.spots frame (2 ^ unit.order) after.spots
+  pub areas : AreMaximalBlocks (free_of after.spots) after.blocks
+  pub machine : after ≡ record before {
+    blocks = after.blocks;
+    spots = after.spots;
+    ledger = with_uncharge before.ledger unit.group (2 ^ unit.order);
+    links = after.links;
+    lists = after.lists;
+    seat = seat_with before.seat frame let_go_last;
+    counts = with_last_put before.counts;
   }
 
 -- what a release leaves, by what it tells
 abbrev pub Releases : KnownMachine → ℕ → Released → KnownMachine → Type 0
-Releases m f (Left left) n = LeavesReferences m f left n
-Releases m f Returned n = ReturnsUnit m f n
+Releases before f (Left left) after = LeavesReferences before f left after
+Releases before f Returned after = ReturnsUnit before f after
 
 -- the steps of a release: the zone puts its reference, and where it was the last one the unit comes back
 abbrev pub release_steps : ℕ → Released → Run

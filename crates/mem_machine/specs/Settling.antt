@@ -17,7 +17,7 @@ use Rattle.step_rules.specs.After.{Run}
 use Rattle.mem_machine.specs.declared.spot.Spot.TheVariants.{Head}
 use Rattle.mem_machine.specs.declared.machine.Counts.{Counts}
 use Rattle.mem_machine.specs.Spots.{spot_at, free_of}
-use Rattle.mem_machine.specs.Machines.{KnownMachine, is_killed}
+use Rattle.mem_machine.specs.Machines.{Side, is_killed}
 use Rattle.mem_machine.specs.Local.{fresh_group}
 use Rattle.mem_machine.specs.Steps.{zone_makes, cpu_makes}
 use Rattle.mem_machine.specs.Blocks.{ListsUnit}
@@ -33,82 +33,81 @@ with_drop counts = record counts { drops = one_more counts.drops; returns = one_
 
 -- the oldest fresh frame is handed over, and its page reported
 abbrev pub HandsOver : ℕ → KnownCpu → KnownCpu → Type 0
-HandsOver f c d = (c.fresh ≡ f ∷ d.fresh) × (d ≡ record c {
-  fresh = d.fresh;
-  seat = seat_with c.seat f gave_back;
-  stock = with_view c.stock (after_report c.stock.view 1);
+HandsOver f before after = (before.fresh ≡ f ∷ after.fresh) × (after ≡ record before {
+  fresh = after.fresh;
+  seat = seat_with before.seat f gave_back;
+  stock = with_view before.stock (after_report before.stock.view 1);
 })
 
--- The oldest fresh frame f is a kept unit of one frame, of group g: in use, with one reference of the zone, and on the group's
+-- The oldest fresh frame is a kept unit of one frame, of the group: in use, with one reference of the zone, and on the group's
 -- inactive list. Its page, which was booked, is charged for it
-pub record KeepsFresh (g f : ℕ) (m : KnownMachine) (c : KnownCpu) (n : KnownMachine) (d : KnownCpu) : Type 0 where
-  pub listed : ListsUnit m g f n
-  pub machine : n ≡ record m {
-    spots = slice_set m.spots f (Head (record { group = g; order = 0 }));
-    links = n.links;
-    lists = n.lists;
-    seat = seat_with m.seat f (λ k. unfrozen 1 (collected_from c.number k));
-    stock = with_page_absorbed m.stock c.number;
+pub record KeepsFresh (group frame : ℕ) (before after : Side) : Type 0 where
+  pub listed : ListsUnit before.machine group frame after.machine
+  pub machine : after.machine ≡ record before.machine {
+    spots = slice_set before.machine.spots frame (Head (record { group = group; order = 0 }));
+    links = after.machine.links;
+    lists = after.machine.lists;
+    seat = seat_with before.machine.seat frame (λ k. unfrozen 1 (collected_from before.cpu.number k));
+    stock = with_page_absorbed before.machine.stock before.cpu.number;
   }
-  pub cpu : HandsOver f c d
+  pub cpu : HandsOver frame before.cpu after.cpu
 
--- the oldest fresh frame f is free again, and its page, which was booked, is off the charge of group g: a drop
-pub record DropsFresh (g f : ℕ) (m : KnownMachine) (c : KnownCpu) (n : KnownMachine) (d : KnownCpu) : Type 0 where
-  pub frees : FreesFrames m.spots f 1 n.spots
-  pub areas : AreMaximalBlocks (free_of n.spots) n.blocks
-  pub machine : n ≡ record m {
-    blocks = n.blocks;
-    spots = n.spots;
-    ledger = with_uncharge m.ledger g 1;
-    seat = seat_with m.seat f (collected_from c.number);
-    stock = with_page_absorbed m.stock c.number;
-    counts = with_drop m.counts;
+-- the oldest fresh frame is free again, and its page, which was booked, is off the charge of the group: a drop
+pub record DropsFresh (group frame : ℕ) (before after : Side) : Type 0 where
+  pub frees : FreesFrames before.machine.spots frame 1 after.machine.spots
+  pub areas : AreMaximalBlocks (free_of after.machine.spots) after.machine.blocks
+  pub machine : after.machine ≡ record before.machine {
+    blocks = after.machine.blocks;
+    spots = after.machine.spots;
+    ledger = with_uncharge before.machine.ledger group 1;
+    seat = seat_with before.machine.seat frame (collected_from before.cpu.number);
+    stock = with_page_absorbed before.machine.stock before.cpu.number;
+    counts = with_drop before.machine.counts;
   }
-  pub cpu : HandsOver f c d
+  pub cpu : HandsOver frame before.cpu after.cpu
 
--- the oldest back frame f headed a unit, whose frames are free again, and whose pages are off the charge of its group
-pub record ReturnsBack (f : ℕ) (m : KnownMachine) (c : KnownCpu) (n : KnownMachine) (d : KnownCpu) : Type 0 where
+-- the oldest back frame headed a unit, whose frames are free again, and whose pages are off the charge of its group
+pub record ReturnsBack (frame : ℕ) (before after : Side) : Type 0 where
   pub unit : ChargedUnit
-  pub heads : spot_at m.spots f ≡ Head unit
-  pub frees : FreesFrames m.spots f (2 ^ unit.order) n.spots
-  pub areas : AreMaximalBlocks (free_of n.spots) n.blocks
-  pub machine : n ≡ record m {
-    blocks = n.blocks;
-    spots = n.spots;
-    ledger = with_uncharge m.ledger unit.group (2 ^ unit.order);
-    seat = seat_with m.seat f (collected_from c.number);
-    counts = with_last_put m.counts;
+  pub heads : spot_at before.machine.spots frame ≡ Head unit
+  pub frees : FreesFrames before.machine.spots frame (2 ^ unit.order) after.machine.spots
+  pub areas : AreMaximalBlocks (free_of after.machine.spots) after.machine.blocks
+  pub machine : after.machine ≡ record before.machine {
+    blocks = after.machine.blocks;
+    spots = after.machine.spots;
+    ledger = with_uncharge before.machine.ledger unit.group (2 ^ unit.order);
+    seat = seat_with before.machine.seat frame (collected_from before.cpu.number);
+    counts = with_last_put before.machine.counts;
   }
-  pub front : c.back ≡ f ∷ d.back
-  pub cpu : d ≡ record c { back = d.back; seat = seat_with c.seat f gave_back }
+  pub front : before.cpu.back ≡ frame ∷ after.cpu.back
+  pub cpu : after.cpu ≡ record before.cpu { back = after.cpu.back; seat = seat_with before.cpu.seat frame gave_back }
 
--- the oldest fresh frame f is kept for the group that it is of, or dropped where that is killed
-pub record SettlesFresh (f : ℕ) (m : KnownMachine) (c : KnownCpu) (n : KnownMachine) (d : KnownCpu) : Type 0 where
-  pub keeps : is_killed m.killed (fresh_group c) ≡ false → KeepsFresh (fresh_group c) f m c n d
-  pub drops : is_killed m.killed (fresh_group c) ≡ true → DropsFresh (fresh_group c) f m c n d
+-- the oldest fresh frame is kept for the group that it is of, or dropped where that is killed
+pub record SettlesFresh (frame : ℕ) (before after : Side) : Type 0 where
+  pub keeps : is_killed before.machine.killed (fresh_group before.cpu) ≡ false → KeepsFresh (fresh_group before.cpu) frame before after
+  pub drops : is_killed before.machine.killed (fresh_group before.cpu) ≡ true → DropsFresh (fresh_group before.cpu) frame before after
 
 -- so it is with these fresh frames, one after the other
-abbrev pub SettlesAllFresh : List ℕ → KnownMachine → KnownCpu → KnownMachine → KnownCpu → Type 0
-SettlesAllFresh [] m c n d = (n ≡ m) × (d ≡ c)
-SettlesAllFresh (f ∷ rest) m c n d = (x : KnownMachine) × (y : KnownCpu) × SettlesFresh f m c x y × SettlesAllFresh rest x y n d
+abbrev pub SettlesAllFresh : List ℕ → Side → Side → Type 0
+SettlesAllFresh [] before after = (after.machine ≡ before.machine) × (after.cpu ≡ before.cpu)
+SettlesAllFresh (f ∷ rest) before after = (mid : Side) × SettlesFresh f before mid × SettlesAllFresh rest mid after
 
 -- these back frames come back, one after the other
-abbrev pub ReturnsAllBack : List ℕ → KnownMachine → KnownCpu → KnownMachine → KnownCpu → Type 0
-ReturnsAllBack [] m c n d = (n ≡ m) × (d ≡ c)
-ReturnsAllBack (f ∷ rest) m c n d = (x : KnownMachine) × (y : KnownCpu) × ReturnsBack f m c x y × ReturnsAllBack rest x y n d
+abbrev pub ReturnsAllBack : List ℕ → Side → Side → Type 0
+ReturnsAllBack [] before after = (after.machine ≡ before.machine) × (after.cpu ≡ before.cpu)
+ReturnsAllBack (f ∷ rest) before after = (mid : Side) × ReturnsBack f before mid × ReturnsAllBack rest mid after
 
 -- the processor has the number, the list and the pins that it had
-pub record LeavesOthers (c d : KnownCpu) : Type 0 where
-  pub number : d.number ≡ c.number
-  pub list : d.list ≡ c.list
-  pub pins : d.pins ≡ c.pins
+pub record LeavesOthers (before after : KnownCpu) : Type 0 where
+  pub number : after.number ≡ before.number
+  pub list : after.list ≡ before.list
+  pub pins : after.pins ≡ before.pins
 
 -- all fresh frames are settled, in the order in which they were taken, and then all back frames, in the order of their last puts
-pub record Settles (m : KnownMachine) (c : KnownCpu) (n : KnownMachine) (d : KnownCpu) : Type 0 where
-  pub machine : KnownMachine
-  pub cpu : KnownCpu
-  pub fresh : SettlesAllFresh c.fresh m c machine cpu
-  pub back : ReturnsAllBack c.back machine cpu n d
+pub record Settles (before after : Side) : Type 0 where
+  pub mid : Side
+  pub fresh : SettlesAllFresh before.cpu.fresh before mid
+  pub back : ReturnsAllBack before.cpu.back mid after
 
 -- ---- the steps
 
@@ -138,5 +137,6 @@ abbrev pub all_steps : Bool → ℕ → List ℕ → List ℕ → Run
 all_steps is_killed p fresh back = flat_map (fresh_steps is_killed p) fresh ++ flat_map (return_steps p) back
 
 -- the steps of a settle
-abbrev pub settle_steps : KnownMachine → KnownCpu → Run
-settle_steps m c = all_steps (is_killed m.killed (fresh_group c)) c.number c.fresh c.back
+abbrev pub settle_steps : Side → Run
+settle_steps before =
+    all_steps (is_killed before.machine.killed (fresh_group before.cpu)) before.cpu.number before.cpu.fresh before.cpu.back

@@ -66,18 +66,18 @@ count_of g None = 0
 count_of g (Some h) = if h == g then 1 else 0
 
 -- the unit's frames are a block of the zone, and each but the head is a tail of the unit's group
-pub record IsUnitAt (spots : List Spot) (f : ℕ) (unit : ChargedUnit) : Type 0 where
-  pub block : IsBlock (length spots) (record { at = f; order = unit.order })
-  pub tails : (x : ℕ) → f < x → x < f + 2 ^ unit.order → spot_at spots x ≡ Tail unit.group
+pub record IsUnitAt (spots : List Spot) (frame : ℕ) (unit : ChargedUnit) : Type 0 where
+  pub block : IsBlock (length spots) (record { at = frame; order = unit.order })
+  pub tails : (x : ℕ) → frame < x → x < frame + 2 ^ unit.order → spot_at spots x ≡ Tail unit.group
 
 -- a unit of the group has the frame behind its head
-pub record IsTailOf (spots : List Spot) (x g : ℕ) : Type 0 where
+pub record IsTailOf (spots : List Spot) (frame owner : ℕ) : Type 0 where
   pub head : ℕ
   pub unit : ChargedUnit
   pub heads : spot_at spots head ≡ Head unit
-  pub group : unit.group ≡ g
-  pub from : head < x
-  pub before : x < head + 2 ^ unit.order
+  pub group : unit.group ≡ owner
+  pub from : head < frame
+  pub before : frame < head + 2 ^ unit.order
 
 -- each head has its unit, and each tail lies in one
 pub record AreUnits (spots : List Spot) : Type 0 where

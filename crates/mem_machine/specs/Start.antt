@@ -7,7 +7,7 @@ use Rattle.lru_lists.specs.Queue.{AreNowhere}
 use Rattle.lru_lists.specs.Lists.{StandsIn}
 
 -- lists of so many owners, numbered from 0 on in this order, that stand in any records of frames that are on no list
-pub record AreEmpty (lists : List Lru) (n : ℕ) : Type 0 where
-  pub count : length lists ≡ n
+pub record AreEmpty (lists : List Lru) (number : ℕ) : Type 0 where
+  pub count : length lists ≡ number
   pub each : (k : ℕ) (any : Lru) → k < length lists
       → ((slice_index_or lists k any).owner ≡ k) × ((links : List Link) → AreNowhere links → StandsIn links (slice_index_or lists k any))

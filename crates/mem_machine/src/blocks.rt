@@ -5,7 +5,7 @@ ghost use Rattle.group_tree.specs.Groups.{has_group};
 ghost use Rattle.group_charge.specs.Charges.{current_of};
 ghost use Rattle.mem_machine.specs.Machines.{Visits, is_killed};
 ghost use Rattle.mem_machine.specs.Blocks.{PlacesUnit, TakesBlock, RefusesBlock, block_steps};
-ghost use Rattle.mem_machine.specs.Local.{IsLocalRun, local_of};
+ghost use Rattle.mem_machine.specs.Local.{Makes, side};
 
 use crate::machine::Machine;
 use crate::spot::Spot;
@@ -54,7 +54,7 @@ impl<N: BootName> Machine<N> {
         group: GroupId,
         order: Order,
     ) -> Result<Frame, TakeFault>
-        requires visit { Visits N.frames self.old cpu.old }
+        requires visit { Visits N.frames (side self.old cpu.old) }
         requires there { IsTrue (has_group self.old.ledger.groups group) }
         requires alive { is_killed self.old.killed group ≡ false }
         requires fits { current_of self.old.ledger 0 + 2 ^ order < 2 ^ 32 }
@@ -62,12 +62,12 @@ impl<N: BootName> Machine<N> {
         ensures takes { IfOk result (λ head. TakesBlock self.old group order head self.new) }
         ensures refuses { IfErr result (λ fault. RefusesBlock self.old group order fault self.new) }
         ensures cpu { cpu.new ≡ cpu.old }
-        ensures visit { Visits N.frames self.new cpu.new }
-        ensures steps { IsLocalRun cpu.old.number (local_of N.frames self.old cpu.old) (block_steps group order result) (local_of N.frames self.new cpu.new) }
+        ensures visit { Visits N.frames (side self.new cpu.new) }
+        ensures steps { Makes N.frames (side self.old cpu.old) (block_steps group order result) (side self.new cpu.new) }
     {
         let pages = order.frames();
         self.see_usage(tables, cpu);
-        let _tree = self.charges.tree();
+        let _tree = self.charges.tree(); // For the clauses.
         if let Err(over) = self.charges.try_charge(group, pages) {
             return Err(TakeFault::Over(over));
         }

@@ -26,7 +26,7 @@ impl<N: BootName> Machine<N> {
         ensures free { result.free ≡ frames_free self.now.spots }
         ensures charged { result.charged ≡ frames_in_groups self.now.spots }
     {
-        let _frames = tables.frames.frames();
+        let _frames = tables.frames.frames(); // For the clauses.
         let mut places = Places {
             free: 0,
             charged: 0,
@@ -48,8 +48,8 @@ impl<N: BootName> Machine<N> {
         requires none_fresh { cpu.now.fresh ≡ [] }
         ensures { NoneLentTo cpu.now.number self.now.spots }
     {
-        let _ = &self.seat;
-        let _number = cpu.number();
+        let _ = &self.seat; // For the clauses.
+        let _number = cpu.number(); // For the clauses.
     }
 
     /// Takes the machine apart, for the end of the two tables: the zone's seats at the frames' table and at the stocks'.

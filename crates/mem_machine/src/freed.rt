@@ -38,7 +38,7 @@ pub(crate) fn free_unit(
     ensures areas { AreMaximalBlocks zone.new.free zone.new.blocks }
     ensures charges { charges.new ≡ with_uncharge charges.old unit.group (2 ^ unit.order) }
 {
-    let _tree = charges.tree();
+    let _tree = charges.tree(); // For the clauses.
     let order = unit.order;
     free_frames(spots, at, order.frames());
     zone.give(Block { at, order });

@@ -4,10 +4,9 @@ ghost use Rattle.std.specs.Prelude.{◌≡◌, ◌≢◌, ℕ, IsTrue, IfOk, OnE
 ghost use Rattle.std.specs.Result.{result_err};
 ghost use Rattle.group_tree.specs.Groups.{has_group, has_child, make_fault};
 ghost use Rattle.group_charge.specs.Charges.{current_of, with_max_noted, with_group_limit, with_group_removed};
-ghost use Rattle.cpu_part.specs.Cpus.{KnownCpu};
 ghost use Rattle.step_rules.specs.Usage.{usage_of};
-ghost use Rattle.mem_machine.specs.Machines.{is_killed, Makes, Visits};
-ghost use Rattle.mem_machine.specs.Local.{IsLocalRun, local_of};
+ghost use Rattle.mem_machine.specs.Machines.{is_killed, AddsGroup, Visits};
+ghost use Rattle.mem_machine.specs.Local.{Makes, MakesForAny, side, local_of};
 ghost use Rattle.mem_machine.specs.Steps.{note_max_steps, make_steps, remove_steps, set_max_steps, kill_steps};
 
 use crate::machine::Machine;
@@ -21,18 +20,17 @@ impl<N: BootName> Machine<N> {
     pub fn note_max(&mut self, group: GroupId)
         requires { IsTrue (has_group self.old.ledger.groups group) }
         ensures machine { self.new ≡ record self.old { ledger = with_max_noted self.old.ledger group } }
-        ensures steps { (c : KnownCpu) → IsLocalRun c.number (local_of N.frames self.old c) (note_max_steps group) (local_of N.frames self.new c) }
+        ensures steps { MakesForAny N.frames self.old (note_max_steps group) self.new }
     {
         self.charges.note_max(group);
     }
 
     /// Makes a group, as `Tree::make` does. It has no page, peak 0 and all counts 0, and isn't killed.
     pub fn make(&mut self, path: &[u8]) -> Result<GroupId, Fault>
-        ensures made { IfOk result (λ n. Makes self.old n path.now self.new) }
+        ensures made { IfOk result (λ n. AddsGroup self.old n path.now self.new) }
         ensures refused { result_err result ≡ make_fault self.old.ledger.groups path.now }
         ensures unchanged { OnErr result (self.new ≡ self.old) }
-        ensures steps { IfOk result (λ n. (c : KnownCpu)
-            → IsLocalRun c.number (local_of N.frames self.old c) (make_steps path.now n) (local_of N.frames self.new c)) }
+        ensures steps { IfOk result (λ n. MakesForAny N.frames self.old (make_steps path.now n) self.new) }
     {
         let group = self.charges.make(path)?;
         let number = group.number();
@@ -44,27 +42,27 @@ impl<N: BootName> Machine<N> {
     /// the processor has fresh, which the rules count as kept, are in its stock's book. One look at the processor's stock,
     /// which changes nothing.
     pub fn see_usage(&mut self, tables: &Tables<N>, cpu: &mut Cpu<N>)
-        requires { Visits N.frames self.old cpu.old }
+        requires { Visits N.frames (side self.old cpu.old) }
         ensures usage { (g : ℕ) → usage_of (local_of N.frames self.old cpu.old) g ≡ current_of self.old.ledger g }
         ensures machine { self.new ≡ self.old }
         ensures cpu { cpu.new ≡ cpu.old }
     {
-        let _number = cpu.number();
-        let _last = cpu.last_stock();
-        let _tree = self.charges.tree();
+        let _number = cpu.number(); // For the clauses.
+        let _last = cpu.last_stock(); // For the clauses.
+        let _tree = self.charges.tree(); // For the clauses.
         let _stock = cpu.look(tables, &mut self.stock);
     }
 
     /// Takes out a group that is there, other than the root, with no group below it and nothing charged.
     pub fn remove(&mut self, tables: &Tables<N>, cpu: &mut Cpu<N>, group: GroupId)
-        requires visit { Visits N.frames self.old cpu.old }
+        requires visit { Visits N.frames (side self.old cpu.old) }
         requires there { IsTrue (has_group self.old.ledger.groups group) }
         requires leaf { has_child self.old.ledger.groups group ≡ false }
         requires below_root { group ≢ 0 }
         requires empty { current_of self.old.ledger group ≡ 0 }
         ensures machine { self.new ≡ record self.old { ledger = with_group_removed self.old.ledger group } }
         ensures cpu { cpu.new ≡ cpu.old }
-        ensures steps { IsLocalRun cpu.old.number (local_of N.frames self.old cpu.old) (remove_steps group) (local_of N.frames self.new cpu.new) }
+        ensures steps { Makes N.frames (side self.old cpu.old) (remove_steps group) (side self.new cpu.new) }
     {
         self.see_usage(tables, cpu);
         self.charges.remove(group);
@@ -75,7 +73,7 @@ impl<N: BootName> Machine<N> {
         requires there { IsTrue (has_group self.old.ledger.groups group) }
         requires below_root { group ≢ 0 }
         ensures machine { self.new ≡ record self.old { ledger = with_group_limit self.old.ledger group limit } }
-        ensures steps { (c : KnownCpu) → IsLocalRun c.number (local_of N.frames self.old c) (set_max_steps group limit) (local_of N.frames self.new c) }
+        ensures steps { MakesForAny N.frames self.old (set_max_steps group limit) self.new }
     {
         self.charges.set_max(group, limit);
     }
@@ -85,7 +83,7 @@ impl<N: BootName> Machine<N> {
         requires there { IsTrue (has_group self.old.ledger.groups group) }
         requires alive { is_killed self.old.killed group ≡ false }
         ensures machine { self.new ≡ record self.old { killed = slice_set self.old.killed group true } }
-        ensures steps { (c : KnownCpu) → IsLocalRun c.number (local_of N.frames self.old c) (kill_steps group) (local_of N.frames self.new c) }
+        ensures steps { MakesForAny N.frames self.old (kill_steps group) self.new }
     {
         let number = group.number();
         self.killed[number as usize] = true;

@@ -1,10 +1,9 @@
 //! The use of kept units: what is noted of them on the lists of their groups.
 
 ghost use Rattle.std.specs.Prelude.{◌≢◌, ◌<◌, [], None};
-ghost use Rattle.cpu_part.specs.Cpus.{KnownCpu};
 ghost use Rattle.mem_machine.specs.Machines.{home_of};
 ghost use Rattle.mem_machine.specs.Marks.{Dirties, TouchesUnit};
-ghost use Rattle.mem_machine.specs.Local.{IsLocalRun, local_of};
+ghost use Rattle.mem_machine.specs.Local.{MakesForAny};
 
 use crate::machine::Machine;
 use cpu_part::BootName;
@@ -19,7 +18,7 @@ impl<N: BootName> Machine<N> {
         requires frame { frame < N.frames.frames }
         requires kept { home_of self.old.links frame ≢ None }
         ensures touches { TouchesUnit self.old frame result self.new }
-        ensures steps { (c : KnownCpu) → IsLocalRun c.number (local_of N.frames self.old c) [] (local_of N.frames self.new c) }
+        ensures steps { MakesForAny N.frames self.old [] self.new }
     {
         let unit = frame.number();
         let Some(home) = self.links.home(unit) else {
@@ -38,7 +37,7 @@ impl<N: BootName> Machine<N> {
         requires frame { frame < N.frames.frames }
         requires kept { home_of self.old.links frame ≢ None }
         ensures dirties { Dirties self.old frame is_dirty self.new }
-        ensures steps { (c : KnownCpu) → IsLocalRun c.number (local_of N.frames self.old c) [] (local_of N.frames self.new c) }
+        ensures steps { MakesForAny N.frames self.old [] self.new }
     {
         let unit = frame.number();
         let Some(home) = self.links.home(unit) else {

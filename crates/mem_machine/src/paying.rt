@@ -3,7 +3,7 @@
 ghost use Rattle.std.specs.Prelude.{◌≡◌, ℕ, ◌<◌, ◌≤◌, [], length};
 ghost use Rattle.mem_machine.specs.Machines.{Visits};
 ghost use Rattle.mem_machine.specs.Paying.{HasRoomFor, HoldsPage, IsOfSize, IsOwnStock, PaysForFront};
-ghost use Rattle.mem_machine.specs.Local.{IsLocalRun, local_of};
+ghost use Rattle.mem_machine.specs.Local.{Makes, side};
 ghost use Rattle.mem_machine.specs.Steps.{take_front_steps};
 
 use crate::machine::Machine;
@@ -16,41 +16,40 @@ impl<N: BootName> Machine<N> {
     /// The processor's own stock: its group, the pages that it holds, and whether it was drained. One look, which changes
     /// nothing.
     pub fn own_stock(&mut self, tables: &Tables<N>, cpu: &mut Cpu<N>) -> Stock
-        ensures stock { IsOwnStock self.old cpu.old result }
+        ensures stock { IsOwnStock (side self.old cpu.old) result }
         ensures machine { self.new ≡ self.old }
         ensures cpu { cpu.new ≡ cpu.old }
     {
-        let _number = cpu.number();
+        let _number = cpu.number(); // For the clauses.
         cpu.look(tables, &mut self.stock)
     }
 
     /// Shows that 65,535 pages more can be charged in a zone of this size: so many frames, and so many pages in the stocks,
     /// stay far below 2^32. One look at the processor's stock, which changes nothing.
     pub fn see_room(&mut self, tables: &Tables<N>, cpu: &mut Cpu<N>)
-        requires visit { Visits N.frames self.old cpu.old }
+        requires visit { Visits N.frames (side self.old cpu.old) }
         requires size { IsOfSize N.frames }
         ensures room { (pages : ℕ) → pages < 65536 → HasRoomFor self.old pages }
         ensures machine { self.new ≡ self.old }
         ensures cpu { cpu.new ≡ cpu.old }
     {
         self.see_usage(tables, cpu);
-        let _tree = self.charges.tree();
+        let _tree = self.charges.tree(); // For the clauses.
     }
 
     /// Takes the front of the list of the processor that is visited for `group`, and pays for it with a page of its stock,
     /// which is of that group. The frame is fresh then. No frame was fresh before, as once the processor was settled.
     pub fn take_front(&mut self, tables: &Tables<N>, cpu: &mut Cpu<N>, group: GroupId) -> Frame
-        requires visit { Visits N.frames self.old cpu.old }
-        requires page { HoldsPage self.old cpu.old group }
+        requires visit { Visits N.frames (side self.old cpu.old) }
+        requires page { HoldsPage (side self.old cpu.old) group }
         requires front { 1 ≤ length cpu.old.list }
         requires none_fresh { cpu.old.fresh ≡ [] }
-        ensures pays { PaysForFront group result self.old cpu.old self.new cpu.new }
+        ensures pays { PaysForFront group result (side self.old cpu.old) (side self.new cpu.new) }
         ensures frame { result < N.frames.frames }
-        ensures visit { Visits N.frames self.new cpu.new }
-        ensures steps { IsLocalRun cpu.old.number (local_of N.frames self.old cpu.old)
-            (take_front_steps cpu.old.number group) (local_of N.frames self.new cpu.new) }
+        ensures visit { Visits N.frames (side self.new cpu.new) }
+        ensures steps { Makes N.frames (side self.old cpu.old) (take_front_steps cpu.old.number group) (side self.new cpu.new) }
     {
-        let _number = cpu.number();
+        let _number = cpu.number(); // For the clauses.
         cpu.take_front(tables, &mut self.stock, group.number())
     }
 }

@@ -5,7 +5,7 @@ ghost use Rattle.lru_lists.specs.Lists.{AllStand};
 ghost use Rattle.mem_machine.specs.Machines.{home_of, Visits};
 ghost use Rattle.mem_machine.specs.Freeing.{with_last_put};
 ghost use Rattle.mem_machine.specs.Releasing.{LeavesList, Releases, release_steps};
-ghost use Rattle.mem_machine.specs.Local.{IsLocalRun, local_of};
+ghost use Rattle.mem_machine.specs.Local.{Makes, side};
 
 use crate::freed::free_unit;
 use crate::machine::{Counts, Machine};
@@ -63,12 +63,12 @@ impl<N: BootName> Machine<N> {
     /// Takes a kept unit off its list, and gives up the zone's reference on it. Where that was the last one, the unit comes
     /// back. The unit goes by its head, which stands on a list of its group.
     pub fn release(&mut self, tables: &Tables<N>, cpu: &Cpu<N>, frame: Frame) -> Released
-        requires visit { Visits N.frames self.old cpu.now }
+        requires visit { Visits N.frames (side self.old cpu.now) }
         requires frame { frame < N.frames.frames }
         requires kept { home_of self.old.links frame ≢ None }
         ensures releases { Releases self.old frame result self.new }
-        ensures visit { Visits N.frames self.new cpu.now }
-        ensures steps { IsLocalRun cpu.now.number (local_of N.frames self.old cpu.now) (release_steps frame result) (local_of N.frames self.new cpu.now) }
+        ensures visit { Visits N.frames (side self.new cpu.now) }
+        ensures steps { Makes N.frames (side self.old cpu.now) (release_steps frame result) (side self.new cpu.now) }
     {
         let at = frame.number();
         leave_list(&mut self.links, &mut self.lists, at);

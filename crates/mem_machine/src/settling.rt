@@ -7,7 +7,7 @@ ghost use Rattle.frame_word.specs.Seats.{IsZoneSeat, IsOpen, NothingPasses, HasN
 ghost use Rattle.stock_word.specs.Stock.{IsMachine, account_of, group_of};
 ghost use Rattle.cpu_part.specs.Calls.{HandsFresh};
 ghost use Rattle.mem_machine.specs.Machines.{Visits, is_killed};
-ghost use Rattle.mem_machine.specs.Local.{IsLocalRun, local_of, fresh_group};
+ghost use Rattle.mem_machine.specs.Local.{Makes, side, fresh_group};
 ghost use Rattle.mem_machine.specs.Settling.{KeepsFresh, DropsFresh, SettlesFresh, SettlesAllFresh, ReturnsBack, ReturnsAllBack, Settles, LeavesOthers};
 ghost use Rattle.mem_machine.specs.Settling.{with_page_absorbed, keep_steps, drop_steps, fresh_steps, return_steps, settle_steps};
 
@@ -55,14 +55,14 @@ fn collect_fresh<N: BootName>(
 impl<N: BootName> Machine<N> {
     // Keeps the oldest fresh frame for the group that paid for it.
     fn keep_one(&mut self, tables: &Tables<N>, cpu: &mut Cpu<N>, group: GroupId) -> Frame
-        requires visit { Visits N.frames self.old cpu.old }
+        requires visit { Visits N.frames (side self.old cpu.old) }
         requires fresh { cpu.old.fresh ≢ [] }
         requires group { group_of cpu.old.stock.view.last ≡ Some group }
-        ensures keeps { KeepsFresh group result self.old cpu.old self.new cpu.new }
-        ensures visit { Visits N.frames self.new cpu.new }
-        ensures steps { IsLocalRun cpu.old.number (local_of N.frames self.old cpu.old) (keep_steps cpu.old.number result) (local_of N.frames self.new cpu.new) }
+        ensures keeps { KeepsFresh group result (side self.old cpu.old) (side self.new cpu.new) }
+        ensures visit { Visits N.frames (side self.new cpu.new) }
+        ensures steps { Makes N.frames (side self.old cpu.old) (keep_steps cpu.old.number result) (side self.new cpu.new) }
     {
-        let _number = cpu.number();
+        let _number = cpu.number(); // For the clauses.
         let frame = collect_fresh(tables, cpu, &mut self.seat, &mut self.stock);
         tables.frames.unfreeze(&mut self.seat, frame, 1);
         let unit = frame.number();
@@ -79,15 +79,15 @@ impl<N: BootName> Machine<N> {
 
     // Gives the oldest fresh frame back, whose group is killed: its page comes off the group's charge.
     fn drop_one(&mut self, tables: &Tables<N>, cpu: &mut Cpu<N>, group: GroupId) -> Frame
-        requires visit { Visits N.frames self.old cpu.old }
+        requires visit { Visits N.frames (side self.old cpu.old) }
         requires fresh { cpu.old.fresh ≢ [] }
         requires group { group_of cpu.old.stock.view.last ≡ Some group }
         requires killed { is_killed self.old.killed group ≡ true }
-        ensures drops { DropsFresh group result self.old cpu.old self.new cpu.new }
-        ensures visit { Visits N.frames self.new cpu.new }
-        ensures steps { IsLocalRun cpu.old.number (local_of N.frames self.old cpu.old) (drop_steps cpu.old.number result) (local_of N.frames self.new cpu.new) }
+        ensures drops { DropsFresh group result (side self.old cpu.old) (side self.new cpu.new) }
+        ensures visit { Visits N.frames (side self.new cpu.new) }
+        ensures steps { Makes N.frames (side self.old cpu.old) (drop_steps cpu.old.number result) (side self.new cpu.new) }
     {
-        let _number = cpu.number();
+        let _number = cpu.number(); // For the clauses.
         let frame = collect_fresh(tables, cpu, &mut self.seat, &mut self.stock);
         let order = Order::of(0).unwrap();
         let unit = ChargedUnit { group, order };
@@ -105,14 +105,14 @@ impl<N: BootName> Machine<N> {
 
     // Takes the oldest back frame, if there is one, into the zone's hand: its unit comes back.
     fn return_one(&mut self, tables: &Tables<N>, cpu: &mut Cpu<N>) -> Option<Frame>
-        requires { Visits N.frames self.old cpu.old }
+        requires { Visits N.frames (side self.old cpu.old) }
         ensures returns { MatchOption result ((cpu.old.back ≡ []) × (self.new ≡ self.old) × (cpu.new ≡ cpu.old))
-            (λ f. ReturnsBack f self.old cpu.old self.new cpu.new) }
-        ensures visit { Visits N.frames self.new cpu.new }
+            (λ f. ReturnsBack f (side self.old cpu.old) (side self.new cpu.new)) }
+        ensures visit { Visits N.frames (side self.new cpu.new) }
         ensures steps { IfSome result (λ f.
-            IsLocalRun cpu.old.number (local_of N.frames self.old cpu.old) (return_steps cpu.old.number f) (local_of N.frames self.new cpu.new)) }
+            Makes N.frames (side self.old cpu.old) (return_steps cpu.old.number f) (side self.new cpu.new)) }
     {
-        let _number = cpu.number();
+        let _number = cpu.number(); // For the clauses.
         let Some(frame) = cpu.hand_back(tables, &mut self.seat) else {
             return None;
         };
@@ -129,12 +129,12 @@ impl<N: BootName> Machine<N> {
 
     // Settles the oldest fresh frame, if there is one: it is kept for its group, or dropped where that is killed.
     fn settle_one(&mut self, tables: &Tables<N>, cpu: &mut Cpu<N>) -> Option<Frame>
-        requires { Visits N.frames self.old cpu.old }
+        requires { Visits N.frames (side self.old cpu.old) }
         ensures settles { MatchOption result ((cpu.old.fresh ≡ []) × (self.new ≡ self.old) × (cpu.new ≡ cpu.old))
-            (λ f. SettlesFresh f self.old cpu.old self.new cpu.new) }
-        ensures visit { Visits N.frames self.new cpu.new }
-        ensures steps { IfSome result (λ f. IsLocalRun cpu.old.number (local_of N.frames self.old cpu.old)
-            (fresh_steps (is_killed self.old.killed (fresh_group cpu.old)) cpu.old.number f) (local_of N.frames self.new cpu.new)) }
+            (λ f. SettlesFresh f (side self.old cpu.old) (side self.new cpu.new)) }
+        ensures visit { Visits N.frames (side self.new cpu.new) }
+        ensures steps { IfSome result (λ f. Makes N.frames (side self.old cpu.old)
+            (fresh_steps (is_killed self.old.killed (fresh_group cpu.old)) cpu.old.number f) (side self.new cpu.new)) }
     {
         if cpu.fresh_len() == 0 {
             return None;
@@ -152,24 +152,24 @@ impl<N: BootName> Machine<N> {
 
     // Settles all fresh frames, in the order in which they were taken.
     fn settle_fresh(&mut self, tables: &Tables<N>, cpu: &mut Cpu<N>)
-        requires { Visits N.frames self.old cpu.old }
-        ensures settles { SettlesAllFresh cpu.old.fresh self.old cpu.old self.new cpu.new }
+        requires { Visits N.frames (side self.old cpu.old) }
+        ensures settles { SettlesAllFresh cpu.old.fresh (side self.old cpu.old) (side self.new cpu.new) }
         ensures leaves { LeavesOthers cpu.old cpu.new × (cpu.new.back ≡ cpu.old.back) × (cpu.new.fresh ≡ []) }
-        ensures visit { Visits N.frames self.new cpu.new }
-        ensures steps { IsLocalRun cpu.old.number (local_of N.frames self.old cpu.old)
-            (flat_map (fresh_steps (is_killed self.old.killed (fresh_group cpu.old)) cpu.old.number) cpu.old.fresh) (local_of N.frames self.new cpu.new) }
+        ensures visit { Visits N.frames (side self.new cpu.new) }
+        ensures steps { Makes N.frames (side self.old cpu.old)
+            (flat_map (fresh_steps (is_killed self.old.killed (fresh_group cpu.old)) cpu.old.number) cpu.old.fresh) (side self.new cpu.new) }
     {
         while let Some(_frame) = self.settle_one(tables, cpu) {}
     }
 
     // Takes all back frames back, in the order of their last puts.
     fn settle_back(&mut self, tables: &Tables<N>, cpu: &mut Cpu<N>)
-        requires { Visits N.frames self.old cpu.old }
-        ensures returns { ReturnsAllBack cpu.old.back self.old cpu.old self.new cpu.new }
+        requires { Visits N.frames (side self.old cpu.old) }
+        ensures returns { ReturnsAllBack cpu.old.back (side self.old cpu.old) (side self.new cpu.new) }
         ensures leaves { LeavesOthers cpu.old cpu.new × (cpu.new.fresh ≡ cpu.old.fresh) × (cpu.new.back ≡ []) }
-        ensures visit { Visits N.frames self.new cpu.new }
-        ensures steps { IsLocalRun cpu.old.number (local_of N.frames self.old cpu.old)
-            (flat_map (return_steps cpu.old.number) cpu.old.back) (local_of N.frames self.new cpu.new) }
+        ensures visit { Visits N.frames (side self.new cpu.new) }
+        ensures steps { Makes N.frames (side self.old cpu.old)
+            (flat_map (return_steps cpu.old.number) cpu.old.back) (side self.new cpu.new) }
     {
         while let Some(_frame) = self.return_one(tables, cpu) {}
     }
@@ -178,13 +178,13 @@ impl<N: BootName> Machine<N> {
     /// group that paid for it; where that group was killed meanwhile, it goes back, and its page comes off the group's charge,
     /// which counts as a drop. Then the unit of each back frame goes back, in the order of their last puts.
     pub fn settle(&mut self, tables: &Tables<N>, cpu: &mut Cpu<N>)
-        requires { Visits N.frames self.old cpu.old }
-        ensures settles { Settles self.old cpu.old self.new cpu.new }
+        requires { Visits N.frames (side self.old cpu.old) }
+        ensures settles { Settles (side self.old cpu.old) (side self.new cpu.new) }
         ensures others { LeavesOthers cpu.old cpu.new }
         ensures none_fresh { cpu.new.fresh ≡ [] }
         ensures none_back { cpu.new.back ≡ [] }
-        ensures visit { Visits N.frames self.new cpu.new }
-        ensures steps { IsLocalRun cpu.old.number (local_of N.frames self.old cpu.old) (settle_steps self.old cpu.old) (local_of N.frames self.new cpu.new) }
+        ensures visit { Visits N.frames (side self.new cpu.new) }
+        ensures steps { Makes N.frames (side self.old cpu.old) (settle_steps (side self.old cpu.old)) (side self.new cpu.new) }
     {
         self.settle_fresh(tables, cpu);
         self.settle_back(tables, cpu);

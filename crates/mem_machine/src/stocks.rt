@@ -1,15 +1,14 @@
 //! The processors' stocks: drained, and filled.
 
-ghost use Rattle.std.specs.Prelude.{◌≡◌, ◌+◌, ◌^◌, ◌≤◌, ◌<◌, [], false, Some, IsTrue, OnOk, OnErr, IfErr};
+ghost use Rattle.std.specs.Prelude.{◌≡◌, ◌+◌, ◌^◌, ◌≤◌, ◌<◌, ◌++◌, [], false, Some, IsTrue, OnOk, OnErr, IfErr};
 ghost use Rattle.group_tree.specs.Groups.{has_group, in_subtree};
 ghost use Rattle.stock_word.specs.Stock.{account_of};
 ghost use Rattle.group_tree.specs.Room.{IsLowestOver};
 ghost use Rattle.group_charge.specs.Charges.{current_of};
-ghost use Rattle.cpu_part.specs.Cpus.{KnownCpu};
 ghost use Rattle.mem_machine.specs.Machines.{Visits, is_killed};
-ghost use Rattle.mem_machine.specs.Stocks.{Drains, DrainsIfBelow, DrainsSubtree, AreDrained, Fills, Prepays, IsOver, stock_group};
-ghost use Rattle.mem_machine.specs.Local.{IsLocalRun, local_of};
-ghost use Rattle.mem_machine.specs.Steps.{drain_steps, fill_steps, over_steps};
+ghost use Rattle.mem_machine.specs.Stocks.{Drains, DrainsIfBelow, DrainsSubtree, AreDrained, Fills, Prepays, IsOver, own_drain_steps, stock_group};
+ghost use Rattle.mem_machine.specs.Local.{Makes, MakesForAny, side};
+ghost use Rattle.mem_machine.specs.Steps.{drain_steps, fill_steps, over_steps, pages_drained};
 
 use crate::machine::Machine;
 use cpu_part::{BootName, Cpu, Tables};
@@ -23,10 +22,9 @@ impl<N: BootName> Machine<N> {
         requires group { stock_group self.old q ≡ Some group }
         requires fits { group < 64 }
         ensures drains { Drains self.old q result self.new }
-        ensures steps { (c : KnownCpu) → IsLocalRun c.number (local_of N.frames self.old c)
-            (drain_steps q (stock_group self.old q) result) (local_of N.frames self.new c) }
+        ensures steps { MakesForAny N.frames self.old (drain_steps q (stock_group self.old q) result) self.new }
     {
-        let _tree = self.charges.tree();
+        let _tree = self.charges.tree(); // For the clauses.
         let pages = tables.stocks.drain(&mut self.stock, q);
         if pages > 0 {
             self.charges.uncharge(GroupId::of(group).unwrap(), pages);
@@ -39,8 +37,7 @@ impl<N: BootName> Machine<N> {
     pub fn drain_stock(&mut self, tables: &Tables<N>, q: u32) -> u32
         requires processor { (1 ≤ q) × (q ≤ N.frames.cpus) }
         ensures drains { Drains self.old q result self.new }
-        ensures steps { (c : KnownCpu) → IsLocalRun c.number (local_of N.frames self.old c)
-            (drain_steps q (stock_group self.old q) result) (local_of N.frames self.new c) }
+        ensures steps { MakesForAny N.frames self.old (drain_steps q (stock_group self.old q) result) self.new }
     {
         match tables.stocks.group(&mut self.stock, q) {
             None => 0,
@@ -63,7 +60,7 @@ impl<N: BootName> Machine<N> {
     fn drain_below(&mut self, tables: &Tables<N>, q: u32, group: GroupId) -> u32
         requires processor { (1 ≤ q) × (q ≤ N.frames.cpus) }
         requires there { IsTrue (has_group self.old.ledger.groups group) }
-        ensures { DrainsIfBelow N.frames group q result self.old self.new }
+        ensures { (done : DrainsIfBelow N.frames group q self.old self.new) × (result ≡ pages_drained done.drains) }
     {
         match tables.stocks.group(&mut self.stock, q) {
             None => 0,
@@ -97,31 +94,31 @@ impl<N: BootName> Machine<N> {
         group: GroupId,
         pages: u32,
     ) -> Result<(), Over>
-        requires visit { Visits N.frames self.old cpu.old }
+        requires visit { Visits N.frames (side self.old cpu.old) }
         requires there { IsTrue (has_group self.old.ledger.groups group) }
         requires alive { is_killed self.old.killed group ≡ false }
         requires pages { (0 < pages) × (pages < 65536) }
         requires fits { current_of self.old.ledger 0 + pages < 2 ^ 32 }
         requires none_fresh { cpu.old.fresh ≡ [] }
         requires drained { (account_of self.old.stock.view cpu.old.number).filled ≡ false }
-        ensures fills { OnOk result (Fills group pages self.old cpu.old self.new cpu.new) }
+        ensures fills { OnOk result (Fills group pages (side self.old cpu.old) (side self.new cpu.new)) }
         ensures over { IfErr result (λ e. IsLowestOver self.old.ledger.groups (current_of self.old.ledger) group pages e.group) }
         ensures unchanged { OnErr result ((self.new ≡ self.old) × (cpu.new ≡ cpu.old)) }
-        ensures visit { Visits N.frames self.new cpu.new }
-        ensures steps { OnOk result (IsLocalRun cpu.old.number (local_of N.frames self.old cpu.old)
-            (fill_steps cpu.old.number group pages) (local_of N.frames self.new cpu.new)) }
-        ensures refused { IfErr result (λ e. IsLocalRun cpu.old.number (local_of N.frames self.old cpu.old)
-            (over_steps group pages e.group) (local_of N.frames self.old cpu.old)) }
+        ensures visit { Visits N.frames (side self.new cpu.new) }
+        ensures steps { OnOk result (Makes N.frames (side self.old cpu.old)
+            (fill_steps cpu.old.number group pages) (side self.new cpu.new)) }
+        ensures refused { IfErr result (λ e. Makes N.frames (side self.old cpu.old)
+            (over_steps group pages e.group) (side self.old cpu.old)) }
     {
-        let _number = cpu.number();
-        let _tree = self.charges.tree();
+        let _number = cpu.number(); // For the clauses.
+        let _tree = self.charges.tree(); // For the clauses.
         self.charges.try_charge(group, pages)?;
         cpu.fill(tables, &mut self.stock, group.number(), pages);
         Ok(())
     }
 
     /// Tries once to prepay `pages` pages (1 to 65,535) of a group that isn't killed. The caller's own stock is drained first,
-    /// and its pages are taken back; then the pages are charged to the group and fill the stock. Where a limit has no room,
+    /// and all its pages are taken back; then the pages are charged to the group and fill the stock. Where a limit has no room,
     /// the error names the lowest such group, and nothing is charged. The processor has no fresh frame. In all, at most
     /// 2^32 - 1 pages can be charged, as `Charges::fits` tells.
     pub fn prepay(
@@ -131,18 +128,23 @@ impl<N: BootName> Machine<N> {
         group: GroupId,
         pages: u32,
     ) -> Result<(), Over>
-        requires visit { Visits N.frames self.old cpu.old }
+        requires visit { Visits N.frames (side self.old cpu.old) }
         requires there { IsTrue (has_group self.old.ledger.groups group) }
         requires alive { is_killed self.old.killed group ≡ false }
         requires pages { (0 < pages) × (pages < 65536) }
         requires fits { current_of self.old.ledger 0 + pages < 2 ^ 32 }
         requires none_fresh { cpu.old.fresh ≡ [] }
-        ensures prepays { OnOk result (Prepays N.frames group pages self.old cpu.old self.new cpu.new) }
-        ensures over { IfErr result (λ e. IsOver N.frames group pages e.group self.old cpu.old self.new cpu.new) }
-        ensures visit { Visits N.frames self.new cpu.new }
+        ensures prepays { OnOk result (Prepays group pages (side self.old cpu.old) (side self.new cpu.new)) }
+        ensures over { IfErr result (λ e. IsOver group pages e.group (side self.old cpu.old) (side self.new cpu.new)) }
+        ensures visit { Visits N.frames (side self.new cpu.new) }
+        ensures steps { OnOk result (Makes N.frames (side self.old cpu.old)
+            (own_drain_steps (side self.old cpu.old) ++ fill_steps cpu.old.number group pages) (side self.new cpu.new)) }
+        ensures refused { IfErr result (λ e. Makes N.frames (side self.old cpu.old)
+            (own_drain_steps (side self.old cpu.old) ++ over_steps group pages e.group) (side self.new cpu.new)) }
     {
         let number = cpu.number();
         self.drain_stock(tables, number);
+        let _emptied = self.own_stock(tables, cpu); // For the clauses.
         self.fill_stock(tables, cpu, group, pages)
     }
 }

@@ -3,7 +3,7 @@
 ghost use Rattle.std.specs.Prelude.{◌≡◌};
 ghost use Rattle.frame_word.specs.Seats.{IsOpen, IsShut, NothingPasses, LentIsBorrowed, seat_with_visit};
 ghost use Rattle.mem_machine.specs.Machines.{Visits};
-ghost use Rattle.mem_machine.specs.Local.{IsLocalRun, local_of};
+ghost use Rattle.mem_machine.specs.Local.{Makes, side};
 ghost use Rattle.mem_machine.specs.Steps.{open_steps, shut_steps};
 
 use crate::machine::Machine;
@@ -15,24 +15,24 @@ impl<N: BootName> Machine<N> {
         requires { IsShut self.old.seat cpu.old.number }
         ensures machine { self.new ≡ record self.old { seat = seat_with_visit self.old.seat cpu.old.number 1 } }
         ensures cpu { cpu.new ≡ cpu.old }
-        ensures visits { Visits N.frames self.new cpu.new }
-        ensures steps { IsLocalRun cpu.old.number (local_of N.frames self.old cpu.old) (open_steps cpu.old.number) (local_of N.frames self.new cpu.new) }
+        ensures visits { Visits N.frames (side self.new cpu.new) }
+        ensures steps { Makes N.frames (side self.old cpu.old) (open_steps cpu.old.number) (side self.new cpu.new) }
     {
-        let _number = cpu.number();
+        let _number = cpu.number(); // For the clauses.
         cpu.open(tables, &mut self.seat);
     }
 
     /// Shuts the visit of the processor.
     pub fn shut(&mut self, tables: &Tables<N>, cpu: &mut Cpu<N>)
-        requires { Visits N.frames self.old cpu.old }
+        requires { Visits N.frames (side self.old cpu.old) }
         ensures machine { self.new ≡ record self.old { seat = seat_with_visit self.old.seat cpu.old.number 0 } }
         ensures cpu { cpu.new ≡ cpu.old }
         ensures shut { IsShut self.new.seat cpu.new.number }
         ensures still { NothingPasses N.frames self.new.seat cpu.new.seat }
         ensures lent { LentIsBorrowed N.frames self.new.seat cpu.new.seat }
-        ensures steps { IsLocalRun cpu.old.number (local_of N.frames self.old cpu.old) (shut_steps cpu.old.number) (local_of N.frames self.new cpu.new) }
+        ensures steps { Makes N.frames (side self.old cpu.old) (shut_steps cpu.old.number) (side self.new cpu.new) }
     {
-        let _number = cpu.number();
+        let _number = cpu.number(); // For the clauses.
         cpu.shut(tables, &mut self.seat);
     }
 }

@@ -13,6 +13,8 @@ use Rattle.frame_word.specs.ReferenceRule.{opened_in}
 use Rattle.frame_word.specs.Seats.{KnownTable, KnownSeat, view_of, AreSeatsAt}
 use Rattle.stock_word.specs.declared.view.Stock.{Stock}
 use Rattle.stock_word.specs.declared.view.Stock.TheVariants.{NoGroup, HeldBy, DrainedOf}
+use Rattle.stock_word.specs.declared.view.StockView.{StockView}
+use Rattle.stock_word.specs.StockRule.{IsStockOf}
 use Rattle.stock_word.specs.Stock.{Words, Seated, AreOf, account_of, view_in, pages_of, is_held}
 use Rattle.cpu_part.specs.Cpus.{KnownCpu, IsIdle, times}
 use Rattle.step_rules.specs.State.{one_if}
@@ -22,6 +24,7 @@ use Rattle.mem_machine.proofs.NoneLent.{lent_noted, each_is_placed}
 use Rattle.mem_system.specs.declared.audit.Audit.{Audit}
 use Rattle.mem_system.specs.Boots.{KnownLocked, IsQuiet, AllShut}
 use Rattle.mem_system.specs.Ends.{Happens, InTurn, Rests, Empties, IsSpent, Tells, IsClosed, HasNoPage, Ends, frame_seat_of, stock_seat_of, drops_of, pins_of}
+use Rattle.mem_system.specs.Commands.{Serves}
 
 -- as many processors are visited as there are
 pub turn_long : (t : KnownTable) (P : Happens) (m : KnownMachine) (cpus : List KnownCpu) (n : KnownMachine) (after : List KnownCpu) → InTurn t P m cpus n after
@@ -158,6 +161,16 @@ module _ (t : KnownTable) (w : Words) (m : KnownMachine) (cpus : List KnownCpu) 
             (record { stock = words.stock; encoded = words.encoded; empty = empty; none_reported = noted; book = book }),
       )
 
+  -- the words tell each processor's stock
+  told_each : All (λ c. IsStockOf closed.stock_words c.number m.stock.view c.stock.view) cpus
+  told_each k any inside =
+      let c = get_or cpus k any in
+      let long = long_stocks cpus in
+      let view = view_at cpus k any inside in
+      let number : (view_in (map stock_seat_of cpus) k).number ≡ c.number = ap (λ v. v.number) view ∙ (all k any inside).tied.seats.stock_number in
+      subst (λ (z : ℕ × StockView). IsStockOf closed.stock_words z.0 m.stock.view z.1) (λ i. (number i, view i))
+      (closed.stocks k (omega (arith, long, inside)))
+
   none_lent : (p : ℕ) → NoneLentTo p m.spots
   none_lent p f is =
       let noted = lent_noted t w m ok f p is in
@@ -199,6 +212,7 @@ all_ends t w l cpus x rested y spent a frame_seats stock_seats drops quiet no_pi
       none_lent = none;
       no_page = λ p some within. (found t w y spent shut all closed p some within).3;
       stock_words = closed.stock_words;
+      told = told_each t w y spent shut all closed;
       words = closed.words;
       last_words = record { rule = closed.rule; references = word_of_frame t w y spent shut all closed };
       tells = subst (λ (k : ℕ). Tells t y k a) drops_are tells;

@@ -9,8 +9,9 @@ use Rattle.stock_word.specs.Stock.{Words}
 use Rattle.cpu_part.specs.Cpus.{KnownCpu}
 use Rattle.mem_machine.specs.Machines.{KnownMachine}
 use Rattle.mem_system.specs.Boots.{AllShut}
-use Rattle.mem_system.specs.Commands.{BySteps}
+use Rattle.mem_system.specs.Commands.{BySteps, Serves}
 use Rattle.mem_system.specs.Ends.{Happens, InTurn, IsSpent, LeavesAlone, pins_of}
+use Rattle.mem_machine.specs.Local.{side}
 
 -- the visits of the first i processors lead from the first machine to this one, and the others are as they were
 pub record SoFar (t : KnownTable) (P : Happens) (i : ℕ) (m : KnownMachine) (cpus : List KnownCpu) (x : KnownMachine) (now : List KnownCpu) : Type 0 where
@@ -32,15 +33,15 @@ pub same_at : (cpus now : List KnownCpu) (i : ℕ) (any : KnownCpu) → i < leng
 same_at cpus now i any inside long left = ap (λ (l : List KnownCpu). get_or l 0 any) (same_next i cpus now any (omega (arith, inside, long)) long left)
 
 pub so_far_more : (t : KnownTable) (P : Happens) (i : ℕ) (m : KnownMachine) (cpus : List KnownCpu) (x y : KnownMachine) (now : List KnownCpu) (any d : KnownCpu)
-    → SoFar t P i m cpus x now → i < length now → BySteps t x (get_or now i any) y d (λ steps. P x (get_or now i any) steps y d) → AllShut y
+    → SoFar t P i m cpus x now → i < length now → BySteps t (side x (get_or now i any)) (side y d) P → AllShut y
     → SoFar t P (i + 1) m cpus y (slice_set now i d)
 so_far_more t P i m cpus x y now any d so_far inside one shut =
     let long = so_far.long in
     let within : i < length cpus = omega (arith, inside, long) in
     let next = same_next i cpus now any within long so_far.left in
     let same : get_or now i any ≡ get_or cpus i any = ap (λ (l : List KnownCpu). get_or l 0 any) next in
-    let its : BySteps t x (get_or cpus i any) y d (λ steps. P x (get_or cpus i any) steps y d) =
-    subst (λ (c : KnownCpu). BySteps t x c y d (λ steps. P x c steps y d)) same one in
+    let its : BySteps t (side x (get_or cpus i any)) (side y d) P =
+    subst (λ (c : KnownCpu). BySteps t (side x c) (side y d) P) same one in
     record {
       long = length-set now i d ∙ long;
       left = drop-set-lt (i + 1) now i d (omega arith) ∙ ap (λ (l : List KnownCpu). drop 1 l) next;

@@ -10,6 +10,8 @@ use Rattle.mem_machine.specs.Stocks.{Drains, DrainsBelow, DrainsAllBelow, stock_
 use Rattle.mem_machine.proofs.Draining.{groups_stay}
 use Rattle.mem_system.specs.Leaves.{IsLeafAt}
 use Rattle.mem_system.proofs.Found.{found_there}
+use Rattle.mem_machine.specs.Local.{side}
+use Rattle.mem_system.specs.Commands.{Serves}
 
 -- the groups and the zone's seat are the same
 pub record Keeps (m n : KnownMachine) : Type 0 where
@@ -35,8 +37,8 @@ all_keep g (suc k) m n drains h =
     record { groups = one.groups ∙ rest.groups; seat = one.seat ∙ rest.seat }
 
 -- the visit stays open
-pub visit_keeps : (t : KnownTable) (m n : KnownMachine) (c d : KnownCpu) → n.seat ≡ m.seat → d ≡ c → Visits t m c → Visits t n d
-visit_keeps t m n c d seat cpu v = subst (λ (x : KnownCpu). Visits t n x) (sym cpu) (record {
+pub visit_keeps : (t : KnownTable) (m n : KnownMachine) (c d : KnownCpu) → n.seat ≡ m.seat → d ≡ c → Visits t (side m c) → Visits t (side n d)
+visit_keeps t m n c d seat cpu v = subst (λ (x : KnownCpu). Visits t (side n x)) (sym cpu) (record {
   is_open = subst (λ (s : KnownSeat). IsOpen s c.number) (sym seat) v.is_open;
   still = subst (λ (s : KnownSeat). NothingPasses t s c.seat) (sym seat) v.still;
   lent = subst (λ (s : KnownSeat). LentIsBorrowed t s c.seat) (sym seat) v.lent;

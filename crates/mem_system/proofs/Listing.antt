@@ -12,10 +12,10 @@ use Rattle.mem_machine.specs.declared.releasing.Released.TheVariants.{Returned}
 use Rattle.mem_machine.specs.Spots.{spot_at}
 use Rattle.mem_machine.specs.Machines.{KnownMachine}
 use Rattle.mem_machine.specs.Lending.{TakesManyBack}
-use Rattle.mem_machine.specs.Local.{IsLocalRun, local_of}
+use Rattle.mem_machine.specs.Local.{IsLocalRun, local_of, side}
 use Rattle.mem_machine.specs.Releasing.{ReturnsUnit, release_steps}
 use Rattle.mem_machine.proofs.Reaching.{run_both}
-use Rattle.mem_system.specs.Commands.{BySteps}
+use Rattle.mem_system.specs.Commands.{BySteps, Serves}
 use Rattle.mem_system.specs.Releases.{ListsFrame, ReturnsFrames}
 
 -- another frame that is free now leaves a free one free
@@ -35,7 +35,7 @@ pub record Cut (frames : List ℕ) (m : KnownMachine) (c : KnownCpu) (n : KnownM
   pub opened : n.seat.view.opened ≡ m.seat.view.opened
   pub free : (f : ℕ) → spot_at m.spots f ≡ Free → spot_at n.spots f ≡ Free
 
-pub cut_off : (frames : List ℕ) (m : KnownMachine) (c : KnownCpu) (n : KnownMachine) (d : KnownCpu) → TakesManyBack frames m c n d → Cut frames m c n d
+pub cut_off : (frames : List ℕ) (m : KnownMachine) (c : KnownCpu) (n : KnownMachine) (d : KnownCpu) → TakesManyBack frames (side m c) (side n d) → Cut frames m c n d
 cut_off [] m c n d t = record {
   split = sym (ap (λ (e : KnownCpu). e.list) t.1);
   number = ap (λ (e : KnownCpu). e.number) t.1;
@@ -45,8 +45,8 @@ cut_off [] m c n d t = record {
   free = λ f is. ap (λ (k : KnownMachine). spot_at k.spots f) t.0 ∙ is;
 }
 cut_off (f ∷ rest) m c n d t =
-    let one = t.2 in
-    let more = cut_off rest t.0 t.1 n d t.3 in
+    let one = t.1 in
+    let more = cut_off rest t.0.machine t.0.cpu n d t.2 in
     record {
       split = one.front ∙ ap (λ (l : List ℕ). f ∷ l) (sym (ap (λ (e : KnownCpu). e.list) one.cpu) ∙ more.split);
       number = more.number ∙ ap (λ (e : KnownCpu). e.number) one.cpu;
@@ -76,7 +76,7 @@ left_over k list left listed split =
 -- a single frame came back and went to the list
 pub returned_single : (t : KnownTable) (sizes : Config) (f : ℕ) (m freed n : KnownMachine) (c d : KnownCpu) (returns : ReturnsUnit m f freed)
     → returns.unit.order ≡ 0 → IsLocalRun c.number (local_of t m c) (release_steps f Returned) (local_of t freed c)
-    → BySteps t freed c n d (λ steps. ListsFrame sizes f freed c steps n d) → BySteps t m c n d (λ steps. ReturnsFrames sizes f m c steps n d)
+    → BySteps t (side freed c) (side n d) (ListsFrame sizes f) → BySteps t (side m c) (side n d) (ReturnsFrames sizes f)
 returned_single t sizes f m freed n c d returns single first lists = (
   release_steps f Returned ++ lists.0,
   record {
@@ -93,7 +93,7 @@ returned_single t sizes f m freed n c d returns single first lists = (
 -- a block came back
 pub returned_block : (t : KnownTable) (sizes : Config) (f : ℕ) (m freed : KnownMachine) (c : KnownCpu) (returns : ReturnsUnit m f freed)
     → returns.unit.order ≢ 0 → IsLocalRun c.number (local_of t m c) (release_steps f Returned) (local_of t freed c)
-    → BySteps t m c freed c (λ steps. ReturnsFrames sizes f m c steps freed c)
+    → BySteps t (side m c) (side freed c) (ReturnsFrames sizes f)
 returned_block t sizes f m freed c returns more first = (
   release_steps f Returned,
   record {

@@ -15,13 +15,13 @@ use Rattle.mem_machine.specs.Spots.{spot_at}
 use Rattle.mem_machine.specs.Machines.{KnownMachine}
 use Rattle.mem_machine.specs.Lending.{TakesManyBack}
 use Rattle.mem_machine.specs.Stocks.{Drains, stock_group}
-use Rattle.mem_machine.specs.Local.{IsLocalRun, local_of}
+use Rattle.mem_machine.specs.Local.{IsLocalRun, local_of, side}
 use Rattle.mem_machine.specs.Settling.{Settles, settle_steps}
 use Rattle.mem_machine.specs.Steps.{open_steps, shut_steps, drain_list_steps, drain_steps}
 use Rattle.mem_machine.proofs.Reaching.{run_both}
 use Rattle.mem_machine.proofs.Draining.{drained_at, drained_else}
 use Rattle.mem_machine.proofs.NoneLent.{past_free}
-use Rattle.mem_system.specs.Commands.{BySteps, with_visit_of}
+use Rattle.mem_system.specs.Commands.{BySteps, with_visit_of, Serves}
 use Rattle.mem_system.specs.Ends.{Rests, Empties, LeavesAlone}
 use Rattle.mem_system.proofs.Listing.{left_over}
 
@@ -29,28 +29,28 @@ use Rattle.mem_system.proofs.Listing.{left_over}
 pub rested : (t : KnownTable) (m n : KnownMachine) (c d : KnownCpu) (entered x : KnownMachine) (c1 c2 : KnownCpu)
     → entered ≡ with_visit_of m c.number 1 → c1 ≡ c → c2.number ≡ c1.number → n ≡ with_visit_of x c2.number 0 → d ≡ c2
     → IsLocalRun c.number (local_of t m c) (open_steps c.number) (local_of t entered c1)
-    → Settles entered c1 x c2 → IsLocalRun c1.number (local_of t entered c1) (settle_steps entered c1) (local_of t x c2)
+    → Settles (side entered c1) (side x c2) → IsLocalRun c1.number (local_of t entered c1) (settle_steps (side entered c1)) (local_of t x c2)
     → IsLocalRun c2.number (local_of t x c2) (shut_steps c2.number) (local_of t n d)
-    → BySteps t m c n d (λ steps. Rests m c steps n d)
+    → BySteps t (side m c) (side n d) Rests
 rested t m n c d entered x c1 c2 opened same second shut after first settles rests last =
     let p = c.number in
     let begins = with_visit_of m p 1 in
     let two : c2.number ≡ p = second ∙ ap (λ (y : KnownCpu). y.number) same in
     let before : KnownMachine × KnownCpu → Type 0 = λ (y : KnownMachine × KnownCpu). IsLocalRun p (local_of t m c) (open_steps p) (local_of t y.0 y.1) in
     let begun : IsLocalRun p (local_of t m c) (open_steps p) (local_of t begins c) = subst before (λ i. (opened i, same i)) first in
-    let settled : Settles begins c x c2 = subst (λ (y : KnownMachine × KnownCpu). Settles y.0 y.1 x c2) (λ i. (opened i, same i)) settles in
-    let done : IsLocalRun p (local_of t begins c) (settle_steps begins c) (local_of t x c2) =
-    subst (λ (y : KnownMachine × KnownCpu). IsLocalRun y.1.number (local_of t y.0 y.1) (settle_steps y.0 y.1) (local_of t x c2)) (λ i. (opened i, same i)) rests in
+    let settled : Settles (side begins c) (side x c2) = subst (λ (y : KnownMachine × KnownCpu). Settles (side y.0 y.1) (side x c2)) (λ i. (opened i, same i)) settles in
+    let done : IsLocalRun p (local_of t begins c) (settle_steps (side begins c)) (local_of t x c2) =
+    subst (λ (y : KnownMachine × KnownCpu). IsLocalRun y.1.number (local_of t y.0 y.1) (settle_steps (side y.0 y.1)) (local_of t x c2)) (λ i. (opened i, same i)) rests in
     let ended = subst (λ (q : ℕ). IsLocalRun q (local_of t x c2) (shut_steps q) (local_of t n d)) two last in (
-      open_steps p ++ (settle_steps begins c ++ shut_steps p),
+      open_steps p ++ (settle_steps (side begins c) ++ shut_steps p),
       record {
         settled = x;
-        settles = subst (λ (y : KnownCpu). Settles begins c x y) (sym after) settled;
+        settles = subst (λ (y : KnownCpu). Settles (side begins c) (side x y)) (sym after) settled;
         machine = shut ∙ ap (λ (q : ℕ). with_visit_of x q 0) two;
         steps_are = refl;
       },
-      run_both p (open_steps p) (settle_steps begins c ++ shut_steps p) (local_of t m c) (local_of t begins c) (local_of t n d) begun
-          (run_both p (settle_steps begins c) (shut_steps p) (local_of t begins c) (local_of t x c2) (local_of t n d) done ended),
+      run_both p (open_steps p) (settle_steps (side begins c) ++ shut_steps p) (local_of t m c) (local_of t begins c) (local_of t n d) begun
+          (run_both p (settle_steps (side begins c)) (shut_steps p) (local_of t begins c) (local_of t x c2) (local_of t n d) done ended),
     )
 
 -- ---- a list that is given back whole
@@ -87,15 +87,15 @@ pub record TakenAlone (m : KnownMachine) (c : KnownCpu) (n : KnownMachine) (d : 
   pub stock : n.stock ≡ m.stock
   pub pins : d.pins ≡ c.pins
 
-pub taken_alone : (frames : List ℕ) (m : KnownMachine) (c : KnownCpu) (n : KnownMachine) (d : KnownCpu) → TakesManyBack frames m c n d → TakenAlone m c n d
+pub taken_alone : (frames : List ℕ) (m : KnownMachine) (c : KnownCpu) (n : KnownMachine) (d : KnownCpu) → TakesManyBack frames (side m c) (side n d) → TakenAlone m c n d
 taken_alone [] m c n d t = record {
   lent = λ f p is. sym (ap (λ (k : KnownMachine). spot_at k.spots f) t.0) ∙ is;
   stock = ap (λ (k : KnownMachine). k.stock) t.0;
   pins = ap (λ (e : KnownCpu). e.pins) t.1;
 }
 taken_alone (f ∷ rest) m c n d t =
-    let one = t.2 in
-    let more = taken_alone rest t.0 t.1 n d t.3 in
+    let one = t.1 in
+    let more = taken_alone rest t.0.machine t.0.cpu n d t.2 in
     record {
       lent = λ g p is. still_lent m.spots f g p (sym (ap (λ (k : KnownMachine). spot_at k.spots g) one.machine) ∙ more.lent g p is);
       stock = more.stock ∙ ap (λ (k : KnownMachine). k.stock) one.machine;
@@ -104,7 +104,7 @@ taken_alone (f ∷ rest) m c n d t =
 
 -- the visit leaves alone whom a frame is lent to, and which stocks are drained
 pub emptied_alone : (m entered x y n : KnownMachine) (c1 c2 : KnownCpu) (frames : List ℕ) (p q k : ℕ) → entered ≡ with_visit_of m p 1
-    → TakesManyBack frames entered c1 x c2 → Drains x q k y → n ≡ with_visit_of y p 0 → LeavesAlone m n
+    → TakesManyBack frames (side entered c1) (side x c2) → Drains x q k y → n ≡ with_visit_of y p 0 → LeavesAlone m n
 emptied_alone m entered x y n c1 c2 frames p q k opened takes drains shut =
     let taken = taken_alone frames entered c1 x c2 takes in
     let spots : n.spots ≡ x.spots = ap (λ (z : KnownMachine). z.spots) shut ∙ ap (λ (z : KnownMachine). z.spots) drains.machine in
@@ -131,12 +131,12 @@ emptied_drained x y n p q k drains shut =
 pub emptied : (t : KnownTable) (m n : KnownMachine) (c d : KnownCpu) (entered x y : KnownMachine) (c1 c2 : KnownCpu) (k q pages : ℕ)
     → entered ≡ with_visit_of m c.number 1 → c1 ≡ c → c2.number ≡ c1.number → q ≡ c2.number → n ≡ with_visit_of y c2.number 0 → d ≡ c2
     → take k c1.list ≡ c1.list → IsLocalRun c.number (local_of t m c) (open_steps c.number) (local_of t entered c1)
-    → TakesManyBack (take k c1.list) entered c1 x c2
+    → TakesManyBack (take k c1.list) (side entered c1) (side x c2)
     → IsLocalRun c1.number (local_of t entered c1) (drain_list_steps c1.number (take k c1.list)) (local_of t x c2)
     → Drains x q pages y
     → ((e : KnownCpu) → IsLocalRun e.number (local_of t x e) (drain_steps q (stock_group x q) pages) (local_of t y e))
     → IsLocalRun c2.number (local_of t y c2) (shut_steps c2.number) (local_of t n d)
-    → BySteps t m c n d (λ steps. Empties m c steps n d)
+    → BySteps t (side m c) (side n d) Empties
 emptied t m n c d entered x y c1 c2 k q pages opened same second named shut after whole first takes gives drains drips last =
     let p = c.number in
     let begins = with_visit_of m p 1 in
@@ -145,8 +145,8 @@ emptied t m n c d entered x y c1 c2 k q pages opened same second named shut afte
     let list : take k c1.list ≡ c.list = whole ∙ ap (λ (z : KnownCpu). z.list) same in
     let before : KnownMachine × KnownCpu → Type 0 = λ (z : KnownMachine × KnownCpu). IsLocalRun p (local_of t m c) (open_steps p) (local_of t z.0 z.1) in
     let begun : IsLocalRun p (local_of t m c) (open_steps p) (local_of t begins c) = subst before (λ i. (opened i, same i)) first in
-    let taken : TakesManyBack c.list begins c x c2 =
-    subst (λ (z : List ℕ × KnownMachine × KnownCpu). TakesManyBack z.0 z.1 z.2 x c2) (λ i. (list i, opened i, same i)) takes in
+    let taken : TakesManyBack c.list (side begins c) (side x c2) =
+    subst (λ (z : List ℕ × KnownMachine × KnownCpu). TakesManyBack z.0 (side z.1 z.2) (side x c2)) (λ i. (list i, opened i, same i)) takes in
     let given : IsLocalRun p (local_of t begins c) (drain_list_steps p c.list) (local_of t x c2) =
     subst (λ (z : List ℕ × KnownMachine × KnownCpu). IsLocalRun z.2.number (local_of t z.1 z.2) (drain_list_steps z.2.number z.0) (local_of t x c2))
     (λ i. (list i, opened i, same i)) gives in
@@ -156,7 +156,7 @@ emptied t m n c d entered x y c1 c2 k q pages opened same second named shut afte
       open_steps p ++ (drain_list_steps p c.list ++ (drain_steps p (stock_group x p) pages ++ shut_steps p)),
       record {
         emptied = x;
-        takes = subst (λ (z : KnownCpu). TakesManyBack c.list begins c x z) (sym after) taken;
+        takes = subst (λ (z : KnownCpu). TakesManyBack c.list (side begins c) (side x z)) (sym after) taken;
         pages = pages;
         drained = y;
         drains = subst (λ (r : ℕ). Drains x r pages y) its drains;

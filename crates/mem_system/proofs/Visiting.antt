@@ -7,14 +7,14 @@ use Rattle.frame_word.specs.Seats.{KnownTable}
 use Rattle.frame_word.proofs.Notes.{put_here, put_else}
 use Rattle.cpu_part.specs.Cpus.{KnownCpu}
 use Rattle.mem_machine.specs.Machines.{KnownMachine, is_killed}
-use Rattle.mem_machine.specs.Local.{IsLocalRun, local_of, fresh_group}
+use Rattle.mem_machine.specs.Local.{IsLocalRun, local_of, fresh_group, side}
 use Rattle.mem_machine.specs.Settling.{SettlesFresh, SettlesAllFresh, ReturnsAllBack, Settles, settle_steps}
 use Rattle.mem_machine.specs.Steps.{open_steps, shut_steps}
 use Rattle.mem_machine.proofs.Reaching.{run_both}
 use Rattle.mem_system.specs.declared.command.Cmd.{Cmd}
 use Rattle.mem_system.specs.declared.command.Reply.{Reply}
 use Rattle.mem_system.specs.Boots.{KnownLocked, AllShut}
-use Rattle.mem_system.specs.Commands.{BySteps, Obeys, Serves, with_visit_of}
+use Rattle.mem_system.specs.Commands.{BySteps, Obeys, Serves, with_visit_of, course, holder, IsServed}
 
 pub all_shut : (m x n : KnownMachine) (p : ℕ) → AllShut m → x.seat.view.opened ≡ put_at 0 m.seat.view.opened p 1 → n ≡ with_visit_of x p 0 → AllShut n
 all_shut m x n p shut opened is q =
@@ -26,32 +26,32 @@ all_shut m x n p shut opened is q =
     ]
 
 -- a settled frame leaves the visits as they were
-settled_fresh : (f : ℕ) (m n : KnownMachine) (c d : KnownCpu) → SettlesFresh f m c n d → n.seat.view.opened ≡ m.seat.view.opened
+settled_fresh : (f : ℕ) (m n : KnownMachine) (c d : KnownCpu) → SettlesFresh f (side m c) (side n d) → n.seat.view.opened ≡ m.seat.view.opened
 settled_fresh f m n c d s = elim (cases_Bool (is_killed m.killed (fresh_group c))) [
   | inl killed ↦ ap (λ (k : KnownMachine). k.seat.view.opened) (s.drops killed).machine
   | inr alive ↦ ap (λ (k : KnownMachine). k.seat.view.opened) (s.keeps alive).machine
 ]
 
-settled_all : (frames : List ℕ) (m n : KnownMachine) (c d : KnownCpu) → SettlesAllFresh frames m c n d → n.seat.view.opened ≡ m.seat.view.opened
+settled_all : (frames : List ℕ) (m n : KnownMachine) (c d : KnownCpu) → SettlesAllFresh frames (side m c) (side n d) → n.seat.view.opened ≡ m.seat.view.opened
 settled_all [] m n c d s = ap (λ (k : KnownMachine). k.seat.view.opened) s.0
-settled_all (f ∷ rest) m n c d s = settled_all rest s.0 n s.1 d s.3 ∙ settled_fresh f m s.0 c s.1 s.2
+settled_all (f ∷ rest) m n c d s = settled_all rest s.0.machine n s.0.cpu d s.2 ∙ settled_fresh f m s.0.machine c s.0.cpu s.1
 
-returned_all : (frames : List ℕ) (m n : KnownMachine) (c d : KnownCpu) → ReturnsAllBack frames m c n d → n.seat.view.opened ≡ m.seat.view.opened
+returned_all : (frames : List ℕ) (m n : KnownMachine) (c d : KnownCpu) → ReturnsAllBack frames (side m c) (side n d) → n.seat.view.opened ≡ m.seat.view.opened
 returned_all [] m n c d s = ap (λ (k : KnownMachine). k.seat.view.opened) s.0
-returned_all (f ∷ rest) m n c d s = returned_all rest s.0 n s.1 d s.3 ∙ ap (λ (k : KnownMachine). k.seat.view.opened) s.2.machine
+returned_all (f ∷ rest) m n c d s = returned_all rest s.0.machine n s.0.cpu d s.2 ∙ ap (λ (k : KnownMachine). k.seat.view.opened) s.1.machine
 
-pub settled_opened : (m n : KnownMachine) (c d : KnownCpu) → Settles m c n d → n.seat.view.opened ≡ m.seat.view.opened
-settled_opened m n c d s = returned_all c.back s.machine n s.cpu d s.back ∙ settled_all c.fresh m s.machine c s.cpu s.fresh
+pub settled_opened : (m n : KnownMachine) (c d : KnownCpu) → Settles (side m c) (side n d) → n.seat.view.opened ≡ m.seat.view.opened
+settled_opened m n c d s = returned_all c.back s.mid.machine n s.mid.cpu d s.back ∙ settled_all c.fresh m s.mid.machine c s.mid.cpu s.fresh
 
 -- the whole command, from its four parts
 pub served : (t : KnownTable) (cmd : Cmd) (l k : KnownLocked) (c d : KnownCpu) (reply : Reply) (entered mid x : KnownMachine) (c1 c2 c3 : KnownCpu)
     → entered ≡ with_visit_of l.machine c.number 1 → c1 ≡ c → c2.number ≡ c1.number → c3.number ≡ c2.number
     → k.machine ≡ with_visit_of x c3.number 0 → d ≡ c3 → k.sizes ≡ l.sizes
     → IsLocalRun c.number (local_of t l.machine c) (open_steps c.number) (local_of t entered c1)
-    → Settles entered c1 mid c2 → IsLocalRun c1.number (local_of t entered c1) (settle_steps entered c1) (local_of t mid c2)
-    → BySteps t mid c2 x c3 (λ steps. Obeys t l.sizes cmd mid c2 reply steps x c3)
+    → Settles (side entered c1) (side mid c2) → IsLocalRun c1.number (local_of t entered c1) (settle_steps (side entered c1)) (local_of t mid c2)
+    → BySteps t (side mid c2) (side x c3) (Obeys l.sizes cmd reply)
     → IsLocalRun c3.number (local_of t x c3) (shut_steps c3.number) (local_of t k.machine d)
-    → BySteps t l.machine c k.machine d (λ steps. Serves t cmd l c reply steps k d)
+    → IsServed t cmd (holder l c) reply (holder k d)
 served t cmd l k c d reply entered mid x c1 c2 c3 opened same second third shut after sizes first settles rests obeyed last =
     let p = c.number in
     let begins = with_visit_of l.machine p 1 in
@@ -60,25 +60,24 @@ served t cmd l k c d reply entered mid x c1 c2 c3 opened same second third shut 
     let before : KnownMachine × KnownCpu → Type 0 = λ (y : KnownMachine × KnownCpu). IsLocalRun p (local_of t l.machine c) (open_steps p) (local_of t y.0 y.1) in
     let begun : IsLocalRun p (local_of t l.machine c) (open_steps p) (local_of t begins c) =
     subst before (λ i. (opened i, same i)) first in
-    let settled : Settles begins c mid c2 = subst (λ (y : KnownMachine × KnownCpu). Settles y.0 y.1 mid c2) (λ i. (opened i, same i)) settles in
-    let rested : IsLocalRun p (local_of t begins c) (settle_steps begins c) (local_of t mid c2) =
-    subst (λ (y : KnownMachine × KnownCpu). IsLocalRun y.1.number (local_of t y.0 y.1) (settle_steps y.0 y.1) (local_of t mid c2)) (λ i. (opened i, same i)) rests in
+    let settled : Settles (side begins c) (side mid c2) = subst (λ (y : KnownMachine × KnownCpu). Settles (side y.0 y.1) (side mid c2)) (λ i. (opened i, same i)) settles in
+    let rested : IsLocalRun p (local_of t begins c) (settle_steps (side begins c)) (local_of t mid c2) =
+    subst (λ (y : KnownMachine × KnownCpu). IsLocalRun y.1.number (local_of t y.0 y.1) (settle_steps (side y.0 y.1)) (local_of t mid c2)) (λ i. (opened i, same i)) rests in
     let inside = subst (λ (q : ℕ). IsLocalRun q (local_of t mid c2) obeyed.0 (local_of t x c3)) two obeyed.2 in
     let ended = subst (λ (q : ℕ). IsLocalRun q (local_of t x c3) (shut_steps q) (local_of t k.machine d)) three last in (
-      open_steps p ++ (settle_steps begins c ++ (obeyed.0 ++ shut_steps p)),
+      open_steps p ++ (settle_steps (side begins c) ++ (obeyed.0 ++ shut_steps p)),
       record {
-        settled = mid;
-        rested = c2;
+        settled = side mid c2;
         settles = settled;
         inner = obeyed.0;
         done = x;
-        obeys = subst (λ (y : KnownCpu). Obeys t l.sizes cmd mid c2 reply obeyed.0 x y) (sym after) obeyed.1;
+        obeys = subst (λ (y : KnownCpu). Obeys l.sizes cmd reply (course t (side mid c2) obeyed.0 (side x y))) (sym after) obeyed.1;
         machine = shut ∙ ap (λ (q : ℕ). with_visit_of x q 0) three;
         sizes = sizes;
         steps_are = refl;
       },
-      run_both p (open_steps p) (settle_steps begins c ++ (obeyed.0 ++ shut_steps p)) (local_of t l.machine c) (local_of t begins c)
+      run_both p (open_steps p) (settle_steps (side begins c) ++ (obeyed.0 ++ shut_steps p)) (local_of t l.machine c) (local_of t begins c)
           (local_of t k.machine d) begun
-          (run_both p (settle_steps begins c) (obeyed.0 ++ shut_steps p) (local_of t begins c) (local_of t mid c2) (local_of t k.machine d) rested
+          (run_both p (settle_steps (side begins c)) (obeyed.0 ++ shut_steps p) (local_of t begins c) (local_of t mid c2) (local_of t k.machine d) rested
           (run_both p obeyed.0 (shut_steps p) (local_of t mid c2) (local_of t x c3) (local_of t k.machine d) inside ended)),
     )

@@ -19,29 +19,29 @@ pub record KnownLocked : Type 0 where
   pub sizes : Config
 
 -- the tables have these sizes
-pub record IsSizedAs (sizes : Config) (t : KnownTable) (w : Words) : Type 0 where
-  pub frames : t.frames ≡ sizes.frames
-  pub cpus : t.cpus ≡ sizes.cpus
-  pub payers : w.cpus ≡ sizes.cpus
+pub record IsSizedAs (sizes : Config) (table : KnownTable) (words : Words) : Type 0 where
+  pub frames : table.frames ≡ sizes.frames
+  pub cpus : table.cpus ≡ sizes.cpus
+  pub payers : words.cpus ≡ sizes.cpus
 
 -- the sizes are in their ranges, the tables have them, and the seats are all those of the tables, none of which did anything
-pub record IsBooted (b : KnownBoot) (zone : KnownSeat) (machine : Seated) (seats : List KnownSeat) (payers : List Seated) : Type 0 where
-  pub valid : IsValidConfig b.sizes
-  pub sized : IsSizedAs b.sizes b.frames b.stocks
-  pub zone_is : zone ≡ record { table = b.frames.table; view = first_zone_view b.frames.frames }
-  pub machine_is : machine ≡ record { table = b.stocks.table; view = first_machine }
-  pub seats_are : seats ≡ first_cpu_seats b.frames.table 1 b.sizes.cpus
-  pub payers_are : payers ≡ first_seats b.stocks.table 1 b.sizes.cpus
+pub record IsBooted (boot : KnownBoot) (zone : KnownSeat) (machine : Seated) (seats : List KnownSeat) (payers : List Seated) : Type 0 where
+  pub valid : IsValidConfig boot.sizes
+  pub sized : IsSizedAs boot.sizes boot.frames boot.stocks
+  pub zone_is : zone ≡ record { table = boot.frames.table; view = first_zone_view boot.frames.frames }
+  pub machine_is : machine ≡ record { table = boot.stocks.table; view = first_machine }
+  pub seats_are : seats ≡ first_cpu_seats boot.frames.table 1 boot.sizes.cpus
+  pub payers_are : payers ≡ first_seats boot.stocks.table 1 boot.sizes.cpus
 
 -- no visit is open
 abbrev pub AllShut : KnownMachine → Type 0
 AllShut m = (p : ℕ) → IsShut m.seat p
 
 -- While no one holds the lock: no visit is open, the sizes are in their ranges, and the tables have them
-pub record IsQuiet (t : KnownTable) (w : Words) (l : KnownLocked) : Type 0 where
-  pub shut : AllShut l.machine
-  pub valid : IsValidConfig l.sizes
-  pub sized : IsSizedAs l.sizes t w
+pub record IsQuiet (table : KnownTable) (words : Words) (locked : KnownLocked) : Type 0 where
+  pub shut : AllShut locked.machine
+  pub valid : IsValidConfig locked.sizes
+  pub sized : IsSizedAs locked.sizes table words
 
 -- the two vectors for the processors' seats are empty, with room for all of them
 pub record HasRoom (cpus frame_count frame_room stock_count stock_room : ℕ) : Type 0 where

@@ -9,12 +9,13 @@ use Rattle.control_files.specs.Limit.{ReadsAs}
 use Rattle.cpu_part.specs.Cpus.{KnownCpu}
 use Rattle.zone_sizes.specs.declared.config.Config.{Config}
 use Rattle.step_rules.specs.After.{Run}
-use Rattle.mem_machine.specs.Machines.{KnownMachine, Makes}
+use Rattle.mem_machine.specs.Machines.{KnownMachine, AddsGroup}
+use Rattle.mem_machine.specs.Local.{Side, side, Makes}
 use Rattle.mem_machine.specs.Stocks.{DrainsAllBelow}
 use Rattle.mem_machine.specs.Settling.{Settles, settle_steps}
 use Rattle.mem_machine.specs.Steps.{Drain, open_steps, shut_steps, make_steps, remove_steps, set_max_steps, drain_stocks_steps}
 -- how a call is said by its steps
-pub use Rattle.mem_alloc.specs.Stepping.{BySteps, Stays}
+pub use Rattle.mem_alloc.specs.Stepping.{Course, course, of_machine, OfMachine, BySteps, Stays}
 use Rattle.mem_system.specs.declared.command.Cmd.{Cmd}
 use Rattle.mem_system.specs.declared.command.Cmd.TheVariants.{Mkdir, Rmdir, Write, Read, Settle, Owner, Touch, Dirty, Clean, Release, Alloc}
 use Rattle.mem_system.specs.declared.command.Reply.{Reply}
@@ -29,63 +30,65 @@ use Rattle.mem_system.specs.Allocs.{Allocates, FreshOf}
 
 -- Mkdir: no cause of a refusal holds, and the group is made, as the machine makes it; or it is refused for the first cause that
 -- holds, and nothing changed
-abbrev pub MakesGroup : KnownMachine → List ℕ → Reply → Run → KnownMachine → Type 0
-MakesGroup m path (Group n) steps after = (make_fault m.ledger.groups path ≡ None) × Makes m n path after × (steps ≡ make_steps path n)
-MakesGroup m path (Refused fault) steps after = (make_fault m.ledger.groups path ≡ Some fault) × (after ≡ m) × (steps ≡ [])
-MakesGroup m path other steps after = ⊥
+abbrev pub MakesGroup : List ℕ → Reply → Course KnownMachine → Type 0
+MakesGroup path (Group n) way = (make_fault way.before.ledger.groups path ≡ None) × AddsGroup way.before n path way.after × (way.steps ≡ make_steps path n)
+MakesGroup path (Refused fault) way = (make_fault way.before.ledger.groups path ≡ Some fault) × (way.after ≡ way.before) × (way.steps ≡ [])
+MakesGroup path other way = ⊥
 
 -- the stocks of the group are drained, which leaves it no page, and it is gone
-pub record RemovesGroup (t : KnownTable) (m : KnownMachine) (path : List ℕ) (steps : Run) (after : KnownMachine) : Type 0 where
+pub record RemovesGroup (path : List ℕ) (way : Course KnownMachine) : Type 0 where
   pub group : ℕ
-  pub leaf : IsLeafAt m.ledger.groups path group
+  pub leaf : IsLeafAt way.before.ledger.groups path group
   pub drains : List Drain
   pub drained : KnownMachine
-  pub drains_all : DrainsAllBelow group t.cpus drains m drained
+  pub drains_all : DrainsAllBelow group way.table.cpus drains way.before drained
   pub empty : current_of drained.ledger group ≡ 0
-  pub machine : after ≡ record drained { ledger = with_group_removed drained.ledger group }
-  pub steps_are : steps ≡ drain_stocks_steps drains ++ remove_steps group
+  pub machine : way.after ≡ record drained { ledger = with_group_removed drained.ledger group }
+  pub steps_are : way.steps ≡ drain_stocks_steps drains ++ remove_steps group
 
 -- the stocks of the group are drained, and pages are still charged to it
-pub record StaysBusy (t : KnownTable) (m : KnownMachine) (path : List ℕ) (steps : Run) (after : KnownMachine) : Type 0 where
+pub record StaysBusy (path : List ℕ) (way : Course KnownMachine) : Type 0 where
   pub group : ℕ
-  pub leaf : IsLeafAt m.ledger.groups path group
+  pub leaf : IsLeafAt way.before.ledger.groups path group
   pub drains : List Drain
-  pub drains_all : DrainsAllBelow group t.cpus drains m after
-  pub pages : 1 ≤ current_of after.ledger group
-  pub steps_are : steps ≡ drain_stocks_steps drains
+  pub drains_all : DrainsAllBelow group way.table.cpus drains way.before way.after
+  pub pages : 1 ≤ current_of way.after.ledger group
+  pub steps_are : way.steps ≡ drain_stocks_steps drains
 
 -- Rmdir: the group is gone; or pages stay charged to it, and the drained ones are given back; or there is no such group, and
 -- nothing changed
-abbrev pub Removes : KnownTable → KnownMachine → List ℕ → Reply → Run → KnownMachine → Type 0
-Removes t m path Done steps after = RemovesGroup t m path steps after
-Removes t m path (Refused Busy) steps after = StaysBusy t m path steps after
-Removes t m path (Refused fault) steps after = HasNoLeaf m.ledger.groups path fault × (after ≡ m) × (steps ≡ [])
-Removes t m path other steps after = ⊥
+abbrev pub Removes : List ℕ → Reply → Course KnownMachine → Type 0
+Removes path Done way = RemovesGroup path way
+Removes path (Refused Busy) way = StaysBusy path way
+Removes path (Refused fault) way = HasNoLeaf way.before.ledger.groups path fault × (way.after ≡ way.before) × (way.steps ≡ [])
+Removes path other way = ⊥
 
 -- the machine with another limit of the group
 abbrev pub with_limit_of : KnownMachine → ℕ → Option ℕ → KnownMachine
 with_limit_of m g limit = record m { ledger = with_group_limit m.ledger g limit }
 
 -- The group gets the limit. Where its usage is above it, the stocks of its subtree are drained; else nothing else changed
-pub record SetsLimit (t : KnownTable) (m : KnownMachine) (g : ℕ) (limit : Option ℕ) (steps : Run) (after : KnownMachine) : Type 0 where
+pub record SetsLimit (group : ℕ) (limit : Option ℕ) (way : Course KnownMachine) : Type 0 where
   pub drains : List Drain
-  pub above : IsAbove (current_of (with_limit_of m g limit).ledger g) limit → DrainsAllBelow g t.cpus drains (with_limit_of m g limit) after
-  pub within : ¬ IsAbove (current_of (with_limit_of m g limit).ledger g) limit → (drains ≡ []) × (after ≡ with_limit_of m g limit)
-  pub steps_are : steps ≡ set_max_steps g limit ++ drain_stocks_steps drains
+  pub above : IsAbove (current_of (with_limit_of way.before group limit).ledger group) limit
+      → DrainsAllBelow group way.table.cpus drains (with_limit_of way.before group limit) way.after
+  pub within : ¬ IsAbove (current_of (with_limit_of way.before group limit).ledger group) limit
+      → (drains ≡ []) × (way.after ≡ with_limit_of way.before group limit)
+  pub steps_are : way.steps ≡ set_max_steps group limit ++ drain_stocks_steps drains
 
 -- the file is memory.max of a group, and the value is the limit that the group gets
-pub record WritesLimit (t : KnownTable) (m : KnownMachine) (path name value : List ℕ) (steps : Run) (after : KnownMachine) : Type 0 where
+pub record WritesLimit (path name value : List ℕ) (way : Course KnownMachine) : Type 0 where
   pub group : ℕ
   pub limit : Option ℕ
-  pub file : IsFileOf m.ledger.groups path name group Max
+  pub file : IsFileOf way.before.ledger.groups path name group Max
   pub reads : ReadsAs value limit
-  pub sets : SetsLimit t m group limit steps after
+  pub sets : SetsLimit group limit way
 
 -- Write: the limit is set; or it is refused, and nothing changed
-abbrev pub Writes : KnownTable → KnownMachine → List ℕ → List ℕ → List ℕ → Reply → Run → KnownMachine → Type 0
-Writes t m path name value Done steps after = WritesLimit t m path name value steps after
-Writes t m path name value (Refused fault) steps after = RefusesWrite m.ledger.groups path name value fault × (after ≡ m) × (steps ≡ [])
-Writes t m path name value other steps after = ⊥
+abbrev pub Writes : List ℕ → List ℕ → List ℕ → Reply → Course KnownMachine → Type 0
+Writes path name value Done way = WritesLimit path name value way
+Writes path name value (Refused fault) way = RefusesWrite way.before.ledger.groups path name value fault × (way.after ≡ way.before) × (way.steps ≡ [])
+Writes path name value other way = ⊥
 
 -- a frame that the command names is one of the zone's
 abbrev pub IsOfZone : KnownTable → Cmd → Type 0
@@ -96,19 +99,19 @@ IsOfZone t (Clean f) = f < t.frames
 IsOfZone t (Release f) = f < t.frames
 IsOfZone t other = Unit {0}
 
--- What the command does inside the visit, by these steps, and what it answers
-abbrev pub Obeys : KnownTable → Config → Cmd → KnownMachine → KnownCpu → Reply → Run → KnownMachine → KnownCpu → Type 0
-Obeys t sizes (Mkdir path) m c reply steps n d = MakesGroup m path.now reply steps n × (d ≡ c)
-Obeys t sizes (Rmdir path) m c reply steps n d = Removes t m path.now reply steps n × (d ≡ c)
-Obeys t sizes (Write path file value) m c reply steps n d = Writes t m path.now file.now value.now reply steps n × (d ≡ c)
-Obeys t sizes (Read path file) m c reply steps n d = Reads m.ledger path.now file.now reply × Stays m c steps n d
-Obeys t sizes Settle m c reply steps n d = (reply ≡ Done) × Stays m c steps n d
-Obeys t sizes (Owner f) m c reply steps n d = TellsPlace m f reply × Stays m c steps n d
-Obeys t sizes (Touch f) m c reply steps n d = TouchesFrame m f reply steps n × (d ≡ c)
-Obeys t sizes (Dirty f) m c reply steps n d = NotesDirt true m f reply steps n × (d ≡ c)
-Obeys t sizes (Clean f) m c reply steps n d = NotesDirt false m f reply steps n × (d ≡ c)
-Obeys t sizes (Release f) m c reply steps n d = ReleasesFrame sizes f m c reply steps n d
-Obeys t sizes (Alloc path order) m c reply steps n d = Allocates t sizes path.now order m c reply steps n d
+-- What the command does inside the visit, and what it answers
+abbrev pub Obeys : Config → Cmd → Reply → Course Side → Type 0
+Obeys sizes (Mkdir path) reply way = MakesGroup path.now reply (of_machine way) × (way.after.cpu ≡ way.before.cpu)
+Obeys sizes (Rmdir path) reply way = Removes path.now reply (of_machine way) × (way.after.cpu ≡ way.before.cpu)
+Obeys sizes (Write path file value) reply way = Writes path.now file.now value.now reply (of_machine way) × (way.after.cpu ≡ way.before.cpu)
+Obeys sizes (Read path file) reply way = Reads way.before.machine.ledger path.now file.now reply × Stays way
+Obeys sizes Settle reply way = (reply ≡ Done) × Stays way
+Obeys sizes (Owner f) reply way = TellsPlace way.before.machine f reply × Stays way
+Obeys sizes (Touch f) reply way = TouchesFrame f reply (of_machine way) × (way.after.cpu ≡ way.before.cpu)
+Obeys sizes (Dirty f) reply way = NotesDirt true f reply (of_machine way) × (way.after.cpu ≡ way.before.cpu)
+Obeys sizes (Clean f) reply way = NotesDirt false f reply (of_machine way) × (way.after.cpu ≡ way.before.cpu)
+Obeys sizes (Release f) reply way = ReleasesFrame sizes f reply way
+Obeys sizes (Alloc path order) reply way = Allocates sizes path.now order reply way
 
 -- the fresh frames after a command: the one frame that an Alloc of order 0 answered, and after all else none
 abbrev pub FreshAfter : Cmd → Reply → List ℕ → Type 0
@@ -119,15 +122,35 @@ FreshAfter other reply fresh = fresh ≡ []
 abbrev pub with_visit_of : KnownMachine → ℕ → ℕ → KnownMachine
 with_visit_of m p state = record m { seat = seat_with_visit m.seat p state }
 
--- A command under the lock, by these steps: the caller's visit is opened, its part is settled, the command is obeyed, and the
--- visit is shut
-pub record Serves (t : KnownTable) (cmd : Cmd) (l : KnownLocked) (c : KnownCpu) (reply : Reply) (steps : Run) (k : KnownLocked) (d : KnownCpu) : Type 0 where
-  pub settled : KnownMachine
-  pub rested : KnownCpu
-  pub settles : Settles (with_visit_of l.machine c.number 1) c settled rested
+-- the side once the processor's visit is open
+abbrev pub visited : Side → Side
+visited before = side (with_visit_of before.machine before.cpu.number 1) before.cpu
+
+-- what lies behind the lock, and the part of the processor that holds it
+pub record Holder : Type 0 where
+  pub locked : KnownLocked
+  pub cpu : KnownCpu
+
+-- the holder of this part, with this behind the lock
+abbrev pub holder : KnownLocked → KnownCpu → Holder
+holder locked cpu = record { locked = locked; cpu = cpu }
+
+-- its machine and its part
+abbrev pub side_of : Holder → Side
+side_of held = side held.locked.machine held.cpu
+
+-- A command under the lock: the caller's visit is opened, its part is settled, the command is obeyed, and the visit is shut
+pub record Serves (cmd : Cmd) (reply : Reply) (way : Course Holder) : Type 0 where
+  pub settled : Side
+  pub settles : Settles (visited (side_of way.before)) settled
   pub inner : Run
   pub done : KnownMachine
-  pub obeys : Obeys t l.sizes cmd settled rested reply inner done d
-  pub machine : k.machine ≡ with_visit_of done c.number 0
-  pub sizes : k.sizes ≡ l.sizes
-  pub steps_are : steps ≡ open_steps c.number ++ (settle_steps (with_visit_of l.machine c.number 1) c ++ (inner ++ shut_steps c.number))
+  pub obeys : Obeys way.before.locked.sizes cmd reply (course way.table settled inner (side done way.after.cpu))
+  pub machine : way.after.locked.machine ≡ with_visit_of done way.before.cpu.number 0
+  pub sizes : way.after.locked.sizes ≡ way.before.locked.sizes
+  pub steps_are : way.steps ≡ open_steps way.before.cpu.number ++ (settle_steps (visited (side_of way.before)) ++ (inner ++ shut_steps way.before.cpu.number))
+
+-- a command was served under the lock, by steps, and this was its reply
+abbrev pub IsServed : KnownTable → Cmd → Holder → Reply → Holder → Type 0
+IsServed t cmd before reply after =
+    (steps : Run) × Serves cmd reply (course t before steps after) × Makes t (side_of before) steps (side_of after)

@@ -13,9 +13,9 @@ use Rattle.mem_system.specs.declared.command.Reply.{Reply}
 use Rattle.mem_system.specs.declared.command.Reply.TheVariants.{Text, Refused}
 
 -- the path is that of this group, which isn't the root, and the name that of its file
-pub record IsFileOf (groups : List Group) (path name : List ℕ) (g : ℕ) (file : File) : Type 0 where
-  pub number : number_at groups path ≡ Some g
-  pub below_root : g ≢ 0
+pub record IsFileOf (groups : List Group) (path name : List ℕ) (group : ℕ) (file : File) : Type 0 where
+  pub number : number_at groups path ≡ Some group
+  pub below_root : group ≢ 0
   pub named : name ≡ name_of file
 
 -- no group has the path; or it is the root's, or no file has the name
@@ -25,11 +25,11 @@ HasNoFile groups path name NoFile = (g : ℕ) × (number_at groups path ≡ Some
 HasNoFile groups path name fault = ⊥
 
 -- the text is that of the file of the group
-pub record ReadsFile (l : Ledger) (path name text : List ℕ) : Type 0 where
+pub record ReadsFile (ledger : Ledger) (path name text : List ℕ) : Type 0 where
   pub group : ℕ
   pub file : File
-  pub is_file : IsFileOf l.groups path name group file
-  pub text_is : text ≡ file_text l group file
+  pub is_file : IsFileOf ledger.groups path name group file
+  pub text_is : text ≡ file_text ledger group file
 
 -- Read: the text of the file, by these numbers; or there is no such file
 abbrev pub Reads : Ledger → List ℕ → List ℕ → Reply → Type 0

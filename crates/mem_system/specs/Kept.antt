@@ -2,27 +2,27 @@
 use Rattle.std.specs.Prelude.{◌≡◌, ℕ, Bool, None, []}
 use Rattle.group_tree.specs.declared.fault.Fault.TheVariants.{NotKept}
 use Rattle.lru_lists.specs.declared.lru.Touched.TheVariants as touched
-use Rattle.step_rules.specs.After.{Run}
 use Rattle.mem_machine.specs.Machines.{KnownMachine, home_of}
 use Rattle.mem_machine.specs.Marks.{TouchesUnit, Dirties}
+use Rattle.mem_alloc.specs.Stepping.{Course}
 use Rattle.mem_system.specs.declared.command.Reply.{Reply}
 use Rattle.mem_system.specs.declared.command.Reply.TheVariants.{Done, Marked, Active, Refused}
 
 -- the frame heads no kept unit, and nothing changed
-pub record HeadsNoUnit (m : KnownMachine) (f : ℕ) (steps : Run) (after : KnownMachine) : Type 0 where
-  pub on_no_list : home_of m.links f ≡ None
-  pub machine : after ≡ m
-  pub steps_are : steps ≡ []
+pub record HeadsNoUnit (frame : ℕ) (way : Course KnownMachine) : Type 0 where
+  pub on_no_list : home_of way.before.links frame ≡ None
+  pub machine : way.after ≡ way.before
+  pub steps_are : way.steps ≡ []
 
 -- Touch: the unit is marked, on the inactive list; or it is at the newest end of the active list, unmarked; or there is none
-abbrev pub TouchesFrame : KnownMachine → ℕ → Reply → Run → KnownMachine → Type 0
-TouchesFrame m f Marked steps after = TouchesUnit m f touched.Marked after × (steps ≡ [])
-TouchesFrame m f Active steps after = TouchesUnit m f touched.Moved after × (steps ≡ [])
-TouchesFrame m f (Refused NotKept) steps after = HeadsNoUnit m f steps after
-TouchesFrame m f other steps after = ⊥
+abbrev pub TouchesFrame : ℕ → Reply → Course KnownMachine → Type 0
+TouchesFrame f Marked way = TouchesUnit way.before f touched.Marked way.after × (way.steps ≡ [])
+TouchesFrame f Active way = TouchesUnit way.before f touched.Moved way.after × (way.steps ≡ [])
+TouchesFrame f (Refused NotKept) way = HeadsNoUnit f way
+TouchesFrame f other way = ⊥
 
 -- Dirty and Clean: the unit is noted as dirty, or as not dirty; or there is none
-abbrev pub NotesDirt : Bool → KnownMachine → ℕ → Reply → Run → KnownMachine → Type 0
-NotesDirt is_dirty m f Done steps after = Dirties m f is_dirty after × (steps ≡ [])
-NotesDirt is_dirty m f (Refused NotKept) steps after = HeadsNoUnit m f steps after
-NotesDirt is_dirty m f other steps after = ⊥
+abbrev pub NotesDirt : Bool → ℕ → Reply → Course KnownMachine → Type 0
+NotesDirt is_dirty f Done way = Dirties way.before f is_dirty way.after × (way.steps ≡ [])
+NotesDirt is_dirty f (Refused NotKept) way = HeadsNoUnit f way
+NotesDirt is_dirty f other way = ⊥

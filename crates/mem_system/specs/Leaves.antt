@@ -6,10 +6,10 @@ use Rattle.group_tree.specs.declared.fault.Fault.{Fault}
 use Rattle.group_tree.specs.declared.fault.Fault.TheVariants.{BadName, NoGroup, HasChildren}
 
 -- the path is that of this group, which isn't the root and has no group below it
-pub record IsLeafAt (groups : List Group) (path : List ℕ) (g : ℕ) : Type 0 where
-  pub number : number_at groups path ≡ Some g
-  pub below_root : g ≢ 0
-  pub leaf : has_child groups g ≡ false
+pub record IsLeafAt (groups : List Group) (path : List ℕ) (group : ℕ) : Type 0 where
+  pub number : number_at groups path ≡ Some group
+  pub below_root : group ≢ 0
+  pub leaf : has_child groups group ≡ false
 
 -- a group lies below the one of the path, which isn't the root
 pub record HasGroupBelow (groups : List Group) (path : List ℕ) : Type 0 where

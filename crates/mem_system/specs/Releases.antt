@@ -1,53 +1,53 @@
 -- What a release does, and where the frames of a unit that comes back go.
 use Rattle.std.specs.Prelude.{◌≡◌, ◌≢◌, ℕ, ◌<◌, ◌≤◌, List, [], ◌++◌, length, take}
 use Rattle.group_tree.specs.declared.fault.Fault.TheVariants.{NotKept}
-use Rattle.cpu_part.specs.Cpus.{KnownCpu}
 use Rattle.zone_sizes.specs.declared.config.Config.{Config}
 use Rattle.step_rules.specs.After.{Run}
 use Rattle.mem_machine.specs.declared.releasing.Released.TheVariants as released
 use Rattle.mem_machine.specs.Machines.{KnownMachine}
+use Rattle.mem_machine.specs.Local.{Side, side}
 use Rattle.mem_machine.specs.Releasing.{LeavesReferences, ReturnsUnit, release_steps}
 use Rattle.mem_machine.specs.Lending.{LendsFrame, TakesManyBack}
 use Rattle.mem_machine.specs.Steps.{lend_steps, drain_list_steps}
+use Rattle.mem_alloc.specs.Stepping.{Course, course, of_machine}
 use Rattle.mem_system.specs.declared.command.Reply.{Reply}
 use Rattle.mem_system.specs.declared.command.Reply.TheVariants.{Left, Returned, Refused}
 use Rattle.mem_system.specs.Kept.{HeadsNoUnit}
 
 -- where the processor's list stood at `high`, `batch` frames from its front are free again; else nothing changed
-pub record CutsList (sizes : Config) (m : KnownMachine) (c : KnownCpu) (steps : Run) (n : KnownMachine) (d : KnownCpu) : Type 0 where
+pub record CutsList (sizes : Config) (way : Course Side) : Type 0 where
   pub cut : List ℕ
-  pub at_high : sizes.high ≤ length c.list → cut ≡ take sizes.batch c.list
-  pub below_high : length c.list < sizes.high → cut ≡ []
-  pub takes : TakesManyBack cut m c n d
-  pub steps_are : steps ≡ drain_list_steps c.number cut
+  pub at_high : sizes.high ≤ length way.before.cpu.list → cut ≡ take sizes.batch way.before.cpu.list
+  pub below_high : length way.before.cpu.list < sizes.high → cut ≡ []
+  pub takes : TakesManyBack cut way.before way.after
+  pub steps_are : way.steps ≡ drain_list_steps way.before.cpu.number cut
 
 -- the processor's list was cut where it stood at `high`, and then the frame, which was free, came to its end
-pub record ListsFrame (sizes : Config) (f : ℕ) (m : KnownMachine) (c : KnownCpu) (steps : Run) (n : KnownMachine) (d : KnownCpu) : Type 0 where
-  pub machine : KnownMachine
-  pub cpu : KnownCpu
+pub record ListsFrame (sizes : Config) (frame : ℕ) (way : Course Side) : Type 0 where
+  pub mid : Side
   pub cutting : Run
-  pub cuts : CutsList sizes m c cutting machine cpu
-  pub lends : LendsFrame f machine cpu n d
-  pub steps_are : steps ≡ cutting ++ lend_steps c.number f
+  pub cuts : CutsList sizes (course way.table way.before cutting mid)
+  pub lends : LendsFrame frame mid way.after
+  pub steps_are : way.steps ≡ cutting ++ lend_steps way.before.cpu.number frame
 
 -- The unit is off its list and came back, uncharged; a single frame is on the processor's list then, and a block stays free
-pub record ReturnsFrames (sizes : Config) (f : ℕ) (m : KnownMachine) (c : KnownCpu) (steps : Run) (n : KnownMachine) (d : KnownCpu) : Type 0 where
+pub record ReturnsFrames (sizes : Config) (frame : ℕ) (way : Course Side) : Type 0 where
   pub freed : KnownMachine
-  pub returns : ReturnsUnit m f freed
+  pub returns : ReturnsUnit way.before.machine frame freed
   pub listing : Run
-  pub single : returns.unit.order ≡ 0 → ListsFrame sizes f freed c listing n d
-  pub block : returns.unit.order ≢ 0 → (n ≡ freed) × (d ≡ c) × (listing ≡ [])
-  pub steps_are : steps ≡ release_steps f released.Returned ++ listing
+  pub single : returns.unit.order ≡ 0 → ListsFrame sizes frame (course way.table (side freed way.before.cpu) listing way.after)
+  pub block : returns.unit.order ≢ 0 → (way.after.machine ≡ freed) × (way.after.cpu ≡ way.before.cpu) × (listing ≡ [])
+  pub steps_are : way.steps ≡ release_steps frame released.Returned ++ listing
 
 -- the unit is off its list and stays charged, with so many references of processors
-pub record LeavesUnit (f left : ℕ) (m : KnownMachine) (c : KnownCpu) (steps : Run) (n : KnownMachine) (d : KnownCpu) : Type 0 where
-  pub leaves : LeavesReferences m f left n
-  pub cpu : d ≡ c
-  pub steps_are : steps ≡ release_steps f (released.Left left)
+pub record LeavesUnit (frame left : ℕ) (way : Course Side) : Type 0 where
+  pub leaves : LeavesReferences way.before.machine frame left way.after.machine
+  pub cpu : way.after.cpu ≡ way.before.cpu
+  pub steps_are : way.steps ≡ release_steps frame (released.Left left)
 
 -- Release: references of processors are left; or the unit came back; or there is none
-abbrev pub ReleasesFrame : Config → ℕ → KnownMachine → KnownCpu → Reply → Run → KnownMachine → KnownCpu → Type 0
-ReleasesFrame sizes f m c (Left left) steps n d = LeavesUnit f left m c steps n d
-ReleasesFrame sizes f m c Returned steps n d = ReturnsFrames sizes f m c steps n d
-ReleasesFrame sizes f m c (Refused NotKept) steps n d = HeadsNoUnit m f steps n × (d ≡ c)
-ReleasesFrame sizes f m c other steps n d = ⊥
+abbrev pub ReleasesFrame : Config → ℕ → Reply → Course Side → Type 0
+ReleasesFrame sizes f (Left left) way = LeavesUnit f left way
+ReleasesFrame sizes f Returned way = ReturnsFrames sizes f way
+ReleasesFrame sizes f (Refused NotKept) way = HeadsNoUnit f (of_machine way) × (way.after.cpu ≡ way.before.cpu)
+ReleasesFrame sizes f other way = ⊥

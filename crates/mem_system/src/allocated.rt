@@ -9,6 +9,7 @@ ghost use Rattle.mem_system.specs.Boots.{IsSizedAs};
 ghost use Rattle.mem_system.specs.Allocs.{Allocates, AllocatesAs, FreshOf, HasFreshFor};
 ghost use Rattle.mem_system.specs.Outcomes.{HasItsGroups, reply_of};
 ghost use Rattle.mem_system.specs.Commands.{BySteps};
+ghost use Rattle.mem_machine.specs.Local.{side};
 
 use crate::outcome::Outcome;
 use cpu_part::{BootName, Cpu, Tables};
@@ -29,14 +30,13 @@ fn allocate_as<N: BootName>(
     group: GroupId,
     order: Order,
 ) -> Result<Frame, AllocFault>
-    requires visit { Visits N.frames machine.old cpu.old }
+    requires visit { Visits N.frames (side machine.old cpu.old) }
     requires sizes { IsValidConfig sizes }
     requires sized { IsSizedAs sizes N.frames N.stocks }
     requires there { IsTrue (has_group machine.old.ledger.groups group) }
     requires settled { (cpu.old.fresh ≡ []) × (cpu.old.back ≡ []) }
-    ensures allocates { BySteps N.frames machine.old cpu.old machine.new cpu.new
-        (λ steps. AllocatesAs N.frames sizes group order result machine.old cpu.old steps machine.new cpu.new) }
-    ensures visit { Visits N.frames machine.new cpu.new }
+    ensures allocates { BySteps N.frames (side machine.old cpu.old) (side machine.new cpu.new) (AllocatesAs sizes group order result) }
+    ensures visit { Visits N.frames (side machine.new cpu.new) }
     ensures opened { machine.new.seat.view.opened ≡ machine.old.seat.view.opened }
     ensures number { cpu.new.number ≡ cpu.old.number }
     ensures fresh { HasFreshFor order result cpu.new.fresh }
@@ -60,15 +60,14 @@ pub(crate) fn allocate<N: BootName>(
     path: &[u8],
     order: u32,
 ) -> Outcome
-    requires visit { Visits N.frames machine.old cpu.old }
+    requires visit { Visits N.frames (side machine.old cpu.old) }
     requires sizes { IsValidConfig sizes }
     requires sized { IsSizedAs sizes N.frames N.stocks }
     requires settled { (cpu.old.fresh ≡ []) × (cpu.old.back ≡ []) }
-    ensures allocates { BySteps N.frames machine.old cpu.old machine.new cpu.new
-        (λ steps. Allocates N.frames sizes path.now order machine.old cpu.old (reply_of machine.new.ledger result) steps
-        machine.new cpu.new) }
+    ensures allocates { BySteps N.frames (side machine.old cpu.old) (side machine.new cpu.new)
+        (Allocates sizes path.now order (reply_of machine.new.ledger result)) }
     ensures groups { HasItsGroups machine.new.ledger result }
-    ensures visit { Visits N.frames machine.new cpu.new }
+    ensures visit { Visits N.frames (side machine.new cpu.new) }
     ensures opened { machine.new.seat.view.opened ≡ machine.old.seat.view.opened }
     ensures number { cpu.new.number ≡ cpu.old.number }
     ensures fresh { FreshOf (reply_of machine.new.ledger result) order cpu.new.fresh }

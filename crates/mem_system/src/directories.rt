@@ -5,7 +5,8 @@ ghost use Rattle.cpu_part.specs.Cpus.{KnownCpu};
 ghost use Rattle.mem_machine.specs.Machines.{Visits};
 ghost use Rattle.mem_system.specs.Leaves.{IsLeafAt, HasNoLeaf};
 ghost use Rattle.mem_system.specs.Outcomes.{HasItsGroups, reply_of};
-ghost use Rattle.mem_system.specs.Commands.{BySteps, MakesGroup, Removes};
+ghost use Rattle.mem_system.specs.Commands.{BySteps, MakesGroup, Removes, OfMachine};
+ghost use Rattle.mem_machine.specs.Local.{side};
 
 use crate::outcome::Outcome;
 use cpu_part::{BootName, Cpu, Tables};
@@ -16,8 +17,8 @@ use mem_machine::Machine;
 
 // Makes the group of the path.
 pub(crate) fn make_group<N: BootName>(machine: &mut Machine<N>, path: &[u8]) -> Outcome
-    ensures made { (c : KnownCpu) → BySteps N.frames machine.old c machine.new c
-        (λ steps. MakesGroup machine.old path.now (reply_of machine.new.ledger result) steps machine.new) }
+    ensures made { (c : KnownCpu) → BySteps N.frames (side machine.old c) (side machine.new c)
+        (OfMachine (MakesGroup path.now (reply_of machine.new.ledger result))) }
     ensures groups { HasItsGroups machine.new.ledger result }
     ensures seat { machine.new.seat ≡ machine.old.seat }
 {
@@ -51,9 +52,9 @@ pub(crate) fn remove_group<N: BootName>(
     cpu: &mut Cpu<N>,
     path: &[u8],
 ) -> Outcome
-    requires { Visits N.frames machine.old cpu.old }
-    ensures removed { BySteps N.frames machine.old cpu.old machine.new cpu.new
-        (λ steps. Removes N.frames machine.old path.now (reply_of machine.new.ledger result) steps machine.new) }
+    requires { Visits N.frames (side machine.old cpu.old) }
+    ensures removed { BySteps N.frames (side machine.old cpu.old) (side machine.new cpu.new)
+        (OfMachine (Removes path.now (reply_of machine.new.ledger result))) }
     ensures cpu { cpu.new ≡ cpu.old }
     ensures groups { HasItsGroups machine.new.ledger result }
     ensures seat { machine.new.seat ≡ machine.old.seat }

@@ -100,7 +100,7 @@ pub fn end<N: BootName>(
     ensures pinned { IfErr result (λ p. (p.pins ≡ pins_of cpus.items) × (1 ≤ p.pins)) }
     ensures same { IfErr result (λ p. (p.tables ≡ tables) × (p.locked ≡ locked) × (p.cpus.items ≡ cpus.items)) }
 {
-    let _few = tables.frames.cpus();
+    let _few = tables.frames.cpus(); // For the clauses.
     let pins = count_pins(&cpus);
     if pins > 0 {
         return Err(Pinned {

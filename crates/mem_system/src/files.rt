@@ -7,7 +7,8 @@ ghost use Rattle.control_files.specs.Limit.{ReadsAs};
 ghost use Rattle.cpu_part.specs.Cpus.{KnownCpu};
 ghost use Rattle.mem_system.specs.Outcomes.{HasItsGroups, reply_of};
 ghost use Rattle.mem_system.specs.Files.{Reads, IsFileOf, HasNoFile, RefusesWrite, IsAbove};
-ghost use Rattle.mem_system.specs.Commands.{BySteps, SetsLimit, Writes};
+ghost use Rattle.mem_system.specs.Commands.{BySteps, SetsLimit, Writes, OfMachine};
+ghost use Rattle.mem_machine.specs.Local.{side};
 
 use crate::outcome::Outcome;
 use control_files::file::{File, file_named};
@@ -87,8 +88,7 @@ fn set_limit<N: BootName>(
 )
     requires there { IsTrue (has_group machine.old.ledger.groups group) }
     requires below_root { group ≢ 0 }
-    ensures sets { (c : KnownCpu) → BySteps N.frames machine.old c machine.new c
-        (λ steps. SetsLimit N.frames machine.old group limit steps machine.new) }
+    ensures sets { (c : KnownCpu) → BySteps N.frames (side machine.old c) (side machine.new c) (OfMachine (SetsLimit group limit)) }
     ensures seat { machine.new.seat ≡ machine.old.seat }
 {
     machine.set_max(group, limit);
@@ -105,8 +105,8 @@ pub(crate) fn write_file<N: BootName>(
     name: &[u8],
     value: &[u8],
 ) -> Outcome
-    ensures written { (c : KnownCpu) → BySteps N.frames machine.old c machine.new c
-        (λ steps. Writes N.frames machine.old path.now name.now value.now (reply_of machine.new.ledger result) steps machine.new) }
+    ensures written { (c : KnownCpu) → BySteps N.frames (side machine.old c) (side machine.new c)
+        (OfMachine (Writes path.now name.now value.now (reply_of machine.new.ledger result))) }
     ensures groups { HasItsGroups machine.new.ledger result }
     ensures seat { machine.new.seat ≡ machine.old.seat }
 {

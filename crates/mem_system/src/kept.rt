@@ -5,7 +5,8 @@ ghost use Rattle.cpu_part.specs.Cpus.{KnownCpu};
 ghost use Rattle.mem_machine.specs.Machines.{home_of};
 ghost use Rattle.mem_system.specs.Kept.{TouchesFrame, NotesDirt};
 ghost use Rattle.mem_system.specs.Outcomes.{HasItsGroups, reply_of};
-ghost use Rattle.mem_system.specs.Commands.{BySteps};
+ghost use Rattle.mem_system.specs.Commands.{BySteps, OfMachine};
+ghost use Rattle.mem_machine.specs.Local.{side};
 
 use crate::outcome::Outcome;
 use cpu_part::{BootName, Tables};
@@ -38,8 +39,8 @@ pub(crate) fn touch_frame<N: BootName>(
     frame: u32,
 ) -> Outcome
     requires { frame < N.frames.frames }
-    ensures touched { (c : KnownCpu) → BySteps N.frames machine.old c machine.new c
-        (λ steps. TouchesFrame machine.old frame (reply_of machine.new.ledger result) steps machine.new) }
+    ensures touched { (c : KnownCpu) → BySteps N.frames (side machine.old c) (side machine.new c)
+        (OfMachine (TouchesFrame frame (reply_of machine.new.ledger result))) }
     ensures groups { HasItsGroups machine.new.ledger result }
     ensures seat { machine.new.seat ≡ machine.old.seat }
 {
@@ -60,8 +61,8 @@ pub(crate) fn note_dirt<N: BootName>(
     is_dirty: bool,
 ) -> Outcome
     requires { frame < N.frames.frames }
-    ensures noted { (c : KnownCpu) → BySteps N.frames machine.old c machine.new c
-        (λ steps. NotesDirt is_dirty machine.old frame (reply_of machine.new.ledger result) steps machine.new) }
+    ensures noted { (c : KnownCpu) → BySteps N.frames (side machine.old c) (side machine.new c)
+        (OfMachine (NotesDirt is_dirty frame (reply_of machine.new.ledger result))) }
     ensures groups { HasItsGroups machine.new.ledger result }
     ensures seat { machine.new.seat ≡ machine.old.seat }
 {

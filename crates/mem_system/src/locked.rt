@@ -1,5 +1,8 @@
 //! What lies behind the zone's lock.
 
+ghost use Rattle.mem_machine.specs.Machines.{IsConsistent};
+ghost use Rattle.mem_system.specs.Boots.{IsQuiet};
+
 use cpu_part::BootName;
 use frame_word::FrameSeat;
 use mem_machine::Machine;
@@ -27,4 +30,15 @@ impl<N: BootName> Model for Locked<N> {
 
     ghost invariant = { λ l. IsQuiet N.frames N.stocks (record { machine = l.machine; sizes = l.sizes })
         × HasRoom l.sizes.cpus (length l.frame_seats.items) (vec_capacity l.frame_seats) (length l.stock_seats.items) (vec_capacity l.stock_seats) };
+}
+
+impl<N: BootName> Locked<N> {
+    /// Shows what always holds behind the lock: no visit is open, the sizes are in their ranges and are those of the tables,
+    /// and the machine is consistent. It does nothing.
+    pub fn see_quiet(&self)
+        ensures quiet { IsQuiet N.frames N.stocks self.now }
+        ensures consistent { IsConsistent N.frames N.stocks self.now.machine }
+    {
+        let _spots = self.machine.spots(); // For the clauses.
+    }
 }

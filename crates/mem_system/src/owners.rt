@@ -23,7 +23,7 @@ pub(crate) fn tell_place<N: BootName>(
         Place::Free => Outcome::Free,
         Place::Lent(cpu) => Outcome::Lent(cpu),
         Place::Charged(group) => {
-            let _groups = machine.charges().tree();
+            let _groups = machine.charges().tree(); // For the clauses.
             Outcome::Charged(group)
         }
     }

@@ -9,6 +9,7 @@ ghost use Rattle.mem_machine.specs.Machines.{Visits};
 ghost use Rattle.mem_system.specs.Outcomes.{HasItsGroups, reply_of};
 ghost use Rattle.mem_system.specs.Releases.{CutsList, ListsFrame, ReleasesFrame};
 ghost use Rattle.mem_system.specs.Commands.{BySteps};
+ghost use Rattle.mem_machine.specs.Local.{side};
 
 use crate::kept::find_unit;
 use crate::outcome::Outcome;
@@ -36,11 +37,10 @@ fn cut_list<N: BootName>(
     cpu: &mut Cpu<N>,
     sizes: Config,
 )
-    requires visit { Visits N.frames machine.old cpu.old }
+    requires visit { Visits N.frames (side machine.old cpu.old) }
     requires sizes { IsValidConfig sizes }
-    ensures cuts { BySteps N.frames machine.old cpu.old machine.new cpu.new
-        (λ steps. CutsList sizes machine.old cpu.old steps machine.new cpu.new) }
-    ensures visit { Visits N.frames machine.new cpu.new }
+    ensures cuts { BySteps N.frames (side machine.old cpu.old) (side machine.new cpu.new) (CutsList sizes) }
+    ensures visit { Visits N.frames (side machine.new cpu.new) }
     ensures room { length cpu.new.list < 256 }
     ensures below_high { length cpu.old.list ≤ sizes.high → length cpu.new.list < sizes.high }
 {
@@ -57,14 +57,13 @@ fn list_frame<N: BootName>(
     sizes: Config,
     frame: Frame,
 )
-    requires visit { Visits N.frames machine.old cpu.old }
+    requires visit { Visits N.frames (side machine.old cpu.old) }
     requires sizes { IsValidConfig sizes }
     requires frame { frame < N.frames.frames }
     requires free { spot_at machine.old.spots frame ≡ Free }
     requires none_fresh { cpu.old.fresh ≡ [] }
-    ensures lists { BySteps N.frames machine.old cpu.old machine.new cpu.new
-        (λ steps. ListsFrame sizes frame machine.old cpu.old steps machine.new cpu.new) }
-    ensures visit { Visits N.frames machine.new cpu.new }
+    ensures lists { BySteps N.frames (side machine.old cpu.old) (side machine.new cpu.new) (ListsFrame sizes frame) }
+    ensures visit { Visits N.frames (side machine.new cpu.new) }
     ensures opened { machine.new.seat.view.opened ≡ machine.old.seat.view.opened }
     ensures number { cpu.new.number ≡ cpu.old.number }
     ensures settled { (cpu.new.fresh ≡ cpu.old.fresh) × (cpu.new.back ≡ cpu.old.back) }
@@ -82,14 +81,14 @@ pub(crate) fn release_frame<N: BootName>(
     sizes: Config,
     frame: u32,
 ) -> Outcome
-    requires visit { Visits N.frames machine.old cpu.old }
+    requires visit { Visits N.frames (side machine.old cpu.old) }
     requires sizes { IsValidConfig sizes }
     requires frame { frame < N.frames.frames }
     requires none_fresh { cpu.old.fresh ≡ [] }
-    ensures released { BySteps N.frames machine.old cpu.old machine.new cpu.new
-        (λ steps. ReleasesFrame sizes frame machine.old cpu.old (reply_of machine.new.ledger result) steps machine.new cpu.new) }
+    ensures released { BySteps N.frames (side machine.old cpu.old) (side machine.new cpu.new)
+        (ReleasesFrame sizes frame (reply_of machine.new.ledger result)) }
     ensures groups { HasItsGroups machine.new.ledger result }
-    ensures visit { Visits N.frames machine.new cpu.new }
+    ensures visit { Visits N.frames (side machine.new cpu.new) }
     ensures opened { machine.new.seat.view.opened ≡ machine.old.seat.view.opened }
     ensures number { cpu.new.number ≡ cpu.old.number }
     ensures settled { (cpu.new.fresh ≡ cpu.old.fresh) × (cpu.new.back ≡ cpu.old.back) }

@@ -6,6 +6,7 @@ ghost use Rattle.mem_machine.specs.Machines.{KnownMachine};
 ghost use Rattle.mem_system.specs.Boots.{AllShut};
 ghost use Rattle.mem_system.specs.Commands.{BySteps};
 ghost use Rattle.mem_system.specs.Ends.{InTurn, Rests, Empties, IsRested, IsSpent, LeavesAlone, pins_of};
+ghost use Rattle.mem_machine.specs.Local.{side};
 
 use cpu_part::{BootName, Cpu, Tables};
 use mem_machine::Machine;
@@ -14,8 +15,7 @@ use mem_machine::Machine;
 fn rest_cpu<N: BootName>(machine: &mut Machine<N>, tables: &Tables<N>, cpu: &mut Cpu<N>)
     requires shut { AllShut machine.old }
     requires no_pin { cpu.old.pins ≡ [] }
-    ensures rests { BySteps N.frames machine.old cpu.old machine.new cpu.new
-        (λ steps. Rests machine.old cpu.old steps machine.new cpu.new) }
+    ensures rests { BySteps N.frames (side machine.old cpu.old) (side machine.new cpu.new) Rests }
     ensures shut { AllShut machine.new }
     ensures rested { IsRested cpu.new }
 {
@@ -28,8 +28,7 @@ fn rest_cpu<N: BootName>(machine: &mut Machine<N>, tables: &Tables<N>, cpu: &mut
 fn empty_cpu<N: BootName>(machine: &mut Machine<N>, tables: &Tables<N>, cpu: &mut Cpu<N>)
     requires shut { AllShut machine.old }
     requires rested { IsRested cpu.old }
-    ensures empties { BySteps N.frames machine.old cpu.old machine.new cpu.new
-        (λ steps. Empties machine.old cpu.old steps machine.new cpu.new) }
+    ensures empties { BySteps N.frames (side machine.old cpu.old) (side machine.new cpu.new) Empties }
     ensures shut { AllShut machine.new }
     ensures spent { IsSpent N.frames N.stocks machine.new cpu.new }
     ensures others { LeavesAlone machine.old machine.new }

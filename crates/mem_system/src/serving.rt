@@ -1,12 +1,13 @@
 //! Commands, served under the lock.
 
 ghost use Rattle.std.specs.Prelude.{◌≡◌, ◌+◌, ◌≤◌, [], length};
-ghost use Rattle.frame_word.specs.Seats.{NothingPasses};
+ghost use Rattle.frame_word.specs.Seats.{LentIsBorrowed, NothingPasses};
 ghost use Rattle.zone_sizes.specs.Config.{IsValidConfig};
 ghost use Rattle.mem_machine.specs.Machines.{Visits};
-ghost use Rattle.mem_system.specs.Boots.{IsQuiet, IsSizedAs};
+ghost use Rattle.mem_system.specs.Boots.{IsSizedAs};
 ghost use Rattle.mem_system.specs.Outcomes.{HasItsGroups, reply_of};
-ghost use Rattle.mem_system.specs.Commands.{BySteps, FreshAfter, IsOfZone, Obeys, Serves};
+ghost use Rattle.mem_system.specs.Commands.{BySteps, FreshAfter, IsOfZone, IsServed, Obeys, holder};
+ghost use Rattle.mem_machine.specs.Local.{side};
 
 use crate::allocated::allocate;
 use crate::command::{Cmd, Reply};
@@ -33,12 +34,12 @@ fn obey<N: BootName>(
     requires zone { IsOfZone N.frames cmd.now }
     requires sizes { IsValidConfig sizes }
     requires sized { IsSizedAs sizes N.frames N.stocks }
-    requires visit { Visits N.frames machine.old cpu.old }
+    requires visit { Visits N.frames (side machine.old cpu.old) }
     requires settled { (cpu.old.fresh ≡ []) × (cpu.old.back ≡ []) }
-    ensures obeyed { BySteps N.frames machine.old cpu.old machine.new cpu.new
-        (λ steps. Obeys N.frames sizes cmd.now machine.old cpu.old (reply_of machine.new.ledger result) steps machine.new cpu.new) }
+    ensures obeyed { BySteps N.frames (side machine.old cpu.old) (side machine.new cpu.new)
+        (Obeys sizes cmd.now (reply_of machine.new.ledger result)) }
     ensures groups { HasItsGroups machine.new.ledger result }
-    ensures visit { Visits N.frames machine.new cpu.new }
+    ensures visit { Visits N.frames (side machine.new cpu.new) }
     ensures opened { machine.new.seat.view.opened ≡ machine.old.seat.view.opened }
     ensures number { cpu.new.number ≡ cpu.old.number }
     ensures settled { FreshAfter cmd.now (reply_of machine.new.ledger result) cpu.new.fresh × (cpu.new.back ≡ []) }
@@ -70,14 +71,13 @@ pub fn carry_out<N: BootName>(
     cmd: &Cmd<'_>,
 ) -> Outcome
     requires { IsOfZone N.frames cmd.now }
-    ensures served { BySteps N.frames locked.old.machine cpu.old locked.new.machine cpu.new
-        (λ steps. Serves N.frames cmd.now locked.old cpu.old (reply_of locked.new.machine.ledger result) steps locked.new cpu.new) }
+    ensures served { IsServed N.frames cmd.now (holder locked.old cpu.old) (reply_of locked.new.machine.ledger result)
+        (holder locked.new cpu.new) }
     ensures groups { HasItsGroups locked.new.machine.ledger result }
-    ensures before { IsQuiet N.frames N.stocks locked.old }
-    ensures after { IsQuiet N.frames N.stocks locked.new }
     ensures settled { FreshAfter cmd.now (reply_of locked.new.machine.ledger result) cpu.new.fresh × (cpu.new.back ≡ []) }
     ensures at_most_high { length cpu.old.list ≤ locked.old.sizes.high → length cpu.new.list + length cpu.new.fresh ≤ locked.old.sizes.high }
     ensures still { NothingPasses N.frames locked.new.machine.seat cpu.new.seat }
+    ensures lent { LentIsBorrowed N.frames locked.new.machine.seat cpu.new.seat }
 {
     locked.machine.open(tables, cpu);
     locked.machine.settle(tables, cpu);
@@ -96,13 +96,11 @@ pub fn serve<N: BootName>(
     cmd: &Cmd<'_>,
 ) -> Reply
     requires { IsOfZone N.frames cmd.now }
-    ensures served { BySteps N.frames locked.old.machine cpu.old locked.new.machine cpu.new
-        (λ steps. Serves N.frames cmd.now locked.old cpu.old result steps locked.new cpu.new) }
-    ensures before { IsQuiet N.frames N.stocks locked.old }
-    ensures after { IsQuiet N.frames N.stocks locked.new }
+    ensures served { IsServed N.frames cmd.now (holder locked.old cpu.old) result (holder locked.new cpu.new) }
     ensures settled { FreshAfter cmd.now result cpu.new.fresh × (cpu.new.back ≡ []) }
     ensures at_most_high { length cpu.old.list ≤ locked.old.sizes.high → length cpu.new.list + length cpu.new.fresh ≤ locked.old.sizes.high }
     ensures still { NothingPasses N.frames locked.new.machine.seat cpu.new.seat }
+    ensures lent { LentIsBorrowed N.frames locked.new.machine.seat cpu.new.seat }
 {
     let outcome = carry_out(locked, tables, cpu, cmd);
     tell(locked.charges(), outcome)

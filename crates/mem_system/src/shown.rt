@@ -5,8 +5,9 @@ ghost use Rattle.std.specs.String.{string_bytes};
 ghost use Rattle.frame_word.specs.Seats.{NothingPasses};
 ghost use Rattle.machine_texts.specs.Blocks.{blocks_text};
 ghost use Rattle.machine_texts.specs.Show.{show_text};
-ghost use Rattle.mem_system.specs.Boots.{KnownLocked, IsQuiet};
+ghost use Rattle.mem_system.specs.Boots.{KnownLocked};
 ghost use Rattle.mem_system.specs.Shown.{SettlesCaller, TellsSettled};
+ghost use Rattle.mem_system.specs.Commands.{holder};
 
 use crate::command::Cmd;
 use crate::locked::Locked;
@@ -19,9 +20,7 @@ use std::sync::Wait;
 
 // Serves `Settle`.
 fn settle<N: BootName>(locked: &mut Locked<N>, tables: &Tables<N>, cpu: &mut Cpu<N>)
-    ensures served { SettlesCaller N.frames locked.old cpu.old locked.new cpu.new }
-    ensures before { IsQuiet N.frames N.stocks locked.old }
-    ensures after { IsQuiet N.frames N.stocks locked.new }
+    ensures served { SettlesCaller N.frames (holder locked.old cpu.old) (holder locked.new cpu.new) }
     ensures settled { (cpu.new.fresh ≡ []) × (cpu.new.back ≡ []) }
     ensures at_most_high { length cpu.old.list ≤ locked.old.sizes.high → length cpu.new.list ≤ locked.old.sizes.high }
     ensures still { NothingPasses N.frames locked.new.machine.seat cpu.new.seat }
@@ -37,10 +36,8 @@ pub fn show<N: BootName>(
     cpu: &mut Cpu<N>,
     alloc: Global,
 ) -> Result<String, AllocError>
-    ensures served { SettlesCaller N.frames locked.old cpu.old locked.new cpu.new }
+    ensures served { SettlesCaller N.frames (holder locked.old cpu.old) (holder locked.new cpu.new) }
     ensures text { IfOk result (λ text. string_bytes text ≡ show_text locked.new.machine) }
-    ensures before { IsQuiet N.frames N.stocks locked.old }
-    ensures after { IsQuiet N.frames N.stocks locked.new }
     ensures settled { (cpu.new.fresh ≡ []) × (cpu.new.back ≡ []) }
     ensures at_most_high { length cpu.old.list ≤ locked.old.sizes.high → length cpu.new.list ≤ locked.old.sizes.high }
     ensures still { NothingPasses N.frames locked.new.machine.seat cpu.new.seat }
@@ -59,10 +56,8 @@ pub fn blocks<N: BootName>(
     cpu: &mut Cpu<N>,
     alloc: Global,
 ) -> Result<String, AllocError>
-    ensures served { SettlesCaller N.frames locked.old cpu.old locked.new cpu.new }
+    ensures served { SettlesCaller N.frames (holder locked.old cpu.old) (holder locked.new cpu.new) }
     ensures text { IfOk result (λ text. string_bytes text ≡ blocks_text locked.new.machine.blocks) }
-    ensures before { IsQuiet N.frames N.stocks locked.old }
-    ensures after { IsQuiet N.frames N.stocks locked.new }
     ensures settled { (cpu.new.fresh ≡ []) × (cpu.new.back ≡ []) }
     ensures at_most_high { length cpu.old.list ≤ locked.old.sizes.high → length cpu.new.list ≤ locked.old.sizes.high }
     ensures still { NothingPasses N.frames locked.new.machine.seat cpu.new.seat }
@@ -82,12 +77,16 @@ impl<N: BootName> System<N> {
         alloc: Global,
         cpu: &mut Cpu<N>,
     ) -> Result<String, AllocError>
-        ensures told { (l k : KnownLocked) × TellsSettled N.frames N.stocks l cpu.old k cpu.new
+        ensures told { (l k : KnownLocked) × TellsSettled N.frames N.stocks (holder l cpu.old) (holder k cpu.new)
             × IfOk result (λ text. string_bytes text ≡ show_text k.machine) }
         ensures settled { (cpu.new.fresh ≡ []) × (cpu.new.back ≡ []) }
     {
-        let mut locked = self.locked.lock(rt);
-        show(&mut *locked, &self.tables, cpu, alloc)
+        let mut guard = self.locked.lock(rt);
+        let locked = &mut *guard;
+        locked.see_quiet();
+        let text = show(locked, &self.tables, cpu, alloc);
+        locked.see_quiet();
+        text
     }
 
     /// What `blocks` tells, under the lock, as with `show`.
@@ -97,11 +96,15 @@ impl<N: BootName> System<N> {
         alloc: Global,
         cpu: &mut Cpu<N>,
     ) -> Result<String, AllocError>
-        ensures told { (l k : KnownLocked) × TellsSettled N.frames N.stocks l cpu.old k cpu.new
+        ensures told { (l k : KnownLocked) × TellsSettled N.frames N.stocks (holder l cpu.old) (holder k cpu.new)
             × IfOk result (λ text. string_bytes text ≡ blocks_text k.machine.blocks) }
         ensures settled { (cpu.new.fresh ≡ []) × (cpu.new.back ≡ []) }
     {
-        let mut locked = self.locked.lock(rt);
-        blocks(&mut *locked, &self.tables, cpu, alloc)
+        let mut guard = self.locked.lock(rt);
+        let locked = &mut *guard;
+        locked.see_quiet();
+        let text = blocks(locked, &self.tables, cpu, alloc);
+        locked.see_quiet();
+        text
     }
 }

@@ -1,9 +1,10 @@
 //! The system: the tables that all processors share, and the zone's lock.
 
 ghost use Rattle.std.specs.Prelude.{◌≡◌, [], length, IfOk};
+ghost use Rattle.frame_word.specs.Seats.{LentIsBorrowed};
 ghost use Rattle.group_tree.specs.Groups.{number_at};
 ghost use Rattle.mem_system.specs.Boots.{KnownLocked, IsQuiet, first_cpus};
-ghost use Rattle.mem_system.specs.Commands.{BySteps, FreshAfter, IsOfZone, Serves};
+ghost use Rattle.mem_system.specs.Commands.{FreshAfter, IsOfZone, IsServed, holder};
 
 use crate::booted::Boot;
 use crate::command::{Cmd, Reply};
@@ -42,7 +43,6 @@ impl<N: BootName> Locked<N> {
     /// The group of this path; None where no group has it.
     pub fn find(&self, path: &[u8]) -> Option<GroupId>
         ensures found { result ≡ number_at self.now.machine.ledger.groups path.now }
-        ensures quiet { IsQuiet N.frames N.stocks self.now }
     {
         self.machine.charges().tree().find(path)
     }
@@ -69,17 +69,21 @@ impl<N: BootName> System<N> {
     pub fn find<R: Wait>(&self, rt: &R, path: &[u8]) -> Option<GroupId>
         ensures { (l : KnownLocked) × IsQuiet N.frames N.stocks l × (result ≡ number_at l.machine.ledger.groups path.now) }
     {
-        self.locked.lock(rt).find(path)
+        let guard = self.locked.lock(rt);
+        let locked = &*guard;
+        locked.see_quiet();
+        locked.find(path)
     }
 
     /// Serves one command of the processor: takes the lock, serves, and gives the lock back. A frame that the command names is
     /// one of the zone's. No clause can name what lies behind the lock, so it is said that there was such a value: no visit was
-    /// open in it, and it was served as `serve` says.
+    /// open in it, it was served as `serve` says, and what it lends the processor then are its listed and fresh frames.
     #[inline(always)]
     pub fn visit<R: Wait>(&self, rt: &R, cpu: &mut Cpu<N>, cmd: &Cmd<'_>) -> Reply
         requires { IsOfZone N.frames cmd.now }
-        ensures served { (l k : KnownLocked) × IsQuiet N.frames N.stocks l × BySteps N.frames l.machine cpu.old k.machine cpu.new
-            (λ steps. Serves N.frames cmd.now l cpu.old result steps k cpu.new) }
+        ensures served { (l k : KnownLocked) × IsQuiet N.frames N.stocks l × IsServed N.frames cmd.now (holder l cpu.old) result
+            (holder k cpu.new)
+            × LentIsBorrowed N.frames k.machine.seat cpu.new.seat }
         ensures settled { FreshAfter cmd.now result cpu.new.fresh × (cpu.new.back ≡ []) }
     {
         self.visit_with(rt, cpu, cmd, &NoGate)
@@ -96,12 +100,15 @@ impl<N: BootName> System<N> {
         gate: &G,
     ) -> Reply
         requires { IsOfZone N.frames cmd.now }
-        ensures served { (l k : KnownLocked) × IsQuiet N.frames N.stocks l × BySteps N.frames l.machine cpu.old k.machine cpu.new
-            (λ steps. Serves N.frames cmd.now l cpu.old result steps k cpu.new) }
+        ensures served { (l k : KnownLocked) × IsQuiet N.frames N.stocks l × IsServed N.frames cmd.now (holder l cpu.old) result
+            (holder k cpu.new)
+            × LentIsBorrowed N.frames k.machine.seat cpu.new.seat }
         ensures settled { FreshAfter cmd.now result cpu.new.fresh × (cpu.new.back ≡ []) }
     {
-        let mut locked = self.locked.lock(rt);
+        let mut guard = self.locked.lock(rt);
         gate.inside(cpu.number());
-        serve(&mut *locked, &self.tables, cpu, cmd)
+        let locked = &mut *guard;
+        locked.see_quiet();
+        serve(locked, &self.tables, cpu, cmd)
     }
 }

@@ -1,13 +1,11 @@
 -- What a text says, once it is cut at its first space.
 use Rattle.std.proofs.Common.{◌≡◌, ◌≢◌, ℕ, List, ◌∷◌, ◌++◌, Option, None, Some, MatchOption, subst, sym, ap, ◌∙◌, codes, refl, Bool, true, false}
 use Rattle.zone_sizes.specs.declared.config.Config.{Config}
-use Rattle.script_lines.specs.Script.{HasArguments, IsAllocText, IsCommandText, IsCut, IsLineText, IsPathText}
-use Rattle.script_lines.specs.Script.{IsReadText, IsRequestText, IsWriteText, WritesNumber, is_go}
+use Rattle.script_lines.specs.Script.{HasArguments, IsAllocText, IsCommandText, IsCut, IsPathText}
+use Rattle.script_lines.specs.Script.{IsReadText, IsRequestText, IsWriteText, WritesNumber}
 use Rattle.script_lines.specs.declared.line.Command.{Command}
 use Rattle.script_lines.specs.declared.line.Command.TheVariants.{Settle}
 use Rattle.script_lines.specs.declared.line.Command.TheVariants.{Blocks, Show}
-use Rattle.script_lines.specs.declared.line.Line.{Line}
-use Rattle.script_lines.specs.declared.line.Line.TheVariants.{Go, At}
 use Rattle.script_lines.specs.Verb.{its_verb, name_of, verb_named}
 use Rattle.script_lines.specs.declared.verb.Verb.{Verb}
 use Rattle.script_lines.specs.declared.verb.Verb.TheVariants as verb
@@ -62,10 +60,6 @@ write_parts text w r v s cut next path file value is =
     let is_file : IsPathText v = rw same.0 is.file_text in
     (first.0, is_file)
 
--- two cuts give the arguments of `write`
-pub write_joined : (text w r v s : List ℕ) → IsCut text w r → IsCut r v s → IsPathText w → IsPathText v → IsWriteText w v s text
-write_joined text w r v s cut next path file = record { parts = cut.parts ∙ ap (λ rest. w ++ 32 ∷ rest) next.parts; path_text = path; file_text = file }
-
 -- a request has a space
 pub request_has_space : (sizes : Config) (text : List ℕ) → NoSpace text → (processor : ℕ) (command : Command) → ¬ IsRequestText sizes processor command text
 request_has_space sizes text none processor command is = no_cut text is.digits is.rest none is.parts
@@ -78,12 +72,6 @@ request_parts sizes text w r cut processor command is =
     let is_number : WritesNumber w processor = rw same.0 is.writes in
     let is_command : IsCommandText sizes command r = rw same.1 is.command_text in
     (is_number, is_command)
-
--- a line other than `go` is a request
-pub no_line : (sizes : Config) (text : List ℕ) → is_go text ≡ false
-    → ((processor : ℕ) (command : Command) → ¬ IsRequestText sizes processor command text) → (line : Line) → ¬ IsLineText sizes line text
-no_line sizes text other none Go is = let e : is_go text ≡ true = rw is refl in cc
-no_line sizes text other none (At processor command) is = none processor command is
 
 -- what the word before the first space and the rest of the text are, where the text is that of a command
 pub command_parts : (sizes : Config) (text w r : List ℕ) → IsCut text w r → (command : Command) → IsCommandText sizes command text

@@ -1,9 +1,11 @@
 -- The names of the commands.
-use Rattle.std.specs.Prelude.{ℕ, List, [], ◌∷◌, Option, Some, None, codes, nat_eq}
+use Rattle.std.specs.Prelude.{◌≡◌, ℕ, List, [], ◌∷◌, Option, Some, None, codes, nat_eq}
 use Rattle.std.specs.Cmp.Lexicographic.{pointwise}
+use Rattle.std.specs.HashMap.{HashMap, get_by}
 use Rattle.std.specs.Map.{lookup}
 use Rattle.script_lines.specs.declared.line.Command.{Command}
 use Rattle.script_lines.specs.declared.line.Command.TheVariants as command
+use Rattle.script_lines.specs.declared.verb.Name.{Name}
 use Rattle.script_lines.specs.declared.verb.Verb.{Verb}
 use Rattle.script_lines.specs.declared.verb.Verb.TheVariants.{Mkdir, Rmdir, Write, Read, Alloc, Fast, Release, Get, Put, Settle, Touch}
 use Rattle.script_lines.specs.declared.verb.Verb.TheVariants.{Dirty, Clean, Owner, Blocks, Show}
@@ -68,3 +70,7 @@ named_commands =
 -- the command of this name
 abbrev pub verb_named : List ℕ → Option Verb
 verb_named name = lookup (λ key. pointwise nat_eq name key) named_commands
+
+-- the table has each command at its name, and no other name
+abbrev pub IsNames : {S : Type 0} → HashMap Name Verb S → Type 0
+IsNames names = (name : List ℕ) → get_by (λ key. pointwise nat_eq name key.text.now) names ≡ verb_named name

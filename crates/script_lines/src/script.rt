@@ -5,14 +5,14 @@ ghost use Rattle.std.specs.Prelude.{length, take};
 ghost use Rattle.script_lines.specs.Script.{HasArguments, IsAllocText, IsCommandText, IsCut, IsFirstBadLine, IsFrameText, IsGroupText, IsLineText};
 ghost use Rattle.script_lines.specs.Script.{IsPathText, IsReadText, IsRequestText, IsScript, IsWriteText, NamesFirstBadLine, ended_lines};
 ghost use Rattle.script_lines.specs.Script.{is_go, is_skipped};
-ghost use Rattle.script_lines.specs.Verb.{its_verb, on_frame};
+ghost use Rattle.script_lines.specs.Verb.{IsNames, its_verb, on_frame};
 ghost use Rattle.script_lines.specs.declared.line.Command.{Command};
 ghost use Rattle.script_lines.specs.declared.line.Line.{Line};
 
 use crate::fault::ScriptFault;
 use crate::line::{Command, Line};
 use crate::number::number;
-use crate::verb::{Verb, verb_of};
+use crate::verb::{Names, Verb, command_names, verb_of};
 use std::alloc::Global;
 use zone_sizes::config::Config;
 
@@ -40,6 +40,7 @@ pub fn parse_script<'a>(
     ensures ok { IfOk result (λ lines. IsScript sizes.now input.now lines.items) }
     ensures bad_line { IfErr result (NamesFirstBadLine sizes.now input.now) }
 {
+    let names = command_names(alloc)?;
     let over = line_over(input);
     let mut lines = Vec::new(alloc);
     let mut went = false;
@@ -56,7 +57,7 @@ pub fn parse_script<'a>(
         if is_skipped(text) {
             continue;
         }
-        match parse_line(text, sizes) {
+        match parse_line(&names, text, sizes) {
             Some(line) => lines.push(line)?,
             None => return Err(ScriptFault::BadLine(number)),
         }
@@ -107,19 +108,21 @@ fn is_go(text: &[u8]) -> bool
     text == b"go".as_slice()
 }
 
-fn parse_line<'a>(text: &'a [u8], sizes: &Config) -> Option<Line<'a>>
+fn parse_line<'a>(names: &Names, text: &'a [u8], sizes: &Config) -> Option<Line<'a>>
+    requires { IsNames names.now }
     ensures { MatchOption result ((line : Line) → ¬ IsLineText sizes.now line text.entry.now)
         (λ line. IsLineText sizes.now line text.entry.now) }
 {
     if is_go(text) {
         return Some(Line::Go);
     }
-    let (processor, command) = parse_request(text, sizes)?;
+    let (processor, command) = parse_request(names, text, sizes)?;
     Some(Line::At { processor, command })
 }
 
 // The processor and the command.
-fn parse_request<'a>(text: &'a [u8], sizes: &Config) -> Option<(u32, Command<'a>)>
+fn parse_request<'a>(names: &Names, text: &'a [u8], sizes: &Config) -> Option<(u32, Command<'a>)>
+    requires { IsNames names.now }
     ensures { MatchOption result
         ((processor : ℕ) (command : Command) → ¬ IsRequestText sizes.now processor command text.entry.now)
         (λ r. IsRequestText sizes.now r.0 r.1 text.entry.now) }
@@ -129,22 +132,23 @@ fn parse_request<'a>(text: &'a [u8], sizes: &Config) -> Option<(u32, Command<'a>
     if processor < 1 || sizes.cpus < processor {
         return None;
     }
-    let command = parse_command(rest, sizes)?;
+    let command = parse_command(names, rest, sizes)?;
     Some((processor, command))
 }
 
-fn parse_command<'a>(text: &'a [u8], sizes: &Config) -> Option<Command<'a>>
+fn parse_command<'a>(names: &Names, text: &'a [u8], sizes: &Config) -> Option<Command<'a>>
+    requires { IsNames names.now }
     ensures { MatchOption result ((command : Command) → ¬ IsCommandText sizes.now command text.entry.now)
         (λ command. IsCommandText sizes.now command text.entry.now) }
 {
     match first_word(text) {
-        None => match verb_of(text)? {
+        None => match verb_of(names, text)? {
             Verb::Settle => Some(Command::Settle),
             Verb::Blocks => Some(Command::Blocks),
             Verb::Show => Some(Command::Show),
             _ => None,
         },
-        Some((name, arguments)) => parse_arguments(verb_of(name)?, arguments, sizes),
+        Some((name, arguments)) => parse_arguments(verb_of(names, name)?, arguments, sizes),
     }
 }
 

@@ -1,7 +1,11 @@
 //! The names of the commands.
 
-ghost use Rattle.std.specs.Prelude.{◌≡◌};
-ghost use Rattle.script_lines.specs.Verb.{verb_named};
+ghost use Rattle.std.specs.Prelude.{◌≡◌, IfOk};
+ghost use Rattle.script_lines.specs.Verb.{IsNames, verb_named};
+
+use indexmap::IndexMap;
+use std::alloc::{AllocError, Global};
+use std::hash::{Hash, Hasher};
 
 /// Which command a line has.
 #[derive(Clone, Copy, Debug, PartialEq, Eq)]
@@ -24,43 +28,67 @@ pub enum Verb {
     Show,
 }
 
+/// The name of a command, as a script writes it. A map hashes it in one piece; a slice it would hash byte by byte.
+#[derive(Clone, Copy, Debug, PartialEq, Eq)]
+pub struct Name<'a> {
+    text: &'a [u8],
+}
+
+impl<'a> Name<'a> {
+    fn of(text: &'a [u8]) -> Name<'a>
+        ensures { result.text.now ≡ text.now }
+    {
+        Name { text }
+    }
+}
+
+impl<'a> Hash for Name<'a> {
+    ghost use Rattle.std.specs.Prelude.{[], ◌∷◌};
+    ghost use Rattle.script_lines.specs.Names.{same_writes};
+
+    ghost hash_input = { λ n. n.text.now ∷ [] };
+
+    ghost respects_eq = { λ x y same. same_writes x.text.now y.text.now same };
+
+    fn hash<H: Hasher>(&self, state: &mut H) {
+        state.write(self.text);
+    }
+}
+
+/// The commands by their names.
+pub type Names = IndexMap<Name<'static>, Verb>;
+
+/// A new table of all commands by their names. `AllocError` comes where memory is wanting.
+pub fn command_names(alloc: Global) -> Result<Names, AllocError>
+    ensures { IfOk result IsNames }
+{
+    IndexMap::from_array(
+        alloc,
+        [
+            (Name::of(b"mkdir"), Verb::Mkdir),
+            (Name::of(b"rmdir"), Verb::Rmdir),
+            (Name::of(b"write"), Verb::Write),
+            (Name::of(b"read"), Verb::Read),
+            (Name::of(b"alloc"), Verb::Alloc),
+            (Name::of(b"fast"), Verb::Fast),
+            (Name::of(b"release"), Verb::Release),
+            (Name::of(b"get"), Verb::Get),
+            (Name::of(b"put"), Verb::Put),
+            (Name::of(b"settle"), Verb::Settle),
+            (Name::of(b"touch"), Verb::Touch),
+            (Name::of(b"dirty"), Verb::Dirty),
+            (Name::of(b"clean"), Verb::Clean),
+            (Name::of(b"owner"), Verb::Owner),
+            (Name::of(b"blocks"), Verb::Blocks),
+            (Name::of(b"show"), Verb::Show),
+        ],
+    )
+}
+
 /// The command of this name, where there is one.
-pub fn verb_of(name: &[u8]) -> Option<Verb>
+pub fn verb_of(names: &Names, name: &[u8]) -> Option<Verb>
+    requires { IsNames names.now }
     ensures { result ≡ verb_named name.now }
 {
-    if name == b"mkdir".as_slice() {
-        Some(Verb::Mkdir)
-    } else if name == b"rmdir".as_slice() {
-        Some(Verb::Rmdir)
-    } else if name == b"write".as_slice() {
-        Some(Verb::Write)
-    } else if name == b"read".as_slice() {
-        Some(Verb::Read)
-    } else if name == b"alloc".as_slice() {
-        Some(Verb::Alloc)
-    } else if name == b"fast".as_slice() {
-        Some(Verb::Fast)
-    } else if name == b"release".as_slice() {
-        Some(Verb::Release)
-    } else if name == b"get".as_slice() {
-        Some(Verb::Get)
-    } else if name == b"put".as_slice() {
-        Some(Verb::Put)
-    } else if name == b"settle".as_slice() {
-        Some(Verb::Settle)
-    } else if name == b"touch".as_slice() {
-        Some(Verb::Touch)
-    } else if name == b"dirty".as_slice() {
-        Some(Verb::Dirty)
-    } else if name == b"clean".as_slice() {
-        Some(Verb::Clean)
-    } else if name == b"owner".as_slice() {
-        Some(Verb::Owner)
-    } else if name == b"blocks".as_slice() {
-        Some(Verb::Blocks)
-    } else if name == b"show".as_slice() {
-        Some(Verb::Show)
-    } else {
-        None
-    }
+    names.get(&Name { text: name }).copied()
 }

@@ -3,6 +3,7 @@ use Rattle.std.specs.Prelude.{◌≡◌, ℕ, ◌-◌, List, [], ◌∷◌, ◌+
 use Rattle.frame_word.specs.Seats.{KnownTable}
 use Rattle.cpu_part.specs.Cpus.{KnownCpu}
 use Rattle.mem_system.specs.Boots.{KnownLocked}
+use Rattle.mem_system.specs.Commands.{Holder, holder}
 use Rattle.script_lines.specs.declared.line.Command.{Command}
 use Rattle.script_lines.specs.declared.line.Line.{Line}
 use Rattle.script_lines.specs.declared.line.Line.TheVariants.{Go, At}
@@ -13,18 +14,18 @@ pub record Standing : Type 0 where
   pub locked : KnownLocked
   pub cpus : List KnownCpu
 
--- the command is answered this text at the part of this processor, and the other parts stay
-pub record ServesAt (t : KnownTable) (s : Standing) (processor : ℕ) (command : Command) (text : List ℕ) (e : Standing) : Type 0 where
-  pub before : KnownCpu
-  pub after : KnownCpu
-  pub is_part : slice_get s.cpus (processor - 1) ≡ Some before
-  pub answers : AnswersText t command s.locked before text e.locked after
-  pub cpus : e.cpus ≡ slice_set s.cpus (processor - 1) after
+-- so it goes at the part of this processor, and the other parts stay
+pub record AtPart (processor : ℕ) (goes : Holder → Holder → Type 0) (before after : Standing) : Type 0 where
+  pub part : KnownCpu
+  pub left : KnownCpu
+  pub is_part : slice_get before.cpus (processor - 1) ≡ Some part
+  pub answers : goes (holder before.locked part) (holder after.locked left)
+  pub cpus : after.cpus ≡ slice_set before.cpus (processor - 1) left
 
 -- a line is answered this text; `go` is answered nothing, and does nothing
 abbrev pub ServesLine : KnownTable → Standing → Line → List ℕ → Standing → Type 0
-ServesLine t s Go text e = (text ≡ []) × (e ≡ s)
-ServesLine t s (At processor command) text e = ServesAt t s processor command text e
+ServesLine t before Go text after = (text ≡ []) × (after ≡ before)
+ServesLine t before (At processor command) text after = AtPart processor (λ one other. AnswersText t command one text other) before after
 
 -- the lines are served one after the other, and their texts stand one after the other
 abbrev pub ServesAll : KnownTable → Standing → List Line → List ℕ → Standing → Type 0

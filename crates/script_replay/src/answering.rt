@@ -2,8 +2,9 @@
 
 ghost use Rattle.std.specs.Prelude.{◌≡◌, ◌++◌, ◌<◌, IfOk, List, ℕ};
 ghost use Rattle.std.specs.String.{string_bytes};
-ghost use Rattle.mem_system.specs.Commands.{IsOfZone};
-ghost use Rattle.script_replay.specs.Answers.{AnswersAlloc, AnswersFrame, AnswersRelease, AnswersSettle, AnswersText, RepliesServed};
+ghost use Rattle.script_lines.specs.declared.line.Command.TheVariants.{Alloc};
+ghost use Rattle.mem_system.specs.Commands.{IsOfZone, holder};
+ghost use Rattle.script_replay.specs.Answers.{Answers, AnswersFrame, AnswersRelease, AnswersSettle, AnswersText, RepliesServed};
 ghost use Rattle.script_replay.specs.Answers.{TellsAnswer};
 ghost use Rattle.script_replay.specs.Ranges.{NamesInRange};
 
@@ -27,7 +28,7 @@ pub(crate) fn answer_text<N: BootName>(
     text: &mut String,
 ) -> Result<(), AllocError>
     requires { NamesInRange N.frames.frames command.now }
-    ensures { IfOk result (λ _. (said : List ℕ) × AnswersText N.frames command.now locked.old cpu.old said locked.new cpu.new
+    ensures { IfOk result (λ _. (said : List ℕ) × AnswersText N.frames command.now (holder locked.old cpu.old) said (holder locked.new cpu.new)
         × (string_bytes text.new ≡ string_bytes text.old ++ said)) }
 {
     match *command {
@@ -69,7 +70,7 @@ fn served<N: BootName>(
     text: &mut String,
 ) -> Result<(), AllocError>
     requires { IsOfZone N.frames cmd.now }
-    ensures { IfOk result (λ _. TellsAnswer (λ said. RepliesServed N.frames cmd.now locked.old cpu.old said locked.new cpu.new)
+    ensures { IfOk result (λ _. TellsAnswer (λ said. RepliesServed N.frames cmd.now (holder locked.old cpu.old) said (holder locked.new cpu.new))
         (string_bytes text.old) (string_bytes text.new)) }
 {
     let outcome = carry_out(locked, tables, cpu, cmd);
@@ -83,7 +84,7 @@ fn settle<N: BootName>(
     cpu: &mut Cpu<N>,
     text: &mut String,
 ) -> Result<(), AllocError>
-    ensures { IfOk result (λ _. TellsAnswer (λ said. AnswersSettle N.frames locked.old cpu.old said locked.new cpu.new)
+    ensures { IfOk result (λ _. TellsAnswer (λ said. AnswersSettle N.frames (holder locked.old cpu.old) said (holder locked.new cpu.new))
         (string_bytes text.old) (string_bytes text.new)) }
 {
     let _done = carry_out(locked, tables, cpu, &Cmd::Settle);
@@ -100,7 +101,7 @@ fn alloc_block<N: BootName>(
     text: &mut String,
 ) -> Result<(), AllocError>
     ensures { IfOk result (λ _. TellsAnswer
-        (λ said. AnswersAlloc N.frames path.entry order locked.old cpu.old said locked.new cpu.new)
+        (λ said. Answers N.frames (Alloc path.entry order) (holder locked.old cpu.old) said (holder locked.new cpu.new))
         (string_bytes text.old) (string_bytes text.new)) }
 {
     if order == 0 {
@@ -118,7 +119,7 @@ fn alloc_frame<N: BootName>(
     path: &[u8],
     text: &mut String,
 ) -> Result<(), AllocError>
-    ensures { IfOk result (λ _. TellsAnswer (λ said. AnswersFrame N.frames path.entry locked.old cpu.old said locked.new cpu.new)
+    ensures { IfOk result (λ _. TellsAnswer (λ said. AnswersFrame N.frames path.entry (holder locked.old cpu.old) said (holder locked.new cpu.new))
         (string_bytes text.old) (string_bytes text.new)) }
 {
     let Some(group) = locked.find(path) else {
@@ -139,7 +140,7 @@ fn release<N: BootName>(
     text: &mut String,
 ) -> Result<(), AllocError>
     requires { number < N.frames.frames }
-    ensures { IfOk result (λ _. TellsAnswer (λ said. AnswersRelease N.frames number locked.old cpu.old said locked.new cpu.new)
+    ensures { IfOk result (λ _. TellsAnswer (λ said. AnswersRelease N.frames number (holder locked.old cpu.old) said (holder locked.new cpu.new))
         (string_bytes text.old) (string_bytes text.new)) }
 {
     if lists(tables, cpu, number) {

@@ -7,6 +7,7 @@ ghost use Rattle.cpu_part.specs.Cpus.{times};
 ghost use Rattle.cpu_part.specs.Calls.{DropAnswers};
 ghost use Rattle.mem_system.specs.Boots.{KnownLocked};
 ghost use Rattle.script_replay.specs.Answers.{AnswersGet, AnswersPut, CanNotList, TellsAnswer};
+ghost use Rattle.mem_system.specs.Commands.{holder};
 
 use cpu_part::{BootName, Cpu, Dropped, Tables};
 use group_tree::fault::Fault;
@@ -37,7 +38,7 @@ pub(crate) fn get<N: BootName>(
     text: &mut String,
 ) -> Result<(), AllocError>
     requires { number < N.frames.frames }
-    ensures { (l : KnownLocked) → IfOk result (λ _. TellsAnswer (λ said. AnswersGet number l cpu.old said l cpu.new)
+    ensures { (l : KnownLocked) → IfOk result (λ _. TellsAnswer (λ said. AnswersGet number (holder l cpu.old) said (holder l cpu.new))
         (string_bytes text.old) (string_bytes text.new)) }
 {
     let frame = tables.frames.frame(number).unwrap();
@@ -55,7 +56,7 @@ pub(crate) fn put<N: BootName>(
     text: &mut String,
 ) -> Result<(), AllocError>
     requires { number < N.frames.frames }
-    ensures { (l : KnownLocked) → IfOk result (λ _. TellsAnswer (λ said. AnswersPut number l cpu.old said l cpu.new)
+    ensures { (l : KnownLocked) → IfOk result (λ _. TellsAnswer (λ said. AnswersPut number (holder l cpu.old) said (holder l cpu.new))
         (string_bytes text.old) (string_bytes text.new)) }
 {
     let frame = tables.frames.frame(number).unwrap();

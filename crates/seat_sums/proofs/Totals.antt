@@ -35,10 +35,6 @@ module _ {A : Type 0} where
   sum_plus f g [] = refl
   sum_plus f g (x ∷ xs) = omega (arith, sum_plus f g xs)
 
-  pub sum_none : (f : A → ℕ) (xs : List A) → ((x : A) → f x ≡ 0) → sum_over f xs ≡ 0
-  sum_none f [] none = refl
-  sum_none f (x ∷ xs) none = omega (arith, none x, sum_none f xs none)
-
 module _ {V : Type 0} where
   -- one seat's views change
   pub total_set : (f : V → ℕ) (seats : List (List V)) (id : ℕ) (old new : List V) → get_elem? seats id ≡ some old
@@ -53,9 +49,6 @@ module _ {V : Type 0} where
   pub total_more : (f : V → ℕ) (seats : List (List V)) (views : List V) → total_over f (seats ++ views ∷ []) ≡ total_over f seats + sum_over f views
   total_more f seats views = sum_append (λ views. sum_over f views) seats (views ∷ [])
       ∙ ap (λ (n : ℕ). total_over f seats + n) (sum_one (λ views. sum_over f views) views)
-
-  pub total_same : (f g : V → ℕ) (seats : List (List V)) → ((v : V) → f v ≡ g v) → total_over f seats ≡ total_over g seats
-  total_same f g seats same = sum_same (λ views. sum_over f views) (λ views. sum_over g views) seats (λ views. sum_same f g views same)
 
   pub total_below : (f g : V → ℕ) (seats : List (List V)) → ((v : V) → f v ≤ g v) → total_over f seats ≤ total_over g seats
   total_below f g seats below = sum_below (λ views. sum_over f views) (λ views. sum_over g views) seats (λ views. sum_below f g views below)

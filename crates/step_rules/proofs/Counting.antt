@@ -187,18 +187,18 @@ none_if : (b : Bool) → ◌≡◌ {A = ℕ} (cond b 0 0) 0
 none_if true = refl
 none_if false = refl
 
-gained : (T : Part → ℕ) (parts : ℕ → Part) (q p : ℕ) (part : Part) (n : ℕ) → T (parts q) + n ≡ T part →
+pub gained : (T : Part → ℕ) (parts : ℕ → Part) (q p : ℕ) (part : Part) (n : ℕ) → T (parts q) + n ≡ T part →
     T (parts p) + cond (q == p) n 0 ≡ T (with_at parts q part p) + 0
 gained T parts q p part n e = let a = part_changes T parts q p part n 0 (omega arith) in let b = none_if (q == p) in omega arith
 
-lost : (T : Part → ℕ) (parts : ℕ → Part) (q p : ℕ) (part : Part) (n : ℕ) → T (parts q) ≡ T part + n →
+pub lost : (T : Part → ℕ) (parts : ℕ → Part) (q p : ℕ) (part : Part) (n : ℕ) → T (parts q) ≡ T part + n →
     T (parts p) + 0 ≡ T (with_at parts q part p) + cond (q == p) n 0
 lost T parts q p part n e = let a = part_changes T parts q p part 0 n (omega arith) in let b = none_if (q == p) in omega arith
 
-stayed : (T : Part → ℕ) (parts : ℕ → Part) (q p : ℕ) (part : Part) → T (parts q) ≡ T part → T (parts p) + 0 ≡ T (with_at parts q part p) + 0
+pub stayed : (T : Part → ℕ) (parts : ℕ → Part) (q p : ℕ) (part : Part) → T (parts q) ≡ T part → T (parts p) + 0 ≡ T (with_at parts q part p) + 0
 stayed T parts q p part e = let a = part_changes T parts q p part 0 0 (omega arith) in let b = none_if (q == p) in omega arith
 
-stayed_last : (T : Part → ℕ) (parts : ℕ → Part) (q p f : ℕ) → T (parts q) ≡ T (with_back (parts q) f) →
+pub stayed_last : (T : Part → ℕ) (parts : ℕ → Part) (q p f : ℕ) → T (parts q) ≡ T (with_back (parts q) f) →
     T (parts p) + 0 ≡ T (cond (q == 0) parts (with_at parts q (with_back (parts q) f)) p) + 0
 stayed_last T parts q p f e = by_seat (q == 0)
   where

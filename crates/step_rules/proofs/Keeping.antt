@@ -31,7 +31,7 @@ homes_allowed s seat action answer sound h ok =
       | inr made ↦ homes_step s seat action answer sound h made.legal made.answered made.counted
     ]
 
-homes_boot : (zone : Zone) → IsHomed (at_boot zone)
+pub homes_boot : (zone : Zone) → IsHomed (at_boot zone)
 homes_boot zone = record {
   tree = AreGroups-initial;
   frames = λ f. refl;

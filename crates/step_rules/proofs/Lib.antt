@@ -28,8 +28,13 @@ pub mod Noting
 pub mod Interleaving
 pub mod Seeing
 pub mod Telling
+pub mod Uniting
 pub mod Publishing
 pub mod Freeing
 pub mod CallerLemmas
 pub mod Stocked
 pub mod Adding
+pub mod Promising
+pub mod Booking
+pub mod Living
+pub mod LentTo

@@ -157,7 +157,7 @@ unheld_visit hold q e v = true≢false (sym e ∙ ap is_unheld v)
 pub held_visit : (p : ℕ) (hold : Hold) (q : ℕ) → is_held_by p hold ≡ true → hold ≡ Visiting q → ⊥
 held_visit p hold q e v = true≢false (sym e ∙ ap (is_held_by p) v)
 
-held_case : (a b : Bool) → ◌≡◌ {A = Answer} Held (cond a Held (cond b Full Zero)) → a ≡ true
+pub held_case : (a b : Bool) → ◌≡◌ {A = Answer} Held (cond a Held (cond b Full Zero)) → a ≡ true
 held_case true b h = refl
 held_case false true h = cc
 held_case false false h = cc

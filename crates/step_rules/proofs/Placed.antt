@@ -12,16 +12,16 @@ use Rattle.step_rules.specs.declared.phase.Phase.{Phase}
 use Rattle.step_rules.specs.declared.phase.Phase.TheVariants.{InZone, Lent, Head, Tail}
 use Rattle.step_rules.specs.declared.step.Place.{Place}
 use Rattle.step_rules.specs.declared.step.Place.TheVariants.{Free, Listed, Charged}
-use Rattle.step_rules.specs.declared.step.Step.{Step}
 use Rattle.step_rules.specs.declared.step.Action.{Action}
 use Rattle.step_rules.specs.declared.step.Action.TheVariants.{Lock, Put, Freeze, Unfreeze, PassOut, TakeIn, PassBack, Collect, Consume}
 use Rattle.step_rules.specs.declared.step.Action.TheVariants.{Credit, PlaceBlock, Return}
 use Rattle.step_rules.specs.declared.step.Answer.{Answer}
 use Rattle.step_rules.specs.declared.step.Answer.TheVariants.{Illegal, Done, Last, Took, Back, Placed}
 use Rattle.step_rules.specs.Phases.{Fresh, has_as, is_free, passes_out, passes_back, unit_of, at_stage, stage_after_last, passed_back, collected, may_return}
-use Rattle.step_rules.specs.State.{Zone, State, at_boot, with_at, front_of, is_frame}
-use Rattle.step_rules.specs.Legal.{is_legal, IsAnswer, Allows}
+use Rattle.step_rules.specs.State.{Zone, State, at_boot, with_at, front_of, is_cpu, is_frame}
+use Rattle.step_rules.specs.Legal.{is_legal, IsAnswer, IsMade}
 use Rattle.step_rules.specs.After.{after, state_of, is_within, placed_phase, with_block, unit_size, without_unit, consumed}
+use Rattle.step_rules.specs.Units.{Units, no_units, units_after}
 use Rattle.step_rules.specs.Places.{Places, is_same_place, places_at_boot, moved, returned, credited_place, places_after, place_in, EveryFrameHasOnePlace}
 use Rattle.step_rules.proofs.Basics.{at_same, at_other, at_each}
 use Rattle.step_rules.proofs.Sound.{IsSound}
@@ -29,7 +29,9 @@ use Rattle.step_rules.proofs.PhaseLemmas.{free_is, out_is, listed_is, fresh_is, 
 use Rattle.step_rules.proofs.PhaseLemmas.{returning_is, Returns, AsEnded, AsDrop}
 use Rattle.step_rules.proofs.Passing.{front_listed, in_zone}
 use Rattle.step_rules.proofs.Placing.{within_cases, block_free, in_block, off_block, in_unit, off_unit}
-use Rattle.step_rules.proofs.Runs.{next, after_illegal, allowed, kept_along, sound_boot}
+use Rattle.step_rules.proofs.Runs.{after_illegal}
+use Rattle.step_rules.proofs.Telling.{told_run}
+use Rattle.step_rules.proofs.Uniting.{HasUnits, units_still, units_made, units_boot, front_told}
 
 pub same_place_itself : (p : Place) → is_same_place p p ≡ true
 same_place_itself Free = refl
@@ -150,15 +152,40 @@ placed_place g b x = by_head (x == b.at)
     by_head true = refl
     by_head false = refl
 
+-- how a step moves places, told by the state
+abbrev moves_in : State → Places → ℕ → Action → Answer → Places
+moves_in s places seat (PassOut f p) Done = moved places f 1 Free (Listed p)
+moves_in s places seat (Collect f p) Done = if places f (Listed p) then moved places f 1 (Listed p) Free else places
+moves_in s places seat (Consume g) Took = moved places (front_of (s.parts seat).list) 1 (Listed seat) (Charged g)
+moves_in s places seat (Credit f) Back = credited_place places seat f (unit_of (s.phases f))
+moves_in s places seat (PlaceBlock g k) (Placed b) = moved places b.at (2 ^ b.order) Free (Charged g)
+moves_in s places seat (Return f) Done = returned places f (unit_of (s.phases f))
+moves_in s places seat action answer = places
+
+-- by the run's own units a step moves them so
+moves_same : (s : State) (u : Units) (places : Places) (seat : ℕ) (action : Action) (answer : Answer) → HasUnits s u → IsMade s seat action answer →
+    moves_in s places seat action answer ≡ places_after u places seat action answer
+moves_same s u places seat (Consume g) Took has made =
+    let legal = made.legal in
+    let cpu : is_cpu s.zone seat ≡ true = grind arith in
+    ap (λ (f : ℕ). moved places f 1 (Listed seat) (Charged g)) (sym (front_told s u has seat cpu))
+moves_same s u places seat (Credit f) Back has made =
+    ap (λ (m : Option ChargedUnit × Option ℕ). credited_place places seat f m.0) (has.marked f)
+moves_same s u places seat (PlaceBlock g k) (Placed b) has made = ap (λ (o : ℕ). moved places b.at (2 ^ o) Free (Charged g)) made.answered.0
+moves_same s u places seat (Return f) Done has made =
+    ap (λ (m : Option ChargedUnit × Option ℕ). returned places f m.0) (has.marked f)
+moves_same s u places seat Lock answer has made = refl
+moves_same s u places seat action answer has made = refl
+
 -- an illegal step moves nothing
 places_unchanged : (s : State) (places : Places) (seat : ℕ) (action : Action) → AreTold s.zone s.phases places →
-    AreTold s.zone (after s seat action Illegal).phases (places_after s places seat action Illegal)
+    AreTold s.zone (after s seat action Illegal).phases (moves_in s places seat action Illegal)
 places_unchanged s places seat Lock told = told
 places_unchanged s places seat action told = told
 
 places_made : (s : State) (places : Places) (seat : ℕ) (action : Action) (answer : Answer) → IsSound s → AreTold s.zone s.phases places →
     is_legal s seat action ≡ true → IsAnswer s seat action answer →
-    AreTold s.zone (after s seat action answer).phases (places_after s places seat action answer)
+    AreTold s.zone (after s seat action answer).phases (moves_in s places seat action answer)
 places_made s places seat action Illegal sound told legal ok = places_unchanged s places seat action told
 places_made s places seat (Put f) Last sound told legal ok =
     stays_told s.zone s.phases places f (at_stage (stage_after_last seat) (s.phases f)) told (staged (stage_after_last seat) (s.phases f))
@@ -207,28 +234,39 @@ zone_kept s seat action Illegal = ap (λ (t : State). t.zone) (after_illegal s s
 zone_kept s seat Lock answer = refl
 zone_kept s seat action answer = refl
 
-places_allowed : (s : State) (places : Places) (seat : ℕ) (action : Action) (answer : Answer) → IsSound s → AreTold s.zone s.phases places →
-    Allows s seat action answer →
-    AreTold s.zone (after s seat action answer).phases (places_after s places seat action answer)
-places_allowed s places seat action answer sound told ok =
-    elim (allowed s seat action answer ok) [
-      | inl illegal ↦ subst (λ (a : Answer). AreTold s.zone (after s seat action a).phases (places_after s places seat action a)) (sym illegal)
-          (places_unchanged s places seat action told)
-      | inr made ↦ places_made s places seat action answer sound told made.legal made.answered
-    ]
+illegal_moves : (u : Units) (places : Places) (seat : ℕ) (action : Action) → places_after u places seat action Illegal ≡ places
+illegal_moves u places seat Lock = refl
+illegal_moves u places seat action = refl
 
--- the state that is told beside the places is the run's
-record Tells (zone : Zone) (s : State) (t : State × Places) : Type 0 where
-  state : t.0 ≡ s
+-- what is told beside the places: the units of the run are those of the state
+record Tells (zone : Zone) (s : State) (t : Units × Places) : Type 0 where
   zone_is : s.zone ≡ zone
+  units : HasUnits s t.0
   told : AreTold zone s.phases t.1
+
+abbrev tell : Units × Places → ℕ → Action → Answer → Units × Places
+tell t seat action answer = (units_after t.0 seat action answer, places_after t.0 t.1 seat action answer)
+
+tell_still : (t : Units × Places) (seat : ℕ) (action : Action) → tell t seat action Illegal ≡ t
+tell_still t seat action = λ i. (units_still t.0 seat action i, illegal_moves t.0 t.1 seat action i)
+
+tell_made : (zone : Zone) (s : State) (t : Units × Places) (seat : ℕ) (action : Action) (answer : Answer) → IsSound s → Tells zone s t →
+    IsMade s seat action answer → Tells zone (after s seat action answer) (tell t seat action answer)
+tell_made zone s t seat action answer sound tells made =
+    let here : AreTold s.zone s.phases t.1 = subst (λ (z : Zone). AreTold z s.phases t.1) (sym tells.zone_is) tells.told in
+    let later = places_made s t.1 seat action answer sound here made.legal made.answered in
+    record {
+      zone_is = zone_kept s seat action answer ∙ tells.zone_is;
+      units = units_made s t.0 seat action answer sound tells.units made;
+      told = subst (AreTold zone (after s seat action answer).phases) (moves_same s t.0 t.1 seat action answer tells.units made)
+          (subst (λ (z : Zone). AreTold z (after s seat action answer).phases (moves_in s t.1 seat action answer)) tells.zone_is later);
+    }
 
 pub every_frame_has_one_place : EveryFrameHasOnePlace
 every_frame_has_one_place zone run legal =
-    let tell : State × Places → Step × Answer → State × Places = λ t e. (after t.0 e.0.seat e.0.action e.1, places_after t.0 t.1 e.0.seat e.0.action e.1) in
-    let kept = kept_along tell (Tells zone) keep (at_boot zone) (at_boot zone, places_at_boot zone) run (sound_boot zone)
-    (record { state = refl; zone_is = refl; told = λ f p. refl }) legal in
-    let told = kept.1.told in
+    let start : Tells zone (at_boot zone) (no_units, places_at_boot zone) =
+    record { zone_is = refl; units = units_boot zone; told = λ f p. refl } in
+    let told = (told_run tell (Tells zone) tell_still (tell_made zone) zone (no_units, places_at_boot zone) start run legal).told in
     record {
       one = λ f below.
           let place = place_in ((state_of zone run).phases f) in
@@ -240,15 +278,3 @@ every_frame_has_one_place zone run legal =
           };
       told = told;
     }
-  where
-    keep : (s : State) (t : State × Places) (e : Step × Answer) → IsSound s → Tells zone s t → Allows s e.0.seat e.0.action e.1 →
-        Tells zone (next s e) (after t.0 e.0.seat e.0.action e.1, places_after t.0 t.1 e.0.seat e.0.action e.1)
-    keep s t e sound tells ok =
-        let here : AreTold s.zone s.phases t.1 = subst (λ (z : Zone). AreTold z s.phases t.1) (sym tells.zone_is) tells.told in
-        let later = places_allowed s t.1 e.0.seat e.0.action e.1 sound here ok in
-        record {
-          state = ap (λ (r : State). after r e.0.seat e.0.action e.1) tells.state;
-          zone_is = zone_kept s e.0.seat e.0.action e.1 ∙ tells.zone_is;
-          told = subst (λ (r : State). AreTold zone (next s e).phases (places_after r t.1 e.0.seat e.0.action e.1)) (sym tells.state)
-              (subst (λ (z : Zone). AreTold z (next s e).phases (places_after s t.1 e.0.seat e.0.action e.1)) tells.zone_is later);
-        }

@@ -1,9 +1,9 @@
 -- Every frame comes back once for each use that ended.
-use Rattle.std.proofs.Common.{◌≡◌, ℕ, ◌+◌, ◌^◌, ◌<◌, ◌≤◌, ◌==◌, Bool, true, false, Some, [], ◌∷◌, length, refl, sym, ◌∙◌, ap, subst, arith}
+use Rattle.std.proofs.Common.{◌≡◌, ℕ, ◌+◌, ◌^◌, ◌<◌, ◌≤◌, ◌==◌, Bool, true, false, Option, Some, None, [], ◌∷◌, ◌++◌, length, refl, sym, ◌∙◌, ap, subst, arith}
 use Rattle.std.proofs.Common.{inl, inr, cond, eq-eqb}
-use Rattle.std.specs.Prelude.{nat_le}
+use Rattle.std.specs.Prelude.{nat_le, if◌then◌else◌}
 use Rattle.std.specs.List.{fold}
-use Rattle.std.proofs.lemmas.Bool.{cases_eq, ne_eqb, leb-true}
+use Rattle.std.proofs.lemmas.Bool.{cases_eq, ne_eqb, eqb-true, leb-true}
 use Rattle.std.proofs.lemmas.Nat.{pow_pos}
 use Rattle.zone_blocks.specs.declared.block.Block.{Block}
 use Rattle.step_rules.specs.declared.phase.ChargedUnit.{ChargedUnit}
@@ -11,7 +11,7 @@ use Rattle.step_rules.specs.declared.phase.Way.TheVariants.{PassingOut, OnList}
 use Rattle.step_rules.specs.declared.phase.Stage.{Stage}
 use Rattle.step_rules.specs.declared.phase.Stage.TheVariants.{FreshAt, FreshPassing, Collected, Bare, Live, BackAt, BackPassing, Ended}
 use Rattle.step_rules.specs.declared.phase.Phase.{Phase}
-use Rattle.step_rules.specs.declared.phase.Phase.TheVariants.{Lent, Head, Tail}
+use Rattle.step_rules.specs.declared.phase.Phase.TheVariants.{InZone, Lent, Head, Tail}
 use Rattle.step_rules.specs.declared.step.Step.{Step}
 use Rattle.step_rules.specs.declared.step.Action.{Action}
 use Rattle.step_rules.specs.declared.step.Action.TheVariants.{Lock, Put, Freeze, Unfreeze, PassOut, TakeIn, PassBack, Collect, Consume}
@@ -21,9 +21,12 @@ use Rattle.step_rules.specs.declared.step.Answer.TheVariants.{Illegal, Done, Las
 use Rattle.step_rules.specs.Phases.{Fresh, has_as, is_free, passes_out, passes_back, unit_of, at_stage, stage_after_last, passed_back}
 use Rattle.step_rules.specs.Phases.{collected, is_head_in_hand, may_return}
 use Rattle.step_rules.specs.State.{Zone, State, at_boot, with_at, one_if, front_of}
-use Rattle.step_rules.specs.Legal.{is_legal, IsAnswer, Allows}
+use Rattle.step_rules.specs.Legal.{is_legal, IsAnswer, IsMade, Allows}
 use Rattle.step_rules.specs.After.{Run, after, state_of, IsLegalRun, is_within, placed_phase, with_block, unit_size, without_unit, consumed}
-use Rattle.step_rules.specs.Returns.{is_open, is_drop, uses_ended, uses_closed, counted_beside, EveryFrameReturnsOnce}
+use Rattle.step_rules.specs.Folds.{was_killed}
+use Rattle.step_rules.specs.Units.{units_of, fresh_group}
+use Rattle.step_rules.specs.Returns.{is_open, is_drop_stage, is_drop_phase, is_drop, is_killed_group, gone_after, is_gone, uses_ended, uses_closed, counted_beside}
+use Rattle.step_rules.specs.Returns.{counted_along, EveryFrameReturnsOnce}
 use Rattle.step_rules.proofs.Basics.{at_same, at_other}
 use Rattle.step_rules.proofs.Sound.{IsSound}
 use Rattle.step_rules.proofs.PhaseLemmas.{live_is, free_is, out_is, listed_is, fresh_is, in_hand, InHand, WasCollected, WasBare, WasEnded}
@@ -31,7 +34,10 @@ use Rattle.step_rules.proofs.PhaseLemmas.{came_back, CameBack, FromList, FromFre
 use Rattle.step_rules.proofs.Referring.{live_from_one}
 use Rattle.step_rules.proofs.Passing.{front_listed}
 use Rattle.step_rules.proofs.Placing.{within_cases, block_free, in_block, off_block, in_unit, off_unit}
-use Rattle.step_rules.proofs.Runs.{allowed, kept_along, sound_boot, sound_run}
+use Rattle.step_rules.proofs.Runs.{after_illegal, allowed, kept_along, sound_boot, sound_run, state_more, legal_more}
+use Rattle.step_rules.proofs.LocalLaws.{no_illegal}
+use Rattle.step_rules.proofs.Telling.{told_run, groups_are_told}
+use Rattle.step_rules.proofs.Uniting.{units_are_told}
 
 abbrev Count : Type 0
 Count = State → ℕ → Action → Answer → ℕ
@@ -146,7 +152,7 @@ placed_opens g b m = by_head (m == b.at)
 
 -- 1 where a return of the frame is a drop
 abbrev drops : State → ℕ → ℕ
-drops s f = one_if (is_drop s.killed (s.phases f))
+drops s f = one_if (is_drop_phase s.killed (s.phases f))
 
 -- a unit comes back: its head closes its use, and its tails had none
 unit_closes : (s : State) (f m : ℕ) (u : ChargedUnit) (stage : Stage) → IsSound s → s.phases f ≡ Head u stage → opens (s.phases f) + drops s f ≡ 1 →
@@ -180,11 +186,11 @@ any_unit_closes : (s : State) (f m : ℕ) → IsSound s → Returns s.killed (s.
     opens (s.phases m) + cond (f == m) (drops s f) 0 ≡ opens (without_unit s.phases f m) + cond (f == m) 1 0
 any_unit_closes s f m sound (AsEnded u was) =
     let a : opens (s.phases f) ≡ 1 = ap opens was in
-    let b : drops s f ≡ 0 = ap (λ (x : Phase). one_if (is_drop s.killed x)) was in
+    let b : drops s f ≡ 0 = ap (λ (x : Phase). one_if (is_drop_phase s.killed x)) was in
     unit_closes s f m u Ended sound was (omega arith)
 any_unit_closes s f m sound (AsDrop u was killed) =
     let a : opens (s.phases f) ≡ 0 = ap opens was in
-    let b : drops s f ≡ 1 = ap (λ (x : Phase). one_if (is_drop s.killed x)) was ∙ ap one_if killed in
+    let b : drops s f ≡ 1 = ap (λ (x : Phase). one_if (is_drop_phase s.killed x)) was ∙ ap one_if killed in
     unit_closes s f m u Collected sound was (omega arith)
 
 block_stays : (s : State) (g : ℕ) (b : Block) (m : ℕ) → ((x : ℕ) → b.at ≤ x → x < b.at + 2 ^ b.order → is_free (s.phases x) ≡ true) →
@@ -198,14 +204,29 @@ block_stays s g b m free =
       | inr without ↦ let a : opens (with_block s.phases g b m) ≡ opens (s.phases m) = ap opens (off_block s.phases g b m without.0) in omega arith
     ]
 
+-- 1 where a step ends a use of frame f, told by the state
+abbrev pub ended_in : ℕ → State → ℕ → Action → Answer → ℕ
+ended_in f s seat (Put g) Last = if g == f then 1 else 0
+ended_in f s seat (Freeze g n) Done = if g == f then 1 else 0
+ended_in f s seat (Credit g) Back = if g == f then 1 else 0
+ended_in f s seat (Return g) Done = if g == f then one_if (is_drop_phase s.killed (s.phases g)) else 0
+ended_in f s seat action answer = 0
+
+-- 1 where a step closes one, told by the state
+abbrev pub closed_in : ℕ → State → ℕ → Action → Answer → ℕ
+closed_in f s seat (Return g) Done = if g == f then 1 else 0
+closed_in f s seat (Credit g) Back = if g == f then 1 else 0
+closed_in f s seat (Unfreeze g n) Done = if g == f then one_if (is_open (s.phases g)) else 0
+closed_in f s seat action answer = 0
+
 -- an illegal step ends and closes nothing
 uses_unchanged : (m : ℕ) (s : State) (seat : ℕ) (action : Action) →
-    opens (s.phases m) + uses_ended m s seat action Illegal ≡ opens ((after s seat action Illegal).phases m) + uses_closed m s seat action Illegal
+    opens (s.phases m) + ended_in m s seat action Illegal ≡ opens ((after s seat action Illegal).phases m) + closed_in m s seat action Illegal
 uses_unchanged m s seat Lock = refl
 uses_unchanged m s seat action = refl
 
-uses_made : (m : ℕ) (s : State) (seat : ℕ) (action : Action) (answer : Answer) → IsSound s → is_legal s seat action ≡ true → IsAnswer s seat action answer →
-    opens (s.phases m) + uses_ended m s seat action answer ≡ opens ((after s seat action answer).phases m) + uses_closed m s seat action answer
+pub uses_made : (m : ℕ) (s : State) (seat : ℕ) (action : Action) (answer : Answer) → IsSound s → is_legal s seat action ≡ true → IsAnswer s seat action answer →
+    opens (s.phases m) + ended_in m s seat action answer ≡ opens ((after s seat action answer).phases m) + closed_in m s seat action answer
 uses_made m s seat action Illegal sound legal ok = uses_unchanged m s seat action
 uses_made m s seat (Put f) Last sound legal ok =
     let some : nat_le 1 (s.references seat f) ≡ true = grind arith in
@@ -246,22 +267,223 @@ uses_made m s seat (Return f) Done sound legal ok =
 uses_made m s seat Lock answer sound legal ok = refl
 uses_made m s seat action answer sound legal ok = refl
 
-uses_allowed : (m : ℕ) (s : State) (seat : ℕ) (action : Action) (answer : Answer) → IsSound s → Allows s seat action answer →
-    opens (s.phases m) + uses_ended m s seat action answer ≡ opens ((after s seat action answer).phases m) + uses_closed m s seat action answer
-uses_allowed m s seat action answer sound ok =
+-- ---- what is gone
+one_same : (a b : Bool) → one_if a ≡ one_if b → a ≡ b
+one_same true true e = refl
+one_same false false e = refl
+one_same true false e = absurd (omega arith)
+one_same false true e = absurd (omega arith)
+
+one_is : (a : Bool) → one_if a ≡ 1 → a ≡ true
+one_is true e = refl
+one_is false e = absurd (omega arith)
+
+none_is : (a : Bool) → one_if a ≡ 0 → a ≡ false
+none_is true e = absurd (omega arith)
+none_is false e = refl
+
+-- no frame has an open end and may be dropped
+apart_stage : (b : Bool) (stage : Stage) → one_if (is_open (Head (record { group = 0; order = 0 }) stage)) + one_if (is_drop_stage b stage) ≤ 1
+apart_stage true Collected = omega arith
+apart_stage false Collected = omega arith
+apart_stage b (BackAt p) = omega arith
+apart_stage b (BackPassing p) = omega arith
+apart_stage b Ended = omega arith
+apart_stage b stage = omega arith
+
+apart : (killed : ℕ → Bool) (x : Phase) → one_if (is_open x) + one_if (is_drop_phase killed x) ≤ 1
+apart killed (Head u stage) = apart_stage (killed u.group) stage
+apart killed InZone = omega arith
+apart killed (Lent p way) = omega arith
+apart killed (Tail g) = omega arith
+
+abbrev IsGone : ℕ → State → Bool → Type 0
+IsGone f s x = x ≡ is_open (s.phases f)
+
+gone_still : (f : ℕ) (x : Bool) (seat : ℕ) (action : Action) → gone_after f x action Illegal ≡ x
+gone_still f x seat Lock = refl
+gone_still f x seat action = refl
+
+-- where one frame's end may open or close
+changed : (same x y : Bool) (ended closed : ℕ) → one_if x + cond same ended 0 ≡ one_if y + cond same closed 0 → (new : Bool) →
+    (same ≡ true → one_if y ≡ one_if new) → cond same new x ≡ y
+changed true x y ended closed e new here = one_same new y (sym (here refl))
+changed false x y ended closed e new here = one_same x y (omega arith)
+
+ends : (b : Bool) → one_if b ≤ 1
+ends true = omega arith
+ends false = omega arith
+
+gone_made : (f : ℕ) (s : State) (x : Bool) (seat : ℕ) (action : Action) (answer : Answer) → IsSound s → IsGone f s x → IsMade s seat action answer →
+    IsGone f (after s seat action answer) (gone_after f x action answer)
+gone_made f s x seat action Illegal sound holds made = absurd (no_illegal s seat action made.answered)
+gone_made f s x seat (Put g) Last sound holds made =
+    let later = is_open ((after s seat (Put g) Last).phases f) in
+    let e : one_if (is_open (s.phases f)) + cond (g == f) 1 0 ≡ one_if later + 0 = uses_made f s seat (Put g) Last sound made.legal made.answered in
+    ap (λ b. cond (g == f) true b) holds
+    ∙ changed (g == f) (is_open (s.phases f)) later 1 0 (let z = none_if (g == f) in omega arith) true
+    (λ same. let a : ◌≡◌ {A = ℕ} (cond (g == f) 1 0) 1 = ap (λ b. cond b 1 0) same in let top = ends later in omega arith)
+gone_made f s x seat (Freeze g n) Done sound holds made =
+    let later = is_open ((after s seat (Freeze g n) Done).phases f) in
+    let e : one_if (is_open (s.phases f)) + cond (g == f) 1 0 ≡ one_if later + 0 = uses_made f s seat (Freeze g n) Done sound made.legal made.answered in
+    ap (λ b. cond (g == f) true b) holds
+    ∙ changed (g == f) (is_open (s.phases f)) later 1 0 (let z = none_if (g == f) in omega arith) true
+    (λ same. let a : ◌≡◌ {A = ℕ} (cond (g == f) 1 0) 1 = ap (λ b. cond b 1 0) same in let top = ends later in omega arith)
+gone_made f s x seat (Unfreeze g n) Done sound holds made =
+    let later = is_open ((after s seat (Unfreeze g n) Done).phases f) in
+    let was : ℕ = one_if (is_open (s.phases g)) in
+    let e : one_if (is_open (s.phases f)) + 0 ≡ one_if later + cond (g == f) was 0 = uses_made f s seat (Unfreeze g n) Done sound made.legal made.answered in
+    ap (λ b. cond (g == f) false b) holds
+    ∙ changed (g == f) (is_open (s.phases f)) later 0 was (let z = none_if (g == f) in omega arith) false
+    (λ same.
+    let a : cond (g == f) was 0 ≡ was = ap (λ b. cond b was 0) same in
+    let b : was ≡ one_if (is_open (s.phases f)) = ap (λ (k : ℕ). one_if (is_open (s.phases k))) (eqb-true g f same) in
+    omega arith)
+gone_made f s x seat (Return g) Done sound holds made =
+    let later = is_open ((after s seat (Return g) Done).phases f) in
+    let drop : ℕ = one_if (is_drop_phase s.killed (s.phases g)) in
+    let e : one_if (is_open (s.phases f)) + cond (g == f) drop 0 ≡ one_if later + cond (g == f) 1 0 =
+    uses_made f s seat (Return g) Done sound made.legal made.answered in
+    ap (λ b. cond (g == f) false b) holds
+    ∙ changed (g == f) (is_open (s.phases f)) later drop 1 e false
+    (λ same.
+    let a : cond (g == f) drop 0 ≡ drop = ap (λ b. cond b drop 0) same in
+    let b : ◌≡◌ {A = ℕ} (cond (g == f) 1 0) 1 = ap (λ b. cond b 1 0) same in
+    let c : drop ≡ one_if (is_drop_phase s.killed (s.phases f)) = ap (λ (k : ℕ). one_if (is_drop_phase s.killed (s.phases k))) (eqb-true g f same) in
+    let most = apart s.killed (s.phases f) in
+    omega arith)
+gone_made f s x seat (Credit g) Back sound holds made =
+    let later = is_open ((after s seat (Credit g) Back).phases f) in
+    let e : one_if (is_open (s.phases f)) + cond (g == f) 1 0 ≡ one_if later + cond (g == f) 1 0 =
+    uses_made f s seat (Credit g) Back sound made.legal made.answered in
+    holds ∙ one_same (is_open (s.phases f)) later (omega arith)
+gone_made f s x seat Lock answer sound holds made = holds
+gone_made f s x seat action answer sound holds made =
+    let e = uses_made f s seat action answer sound made.legal made.answered in
+    holds ∙ one_same (is_open (s.phases f)) (is_open ((after s seat action answer).phases f)) (omega arith)
+
+-- what is gone by the run has an open end in the state
+pub gone_is_told : (zone : Zone) (run : Run) → IsLegalRun zone run → (f : ℕ) → is_gone run f ≡ is_open ((state_of zone run).phases f)
+gone_is_told zone run legal f = told_run (λ x seat action answer. gone_after f x action answer) (IsGone f) (gone_still f) (gone_made f) zone false refl run legal
+
+-- ---- counted along the run
+abbrev pub Along : Type 0
+Along = Run → ℕ → Action → Answer → ℕ
+
+abbrev Counted : Type 0
+Counted = Run × (ℕ × ℕ)
+
+count_both : Along → Along → Counted → Step × Answer → Counted
+count_both f g t e = (t.0 ++ e ∷ [], (t.1.0 + f t.0 e.0.seat e.0.action e.1, t.1.1 + g t.0 e.0.seat e.0.action e.1))
+
+count_one : Along → Run × ℕ → Step × Answer → Run × ℕ
+count_one f t e = (t.0 ++ e ∷ [], t.1 + f t.0 e.0.seat e.0.action e.1)
+
+counts_first : (f g : Along) (run : Run) (t : Counted) → (fold (count_both f g) t run).1.0 ≡ (fold (count_one f) (t.0, t.1.0) run).1
+unfolding count_both count_one
+counts_first f g [] t = refl
+counts_first f g (e ∷ run) t = counts_first f g run (count_both f g t e)
+
+counts_last : (f g : Along) (run : Run) (t : Counted) → (fold (count_both f g) t run).1.1 ≡ (fold (count_one g) (t.0, t.1.1) run).1
+unfolding count_both count_one
+counts_last f g [] t = refl
+counts_last f g (e ∷ run) t = counts_last f g run (count_both f g t e)
+
+-- the run so far leads to the state, and what it counts is what each step changes
+record Counts (zone : Zone) (F : State → ℕ) (s : State) (t : Counted) : Type 0 where
+  legal : IsLegalRun zone t.0
+  state : state_of zone t.0 ≡ s
+  sum : t.1.0 ≡ F s + t.1.1
+
+pub counted_so_along : (gain loss : Along) (F : State → ℕ) (zone : Zone) → F (at_boot zone) ≡ 0 →
+    ((run : Run) (seat : ℕ) (action : Action) (answer : Answer) → IsLegalRun zone run → Allows (state_of zone run) seat action answer →
+    F (state_of zone run) + gain run seat action answer ≡ F (after (state_of zone run) seat action answer) + loss run seat action answer) →
+    (run : Run) → IsLegalRun zone run → counted_along gain run ≡ F (state_of zone run) + counted_along loss run
+unfolding count_both count_one
+counted_so_along gain loss F zone boot each run legal =
+    let start : Counted = ([], (0, 0)) in
+    let kept = kept_along (count_both gain loss) (Counts zone F)
+    (λ s t e sound counts ok.
+    let here : Allows (state_of zone t.0) e.0.seat e.0.action e.1 =
+    subst (λ (r : State). Allows r e.0.seat e.0.action e.1) (sym counts.state) ok in
+    let change = each t.0 e.0.seat e.0.action e.1 counts.legal here in
+    let a : F (state_of zone t.0) ≡ F s = ap F counts.state in
+    let b : F (after (state_of zone t.0) e.0.seat e.0.action e.1) ≡ F (after s e.0.seat e.0.action e.1) =
+    ap (λ (r : State). F (after r e.0.seat e.0.action e.1)) counts.state in
+    let sums = counts.sum in
+    record {
+      legal = legal_more zone t.0 e.0 e.1 counts.legal here;
+      state = state_more zone t.0 e.0 e.1 ∙ ap (λ (r : State). after r e.0.seat e.0.action e.1) counts.state;
+      sum = omega arith;
+    })
+    (at_boot zone) start run (sound_boot zone) (record { legal = λ k. tt; state = refl; sum = omega arith }) legal in
+    sym (counts_first gain loss run start) ∙ kept.1.sum ∙ ap (λ n. F (state_of zone run) + n) (counts_last gain loss run start)
+
+-- ---- drops
+fresh_drop : (killed : ℕ → Bool) (x : Phase) → Returns killed x → is_killed_group killed (fresh_group x) ≡ is_drop_phase killed x
+fresh_drop killed x (AsEnded u was) = ap (λ y. is_killed_group killed (fresh_group y)) was ∙ sym (ap (is_drop_phase killed) was)
+fresh_drop killed x (AsDrop u was dead) = ap (λ y. is_killed_group killed (fresh_group y)) was ∙ sym (ap (is_drop_phase killed) was)
+
+killed_group_same : (killed later : ℕ → Bool) → ((g : ℕ) → killed g ≡ later g) → (o : Option ℕ) → is_killed_group killed o ≡ is_killed_group later o
+killed_group_same killed later each None = refl
+killed_group_same killed later each (Some g) = each g
+
+-- what the run says is a drop, where the frame may come back
+pub drop_is_told : (zone : Zone) (run : Run) → IsLegalRun zone run → (f : ℕ) → may_return (state_of zone run).killed ((state_of zone run).phases f) ≡ true →
+    is_drop run f ≡ is_drop_phase (state_of zone run).killed ((state_of zone run).phases f)
+drop_is_told zone run legal f may =
+    let s = state_of zone run in
+    killed_group_same (was_killed run) s.killed (λ g. sym (groups_are_told zone run legal g).killed) ((units_of run).fresh_for f)
+    ∙ ap (is_killed_group s.killed) (sym (units_are_told zone run legal f).fresh)
+    ∙ fresh_drop s.killed (s.phases f) (returning_is s.killed (s.phases f) may)
+
+ends_same : (f : ℕ) (zone : Zone) (run : Run) (seat : ℕ) (action : Action) (answer : Answer) → IsLegalRun zone run → IsMade (state_of zone run) seat action answer →
+    uses_ended f run seat action answer ≡ ended_in f (state_of zone run) seat action answer
+ends_same f zone run seat (Return g) Done legal made =
+    let ok = made.legal in
+    let may : may_return (state_of zone run).killed ((state_of zone run).phases g) ≡ true = grind arith in
+    ap (λ b. if g == f then one_if b else 0) (drop_is_told zone run legal g may)
+ends_same f zone run seat Lock answer legal made = refl
+ends_same f zone run seat action answer legal made = refl
+
+closes_same : (f : ℕ) (zone : Zone) (run : Run) (seat : ℕ) (action : Action) (answer : Answer) → IsLegalRun zone run → IsMade (state_of zone run) seat action answer →
+    uses_closed f run seat action answer ≡ closed_in f (state_of zone run) seat action answer
+closes_same f zone run seat (Unfreeze g n) Done legal made = ap (λ b. if g == f then one_if b else 0) (gone_is_told zone run legal g)
+closes_same f zone run seat Lock answer legal made = refl
+closes_same f zone run seat action answer legal made = refl
+
+none_unmade : (f : ℕ) (run : Run) (seat : ℕ) (action : Action) → (uses_ended f run seat action Illegal ≡ 0) × (uses_closed f run seat action Illegal ≡ 0)
+none_unmade f run seat Lock = (refl, refl)
+none_unmade f run seat action = (refl, refl)
+
+uses_allowed : (f : ℕ) (zone : Zone) (run : Run) (seat : ℕ) (action : Action) (answer : Answer) → IsLegalRun zone run →
+    Allows (state_of zone run) seat action answer →
+    opens ((state_of zone run).phases f) + uses_ended f run seat action answer
+    ≡ opens ((after (state_of zone run) seat action answer).phases f) + uses_closed f run seat action answer
+uses_allowed f zone run seat action answer legal ok =
+    let s = state_of zone run in
     elim (allowed s seat action answer ok) [
-      | inl illegal ↦ subst (λ (a : Answer). opens (s.phases m) + uses_ended m s seat action a ≡ opens ((after s seat action a).phases m)
-          + uses_closed m s seat action a) (sym illegal) (uses_unchanged m s seat action)
-      | inr made ↦ uses_made m s seat action answer sound made.legal made.answered
+      | inl illegal ↦ subst (λ (a : Answer). opens (s.phases f) + uses_ended f run seat action a ≡ opens ((after s seat action a).phases f)
+          + uses_closed f run seat action a) (sym illegal)
+          (let none = none_unmade f run seat action in
+          let same : opens ((after s seat action Illegal).phases f) ≡ opens (s.phases f) = ap (λ (r : State). opens (r.phases f)) (after_illegal s seat action) in
+          let a = none.0 in let b = none.1 in omega arith)
+      | inr made ↦
+          let moved = uses_made f s seat action answer (sound_run zone run legal) made.legal made.answered in
+          let a = ends_same f zone run seat action answer legal made in
+          let b = closes_same f zone run seat action answer legal made in
+          omega arith
     ]
 
 pub every_frame_returns_once : EveryFrameReturnsOnce
-unfolding tell_one
+unfolding count_one
 every_frame_returns_once zone run legal f =
     let s = state_of zone run in
     let sound = sound_run zone run legal in
     record {
-      once = counted_so (uses_ended f) (uses_closed f) (λ t. opens (t.phases f)) (λ z. refl) (uses_allowed f) zone run legal;
+      once = counted_so_along (uses_ended f) (uses_closed f) (λ t. opens (t.phases f)) zone refl (uses_allowed f zone) run legal;
+      gone = gone_is_told zone run legal f;
+      drop = λ seat ok. drop_is_told zone run legal f (grind arith);
       none_open_at_put = λ seat made.
           let ok = made.legal in
           let some : nat_le 1 (s.references seat f) ≡ true = grind arith in

@@ -101,3 +101,14 @@ legal_more zone run step answer legal last k =
         | inr beyond ↦ rw (slice_get_past (one_more run step answer) k (let e = length-append run ((step, answer) ∷ []) in omega arith)) tt
       ]
     ]
+
+taken : (k : ℕ) (run : Run) (P : Run → Step × Answer → Type 0) → ((j : ℕ) → IfSome (slice_get run j) (λ e. P (take j run) e)) →
+    (j : ℕ) → IfSome (slice_get (take k run) j) (λ e. P (take j (take k run)) e)
+taken zero run P each j = tt
+taken (suc k) [] P each j = tt
+taken (suc k) (x ∷ run) P each zero = each zero
+taken (suc k) (x ∷ run) P each (suc j) = taken k run (λ before e. P (x ∷ before) e) (λ i. each (suc i)) j
+
+-- a beginning of a legal run is legal
+pub legal_from : (zone : Zone) (run : Run) (k : ℕ) → IsLegalRun zone run → IsLegalRun zone (take k run)
+legal_from zone run k legal = taken k run (λ before e. Allows (state_of zone before) e.0.seat e.0.action e.1) legal

@@ -81,7 +81,7 @@ on_its_list p (Lent q PassingBack) still = absurd (true≢false still)
 on_its_list p (Head u stage) still = refl
 on_its_list p x still = refl
 
-times_are : (f : ℕ) (xs : List ℕ) → times_in f xs ≡ times f xs
+pub times_are : (f : ℕ) (xs : List ℕ) → times_in f xs ≡ times f xs
 times_are f [] = refl
 times_are f (x ∷ xs) =
     elim (cases_eq x f) [

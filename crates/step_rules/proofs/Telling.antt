@@ -208,7 +208,7 @@ module _ {Y : Type 0} (H : Part → Y) (parts : ℕ → Part) (p : ℕ) (x : Y) 
       by_seat true = holds
       by_seat false = off_part seat part e
 
-abbrev hand_in : Part → InHand
+abbrev pub hand_in : Part → InHand
 hand_in part = record { list = part.list; fresh = part.fresh; back = part.back }
 
 abbrev HasHand : ℕ → State → InHand → Type 0
@@ -218,7 +218,7 @@ hand_still : (p : ℕ) (x : InHand) (seat : ℕ) (action : Action) → hand_afte
 hand_still p x seat Lock = refl
 hand_still p x seat action = refl
 
-hand_made : (p : ℕ) → (p ≡ 0 → ⊥) → (s : State) (x : InHand) (seat : ℕ) (action : Action) (answer : Answer) → HasHand p s x → IsMade s seat action answer →
+pub hand_made : (p : ℕ) → (p ≡ 0 → ⊥) → (s : State) (x : InHand) (seat : ℕ) (action : Action) (answer : Answer) → HasHand p s x → IsMade s seat action answer →
     HasHand p (after s seat action answer) (hand_after p x seat action answer)
 hand_made p some s x seat action Illegal holds made = absurd (no_illegal s seat action made.answered)
 hand_made p some s x seat (Put f) Last holds made =

@@ -16,6 +16,11 @@ pub mod Reaches
 pub mod Keepers
 pub mod Seen
 pub mod Folds
+pub mod Units
 pub mod Kept
 pub mod FreeAreas
 pub mod Current
+pub mod Live
+pub mod Lent
+pub mod Booked
+pub mod Promise

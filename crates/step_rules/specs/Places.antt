@@ -1,5 +1,5 @@
--- Where the frames are after a run: a set of pairs of a frame and a place. A step that moves a frame adds its new pair and
--- takes out only the old pair that it names.
+-- Where the frames are after a run: a set of pairs of a frame and a place, folded over the run's pairs alone. A step that
+-- moves a frame adds its new pair and takes out only the old pair that it names.
 use Rattle.std.specs.Prelude.{◌≡◌, ℕ, ◌^◌, ◌<◌, ◌==◌, ◌&&◌, ◌||◌, not, Bool, true, false, Option, Some, None, fold, if◌then◌else◌}
 use Rattle.step_rules.specs.declared.phase.ChargedUnit.{ChargedUnit}
 use Rattle.step_rules.specs.declared.phase.Phase.{Phase}
@@ -11,9 +11,9 @@ use Rattle.step_rules.specs.declared.step.Action.{Action}
 use Rattle.step_rules.specs.declared.step.Action.TheVariants.{PassOut, Collect, Consume, Credit, PlaceBlock, Return}
 use Rattle.step_rules.specs.declared.step.Answer.{Answer}
 use Rattle.step_rules.specs.declared.step.Answer.TheVariants.{Done, Took, Back, Placed}
-use Rattle.step_rules.specs.Phases.{unit_of}
-use Rattle.step_rules.specs.State.{Zone, State, at_boot, front_of, is_frame}
-use Rattle.step_rules.specs.After.{Run, after, state_of, IsLegalRun, is_within}
+use Rattle.step_rules.specs.State.{Zone, front_of, is_frame}
+use Rattle.step_rules.specs.After.{Run, state_of, IsLegalRun, is_within}
+use Rattle.step_rules.specs.Units.{Units, no_units, units_after}
 
 -- a set of pairs of a frame and a place: the test whether a pair is in it
 abbrev pub Places : Type 0
@@ -48,22 +48,22 @@ credited_place places p f (Some unit) = moved places f 1 (Charged unit.group) (L
 -- the places after one more step: a frame passed out goes from Free to Listed, and one of the list that is collected back
 -- to Free; the front of the list that is consumed goes to the group that pays, and a credit takes it back; a block that is
 -- placed goes from Free to its group, and a unit that comes back from there to Free
-abbrev pub places_after : State → Places → ℕ → Action → Answer → Places
-places_after s places seat (PassOut f p) Done = moved places f 1 Free (Listed p)
-places_after s places seat (Collect f p) Done = if places f (Listed p) then moved places f 1 (Listed p) Free else places
-places_after s places seat (Consume g) Took = moved places (front_of (s.parts seat).list) 1 (Listed seat) (Charged g)
-places_after s places seat (Credit f) Back = credited_place places seat f (unit_of (s.phases f))
-places_after s places seat (PlaceBlock g k) (Placed b) = moved places b.at (2 ^ b.order) Free (Charged g)
-places_after s places seat (Return f) Done = returned places f (unit_of (s.phases f))
-places_after s places seat action answer = places
+abbrev pub places_after : Units → Places → ℕ → Action → Answer → Places
+places_after units places seat (PassOut f p) Done = moved places f 1 Free (Listed p)
+places_after units places seat (Collect f p) Done = if places f (Listed p) then moved places f 1 (Listed p) Free else places
+places_after units places seat (Consume g) Took = moved places (front_of (units.hands seat).list) 1 (Listed seat) (Charged g)
+places_after units places seat (Credit f) Back = credited_place places seat f (units.unit f)
+places_after units places seat (PlaceBlock g k) (Placed b) = moved places b.at (2 ^ k) Free (Charged g)
+places_after units places seat (Return f) Done = returned places f (units.unit f)
+places_after units places seat action answer = places
 
--- the state, and the places beside it, after one more pair
-abbrev pub with_places : State × Places → Step × Answer → State × Places
-with_places t e = (after t.0 e.0.seat e.0.action e.1, places_after t.0 t.1 e.0.seat e.0.action e.1)
+-- the units of the run, and the places beside them, after one more pair
+abbrev pub with_places : Units × Places → Step × Answer → Units × Places
+with_places t e = (units_after t.0 e.0.seat e.0.action e.1, places_after t.0 t.1 e.0.seat e.0.action e.1)
 
 -- the set of pairs after a run
 abbrev pub places_of : Zone → Run → Places
-places_of zone run = (fold with_places (at_boot zone, places_at_boot zone) run).1
+places_of zone run = (fold with_places (no_units, places_at_boot zone) run).1
 
 -- the frame has one place, and no other
 pub record HasOnePlace (places : Places) (f : ℕ) : Type 0 where

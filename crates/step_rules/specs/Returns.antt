@@ -1,5 +1,5 @@
 -- Every use of a frame comes back once, and nothing is pending while the lock is free.
-use Rattle.std.specs.Prelude.{◌≡◌, ℕ, ◌+◌, ◌==◌, Bool, true, false, List, fold, filter, length, if◌then◌else◌}
+use Rattle.std.specs.Prelude.{◌≡◌, ℕ, ◌+◌, ◌==◌, ◌++◌, Bool, true, false, Option, Some, None, List, [], ◌∷◌, fold, filter, length, if◌then◌else◌}
 use Rattle.step_rules.specs.declared.phase.Stage.{Stage}
 use Rattle.step_rules.specs.declared.phase.Stage.TheVariants.{Collected, BackAt, BackPassing, Ended}
 use Rattle.step_rules.specs.declared.phase.Phase.{Phase}
@@ -12,8 +12,10 @@ use Rattle.step_rules.specs.declared.step.Answer.{Answer}
 use Rattle.step_rules.specs.declared.step.Answer.TheVariants.{Done, Last, Back}
 use Rattle.step_rules.specs.State.{Zone, State, at_boot, one_if, is_unheld}
 use Rattle.step_rules.specs.Usage.{frames_kept, pages_prepaid, usage_of}
-use Rattle.step_rules.specs.Legal.{IsMade, no_frame_passes}
+use Rattle.step_rules.specs.Legal.{is_legal, IsMade, no_frame_passes}
 use Rattle.step_rules.specs.After.{Run, after, state_of, IsLegalRun}
+use Rattle.step_rules.specs.Folds.{was_killed}
+use Rattle.step_rules.specs.Units.{units_of}
 use Rattle.step_rules.specs.Places.{is_same_place, place_in}
 
 -- the stage of a unit whose last reference is gone and that hasn't come back
@@ -33,25 +35,56 @@ abbrev pub is_drop_stage : Bool → Stage → Bool
 is_drop_stage is_killed Collected = is_killed
 is_drop_stage _ _ = false
 
--- a return of the frame is a drop: it was collected as a fresh frame, and its group is killed
-abbrev pub is_drop : (ℕ → Bool) → Phase → Bool
-is_drop killed (Head unit stage) = is_drop_stage (killed unit.group) stage
-is_drop _ _ = false
+-- a return from this phase is a drop: the frame was collected as a fresh frame, and its group is killed
+abbrev pub is_drop_phase : (ℕ → Bool) → Phase → Bool
+is_drop_phase killed (Head unit stage) = is_drop_stage (killed unit.group) stage
+is_drop_phase _ _ = false
 
--- 1 where a step ends a use of frame f: a last put, a freeze of all references, a credit, or a return that is a drop
-abbrev pub uses_ended : ℕ → State → ℕ → Action → Answer → ℕ
-uses_ended f s seat (Put g) Last = if g == f then 1 else 0
-uses_ended f s seat (Freeze g n) Done = if g == f then 1 else 0
-uses_ended f s seat (Credit g) Back = if g == f then 1 else 0
-uses_ended f s seat (Return g) Done = if g == f then one_if (is_drop s.killed (s.phases g)) else 0
-uses_ended f s seat action answer = 0
+-- there is a group, and it is killed
+abbrev pub is_killed_group : (ℕ → Bool) → Option ℕ → Bool
+is_killed_group killed None = false
+is_killed_group killed (Some g) = killed g
+
+-- a return of the frame is a drop: it is a fresh frame of a killed group
+abbrev pub is_drop : Run → ℕ → Bool
+is_drop run f = is_killed_group (was_killed run) ((units_of run).fresh_for f)
+
+-- whether the last reference of frame f is gone, after one more step: gone by a last put or a freeze of all references, not
+-- gone once references are put on it again or it came back
+abbrev pub gone_after : ℕ → Bool → Action → Answer → Bool
+gone_after f old (Put g) Last = if g == f then true else old
+gone_after f old (Freeze g n) Done = if g == f then true else old
+gone_after f old (Unfreeze g n) Done = if g == f then false else old
+gone_after f old (Return g) Done = if g == f then false else old
+gone_after f old action answer = old
+
+-- the last reference of the frame is gone, and it hasn't come back
+abbrev pub is_gone : Run → ℕ → Bool
+is_gone run f = fold (λ old e. gone_after f old e.0.action e.1) false run
+
+-- 1 where a step after this run ends a use of frame f: a last put, a freeze of all references, a credit, or a return that is
+-- a drop
+abbrev pub uses_ended : ℕ → Run → ℕ → Action → Answer → ℕ
+uses_ended f run seat (Put g) Last = if g == f then 1 else 0
+uses_ended f run seat (Freeze g n) Done = if g == f then 1 else 0
+uses_ended f run seat (Credit g) Back = if g == f then 1 else 0
+uses_ended f run seat (Return g) Done = if g == f then one_if (is_drop run g) else 0
+uses_ended f run seat action answer = 0
 
 -- 1 where a step closes one: the frame comes back by a return or a credit, or an unfreeze undoes the end
-abbrev pub uses_closed : ℕ → State → ℕ → Action → Answer → ℕ
-uses_closed f s seat (Return g) Done = if g == f then 1 else 0
-uses_closed f s seat (Credit g) Back = if g == f then 1 else 0
-uses_closed f s seat (Unfreeze g n) Done = if g == f then one_if (is_open (s.phases g)) else 0
-uses_closed f s seat action answer = 0
+abbrev pub uses_closed : ℕ → Run → ℕ → Action → Answer → ℕ
+uses_closed f run seat (Return g) Done = if g == f then 1 else 0
+uses_closed f run seat (Credit g) Back = if g == f then 1 else 0
+uses_closed f run seat (Unfreeze g n) Done = if g == f then one_if (is_gone run g) else 0
+uses_closed f run seat action answer = 0
+
+-- the run so far, and what was counted along it, after one more pair
+abbrev pub with_counted : (Run → ℕ → Action → Answer → ℕ) → Run × ℕ → Step × Answer → Run × ℕ
+with_counted count t e = (t.0 ++ e ∷ [], t.1 + count t.0 e.0.seat e.0.action e.1)
+
+-- the sum of what each step of a run counts, told by the run before it
+abbrev pub counted_along : (Run → ℕ → Action → Answer → ℕ) → Run → ℕ
+counted_along count run = (fold (with_counted count) ([], 0) run).1
 
 -- the state, and what was counted beside it, after one more pair
 abbrev pub with_count : (State → ℕ → Action → Answer → ℕ) → State × ℕ → Step × Answer → State × ℕ
@@ -62,9 +95,13 @@ abbrev pub counted_beside : (State → ℕ → Action → Answer → ℕ) → Zo
 counted_beside count zone run = (fold (with_count count) (at_boot zone, 0) run).1
 
 -- each frame comes back once for each use that ended: of its ended uses all are closed but the one that is open, and no
--- use ends while one is open; so a return that closes no open end is a drop
+-- use ends while one is open; so a return that closes no open end is a drop. What is open, and what is a drop, is in the
+-- state as it is by the run
 pub record ReturnsOnce (zone : Zone) (run : Run) (f : ℕ) : Type 0 where
-  pub once : counted_beside (uses_ended f) zone run ≡ one_if (is_open ((state_of zone run).phases f)) + counted_beside (uses_closed f) zone run
+  pub once : counted_along (uses_ended f) run ≡ one_if (is_open ((state_of zone run).phases f)) + counted_along (uses_closed f) run
+  pub gone : is_gone run f ≡ is_open ((state_of zone run).phases f)
+  pub drop : (seat : ℕ) → is_legal (state_of zone run) seat (Return f) ≡ true →
+      is_drop run f ≡ is_drop_phase (state_of zone run).killed ((state_of zone run).phases f)
   pub none_open_at_put : (seat : ℕ) → IsMade (state_of zone run) seat (Put f) Last → is_open ((state_of zone run).phases f) ≡ false
   pub none_open_at_freeze : (seat n : ℕ) → IsMade (state_of zone run) seat (Freeze f n) Done → is_open ((state_of zone run).phases f) ≡ false
 

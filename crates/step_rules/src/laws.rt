@@ -1,10 +1,15 @@
 //! Laws of the rules: what each function ensures holds of every legal run.
 
+ghost use Rattle.step_rules.specs.Promise.{ThePromiseIsKept};
 ghost use Rattle.step_rules.specs.Laws.{OwnStepIsLegal, OtherStepIsHidden};
 ghost use Rattle.step_rules.specs.Seen.{AllLegalityIsSeen, LockIsPassedOn, AllIsSeen};
 ghost use Rattle.step_rules.specs.Reaches.{LocalRunsInterleave, LocalRunsCompose};
 ghost use Rattle.step_rules.specs.Places.{EveryFrameHasOnePlace};
 ghost use Rattle.step_rules.specs.Returns.{EveryFrameReturnsOnce, NothingPendsWhileTheLockIsFree};
+ghost use Rattle.step_rules.specs.Units.{AllUnitsAreTold};
+ghost use Rattle.step_rules.specs.Live.{AllLiveAreReferred};
+ghost use Rattle.step_rules.specs.Booked.{AllPartsAreBooked};
+ghost use Rattle.step_rules.specs.Lent.{FramesAreLentToProcessors, BeginningsAreLegal};
 ghost use Rattle.step_rules.specs.Keepers.{AllKeepersAreThere};
 ghost use Rattle.step_rules.specs.Peaks.{OnlyGrantsRaiseUsage, PeaksAreKept};
 ghost use Rattle.step_rules.specs.Events.{EventsAreCounted};
@@ -14,6 +19,12 @@ ghost use Rattle.step_rules.specs.Kept.{AllPublishedIsKept};
 ghost use Rattle.step_rules.specs.FreeAreas.{AllAreasAreTold};
 ghost use Rattle.step_rules.specs.Current.{AllCurrentIsTold};
 ghost use Rattle.step_rules.specs.Counts.{ReferencesAreCounted, StocksAreCounted, BooksAreCounted};
+
+/// After every legal run that leaves the lock free the promise holds of what is shown: the free areas are maximal, each
+/// frame is in one place, each group's memory.current is right, no grant passed a limit, and each frame came back once.
+pub fn the_promise_is_kept()
+    ensures { ThePromiseIsKept }
+{}
 
 /// While a processor holds the lock, a step of its own or of the zone's seat, other than Lock and Unlock, that is legal
 /// by what the processor sees, with an answer that is allowed there and by others' counts, is legal, and the processor
@@ -162,4 +173,31 @@ pub fn areas_are_told()
 /// less those taken back, filled and placed.
 pub fn current_is_told()
     ensures { AllCurrentIsTold }
+{}
+
+/// After every legal run the unit that a frame heads is the one that the run says: a consume makes a unit of one frame, a
+/// placed block is a unit of its order, and a credit or a return ends it. A frame is fresh exactly where the run says so.
+pub fn units_are_told()
+    ensures { AllUnitsAreTold }
+{}
+
+/// After every legal run a frame that isn't live has no reference, and a live one has 1 to 255.
+pub fn live_are_referred()
+    ensures { AllLiveAreReferred }
+{}
+
+/// After every legal run a processor's fresh and back frames stand once among those, its book is its stock, its fresh
+/// frames and what is unreported and reported, and these are sums over the run.
+pub fn parts_are_booked()
+    ensures { AllPartsAreBooked }
+{}
+
+/// After every legal run who a frame is lent to is one of the processors.
+pub fn frames_are_lent_to_processors()
+    ensures { FramesAreLentToProcessors }
+{}
+
+/// Each beginning of a legal run is a legal run.
+pub fn beginnings_are_legal()
+    ensures { BeginningsAreLegal }
 {}

@@ -1,9 +1,9 @@
 -- Lemmas for callers: the accounts after a change, and what a fill and a drain leave. They serve the crates above, Steps.antt and the tests.
-use Rattle.std.proofs.Common.{◌≡◌, ◌≢◌, ℕ, zero, suc, ◌-◌, false, List, [], ◌∷◌, Some, refl, ap, ◌∙◌, arith}
+use Rattle.std.proofs.Common.{◌≡◌, ◌≢◌, ℕ, zero, suc, ◌-◌, false, List, [], ◌∷◌, refl, ap, ◌∙◌, arith}
 use Rattle.stock_word.specs.declared.view.Account.{Account}
 use Rattle.stock_word.specs.declared.view.StockView.{StockView}
-use Rattle.stock_word.specs.Stock.{account_at, with_account_at, account_of, account_for, stocked, with_account, IsSettled}
-use Rattle.stock_word.specs.Kinds.{after_report, noting, filling, after_fill, draining, absorbing}
+use Rattle.stock_word.specs.Stock.{account_at, with_account_at, account_of, with_account, IsSettled}
+use Rattle.stock_word.specs.Kinds.{after_report, noting, draining, absorbing}
 
 place_set : (accounts : List Account) (p : ℕ) (a : Account) → account_at (with_account_at accounts p a) p ≡ a
 place_set [] zero a = refl
@@ -27,16 +27,6 @@ account_of-with_account m p a = place_set m.accounts p a
 
 pub account_of-with_account_other : (m : StockView) (p q : ℕ) (a : Account) → q ≢ p → account_of (with_account m p a) q ≡ account_of m q
 account_of-with_account_other m p q a ne = place_else m.accounts p q a ne
-
--- after a fill with n pages of group g the books have n pages of g in the stock
-pub group_filled : (m v : StockView) (g n : ℕ) → (account_for (filling m v.number g n) (after_fill v g n)).group ≡ Some g
-group_filled m v g n = ap (λ (a : Account). a.group) (account_of-with_account m v.number _)
-
-pub stocked_filled : (m v : StockView) (g n : ℕ) → (account_for m v).book ≡ 0 → v.fresh ≡ 0 → (account_for m v).noted ≡ 0
-    → stocked (filling m v.number g n) (after_fill v g n) ≡ n
-stocked_filled m v g n book fresh noted =
-    let is = account_of-with_account m v.number _ in
-    ap (λ (a : Account). a.book - v.fresh - a.noted) is ∙ omega (arith, book, fresh, noted)
 
 -- after a drain, a report of all fresh pages and an absorb the stock may be filled
 pub settled_after : (m0 m1 m2 m3 v v' : StockView) (n k : ℕ) → v.number ≡ 1 → v.fresh ≡ k → m1 ≡ draining m0 1 n → m2 ≡ noting m1 v.number k

@@ -1,38 +1,14 @@
 -- What the kinds of step tell, as the calls' contracts say it. Serves consume, drain, absorb and consume_held.
-use Rattle.std.proofs.Common.{◌≡◌, ◌≢◌, ℕ, ◌+◌, ◌-◌, ◌<◌, ◌≤◌, ◌⊎◌, ⊎_elim, false, true≢false, List, Option, None, Some, refl, ap, sym, subst, ◌∙◌, arith}
+use Rattle.std.proofs.Common.{◌≡◌, ◌≢◌, ℕ, ◌<◌, ◌≤◌, ◌⊎◌, ⊎_elim, false, true≢false, Option, None, Some, refl, ap, sym, subst, ◌∙◌, arith}
 use Rattle.std.specs.Prelude.{IfSome}
 use native.Mathlib.Decide.{ℕ_discrete}
 use Rattle.stock_word.specs.declared.view.Stock.{Stock}
 use Rattle.stock_word.specs.declared.view.Stock.TheVariants.{NoGroup, HeldBy, DrainedOf}
 use Rattle.stock_word.specs.declared.view.StockView.{StockView}
 use Rattle.stock_word.specs.declared.words.Consume.TheVariants as consume
-use Rattle.stock_word.specs.Stock.{Seated, Placed, word_of, HasWord, pages_of, is_held, group_of, account_of, stocked, first_of, IsKept}
-use Rattle.stock_word.specs.Kinds.{IsAlone, Consumes, ConsumesHeld, Drains, DrainsNone, LooksAt, after_took}
-use Rattle.stock_word.specs.Calls.{Consumed, with_view, after_look}
-
-same_group : (a b : ℕ) → Some a ≡ Some b → a ≡ b
-same_group a b e = cc
-
--- v is the view before, and w after; b and u are what the caller has for them
-pub consumed_took : (g k n : ℕ) (b u v w : StockView) (place found new : ℕ) → Consumes place found new v w → v ≡ b
-    → u ≡ w → v.last ≡ HeldBy k n → k ≡ g → Consumed g consume.Took b u
-consumed_took g k n b u v w place found new kind before after last of =
-    let group : kind.group ≡ g = same_group _ _ (ap group_of (sym kind.from_held ∙ last)) ∙ of in (
-      kind.pages,
-      ap (λ (x : StockView). x.last) (sym before) ∙ kind.from_held ∙ ap (λ (x : ℕ). HeldBy x (kind.pages + 1)) group,
-      after ∙ kind.view_after ∙ (λ i. after_took (before i) (group i) kind.pages),
-    )
-
--- a seat whose view changed in its accounts alone
-pub kept_as : (views next : List StockView) (number : ℕ) (last : Stock) (u : StockView) → IsKept views number last → IsAlone next → first_of next ≡ u
-    → u.number ≡ (first_of views).number → u.last ≡ (first_of views).last → u.fresh ≡ (first_of views).fresh → IsKept next number last
-kept_as views next number last u kept alone now number_is last_is fresh_is = record {
-  one_view = alone;
-  same_number = kept.same_number ∙ sym number_is ∙ ap (λ (v : StockView). v.number) (sym now);
-  same_last = kept.same_last ∙ sym last_is ∙ ap (λ (v : StockView). v.last) (sym now);
-  last_word = kept.last_word;
-  none_fresh = (λ e. ap (λ (v : StockView). v.fresh) now ∙ fresh_is ∙ kept.none_fresh e);
-}
+use Rattle.stock_word.specs.Stock.{Seated, Placed, word_of, HasWord, pages_of, is_held, group_of, account_of, first_of}
+use Rattle.stock_word.specs.Kinds.{Drains, DrainsNone, LooksAt}
+use Rattle.stock_word.specs.Calls.{with_view, after_look}
 
 -- the seat that the caller has afterwards
 pub seat_after : (place : Placed) (before : Seated) (u : StockView) → place.table ≡ before.table → first_of place.views ≡ u
@@ -98,26 +74,6 @@ pub either_group : (r : Stock) (g : ℕ) → ((n : ℕ) × (r ≡ HeldBy g n)) �
 either_group r g h = ⊎_elim (λ (x : (n : ℕ) × (r ≡ HeldBy g n)). ap group_of x.1) (λ (x : r ≡ DrainedOf g). ap group_of x) h
 
 -- ---- consume_held
-
-pub held_group : (g place before after : ℕ) (m v m' v' b u : StockView)
-    → (kind : ConsumesHeld place before after m v m' v') → m ≡ b → v ≡ u → (account_of b u.number).group ≡ Some g
-    → kind.consumes.group ≡ g
-held_group g place before after m v m' v' b u kind machine view group =
-    same_group _ _ (sym kind.of_group ∙ (λ i. (account_of (machine i) (view i).number).group) ∙ group)
-
-pub held_pages : (place before after : ℕ) (m v m' v' b u : StockView)
-    → (kind : ConsumesHeld place before after m v m' v') → m ≡ b → v ≡ u → kind.consumes.pages ≡ stocked b u - 1
-held_pages place before after m v m' v' b u kind machine view =
-    let more : pages_of v.last ≡ kind.consumes.pages + 1 = ap pages_of kind.consumes.from_held in
-    let here : kind.consumes.pages ≡ stocked m v - 1 = omega (arith, kind.exact, more) in
-    here ∙ (λ i. stocked (machine i) (view i) - 1)
-
-pub held_after : (g place before after : ℕ) (m v m' v' b u : StockView)
-    → (kind : ConsumesHeld place before after m v m' v') → m ≡ b → v ≡ u → (account_of b u.number).group ≡ Some g
-    → v' ≡ after_took u g (stocked b u - 1)
-held_after g place before after m v m' v' b u kind machine view group =
-    kind.consumes.view_after ∙ (λ i. after_took (view i) (held_group g place before after m v m' v' b u kind machine view group i)
-    (held_pages place before after m v m' v' b u kind machine view i))
 
 -- ---- group
 

@@ -1,25 +1,17 @@
 -- Empty areas that are filled with the maximal free blocks, order by order and by address: for `set_from`.
-use Rattle.std.proofs.Common.{◌≡◌, ℕ, ◌+◌, ◌*◌, ◌/◌, ◌^◌, ◌%◌, ◌<◌, ◌≤◌, ◌⊎◌, Bool, List, [], length, sym, ap, ◌∙◌, subst, inl, inr, arith}
+use Rattle.std.proofs.Common.{◌≡◌, ℕ, ◌+◌, ◌*◌, ◌/◌, ◌^◌, ◌%◌, ◌<◌, ◌≤◌, ◌⊎◌, Bool, List, length, sym, ap, ◌∙◌, subst, inl, inr, arith}
 use Rattle.std.specs.List.{Contains}
 use Rattle.std.proofs.lemmas.Bool.{cases_lt}
 use Rattle.std.proofs.lemmas.Nat.{div-add-mod', le-div, pow_pos}
 use Rattle.std.proofs.Math.Nat.{mul-le-mul_right}
 use Rattle.zone_blocks.specs.declared.block.Block.{Block}
-use Rattle.zone_blocks.specs.Areas.{IsMaximalBlock, AreMaximalBlocks, Inserts, Overlaps}
+use Rattle.zone_blocks.specs.Areas.{IsMaximalBlock, Inserts, Overlaps}
 use Rattle.zone_blocks.specs.OrderLists.{AreMaximalUpTo}
 use Rattle.zone_blocks.proofs.Filling.{same_block, multiple_below}
 use Rattle.zone_blocks.proofs.Nested.{same_maximal}
 
 abbrev found : ℕ → ℕ → Block
 found order at = record { at = at; order = order }
-
-pub none_filled : (free : List Bool) (blocks : List Block) → blocks ≡ [] → AreMaximalUpTo free 0 0 blocks
-none_filled free blocks e = rw e record {
-  each = λ b (k, l, q). absurd (omega arith);
-  before = λ b (k, l, q). absurd (omega arith);
-  all = λ b m l. elim l [ inl lower ↦ absurd (omega arith) | inr same ↦ let z = same.1 in absurd (omega arith) ];
-  ordered = λ i j d l m. absurd (omega arith);
-}
 
 aligned_at : (free : List Bool) (b : Block) (order : ℕ) → b.order ≡ order → IsMaximalBlock free b → b.at % 2 ^ order ≡ 0
 aligned_at free b order e m = let h = m.is_free.block.aligned in rw e at h
@@ -109,12 +101,5 @@ filled_order free order i blocks here h = record {
           h.all b m (inr (o, omega (arith, q, a, s, pow_pos order)))
     ]
   ];
-  ordered = h.ordered;
-}
-
-pub all_filled : (free : List Bool) (blocks : List Block) → AreMaximalUpTo free 11 0 blocks → AreMaximalBlocks free blocks
-all_filled free blocks h = record {
-  each = h.each;
-  all = λ b m. let o = m.is_free.block.order in h.all b m (inl (omega arith));
   ordered = h.ordered;
 }

@@ -1,5 +1,5 @@
 -- The rings of all orders, when a block is linked in behind the node before it, or unlinked: for `insert`, `remove`, `first` and `after`.
-use Rattle.std.proofs.Common.{◌≡◌, ◌≢◌, ℕ, ◌+◌, ◌<◌, ◌≤◌, ◌⊎◌, List, [], length, refl, sym, ap, ◌∙◌, subst, inl, inr, arith}
+use Rattle.std.proofs.Common.{◌≡◌, ◌≢◌, ℕ, ◌<◌, ◌≤◌, ◌⊎◌, List, length, sym, ap, ◌∙◌, subst, inl, inr, arith}
 use Rattle.std.specs.List.{Contains}
 use Rattle.std.proofs.lemmas.Bool.{cases_lt, cases_eq}
 use Rattle.std.proofs.lemmas.Nat.{pow_pos}
@@ -483,25 +483,3 @@ rings_removed n old new b links links' h rings join =
     }
 
 -- ---- no blocks
-
-none_start : (k x : ℕ) → IsStart [] k x → ⊥
-none_start k x (i, l, e) = absurd (omega arith)
-
-pub rings_empty : (n : ℕ) (links : List Link) → length links ≡ n + 11
-    → ((k : ℕ) → k < 11 → (next_of links (n + k) ≡ n + k) × (prev_of links (n + k) ≡ n + k)) → AreRings n [] links
-rings_empty n links count h =
-    let alone : (k : ℕ) → Follows n [] k (n + k) (n + k) = λ k. record {
-      node = inr refl;
-      last = record { node = inr refl; before = inl refl; none_between = λ z s l. absurd (none_start k z s) };
-    } in
-    record {
-      count = count;
-      next = λ k x l node. elim node [
-        | inl s ↦ absurd (none_start k x s)
-        | inr e ↦ let H : ℕ → Type 0 = λ z. Follows n [] k z (next_of links z) in subst H (sym e) (rw ((h k l).0) (alone k))
-      ];
-      prev = λ k x l node. elim node [
-        | inl s ↦ absurd (none_start k x s)
-        | inr e ↦ let H : ℕ → Type 0 = λ z. Follows n [] k (prev_of links z) z in subst H (sym e) (rw ((h k l).1) (alone k))
-      ];
-    }

@@ -405,16 +405,16 @@ removes_one old new b there h = record {
 
 -- ---- the bits of no blocks
 
--- one more list of bits, none of which is 1
-pub pushed_bits : (n e : ℕ) (pairs new : List (List Bool)) (bits : List Bool) → length pairs ≡ e
-    → bits ≡ replicate (n / 2 ^ (e + 1)) false → new ≡ pairs ++ bits ∷ []
-    → ((k : ℕ) → k < e → length (get_or pairs k []) ≡ n / 2 ^ (k + 1)) → ((k : ℕ) → k < e + 1 → length (get_or new k []) ≡ n / 2 ^ (k + 1))
-pushed_bits n e pairs new bits count is grown each k l =
+-- one more list of bits, none of which is 1, where the list of order k has as many bits as the size says
+pub pushed_bits : (size : ℕ → ℕ) (e : ℕ) (all new : List (List Bool)) (bits : List Bool) → length all ≡ e
+    → bits ≡ replicate (size e) false → new ≡ all ++ bits ∷ []
+    → ((k : ℕ) → k < e → length (get_or all k []) ≡ size k) → ((k : ℕ) → k < e + 1 → length (get_or new k []) ≡ size k)
+pushed_bits size e all new bits count is grown each k l =
     elim (cases_lt k e) [
-      | inl lt ↦ rw (grown, get_or_append_left pairs (bits ∷ []) [] k (omega arith)) (each k lt)
+      | inl lt ↦ rw (grown, get_or_append_left all (bits ∷ []) [] k (omega arith)) (each k lt)
       | inr ge ↦
           let here : k ≡ e = omega arith in
-          rw (grown, here, get_or_push pairs bits [] e count, is) (length-replicate (n / 2 ^ (e + 1)) false)
+          rw (grown, here, get_or_push all bits [] e count, is) (length-replicate (size e) false)
     ]
 
 pub pushed_none : (m e : ℕ) (pairs new : List (List Bool)) (bits : List Bool) → length pairs ≡ e → bits ≡ replicate m false → new ≡ pairs ++ bits ∷ []

@@ -82,9 +82,6 @@ pub record SameUnion (a : List Bool) (b : Block) (c : List Bool) (d : Block) : T
   pub to : (f : ℕ) → IsFree a f ⊎ Covers b f → IsFree c f ⊎ Covers d f
   pub from : (f : ℕ) → IsFree c f ⊎ Covers d f → IsFree a f ⊎ Covers b f
 
-pub SameUnion-none : (a : List Bool) (b : Block) → SameUnion a b a b
-SameUnion-none a b = record { same_length = refl; to = λ f h. h; from = λ f h. h }
-
 merged : (old new : FreeBlocks) (m : Block) (x : ℕ) → HasBuddyAt m x → Halving old m.at m.order → m.order < 10 → Contains old.blocks (block_at x m.order)
     → Removes old.blocks (block_at x m.order) new.blocks → new.frames ≡ old.frames
     → Halving new (enclosing m).at (m.order + 1) × ((a : List Bool) (b : Block) → SameUnion a b (set_of old) m → SameUnion a b (set_of new) (enclosing m))

@@ -1,14 +1,14 @@
 //! A thousand random steps of four processors and the zone on 64 frames.
 
-use super::number;
+use super::plays::{group, plays, step};
+use super::with_group;
 use group_tree::group::GroupId;
-use group_tree::path::PathText;
 use mem_core::zone::Core;
 use rand_core::{Rng, SeedableRng};
 use rand_pcg::Pcg32;
 use std::test::Fail;
 use step_rules::phase::{Hold, Phase, Way};
-use step_rules::step::{Action, Answer, Step};
+use step_rules::step::{Action, Answer};
 use zone_blocks::order::Order;
 
 // The processor that holds the lock, or this one.
@@ -35,12 +35,12 @@ fn passing(core: &Core, frame: u32) -> u32 {
 }
 
 // A step that is picked by a random word: of any frame, or of one of the first eight, which are placed first.
-fn pick(word: u32, core: &Core, group: GroupId, order: Order) -> Step {
-    let own = (word % 4).wrapping_add(1);
+fn pick(word: u32, core: &Core, group: GroupId, order: Order) -> (u32, Action) {
+    let own = word % 4 + 1;
     let cpu = holder(core, own);
     let any = (word >> 2) % 64;
     let frame = (word >> 8) % 8;
-    let (seat, action) = match ((word >> 24) % 3, (word >> 16) % 5) {
+    match ((word >> 24) % 3, (word >> 16) % 5) {
         (0, 0) => (0, Action::OpenVisit { cpu }),
         (0, 1) => (0, Action::ShutVisit { cpu }),
         (0, 2) => (0, Action::PassOut { frame: any, cpu }),
@@ -67,13 +67,7 @@ fn pick(word: u32, core: &Core, group: GroupId, order: Order) -> Step {
         (_, 2) => (own, Action::Lock),
         (_, 3) => (cpu, Action::Unlock),
         _ => (own, Action::Consume { group }),
-    };
-    Step { seat, action }
-}
-
-// Makes a step, of the first 100,000; tells whether it was legal.
-fn is_made(core: &mut Core, step: Step) -> bool {
-    core.steps() < 100_000 && core.step(step) != Answer::Illegal
+    }
 }
 
 // So many random steps; tells how many of them were legal.
@@ -81,8 +75,8 @@ fn make_steps(core: &mut Core, steps: u32, group: GroupId, order: Order) -> u32 
     let mut random = Pcg32::seed_from_u64(64);
     let mut legal = 0u32;
     for _ in 0..steps {
-        let step = pick(random.next_u32(), core, group, order);
-        if is_made(core, step) {
+        let (seat, action) = pick(random.next_u32(), core, group, order);
+        if step(core, seat, action) != Answer::Illegal {
             legal = legal.saturating_add(1);
         }
     }
@@ -93,23 +87,8 @@ fn make_steps(core: &mut Core, steps: u32, group: GroupId, order: Order) -> u32 
 #[test]
 fn a_thousand_random_steps_on_64_frames(rt: HostRuntime) -> Result<(), Fail> {
     let mut core = Core::new(rt.alloc(), 64, 4)?;
-    let path = PathText::of(b"/a").ok_or("short")?;
-    let order = Order::of(0).ok_or("an order")?;
-    is_made(
-        &mut core,
-        Step {
-            seat: 1,
-            action: Action::Lock,
-        },
-    );
-    is_made(
-        &mut core,
-        Step {
-            seat: 0,
-            action: Action::Make { path },
-        },
-    );
-    let legal = make_steps(&mut core, 1_000, number(1)?, order);
+    plays(&rt, &mut core, &with_group());
+    let legal = make_steps(&mut core, 1_000, group(1), Order::of(0).unwrap());
     assert!(rt; core.steps() == 1_002 && legal > 300);
     Ok(())
 }

@@ -1,9 +1,10 @@
 //! Random steps of three processors and the zone, answered by the core and by a plain account.
 
+use super::plays::{Row, group};
 use super::recount::{FRAMES, Recount, Sought};
-use super::{Row, number, play_rows};
 use group_tree::group::GroupId;
 use group_tree::path::PathText;
+use mem_core::run::play;
 use mem_core::zone::Core;
 use rand_core::{Rng, SeedableRng};
 use rand_pcg::Pcg32;
@@ -11,7 +12,7 @@ use std::alloc::Global;
 use std::process::Abort;
 use std::test::Fail;
 use step_rules::phase::Phase;
-use step_rules::step::{Action, Answer};
+use step_rules::step::{Action, Answer, Step};
 use zone_blocks::order::Order;
 
 // What a random word says of a step: who makes it, and of what.
@@ -31,22 +32,22 @@ struct Draw {
 }
 
 fn one_of_three(word: u32) -> u32 {
-    (word % 3).wrapping_add(1)
+    word % 3 + 1
 }
 
-fn drawn_from(word: u32, plain: &Recount) -> Result<Draw, Fail> {
+fn drawn_from(word: u32, plain: &Recount) -> Draw {
     let cpu = one_of_three(word >> 8);
-    let group = one_of_three(word >> 16);
-    Ok(Draw {
+    let named = one_of_three(word >> 16);
+    Draw {
         cpu,
         holder: plain.holder.unwrap_or(cpu),
         frame: (word >> 12) % FRAMES,
         is_any: (word >> 20) % 8 == 0,
-        group: number(group)?,
-        prepaid: number(plain.stock_group(cpu).unwrap_or(group))?,
+        group: group(named),
+        prepaid: group(plain.stock_group(cpu).unwrap_or(named)),
         pages: one_of_three(word >> 20),
-        order: Order::of(0).ok_or("an order")?,
-    })
+        order: Order::of(0).unwrap(),
+    }
 }
 
 impl Draw {
@@ -140,36 +141,32 @@ fn own_step(kind: u32, drawn: &Draw, plain: &Recount) -> (u32, Action) {
 }
 
 // A step that is picked by a random word; many are legal.
-fn pick(word: u32, plain: &Recount) -> Result<(u32, Action), Fail> {
-    let drawn = drawn_from(word, plain)?;
+fn pick(word: u32, plain: &Recount) -> (u32, Action) {
+    let drawn = drawn_from(word, plain);
     let kind = word % 5;
-    Ok(match (word / 5) % 5 {
+    match (word / 5) % 5 {
         0 => zone_step(kind, &drawn),
         1 => zone_step(kind + 5, &drawn),
         2 => own_step(kind, &drawn, plain),
         3 => frame_step(kind, &drawn, plain),
         _ => own_step(kind + 5, &drawn, plain),
-    })
-}
-
-fn made(name: &[u8], group: GroupId) -> Result<Row, Fail> {
-    let path = PathText::of(name).ok_or("short")?;
-    Ok((0, Action::Make { path }, Answer::Number(group)))
+    }
 }
 
 // Processor 1 takes the lock; /a, /a/b and /c are made, and the first two have limits.
-fn make_groups() -> Result<[Row; 6], Fail> {
-    let first = number(1)?;
-    let second = number(2)?;
-    Ok([
+fn make_groups() -> [Row; 6] {
+    let first = PathText::of(b"/a").unwrap();
+    let second = PathText::of(b"/a/b").unwrap();
+    let third = PathText::of(b"/c").unwrap();
+    [
         (1, Action::Lock, Answer::Done),
-        made(b"/a", first)?,
-        made(b"/a/b", second)?,
-        made(b"/c", number(3)?)?,
+        (0, Action::Make { path: first }, Answer::Number(group(1))),
+        (0, Action::Make { path: second }, Answer::Number(group(2))),
+        (0, Action::Make { path: third }, Answer::Number(group(3))),
         (
             0,
             Action::SetMax {
-                group: first,
+                group: group(1),
                 limit: Some(6),
             },
             Answer::Done,
@@ -177,57 +174,68 @@ fn make_groups() -> Result<[Row; 6], Fail> {
         (
             0,
             Action::SetMax {
-                group: second,
+                group: group(2),
                 limit: Some(3),
             },
             Answer::Done,
         ),
-    ])
+    ]
 }
 
 // Random steps with the answers of the plain account, as the last of them left it.
 #[derive(Drop)]
 struct Plan {
-    rows: Vec<Row>,
+    steps: Vec<Step>,
+    answers: Vec<Answer>,
     plain: Recount,
 }
 
 impl Plan {
+    // A step with its answer is kept.
+    fn keep(&mut self, row: &Row) -> Result<(), Fail> {
+        let (seat, action, answer) = *row;
+        self.steps.push(Step { seat, action })?;
+        self.answers.push(answer)?;
+        Ok(())
+    }
+
     // The plain account answers a step. Of those that change nothing, one of 32 is kept.
     fn add(&mut self, word: u32) -> Result<(), Fail> {
-        let (seat, action) = pick(word, &self.plain)?;
+        let (seat, action) = pick(word, &self.plain);
         let answer = self.plain.step(seat, &action)?;
         let is_idle = matches!(
             answer,
             Answer::Illegal | Answer::Zero | Answer::NoFreeBlock | Answer::Over(_)
         );
         if !is_idle || word >> 27 == 0 {
-            self.rows.push((seat, action, answer))?;
+            self.keep(&(seat, action, answer))?;
         }
         Ok(())
     }
 }
 
-fn planned(alloc: Global, steps: usize) -> Result<Plan, Fail> {
-    let rows = Vec::from_array(alloc, make_groups()?)?;
-    let plain = Recount::new(alloc);
-    let mut plan = Plan { rows, plain };
-    let mut random = Pcg32::seed_from_u64(2_025);
-    for _ in 0..20_000u32 {
-        if plan.rows.len() < steps {
-            plan.add(random.next_u32())?;
-        }
+// The steps that make the groups, in a plan.
+fn begun(alloc: Global) -> Result<Plan, Fail> {
+    let mut plan = Plan {
+        steps: Vec::new(alloc),
+        answers: Vec::new(alloc),
+        plain: Recount::new(alloc),
+    };
+    for row in &make_groups() {
+        plan.keep(row)?;
     }
     Ok(plan)
 }
 
-fn has(rows: &[Row], wanted: Answer) -> bool {
-    for row in rows {
-        if row.2 == wanted {
-            return true;
+fn planned(alloc: Global, steps: usize) -> Result<Plan, Fail> {
+    let mut plan = begun(alloc)?;
+    let mut random = Pcg32::seed_from_u64(2_025);
+    for _ in 0..20_000u32 {
+        if plan.steps.len() < steps {
+            plan.add(random.next_u32())?;
         }
     }
-    false
+    Ok(plan)
 }
 
 fn seats_agree(rt: &impl Abort, core: &Core, plain: &Recount, seat: u32, group: GroupId) {
@@ -245,22 +253,27 @@ fn frames_agree(rt: &impl Abort, core: &Core, plain: &Recount, seat: u32) {
 }
 
 // The core tells of each group, processor and frame what the plain account has.
-fn agrees(rt: &impl Abort, core: &Core, plain: &Recount) -> Result<(), Fail> {
+fn agrees(rt: &impl Abort, core: &Core, plain: &Recount) {
     for seat in 0..4u32 {
-        seats_agree(rt, core, plain, seat, number(seat)?);
+        seats_agree(rt, core, plain, seat, group(seat));
         frames_agree(rt, core, plain, seat);
     }
-    Ok(())
 }
 
 // Six steps make the groups, and 300 are random.
 #[test]
 fn three_hundred_random_steps_agree_with_a_plain_account(rt: HostRuntime) -> Result<(), Fail> {
-    let Plan { rows, plain } = planned(rt.alloc(), 306)?;
-    assert!(rt; rows.len() == 306);
+    let Plan {
+        steps,
+        answers,
+        plain,
+    } = planned(rt.alloc(), 306)?;
+    assert!(rt; steps.len() == 306);
     for wanted in [Answer::Took, Answer::Back, Answer::Drained, Answer::Last] {
-        assert!(rt; has(rows.as_slice(), wanted));
+        assert!(rt; answers.contains(&wanted));
     }
-    let played = play_rows(rt.alloc(), rows.as_slice())?;
-    agrees(&rt, &played.core, &plain)
+    let played = play(rt.alloc(), 8, 3, steps.as_slice())?;
+    assert!(rt; played.answers.as_slice() == answers.as_slice());
+    agrees(&rt, &played.core, &plain);
+    Ok(())
 }

@@ -13,6 +13,7 @@ ghost use Rattle.step_rules.specs.Peaks.{IsPeak};
 ghost use Rattle.step_rules.specs.Events.{EventKey, events_of, events_local_of};
 ghost use Rattle.mem_core.specs.Accounts.{account_of, count_in};
 ghost use Rattle.mem_core.specs.Shown.{CoreState, Shows, state_in};
+ghost use Rattle.mem_core.specs.Promise.{shown_of};
 
 use super::Core;
 use crate::account::Events;
@@ -181,6 +182,7 @@ impl Core {
     /// The memory now used by a group and its descendants (memory.current), in pages: the frames that they keep, the pages prepaid for them and those pending.
     pub fn current(&self, group: GroupId) -> u128
         ensures now { result ≡ usage_of (state_in self.now) group }
+        ensures shown { result ≡ (shown_of self.now).current group }
         ensures run { (run : Run) → Shows self.now run → result ≡ usage_of (state_of self.now.zone run) group }
         ensures few { result < 2 ^ 104 }
     {

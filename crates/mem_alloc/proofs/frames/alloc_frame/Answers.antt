@@ -59,7 +59,7 @@ take_front-requires-clause-none_fresh g c =
     let paid = c.in_ok-pay_for_frame.ensures.pays in
     let fills = c.in_ok-fill_list.ensures.fills in
     let first = pays_keep g.N.BootName.frames c.args.sizes c.args.group _ _ _ _ paid.0 paid.1 in
-    (filled_part c.args.sizes _ _ _ _ fills.0 c.requires.sizes fills.1).fresh ∙ first.fresh ∙ c.requires.settled.0
+    (filled_part g.N.BootName.frames c.args.sizes _ _ _ _ fills.0 c.requires.sizes fills.1).fresh ∙ first.fresh ∙ c.requires.settled.0
 
 pub returns : goal.returns
 returns g c =
@@ -68,7 +68,7 @@ returns g c =
     let paid = c.in_ok-pay_for_frame.ensures.pays in
     let fills = c.in_ok-fill_list.ensures.fills in
     let first = pays_keep t c.args.sizes c.args.group _ _ _ _ paid.0 paid.1 in
-    let next = filled_part c.args.sizes _ _ _ _ fills.0 c.requires.sizes fills.1 in
+    let next = filled_part g.N.BootName.frames c.args.sizes _ _ _ _ fills.0 c.requires.sizes fills.1 in
     let takes = c.take_front.ensures.pays in
     let cpu = takes.takes.2 in
     let none = next.fresh ∙ first.fresh ∙ c.requires.settled.0 in

@@ -3,9 +3,10 @@ use Rattle.std.proofs.Common.{◌≡◌, ℕ, ◌+◌, [], ◌∷◌, ◌++◌, 
 use Rattle.std.specs.List.{zip}
 use Rattle.step_rules.specs.declared.step.Step.{Step}
 use Rattle.step_rules.specs.State.{Zone}
-use Rattle.step_rules.specs.After.{Run}
+use Rattle.step_rules.specs.After.{Run, IsLegalRun}
 use Rattle.step_rules.specs.Laws.{pushed}
 use Rattle.mem_core.proofs.Playing.{PlaysOn, PlaysOn-start, PlaysOn-step, PlaysOn-all, zip-take_more, length-zip-take}
+use Rattle.mem_core.proofs.Keeping.{keeps_promise, always_keeps}
 use Rattle.mem_core.proofs.run.play.Goals as goal
 
 abbrev zone_of : ℕ → ℕ → Zone
@@ -53,3 +54,11 @@ all c =
 
 pub returns-clause-first : goal.returns-clause-first
 returns-clause-first c = (all c).first
+
+pub returns-clause-promise : goal.returns-clause-promise
+returns-clause-promise c =
+    let run : Run = zip c.args.steps.now c.loop-step.answers.items in
+    always_keeps (zone_of c.args.frames c.args.cpus) run (subst (λ (z : Zone). IsLegalRun z run) (all c).sizes (all c).shows.legal)
+
+pub returns-clause-promise_shown : goal.returns-clause-promise_shown
+returns-clause-promise_shown c = keeps_promise c.loop-step.core (zip c.args.steps.now c.loop-step.answers.items) (all c).shows (all c).areas

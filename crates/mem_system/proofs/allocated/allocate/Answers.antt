@@ -4,6 +4,8 @@ use Rattle.mem_alloc.specs.declared.faults.AllocFault.{AllocFault}
 use Rattle.mem_system.specs.Allocs.{AllocatesAs}
 use Rattle.mem_system.proofs.Found.{found_there}
 use Rattle.mem_system.proofs.Telling.{path_told}
+use Rattle.mem_machine.specs.Local.{side}
+use Rattle.mem_system.specs.Commands.{course}
 use Rattle.mem_system.proofs.allocated.allocate.Goals as goal
 
 pub allocate_as-requires-clause-there : goal.allocate_as-requires-clause-there
@@ -22,8 +24,7 @@ returns-in-Over-clause-allocates g c =
           group = c.in-Some.group;
           found = search rules;
           within = search rules;
-          allocates = subst (λ (y : ℕ × AllocFault). AllocatesAs g.N.BootName.frames c.args.sizes c.in-Some.group y.0 (Err y.1)
-              c.args.machine.now c.args.cpu.now told.0 c.allocate_as.new.machine c.allocate_as.new.cpu) (λ i. (same i, c.in-Over.is i)) told.1;
+          allocates = subst (λ (y : ℕ × AllocFault). AllocatesAs c.args.sizes c.in-Some.group y.0 (Err y.1) (course g.N.BootName.frames (side c.args.machine.now c.args.cpu.now) told.0 (side c.allocate_as.new.machine c.allocate_as.new.cpu))) (λ i. (same i, c.in-Over.is i)) told.1;
         },
         path_told _ _ there,
       ),

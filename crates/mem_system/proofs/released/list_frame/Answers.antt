@@ -2,7 +2,7 @@ use Rattle.std.proofs.Common.{◌≡◌, ℕ, [], ◌∷◌, ◌++◌, length, a
 use Rattle.std.proofs.lemmas.List.{length-append}
 use Rattle.cpu_part.specs.Cpus.{KnownCpu}
 use Rattle.mem_machine.specs.Machines.{KnownMachine}
-use Rattle.mem_machine.specs.Local.{IsLocalRun, local_of}
+use Rattle.mem_machine.specs.Local.{IsLocalRun, local_of, side}
 use Rattle.mem_machine.specs.Steps.{lend_steps}
 use Rattle.mem_machine.proofs.Reaching.{run_both}
 use Rattle.mem_system.proofs.Listing.{cut_off}
@@ -29,8 +29,7 @@ returns-clause-lists g c =
     (local_of t c.lend.new.self c.lend.new.cpu)) same c.lend.ensures.steps in (
       cuts.0 ++ lend_steps p c.args.frame,
       record {
-        machine = c.cut_list.new.machine;
-        cpu = c.cut_list.new.cpu;
+        mid = side c.cut_list.new.machine c.cut_list.new.cpu;
         cutting = cuts.0;
         cuts = cuts.1;
         lends = c.lend.ensures.lends;

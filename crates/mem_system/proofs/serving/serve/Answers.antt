@@ -9,9 +9,8 @@ returns g c =
     = c.tell.ensures ∙ ap (λ (l : Ledger). reply_of l c.carry_out-outcome.result) c.charges.ensures in
     rw told record {
       served = c.carry_out-outcome.ensures.served;
-      before = c.carry_out-outcome.ensures.before;
-      after = c.carry_out-outcome.ensures.after;
       settled = c.carry_out-outcome.ensures.settled;
       at_most_high = c.carry_out-outcome.ensures.at_most_high;
       still = c.carry_out-outcome.ensures.still;
+      lent = c.carry_out-outcome.ensures.lent;
     }

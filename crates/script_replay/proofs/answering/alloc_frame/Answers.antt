@@ -10,17 +10,16 @@ use Rattle.reply_texts.specs.Answer as answer
 use Rattle.script_replay.specs.Answers.{AnswersFrame, RepliesServed}
 use Rattle.script_replay.proofs.Fronts.{served_after}
 use Rattle.script_replay.proofs.Telling.{told, told_as}
+use Rattle.mem_system.specs.Commands.{holder}
 use Rattle.script_replay.proofs.answering.alloc_frame.Goals as goal
 
 pub returns-in_default : goal.returns-in_default
-returns-in_default g c = told (λ (said : Answer). AnswersFrame g.N.BootName.frames c.args.path c.args.locked.now c.args.cpu.now said
-    c.args.locked.now c.args.cpu.now) (Served (Refused NoGroup)) (string_bytes c.args.text.now)
+returns-in_default g c = told (λ (said : Answer). AnswersFrame g.N.BootName.frames c.args.path (holder c.args.locked.now c.args.cpu.now) said (holder c.args.locked.now c.args.cpu.now)) (Served (Refused NoGroup)) (string_bytes c.args.text.now)
     (string_bytes c.write_refusal.new.text) c.write_refusal.result (inl (sym c.in_default.ensures.found, refl, refl, refl))
     c.write_refusal.ensures
 
 pub returns-in-Got : goal.returns-in-Got
-returns-in-Got g c = told (λ (said : Answer). AnswersFrame g.N.BootName.frames c.args.path c.args.locked.now c.args.cpu.now said
-    c.args.locked.now c.alloc_fast.new.self) (answer.Fast (Got c.in-Got.frame)) (string_bytes c.args.text.now)
+returns-in-Got g c = told (λ (said : Answer). AnswersFrame g.N.BootName.frames c.args.path (holder c.args.locked.now c.args.cpu.now) said (holder c.args.locked.now c.alloc_fast.new.self)) (answer.Fast (Got c.in-Got.frame)) (string_bytes c.args.text.now)
     (string_bytes c.write_fast.new.text) c.write_fast.result (
       c.in-Some.group,
       sym c.in-Some.ensures.found,
@@ -30,9 +29,9 @@ returns-in-Got g c = told (λ (said : Answer). AnswersFrame g.N.BootName.frames 
 
 pub returns-in_default-alloc_fast : goal.returns-in_default-alloc_fast
 returns-in_default-alloc_fast g c = told_as
-    (λ (said : Answer). RepliesServed g.N.BootName.frames (cmd.Alloc c.args.path 0) c.args.locked.now c.alloc_fast.new.self said
-    c.served.new.locked c.served.new.cpu)
-    (λ (said : Answer). AnswersFrame g.N.BootName.frames c.args.path c.args.locked.now c.args.cpu.now said c.served.new.locked c.served.new.cpu)
+    (λ (said : Answer). RepliesServed g.N.BootName.frames (cmd.Alloc c.args.path 0) (holder c.args.locked.now c.alloc_fast.new.self) said
+    (holder c.served.new.locked c.served.new.cpu))
+    (λ (said : Answer). AnswersFrame g.N.BootName.frames c.args.path (holder c.args.locked.now c.args.cpu.now) said (holder c.served.new.locked c.served.new.cpu))
     (string_bytes c.args.text.now) (string_bytes c.served.new.text) c.served.result
     (λ said so. served_after g.N.BootName.frames c.args.path c.args.locked.now c.args.cpu.now c.alloc_fast.new.self said c.served.new.locked
     c.served.new.cpu (record {

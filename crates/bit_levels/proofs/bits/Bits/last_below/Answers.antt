@@ -1,4 +1,4 @@
-use Rattle.std.proofs.Common.{◌∙◌, ◌*◌, ◌+◌, ◌-◌, sym, arith}
+use Rattle.std.proofs.Common.{◌∙◌, ◌*◌, ◌+◌, ◌-◌, sym, arith, rules}
 use Rattle.bit_levels.specs.Sets.{HasNoneIn}
 use Rattle.bit_levels.proofs.Words.{wider, further, found_some, found_none}
 use Rattle.bit_levels.proofs.bits.Bits.last_below.Goals as goal
@@ -19,3 +19,6 @@ loop-word-preserved c =
       so_far = further c.args.self.now ((c.loop-word.word - 1) * 64) ((c.loop-word.word - 1) * 64 + 64) c.args.number c.last_in_word-found.result (omega arith)
           (λ i from before. none i (omega arith) before) c.last_in_word-found.ensures;
     }
+
+pub returns : goal.returns
+returns c = search rules

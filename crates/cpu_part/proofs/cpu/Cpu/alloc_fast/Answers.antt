@@ -1,4 +1,4 @@
-use Rattle.std.proofs.Common.{◌<◌, length, inl, arith}
+use Rattle.std.proofs.Common.{◌<◌, length, inl, arith, rules}
 use Rattle.cpu_part.proofs.Answered.{got}
 use Rattle.cpu_part.proofs.Tied.{front_inside}
 use Rattle.cpu_part.proofs.cpu.Cpu.alloc_fast.Goals as goal
@@ -12,3 +12,12 @@ returns-in-Took-clause-answer g c =
 
 pub returns-in-Took-clause-frame : goal.returns-in-Took-clause-frame
 returns-in-Took-clause-frame g c = front_inside _ _ _ c.self.invariant.0 c.freshen.result c.freshen.new.list.items (inl c.freshen.ensures.front)
+
+pub invariant_of-self-in-Empty : goal.invariant_of-self-in-Empty
+invariant_of-self-in-Empty g c = search rules
+
+pub returns-in-Empty-clause-answer : goal.returns-in-Empty-clause-answer
+returns-in-Empty-clause-answer g c = search rules
+
+pub returns-in-Empty-clause-frame : goal.returns-in-Empty-clause-frame
+returns-in-Empty-clause-frame g c = search rules

@@ -30,3 +30,6 @@ returns-in_default-clause-answer g c =
     let bound = c.self.invariant.0.within.pin_bound in
     let room : length c.self.inside.back.items + length c.self.inside.pins.items < 256 = omega arith in
     not_pinned _ _ c.self.view_is c.args.frame c.get.result c.get.new.seat room c.in_default.not-Held c.get.ensures.answer
+
+pub returns-then-len-eq-MOST_PINS-clause-answer : goal.returns-then-len-eq-MOST_PINS-clause-answer
+returns-then-len-eq-MOST_PINS-clause-answer g c = search rules

@@ -1,7 +1,5 @@
-use Rattle.std.proofs.Common.{arith, ◌∙◌, ap, sym, subst, ◌≡◌, ◌≤◌, ℕ}
-use Rattle.frame_word.specs.declared.view.FrameView.{FrameView}
+use Rattle.std.proofs.Common.{arith, ◌∙◌, ap, sym, subst, ◌≡◌, ℕ}
 use Rattle.frame_word.specs.Views.{note_of}
-use Rattle.frame_word.specs.Kinds.{adds}
 use Rattle.frame_word.specs.Seats.{KnownSeat}
 use Rattle.frame_word.proofs.Alone.{adds_as}
 use Rattle.frame_word.proofs.words.FrameWords.add.Goals as goal

@@ -1,7 +1,4 @@
-use Rattle.std.proofs.Common.{arith, ◌∙◌, ap, sym, subst, ◌≡◌, ◌≤◌, ℕ}
-use Rattle.frame_word.specs.declared.view.FrameView.{FrameView}
-use Rattle.frame_word.specs.Views.{note_of}
-use Rattle.frame_word.specs.Kinds.{freezes}
+use Rattle.std.proofs.Common.{arith, ◌∙◌, ap, sym, subst, ◌≤◌, ℕ}
 use Rattle.frame_word.specs.Seats.{KnownSeat, holds}
 use Rattle.frame_word.proofs.Alone.{freezes_as}
 use Rattle.frame_word.proofs.words.FrameWords.freeze_at.Goals as goal

@@ -1,4 +1,4 @@
-use Rattle.std.proofs.Common.{arith, ◌≤◌, ◌<◌, ℕ, inl, inr, ⊎_elim, ap, sym, ◌∙◌}
+use Rattle.std.proofs.Common.{arith, ◌≤◌, ◌<◌, inl, inr, ⊎_elim, ap, sym, ◌∙◌}
 use Rattle.frame_word.specs.declared.view.FrameNote.{FrameNote}
 use Rattle.frame_word.specs.declared.view.FrameView.{FrameView}
 use Rattle.frame_word.specs.declared.answers.Get.TheVariants.{Held}

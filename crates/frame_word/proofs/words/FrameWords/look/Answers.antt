@@ -1,8 +1,4 @@
-use Rattle.std.proofs.Common.{arith, ◌∙◌, ap, sym, subst, ◌≡◌, ◌≤◌, ℕ}
-use Rattle.frame_word.specs.declared.view.FrameView.{FrameView}
-use Rattle.frame_word.specs.Views.{note_of}
-use Rattle.frame_word.specs.Kinds.{looks}
-use Rattle.frame_word.specs.Seats.{KnownSeat}
+use Rattle.std.proofs.Common.{arith, ◌∙◌, ap, sym}
 use Rattle.frame_word.proofs.Alone.{looks_as}
 use Rattle.frame_word.proofs.words.FrameWords.look.Goals as goal
 

@@ -1,4 +1,4 @@
-use Rattle.std.proofs.Common.{◌≡◌, ◌<◌, ◌+◌, ◌^◌, IsTrue, None, length, get_or, set, sym, ap, ◌∙◌, subst, refl, arith}
+use Rattle.std.proofs.Common.{◌≡◌, ◌<◌, ◌+◌, ◌^◌, IsTrue, None, length, get_or, set, sym, ap, ◌∙◌, subst, refl, arith, rules}
 use Rattle.group_tree.specs.Groups.{has_group}
 use Rattle.group_charge.specs.Charges.{Account, AreCharges, Ledger, PagesRise, PeaksRise, SameEvents, UsageRises, current_of, empty_account, with_charge}
 use Rattle.group_charge.specs.Kept.{UsagesPassed, account_by, ledger_of}
@@ -86,3 +86,6 @@ returns-clause-peaks c =
 
 pub returns-clause-events : goal.returns-clause-events
 returns-clause-events c = subst (SameEvents c.args.self.now) (sym (returns-clause-charged c)) (charge_events c.args.self.now c.args.g c.args.n)
+
+pub returns-in-Some-clause-over : goal.returns-in-Some-clause-over
+returns-in-Some-clause-over c = search rules

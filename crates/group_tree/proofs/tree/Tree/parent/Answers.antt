@@ -1,7 +1,7 @@
-use Rattle.std.proofs.Common.{◌≡◌, Some, sym, ap, ◌∙◌, subst}
+use Rattle.std.proofs.Common.{Some, sym, ap, ◌∙◌, subst}
 use Rattle.std.proofs.lemmas.Bool.{true≢false}
-use Rattle.group_tree.specs.Groups.{AreGroups, parent_of}
-use Rattle.group_tree.specs.Links.{AreLinks, link_at}
+use Rattle.group_tree.specs.Groups.{AreGroups}
+use Rattle.group_tree.specs.Links.{AreLinks}
 use Rattle.group_tree.proofs.GroupLemmas.{parent_of-root}
 use Rattle.group_tree.proofs.LinkLemmas.{parent-link, link_read}
 use Rattle.group_tree.proofs.tree.Tree.parent.Goals as goal

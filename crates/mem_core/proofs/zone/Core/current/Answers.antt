@@ -19,3 +19,6 @@ returns-clause-now c =
 
 pub returns-clause-run : goal.returns-clause-run
 returns-clause-run c run shows = returns-clause-now c ∙ ap (λ (s : State). usage_of s c.args.group) shows.state
+
+pub returns-clause-shown : goal.returns-clause-shown
+returns-clause-shown c = returns-clause-now c

@@ -1,6 +1,5 @@
 -- At first all is as at boot.
-use Rattle.std.proofs.Common.{◌≡◌, ◌*◌, ◌^◌, ◌<◌, lit<, Bool, List, [], length, refl, sym, ◌∙◌, ap, subst, arith}
-use Rattle.zone_blocks.specs.Areas.{AreMaximalBlocks}
+use Rattle.std.proofs.Common.{◌≡◌, ◌*◌, ◌^◌, ◌<◌, lit<, [], refl, sym, ◌∙◌, ap, subst, arith}
 use Rattle.step_rules.specs.State.{Zone, State, at_boot}
 use Rattle.step_rules.proofs.Sound.{IsSound}
 use Rattle.step_rules.proofs.Runs.{sound_boot}

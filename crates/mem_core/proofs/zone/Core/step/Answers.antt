@@ -1,5 +1,5 @@
 -- A core that showed a run shows it with the step and its answer.
-use Rattle.std.proofs.Common.{◌≡◌, ℕ, ◌+◌, ◌*◌, ◌^◌, ◌<◌, Bool, List, length, sym, ◌∙◌, ap, subst, arith}
+use Rattle.std.proofs.Common.{◌≡◌, ℕ, ◌+◌, ◌*◌, ◌^◌, ◌<◌, ◌++◌, ◌∷◌, [], List, sym, ◌∙◌, ap, subst, arith}
 use Rattle.zone_blocks.specs.Areas.{AreMaximalBlocks}
 use Rattle.step_rules.specs.State.{Zone, State, free_in}
 use Rattle.step_rules.specs.Legal.{Allows}
@@ -20,6 +20,7 @@ use Rattle.mem_core.specs.Promise.{PlacesFirst}
 use Rattle.mem_core.specs.Accounts.{Account, AccountsFollow}
 use Rattle.mem_core.proofs.Linking.{shown_is, ready}
 use Rattle.mem_core.proofs.Advancing.{sound_after, usage_after, widened, bounded_after, follow_illegal, shown_more, first_from}
+use Rattle.mem_core.proofs.Keeping.{keeps_promise}
 use Rattle.mem_core.proofs.zone.Core.step.Goals as goal
 
 pub serve-answer-requires-clause-few : goal.serve-answer-requires-clause-few
@@ -126,6 +127,18 @@ returns-clause-shows c run shows =
     (subst (λ (t : State). AccountsFollow t c.args.step.action c.serve-answer.result c.self.inside.accounts.items
     c.follow.new.accounts.items) (sym (shown_is inside) ∙ returns-clause-state c) c.follow.ensures.follow))
 
+pub returns-clause-promise : goal.returns-clause-promise
+returns-clause-promise c run shows =
+    let inside : Inside = record {
+      rows = c.serve-answer.new.rows;
+      free = c.set_areas.new.free;
+      accounts =
+          c.follow.new.accounts;
+      areas = c.set_areas.new.areas;
+      steps = c.self.inside.steps + 1;
+    } in
+    keeps_promise (core_state inside) (run ++ (c.args.step, c.serve-answer.result) ∷ []) (returns-clause-shows c run shows) c.set_areas.ensures.areas
+
 pub returns-clause-usage : goal.returns-clause-usage
 returns-clause-usage c =
     let link : state_in c.args.self.now ≡ rows.state_in c.self.inside.rows = ap state_in (sym c.self.view_is) ∙ shown_is c.self.inside in
@@ -179,6 +192,19 @@ returns-in-Illegal-clause-areas c =
     let same : c.serve-answer.new.rows ≡ c.self.inside.rows = c.serve-answer.ensures.unchanged c.in-Illegal.is in
     subst (λ (r : Rows). AreMaximalBlocks (free_in (rows.state_in r).zone (rows.state_in r).phases) c.self.inside.areas.blocks)
     (sym same) c.self.invariant.areas
+
+pub returns-in-Illegal-clause-promise : goal.returns-in-Illegal-clause-promise
+returns-in-Illegal-clause-promise c run shows =
+    let inside : Inside = record {
+      rows = c.serve-answer.new.rows;
+      free = c.self.inside.free;
+      accounts =
+          c.self.inside.accounts;
+      areas = c.self.inside.areas;
+      steps = c.self.inside.steps + 1;
+    } in
+    keeps_promise (core_state inside) (run ++ (c.args.step, c.serve-answer.result) ∷ []) (returns-in-Illegal-clause-shows c run shows)
+    (returns-in-Illegal-clause-areas c)
 
 pub invariant_of-self : goal.invariant_of-self
 invariant_of-self c =

@@ -1,25 +1,62 @@
-use Rattle.std.proofs.Common.{refl}
-use Rattle.mem_machine.proofs.Prepaying.{emptied_fits, emptied_drained, prepays, is_refused, on_ok_both, if_err_both}
+use Rattle.std.proofs.Common.{◌≡◌, ◌+◌, ◌^◌, ◌<◌, false, refl, sym, subst}
+use Rattle.group_charge.specs.Charges.{current_of}
+use Rattle.stock_word.specs.Stock.{account_of}
+use Rattle.cpu_part.specs.Cpus.{KnownCpu}
+use Rattle.mem_machine.specs.Machines.{KnownMachine}
+use Rattle.mem_machine.proofs.Prepaying.{emptied_fits, emptied_drained, emptied_whole, prepays, prepay_steps, is_refused, refused_steps, on_ok_both, if_err_both}
 use Rattle.mem_machine.proofs.machine.Machine.prepay.Goals as goal
 
 pub fill_stock-requires-clause-fits : goal.fill_stock-requires-clause-fits
 fill_stock-requires-clause-fits g c =
-    emptied_fits _ _ _ _ _ c.number-number.ensures.number c.drain_stock.ensures.drains c.args.pages c.requires.fits
+    subst (λ (y : KnownMachine). current_of y.ledger 0 + c.args.pages < 2 ^ 32) (sym c.own_stock-emptied.ensures.machine)
+    (emptied_fits _ _ _ _ _ c.number-number.ensures.number c.drain_stock.ensures.drains c.args.pages c.requires.fits)
 
 pub fill_stock-requires-clause-drained : goal.fill_stock-requires-clause-drained
 fill_stock-requires-clause-drained g c =
-    emptied_drained _ _ _ _ _ c.number-number.ensures.number c.drain_stock.ensures.drains
+    subst (λ (z : KnownMachine × KnownCpu). (account_of z.0.stock.view z.1.number).filled ≡ false)
+    (λ i. (sym c.own_stock-emptied.ensures.machine i, sym c.own_stock-emptied.ensures.cpu i))
+    (emptied_drained _ _ _ _ _ c.number-number.ensures.number c.drain_stock.ensures.drains)
 
 pub returns-clause-prepays : goal.returns-clause-prepays
 returns-clause-prepays g c =
+    let number = c.number-number.ensures.number in
+    let drains = c.drain_stock.ensures.drains in
+    let whole = emptied_whole _ _ _ _ _ number drains c.args.cpu.now _ _ refl refl c.requires.none_fresh c.own_stock-emptied.ensures.stock in
+    let steps = c.drain_stock.ensures.steps c.args.cpu.now in
     on_ok_both c.fill_stock.result
-    (prepays _ _ _ _ _ c.number-number.ensures.number c.drain_stock.ensures.drains g.N.BootName.frames c.args.cpu.now refl
-    (c.drain_stock.ensures.steps c.args.cpu.now) c.args.group c.args.pages _ _)
+    (λ fills run. prepays _ _ _ _ _ number drains g.N.BootName.frames c.args.cpu.now refl whole steps _ _ c.own_stock-emptied.ensures.machine c.own_stock-emptied.ensures.cpu
+    c.args.group c.args.pages _ _ fills)
+    c.fill_stock.ensures.fills c.fill_stock.ensures.steps
+
+pub returns-clause-steps : goal.returns-clause-steps
+returns-clause-steps g c =
+    let number = c.number-number.ensures.number in
+    let drains = c.drain_stock.ensures.drains in
+    let whole = emptied_whole _ _ _ _ _ number drains c.args.cpu.now _ _ refl refl c.requires.none_fresh c.own_stock-emptied.ensures.stock in
+    let steps = c.drain_stock.ensures.steps c.args.cpu.now in
+    on_ok_both c.fill_stock.result
+    (λ fills run. prepay_steps _ _ _ _ _ number drains g.N.BootName.frames c.args.cpu.now refl whole steps _ _ c.own_stock-emptied.ensures.machine
+    c.own_stock-emptied.ensures.cpu c.args.group c.args.pages c.fill_stock.new.self c.fill_stock.new.cpu run)
     c.fill_stock.ensures.fills c.fill_stock.ensures.steps
 
 pub returns-clause-over : goal.returns-clause-over
 returns-clause-over g c =
+    let number = c.number-number.ensures.number in
+    let drains = c.drain_stock.ensures.drains in
+    let whole = emptied_whole _ _ _ _ _ number drains c.args.cpu.now _ _ refl refl c.requires.none_fresh c.own_stock-emptied.ensures.stock in
+    let steps = c.drain_stock.ensures.steps c.args.cpu.now in
     if_err_both c.fill_stock.result
-    (λ e same low steps. is_refused _ _ _ _ _ c.number-number.ensures.number c.drain_stock.ensures.drains g.N.BootName.frames c.args.cpu.now refl
-    (c.drain_stock.ensures.steps c.args.cpu.now) c.args.group c.args.pages e.group _ _ same.0 same.1 low steps)
+    (λ e same low run. is_refused _ _ _ _ _ number drains g.N.BootName.frames c.args.cpu.now refl whole steps _ _ c.own_stock-emptied.ensures.machine
+    c.own_stock-emptied.ensures.cpu c.args.group c.args.pages _ _ e.group same.0 same.1 low)
+    c.fill_stock.ensures.unchanged c.fill_stock.ensures.over c.fill_stock.ensures.refused
+
+pub returns-clause-refused : goal.returns-clause-refused
+returns-clause-refused g c =
+    let number = c.number-number.ensures.number in
+    let drains = c.drain_stock.ensures.drains in
+    let whole = emptied_whole _ _ _ _ _ number drains c.args.cpu.now _ _ refl refl c.requires.none_fresh c.own_stock-emptied.ensures.stock in
+    let steps = c.drain_stock.ensures.steps c.args.cpu.now in
+    if_err_both c.fill_stock.result
+    (λ e same low run. refused_steps _ _ _ _ _ number drains g.N.BootName.frames c.args.cpu.now refl whole steps _ _ c.own_stock-emptied.ensures.machine
+    c.own_stock-emptied.ensures.cpu c.args.group c.args.pages _ _ e.group same.0 same.1 run)
     c.fill_stock.ensures.unchanged c.fill_stock.ensures.over c.fill_stock.ensures.refused

@@ -2,8 +2,8 @@ use Rattle.mem_system.proofs.system.System.show.Goals as goal
 
 pub returns-clause-told : goal.returns-clause-told
 returns-clause-told g c = (
-  c.deref_mut.result.now,
-  c.show.new.locked,
-  (c.show.ensures.before, c.show.ensures.served, c.show.ensures.after),
-  c.show.ensures.text,
+  c.deref_mut-locked.result.now,
+  c.show-text.new.locked,
+  (c.see_quiet.ensures.quiet, c.show-text.ensures.served, c.see_quiet-2.ensures.quiet),
+  c.show-text.ensures.text,
 )

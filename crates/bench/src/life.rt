@@ -1,0 +1,143 @@
+//! The machine that is measured, from its first visit to its last.
+ghost use Rattle.std.specs.Prelude.{◌≡◌, ◌≤◌};
+ghost use Rattle.frame_word.specs.Seats.{IsShut, first_zone_view, first_cpu_view};
+ghost use Rattle.stock_word.specs.Stock.{first_machine, first_processor};
+
+use crate::costs::Pace;
+use crate::machine::{Visited, tell_blocks, tell_visits};
+use crate::settling::tell_settling;
+use anyhow::anyhow;
+use cpu_part::{BootName, Cpu, Tables};
+use frame_word::{FrameSeat, FrameWords};
+use group_tree::group::GroupId;
+use mem_machine::Machine;
+use std::alloc::Global;
+use std::marker::Brand;
+use std::sync::Wait;
+use std::time::Clock;
+use stock_word::{StockSeat, StockWords};
+use zone_blocks::order::Order;
+
+// The tables of one processor, and all seats, as they are at first.
+#[derive(Drop)]
+struct Parts {
+    frames: FrameWords,
+    stocks: StockWords,
+    zone: FrameSeat,
+    machine: StockSeat,
+    seat: FrameSeat,
+    payer: StockSeat,
+    ghost sizes: { (frames.cpus ≡ 1) × (stocks.cpus ≡ 1) },
+    ghost zone_is: { (zone.table ≡ frames.table) × (zone.view ≡ first_zone_view frames.frames) },
+    ghost machine_is: { (machine.table ≡ stocks.table) × (machine.view ≡ first_machine) },
+    ghost seat_is: { (seat.table ≡ frames.table) × (seat.view ≡ first_cpu_view 1) },
+    ghost payer_is: { (payer.table ≡ stocks.table) × (payer.view ≡ first_processor 1) },
+}
+
+impl Parts {
+    fn new(alloc: Global, frames: u32) -> anyhow::Result<Parts>
+        requires { 1 ≤ frames }
+    {
+        let (frames, zone, mut seats) = FrameWords::new(alloc, frames, 1)?;
+        let (stocks, machine, mut payers) = StockWords::new(alloc, 1)?;
+        let (Some(seat), Some(payer)) = (seats.pop(), payers.pop()) else {
+            return Err(anyhow!("no seat"));
+        };
+        Ok(Parts {
+            frames,
+            stocks,
+            zone,
+            machine,
+            seat,
+            payer,
+        })
+    }
+}
+
+impl<N: BootName> Visited<N> {
+    // Opens the first visit.
+    fn new(tables: Tables<N>, machine: Machine<N>, cpu: Cpu<N>, group: GroupId) -> Visited<N>
+        requires { IsShut machine.seat cpu.number }
+    {
+        let mut machine = machine;
+        let mut cpu = cpu;
+        machine.open(&tables, &mut cpu);
+        Visited {
+            tables,
+            machine,
+            cpu,
+            group,
+        }
+    }
+
+    // Settles the processor and gives its list back.
+    fn rest(&mut self) {
+        self.machine.settle(&self.tables, &mut self.cpu);
+        self.machine.drain_list(&self.tables, &mut self.cpu, 256);
+    }
+}
+
+// Ends the processor's part, which has no pin, once nothing of it is left.
+fn end<N: BootName, R: Wait>(rt: &R, mut visited: Visited<N>) {
+    for _ in rt.forever() {
+        visited.rest();
+        if visited.cpu.is_idle() {
+            let Visited {
+                tables: _,
+                machine: _,
+                cpu,
+                group: _,
+            } = visited;
+            let _ = cpu.into_seats();
+            return;
+        }
+    }
+    unreachable!()
+}
+
+// Measures all calls.
+fn tell_all<N: BootName, R: Print + Clock + Alloc<A = Global>>(
+    rt: &R,
+    pace: Pace,
+    visited: &mut Visited<N>,
+) -> anyhow::Result<()> {
+    tell_visits(rt, pace, visited)?;
+    tell_blocks(rt, pace, visited, Order::of(0).unwrap())?;
+    tell_blocks(rt, pace, visited, Order::of(4).unwrap())?;
+    tell_settling(rt, pace, visited)
+}
+
+// Makes the machine and its processor's part, measures, and ends the part.
+fn live<N: BootName, R: Wait + Print + Clock + Alloc<A = Global>>(
+    rt: &R,
+    pace: Pace,
+    parts: Parts,
+) -> anyhow::Result<()>
+    requires { (parts.frames ≡ N.frames) × (parts.stocks ≡ N.stocks) }
+{
+    let Parts {
+        frames,
+        stocks,
+        zone,
+        machine,
+        seat,
+        payer,
+    } = parts;
+    let tables = Tables::<N>::new(frames, stocks);
+    let mut machine = Machine::<N>::new(rt.alloc(), &tables, zone, machine)?;
+    let group = machine.make(b"/a")?;
+    let cpu = Cpu::<N>::new(rt.alloc(), seat, payer)?;
+    let mut visited = Visited::new(tables, machine, cpu, group);
+    let told = tell_all(rt, pace, &mut visited);
+    end(rt, visited);
+    told
+}
+
+/// Measures the machine's calls.
+pub fn tell_machine<R: Wait + Print + Clock + Alloc<A = Global>>(
+    rt: &R,
+    pace: Pace,
+) -> anyhow::Result<()> {
+    let parts = Parts::new(rt.alloc(), 1_024)?;
+    live::<Brand, R>(rt, pace, parts)
+}

@@ -1,0 +1,39 @@
+//! Measures calls of the crates, in nanoseconds and in units: a unit is a pair of `get` and `put` of a frame by one thread, taken
+//! in the same run. Each word on the command line is a table. With no word each row is run a few times and its name told, so
+//! that the stored run never varies.
+#![tactic(auto)]
+
+mod charges;
+mod costs;
+mod life;
+mod lists;
+mod machine;
+mod pins;
+mod prepaid;
+mod references;
+mod script;
+mod settling;
+mod system;
+mod tables;
+mod zone;
+
+use crate::costs::Pace;
+use crate::tables::{Table, tell_all, tell_table};
+use std::env;
+
+fn main(rt: HostRuntime) -> anyhow::Result<()> {
+    let mut words = env::args(&rt)?.skip(1).peekable();
+    if words.peek().is_none() {
+        return tell_all(&rt, Pace::Quick);
+    }
+    let unit = references::measure_unit(&rt)?;
+    for word in words {
+        match Table::named(word.as_str()) {
+            Some(table) => tell_table(&rt, table, Pace::Timed { unit })?,
+            None => println!(rt;
+                "{word}: no table; there are references, prepaid, lists, charges, zone, machine, system and script"
+            )?,
+        }
+    }
+    Ok(())
+}

@@ -1,0 +1,5 @@
+use Rattle.std.proofs.Common.{rules}
+use Rattle.bit_levels.proofs.levels.BitLevels.len.Goals as goal
+
+pub returns : goal.returns
+returns c = search rules

@@ -1,0 +1,127 @@
+//! A run as data: rows of steps with the answers that they have to get, and facts that have to be so after them.
+
+use group_tree::group::GroupId;
+use mem_core::zone::Core;
+use std::alloc::Global;
+use std::process::Abort;
+use std::test::Fail;
+use step_rules::phase::Phase;
+use step_rules::step::{Action, Answer, Step};
+
+/// A seat, the step that it makes, and the answer that it has to get.
+pub type Row = (u32, Action, Answer);
+
+/// What has to be so after a run.
+#[derive(Clone, Copy)]
+pub enum Fact {
+    /// The usage of a group.
+    Current(GroupId, u128),
+    /// The highest usage of a group that is there.
+    Peak(GroupId, u128),
+    /// The pending pages of a group.
+    Pending(GroupId, u128),
+    /// The limit of a group that is there.
+    Max(GroupId, Option<u32>),
+    /// How often the limit of a group that is there, or of one below it, was about to be passed, and how many were killed.
+    Events(GroupId, u64, u64),
+    /// How often reclaim could not keep the limit of a group that is there.
+    LocalOom(GroupId, u64),
+    /// The group is there.
+    IsThere(GroupId),
+    /// The group is killed.
+    IsKilled(GroupId),
+    /// The pins of a processor.
+    Pins(u32, u32),
+    /// The book of a processor.
+    Book(u32, u128),
+    /// The pages in the stock of a processor.
+    Stock(u32, u128),
+    /// The length of a processor's list.
+    Listed(u32, usize),
+    /// The frame at this place of a processor's fresh frames.
+    Fresh(u32, usize, Option<u32>),
+    /// The frame at this place of a processor's back frames.
+    Back(u32, usize, Option<u32>),
+    /// The phase of a frame.
+    Phase(u32, Phase),
+    /// The frame is the head of a unit.
+    IsHead(u32),
+}
+
+/// The group of this number, of 64.
+pub fn group(number: u32) -> GroupId {
+    GroupId::of(number).unwrap_or(GroupId::root())
+}
+
+/// Makes a step, of the first million.
+pub fn step(core: &mut Core, seat: u32, action: Action) -> Answer {
+    if core.steps() < 1_000_000 {
+        core.step(Step { seat, action })
+    } else {
+        Answer::Illegal
+    }
+}
+
+/// Makes the steps, each of which has to get its answer.
+pub fn plays(rt: &impl Abort, core: &mut Core, rows: &[Row]) {
+    for (seat, action, wanted) in rows {
+        let answer = step(core, *seat, *action);
+        assert!(rt; answer == *wanted, "step {}", core.steps());
+    }
+}
+
+// Whether the fact about a group is so, and the group there.
+fn is_so_of_group(core: &Core, fact: &Fact, group: GroupId) -> bool {
+    if !core.tree().contains(group) {
+        return false;
+    }
+    match *fact {
+        Fact::Peak(_, peak) => core.peak(group) == peak,
+        Fact::Max(_, limit) => core.max(group) == limit,
+        Fact::Events(_, max, oom_kill) => {
+            let events = core.events(group);
+            events.max == max && events.oom_kill == oom_kill
+        }
+        Fact::LocalOom(_, oom) => core.events_local(group).oom == oom,
+        _ => true,
+    }
+}
+
+// Whether the fact is so.
+fn is_so(core: &Core, fact: &Fact) -> bool {
+    match *fact {
+        Fact::Current(group, pages) => core.current(group) == pages,
+        Fact::Pending(group, pages) => core.pending(group) == pages,
+        Fact::IsKilled(group) => core.is_killed(group),
+        Fact::Peak(group, _)
+        | Fact::Max(group, _)
+        | Fact::Events(group, ..)
+        | Fact::LocalOom(group, _)
+        | Fact::IsThere(group) => is_so_of_group(core, fact, group),
+        Fact::Pins(cpu, pins) => core.pins(cpu) == pins,
+        Fact::Book(cpu, pages) => core.book(cpu) == pages,
+        Fact::Stock(cpu, pages) => core.stock_pages(cpu) == pages,
+        Fact::Listed(cpu, frames) => core.list_len(cpu) == frames,
+        Fact::Fresh(cpu, at, frame) => core.fresh(cpu).get(at).copied() == frame,
+        Fact::Back(cpu, at, frame) => core.back(cpu).get(at).copied() == frame,
+        Fact::Phase(frame, phase) => core.phase(frame) == phase,
+        Fact::IsHead(frame) => matches!(core.phase(frame), Phase::Head { .. }),
+    }
+}
+
+/// Plays the rows, after those that they begin with, on eight frames and three processors; then each fact has to be so.
+pub fn works(
+    rt: &impl Abort,
+    alloc: Global,
+    begin: &[Row],
+    rows: &[Row],
+    facts: &[Fact],
+) -> Result<(), Fail> {
+    let mut core = Core::new(alloc, 8, 3)?;
+    plays(rt, &mut core, begin);
+    plays(rt, &mut core, rows);
+    for fact in facts {
+        assert!(rt; is_so(&core, fact), "a fact");
+    }
+    Ok(())
+}

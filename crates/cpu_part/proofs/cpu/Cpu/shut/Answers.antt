@@ -1,0 +1,11 @@
+use Rattle.std.proofs.Common.{rules}
+use Rattle.cpu_part.proofs.cpu.Cpu.shut.Goals as goal
+
+pub returns-clause-zone : goal.returns-clause-zone
+returns-clause-zone g c = search rules
+
+pub returns-clause-lent_is_borrowed : goal.returns-clause-lent_is_borrowed
+returns-clause-lent_is_borrowed g c = search rules
+
+pub returns-clause-hands_apart : goal.returns-clause-hands_apart
+returns-clause-hands_apart g c = search rules

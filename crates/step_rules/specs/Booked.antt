@@ -1,0 +1,41 @@
+-- A processor's fresh and back frames, its book, and the pages that it passed back and that aren't absorbed.
+use Rattle.std.specs.Prelude.{◌≡◌, ℕ, ◌+◌, ◌==◌, is_some, length, if◌then◌else◌}
+use Rattle.step_rules.specs.declared.step.Action.{Action}
+use Rattle.step_rules.specs.declared.step.Action.TheVariants.{PassBack, Report, Absorb}
+use Rattle.step_rules.specs.declared.step.Answer.{Answer}
+use Rattle.step_rules.specs.declared.step.Answer.TheVariants.{Done, Pages}
+use Rattle.step_rules.specs.Phases.{Fresh, Back, has_as}
+use Rattle.step_rules.specs.State.{Zone, one_if}
+use Rattle.step_rules.specs.After.{Run, state_of, IsLegalRun}
+use Rattle.step_rules.specs.Units.{units_of}
+use Rattle.step_rules.specs.Returns.{counted_along, times_in}
+
+-- the pages that a step leaves unreported at processor p: that of a fresh frame, which it passes back
+abbrev pub unreported_in : ℕ → Run → ℕ → Action → Answer → ℕ
+unreported_in p run seat (PassBack f) Done = if seat == p then one_if (is_some ((units_of run).fresh_for f)) else 0
+unreported_in p run seat action answer = 0
+
+-- the pages that it reports
+abbrev pub reported_in : ℕ → Run → ℕ → Action → Answer → ℕ
+reported_in p run seat (Report n) Done = if seat == p then n else 0
+reported_in p run seat action answer = 0
+
+-- the pages of its reports that are absorbed
+abbrev pub absorbed_in : ℕ → Run → ℕ → Action → Answer → ℕ
+absorbed_in p run seat (Absorb q) (Pages n) = if q == p then n else 0
+absorbed_in p run seat action answer = 0
+
+-- each frame that is fresh at the processor stands once among its fresh frames, each of its back frames once among those, and
+-- no other does; its book is the pages of its stock, those of its fresh frames, and those unreported and reported; unreported
+-- are the pages of the fresh frames that it passed back, less those reported, and reported are these, less those absorbed
+pub record PartIsBooked (zone : Zone) (run : Run) (p : ℕ) : Type 0 where
+  pub fresh : (f : ℕ) → times_in f ((state_of zone run).parts p).fresh ≡ one_if (has_as Fresh p ((state_of zone run).phases f))
+  pub back : (f : ℕ) → times_in f ((state_of zone run).parts p).back ≡ one_if (has_as Back p ((state_of zone run).phases f))
+  pub book : ((state_of zone run).parts p).book ≡ ((state_of zone run).parts p).stock.pages + length ((state_of zone run).parts p).fresh
+      + ((state_of zone run).parts p).unreported + ((state_of zone run).parts p).reported
+  pub unreported : counted_along (unreported_in p) run ≡ ((state_of zone run).parts p).unreported + counted_along (reported_in p) run
+  pub reported : counted_along (reported_in p) run ≡ ((state_of zone run).parts p).reported + counted_along (absorbed_in p) run
+
+-- so it is of each processor after every legal run
+abbrev pub AllPartsAreBooked : Type 0
+AllPartsAreBooked = (zone : Zone) (run : Run) → IsLegalRun zone run → (p : ℕ) → PartIsBooked zone run p

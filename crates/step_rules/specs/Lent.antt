@@ -1,0 +1,19 @@
+-- A frame is lent to a processor of the zone, and a beginning of a legal run is legal.
+use Rattle.std.specs.Prelude.{◌≡◌, ℕ, true, Option, Some, None, take}
+use Rattle.step_rules.specs.declared.phase.Phase.{Phase}
+use Rattle.step_rules.specs.declared.phase.Phase.TheVariants.{Lent}
+use Rattle.step_rules.specs.State.{Zone, is_cpu}
+use Rattle.step_rules.specs.After.{Run, state_of, IsLegalRun}
+
+-- the number of the processor to which a frame is lent in this phase
+abbrev pub lent_to : Phase → Option ℕ
+lent_to (Lent p way) = Some p
+lent_to _ = None
+
+-- after every legal run who a frame is lent to is one of the processors
+abbrev pub FramesAreLentToProcessors : Type 0
+FramesAreLentToProcessors = (zone : Zone) (run : Run) → IsLegalRun zone run → (f p : ℕ) → lent_to ((state_of zone run).phases f) ≡ Some p → is_cpu zone p ≡ true
+
+-- each beginning of a legal run is a legal run
+abbrev pub BeginningsAreLegal : Type 0
+BeginningsAreLegal = (zone : Zone) (run : Run) → IsLegalRun zone run → (k : ℕ) → IsLegalRun zone (take k run)

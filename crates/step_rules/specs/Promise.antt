@@ -1,0 +1,106 @@
+-- The promise: what every list of steps keeps, said of what is shown when the lock is free. The free areas are the maximal
+-- free blocks (Knuth, The Art of Computer Programming, 2.5; Gorman, Understanding the Linux Virtual Memory Manager,
+-- chapter 6); each frame is in one place; memory.current is right, and no grant passed memory.max (cgroup-v2.rst); and each
+-- frame came back once.
+use Rattle.std.specs.Prelude.{◌≡◌, ◌⊎◌, ℕ, ◌+◌, ◌<◌, ◌≤◌, Bool, true, false, Option, Some, List, length, take, slice_get, IfSome, if◌then◌else◌}
+use Rattle.std.specs.List.{Contains}
+use Rattle.zone_blocks.specs.declared.block.Block.{Block}
+use Rattle.zone_blocks.specs.Block.{Covers}
+use Rattle.zone_blocks.specs.Areas.{AreMaximalBlocks}
+use Rattle.zone_blocks.specs.Laws.{IsInOneBlock}
+use Rattle.group_tree.specs.declared.group.Group.{Group}
+use Rattle.group_tree.specs.Groups.{has_group, in_subtree}
+use Rattle.step_rules.specs.declared.step.Place.{Place}
+use Rattle.step_rules.specs.declared.step.Place.TheVariants.{Free, Listed, Charged}
+use Rattle.step_rules.specs.declared.step.Action.{Action}
+use Rattle.step_rules.specs.declared.step.Action.TheVariants.{Put, Freeze, Grant, Return}
+use Rattle.step_rules.specs.declared.step.Answer.{Answer}
+use Rattle.step_rules.specs.declared.step.Answer.TheVariants.{Done, Last, Granted}
+use Rattle.step_rules.specs.Phases.{keeper_of}
+use Rattle.step_rules.specs.State.{Zone, Stock, State, one_if, sum_to, is_unheld, free_in}
+use Rattle.step_rules.specs.Usage.{is_below, fits_limit, usage_of}
+use Rattle.step_rules.specs.After.{Run, after, state_of, IsLegalRun}
+use Rattle.step_rules.specs.Folds.{limit_given}
+use Rattle.step_rules.specs.Returns.{is_gone, is_drop, times_in}
+
+-- ---- what is shown
+-- the free areas; for each processor its list; for each frame the group that keeps it, if one does; the groups; for each
+-- processor its stock; and for each group a number of pages, its memory.current
+pub record Shown : Type 0 where
+  pub areas : List Block
+  pub lists : ℕ → List ℕ
+  pub keeper : ℕ → Option ℕ
+  pub groups : List Group
+  pub stocks : ℕ → Stock
+  pub current : ℕ → ℕ
+
+-- it is shown of this state: the areas are the maximal blocks of the free frames, each group's number of pages is its
+-- usage, and the rest is as it is there
+pub record IsShown (s : State) (shown : Shown) : Type 0 where
+  pub areas : AreMaximalBlocks (free_in s.zone s.phases) shown.areas
+  pub lists : (p : ℕ) → shown.lists p ≡ (s.parts p).list
+  pub keeper : (f : ℕ) → shown.keeper f ≡ keeper_of (s.phases f)
+  pub groups : shown.groups ≡ s.groups
+  pub stocks : (p : ℕ) → shown.stocks p ≡ (s.parts p).stock
+  pub current : (g : ℕ) → has_group s.groups g ≡ true → shown.current g ≡ usage_of s g
+
+-- ---- each frame is in one place
+-- the frame is seen at the place: in a block of the free areas, on the processor's list, or kept by the group
+abbrev pub Has : Shown → ℕ → Place → Type 0
+Has shown f Free = (b : Block) × Contains shown.areas b × Covers b f
+Has shown f (Listed p) = 1 ≤ times_in f (shown.lists p)
+Has shown f (Charged g) = shown.keeper f ≡ Some g
+
+-- it is seen there once: in one block alone, once on the list
+abbrev pub HasOnce : Shown → ℕ → Place → Type 0
+HasOnce shown f Free = IsInOneBlock shown.areas f
+HasOnce shown f (Listed p) = times_in f (shown.lists p) ≡ 1
+HasOnce shown f (Charged g) = shown.keeper f ≡ Some g
+
+-- it is seen once at one place, and at no other
+pub record IsInOnePlace (shown : Shown) (f : ℕ) : Type 0 where
+  pub place : Place
+  pub once : HasOnce shown f place
+  pub only : (p : Place) → Has shown f p → p ≡ place
+
+-- ---- each usage is right
+-- how many of the first n frames the group and those below it keep
+abbrev pub kept_below : Shown → ℕ → ℕ → ℕ
+kept_below shown frames g = sum_to frames (λ f. one_if (is_below shown.groups g (shown.keeper f)))
+
+-- the pages prepaid for them, in the stocks of the processors 1 to `cpus`; that of number 0 is nobody's and has none
+abbrev pub prepaid_below : Shown → ℕ → ℕ → ℕ
+prepaid_below shown cpus g = sum_to (cpus + 1) (λ p. if is_below shown.groups g (shown.stocks p).group then (shown.stocks p).pages else 0)
+
+-- ---- no grant passed a limit
+-- after a grant the usage of the group and of each of its ancestors is at most the limit that it was given last
+abbrev pub KeepsLimits : Zone → Run → ℕ → Action → Answer → Type 0
+KeepsLimits zone run seat (Grant g n) Granted = (m : ℕ) → in_subtree (state_of zone run).groups m g ≡ true →
+    fits_limit (limit_given run m) (usage_of (after (state_of zone run) seat (Grant g n) Granted) m) ≡ true
+KeepsLimits zone run seat action answer = Unit {0}
+
+-- ---- each frame came back once
+-- a last reference goes where none is gone; and a frame comes back where its last reference is gone, or it is a fresh frame
+-- of a killed group, which had none
+abbrev pub ComesBackOnce : Run → Action → Answer → Type 0
+ComesBackOnce run (Put f) Last = is_gone run f ≡ false
+ComesBackOnce run (Freeze f n) Done = is_gone run f ≡ false
+ComesBackOnce run (Return f) Done = (is_gone run f ≡ true) ⊎ (is_drop run f ≡ true)
+ComesBackOnce run action answer = Unit {0}
+
+-- ---- the promise
+-- what is shown after the run keeps it: the free areas are the maximal blocks of some set of frames, which by the next
+-- field are those on no list and kept by no group; each frame of the zone is in one place; each group's memory.current is
+-- the frames that it and those below it keep, and the pages prepaid for them; and of each step of the run, where it was
+-- made, no grant passed a limit and each frame came back once
+pub record Promise (zone : Zone) (run : Run) (shown : Shown) : Type 0 where
+  pub areas : (free : List Bool) × (length free ≡ zone.frames) × AreMaximalBlocks free shown.areas
+  pub frames : (f : ℕ) → f < zone.frames → IsInOnePlace shown f
+  pub current : (g : ℕ) → has_group shown.groups g ≡ true → shown.current g ≡ kept_below shown zone.frames g + prepaid_below shown zone.cpus g
+  pub limits : (k : ℕ) → IfSome (slice_get run k) (λ e. KeepsLimits zone (take k run) e.0.seat e.0.action e.1)
+  pub returns : (k : ℕ) → IfSome (slice_get run k) (λ e. ComesBackOnce (take k run) e.0.action e.1)
+
+-- every legal run that leaves the lock free keeps the promise, for whatever shows its state
+abbrev pub ThePromiseIsKept : Type 0
+ThePromiseIsKept = (zone : Zone) (run : Run) (shown : Shown) → IsLegalRun zone run → is_unheld (state_of zone run).hold ≡ true →
+    IsShown (state_of zone run) shown → Promise zone run shown

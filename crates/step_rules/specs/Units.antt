@@ -1,0 +1,78 @@
+-- What a run says of charged units, folded over its pairs alone: which frame heads which unit, and which frames are fresh.
+use Rattle.std.specs.Prelude.{◌≡◌, ℕ, ◌==◌, Bool, true, false, Option, Some, None, [], fold, if◌then◌else◌}
+use Rattle.step_rules.specs.declared.phase.ChargedUnit.{ChargedUnit}
+use Rattle.step_rules.specs.declared.phase.Stage.{Stage}
+use Rattle.step_rules.specs.declared.phase.Stage.TheVariants.{FreshAt, FreshPassing, Collected}
+use Rattle.step_rules.specs.declared.phase.Phase.{Phase}
+use Rattle.step_rules.specs.declared.phase.Phase.TheVariants.{Head}
+use Rattle.step_rules.specs.declared.step.Action.{Action}
+use Rattle.step_rules.specs.declared.step.Action.TheVariants.{Unfreeze, Consume, Credit, PlaceBlock, Return}
+use Rattle.step_rules.specs.declared.step.Answer.{Answer}
+use Rattle.step_rules.specs.declared.step.Answer.TheVariants.{Done, Took, Back, Placed}
+use Rattle.step_rules.specs.Phases.{unit_of}
+use Rattle.step_rules.specs.State.{Zone, front_of}
+use Rattle.step_rules.specs.After.{Run, state_of, IsLegalRun}
+use Rattle.step_rules.specs.Folds.{InHand, hand_after, hand_of}
+
+-- the hand of each processor; the unit that each frame heads; and for each fresh frame the group that paid for it: it was
+-- consumed, and since then no reference was put on it, so no use of it began or ended
+pub record Units : Type 0 where
+  pub hands : ℕ → InHand
+  pub unit : ℕ → Option ChargedUnit
+  pub fresh_for : ℕ → Option ℕ
+
+-- the unit that frame f heads after one more step of a seat whose list begins with `front`: a consume makes that frame a unit
+-- of one frame, a block that is placed is a unit of its order, and a credit or a return ends it
+abbrev pub unit_after : ℕ → ℕ → Option ChargedUnit → Action → Answer → Option ChargedUnit
+unit_after f front old (Consume g) Took = if front == f then Some (record { group = g; order = 0 }) else old
+unit_after f front old (PlaceBlock g k) (Placed b) = if b.at == f then Some (record { group = g; order = k }) else old
+unit_after f front old (Credit h) Back = if h == f then None else old
+unit_after f front old (Return h) Done = if h == f then None else old
+unit_after f front old action answer = old
+
+-- the group for which frame f is fresh after one more step of such a seat: a consume pays for it, and it is fresh until
+-- references are put on it or it goes back
+abbrev pub fresh_after : ℕ → ℕ → Option ℕ → Action → Answer → Option ℕ
+fresh_after f front old (Consume g) Took = if front == f then Some g else old
+fresh_after f front old (Unfreeze h n) Done = if h == f then None else old
+fresh_after f front old (Credit h) Back = if h == f then None else old
+fresh_after f front old (Return h) Done = if h == f then None else old
+fresh_after f front old action answer = old
+
+-- all of these after one more step
+abbrev pub units_after : Units → ℕ → Action → Answer → Units
+units_after old seat action answer = record {
+  hands = λ p. hand_after p (old.hands p) seat action answer;
+  unit = λ f. unit_after f (front_of (old.hands seat).list) (old.unit f) action answer;
+  fresh_for = λ f. fresh_after f (front_of (old.hands seat).list) (old.fresh_for f) action answer;
+}
+
+-- before the first step there is none
+abbrev pub no_units : Units
+no_units = record { hands = λ p. record { list = []; fresh = []; back = [] }; unit = λ f. None; fresh_for = λ f. None }
+
+-- the units after a run
+abbrev pub units_of : Run → Units
+units_of run = fold (λ old e. units_after old e.0.seat e.0.action e.1) no_units run
+
+-- the stage of a unit that a consume paid for and that had no reference
+abbrev pub is_fresh_stage : Stage → Bool
+is_fresh_stage (FreshAt p) = true
+is_fresh_stage (FreshPassing p) = true
+is_fresh_stage Collected = true
+is_fresh_stage _ = false
+
+-- the group for which a frame is fresh in this phase
+abbrev pub fresh_group : Phase → Option ℕ
+fresh_group (Head unit stage) = if is_fresh_stage stage then Some unit.group else None
+fresh_group _ = None
+
+-- the state has the unit that the run says, and the frame is fresh in it exactly where it is by the run, for the same group
+pub record UnitsAreTold (zone : Zone) (run : Run) (f : ℕ) : Type 0 where
+  pub unit : unit_of ((state_of zone run).phases f) ≡ (units_of run).unit f
+  pub fresh : fresh_group ((state_of zone run).phases f) ≡ (units_of run).fresh_for f
+  pub hands : (p : ℕ) → (units_of run).hands p ≡ hand_of run p
+
+-- so it is of each frame after every legal run
+abbrev pub AllUnitsAreTold : Type 0
+AllUnitsAreTold = (zone : Zone) (run : Run) → IsLegalRun zone run → (f : ℕ) → UnitsAreTold zone run f

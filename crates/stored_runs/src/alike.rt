@@ -1,0 +1,155 @@
+//! What a core tells of its frames and groups, as a system has to tell it.
+
+use anyhow::{Context, Result, ensure};
+use cpu_part::{BootName, Cpu, Tables};
+use group_tree::group::GroupId;
+use mem_core::account::Events;
+use mem_core::zone::Core;
+use std::alloc::{AllocError, Global};
+use step_rules::step::Place;
+use zone_sizes::config::Config;
+
+// The groups whose files are looked at.
+const PATHS: [&str; 6] = ["/a", "/b", "/a/c", "/a/d", "/a/c/e", "/b/f"];
+
+// Their files.
+const FILES: [&str; 5] = [
+    "memory.current",
+    "memory.max",
+    "memory.peak",
+    "memory.events",
+    "memory.events.local",
+];
+
+/// The script of what is looked at: where each frame is, which blocks are free, and the files of the groups.
+pub fn looks(alloc: Global, frames: u32) -> Result<String, AllocError> {
+    let mut text = String::new(alloc);
+    for frame in 0..frames {
+        writeln!(text, "1 owner {frame}")?;
+    }
+    text.push_str("1 blocks\n")?;
+    for path in PATHS {
+        for file in FILES {
+            writeln!(text, "1 read {path} {file}")?;
+        }
+    }
+    Ok(text)
+}
+
+// The processor at which a frame is fresh: it is lent to it still.
+fn fresh_at(core: &Core, cpus: u32, frame: u32) -> Option<u32> {
+    (1..cpus.saturating_add(1)).find(|cpu| core.fresh(*cpu).contains(&frame))
+}
+
+// The path of a group.
+fn tell_path(core: &Core, group: GroupId, text: &mut String) -> Result<()> {
+    let tree = core.tree();
+    ensure!(tree.contains(group), "a frame of no group");
+    for byte in tree.path_of(group).as_bytes() {
+        text.push(char::from(*byte))?;
+    }
+    text.push('\n')?;
+    Ok(())
+}
+
+// Where a frame is.
+fn tell_place(core: &Core, cpus: u32, frame: u32, text: &mut String) -> Result<()> {
+    ensure!(frame < core.areas().frames(), "no frame");
+    if let Some(cpu) = fresh_at(core, cpus, frame) {
+        writeln!(text, "cpu {cpu}")?;
+        return Ok(());
+    }
+    match core.place(frame) {
+        Place::Free => text.push_str("free\n")?,
+        Place::Listed(cpu) => writeln!(text, "cpu {cpu}")?,
+        Place::Charged(group) => tell_path(core, group, text)?,
+    }
+    Ok(())
+}
+
+// The free blocks, by order and then by address.
+fn tell_blocks(core: &Core, text: &mut String) -> Result<(), AllocError> {
+    let mut is_first = true;
+    for block in core.areas().walk() {
+        if !is_first {
+            text.push(' ')?;
+        }
+        is_first = false;
+        let order = block.order.exponent();
+        let at = block.at;
+        write!(text, "{order}:{at}")?;
+    }
+    text.push_str(if is_first { "none\n" } else { "\n" })
+}
+
+fn tell_pages(pages: u128, text: &mut String) -> Result<()> {
+    let bytes = pages.checked_mul(4_096).context("too many pages")?;
+    writeln!(text, "{bytes}")?;
+    Ok(())
+}
+
+fn tell_limit(limit: Option<u32>, text: &mut String) -> Result<()> {
+    match limit {
+        None => text.push_str("max\n")?,
+        Some(pages) => tell_pages(u128::from(pages), text)?,
+    }
+    Ok(())
+}
+
+fn tell_events(events: &Events, text: &mut String) -> Result<(), AllocError> {
+    let max = events.max;
+    let oom = events.oom;
+    let kills = events.oom_kill;
+    writeln!(
+        text,
+        "low 0\nhigh 0\nmax {max}\noom {oom}\noom_kill {kills}"
+    )
+}
+
+// The files of a group.
+fn tell_files(core: &Core, group: GroupId, text: &mut String) -> Result<()> {
+    ensure!(core.tree().contains(group), "no group");
+    tell_pages(core.current(group), text)?;
+    tell_limit(core.max(group), text)?;
+    tell_pages(core.peak(group), text)?;
+    tell_events(&core.events(group), text)?;
+    tell_events(&core.events_local(group), text)?;
+    Ok(())
+}
+
+/// What has to be told to `looks`, beside this core.
+pub fn wanted(alloc: Global, core: &Core, sizes: &Config) -> Result<String> {
+    let mut text = String::new(alloc);
+    for frame in 0..sizes.frames {
+        tell_place(core, sizes.cpus, frame, &mut text)?;
+    }
+    tell_blocks(core, &mut text)?;
+    for path in PATHS {
+        match core.tree().find(path.as_bytes()) {
+            Some(group) => tell_files(core, group, &mut text)?,
+            None => {
+                for _ in FILES {
+                    text.push_str("refused 6 NoGroup\n")?;
+                }
+            }
+        }
+    }
+    Ok(text)
+}
+
+/// The processor has as many frames on its list, as many fresh, back and pinned, and the same fresh ones.
+pub fn are_lists_alike<N: BootName>(tables: &Tables<N>, cpu: &Cpu<N>, core: &Core) -> bool {
+    let number = cpu.number();
+    let lists = (cpu.list_len(), cpu.fresh_len(), cpu.back_len());
+    let wanted = (
+        core.list_len(number),
+        core.fresh(number).len(),
+        core.back(number).len(),
+    );
+    lists == wanted
+        && cpu.pins() == core.pins(number) as usize
+        && core.fresh(number).iter().all(|fresh| tables
+            .frames
+            .frame(*fresh)
+            .is_some_and(|frame| cpu.has_fresh(frame)))
+}

@@ -1,0 +1,115 @@
+//! A turn on the system.
+
+ghost use Rattle.std.specs.Prelude.{◌<◌, IsTrue};
+ghost use Rattle.mem_system.specs.Commands.{IsOfZone};
+ghost use Rattle.script_replay.specs.Ranges.{NamesInRange};
+
+use crate::turns::Way;
+use anyhow::{Context, Result, bail, ensure};
+use cpu_part::{BootName, Cpu, Dropped, Tables};
+use mem_system::{Cmd, Reply, System};
+use reply_texts::write_reply;
+use script_lines::line::{Command, Line};
+use script_replay::replay_lines;
+use std::alloc::Global;
+use std::slice;
+use std::sync::Wait;
+
+// Whether what the command names is there.
+fn is_there<N: BootName>(tables: &Tables<N>, command: &Command<'_>) -> bool
+    ensures { IsTrue result → NamesInRange N.frames.frames command.now }
+{
+    match command {
+        Command::Fast { group } => *group < 64,
+        Command::Release { frame }
+        | Command::Get { frame }
+        | Command::Put { frame }
+        | Command::Touch { frame }
+        | Command::Dirty { frame }
+        | Command::Clean { frame }
+        | Command::Owner { frame } => tables.frames.frame(*frame).is_some(),
+        _ => true,
+    }
+}
+
+/// What the processor is answered to the command.
+pub fn ask<N: BootName, R: Wait>(
+    rt: &R,
+    alloc: Global,
+    system: &System<N>,
+    cpu: &mut Cpu<N>,
+    command: &Command<'_>,
+) -> Result<Vec<u8>> {
+    ensure!(
+        is_there(system.tables(), command),
+        "a name out of its range"
+    );
+    let line = Line::At {
+        processor: 1,
+        command: *command,
+    };
+    Ok(replay_lines(rt, alloc, system, slice::from_mut(cpu), &[line])?)
+}
+
+// What the processor is answered to this command under the lock.
+fn serve<N: BootName, R: Wait>(rt: &R, system: &System<N>, cpu: &mut Cpu<N>, cmd: &Cmd<'_>) -> Reply
+    requires { IsOfZone N.frames cmd.now }
+{
+    system.visit(rt, cpu, cmd)
+}
+
+// What the processor is answered that visits at once.
+fn visit<N: BootName, R: Wait>(
+    rt: &R,
+    system: &System<N>,
+    cpu: &mut Cpu<N>,
+    command: &Command<'_>,
+) -> Result<Reply> {
+    match *command {
+        Command::Alloc { path, order } => Ok(serve(rt, system, cpu, &Cmd::Alloc { path, order })),
+        Command::Release { frame } => {
+            let frame = system.tables().frames.frame(frame).context("no frame")?;
+            let frame = frame.number();
+            Ok(serve(rt, system, cpu, &Cmd::Release { frame }))
+        }
+        _ => bail!("a visit of another kind"),
+    }
+}
+
+// A fresh frame goes back to the list, or not.
+fn drop_fresh<N: BootName>(
+    tables: &Tables<N>,
+    cpu: &mut Cpu<N>,
+    command: &Command<'_>,
+) -> Result<&'static str> {
+    let Command::Release { frame } = *command else {
+        bail!("a drop of no frame");
+    };
+    let frame = tables.frames.frame(frame).context("no frame")?;
+    if !cpu.has_fresh(frame) {
+        return Ok("not fresh\n");
+    }
+    match cpu.drop_fresh(tables, frame) {
+        Dropped::Listed => Ok("listed\n"),
+        Dropped::NeedVisit => Ok("drained\n"),
+    }
+}
+
+/// What the processor is answered to the command, asked for in this way.
+pub fn play<N: BootName, R: Wait>(
+    rt: &R,
+    alloc: Global,
+    system: &System<N>,
+    cpu: &mut Cpu<N>,
+    way: Way,
+    command: &Command<'_>,
+) -> Result<Vec<u8>> {
+    let mut text = String::new(alloc);
+    match way {
+        Way::Usual => return ask(rt, alloc, system, cpu, command),
+        Way::Visit => write_reply(&visit(rt, system, cpu, command)?, &mut text)?,
+        Way::Drop => text.push_str(drop_fresh(system.tables(), cpu, command)?)?,
+        Way::End => bail!("an end before the last turn"),
+    }
+    Ok(text.into_bytes())
+}

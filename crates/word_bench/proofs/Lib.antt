@@ -1,3 +1,0 @@
-pub mod Boots
-pub mod Dealing
-pub mod Hands

@@ -1,5 +1,0 @@
-use Rattle.std.proofs.Common.{◌≡◌, ◌≤◌}
-use Rattle.word_bench.proofs.frames.pairs.Given as goal
-
-abbrev pub invariant-loop : goal.invariant-loop
-invariant-loop l = (l.seat.table ≡ l.initial.seat.table) × (l.held ≤ l.counter)
