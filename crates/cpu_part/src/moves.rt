@@ -3,7 +3,7 @@ ghost use Rattle.std.specs.Prelude.{◌≡◌, ◌+◌, ◌<◌, ◌≤◌, ℕ,
 ghost use Rattle.std.specs.VecDeque.{deque_len, deque_capacity};
 ghost use Rattle.cpu_part.specs.Cpus.{times};
 
-use crate::search::last_place;
+use crate::search::place_of;
 use frame_word::Frame;
 use std::collections::VecDeque;
 
@@ -30,7 +30,7 @@ pub(crate) fn relist(list: &mut VecDeque<Frame>, fresh: &mut Vec<Frame>, frame: 
     ensures fresh { (i : ℕ) × (i < length fresh.old.items) × (slice_index fresh.old.items i ≡ frame) × (fresh.new.items ≡ remove fresh.old.items i) }
     ensures rooms { (deque_capacity list.new ≡ deque_capacity list.old) × (vec_capacity fresh.new ≡ vec_capacity fresh.old) }
 {
-    let Some(place) = last_place(fresh.as_slice(), frame) else {
+    let Some(place) = place_of(fresh.as_slice(), frame) else {
         unreachable!()
     };
     take_out(fresh, place);
@@ -56,7 +56,7 @@ pub(crate) fn unpin(pins: &mut Vec<Frame>, frame: Frame)
     ensures pins { IsPermutation pins.old.items (frame ∷ pins.new.items) }
     ensures room { vec_capacity pins.new ≡ vec_capacity pins.old }
 {
-    let Some(place) = last_place(pins.as_slice(), frame) else {
+    let Some(place) = place_of(pins.as_slice(), frame) else {
         unreachable!()
     };
     pins.swap_remove(place);

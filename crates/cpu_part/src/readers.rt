@@ -6,7 +6,7 @@ ghost use Rattle.cpu_part.specs.Cpus.{IsTied, IsIdle, times};
 
 use crate::boot_name::BootName;
 use crate::cpu::Cpu;
-use crate::search::last_place;
+use crate::search::place_of;
 use frame_word::Frame;
 use stock_word::Stock;
 
@@ -23,14 +23,14 @@ impl<N: BootName> Cpu<N> {
     pub fn holds(&self, frame: Frame) -> bool
         ensures { IsTrue result ↔ (1 ≤ times frame self.now.pins) }
     {
-        last_place(self.pins.as_slice(), frame).is_some()
+        place_of(self.pins.as_slice(), frame).is_some()
     }
 
     /// Whether the frame is one of the fresh frames.
     pub fn has_fresh(&self, frame: Frame) -> bool
         ensures { IsTrue result ↔ (1 ≤ times frame self.now.fresh) }
     {
-        last_place(self.fresh.as_slice(), frame).is_some()
+        place_of(self.fresh.as_slice(), frame).is_some()
     }
 
     /// The number of pins, at most 256 with the back frames.

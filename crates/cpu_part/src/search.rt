@@ -7,8 +7,8 @@ use frame_word::Frame;
 /// So many frames are compared at once.
 const BLOCK: usize = 16;
 
-/// The last place of the frame, which is sought from the end: the end itself before all others.
-pub(crate) fn last_place(frames: &[Frame], frame: Frame) -> Option<usize>
+/// A place of the frame, which is sought from the end: the end itself before all others.
+pub(crate) fn place_of(frames: &[Frame], frame: Frame) -> Option<usize>
     ensures { MatchOption result (times frame frames.now ≡ 0) (λ i. (i < length frames.now) × (slice_index frames.now i ≡ frame)) }
 {
     let count = frames.len();
@@ -18,7 +18,7 @@ pub(crate) fn last_place(frames: &[Frame], frame: Frame) -> Option<usize>
     seek(frames, frame)
 }
 
-// The last place of the frame, of which many are passed over at once.
+// A place of the frame, of which many are passed over at once.
 fn seek(frames: &[Frame], frame: Frame) -> Option<usize>
     ensures { MatchOption result (times frame frames.now ≡ 0) (λ i. (i < length frames.now) × (slice_index frames.now i ≡ frame)) }
 {

@@ -1,7 +1,7 @@
 //! What a processor prepays and pays inside a visit: with the machine's seat of the stocks beside.
 ghost use Rattle.std.specs.Prelude.{◌≡◌, ◌+◌, ◌-◌, ◌<◌, ◌≤◌, ◌⊎◌, [], Some, false, length};
 ghost use Rattle.stock_word.specs.Stock.{IsMachine, account_of, stocked, pages_of, group_of, is_held, drained_of};
-ghost use Rattle.stock_word.specs.Kinds.{filling, after_fill};
+ghost use Rattle.stock_word.specs.Kinds.{filling, after_fill, with_steps};
 ghost use Rattle.stock_word.specs.Calls.{with_view};
 ghost use Rattle.cpu_part.specs.Calls.{TakesFront};
 
@@ -28,8 +28,8 @@ impl<N: BootName> Cpu<N> {
         tables.stocks.fill(machine, &mut self.stock, group, pages);
     }
 
-    /// The processor's stock by its word, and so by the books: one look, which changes nothing. The
-    /// book is the pages in the stock, the fresh ones and the reported ones.
+    /// The processor's stock by its word, and so by the books: one look, which counts at the machine's
+    /// seat and changes nothing else. The book is the pages in the stock, the fresh ones and the reported ones.
     pub fn look(&mut self, tables: &Tables<N>, machine: &mut StockSeat) -> Stock
         requires machine { (machine.old.table ≡ N.stocks.table) × IsMachine machine.old.view }
         ensures balanced { (account_of machine.old.view self.old.number).book
@@ -38,7 +38,7 @@ impl<N: BootName> Cpu<N> {
         ensures group { group_of result ≡ (account_of machine.old.view self.old.number).group }
         ensures held { is_held result ≡ (account_of machine.old.view self.old.number).filled }
         ensures last { (result ≡ self.old.stock.view.last) ⊎ (result ≡ drained_of self.old.stock.view.last) }
-        ensures machine { machine.new ≡ machine.old }
+        ensures machine { machine.new ≡ with_view machine.old (with_steps 1 machine.old.view) }
         ensures cpu { self.new ≡ self.old }
     {
         tables.stocks.look(machine, &mut self.stock)

@@ -2,6 +2,7 @@
 
 ghost use Rattle.std.specs.Prelude.{◌≡◌, []};
 ghost use Rattle.frame_word.specs.Seats.{LentIsBorrowed};
+ghost use Rattle.stock_word.specs.Calls.{uncounted};
 ghost use Rattle.mem_machine.specs.Machines.{IsConsistent};
 ghost use Rattle.mem_machine.specs.Ending.{frames_free, frames_in_groups, NoneLentTo};
 
@@ -54,7 +55,7 @@ impl<N: BootName> Machine<N> {
 
     /// Takes the machine apart, for the end of the two tables: the zone's seats at the frames' table and at the stocks'.
     pub fn into_seats(self) -> (FrameSeat, StockSeat)
-        ensures seats { result ≡ (self.seat, self.stock) }
+        ensures seats { (result.0 ≡ self.seat) × (uncounted result.1 ≡ self.stock) }
         ensures consistent { IsConsistent N.frames N.stocks self }
     {
         let Machine {

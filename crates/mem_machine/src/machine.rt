@@ -30,7 +30,7 @@ pub struct Counts {
     pub returns: u64,
 }
 
-/// What stands behind the zone's lock.
+/// What stands behind the zone's lock. A contract doesn't see how many steps its seat at the stocks made.
 #[derive(Drop)]
 pub struct Machine<N: BootName> {
     pub(crate) zone: Buddy,
@@ -47,6 +47,7 @@ pub struct Machine<N: BootName> {
 
 impl<N: BootName> Model for Machine<N> {
     ghost use Rattle.std.specs.Prelude.{◌≡◌};
+    ghost use Rattle.stock_word.specs.Calls.{uncounted};
     ghost use Rattle.mem_machine.specs.Spots.{free_of};
     ghost use Rattle.mem_machine.specs.Machines.{KnownMachine, IsConsistent};
 
@@ -59,7 +60,7 @@ impl<N: BootName> Model for Machine<N> {
       links = m.links;
       lists = m.lists.items;
       seat = m.seat;
-      stock = m.stock;
+      stock = uncounted m.stock;
       killed = m.killed.items;
       counts = m.counts;
     } };
@@ -71,7 +72,7 @@ impl<N: BootName> Model for Machine<N> {
       links = m.links;
       lists = m.lists.items;
       seat = m.seat;
-      stock = m.stock;
+      stock = uncounted m.stock;
       killed = m.killed.items;
       counts = m.counts;
     }) × (m.zone.free ≡ free_of m.spots.items) };

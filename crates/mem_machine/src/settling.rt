@@ -5,11 +5,13 @@ ghost use Rattle.std.specs.List.{flat_map};
 ghost use Rattle.frame_word.specs.Views.{collected_from};
 ghost use Rattle.frame_word.specs.Seats.{IsZoneSeat, IsOpen, NothingPasses, HasNothingOf, IsLent, seat_with};
 ghost use Rattle.stock_word.specs.Stock.{IsMachine, account_of, group_of};
+ghost use Rattle.stock_word.specs.Kinds.{absorbing, noting, with_steps};
+ghost use Rattle.stock_word.specs.Calls.{with_view};
 ghost use Rattle.cpu_part.specs.Calls.{HandsFresh};
 ghost use Rattle.mem_machine.specs.Machines.{Visits, is_killed};
 ghost use Rattle.mem_machine.specs.Local.{Makes, side, fresh_group};
 ghost use Rattle.mem_machine.specs.Settling.{KeepsFresh, DropsFresh, SettlesFresh, SettlesAllFresh, ReturnsBack, ReturnsAllBack, Settles, LeavesOthers};
-ghost use Rattle.mem_machine.specs.Settling.{with_page_absorbed, keep_steps, drop_steps, fresh_steps, return_steps, settle_steps};
+ghost use Rattle.mem_machine.specs.Settling.{keep_steps, drop_steps, fresh_steps, return_steps, settle_steps};
 
 use crate::freed::free_unit;
 use crate::machine::Machine;
@@ -37,7 +39,8 @@ fn collect_fresh<N: BootName>(
     ensures cpu { HandsFresh result cpu.old cpu.new }
     ensures frame { result < N.frames.frames }
     ensures zone { zone.new ≡ seat_with zone.old result (collected_from cpu.old.number) }
-    ensures machine { machine.new ≡ with_page_absorbed machine.old cpu.old.number }
+    ensures machine { machine.new ≡ with_view machine.old
+        (with_steps 1 (absorbing (noting machine.old.view cpu.old.number 1) cpu.old.number)) }
     ensures nothing { HasNothingOf zone.old result }
     ensures lent { IsLent zone.old result cpu.old.number }
     ensures booked { 1 + (account_of machine.old.view cpu.old.number).noted ≤ (account_of machine.old.view cpu.old.number).book }

@@ -85,4 +85,5 @@ alike_view x y h =
     let fresh = h (λ v. v.fresh) in
     let last = alike_stock x.last y.last (λ f. h (λ v. f v.last)) in
     let accounts = alike_accounts x.accounts y.accounts (λ f. h (λ v. f v.accounts)) in
-    λ i. record { number = number i; fresh = fresh i; last = last i; accounts = accounts i }
+    let steps = h (λ v. v.steps) in
+    λ i. record { number = number i; fresh = fresh i; last = last i; accounts = accounts i; steps = steps i }

@@ -14,7 +14,7 @@ use Rattle.stock_word.specs.declared.view.Account.{Account}
 use Rattle.stock_word.specs.declared.view.StockView.{StockView}
 use Rattle.stock_word.specs.Stock.{word_of, pages_of, group_of, account_of, with_account, first_of, without_second, second_alone}
 use Rattle.stock_word.specs.StockRule.{stock_place, report_place, IsStock, StockRule}
-use Rattle.stock_word.specs.Kinds.{after_took, after_back, after_drained, after_report, noting, filling, after_fill, draining, absorbing}
+use Rattle.stock_word.specs.Kinds.{after_took, after_back, after_drained, after_report, noting, filling, after_fill, draining, absorbing, with_steps}
 use Rattle.stock_word.specs.Kinds.{Drains, DrainsNone, LooksAt, Absorbs, Fills, Alone, Joined, consuming, crediting, looking, draining_step}
 use Rattle.stock_word.specs.Kinds.{absorbing_step, reporting_step, consuming_held, filling_step, seeing_stock}
 use Rattle.stock_word.proofs.Stocks.{left_of, took, back, now_drained, sees_drained, last_group, reported, held_by_books, nothing_booked}
@@ -178,13 +178,13 @@ module _ {S : Type 0} (cpus slots id : ℕ) where
     -- a step of the machine's seat that leaves the account a of p, its stock word as x or its report word as y
     stock_owes : (x : ℕ) (a : Account) (then : ℕ → Me S (List StockView) → Type 0)
         → IsStock x (slice_index s.words (report_place p)) a (rule.each p low high).view
-        → then (slice_index s.words (stock_place p)) (with_account m p a ∷ [], []) → Owes s (m ∷ [], []) (stock_place p) then x
+        → then (slice_index s.words (stock_place p)) (with_steps 1 (with_account m p a) ∷ [], []) → Owes s (m ∷ [], []) (stock_place p) then x
     stock_owes x a then kept told = (
-      with_account m p a ∷ [],
+      with_steps 1 (with_account m p a) ∷ [],
       keeps,
       tt,
       machine_keeps cpus s.words s.views rule (set s.words (stock_place p) x) id m at zeroth p x _ low high
-          (leaves_stock cpus s.words p x rule.rows high) (with_account m p a) zeroth
+          (leaves_stock cpus s.words p x rule.rows high) (with_steps 1 (with_account m p a)) zeroth
           (λ q ne. account_of-with_account_other m p q a ne)
           (subst (λ (b : Account). IsStock x (slice_index s.words (report_place p)) b (rule.each p low high).view) (sym (account_of-with_account m p a)) kept),
       told,
@@ -192,27 +192,27 @@ module _ {S : Type 0} (cpus slots id : ℕ) where
 
     report_owes : (y : ℕ) (a : Account) (then : ℕ → Me S (List StockView) → Type 0)
         → IsStock (slice_index s.words (stock_place p)) y a (rule.each p low high).view
-        → then (slice_index s.words (report_place p)) (with_account m p a ∷ [], []) → Owes s (m ∷ [], []) (report_place p) then y
+        → then (slice_index s.words (report_place p)) (with_steps 1 (with_account m p a) ∷ [], []) → Owes s (m ∷ [], []) (report_place p) then y
     report_owes y a then kept told = (
-      with_account m p a ∷ [],
+      with_steps 1 (with_account m p a) ∷ [],
       keeps,
       tt,
       machine_keeps cpus s.words s.views rule (set s.words (report_place p) y) id m at zeroth p _ y low high
-          (leaves_report cpus s.words p y rule.rows high) (with_account m p a) zeroth
+          (leaves_report cpus s.words p y rule.rows high) (with_steps 1 (with_account m p a)) zeroth
           (λ q ne. account_of-with_account_other m p q a ne)
           (subst (λ (b : Account). IsStock (slice_index s.words (stock_place p)) y b (rule.each p low high).view) (sym (account_of-with_account m p a)) kept),
       told,
     )
 
-    -- a look at the stock word that leaves the machine's view
-    look_owes : (then : ℕ → Me S (List StockView) → Type 0) → then (slice_index s.words (stock_place p)) (m ∷ [], [])
+    -- a look at the stock word that leaves the machine's view but for its steps
+    look_owes : (then : ℕ → Me S (List StockView) → Type 0) → then (slice_index s.words (stock_place p)) (with_steps 1 m ∷ [], [])
         → Owes s (m ∷ [], []) (stock_place p) then (slice_index s.words (stock_place p))
     look_owes then told = (
-      m ∷ [],
+      with_steps 1 m ∷ [],
       keeps,
       tt,
       machine_keeps cpus s.words s.views rule (set s.words (stock_place p) (slice_index s.words (stock_place p))) id m at zeroth p
-          _ _ low high (leaves_stock cpus s.words p _ rule.rows high) m zeroth
+          _ _ low high (leaves_stock cpus s.words p _ rule.rows high) (with_steps 1 m) zeroth
           (λ q ne. refl)
           (machine_stock cpus s.words s.views rule s.words id m at zeroth p low high),
       told,
@@ -232,10 +232,10 @@ module _ {S : Type 0} (cpus slots id : ℕ) where
         let none_filled = drained_none _ _ (account_of m p) view stock zero_word in
         let a = account_of m p in
         stock_owes m zeroth p low high s rule at found (record a { book = a.book - 0; filled = false }) then none_filled.1 (
-          draining m p 0,
+          with_steps 1 (draining m p 0),
           refl,
           (λ q is. (
-            (λ _. subst (λ (n : ℕ). DrainsNone n place found found m (draining m p 0)) (same_stock_place p q is)
+            (λ _. subst (λ (n : ℕ). DrainsNone n place found found m (with_steps 1 (draining m p 0))) (same_stock_place p q is)
                 (record { at_stock = refl; word_before = zero_word; word_after = zero_word; never_filled = none_filled.0; machine_after = refl })),
             (λ ne. absurd (ne zero_word)),
           )),
@@ -243,11 +243,11 @@ module _ {S : Type 0} (cpus slots id : ℕ) where
         (λ some_word.
         let group = of_some_group _ _ (account_of m p) view stock some_word in
         look_owes m zeroth p low high s rule at then (
-          m,
+          with_steps 1 m,
           refl,
           (λ q is. (
             (λ zero_word. absurd (some_word zero_word)),
-            (λ _. subst (λ (n : ℕ). LooksAt n place found found m m) (same_stock_place p q is) (record {
+            (λ _. subst (λ (n : ℕ). LooksAt n place found found m (with_steps 1 m)) (same_stock_place p q is) (record {
               stock =
                   stock.stock;
               group = group.0;
@@ -280,10 +280,10 @@ module _ {S : Type 0} (cpus slots id : ℕ) where
               a.book - pages_of stock.stock;
           filled = false;
         }) then (drained _ _ a view g stock group) (
-          draining m p (pages_of stock.stock),
+          with_steps 1 (draining m p (pages_of stock.stock)),
           refl,
           (λ q k is of.
-              subst (λ (y : ℕ × ℕ). Drains y.0 y.1 place found (word_of (DrainedOf g)) m (draining m p (pages_of stock.stock)))
+              subst (λ (y : ℕ × ℕ). Drains y.0 y.1 place found (word_of (DrainedOf g)) m (with_steps 1 (draining m p (pages_of stock.stock))))
               (λ i. (same_stock_place p q is i, same_some g k (sym booked ∙ ap (λ (n : ℕ). (account_of m n).group) (same_stock_place p q is) ∙ of) i))
               (record {
                 stock = stock.stock;
@@ -312,10 +312,10 @@ module _ {S : Type 0} (cpus slots id : ℕ) where
         let then = Alone absorbing_step (step slots place 0 0 none) (m ∷ [], []) in
         let a = account_of m p in
         report_owes m zeroth p low high s rule at 0 (record a { book = a.book - a.noted; noted = 0 }) then (absorbed _ _ a view stock) (
-          absorbing m p,
+          with_steps 1 (absorbing m p),
           refl,
           (λ q is.
-              subst (λ (n : ℕ). Absorbs n place found 0 m (absorbing m p)) (same_report_place p q is)
+              subst (λ (n : ℕ). Absorbs n place found 0 m (with_steps 1 (absorbing m p))) (same_report_place p q is)
               (record {
                 at_report = refl;
                 word_before = stock.reported;
@@ -394,14 +394,14 @@ module _ {S : Type 0} (cpus slots id : ℕ) where
         let place = stock_place v.number in
         let found = slice_index s.words place in
         let stock = joined_stock cpus s.words s.views rule s.words id m v at zeroth low high in (
-          m ∷ v ∷ [],
+          with_steps 1 m ∷ v ∷ [],
           keeps,
           tt,
           joined_keeps cpus s.words s.views rule (set s.words place found) id m v at zeroth low high _ _
               (leaves_stock cpus s.words v.number found rule.rows high)
-              m v zeroth refl (λ q ne. refl) stock,
+              (with_steps 1 m) v zeroth refl (λ q ne. refl) stock,
           (
-            m,
+            with_steps 1 m,
             v,
             refl,
             record {

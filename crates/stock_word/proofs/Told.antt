@@ -1,14 +1,13 @@
 -- What the kinds of step tell, as the calls' contracts say it. Serves consume, drain, absorb and consume_held.
-use Rattle.std.proofs.Common.{◌≡◌, ◌≢◌, ℕ, ◌<◌, ◌≤◌, ◌⊎◌, ⊎_elim, false, true≢false, Option, None, Some, refl, ap, sym, subst, ◌∙◌, arith}
+use Rattle.std.proofs.Common.{◌≡◌, ◌≢◌, ℕ, ◌+◌, ◌<◌, ◌≤◌, ◌⊎◌, ⊎_elim, false, true≢false, Option, None, Some, refl, ap, sym, subst, ◌∙◌, arith}
 use Rattle.std.specs.Prelude.{IfSome}
 use native.Mathlib.Decide.{ℕ_discrete}
 use Rattle.stock_word.specs.declared.view.Stock.{Stock}
 use Rattle.stock_word.specs.declared.view.Stock.TheVariants.{NoGroup, HeldBy, DrainedOf}
 use Rattle.stock_word.specs.declared.view.StockView.{StockView}
-use Rattle.stock_word.specs.declared.words.Consume.TheVariants as consume
 use Rattle.stock_word.specs.Stock.{Seated, Placed, word_of, HasWord, pages_of, is_held, group_of, account_of, first_of}
-use Rattle.stock_word.specs.Kinds.{Drains, DrainsNone, LooksAt}
-use Rattle.stock_word.specs.Calls.{with_view, after_look}
+use Rattle.stock_word.specs.Kinds.{Drains, DrainsNone, LooksAt, with_steps, draining}
+use Rattle.stock_word.specs.Calls.{with_view, after_look, steps_of_drain}
 
 -- the seat that the caller has afterwards
 pub seat_after : (place : Placed) (before : Seated) (u : StockView) → place.table ≡ before.table → first_of place.views ≡ u
@@ -45,7 +44,7 @@ group_fits (DrainedOf k) g fits group = let same : k ≡ g = cc in subst (λ (x 
 
 -- it saw the group to drain
 pub found_group : (p place found g : ℕ) (m w : StockView) (r : Stock) → Looked p place found m w → Decodes found r → group_of r ≡ Some g
-    → ((account_of m p).group ≡ Some g) × (w ≡ m) × (g < 64)
+    → ((account_of m p).group ≡ Some g) × (w ≡ with_steps 1 m) × (g < 64)
 found_group p place found g m w r told decodes group =
     let kind = told.1 (some_word found g r decodes group) in
     let same = decodes kind.stock kind.has_word kind.word_before in (
@@ -53,6 +52,14 @@ found_group p place found g m w r told decodes group =
       kind.machine_after,
       group_fits kind.stock g kind.has_word (sym (ap group_of same) ∙ group),
     )
+
+-- a look and a swap are the two steps of the drain of a stock that was filled
+pub looked_and_drained : (m : StockView) (p g n : ℕ) → (account_of m p).group ≡ Some g
+    → with_steps 1 (draining (with_steps 1 m) p n) ≡ with_steps (steps_of_drain (account_of m p).group) (draining m p n)
+looked_and_drained m p g n group =
+    let two : steps_of_drain (account_of m p).group ≡ 2 = ap steps_of_drain group in
+    let count : m.steps + 1 + 1 ≡ m.steps + steps_of_drain (account_of m p).group = omega (arith, two) in
+    ap (λ (k : ℕ). record (draining m p n) { steps = k }) count
 
 -- the swap took the pages of the stock that it found
 pub drained_booked : (before : StockView) (p g place found new pages : ℕ) (m w : StockView) → m ≡ before
@@ -79,13 +86,13 @@ either_group r g h = ⊎_elim (λ (x : (n : ℕ) × (r ≡ HeldBy g n)). ap grou
 
 -- the look told the group, or that there is none, and what it left of the machine's view
 pub group_told : (p place found : ℕ) (m w : StockView) (r : Stock) (told : Option ℕ) → Looked p place found m w → Decodes found r → told ≡ group_of r
-    → (told ≡ (account_of m p).group) × IfSome told (λ g. g < 64) × (w ≡ after_look m p told)
+    → (told ≡ (account_of m p).group) × IfSome told (λ g. g < 64) × (w ≡ with_steps 1 (after_look m p told))
 group_told p place found m w NoGroup told looked decodes is =
     let kind = found_none p place found m w NoGroup looked decodes refl in
-    (is ∙ sym kind.never_filled, subst (λ (o : Option ℕ). IfSome o (λ g. g < 64)) (sym is) tt, kind.machine_after ∙ ap (after_look m p) (sym is))
+    (is ∙ sym kind.never_filled, subst (λ (o : Option ℕ). IfSome o (λ g. g < 64)) (sym is) tt, kind.machine_after ∙ ap (λ (o : Option ℕ). with_steps 1 (after_look m p o)) (sym is))
 group_told p place found m w (HeldBy g n) told looked decodes is =
     let seen = found_group p place found g m w (HeldBy g n) looked decodes refl in
-    (is ∙ sym seen.0, subst (λ (o : Option ℕ). IfSome o (λ h. h < 64)) (sym is) seen.2, seen.1 ∙ ap (after_look m p) (sym is))
+    (is ∙ sym seen.0, subst (λ (o : Option ℕ). IfSome o (λ h. h < 64)) (sym is) seen.2, seen.1 ∙ ap (λ (o : Option ℕ). with_steps 1 (after_look m p o)) (sym is))
 group_told p place found m w (DrainedOf g) told looked decodes is =
     let seen = found_group p place found g m w (DrainedOf g) looked decodes refl in
-    (is ∙ sym seen.0, subst (λ (o : Option ℕ). IfSome o (λ h. h < 64)) (sym is) seen.2, seen.1 ∙ ap (after_look m p) (sym is))
+    (is ∙ sym seen.0, subst (λ (o : Option ℕ). IfSome o (λ h. h < 64)) (sym is) seen.2, seen.1 ∙ ap (λ (o : Option ℕ). with_steps 1 (after_look m p o)) (sym is))

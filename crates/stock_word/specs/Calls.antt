@@ -1,17 +1,25 @@
 -- What the calls answer, and what they leave.
-use Rattle.std.specs.Prelude.{◌≡◌, ◌≢◌, ℕ, ◌+◌, Option, Some, None}
+use Rattle.std.specs.Prelude.{◌≡◌, ◌≢◌, ℕ, ◌+◌, Option, Some, None, if◌then◌else◌}
 use Rattle.stock_word.specs.declared.view.Stock.TheVariants.{HeldBy}
 use Rattle.stock_word.specs.declared.view.StockView.{StockView}
 use Rattle.stock_word.specs.declared.words.Consume.{Consume}
 use Rattle.stock_word.specs.declared.words.Consume.TheVariants.{Took, Empty, OtherGroup, Drained}
 use Rattle.stock_word.specs.declared.words.Credit.{Credit}
 use Rattle.stock_word.specs.declared.words.Credit.TheVariants as credit
-use Rattle.stock_word.specs.Stock.{Seated, group_of}
-use Rattle.stock_word.specs.Kinds.{after_took, after_back, after_drained, draining}
+use Rattle.stock_word.specs.Stock.{Seated, group_of, is_held, drained_of}
+use Rattle.stock_word.specs.Kinds.{after_took, after_back, draining}
 
 -- the seat with another view
 abbrev pub with_view : Seated → StockView → Seated
 with_view seat view = record { table = seat.table; view = view }
+
+-- the seat as it is shown where its steps aren't counted
+abbrev pub uncounted : Seated → Seated
+uncounted seat = with_view seat (record seat.view { steps = 0 })
+
+-- the processor's view after it was told Drained: by a step where it saw its stock held last, and without one where it saw it drained
+abbrev pub told_drained : StockView → StockView
+told_drained v = record v { last = drained_of v.last; steps = v.steps + (if is_held v.last then 1 else 0) }
 
 -- What consume(g) answers at a processor that knows v, and knows w afterwards. It took a page of a stock of g that it saw last with a page;
 -- the stock that it saw last is of g and has no page; or isn't of g; or is of g, and is drained by now
@@ -19,14 +27,19 @@ abbrev pub Consumed : ℕ → Consume → StockView → StockView → Type 0
 Consumed g Took v w = (n : ℕ) × (v.last ≡ HeldBy g (n + 1)) × (w ≡ after_took v g n)
 Consumed g Empty v w = (v.last ≡ HeldBy g 0) × (w ≡ v)
 Consumed g OtherGroup v w = (group_of v.last ≢ Some g) × (w ≡ v)
-Consumed g Drained v w = (group_of v.last ≡ Some g) × (v.last ≢ HeldBy g 0) × (w ≡ after_drained v)
+Consumed g Drained v w = (group_of v.last ≡ Some g) × (v.last ≢ HeldBy g 0) × (w ≡ told_drained v)
 
 -- What credit answers: a page went back into the stock of g that it saw last; or that stock is drained by now
 abbrev pub Credited : Credit → StockView → StockView → Type 0
 Credited credit.Back v w = (g : ℕ) × (n : ℕ) × (v.last ≡ HeldBy g n) × (w ≡ after_back v g (n + 1))
-Credited credit.Drained v w = (g : ℕ) × (group_of v.last ≡ Some g) × (w ≡ after_drained v)
+Credited credit.Drained v w = (g : ℕ) × (group_of v.last ≡ Some g) × (w ≡ told_drained v)
 
--- the machine's view after it looked which group p's stock is of: one that is of none counts as drained of no page
+-- The steps of a drain of a stock of this group: a look, and then a swap where it was ever filled
+abbrev pub steps_of_drain : Option ℕ → ℕ
+steps_of_drain None = 1
+steps_of_drain (Some g) = 2
+
+-- what the machine's seat knows after it looked which group p's stock is of, but for that step: one that is of none counts as drained of no page
 abbrev pub after_look : StockView → ℕ → Option ℕ → StockView
 after_look m p None = draining m p 0
 after_look m p (Some g) = m

@@ -11,41 +11,46 @@ use Rattle.stock_word.specs.declared.view.StockView.{StockView}
 use Rattle.stock_word.specs.Stock.{word_of, HasWord, pages_of, group_of, is_held, drained_of, account_of, with_account, first_of, second_of}
 use Rattle.stock_word.specs.StockRule.{stock_place, report_place, StockRule}
 
--- ---- the views after each kind
+-- ---- the views after each kind. A step counts once: at the processor's seat where it made it, alone or joined with the machine's,
+-- and at the machine's where that made it alone, or looks
+
+-- the view with n steps more
+abbrev pub with_steps : ℕ → StockView → StockView
+with_steps n v = record v { steps = v.steps + n }
 
 -- a page of the stock became fresh
 abbrev pub after_took : StockView → ℕ → ℕ → StockView
-after_took v g n = record v { fresh = v.fresh + 1; last = HeldBy g n }
+after_took v g n = record v { fresh = v.fresh + 1; last = HeldBy g n; steps = v.steps + 1 }
 
 -- a fresh page went back into the stock
 abbrev pub after_back : StockView → ℕ → ℕ → StockView
-after_back v g n = record v { fresh = v.fresh - 1; last = HeldBy g n }
+after_back v g n = record v { fresh = v.fresh - 1; last = HeldBy g n; steps = v.steps + 1 }
 
 -- the processor saw that its stock was drained
 abbrev pub after_drained : StockView → StockView
-after_drained v = record v { last = drained_of v.last }
+after_drained v = record v { last = drained_of v.last; steps = v.steps + 1 }
 
 -- n fresh pages were reported: by the processor's seat, and noted by the machine's
 abbrev pub after_report : StockView → ℕ → StockView
-after_report v n = record v { fresh = v.fresh - n }
+after_report v n = record v { fresh = v.fresh - n; steps = v.steps + 1 }
 
 -- the machine's view with n more pages noted as reported by processor p
 abbrev pub noting : StockView → ℕ → ℕ → StockView
 noting m p n = let a = account_of m p in with_account m p (record a { noted = a.noted + n })
 
--- the stock was filled for g with n pages: the machine's view, and the processor's
+-- the machine's view after the stock was filled for g with n pages
 abbrev pub filling : StockView → ℕ → ℕ → ℕ → StockView
 filling m p g n = let a = account_of m p in with_account m p (record a { book = a.book + n; group = Some g; filled = true })
 
 -- the processor's view after a fill: it saw its stock last as held by g with n pages
 abbrev pub after_fill : StockView → ℕ → ℕ → StockView
-after_fill v g n = record v { last = HeldBy g n }
+after_fill v g n = record v { last = HeldBy g n; steps = v.steps + 1 }
 
--- n pages were drained
+-- n pages were drained, by however many steps
 abbrev pub draining : StockView → ℕ → ℕ → StockView
 draining m p n = let a = account_of m p in with_account m p (record a { book = a.book - n; filled = false })
 
--- the report was taken in
+-- the report was taken in, by however many steps
 abbrev pub absorbing : StockView → ℕ → StockView
 absorbing m p = let a = account_of m p in with_account m p (record a { book = a.book - a.noted; noted = 0 })
 
@@ -114,7 +119,7 @@ pub record Drains (p group place before after : ℕ) (m m' : StockView) : Type 0
   pub word_after : after ≡ word_of (DrainedOf group)
   pub enough : pages_of stock ≤ (account_of m p).book
   pub was_held : is_held stock ≡ (account_of m p).filled
-  pub machine_after : m' ≡ draining m p (pages_of stock)
+  pub machine_after : m' ≡ with_steps 1 (draining m p (pages_of stock))
 
 -- the drain of a stock that was never filled, by the machine's seat: p's stock word is 0 and stays
 pub record DrainsNone (p place before after : ℕ) (m m' : StockView) : Type 0 where
@@ -122,7 +127,7 @@ pub record DrainsNone (p place before after : ℕ) (m m' : StockView) : Type 0 w
   pub word_before : before ≡ 0
   pub word_after : after ≡ 0
   pub never_filled : (account_of m p).group ≡ None
-  pub machine_after : m' ≡ draining m p 0
+  pub machine_after : m' ≡ with_steps 1 (draining m p 0)
 
 -- a look of a drain, by the machine's seat: p's stock word is of the group of the last fill, and stays
 pub record LooksAt (p place before after : ℕ) (m m' : StockView) : Type 0 where
@@ -134,7 +139,7 @@ pub record LooksAt (p place before after : ℕ) (m m' : StockView) : Type 0 wher
   pub word_before : before ≡ word_of stock
   pub word_after : after ≡ before
   pub filled_for : (account_of m p).group ≡ Some group
-  pub machine_after : m' ≡ m
+  pub machine_after : m' ≡ with_steps 1 m
 
 -- a look of the joined seats: p's stock word says the stock that the books tell, and stays
 pub record SeesStock (place before after : ℕ) (m v m' v' : StockView) : Type 0 where
@@ -148,7 +153,7 @@ pub record SeesStock (place before after : ℕ) (m v m' v' : StockView) : Type 0
   pub of_group : group_of stock ≡ (account_of m v.number).group
   pub held : is_held stock ≡ (account_of m v.number).filled
   pub last_seen : (stock ≡ v.last) ⊎ (stock ≡ drained_of v.last)
-  pub machine_after : m' ≡ m
+  pub machine_after : m' ≡ with_steps 1 m
   pub view_after : v' ≡ v
 
 -- absorb, by the machine's seat: p's report word, which is what was noted, to 0; the book is so many less
@@ -158,7 +163,7 @@ pub record Absorbs (p place before after : ℕ) (m m' : StockView) : Type 0 wher
   pub word_after : after ≡ 0
   pub enough : (account_of m p).noted ≤ (account_of m p).book
   pub bounded : (account_of m p).book < 65536
-  pub machine_after : m' ≡ absorbing m p
+  pub machine_after : m' ≡ with_steps 1 (absorbing m p)
 
 -- ---- the views of a place, and the end
 

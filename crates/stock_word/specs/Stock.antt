@@ -84,11 +84,11 @@ with_account machine p account = record machine { accounts = with_account_at mac
 
 -- what the machine's seat knows at first
 abbrev pub first_machine : StockView
-first_machine = record { number = 0; fresh = 0; last = NoGroup; accounts = [] }
+first_machine = record { number = 0; fresh = 0; last = NoGroup; accounts = []; steps = 0 }
 
 -- what the seat of processor p knows at first
 abbrev pub first_processor : ℕ → StockView
-first_processor p = record { number = p; fresh = 0; last = NoGroup; accounts = [] }
+first_processor p = record { number = p; fresh = 0; last = NoGroup; accounts = []; steps = 0 }
 
 -- A table as contracts see it: which one it is, and how many processors it has
 pub record Words : Type 0 where

@@ -3,8 +3,8 @@
 ghost use Rattle.std.specs.Prelude.{◌≡◌, ◌+◌, ◌-◌, ◌<◌, ◌≤◌, ◌⊎◌, [], ◌∷◌, false, Some, IfSome};
 ghost use Rattle.stock_word.specs.Stock.{IsProcessor, IsMachine, account_of, account_for, stocked, first_of, second_of};
 ghost use Rattle.stock_word.specs.Stock.{HasWord, pages_of, group_of, is_held, drained_of};
-ghost use Rattle.stock_word.specs.Kinds.{IsAlone, IsPair, after_took, after_report, noting, filling, after_fill, draining, absorbing};
-ghost use Rattle.stock_word.specs.Calls.{with_view, after_look};
+ghost use Rattle.stock_word.specs.Kinds.{IsAlone, IsPair, after_took, after_report, noting, filling, after_fill, draining, absorbing, with_steps};
+ghost use Rattle.stock_word.specs.Calls.{with_view, after_look, steps_of_drain};
 
 use crate::kinds::{Place, StockWords};
 use crate::seat::StockSeat;
@@ -52,8 +52,8 @@ impl StockWords {
         self.part(&mut seat0.place, &mut seat.place);
     }
 
-    /// What the processor's stock is by its word, and so by the books: one look, which changes
-    /// nothing. The book is the pages in the stock, the fresh ones and the reported ones.
+    /// What the processor's stock is by its word, and so by the books: one look, which counts at the
+    /// machine's seat and changes nothing else. The book is the pages in the stock, the fresh ones and the reported ones.
     pub fn look(&self, seat0: &mut StockSeat, seat: &mut StockSeat) -> Stock
         requires tables { (seat0.old.table ≡ self.now.table) × (seat.old.table ≡ self.now.table) }
         requires machine { IsMachine seat0.old.view }
@@ -65,7 +65,7 @@ impl StockWords {
         ensures group { group_of result ≡ (account_for seat0.old.view seat.old.view).group }
         ensures held { is_held result ≡ (account_for seat0.old.view seat.old.view).filled }
         ensures last { (result ≡ seat.old.view.last) ⊎ (result ≡ drained_of seat.old.view.last) }
-        ensures machine { seat0.new ≡ seat0.old }
+        ensures machine { seat0.new ≡ with_view seat0.old (with_steps 1 seat0.old.view) }
         ensures processor { seat.new ≡ seat.old }
     {
         self.join(&mut seat0.place, &mut seat.place);
@@ -119,7 +119,8 @@ impl StockWords {
         requires table { seat0.old.table ≡ self.now.table }
         requires machine { IsMachine seat0.old.view }
         requires processor { (0 < p) × (p ≤ self.now.cpus) }
-        ensures machine { seat0.new ≡ with_view seat0.old (draining seat0.old.view p result) }
+        ensures machine { seat0.new ≡ with_view seat0.old
+            (with_steps (steps_of_drain (account_of seat0.old.view p).group) (draining seat0.old.view p result)) }
         ensures booked { result ≤ (account_of seat0.old.view p).book }
         ensures drained_before { (account_of seat0.old.view p).filled ≡ false → result ≡ 0 }
     {
@@ -141,7 +142,7 @@ impl StockWords {
         requires processor { (0 < p) × (p ≤ self.now.cpus) }
         ensures group { result ≡ (account_of seat0.old.view p).group }
         ensures fits { IfSome result (λ g. g < 64) }
-        ensures machine { seat0.new ≡ with_view seat0.old (after_look seat0.old.view p result) }
+        ensures machine { seat0.new ≡ with_view seat0.old (with_steps 1 (after_look seat0.old.view p result)) }
     {
         let word = self.step_look(&mut seat0.place, p);
         Stock::of_word(word).group()
@@ -156,7 +157,7 @@ impl StockWords {
         ensures reported { result ≡ (account_of seat0.old.view p).noted }
         ensures booked { result ≤ (account_of seat0.old.view p).book }
         ensures bounded { (account_of seat0.old.view p).book < 65536 }
-        ensures machine { seat0.new ≡ with_view seat0.old (absorbing seat0.old.view p) }
+        ensures machine { seat0.new ≡ with_view seat0.old (with_steps 1 (absorbing seat0.old.view p)) }
     {
         self.step_absorb(&mut seat0.place, p) as u32
     }

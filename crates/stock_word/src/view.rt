@@ -91,4 +91,7 @@ pub struct StockView {
     pub last: Stock,
     /// The machine's account of each processor, by its number. Place 0 is unused.
     pub accounts: LinkedList<Account>,
+    /// Atomic steps that the seat made. One that two joined seats make counts at the processor's,
+    /// and a look at the machine's.
+    pub steps: u64,
 }

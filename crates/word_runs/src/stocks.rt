@@ -1,6 +1,7 @@
 ghost use Rattle.std.specs.Prelude.{◌≡◌, ◌≤◌, ◌+◌, false, length};
 ghost use Rattle.stock_word.specs.Stock.{IsProcessor, IsMachine, IsSettled, account_of, first_machine, first_processor};
-ghost use Rattle.stock_word.specs.Kinds.{draining};
+ghost use Rattle.stock_word.specs.Kinds.{draining, with_steps};
+ghost use Rattle.stock_word.specs.Calls.{steps_of_drain};
 
 use crate::rows::same;
 use std::process::Abort;
@@ -135,7 +136,7 @@ fn round<R: Threads + Sync>(
         move || -> (u32, StockSeat)
             requires { (machine.table ≡ words.now.table) × IsMachine machine.view × (1 ≤ words.now.cpus) }
             ensures { (result.1.table ≡ words.entry.now.table)
-                × (result.1.view ≡ draining machine.view 1 result.0)
+                × (result.1.view ≡ with_steps (steps_of_drain (account_of machine.view 1).group) (draining machine.view 1 result.0))
                 × (result.0 ≤ (account_of machine.view 1).book) }
         {
             let mut own = machine;

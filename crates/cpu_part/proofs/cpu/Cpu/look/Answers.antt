@@ -12,3 +12,6 @@ returns-clause-held g c = search rules
 
 pub returns-clause-last : goal.returns-clause-last
 returns-clause-last g c = search rules
+
+pub returns-clause-machine : goal.returns-clause-machine
+returns-clause-machine g c = search rules

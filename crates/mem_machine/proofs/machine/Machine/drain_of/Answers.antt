@@ -1,5 +1,6 @@
 use Rattle.std.proofs.Common.{◌≡◌, ◌≤◌, ℕ, Some, rules, ap, ◌∙◌}
 use Rattle.group_charge.specs.Charges.{with_uncharge}
+use Rattle.stock_word.specs.Calls.{uncounted}
 use Rattle.mem_machine.proofs.Draining.{drained_all, drained_none, drained_within, some_not_none}
 use Rattle.mem_machine.proofs.machine.Machine.drain_of.Goals as goal
 
@@ -26,7 +27,7 @@ invariant_of-self g c =
           (λ some. c.tree-tree.ensures.legal) c.requires.processor.0 c.requires.processor.1
           c.drain-pages.ensures.booked c.drain-pages.ensures.drained_before (Some c.args.group) c.requires.group (some_not_none _ _) _ _
           (c.uncharge.ensures.uncharged ∙ ap (λ (n : ℕ). with_uncharge c.self.inside.charges n c.drain-pages.result) id)
-          c.drain-pages.ensures.machine).consistent,
+          (ap uncounted c.drain-pages.ensures.machine)).consistent,
       c.self.invariant.1,
     )
 
@@ -36,7 +37,7 @@ invariant_of-self-else-pages-gt0 g c =
       (drained_all g.N.BootName.frames g.N.BootName.stocks _ _ _ _ c.self.view_is c.self.invariant.0
           (λ some. c.tree-tree.ensures.legal) c.requires.processor.0 c.requires.processor.1
           c.drain-pages.ensures.booked c.drain-pages.ensures.drained_before (Some c.args.group) c.requires.group (some_not_none _ _) _ _
-          (drained_none c.self.inside.charges (Some c.args.group) _ none) c.drain-pages.ensures.machine).consistent,
+          (drained_none c.self.inside.charges (Some c.args.group) _ none) (ap uncounted c.drain-pages.ensures.machine)).consistent,
       c.self.invariant.1,
     )
 
@@ -46,7 +47,7 @@ returns-then-pages-gt0-clause-steps g c =
     (drained_all g.N.BootName.frames g.N.BootName.stocks _ _ _ _ c.self.view_is c.self.invariant.0
     (λ some. c.tree-tree.ensures.legal) c.requires.processor.0 c.requires.processor.1
     c.drain-pages.ensures.booked c.drain-pages.ensures.drained_before (Some c.args.group) c.requires.group (some_not_none _ _) _ _
-    (c.uncharge.ensures.uncharged ∙ ap (λ (n : ℕ). with_uncharge c.self.inside.charges n c.drain-pages.result) id) c.drain-pages.ensures.machine).steps
+    (c.uncharge.ensures.uncharged ∙ ap (λ (n : ℕ). with_uncharge c.self.inside.charges n c.drain-pages.result) id) (ap uncounted c.drain-pages.ensures.machine)).steps
 
 pub returns-else-pages-gt0-clause-drains : goal.returns-else-pages-gt0-clause-drains
 returns-else-pages-gt0-clause-drains g c =
@@ -54,7 +55,7 @@ returns-else-pages-gt0-clause-drains g c =
     (drained_all g.N.BootName.frames g.N.BootName.stocks _ _ _ _ c.self.view_is c.self.invariant.0
     (λ some. c.tree-tree.ensures.legal) c.requires.processor.0 c.requires.processor.1
     c.drain-pages.ensures.booked c.drain-pages.ensures.drained_before (Some c.args.group) c.requires.group (some_not_none _ _) _ _
-    (drained_none c.self.inside.charges (Some c.args.group) _ none) c.drain-pages.ensures.machine).drains
+    (drained_none c.self.inside.charges (Some c.args.group) _ none) (ap uncounted c.drain-pages.ensures.machine)).drains
 
 pub returns-else-pages-gt0-clause-steps : goal.returns-else-pages-gt0-clause-steps
 returns-else-pages-gt0-clause-steps g c =
@@ -62,4 +63,4 @@ returns-else-pages-gt0-clause-steps g c =
     (drained_all g.N.BootName.frames g.N.BootName.stocks _ _ _ _ c.self.view_is c.self.invariant.0
     (λ some. c.tree-tree.ensures.legal) c.requires.processor.0 c.requires.processor.1
     c.drain-pages.ensures.booked c.drain-pages.ensures.drained_before (Some c.args.group) c.requires.group (some_not_none _ _) _ _
-    (drained_none c.self.inside.charges (Some c.args.group) _ none) c.drain-pages.ensures.machine).steps
+    (drained_none c.self.inside.charges (Some c.args.group) _ none) (ap uncounted c.drain-pages.ensures.machine)).steps

@@ -1,5 +1,6 @@
 use Rattle.cpu_part.specs.Cpus.{KnownCpu}
-use Rattle.std.proofs.Common.{subst}
+use Rattle.std.proofs.Common.{subst, ap}
+use Rattle.stock_word.specs.Calls.{uncounted}
 use Rattle.mem_machine.specs.Machines.{KnownMachine}
 use Rattle.mem_machine.specs.Local.{local_of, IsLocalRun}
 use Rattle.mem_machine.specs.Steps.{drain_steps}
@@ -11,7 +12,7 @@ pub invariant_of-self : goal.invariant_of-self
 invariant_of-self g c = (
   (never_drained g.N.BootName.frames g.N.BootName.stocks _ _ c.self.view_is c.self.invariant.0 c.args.q c.requires.processor.0
       c.requires.processor.1 c.in-None.ensures.group _
-      c.in-None.ensures.machine).consistent,
+      (ap uncounted c.in-None.ensures.machine)).consistent,
   c.self.invariant.1,
 )
 
@@ -19,16 +20,16 @@ pub returns-in-None-clause-drains : goal.returns-in-None-clause-drains
 returns-in-None-clause-drains g c =
     (never_drained g.N.BootName.frames g.N.BootName.stocks _ _ c.self.view_is c.self.invariant.0 c.args.q c.requires.processor.0
     c.requires.processor.1 c.in-None.ensures.group _
-    c.in-None.ensures.machine).drains
+    (ap uncounted c.in-None.ensures.machine)).drains
 
 pub returns-in-None-clause-steps : goal.returns-in-None-clause-steps
 returns-in-None-clause-steps g c =
     (never_drained g.N.BootName.frames g.N.BootName.stocks _ _ c.self.view_is c.self.invariant.0 c.args.q c.requires.processor.0
     c.requires.processor.1 c.in-None.ensures.group _
-    c.in-None.ensures.machine).steps
+    (ap uncounted c.in-None.ensures.machine)).steps
 
 pub returns-in-Some-clause-steps : goal.returns-in-Some-clause-steps
 returns-in-Some-clause-steps g c =
     subst (λ (x : KnownMachine). (d : KnownCpu) → IsLocalRun d.number (local_of g.N.BootName.frames x d)
     (drain_steps c.args.q (stock_group x c.args.q) c.drain_of.result) (local_of g.N.BootName.frames c.drain_of.new.self d))
-    (looked_now _ _ c.self.view_is _ c.in-Some.ensures.machine) c.drain_of.ensures.steps
+    (looked_now _ _ c.self.view_is _ (ap uncounted c.in-Some.ensures.machine)) c.drain_of.ensures.steps

@@ -1,4 +1,5 @@
-use Rattle.std.proofs.Common.{◌≡◌, ◌<◌, rules}
+use Rattle.std.proofs.Common.{◌≡◌, ◌<◌, rules, ap}
+use Rattle.stock_word.specs.Calls.{uncounted}
 use Rattle.mem_machine.proofs.Fresh.{drop_all, was_fresh, drop_charged, drop_in_use}
 use Rattle.mem_machine.proofs.machine.Machine.drop_one.Goals as goal
 
@@ -31,7 +32,7 @@ invariant_of-self g c =
     fits in
     let u = c.free_unit.ensures in
     let all = (drop_all g.N.BootName.frames g.N.BootName.stocks _ _ c.self.view_is c.args.cpu.now _ c.number-number.ensures.tied c.self.invariant.0
-    c.requires.visit _ _ c.self.invariant.1 _ c.args.group was c.requires.killed e.cpu _ c.unwrap-order.result c.number.ensures k0 _ e.zone _ e.machine
+    c.requires.visit _ _ c.self.invariant.1 _ c.args.group was c.requires.killed e.cpu _ c.unwrap-order.result c.number.ensures k0 _ e.zone _ (ap uncounted e.machine)
     _ u.spots _ u.frames u.areas _ u.charges _
     (λ i. record c.self.inside.counts { drops = c.saturating_add-self-inside.ensures i; returns = c.saturating_add-self-inside-2.ensures i })) in
     (all.consistent, all.free_is)
@@ -45,7 +46,7 @@ returns-clause-drops g c =
     fits in
     let u = c.free_unit.ensures in
     (drop_all g.N.BootName.frames g.N.BootName.stocks _ _ c.self.view_is c.args.cpu.now _ c.number-number.ensures.tied c.self.invariant.0
-    c.requires.visit _ _ c.self.invariant.1 _ c.args.group was c.requires.killed e.cpu _ c.unwrap-order.result c.number.ensures k0 _ e.zone _ e.machine
+    c.requires.visit _ _ c.self.invariant.1 _ c.args.group was c.requires.killed e.cpu _ c.unwrap-order.result c.number.ensures k0 _ e.zone _ (ap uncounted e.machine)
     _ u.spots _ u.frames u.areas _ u.charges _
     (λ i. record c.self.inside.counts { drops = c.saturating_add-self-inside.ensures i; returns = c.saturating_add-self-inside-2.ensures i })).drops
 
@@ -58,7 +59,7 @@ returns-clause-visit g c =
     fits in
     let u = c.free_unit.ensures in
     (drop_all g.N.BootName.frames g.N.BootName.stocks _ _ c.self.view_is c.args.cpu.now _ c.number-number.ensures.tied c.self.invariant.0
-    c.requires.visit _ _ c.self.invariant.1 _ c.args.group was c.requires.killed e.cpu _ c.unwrap-order.result c.number.ensures k0 _ e.zone _ e.machine
+    c.requires.visit _ _ c.self.invariant.1 _ c.args.group was c.requires.killed e.cpu _ c.unwrap-order.result c.number.ensures k0 _ e.zone _ (ap uncounted e.machine)
     _ u.spots _ u.frames u.areas _ u.charges _
     (λ i. record c.self.inside.counts { drops = c.saturating_add-self-inside.ensures i; returns = c.saturating_add-self-inside-2.ensures i })).visit
 
@@ -71,6 +72,6 @@ returns-clause-steps g c =
     fits in
     let u = c.free_unit.ensures in
     (drop_all g.N.BootName.frames g.N.BootName.stocks _ _ c.self.view_is c.args.cpu.now _ c.number-number.ensures.tied c.self.invariant.0
-    c.requires.visit _ _ c.self.invariant.1 _ c.args.group was c.requires.killed e.cpu _ c.unwrap-order.result c.number.ensures k0 _ e.zone _ e.machine
+    c.requires.visit _ _ c.self.invariant.1 _ c.args.group was c.requires.killed e.cpu _ c.unwrap-order.result c.number.ensures k0 _ e.zone _ (ap uncounted e.machine)
     _ u.spots _ u.frames u.areas _ u.charges _
     (λ i. record c.self.inside.counts { drops = c.saturating_add-self-inside.ensures i; returns = c.saturating_add-self-inside-2.ensures i })).steps

@@ -1,4 +1,5 @@
-use Rattle.std.proofs.Common.{◌≡◌, ◌<◌, rules}
+use Rattle.std.proofs.Common.{◌≡◌, ◌<◌, rules, ap}
+use Rattle.stock_word.specs.Calls.{uncounted}
 use Rattle.mem_machine.proofs.Fresh.{keep_all, was_fresh, in_hand_then}
 use Rattle.mem_machine.proofs.machine.Machine.keep_one.Goals as goal
 
@@ -15,7 +16,7 @@ invariant_of-self g c =
     let a = c.add.ensures in
     let all = (keep_all g.N.BootName.frames g.N.BootName.stocks _ _ c.self.view_is c.args.cpu.now _ c.number-number.ensures.tied c.self.invariant.0
     c.requires.visit _ c.self.invariant.1 _ c.args.group was e.cpu _ c.unwrap-order.result _ c.number-unit.ensures k0 c.number-owner.ensures.value _ _
-    e.zone c.unfreeze.ensures.seat _ e.machine _ c.index.ensures _ _
+    e.zone c.unfreeze.ensures.seat _ (ap uncounted e.machine) _ c.index.ensures _ _
     (record { stands = a.stands; owner = a.owner; inactive = a.inactive; active = a.active; changes = a.others; moves = a.moves; joined = a.joined })
     c.others_stand.ensures c.one_of_all_changes.ensures) in
     (all.consistent, all.free_is)
@@ -30,7 +31,7 @@ returns-clause-keeps g c =
     let a = c.add.ensures in
     (keep_all g.N.BootName.frames g.N.BootName.stocks _ _ c.self.view_is c.args.cpu.now _ c.number-number.ensures.tied c.self.invariant.0
     c.requires.visit _ c.self.invariant.1 _ c.args.group was e.cpu _ c.unwrap-order.result _ c.number-unit.ensures k0 c.number-owner.ensures.value _ _
-    e.zone c.unfreeze.ensures.seat _ e.machine _ c.index.ensures _ _
+    e.zone c.unfreeze.ensures.seat _ (ap uncounted e.machine) _ c.index.ensures _ _
     (record { stands = a.stands; owner = a.owner; inactive = a.inactive; active = a.active; changes = a.others; moves = a.moves; joined = a.joined })
     c.others_stand.ensures c.one_of_all_changes.ensures).keeps
 
@@ -44,7 +45,7 @@ returns-clause-visit g c =
     let a = c.add.ensures in
     (keep_all g.N.BootName.frames g.N.BootName.stocks _ _ c.self.view_is c.args.cpu.now _ c.number-number.ensures.tied c.self.invariant.0
     c.requires.visit _ c.self.invariant.1 _ c.args.group was e.cpu _ c.unwrap-order.result _ c.number-unit.ensures k0 c.number-owner.ensures.value _ _
-    e.zone c.unfreeze.ensures.seat _ e.machine _ c.index.ensures _ _
+    e.zone c.unfreeze.ensures.seat _ (ap uncounted e.machine) _ c.index.ensures _ _
     (record { stands = a.stands; owner = a.owner; inactive = a.inactive; active = a.active; changes = a.others; moves = a.moves; joined = a.joined })
     c.others_stand.ensures c.one_of_all_changes.ensures).visit
 
@@ -58,6 +59,6 @@ returns-clause-steps g c =
     let a = c.add.ensures in
     (keep_all g.N.BootName.frames g.N.BootName.stocks _ _ c.self.view_is c.args.cpu.now _ c.number-number.ensures.tied c.self.invariant.0
     c.requires.visit _ c.self.invariant.1 _ c.args.group was e.cpu _ c.unwrap-order.result _ c.number-unit.ensures k0 c.number-owner.ensures.value _ _
-    e.zone c.unfreeze.ensures.seat _ e.machine _ c.index.ensures _ _
+    e.zone c.unfreeze.ensures.seat _ (ap uncounted e.machine) _ c.index.ensures _ _
     (record { stands = a.stands; owner = a.owner; inactive = a.inactive; active = a.active; changes = a.others; moves = a.moves; joined = a.joined })
     c.others_stand.ensures c.one_of_all_changes.ensures).steps

@@ -7,3 +7,6 @@ invariant_of-seat c =
     let kind = c.step_consume_held-found.ensures.kind in
     let stock = c.of_word-seat-inside.ensures (HeldBy kind.consumes.group kind.consumes.pages) kind.has_word kind.consumes.word_after in
     rw stock (search rules)
+
+pub returns-clause-machine : goal.returns-clause-machine
+returns-clause-machine c = search rules

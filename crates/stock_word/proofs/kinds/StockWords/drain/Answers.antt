@@ -1,8 +1,8 @@
 use Rattle.std.proofs.Common.{sym, ap, ◌∙◌}
 use Rattle.stock_word.specs.declared.view.StockView.{StockView}
 use Rattle.stock_word.specs.Stock.{Seated, pages_of, account_of}
-use Rattle.stock_word.specs.Kinds.{draining}
-use Rattle.stock_word.proofs.Told.{either_group, found_group, seat_after, drained_booked, drained_before}
+use Rattle.stock_word.specs.Kinds.{draining, with_steps}
+use Rattle.stock_word.proofs.Told.{either_group, found_group, seat_after, drained_booked, drained_before, looked_and_drained}
 use Rattle.stock_word.proofs.kinds.StockWords.drain.Goals as goal
 
 pub step_drain-found-requires-clause-group : goal.step_drain-found-requires-clause-group
@@ -22,7 +22,10 @@ returns-in-HeldBy-clause-machine c =
     let view = ap (λ (s : Seated). s.view) c.seat0.view_is in
     let pages = c.pages.ensures ∙ ap pages_of (c.of_word-in-HeldBy.ensures kind.stock kind.has_word kind.word_before) in
     let table = c.step_drain-found.ensures.table ∙ c.step_look-seen.ensures.table ∙ ap (λ (s : Seated). s.table) c.seat0.view_is in
-    seat_after c.step_drain-found.new.place c.args.seat0.now _ table (kind.machine_after ∙ (λ i. draining ((seen.1 ∙ view) i) c.args.p (sym pages i)))
+    let group = ap (λ (v : StockView). (account_of v c.args.p).group) (sym view) ∙ seen.0 in
+    seat_after c.step_drain-found.new.place c.args.seat0.now _ table
+    (kind.machine_after ∙ (λ i. with_steps 1 (draining ((seen.1 ∙ ap (with_steps 1) view) i) c.args.p (sym pages i)))
+    ∙ looked_and_drained c.args.seat0.now.view c.args.p _ c.pages.result group)
 
 pub returns-in-HeldBy-clause-booked : goal.returns-in-HeldBy-clause-booked
 returns-in-HeldBy-clause-booked c =
@@ -30,7 +33,7 @@ returns-in-HeldBy-clause-booked c =
     let kind = c.step_drain-found.ensures.kind in
     let view = ap (λ (s : Seated). s.view) c.seat0.view_is in
     let pages = c.pages.ensures ∙ ap pages_of (c.of_word-in-HeldBy.ensures kind.stock kind.has_word kind.word_before) in
-    drained_booked _ _ _ _ _ _ _ _ _ (seen.1 ∙ view) kind pages
+    drained_booked _ _ _ _ _ _ _ _ _ (seen.1 ∙ ap (with_steps 1) view) kind pages
 
 pub returns-in-HeldBy-clause-drained_before : goal.returns-in-HeldBy-clause-drained_before
 returns-in-HeldBy-clause-drained_before c =
@@ -38,4 +41,4 @@ returns-in-HeldBy-clause-drained_before c =
     let kind = c.step_drain-found.ensures.kind in
     let view = ap (λ (s : Seated). s.view) c.seat0.view_is in
     let pages = c.pages.ensures ∙ ap pages_of (c.of_word-in-HeldBy.ensures kind.stock kind.has_word kind.word_before) in
-    drained_before _ _ _ _ _ _ _ _ _ (seen.1 ∙ view) kind pages
+    drained_before _ _ _ _ _ _ _ _ _ (seen.1 ∙ ap (with_steps 1) view) kind pages

@@ -1,5 +1,6 @@
 use Rattle.std.proofs.Common.{ap, ◌∙◌}
 use Rattle.stock_word.specs.Stock.{Seated, account_of}
+use Rattle.stock_word.specs.Kinds.{with_steps}
 use Rattle.stock_word.specs.Calls.{after_look}
 use Rattle.stock_word.proofs.Told.{group_told, seat_after}
 use Rattle.stock_word.proofs.kinds.StockWords.group.Goals as goal
@@ -17,4 +18,4 @@ returns-clause-machine c =
     let told = group_told _ _ _ _ _ _ _ (c.step_look-word.ensures.none, c.step_look-word.ensures.some) c.of_word.ensures c.group.ensures in
     let table = c.step_look-word.ensures.table ∙ ap (λ (s : Seated). s.table) c.seat0.view_is in
     seat_after c.step_look-word.new.place c.args.seat0.now _ table
-    (told.2 ∙ ap (λ (s : Seated). after_look s.view c.args.p c.group.result) c.seat0.view_is)
+    (told.2 ∙ ap (λ (s : Seated). with_steps 1 (after_look s.view c.args.p c.group.result)) c.seat0.view_is)
