@@ -1,9 +1,9 @@
 -- Every legal run keeps the promise. Serves `the_promise_is_kept`.
 use Rattle.std.proofs.Common.{◌≡◌, ℕ, ◌+◌, ◌<◌, ◌≤◌, true, false, Option, Some, None, List, take, length, is_some, refl, sym, ◌∙◌, ap, subst, arith}
 use Rattle.std.proofs.Common.{inl, inr, if◌then◌else◌, cond, zero, suc}
-use Rattle.std.specs.Prelude.{IfSome, Bool, nat_le}
+use Rattle.std.specs.Prelude.{IfSome, Bool, nat_le, not}
 use Rattle.std.specs.List.{slice_get}
-use Rattle.std.proofs.lemmas.Bool.{cases_eq, leb-true}
+use Rattle.std.proofs.lemmas.Bool.{cases_eq, leb-true, false≢true}
 use Rattle.std.proofs.lemmas.Nat.{pow_pos}
 use Rattle.std.proofs.lemmas.List.FromFn.{get_or-map-range_with_len, length-map-range_with_len}
 use Rattle.zone_blocks.specs.Areas.{IsFree}
@@ -26,7 +26,7 @@ use Rattle.step_rules.specs.State.{Zone, State, one_if, sum_to, front_of, is_cpu
 use Rattle.step_rules.specs.Usage.{is_below, fits_limit, usage_of, frames_kept, stock_below, pages_prepaid}
 use Rattle.step_rules.specs.Legal.{is_legal, Allows}
 use Rattle.step_rules.specs.After.{Run, state_of, IsLegalRun}
-use Rattle.step_rules.specs.Folds.{limit_given, InHand}
+use Rattle.step_rules.specs.Folds.{limit_given, was_killed, InHand}
 use Rattle.step_rules.specs.Units.{units_of}
 use Rattle.step_rules.specs.Places.{is_same_place, place_in}
 use Rattle.step_rules.specs.Returns.{is_open, is_drop_phase, times_in, IsAllPlaced, ReturnsOnce}
@@ -215,13 +215,26 @@ if_each P Q (Some x) each h = each x h
 
 limits_kept : (zone : Zone) (run : Run) → IsLegalRun zone run → (seat : ℕ) (action : Action) (answer : Answer) →
     Allows (state_of zone run) seat action answer → KeepsLimits run action answer
-limits_kept zone run legal seat (Grant g n) Granted ok = λ m below.
-    let s = state_of zone run in
-    let on_path : in_subtree s.groups m g ≡ true = ap (λ (gs : List Group). in_subtree gs m g) (groups_in_run zone run legal) ∙ below in
-    let limit : limit_given run m ≡ limit_of s.groups m = sym ((groups_are_told zone run legal m).limit (in_subtree-above s.groups m g on_path)) in
-    let usage = charged_is_usage zone run legal m in
-    let room : fits_limit (limit_of s.groups m) (usage_of s m + n) ≡ true = ok.answered m on_path in
-    (λ i. fits_limit (limit i) (usage i + n)) ∙ room
+limits_kept zone run legal seat (Grant g n) Granted ok = (
+  alive,
+  λ m below.
+      let s = state_of zone run in
+      let on_path : in_subtree s.groups m g ≡ true = ap (λ (gs : List Group). in_subtree gs m g) (groups_in_run zone run legal) ∙ below in
+      let limit : limit_given run m ≡ limit_of s.groups m = sym ((groups_are_told zone run legal m).limit (in_subtree-above s.groups m g on_path)) in
+      let usage = charged_is_usage zone run legal m in
+      let room : fits_limit (limit_of s.groups m) (usage_of s m + n) ≡ true = ok.answered m on_path in
+      (λ i. fits_limit (limit i) (usage i + n)) ∙ room,
+)
+  where
+    alive : was_killed run g ≡ false
+    alive =
+        let legal_here = ok.legal in
+        let not_killed : not ((state_of zone run).killed g) ≡ true = grind arith in
+        sym (groups_are_told zone run legal g).killed ∙ not_true ((state_of zone run).killed g) not_killed
+      where
+        not_true : (b : Bool) → not b ≡ true → b ≡ false
+        not_true true e = absurd (false≢true e)
+        not_true false e = refl
 limits_kept zone run legal seat action answer ok = tt
 
 returns_kept : (zone : Zone) (run : Run) → IsLegalRun zone run → (seat : ℕ) (action : Action) (answer : Answer) →

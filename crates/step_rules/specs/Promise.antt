@@ -20,7 +20,7 @@ use Rattle.step_rules.specs.Phases.{keeper_of}
 use Rattle.step_rules.specs.State.{Zone, Stock, State, one_if, sum_to, front_of, is_cpu, is_unheld, free_in}
 use Rattle.step_rules.specs.Usage.{is_below, fits_limit, usage_of}
 use Rattle.step_rules.specs.After.{Run, state_of, IsLegalRun}
-use Rattle.step_rules.specs.Folds.{limit_given}
+use Rattle.step_rules.specs.Folds.{limit_given, was_killed}
 use Rattle.step_rules.specs.Units.{units_of}
 use Rattle.step_rules.specs.Counts.{references_in, references_out, counted_over}
 use Rattle.step_rules.specs.Returns.{is_gone, is_drop, times_in}
@@ -81,10 +81,11 @@ abbrev pub prepaid_below : Shown → ℕ → ℕ → ℕ
 prepaid_below shown cpus g = sum_to cpus (λ p. if is_below shown.groups g (shown.stocks (p + 1)).group then (shown.stocks (p + 1)).pages else 0)
 
 -- ---- no grant passed a limit
--- with the pages of a grant, the pages charged to the group and to each of its ancestors are at most the limit that it was
--- given last
+-- pages are granted to a group that isn't killed; and with them the pages charged to the group and to each of its ancestors are
+-- at most the limit that it was given last
 abbrev pub KeepsLimits : Run → Action → Answer → Type 0
-KeepsLimits run (Grant g n) Granted = (m : ℕ) → in_subtree (groups_of run) m g ≡ true → fits_limit (limit_given run m) (charged_below run m + n) ≡ true
+KeepsLimits run (Grant g n) Granted = (was_killed run g ≡ false)
+    × ((m : ℕ) → in_subtree (groups_of run) m g ≡ true → fits_limit (limit_given run m) (charged_below run m + n) ≡ true)
 KeepsLimits run action answer = Unit {0}
 
 -- ---- each frame came back once
