@@ -23,7 +23,8 @@ use Rattle.step_rules.specs.declared.step.Answer.{Answer}
 use Rattle.step_rules.specs.declared.step.Answer.TheVariants.{Done, Held, Last, Took, Back, Granted, Placed}
 use Rattle.step_rules.specs.Phases.{Fresh, is_free, is_live, has_as, unit_of, keeper_of, may_return}
 use Rattle.step_rules.specs.State.{Zone, State, one_if, sum_to, front_of, is_cpu, free_in, live_references}
-use Rattle.step_rules.specs.Usage.{is_below, fits_limit, usage_of, frames_kept, stock_below, pages_prepaid}
+use Rattle.group_tree.specs.Room.{fits_limit}
+use Rattle.step_rules.specs.Usage.{is_below, usage_of, frames_kept, stock_below, pages_prepaid}
 use Rattle.step_rules.specs.Legal.{is_legal, Allows}
 use Rattle.step_rules.specs.After.{Run, state_of, IsLegalRun}
 use Rattle.step_rules.specs.Folds.{limit_given, was_killed, InHand}

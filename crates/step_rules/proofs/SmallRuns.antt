@@ -5,7 +5,7 @@ use Rattle.std.proofs.lemmas.Bool.{cases_eq, ne_eqb, true≢false}
 use Rattle.zone_blocks.specs.Areas.{IsFreeBlock}
 use Rattle.group_tree.specs.Groups.{has_group, group_at, limit_of, initial_groups}
 use Rattle.step_rules.specs.State.{State, at_boot, sum_to, all_to}
-use Rattle.step_rules.specs.Usage.{PathHasRoom, has_room}
+use Rattle.group_tree.specs.Room.{PathHasRoom, has_room}
 use Rattle.step_rules.specs.Legal.{Allows}
 use Rattle.step_rules.specs.After.{Run, IsLegalRun}
 use Rattle.step_rules.specs.Examples.{small_zone, life_of_a_frame, credited_twice, returned_twice, unlocked_too_soon, returned_when_killed, at_the_borders}
@@ -22,11 +22,11 @@ legal_each s (e ∷ run) each zero = each.0
 legal_each s (e ∷ run) each (suc k) = legal_each (next s e) run each.1 k
 
 -- the root has no limit
-root_has_room : (usage : ℕ → ℕ) (n : ℕ) → PathHasRoom initial_groups usage n 0
+root_has_room : (usage : ℕ → ℕ) (n : ℕ) → PathHasRoom initial_groups usage 0 n
 unfolding limit_of group_at
 root_has_room usage n m below =
     elim (cases_eq 0 m) [
-      | inl e ↦ subst (λ (k : ℕ). has_room initial_groups usage n k ≡ true) e refl
+      | inl e ↦ subst (λ (k : ℕ). has_room initial_groups usage k n ≡ true) e refl
       | inr ne ↦ rw (ne_eqb 0 m ne) refl
     ]
 
