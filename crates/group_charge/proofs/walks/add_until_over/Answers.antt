@@ -4,7 +4,7 @@ use Rattle.group_tree.specs.Room.{fits_limit, has_room}
 use Rattle.group_tree.proofs.Walks.{walked_lowest}
 use Rattle.group_charge.specs.Kept.{usage_by}
 use Rattle.group_charge.proofs.WalkLemmas.{Walking, walking_all, walking_on, walking_start, walking_tested, walking_turn}
-use Rattle.group_charge.proofs.walks.add.Goals as goal
+use Rattle.group_charge.proofs.walks.add_until_over.Goals as goal
 
 pub loop-m-init : goal.loop-m-init
 loop-m-init c =

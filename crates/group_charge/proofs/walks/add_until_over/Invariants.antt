@@ -2,7 +2,7 @@ use Rattle.std.proofs.Common.{ℕ, ◌+◌}
 use Rattle.group_tree.specs.Room.{has_room}
 use Rattle.group_charge.specs.Kept.{usage_by}
 use Rattle.group_charge.proofs.WalkLemmas.{Walking}
-use Rattle.group_charge.proofs.walks.add.Given as goal
+use Rattle.group_charge.proofs.walks.add_until_over.Given as goal
 
 abbrev pub invariant-loop-m : goal.invariant-loop-m
 invariant-loop-m l =
