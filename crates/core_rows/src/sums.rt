@@ -4,7 +4,8 @@
 ghost use Rattle.std.specs.Prelude.{◌≡◌, ◌+◌, ◌*◌, ◌^◌, ◌<◌, ◌≤◌, length, IfNone, IfSome, IsTrue, true, if◌then◌else◌};
 ghost use Rattle.group_tree.specs.Groups.{has_group, in_subtree};
 ghost use Rattle.step_rules.specs.State.{live_references, pins_of};
-ghost use Rattle.step_rules.specs.Usage.{is_below, frames_kept, stock_below, pages_prepaid, pages_pending, usage_of, has_room, PathHasRoom, IsLowestOver};
+ghost use Rattle.step_rules.specs.Usage.{is_below, frames_kept, stock_below, pages_prepaid, pages_pending, usage_of};
+ghost use Rattle.group_tree.specs.Room.{has_room, PathHasRoom, IsLowestOver};
 ghost use Rattle.step_rules.specs.Legal.{is_of_group, rests, nothing_passes, no_frame_passes, is_settled};
 ghost use Rattle.core_rows.specs.Shown.{state_in};
 ghost use Rattle.core_rows.specs.Rooms.{FitsZone, IsFew};
@@ -213,7 +214,7 @@ impl Rows {
         requires fits { FitsZone self.now }
         requires few { IsFew (state_in self.now) }
         requires there { IsTrue (has_group self.now.tree group) }
-        ensures { result ≡ has_room self.now.tree (usage_of (state_in self.now)) pages group }
+        ensures { result ≡ has_room self.now.tree (usage_of (state_in self.now)) group pages }
     {
         match self.tree.limit(group) {
             None => true,
@@ -226,8 +227,8 @@ impl Rows {
         requires fits { FitsZone self.now }
         requires few { IsFew (state_in self.now) }
         requires there { IsTrue (has_group self.now.tree group) }
-        ensures none { IfNone result (PathHasRoom self.now.tree (usage_of (state_in self.now)) pages group) }
-        ensures some { IfSome result (IsLowestOver self.now.tree (usage_of (state_in self.now)) pages group) }
+        ensures none { IfNone result (PathHasRoom self.now.tree (usage_of (state_in self.now)) group pages) }
+        ensures some { IfSome result (IsLowestOver self.now.tree (usage_of (state_in self.now)) group pages) }
     {
         // They are the groups of a tree.
         let _ = self.tree.groups();

@@ -1,10 +1,11 @@
 //! Of the reading core, on which the program doesn't run.
-//! The 29 actions of the rules over the rows of the core: what each is answered, and what it changes.
+//! The 29 actions of the rules over the rows of the core: which may be made, what each is answered, and what it changes.
 #![tactic(auto)]
 
 pub mod blocks;
 pub mod groups;
 pub mod hand_over;
+pub mod legal;
 pub mod references;
 pub mod serve;
 pub mod stocks;

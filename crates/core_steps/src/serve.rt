@@ -13,10 +13,10 @@ ghost use Rattle.core_rows.specs.Rooms.{FitsZone, IsFew, Makes, PlacesFront, pag
 use crate::blocks::{place_block, return_unit};
 use crate::groups::{grant, kill, make, note_max, note_oom, remove, set_max, ungrant};
 use crate::hand_over::{collect, pass_back, pass_out, take_in};
+use crate::legal::is_legal;
 use crate::references::{freeze, get, publish, put, unfreeze};
 use crate::stocks::{absorb, consume, credit, drain_stock, fill, report};
 use crate::zone::{lock, open_visit, shut_visit, unlock};
-use core_legal::legal::is_legal;
 use core_rows::rows::Rows;
 use step_rules::step::{Action, Answer, Step};
 use zone_blocks::areas::FreeAreas;

@@ -196,7 +196,7 @@ impl Charges {
         ensures unchanged { OnErr result (self.new ≡ self.old) }
         ensures groups { self.new.groups ≡ self.old.groups }
     {
-        if let Some(group) = walks::add(&self.tree, &mut self.usages, g, n) {
+        if let Some(group) = walks::add_until_over(&self.tree, &mut self.usages, g, n) {
             walks::take_off(&self.tree, &mut self.usages, g, Some(group), n);
             return Err(Over { group });
         }

@@ -23,9 +23,9 @@ fn fits_limit(limit: Option<u32>, pages: u32) -> bool
     }
 }
 
-/// Adds n pages to the usage of the group and of each group above it. The first that has no room for
-/// them ends the walk and is told; nothing is added to it.
-pub fn add(tree: &Tree, usages: &mut [u32], g: GroupId, n: u32) -> Option<GroupId>
+/// Adds n pages to the usage of the group and of each group above it, until one would be over its limit: that one
+/// is the answer, and nothing is added to it.
+pub fn add_until_over(tree: &Tree, usages: &mut [u32], g: GroupId, n: u32) -> Option<GroupId>
     requires legal { AreGroups tree.now }
     requires there { IsTrue (has_group tree.now g) }
     requires size { length usages.old ≡ MAX_GROUPS }

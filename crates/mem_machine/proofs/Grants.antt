@@ -22,8 +22,7 @@ use Rattle.step_rules.specs.declared.phase.Stage.TheVariants.{FreshAt, Live, Bac
 use Rattle.step_rules.specs.declared.phase.Phase.TheVariants as phase
 use Rattle.step_rules.specs.Phases as phases
 use Rattle.step_rules.specs.State.{State, with_at, free_in}
-use Rattle.step_rules.specs.Usage as steps
-use Rattle.step_rules.specs.Usage.{usage_of, fits_limit}
+use Rattle.step_rules.specs.Usage.{usage_of}
 use Rattle.step_rules.specs.After.{after}
 use Rattle.step_rules.specs.Legal.{is_legal}
 use Rattle.step_rules.specs.Laws.{IsLocalStep}
@@ -39,11 +38,6 @@ use Rattle.mem_machine.proofs.Reaching.{zone_step}
 use Rattle.mem_machine.proofs.Holds.{zone_may_act}
 use Rattle.mem_machine.proofs.Records.{length_free, free_at}
 
--- the two spellings of a limit that has room are one
-fits_same : (limit : Option ℕ) (pages : ℕ) → room.fits_limit limit pages ≡ fits_limit limit pages
-fits_same None pages = refl
-fits_same (Some n) pages = refl
-
 module _ (t : KnownTable) (m : KnownMachine) (c : KnownCpu) (g n : ℕ) (there : has_group m.ledger.groups g ≡ true) (alive : is_killed m.killed g ≡ false)
     (usage : (h : ℕ) → usage_of (local_of t m c) h ≡ current_of m.ledger h) where
   abbrev s : State
@@ -53,10 +47,8 @@ module _ (t : KnownTable) (m : KnownMachine) (c : KnownCpu) (g n : ℕ) (there :
   may_grant = and_from _ _ (and_from _ _ (zone_may_act m.seat c.number) there) (ap not alive)
 
   -- the group has the same room by the rules as by the charges
-  room_same : (h : ℕ) → steps.has_room m.ledger.groups (usage_of s) n h ≡ room.has_room m.ledger.groups (current_of m.ledger) h n
-  room_same h =
-      ap (λ (k : ℕ). fits_limit (limit_of m.ledger.groups h) (k + n)) (usage h)
-      ∙ sym (fits_same (limit_of m.ledger.groups h) (current_of m.ledger h + n))
+  room_same : (h : ℕ) → room.has_room m.ledger.groups (usage_of s) h n ≡ room.has_room m.ledger.groups (current_of m.ledger) h n
+  room_same h = ap (λ (k : ℕ). room.fits_limit (limit_of m.ledger.groups h) (k + n)) (usage h)
 
   -- where the charges have room, the grant is answered so
   pub is_granted : room.PathHasRoom m.ledger.groups (current_of m.ledger) g n → IsLocalStep s c.number 0 (Grant g n) Granted

@@ -9,7 +9,8 @@ use Rattle.step_rules.specs.declared.step.Action.TheVariants.{Lock, Fill, DrainS
 use Rattle.step_rules.specs.declared.step.Answer.{Answer}
 use Rattle.step_rules.specs.declared.step.Answer.TheVariants.{Illegal, Done, Pages, Granted, Placed}
 use Rattle.step_rules.specs.State.{State, with_at, sum_to}
-use Rattle.step_rules.specs.Usage.{pages_pending, usage_of, fits_limit}
+use Rattle.group_tree.specs.Room.{fits_limit}
+use Rattle.step_rules.specs.Usage.{pages_pending, usage_of}
 use Rattle.step_rules.specs.Legal.{is_legal, Allows, is_of_group}
 use Rattle.step_rules.specs.After.{after, state_of, with_more}
 use Rattle.step_rules.specs.Grants.{NoGrantPassesALimit, pending_in, pending_out, PendingIsCounted}

@@ -1,6 +1,7 @@
--- Who a frame is lent to is one of the processors. Serves `frames_are_lent_to_processors`, `beginnings_are_legal`.
+-- Who a frame is lent to is one of the processors. Serves `frames_are_lent_to_processors`, `frames_pass_in_visits`,
+-- `beginnings_are_legal`.
 use Rattle.std.proofs.Common.{◌≡◌, ℕ, ◌^◌, ◌==◌, Bool, true, false, Some, None, refl, sym, ◌∙◌, ap, subst, arith, inl, inr, cond}
-use Rattle.std.proofs.lemmas.Bool.{or_right}
+use Rattle.std.proofs.lemmas.Bool.{or_right, or_cases}
 use Rattle.zone_blocks.specs.declared.block.Block.{Block}
 use Rattle.step_rules.specs.declared.phase.Stage.{Stage}
 use Rattle.step_rules.specs.declared.phase.Stage.TheVariants.{Bare, Live, Ended}
@@ -11,18 +12,18 @@ use Rattle.step_rules.specs.declared.step.Action.{Action}
 use Rattle.step_rules.specs.declared.step.Action.TheVariants.{Lock, Put, Freeze, Unfreeze, PassOut, TakeIn, PassBack, Collect, Consume, Credit, PlaceBlock, Return}
 use Rattle.step_rules.specs.declared.step.Answer.{Answer}
 use Rattle.step_rules.specs.declared.step.Answer.TheVariants.{Illegal, Done, Last, Took, Back, Placed}
-use Rattle.step_rules.specs.Phases.{at_stage, stage_after_last, passed_back, collected, unit_of}
+use Rattle.step_rules.specs.Phases.{at_stage, stage_after_last, passed_back, collected, unit_of, passes_out, passes_back}
 use Rattle.step_rules.specs.State.{Zone, State, at_boot, with_at, is_cpu, is_held_by, visits}
 use Rattle.step_rules.specs.Legal.{Allows, IsMade}
-use Rattle.step_rules.specs.After.{after, placed_phase, with_block, unit_size, without_unit}
-use Rattle.step_rules.specs.Lent.{lent_to, FramesAreLentToProcessors, BeginningsAreLegal}
+use Rattle.step_rules.specs.After.{after, state_of, placed_phase, with_block, unit_size, without_unit}
+use Rattle.step_rules.specs.Lent.{lent_to, FramesAreLentToProcessors, FramesPassInVisits, BeginningsAreLegal}
 use Rattle.step_rules.proofs.Basics.{at_each}
 use Rattle.step_rules.proofs.Sound.{IsSound}
 use Rattle.step_rules.proofs.PhaseLemmas.{none_some}
 use Rattle.step_rules.proofs.Placing.{within_cases, in_block, off_block, in_unit, off_unit}
 use Rattle.step_rules.proofs.Homes.{IsHomed}
 use Rattle.step_rules.proofs.Keeping.{homes_allowed, homes_boot}
-use Rattle.step_rules.proofs.Runs.{after_illegal, allowed, kept_along, sound_boot, legal_from}
+use Rattle.step_rules.proofs.Runs.{after_illegal, allowed, kept_along, sound_boot, sound_run, legal_from}
 use Rattle.step_rules.proofs.LocalLaws.{no_illegal}
 use Rattle.step_rules.proofs.Placed.{zone_kept}
 use Rattle.step_rules.proofs.Freeing.{zone_of_run}
@@ -127,6 +128,14 @@ frames_are_lent zone run legal f p e =
     let kept = kept_along (λ (x : ℕ) (d : Step × Answer). x) (λ s x. IsLentWell s)
     (λ s x d sound both ok. lent_allowed s d.0.seat d.0.action d.1 sound both ok) (at_boot zone) 0 run (sound_boot zone) start legal in
     sym (ap (λ (z : Zone). is_cpu z p) (zone_of_run zone run)) ∙ kept.1.1 f p e
+
+pub frames_pass : FramesPassInVisits
+frames_pass zone run legal f p e =
+    let fits = (sound_run zone run legal).frames f in
+    elim (or_cases (passes_out p ((state_of zone run).phases f)) (passes_back p ((state_of zone run).phases f)) e) [
+      | inl out ↦ fits.out p out
+      | inr back ↦ fits.returning p back
+    ]
 
 pub beginnings_are_legal : BeginningsAreLegal
 beginnings_are_legal zone run legal k = legal_from zone run k legal

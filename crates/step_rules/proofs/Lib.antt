@@ -34,6 +34,8 @@ pub mod Freeing
 pub mod CallerLemmas
 pub mod Stocked
 pub mod Adding
+pub mod Heads
+pub mod Charging
 pub mod Promising
 pub mod Booking
 pub mod Living

@@ -77,14 +77,14 @@ module _ (groups : List Group) (m : ℕ) where
   abbrev pub pends_one : ℕ → ℕ → ℕ
   pends_one h n = if in_subtree groups m h then n else 0
 
-pends_split : (groups : List Group) (m h a b : ℕ) → pends_one groups m h (a + b) ≡ pends_one groups m h a + pends_one groups m h b
+pub pends_split : (groups : List Group) (m h a b : ℕ) → pends_one groups m h (a + b) ≡ pends_one groups m h a + pends_one groups m h b
 pends_split groups m h a b = split (in_subtree groups m h)
   where
     split : (c : Bool) → cond c (a + b) 0 ≡ cond c a 0 + cond c b 0
     split true = refl
     split false = refl
 
-pends_less : (groups : List Group) (m h a n : ℕ) → n ≤ a → pends_one groups m h a ≡ pends_one groups m h (a - n) + pends_one groups m h n
+pub pends_less : (groups : List Group) (m h a n : ℕ) → n ≤ a → pends_one groups m h a ≡ pends_one groups m h (a - n) + pends_one groups m h n
 pends_less groups m h a n some = split (in_subtree groups m h)
   where
     split : (c : Bool) → cond c a 0 ≡ cond c (a - n) 0 + cond c n 0
@@ -295,7 +295,7 @@ pub moves_illegal : (s : State) (seat : ℕ) (action : Action) → UsageMoves s 
 moves_illegal s seat Lock = λ m. same_least (usage_of s m)
 moves_illegal s seat action = λ m. same_least (usage_of s m)
 
-stock_as : (groups : List Group) (m : ℕ) (part : Part) (o : Option ℕ) → part.stock.group ≡ o →
+pub stock_as : (groups : List Group) (m : ℕ) (part : Part) (o : Option ℕ) → part.stock.group ≡ o →
     stock_below groups m part ≡ cond (is_below groups m o) part.stock.pages 0
 stock_as groups m part o e = ap (λ x. cond (is_below groups m x) part.stock.pages 0) e
 

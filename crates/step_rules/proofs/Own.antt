@@ -24,7 +24,8 @@ use Rattle.step_rules.specs.Phases.{Kind, Listed, Fresh, has_as, passes_out, pas
 use Rattle.step_rules.specs.Phases.{may_return, passed_back, collected, at_stage, stage_after_last}
 use Rattle.step_rules.specs.Phases as kinds
 use Rattle.step_rules.specs.State.{Zone, Part, State, with_at, sum_to, is_cpu, is_frame, visits, may_zone_act, front_of, pins_of, with_last}
-use Rattle.step_rules.specs.Usage.{usage_of, PathHasRoom, IsLowestOver}
+use Rattle.group_tree.specs.Room.{PathHasRoom, IsLowestOver}
+use Rattle.step_rules.specs.Usage.{usage_of}
 use Rattle.step_rules.specs.Legal.{is_legal, IsAnswer, IsCounted, nothing_passes, rests, may_pass_back, may_fill}
 use Rattle.step_rules.specs.After.{after, after_last, with_phase, with_part, with_more, without_frame, paid, credited, filled, drained, with_back, consumed}
 use Rattle.step_rules.specs.Cover.{hide, hide_phase, hide_part, hide_parts, hide_references, holds_lock}
@@ -201,8 +202,8 @@ own_answer s p seat (Credit f) Drained sound own legal ok =
     let cpu : is_cpu s.zone seat ≡ true = grind arith in
     subst (λ (part : Part). part.stock.is_drained ≡ true) (own_part p s.parts seat (cpu_own s.zone p seat own cpu)) ok
 own_answer s p seat (Absorb q) (Pages n) sound own legal ok = ok ∙ part_seen (λ part. part.reported) (λ part. refl) p s.parts q
-own_answer s p seat (Grant g n) Granted sound own legal ok = subst (λ (usage : ℕ → ℕ). PathHasRoom s.groups usage n g) (usages_seen s p sound) ok
-own_answer s p seat (Grant g n) (Over m) sound own legal ok = subst (λ (usage : ℕ → ℕ). IsLowestOver s.groups usage n g m) (usages_seen s p sound) ok
+own_answer s p seat (Grant g n) Granted sound own legal ok = subst (λ (usage : ℕ → ℕ). PathHasRoom s.groups usage g n) (usages_seen s p sound) ok
+own_answer s p seat (Grant g n) (Over m) sound own legal ok = subst (λ (usage : ℕ → ℕ). IsLowestOver s.groups usage g n m) (usages_seen s p sound) ok
 own_answer s p seat (PlaceBlock g k) (Placed b) sound own legal ok =
     (ok.0, subst (λ (free : List Bool). IsFreeBlock free b) (frees_seen p s.zone s.phases) ok.1)
 own_answer s p seat (PlaceBlock g k) NoFreeBlock sound own legal ok =

@@ -1,41 +1,121 @@
 -- Every legal run keeps the promise. Serves `the_promise_is_kept`.
-use Rattle.std.proofs.Common.{◌≡◌, ℕ, ◌+◌, ◌<◌, true, false, Option, Some, None, List, take, refl, sym, ◌∙◌, ap, arith}
-use Rattle.std.proofs.Common.{inl, inr, if◌then◌else◌}
-use Rattle.std.specs.Prelude.{IfSome}
+use Rattle.std.proofs.Common.{◌≡◌, ℕ, ◌+◌, ◌<◌, ◌≤◌, true, false, Option, Some, None, List, take, length, is_some, refl, sym, ◌∙◌, ap, subst, arith}
+use Rattle.std.proofs.Common.{inl, inr, if◌then◌else◌, cond, zero, suc}
+use Rattle.std.specs.Prelude.{IfSome, Bool, nat_le, not}
 use Rattle.std.specs.List.{slice_get}
+use Rattle.std.proofs.lemmas.Bool.{cases_eq, leb-true, false≢true}
+use Rattle.std.proofs.lemmas.Nat.{pow_pos}
 use Rattle.std.proofs.lemmas.List.FromFn.{get_or-map-range_with_len, length-map-range_with_len}
 use Rattle.zone_blocks.specs.Areas.{IsFree}
 use Rattle.zone_blocks.proofs.Unique.{in_one_block, in_a_block_is_free}
 use Rattle.group_tree.specs.declared.group.Group.{Group}
-use Rattle.group_tree.specs.Groups.{has_group}
+use Rattle.group_tree.specs.Groups.{has_group, in_subtree, limit_of}
 use Rattle.group_tree.proofs.CallerLemmas.{in_subtree-above}
+use Rattle.step_rules.specs.declared.phase.ChargedUnit.{ChargedUnit}
+use Rattle.step_rules.specs.declared.phase.Way.TheVariants.{OnList}
 use Rattle.step_rules.specs.declared.phase.Phase.{Phase}
 use Rattle.step_rules.specs.declared.phase.Phase.TheVariants.{InZone, Lent, Head, Tail}
 use Rattle.step_rules.specs.declared.step.Place.{Place}
 use Rattle.step_rules.specs.declared.step.Place.TheVariants.{Free, Listed, Charged}
 use Rattle.step_rules.specs.declared.step.Action.{Action}
-use Rattle.step_rules.specs.declared.step.Action.TheVariants.{Put, Freeze, Grant, Return}
+use Rattle.step_rules.specs.declared.step.Action.TheVariants.{Get, Put, Freeze, Consume, Credit, Grant, PlaceBlock, Return}
 use Rattle.step_rules.specs.declared.step.Answer.{Answer}
-use Rattle.step_rules.specs.declared.step.Answer.TheVariants.{Done, Last, Granted}
-use Rattle.step_rules.specs.Phases.{is_free, keeper_of, may_return}
-use Rattle.step_rules.specs.State.{Zone, State, one_if, sum_to, free_in}
-use Rattle.step_rules.specs.Usage.{is_below, fits_limit, usage_of, frames_kept, pages_prepaid}
+use Rattle.step_rules.specs.declared.step.Answer.TheVariants.{Done, Held, Last, Took, Back, Granted, Placed}
+use Rattle.step_rules.specs.Phases.{Fresh, is_free, is_live, has_as, unit_of, keeper_of, may_return}
+use Rattle.step_rules.specs.State.{Zone, State, one_if, sum_to, front_of, is_cpu, free_in, live_references}
+use Rattle.group_tree.specs.Room.{fits_limit}
+use Rattle.step_rules.specs.Usage.{is_below, usage_of, frames_kept, stock_below, pages_prepaid}
 use Rattle.step_rules.specs.Legal.{is_legal, Allows}
-use Rattle.step_rules.specs.After.{Run, after, state_of, IsLegalRun}
+use Rattle.step_rules.specs.After.{Run, state_of, IsLegalRun}
+use Rattle.step_rules.specs.Folds.{limit_given, was_killed, InHand}
+use Rattle.step_rules.specs.Units.{units_of}
 use Rattle.step_rules.specs.Places.{is_same_place, place_in}
 use Rattle.step_rules.specs.Returns.{is_open, is_drop_phase, times_in, IsAllPlaced, ReturnsOnce}
-use Rattle.step_rules.specs.Promise.{Shown, IsShown, Has, HasOnce, IsInOnePlace, kept_below, prepaid_below, KeepsLimits}
-use Rattle.step_rules.specs.Promise.{ComesBackOnce, ThePromiseIsKept}
+use Rattle.step_rules.specs.Charges.{charged_below}
+use Rattle.step_rules.specs.Lent.{lent_to}
+use Rattle.step_rules.specs.Promise.{Shown, IsShown, Has, HasOnce, IsInUnit, IsInOnePlace, kept_below, prepaid_below, KeepsLimits}
+use Rattle.step_rules.specs.Promise.{HasNoReference, IsUnused, ComesBackOnce, ThePromiseIsKept}
 use Rattle.step_rules.proofs.Lists.{one_if_true}
-use Rattle.step_rules.proofs.PhaseLemmas.{free_is, returning_is, Returns, AsEnded, AsDrop}
-use Rattle.step_rules.proofs.Placing.{free_in_at}
+use Rattle.step_rules.proofs.PhaseLemmas.{free_is, live_is, listed_is, fresh_is, held_live, none_some, returning_is, Returns, AsEnded, AsDrop}
+use Rattle.step_rules.proofs.Referring.{live_from_references}
+use Rattle.step_rules.proofs.Passing.{front_listed}
+use Rattle.step_rules.proofs.Placing.{free_in_at, block_free}
 use Rattle.step_rules.proofs.Placed.{same_place_is, same_place_itself}
-use Rattle.step_rules.proofs.Runs.{legal_from}
+use Rattle.step_rules.proofs.Runs.{legal_from, sound_run}
 use Rattle.step_rules.proofs.Freeing.{zone_of_run}
 use Rattle.step_rules.proofs.Settling.{nothing_pends}
-use Rattle.step_rules.proofs.Granting.{no_grant_passes_a_limit}
 use Rattle.step_rules.proofs.Returning.{every_frame_returns_once}
-use Rattle.step_rules.proofs.Telling.{groups_are_told}
+use Rattle.step_rules.proofs.Telling.{groups_are_told, parts_are_told}
+use Rattle.step_rules.proofs.Keeping.{keepers_are_there}
+use Rattle.step_rules.proofs.Counting.{references_are_counted}
+use Rattle.step_rules.proofs.Living.{live_are_referred}
+use Rattle.step_rules.proofs.LentTo.{frames_are_lent}
+use Rattle.step_rules.proofs.Booking.{parts_are_booked}
+use Rattle.step_rules.proofs.Uniting.{units_are_told}
+use Rattle.step_rules.proofs.Heads.{heads_run}
+use Rattle.step_rules.proofs.Charging.{groups_in_run, charged_is_usage}
+
+-- ---- units
+unit_keeper : (x : Phase) (g k : ℕ) → unit_of x ≡ Some (record { group = g; order = k }) → keeper_of x ≡ Some g
+unit_keeper (Head u stage) g k e = ap (λ (o : Option ChargedUnit). group_in o) e
+  where
+    group_in : Option ChargedUnit → Option ℕ
+    group_in None = None
+    group_in (Some v) = Some v.group
+unit_keeper InZone g k e = absurd (none_some _ e)
+unit_keeper (Lent p way) g k e = absurd (none_some _ e)
+unit_keeper (Tail h) g k e = absurd (none_some _ e)
+
+some_group : (a b : ℕ) → Some a ≡ Some b → a ≡ b
+some_group a b z = cc
+
+-- what holds after a legal run, of frames by the run
+module _ (zone : Zone) (run : Run) (legal : IsLegalRun zone run) where
+  in_unit_kept : (f g : ℕ) → IsInUnit run g f → keeper_of ((state_of zone run).phases f) ≡ Some g
+  in_unit_kept f g in_it =
+      let s = state_of zone run in
+      let sound = sound_run zone run legal in
+      let unit : unit_of (s.phases in_it.0) ≡ Some (record { group = g; order = in_it.1 }) = (units_are_told zone run legal in_it.0).unit ∙ in_it.2 in
+      let from = in_it.3.from in
+      elim (cases_eq f in_it.0) [
+        | inl e ↦ ap (λ (m : ℕ). keeper_of (s.phases m)) e ∙ unit_keeper (s.phases in_it.0) g in_it.1 unit
+        | inr ne ↦ ap keeper_of (sound.units in_it.0 (record { group = g; order = in_it.1 }) unit f (omega arith) in_it.3.before)
+      ]
+
+  kept_in_unit : (f g : ℕ) (x : Phase) → (state_of zone run).phases f ≡ x → keeper_of x ≡ Some g → IsInUnit run g f
+  kept_in_unit f g InZone was kept = absurd (none_some g kept)
+  kept_in_unit f g (Lent p way) was kept = absurd (none_some g kept)
+  kept_in_unit f g (Head u stage) was kept =
+      let some = pow_pos u.order in
+      let same : Some u ≡ Some (record { group = g; order = u.order }) =
+      ap (λ (h : ℕ). Some (record { group = h; order = u.order })) (some_group u.group g kept) in
+      (f, u.order, sym (units_are_told zone run legal f).unit ∙ ap unit_of was ∙ same, record { from = omega arith; before = omega arith })
+  kept_in_unit f g (Tail h) was kept =
+      let head = heads_run zone run legal f h was in
+      let low = head.4 in
+      let same : Some head.1 ≡ Some (record { group = g; order = head.1.order }) =
+      ap (λ (k : ℕ). Some (record { group = k; order = head.1.order })) (head.3 ∙ some_group h g kept) in
+      (head.0, head.1.order, sym (units_are_told zone run legal head.0).unit ∙ head.2 ∙ same, record { from = omega arith; before = head.5 })
+
+  no_reference : (f : ℕ) → is_live ((state_of zone run).phases f) ≡ false → HasNoReference run f
+  no_reference f dead = λ seat.
+      let told = references_are_counted zone run legal seat f in
+      let none = (live_are_referred zone run legal f).none dead seat in
+      omega arith
+
+  -- a frame that no group keeps is in no use
+  unused : (f : ℕ) (x : Phase) → (state_of zone run).phases f ≡ x → keeper_of x ≡ None → is_live x ≡ false → is_open x ≡ false → IsUnused run f
+  unused f x was kept dead shut = (
+    λ g in_it. none_some g (sym (ap keeper_of was ∙ kept) ∙ in_unit_kept f g in_it),
+    no_reference f (ap is_live was ∙ dead),
+    (every_frame_returns_once zone run legal f).gone ∙ ap is_open was ∙ shut,
+  )
+
+  same_hand : (p : ℕ) → is_cpu zone p ≡ true → ((units_of run).hands p).list ≡ ((state_of zone run).parts p).list
+  same_hand p cpu = ap (λ (h : InHand). h.list) ((units_are_told zone run legal 0).hands p) ∙ sym (parts_are_told zone run legal p cpu).list
+
+  is_of_zone : (p : ℕ) → is_cpu (state_of zone run).zone p ≡ true → is_cpu zone p ≡ true
+  is_of_zone p cpu = ap (λ (z : Zone). is_cpu z p) (sym (zone_of_run zone run)) ∙ cpu
 
 -- ---- one place
 keeper_place : (x : Phase) (g : ℕ) → keeper_of x ≡ Some g → place_in x ≡ Charged g
@@ -50,19 +130,38 @@ keeper_place (Tail h) g e = ap Charged (some_same h g e)
     some_same : (a b : ℕ) → Some a ≡ Some b → a ≡ b
     some_same a b z = cc
 
-module _ (s : State) (shown : Shown) (is : IsShown s shown) (placed : IsAllPlaced s) where
+-- the first value of a sum by itself
+sum_front : (n : ℕ) (h : ℕ → ℕ) → sum_to (suc n) h ≡ h 0 + sum_to n (λ i. h (i + 1))
+unfolding sum_to
+sum_front zero h = omega arith
+sum_front (suc n) h =
+    let a = sum_front n h in
+    let next : n + 1 ≡ suc n = omega arith in
+    let same : h (n + 1) ≡ h (suc n) = ap h next in
+    omega arith
+
+module _ (zone : Zone) (run : Run) (legal : IsLegalRun zone run) (shown : Shown) (is : IsShown (state_of zone run) shown)
+    (placed : IsAllPlaced (state_of zone run)) where
+  abbrev s : State
+  s = state_of zone run
+
   times_shown : (f p : ℕ) → times_in f (shown.lists p) ≡ one_if (is_same_place (place_in (s.phases f)) (Listed p))
   times_shown f p = ap (times_in f) (is.lists p) ∙ placed.listed f p
 
   is_free_at : (f : ℕ) → f < s.zone.frames → is_free (s.phases f) ≡ true → IsFree (free_in s.zone s.phases) f
   is_free_at f below e = get_or-map-range_with_len (λ x. is_free (s.phases x)) 0 s.zone.frames f f false below (omega arith) ∙ e
 
-  has_once : (f : ℕ) → f < s.zone.frames → (x : Phase) → s.phases f ≡ x → HasOnce shown f (place_in x)
+  there : (f g : ℕ) → keeper_of (s.phases f) ≡ Some g → has_group shown.groups g ≡ true
+  there f g kept = ap (λ (gs : List Group). has_group gs g) is.groups ∙ (keepers_are_there zone run legal).frames f g kept
+
+  has_once : (f : ℕ) → f < s.zone.frames → (x : Phase) → s.phases f ≡ x → HasOnce zone shown f (place_in x)
   has_once f below InZone e = in_one_block (free_in s.zone s.phases) shown.areas is.areas f (is_free_at f below (ap is_free e))
-  has_once f below (Lent p way) e =
-      times_shown f p ∙ ap (λ y. one_if (is_same_place (place_in y) (Listed p))) e ∙ ap one_if (same_place_itself (Listed p))
-  has_once f below (Head u stage) e = is.keeper f ∙ ap keeper_of e
-  has_once f below (Tail g) e = is.keeper f ∙ ap keeper_of e
+  has_once f below (Lent p way) e = (
+    frames_are_lent zone run legal f p (ap lent_to e),
+    times_shown f p ∙ ap (λ y. one_if (is_same_place (place_in y) (Listed p))) e ∙ ap one_if (same_place_itself (Listed p)),
+  )
+  has_once f below (Head u stage) e = (there f u.group (ap keeper_of e), is.keeper f ∙ ap keeper_of e)
+  has_once f below (Tail g) e = (there f g (ap keeper_of e), is.keeper f ∙ ap keeper_of e)
 
   has_alone : (f : ℕ) → f < s.zone.frames → (p : Place) → Has shown f p → p ≡ place_in (s.phases f)
   has_alone f below Free has =
@@ -72,21 +171,43 @@ module _ (s : State) (shown : Shown) (is : IsShown s shown) (placed : IsAllPlace
       sym (same_place_is (place_in (s.phases f)) (Listed p) (one_if_true _ (let e = times_shown f p in omega (arith, e, has))))
   has_alone f below (Charged g) has = sym (keeper_place (s.phases f) g (sym (is.keeper f) ∙ has))
 
-  in_one_place : (f : ℕ) → f < s.zone.frames → IsInOnePlace shown f
-  in_one_place f below = record { place = place_in (s.phases f); once = has_once f below (s.phases f) refl; only = has_alone f below }
+  in_one_place : (f : ℕ) → f < s.zone.frames → IsInOnePlace zone run shown f
+  in_one_place f below = record {
+    place = place_in (s.phases f);
+    once = has_once f below (s.phases f) refl;
+    only = has_alone f below;
+    kept = λ g. (
+      λ kept. kept_in_unit zone run legal f g (s.phases f) refl (sym (is.keeper f) ∙ kept),
+      λ in_it. is.keeper f ∙ in_unit_kept zone run legal f g in_it,
+    );
+  }
 
   -- ---- usage
   kept_shown : (g : ℕ) → frames_kept s.groups s.phases s.zone.frames g ≡ kept_below shown s.zone.frames g
   kept_shown g = λ i. sum_to s.zone.frames (λ f. one_if (is_below (sym is.groups i) g (sym (is.keeper f) i)))
 
+  -- nobody's stock, that of number 0, has no page
   prepaid_shown : (g : ℕ) → pages_prepaid s.groups s.parts s.zone.cpus g ≡ prepaid_below shown s.zone.cpus g
-  prepaid_shown g = λ i. sum_to (s.zone.cpus + 1) (λ p.
-      if is_below (sym is.groups i) g (sym (is.stocks p) i).group then (sym (is.stocks p) i).pages else 0)
+  prepaid_shown g =
+      let first = sum_front s.zone.cpus (λ p. stock_below s.groups g (s.parts p)) in
+      let none : stock_below s.groups g (s.parts 0) ≡ 0 =
+      no_pages (is_below s.groups g (s.parts 0).stock.group) (s.parts 0).stock.pages (((keepers_are_there zone run legal).parts 0).no_cpu refl) in
+      let size : s.zone.cpus + 1 ≡ suc s.zone.cpus = omega arith in
+      let all : pages_prepaid s.groups s.parts s.zone.cpus g ≡ sum_to (suc s.zone.cpus) (λ p. stock_below s.groups g (s.parts p)) =
+      ap (λ n. sum_to n (λ p. stock_below s.groups g (s.parts p))) size in
+      let rest : pages_prepaid s.groups s.parts s.zone.cpus g ≡ sum_to s.zone.cpus (λ p. stock_below s.groups g (s.parts (p + 1))) = omega arith in
+      rest ∙ (λ i. sum_to s.zone.cpus (λ p.
+      if is_below (sym is.groups i) g (sym (is.stocks (p + 1)) i).group then (sym (is.stocks (p + 1)) i).pages else 0))
+    where
+      no_pages : (b : Bool) (n : ℕ) → n ≡ 0 → cond b n 0 ≡ 0
+      no_pages true n e = e
+      no_pages false n e = refl
 
-  current_shown : (g : ℕ) → has_group shown.groups g ≡ true → shown.current g ≡ kept_below shown s.zone.frames g + prepaid_below shown s.zone.cpus g
-  current_shown g there =
-      is.current g (ap (λ (gs : List Group). has_group gs g) (sym is.groups) ∙ there) ∙ placed.usage g
-      ∙ (λ i. kept_shown g i + prepaid_shown g i)
+  current_shown : (g : ℕ) → has_group shown.groups g ≡ true →
+      (shown.current g ≡ kept_below shown s.zone.frames g + prepaid_below shown s.zone.cpus g) × (shown.current g ≡ charged_below run g)
+  current_shown g here =
+      let told = is.current g (ap (λ (gs : List Group). has_group gs g) (sym is.groups) ∙ here) in
+      (told ∙ placed.usage g ∙ (λ i. kept_shown g i + prepaid_shown g i), told ∙ sym (charged_is_usage zone run legal g))
 
 -- ---- each step of a run
 if_each : {X : Type 0} (P Q : X → Type 0) (o : Option X) → ((x : X) → P x → Q x) → IfSome o P → IfSome o Q
@@ -94,15 +215,35 @@ if_each P Q None each h = tt
 if_each P Q (Some x) each h = each x h
 
 limits_kept : (zone : Zone) (run : Run) → IsLegalRun zone run → (seat : ℕ) (action : Action) (answer : Answer) →
-    Allows (state_of zone run) seat action answer → KeepsLimits zone run seat action answer
-limits_kept zone run legal seat (Grant g n) Granted ok = λ m below.
-    let there = in_subtree-above (state_of zone run).groups m g below in
-    ap (λ l. fits_limit l (usage_of (after (state_of zone run) seat (Grant g n) Granted) m)) (sym ((groups_are_told zone run legal m).limit there))
-    ∙ no_grant_passes_a_limit zone run legal seat g n ok m below
+    Allows (state_of zone run) seat action answer → KeepsLimits run action answer
+limits_kept zone run legal seat (Grant g n) Granted ok = (
+  alive,
+  λ m below.
+      let s = state_of zone run in
+      let on_path : in_subtree s.groups m g ≡ true = ap (λ (gs : List Group). in_subtree gs m g) (groups_in_run zone run legal) ∙ below in
+      let limit : limit_given run m ≡ limit_of s.groups m = sym ((groups_are_told zone run legal m).limit (in_subtree-above s.groups m g on_path)) in
+      let usage = charged_is_usage zone run legal m in
+      let room : fits_limit (limit_of s.groups m) (usage_of s m + n) ≡ true = ok.answered m on_path in
+      (λ i. fits_limit (limit i) (usage i + n)) ∙ room,
+)
+  where
+    alive : was_killed run g ≡ false
+    alive =
+        let legal_here = ok.legal in
+        let not_killed : not ((state_of zone run).killed g) ≡ true = grind arith in
+        sym (groups_are_told zone run legal g).killed ∙ not_true ((state_of zone run).killed g) not_killed
+      where
+        not_true : (b : Bool) → not b ≡ true → b ≡ false
+        not_true true e = absurd (false≢true e)
+        not_true false e = refl
 limits_kept zone run legal seat action answer ok = tt
 
 returns_kept : (zone : Zone) (run : Run) → IsLegalRun zone run → (seat : ℕ) (action : Action) (answer : Answer) →
-    Allows (state_of zone run) seat action answer → ComesBackOnce run action answer
+    Allows (state_of zone run) seat action answer → ComesBackOnce run seat action answer
+returns_kept zone run legal seat (Get f) Held ok =
+    let s = state_of zone run in
+    let live = live_is (s.phases f) (live_from_references s f (sound_run zone run legal) (held_live (live_references s f) ok.counted)) in
+    (every_frame_returns_once zone run legal f).gone ∙ ap is_open live.1
 returns_kept zone run legal seat (Put f) Last ok = let back = every_frame_returns_once zone run legal f in back.gone ∙ back.none_open_at_put seat ok
 returns_kept zone run legal seat (Freeze f n) Done ok = let back = every_frame_returns_once zone run legal f in back.gone ∙ back.none_open_at_freeze seat n ok
 returns_kept zone run legal seat (Return f) Done ok =
@@ -112,9 +253,44 @@ returns_kept zone run legal seat (Return f) Done ok =
     came_back (every_frame_returns_once zone run legal f) (ok.legal) (returning_is s.killed (s.phases f) may)
   where
     came_back : ReturnsOnce zone run f → is_legal (state_of zone run) seat (Return f) ≡ true →
-        Returns (state_of zone run).killed ((state_of zone run).phases f) → ComesBackOnce run (Return f) Done
-    came_back back may (AsEnded u was) = inl (back.gone ∙ ap is_open was)
-    came_back back may (AsDrop u was killed) = inr (back.drop seat may ∙ ap (is_drop_phase (state_of zone run).killed) was ∙ killed)
+        Returns (state_of zone run).killed ((state_of zone run).phases f) → ComesBackOnce run seat (Return f) Done
+    came_back back may (AsEnded u was) = (
+      inl (back.gone ∙ ap is_open was),
+      sym (ap is_some (units_are_told zone run legal f).unit) ∙ ap (λ y. is_some (unit_of y)) was,
+      no_reference zone run legal f (ap is_live was),
+    )
+    came_back back may (AsDrop u was killed) = (
+      inr (back.drop seat may ∙ ap (is_drop_phase (state_of zone run).killed) was ∙ killed),
+      sym (ap is_some (units_are_told zone run legal f).unit) ∙ ap (λ y. is_some (unit_of y)) was,
+      no_reference zone run legal f (ap is_live was),
+    )
+returns_kept zone run legal seat (Credit f) Back ok =
+    let s = state_of zone run in
+    let may = ok.legal in
+    let cpu : is_cpu s.zone seat ≡ true = grind arith in
+    let fresh : has_as Fresh seat (s.phases f) ≡ true = grind arith in
+    let is = fresh_is seat (s.phases f) fresh in (
+      ap (λ (h : InHand). times_in f h.fresh) ((units_are_told zone run legal f).hands seat)
+          ∙ ap (times_in f) (sym (parts_are_told zone run legal seat (is_of_zone zone run legal seat cpu)).fresh)
+          ∙ (parts_are_booked zone run legal seat).fresh f ∙ ap one_if fresh,
+      no_reference zone run legal f (ap is_live is.1),
+    )
+returns_kept zone run legal seat (Consume g) Took ok =
+    let s = state_of zone run in
+    let may = ok.legal in
+    let cpu : is_cpu s.zone seat ≡ true = grind arith in
+    let some_test : nat_le 1 (length (s.parts seat).list) ≡ true = grind arith in
+    let some = leb-true 1 (length (s.parts seat).list) some_test in
+    let listed = listed_is seat (s.phases (front_of (s.parts seat).list)) (front_listed s seat (sound_run zone run legal) some) in
+    let same = same_hand zone run legal seat (is_of_zone zone run legal seat cpu) in (
+      subst (λ (xs : List ℕ). 1 ≤ length xs) (sym same) some,
+      subst (λ (xs : List ℕ). IsUnused run (front_of xs)) (sym same) (unused zone run legal (front_of (s.parts seat).list) (Lent seat OnList) listed refl refl refl),
+    )
+returns_kept zone run legal seat (PlaceBlock g k) (Placed b) ok =
+    let s = state_of zone run in (
+      ok.answered.0,
+      λ f covers. unused zone run legal f InZone (free_is (s.phases f) (block_free s.zone s.phases b ok.answered.1 f covers.from covers.before).1) refl refl refl,
+    )
 returns_kept zone run legal seat action answer ok = tt
 
 pub the_promise_is_kept : ThePromiseIsKept
@@ -124,13 +300,16 @@ the_promise_is_kept zone run shown legal free is =
     let zone_is : s.zone ≡ zone = zone_of_run zone run in
     let frames : s.zone.frames ≡ zone.frames = ap (λ (z : Zone). z.frames) zone_is in
     record {
+      groups = is.groups ∙ groups_in_run zone run legal;
       areas = (free_in s.zone s.phases, length-map-range_with_len (λ f. is_free (s.phases f)) 0 s.zone.frames ∙ frames, is.areas);
-      frames = λ f below. in_one_place s shown is placed f (omega arith);
-      current = λ g there. current_shown s shown is placed g there ∙ (λ i. kept_below shown (zone_is i).frames g + prepaid_below shown (zone_is i).cpus g);
+      frames = λ f below. in_one_place zone run legal shown is placed f (omega arith);
+      current = λ g here.
+          let both = current_shown zone run legal shown is placed g here in
+          (both.0 ∙ (λ i. kept_below shown (zone_is i).frames g + prepaid_below shown (zone_is i).cpus g), both.1);
       limits = λ k. if_each (λ e. Allows (state_of zone (take k run)) e.0.seat e.0.action e.1)
-          (λ e. KeepsLimits zone (take k run) e.0.seat e.0.action e.1) (slice_get run k)
+          (λ e. KeepsLimits (take k run) e.0.action e.1) (slice_get run k)
           (λ e ok. limits_kept zone (take k run) (legal_from zone run k legal) e.0.seat e.0.action e.1 ok) (legal k);
       returns = λ k. if_each (λ e. Allows (state_of zone (take k run)) e.0.seat e.0.action e.1)
-          (λ e. ComesBackOnce (take k run) e.0.action e.1) (slice_get run k)
+          (λ e. ComesBackOnce (take k run) e.0.seat e.0.action e.1) (slice_get run k)
           (λ e ok. returns_kept zone (take k run) (legal_from zone run k legal) e.0.seat e.0.action e.1 ok) (legal k);
     }

@@ -1,14 +1,14 @@
 -- The small runs are legal, each step in turn.
-use Rattle.std.proofs.Common.{◌≡◌, ℕ, Bool, true, false, List, [], ◌∷◌, length, refl, subst, arith, inl, inr, zero, suc}
+use Rattle.std.proofs.Common.{◌≡◌, ℕ, Bool, true, false, List, [], ◌∷◌, ◌==◌, length, refl, sym, ap, subst, arith, inl, inr, zero, suc}
 use Rattle.std.specs.List.{slice_index_or}
-use Rattle.std.proofs.lemmas.Bool.{cases_eq, ne_eqb}
+use Rattle.std.proofs.lemmas.Bool.{cases_eq, ne_eqb, true≢false}
 use Rattle.zone_blocks.specs.Areas.{IsFreeBlock}
 use Rattle.group_tree.specs.Groups.{has_group, group_at, limit_of, initial_groups}
 use Rattle.step_rules.specs.State.{State, at_boot, sum_to, all_to}
-use Rattle.step_rules.specs.Usage.{PathHasRoom, has_room}
+use Rattle.group_tree.specs.Room.{PathHasRoom, has_room}
 use Rattle.step_rules.specs.Legal.{Allows}
 use Rattle.step_rules.specs.After.{Run, IsLegalRun}
-use Rattle.step_rules.specs.Examples.{small_zone, life_of_a_frame, credited_twice, returned_twice, unlocked_too_soon, returned_when_killed}
+use Rattle.step_rules.specs.Examples.{small_zone, life_of_a_frame, credited_twice, returned_twice, unlocked_too_soon, returned_when_killed, at_the_borders}
 use Rattle.step_rules.proofs.Runs.{next, IsLegalFrom}
 
 -- each step is allowed after those before it
@@ -22,11 +22,11 @@ legal_each s (e ∷ run) each zero = each.0
 legal_each s (e ∷ run) each (suc k) = legal_each (next s e) run each.1 k
 
 -- the root has no limit
-root_has_room : (usage : ℕ → ℕ) (n : ℕ) → PathHasRoom initial_groups usage n 0
+root_has_room : (usage : ℕ → ℕ) (n : ℕ) → PathHasRoom initial_groups usage 0 n
 unfolding limit_of group_at
 root_has_room usage n m below =
     elim (cases_eq 0 m) [
-      | inl e ↦ subst (λ (k : ℕ). has_room initial_groups usage n k ≡ true) e refl
+      | inl e ↦ subst (λ (k : ℕ). has_room initial_groups usage k n ≡ true) e refl
       | inr ne ↦ rw (ne_eqb 0 m ne) refl
     ]
 
@@ -228,3 +228,7 @@ returned_when_killed_is_legal = legal_each (at_boot small_zone) returned_when_ki
     ),
   ),
 )
+
+pub borders_are_kept : IsLegalRun small_zone at_the_borders
+unfolding has_group group_at sum_to all_to
+borders_are_kept = legal_each (at_boot small_zone) at_the_borders (record { legal = refl; answered = tt; counted = tt }, (refl, (record { legal = refl; answered = root_has_room _ 1; counted = tt }, (record { legal = refl; answered = (refl, front_block _ refl refl); counted = tt }, (refl, (record { legal = refl; answered = tt; counted = tt }, (record { legal = refl; answered = tt; counted = refl }, (record { legal = refl; answered = tt; counted = (refl, omega arith) }, (record { legal = refl; answered = tt; counted = refl }, (record { legal = refl; answered = tt; counted = refl }, (record { legal = refl; answered = tt; counted = λ e. absurd (true≢false (ap (λ n. n == 254) (sym e))) }, (record { legal = refl; answered = tt; counted = tt }, (refl, tt)))))))))))))

@@ -13,8 +13,8 @@ use Rattle.step_rules.specs.Grants.{pending_in, pending_out}
 use Rattle.step_rules.specs.Folds.{last_fill}
 
 -- the pairs of a frame of the zone and a place at a group of g's subtree
-abbrev pub frames_charged : Zone → Run → ℕ → ℕ
-frames_charged zone run g = sum_to zone.frames (λ f. sum_to 64 (λ h. one_if (in_subtree (state_of zone run).groups g h && places_of zone run f (Charged h))))
+abbrev pub frames_placed : Zone → Run → ℕ → ℕ
+frames_placed zone run g = sum_to zone.frames (λ f. sum_to 64 (λ h. one_if (in_subtree (state_of zone run).groups g h && places_of zone run f (Charged h))))
 
 -- a number of each processor, summed over those whose last fill was for a group of g's subtree
 abbrev pub over_stocks : Zone → Run → ℕ → (ℕ → ℕ) → ℕ
@@ -27,7 +27,7 @@ over_groups zone run g of = sum_to 64 (λ h. if in_subtree (state_of zone run).g
 -- the three parts of a group's usage: the frames that are placed in its subtree; the pages filled and credited into its
 -- stocks, less those consumed and drained; and the pages granted and drained there, less those taken back, filled and placed
 pub record CurrentIsTold (zone : Zone) (run : Run) (g : ℕ) : Type 0 where
-  pub kept : frames_kept (state_of zone run).groups (state_of zone run).phases zone.frames g ≡ frames_charged zone run g
+  pub kept : frames_kept (state_of zone run).groups (state_of zone run).phases zone.frames g ≡ frames_placed zone run g
   pub prepaid : over_stocks zone run g (λ p. counted_over (stock_in p) run)
       ≡ pages_prepaid (state_of zone run).groups (state_of zone run).parts zone.cpus g + over_stocks zone run g (λ p. counted_over (stock_out p) run)
   pub pending : over_groups zone run g (λ h. counted_beside (pending_in h) zone run)

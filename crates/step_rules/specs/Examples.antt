@@ -1,12 +1,13 @@
--- Small runs, to be read beside the table: one of the life of a frame, three whose last step is refused, and one of a drop.
-use Rattle.std.specs.Prelude.{ℕ, [], ◌∷◌, ◌++◌}
+-- Small runs, to be read beside the table: one of the life of a frame, three whose last step is refused, one of a drop, and one
+-- at the borders of references, limits and kills.
+use Rattle.std.specs.Prelude.{ℕ, Some, [], ◌∷◌, ◌++◌}
 use Rattle.step_rules.specs.declared.step.Step.{Step}
 use Rattle.step_rules.specs.declared.step.Action.{Action}
 use Rattle.step_rules.specs.declared.step.Action.TheVariants.{Lock, Unlock, OpenVisit, ShutVisit, Get, Put, Freeze, Unfreeze, PassOut, TakeIn, PassBack}
 use Rattle.step_rules.specs.declared.step.Action.TheVariants.{Collect, Consume, Credit, Report, Absorb, Fill, DrainStock, Grant, Ungrant, PlaceBlock}
-use Rattle.step_rules.specs.declared.step.Action.TheVariants.{Publish, Return, Kill}
+use Rattle.step_rules.specs.declared.step.Action.TheVariants.{Publish, Return, SetMax, Kill}
 use Rattle.step_rules.specs.declared.step.Answer.{Answer}
-use Rattle.step_rules.specs.declared.step.Answer.TheVariants.{Illegal, Done, Held, Left, Last, Took, Back, Pages, Granted, Placed}
+use Rattle.step_rules.specs.declared.step.Answer.TheVariants.{Illegal, Done, Held, Zero, Full, Left, Last, Missed, Took, Back, Pages, Granted, Placed}
 use Rattle.step_rules.specs.State.{Zone}
 use Rattle.step_rules.specs.After.{Run}
 
@@ -68,3 +69,12 @@ abbrev pub returned_when_killed : Run
 returned_when_killed =
     first_visit ++ made 1 (Consume 0) Took ∷ made 1 (PassBack 0) Done ∷ made 0 (Collect 0 1) Done ∷ made 0 (Return 0) Illegal ∷
     made 0 (Kill 0) Done ∷ made 0 (Return 0) Done ∷ []
+
+-- a frame gets 255 references and no more, and none is given on one that has none; a freeze takes all or nothing; the root gets
+-- no limit, and a killed group no page
+abbrev pub at_the_borders : Run
+at_the_borders =
+    made 1 Lock Done ∷ made 0 (SetMax 0 (Some 5)) Illegal ∷ made 0 (Grant 0 1) Granted ∷
+    made 0 (PlaceBlock 0 0) (Placed (record { at = 0; order = 0 })) ∷ made 0 (Unfreeze 0 256) Illegal ∷ made 0 (Unfreeze 0 255) Done ∷
+    made 1 (Get 0) Full ∷ made 0 (Put 0) (Left 254) ∷ made 1 (Get 0) Held ∷ made 1 (Get 1) Zero ∷ made 0 (Freeze 0 254) Missed ∷
+    made 0 (Kill 0) Done ∷ made 0 (Grant 0 1) Illegal ∷ []

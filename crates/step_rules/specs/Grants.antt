@@ -6,7 +6,8 @@ use Rattle.step_rules.specs.declared.step.Action.TheVariants.{Fill, DrainStock, 
 use Rattle.step_rules.specs.declared.step.Answer.{Answer}
 use Rattle.step_rules.specs.declared.step.Answer.TheVariants.{Done, Pages, Granted, Placed}
 use Rattle.step_rules.specs.State.{Zone, State}
-use Rattle.step_rules.specs.Usage.{usage_of, fits_limit}
+use Rattle.group_tree.specs.Room.{fits_limit}
+use Rattle.step_rules.specs.Usage.{usage_of}
 use Rattle.step_rules.specs.Legal.{is_of_group, IsMade}
 use Rattle.step_rules.specs.After.{Run, after, state_of, IsLegalRun}
 use Rattle.step_rules.specs.Returns.{counted_beside}

@@ -4,6 +4,7 @@ use Rattle.std.specs.Prelude.{if◌then◌else◌}
 use Rattle.zone_blocks.specs.declared.block.Block.{Block}
 use Rattle.zone_blocks.specs.Areas.{IsFreeBlock}
 use Rattle.group_tree.specs.Groups.{has_group, has_child, make_fault, IsLeastFreeNumber}
+use Rattle.group_tree.specs.Room.{PathHasRoom, IsLowestOver}
 use Rattle.step_rules.specs.declared.step.Action.{Action}
 use Rattle.step_rules.specs.declared.step.Action.TheVariants.{Lock, Unlock, OpenVisit, ShutVisit, Get, Put, Freeze, Unfreeze, PassOut, TakeIn, PassBack}
 use Rattle.step_rules.specs.declared.step.Action.TheVariants.{Collect, Consume, Credit, Report, Absorb, Fill, DrainStock, Grant, Ungrant, PlaceBlock}
@@ -15,7 +16,7 @@ use Rattle.step_rules.specs.Phases.{Kind, Listed, Fresh, is_free, is_head, has_a
 use Rattle.step_rules.specs.Phases as kinds
 use Rattle.step_rules.specs.State.{State, Part, all_to, front_of, is_cpu, is_frame, is_unheld, is_held_by, visits, may_zone_act, live_references, pins_of}
 use Rattle.step_rules.specs.State.{free_in}
-use Rattle.step_rules.specs.Usage.{usage_of, PathHasRoom, IsLowestOver}
+use Rattle.step_rules.specs.Usage.{usage_of}
 
 -- the frame does not pass for the processor
 abbrev pub rests : State → ℕ → ℕ → Bool
@@ -113,8 +114,8 @@ IsAnswer s seat (Report n) Done = Unit {0}
 IsAnswer s seat (Absorb p) (Pages n) = n ≡ (s.parts p).reported
 IsAnswer s seat (Fill p g n) Done = Unit {0}
 IsAnswer s seat (DrainStock p) (Pages n) = Unit {0}
-IsAnswer s seat (Grant g n) Granted = PathHasRoom s.groups (usage_of s) n g
-IsAnswer s seat (Grant g n) (Over m) = IsLowestOver s.groups (usage_of s) n g m
+IsAnswer s seat (Grant g n) Granted = PathHasRoom s.groups (usage_of s) g n
+IsAnswer s seat (Grant g n) (Over m) = IsLowestOver s.groups (usage_of s) g n m
 IsAnswer s seat (Ungrant g n) Done = Unit {0}
 IsAnswer s seat (PlaceBlock g k) (Placed b) = (b.order ≡ k) × IsFreeBlock (free_in s.zone s.phases) b
 IsAnswer s seat (PlaceBlock g k) NoFreeBlock = (b : Block) → b.order ≡ k → ¬ IsFreeBlock (free_in s.zone s.phases) b

@@ -1,7 +1,9 @@
--- A frame is lent to a processor of the zone, and a beginning of a legal run is legal.
-use Rattle.std.specs.Prelude.{◌≡◌, ℕ, true, Option, Some, None, take}
+-- A frame is lent to a processor of the zone, and passes only in its visit; and a beginning of a legal run is legal.
+use Rattle.std.specs.Prelude.{◌≡◌, ℕ, ◌||◌, true, Option, Some, None, take}
 use Rattle.step_rules.specs.declared.phase.Phase.{Phase}
 use Rattle.step_rules.specs.declared.phase.Phase.TheVariants.{Lent}
+use Rattle.step_rules.specs.declared.phase.Hold.TheVariants.{Visiting}
+use Rattle.step_rules.specs.Phases.{passes_out, passes_back}
 use Rattle.step_rules.specs.State.{Zone, is_cpu}
 use Rattle.step_rules.specs.After.{Run, state_of, IsLegalRun}
 
@@ -13,6 +15,11 @@ lent_to _ = None
 -- after every legal run who a frame is lent to is one of the processors
 abbrev pub FramesAreLentToProcessors : Type 0
 FramesAreLentToProcessors = (zone : Zone) (run : Run) → IsLegalRun zone run → (f p : ℕ) → lent_to ((state_of zone run).phases f) ≡ Some p → is_cpu zone p ≡ true
+
+-- after every legal run a frame that passes out to a processor, or back from it, does so while that one's visit is open
+abbrev pub FramesPassInVisits : Type 0
+FramesPassInVisits = (zone : Zone) (run : Run) → IsLegalRun zone run → (f p : ℕ) →
+    (passes_out p ((state_of zone run).phases f) || passes_back p ((state_of zone run).phases f)) ≡ true → (state_of zone run).hold ≡ Visiting p
 
 -- each beginning of a legal run is a legal run
 abbrev pub BeginningsAreLegal : Type 0

@@ -23,4 +23,5 @@ pub mod Current
 pub mod Live
 pub mod Lent
 pub mod Booked
+pub mod Charges
 pub mod Promise

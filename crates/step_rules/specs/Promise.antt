@@ -2,7 +2,7 @@
 -- free blocks (Knuth, The Art of Computer Programming, 2.5; Gorman, Understanding the Linux Virtual Memory Manager,
 -- chapter 6); each frame is in one place; memory.current is right, and no grant passed memory.max (cgroup-v2.rst); and each
 -- frame came back once.
-use Rattle.std.specs.Prelude.{◌≡◌, ◌⊎◌, ℕ, ◌+◌, ◌<◌, ◌≤◌, Bool, true, false, Option, Some, List, length, take, slice_get, IfSome, if◌then◌else◌}
+use Rattle.std.specs.Prelude.{◌≡◌, ◌⊎◌, ◌↔◌, ℕ, ◌+◌, ◌<◌, ◌≤◌, Bool, true, false, Option, Some, is_some, List, length, take, slice_get, IfSome, if◌then◌else◌}
 use Rattle.std.specs.List.{Contains}
 use Rattle.zone_blocks.specs.declared.block.Block.{Block}
 use Rattle.zone_blocks.specs.Block.{Covers}
@@ -13,15 +13,19 @@ use Rattle.group_tree.specs.Groups.{has_group, in_subtree}
 use Rattle.step_rules.specs.declared.step.Place.{Place}
 use Rattle.step_rules.specs.declared.step.Place.TheVariants.{Free, Listed, Charged}
 use Rattle.step_rules.specs.declared.step.Action.{Action}
-use Rattle.step_rules.specs.declared.step.Action.TheVariants.{Put, Freeze, Grant, Return}
+use Rattle.step_rules.specs.declared.step.Action.TheVariants.{Get, Put, Freeze, Consume, Credit, Grant, PlaceBlock, Return}
 use Rattle.step_rules.specs.declared.step.Answer.{Answer}
-use Rattle.step_rules.specs.declared.step.Answer.TheVariants.{Done, Last, Granted}
+use Rattle.step_rules.specs.declared.step.Answer.TheVariants.{Done, Held, Last, Took, Back, Granted, Placed}
 use Rattle.step_rules.specs.Phases.{keeper_of}
-use Rattle.step_rules.specs.State.{Zone, Stock, State, one_if, sum_to, is_unheld, free_in}
-use Rattle.step_rules.specs.Usage.{is_below, fits_limit, usage_of}
-use Rattle.step_rules.specs.After.{Run, after, state_of, IsLegalRun}
-use Rattle.step_rules.specs.Folds.{limit_given}
+use Rattle.step_rules.specs.State.{Zone, Stock, State, one_if, sum_to, front_of, is_cpu, is_unheld, free_in}
+use Rattle.group_tree.specs.Room.{fits_limit}
+use Rattle.step_rules.specs.Usage.{is_below, usage_of}
+use Rattle.step_rules.specs.After.{Run, state_of, IsLegalRun}
+use Rattle.step_rules.specs.Folds.{limit_given, was_killed}
+use Rattle.step_rules.specs.Units.{units_of}
+use Rattle.step_rules.specs.Counts.{references_in, references_out, counted_over}
 use Rattle.step_rules.specs.Returns.{is_gone, is_drop, times_in}
+use Rattle.step_rules.specs.Charges.{groups_of, charged_below}
 
 -- ---- what is shown
 -- the free areas; for each processor its list; for each frame the group that keeps it, if one does; the groups; for each
@@ -51,54 +55,76 @@ Has shown f Free = (b : Block) × Contains shown.areas b × Covers b f
 Has shown f (Listed p) = 1 ≤ times_in f (shown.lists p)
 Has shown f (Charged g) = shown.keeper f ≡ Some g
 
--- it is seen there once: in one block alone, once on the list
-abbrev pub HasOnce : Shown → ℕ → Place → Type 0
-HasOnce shown f Free = IsInOneBlock shown.areas f
-HasOnce shown f (Listed p) = times_in f (shown.lists p) ≡ 1
-HasOnce shown f (Charged g) = shown.keeper f ≡ Some g
+-- it is seen there once: in one block alone; once on the list, which is that of a processor; or by a group that is there
+abbrev pub HasOnce : Zone → Shown → ℕ → Place → Type 0
+HasOnce zone shown f Free = IsInOneBlock shown.areas f
+HasOnce zone shown f (Listed p) = (is_cpu zone p ≡ true) × (times_in f (shown.lists p) ≡ 1)
+HasOnce zone shown f (Charged g) = (has_group shown.groups g ≡ true) × (shown.keeper f ≡ Some g)
 
--- it is seen once at one place, and at no other
-pub record IsInOnePlace (shown : Shown) (f : ℕ) : Type 0 where
+-- by the run it lies in a unit of this group: that of a head h, of 2^k frames
+abbrev pub IsInUnit : Run → ℕ → ℕ → Type 0
+IsInUnit run g f = (h : ℕ) × (k : ℕ) × ((units_of run).unit h ≡ Some (record { group = g; order = k })) × Covers (record { at = h; order = k }) f
+
+-- it is seen once at one place, and at no other; and a group keeps it exactly where it lies in a unit of that group
+pub record IsInOnePlace (zone : Zone) (run : Run) (shown : Shown) (f : ℕ) : Type 0 where
   pub place : Place
-  pub once : HasOnce shown f place
+  pub once : HasOnce zone shown f place
   pub only : (p : Place) → Has shown f p → p ≡ place
+  pub kept : (g : ℕ) → (shown.keeper f ≡ Some g) ↔ IsInUnit run g f
 
 -- ---- each usage is right
 -- how many of the first n frames the group and those below it keep
 abbrev pub kept_below : Shown → ℕ → ℕ → ℕ
 kept_below shown frames g = sum_to frames (λ f. one_if (is_below shown.groups g (shown.keeper f)))
 
--- the pages prepaid for them, in the stocks of the processors 1 to `cpus`; that of number 0 is nobody's and has none
+-- the pages prepaid for them, in the stocks of the processors, which have the numbers from 1 on
 abbrev pub prepaid_below : Shown → ℕ → ℕ → ℕ
-prepaid_below shown cpus g = sum_to (cpus + 1) (λ p. if is_below shown.groups g (shown.stocks p).group then (shown.stocks p).pages else 0)
+prepaid_below shown cpus g = sum_to cpus (λ p. if is_below shown.groups g (shown.stocks (p + 1)).group then (shown.stocks (p + 1)).pages else 0)
 
 -- ---- no grant passed a limit
--- after a grant the usage of the group and of each of its ancestors is at most the limit that it was given last
-abbrev pub KeepsLimits : Zone → Run → ℕ → Action → Answer → Type 0
-KeepsLimits zone run seat (Grant g n) Granted = (m : ℕ) → in_subtree (state_of zone run).groups m g ≡ true →
-    fits_limit (limit_given run m) (usage_of (after (state_of zone run) seat (Grant g n) Granted) m) ≡ true
-KeepsLimits zone run seat action answer = Unit {0}
+-- pages are granted to a group that isn't killed; and with them the pages charged to the group and to each of its ancestors are
+-- at most the limit that it was given last
+abbrev pub KeepsLimits : Run → Action → Answer → Type 0
+KeepsLimits run (Grant g n) Granted = (was_killed run g ≡ false)
+    × ((m : ℕ) → in_subtree (groups_of run) m g ≡ true → fits_limit (limit_given run m) (charged_below run m + n) ≡ true)
+KeepsLimits run action answer = Unit {0}
 
 -- ---- each frame came back once
--- a last reference goes where none is gone; and a frame comes back where its last reference is gone, or it is a fresh frame
--- of a killed group, which had none
-abbrev pub ComesBackOnce : Run → Action → Answer → Type 0
-ComesBackOnce run (Put f) Last = is_gone run f ≡ false
-ComesBackOnce run (Freeze f n) Done = is_gone run f ≡ false
-ComesBackOnce run (Return f) Done = (is_gone run f ≡ true) ⊎ (is_drop run f ≡ true)
-ComesBackOnce run action answer = Unit {0}
+-- no seat has a reference on the frame: each gave up as many as it was given
+abbrev pub HasNoReference : Run → ℕ → Type 0
+HasNoReference run f = (seat : ℕ) → counted_over (references_in seat f) run ≡ counted_over (references_out seat f) run
+
+-- the frame is in no use: it lies in no unit, has no reference, and its last one isn't gone without its coming back
+abbrev pub IsUnused : Run → ℕ → Type 0
+IsUnused run f = ((g : ℕ) → ¬ IsInUnit run g f) × HasNoReference run f × (is_gone run f ≡ false)
+
+-- a reference is given, and a last one goes, where none is gone. A frame comes back without a reference: as the head of its
+-- unit, where its last reference is gone or it is a fresh frame of a killed group; or it goes back to the list of the
+-- processor at which it is fresh. It is paid for from the front of that list, or placed, where it is in no use
+abbrev pub ComesBackOnce : Run → ℕ → Action → Answer → Type 0
+ComesBackOnce run seat (Get f) Held = is_gone run f ≡ false
+ComesBackOnce run seat (Put f) Last = is_gone run f ≡ false
+ComesBackOnce run seat (Freeze f n) Done = is_gone run f ≡ false
+ComesBackOnce run seat (Return f) Done =
+    ((is_gone run f ≡ true) ⊎ (is_drop run f ≡ true)) × (is_some ((units_of run).unit f) ≡ true) × HasNoReference run f
+ComesBackOnce run seat (Credit f) Back = (times_in f ((units_of run).hands seat).fresh ≡ 1) × HasNoReference run f
+ComesBackOnce run seat (Consume g) Took = (1 ≤ length ((units_of run).hands seat).list) × IsUnused run (front_of ((units_of run).hands seat).list)
+ComesBackOnce run seat (PlaceBlock g k) (Placed b) = (b.order ≡ k) × ((f : ℕ) → Covers b f → IsUnused run f)
+ComesBackOnce run seat action answer = Unit {0}
 
 -- ---- the promise
--- what is shown after the run keeps it: the free areas are the maximal blocks of some set of frames, which by the next
--- field are those on no list and kept by no group; each frame of the zone is in one place; each group's memory.current is
--- the frames that it and those below it keep, and the pages prepaid for them; and of each step of the run, where it was
--- made, no grant passed a limit and each frame came back once
+-- what is shown after the run keeps it: the groups are those of the run; the free areas are the maximal blocks of some set of
+-- frames, which by the next field are those on no list and kept by no group; each frame of the zone is in one place; each
+-- group's memory.current is the frames that it and those below it keep, and the pages prepaid for them, and is what is charged
+-- to them; and of each step of the run, where it was made, no grant passed a limit and each frame came back once
 pub record Promise (zone : Zone) (run : Run) (shown : Shown) : Type 0 where
+  pub groups : shown.groups ≡ groups_of run
   pub areas : (free : List Bool) × (length free ≡ zone.frames) × AreMaximalBlocks free shown.areas
-  pub frames : (f : ℕ) → f < zone.frames → IsInOnePlace shown f
-  pub current : (g : ℕ) → has_group shown.groups g ≡ true → shown.current g ≡ kept_below shown zone.frames g + prepaid_below shown zone.cpus g
-  pub limits : (k : ℕ) → IfSome (slice_get run k) (λ e. KeepsLimits zone (take k run) e.0.seat e.0.action e.1)
-  pub returns : (k : ℕ) → IfSome (slice_get run k) (λ e. ComesBackOnce (take k run) e.0.action e.1)
+  pub frames : (f : ℕ) → f < zone.frames → IsInOnePlace zone run shown f
+  pub current : (g : ℕ) → has_group shown.groups g ≡ true →
+      (shown.current g ≡ kept_below shown zone.frames g + prepaid_below shown zone.cpus g) × (shown.current g ≡ charged_below run g)
+  pub limits : (k : ℕ) → IfSome (slice_get run k) (λ e. KeepsLimits (take k run) e.0.action e.1)
+  pub returns : (k : ℕ) → IfSome (slice_get run k) (λ e. ComesBackOnce (take k run) e.0.seat e.0.action e.1)
 
 -- every legal run that leaves the lock free keeps the promise, for whatever shows its state
 abbrev pub ThePromiseIsKept : Type 0

@@ -3,7 +3,7 @@
 
 ghost use Rattle.std.specs.Prelude.{◌≡◌};
 ghost use Rattle.step_rules.specs.After.{IsLegalRun, state_of};
-ghost use Rattle.step_rules.specs.Examples.{small_zone, life_of_a_frame, credited_twice, returned_twice, unlocked_too_soon, returned_when_killed};
+ghost use Rattle.step_rules.specs.Examples.{small_zone, life_of_a_frame, credited_twice, returned_twice, unlocked_too_soon, returned_when_killed, at_the_borders};
 ghost use Rattle.step_rules.specs.declared.phase.Phase.TheVariants.{InZone};
 ghost use Rattle.step_rules.specs.declared.phase.Hold.TheVariants.{Unheld};
 
@@ -36,4 +36,10 @@ pub fn an_early_unlock_is_illegal()
 pub fn a_killed_groups_fresh_frame_comes_back()
     ensures legal { IsLegalRun small_zone returned_when_killed }
     ensures frame_free { (state_of small_zone returned_when_killed).phases 0 ≡ InZone }
+{}
+
+/// A frame gets 255 references and no more, and none is given on one that has none; a freeze takes all references or
+/// none; the root gets no limit, and a killed group no page.
+pub fn the_borders_are_kept()
+    ensures { IsLegalRun small_zone at_the_borders }
 {}

@@ -9,7 +9,7 @@ ghost use Rattle.step_rules.specs.Returns.{EveryFrameReturnsOnce, NothingPendsWh
 ghost use Rattle.step_rules.specs.Units.{AllUnitsAreTold};
 ghost use Rattle.step_rules.specs.Live.{AllLiveAreReferred};
 ghost use Rattle.step_rules.specs.Booked.{AllPartsAreBooked};
-ghost use Rattle.step_rules.specs.Lent.{FramesAreLentToProcessors, BeginningsAreLegal};
+ghost use Rattle.step_rules.specs.Lent.{FramesAreLentToProcessors, FramesPassInVisits, BeginningsAreLegal};
 ghost use Rattle.step_rules.specs.Keepers.{AllKeepersAreThere};
 ghost use Rattle.step_rules.specs.Peaks.{OnlyGrantsRaiseUsage, PeaksAreKept};
 ghost use Rattle.step_rules.specs.Events.{EventsAreCounted};
@@ -195,6 +195,11 @@ pub fn parts_are_booked()
 /// After every legal run who a frame is lent to is one of the processors.
 pub fn frames_are_lent_to_processors()
     ensures { FramesAreLentToProcessors }
+{}
+
+/// After every legal run a frame that passes between the zone and a processor does so while that one's visit is open.
+pub fn frames_pass_in_visits()
+    ensures { FramesPassInVisits }
 {}
 
 /// Each beginning of a legal run is a legal run.

@@ -8,8 +8,8 @@ use Rattle.group_charge.proofs.ReaderLemmas.{charge_events, charge_pages, charge
 use Rattle.group_charge.proofs.StoredLemmas.{kept_as, stored_charged}
 use Rattle.group_charge.proofs.charges.Charges.try_charge.Goals as goal
 
-pub add-requires-clause-fits : goal.add-requires-clause-fits
-add-requires-clause-fits c = λ m.
+pub add_until_over-requires-clause-fits : goal.add_until_over-requires-clause-fits
+add_until_over-requires-clause-fits c = λ m.
     let l = ledger_of c.self.inside.tree c.self.inside.accounts in
     let fits : current_of l 0 + c.args.n < 2 ^ 32 = subst (λ k. current_of k 0 + c.args.n < 2 ^ 32) (sym c.self.view_is) c.requires.fits in
     let low = usage-le-root l m c.self.invariant.charges in
@@ -48,11 +48,11 @@ returns-clause-charged c =
     (record (account_by kept c.args.g) { pages = (account_by kept c.args.g).pages + c.args.n }) =
     ap (λ k. set kept c.number.result (record (get_or kept c.number.result c.index-self-number-2.result) { pages = k })) more
     ∙ set_pages kept c.number.result c.args.g ((account_by kept c.args.g).pages + c.args.n) c.index-self-number-2.result within c.number.ensures.value in
-    let none : c.add.result ≡ None = c.in_default.is in
-    let added = subst (λ o. UsagesPassed groups c.args.g o (λ pages. pages + c.args.n) c.self.inside.usages c.add.new.usages) none c.add.ensures.added in
-    let are = stored_charged l c.self.inside.usages c.add.new.usages c.args.g c.args.n c.self.invariant.charges there c.self.invariant.usages_are
-    c.add.ensures.size added in
-    same_ledger _ _ _ _ refl (kept_charged groups kept _ c.raise_peaks.new.accounts c.add.new.usages c.args.g c.args.n c.self.invariant.charges also
+    let none : c.add_until_over.result ≡ None = c.in_default.is in
+    let added = subst (λ o. UsagesPassed groups c.args.g o (λ pages. pages + c.args.n) c.self.inside.usages c.add_until_over.new.usages) none c.add_until_over.ensures.added in
+    let are = stored_charged l c.self.inside.usages c.add_until_over.new.usages c.args.g c.args.n c.self.invariant.charges there c.self.invariant.usages_are
+    c.add_until_over.ensures.size added in
+    same_ledger _ _ _ _ refl (kept_charged groups kept _ c.raise_peaks.new.accounts c.add_until_over.new.usages c.args.g c.args.n c.self.invariant.charges also
     mid are c.raise_peaks.ensures.raised)
     ∙ ap (λ k. with_charge k c.args.g c.args.n) c.self.view_is
 
@@ -62,12 +62,12 @@ invariant_of-self-2 c =
     let l = ledger_of groups c.self.inside.accounts in
     let there : IsTrue (has_group groups c.args.g) = subst (λ (k : Ledger). IsTrue (has_group k.groups c.args.g)) (sym c.self.view_is) c.requires.there in
     let fits : current_of l 0 + c.args.n < 2 ^ 32 = subst (λ k. current_of k 0 + c.args.n < 2 ^ 32) (sym c.self.view_is) c.requires.fits in
-    let none : c.add.result ≡ None = c.in_default.is in
-    let added = subst (λ o. UsagesPassed groups c.args.g o (λ pages. pages + c.args.n) c.self.inside.usages c.add.new.usages) none c.add.ensures.added in
+    let none : c.add_until_over.result ≡ None = c.in_default.is in
+    let added = subst (λ o. UsagesPassed groups c.args.g o (λ pages. pages + c.args.n) c.self.inside.usages c.add_until_over.new.usages) none c.add_until_over.ensures.added in
     kept_as _ _ _ (with_charge l c.args.g c.args.n) (returns-clause-charged c ∙ ap (λ k. with_charge k c.args.g c.args.n) (sym c.self.view_is))
     (AreCharges-charged l c.args.g c.args.n c.self.invariant.charges there fits) c.raise_peaks.ensures.size
-    (stored_charged l c.self.inside.usages c.add.new.usages c.args.g c.args.n c.self.invariant.charges there c.self.invariant.usages_are
-    c.add.ensures.size added)
+    (stored_charged l c.self.inside.usages c.add_until_over.new.usages c.args.g c.args.n c.self.invariant.charges there c.self.invariant.usages_are
+    c.add_until_over.ensures.size added)
 
 pub returns-clause-usage : goal.returns-clause-usage
 returns-clause-usage c =

@@ -1,0 +1,96 @@
+use Rattle.std.proofs.Common.{◌≡◌, ◌+◌, ◌<◌, ℕ, Bool, length, set, sym, ap, ◌∙◌, subst, arith}
+use Rattle.group_tree.specs.Groups.{limit_of}
+use Rattle.group_tree.specs.Room.{fits_limit, has_room}
+use Rattle.group_tree.proofs.Walks.{walked_lowest}
+use Rattle.group_charge.specs.Kept.{usage_by}
+use Rattle.group_charge.proofs.WalkLemmas.{Walking, walking_all, walking_on, walking_start, walking_tested, walking_turn}
+use Rattle.group_charge.proofs.walks.add_until_over.Goals as goal
+
+pub loop-m-init : goal.loop-m-init
+loop-m-init c =
+    let old = c.args.usages.now in
+    walking_start ℕ 0 c.args.tree.now (λ m. has_room c.args.tree.now (usage_by old) m c.args.n) c.args.g
+    (λ _ pages. pages + c.args.n) old c.into_iter-m-iterator.result c.requires.there
+    (c.into_iter-m-iterator.ensures.into_iter_gives ∙ c.ancestors-m-items.ensures.value)
+
+pub overflow_add-pages : goal.overflow_add-pages
+overflow_add-pages c =
+    let old = c.args.usages.now in
+    let now = c.loop-m.usages in
+    let m = c.in-Some.m in
+    let test : ℕ → Bool = λ k. has_room c.args.tree.now (usage_by old) k c.args.n in
+    let t = walking_turn ℕ 0 c.args.tree.now test c.args.g
+    (λ _ pages. pages + c.args.n) old m c.loop-m.m-iterator c.next.new.self now c.requires.legal c.loop-m.invariant c.in-Some.ensures.steps in
+    let here : usage_by now c.number-number.result ≡ usage_by old m = ap (usage_by now) c.number-number.ensures.value ∙ t.own in
+    let fits = c.requires.fits m in
+    omega (arith, here, fits)
+
+pub limit-requires : goal.limit-requires
+limit-requires c =
+    let old = c.args.usages.now in
+    let test : ℕ → Bool = λ k. has_room c.args.tree.now (usage_by old) k c.args.n in
+    let t = walking_turn ℕ 0 c.args.tree.now test c.args.g
+    (λ _ pages. pages + c.args.n) old c.in-Some.m c.loop-m.m-iterator c.next.new.self c.loop-m.usages c.requires.legal c.loop-m.invariant
+    c.in-Some.ensures.steps in
+    t.turn.there
+
+pub returns-then-not-fits_limit-clause-room : goal.returns-then-not-fits_limit-clause-room
+returns-then-not-fits_limit-clause-room c =
+    let groups = c.args.tree.now in
+    let old = c.args.usages.now in
+    let now = c.loop-m.usages in
+    let m = c.in-Some.m in
+    let test : ℕ → Bool = λ k. has_room groups (usage_by old) k c.args.n in
+    let t = walking_turn ℕ 0 groups test c.args.g
+    (λ _ pages. pages + c.args.n) old m c.loop-m.m-iterator c.next.new.self now c.requires.legal c.loop-m.invariant c.in-Some.ensures.steps in
+    let here : usage_by now c.number-number.result ≡ usage_by old m = ap (usage_by now) c.number-number.ensures.value ∙ t.own in
+    let room : c.fits_limit.result ≡ has_room groups (usage_by old) m c.args.n =
+    c.fits_limit.ensures ∙ ap (λ o. fits_limit o (usage_by now c.number-number.result + c.args.n)) c.limit.ensures
+    ∙ ap (λ u. fits_limit (limit_of groups m) (u + c.args.n)) here in
+    record {
+      on_path = t.turn.walked.on_path;
+      over = sym room ∙ c.if-not-fits_limit.true;
+      lowest = walked_lowest groups test c.args.g m t.turn.walked;
+    }
+
+pub returns-then-not-fits_limit-clause-added : goal.returns-then-not-fits_limit-clause-added
+returns-then-not-fits_limit-clause-added c =
+    let old = c.args.usages.now in
+    let test : ℕ → Bool = λ k. has_room c.args.tree.now (usage_by old) k c.args.n in
+    let t = walking_turn ℕ 0 c.args.tree.now test c.args.g
+    (λ _ pages. pages + c.args.n) old c.in-Some.m c.loop-m.m-iterator c.next.new.self c.loop-m.usages c.requires.legal c.loop-m.invariant
+    c.in-Some.ensures.steps in
+    t.changed
+
+pub loop-m-preserved : goal.loop-m-preserved
+loop-m-preserved c =
+    let groups = c.args.tree.now in
+    let old = c.args.usages.now in
+    let now = c.loop-m.usages in
+    let m = c.in-Some.m in
+    let test : ℕ → Bool = λ k. has_room groups (usage_by old) k c.args.n in
+    let t = walking_turn ℕ 0 groups test c.args.g
+    (λ _ pages. pages + c.args.n) old m c.loop-m.m-iterator c.next.new.self now c.requires.legal c.loop-m.invariant c.in-Some.ensures.steps in
+    let here : usage_by now c.number-number.result ≡ usage_by old m = ap (usage_by now) c.number-number.ensures.value ∙ t.own in
+    let room : c.fits_limit.result ≡ has_room groups (usage_by old) m c.args.n =
+    c.fits_limit.ensures ∙ ap (λ o. fits_limit o (usage_by now c.number-number.result + c.args.n)) c.limit.ensures
+    ∙ ap (λ u. fits_limit (limit_of groups m) (u + c.args.n)) here in
+    let item = usage_by now c.number-number.result + c.args.n in
+    let within : m < length now = omega (arith, t.size, c.requires.size, c.number-number.ensures.below, c.number-number.ensures.value) in
+    subst (λ i. Walking ℕ 0 groups test c.args.g (λ _ pages. pages + c.args.n) old c.next.new.self (set now i item)) (sym c.number-number.ensures.value)
+    (walking_on ℕ 0 groups test c.args.g (λ _ pages. pages + c.args.n) old m c.next.new.self now item c.requires.legal t (sym room
+    ∙ c.if-not-fits_limit.false) within (ap (λ u. u + c.args.n) here))
+
+pub returns-clause-room : goal.returns-clause-room
+returns-clause-room c =
+    let old = c.args.usages.now in
+    let test : ℕ → Bool = λ k. has_room c.args.tree.now (usage_by old) k c.args.n in
+    walking_tested ℕ 0 c.args.tree.now test c.args.g
+    (λ _ pages. pages + c.args.n) old c.loop-m.m-iterator c.loop-m.usages c.requires.legal c.loop-m.invariant c.in-None.ensures.steps.0
+
+pub returns-clause-added : goal.returns-clause-added
+returns-clause-added c =
+    let old = c.args.usages.now in
+    let test : ℕ → Bool = λ k. has_room c.args.tree.now (usage_by old) k c.args.n in
+    walking_all ℕ 0 c.args.tree.now test c.args.g
+    (λ _ pages. pages + c.args.n) old c.loop-m.m-iterator c.loop-m.usages c.requires.legal c.loop-m.invariant c.in-None.ensures.steps.0

@@ -1,0 +1,43 @@
+-- The groups that a run made, and the pages charged to them (memory.current of cgroup-v2.rst), over the run's pairs alone.
+use Rattle.std.specs.Prelude.{ℕ, ◌-◌, ◌^◌, Bool, Option, Some, None, List, fold, if◌then◌else◌}
+use Rattle.group_tree.specs.declared.group.Group.{Group}
+use Rattle.group_tree.specs.Groups.{in_subtree, initial_groups, with_group, with_limit, without_group}
+use Rattle.step_rules.specs.declared.phase.ChargedUnit.{ChargedUnit}
+use Rattle.step_rules.specs.declared.step.Action.{Action}
+use Rattle.step_rules.specs.declared.step.Action.TheVariants.{Grant, Ungrant, Return, SetMax, Make, Remove}
+use Rattle.step_rules.specs.declared.step.Answer.{Answer}
+use Rattle.step_rules.specs.declared.step.Answer.TheVariants.{Done, Granted, Number}
+use Rattle.step_rules.specs.After.{Run}
+use Rattle.step_rules.specs.Units.{units_of}
+use Rattle.step_rules.specs.Returns.{counted_along}
+
+-- the groups after one more step
+abbrev pub groups_after : List Group → Action → Answer → List Group
+groups_after groups (Make path) (Number n) = with_group groups n path
+groups_after groups (SetMax g limit) Done = with_limit groups g limit
+groups_after groups (Remove g) Done = without_group groups g
+groups_after groups action answer = groups
+
+-- the root, and the groups that the run made and didn't take out
+abbrev pub groups_of : Run → List Group
+groups_of run = fold (λ old e. groups_after old e.0.action e.1) initial_groups run
+
+-- the pages that a step charges to the groups that pass the test: those granted to one of them
+abbrev pub charged_in : (ℕ → Bool) → Run → ℕ → Action → Answer → ℕ
+charged_in test run seat (Grant g n) Granted = if test g then n else 0
+charged_in test run seat action answer = 0
+
+-- the frames of a unit, if there is one and its group passes the test
+abbrev pub unit_pages : (ℕ → Bool) → Option ChargedUnit → ℕ
+unit_pages test None = 0
+unit_pages test (Some unit) = if test unit.group then 2 ^ unit.order else 0
+
+-- the pages that a step after this run takes off them: those ungranted, and the frames of a unit that comes back
+abbrev pub charged_out : (ℕ → Bool) → Run → ℕ → Action → Answer → ℕ
+charged_out test run seat (Ungrant g n) Done = if test g then n else 0
+charged_out test run seat (Return f) Done = unit_pages test ((units_of run).unit f)
+charged_out test run seat action answer = 0
+
+-- the pages charged to the group and those below it
+abbrev pub charged_below : Run → ℕ → ℕ
+charged_below run g = counted_along (charged_in (in_subtree (groups_of run) g)) run - counted_along (charged_out (in_subtree (groups_of run) g)) run
