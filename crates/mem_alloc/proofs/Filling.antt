@@ -175,32 +175,17 @@ lent_page frames g m n c d lends page =
 -- ---- the parts put together
 
 -- the batch fits
-pub batch_fits : (t : KnownTable) (sizes : Config) (g : ℕ) (m k n : KnownMachine) (c e d : KnownCpu) → k ≡ m → e ≡ c → Fills g sizes.stock (side k e) (side n d)
-    → IsLocalRun e.number (local_of t k e) (fill_steps e.number g sizes.stock) (local_of t n d)
-    → BySteps t (side m c) (side n d) (ChargesFrame sizes g)
-batch_fits t sizes g m k n c e d same mine fills steps =
-    subst (λ (x : KnownMachine × KnownCpu). BySteps t (side x.0 x.1) (side n d) (ChargesFrame sizes g)) (λ i. (same i, mine i)) (
-      fill_steps e.number g sizes.stock,
-      inl (record { fills = fills; steps_are = refl }),
-      steps,
-    )
+pub batch_fits : (t : KnownTable) (sizes : Config) (g : ℕ) (m n : KnownMachine) (c d : KnownCpu) → Fills g sizes.stock (side m c) (side n d)
+    → IsLocalRun c.number (local_of t m c) (fill_steps c.number g sizes.stock) (local_of t n d) → BySteps t (side m c) (side n d) (ChargesFrame sizes g)
+batch_fits t sizes g m n c d fills steps = (fill_steps c.number g sizes.stock, inl (record { fills = fills; steps_are = refl }), steps)
 
 -- the batch doesn't fit, and then one page is charged, or is refused
-module _ (t : KnownTable) (sizes : Config) (g over : ℕ) (m k x n : KnownMachine) (c e y d : KnownCpu) (same : k ≡ m) (mine : e ≡ c)
-    (stays : x ≡ k) (its : y ≡ e)
-    (low : IsLowestOver k.ledger.groups (current_of k.ledger) g sizes.stock over)
-    (refusing : IsLocalRun e.number (local_of t k e) (over_steps g sizes.stock over) (local_of t k e)) where
-  lowest : IsLowestOver m.ledger.groups (current_of m.ledger) g sizes.stock over
-  lowest = subst (λ (z : KnownMachine). IsLowestOver z.ledger.groups (current_of z.ledger) g sizes.stock over) same low
-
-  refused : IsLocalRun c.number (local_of t m c) (over_steps g sizes.stock over) (local_of t m c)
-  refused = subst (λ (z : KnownMachine × KnownCpu). IsLocalRun z.1.number (local_of t z.0 z.1) (over_steps g sizes.stock over) (local_of t z.0 z.1))
-      (λ i. (same i, mine i)) refusing
-
+module _ (t : KnownTable) (sizes : Config) (g over : ℕ) (m x n : KnownMachine) (c y d : KnownCpu) (stays : x ≡ m) (its : y ≡ c)
+    (lowest : IsLowestOver m.ledger.groups (current_of m.ledger) g sizes.stock over)
+    (refused : IsLocalRun c.number (local_of t m c) (over_steps g sizes.stock over) (local_of t m c)) where
   pub one_fits : BySteps t (side x y) (side n d) (FillsAfterRoom g 1) → BySteps t (side m c) (side n d) (ChargesFrame sizes g)
   one_fits b =
-      let here = subst (λ (z : KnownMachine × KnownCpu). BySteps t (side z.0 z.1) (side n d) (FillsAfterRoom g 1))
-      (λ i. ((stays ∙ same) i, (its ∙ mine) i)) b in (
+      let here = subst (λ (z : KnownMachine × KnownCpu). BySteps t (side z.0 z.1) (side n d) (FillsAfterRoom g 1)) (λ i. (stays i, its i)) b in (
         over_steps g sizes.stock over ++ here.0,
         inr (record { over = over; batch = lowest; later = here.0; fills = here.1; steps_are = refl }),
         run_both c.number (over_steps g sizes.stock over) here.0 (local_of t m c) (local_of t m c) (local_of t n d) refused here.2,
@@ -209,8 +194,7 @@ module _ (t : KnownTable) (sizes : Config) (g over : ℕ) (m k x n : KnownMachin
   pub none_fits : (cause : AllocFault) → BySteps t (side x y) (side n d) (IsOverForOne g cause)
       → BySteps t (side m c) (side n d) (RefusesFrame sizes g cause)
   none_fits cause b =
-      let here = subst (λ (z : KnownMachine × KnownCpu). BySteps t (side z.0 z.1) (side n d) (IsOverForOne g cause))
-      (λ i. ((stays ∙ same) i, (its ∙ mine) i)) b in (
+      let here = subst (λ (z : KnownMachine × KnownCpu). BySteps t (side z.0 z.1) (side n d) (IsOverForOne g cause)) (λ i. (stays i, its i)) b in (
         over_steps g sizes.stock over ++ here.0,
         record { over = over; batch = lowest; later = here.0; refuses = here.1; steps_are = refl },
         run_both c.number (over_steps g sizes.stock over) here.0 (local_of t m c) (local_of t m c) (local_of t n d) refused here.2,

@@ -209,11 +209,9 @@ module _ (t : KnownTable) (g k : ℕ) (m x n : KnownMachine) (c y d : KnownCpu) 
       omega (arith, a, b)
 
 -- the first try found no free block
-pub first_none : (t : KnownTable) (g k : ℕ) (m z x : KnownMachine) (c e y : KnownCpu) (cause : AllocFault) → cause ≡ NoFrames → z ≡ m → e ≡ c
-    → BySteps t (side z e) (side x y) (OfMachine (ChargesBlock g k (Err cause))) → BySteps t (side m c) (side x y) (OfMachine (FindsNoBlock g k))
-first_none t g k m z x c e y cause named same mine b =
-    let told = subst (λ (f : AllocFault). BySteps t (side z e) (side x y) (OfMachine (ChargesBlock g k (Err f)))) named b in
-    subst (λ (w : KnownMachine × KnownCpu). BySteps t (side w.0 w.1) (side x y) (OfMachine (FindsNoBlock g k))) (λ i. (same i, mine i)) told
+pub first_none : (t : KnownTable) (g k : ℕ) (m x : KnownMachine) (c y : KnownCpu) (cause : AllocFault) → cause ≡ NoFrames
+    → BySteps t (side m c) (side x y) (OfMachine (ChargesBlock g k (Err cause))) → BySteps t (side m c) (side x y) (OfMachine (FindsNoBlock g k))
+first_none t g k m x c y cause named b = subst (λ (f : AllocFault). BySteps t (side m c) (side x y) (OfMachine (ChargesBlock g k (Err f)))) named b
 
 -- ---- the whole allocation
 

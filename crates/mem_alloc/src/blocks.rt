@@ -4,7 +4,7 @@ ghost use Rattle.std.specs.Prelude.{◌≡◌, ◌+◌, ◌^◌, ◌≤◌, [], 
 ghost use Rattle.group_tree.specs.Groups.{has_group};
 ghost use Rattle.group_tree.specs.Room.{PathHasRoom};
 ghost use Rattle.group_charge.specs.Charges.{current_of};
-ghost use Rattle.mem_machine.specs.Machines.{Visits, is_killed};
+ghost use Rattle.mem_machine.specs.Machines.{KeepsVisit, Visits, is_killed};
 ghost use Rattle.mem_machine.specs.Paying.{HasRoomFor, IsOfSize};
 ghost use Rattle.mem_alloc.specs.Stepping.{BySteps, OfMachine};
 ghost use Rattle.mem_alloc.specs.Blocks.{AllocatesBlock, ChargesBlock, TakesAgain, LeavesRoom};
@@ -62,10 +62,8 @@ fn take_again<N: BootName>(
     requires room { PathHasRoom machine.old.ledger.groups (current_of machine.old.ledger) group (2 ^ order) }
     requires settled { (cpu.old.fresh ≡ []) × (cpu.old.back ≡ []) }
     ensures takes { BySteps N.frames (side machine.old cpu.old) (side machine.new cpu.new) (TakesAgain group order result) }
-    ensures visit { Visits N.frames (side machine.new cpu.new) }
-    ensures opened { machine.new.seat.view.opened ≡ machine.old.seat.view.opened }
-    ensures number { cpu.new.number ≡ cpu.old.number }
-    ensures settled { (cpu.new.fresh ≡ []) × (cpu.new.back ≡ []) }
+    ensures stays { KeepsVisit N.frames (side machine.old cpu.old) (side machine.new cpu.new) }
+    ensures fresh { cpu.new.fresh ≡ [] }
     ensures list { length cpu.new.list ≤ length cpu.old.list }
 {
     let listed = cpu.list_len() as u32;
@@ -97,17 +95,15 @@ pub fn alloc_block<N: BootName>(
     requires there { IsTrue (has_group machine.old.ledger.groups group) }
     requires settled { (cpu.old.fresh ≡ []) × (cpu.old.back ≡ []) }
     ensures allocates { BySteps N.frames (side machine.old cpu.old) (side machine.new cpu.new) (AllocatesBlock group order result) }
-    ensures visit { Visits N.frames (side machine.new cpu.new) }
-    ensures opened { machine.new.seat.view.opened ≡ machine.old.seat.view.opened }
-    ensures number { cpu.new.number ≡ cpu.old.number }
-    ensures settled { (cpu.new.fresh ≡ []) × (cpu.new.back ≡ []) }
+    ensures stays { KeepsVisit N.frames (side machine.old cpu.old) (side machine.new cpu.new) }
+    ensures fresh { cpu.new.fresh ≡ [] }
     ensures list { length cpu.new.list ≤ length cpu.old.list }
 {
     if machine.is_killed(group) {
         return Err(AllocFault::Killed);
     }
     let _pages = order.frames(); // For the clauses.
-    machine.see_room(tables, cpu);
+    machine.see_room();
     match take_charged(machine, tables, cpu, group, order) {
         Ok(head) => Ok(head),
         Err(AllocFault::NoFrames) => take_again(machine, tables, cpu, group, order),

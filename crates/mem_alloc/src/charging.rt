@@ -83,7 +83,7 @@ fn charge_frame<N: BootName>(
         (λ cause. BySteps N.frames (side machine.old cpu.old) (side machine.new cpu.new) (RefusesFrame sizes group cause)) }
     ensures visit { Visits N.frames (side machine.new cpu.new) }
 {
-    machine.see_room(tables, cpu);
+    machine.see_room();
     let Err(_batch) = machine.fill_stock(tables, cpu, group, sizes.stock) else {
         return Ok(());
     };

@@ -3,7 +3,7 @@
 ghost use Rattle.std.specs.Prelude.{◌≡◌, ◌+◌, ◌<◌, ◌≤◌, [], ◌∷◌, length, IsTrue, MatchResult, OnOk, IfOk, OnErr, false};
 ghost use Rattle.zone_sizes.specs.Config.{IsValidConfig};
 ghost use Rattle.group_tree.specs.Groups.{has_group};
-ghost use Rattle.mem_machine.specs.Machines.{Visits};
+ghost use Rattle.mem_machine.specs.Machines.{KeepsVisit, Visits};
 ghost use Rattle.mem_machine.specs.Paying.{HoldsPage, IsOfSize};
 ghost use Rattle.mem_alloc.specs.Stepping.{BySteps};
 ghost use Rattle.mem_alloc.specs.Frames.{FillsList, HasNoFrame, AllocatesFrame};
@@ -69,11 +69,8 @@ pub fn alloc_frame<N: BootName>(
     requires there { IsTrue (has_group machine.old.ledger.groups group) }
     requires settled { (cpu.old.fresh ≡ []) × (cpu.old.back ≡ []) }
     ensures allocates { BySteps N.frames (side machine.old cpu.old) (side machine.new cpu.new) (AllocatesFrame sizes group result) }
-    ensures visit { Visits N.frames (side machine.new cpu.new) }
-    ensures opened { machine.new.seat.view.opened ≡ machine.old.seat.view.opened }
-    ensures number { cpu.new.number ≡ cpu.old.number }
+    ensures stays { KeepsVisit N.frames (side machine.old cpu.old) (side machine.new cpu.new) }
     ensures fresh { MatchResult result (λ f. cpu.new.fresh ≡ f ∷ []) (λ cause. cpu.new.fresh ≡ []) }
-    ensures back { cpu.new.back ≡ [] }
     ensures at_most_high { length cpu.old.list + length cpu.old.fresh ≤ sizes.high
         → length cpu.new.list + length cpu.new.fresh ≤ sizes.high }
     ensures frame { IfOk result (λ f. f < N.frames.frames) }

@@ -4,8 +4,7 @@ use Rattle.std.specs.Prelude.{min}
 use Rattle.group_tree.specs.Room.{max_count}
 use Rattle.mem_machine.specs.declared.machine.Counts.{Counts}
 use Rattle.mem_machine.specs.Machines.{BalancesCounts}
-use Rattle.mem_machine.specs.Freeing.{with_last_put}
-use Rattle.mem_machine.specs.Settling.{with_drop}
+use Rattle.mem_machine.specs.Freeing.{with_drop, with_last_put}
 
 first_rises : (a b c most : ℕ) → min (min (a + b + c) most + 1) most ≡ min (min (a + 1) most + b + c) most
 first_rises a b c most = omega arith

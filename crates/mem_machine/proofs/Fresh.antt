@@ -34,8 +34,8 @@ use Rattle.mem_machine.specs.Machines.{KnownMachine, FitsSpot, IsConsistent, Bal
 use Rattle.mem_machine.specs.Local.{IsLocalRun, local_of, fresh_group, number_or_0, side}
 use Rattle.mem_machine.specs.Steps.{zone_makes}
 use Rattle.mem_machine.specs.Blocks.{PlacesUnit}
-use Rattle.mem_machine.specs.Freeing.{FreesFrames}
-use Rattle.mem_machine.specs.Settling.{KeepsFresh, DropsFresh, with_page_absorbed, with_drop, keep_steps, drop_steps}
+use Rattle.mem_machine.specs.Freeing.{FreesFrames, with_drop}
+use Rattle.mem_machine.specs.Settling.{KeepsFresh, DropsFresh, with_page_absorbed, keep_steps, drop_steps}
 use Rattle.mem_machine.proofs.Holds.{own_part}
 use Rattle.mem_machine.proofs.Records.{free_at, free_set, lent_spot, spots_changed, units_stay, charges_stay}
 use Rattle.mem_machine.proofs.PlacesUnits.{head_of_block, off_block}

@@ -5,7 +5,7 @@ use Rattle.std.specs.Prelude.{◌&&◌, is_some, not, nat_le, nat_lt}
 use Rattle.std.proofs.lemmas.Bool.{cases_eq, ne_eqb, and_from, le-leb}
 use Rattle.group_tree.specs.declared.group.Group.{Group}
 use Rattle.group_tree.specs.Groups.{in_subtree}
-use Rattle.group_charge.specs.Charges.{current_of}
+use Rattle.group_charge.specs.Charges.{AreCharges, current_of}
 use Rattle.frame_word.specs.Views.{note_of}
 use Rattle.frame_word.specs.Seats.{KnownTable}
 use Rattle.stock_word.specs.declared.view.Stock.{Stock}
@@ -26,6 +26,8 @@ use Rattle.step_rules.proofs.Sums.{sum_none}
 use Rattle.mem_machine.specs.declared.spot.Spot.{Spot}
 use Rattle.mem_machine.specs.declared.spot.Spot.TheVariants.{Free, Lent, Head, Tail}
 use Rattle.mem_machine.specs.Spots.{spot_at, some_cpu}
+use Rattle.mem_machine.specs.Spots.{group_of as charged_to}
+use Rattle.mem_machine.proofs.Ledgers.{ledger_side}
 use Rattle.mem_machine.specs.Machines.{KnownMachine, IsConsistent, Visits}
 use Rattle.mem_machine.specs.Local.{local_of, phase_of, part_of, part_with, IsLocalRun, side}
 use Rattle.mem_machine.specs.Steps.{take_front_steps}
@@ -64,44 +66,26 @@ cond_at_most : (b : Bool) (x : ℕ) → cond b x 0 ≤ x
 cond_at_most true x = omega arith
 cond_at_most false x = omega arith
 
--- no stock shows more pages than its book
-pages_shown : (stock : Seated) (c : KnownCpu) (q k : ℕ) → (account_of stock.view q).book ≤ k → (part_of stock c q).stock.pages ≤ k
-pages_shown stock c q k small =
-    let a = account_of stock.view q in
-    elim (cases_eq q c.number) [
-      | inl e ↦ let u : (q == c.number) ≡ true = eq-eqb q c.number e in rw u (omega (arith, small))
-      | inr ne ↦ let u : (q == c.number) ≡ false = ne_eqb q c.number ne in rw u (omega (arith, small))
-    ]
-
-none_pending : (groups : List Group) (g : ℕ) → pages_pending groups (λ h. 0) g ≡ 0
-none_pending groups g = sum_none 64 _ (λ h lt. zero_both (in_subtree groups g h))
-  where
-    zero_both : (b : Bool) → ◌≡◌ {A = ℕ} (cond b 0 0) 0
-    zero_both true = refl
-    zero_both false = refl
-
-usage_small : (t : KnownTable) (w : Words) (m : KnownMachine) (c : KnownCpu) → IsConsistent t w m → (g : ℕ)
-    → usage_of (local_of t m c) g ≤ t.frames * 1 + (t.cpus + 1) * 65535
-usage_small t w m c ok g =
+-- each frame counts once, and each book is below 65,536
+usage_small : (t : KnownTable) (w : Words) (m : KnownMachine) → IsConsistent t w m → AreCharges m.ledger → (g : ℕ)
+    → current_of m.ledger g ≤ t.frames * 1 + (t.cpus + 1) * 65535
+usage_small t w m ok charges g =
     let groups = m.ledger.groups in
-    let kept : frames_kept groups (λ f. phase_of c f (spot_at m.spots f)) t.frames g ≤ t.frames * 1
-    = at_most t.frames 1 (λ f. one_if (is_below groups g (keeper_of (phase_of c f (spot_at m.spots f)))))
-    (λ f. one_at_most (is_below groups g (keeper_of (phase_of c f (spot_at m.spots f))))) in
-    let prepaid : pages_prepaid groups (part_of m.stock c) t.cpus g ≤ (t.cpus + 1) * 65535
-    = at_most (t.cpus + 1) 65535 (λ p. stock_below groups g (part_of m.stock c p))
-    (λ p. let a = cond_at_most (is_below groups g (part_of m.stock c p).stock.group) (part_of m.stock c p).stock.pages in
-    let b = pages_shown m.stock c p 65535 (let low = ok.bounded p in omega (arith, low)) in omega (arith, a, b)) in
-    let pending = none_pending groups g in
-    omega (arith, kept, prepaid, pending)
+    let charged = at_most t.frames 1 (λ f. one_if (is_below groups g (charged_to (spot_at m.spots f))))
+    (λ f. one_at_most (is_below groups g (charged_to (spot_at m.spots f)))) in
+    let booked = at_most (t.cpus + 1) 65535 (λ q. cond (is_below groups g (account_of m.stock.view q).group) (account_of m.stock.view q).book 0)
+    (λ q. let a = cond_at_most (is_below groups g (account_of m.stock.view q).group) (account_of m.stock.view q).book in
+    let b = ok.bounded q in omega (arith, a, b)) in
+    let both = ledger_side t w m ok charges g in
+    omega (arith, charged, booked, both)
 
-pub room_for : (t : KnownTable) (w : Words) (m now : KnownMachine) → m ≡ now → (c : KnownCpu) → IsConsistent t w m → IsOfSize t
-    → ((g : ℕ) → usage_of (local_of t now c) g ≡ current_of now.ledger g) → (pages : ℕ) → pages < 65536 → HasRoomFor now pages
-room_for t w m now same c ok size usage pages few =
-    let small = subst (λ (x : KnownMachine). usage_of (local_of t x c) 0 ≤ t.frames * 1 + (t.cpus + 1) * 65535) same (usage_small t w m c ok 0) in
-    let is = usage 0 in
+pub room_for : (t : KnownTable) (w : Words) (m now : KnownMachine) → m ≡ now → IsConsistent t w m → AreCharges m.ledger → IsOfSize t
+    → (pages : ℕ) → pages < 65536 → HasRoomFor now pages
+room_for t w m now same ok charges size pages few =
+    let small = subst (λ (x : KnownMachine). current_of x.ledger 0 ≤ t.frames * 1 + (t.cpus + 1) * 65535) same (usage_small t w m ok charges 0) in
     let frames = size.frames in
     let cpus = size.cpus in
-    omega (arith, small, is, frames, cpus, few)
+    omega (arith, small, frames, cpus, few)
 
 -- ---- the front that is paid for
 

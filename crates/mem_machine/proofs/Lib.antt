@@ -14,6 +14,7 @@ pub mod Prepaying
 pub mod Listed
 pub mod Dirties
 pub mod Touching
+pub mod Ledgers
 pub mod Usage
 pub mod Grants
 pub mod Placed

@@ -15,3 +15,7 @@ pub record FreesFrames (before : List Spot) (at count : ℕ) (after : List Spot)
 -- one more unit of which someone had the last put, and which came back
 abbrev pub with_last_put : Counts → Counts
 with_last_put counts = record counts { last_puts = one_more counts.last_puts; returns = one_more counts.returns }
+
+-- one more fresh frame that was dropped, and came back
+abbrev pub with_drop : Counts → Counts
+with_drop counts = record counts { drops = one_more counts.drops; returns = one_more counts.returns }

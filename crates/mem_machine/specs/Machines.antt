@@ -146,6 +146,14 @@ pub record Visits (table : KnownTable) (now : Side) : Type 0 where
   pub still : NothingPasses table now.machine.seat now.cpu.seat
   pub lent : LentIsBorrowed table now.machine.seat now.cpu.seat
 
+-- What stays of a side while a visit goes on: it is open still, no other was opened or shut, and the processor has its number
+-- and its back frames
+pub record KeepsVisit (table : KnownTable) (before after : Side) : Type 0 where
+  pub visit : Visits table after
+  pub opened : after.machine.seat.view.opened ≡ before.machine.seat.view.opened
+  pub number : after.cpu.number ≡ before.cpu.number
+  pub back : after.cpu.back ≡ before.cpu.back
+
 -- the processor is one of the table's
 pub record IsSeated (table : KnownTable) (cpu : KnownCpu) : Type 0 where
   pub some_number : 1 ≤ cpu.number

@@ -7,7 +7,6 @@ use Rattle.frame_word.specs.Seats.{seat_with}
 use Rattle.stock_word.specs.Stock.{Seated}
 use Rattle.stock_word.specs.Kinds.{after_report, noting, absorbing}
 use Rattle.stock_word.specs.Calls.{with_view}
-use Rattle.group_tree.specs.Room.{one_more}
 use Rattle.group_charge.specs.Charges.{with_uncharge}
 use Rattle.cpu_part.specs.Cpus.{KnownCpu}
 use Rattle.step_rules.specs.declared.phase.ChargedUnit.{ChargedUnit}
@@ -15,21 +14,16 @@ use Rattle.step_rules.specs.declared.step.Action.TheVariants.{PassBack, Collect,
 use Rattle.step_rules.specs.declared.step.Answer.TheVariants.{Done, Pages}
 use Rattle.step_rules.specs.After.{Run}
 use Rattle.mem_machine.specs.declared.spot.Spot.TheVariants.{Head}
-use Rattle.mem_machine.specs.declared.machine.Counts.{Counts}
 use Rattle.mem_machine.specs.Spots.{spot_at, free_of}
 use Rattle.mem_machine.specs.Machines.{Side, is_killed}
 use Rattle.mem_machine.specs.Local.{fresh_group}
 use Rattle.mem_machine.specs.Steps.{zone_makes, cpu_makes}
 use Rattle.mem_machine.specs.Blocks.{ListsUnit}
-use Rattle.mem_machine.specs.Freeing.{FreesFrames, with_last_put}
+use Rattle.mem_machine.specs.Freeing.{FreesFrames, with_drop, with_last_put}
 
 -- the stocks after a page of processor p was reported and absorbed
 abbrev pub with_page_absorbed : Seated → ℕ → Seated
 with_page_absorbed stock p = with_view stock (absorbing (noting stock.view p 1) p)
-
--- one fresh frame that was dropped, and came back
-abbrev pub with_drop : Counts → Counts
-with_drop counts = record counts { drops = one_more counts.drops; returns = one_more counts.returns }
 
 -- the oldest fresh frame is handed over, and its page reported
 abbrev pub HandsOver : ℕ → KnownCpu → KnownCpu → Type 0

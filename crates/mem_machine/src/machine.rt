@@ -3,6 +3,7 @@
 ghost use Rattle.std.specs.Prelude.{◌≡◌, IfOk};
 ghost use Rattle.frame_word.specs.Seats.{first_zone_view};
 ghost use Rattle.stock_word.specs.Stock.{first_machine};
+ghost use Rattle.mem_machine.specs.Freeing.{with_drop, with_last_put};
 ghost use Rattle.mem_machine.specs.Machines.{IsFirst};
 
 use crate::spot::Spot;
@@ -28,6 +29,30 @@ pub struct Counts {
     pub drops: u64,
     /// The units that came back.
     pub returns: u64,
+}
+
+impl Counts {
+    // One more unit of which someone had the last put, and which came back.
+    pub(crate) fn with_last_put(self) -> Counts
+        ensures { result ≡ with_last_put self }
+    {
+        Counts {
+            last_puts: self.last_puts.saturating_add(1),
+            returns: self.returns.saturating_add(1),
+            ..self
+        }
+    }
+
+    // One more fresh frame that was dropped, and came back.
+    pub(crate) fn with_drop(self) -> Counts
+        ensures { result ≡ with_drop self }
+    {
+        Counts {
+            drops: self.drops.saturating_add(1),
+            returns: self.returns.saturating_add(1),
+            ..self
+        }
+    }
 }
 
 /// What stands behind the zone's lock. A contract doesn't see how many steps its seat at the stocks made.

@@ -3,12 +3,11 @@
 ghost use Rattle.std.specs.Prelude.{◌≡◌, ◌≢◌, ◌<◌, None, IfSome, length};
 ghost use Rattle.lru_lists.specs.Lists.{AllStand};
 ghost use Rattle.mem_machine.specs.Machines.{home_of, Visits};
-ghost use Rattle.mem_machine.specs.Freeing.{with_last_put};
 ghost use Rattle.mem_machine.specs.Releasing.{LeavesList, Releases, release_steps};
 ghost use Rattle.mem_machine.specs.Local.{Makes, side};
 
 use crate::freed::free_unit;
-use crate::machine::{Counts, Machine};
+use crate::machine::Machine;
 use crate::spot::Spot;
 use cpu_part::{BootName, Cpu, Tables};
 use frame_word::{Frame, Put};
@@ -48,17 +47,6 @@ pub(crate) fn leave_list(links: &mut Links, lists: &mut Vec<Lru>, unit: u32)
     lists[home.owner as usize] = own;
 }
 
-// Counts a last put, and a unit that came back.
-fn counted_return(counts: Counts) -> Counts
-    ensures { result ≡ with_last_put counts }
-{
-    Counts {
-        last_puts: counts.last_puts.saturating_add(1),
-        returns: counts.returns.saturating_add(1),
-        ..counts
-    }
-}
-
 impl<N: BootName> Machine<N> {
     /// Takes a kept unit off its list, and gives up the zone's reference on it. Where that was the last one, the unit comes
     /// back. The unit goes by its head, which stands on a list of its group.
@@ -79,7 +67,7 @@ impl<N: BootName> Machine<N> {
                     unreachable!()
                 };
                 free_unit(&mut self.zone, &mut self.spots, &mut self.charges, at, unit);
-                self.counts = counted_return(self.counts);
+                self.counts = self.counts.with_last_put();
                 Released::Returned
             }
         }

@@ -101,8 +101,7 @@ impl<N: BootName> Machine<N> {
             frame.number(),
             unit,
         );
-        self.counts.drops = self.counts.drops.saturating_add(1);
-        self.counts.returns = self.counts.returns.saturating_add(1);
+        self.counts = self.counts.with_drop();
         frame
     }
 
@@ -125,8 +124,7 @@ impl<N: BootName> Machine<N> {
             unreachable!()
         };
         free_unit(&mut self.zone, &mut self.spots, &mut self.charges, at, unit);
-        self.counts.last_puts = self.counts.last_puts.saturating_add(1);
-        self.counts.returns = self.counts.returns.saturating_add(1);
+        self.counts = self.counts.with_last_put();
         Some(frame)
     }
 

@@ -9,6 +9,8 @@ use Rattle.mem_alloc.specs.declared.faults.AllocFault.TheVariants.{Over, NoFrame
 use Rattle.mem_alloc.specs.Stepping.{Course, Stays}
 use Rattle.mem_alloc.specs.Frames.{AllocatesFrame}
 use Rattle.mem_alloc.specs.Blocks.{AllocatesBlock}
+use Rattle.mem_system.specs.declared.outcome.Outcome.{Outcome}
+use Rattle.mem_system.specs.declared.outcome.Outcome.TheVariants as outcome
 use Rattle.mem_system.specs.declared.command.Reply.{Reply}
 use Rattle.mem_system.specs.declared.command.Reply.TheVariants.{Frame, OverLimit, Refused}
 
@@ -41,6 +43,13 @@ Allocates sizes path order (Refused fault.BadOrder) way = HasBadOrder path order
 Allocates sizes path order (Refused fault.NoFrames) way = AllocatesFor sizes path order (Err NoFrames) way
 Allocates sizes path order (Refused fault.Killed) way = AllocatesFor sizes path order (Err Killed) way
 Allocates sizes path order other way = ⊥
+
+-- what an allocation comes to, by its answer
+abbrev pub outcome_of : Result ℕ AllocFault → Outcome
+outcome_of (Ok f) = outcome.Frame f
+outcome_of (Err (Over g)) = outcome.OverLimit g
+outcome_of (Err NoFrames) = outcome.Refused fault.NoFrames
+outcome_of (Err Killed) = outcome.Refused fault.Killed
 
 -- the fresh frames after an allocation of this order: the frame that it answered, where it is a single one
 abbrev pub FreshOf : Reply → ℕ → List ℕ → Type 0

@@ -90,14 +90,18 @@ Writes path name value Done way = WritesLimit path name value way
 Writes path name value (Refused fault) way = RefusesWrite way.before.ledger.groups path name value fault × (way.after ≡ way.before) × (way.steps ≡ [])
 Writes path name value other way = ⊥
 
+-- a frame that the command names is one of so many
+abbrev pub NamesFrameBelow : ℕ → Cmd → Type 0
+NamesFrameBelow frames (Owner f) = f < frames
+NamesFrameBelow frames (Touch f) = f < frames
+NamesFrameBelow frames (Dirty f) = f < frames
+NamesFrameBelow frames (Clean f) = f < frames
+NamesFrameBelow frames (Release f) = f < frames
+NamesFrameBelow frames other = Unit {0}
+
 -- a frame that the command names is one of the zone's
 abbrev pub IsOfZone : KnownTable → Cmd → Type 0
-IsOfZone t (Owner f) = f < t.frames
-IsOfZone t (Touch f) = f < t.frames
-IsOfZone t (Dirty f) = f < t.frames
-IsOfZone t (Clean f) = f < t.frames
-IsOfZone t (Release f) = f < t.frames
-IsOfZone t other = Unit {0}
+IsOfZone t command = NamesFrameBelow t.frames command
 
 -- What the command does inside the visit, and what it answers
 abbrev pub Obeys : Config → Cmd → Reply → Course Side → Type 0

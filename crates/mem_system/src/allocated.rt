@@ -1,16 +1,20 @@
 //! Frames and blocks that are allocated for the group of a path.
 
-ghost use Rattle.std.specs.Prelude.{◌≡◌, ◌≢◌, ℕ, ◌+◌, ◌<◌, ◌≤◌, [], length, IsTrue, Err};
+ghost use Rattle.std.specs.Prelude.{◌≡◌, ◌≢◌, ℕ, ◌+◌, ◌<◌, ◌≤◌, List, [], length, IsTrue, Some, Err};
 ghost use Rattle.zone_sizes.specs.Config.{IsValidConfig};
-ghost use Rattle.group_tree.specs.Groups.{has_group};
-ghost use Rattle.mem_machine.specs.Machines.{Visits};
+ghost use Rattle.group_tree.specs.Groups.{has_group, number_at};
+ghost use Rattle.mem_machine.specs.Machines.{KeepsVisit, Visits};
 ghost use Rattle.mem_alloc.specs.declared.faults.AllocFault.TheVariants as cause_is;
 ghost use Rattle.mem_system.specs.Boots.{IsSizedAs};
-ghost use Rattle.mem_system.specs.Allocs.{Allocates, AllocatesAs, FreshOf, HasFreshFor};
+ghost use Rattle.mem_system.specs.Allocs.{Allocates, AllocatesAs, FreshOf, HasFreshFor, outcome_of};
 ghost use Rattle.mem_system.specs.Outcomes.{HasItsGroups, reply_of};
-ghost use Rattle.mem_system.specs.Commands.{BySteps};
+ghost use Rattle.mem_system.specs.Commands.{BySteps, IsServed, holder};
+ghost use Rattle.mem_system.specs.declared.command.Cmd.TheVariants.{Alloc};
+ghost use Rattle.frame_word.specs.Seats.{LentIsBorrowed, NothingPasses};
+ghost use Rattle.std.specs.Borrow.{Bor};
 ghost use Rattle.mem_machine.specs.Local.{side};
 
+use crate::locked::Locked;
 use crate::outcome::Outcome;
 use cpu_part::{BootName, Cpu, Tables};
 use frame_word::Frame;
@@ -20,6 +24,20 @@ use mem_alloc::{AllocFault, alloc_block, alloc_frame};
 use mem_machine::Machine;
 use zone_blocks::order::Order;
 use zone_sizes::config::Config;
+
+// What an allocation comes to.
+fn outcome_of(answer: &Result<Frame, AllocFault>) -> Outcome
+    ensures { result ≡ outcome_of answer.now }
+{
+    match answer {
+        Ok(frame) => Outcome::Frame(frame.number()),
+        Err(cause) => match *cause {
+            AllocFault::Over(group) => Outcome::OverLimit(group),
+            AllocFault::NoFrames => Outcome::Refused(Fault::NoFrames),
+            AllocFault::Killed => Outcome::Refused(Fault::Killed),
+        },
+    }
+}
 
 // Allocates a single frame, or a block of an order above 0, for the group.
 fn allocate_as<N: BootName>(
@@ -36,11 +54,8 @@ fn allocate_as<N: BootName>(
     requires there { IsTrue (has_group machine.old.ledger.groups group) }
     requires settled { (cpu.old.fresh ≡ []) × (cpu.old.back ≡ []) }
     ensures allocates { BySteps N.frames (side machine.old cpu.old) (side machine.new cpu.new) (AllocatesAs sizes group order result) }
-    ensures visit { Visits N.frames (side machine.new cpu.new) }
-    ensures opened { machine.new.seat.view.opened ≡ machine.old.seat.view.opened }
-    ensures number { cpu.new.number ≡ cpu.old.number }
+    ensures stays { KeepsVisit N.frames (side machine.old cpu.old) (side machine.new cpu.new) }
     ensures fresh { HasFreshFor order result cpu.new.fresh }
-    ensures back { cpu.new.back ≡ [] }
     ensures at_most_high { length cpu.old.list ≤ sizes.high → length cpu.new.list + length cpu.new.fresh ≤ sizes.high }
     ensures there { (g : ℕ) → result ≡ Err (cause_is.Over g) → IsTrue (has_group machine.new.ledger.groups g) }
 {
@@ -67,11 +82,8 @@ pub(crate) fn allocate<N: BootName>(
     ensures allocates { BySteps N.frames (side machine.old cpu.old) (side machine.new cpu.new)
         (Allocates sizes path.now order (reply_of machine.new.ledger result)) }
     ensures groups { HasItsGroups machine.new.ledger result }
-    ensures visit { Visits N.frames (side machine.new cpu.new) }
-    ensures opened { machine.new.seat.view.opened ≡ machine.old.seat.view.opened }
-    ensures number { cpu.new.number ≡ cpu.old.number }
+    ensures stays { KeepsVisit N.frames (side machine.old cpu.old) (side machine.new cpu.new) }
     ensures fresh { FreshOf (reply_of machine.new.ledger result) order cpu.new.fresh }
-    ensures back { cpu.new.back ≡ [] }
     ensures at_most_high { length cpu.old.list ≤ sizes.high → length cpu.new.list + length cpu.new.fresh ≤ sizes.high }
 {
     let Some(group) = machine.charges().tree().find(path) else {
@@ -80,12 +92,31 @@ pub(crate) fn allocate<N: BootName>(
     let Some(order) = Order::of(order) else {
         return Outcome::Refused(Fault::BadOrder);
     };
-    match allocate_as(machine, tables, cpu, sizes, group, order) {
-        Ok(frame) => Outcome::Frame(frame.number()),
-        Err(cause) => match cause {
-            AllocFault::Over(group) => Outcome::OverLimit(group),
-            AllocFault::NoFrames => Outcome::Refused(Fault::NoFrames),
-            AllocFault::Killed => Outcome::Refused(Fault::Killed),
-        },
-    }
+    let answer = allocate_as(machine, tables, cpu, sizes, group, order);
+    outcome_of(&answer)
+}
+
+/// Serves an Alloc of order 0 for a group that is there, as `carry_out` does for each path of that group: no path is sought.
+#[inline(always)]
+pub fn carry_out_frame<N: BootName>(
+    locked: &mut Locked<N>,
+    tables: &Tables<N>,
+    cpu: &mut Cpu<N>,
+    group: GroupId,
+) -> Outcome
+    requires there { IsTrue (has_group locked.old.machine.ledger.groups group) }
+    ensures served { (path : Bor (List ℕ)) → number_at locked.old.machine.ledger.groups path.now ≡ Some group
+        → IsServed N.frames (Alloc path 0) (holder locked.old cpu.old) (reply_of locked.new.machine.ledger result) (holder locked.new cpu.new) }
+    ensures groups { HasItsGroups locked.new.machine.ledger result }
+    ensures fresh { FreshOf (reply_of locked.new.machine.ledger result) 0 cpu.new.fresh }
+    ensures back { cpu.new.back ≡ [] }
+    ensures at_most_high { length cpu.old.list ≤ locked.old.sizes.high → length cpu.new.list + length cpu.new.fresh ≤ locked.old.sizes.high }
+    ensures still { NothingPasses N.frames locked.new.machine.seat cpu.new.seat }
+    ensures lent { LentIsBorrowed N.frames locked.new.machine.seat cpu.new.seat }
+{
+    locked.machine.open(tables, cpu);
+    locked.machine.settle(tables, cpu);
+    let answer = alloc_frame(&mut locked.machine, tables, cpu, locked.sizes, group);
+    locked.machine.shut(tables, cpu);
+    outcome_of(&answer)
 }

@@ -25,6 +25,7 @@ mod shown;
 mod shutting;
 mod system;
 
+pub use allocated::carry_out_frame;
 pub use audit::Audit;
 pub use booted::Boot;
 pub use booting::{BootFault, boot};
@@ -34,6 +35,6 @@ pub use gates::{Gate, NoGate};
 pub use locked::Locked;
 pub use outcome::Outcome;
 pub use serving::{carry_out, serve};
-pub use shown::{blocks, show};
+pub use shown::{blocks, settle, show};
 pub use shutting::Held;
 pub use system::System;

@@ -1,5 +1,6 @@
 //! What lies behind the zone's lock.
 
+ghost use Rattle.std.specs.Prelude.{◌≡◌};
 ghost use Rattle.mem_machine.specs.Machines.{IsConsistent};
 ghost use Rattle.mem_system.specs.Boots.{IsQuiet};
 
@@ -40,5 +41,14 @@ impl<N: BootName> Locked<N> {
         ensures consistent { IsConsistent N.frames N.stocks self.now.machine }
     {
         let _spots = self.machine.spots(); // For the clauses.
+    }
+
+    /// The machine, which is consistent.
+    pub fn machine(&self) -> &Machine<N>
+        ensures machine { result.now ≡ self.now.machine }
+        ensures consistent { IsConsistent N.frames N.stocks self.now.machine }
+    {
+        let _spots = self.machine.spots(); // For the clauses.
+        &self.machine
     }
 }

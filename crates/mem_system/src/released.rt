@@ -5,7 +5,7 @@ ghost use Rattle.zone_sizes.specs.Config.{IsValidConfig};
 ghost use Rattle.step_rules.specs.declared.phase.ChargedUnit.{ChargedUnit};
 ghost use Rattle.mem_machine.specs.declared.spot.Spot.TheVariants.{Free, Head};
 ghost use Rattle.mem_machine.specs.Spots.{spot_at};
-ghost use Rattle.mem_machine.specs.Machines.{Visits};
+ghost use Rattle.mem_machine.specs.Machines.{KeepsVisit, Visits};
 ghost use Rattle.mem_system.specs.Outcomes.{HasItsGroups, reply_of};
 ghost use Rattle.mem_system.specs.Releases.{CutsList, ListsFrame, ReleasesFrame};
 ghost use Rattle.mem_system.specs.Commands.{BySteps};
@@ -63,10 +63,8 @@ fn list_frame<N: BootName>(
     requires free { spot_at machine.old.spots frame ≡ Free }
     requires none_fresh { cpu.old.fresh ≡ [] }
     ensures lists { BySteps N.frames (side machine.old cpu.old) (side machine.new cpu.new) (ListsFrame sizes frame) }
-    ensures visit { Visits N.frames (side machine.new cpu.new) }
-    ensures opened { machine.new.seat.view.opened ≡ machine.old.seat.view.opened }
-    ensures number { cpu.new.number ≡ cpu.old.number }
-    ensures settled { (cpu.new.fresh ≡ cpu.old.fresh) × (cpu.new.back ≡ cpu.old.back) }
+    ensures stays { KeepsVisit N.frames (side machine.old cpu.old) (side machine.new cpu.new) }
+    ensures fresh { cpu.new.fresh ≡ cpu.old.fresh }
     ensures at_most_high { length cpu.old.list ≤ sizes.high → length cpu.new.list ≤ sizes.high }
 {
     cut_list(machine, tables, cpu, sizes);
@@ -88,10 +86,8 @@ pub(crate) fn release_frame<N: BootName>(
     ensures released { BySteps N.frames (side machine.old cpu.old) (side machine.new cpu.new)
         (ReleasesFrame sizes frame (reply_of machine.new.ledger result)) }
     ensures groups { HasItsGroups machine.new.ledger result }
-    ensures visit { Visits N.frames (side machine.new cpu.new) }
-    ensures opened { machine.new.seat.view.opened ≡ machine.old.seat.view.opened }
-    ensures number { cpu.new.number ≡ cpu.old.number }
-    ensures settled { (cpu.new.fresh ≡ cpu.old.fresh) × (cpu.new.back ≡ cpu.old.back) }
+    ensures stays { KeepsVisit N.frames (side machine.old cpu.old) (side machine.new cpu.new) }
+    ensures fresh { cpu.new.fresh ≡ cpu.old.fresh }
     ensures at_most_high { length cpu.old.list ≤ sizes.high → length cpu.new.list ≤ sizes.high }
 {
     let Some(frame) = find_unit(machine, tables, frame) else {

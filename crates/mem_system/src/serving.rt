@@ -3,7 +3,7 @@
 ghost use Rattle.std.specs.Prelude.{◌≡◌, ◌+◌, ◌≤◌, [], length};
 ghost use Rattle.frame_word.specs.Seats.{LentIsBorrowed, NothingPasses};
 ghost use Rattle.zone_sizes.specs.Config.{IsValidConfig};
-ghost use Rattle.mem_machine.specs.Machines.{Visits};
+ghost use Rattle.mem_machine.specs.Machines.{KeepsVisit, Visits};
 ghost use Rattle.mem_system.specs.Boots.{IsSizedAs};
 ghost use Rattle.mem_system.specs.Outcomes.{HasItsGroups, reply_of};
 ghost use Rattle.mem_system.specs.Commands.{BySteps, FreshAfter, IsOfZone, IsServed, Obeys, holder};
@@ -39,10 +39,8 @@ fn obey<N: BootName>(
     ensures obeyed { BySteps N.frames (side machine.old cpu.old) (side machine.new cpu.new)
         (Obeys sizes cmd.now (reply_of machine.new.ledger result)) }
     ensures groups { HasItsGroups machine.new.ledger result }
-    ensures visit { Visits N.frames (side machine.new cpu.new) }
-    ensures opened { machine.new.seat.view.opened ≡ machine.old.seat.view.opened }
-    ensures number { cpu.new.number ≡ cpu.old.number }
-    ensures settled { FreshAfter cmd.now (reply_of machine.new.ledger result) cpu.new.fresh × (cpu.new.back ≡ []) }
+    ensures stays { KeepsVisit N.frames (side machine.old cpu.old) (side machine.new cpu.new) }
+    ensures fresh { FreshAfter cmd.now (reply_of machine.new.ledger result) cpu.new.fresh }
     ensures at_most_high { length cpu.old.list ≤ sizes.high → length cpu.new.list + length cpu.new.fresh ≤ sizes.high }
 {
     match cmd {

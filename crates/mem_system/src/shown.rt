@@ -11,21 +11,21 @@ ghost use Rattle.mem_system.specs.Commands.{holder};
 
 use crate::command::Cmd;
 use crate::locked::Locked;
-use crate::serving::serve;
+use crate::serving::carry_out;
 use crate::system::System;
 use cpu_part::{BootName, Cpu, Tables};
 use machine_texts::{write_blocks, write_show};
 use std::alloc::{AllocError, Global};
 use std::sync::Wait;
 
-// Serves `Settle`.
-fn settle<N: BootName>(locked: &mut Locked<N>, tables: &Tables<N>, cpu: &mut Cpu<N>)
+/// Serves `Settle`: the processor is settled, and nothing else.
+pub fn settle<N: BootName>(locked: &mut Locked<N>, tables: &Tables<N>, cpu: &mut Cpu<N>)
     ensures served { SettlesCaller N.frames (holder locked.old cpu.old) (holder locked.new cpu.new) }
     ensures settled { (cpu.new.fresh ≡ []) × (cpu.new.back ≡ []) }
     ensures at_most_high { length cpu.old.list ≤ locked.old.sizes.high → length cpu.new.list ≤ locked.old.sizes.high }
     ensures still { NothingPasses N.frames locked.new.machine.seat cpu.new.seat }
 {
-    let _done = serve(locked, tables, cpu, &Cmd::Settle);
+    let _done = carry_out(locked, tables, cpu, &Cmd::Settle);
 }
 
 /// Serves `Settle`, and then tells a line for each longest run of frames with equal place, and one for each group but the

@@ -34,20 +34,19 @@ returns-in-Ok-clause-takes g c =
     c.drain_list.ensures.at_most c.drain_list.ensures.takes c.drain_list.ensures.fewer_only_at_the_end c.in-Ok.ensures.cpu c.drain_list.ensures.steps
     c.in-Ok.head c.in-Ok.ensures.takes c.in-Ok.ensures.steps
 
-pub returns-in-Ok-clause-opened : goal.returns-in-Ok-clause-opened
-returns-in-Ok-clause-opened g c =
-    ap (λ (z : KnownMachine). z.seat.view.opened) c.in-Ok.ensures.takes.machine ∙ (back_part _ _ _ _ _ c.drain_list.ensures.takes).opened
+pub returns-in-Ok-clause-stays : goal.returns-in-Ok-clause-stays
+returns-in-Ok-clause-stays g c =
+    let part = back_part _ _ _ _ _ c.drain_list.ensures.takes in
+    record {
+      visit = c.take_block.ensures.visit;
+      opened = ap (λ (z : KnownMachine). z.seat.view.opened) c.in-Ok.ensures.takes.machine ∙ part.opened;
+      number = ap (λ (e : KnownCpu). e.number) c.take_block.ensures.cpu ∙ part.number;
+      back = ap (λ (e : KnownCpu). e.back) c.take_block.ensures.cpu ∙ part.back;
+    }
 
-pub returns-in-Ok-clause-number : goal.returns-in-Ok-clause-number
-returns-in-Ok-clause-number g c =
-    ap (λ (e : KnownCpu). e.number) c.in-Ok.ensures.cpu ∙ (back_part _ _ _ _ _ c.drain_list.ensures.takes).number
-
-pub returns-in-Ok-clause-settled : goal.returns-in-Ok-clause-settled
-returns-in-Ok-clause-settled g c =
-    let part = back_part _ _ _ _ _ c.drain_list.ensures.takes in (
-      ap (λ (e : KnownCpu). e.fresh) c.in-Ok.ensures.cpu ∙ part.fresh ∙ c.requires.settled.0,
-      ap (λ (e : KnownCpu). e.back) c.in-Ok.ensures.cpu ∙ part.back ∙ c.requires.settled.1,
-    )
+pub returns-in-Ok-clause-fresh : goal.returns-in-Ok-clause-fresh
+returns-in-Ok-clause-fresh g c =
+    ap (λ (e : KnownCpu). e.fresh) c.take_block.ensures.cpu ∙ (back_part _ _ _ _ _ c.drain_list.ensures.takes).fresh ∙ c.requires.settled.0
 
 pub returns-in-Ok-clause-list : goal.returns-in-Ok-clause-list
 returns-in-Ok-clause-list g c =
@@ -62,21 +61,20 @@ returns-in-Err-NoBlock-clause-takes g c =
     (is_none _ _ c.args.group c.args.order c.in-Err-NoBlock.field-0 c.in-Err-NoBlock.field-0-is c.in-Err-NoBlock.ensures.refuses)
     (by_none _ c.args.group c.args.order _ _ c.in-Err-NoBlock.field-0 c.in-Err-NoBlock.field-0-is c.in-Err-NoBlock.ensures.steps)
 
-pub returns-in-Err-NoBlock-clause-opened : goal.returns-in-Err-NoBlock-clause-opened
-returns-in-Err-NoBlock-clause-opened g c =
+pub returns-in-Err-NoBlock-clause-stays : goal.returns-in-Err-NoBlock-clause-stays
+returns-in-Err-NoBlock-clause-stays g c =
     let none = is_none _ _ c.args.group c.args.order c.in-Err-NoBlock.field-0 c.in-Err-NoBlock.field-0-is c.in-Err-NoBlock.ensures.refuses in
-    ap (λ (z : KnownMachine). z.seat.view.opened) none.machine ∙ (back_part _ _ _ _ _ c.drain_list.ensures.takes).opened
+    let part = back_part _ _ _ _ _ c.drain_list.ensures.takes in
+    record {
+      visit = c.take_block.ensures.visit;
+      opened = ap (λ (z : KnownMachine). z.seat.view.opened) none.machine ∙ part.opened;
+      number = ap (λ (e : KnownCpu). e.number) c.take_block.ensures.cpu ∙ part.number;
+      back = ap (λ (e : KnownCpu). e.back) c.take_block.ensures.cpu ∙ part.back;
+    }
 
-pub returns-in-Err-NoBlock-clause-number : goal.returns-in-Err-NoBlock-clause-number
-returns-in-Err-NoBlock-clause-number g c =
-    ap (λ (e : KnownCpu). e.number) c.in-Err-NoBlock.ensures.cpu ∙ (back_part _ _ _ _ _ c.drain_list.ensures.takes).number
-
-pub returns-in-Err-NoBlock-clause-settled : goal.returns-in-Err-NoBlock-clause-settled
-returns-in-Err-NoBlock-clause-settled g c =
-    let part = back_part _ _ _ _ _ c.drain_list.ensures.takes in (
-      ap (λ (e : KnownCpu). e.fresh) c.in-Err-NoBlock.ensures.cpu ∙ part.fresh ∙ c.requires.settled.0,
-      ap (λ (e : KnownCpu). e.back) c.in-Err-NoBlock.ensures.cpu ∙ part.back ∙ c.requires.settled.1,
-    )
+pub returns-in-Err-NoBlock-clause-fresh : goal.returns-in-Err-NoBlock-clause-fresh
+returns-in-Err-NoBlock-clause-fresh g c =
+    ap (λ (e : KnownCpu). e.fresh) c.take_block.ensures.cpu ∙ (back_part _ _ _ _ _ c.drain_list.ensures.takes).fresh ∙ c.requires.settled.0
 
 pub returns-in-Err-NoBlock-clause-list : goal.returns-in-Err-NoBlock-clause-list
 returns-in-Err-NoBlock-clause-list g c =

@@ -1,4 +1,4 @@
-use Rattle.std.proofs.Common.{sym, ◌∙◌, subst, arith}
+use Rattle.std.proofs.Common.{sym, subst, arith}
 use Rattle.mem_machine.specs.Machines.{KnownMachine}
 use Rattle.mem_machine.specs.Paying.{HasRoomFor}
 use Rattle.mem_alloc.proofs.Making.{match_both}
@@ -8,24 +8,21 @@ use Rattle.mem_alloc.proofs.charging.charge_frame.Goals as goal
 pub fill_stock-requires-clause-fits : goal.fill_stock-requires-clause-fits
 fill_stock-requires-clause-fits g c =
     let high = c.requires.sizes.stock_high in
-    subst (λ (y : KnownMachine). HasRoomFor y c.args.sizes.stock) (sym c.see_room.ensures.machine)
-    (c.see_room.ensures.room c.args.sizes.stock (omega (arith, high)))
+    c.see_room.ensures.room c.args.sizes.stock (omega (arith, high))
 
 pub returns-in_default-clause-charges : goal.returns-in_default-clause-charges
 returns-in_default-clause-charges g c =
-    batch_fits g.N.BootName.frames c.args.sizes c.args.group _ _ _ _ _ _ c.see_room.ensures.machine c.see_room.ensures.cpu c.in_default.ensures.fills
-    c.in_default.ensures.steps
+    batch_fits g.N.BootName.frames c.args.sizes c.args.group _ _ _ _ c.in_default.ensures.fills c.in_default.ensures.steps
 
 pub fill_one-requires-clause-fits : goal.fill_one-requires-clause-fits
 fill_one-requires-clause-fits g c =
-    subst (λ (y : KnownMachine). HasRoomFor y 1) (sym (c.in-Err.ensures.unchanged.0 ∙ c.see_room.ensures.machine))
-    (c.see_room.ensures.room 1 (omega arith))
+    subst (λ (y : KnownMachine). HasRoomFor y 1) (sym c.in-Err.ensures.unchanged.0) (c.see_room.ensures.room 1 (omega arith))
 
 pub returns-clause-charges : goal.returns-clause-charges
 returns-clause-charges g c =
     match_both c.fill_one.result _ _ _ _
-    (λ v b. one_fits g.N.BootName.frames c.args.sizes c.args.group c.in-Err._batch.group _ _ _ _ _ _ _ _ c.see_room.ensures.machine c.see_room.ensures.cpu
-    c.in-Err.ensures.unchanged.0 c.in-Err.ensures.unchanged.1 c.in-Err.ensures.over c.in-Err.ensures.refused b)
-    (λ e b. none_fits g.N.BootName.frames c.args.sizes c.args.group c.in-Err._batch.group _ _ _ _ _ _ _ _ c.see_room.ensures.machine c.see_room.ensures.cpu
-    c.in-Err.ensures.unchanged.0 c.in-Err.ensures.unchanged.1 c.in-Err.ensures.over c.in-Err.ensures.refused e b)
+    (λ v b. one_fits g.N.BootName.frames c.args.sizes c.args.group c.in-Err._batch.group _ _ _ _ _ _ c.in-Err.ensures.unchanged.0
+    c.in-Err.ensures.unchanged.1 c.in-Err.ensures.over c.in-Err.ensures.refused b)
+    (λ e b. none_fits g.N.BootName.frames c.args.sizes c.args.group c.in-Err._batch.group _ _ _ _ _ _ c.in-Err.ensures.unchanged.0
+    c.in-Err.ensures.unchanged.1 c.in-Err.ensures.over c.in-Err.ensures.refused e b)
     c.fill_one.ensures.fills

@@ -20,11 +20,8 @@ returns-in_err-pay_for_frame g c =
     let fresh = k.fresh ∙ c.requires.settled.0 in
     record {
       allocates = not_paid t c.args.sizes c.args.group c.args.machine.now c.args.cpu.now alive r x _ _ not is refused;
-      visit = c.in_err-pay_for_frame.ensures.visit;
-      opened = k.opened;
-      number = k.number;
+      stays = record { visit = c.in_err-pay_for_frame.ensures.visit; opened = k.opened; number = k.number; back = k.back };
       fresh = refused_with r x _ _ not is (λ e same. fresh);
-      back = k.back ∙ c.requires.settled.1;
       at_most_high = λ low. let a = ap length k.list in let b = ap length k.fresh in omega (arith, a, b, low);
       frame = if_ok_none r _ not;
     }
@@ -45,11 +42,8 @@ returns-in_err-fill_list g c =
     let fresh = k.fresh ∙ c.requires.settled.0 in
     record {
       allocates = not_found t c.args.sizes c.args.group c.args.machine.now c.args.cpu.now alive _ _ first.number paid r x _ _ not is none;
-      visit = c.in_err-fill_list.ensures.visit;
-      opened = k.opened;
-      number = k.number;
+      stays = record { visit = c.in_err-fill_list.ensures.visit; opened = k.opened; number = k.number; back = k.back };
       fresh = refused_with r x _ _ not is (λ e same. fresh);
-      back = k.back ∙ c.requires.settled.1;
       at_most_high = λ low. let a = ap length k.list in let b = ap length k.fresh in omega (arith, a, b, low);
       frame = if_ok_none r _ not;
     }
@@ -76,11 +70,13 @@ returns g c =
     record {
       allocates = gets_frame t c.args.sizes c.args.group c.args.machine.now c.args.cpu.now alive _ _ first.number paid c.take_front.result _ _ _ _ next.number
           fills takes c.take_front.ensures.steps;
-      visit = c.take_front.ensures.visit;
-      opened = ap (λ (y : KnownMachine). y.seat.view.opened) takes.machine ∙ next.opened ∙ first.opened;
-      number = ap (λ (e : KnownCpu). e.number) cpu ∙ next.number ∙ first.number;
+      stays = record {
+        visit = c.take_front.ensures.visit;
+        opened = ap (λ (y : KnownMachine). y.seat.view.opened) takes.machine ∙ next.opened ∙ first.opened;
+        number = ap (λ (e : KnownCpu). e.number) cpu ∙ next.number ∙ first.number;
+        back = ap (λ (e : KnownCpu). e.back) cpu ∙ next.back ∙ first.back;
+      };
       fresh = fresh;
-      back = ap (λ (e : KnownCpu). e.back) cpu ∙ next.back ∙ first.back ∙ c.requires.settled.1;
       at_most_high = λ low.
           let a = ap length first.list in
           let b = ap length c.requires.settled.0 in

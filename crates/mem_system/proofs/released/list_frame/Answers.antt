@@ -39,20 +39,19 @@ returns-clause-lists g c =
           (local_of t c.lend.new.self c.lend.new.cpu) cuts.2 lent,
     )
 
-pub returns-clause-opened : goal.returns-clause-opened
-returns-clause-opened g c =
-    ap (λ (k : KnownMachine). k.seat.view.opened) c.lend.ensures.lends.machine ∙ (cut_off _ _ _ _ _ c.cut_list.ensures.cuts.1.takes).opened
+pub returns-clause-stays : goal.returns-clause-stays
+returns-clause-stays g c =
+    let kept = cut_off _ _ _ _ _ c.cut_list.ensures.cuts.1.takes in
+    record {
+      visit = c.lend.ensures.visit;
+      opened = ap (λ (k : KnownMachine). k.seat.view.opened) c.lend.ensures.lends.machine ∙ kept.opened;
+      number = ap (λ (e : KnownCpu). e.number) c.lend.ensures.lends.cpu ∙ kept.number;
+      back = ap (λ (e : KnownCpu). e.back) c.lend.ensures.lends.cpu ∙ kept.back;
+    }
 
-pub returns-clause-number : goal.returns-clause-number
-returns-clause-number g c =
-    ap (λ (e : KnownCpu). e.number) c.lend.ensures.lends.cpu ∙ (cut_off _ _ _ _ _ c.cut_list.ensures.cuts.1.takes).number
-
-pub returns-clause-settled : goal.returns-clause-settled
-returns-clause-settled g c =
-    let kept = cut_off _ _ _ _ _ c.cut_list.ensures.cuts.1.takes in (
-      ap (λ (e : KnownCpu). e.fresh) c.lend.ensures.lends.cpu ∙ kept.fresh,
-      ap (λ (e : KnownCpu). e.back) c.lend.ensures.lends.cpu ∙ kept.back,
-    )
+pub returns-clause-fresh : goal.returns-clause-fresh
+returns-clause-fresh g c =
+    ap (λ (e : KnownCpu). e.fresh) c.lend.ensures.lends.cpu ∙ (cut_off _ _ _ _ _ c.cut_list.ensures.cuts.1.takes).fresh
 
 pub returns-clause-at_most_high : goal.returns-clause-at_most_high
 returns-clause-at_most_high g c =

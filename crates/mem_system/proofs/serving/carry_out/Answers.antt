@@ -12,8 +12,8 @@ pub invariant_of-locked : goal.invariant_of-locked
 invariant_of-locked g c =
     let quiet = c.locked.invariant.0 in
     let x = c.obey-outcome.new.machine in
-    let numbered = c.obey-outcome.ensures.number ∙ c.settle.ensures.others.number ∙ ap (λ (y : KnownCpu). y.number) c.open.ensures.cpu in
-    let opened = c.obey-outcome.ensures.opened ∙ settled_opened _ _ _ _ c.settle.ensures.settles
+    let numbered = c.obey-outcome.ensures.stays.number ∙ c.settle.ensures.others.number ∙ ap (λ (y : KnownCpu). y.number) c.open.ensures.cpu in
+    let opened = c.obey-outcome.ensures.stays.opened ∙ settled_opened _ _ _ _ c.settle.ensures.settles
     ∙ ap (λ (k : KnownMachine). k.seat.view.opened) c.open.ensures.machine in (
       record {
         shut = all_shut c.locked.inside.machine x c.shut.new.self c.args.cpu.now.number quiet.shut opened
@@ -38,12 +38,12 @@ returns g c =
       served = subst (λ (l : KnownLocked). IsServed t c.args.cmd.now (holder l c.args.cpu.now) reply (holder k c.shut.new.cpu)) c.locked.view_is
           (served t c.args.cmd.now (record { machine = c.locked.inside.machine; sizes = c.locked.inside.sizes }) k c.args.cpu.now c.shut.new.cpu
           reply c.open.new.self c.settle.new.self c.obey-outcome.new.machine c.open.new.cpu c.settle.new.cpu c.obey-outcome.new.cpu
-          c.open.ensures.machine c.open.ensures.cpu c.settle.ensures.others.number c.obey-outcome.ensures.number
+          c.open.ensures.machine c.open.ensures.cpu c.settle.ensures.others.number c.obey-outcome.ensures.stays.number
           c.shut.ensures.machine c.shut.ensures.cpu refl c.open.ensures.steps c.settle.ensures.settles c.settle.ensures.steps
           c.obey-outcome.ensures.obeyed c.shut.ensures.steps);
       settled = (
-        subst (λ (y : KnownCpu). FreshAfter c.args.cmd.now reply y.fresh) (sym same) c.obey-outcome.ensures.settled.0,
-        ap (λ (y : KnownCpu). y.back) same ∙ c.obey-outcome.ensures.settled.1,
+        subst (λ (y : KnownCpu). FreshAfter c.args.cmd.now reply y.fresh) (sym same) c.obey-outcome.ensures.fresh,
+        ap (λ (y : KnownCpu). y.back) same ∙ c.obey-outcome.ensures.stays.back ∙ c.settle.ensures.none_back,
       );
       at_most_high = subst (λ (l : KnownLocked). length c.args.cpu.now.list ≤ l.sizes.high
           → length c.shut.new.cpu.list + length c.shut.new.cpu.fresh ≤ l.sizes.high)

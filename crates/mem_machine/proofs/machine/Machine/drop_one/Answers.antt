@@ -34,7 +34,7 @@ invariant_of-self g c =
     let all = (drop_all g.N.BootName.frames g.N.BootName.stocks _ _ c.self.view_is c.args.cpu.now _ c.number-number.ensures.tied c.self.invariant.0
     c.requires.visit _ _ c.self.invariant.1 _ c.args.group was c.requires.killed e.cpu _ c.unwrap-order.result c.number.ensures k0 _ e.zone _ (ap uncounted e.machine)
     _ u.spots _ u.frames u.areas _ u.charges _
-    (λ i. record c.self.inside.counts { drops = c.saturating_add-self-inside.ensures i; returns = c.saturating_add-self-inside-2.ensures i })) in
+    c.with_drop-self-inside.ensures) in
     (all.consistent, all.free_is)
 
 pub returns-clause-drops : goal.returns-clause-drops
@@ -48,7 +48,7 @@ returns-clause-drops g c =
     (drop_all g.N.BootName.frames g.N.BootName.stocks _ _ c.self.view_is c.args.cpu.now _ c.number-number.ensures.tied c.self.invariant.0
     c.requires.visit _ _ c.self.invariant.1 _ c.args.group was c.requires.killed e.cpu _ c.unwrap-order.result c.number.ensures k0 _ e.zone _ (ap uncounted e.machine)
     _ u.spots _ u.frames u.areas _ u.charges _
-    (λ i. record c.self.inside.counts { drops = c.saturating_add-self-inside.ensures i; returns = c.saturating_add-self-inside-2.ensures i })).drops
+    c.with_drop-self-inside.ensures).drops
 
 pub returns-clause-visit : goal.returns-clause-visit
 returns-clause-visit g c =
@@ -61,7 +61,7 @@ returns-clause-visit g c =
     (drop_all g.N.BootName.frames g.N.BootName.stocks _ _ c.self.view_is c.args.cpu.now _ c.number-number.ensures.tied c.self.invariant.0
     c.requires.visit _ _ c.self.invariant.1 _ c.args.group was c.requires.killed e.cpu _ c.unwrap-order.result c.number.ensures k0 _ e.zone _ (ap uncounted e.machine)
     _ u.spots _ u.frames u.areas _ u.charges _
-    (λ i. record c.self.inside.counts { drops = c.saturating_add-self-inside.ensures i; returns = c.saturating_add-self-inside-2.ensures i })).visit
+    c.with_drop-self-inside.ensures).visit
 
 pub returns-clause-steps : goal.returns-clause-steps
 returns-clause-steps g c =
@@ -74,4 +74,4 @@ returns-clause-steps g c =
     (drop_all g.N.BootName.frames g.N.BootName.stocks _ _ c.self.view_is c.args.cpu.now _ c.number-number.ensures.tied c.self.invariant.0
     c.requires.visit _ _ c.self.invariant.1 _ c.args.group was c.requires.killed e.cpu _ c.unwrap-order.result c.number.ensures k0 _ e.zone _ (ap uncounted e.machine)
     _ u.spots _ u.frames u.areas _ u.charges _
-    (λ i. record c.self.inside.counts { drops = c.saturating_add-self-inside.ensures i; returns = c.saturating_add-self-inside-2.ensures i })).steps
+    c.with_drop-self-inside.ensures).steps

@@ -47,7 +47,7 @@ invariant_of-self-in-Last g c =
     let all = returned_all g.N.BootName.frames g.N.BootName.stocks _ _ c.self.view_is c.self.invariant.0 c.args.cpu.now c.requires.visit c.args.frame _
     c.requires.frame c.number-at.ensures c.requires.kept _ _ c.leave_list.ensures.leaves c.leave_list.ensures.stand c.leave_list.ensures.frames
     c.leave_list.ensures.groups _ c.in-Last.ensures.answer.0 c.in-Head.unit head _ _ _ _ _ _ c.self.invariant.1 c.free_unit.ensures.spots
-    c.free_unit.ensures.frames c.free_unit.ensures.areas c.free_unit.ensures.charges c.counted_return-self-inside.ensures in
+    c.free_unit.ensures.frames c.free_unit.ensures.areas c.free_unit.ensures.charges c.with_last_put-self-inside.ensures in
     (all.consistent, all.free_is)
 
 pub returns-in-Head-clause-releases : goal.returns-in-Head-clause-releases
@@ -57,7 +57,7 @@ returns-in-Head-clause-releases g c =
     (returned_all g.N.BootName.frames g.N.BootName.stocks _ _ c.self.view_is c.self.invariant.0 c.args.cpu.now c.requires.visit c.args.frame _
     c.requires.frame c.number-at.ensures c.requires.kept _ _ c.leave_list.ensures.leaves c.leave_list.ensures.stand c.leave_list.ensures.frames
     c.leave_list.ensures.groups _ c.in-Last.ensures.answer.0 c.in-Head.unit head _ _ _ _ _ _ c.self.invariant.1 c.free_unit.ensures.spots
-    c.free_unit.ensures.frames c.free_unit.ensures.areas c.free_unit.ensures.charges c.counted_return-self-inside.ensures).returns
+    c.free_unit.ensures.frames c.free_unit.ensures.areas c.free_unit.ensures.charges c.with_last_put-self-inside.ensures).returns
 
 pub returns-in-Head-clause-visit : goal.returns-in-Head-clause-visit
 returns-in-Head-clause-visit g c =
@@ -66,7 +66,7 @@ returns-in-Head-clause-visit g c =
     (returned_all g.N.BootName.frames g.N.BootName.stocks _ _ c.self.view_is c.self.invariant.0 c.args.cpu.now c.requires.visit c.args.frame _
     c.requires.frame c.number-at.ensures c.requires.kept _ _ c.leave_list.ensures.leaves c.leave_list.ensures.stand c.leave_list.ensures.frames
     c.leave_list.ensures.groups _ c.in-Last.ensures.answer.0 c.in-Head.unit head _ _ _ _ _ _ c.self.invariant.1 c.free_unit.ensures.spots
-    c.free_unit.ensures.frames c.free_unit.ensures.areas c.free_unit.ensures.charges c.counted_return-self-inside.ensures).visit
+    c.free_unit.ensures.frames c.free_unit.ensures.areas c.free_unit.ensures.charges c.with_last_put-self-inside.ensures).visit
 
 pub returns-in-Head-clause-steps : goal.returns-in-Head-clause-steps
 returns-in-Head-clause-steps g c =
@@ -75,4 +75,4 @@ returns-in-Head-clause-steps g c =
     (returned_all g.N.BootName.frames g.N.BootName.stocks _ _ c.self.view_is c.self.invariant.0 c.args.cpu.now c.requires.visit c.args.frame _
     c.requires.frame c.number-at.ensures c.requires.kept _ _ c.leave_list.ensures.leaves c.leave_list.ensures.stand c.leave_list.ensures.frames
     c.leave_list.ensures.groups _ c.in-Last.ensures.answer.0 c.in-Head.unit head _ _ _ _ _ _ c.self.invariant.1 c.free_unit.ensures.spots
-    c.free_unit.ensures.frames c.free_unit.ensures.areas c.free_unit.ensures.charges c.counted_return-self-inside.ensures).steps
+    c.free_unit.ensures.frames c.free_unit.ensures.areas c.free_unit.ensures.charges c.with_last_put-self-inside.ensures).steps

@@ -48,7 +48,7 @@ invariant_of-self-2 g c =
     let all = (return_all g.N.BootName.frames g.N.BootName.stocks _ _ c.self.view_is c.args.cpu.now c.hand_back.new.self _ c.number-number.ensures.tied
     c.self.invariant.0 c.requires _ _ c.self.invariant.1 _ was c.in-Some.ensures.answer c.collect.ensures.cpu _ c.number-at.ensures _ heads _ collected
     _ u.spots _ u.frames u.areas _ u.charges _
-    (λ i. record c.self.inside.counts { last_puts = c.saturating_add-self-inside.ensures i; returns = c.saturating_add-self-inside-2.ensures i })) in
+    c.with_last_put-self-inside.ensures) in
     (all.consistent, all.free_is)
 
 pub returns-clause-returns : goal.returns-clause-returns
@@ -63,7 +63,7 @@ returns-clause-returns g c =
     (return_all g.N.BootName.frames g.N.BootName.stocks _ _ c.self.view_is c.args.cpu.now c.hand_back.new.self _ c.number-number.ensures.tied
     c.self.invariant.0 c.requires _ _ c.self.invariant.1 _ was c.in-Some.ensures.answer c.collect.ensures.cpu _ c.number-at.ensures _ heads _ collected
     _ u.spots _ u.frames u.areas _ u.charges _
-    (λ i. record c.self.inside.counts { last_puts = c.saturating_add-self-inside.ensures i; returns = c.saturating_add-self-inside-2.ensures i })).returns
+    c.with_last_put-self-inside.ensures).returns
 
 pub returns-clause-visit : goal.returns-clause-visit
 returns-clause-visit g c =
@@ -77,7 +77,7 @@ returns-clause-visit g c =
     (return_all g.N.BootName.frames g.N.BootName.stocks _ _ c.self.view_is c.args.cpu.now c.hand_back.new.self _ c.number-number.ensures.tied
     c.self.invariant.0 c.requires _ _ c.self.invariant.1 _ was c.in-Some.ensures.answer c.collect.ensures.cpu _ c.number-at.ensures _ heads _ collected
     _ u.spots _ u.frames u.areas _ u.charges _
-    (λ i. record c.self.inside.counts { last_puts = c.saturating_add-self-inside.ensures i; returns = c.saturating_add-self-inside-2.ensures i })).visit
+    c.with_last_put-self-inside.ensures).visit
 
 pub returns-clause-steps : goal.returns-clause-steps
 returns-clause-steps g c =
@@ -91,4 +91,4 @@ returns-clause-steps g c =
     (return_all g.N.BootName.frames g.N.BootName.stocks _ _ c.self.view_is c.args.cpu.now c.hand_back.new.self _ c.number-number.ensures.tied
     c.self.invariant.0 c.requires _ _ c.self.invariant.1 _ was c.in-Some.ensures.answer c.collect.ensures.cpu _ c.number-at.ensures _ heads _ collected
     _ u.spots _ u.frames u.areas _ u.charges _
-    (λ i. record c.self.inside.counts { last_puts = c.saturating_add-self-inside.ensures i; returns = c.saturating_add-self-inside-2.ensures i })).steps
+    c.with_last_put-self-inside.ensures).steps

@@ -1,0 +1,229 @@
+-- The usage of a group by the ledger, as the frames that are charged in its subtree and the books of the stocks of it. Serves
+-- `see_usage` and `see_room`.
+use Rattle.std.proofs.Common.{◌≡◌, ◌≢◌, ℕ, ◌+◌, ◌-◌, ◌<◌, ◌≤◌, ◌==◌, ◌&&◌, Bool, true, false, cond, Option, Some, None, List, [], ◌∷◌, length}
+use Rattle.std.proofs.Common.{get_or, All, AllPairs, refl, sym, ap, ◌∙◌, subst, arith, inl, inr, suc}
+use Rattle.std.specs.Prelude.{◌⊎◌, nat_le}
+use Rattle.std.specs.List.{find, sum_by}
+use Rattle.std.specs.Option.{option_map_or}
+use Rattle.std.proofs.lemmas.Bool.{cases_eq, cases_lt, ne_eqb, eq-eqb, and_from, le-leb}
+use Rattle.std.proofs.lemmas.Option.{none-some}
+use Rattle.std.proofs.lemmas.List.{get_or-map}
+use Rattle.std.proofs.lemmas.List.Sums.{sum_by-cons}
+use Rattle.group_tree.specs.declared.group.Group.{Group}
+use Rattle.group_tree.specs.Groups.{the_root, in_subtree}
+use Rattle.group_charge.specs.declared.account.Account.{Account}
+use Rattle.group_charge.specs.Charges.{Ledger, AreCharges, current_of, usage_of as usage_charged, pages_of, account_at}
+use Rattle.group_charge.proofs.ChargeLemmas.{all_distinct, as_many}
+use Rattle.stock_word.specs.declared.view.Account.{Account as Book}
+use Rattle.stock_word.specs.declared.view.Stock.{Stock}
+use Rattle.stock_word.specs.declared.view.Stock.TheVariants as stock_is
+use Rattle.stock_word.specs.Stock.{Words, account_of}
+use Rattle.stock_word.specs.Stock as stocks
+use Rattle.frame_word.specs.Views.{note_of}
+use Rattle.frame_word.specs.Seats.{KnownTable, LentIsBorrowed}
+use Rattle.cpu_part.specs.Cpus.{KnownCpu, times, IsTied}
+use Rattle.step_rules.specs.declared.phase.ChargedUnit.{ChargedUnit}
+use Rattle.step_rules.specs.declared.phase.Way.TheVariants.{OnList}
+use Rattle.step_rules.specs.declared.phase.Stage.TheVariants.{FreshAt, Live, BackAt}
+use Rattle.step_rules.specs.declared.phase.Phase.TheVariants as phase
+use Rattle.step_rules.specs.Phases.{keeper_of}
+use Rattle.step_rules.specs.State.{one_if, sum_to}
+use Rattle.step_rules.specs.Usage.{is_below, frames_kept, stock_below, pages_prepaid, pages_pending, usage_of}
+use Rattle.step_rules.proofs.Sums.{sum_same, sum_none, sum_both, sum_part, sum_swap, sum_only}
+use Rattle.step_rules.proofs.Lists as steps
+use Rattle.mem_machine.specs.declared.spot.Spot.{Spot}
+use Rattle.mem_machine.specs.declared.spot.Spot.TheVariants.{Free, Lent, Head, Tail}
+use Rattle.mem_machine.specs.Spots.{spot_at, some_cpu, group_of, count_of}
+use Rattle.mem_machine.specs.Machines.{KnownMachine, IsConsistent, booked, pages_booked}
+use Rattle.mem_machine.specs.Local.{number_or_0, fresh_group, phase_of, part_with, part_of, local_of, side}
+
+abbrev nothing : ℕ
+nothing = 0
+
+pub cond_zero : (b : Bool) → cond b nothing nothing ≡ nothing
+cond_zero true = refl
+cond_zero false = refl
+
+pub cond_one : (b : Bool) → cond b 1 0 ≡ one_if b
+cond_one true = refl
+cond_one false = refl
+
+cond_plus : (b : Bool) (x y : ℕ) → cond b (x + y) 0 ≡ cond b x 0 + cond b y 0
+cond_plus true x y = refl
+cond_plus false x y = refl
+
+pub cond_sum : (b : Bool) (n : ℕ) (h : ℕ → ℕ) → cond b (sum_to n h) 0 ≡ sum_to n (λ i. cond b (h i) 0)
+cond_sum true n h = refl
+cond_sum false n h = sym (sum_none n (λ i. 0) (λ i below. refl))
+
+-- ---- the ledger's usage, one number after another
+
+-- the pages of the account of this number
+abbrev own : List Account → ℕ → ℕ
+own xs h = option_map_or (λ (a : Account). a.pages) (find (λ (a : Account). a.group == h) xs) 0
+
+own_none : (xs : List Account) (h : ℕ) → ((k : ℕ) (d : Account) → k < length xs → (get_or xs k d).group ≡ h → ⊥) → own xs h ≡ 0
+own_none [] h none = refl
+own_none (x ∷ xs) h none =
+    ap (λ (b : Bool). option_map_or (λ (a : Account). a.pages) (cond b (Some x) (find (λ (a : Account). a.group == h) xs)) 0)
+    (ne_eqb x.group h (none 0 x (omega arith)))
+    ∙ own_none xs h (λ k d lt. none (suc k) d (omega arith))
+
+-- the pages of the account, where it counts
+abbrev counted : (ℕ → Bool) → Account → ℕ
+counted below a = cond (below a.group) a.pages 0
+
+by_number : (below : ℕ → Bool) (n : ℕ) (xs : List Account) → AllPairs (λ (a b : Account). a.group ≢ b.group) xs
+    → All (λ (a : Account). a.group < n) xs → sum_by (counted below) xs ≡ sum_to n (λ h. cond (below h) (own xs h) 0)
+by_number below n [] distinct small = sym (sum_none n _ (λ h lt. cond_zero (below h)))
+by_number below n (x ∷ xs) distinct small =
+    let rest = by_number below n xs (λ i j d before lt. distinct (suc i) (suc j) d (omega arith) (omega arith)) (λ k d lt. small (suc k) d (omega arith)) in
+    let split = sum_same n (λ h. cond (below h) (own (x ∷ xs) h) 0) (λ h. cond (below h) (own xs h) 0 + cond (x.group == h) (counted below x) 0)
+    (λ h lt. each h) in
+    let both = sum_both n (λ h. cond (below h) (own xs h) 0) (λ h. cond (x.group == h) (counted below x) 0) in
+    let one = sum_only n (λ h. cond (x.group == h) (counted below x) 0) x.group (small 0 x (omega arith))
+    (λ h lt ne. ap (λ (b : Bool). cond b (counted below x) 0) (ne_eqb x.group h (λ e. ne (sym e)))) in
+    let value : cond (x.group == x.group) (counted below x) 0 ≡ counted below x = ap (λ (b : Bool). cond b (counted below x) 0) (eq-eqb x.group x.group refl) in
+    let front = sum_by-cons (counted below) x xs in
+    omega arith
+  where
+    each : (h : ℕ) → cond (below h) (own (x ∷ xs) h) 0 ≡ cond (below h) (own xs h) 0 + cond (x.group == h) (counted below x) 0
+    each h = elim (cases_eq x.group h) [
+      | inl e ↦
+          let mine : own (x ∷ xs) h ≡ x.pages =
+          ap (λ (b : Bool). option_map_or (λ (a : Account). a.pages) (cond b (Some x) (find (λ (a : Account). a.group == h) xs)) 0) (eq-eqb x.group h e) in
+          let none : own xs h ≡ 0 = own_none xs h (λ k d lt same. distinct 0 (suc k) d (omega arith) (omega arith) (e ∙ sym same)) in
+          let a : cond (below h) (own (x ∷ xs) h) 0 ≡ cond (below h) x.pages 0 = ap (λ (v : ℕ). cond (below h) v 0) mine in
+          let b : cond (below h) (own xs h) 0 ≡ 0 = ap (λ (v : ℕ). cond (below h) v 0) none ∙ cond_zero (below h) in
+          let c : cond (x.group == h) (counted below x) 0 ≡ counted below x = ap (λ (v : Bool). cond v (counted below x) 0) (eq-eqb x.group h e) in
+          let d : counted below x ≡ cond (below h) x.pages 0 = ap (λ (v : ℕ). cond (below v) x.pages 0) e in
+          omega arith
+      | inr ne ↦
+          let same : own (x ∷ xs) h ≡ own xs h =
+          ap (λ (b : Bool). option_map_or (λ (a : Account). a.pages) (cond b (Some x) (find (λ (a : Account). a.group == h) xs)) 0) (ne_eqb x.group h ne) in
+          let a : cond (below h) (own (x ∷ xs) h) 0 ≡ cond (below h) (own xs h) 0 = ap (λ (v : ℕ). cond (below h) v 0) same in
+          let c : cond (x.group == h) (counted below x) 0 ≡ 0 = ap (λ (v : Bool). cond v (counted below x) 0) (ne_eqb x.group h ne) in
+          omega arith
+    ]
+
+-- each account's number is one of 64
+all_small : (l : Ledger) → AreCharges l → All (λ (a : Account). a.group < 64) l.accounts
+all_small l facts = λ k d lt.
+    let many = as_many l facts in
+    let also : k < length l.groups = omega arith in
+    let same : (get_or l.accounts k d).group ≡ (get_or l.groups k the_root).number =
+    sym (get_or-map (λ (a : Account). a.group) l.accounts k d 0 lt) ∙ ap (λ (ns : List ℕ). get_or ns k 0) facts.numbers
+    ∙ get_or-map (λ (x : Group). x.number) l.groups k the_root 0 also in
+    let bound : (get_or l.groups k the_root).number < 64 = facts.groups.numbers k the_root also in
+    omega arith
+
+usage_by_number : (l : Ledger) (g : ℕ) → AreCharges l → current_of l g ≡ sum_to 64 (λ h. cond (in_subtree l.groups g h) (pages_of l h) 0)
+unfolding usage_charged pages_of account_at
+usage_by_number l g facts = by_number (in_subtree l.groups g) 64 l.accounts (all_distinct l facts) (all_small l facts)
+
+-- no account has another number
+none_beyond : (l : Ledger) (h : ℕ) → AreCharges l → 64 ≤ h → pages_of l h ≡ 0
+unfolding pages_of account_at
+none_beyond l h facts beyond = own_none l.accounts h (λ k d lt same. absurd (let a = all_small l facts k d lt in omega arith))
+
+-- ---- what one frame, or one book, counts for a subtree
+
+module _ (groups : List Group) (g : ℕ) where
+  picked : (k v : ℕ) (F : ℕ → ℕ) → k < 64 → F k ≡ v → ((h : ℕ) → (h ≡ k → ⊥) → F h ≡ 0)
+      → sum_to 64 (λ h. cond (in_subtree groups g h) (F h) 0) ≡ cond (in_subtree groups g k) v 0
+  picked k v F small value others =
+      sum_only 64 (λ h. cond (in_subtree groups g h) (F h) 0) k small
+      (λ h lt ne. ap (λ (x : ℕ). cond (in_subtree groups g h) x 0) (others h ne) ∙ cond_zero (in_subtree groups g h))
+      ∙ ap (λ (x : ℕ). cond (in_subtree groups g k) x 0) value
+
+  picked_none : (F : ℕ → ℕ) → ((h : ℕ) → F h ≡ 0) → sum_to 64 (λ h. cond (in_subtree groups g h) (F h) 0) ≡ 0
+  picked_none F none = sum_none 64 _ (λ h lt. ap (λ (x : ℕ). cond (in_subtree groups g h) x 0) (none h) ∙ cond_zero (in_subtree groups g h))
+
+  count_own : (k : ℕ) → count_of k (Some k) ≡ 1
+  count_own k = ap (λ (b : Bool). cond b 1 0) (eq-eqb k k refl)
+
+  count_other : (k h : ℕ) → (h ≡ k → ⊥) → count_of h (Some k) ≡ 0
+  count_other k h ne = ap (λ (b : Bool). cond b 1 0) (ne_eqb k h (λ e. ne (sym e)))
+
+  frame_counts : (o : Option ℕ) → ((k : ℕ) → o ≡ Some k → k < 64)
+      → sum_to 64 (λ h. cond (in_subtree groups g h) (count_of h o) 0) ≡ one_if (is_below groups g o)
+  frame_counts None small = picked_none (λ h. 0) (λ h. refl)
+  frame_counts (Some k) small = picked k 1 (λ h. count_of h (Some k)) (small k refl) (count_own k) (count_other k) ∙ cond_one (in_subtree groups g k)
+
+  book_counts : (o : Option ℕ) (b : ℕ) → ((k : ℕ) → o ≡ Some k → (k < 64) ⊎ (b ≡ 0))
+      → sum_to 64 (λ h. cond (in_subtree groups g h) (cond (count_of h o == 0) 0 b) 0) ≡ cond (is_below groups g o) b 0
+  book_counts None b small = picked_none (λ h. 0) (λ h. refl)
+  book_counts (Some k) b small = elim (small k refl) [
+    | inl inside ↦ picked k b (λ h. cond (count_of h (Some k) == 0) 0 b) inside (ap (λ (n : ℕ). cond (n == 0) 0 b) (count_own k))
+        (λ h ne. ap (λ (n : ℕ). cond (n == 0) 0 b) (count_other k h ne))
+    | inr none ↦
+        picked_none (λ h. cond (count_of h (Some k) == 0) 0 b)
+        (λ h. ap (λ (x : ℕ). cond (count_of h (Some k) == 0) 0 x) none ∙ cond_zero (count_of h (Some k) == 0))
+        ∙ sym (ap (λ (x : ℕ). cond (in_subtree groups g k) x 0) none ∙ cond_zero (in_subtree groups g k))
+  ]
+
+-- ---- all frames and all books
+
+module _ (t : KnownTable) (w : Words) (m : KnownMachine) (is : IsConsistent t w m) (charges : AreCharges m.ledger) (g : ℕ) where
+  abbrev groups : List Group
+  groups = m.ledger.groups
+
+  abbrev spot : ℕ → Spot
+  spot f = spot_at m.spots f
+
+  abbrev book : ℕ → Book
+  book p = account_of m.stock.view p
+
+  abbrev frame_count : ℕ → ℕ → ℕ
+  frame_count h f = count_of h (group_of (spot f))
+
+  abbrev book_count : ℕ → ℕ → ℕ
+  book_count h p = booked h (book p)
+
+  charged_frame : (f k : ℕ) → f < t.frames → group_of (spot f) ≡ Some k → k < 64
+  charged_frame f k inside at = elim (cases_lt k 64) [
+    | inl lt ↦ lt
+    | inr beyond ↦ absurd (
+        let none = none_beyond m.ledger k charges beyond in
+        let all = is.charged k in
+        let sized = is.sizes.spots in
+        let part = sum_part (length m.spots) (frame_count k) f (omega arith) in
+        let one : frame_count k f ≡ 1 = ap (λ (o : Option ℕ). count_of k o) at ∙ ap (λ (b : Bool). cond b 1 0) (eq-eqb k k refl) in
+        omega arith)
+  ]
+
+  booked_pages : (p k : ℕ) → p < t.cpus + 1 → (book p).group ≡ Some k → (k < 64) ⊎ ((book p).book ≡ 0)
+  booked_pages p k inside at = elim (cases_lt k 64) [
+    | inl lt ↦ inl lt
+    | inr beyond ↦ inr (
+        let none = none_beyond m.ledger k charges beyond in
+        let all = is.charged k in
+        let part = sum_part (t.cpus + 1) (book_count k) p inside in
+        let one : count_of k (book p).group ≡ 1 = ap (λ (o : Option ℕ). count_of k o) at ∙ ap (λ (b : Bool). cond b 1 0) (eq-eqb k k refl) in
+        let whole : book_count k p ≡ (book p).book = ap (λ (n : ℕ). cond (n == 0) 0 (book p).book) one in
+        omega arith)
+  ]
+
+  -- the usage of the group, by its frames and by the books of the stocks
+  pub ledger_side : current_of m.ledger g ≡ sum_to t.frames (λ f. one_if (is_below groups g (group_of (spot f))))
+      + sum_to (t.cpus + 1) (λ q. cond (is_below groups g (book q).group) (book q).book 0)
+  ledger_side =
+      let by = usage_by_number m.ledger g charges in
+      let split = sum_same 64 (λ h. cond (in_subtree groups g h) (pages_of m.ledger h) 0)
+      (λ h. sum_to t.frames (λ f. cond (in_subtree groups g h) (frame_count h f) 0) + sum_to (t.cpus + 1)
+      (λ p. cond (in_subtree groups g h) (book_count h p) 0))
+      (λ h lt. ap (λ (n : ℕ). cond (in_subtree groups g h) n 0) (is.charged h
+      ∙ ap (λ (n : ℕ). sum_to n (frame_count h) + pages_booked t m.stock h) is.sizes.spots)
+      ∙ cond_plus (in_subtree groups g h) (sum_to t.frames (frame_count h)) (sum_to (t.cpus + 1) (book_count h))
+      ∙ (λ i. cond_sum (in_subtree groups g h) t.frames (frame_count h) i + cond_sum (in_subtree groups g h) (t.cpus + 1) (book_count h) i)) in
+      let both = sum_both 64 (λ h. sum_to t.frames (λ f. cond (in_subtree groups g h) (frame_count h f) 0))
+      (λ h. sum_to (t.cpus + 1) (λ p. cond (in_subtree groups g h) (book_count h p) 0)) in
+      let turned = sum_swap 64 t.frames (λ h f. cond (in_subtree groups g h) (frame_count h f) 0) in
+      let turned_too = sum_swap 64 (t.cpus + 1) (λ h p. cond (in_subtree groups g h) (book_count h p) 0) in
+      let frames = sum_same t.frames (λ f. sum_to 64 (λ h. cond (in_subtree groups g h) (frame_count h f) 0))
+      (λ f. one_if (is_below groups g (group_of (spot f))))
+      (λ f lt. frame_counts groups g (group_of (spot f)) (λ k at. charged_frame f k lt at)) in
+      let books = sum_same (t.cpus + 1) (λ p. sum_to 64 (λ h. cond (in_subtree groups g h) (book_count h p) 0))
+      (λ q. cond (is_below groups g (book q).group) (book q).book 0)
+      (λ p lt. book_counts groups g (book p).group (book p).book (λ k at. booked_pages p k lt at)) in
+      omega arith

@@ -1,0 +1,24 @@
+-- Serves `carry_out_frame`: settling leaves the groups.
+use Rattle.std.proofs.Common.{◌≡◌, ℕ, List, [], ◌∷◌, ap, ◌∙◌, inl, inr}
+use Rattle.std.proofs.lemmas.Bool.{cases_Bool}
+use Rattle.cpu_part.specs.Cpus.{KnownCpu}
+use Rattle.mem_machine.specs.Machines.{KnownMachine, is_killed}
+use Rattle.mem_machine.specs.Local.{fresh_group, side}
+use Rattle.mem_machine.specs.Settling.{SettlesFresh, SettlesAllFresh, ReturnsAllBack, Settles}
+
+settled_fresh : (f : ℕ) (m n : KnownMachine) (c d : KnownCpu) → SettlesFresh f (side m c) (side n d) → n.ledger.groups ≡ m.ledger.groups
+settled_fresh f m n c d s = elim (cases_Bool (is_killed m.killed (fresh_group c))) [
+  | inl killed ↦ ap (λ (k : KnownMachine). k.ledger.groups) (s.drops killed).machine
+  | inr alive ↦ ap (λ (k : KnownMachine). k.ledger.groups) (s.keeps alive).machine
+]
+
+settled_all : (frames : List ℕ) (m n : KnownMachine) (c d : KnownCpu) → SettlesAllFresh frames (side m c) (side n d) → n.ledger.groups ≡ m.ledger.groups
+settled_all [] m n c d s = ap (λ (k : KnownMachine). k.ledger.groups) s.0
+settled_all (f ∷ rest) m n c d s = settled_all rest s.0.machine n s.0.cpu d s.2 ∙ settled_fresh f m s.0.machine c s.0.cpu s.1
+
+returned_all : (frames : List ℕ) (m n : KnownMachine) (c d : KnownCpu) → ReturnsAllBack frames (side m c) (side n d) → n.ledger.groups ≡ m.ledger.groups
+returned_all [] m n c d s = ap (λ (k : KnownMachine). k.ledger.groups) s.0
+returned_all (f ∷ rest) m n c d s = returned_all rest s.0.machine n s.0.cpu d s.2 ∙ ap (λ (k : KnownMachine). k.ledger.groups) s.1.machine
+
+pub settled_groups : (m n : KnownMachine) (c d : KnownCpu) → Settles (side m c) (side n d) → n.ledger.groups ≡ m.ledger.groups
+settled_groups m n c d s = returned_all c.back s.mid.machine n s.mid.cpu d s.back ∙ settled_all c.fresh m s.mid.machine c s.mid.cpu s.fresh
