@@ -73,13 +73,13 @@ shown_plain c f (Tail g) fresh back = refl
 
 -- ---- records, by their phases
 
-lent_plain : (x : Spot) (q : ℕ) → phase.Lent q OnList ≡ plain x → x ≡ Lent q
+pub lent_plain : (x : Spot) (q : ℕ) → phase.Lent q OnList ≡ plain x → x ≡ Lent q
 lent_plain Free q e = cc
 lent_plain (Lent r) q e = cc
 lent_plain (Head unit) q e = cc
 lent_plain (Tail g) q e = cc
 
-head_plain : (x : Spot) (u : ChargedUnit) → phase.Head u Live ≡ plain x → x ≡ Head u
+pub head_plain : (x : Spot) (u : ChargedUnit) → phase.Head u Live ≡ plain x → x ≡ Head u
 head_plain Free u e = cc
 head_plain (Lent r) u e = cc
 head_plain (Head unit) u e = cc

@@ -4,3 +4,6 @@ pub mod Others
 pub mod Together
 pub mod Wholes
 pub mod Fast
+pub mod Booting
+pub mod Currents
+pub mod Promised
