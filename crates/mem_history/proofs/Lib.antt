@@ -1,0 +1,9 @@
+pub mod Staying
+pub mod Covers
+pub mod Others
+pub mod Together
+pub mod Wholes
+pub mod Fast
+pub mod Booting
+pub mod Currents
+pub mod Promised

@@ -1,0 +1,248 @@
+-- The promise holds of what the machine and the parts show. Serves `the_whole_is_promised`.
+use Rattle.std.proofs.Common.{if◌then◌else◌, ◌≡◌, ℕ, ◌+◌, ◌≤◌, ◌==◌, Bool, true, false, Some, None, List, [], ◌∷◌, length, map, refl, sym, ◌∙◌, ap, subst, arith, inl, inr, zero, suc, eq-eqb}
+use Rattle.std.specs.Prelude.{nat_le}
+use Rattle.std.specs.List.{slice_get, range_with_len, slice_index_or}
+use Rattle.std.specs.Option.{option_map_or}
+use Rattle.std.proofs.lemmas.Bool.{cases_lt, cases_Bool, true≢false, and_from, and_left, and_right, le-leb, leb-true, cond-true, cond-false}
+use Rattle.std.proofs.lemmas.Option.{slice_get_past}
+use Rattle.frame_word.specs.Seats.{KnownTable}
+use Rattle.stock_word.specs.Stock.{Words, account_of}
+use Rattle.group_charge.specs.Charges.{AreCharges}
+use Rattle.zone_blocks.specs.Areas.{AreMaximalBlocks}
+use Rattle.cpu_part.specs.Cpus as parts
+use Rattle.cpu_part.specs.Cpus.{KnownCpu}
+use Rattle.step_rules.specs.declared.phase.ChargedUnit.{ChargedUnit}
+use Rattle.step_rules.specs.declared.phase.Stage.{Stage}
+use Rattle.step_rules.specs.declared.phase.Way.{Way}
+use Rattle.step_rules.specs.declared.phase.Stage.TheVariants.{FreshAt, BackAt, Live}
+use Rattle.step_rules.specs.declared.phase.Phase.{Phase}
+use Rattle.step_rules.specs.declared.phase.Phase.TheVariants as phase
+use Rattle.step_rules.specs.Phases.{Kind, Listed, Fresh, has_as, keeper_of}
+use Rattle.step_rules.specs.Phases as phases
+use Rattle.step_rules.specs.State.{Zone, State, Part, Stock, one_if, is_cpu, free_in}
+use Rattle.step_rules.specs.After.{Run, state_of}
+use Rattle.step_rules.specs.Lent.{lent_to}
+use Rattle.step_rules.specs.Promise.{IsShown}
+use Rattle.step_rules.specs.Cover.{hide_part}
+use Rattle.step_rules.proofs.Lists.{times}
+use Rattle.step_rules.proofs.Sound.{IsSound, PhasePaid, groups_in}
+use Rattle.step_rules.proofs.PhaseLemmas.{listed_is, fresh_is}
+use Rattle.step_rules.proofs.CoverParts.{own_part, other_part}
+use Rattle.step_rules.proofs.Freeing.{zone_of_run}
+use Rattle.step_rules.proofs.LentTo.{frames_are_lent}
+use Rattle.step_rules.proofs.Promising.{the_promise_is_kept}
+use Rattle.mem_machine.specs.declared.spot.Spot.{Spot}
+use Rattle.mem_machine.specs.declared.spot.Spot.TheVariants.{Free, Lent, Head, Tail}
+use Rattle.mem_machine.specs.Spots as spots
+use Rattle.mem_machine.specs.Spots.{spot_at, free_of}
+use Rattle.mem_machine.specs.Machines.{KnownMachine, IsConsistent}
+use Rattle.mem_machine.specs.Local.{part_with}
+use Rattle.mem_machine.specs.Interleaving.{zone_of}
+use Rattle.mem_history.specs.Whole.{ShowsAll, IsSeenAt}
+use Rattle.mem_history.specs.Kept.{AreTied, TheWholeIsPromised, list_by, fresh_frames_by, keeper_by, stock_by, shown_of}
+use Rattle.mem_history.proofs.Covers.{cover, plain, lent_plain, same_times}
+use Rattle.mem_history.proofs.Others.{HasOwn, has_own, own_shown, other_shown}
+use Rattle.mem_history.proofs.Together.{there}
+use Rattle.mem_history.proofs.Wholes.{whole_sound}
+use Rattle.mem_history.proofs.Currents.{spot_covers, current_is}
+
+-- a list in which no frame stands is empty
+none_stands : (xs : List ℕ) → ((f : ℕ) → times f xs ≡ 0) → xs ≡ []
+none_stands [] none = refl
+none_stands (x ∷ xs) none = absurd (let a = none x in let b : one_if (x == x) ≡ 1 = ap one_if (eq-eqb x x refl) in omega arith)
+
+-- ---- which frames are free
+
+free_covered : (y : Phase) → phases.is_free y ≡ phases.is_free (cover y)
+free_covered phase.InZone = refl
+free_covered (phase.Lent q way) = refl
+free_covered (phase.Tail g) = refl
+free_covered (phase.Head u (FreshAt q)) = refl
+free_covered (phase.Head u (BackAt q)) = refl
+free_covered (phase.Head u stage) = refl
+
+free_plain : (x : Spot) → phases.is_free (plain x) ≡ spots.is_free x
+free_plain Free = refl
+free_plain (Lent q) = refl
+free_plain (Head unit) = refl
+free_plain (Tail g) = refl
+
+free_each : (xs : List Spot) (F : ℕ → Bool) (a : ℕ) → ((i j : ℕ) → a + i ≡ j → F j ≡ spots.is_free (slice_index_or xs i Free)) →
+    map F (range_with_len a (length xs)) ≡ map spots.is_free xs
+free_each [] F a each = refl
+free_each (x ∷ xs) F a each =
+    let here : F a ≡ spots.is_free x = each 0 a (omega arith) in
+    let rest = free_each xs F (a + 1) (λ i j e. each (suc i) j (omega arith)) in
+    λ j. here j ∷ rest j
+
+-- ---- records, by their phases
+
+in_zone_plain : (x : Spot) → phase.InZone ≡ plain x → x ≡ Free
+in_zone_plain Free e = refl
+in_zone_plain (Lent q) e = cc
+in_zone_plain (Head unit) e = cc
+in_zone_plain (Tail g) e = cc
+
+tail_plain : (x : Spot) (g : ℕ) → phase.Tail g ≡ plain x → x ≡ Tail g
+tail_plain Free g e = cc
+tail_plain (Lent q) g e = cc
+tail_plain (Head unit) g e = cc
+tail_plain (Tail h) g e = cc
+
+any_lent_plain : (x : Spot) (q : ℕ) (way : Way) → phase.Lent q way ≡ plain x → x ≡ Lent q
+any_lent_plain Free q way e = cc
+any_lent_plain (Lent r) q way e = cc
+any_lent_plain (Head unit) q way e = cc
+any_lent_plain (Tail g) q way e = cc
+
+any_head_plain : (x : Spot) (u : ChargedUnit) (stage : Stage) → phase.Head u stage ≡ plain x → x ≡ Head u
+any_head_plain Free u stage e = cc
+any_head_plain (Lent r) u stage e = cc
+any_head_plain (Head unit) u stage e = cc
+any_head_plain (Tail g) u stage e = cc
+
+module _ (t : KnownTable) (w : Words) (run : Run) (m : KnownMachine) (cpus : List KnownCpu) (shows : ShowsAll t run m cpus)
+    (is : IsConsistent t w m) (charges : AreCharges m.ledger) (tied : AreTied t w cpus) (some : 1 ≤ t.cpus) where
+  abbrev zone : Zone
+  zone = zone_of t
+
+  abbrev whole : State
+  whole = state_of zone run
+
+  first : (c : KnownCpu) × (slice_get cpus 0 ≡ Some c)
+  first = there cpus 0 (let count = shows.count in omega arith)
+
+  sound : IsSound whole
+  sound = whole_sound t run m cpus 0 first.0 shows first.1
+
+  seen : (k : ℕ) (d : KnownCpu) → slice_get cpus k ≡ Some d → IsSeenAt t m whole k d
+  seen k d at = shows.each k d at
+
+  has : (k : ℕ) (d : KnownCpu) → slice_get cpus k ≡ Some d → HasOwn d whole
+  has k d at = has_own t m d whole (λ z. let named = (seen k d at).number in absurd (omega arith)) (seen k d at).sees
+
+  -- ---- who is nobody processor has nothing
+
+  nobody_listed : (p : ℕ) → is_cpu zone p ≡ false → (whole.parts p).list ≡ []
+  nobody_listed p nobody = none_stands (whole.parts p).list (λ f. elim (cases_Bool (has_as Listed p (whole.phases f))) [
+    | inl listed ↦ absurd (true≢false (sym (frames_are_lent zone run shows.legal f p (ap lent_to (listed_is p (whole.phases f) listed))) ∙ nobody))
+    | inr off ↦ sound.lists p Listed f ∙ ap one_if off
+  ])
+
+  nobody_fresh : (p : ℕ) → is_cpu zone p ≡ false → (whole.parts p).fresh ≡ []
+  nobody_fresh p nobody = none_stands (whole.parts p).fresh (λ f. elim (cases_Bool (has_as Fresh p (whole.phases f))) [
+    | inl fresh ↦
+        let was = fresh_is p (whole.phases f) fresh in
+        let paid : PhasePaid whole.zone.cpus (groups_in whole.parts) (phase.Head was.0 (FreshAt p)) =
+        subst (PhasePaid whole.zone.cpus (groups_in whole.parts)) was.1 (sound.frames f).paid in
+        let high : p ≤ t.cpus = subst (λ (z : Zone). p ≤ z.cpus) (zone_of_run zone run) paid.high in
+        absurd (true≢false (sym (and_from (nat_le 1 p) (nat_le p t.cpus) (le-leb 1 p paid.low) (le-leb p t.cpus high)) ∙ nobody))
+    | inr off ↦ sound.lists p Fresh f ∙ ap one_if off
+  ])
+
+  zero_no : is_cpu zone 0 ≡ false
+  zero_no = and_left (nat_le 1 0) (nat_le 0 t.cpus) refl
+
+  past_no : (k : ℕ) → length cpus ≤ k → is_cpu zone (suc k) ≡ false
+  past_no k past = elim (cases_Bool (nat_le (suc k) t.cpus)) [
+    | inl low ↦ absurd (let count = shows.count in let h = leb-true (suc k) t.cpus low in omega arith)
+    | inr high ↦ and_right (nat_le 1 (suc k)) (nat_le (suc k) t.cpus) high
+  ]
+
+  -- ---- lists and stocks
+
+  list_is : (p : ℕ) → list_by cpus p ≡ (whole.parts p).list
+  list_is zero = sym (nobody_listed 0 zero_no)
+  list_is (suc k) = elim (cases_lt k (length cpus)) [
+    | inl inside ↦
+        let part = there cpus k inside in
+        ap (λ o. option_map_or (λ (c : KnownCpu). c.list) o []) part.1 ∙ sym (has k part.0 part.1).list
+        ∙ ap (λ (q : ℕ). (whole.parts q).list) (seen k part.0 part.1).number
+    | inr past ↦ ap (λ o. option_map_or (λ (c : KnownCpu). c.list) o []) (slice_get_past cpus k past) ∙ sym (nobody_listed (suc k) (past_no k past))
+  ]
+
+  fresh_is_by : (p : ℕ) → fresh_frames_by cpus p ≡ (whole.parts p).fresh
+  fresh_is_by zero = sym (nobody_fresh 0 zero_no)
+  fresh_is_by (suc k) = elim (cases_lt k (length cpus)) [
+    | inl inside ↦
+        let part = there cpus k inside in
+        ap (λ o. option_map_or (λ (c : KnownCpu). c.fresh) o []) part.1 ∙ sym (has k part.0 part.1).fresh
+        ∙ ap (λ (q : ℕ). (whole.parts q).fresh) (seen k part.0 part.1).number
+    | inr past ↦ ap (λ o. option_map_or (λ (c : KnownCpu). c.fresh) o []) (slice_get_past cpus k past) ∙ sym (nobody_fresh (suc k) (past_no k past))
+  ]
+
+  -- the stock of who is nobody processor
+  nobody_stock : (p : ℕ) → is_cpu zone p ≡ false → (p ≡ first.0.number → ⊥) → stock_by m cpus p ≡ (whole.parts p).stock
+  nobody_stock p nobody far =
+      let fresh : fresh_frames_by cpus p ≡ [] = fresh_is_by p ∙ nobody_fresh p nobody in
+      let e : part_with [] [] [] (account_of m.stock.view p) ≡ hide_part (whole.parts p) =
+      sym (other_shown t m first.0 p far) ∙ ap (λ (x : State). x.parts p) (seen 0 first.0 first.1).sees ∙ other_part first.0.number whole.parts p far in
+      let long : length (whole.parts p).fresh ≡ 0 = ap length (nobody_fresh p nobody) in
+      let pages : (hide_part (whole.parts p)).stock.pages ≡ (whole.parts p).stock.pages = omega arith in
+      ap (λ (l : List ℕ). (part_with [] l [] (account_of m.stock.view p)).stock) fresh ∙ ap (λ (x : Part). x.stock) e
+      ∙ (λ i. record ((whole.parts p).stock) { pages = pages i })
+
+  stock_is : (p : ℕ) → stock_by m cpus p ≡ (whole.parts p).stock
+  stock_is zero = nobody_stock 0 zero_no (λ z. let named = (seen 0 first.0 first.1).number in absurd (omega arith))
+  stock_is (suc k) = elim (cases_lt k (length cpus)) [
+    | inl inside ↦
+        let part = there cpus k inside in
+        let d = part.0 in
+        let named = (seen k d part.1).number in
+        let e : part_with d.list d.fresh d.back (account_of m.stock.view (suc k)) ≡ whole.parts (suc k) =
+        sym (own_shown t m d (suc k) (sym named)) ∙ ap (λ (x : State). x.parts (suc k)) (seen k d part.1).sees
+        ∙ own_part d.number whole.parts (suc k) (sym named) in
+        ap (λ (l : List ℕ). (part_with [] l [] (account_of m.stock.view (suc k))).stock) (ap (λ o. option_map_or (λ (c : KnownCpu). c.fresh) o []) part.1)
+        ∙ ap (λ (x : Part). x.stock) e
+    | inr past ↦ nobody_stock (suc k) (past_no k past) (λ z. let named = (seen 0 first.0 first.1).number in let count = shows.count in absurd (omega arith))
+  ]
+
+  -- ---- keepers
+
+  fresh_times : (f p : ℕ) → parts.times f (fresh_frames_by cpus p) ≡ one_if (has_as Fresh p (whole.phases f))
+  fresh_times f p = same_times f (fresh_frames_by cpus p) ∙ ap (times f) (fresh_is_by p) ∙ sound.lists p Fresh f
+
+  lent_keeper : (f p : ℕ) (b : Bool) → has_as Fresh p (whole.phases f) ≡ b → keeper_by m cpus f (Lent p) ≡ (if b then (account_of m.stock.view p).group else None)
+  lent_keeper f p true e = cond-true _ _ _ (le-leb 1 (parts.times f (fresh_frames_by cpus p)) (let a = fresh_times f p in let b = ap one_if e in omega arith))
+  lent_keeper f p false e = cond-false _ _ _ (ap (nat_le 1) (fresh_times f p ∙ ap one_if e))
+
+  keeper_is : (f : ℕ) (x : Spot) (y : Phase) → whole.phases f ≡ y → cover y ≡ plain x → keeper_by m cpus f x ≡ keeper_of y
+  keeper_is f x phase.InZone e same = ap (keeper_by m cpus f) (in_zone_plain x same)
+  keeper_is f x (phase.Tail g) e same = ap (keeper_by m cpus f) (tail_plain x g same)
+  keeper_is f x (phase.Lent q way) e same =
+      ap (keeper_by m cpus f) (any_lent_plain x q way same) ∙ lent_keeper f q false (ap (has_as Fresh q) e)
+  keeper_is f x (phase.Head u (FreshAt q)) e same =
+      let paid : PhasePaid whole.zone.cpus (groups_in whole.parts) (phase.Head u (FreshAt q)) =
+      subst (PhasePaid whole.zone.cpus (groups_in whole.parts)) e (sound.frames f).paid in
+      ap (keeper_by m cpus f) (lent_plain x q same) ∙ lent_keeper f q true (ap (has_as Fresh q) e ∙ eq-eqb q q refl)
+      ∙ ap (λ (s : Stock). s.group) (stock_is q) ∙ paid.group
+  keeper_is f x (phase.Head u (BackAt q)) e same = ap (keeper_by m cpus f) (any_head_plain x u Live same)
+  keeper_is f x (phase.Head u stage) e same = ap (keeper_by m cpus f) (any_head_plain x u stage same)
+
+  covers_at : (f : ℕ) → cover (whole.phases f) ≡ plain (spot_at m.spots f)
+  covers_at = spot_covers t m first.0 whole (seen 0 first.0 first.1).sees
+
+  free_is : free_in whole.zone whole.phases ≡ free_of m.spots
+  free_is =
+      let sized : whole.zone.frames ≡ length m.spots = ap (λ (z : Zone). z.frames) (zone_of_run zone run) ∙ sym is.sizes.spots in
+      ap (λ (n : ℕ). map (λ f. phases.is_free (whole.phases f)) (range_with_len 0 n)) sized
+      ∙ free_each m.spots (λ f. phases.is_free (whole.phases f)) 0
+      (λ i j e. ap (λ (f : ℕ). phases.is_free (whole.phases f)) (sym (the_same i j e))
+      ∙ free_covered (whole.phases i) ∙ ap phases.is_free (covers_at i) ∙ free_plain (spot_at m.spots i))
+    where
+      the_same : (i j : ℕ) → 0 + i ≡ j → i ≡ j
+      the_same i j e = omega arith
+
+  pub is_shown : IsShown whole (shown_of m cpus)
+  is_shown = record {
+    areas = subst (λ (free : List Bool). AreMaximalBlocks free m.blocks) (sym free_is) is.areas;
+    lists = list_is;
+    keeper = λ f. keeper_is f (spot_at m.spots f) (whole.phases f) refl (covers_at f);
+    groups = ap (λ (x : State). x.groups) (seen 0 first.0 first.1).sees;
+    stocks = stock_is;
+    current = λ g known. current_is t w run m cpus 0 first.0 shows first.1 is (tied 0 first.0 first.1) charges g;
+  }
+
+pub the_whole_is_promised : TheWholeIsPromised
+the_whole_is_promised t w run m cpus shows is charges tied some =
+    the_promise_is_kept (zone_of t) run (shown_of m cpus) shows.legal shows.free (is_shown t w run m cpus shows is charges tied some)

@@ -1,0 +1,32 @@
+//! Laws: what each function ensures holds of every run, machine and parts.
+
+ghost use Rattle.mem_history.specs.Whole.{LinesFollow, FastLinesFollow};
+ghost use Rattle.mem_history.specs.Kept.{ABootIsShown, CurrentIsKept, TheWholeIsPromised};
+
+/// A new boot shows the run of no step.
+pub fn a_boot_is_shown()
+    ensures { ABootIsShown }
+{}
+
+/// Where a run shows the machine and all parts, a line that is served under the lock carries it on: the run goes on with
+/// Lock, the line's steps and Unlock, is legal, and shows the machine and all parts after the line. Each answer that other
+/// processors' words decide must be what all parts together decide.
+pub fn lines_follow()
+    ensures { LinesFollow }
+{}
+
+/// So does a step that takes no lock.
+pub fn fast_lines_follow()
+    ensures { FastLinesFollow }
+{}
+
+/// Wherever a run shows the machine and all parts, the ledger's number for a group is the frames that the group and those
+/// below it keep, and the pages prepaid for them, by the run.
+pub fn current_is_kept()
+    ensures { CurrentIsKept }
+{}
+
+/// Wherever a run shows the machine and all parts, the promise holds of what these show.
+pub fn the_whole_is_promised()
+    ensures { TheWholeIsPromised }
+{}
