@@ -26,6 +26,7 @@ pub mod Interleaves
 pub mod TakesBlocks
 pub mod Leaving
 pub mod Releases
+pub mod Evicts
 pub mod GivenFrames
 pub mod HandOvers
 pub mod Absorbs

@@ -11,5 +11,6 @@ pub mod Blocks
 pub mod Ending
 pub mod Interleaving
 pub mod Releasing
+pub mod Evicting
 pub mod Settling
 pub mod Paying

@@ -7,6 +7,7 @@
 
 mod blocks;
 mod ending;
+mod evicting;
 mod freed;
 mod groups;
 pub mod laws;
