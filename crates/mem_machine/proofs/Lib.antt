@@ -27,6 +27,8 @@ pub mod TakesBlocks
 pub mod Leaving
 pub mod Releases
 pub mod Evicts
+pub mod OneGroup
+pub mod Frames
 pub mod GivenFrames
 pub mod HandOvers
 pub mod Absorbs

@@ -6,6 +6,7 @@ pub mod Steps
 pub mod Lending
 pub mod Stocks
 pub mod Marks
+pub mod Ageing
 pub mod Freeing
 pub mod Blocks
 pub mod Ending

@@ -5,6 +5,7 @@
 //! of a type's values is known only where one of its calls says it.
 #![tactic(auto)]
 
+mod ageing;
 mod blocks;
 mod ending;
 mod evicting;
