@@ -16,7 +16,7 @@ use Rattle.lru_lists.specs.Queue.{oldest_of, after, link_at, nowhere, is_among, 
 use Rattle.lru_lists.specs.Queue.{newest_link, unlinked}
 use Rattle.lru_lists.specs.Lists.{active_of, inactive_of, is_marked_by_touch, first_entry, entry_after, KeepsUnits, OthersStand}
 use Rattle.lru_lists.specs.Lists.{OneOfAllChanges, changed_at, home_of, queue_of, with_queue, StandsIn, MovesOnly, entries_of, marked, entry_of}
-use Rattle.lru_lists.specs.Lists.{entries_without, place_of, list_of, ChangesOwn, IsOnNone}
+use Rattle.lru_lists.specs.Lists.{entries_without, place_of, list_of, owner_of, ChangesOwn, IsOnNone, SameOwners}
 use Rattle.lru_lists.proofs.Lists.{other_than_first}
 use Rattle.lru_lists.proofs.Linking.{units_are}
 use Rattle.lru_lists.proofs.Records.{set_same, set_other, part_set}
@@ -631,3 +631,52 @@ after_take_off before mid lru new list unit stands on mid_stands entries other g
       entries = λ m. forgotten_entries mid new unit mid_stands away lt m
           ∙ pulled_each before mid lru new list unit stands there entries other m;
     }
+
+-- ---- whose lists the frames stand on, and their dirt
+
+pub use_both : (a b c : List Link) (unit : ℕ) → SameUse a b unit → SameUse b c unit → SameUse a c unit
+use_both a b c unit p q = record {
+  frames = q.frames ∙ p.frames;
+  home = λ g ne. q.home g ne ∙ p.home g ne;
+  marked = λ g ne. q.marked g ne ∙ p.marked g ne;
+  dirty = λ g ne. q.dirty g ne ∙ p.dirty g ne;
+}
+
+pub forgotten_use : (links : List Link) (unit : ℕ) → SameUse links (slice_set links unit nowhere) unit
+forgotten_use links unit = record {
+  frames = length-set links unit nowhere;
+  home = λ g ne. ap (λ (k : Link). k.home) (set_other links unit g nowhere ne);
+  marked = λ g ne. ap (λ (k : Link). k.is_marked) (set_other links unit g nowhere ne);
+  dirty = λ g ne. ap (λ (k : Link). k.is_dirty) (set_other links unit g nowhere ne);
+}
+
+pub owners_both : (a b c : List Link) → SameOwners a b → SameOwners b c → SameOwners a c
+owners_both a b c p q = record { owner = λ f. q.owner f ∙ p.owner f; dirty = λ f. q.dirty f ∙ p.dirty f }
+
+-- a unit that stays on the owner's lists, as dirty as it was, where every other unit is used as it was
+pub owners_kept : (before after : List Link) (unit : ℕ) → SameUse before after unit
+    → owner_of (link_at after unit).home ≡ owner_of (link_at before unit).home → (link_at after unit).is_dirty ≡ (link_at before unit).is_dirty
+    → SameOwners before after
+owners_kept before after unit used own dirt = record {
+  owner = λ f. elim (cases_eq f unit) [
+    | inl e ↦ rw e own
+    | inr ne ↦ ap owner_of (used.home f ne)
+  ];
+  dirty = λ f. elim (cases_eq f unit) [ inl e ↦ rw e dirt | inr ne ↦ used.dirty f ne ];
+}
+
+-- a unit that was pulled from one of the owner's lists and pushed onto one of them
+pub moved_owners : (before mid after : List Link) (lru : Lru) (owner : ℕ) (from list : LruList) (unit : ℕ) → list_of before lru.owner unit ≡ Some from
+    → SameUse before mid unit → link_at mid unit ≡ unlinked (link_at before unit) → SameUse mid after unit → owner ≡ lru.owner
+    → owner_of (link_at after unit).home ≡ Some owner → (link_at after unit).is_dirty ≡ (link_at mid unit).is_dirty → SameOwners before after
+moved_owners before mid after lru owner from list unit on out pulled came same home dirt =
+    owners_kept before after unit (use_both before mid after unit out came)
+    (home ∙ ap Some same ∙ sym (ap owner_of (home_of_list (link_at before unit).home lru from on)))
+    (dirt ∙ ap (λ (k : Link). k.is_dirty) pulled)
+
+-- a unit whose mark was changed
+pub marked_owners : (links : List Link) (unit : ℕ) (mark : Bool) → SameOwners links (slice_set links unit (record (link_at links unit) { is_marked = mark }))
+marked_owners links unit mark = record {
+  owner = λ f. part_set (λ (k : Link). owner_of k.home) links unit f (record (link_at links unit) { is_marked = mark }) refl;
+  dirty = λ f. part_set (λ (k : Link). k.is_dirty) links unit f (record (link_at links unit) { is_marked = mark }) refl;
+}

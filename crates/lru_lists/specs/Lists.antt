@@ -78,6 +78,16 @@ pub record MovesOnly (before after : List Link) (owner f : ℕ) : Type 0 where
   pub home : (g : ℕ) → g ≢ f → (link_at after g).home ≡ (link_at before g).home
   pub kept : (g : ℕ) → g ≢ f → list_of before owner g ≡ None → link_at after g ≡ link_at before g
 
+-- whose list it is, if it is one
+abbrev pub owner_of : Option Home → Option ℕ
+owner_of None = None
+owner_of (Some h) = Some h.owner
+
+-- every frame stands on a list of the owner on whose lists it stood, and is as dirty as it was
+pub record SameOwners (before after : List Link) : Type 0 where
+  pub owner : (f : ℕ) → owner_of (link_at after f).home ≡ owner_of (link_at before f).home
+  pub dirty : (f : ℕ) → (link_at after f).is_dirty ≡ (link_at before f).is_dirty
+
 -- the list without the unit of this number
 abbrev pub entries_without : ℕ → List Entry → List Entry
 entries_without f [] = []

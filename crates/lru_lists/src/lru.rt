@@ -1,11 +1,11 @@
 //! The two lists of one owner, as a group: its inactive and its active units, each from the oldest to the newest.
 
 ghost use Rattle.std.specs.Prelude.{◌≡◌, ◌≢◌, ◌<◌, ◌++◌, [], ◌∷◌, false, List, None, Some, IfSome, length, map, take, drop, option_map};
-ghost use Rattle.lru_lists.specs.Queue.{link_at, nowhere, unlinked};
+ghost use Rattle.lru_lists.specs.Queue.{link_at, nowhere, unlinked, SameUse};
 ghost use Rattle.lru_lists.specs.declared.record.Link.{Link};
 ghost use Rattle.lru_lists.specs.declared.record.LruList.{LruList};
 ghost use Rattle.lru_lists.specs.declared.record.LruList.TheVariants.{Inactive};
-ghost use Rattle.lru_lists.specs.Lists.{StandsIn, HasNoUnits, IsOnNone, ChangesOwn, MovesOnly, KeepsUnits, Touches, Ages};
+ghost use Rattle.lru_lists.specs.Lists.{StandsIn, HasNoUnits, IsOnNone, ChangesOwn, MovesOnly, KeepsUnits, SameOwners, Touches, Ages};
 ghost use Rattle.lru_lists.specs.Lists.{inactive_of, active_of, entries_of, entries_without, changed_at, dirtied, marked, list_of, entry_of};
 ghost use Rattle.lru_lists.specs.Lists.{is_marked_by_touch, home_of, queue_of, with_queue, first_entry, entry_after};
 
@@ -89,6 +89,8 @@ impl Lru {
         ensures other { (m : LruList) → m ≢ list → entries_of links.new self.new m ≡ entries_of links.old self.old m }
         ensures unit { (link_at links.new unit).home ≡ Some (home_of self.old list) }
         ensures moves { MovesOnly links.old links.new self.old.owner unit }
+        ensures used { SameUse links.old links.new unit }
+        ensures dirt { (link_at links.new unit).is_dirty ≡ (link_at links.old unit).is_dirty }
     {
         let mut queue = self.queue(list);
         links.push_newest(&mut queue, self.home(list), unit);
@@ -105,6 +107,7 @@ impl Lru {
         ensures other { (m : LruList) → m ≢ list → entries_of links.new self.new m ≡ entries_of links.old self.old m }
         ensures unit { link_at links.new unit ≡ unlinked (link_at links.old unit) }
         ensures moves { MovesOnly links.old links.new self.old.owner unit }
+        ensures used { SameUse links.old links.new unit }
     {
         let mut queue = self.queue(list);
         links.unlink(&mut queue, self.home(list), unit);
@@ -161,6 +164,7 @@ impl Lru {
             ≡ entries_without unit (entries_of links.old self.old list) ++ marked false (entry_of links.old unit) ∷ [] }
         ensures lost { (m : LruList) → m ≢ list → entries_of links.new self.new m ≡ entries_without unit (entries_of links.old self.old m) }
         ensures keeps { KeepsUnits links.old links.new self.old.owner }
+        ensures owners { SameOwners links.old links.new }
     {
         let from = self.list(links, unit);
         self.pull(links, from, unit);
@@ -179,6 +183,7 @@ impl Lru {
         ensures forgotten { link_at links.new unit ≡ nowhere }
         ensures others { ChangesOwn links.old links.new self.old.owner }
         ensures moves { MovesOnly links.old links.new self.old.owner unit }
+        ensures used { SameUse links.old links.new unit }
     {
         let list = self.list(links, unit);
         self.pull(links, list, unit);
@@ -208,6 +213,7 @@ impl Lru {
         ensures owner { self.new.owner ≡ self.old.owner }
         ensures touches { Touches links.old self.old unit result links.new self.new }
         ensures others { ChangesOwn links.old links.new self.old.owner }
+        ensures owners { SameOwners links.old links.new }
     {
         if self.is_marked_by_touch(links, unit) {
             links.mark(unit, true);
@@ -216,6 +222,22 @@ impl Lru {
             self.move_to(links, LruList::Active, unit);
             Touched::Moved
         }
+    }
+
+    /// Moves a unit of the inactive list to its newest end, unmarked: its second chance, where it was marked.
+    pub fn renew(&mut self, links: &mut Links, unit: u32)
+        requires frame { unit < length links.old }
+        requires on { list_of links.old self.old.owner unit ≡ Some Inactive }
+        requires stands { StandsIn links.old self.old }
+        ensures stands { StandsIn links.new self.new }
+        ensures owner { self.new.owner ≡ self.old.owner }
+        ensures inactive { inactive_of links.new self.new
+            ≡ entries_without unit (inactive_of links.old self.old) ++ marked false (entry_of links.old unit) ∷ [] }
+        ensures active { active_of links.new self.new ≡ active_of links.old self.old }
+        ensures others { ChangesOwn links.old links.new self.old.owner }
+        ensures owners { SameOwners links.old links.new }
+    {
+        self.move_to(links, LruList::Inactive, unit);
     }
 
     /// Notes whether the pages of a unit of the two lists are dirty.
@@ -280,6 +302,7 @@ impl Lru {
         ensures inactive { inactive_of links.new self.new ≡ inactive_of links.old self.old ++ map (marked false) (take 1 (active_of links.old self.old)) }
         ensures active { active_of links.new self.new ≡ drop 1 (active_of links.old self.old) }
         ensures keeps { KeepsUnits links.old links.new self.old.owner }
+        ensures owners { SameOwners links.old links.new }
     {
         let oldest = self.active.oldest.unwrap();
         self.move_to(links, LruList::Inactive, oldest);
@@ -293,6 +316,7 @@ impl Lru {
         ensures owner { self.new.owner ≡ self.old.owner }
         ensures ages { Ages links.old self.old links.new self.new }
         ensures others { ChangesOwn links.old links.new self.old.owner }
+        ensures owners { SameOwners links.old links.new }
     {
         while self.inactive.length < self.active.length {
             self.demote(links);

@@ -7,7 +7,7 @@ use Rattle.lru_lists.specs.declared.record.Link.{Link}
 use Rattle.lru_lists.specs.declared.record.Home.{Home}
 use Rattle.lru_lists.specs.declared.record.LruList.TheVariants.{Inactive, Active}
 use Rattle.lru_lists.specs.declared.lru.Lru.{Lru}
-use Rattle.lru_lists.specs.Queue.{link_at, nowhere}
+use Rattle.lru_lists.specs.Queue.{link_at, nowhere, SameUse}
 use Rattle.lru_lists.specs.Lists.{OthersStand, OneOfAllChanges, StandsIn, AllStand, ChangesOwn, MovesOnly, inactive_of, active_of, entries_without}
 use Rattle.lru_lists.specs.Lists.{list_of, place_of}
 use Rattle.mem_machine.specs.Machines.{home_of, no_lists}
@@ -49,7 +49,7 @@ module _ (links : List Link) (lists : List Lru) (f : ℕ) (h : Home) (home : Som
   module _ (after : List Link) (new : Lru) (now_stands : StandsIn after new) (same : new.owner ≡ lru.owner)
       (inactive : inactive_of after new ≡ entries_without f (inactive_of links lru)) (active : active_of after new ≡ entries_without f (active_of links lru))
       (forgotten : link_at after f ≡ nowhere) (changes : ChangesOwn links after lru.owner) (moves : MovesOnly links after lru.owner f)
-      (others_stand : OthersStand) (one_of_all_changes : OneOfAllChanges) where
+      (used : SameUse links after f) (others_stand : OthersStand) (one_of_all_changes : OneOfAllChanges) where
     now_its : lists_in (slice_set lists h.owner new) h.owner ≡ new
     now_its = get_or-set_same lists h.owner new no_lists bound
 
@@ -67,6 +67,7 @@ module _ (links : List Link) (lists : List Lru) (f : ℕ) (h : Home) (home : Som
         forgotten = forgotten;
         homes = moves.home;
         loose = λ g none. moves.kept g (λ e. none-some h (sym none ∙ ap (home_of links) e ∙ sym home)) (ap (λ (x : Option Home). place_of x lru.owner) none);
+        used = used;
         inactive = subst (λ (x : Lru × Lru). inactive_of after x.1 ≡ entries_without f (inactive_of links x.0))
             (λ i. (sym its_lists i, sym now_its i)) inactive;
         active = subst (λ (x : Lru × Lru). active_of after x.1 ≡ entries_without f (active_of links x.0)) (λ i. (sym its_lists i, sym now_its i)) active;

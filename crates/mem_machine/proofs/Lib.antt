@@ -27,6 +27,9 @@ pub mod Interleaves
 pub mod TakesBlocks
 pub mod Leaving
 pub mod Releases
+pub mod Evicts
+pub mod OneGroup
+pub mod Frames
 pub mod GivenFrames
 pub mod HandOvers
 pub mod Absorbs

@@ -1,5 +1,5 @@
--- The zone's reference on a kept unit is given up. Serves `release`.
-use Rattle.std.proofs.Common.{◌≡◌, ◌≢◌, ℕ, ◌+◌, ◌-◌, ◌^◌, ◌<◌, ◌≤◌, ◌==◌, Bool, true, false, Option, Some, None, List, length, get_or, refl, sym, ap, ◌∙◌}
+-- The zone's reference on a kept unit is given up. Serves `release` and `evict`.
+use Rattle.std.proofs.Common.{◌≡◌, ◌≢◌, ℕ, ◌+◌, ◌-◌, ◌^◌, ◌<◌, ◌≤◌, ◌==◌, Bool, true, false, Option, Some, None, List, [], ◌∷◌, length, get_or, refl, sym, ap, ◌∙◌}
 use Rattle.std.proofs.Common.{subst, inl, inr, arith, cond}
 use Rattle.std.specs.Prelude.{IfSome, is_some, nat_le}
 use Rattle.std.proofs.lemmas.Bool.{cases_eq, ne_eqb, and_from, lt-ltb, le-leb}
@@ -24,21 +24,25 @@ use Rattle.step_rules.specs.declared.phase.ChargedUnit.{ChargedUnit}
 use Rattle.step_rules.specs.declared.phase.Stage.TheVariants.{Live, BackAt, Ended}
 use Rattle.step_rules.specs.declared.phase.Phase.{Phase}
 use Rattle.step_rules.specs.declared.phase.Phase.TheVariants as phase
+use Rattle.step_rules.specs.declared.step.Action.{Action}
 use Rattle.step_rules.specs.declared.step.Action.TheVariants.{Put, Return}
+use Rattle.step_rules.specs.declared.step.Answer.{Answer}
 use Rattle.step_rules.specs.declared.step.Answer.TheVariants as answer
 use Rattle.step_rules.specs.Phases.{at_stage, may_return, unit_of}
 use Rattle.step_rules.specs.State.{State, with_at, one_if}
 use Rattle.step_rules.specs.Legal.{is_legal}
-use Rattle.step_rules.specs.After.{after, is_within, without_unit, unit_size}
+use Rattle.step_rules.specs.After.{Run, after, is_within, without_unit, unit_size}
+use Rattle.step_rules.specs.Laws.{IsLocalStep}
 use Rattle.step_rules.proofs.Basics.{at_same, at_other}
 use Rattle.step_rules.proofs.Placing.{within_cases}
 use Rattle.mem_machine.specs.declared.spot.Spot.{Spot}
 use Rattle.mem_machine.specs.declared.spot.Spot.TheVariants.{Free, Head}
-use Rattle.mem_machine.specs.Spots.{spot_at, free_of, head_group_of, lent_to}
-use Rattle.mem_machine.specs.Machines.{KnownMachine, FitsSpot, IsConsistent, Visits, home_of, is_killed}
-use Rattle.mem_machine.specs.Local.{IsLocalRun, local_of, phase_of, references_of, side}
+use Rattle.mem_machine.specs.Spots.{spot_at, free_of, head_group_of, lent_to, some_cpu}
+use Rattle.mem_machine.specs.Machines.{KnownMachine, FitsSpot, IsConsistent, Visits, BalancesCounts, home_of, is_killed}
+use Rattle.mem_machine.specs.Local.{IsLocalRun, MakesForAny, local_of, phase_of, references_of, side}
 use Rattle.mem_machine.specs.Freeing.{FreesFrames, with_last_put}
 use Rattle.mem_machine.specs.Releasing.{LeavesList, ReturnsUnit, release_steps}
+use Rattle.mem_machine.specs.Steps.{zone_makes}
 use Rattle.mem_machine.specs.declared.machine.Counts.{Counts}
 use Rattle.mem_machine.specs.declared.releasing.Released.TheVariants.{Left, Returned}
 use Rattle.mem_machine.proofs.Reaching.{zone_step}
@@ -92,6 +96,23 @@ references_less seat c f change less q x = elim (cases_eq q 0) [
       ∙ sym (ap (λ (b : Bool). cond b (holds (seat_with seat f change) x) (cond (q == c.number) (holds c.seat x) 0)) u)
 ]
 
+-- ---- what brings a frame into the zone's hand
+
+-- the frame comes into the own hand, with one reference less
+pub record TakesInHand (change : FrameNote → FrameNote) : Type 0 where
+  pub own : (k : FrameNote) → (change k).own ≡ 1
+  pub lent : (k : FrameNote) → (change k).lent ≡ k.lent
+  pub references : (k : FrameNote) → (change k).references ≡ k.references - 1
+  pub passed_out : (k : FrameNote) → (change k).passed_out ≡ k.passed_out
+  pub collected : (k : FrameNote) → (change k).collected ≡ k.collected
+
+last_in_hand : TakesInHand let_go_last
+last_in_hand = record { own = λ k. refl; lent = λ k. refl; references = λ k. refl; passed_out = λ k. refl; collected = λ k. refl }
+
+may_put_one : (t : KnownTable) (m : KnownMachine) (f : ℕ) → f < t.frames → holds m.seat f ≡ 1 → (c : KnownCpu) → is_legal (local_of t m c) 0 (Put f) ≡ true
+may_put_one t m f inside held c =
+    and_from _ _ (and_from _ _ (zone_may_act m.seat c.number) (lt-ltb f t.frames inside)) (le-leb 1 (holds m.seat f) (omega (arith, held)))
+
 -- ---- the unit
 
 -- the record of a head tells its unit
@@ -126,9 +147,6 @@ module _ (t : KnownTable) (w : Words) (m : KnownMachine) (ok : IsConsistent t w 
   pub held_once : holds m.seat f ≡ 1
   held_once = kept_once (home_of m.links f) (holds m.seat f) (ok.spots f inside).references kept
 
-  pub held : 1 ≤ holds m.seat f
-  held = let a = held_once in omega (arith, a)
-
   module _ (links : List Link) (lists : List Lru) (leaves : LeavesList m.links m.lists f links lists) (stand : AllStand links lists)
       (linked : length links ≡ t.frames) (listed : length lists ≡ 64) where
     homeless : home_of links f ≡ None
@@ -150,7 +168,7 @@ module _ (t : KnownTable) (w : Words) (m : KnownMachine) (ok : IsConsistent t w 
         (λ i. (sym (note_else m.seat.view f g change ne) i, sym (leaves.homes g ne) i)) (ok.spots g within)
 
     may_put : (c : KnownCpu) → is_legal (local_of t m c) 0 (Put f) ≡ true
-    may_put c = and_from _ _ (and_from _ _ (zone_may_act m.seat c.number) (lt-ltb f t.frames inside)) (le-leb 1 (holds m.seat f) held)
+    may_put c = may_put_one t m f inside held_once c
 
     -- ---- references of processors are left
 
@@ -188,19 +206,22 @@ module _ (t : KnownTable) (w : Words) (m : KnownMachine) (ok : IsConsistent t w 
             λ i. record s { references = λ q x. references_less m.seat c f (let_go left) (λ k. refl) q x i },
           )
 
-    -- ---- it was the last reference
+    -- ---- it comes into the zone's hand
 
     module _ (unit : ChargedUnit) (heads : spot_at m.spots f ≡ Head unit) where
-      abbrev last_seat : KnownSeat
-      last_seat = seat_with m.seat f let_go_last
-
       -- the head in the zone's hand fits the record of a free frame
-      pub last_fits : FitsSpot (note_of last_seat.view f) (home_of links f) Free
-      last_fits = subst (λ (k : FrameNote). FitsSpot k (home_of links f) Free) (sym (note_here m.seat.view f let_go_last))
-          (record { own = refl; lent = (ok.spots f inside).lent ∙ ap lent_to heads; references = no_reference; kept = no_home Free })
+      pub hand_fits : (change : FrameNote → FrameNote) → TakesInHand change → FitsSpot (note_of (seat_with m.seat f change).view f) (home_of links f) Free
+      hand_fits change takes = subst (λ (k : FrameNote). FitsSpot k (home_of links f) Free) (sym (note_here m.seat.view f change))
+          (record {
+            own = takes.own (note_of m.seat.view f);
+            lent = ap some_cpu (takes.lent (note_of m.seat.view f)) ∙ (ok.spots f inside).lent ∙ ap lent_to heads;
+            references = takes.references (note_of m.seat.view f) ∙ no_reference;
+            kept = no_home Free;
+          })
 
       module _ (c : KnownCpu) where
-        abbrev ended : State
+        -- the state in which the head is in the zone's hand, and nobody has a reference
+        abbrev pub ended : State
         ended = after (local_of t m c) 0 (Put f) answer.Last
 
         ended_stage : (b : Bool) → at_stage Ended (cond b (phase.Head unit (BackAt c.number)) (phase.Head unit Live)) ≡ phase.Head unit Ended
@@ -232,26 +253,25 @@ module _ (t : KnownTable) (w : Words) (m : KnownMachine) (ok : IsConsistent t w 
                   ∙ sym (ap (phase_of c x) (frees.records x ∙ ap (λ (b : Bool). cond b Free (spot_at m.spots x)) out.0))
             ]
 
-        pub returned_runs : (spots : List Spot) (blocks : List Block) (counts : Counts) → FreesFrames m.spots f (2 ^ unit.order) spots
-            → IsLocalRun c.number (local_of t m c) (release_steps f Returned) (local_of t (record m {
+        -- its return leads to the machine in which its frames are free
+        pub return_runs : (change : FrameNote → FrameNote) → TakesInHand change → (spots : List Spot) (blocks : List Block) (counts : Counts)
+            → FreesFrames m.spots f (2 ^ unit.order) spots
+            → IsLocalRun c.number ended (zone_makes (Return f) answer.Done ∷ []) (local_of t (record m {
               blocks = blocks;
               spots = spots;
               ledger = with_uncharge m.ledger unit.group (2 ^ unit.order);
               links = links;
               lists = lists;
-              seat = last_seat;
+              seat = seat_with m.seat f change;
               counts = counts;
             }) c)
-        returned_runs spots blocks counts frees =
+        return_runs change takes spots blocks counts frees =
             let s = local_of t m c in (
-              zone_step s c.number (Put f) answer.Last refl (may_put c) tt,
-              (
-                zone_step ended c.number (Return f) answer.Done refl may_come_back tt,
-                λ i. record s {
-                  phases = λ x. phases_after spots frees x i;
-                  references = λ q x. references_less m.seat c f let_go_last (λ k. refl) q x i;
-                },
-              ),
+              zone_step ended c.number (Return f) answer.Done refl may_come_back tt,
+              λ i. record s {
+                phases = λ x. phases_after spots frees x i;
+                references = λ q x. references_less m.seat c f change takes.references q x i;
+              },
             )
 
 -- the record that was read is the frame's
@@ -264,43 +284,50 @@ read_head t w m ok f i inside is x unit read head =
 
 -- ---- all of it, of the machine as it was seen before
 
-pub record AllLeft (t : KnownTable) (w : Words) (now : KnownMachine) (c : KnownCpu) (f left : ℕ) (n : KnownMachine) : Type 0 where
+pub record AllLeft (t : KnownTable) (w : Words) (now : KnownMachine) (f left : ℕ) (n : KnownMachine) : Type 0 where
   pub consistent : IsConsistent t w n
-  pub visit : Visits t (side n c)
-  pub steps : IsLocalRun c.number (local_of t now c) (release_steps f (Left left)) (local_of t n c)
+  pub visit : (c : KnownCpu) → Visits t (side now c) → Visits t (side n c)
+  pub steps : MakesForAny t now (release_steps f (Left left)) n
 
-pub left_all : (t : KnownTable) (w : Words) (m now : KnownMachine) → m ≡ now → IsConsistent t w m → (c : KnownCpu) → Visits t (side now c) → (f i : ℕ) → f < t.frames
-    → i ≡ f → home_of now.links f ≢ None → (links : List Link) (lists : List Lru) → LeavesList m.links m.lists i links lists → AllStand links lists
+pub left_all : (t : KnownTable) (w : Words) (m now : KnownMachine) → m ≡ now → IsConsistent t w m → (f i : ℕ) → f < t.frames → i ≡ f → home_of now.links f ≢ None → (links : List Link) (lists : List Lru) → LeavesList m.links m.lists i links lists → AllStand links lists
     → length links ≡ length m.links → length lists ≡ 64 → (left : ℕ) (seat : KnownSeat) → seat ≡ seat_with m.seat f (let_go left)
-    → AllLeft t w now c f left (record m { links = links; lists = lists; seat = seat })
-left_all t w m now same ok c visit_now f i inside is kept_now links lists left_list stand linked listed left seat put =
-    let visit : Visits t (side m c) = subst (λ (x : KnownMachine). Visits t (side x c)) (sym same) visit_now in
+    → AllLeft t w now f left (record m { links = links; lists = lists; seat = seat })
+left_all t w m now same ok f i inside is kept_now links lists left_list stand linked listed left seat put =
     let kept : home_of m.links f ≢ None = subst (λ (x : KnownMachine). home_of x.links f ≢ None) (sym same) kept_now in
     let leaves : LeavesList m.links m.lists f links lists = subst (λ (x : ℕ). LeavesList m.links m.lists x links lists) is left_list in
     let sized : length links ≡ t.frames = linked ∙ ok.sizes.links in
     let n : KnownMachine = record m { links = links; lists = lists; seat = seat_with m.seat f (let_go left) } in
-    let all : AllLeft t w m c f left n = record {
+    let all : AllLeft t w m f left n = record {
       consistent = left_consistent t w m ok f inside kept links lists leaves stand sized listed left;
-      visit = visit_stays t m n c f (let_go left) refl (λ k. refl) (λ k. refl) (λ k. refl) visit;
-      steps = left_runs t w m ok f inside kept links lists leaves stand sized listed left c;
+      visit = λ c visit. visit_stays t m n c f (let_go left) refl (λ k. refl) (λ k. refl) (λ k. refl) visit;
+      steps = left_runs t w m ok f inside kept links lists leaves stand sized listed left;
     } in
-    subst (λ (x : KnownMachine × KnownSeat). AllLeft t w x.0 c f left (record m { links = links; lists = lists; seat = x.1 })) (λ j. (same j, sym put j)) all
+    subst (λ (x : KnownMachine × KnownSeat). AllLeft t w x.0 f left (record m { links = links; lists = lists; seat = x.1 })) (λ j. (same j, sym put j)) all
 
-pub record AllReturned (t : KnownTable) (w : Words) (now : KnownMachine) (c : KnownCpu) (f : ℕ) (free : List Bool) (n : KnownMachine) : Type 0 where
+-- what is left where a kept unit came into the zone's hand by the step before the last one, and came back
+pub record AllBack (t : KnownTable) (w : Words) (now : KnownMachine) (f : ℕ) (unit : ChargedUnit) (free : List Bool) (steps : Run) (n : KnownMachine) : Type 0 where
   pub consistent : IsConsistent t w n
   pub free_is : free ≡ free_of n.spots
-  pub returns : ReturnsUnit now f n
-  pub visit : Visits t (side n c)
-  pub steps : IsLocalRun c.number (local_of t now c) (release_steps f Returned) (local_of t n c)
+  pub heads : spot_at now.spots f ≡ Head unit
+  pub list : LeavesList now.links now.lists f n.links n.lists
+  pub frees : FreesFrames now.spots f (2 ^ unit.order) n.spots
+  pub areas : AreMaximalBlocks (free_of n.spots) n.blocks
+  pub visit : (c : KnownCpu) → Visits t (side now c) → Visits t (side n c)
+  pub runs : MakesForAny t now steps n
 
-pub returned_all : (t : KnownTable) (w : Words) (m now : KnownMachine) → m ≡ now → IsConsistent t w m → (c : KnownCpu) → Visits t (side now c) → (f i : ℕ)
+-- where the step before the last one leaves the state that the zone's last put leaves
+pub back_all : (t : KnownTable) (w : Words) (m now : KnownMachine) → m ≡ now → IsConsistent t w m → (f i : ℕ)
     → f < t.frames → i ≡ f → home_of now.links f ≢ None → (links : List Link) (lists : List Lru) → LeavesList m.links m.lists i links lists
-    → AllStand links lists → length links ≡ length m.links → length lists ≡ 64 → (seat : KnownSeat) → seat ≡ seat_with m.seat f let_go_last
+    → AllStand links lists → length links ≡ length m.links → length lists ≡ 64
+    → (change : FrameNote → FrameNote) → TakesInHand change → (seat : KnownSeat) → seat ≡ seat_with m.seat f change
+    → (action : Action) (answered : Answer)
+    → ((c : KnownCpu) → holds m.seat f ≡ 1 → IsLocalStep (local_of t m c) c.number 0 action answered)
+    → ((c : KnownCpu) → after (local_of t m c) 0 action answered ≡ after (local_of t m c) 0 (Put f) answer.Last)
     → (unit : ChargedUnit) → spot_at m.spots i ≡ Head unit
     → (before free : List Bool) (blocks : List Block) (spots : List Spot) (ledger : Ledger) (counts : Counts)
     → before ≡ free_of m.spots → FreesFrames m.spots i (2 ^ unit.order) spots → GivesFrames before (record { at = i; order = unit.order }) free
-    → AreMaximalBlocks free blocks → ledger ≡ with_uncharge m.ledger unit.group (2 ^ unit.order) → counts ≡ with_last_put m.counts
-    → AllReturned t w now c f free (record m {
+    → AreMaximalBlocks free blocks → ledger ≡ with_uncharge m.ledger unit.group (2 ^ unit.order) → BalancesCounts counts
+    → AllBack t w now f unit free (zone_makes action answered ∷ zone_makes (Return f) answer.Done ∷ []) (record m {
       blocks = blocks;
       spots = spots;
       ledger = ledger;
@@ -309,9 +336,8 @@ pub returned_all : (t : KnownTable) (w : Words) (m now : KnownMachine) → m ≡
       seat = seat;
       counts = counts;
     })
-returned_all t w m now same ok c visit_now f i inside is kept_now links lists left_list stand linked listed seat put unit head before free blocks spots
-    ledger counts was frees_i gives_i areas_free uncharged counted =
-    let visit : Visits t (side m c) = subst (λ (x : KnownMachine). Visits t (side x c)) (sym same) visit_now in
+back_all t w m now same ok f i inside is kept_now links lists left_list stand linked listed change takes seat put action answered first ends unit head before
+    free blocks spots ledger counts was frees_i gives_i areas_free uncharged balances =
     let kept : home_of m.links f ≢ None = subst (λ (x : KnownMachine). home_of x.links f ≢ None) (sym same) kept_now in
     let leaves : LeavesList m.links m.lists f links lists = subst (λ (x : ℕ). LeavesList m.links m.lists x links lists) is left_list in
     let sized : length links ≡ t.frames = linked ∙ ok.sizes.links in
@@ -322,26 +348,34 @@ returned_all t w m now same ok c visit_now f i inside is kept_now links lists le
     let free_is : free ≡ free_of spots =
     free_block_given before free m.spots spots f unit.order (ok.units.heads f unit heads).block.inside was gives frees in
     let areas : AreMaximalBlocks (free_of spots) blocks = subst (λ (l : List Bool). AreMaximalBlocks l blocks) free_is areas_free in
+    let steps : Run = zone_makes action answered ∷ zone_makes (Return f) answer.Done ∷ [] in
     let n : KnownMachine = record m {
       blocks = blocks;
       spots = spots;
       ledger = with_uncharge m.ledger unit.group (2 ^ unit.order);
       links = links;
       lists = lists;
-      seat = seat_with m.seat f let_go_last;
-      counts = with_last_put m.counts;
+      seat = seat_with m.seat f change;
+      counts = counts;
     } in
-    let all : AllReturned t w m c f free n = record {
-      consistent = unit_freed_consistent t w m ok f unit heads spots blocks links lists (seat_with m.seat f let_go_last) (with_last_put m.counts) frees areas
+    let all : AllBack t w m f unit free steps n = record {
+      consistent = unit_freed_consistent t w m ok f unit heads spots blocks links lists (seat_with m.seat f change) counts frees areas
           (let s = ok.seats.frames in (s.0, s.1)) sized listed stand
-          (others_fit t w m ok f inside kept links lists leaves stand sized listed let_go_last)
-          (last_fits t w m ok f inside kept links lists leaves stand sized listed unit heads) (balanced_last_put m.counts ok.balances);
+          (others_fit t w m ok f inside kept links lists leaves stand sized listed change)
+          (hand_fits t w m ok f inside kept links lists leaves stand sized listed unit heads change takes) balances;
       free_is = free_is;
-      returns = record { unit = unit; heads = heads; list = leaves; frees = frees; areas = areas; machine = refl };
-      visit = visit_stays t m n c f let_go_last refl (λ k. refl) (λ k. refl) (λ k. refl) visit;
-      steps = returned_runs t w m ok f inside kept links lists leaves stand sized listed unit heads c spots blocks (with_last_put m.counts) frees;
+      heads = heads;
+      list = leaves;
+      frees = frees;
+      areas = areas;
+      visit = λ c visit. visit_stays t m n c f change refl takes.lent takes.passed_out takes.collected visit;
+      runs = λ c. (
+        first c (held_once t w m ok f inside kept),
+        subst (λ (s : State). IsLocalRun c.number s (zone_makes (Return f) answer.Done ∷ []) (local_of t n c)) (sym (ends c))
+            (return_runs t w m ok f inside kept links lists leaves stand sized listed unit heads c change takes spots blocks counts frees),
+      );
     } in
-    subst (λ (x : KnownMachine × KnownMachine). AllReturned t w x.0 c f free x.1) (λ j. (
+    subst (λ (x : KnownMachine × KnownMachine). AllBack t w x.0 f unit free steps x.1) (λ j. (
       same j,
       record m {
         blocks = blocks;
@@ -350,6 +384,57 @@ returned_all t w m now same ok c visit_now f i inside is kept_now links lists le
         links = links;
         lists = lists;
         seat = sym put j;
-        counts = sym counted j;
+        counts = counts;
       },
     )) all
+
+pub record AllReturned (t : KnownTable) (w : Words) (now : KnownMachine) (f : ℕ) (free : List Bool) (n : KnownMachine) : Type 0 where
+  pub consistent : IsConsistent t w n
+  pub free_is : free ≡ free_of n.spots
+  pub returns : ReturnsUnit now f n
+  pub visit : (c : KnownCpu) → Visits t (side now c) → Visits t (side n c)
+  pub steps : MakesForAny t now (release_steps f Returned) n
+
+pub returned_all : (t : KnownTable) (w : Words) (m now : KnownMachine) → m ≡ now → IsConsistent t w m → (f i : ℕ)
+    → f < t.frames → i ≡ f → home_of now.links f ≢ None → (links : List Link) (lists : List Lru) → LeavesList m.links m.lists i links lists
+    → AllStand links lists → length links ≡ length m.links → length lists ≡ 64 → (seat : KnownSeat) → seat ≡ seat_with m.seat f let_go_last
+    → (unit : ChargedUnit) → spot_at m.spots i ≡ Head unit
+    → (before free : List Bool) (blocks : List Block) (spots : List Spot) (ledger : Ledger) (counts : Counts)
+    → before ≡ free_of m.spots → FreesFrames m.spots i (2 ^ unit.order) spots → GivesFrames before (record { at = i; order = unit.order }) free
+    → AreMaximalBlocks free blocks → ledger ≡ with_uncharge m.ledger unit.group (2 ^ unit.order) → counts ≡ with_last_put m.counts
+    → AllReturned t w now f free (record m {
+      blocks = blocks;
+      spots = spots;
+      ledger = ledger;
+      links = links;
+      lists = lists;
+      seat = seat;
+      counts = counts;
+    })
+returned_all t w m now same ok f i inside is kept_now links lists left_list stand linked listed seat put unit head before free blocks spots
+    ledger counts was frees_i gives_i areas_free uncharged counted =
+    let back = back_all t w m now same ok f i inside is kept_now links lists left_list stand linked listed let_go_last last_in_hand seat put
+    (Put f) answer.Last (λ c held. zone_step (local_of t m c) c.number (Put f) answer.Last refl (may_put_one t m f inside held c) tt) (λ c. refl)
+    unit head before free blocks spots ledger counts was frees_i gives_i areas_free uncharged (rw counted (balanced_last_put m.counts ok.balances)) in
+    record {
+      consistent = back.consistent;
+      free_is = back.free_is;
+      returns = record {
+        unit = unit;
+        heads = back.heads;
+        list = back.list;
+        frees = back.frees;
+        areas = back.areas;
+        machine = λ j. record (same j) {
+          blocks = blocks;
+          spots = spots;
+          ledger = (uncharged ∙ ap (λ (x : KnownMachine). with_uncharge x.ledger unit.group (2 ^ unit.order)) same) j;
+          links = links;
+          lists = lists;
+          seat = (put ∙ ap (λ (x : KnownMachine). seat_with x.seat f let_go_last) same) j;
+          counts = (counted ∙ ap (λ (x : KnownMachine). with_last_put x.counts) same) j;
+        };
+      };
+      visit = back.visit;
+      steps = back.runs;
+    }

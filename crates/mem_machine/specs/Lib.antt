@@ -6,10 +6,12 @@ pub mod Steps
 pub mod Lending
 pub mod Stocks
 pub mod Marks
+pub mod Ageing
 pub mod Freeing
 pub mod Blocks
 pub mod Ending
 pub mod Interleaving
 pub mod Releasing
+pub mod Evicting
 pub mod Settling
 pub mod Paying

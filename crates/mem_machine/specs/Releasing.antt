@@ -7,7 +7,7 @@ use Rattle.group_charge.specs.Charges.{with_uncharge}
 use Rattle.lru_lists.specs.declared.record.Link.{Link}
 use Rattle.lru_lists.specs.declared.record.LruList.{LruList}
 use Rattle.lru_lists.specs.declared.lru.Lru.{Lru}
-use Rattle.lru_lists.specs.Queue.{link_at, nowhere}
+use Rattle.lru_lists.specs.Queue.{link_at, nowhere, SameUse}
 use Rattle.lru_lists.specs.Lists.{inactive_of, active_of, entries_without}
 use Rattle.step_rules.specs.declared.phase.ChargedUnit.{ChargedUnit}
 use Rattle.step_rules.specs.declared.step.Action.TheVariants.{Put, Return}
@@ -34,6 +34,7 @@ pub record LeavesList (before : List Link) (old : List Lru) (frame : ℕ) (after
   pub forgotten : link_at after frame ≡ nowhere
   pub homes : (g : ℕ) → g ≢ frame → home_of after g ≡ home_of before g
   pub loose : (g : ℕ) → home_of before g ≡ None → link_at after g ≡ link_at before g
+  pub used : SameUse before after frame
   pub inactive : inactive_of after (lists_in new group) ≡ entries_without frame (inactive_of before (lists_in old group))
   pub active : active_of after (lists_in new group) ≡ entries_without frame (active_of before (lists_in old group))
   pub others : (g : ℕ) → g < 64 → g ≢ group

@@ -3,7 +3,7 @@
 ghost use Rattle.std.specs.Prelude.{◌≡◌, ◌+◌, ◌^◌, ◌≤◌, length};
 ghost use Rattle.zone_blocks.specs.Areas.{AreMaximalBlocks};
 ghost use Rattle.zone_buddy.specs.Zone.{IsInUse, GivesFrames};
-ghost use Rattle.group_charge.specs.Charges.{pages_of, with_uncharge};
+ghost use Rattle.group_charge.specs.Charges.{pages_of, with_uncharge, UsageRises};
 ghost use Rattle.mem_machine.specs.Freeing.{FreesFrames};
 
 use crate::spot::Spot;
@@ -37,6 +37,7 @@ pub(crate) fn free_unit(
     ensures frames { GivesFrames zone.old.free (record { at = at; order = unit.order }) zone.new.free }
     ensures areas { AreMaximalBlocks zone.new.free zone.new.blocks }
     ensures charges { charges.new ≡ with_uncharge charges.old unit.group (2 ^ unit.order) }
+    ensures usage { UsageRises charges.new charges.old unit.group (2 ^ unit.order) }
 {
     let _tree = charges.tree(); // For the clauses.
     let order = unit.order;

@@ -5,8 +5,10 @@
 //! of a type's values is known only where one of its calls says it.
 #![tactic(auto)]
 
+mod ageing;
 mod blocks;
 mod ending;
+mod evicting;
 mod freed;
 mod groups;
 pub mod laws;

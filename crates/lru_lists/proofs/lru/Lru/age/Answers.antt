@@ -3,7 +3,7 @@ use Rattle.std.proofs.lemmas.Bool.{cases_lt}
 use Rattle.std.proofs.lemmas.List.{drop-drop, length-append, length-drop, length-map, length-take-le}
 use Rattle.lru_lists.specs.declared.record.LruList.TheVariants.{Inactive, Active}
 use Rattle.lru_lists.specs.Lists.{inactive_of, active_of, marked}
-use Rattle.lru_lists.proofs.Pairs.{len_is, ages_step, keeps_both}
+use Rattle.lru_lists.proofs.Pairs.{len_is, ages_step, keeps_both, owners_both}
 use Rattle.lru_lists.proofs.lru.Lru.age.Goals as goal
 
 pub loop-self-smaller : goal.loop-self-smaller
@@ -42,6 +42,7 @@ loop-self-preserved c =
       owner = d.owner ∙ inv.owner;
       keeps = keeps_both c.args.links.now c.loop-self.links c.demote.new.links c.args.self.now.owner inv.keeps
           (rw (← inv.owner) d.keeps);
+      owners = owners_both c.args.links.now c.loop-self.links c.demote.new.links inv.owners d.owners;
       moved = (
         k + 1,
         ages_step c.args.links.now c.loop-self.links c.demote.new.links c.args.self.now c.loop-self.self c.demote.new.self k inv.moved.1 d.inactive inv.moved.2,

@@ -1,6 +1,7 @@
-use Rattle.std.proofs.Common.{◌∙◌, refl}
+use Rattle.std.proofs.Common.{◌∙◌, refl, ap}
 use Rattle.lru_lists.specs.Queue.{link_at}
-use Rattle.lru_lists.proofs.Pairs.{pulled_each, home_of_list, entry_unlinked}
+use Rattle.lru_lists.specs.Lists.{owner_of}
+use Rattle.lru_lists.proofs.Pairs.{pulled_each, home_of_list, entry_unlinked, moved_owners}
 use Rattle.lru_lists.proofs.lru.Lru.move_to.Goals as goal
 
 pub returns-clause-gained : goal.returns-clause-gained
@@ -16,3 +17,8 @@ returns-clause-lost c m ne =
     ∙ pulled_each c.args.links.now c.pull.new.links c.args.self.now c.pull.new.self c.list-from.result c.args.unit c.requires.stands
     (home_of_list (link_at c.args.links.now c.args.unit).home c.args.self.now c.list-from.result c.list-from.ensures) c.pull.ensures.entries
     c.pull.ensures.other m
+
+pub returns-clause-owners : goal.returns-clause-owners
+returns-clause-owners c =
+    moved_owners c.args.links.now c.pull.new.links c.push.new.links c.args.self.now c.pull.new.self.owner c.list-from.result c.args.list c.args.unit
+    c.list-from.ensures c.pull.ensures.used c.pull.ensures.unit c.push.ensures.used c.pull.ensures.owner (ap owner_of c.push.ensures.unit) c.push.ensures.dirt

@@ -2,7 +2,7 @@ use Rattle.std.proofs.Common.{◌≢◌, true, sym, ◌∙◌, refl}
 use Rattle.lru_lists.specs.declared.record.LruList.TheVariants.{Inactive, Active}
 use Rattle.lru_lists.specs.Queue.{link_at}
 use Rattle.lru_lists.specs.Lists.{list_of, marked}
-use Rattle.lru_lists.proofs.Pairs.{remarked_stands, remarked_entries, other_unchanged, home_of_list, marks_true, marks_false}
+use Rattle.lru_lists.proofs.Pairs.{remarked_stands, remarked_entries, other_unchanged, home_of_list, marks_true, marks_false, marked_owners}
 use Rattle.lru_lists.proofs.lru.Lru.touch.Goals as goal
 
 pub returns-then-is_marked_by_touch-clause-stands : goal.returns-then-is_marked_by_touch-clause-stands
@@ -35,3 +35,6 @@ returns-else-is_marked_by_touch-clause-touches c =
       c.move_to.ensures.lost Inactive ne,
       c.move_to.ensures.gained,
     )
+
+pub returns-then-is_marked_by_touch-clause-owners : goal.returns-then-is_marked_by_touch-clause-owners
+returns-then-is_marked_by_touch-clause-owners c = rw c.mark.ensures (marked_owners c.args.links.now c.args.unit true)

@@ -1,0 +1,190 @@
+-- A kept unit is tried: it misses, or it is frozen and comes back. Serves `evict`.
+use Rattle.std.proofs.Common.{◌≡◌, ◌≢◌, ℕ, ◌+◌, ◌^◌, ◌<◌, ◌==◌, Bool, true, false, Option, Some, None, List, [], ◌∷◌, length, get_or, refl, sym, ap, ◌∙◌}
+use Rattle.std.proofs.Common.{subst, inl, inr, arith, cond}
+use Rattle.std.specs.Prelude.{IfSome, min}
+use Rattle.std.proofs.lemmas.Bool.{cases_eq, and_from, lt-ltb, le-leb}
+use Rattle.zone_blocks.specs.declared.block.Block.{Block}
+use Rattle.zone_blocks.specs.Areas.{AreMaximalBlocks}
+use Rattle.frame_word.specs.declared.view.FrameNote.{FrameNote}
+use Rattle.frame_word.specs.Views.{note_of, frozen, missed}
+use Rattle.frame_word.specs.Seats.{KnownTable, KnownSeat, seat_with, holds, FreezeAnswers}
+use Rattle.frame_word.proofs.Notes.{note_here, note_else}
+use Rattle.stock_word.specs.Stock.{Words}
+use Rattle.zone_buddy.specs.Zone.{GivesFrames}
+use Rattle.group_tree.specs.Room.{max_count}
+use Rattle.group_charge.specs.Charges.{Ledger, UsageRises, with_uncharge}
+use Rattle.lru_lists.specs.declared.record.Link.{Link}
+use Rattle.lru_lists.specs.declared.record.Home.{Home}
+use Rattle.lru_lists.specs.declared.lru.Lru.{Lru}
+use Rattle.lru_lists.specs.Lists.{AllStand}
+use Rattle.cpu_part.specs.Cpus.{KnownCpu}
+use Rattle.step_rules.specs.declared.phase.ChargedUnit.{ChargedUnit}
+use Rattle.step_rules.specs.declared.step.Action.TheVariants.{Freeze}
+use Rattle.step_rules.specs.declared.step.Answer.TheVariants as answer
+use Rattle.step_rules.specs.Legal.{is_legal}
+use Rattle.mem_machine.specs.declared.machine.Counts.{Counts}
+use Rattle.mem_machine.specs.declared.spot.Spot.{Spot}
+use Rattle.mem_machine.specs.declared.spot.Spot.TheVariants.{Head}
+use Rattle.mem_machine.specs.Spots.{spot_at, free_of, head_group_of, some_cpu}
+use Rattle.mem_machine.specs.Machines.{KnownMachine, FitsSpot, IsConsistent, Visits, BalancesCounts, home_of}
+use Rattle.mem_machine.specs.Local.{MakesForAny, local_of, references_of, side}
+use Rattle.mem_machine.specs.Freeing.{FreesFrames}
+use Rattle.mem_machine.specs.Releasing.{LeavesList}
+use Rattle.mem_machine.specs.Evicting.{MissesUnit, EvictsUnit, with_freeze, evict_steps}
+use Rattle.mem_machine.proofs.Reaching.{zone_step}
+use Rattle.mem_machine.proofs.Holds.{zone_may_act}
+use Rattle.mem_machine.proofs.Releases.{TakesInHand, note_keeps, visit_stays, held_once, back_all}
+
+-- one more freeze, and one more return
+second_rises : (a b c most : ℕ) → min (min (a + b + c) most + 1) most ≡ min (a + min (b + 1) most + c) most
+second_rises a b c most = omega arith
+
+balanced_freeze : (counts : Counts) → BalancesCounts counts → BalancesCounts (with_freeze counts)
+balanced_freeze counts balances = rw balances (second_rises counts.last_puts counts.freezes counts.drops max_count)
+
+frozen_in_hand : TakesInHand (frozen 1)
+frozen_in_hand = record { own = λ k. refl; lent = λ k. refl; references = λ k. refl; passed_out = λ k. refl; collected = λ k. refl }
+
+-- a freeze is legal where the zone has the one reference that it asks for
+may_freeze : (t : KnownTable) (m : KnownMachine) (f : ℕ) → f < t.frames → holds m.seat f ≡ 1 → (c : KnownCpu) → is_legal (local_of t m c) 0 (Freeze f 1) ≡ true
+may_freeze t m f inside held c =
+    and_from _ _ (and_from _ _ (and_from _ _ (zone_may_act m.seat c.number) (lt-ltb f t.frames inside)) refl) (le-leb 1 (holds m.seat f) (omega (arith, held)))
+
+-- the zone has a reference on a kept unit
+pub kept_held : (t : KnownTable) (w : Words) (m now : KnownMachine) → m ≡ now → IsConsistent t w m → (f : ℕ) → f < t.frames → home_of now.links f ≢ None
+    → holds m.seat f ≡ 1
+kept_held t w m now same ok f inside kept = held_once t w m ok f inside (subst (λ (x : KnownMachine). home_of x.links f ≢ None) (sym same) kept)
+
+-- ---- a miss
+
+-- the references stay
+references_stay : (seat : KnownSeat) (c : KnownCpu) (f word q x : ℕ) → references_of seat c q x ≡ references_of (seat_with seat f (missed word)) c q x
+references_stay seat c f word q x =
+    ap (λ (n : ℕ). cond (q == 0) n (cond (q == c.number) (holds c.seat x) 0)) (sym (note_keeps seat f (missed word) (λ k. k.references) (λ k. refl) x))
+
+pub record AllMissed (t : KnownTable) (w : Words) (now : KnownMachine) (f : ℕ) (n : KnownMachine) : Type 0 where
+  pub consistent : IsConsistent t w n
+  pub misses : MissesUnit now f n
+  pub visit : (c : KnownCpu) → Visits t (side now c) → Visits t (side n c)
+  pub steps : MakesForAny t now (evict_steps f None) n
+
+missed_fits : (t : KnownTable) (w : Words) (m : KnownMachine) → IsConsistent t w m → (f word g : ℕ) → g < t.frames
+    → FitsSpot (note_of (seat_with m.seat f (missed word)).view g) (home_of m.links g) (spot_at m.spots g)
+missed_fits t w m ok f word g within =
+    let old = ok.spots g within in
+    let change : FrameNote → FrameNote = missed word in
+    record {
+      own = note_keeps m.seat f change (λ k. k.own) (λ k. refl) g ∙ old.own;
+      lent = ap some_cpu (note_keeps m.seat f change (λ k. k.lent) (λ k. refl) g) ∙ old.lent;
+      references = note_keeps m.seat f change (λ k. k.references) (λ k. refl) g ∙ old.references;
+      kept = old.kept;
+    }
+
+pub missed_all : (t : KnownTable) (w : Words) (m now : KnownMachine) → m ≡ now → IsConsistent t w m → (f : ℕ) → f < t.frames → home_of now.links f ≢ None
+    → (seat : KnownSeat) → FreezeAnswers m.seat f 1 false seat → AllMissed t w now f (record m { seat = seat })
+missed_all t w m now same ok f inside kept seat answered =
+    let word : ℕ = answered.0 in
+    let held = kept_held t w m now same ok f inside kept in
+    let n : KnownMachine = record m { seat = seat_with m.seat f (missed word) } in
+    let all : AllMissed t w m f n = record {
+      consistent = record {
+        sizes = let s = ok.sizes in record { spots = s.spots; links = s.links; lists = s.lists; killed = s.killed; cpus = s.cpus };
+        seats = let s = ok.seats in record { frames = s.frames; table = s.table; stocks = s.stocks };
+        areas = ok.areas;
+        spots = missed_fits t w m ok f word;
+        units = ok.units;
+        lists = ok.lists;
+        noted = ok.noted;
+        bounded = ok.bounded;
+        charged = ok.charged;
+        balances = ok.balances;
+      };
+      misses = record { word = word; others = answered.1; machine = refl };
+      visit = λ c visit. visit_stays t m n c f (missed word) refl (λ k. refl) (λ k. refl) (λ k. refl) visit;
+      steps = λ c.
+          let s = local_of t m c in (
+            zone_step s c.number (Freeze f 1) answer.Missed refl (may_freeze t m f inside held c) tt,
+            λ i. record s { references = λ q x. references_stay m.seat c f word q x i },
+          );
+    } in
+    subst (λ (x : KnownMachine × KnownSeat). AllMissed t w x.0 f (record m { seat = x.1 })) (λ j. (same j, sym answered.2 j)) all
+
+-- ---- a freeze
+
+some_same : (a b : ℕ) → Some a ≡ Some b → a ≡ b
+some_same a b e = cc
+
+-- the unit's group is that of the list on which it stands
+same_group : (t : KnownTable) (w : Words) (m : KnownMachine) → IsConsistent t w m → (f : ℕ) → f < t.frames → (unit : ChargedUnit)
+    → spot_at m.spots f ≡ Head unit → (h : Home) → home_of m.links f ≡ Some h → unit.group ≡ h.owner
+same_group t w m ok f inside unit heads h home =
+    let kept = subst (λ (x : Option Home). IfSome x (λ y. (y.owner < 64) × (head_group_of (spot_at m.spots f) ≡ Some y.owner))) home (ok.spots f inside).kept in
+    some_same unit.group h.owner (sym (ap head_group_of heads) ∙ kept.1)
+
+pub record AllEvicted (t : KnownTable) (w : Words) (now : KnownMachine) (f pages : ℕ) (free : List Bool) (n : KnownMachine) : Type 0 where
+  pub consistent : IsConsistent t w n
+  pub free_is : free ≡ free_of n.spots
+  pub evicts : EvictsUnit now f pages n
+  pub visit : (c : KnownCpu) → Visits t (side now c) → Visits t (side n c)
+  pub steps : MakesForAny t now (evict_steps f (Some pages)) n
+
+pub evicted_all : (t : KnownTable) (w : Words) (m now : KnownMachine) → m ≡ now → IsConsistent t w m → (f i : ℕ)
+    → f < t.frames → i ≡ f → home_of now.links f ≢ None → (links : List Link) (lists : List Lru) → LeavesList m.links m.lists i links lists
+    → AllStand links lists → length links ≡ length m.links → length lists ≡ 64 → (seat : KnownSeat) → FreezeAnswers m.seat f 1 true seat
+    → (unit : ChargedUnit) → spot_at m.spots i ≡ Head unit
+    → (before free : List Bool) (blocks : List Block) (spots : List Spot) (ledger : Ledger) (counts : Counts) (pages : ℕ)
+    → before ≡ free_of m.spots → FreesFrames m.spots i (2 ^ unit.order) spots → GivesFrames before (record { at = i; order = unit.order }) free
+    → AreMaximalBlocks free blocks → ledger ≡ with_uncharge m.ledger unit.group (2 ^ unit.order)
+    → UsageRises ledger m.ledger unit.group (2 ^ unit.order) → counts ≡ with_freeze m.counts → pages ≡ 2 ^ unit.order
+    → AllEvicted t w now f pages free (record m {
+      blocks = blocks;
+      spots = spots;
+      ledger = ledger;
+      links = links;
+      lists = lists;
+      seat = seat;
+      counts = counts;
+    })
+evicted_all t w m now same ok f i inside is kept_now links lists left_list stand linked listed seat answered unit head before free blocks spots
+    ledger counts pages was frees_i gives_i areas_free uncharged usage counted size =
+    let n : KnownMachine = record m {
+      blocks = blocks;
+      spots = spots;
+      ledger = ledger;
+      links = links;
+      lists = lists;
+      seat = seat;
+      counts = counts;
+    } in
+    let back = back_all t w m now same ok f i inside is kept_now links lists left_list stand linked listed (frozen 1) frozen_in_hand seat answered.1
+    (Freeze f 1) answer.Done (λ c held. zone_step (local_of t m c) c.number (Freeze f 1) answer.Done refl (may_freeze t m f inside held c) tt) (λ c. refl)
+    unit head before free blocks spots ledger counts was frees_i gives_i areas_free uncharged (rw counted (balanced_freeze m.counts ok.balances)) in
+    let here : spot_at m.spots f ≡ Head unit = subst (λ (x : ℕ). spot_at m.spots x ≡ Head unit) is head in
+    let list : LeavesList now.links now.lists f links lists = back.list in
+    let home : home_of m.links f ≡ Some (record { owner = list.group; list = list.list }) =
+    ap (λ (x : KnownMachine). home_of x.links f) same ∙ list.stands in
+    record {
+      consistent = back.consistent;
+      free_is = back.free_is;
+      evicts = record {
+        unit = unit;
+        heads = back.heads;
+        size = size;
+        list = list;
+        own = same_group t w m ok f inside unit here (record { owner = list.group; list = list.list }) home;
+        usage = subst (λ (x : KnownMachine × ℕ). UsageRises ledger x.0.ledger unit.group x.1) (λ j. (same j, sym size j)) usage;
+        frees = back.frees;
+        areas = back.areas;
+        machine = λ j. record (same j) {
+          blocks = blocks;
+          spots = spots;
+          ledger = (uncharged ∙ ap (λ (x : KnownMachine). with_uncharge x.ledger unit.group (2 ^ unit.order)) same) j;
+          links = links;
+          lists = lists;
+          seat = (answered.1 ∙ ap (λ (x : KnownMachine). seat_with x.seat f (frozen 1)) same) j;
+          counts = (counted ∙ ap (λ (x : KnownMachine). with_freeze x.counts) same) j;
+        };
+      };
+      visit = back.visit;
+      steps = back.runs;
+    }

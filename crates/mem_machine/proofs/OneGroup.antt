@@ -1,0 +1,166 @@
+-- The two lists of one group are read, or change and nothing else. Serves `age`, `renew` and the walks.
+use Rattle.std.proofs.Common.{◌≡◌, ◌≢◌, ℕ, ◌<◌, false, Option, Some, None, List, [], ◌∷◌, ◌++◌, length, get_or, refl, sym, ap, ◌∙◌, subst, arith}
+use Rattle.std.specs.Prelude.{slice_set, option_map}
+use Rattle.std.proofs.lemmas.List.{get_or-set_same, get_or-set_other, length-set}
+use Rattle.std.proofs.lemmas.Option.{none-some}
+use Rattle.frame_word.specs.Views.{note_of}
+use Rattle.frame_word.specs.Seats.{KnownTable}
+use Rattle.stock_word.specs.Stock.{Words}
+use Rattle.lru_lists.specs.declared.record.Link.{Link}
+use Rattle.lru_lists.specs.declared.record.Home.{Home}
+use Rattle.lru_lists.specs.declared.record.Entry.{Entry}
+use Rattle.lru_lists.specs.declared.record.LruList.{LruList}
+use Rattle.lru_lists.specs.declared.record.LruList.TheVariants.{Inactive}
+use Rattle.lru_lists.specs.declared.lru.Lru.{Lru}
+use Rattle.lru_lists.specs.Lists.{OthersStand, OneOfAllChanges, StandsIn, AllStand, ChangesOwn, SameOwners, Ages, owner_of, list_of, place_of, entries_of}
+use Rattle.lru_lists.specs.Lists.{inactive_of, active_of, entries_without, entry_of, marked, first_entry, entry_after}
+use Rattle.cpu_part.specs.Cpus.{KnownCpu}
+use Rattle.mem_machine.specs.Spots.{spot_at}
+use Rattle.mem_machine.specs.Machines.{KnownMachine, IsConsistent, home_of, lists_at, no_lists}
+use Rattle.mem_machine.specs.Ageing.{OthersStay, AgesGroup, RenewsUnit, entries_in}
+use Rattle.mem_machine.specs.Local.{MakesForAny}
+use Rattle.mem_machine.proofs.Listed.{fits_home, loose_stay, place_here}
+use Rattle.mem_machine.proofs.KeptUnits.{there, read_owner, read_stands, read_is}
+
+-- ---- the lists as they are read
+
+-- the lists that were read of a group number
+pub record AreRead (now : KnownMachine) (g : ℕ) (lru : Lru) : Type 0 where
+  pub stands : StandsIn now.links lru
+  pub owner : lru.owner ≡ g
+  pub are : lists_at now g ≡ lru
+
+pub lists_read : (t : KnownTable) (w : Words) (m now : KnownMachine) → m ≡ now → IsConsistent t w m → (g i : ℕ) → i < 64 → i ≡ g → (any lru : Lru)
+    → lru ≡ get_or m.lists i any → AreRead now g lru
+lists_read t w m now same ok g i fits is any lru read =
+    subst (λ (x : KnownMachine × ℕ). AreRead x.0 x.1 lru) (λ j. (same j, is j)) (record {
+      stands = read_stands t w m ok i fits any lru read;
+      owner = read_owner t w m ok i fits any lru read;
+      are = read_is t w m ok i fits any lru read;
+    })
+
+-- the unit stands on the list that its home tells
+pub read_on : (now : KnownMachine) (g : ℕ) (lru : Lru) → AreRead now g lru → (f i : ℕ) → i ≡ f → (list : LruList)
+    → home_of now.links f ≡ Some (record { owner = g; list = list }) → list_of now.links lru.owner i ≡ Some list
+read_on now g lru is f i at list home =
+    ap (λ (x : ℕ × ℕ). list_of now.links x.0 x.1) (λ j. (is.owner j, at j))
+    ∙ ap (λ (h : Option Home). place_of h g) home ∙ place_here g list
+
+pub some_on : (now : KnownMachine) (g : ℕ) (lru : Lru) → AreRead now g lru → (f i : ℕ) → i ≡ f → (list : LruList)
+    → home_of now.links f ≡ Some (record { owner = g; list = list }) → list_of now.links lru.owner i ≢ None
+some_on now g lru is f i at list home none = none-some list (sym none ∙ read_on now g lru is f i at list home)
+
+-- the first unit of a list, and the one behind another, as they are read
+pub oldest_is : (m now : KnownMachine) → m ≡ now → (g : ℕ) (lru : Lru) → AreRead now g lru → (list : LruList) (unit : Option Entry)
+    → unit ≡ first_entry (entries_of m.links lru list) → unit ≡ first_entry (entries_in now g list)
+oldest_is m now same g lru is list unit read = read ∙ (λ j. first_entry (entries_of (same j).links (sym is.are j) list))
+
+pub newer_is : (m now : KnownMachine) → m ≡ now → (g : ℕ) (lru : Lru) → AreRead now g lru → (f i : ℕ) → i ≡ f → (list : LruList)
+    → home_of now.links f ≡ Some (record { owner = g; list = list }) → (unit : Option Entry)
+    → ((l : LruList) → list_of m.links lru.owner i ≡ Some l → unit ≡ entry_after i (entries_of m.links lru l)) → unit ≡ entry_after f (entries_in now g list)
+newer_is m now same g lru is f i at list home unit read =
+    read list (ap (λ (x : KnownMachine). list_of x.links lru.owner i) same ∙ read_on now g lru is f i at list home)
+    ∙ (λ j. entry_after (at j) (entries_of (same j).links (sym is.are j) list))
+
+-- ---- the lists as they change
+
+owner_mapped : (h : Option Home) → option_map (λ (x : Home). x.owner) h ≡ owner_of h
+owner_mapped None = refl
+owner_mapped (Some h) = refl
+
+-- what else is as it was where the lists of one group changed
+pub record GroupChanged (t : KnownTable) (w : Words) (now : KnownMachine) (g : ℕ) (lru new : Lru) (n : KnownMachine) : Type 0 where
+  pub consistent : IsConsistent t w n
+  pub machine : n ≡ record now { links = n.links; lists = n.lists }
+  pub before : lists_at now g ≡ lru
+  pub after : lists_at n g ≡ new
+  pub others : OthersStay now g n
+  pub steps : MakesForAny t now [] n
+
+module _ (t : KnownTable) (w : Words) (m : KnownMachine) (ok : IsConsistent t w m) (g : ℕ) (fits : g < 64) (any lru : Lru) (read : lru ≡ get_or m.lists g any)
+    (links : List Link) (new : Lru) (now_stands : StandsIn links new) (owner : new.owner ≡ lru.owner) (changes : ChangesOwn m.links links lru.owner)
+    (owners : SameOwners m.links links) (others_stand : OthersStand) (one_of_all_changes : OneOfAllChanges) where
+  own : lru.owner ≡ g
+  own = read_owner t w m ok g fits any lru read
+
+  room : g < length m.lists
+  room = there t w m ok g fits any lru read
+
+  all_stand : AllStand links (slice_set m.lists g new)
+  all_stand = subst (λ (k : ℕ). AllStand links (slice_set m.lists k new)) (owner ∙ own)
+      (one_of_all_changes m.links links m.lists new ok.lists (subst (λ (k : ℕ). k < length m.lists) (sym (owner ∙ own)) room) now_stands
+      (subst (ChangesOwn m.links links) (sym owner) changes))
+
+  mapped : (f : ℕ) → option_map (λ (x : Home). x.owner) (home_of links f) ≡ option_map (λ (x : Home). x.owner) (home_of m.links f)
+  mapped f = owner_mapped (home_of links f) ∙ owners.owner f ∙ sym (owner_mapped (home_of m.links f))
+
+  group_changed : GroupChanged t w m g lru new (record m { links = links; lists = slice_set m.lists g new })
+  group_changed = record {
+    consistent = record {
+      sizes = let s = ok.sizes in record {
+        spots = s.spots;
+        links = changes.frames ∙ s.links;
+        lists = length-set m.lists g new ∙ s.lists;
+        killed = s.killed;
+        cpus = s.cpus;
+      };
+      seats = ok.seats;
+      areas = ok.areas;
+      spots = λ f within. fits_home (note_of m.seat.view f) (home_of m.links f) (home_of links f) (spot_at m.spots f) (mapped f) (ok.spots f within);
+      units = ok.units;
+      lists = all_stand;
+      noted = ok.noted;
+      bounded = ok.bounded;
+      charged = ok.charged;
+      balances = ok.balances;
+    };
+    machine = refl;
+    before = read_is t w m ok g fits any lru read;
+    after = get_or-set_same m.lists g new no_lists room;
+    others = record {
+      lists = λ h list within ne.
+          let sized = ok.sizes.lists in
+          let inside : h < length m.lists = omega (arith, within, sized) in
+          let apart : (get_or m.lists h no_lists).owner ≢ lru.owner = λ e. ne (sym (ok.lists h no_lists inside).0 ∙ e ∙ own) in
+          let same = (others_stand m.links links lru.owner (get_or m.lists h no_lists) changes apart (ok.lists h no_lists inside).1).1 in
+          let stays : get_or (slice_set m.lists g new) h no_lists ≡ get_or m.lists h no_lists = get_or-set_other m.lists g h new no_lists ne in
+          ap (λ (x : Lru). entries_of links x list) stays ∙ same list;
+      owners = owners;
+      loose = λ f none. loose_stay m.links links lru.owner f changes (mapped f) none;
+    };
+    steps = λ c. refl;
+  }
+
+-- the same, of the machine as it was seen before
+pub change_all : (t : KnownTable) (w : Words) (m now : KnownMachine) → m ≡ now → IsConsistent t w m → (g i : ℕ) → i < 64 → i ≡ g → (any lru : Lru)
+    → lru ≡ get_or m.lists i any → (links : List Link) (new : Lru) → StandsIn links new → new.owner ≡ lru.owner → ChangesOwn m.links links lru.owner
+    → SameOwners m.links links → OthersStand → OneOfAllChanges
+    → GroupChanged t w now g lru new (record m { links = links; lists = slice_set m.lists i new })
+change_all t w m now same ok g i fits is any lru read links new stands owner changes owners others all =
+    subst (λ (x : KnownMachine × ℕ). GroupChanged t w x.0 x.1 lru new (record m { links = links; lists = slice_set m.lists i new })) (λ j. (same j, is j))
+    (group_changed t w m ok i fits any lru read links new stands owner changes owners others all)
+
+-- ---- the group was aged
+
+pub ages_group : (t : KnownTable) (w : Words) (m now : KnownMachine) → m ≡ now → (g : ℕ) (lru new : Lru) (n : KnownMachine) → GroupChanged t w now g lru new n
+    → Ages m.links lru n.links new → AgesGroup now g n
+ages_group t w m now same g lru new n changed ages = record {
+  machine = changed.machine;
+  ages = subst (λ (x : KnownMachine × Lru × Lru). Ages x.0.links x.1 n.links x.2) (λ j. (same j, sym changed.before j, sym changed.after j)) ages;
+  others = changed.others;
+}
+
+-- ---- a unit of the group was renewed
+
+pub renews_unit : (t : KnownTable) (w : Words) (m now : KnownMachine) → m ≡ now → (g f i : ℕ) → i ≡ f → (lru new : Lru) (n : KnownMachine)
+    → GroupChanged t w now g lru new n
+    → inactive_of n.links new ≡ entries_without i (inactive_of m.links lru) ++ marked false (entry_of m.links i) ∷ []
+    → active_of n.links new ≡ active_of m.links lru → RenewsUnit now g f n
+renews_unit t w m now same g f i is lru new n changed inactive active = record {
+  machine = changed.machine;
+  inactive = subst (λ (x : KnownMachine × Lru × Lru × ℕ). inactive_of n.links x.2 ≡ entries_without x.3 (inactive_of x.0.links x.1)
+      ++ marked false (entry_of x.0.links x.3) ∷ []) (λ j. (same j, sym changed.before j, sym changed.after j, is j)) inactive;
+  active = subst (λ (x : KnownMachine × Lru × Lru). active_of n.links x.2 ≡ active_of x.0.links x.1)
+      (λ j. (same j, sym changed.before j, sym changed.after j)) active;
+  others = changed.others;
+}

@@ -1,0 +1,59 @@
+-- Kept units that are tried: frozen and given back where nobody else has a reference, and missed else.
+use Rattle.std.specs.Prelude.{◌≡◌, ◌≢◌, ℕ, ◌^◌, Option, Some, None, [], ◌∷◌}
+use Rattle.zone_blocks.specs.Areas.{AreMaximalBlocks}
+use Rattle.frame_word.specs.Views.{frozen, missed}
+use Rattle.frame_word.specs.Seats.{seat_with}
+use Rattle.group_tree.specs.Room.{one_more}
+use Rattle.group_charge.specs.Charges.{UsageRises, with_uncharge}
+use Rattle.step_rules.specs.declared.phase.ChargedUnit.{ChargedUnit}
+use Rattle.step_rules.specs.declared.step.Action.TheVariants.{Freeze, Return}
+use Rattle.step_rules.specs.declared.step.Answer.TheVariants.{Done, Missed}
+use Rattle.step_rules.specs.After.{Run}
+use Rattle.mem_machine.specs.declared.machine.Counts.{Counts}
+use Rattle.mem_machine.specs.declared.spot.Spot.TheVariants.{Head}
+use Rattle.mem_machine.specs.Spots.{spot_at, free_of}
+use Rattle.mem_machine.specs.Machines.{KnownMachine}
+use Rattle.mem_machine.specs.Freeing.{FreesFrames}
+use Rattle.mem_machine.specs.Releasing.{LeavesList}
+use Rattle.mem_machine.specs.Steps.{zone_makes}
+
+-- one more unit that was frozen, and which came back
+abbrev pub with_freeze : Counts → Counts
+with_freeze counts = record counts { freezes = one_more counts.freezes; returns = one_more counts.returns }
+
+-- someone else has a reference: the zone's seat noted one miss more on the frame, and nothing else changed
+pub record MissesUnit (before : KnownMachine) (frame : ℕ) (after : KnownMachine) : Type 0 where
+  pub word : ℕ
+  pub others : word ≢ 1
+  pub machine : after ≡ record before { seat = seat_with before.seat frame (missed word) }
+
+-- the unit was frozen and came back: it is off its list, its frames are free, and its pages, so many, off the charge of its
+-- group, whose list it stood on; nothing else changed
+pub record EvictsUnit (before : KnownMachine) (frame pages : ℕ) (after : KnownMachine) : Type 0 where
+  pub unit : ChargedUnit
+  pub heads : spot_at before.spots frame ≡ Head unit
+  pub size : pages ≡ 2 ^ unit.order
+  pub list : LeavesList before.links before.lists frame after.links after.lists
+  pub own : unit.group ≡ list.group
+  pub usage : UsageRises after.ledger before.ledger unit.group pages
+  pub frees : FreesFrames before.spots frame (2 ^ unit.order) after.spots
+  pub areas : AreMaximalBlocks (free_of after.spots) after.blocks
+  pub machine : after ≡ record before {
+    blocks = after.blocks;
+    spots = after.spots;
+    ledger = with_uncharge before.ledger unit.group (2 ^ unit.order);
+    links = after.links;
+    lists = after.lists;
+    seat = seat_with before.seat frame (frozen 1);
+    counts = with_freeze before.counts;
+  }
+
+-- what a try leaves, by what it tells: the pages that came back, or none where it missed
+abbrev pub Evicts : KnownMachine → ℕ → Option ℕ → KnownMachine → Type 0
+Evicts before f None after = MissesUnit before f after
+Evicts before f (Some pages) after = EvictsUnit before f pages after
+
+-- the steps of a try: the zone freezes the frame, and where that is done the unit comes back
+abbrev pub evict_steps : ℕ → Option ℕ → Run
+evict_steps f None = zone_makes (Freeze f 1) Missed ∷ []
+evict_steps f (Some pages) = zone_makes (Freeze f 1) Done ∷ zone_makes (Return f) Done ∷ []

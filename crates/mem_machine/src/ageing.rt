@@ -1,0 +1,97 @@
+//! The lists of one group: aged, renewed, and walked over.
+
+ghost use Rattle.std.specs.Prelude.{◌≡◌, ◌<◌, [], Some, length};
+ghost use Rattle.lru_lists.specs.declared.record.LruList.TheVariants.{Inactive};
+ghost use Rattle.lru_lists.specs.Lists.{first_entry, entry_after};
+ghost use Rattle.step_rules.specs.State.{one_if};
+ghost use Rattle.mem_machine.specs.Spots.{group_of, count_of};
+ghost use Rattle.mem_machine.specs.Machines.{home_of, frames_charged};
+ghost use Rattle.mem_machine.specs.Ageing.{AgesGroup, RenewsUnit, entries_in};
+ghost use Rattle.mem_machine.specs.Local.{MakesForAny};
+
+use crate::machine::Machine;
+use crate::spot::{Place, Spot};
+use cpu_part::BootName;
+use frame_word::Frame;
+use group_tree::group::GroupId;
+use lru_lists::laws;
+use lru_lists::record::{Entry, LruList};
+
+// Whether the frame with this record is charged to the group itself.
+fn is_charged_to(spot: &Spot, group: GroupId) -> bool
+    ensures { one_if result ≡ count_of group (group_of spot.now) }
+{
+    match spot.place() {
+        Place::Charged(owner) => owner.number() == group.number(),
+        Place::Free | Place::Lent(_) => false,
+    }
+}
+
+impl<N: BootName> Machine<N> {
+    /// Moves the oldest active units of a group, as few as leave its active list no longer than the inactive one, to the newest
+    /// end of that, unmarked.
+    pub fn age(&mut self, group: GroupId)
+        ensures ages { AgesGroup self.old group self.new }
+        ensures steps { MakesForAny N.frames self.old [] self.new }
+    {
+        let owner = group.number() as usize;
+        laws::others_stand();
+        laws::one_of_all_changes();
+        let mut lists = self.lists[owner];
+        lists.age(&mut self.links);
+        self.lists[owner] = lists;
+    }
+
+    /// Moves an inactive unit of a group to the newest end of the group's inactive list, unmarked. The unit goes by its head.
+    pub fn renew(&mut self, group: GroupId, frame: Frame)
+        requires frame { frame < N.frames.frames }
+        requires stands { home_of self.old.links frame ≡ Some (record { owner = group; list = Inactive }) }
+        ensures renews { RenewsUnit self.old group frame self.new }
+        ensures steps { MakesForAny N.frames self.old [] self.new }
+    {
+        let unit = frame.number();
+        let owner = group.number() as usize;
+        laws::others_stand();
+        laws::one_of_all_changes();
+        let mut lists = self.lists[owner];
+        lists.renew(&mut self.links, unit);
+        self.lists[owner] = lists;
+    }
+
+    /// How many units stand on one of a group's lists.
+    pub fn listed(&self, group: GroupId, list: LruList) -> u32
+        ensures { result ≡ length (entries_in self.now group list) }
+    {
+        self.lists[group.number() as usize].len(list)
+    }
+
+    /// The oldest unit of one of a group's lists; None exactly where that is empty.
+    pub fn oldest(&self, group: GroupId, list: LruList) -> Option<Entry>
+        ensures { result ≡ first_entry (entries_in self.now group list) }
+    {
+        self.lists[group.number() as usize].oldest(&self.links, list)
+    }
+
+    /// The unit just after this one on the list of a group on which it stands; None exactly where this is the newest. A walk over
+    /// a list is `oldest`, and then this from each unit to the next.
+    pub fn newer(&self, group: GroupId, list: LruList, unit: Frame) -> Option<Entry>
+        requires frame { unit < N.frames.frames }
+        requires stands { home_of self.now.links unit ≡ Some (record { owner = group; list = list }) }
+        ensures { result ≡ entry_after unit (entries_in self.now group list) }
+    {
+        self.lists[group.number() as usize].newer(&self.links, unit.number())
+    }
+
+    /// How many frames are charged to the group itself, those of units that aren't kept any more counted. It walks over all frames.
+    pub fn frames_of(&self, group: GroupId) -> u64
+        ensures { result ≡ frames_charged self.now.spots group }
+    {
+        let mut frames = 0;
+        for spot in &self.spots {
+            if is_charged_to(spot, group) {
+                frames += 1;
+            }
+        }
+        frames
+    }
+}
