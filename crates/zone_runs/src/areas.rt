@@ -1,4 +1,4 @@
-use crate::walks::walks;
+use crate::walks::{holds, walks, wholes};
 use std::process::Abort;
 use std::test::Fail;
 use zone_blocks::areas::FreeAreas;
@@ -12,24 +12,20 @@ fn areas_of_eleven_frames(rt: HostRuntime) -> Result<(), Fail> {
     let mut areas = FreeAreas::new(rt.alloc(), 11)?;
     areas.set_from(&[true; 11]);
     let order = Order::of(1).ok_or("order 1")?;
-    assert_eq!(rt; areas.first(order), Some(Block { at: 8, order }));
+    assert!(rt; areas.first(order) == Some(Block { at: 8, order }));
     if areas.contains(Block { at: 8, order }) {
         areas.remove(Block { at: 8, order });
     }
     assert!(rt; !areas.contains(Block { at: 8, order }));
     let rest = Order::of(3).ok_or("order 3")?;
-    assert_eq!(rt;
-        areas.smallest_from(order),
-        Some(Block { at: 0, order: rest })
-    );
+    assert!(rt; areas.smallest_from(order) == Some(Block { at: 0, order: rest }));
     Ok(())
 }
 
 #[test]
 fn orders_end_at_ten(rt: HostRuntime) -> Result<(), Fail> {
     let greatest = Order::of(10).ok_or("order 10")?;
-    assert_eq!(rt; greatest.exponent(), 10);
-    assert_eq!(rt; greatest.frames(), 1024);
+    assert!(rt; greatest.exponent() == 10 && greatest.frames() == 1024);
     assert!(rt; Order::of(11).is_none());
     Ok(())
 }
@@ -37,7 +33,7 @@ fn orders_end_at_ten(rt: HostRuntime) -> Result<(), Fail> {
 #[test]
 fn eleven_free_frames(rt: HostRuntime) -> Result<(), Fail> {
     let mut areas = FreeAreas::new(rt.alloc(), 11)?;
-    assert!(rt; areas.walk().next().is_none());
+    walks(&rt, areas.walk(), &[]);
     areas.set_from(&[true; 11]);
     walks(&rt, areas.walk(), &[(0, 10), (1, 8), (3, 0)]);
     Ok(())
@@ -55,53 +51,73 @@ fn sixteen_frames_with_five_in_use(rt: HostRuntime) -> Result<(), Fail> {
     Ok(())
 }
 
-// The order of this exponent.
-fn order(rt: &impl Abort, exponent: u32) -> Order {
-    match Order::of(exponent) {
-        Some(order) => order,
-        None => panic!(rt; "no order {exponent}"),
-    }
+// What is done with free areas, and what they have to answer: a block by its first frame and the exponent of its order.
+#[derive(Clone, Copy)]
+enum Row {
+    Put(u32, u32),
+    Take(u32, u32),
+    // The bit of the pair of the first block of this order.
+    Bit(u32, Option<bool>),
+    // The first block of exactly this order stands at this frame.
+    First(u32, u32),
+    // No block of this order or above is there.
+    NoneFrom(u32),
 }
 
-// Puts a block in, if that may be done.
-fn put(areas: &mut FreeAreas, at: u32, order: Order) {
-    let block = Block { at, order };
-    if block.is_block_of(areas.frames()) && !areas.overlaps(Block { at, order }) {
-        areas.insert(block);
-    }
+// The block of this exponent at this frame.
+fn block(rt: &impl Abort, at: u32, exponent: u32) -> Block {
+    let order = Order::of(exponent).expect(rt, "an order");
+    Block { at, order }
 }
 
-// Takes a block out, if it is there.
-fn take(areas: &mut FreeAreas, at: u32, order: Order) {
-    if areas.contains(Block { at, order }) {
-        areas.remove(Block { at, order });
+// Makes a row; a block that is put in or taken out has to be one that may.
+fn play(rt: &impl Abort, areas: &mut FreeAreas, row: Row) {
+    match row {
+        Row::Put(at, exponent) => {
+            let block = block(rt, at, exponent);
+            assert!(rt; block.is_block_of(areas.frames()) && !areas.overlaps(block));
+            areas.insert(block);
+        }
+        Row::Take(at, exponent) => {
+            let block = block(rt, at, exponent);
+            assert!(rt; areas.contains(block));
+            areas.remove(block);
+        }
+        Row::Bit(exponent, bit) => {
+            holds(rt, areas.pair_bit(block(rt, 0, exponent)) == bit);
+        }
+        Row::First(exponent, at) => {
+            let first = areas.first(block(rt, 0, exponent).order);
+            holds(rt, first == Some(block(rt, at, exponent)));
+        }
+        Row::NoneFrom(exponent) => {
+            let order = block(rt, 0, exponent).order;
+            holds(rt, areas.first(order).is_none());
+            holds(rt, areas.smallest_from(order).is_none());
+        }
     }
-}
-
-// The pair of the first block of this order has this bit.
-fn has_bit(rt: &impl Abort, areas: &FreeAreas, order: Order, bit: Option<bool>) {
-    assert_eq!(rt; areas.pair_bit(Block { at: 0, order }), bit, "{order:?}");
 }
 
 // Sixteen frames, of which a single frame is taken, and then four.
 #[test]
 fn bits_of_pairs(rt: HostRuntime) -> Result<(), Fail> {
-    let zero = order(&rt, 0);
-    let one = order(&rt, 1);
-    let two = order(&rt, 2);
-    let three = order(&rt, 3);
-    let four = order(&rt, 4);
     let mut areas = FreeAreas::new(rt.alloc(), 16)?;
     areas.set_from(&[true; 16]);
-    take(&mut areas, 0, four);
-    for (at, order) in [(8, three), (4, two), (2, one), (1, zero)] {
-        put(&mut areas, at, order);
+    let rows = [
+        Row::Take(0, 4),
+        Row::Put(8, 3),
+        Row::Put(4, 2),
+        Row::Put(2, 1),
+        Row::Put(1, 0),
+        Row::Bit(2, Some(true)),
+        Row::Take(4, 2),
+        Row::Bit(0, Some(true)),
+        Row::Bit(2, Some(false)),
+        Row::Bit(4, None),
+    ];
+    for row in rows {
+        play(&rt, &mut areas, row);
     }
-    has_bit(&rt, &areas, two, Some(true));
-    take(&mut areas, 4, two);
-    has_bit(&rt, &areas, zero, Some(true));
-    has_bit(&rt, &areas, two, Some(false));
-    has_bit(&rt, &areas, four, None);
     Ok(())
 }
 
@@ -110,25 +126,23 @@ fn a_whole_zone_is_blocks_of_the_greatest_order(rt: HostRuntime) -> Result<(), F
     let free = vec![in rt.alloc(); true; 65_536]?;
     let mut areas = FreeAreas::new(rt.alloc(), 65_536)?;
     areas.set_from(free.as_slice());
-    let mut at = 0;
-    for block in areas.walk() {
-        assert_eq!(rt; (block.order.exponent(), block.at), (10, at));
-        at = at.wrapping_add(1024);
-    }
-    assert_eq!(rt; at, 65_536);
+    walks(&rt, areas.walk(), &wholes());
     Ok(())
 }
 
 #[test]
 fn a_block_is_put_in_and_taken_out(rt: HostRuntime) -> Result<(), Fail> {
-    let one = order(&rt, 1);
-    let two = order(&rt, 2);
     let mut areas = FreeAreas::new(rt.alloc(), 16)?;
-    put(&mut areas, 8, one);
-    assert_eq!(rt; areas.first(one), Some(Block { at: 8, order: one }));
-    assert_eq!(rt; (areas.first(two), areas.smallest_from(two)), (None, None));
-    take(&mut areas, 8, one);
-    assert!(rt; areas.smallest_from(one).is_none());
+    let rows = [
+        Row::Put(8, 1),
+        Row::First(1, 8),
+        Row::NoneFrom(2),
+        Row::Take(8, 1),
+        Row::NoneFrom(1),
+    ];
+    for row in rows {
+        play(&rt, &mut areas, row);
+    }
     Ok(())
 }
 

@@ -1,21 +1,29 @@
 use std::process::Abort;
 use zone_blocks::walk::Walk;
 
+/// It is so, or the test ends here. A call is proved at less cost than the macro in its place.
+pub fn holds(rt: &impl Abort, is: bool) {
+    assert!(rt; is);
+}
+
 /// The blocks of a walk have to be these, as pairs of order and address.
 pub fn walks(rt: &impl Abort, walk: Walk<'_>, pairs: &[(u32, u32)]) {
     let mut rest = pairs.iter();
     for block in walk {
-        let pair = (block.order.exponent(), block.at);
-        assert_eq!(rt; Some(&pair), rest.next());
+        let (exponent, at) = rest.next().copied().unwrap_or((11, 0));
+        holds(rt, block.order.exponent() == exponent);
+        holds(rt, block.at == at);
     }
-    assert!(rt; rest.next().is_none());
+    holds(rt, rest.next().is_none());
 }
 
-/// How many blocks a walk has.
-pub fn count(walk: Walk<'_>) -> u32 {
-    let mut count = 0_u32;
-    for _ in walk {
-        count = count.wrapping_add(1);
+/// The blocks of a zone of 65,536 frames that are all free.
+pub fn wholes() -> [(u32, u32); 64] {
+    let mut pairs = [(10, 0); 64];
+    let mut at = 0_u32;
+    for pair in pairs.iter_mut() {
+        *pair = (10, at);
+        at = at.wrapping_add(1024);
     }
-    count
+    pairs
 }
