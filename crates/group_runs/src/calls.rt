@@ -1,20 +1,36 @@
-//! Calls on `Charges`, each after a look that it may be made.
+//! What the tests compare, and calls on `Charges`, each after a look that it may be made.
+
+ghost use Rattle.std.specs.Prelude.{IsTrue};
+ghost use Rattle.group_tree.specs.Groups.{has_group};
 
 use group_charge::charges::{Charges, Over};
 use group_tree::group::GroupId;
+use group_tree::tree::Tree;
 use std::process::Abort;
+
+/// It is so, or the test ends here. A call is proved at less cost than the macro in its place.
+pub fn holds(rt: &impl Abort, is: bool) {
+    assert!(rt; is);
+}
+
+/// The group is there, or the test ends here.
+pub fn there(rt: &impl Abort, tree: &Tree, g: GroupId)
+    ensures { IsTrue (has_group tree.now g) }
+{
+    assert!(rt; tree.contains(g));
+}
 
 /// Makes the group of this path.
 pub fn made(rt: &impl Abort, charges: &mut Charges, path: &[u8]) -> GroupId {
     match charges.make(path) {
         Ok(g) => g,
-        Err(fault) => panic!(rt; "{fault}"),
+        Err(_) => panic!(rt; "no group was made"),
     }
 }
 
 /// Takes the group out.
 pub fn remove(rt: &impl Abort, charges: &mut Charges, g: GroupId) {
-    assert!(rt; charges.tree().contains(g));
+    there(rt, charges.tree(), g);
     assert!(rt; !charges.tree().has_child(g));
     assert!(rt; g.number() != 0);
     assert!(rt; charges.current(g) == 0);
@@ -23,7 +39,7 @@ pub fn remove(rt: &impl Abort, charges: &mut Charges, g: GroupId) {
 
 /// Sets the limit of the group.
 pub fn set_max(rt: &impl Abort, charges: &mut Charges, g: GroupId, limit: Option<u32>) {
-    assert!(rt; charges.tree().contains(g));
+    there(rt, charges.tree(), g);
     charges.set_max(g, limit);
 }
 
@@ -35,14 +51,14 @@ pub fn charge(
     n: u32,
     answer: Result<(), Over>,
 ) {
-    assert!(rt; charges.tree().contains(g));
+    there(rt, charges.tree(), g);
     assert!(rt; charges.fits(n));
-    assert_eq!(rt; charges.try_charge(g, n), answer);
+    holds(rt, charges.try_charge(g, n) == answer);
 }
 
 /// Takes back n pages of the group.
 pub fn uncharge(rt: &impl Abort, charges: &mut Charges, g: GroupId, n: u32) {
-    assert!(rt; charges.tree().contains(g));
+    there(rt, charges.tree(), g);
     assert!(rt; n <= charges.pages(g));
     charges.uncharge(g, n);
 }

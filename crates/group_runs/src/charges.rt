@@ -1,5 +1,4 @@
-use crate::calls::{charge, made, remove, set_max, uncharge};
-use group_charge::account::Counts;
+use crate::calls::{charge, holds, made, remove, set_max, there, uncharge};
 use group_charge::charges::{Charges, Over};
 use group_tree::fault::Fault;
 use group_tree::group::GroupId;
@@ -8,16 +7,19 @@ use std::test::Fail;
 
 // The group has this usage, peak and limit.
 fn tells(rt: &impl Abort, charges: &Charges, g: GroupId, figures: (u32, u32, Option<u32>)) {
-    assert!(rt; charges.tree().contains(g));
-    let told = (charges.current(g), charges.peak(g), charges.max(g));
-    assert_eq!(rt; told, figures, "{}", g.number());
+    there(rt, charges.tree(), g);
+    let (current, peak, limit) = figures;
+    holds(rt, charges.current(g) == current);
+    holds(rt, charges.peak(g) == peak);
+    holds(rt, charges.max(g) == limit);
 }
 
 // The group has these counts of `max`, with and without what is below it.
 fn counts(rt: &impl Abort, charges: &Charges, g: GroupId, max: (u64, u64)) {
-    assert!(rt; charges.tree().contains(g));
-    let told = (charges.events(g).max, charges.events_local(g).max);
-    assert_eq!(rt; told, max, "{}", g.number());
+    there(rt, charges.tree(), g);
+    let (with_below, own) = max;
+    holds(rt, charges.events(g).max == with_below);
+    holds(rt, charges.events_local(g).max == own);
 }
 
 // The lines of the README.
@@ -27,13 +29,13 @@ fn the_first_lines_of_use(rt: HostRuntime) -> Result<(), Fail> {
     let web = charges.make(b"/web")?;
     charges.set_max(web, Some(8));
     assert!(rt; charges.fits(5));
-    assert_eq!(rt; charges.try_charge(web, 5), Ok(()));
+    assert!(rt; charges.try_charge(web, 5) == Ok(()));
     assert!(rt; charges.fits(4));
-    assert_eq!(rt; charges.try_charge(web, 4), Err(Over { group: web }));
+    assert!(rt; charges.try_charge(web, 4) == Err(Over { group: web }));
     charges.note_max(web);
-    assert_eq!(rt; charges.current(web), 5);
-    assert_eq!(rt; charges.peak(web), 5);
-    assert_eq!(rt; charges.events(web).max, 1);
+    assert!(rt; charges.current(web) == 5);
+    assert!(rt; charges.peak(web) == 5);
+    assert!(rt; charges.events(web).max == 1);
     Ok(())
 }
 
@@ -73,13 +75,22 @@ fn notes_stay_when_the_noted_group_goes(rt: HostRuntime) -> Result<(), Fail> {
     let mut charges = Charges::new(rt.alloc())?;
     let a = made(&rt, &mut charges, b"/a");
     let b = made(&rt, &mut charges, b"/a/b");
-    assert!(rt; charges.tree().contains(b));
+    there(&rt, charges.tree(), b);
     charges.note_max(b);
     counts(&rt, &charges, b, (1, 1));
     counts(&rt, &charges, a, (1, 0));
     remove(&rt, &mut charges, b);
     counts(&rt, &charges, a, (1, 0));
     Ok(())
+}
+
+// The group has no counts.
+fn counts_nothing(rt: &impl Abort, charges: &Charges, g: GroupId) {
+    there(rt, charges.tree(), g);
+    let counts = charges.events(g);
+    holds(rt, counts.max == 0);
+    holds(rt, counts.oom == 0);
+    holds(rt, counts.oom_kill == 0);
 }
 
 #[test]
@@ -91,15 +102,9 @@ fn a_group_made_anew_begins_empty(rt: HostRuntime) -> Result<(), Fail> {
     uncharge(&rt, &mut charges, a, 5);
     remove(&rt, &mut charges, a);
     let b = made(&rt, &mut charges, b"/b");
-    assert_eq!(rt; b, a);
+    holds(&rt, b == a);
     tells(&rt, &charges, b, (0, 0, None));
-    assert!(rt; charges.tree().contains(b));
-    let nothing = Counts {
-        max: 0,
-        oom: 0,
-        oom_kill: 0,
-    };
-    assert_eq!(rt; charges.events(b), nothing);
-    assert_eq!(rt; charges.make(b"/b"), Err(Fault::Exists));
+    counts_nothing(&rt, &charges, b);
+    holds(&rt, charges.make(b"/b") == Err(Fault::Exists));
     Ok(())
 }

@@ -1,6 +1,6 @@
 //! The same calls on plain rows, with each usage summed anew when it is asked for, beside `Charges`.
 
-use crate::calls;
+use crate::calls::{self, holds, there};
 use group_charge::charges::{Charges, Over};
 use group_tree::fault::Fault;
 use group_tree::group::{GroupId, MAX_GROUPS};
@@ -181,7 +181,7 @@ fn make(
 ) -> Result<(), AllocError> {
     let path = plain.path(rt.alloc(), g, name)?;
     let made = charges.make(path.as_slice());
-    assert_eq!(rt; made, plain.make(g, name));
+    holds(rt, made == plain.make(g, name));
     if let Ok(h) = made {
         plain.rows[h.number() as usize] = Row {
             is_there: true,
@@ -197,8 +197,8 @@ fn make(
 
 // Takes the group out, where it may go.
 fn remove(rt: &impl Abort, charges: &mut Charges, plain: &mut Plain, g: GroupId) {
-    assert!(rt; charges.tree().contains(g));
-    assert_eq!(rt; charges.tree().has_child(g), plain.has_child(g));
+    there(rt, charges.tree(), g);
+    holds(rt, charges.tree().has_child(g) == plain.has_child(g));
     if g != GroupId::root() && !plain.has_child(g) && plain.usage(g) == 0 {
         calls::remove(rt, charges, g);
         plain.rows[g.number() as usize].is_there = false;
@@ -250,36 +250,52 @@ fn call(
     Ok(())
 }
 
+// The group has this usage, and own pages, peak and limit of this row.
+fn alike(rt: &impl Abort, charges: &Charges, g: GroupId, row: Row, usage: u32) {
+    there(rt, charges.tree(), g);
+    holds(rt, charges.current(g) == usage);
+    holds(rt, charges.pages(g) == row.pages);
+    holds(rt, charges.peak(g) == row.peak);
+    holds(rt, charges.max(g) == row.limit);
+}
+
 // Compares usage, own pages, peak and limit of all groups.
 fn compare(rt: &impl Abort, charges: &Charges, plain: &Plain) {
     for number in 0..64_u32 {
         let g = GroupId::of(number).unwrap_or(GroupId::root());
         let row = plain.row(g);
-        assert_eq!(rt; charges.tree().contains(g), row.is_there);
-        if charges.tree().contains(g) {
-            assert_eq!(rt; charges.current(g), plain.usage(g));
-            assert_eq!(rt; charges.pages(g), row.pages);
-            assert_eq!(rt; charges.peak(g), row.peak);
-            assert_eq!(rt; charges.max(g), row.limit);
+        holds(rt, charges.tree().contains(g) == row.is_there);
+        if row.is_there {
+            alike(rt, charges, g, row, plain.usage(g));
         }
     }
 }
 
-#[test]
-fn the_charges_agree_with_plain_sums(rt: HostRuntime) -> Result<(), Fail> {
+// Makes so many calls on both, compares them at every twentieth, and tells the greatest number of groups.
+fn calls(
+    rt: &(impl Abort + Alloc<A = Global>),
+    charges: &mut Charges,
+    plain: &mut Plain,
+    count: u32,
+) -> Result<usize, AllocError> {
     let mut random = Pcg32::seed_from_u64(2_025);
-    let mut charges = Charges::new(rt.alloc())?;
-    let mut plain = Plain::new();
     let mut most = 0;
-    for turn in 0..10_000 {
+    for turn in 0..count {
         let word = random.next_u32();
         let n = random.next_u32();
-        call(&rt, &mut charges, &mut plain, word, n)?;
+        call(rt, charges, plain, word, n)?;
         most = plain.count().max(most);
         if turn % 20 == 19 {
-            compare(&rt, &charges, &plain);
+            compare(rt, charges, plain);
         }
     }
-    assert_eq!(rt; most, MAX_GROUPS);
+    Ok(most)
+}
+
+#[test]
+fn the_charges_agree_with_plain_sums(rt: HostRuntime) -> Result<(), Fail> {
+    let mut charges = Charges::new(rt.alloc())?;
+    let most = calls(&rt, &mut charges, &mut Plain::new(), 10_000)?;
+    holds(&rt, most == MAX_GROUPS);
     Ok(())
 }

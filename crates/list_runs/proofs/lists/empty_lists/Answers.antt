@@ -1,8 +1,8 @@
 use Rattle.std.proofs.Common.{◌≡◌, ℕ, ◌+◌, [], ◌∷◌, ◌++◌, length, length-append, ◌∙◌, ap, sym}
 use Rattle.lru_lists.specs.declared.record.Link.{Link}
 use Rattle.lru_lists.specs.Lists.{place_of, HasNoUnits}
-use Rattle.zone_runs.proofs.Owners.{all_pushed}
-use Rattle.zone_runs.proofs.lists.empty_lists.Goals as goal
+use Rattle.list_runs.proofs.Owners.{all_pushed}
+use Rattle.list_runs.proofs.lists.empty_lists.Goals as goal
 
 pub loop-owner-preserved : goal.loop-owner-preserved
 loop-owner-preserved c =

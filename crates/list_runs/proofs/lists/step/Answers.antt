@@ -1,5 +1,5 @@
-use Rattle.zone_runs.proofs.Owners.{one_written_back}
-use Rattle.zone_runs.proofs.lists.step.Goals as goal
+use Rattle.list_runs.proofs.Owners.{one_written_back}
+use Rattle.list_runs.proofs.lists.step.Goals as goal
 
 pub returns-in_err-called-clause-stand : goal.returns-in_err-called-clause-stand
 returns-in_err-called-clause-stand g c =

@@ -2,6 +2,7 @@ ghost use Rattle.std.specs.Prelude.{◌≡◌, ◌<◌, IfOk, length};
 ghost use Rattle.lru_lists.specs.Lists.{StandsIn, ChangesOwn, AllStand};
 ghost use Rattle.lru_lists.specs.Queue.{AreNowhere};
 
+use crate::walks::holds;
 use lru_lists::laws;
 use lru_lists::links::Links;
 use lru_lists::lru::{Lru, Touched};
@@ -34,14 +35,20 @@ fn unmarked(entry: Entry) -> Entry {
 
 // Takes the unit out of a vector, and tells how it stood there.
 fn take(entries: &mut Vec<Entry>, unit: u32) -> Option<Entry> {
-    let mut found = None;
-    for entry in entries.as_slice() {
-        if entry.number == unit {
-            found = Some(*entry);
+    for index in 0..entries.len() {
+        if entries[index].number == unit {
+            return Some(entries.remove(index));
         }
     }
-    entries.retain(|entry| entry.number != unit);
-    found
+    None
+}
+
+fn set_dirty(entries: &mut [Entry], unit: u32, is_dirty: bool) {
+    for entry in entries {
+        if entry.number == unit {
+            entry.is_dirty = is_dirty;
+        }
+    }
 }
 
 impl Plain {
@@ -72,16 +79,8 @@ impl Plain {
     }
 
     fn set_dirty(&mut self, unit: u32, is_dirty: bool) {
-        for entry in self.inactive.as_mut_slice() {
-            if entry.number == unit {
-                entry.is_dirty = is_dirty;
-            }
-        }
-        for entry in self.active.as_mut_slice() {
-            if entry.number == unit {
-                entry.is_dirty = is_dirty;
-            }
-        }
+        set_dirty(self.inactive.as_mut_slice(), unit, is_dirty);
+        set_dirty(self.active.as_mut_slice(), unit, is_dirty);
     }
 
     fn age(&mut self) -> Result<(), AllocError> {
@@ -117,7 +116,7 @@ fn call(
         match word % 8 {
             1 | 2 => {
                 lru.take_off(links, unit);
-                assert!(rt; plain.take_off(unit).is_some());
+                holds(rt, plain.take_off(unit).is_some());
             }
             3 | 4 => {
                 let is_dirty = word % 8 == 3;
@@ -126,7 +125,7 @@ fn call(
             }
             _ => {
                 let touched = lru.touch(links, unit);
-                assert_eq!(rt; touched, plain.touch(unit)?);
+                holds(rt, plain.touch(unit)? == touched);
             }
         }
     } else if links.home(unit).is_none() {
@@ -140,39 +139,36 @@ fn call(
 fn walk(rt: &impl Abort, lru: &Lru, links: &Links, list: LruList, plain: &[Entry])
     requires { StandsIn links.now lru.now }
 {
-    assert_eq!(rt; lru.len(list) as usize, plain.len());
+    holds(rt, lru.len(list) as usize == plain.len());
     let mut next = lru.oldest(links, list);
     for entry in plain {
-        assert_eq!(rt; next, Some(*entry));
-        assert!(rt; entry.number < links.frames());
-        assert!(rt; lru.is_on(links, entry.number).is_some());
-        assert_eq!(rt; lru.is_on(links, entry.number), Some(list));
-        next = lru.newer(links, entry.number);
+        holds(rt, next == Some(*entry));
+        next = newer(rt, lru, links, list, entry.number);
     }
-    assert!(rt; next.is_none());
+    holds(rt, next.is_none());
+}
+
+// The unit after this one, which has to stand on this list.
+fn newer(rt: &impl Abort, lru: &Lru, links: &Links, list: LruList, unit: u32) -> Option<Entry>
+    requires { StandsIn links.now lru.now }
+{
+    assert!(rt; unit < links.frames());
+    let on = lru.is_on(links, unit);
+    assert!(rt; on.is_some());
+    holds(rt, on == Some(list));
+    lru.newer(links, unit)
 }
 
 // Compares all lists of all owners with the plain vectors.
 fn compare(rt: &impl Abort, links: &Links, lists: &[Lru], plain: &[Plain])
     requires { AllStand links.now lists.now }
 {
-    assert_eq!(rt; lists.len(), plain.len());
+    assert!(rt; lists.len() == plain.len());
     for index in 0..lists.len() {
-        let lru = lists[index];
-        walk(
-            rt,
-            &lru,
-            links,
-            LruList::Inactive,
-            plain[index].inactive.as_slice(),
-        );
-        walk(
-            rt,
-            &lru,
-            links,
-            LruList::Active,
-            plain[index].active.as_slice(),
-        );
+        let lru = &lists[index];
+        let units = &plain[index];
+        walk(rt, lru, links, LruList::Inactive, units.inactive.as_slice());
+        walk(rt, lru, links, LruList::Active, units.active.as_slice());
     }
 }
 
@@ -228,27 +224,34 @@ fn empty_plain(alloc: Global) -> Result<Vec<Plain>, AllocError> {
     Ok(plain)
 }
 
+// Makes so many calls, and compares all lists at every fiftieth.
+fn calls(rt: &impl Abort, links: &mut Links, lists: &mut [Lru], plain: &mut [Plain], count: u32)
+    requires frames { length links.old ≡ 256 }
+    requires stand { AllStand links.old lists.old }
+{
+    let mut random = Pcg32::seed_from_u64(2_025);
+    for turn in 0..count {
+        let unit = random.next_u32() % FRAMES;
+        let word = random.next_u32();
+        step(rt, links, lists, plain, unit, word).expect(rt, "memory");
+        if turn % 50 == 49 {
+            compare(rt, links, lists, plain);
+        }
+    }
+}
+
 #[test]
 fn the_lists_agree_with_plain_vectors(rt: HostRuntime) -> Result<(), Fail> {
-    let mut random = Pcg32::seed_from_u64(2_025);
     let mut plain = empty_plain(rt.alloc())?;
     let mut links = Links::new(rt.alloc(), FRAMES)?;
     let mut lists = empty_lists(rt.alloc(), &links)?;
-    for turn in 0..10_000 {
-        let unit = random.next_u32() % FRAMES;
-        let word = random.next_u32();
-        step(
-            &rt,
-            &mut links,
-            lists.as_mut_slice(),
-            plain.as_mut_slice(),
-            unit,
-            word,
-        )?;
-        if turn % 50 == 49 {
-            compare(&rt, &links, lists.as_slice(), plain.as_slice());
-        }
-    }
+    calls(
+        &rt,
+        &mut links,
+        lists.as_mut_slice(),
+        plain.as_mut_slice(),
+        10_000,
+    );
     Ok(())
 }
 
@@ -258,11 +261,11 @@ fn a_second_touch_moves_a_unit(rt: HostRuntime) -> Result<(), Fail> {
     let mut lru = Lru::new(7);
     lru.add(&mut links, 3);
     assert!(rt; lru.is_on(&links, 3).is_some());
-    assert_eq!(rt; lru.touch(&mut links, 3), Touched::Marked);
+    assert!(rt; lru.touch(&mut links, 3) == Touched::Marked);
     assert!(rt; lru.is_on(&links, 3).is_some());
-    assert_eq!(rt; lru.touch(&mut links, 3), Touched::Moved);
-    assert_eq!(rt; lru.is_on(&links, 3), Some(LruList::Active));
+    assert!(rt; lru.touch(&mut links, 3) == Touched::Moved);
+    assert!(rt; lru.is_on(&links, 3) == Some(LruList::Active));
     lru.age(&mut links);
-    assert_eq!(rt; lru.is_on(&links, 3), Some(LruList::Inactive));
+    assert!(rt; lru.is_on(&links, 3) == Some(LruList::Inactive));
     Ok(())
 }

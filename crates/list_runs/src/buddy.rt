@@ -1,4 +1,4 @@
-use crate::walks::{count, walks};
+use crate::walks::{walks, wholes};
 use rand_core::{Rng, SeedableRng};
 use rand_pcg::Pcg32;
 use std::alloc::{AllocError, Global};
@@ -14,19 +14,22 @@ use zone_buddy::buddy::Buddy;
 fn a_block_is_taken_and_given_back(rt: HostRuntime) -> Result<(), Fail> {
     let mut zone = Buddy::new(rt.alloc(), 16)?;
     let order = Order::of(2).ok_or("order 2")?;
-    assert_eq!(rt; zone.take(order), Some(Block { at: 0, order }));
+    assert!(rt; zone.take(order) == Some(Block { at: 0, order }));
     if zone.is_in_use(Block { at: 0, order }) {
         zone.give(Block { at: 0, order });
     }
     for block in zone.blocks() {
-        assert_eq!(rt; block.order.frames(), 16);
+        assert!(rt; block.order.frames() == 16);
     }
     Ok(())
 }
 
-// Takes a block, which has to be this one.
-fn takes(rt: &impl Abort, zone: &mut Buddy, order: Order, block: Option<Block>) {
-    assert_eq!(rt; zone.take(order), block);
+// Takes a block of this order, which has to begin at this frame, or there has to be none.
+fn takes(rt: &impl Abort, zone: &mut Buddy, order: Order, at: Option<u32>) {
+    match zone.take(order) {
+        Some(block) => assert!(rt; at == Some(block.at) && block.order == order),
+        None => assert!(rt; at == None),
+    }
 }
 
 // Gives the block, which has to be in use.
@@ -38,17 +41,33 @@ fn gives(rt: &impl Abort, zone: &mut Buddy, block: Block) {
 
 #[test]
 fn sixteen_frames_one_by_one(rt: HostRuntime) -> Result<(), Fail> {
-    let single = Order::of(0).ok_or("order 0")?;
+    let order = Order::of(0).ok_or("order 0")?;
     let mut zone = Buddy::new(rt.alloc(), 16)?;
     for at in 0..16 {
-        takes(&rt, &mut zone, single, Some(Block { at, order: single }));
+        takes(&rt, &mut zone, order, Some(at));
     }
-    takes(&rt, &mut zone, single, None);
+    takes(&rt, &mut zone, order, None);
     for at in [7, 0, 12, 3, 15, 8, 1, 14, 6, 9, 2, 11, 5, 10, 4, 13] {
-        gives(&rt, &mut zone, Block { at, order: single });
+        gives(&rt, &mut zone, Block { at, order });
     }
     walks(&rt, zone.blocks(), &[(4, 0)]);
     Ok(())
+}
+
+// The blocks of a zone of 65,536 frames of which the first is in use: one of each order, and 63 whole ones more.
+fn without_one() -> [(u32, u32); 73] {
+    let mut pairs = [(0, 1); 73];
+    let mut next = (0_u32, 1_u32);
+    for pair in pairs.iter_mut() {
+        *pair = next;
+        let (exponent, at) = next;
+        next = if exponent < 10 {
+            (exponent + 1, at.wrapping_mul(2))
+        } else {
+            (10, at.wrapping_add(1024))
+        };
+    }
+    pairs
 }
 
 #[test]
@@ -57,8 +76,7 @@ fn the_greatest_zone_is_taken_and_given_back(rt: HostRuntime) -> Result<(), Fail
     let single = Order::of(0).ok_or("order 0")?;
     let mut zone = Buddy::new(rt.alloc(), 65_536)?;
     for index in 0..64_u32 {
-        let at = index * 1024;
-        takes(&rt, &mut zone, order, Some(Block { at, order }));
+        takes(&rt, &mut zone, order, Some(index * 1024));
     }
     takes(&rt, &mut zone, single, None);
     for index in 0..64_u32 {
@@ -66,10 +84,10 @@ fn the_greatest_zone_is_taken_and_given_back(rt: HostRuntime) -> Result<(), Fail
         gives(&rt, &mut zone, Block { at, order });
     }
     let at = 0;
-    takes(&rt, &mut zone, single, Some(Block { at, order: single }));
-    assert_eq!(rt; count(zone.blocks()), 73);
+    takes(&rt, &mut zone, single, Some(at));
+    walks(&rt, zone.blocks(), &without_one());
     gives(&rt, &mut zone, Block { at, order: single });
-    assert_eq!(rt; count(zone.blocks()), 64);
+    walks(&rt, zone.blocks(), &wholes());
     Ok(())
 }
 
@@ -94,10 +112,11 @@ fn mark(free: &mut [bool], block: &Block, is_free: bool) {
 
 // Takes one frame, which the word picks, of the last free block.
 fn take_one(zone: &mut Buddy, word: u32) -> Option<Block> {
+    let order = Order::of(0)?;
     let last = zone.blocks().last()?;
     let at = last.at.checked_add(word % last.order.frames())?;
     zone.take_frame(at);
-    Order::of(0).map(|order| Block { at, order })
+    Some(Block { at, order })
 }
 
 // By a random word takes a block, or one frame, or gives a block of those held, and notes which
@@ -131,7 +150,7 @@ fn take_or_give(
 fn joined(alloc: Global, free: &[bool]) -> Result<Vec<bool>, AllocError> {
     let mut larger = Vec::new(alloc);
     for pair in free.chunks_exact(2) {
-        larger.push(pair.iter().all(|is_free| *is_free))?;
+        larger.push(matches!(pair, [true, true]))?;
     }
     Ok(larger)
 }
@@ -140,10 +159,7 @@ fn joined(alloc: Global, free: &[bool]) -> Result<Vec<bool>, AllocError> {
 // alone: a free block that lies in no free block of the next order.
 fn maximal_of(alloc: Global, frames: &[bool]) -> Result<Vec<(u32, u32)>, AllocError> {
     let mut pairs = Vec::new(alloc);
-    let mut free = Vec::new(alloc);
-    for is_free in frames {
-        free.push(*is_free)?;
-    }
+    let mut free = Vec::from_slice(alloc, frames)?;
     let mut size = 1_u32;
     for exponent in 0..11 {
         let larger = if exponent < 10 {

@@ -1,0 +1,154 @@
+use crate::walks::{holds, walks, wholes};
+use std::process::Abort;
+use std::test::Fail;
+use zone_blocks::areas::FreeAreas;
+use zone_blocks::block::Block;
+use zone_blocks::laws;
+use zone_blocks::order::Order;
+
+// The lines that the README shows.
+#[test]
+fn areas_of_eleven_frames(rt: HostRuntime) -> Result<(), Fail> {
+    let mut areas = FreeAreas::new(rt.alloc(), 11)?;
+    areas.set_from(&[true; 11]);
+    let order = Order::of(1).ok_or("order 1")?;
+    assert!(rt; areas.first(order) == Some(Block { at: 8, order }));
+    if areas.contains(Block { at: 8, order }) {
+        areas.remove(Block { at: 8, order });
+    }
+    assert!(rt; !areas.contains(Block { at: 8, order }));
+    let rest = Order::of(3).ok_or("order 3")?;
+    assert!(rt; areas.smallest_from(order) == Some(Block { at: 0, order: rest }));
+    Ok(())
+}
+
+#[test]
+fn orders_end_at_ten(rt: HostRuntime) -> Result<(), Fail> {
+    let greatest = Order::of(10).ok_or("order 10")?;
+    assert!(rt; greatest.exponent() == 10 && greatest.frames() == 1024);
+    assert!(rt; Order::of(11).is_none());
+    Ok(())
+}
+
+#[test]
+fn eleven_free_frames(rt: HostRuntime) -> Result<(), Fail> {
+    let mut areas = FreeAreas::new(rt.alloc(), 11)?;
+    walks(&rt, areas.walk(), &[]);
+    areas.set_from(&[true; 11]);
+    walks(&rt, areas.walk(), &[(0, 10), (1, 8), (3, 0)]);
+    Ok(())
+}
+
+#[test]
+fn sixteen_frames_with_five_in_use(rt: HostRuntime) -> Result<(), Fail> {
+    let mut free = [true; 16];
+    for used in [0, 4, 5, 6, 7] {
+        free[used] = false;
+    }
+    let mut areas = FreeAreas::new(rt.alloc(), 16)?;
+    areas.set_from(&free);
+    walks(&rt, areas.walk(), &[(0, 1), (1, 2), (3, 8)]);
+    Ok(())
+}
+
+// What is done with free areas, and what they have to answer: a block by its first frame and the exponent of its order.
+#[derive(Clone, Copy)]
+enum Row {
+    Put(u32, u32),
+    Take(u32, u32),
+    // The bit of the pair of the first block of this order.
+    Bit(u32, Option<bool>),
+    // The first block of exactly this order stands at this frame.
+    First(u32, u32),
+    // No block of this order or above is there.
+    NoneFrom(u32),
+}
+
+// The block of this exponent at this frame.
+fn block(rt: &impl Abort, at: u32, exponent: u32) -> Block {
+    let order = Order::of(exponent).expect(rt, "an order");
+    Block { at, order }
+}
+
+// Makes a row; a block that is put in or taken out has to be one that may.
+fn play(rt: &impl Abort, areas: &mut FreeAreas, row: Row) {
+    match row {
+        Row::Put(at, exponent) => {
+            let block = block(rt, at, exponent);
+            assert!(rt; block.is_block_of(areas.frames()) && !areas.overlaps(block));
+            areas.insert(block);
+        }
+        Row::Take(at, exponent) => {
+            let block = block(rt, at, exponent);
+            assert!(rt; areas.contains(block));
+            areas.remove(block);
+        }
+        Row::Bit(exponent, bit) => {
+            holds(rt, areas.pair_bit(block(rt, 0, exponent)) == bit);
+        }
+        Row::First(exponent, at) => {
+            let first = areas.first(block(rt, 0, exponent).order);
+            holds(rt, first == Some(block(rt, at, exponent)));
+        }
+        Row::NoneFrom(exponent) => {
+            let order = block(rt, 0, exponent).order;
+            holds(rt, areas.first(order).is_none());
+            holds(rt, areas.smallest_from(order).is_none());
+        }
+    }
+}
+
+// Sixteen frames, of which a single frame is taken, and then four.
+#[test]
+fn bits_of_pairs(rt: HostRuntime) -> Result<(), Fail> {
+    let mut areas = FreeAreas::new(rt.alloc(), 16)?;
+    areas.set_from(&[true; 16]);
+    let rows = [
+        Row::Take(0, 4),
+        Row::Put(8, 3),
+        Row::Put(4, 2),
+        Row::Put(2, 1),
+        Row::Put(1, 0),
+        Row::Bit(2, Some(true)),
+        Row::Take(4, 2),
+        Row::Bit(0, Some(true)),
+        Row::Bit(2, Some(false)),
+        Row::Bit(4, None),
+    ];
+    for row in rows {
+        play(&rt, &mut areas, row);
+    }
+    Ok(())
+}
+
+#[test]
+fn a_whole_zone_is_blocks_of_the_greatest_order(rt: HostRuntime) -> Result<(), Fail> {
+    let free = vec![in rt.alloc(); true; 65_536]?;
+    let mut areas = FreeAreas::new(rt.alloc(), 65_536)?;
+    areas.set_from(free.as_slice());
+    walks(&rt, areas.walk(), &wholes());
+    Ok(())
+}
+
+#[test]
+fn a_block_is_put_in_and_taken_out(rt: HostRuntime) -> Result<(), Fail> {
+    let mut areas = FreeAreas::new(rt.alloc(), 16)?;
+    let rows = [
+        Row::Put(8, 1),
+        Row::First(1, 8),
+        Row::NoneFrom(2),
+        Row::Take(8, 1),
+        Row::NoneFrom(1),
+    ];
+    for row in rows {
+        play(&rt, &mut areas, row);
+    }
+    Ok(())
+}
+
+#[test]
+fn the_laws_can_be_called() {
+    laws::every_free_frame_is_in_one_block();
+    laws::every_frame_in_a_block_is_free();
+    laws::maximal_blocks_are_unique();
+}

@@ -1,0 +1,42 @@
+use crate::walks::holds;
+use bit_levels::levels::BitLevels;
+use std::process::Abort;
+use std::test::Fail;
+
+// A bound of which no proof knows the number.
+fn bound() -> usize {
+    1_000_000
+}
+
+fn put(set: &mut BitLevels, number: usize, value: bool) {
+    if number < set.len() {
+        set.set(number, value);
+    }
+}
+
+// The greatest member below the number has to be this one.
+fn last(rt: &impl Abort, set: &BitLevels, number: usize, member: Option<usize>) {
+    assert!(rt; number <= set.len());
+    holds(rt, set.last_below(number) == member);
+}
+
+#[test]
+fn the_nearest_lower_member(rt: HostRuntime) -> Result<(), Fail> {
+    let mut set = BitLevels::new(rt.alloc(), bound())?;
+    last(&rt, &set, bound(), None);
+    for number in [3, 64, 700_000] {
+        put(&mut set, number, true);
+    }
+    let members = [
+        (bound(), Some(700_000)),
+        (700_000, Some(64)),
+        (64, Some(3)),
+        (3, None),
+    ];
+    for (number, member) in members {
+        last(&rt, &set, number, member);
+    }
+    put(&mut set, 64, false);
+    last(&rt, &set, 700_000, Some(3));
+    Ok(())
+}
