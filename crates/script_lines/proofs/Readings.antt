@@ -24,8 +24,8 @@ alloc_has_space text none path order is = no_cut text path is.digits none is.par
 pub alloc_parts : (text w r : List ℕ) → IsCut text w r → (path : List ℕ) (order : ℕ) → IsAllocText path order text → IsPathText w × WritesNumber r order
 alloc_parts text w r cut path order is =
     let same = cut_once text w r path is.digits cut (path_no_space path is.path_text) is.parts in
-    let is_path : IsPathText w = rw same.0 is.path_text in
-    let is_number : WritesNumber r order = rw same.1 is.writes in
+    let is_path : IsPathText w = subst IsPathText (sym same.0) is.path_text in
+    let is_number : WritesNumber r order = subst (λ (x : List ℕ). WritesNumber x order) (sym same.1) is.writes in
     (is_path, is_number)
 
 -- the arguments of `read` are the parts of the cut
@@ -35,8 +35,8 @@ read_has_space text none path file is = no_cut text path file none is.parts
 pub read_parts : (text w r : List ℕ) → IsCut text w r → (path file : List ℕ) → IsReadText path file text → IsPathText w × IsPathText r
 read_parts text w r cut path file is =
     let same = cut_once text w r path file cut (path_no_space path is.path_text) is.parts in
-    let is_path : IsPathText w = rw same.0 is.path_text in
-    let is_file : IsPathText r = rw same.1 is.file_text in
+    let is_path : IsPathText w = subst IsPathText (sym same.0) is.path_text in
+    let is_file : IsPathText r = subst IsPathText (sym same.1) is.file_text in
     (is_path, is_file)
 
 -- the arguments of `write` are cut twice
@@ -46,7 +46,7 @@ write_has_space text none path file value is = no_cut text path (file ++ 32 ∷ 
 pub write_cut : (text w r : List ℕ) → IsCut text w r → (path file value : List ℕ) → IsWriteText path file value text → IsPathText w × (r ≡ file ++ 32 ∷ value)
 write_cut text w r cut path file value is =
     let same = cut_once text w r path (file ++ 32 ∷ value) cut (path_no_space path is.path_text) is.parts in
-    let is_path : IsPathText w = rw same.0 is.path_text in
+    let is_path : IsPathText w = subst IsPathText (sym same.0) is.path_text in
     (is_path, same.1)
 
 pub write_has_spaces : (text w r : List ℕ) → IsCut text w r → NoSpace r → (path file value : List ℕ) → ¬ IsWriteText path file value text
@@ -57,7 +57,7 @@ pub write_parts : (text w r v s : List ℕ) → IsCut text w r → IsCut r v s �
 write_parts text w r v s cut next path file value is =
     let first = write_cut text w r cut path file value is in
     let same = cut_once r v s file value next (path_no_space file is.file_text) first.1 in
-    let is_file : IsPathText v = rw same.0 is.file_text in
+    let is_file : IsPathText v = subst IsPathText (sym same.0) is.file_text in
     (first.0, is_file)
 
 -- a request has a space
@@ -69,9 +69,17 @@ pub request_parts : (sizes : Config) (text w r : List ℕ) → IsCut text w r �
     → IsRequestText sizes processor command text → WritesNumber w processor × IsCommandText sizes command r
 request_parts sizes text w r cut processor command is =
     let same = cut_once text w r is.digits is.rest cut (digits_no_space is.digits is.writes.digits.1) is.parts in
-    let is_number : WritesNumber w processor = rw same.0 is.writes in
-    let is_command : IsCommandText sizes command r = rw same.1 is.command_text in
+    let is_number : WritesNumber w processor = subst (λ (x : List ℕ). WritesNumber x processor) (sym same.0) is.writes in
+    let is_command : IsCommandText sizes command r = subst (IsCommandText sizes command) (sym same.1) is.command_text in
     (is_number, is_command)
+
+-- the word before the first space is the name, and the rest of the text the arguments
+name_parts : (sizes : Config) (text w r : List ℕ) → IsCut text w r → (command : Command) (arguments : List ℕ)
+    → text ≡ name_of (its_verb command) ++ 32 ∷ arguments → HasArguments sizes command arguments
+    → (w ≡ name_of (its_verb command)) × HasArguments sizes command r
+name_parts sizes text w r cut command arguments is has =
+    let same = cut_once text w r (name_of (its_verb command)) arguments cut (name_no_space (its_verb command)) is in
+    (same.0, subst (HasArguments sizes command) (sym same.1) has)
 
 -- what the word before the first space and the rest of the text are, where the text is that of a command
 pub command_parts : (sizes : Config) (text w r : List ℕ) → IsCut text w r → (command : Command) → IsCommandText sizes command text
@@ -79,10 +87,7 @@ pub command_parts : (sizes : Config) (text w r : List ℕ) → IsCut text w r �
 command_parts sizes text w r cut Settle is = absurd (no_cut (codes "settle") w r (name_no_space verb.Settle) (sym is ∙ cut.parts))
 command_parts sizes text w r cut Blocks is = absurd (no_cut (codes "blocks") w r (name_no_space verb.Blocks) (sym is ∙ cut.parts))
 command_parts sizes text w r cut Show is = absurd (no_cut (codes "show") w r (name_no_space verb.Show) (sym is ∙ cut.parts))
-command_parts sizes text w r cut command is =
-    let same = cut_once text w r (name_of (its_verb command)) is.0 cut (name_no_space (its_verb command)) is.1 in
-    let has : HasArguments sizes command r = rw same.1 is.2 in
-    (same.0, has)
+command_parts sizes text w r cut command is = name_parts sizes text w r cut command is.0 is.1 is.2
 
 -- whether a command of this name stands alone
 abbrev pub stands_alone : Verb → Bool
@@ -111,15 +116,21 @@ no_command sizes text w r v cut named none command is =
     let is_named = command_named sizes text w r cut command is in
     none command (cc) (command_parts sizes text w r cut command is).1
 
+-- a text of this name and these arguments
+named_parts : (sizes : Config) (text w r : List ℕ) (v : Verb) → IsCut text w r → verb_named w ≡ Some v → (command : Command)
+    → its_verb command ≡ v → HasArguments sizes command r
+    → (arguments : List ℕ) × (text ≡ name_of (its_verb command) ++ 32 ∷ arguments) × HasArguments sizes command arguments
+named_parts sizes text w r v cut e command same has =
+    let is_name : w ≡ name_of (its_verb command) = named w (its_verb command) (e ∙ ap Some (sym same)) in
+    (r, cut.parts ∙ ap (λ (x : List ℕ). x ++ 32 ∷ r) is_name, has)
+
 -- the command of the text has this name and these arguments
 pub is_command : (sizes : Config) (text w r : List ℕ) (v : Verb) → IsCut text w r → verb_named w ≡ Some v → (command : Command)
     → its_verb command ≡ v → HasArguments sizes command r → IsCommandText sizes command text
 is_command sizes text w r v cut e Settle same has = absurd has
 is_command sizes text w r v cut e Blocks same has = absurd has
 is_command sizes text w r v cut e Show same has = absurd has
-is_command sizes text w r v cut e command same has =
-    let is_name : w ≡ name_of (its_verb command) = named w (its_verb command) (e ∙ ap Some (sym same)) in
-    (r, cut.parts ∙ ap (λ (x : List ℕ). x ++ 32 ∷ r) is_name, has)
+is_command sizes text w r v cut e command same has = named_parts sizes text w r v cut e command same has
 
 -- what the arguments say is what the text says
 pub from_arguments : (sizes : Config) (text w r : List ℕ) (v : Verb) (found : Option Command) → IsCut text w r → verb_named w ≡ Some v

@@ -6,3 +6,18 @@ returns-clause-machine c = search rules
 
 pub returns-clause-processor : goal.returns-clause-processor
 returns-clause-processor c = search rules
+
+pub returns-clause-has_word : goal.returns-clause-has_word
+returns-clause-has_word c = search rules
+
+pub returns-clause-balanced : goal.returns-clause-balanced
+returns-clause-balanced c = search rules
+
+pub returns-clause-group : goal.returns-clause-group
+returns-clause-group c = search rules
+
+pub returns-clause-held : goal.returns-clause-held
+returns-clause-held c = search rules
+
+pub returns-clause-last : goal.returns-clause-last
+returns-clause-last c = search rules
