@@ -1,7 +1,7 @@
--- Each step has one answer, but for which free block is placed. Serves `answers_are_determined`.
+-- Each step has one answer, but for which free block is placed. Serves `answers_are_determined`, `only_seats_act`.
 use Rattle.std.proofs.Common.{◌≡◌, ℕ, ◌+◌, ◌≤◌, ◌==◌, true, false, Option, Some, None, List, refl, sym, ◌∙◌, ap, subst, arith, inl, inr, if◌then◌else◌, eq-eqb}
-use Rattle.std.specs.Prelude.{◌⊎◌}
-use Rattle.std.proofs.lemmas.Bool.{cases_order, ne_eqb, false≢true, true≢false}
+use Rattle.std.specs.Prelude.{◌⊎◌, ◌||◌}
+use Rattle.std.proofs.lemmas.Bool.{cases_order, or_left, or_right, ne_eqb, false≢true, true≢false}
 use Rattle.group_tree.specs.Groups.{AreGroups, IsLeastFreeNumber}
 use Rattle.group_tree.specs.Room.{PathHasRoom, IsLowestOver}
 use Rattle.group_tree.proofs.CallerLemmas.{in_subtree-antisym}
@@ -12,13 +12,14 @@ use Rattle.step_rules.specs.declared.step.Action.TheVariants.{Publish, Return, N
 use Rattle.step_rules.specs.declared.step.Answer.{Answer}
 use Rattle.step_rules.specs.declared.step.Answer.TheVariants.{Illegal, Done, Left, Last, Missed, Took, Empty, OtherGroup, Drained, Back}
 use Rattle.step_rules.specs.declared.step.Answer.TheVariants.{Pages, Granted, Over, Placed, NoFreeBlock, Number}
-use Rattle.step_rules.specs.State.{State, Part, live_references}
+use Rattle.step_rules.specs.State.{Zone, State, Part, live_references, is_cpu, may_zone_act}
 use Rattle.step_rules.specs.Usage.{usage_of}
 use Rattle.step_rules.specs.Legal.{is_legal, is_of_group, IsAnswer, IsCounted, IsMade, Allows}
 use Rattle.step_rules.specs.After.{state_of}
-use Rattle.step_rules.specs.Answers.{IsPlacing, AnswersAreDetermined}
+use Rattle.step_rules.specs.Answers.{IsPlacing, AnswersAreDetermined, OnlySeatsAct}
 use Rattle.step_rules.proofs.Runs.{allowed}
 use Rattle.step_rules.proofs.Keeping.{keepers_are_there}
+use Rattle.step_rules.proofs.Freeing.{zone_of_run}
 
 -- an action that is answered Done and in no other way
 abbrev IsPlain : Action → Type 0
@@ -222,4 +223,25 @@ answers_are_determined zone run legal seat action a b x y =
         | inl d ↦ absurd (not_both s seat action b d y made.legal)
         | inr too ↦ made_alike s seat action a b (keepers_are_there zone run legal).groups made too
       ]
+    ]
+
+-- ---- who makes a step
+acts : (s : State) (seat : ℕ) (action : Action) → is_legal s seat action ≡ true → (is_cpu s.zone seat || may_zone_act s.hold seat) ≡ true
+acts s seat Lock legal = let cpu : is_cpu s.zone seat ≡ true = grind arith in or_left _ _ cpu
+acts s seat Unlock legal = let cpu : is_cpu s.zone seat ≡ true = grind arith in or_left _ _ cpu
+acts s seat (Get f) legal = let cpu : is_cpu s.zone seat ≡ true = grind arith in or_left _ _ cpu
+acts s seat (TakeIn f) legal = let cpu : is_cpu s.zone seat ≡ true = grind arith in or_left _ _ cpu
+acts s seat (PassBack f) legal = let cpu : is_cpu s.zone seat ≡ true = grind arith in or_left _ _ cpu
+acts s seat (Consume g) legal = let cpu : is_cpu s.zone seat ≡ true = grind arith in or_left _ _ cpu
+acts s seat (Credit f) legal = let cpu : is_cpu s.zone seat ≡ true = grind arith in or_left _ _ cpu
+acts s seat (Report n) legal = let cpu : is_cpu s.zone seat ≡ true = grind arith in or_left _ _ cpu
+acts s seat (Put f) legal = let either : (is_cpu s.zone seat || may_zone_act s.hold seat) ≡ true = grind arith in either
+acts s seat action legal = let zone : may_zone_act s.hold seat ≡ true = grind arith in or_right _ _ zone
+
+pub only_seats_act : OnlySeatsAct
+only_seats_act zone run legal seat action answer ok other =
+    let s = state_of zone run in
+    elim (allowed s seat action answer ok) [
+      | inl illegal ↦ absurd (other illegal)
+      | inr made ↦ ap (λ (z : Zone). is_cpu z seat || may_zone_act s.hold seat) (sym (zone_of_run zone run)) ∙ acts s seat action made.legal
     ]
