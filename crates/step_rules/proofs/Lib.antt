@@ -37,6 +37,7 @@ pub mod Adding
 pub mod Heads
 pub mod Charging
 pub mod Promising
+pub mod Answering
 pub mod Booking
 pub mod Living
 pub mod LentTo

@@ -3,7 +3,7 @@ use Rattle.std.proofs.Common.{◌≡◌, ℕ, ◌+◌, ◌<◌, ◌≤◌, true,
 use Rattle.std.proofs.Common.{inl, inr, if◌then◌else◌, cond, zero, suc}
 use Rattle.std.specs.Prelude.{IfSome, Bool, nat_le, not}
 use Rattle.std.specs.List.{slice_get}
-use Rattle.std.proofs.lemmas.Bool.{cases_eq, leb-true, false≢true}
+use Rattle.std.proofs.lemmas.Bool.{cases_Bool, cases_eq, leb-true, false≢true}
 use Rattle.std.proofs.lemmas.Nat.{pow_pos}
 use Rattle.std.proofs.lemmas.List.FromFn.{get_or-map-range_with_len, length-map-range_with_len}
 use Rattle.zone_blocks.specs.Areas.{IsFree}
@@ -13,16 +13,17 @@ use Rattle.group_tree.specs.Groups.{has_group, in_subtree, limit_of}
 use Rattle.group_tree.proofs.CallerLemmas.{in_subtree-above}
 use Rattle.step_rules.specs.declared.phase.ChargedUnit.{ChargedUnit}
 use Rattle.step_rules.specs.declared.phase.Way.TheVariants.{OnList}
+use Rattle.step_rules.specs.declared.phase.Stage.{Stage}
 use Rattle.step_rules.specs.declared.phase.Phase.{Phase}
 use Rattle.step_rules.specs.declared.phase.Phase.TheVariants.{InZone, Lent, Head, Tail}
 use Rattle.step_rules.specs.declared.step.Place.{Place}
 use Rattle.step_rules.specs.declared.step.Place.TheVariants.{Free, Listed, Charged}
 use Rattle.step_rules.specs.declared.step.Action.{Action}
-use Rattle.step_rules.specs.declared.step.Action.TheVariants.{Get, Put, Freeze, Consume, Credit, Grant, PlaceBlock, Return}
+use Rattle.step_rules.specs.declared.step.Action.TheVariants.{Get, Put, Freeze, Unfreeze, Consume, Credit, Grant, PlaceBlock, Return}
 use Rattle.step_rules.specs.declared.step.Answer.{Answer}
 use Rattle.step_rules.specs.declared.step.Answer.TheVariants.{Done, Held, Last, Took, Back, Granted, Placed}
-use Rattle.step_rules.specs.Phases.{Fresh, is_free, is_live, has_as, unit_of, keeper_of, may_return}
-use Rattle.step_rules.specs.State.{Zone, State, one_if, sum_to, front_of, is_cpu, free_in, live_references}
+use Rattle.step_rules.specs.Phases.{Fresh, is_free, is_live, has_as, unit_of, keeper_of, is_head_in_hand, may_return}
+use Rattle.step_rules.specs.State.{Zone, Stock, State, one_if, sum_to, front_of, is_cpu, free_in, live_references}
 use Rattle.group_tree.specs.Room.{fits_limit}
 use Rattle.step_rules.specs.Usage.{is_below, usage_of, frames_kept, stock_below, pages_prepaid}
 use Rattle.step_rules.specs.Legal.{is_legal, Allows}
@@ -32,11 +33,13 @@ use Rattle.step_rules.specs.Units.{units_of}
 use Rattle.step_rules.specs.Places.{is_same_place, place_in}
 use Rattle.step_rules.specs.Returns.{is_open, is_drop_phase, times_in, IsAllPlaced, ReturnsOnce}
 use Rattle.step_rules.specs.Charges.{charged_below}
+use Rattle.step_rules.specs.Keepers.{StockIsKept}
 use Rattle.step_rules.specs.Lent.{lent_to}
-use Rattle.step_rules.specs.Promise.{Shown, IsShown, Has, HasOnce, IsInUnit, IsInOnePlace, kept_below, prepaid_below, KeepsLimits}
+use Rattle.step_rules.specs.Promise.{Shown, IsShown, Has, HasOnce, IsInUnit, IsInOnePlace, IsPrepaid, kept_below, prepaid_below, KeepsLimits}
 use Rattle.step_rules.specs.Promise.{HasNoReference, IsUnused, ComesBackOnce, ThePromiseIsKept}
 use Rattle.step_rules.proofs.Lists.{one_if_true}
 use Rattle.step_rules.proofs.PhaseLemmas.{free_is, live_is, listed_is, fresh_is, held_live, none_some, returning_is, Returns, AsEnded, AsDrop}
+use Rattle.step_rules.proofs.PhaseLemmas.{in_hand, InHand as Hand, WasCollected, WasBare, WasEnded}
 use Rattle.step_rules.proofs.Referring.{live_from_references}
 use Rattle.step_rules.proofs.Passing.{front_listed}
 use Rattle.step_rules.proofs.Placing.{free_in_at, block_free}
@@ -111,6 +114,9 @@ module _ (zone : Zone) (run : Run) (legal : IsLegalRun zone run) where
     (every_frame_returns_once zone run legal f).gone ∙ ap is_open was ∙ shut,
   )
 
+  unit_told : (f : ℕ) (u : ChargedUnit) {stage : Stage} → (state_of zone run).phases f ≡ Head u stage → is_some ((units_of run).unit f) ≡ true
+  unit_told f u was = sym (ap is_some (units_are_told zone run legal f).unit) ∙ ap (λ y. is_some (unit_of y)) was
+
   same_hand : (p : ℕ) → is_cpu zone p ≡ true → ((units_of run).hands p).list ≡ ((state_of zone run).parts p).list
   same_hand p cpu = ap (λ (h : InHand). h.list) ((units_are_told zone run legal 0).hands p) ∙ sym (parts_are_told zone run legal p cpu).list
 
@@ -182,7 +188,46 @@ module _ (zone : Zone) (run : Run) (legal : IsLegalRun zone run) (shown : Shown)
     );
   }
 
+  -- a frame beyond the zone is seen nowhere
+  nowhere : (f : ℕ) → s.zone.frames ≤ f → (p : Place) → Has shown f p → ⊥
+  nowhere f past p has = by_place p has
+    where
+      free : s.phases f ≡ InZone
+      free = free_is (s.phases f) (((sound_run zone run legal).frames f).inside past)
+
+      by_place : (q : Place) → Has shown f q → ⊥
+      by_place Free seen =
+          let inside = (is.areas.each seen.0 seen.1).is_free.block.inside in
+          let size = length-map-range_with_len (λ x. is_free (s.phases x)) 0 s.zone.frames in
+          let high = seen.2.before in
+          omega arith
+      by_place (Listed q) seen =
+          let e = times_shown f q in
+          let none : one_if (is_same_place (place_in (s.phases f)) (Listed q)) ≡ 0 = ap (λ y. one_if (is_same_place (place_in y) (Listed q))) free in
+          omega (arith, e, seen, none)
+      by_place (Charged g) seen = none_some g (sym (is.keeper f ∙ ap keeper_of free) ∙ seen)
+
   -- ---- usage
+  is_prepaid : (p : ℕ) → 1 ≤ (shown.stocks p).pages → IsPrepaid zone shown p
+  is_prepaid p some = (cpu, by_group (s.parts p).stock.group refl)
+    where
+      kept : StockIsKept s p
+      kept = (keepers_are_there zone run legal).parts p
+
+      pages : 1 ≤ (s.parts p).stock.pages
+      pages = let same : (shown.stocks p).pages ≡ (s.parts p).stock.pages = ap (λ (x : Stock). x.pages) (is.stocks p) in omega arith
+
+      cpu : is_cpu zone p ≡ true
+      cpu = elim (cases_Bool (is_cpu s.zone p)) [
+        | inl yes_cpu ↦ is_of_zone zone run legal p yes_cpu
+        | inr off ↦ absurd (let none = kept.no_cpu off in let more = pages in omega arith)
+      ]
+
+      by_group : (o : Option ℕ) → (s.parts p).stock.group ≡ o → (g : ℕ) × ((shown.stocks p).group ≡ Some g) × (has_group shown.groups g ≡ true)
+      by_group None e = absurd (let none = kept.no_group e in let more = pages in omega arith)
+      by_group (Some g) e =
+          (g, ap (λ (x : Stock). x.group) (is.stocks p) ∙ e, ap (λ (gs : List Group). has_group gs g) is.groups ∙ kept.stock g e pages)
+
   kept_shown : (g : ℕ) → frames_kept s.groups s.phases s.zone.frames g ≡ kept_below shown s.zone.frames g
   kept_shown g = λ i. sum_to s.zone.frames (λ f. one_if (is_below (sym is.groups i) g (sym (is.keeper f) i)))
 
@@ -246,6 +291,15 @@ returns_kept zone run legal seat (Get f) Held ok =
     (every_frame_returns_once zone run legal f).gone ∙ ap is_open live.1
 returns_kept zone run legal seat (Put f) Last ok = let back = every_frame_returns_once zone run legal f in back.gone ∙ back.none_open_at_put seat ok
 returns_kept zone run legal seat (Freeze f n) Done ok = let back = every_frame_returns_once zone run legal f in back.gone ∙ back.none_open_at_freeze seat n ok
+returns_kept zone run legal seat (Unfreeze f n) Done ok =
+    let legal_here = ok.legal in
+    let hand : is_head_in_hand ((state_of zone run).phases f) ≡ true = grind arith in
+    by_hand (in_hand ((state_of zone run).phases f) hand)
+  where
+    by_hand : Hand ((state_of zone run).phases f) → ComesBackOnce run seat (Unfreeze f n) Done
+    by_hand (WasCollected u was) = (unit_told zone run legal f u was, no_reference zone run legal f (ap is_live was))
+    by_hand (WasBare u was) = (unit_told zone run legal f u was, no_reference zone run legal f (ap is_live was))
+    by_hand (WasEnded u was) = (unit_told zone run legal f u was, no_reference zone run legal f (ap is_live was))
 returns_kept zone run legal seat (Return f) Done ok =
     let s = state_of zone run in
     let may_be = ok.legal in
@@ -256,12 +310,12 @@ returns_kept zone run legal seat (Return f) Done ok =
         Returns (state_of zone run).killed ((state_of zone run).phases f) → ComesBackOnce run seat (Return f) Done
     came_back back may (AsEnded u was) = (
       inl (back.gone ∙ ap is_open was),
-      sym (ap is_some (units_are_told zone run legal f).unit) ∙ ap (λ y. is_some (unit_of y)) was,
+      unit_told zone run legal f u was,
       no_reference zone run legal f (ap is_live was),
     )
     came_back back may (AsDrop u was killed) = (
       inr (back.drop seat may ∙ ap (is_drop_phase (state_of zone run).killed) was ∙ killed),
-      sym (ap is_some (units_are_told zone run legal f).unit) ∙ ap (λ y. is_some (unit_of y)) was,
+      unit_told zone run legal f u was,
       no_reference zone run legal f (ap is_live was),
     )
 returns_kept zone run legal seat (Credit f) Back ok =
@@ -303,6 +357,8 @@ the_promise_is_kept zone run shown legal free is =
       groups = is.groups ∙ groups_in_run zone run legal;
       areas = (free_in s.zone s.phases, length-map-range_with_len (λ f. is_free (s.phases f)) 0 s.zone.frames ∙ frames, is.areas);
       frames = λ f below. in_one_place zone run legal shown is placed f (omega arith);
+      beyond = λ f past. nowhere zone run legal shown is placed f (omega arith);
+      stocks = is_prepaid zone run legal shown is placed;
       current = λ g here.
           let both = current_shown zone run legal shown is placed g here in
           (both.0 ∙ (λ i. kept_below shown (zone_is i).frames g + prepaid_below shown (zone_is i).cpus g), both.1);

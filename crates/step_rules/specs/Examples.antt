@@ -1,5 +1,5 @@
--- Small runs, to be read beside the table: one of the life of a frame, three whose last step is refused, one of a drop, and one
--- at the borders of references, limits and kills.
+-- Small runs, to be read beside the table: one of the life of a frame, three whose last step is refused, one of a drop, and
+-- two at borders: of references, limits and kills, and of the order of a list.
 use Rattle.std.specs.Prelude.{ℕ, Some, [], ◌∷◌, ◌++◌}
 use Rattle.step_rules.specs.declared.step.Step.{Step}
 use Rattle.step_rules.specs.declared.step.Action.{Action}
@@ -71,10 +71,19 @@ returned_when_killed =
     made 0 (Kill 0) Done ∷ made 0 (Return 0) Done ∷ []
 
 -- a frame gets 255 references and no more, and none is given on one that has none; a freeze takes all or nothing; the root gets
--- no limit, and a killed group no page
+-- no limit, and a killed group no page; and it is killed once
 abbrev pub at_the_borders : Run
 at_the_borders =
     made 1 Lock Done ∷ made 0 (SetMax 0 (Some 5)) Illegal ∷ made 0 (Grant 0 1) Granted ∷
     made 0 (PlaceBlock 0 0) (Placed (record { at = 0; order = 0 })) ∷ made 0 (Unfreeze 0 256) Illegal ∷ made 0 (Unfreeze 0 255) Done ∷
     made 1 (Get 0) Full ∷ made 0 (Put 0) (Left 254) ∷ made 1 (Get 0) Held ∷ made 1 (Get 1) Zero ∷ made 0 (Freeze 0 254) Missed ∷
-    made 0 (Kill 0) Done ∷ made 0 (Grant 0 1) Illegal ∷ []
+    made 0 (Kill 0) Done ∷ made 0 (Grant 0 1) Illegal ∷ made 0 (Kill 0) Illegal ∷ []
+
+-- a processor with two frames on its list passes the first back, and not the second; and a frame that a processor alone refers
+-- to isn't published
+abbrev pub in_line : Run
+in_line =
+    made 1 Lock Done ∷ made 0 (OpenVisit 1) Done ∷ made 0 (PassOut 0 1) Done ∷ made 1 (TakeIn 0) Done ∷ made 0 (PassOut 1 1) Done ∷
+    made 1 (TakeIn 1) Done ∷ made 1 (PassBack 1) Illegal ∷ made 1 (PassBack 0) Done ∷ made 0 (Collect 0 1) Done ∷ made 0 (Grant 0 1) Granted ∷
+    made 0 (PlaceBlock 0 0) (Placed (record { at = 0; order = 0 })) ∷ made 0 (Unfreeze 0 1) Done ∷ made 2 (Get 0) Held ∷
+    made 0 (Publish 0) Done ∷ made 0 (Put 0) (Left 1) ∷ made 0 (Publish 0) Illegal ∷ []

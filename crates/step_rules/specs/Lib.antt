@@ -23,5 +23,6 @@ pub mod Current
 pub mod Live
 pub mod Lent
 pub mod Booked
+pub mod Answers
 pub mod Charges
 pub mod Promise

@@ -13,7 +13,7 @@ use Rattle.group_tree.specs.Groups.{has_group, in_subtree}
 use Rattle.step_rules.specs.declared.step.Place.{Place}
 use Rattle.step_rules.specs.declared.step.Place.TheVariants.{Free, Listed, Charged}
 use Rattle.step_rules.specs.declared.step.Action.{Action}
-use Rattle.step_rules.specs.declared.step.Action.TheVariants.{Get, Put, Freeze, Consume, Credit, Grant, PlaceBlock, Return}
+use Rattle.step_rules.specs.declared.step.Action.TheVariants.{Get, Put, Freeze, Unfreeze, Consume, Credit, Grant, PlaceBlock, Return}
 use Rattle.step_rules.specs.declared.step.Answer.{Answer}
 use Rattle.step_rules.specs.declared.step.Answer.TheVariants.{Done, Held, Last, Took, Back, Granted, Placed}
 use Rattle.step_rules.specs.Phases.{keeper_of}
@@ -73,6 +73,10 @@ pub record IsInOnePlace (zone : Zone) (run : Run) (shown : Shown) (f : ℕ) : Ty
   pub kept : (g : ℕ) → (shown.keeper f ≡ Some g) ↔ IsInUnit run g f
 
 -- ---- each usage is right
+-- a page in the stock is prepaid by a processor, for a group that is there
+abbrev pub IsPrepaid : Zone → Shown → ℕ → Type 0
+IsPrepaid zone shown p = (is_cpu zone p ≡ true) × ((g : ℕ) × ((shown.stocks p).group ≡ Some g) × (has_group shown.groups g ≡ true))
+
 -- how many of the first n frames the group and those below it keep
 abbrev pub kept_below : Shown → ℕ → ℕ → ℕ
 kept_below shown frames g = sum_to frames (λ f. one_if (is_below shown.groups g (shown.keeper f)))
@@ -98,13 +102,15 @@ HasNoReference run f = (seat : ℕ) → counted_over (references_in seat f) run 
 abbrev pub IsUnused : Run → ℕ → Type 0
 IsUnused run f = ((g : ℕ) → ¬ IsInUnit run g f) × HasNoReference run f × (is_gone run f ≡ false)
 
--- a reference is given, and a last one goes, where none is gone. A frame comes back without a reference: as the head of its
+-- a reference is given, and a last one goes, where none is gone; the first ones are put on the head of a unit that has none. A
+-- frame comes back without a reference: as the head of its
 -- unit, where its last reference is gone or it is a fresh frame of a killed group; or it goes back to the list of the
 -- processor at which it is fresh. It is paid for from the front of that list, or placed, where it is in no use
 abbrev pub ComesBackOnce : Run → ℕ → Action → Answer → Type 0
 ComesBackOnce run seat (Get f) Held = is_gone run f ≡ false
 ComesBackOnce run seat (Put f) Last = is_gone run f ≡ false
 ComesBackOnce run seat (Freeze f n) Done = is_gone run f ≡ false
+ComesBackOnce run seat (Unfreeze f n) Done = (is_some ((units_of run).unit f) ≡ true) × HasNoReference run f
 ComesBackOnce run seat (Return f) Done =
     ((is_gone run f ≡ true) ⊎ (is_drop run f ≡ true)) × (is_some ((units_of run).unit f) ≡ true) × HasNoReference run f
 ComesBackOnce run seat (Credit f) Back = (times_in f ((units_of run).hands seat).fresh ≡ 1) × HasNoReference run f
@@ -114,13 +120,15 @@ ComesBackOnce run seat action answer = Unit {0}
 
 -- ---- the promise
 -- what is shown after the run keeps it: the groups are those of the run; the free areas are the maximal blocks of some set of
--- frames, which by the next field are those on no list and kept by no group; each frame of the zone is in one place; each
--- group's memory.current is the frames that it and those below it keep, and the pages prepaid for them, and is what is charged
+-- frames, which by the next field are those on no list and kept by no group; each frame of the zone is in one place, and no other
+-- frame in any; each page in a stock is prepaid; each group's memory.current is the frames that it and those below it keep, and the pages prepaid for them, and is what is charged
 -- to them; and of each step of the run, where it was made, no grant passed a limit and each frame came back once
 pub record Promise (zone : Zone) (run : Run) (shown : Shown) : Type 0 where
   pub groups : shown.groups ≡ groups_of run
   pub areas : (free : List Bool) × (length free ≡ zone.frames) × AreMaximalBlocks free shown.areas
   pub frames : (f : ℕ) → f < zone.frames → IsInOnePlace zone run shown f
+  pub beyond : (f : ℕ) → zone.frames ≤ f → (p : Place) → ¬ Has shown f p
+  pub stocks : (p : ℕ) → 1 ≤ (shown.stocks p).pages → IsPrepaid zone shown p
   pub current : (g : ℕ) → has_group shown.groups g ≡ true →
       (shown.current g ≡ kept_below shown zone.frames g + prepaid_below shown zone.cpus g) × (shown.current g ≡ charged_below run g)
   pub limits : (k : ℕ) → IfSome (slice_get run k) (λ e. KeepsLimits (take k run) e.0.action e.1)

@@ -3,7 +3,7 @@
 
 ghost use Rattle.std.specs.Prelude.{◌≡◌};
 ghost use Rattle.step_rules.specs.After.{IsLegalRun, state_of};
-ghost use Rattle.step_rules.specs.Examples.{small_zone, life_of_a_frame, credited_twice, returned_twice, unlocked_too_soon, returned_when_killed, at_the_borders};
+ghost use Rattle.step_rules.specs.Examples.{small_zone, life_of_a_frame, credited_twice, returned_twice, unlocked_too_soon, returned_when_killed, at_the_borders, in_line};
 ghost use Rattle.step_rules.specs.declared.phase.Phase.TheVariants.{InZone};
 ghost use Rattle.step_rules.specs.declared.phase.Hold.TheVariants.{Unheld};
 
@@ -39,7 +39,12 @@ pub fn a_killed_groups_fresh_frame_comes_back()
 {}
 
 /// A frame gets 255 references and no more, and none is given on one that has none; a freeze takes all references or
-/// none; the root gets no limit, and a killed group no page.
+/// none; the root gets no limit, a killed group no page, and it is killed once.
 pub fn the_borders_are_kept()
     ensures { IsLegalRun small_zone at_the_borders }
+{}
+
+/// A processor passes back the front of its list alone, and the zone publishes only what it has a reference on.
+pub fn the_line_is_kept()
+    ensures { IsLegalRun small_zone in_line }
 {}

@@ -18,6 +18,7 @@ ghost use Rattle.step_rules.specs.Folds.{AllGroupsAreTold, TheLockIsTold, AllPar
 ghost use Rattle.step_rules.specs.Kept.{AllPublishedIsKept};
 ghost use Rattle.step_rules.specs.FreeAreas.{AllAreasAreTold};
 ghost use Rattle.step_rules.specs.Current.{AllCurrentIsTold};
+ghost use Rattle.step_rules.specs.Answers.{AnswersAreDetermined, OnlySeatsAct};
 ghost use Rattle.step_rules.specs.Counts.{ReferencesAreCounted, StocksAreCounted, BooksAreCounted};
 
 /// After every legal run that leaves the lock free the promise holds of what is shown: the free areas are maximal, each
@@ -115,6 +116,17 @@ pub fn peaks_are_kept()
 /// memory.events) at its ancestors; a count stays at 2^64 - 1, and a new group's counts are 0.
 pub fn events_are_counted()
     ensures { EventsAreCounted }
+{}
+
+/// After every legal run a step has one answer that is allowed, but that any free block of its order may be placed.
+pub fn answers_are_determined()
+    ensures { AnswersAreDetermined }
+{}
+
+/// After every legal run a step that isn't answered Illegal is made by a processor, or by the zone's seat while one holds
+/// the lock.
+pub fn only_seats_act()
+    ensures { OnlySeatsAct }
 {}
 
 /// After every legal run the pages pending for a group are those granted and drained less those taken back, filled and
