@@ -3,7 +3,7 @@ use Rattle.std.proofs.Common.{ℕ, zero, suc, List, [], ◌∷◌, All, arith}
 use Rattle.std.specs.List.{AllZip}
 use Rattle.zone_sizes.specs.declared.config.Config.{Config}
 use Rattle.script_lines.specs.declared.line.Command.{Command}
-use Rattle.script_lines.specs.declared.line.Command.TheVariants.{Fast, Release, Get, Put, Touch}
+use Rattle.script_lines.specs.declared.line.Command.TheVariants.{Alloc, Fast, Release, Get, Put, Touch}
 use Rattle.script_lines.specs.declared.line.Command.TheVariants.{Dirty, Clean, Owner}
 use Rattle.script_lines.specs.declared.line.Line.{Line}
 use Rattle.script_lines.specs.declared.line.Line.TheVariants.{Go, At}
@@ -20,6 +20,8 @@ named_in_range sizes (Touch frame) text is = is.2.in_zone
 named_in_range sizes (Dirty frame) text is = is.2.in_zone
 named_in_range sizes (Clean frame) text is = is.2.in_zone
 named_in_range sizes (Owner frame) text is = is.2.in_zone
+named_in_range sizes (Alloc path zero) text is = tt
+named_in_range sizes (Alloc path (suc order)) text is = tt
 named_in_range sizes command text is = tt
 
 line_there : (sizes : Config) (line : Line) (text : List ℕ) → IsLineText sizes line text → LineIsThere sizes.frames sizes.cpus line
