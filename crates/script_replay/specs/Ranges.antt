@@ -2,6 +2,7 @@
 use Rattle.std.specs.Prelude.{ℕ, ◌≤◌, ◌<◌}
 use Rattle.mem_system.specs.Commands.{NamesFrameBelow}
 use Rattle.script_lines.specs.declared.line.Command.{Command}
+use Rattle.script_lines.specs.declared.line.Command.TheVariants.{Alloc}
 use Rattle.script_lines.specs.declared.line.Line.{Line}
 use Rattle.script_lines.specs.declared.line.Line.TheVariants.{Go, At}
 use Rattle.script_replay.specs.declared.work.Work.{Work}
@@ -17,8 +18,9 @@ WorkInRange frames (Get frame) = frame < frames
 WorkInRange frames (Put frame) = frame < frames
 WorkInRange frames other = Unit {0}
 
--- so it is with what the command names
+-- so it is with what the command names; an Alloc names neither
 abbrev pub NamesInRange : ℕ → Command → Type 0
+NamesInRange frames (Alloc path order) = Unit {0}
 NamesInRange frames command = WorkInRange frames (work_of command)
 
 -- the processor is one of so many, too

@@ -22,6 +22,7 @@ use script_lines::line::Command;
 use std::alloc::AllocError;
 
 // Serves a command and adds what it is answered. Where memory is wanting the command was served all the same.
+#[tactic(auto, using(crate::proofs::InRange::work_in_range))]
 pub(crate) fn answer_text<N: BootName>(
     locked: &mut Locked<N>,
     tables: &Tables<N>,

@@ -16,6 +16,7 @@ use std::sync::Wait;
 
 /// Serves the lines in their order, each by a visit of the processor that it names or by a call that takes no lock, and gives
 /// their answers as `replay` does. `AllocError` comes where memory is wanting: the lines before stand then.
+#[tactic(auto, using(crate::proofs::InRange::work_in_range))]
 pub fn replay_lines<N: BootName, R: Wait>(
     rt: &R,
     alloc: Global,
