@@ -1,9 +1,27 @@
-//! What a processor asks for under the lock, and what it is answered.
+//! What a processor asks for under the lock, how it is obeyed, and what is answered.
 
+ghost use Rattle.std.specs.Prelude.{◌≡◌, ◌+◌, ◌≤◌, [], length};
+ghost use Rattle.zone_sizes.specs.Config.{IsValidConfig};
+ghost use Rattle.mem_machine.specs.Machines.{KeepsVisit, Visits};
+ghost use Rattle.mem_machine.specs.Local.{side};
+ghost use Rattle.mem_system.specs.Boots.{IsSizedAs};
+ghost use Rattle.mem_system.specs.Outcomes.{HasItsGroups, reply_of};
+ghost use Rattle.mem_system.specs.Commands.{BySteps, FreshAfter, IsOfZone, Obeys};
+
+use crate::allocated::allocate;
+use crate::directories::{make_group, remove_group};
+use crate::files::{read_file, write_file};
+use crate::kept::{note_dirt, touch_frame};
+use crate::outcome::Outcome;
+use crate::owners::tell_place;
+use crate::released::release_frame;
 use control_files::text::ArrayText;
+use cpu_part::{BootName, Cpu, Tables};
 use group_tree::fault::Fault;
 use group_tree::group::GroupId;
 use group_tree::path::PathText;
+use mem_machine::Machine;
+use zone_sizes::config::Config;
 
 /// What a processor asks for. Paths and names of files may be any bytes.
 #[derive(Clone, Copy, Debug, PartialEq, Eq)]
@@ -85,4 +103,40 @@ pub enum Reply {
     OverLimit { group: GroupId, path: PathText },
     /// It is refused, for this reason.
     Refused(Fault),
+}
+
+// Obeys the command inside the visit.
+#[inline(always)]
+pub(crate) fn obey<N: BootName>(
+    machine: &mut Machine<N>,
+    tables: &Tables<N>,
+    cpu: &mut Cpu<N>,
+    sizes: Config,
+    cmd: &Cmd<'_>,
+) -> Outcome
+    requires zone { IsOfZone N.frames cmd.now }
+    requires sizes { IsValidConfig sizes }
+    requires sized { IsSizedAs sizes N.frames N.stocks }
+    requires visit { Visits N.frames (side machine.old cpu.old) }
+    requires settled { (cpu.old.fresh ≡ []) × (cpu.old.back ≡ []) }
+    ensures obeyed { BySteps N.frames (side machine.old cpu.old) (side machine.new cpu.new)
+        (Obeys sizes cmd.now (reply_of machine.new.ledger result)) }
+    ensures groups { HasItsGroups machine.new.ledger result }
+    ensures stays { KeepsVisit N.frames (side machine.old cpu.old) (side machine.new cpu.new) }
+    ensures fresh { FreshAfter cmd.now (reply_of machine.new.ledger result) cpu.new.fresh }
+    ensures at_most_high { length cpu.old.list ≤ sizes.high → length cpu.new.list + length cpu.new.fresh ≤ sizes.high }
+{
+    match cmd {
+        Cmd::Mkdir { path } => make_group(machine, path),
+        Cmd::Rmdir { path } => remove_group(machine, tables, cpu, path),
+        Cmd::Write { path, file, value } => write_file(machine, tables, path, file, value),
+        Cmd::Read { path, file } => read_file(machine.charges(), path, file),
+        Cmd::Settle => Outcome::Done,
+        Cmd::Owner { frame } => tell_place(machine, tables, *frame),
+        Cmd::Touch { frame } => touch_frame(machine, tables, *frame),
+        Cmd::Dirty { frame } => note_dirt(machine, tables, *frame, true),
+        Cmd::Clean { frame } => note_dirt(machine, tables, *frame, false),
+        Cmd::Release { frame } => release_frame(machine, tables, cpu, sizes, *frame),
+        Cmd::Alloc { path, order } => allocate(machine, tables, cpu, sizes, path, *order),
+    }
 }

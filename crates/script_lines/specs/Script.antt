@@ -8,9 +8,9 @@ use Rattle.zone_sizes.specs.declared.config.Config.{Config}
 use Rattle.script_lines.specs.declared.line.Line.{Line}
 use Rattle.script_lines.specs.declared.line.Line.TheVariants.{Go, At}
 use Rattle.script_lines.specs.declared.line.Command.{Command}
-use Rattle.script_lines.specs.declared.line.Command.TheVariants.{Mkdir, Rmdir, Write, Read, Alloc, Fast, Release, Get, Put, Settle, Touch}
-use Rattle.script_lines.specs.declared.line.Command.TheVariants.{Dirty, Clean, Owner, Blocks, Show}
-use Rattle.script_lines.specs.Verb.{its_verb, name_of}
+-- how each command is written
+pub use Rattle.script_lines.specs.Verb.{IsPathText, WritesNumber, IsAllocText, IsReadText, IsWriteText, IsFrameText, IsGroupText, IsPath}
+pub use Rattle.script_lines.specs.Verb.{HasArguments, IsCommandText}
 use Rattle.script_lines.specs.declared.fault.ScriptFault.{ScriptFault}
 use Rattle.script_lines.specs.declared.fault.ScriptFault.TheVariants.{BadLine, NoMemory}
 
@@ -22,77 +22,6 @@ texts_of script = slice_split (λ b. b == 10) script
 pub record IsCut (text word rest : List ℕ) : Type 0 where
   pub parts : text ≡ word ++ 32 ∷ rest
   pub no_space : All (λ b. b ≢ 32) word
-
--- a path or a file name: some bytes above 32 and below 127
-pub record IsPathText (text : List ℕ) : Type 0 where
-  pub some : 0 < length text
-  pub graphic : All (λ b. (32 < b) × (b < 127)) text
-
--- decimal digits, leading zeros allowed, that write a number of 32 bits
-pub record WritesNumber (text : List ℕ) (n : ℕ) : Type 0 where
-  pub digits : IsNumeral 10 text
-  pub value : digits_value 10 text ≡ n
-  pub fits : n < 2 ^ 32
-
--- `PATH ORDER`
-pub record IsAllocText (path : List ℕ) (order : ℕ) (text : List ℕ) : Type 0 where
-  pub digits : List ℕ
-  pub parts : text ≡ path ++ 32 ∷ digits
-  pub path_text : IsPathText path
-  pub writes : WritesNumber digits order
-
--- `PATH FILE`
-pub record IsReadText (path file text : List ℕ) : Type 0 where
-  pub parts : text ≡ path ++ 32 ∷ file
-  pub path_text : IsPathText path
-  pub file_text : IsPathText file
-
--- `PATH FILE VALUE`, where the value is all that follows the space after the file's name: it may have spaces,
--- and be empty
-pub record IsWriteText (path file value text : List ℕ) : Type 0 where
-  pub parts : text ≡ path ++ 32 ∷ (file ++ 32 ∷ value)
-  pub path_text : IsPathText path
-  pub file_text : IsPathText file
-
--- a frame of the zone, by its number
-pub record IsFrameText (sizes : Config) (frame : ℕ) (text : List ℕ) : Type 0 where
-  pub writes : WritesNumber text frame
-  pub in_zone : frame < sizes.frames
-
--- the number of a group, which needn't be there: 0 to 63
-pub record IsGroupText (group : ℕ) (text : List ℕ) : Type 0 where
-  pub writes : WritesNumber text group
-  pub low : group < 64
-
--- `PATH` alone
-abbrev pub IsPath : List ℕ → List ℕ → Type 0
-IsPath path text = IsPathText path × (path ≡ text)
-
--- what follows the name of a command and a space; nothing may follow `settle`, `blocks` and `show`
-abbrev pub HasArguments : Config → Command → List ℕ → Type 0
-HasArguments sizes (Mkdir path) text = IsPath path.now text
-HasArguments sizes (Rmdir path) text = IsPath path.now text
-HasArguments sizes (Write path file value) text = IsWriteText path.now file.now value.now text
-HasArguments sizes (Read path file) text = IsReadText path.now file.now text
-HasArguments sizes (Alloc path order) text = IsAllocText path.now order text
-HasArguments sizes (Fast group) text = IsGroupText group text
-HasArguments sizes (Release frame) text = IsFrameText sizes frame text
-HasArguments sizes (Get frame) text = IsFrameText sizes frame text
-HasArguments sizes (Put frame) text = IsFrameText sizes frame text
-HasArguments sizes (Touch frame) text = IsFrameText sizes frame text
-HasArguments sizes (Dirty frame) text = IsFrameText sizes frame text
-HasArguments sizes (Clean frame) text = IsFrameText sizes frame text
-HasArguments sizes (Owner frame) text = IsFrameText sizes frame text
-HasArguments sizes Settle text = ⊥
-HasArguments sizes Blocks text = ⊥
-HasArguments sizes Show text = ⊥
-
--- the name of a command and its arguments after a space; or the name alone
-abbrev pub IsCommandText : Config → Command → List ℕ → Type 0
-IsCommandText sizes Settle text = text ≡ codes "settle"
-IsCommandText sizes Blocks text = text ≡ codes "blocks"
-IsCommandText sizes Show text = text ≡ codes "show"
-IsCommandText sizes command text = (arguments : List ℕ) × (text ≡ name_of (its_verb command) ++ 32 ∷ arguments) × HasArguments sizes command arguments
 
 -- `P COMMAND`, where P is the number of a processor
 pub record IsRequestText (sizes : Config) (processor : ℕ) (command : Command) (text : List ℕ) : Type 0 where

@@ -1,8 +1,10 @@
--- The names of the commands.
-use Rattle.std.specs.Prelude.{◌≡◌, ℕ, List, [], ◌∷◌, Option, Some, None, codes, nat_eq}
+-- The commands of a script: their names, and what follows each.
+use Rattle.std.specs.Prelude.{◌≡◌, ℕ, ◌^◌, ◌<◌, List, [], ◌∷◌, ◌++◌, All, Option, Some, None, codes, length, nat_eq}
 use Rattle.std.specs.Cmp.Lexicographic.{pointwise}
 use Rattle.std.specs.HashMap.{HashMap, get_by}
 use Rattle.std.specs.Map.{lookup}
+use Rattle.std.specs.Str.Parse.{IsNumeral, digits_value}
+use Rattle.zone_sizes.specs.declared.config.Config.{Config}
 use Rattle.script_lines.specs.declared.line.Command.{Command}
 use Rattle.script_lines.specs.declared.line.Command.TheVariants as command
 use Rattle.script_lines.specs.declared.verb.Name.{Name}
@@ -58,6 +60,81 @@ name_of Clean = codes "clean"
 name_of Owner = codes "owner"
 name_of Blocks = codes "blocks"
 name_of Show = codes "show"
+
+-- ---- what follows a name
+
+-- a path or a file name: some bytes above 32 and below 127
+pub record IsPathText (text : List ℕ) : Type 0 where
+  pub some : 0 < length text
+  pub graphic : All (λ b. (32 < b) × (b < 127)) text
+
+-- decimal digits, leading zeros allowed, that write a number of 32 bits
+pub record WritesNumber (text : List ℕ) (n : ℕ) : Type 0 where
+  pub digits : IsNumeral 10 text
+  pub value : digits_value 10 text ≡ n
+  pub fits : n < 2 ^ 32
+
+-- `PATH ORDER`
+pub record IsAllocText (path : List ℕ) (order : ℕ) (text : List ℕ) : Type 0 where
+  pub digits : List ℕ
+  pub parts : text ≡ path ++ 32 ∷ digits
+  pub path_text : IsPathText path
+  pub writes : WritesNumber digits order
+
+-- `PATH FILE`
+pub record IsReadText (path file text : List ℕ) : Type 0 where
+  pub parts : text ≡ path ++ 32 ∷ file
+  pub path_text : IsPathText path
+  pub file_text : IsPathText file
+
+-- `PATH FILE VALUE`, where the value is all that follows the space after the file's name: it may have spaces,
+-- and be empty
+pub record IsWriteText (path file value text : List ℕ) : Type 0 where
+  pub parts : text ≡ path ++ 32 ∷ (file ++ 32 ∷ value)
+  pub path_text : IsPathText path
+  pub file_text : IsPathText file
+
+-- a frame of the zone, by its number
+pub record IsFrameText (sizes : Config) (frame : ℕ) (text : List ℕ) : Type 0 where
+  pub writes : WritesNumber text frame
+  pub in_zone : frame < sizes.frames
+
+-- the number of a group, which needn't be there: 0 to 63
+pub record IsGroupText (group : ℕ) (text : List ℕ) : Type 0 where
+  pub writes : WritesNumber text group
+  pub low : group < 64
+
+-- `PATH` alone
+abbrev pub IsPath : List ℕ → List ℕ → Type 0
+IsPath path text = IsPathText path × (path ≡ text)
+
+-- what follows the name of a command and a space; nothing may follow `settle`, `blocks` and `show`
+abbrev pub HasArguments : Config → Command → List ℕ → Type 0
+HasArguments sizes (command.Mkdir path) text = IsPath path.now text
+HasArguments sizes (command.Rmdir path) text = IsPath path.now text
+HasArguments sizes (command.Write path file value) text = IsWriteText path.now file.now value.now text
+HasArguments sizes (command.Read path file) text = IsReadText path.now file.now text
+HasArguments sizes (command.Alloc path order) text = IsAllocText path.now order text
+HasArguments sizes (command.Fast group) text = IsGroupText group text
+HasArguments sizes (command.Release frame) text = IsFrameText sizes frame text
+HasArguments sizes (command.Get frame) text = IsFrameText sizes frame text
+HasArguments sizes (command.Put frame) text = IsFrameText sizes frame text
+HasArguments sizes (command.Touch frame) text = IsFrameText sizes frame text
+HasArguments sizes (command.Dirty frame) text = IsFrameText sizes frame text
+HasArguments sizes (command.Clean frame) text = IsFrameText sizes frame text
+HasArguments sizes (command.Owner frame) text = IsFrameText sizes frame text
+HasArguments sizes command.Settle text = ⊥
+HasArguments sizes command.Blocks text = ⊥
+HasArguments sizes command.Show text = ⊥
+
+-- the name of a command and its arguments after a space; or the name alone
+abbrev pub IsCommandText : Config → Command → List ℕ → Type 0
+IsCommandText sizes command.Settle text = text ≡ codes "settle"
+IsCommandText sizes command.Blocks text = text ≡ codes "blocks"
+IsCommandText sizes command.Show text = text ≡ codes "show"
+IsCommandText sizes other text = (arguments : List ℕ) × (text ≡ name_of (its_verb other) ++ 32 ∷ arguments) × HasArguments sizes other arguments
+
+-- ---- the table
 
 -- the names of the commands, each with its command
 abbrev pub named_commands : List (List ℕ × Verb)

@@ -3,12 +3,13 @@ use Rattle.std.proofs.Common.{ℕ, zero, suc, List, [], ◌∷◌, All, arith}
 use Rattle.std.specs.List.{AllZip}
 use Rattle.zone_sizes.specs.declared.config.Config.{Config}
 use Rattle.script_lines.specs.declared.line.Command.{Command}
-use Rattle.script_lines.specs.declared.line.Command.TheVariants.{Fast, Release, Get, Put, Touch}
+use Rattle.script_lines.specs.declared.line.Command.TheVariants.{Alloc, Fast, Release, Get, Put, Touch}
 use Rattle.script_lines.specs.declared.line.Command.TheVariants.{Dirty, Clean, Owner}
 use Rattle.script_lines.specs.declared.line.Line.{Line}
 use Rattle.script_lines.specs.declared.line.Line.TheVariants.{Go, At}
 use Rattle.script_lines.specs.Script.{IsCommandText, IsLineText, IsScript, asking_texts, texts_of}
-use Rattle.script_replay.specs.Ranges.{LineIsThere, NamesInRange}
+use Rattle.script_replay.specs.Ranges.{LineIsThere, NamesInRange, WorkInRange}
+use Rattle.script_replay.specs.Works.{work_of}
 
 -- what the command's text names is in range
 named_in_range : (sizes : Config) (command : Command) (text : List ℕ) → IsCommandText sizes command text → NamesInRange sizes.frames command
@@ -21,6 +22,12 @@ named_in_range sizes (Dirty frame) text is = is.2.in_zone
 named_in_range sizes (Clean frame) text is = is.2.in_zone
 named_in_range sizes (Owner frame) text is = is.2.in_zone
 named_in_range sizes command text is = tt
+
+-- what is done for it names nothing else
+pub work_in_range : (frames : ℕ) (command : Command) → NamesInRange frames command → WorkInRange frames (work_of command)
+work_in_range frames (Alloc path zero) named = tt
+work_in_range frames (Alloc path (suc order)) named = tt
+work_in_range frames command named = named
 
 line_there : (sizes : Config) (line : Line) (text : List ℕ) → IsLineText sizes line text → LineIsThere sizes.frames sizes.cpus line
 line_there sizes Go text is = tt

@@ -21,8 +21,9 @@ use Rattle.reply_texts.specs.Answer.{Answer}
 use Rattle.reply_texts.specs.Answer as answer
 use Rattle.reply_texts.specs.Answers.{answer_text}
 use Rattle.script_lines.specs.declared.line.Command.{Command}
-use Rattle.script_lines.specs.declared.line.Command.TheVariants.{Mkdir, Rmdir, Write, Read, Alloc, Fast, Release, Get, Put, Settle, Touch}
-use Rattle.script_lines.specs.declared.line.Command.TheVariants.{Dirty, Clean, Owner, Blocks, Show}
+use Rattle.script_replay.specs.declared.work.Work.{Work}
+use Rattle.script_replay.specs.declared.work.Work.TheVariants.{Visit, Frame, Fast, Release, Get, Put, Settle, Blocks, Show}
+use Rattle.script_replay.specs.Works.{work_of}
 
 -- behind the text before stands what is written for an answer of which this is so
 abbrev pub TellsAnswer : (Answer → Type 0) → List ℕ → List ℕ → Type 0
@@ -94,29 +95,24 @@ AnswersFrame t path before (answer.Served reply) after =
     ⊎ ((seen : KnownCpu) × GetsNoneFast path.now before seen × IsServed t (cmd.Alloc path 0) (holder before.locked seen) reply after)
 AnswersFrame t path before other after = ⊥
 
--- What a command is answered, but for those whose answer is a text of any length. An Alloc of order 0 is one of a single frame;
--- a block is always served under the lock
-abbrev pub Answers : KnownTable → Command → Holder → Answer → Holder → Type 0
-Answers t (Mkdir path) before answer after = RepliesServed t (cmd.Mkdir path) before answer after
-Answers t (Rmdir path) before answer after = RepliesServed t (cmd.Rmdir path) before answer after
-Answers t (Write path file value) before answer after = RepliesServed t (cmd.Write path file value) before answer after
-Answers t (Read path file) before answer after = RepliesServed t (cmd.Read path file) before answer after
-Answers t (Alloc path order) before answer after =
-    (order ≡ 0 → AnswersFrame t path before answer after) × (order ≢ 0 → RepliesServed t (cmd.Alloc path order) before answer after)
+-- What is answered where this is done, but where the answer is a text of any length
+abbrev pub Answers : KnownTable → Work → Holder → Answer → Holder → Type 0
+Answers t (Visit command) before answer after = RepliesServed t command before answer after
+Answers t (Frame path) before answer after = AnswersFrame t path before answer after
 Answers t (Fast group) before answer after = AnswersFast group before answer after
 Answers t (Release frame) before answer after = AnswersRelease t frame before answer after
 Answers t (Get frame) before answer after = AnswersGet frame before answer after
 Answers t (Put frame) before answer after = AnswersPut frame before answer after
 Answers t Settle before answer after = AnswersSettle t before answer after
-Answers t (Touch frame) before answer after = RepliesServed t (cmd.Touch frame) before answer after
-Answers t (Dirty frame) before answer after = RepliesServed t (cmd.Dirty frame) before answer after
-Answers t (Clean frame) before answer after = RepliesServed t (cmd.Clean frame) before answer after
-Answers t (Owner frame) before answer after = RepliesServed t (cmd.Owner frame) before answer after
 Answers t Blocks before answer after = ⊥
 Answers t Show before answer after = ⊥
 
--- what a command is answered, as text: `blocks` and `show` settle the processor, and tell of the machine as it is then
+-- the same as text: `blocks` and `show` settle the processor, and tell of the machine as it is then
+abbrev pub AnswersWork : KnownTable → Work → Holder → List ℕ → Holder → Type 0
+AnswersWork t Blocks before text after = SettlesCaller t before after × (text ≡ blocks_text after.locked.machine.blocks)
+AnswersWork t Show before text after = SettlesCaller t before after × (text ≡ show_text after.locked.machine)
+AnswersWork t work before text after = (said : Answer) × Answers t work before said after × (text ≡ answer_text said)
+
+-- what a command is answered, as text
 abbrev pub AnswersText : KnownTable → Command → Holder → List ℕ → Holder → Type 0
-AnswersText t Blocks before text after = SettlesCaller t before after × (text ≡ blocks_text after.locked.machine.blocks)
-AnswersText t Show before text after = SettlesCaller t before after × (text ≡ show_text after.locked.machine)
-AnswersText t command before text after = (said : Answer) × Answers t command before said after × (text ≡ answer_text said)
+AnswersText t command before text after = AnswersWork t (work_of command) before text after

@@ -1,26 +1,29 @@
 //! One command, answered at a processor by value of what lies behind the lock.
 
-ghost use Rattle.std.specs.Prelude.{◌≡◌, ◌++◌, ◌<◌, IfOk, List, ℕ};
+ghost use Rattle.std.specs.Borrow.{Bor};
+ghost use Rattle.std.specs.Prelude.{◌≡◌, ◌++◌, ◌<◌, IfOk, IsTrue, List, Some, ℕ};
+ghost use Rattle.group_tree.specs.Groups.{has_group, number_at};
+ghost use Rattle.mem_system.specs.declared.command.Cmd.TheVariants.{Alloc};
 ghost use Rattle.std.specs.String.{string_bytes};
-ghost use Rattle.script_lines.specs.declared.line.Command.TheVariants.{Alloc};
 ghost use Rattle.mem_system.specs.Commands.{IsOfZone, holder};
-ghost use Rattle.script_replay.specs.Answers.{Answers, AnswersFrame, AnswersRelease, AnswersSettle, AnswersText, RepliesServed};
+ghost use Rattle.script_replay.specs.Answers.{AnswersFrame, AnswersRelease, AnswersText, AnswersWork, RepliesServed};
 ghost use Rattle.script_replay.specs.Answers.{TellsAnswer};
-ghost use Rattle.script_replay.specs.Ranges.{NamesInRange};
+ghost use Rattle.script_replay.specs.Ranges.{NamesInRange, WorkInRange};
 
 use crate::unlocked::{get, lists, put};
+use crate::work::{Work, work_of};
 use cpu_part::{BootName, Cpu, Fast, Tables};
 use group_tree::fault::Fault;
-use mem_system::{Cmd, Locked, blocks, carry_out, show};
+use group_tree::group::GroupId;
+use machine_texts::{write_blocks, write_show};
+use mem_system::{Cmd, Locked, carry_out, carry_out_frame, settle};
 use reply_texts::{write_fast, write_listed, write_outcome, write_refusal, write_settled};
 use script_lines::line::Command;
-use std::alloc::{AllocError, Global};
+use std::alloc::AllocError;
 
-// Serves a command and adds what it is answered. Where memory is wanting the command was served all the same. Each text is
-// written where the answer is made, and of a command under the lock from its outcome: a reply would have room for a path of
-// 512 bytes.
+// Serves a command and adds what it is answered. Where memory is wanting the command was served all the same.
+#[tactic(auto, using(crate::proofs::InRange::work_in_range))]
 pub(crate) fn answer_text<N: BootName>(
-    alloc: Global,
     locked: &mut Locked<N>,
     tables: &Tables<N>,
     cpu: &mut Cpu<N>,
@@ -31,32 +34,41 @@ pub(crate) fn answer_text<N: BootName>(
     ensures { IfOk result (λ _. (said : List ℕ) × AnswersText N.frames command.now (holder locked.old cpu.old) said (holder locked.new cpu.new)
         × (string_bytes text.new ≡ string_bytes text.old ++ said)) }
 {
-    match *command {
-        Command::Mkdir { path } => served(locked, tables, cpu, &Cmd::Mkdir { path }, text),
-        Command::Rmdir { path } => served(locked, tables, cpu, &Cmd::Rmdir { path }, text),
-        Command::Write { path, file, value } => {
-            served(locked, tables, cpu, &Cmd::Write { path, file, value }, text)
+    let work = work_of(command);
+    answer_work(locked, tables, cpu, &work, text)
+}
+
+// Does what is asked and adds what it is answered. Each text is written where the answer is made, and that of a command under
+// the lock from its outcome: a reply would have room for a path of 512 bytes.
+fn answer_work<N: BootName>(
+    locked: &mut Locked<N>,
+    tables: &Tables<N>,
+    cpu: &mut Cpu<N>,
+    work: &Work<'_>,
+    text: &mut String,
+) -> Result<(), AllocError>
+    requires { WorkInRange N.frames.frames work.now }
+    ensures { IfOk result (λ _. (said : List ℕ) × AnswersWork N.frames work.now (holder locked.old cpu.old) said (holder locked.new cpu.new)
+        × (string_bytes text.new ≡ string_bytes text.old ++ said)) }
+{
+    match *work {
+        Work::Visit(cmd) => served(locked, tables, cpu, &cmd, text),
+        Work::Frame { path } => alloc_frame(locked, tables, cpu, path, text),
+        Work::Fast { group } => write_fast(&cpu.alloc_fast(tables, group), text),
+        Work::Release { frame } => release(locked, tables, cpu, frame, text),
+        Work::Get { frame } => get(tables, cpu, frame, text),
+        Work::Put { frame } => put(tables, cpu, frame, text),
+        Work::Settle => {
+            settle(locked, tables, cpu);
+            write_settled(text)
         }
-        Command::Read { path, file } => {
-            served(locked, tables, cpu, &Cmd::Read { path, file }, text)
+        Work::Blocks => {
+            settle(locked, tables, cpu);
+            write_blocks(locked.machine(), text)
         }
-        Command::Alloc { path, order } => alloc_block(locked, tables, cpu, path, order, text),
-        Command::Fast { group } => write_fast(&cpu.alloc_fast(tables, group), text),
-        Command::Release { frame } => release(locked, tables, cpu, frame, text),
-        Command::Get { frame } => get(tables, cpu, frame, text),
-        Command::Put { frame } => put(tables, cpu, frame, text),
-        Command::Settle => settle(locked, tables, cpu, text),
-        Command::Touch { frame } => served(locked, tables, cpu, &Cmd::Touch { frame }, text),
-        Command::Dirty { frame } => served(locked, tables, cpu, &Cmd::Dirty { frame }, text),
-        Command::Clean { frame } => served(locked, tables, cpu, &Cmd::Clean { frame }, text),
-        Command::Owner { frame } => served(locked, tables, cpu, &Cmd::Owner { frame }, text),
-        Command::Blocks => {
-            let told = blocks(locked, tables, cpu, alloc)?;
-            text.push_str(told.as_str())
-        }
-        Command::Show => {
-            let told = show(locked, tables, cpu, alloc)?;
-            text.push_str(told.as_str())
+        Work::Show => {
+            settle(locked, tables, cpu);
+            write_show(locked.machine(), text)
         }
     }
 }
@@ -77,38 +89,21 @@ fn served<N: BootName>(
     write_outcome(locked.charges(), &outcome, text)
 }
 
-// Settles the processor.
-fn settle<N: BootName>(
+// What is served under the lock for a single frame of this group: an Alloc for its path, which isn't sought again.
+fn served_frame<N: BootName>(
     locked: &mut Locked<N>,
     tables: &Tables<N>,
     cpu: &mut Cpu<N>,
+    group: GroupId,
     text: &mut String,
 ) -> Result<(), AllocError>
-    ensures { IfOk result (λ _. TellsAnswer (λ said. AnswersSettle N.frames (holder locked.old cpu.old) said (holder locked.new cpu.new))
+    requires there { IsTrue (has_group locked.old.machine.ledger.groups group) }
+    ensures { (path : Bor (List ℕ)) → number_at locked.old.machine.ledger.groups path.now ≡ Some group
+        → IfOk result (λ _. TellsAnswer (λ said. RepliesServed N.frames (Alloc path 0) (holder locked.old cpu.old) said (holder locked.new cpu.new))
         (string_bytes text.old) (string_bytes text.new)) }
 {
-    let _done = carry_out(locked, tables, cpu, &Cmd::Settle);
-    write_settled(text)
-}
-
-// Takes a block, which may be a single frame.
-fn alloc_block<N: BootName>(
-    locked: &mut Locked<N>,
-    tables: &Tables<N>,
-    cpu: &mut Cpu<N>,
-    path: &[u8],
-    order: u32,
-    text: &mut String,
-) -> Result<(), AllocError>
-    ensures { IfOk result (λ _. TellsAnswer
-        (λ said. Answers N.frames (Alloc path.entry order) (holder locked.old cpu.old) said (holder locked.new cpu.new))
-        (string_bytes text.old) (string_bytes text.new)) }
-{
-    if order == 0 {
-        alloc_frame(locked, tables, cpu, path, text)
-    } else {
-        served(locked, tables, cpu, &Cmd::Alloc { path, order }, text)
-    }
+    let outcome = carry_out_frame(locked, tables, cpu, group);
+    write_outcome(locked.charges(), &outcome, text)
 }
 
 // Takes a frame, without the lock where it can be.
@@ -127,7 +122,7 @@ fn alloc_frame<N: BootName>(
     };
     match cpu.alloc_fast(tables, group.number()) {
         Fast::Got(frame) => write_fast(&Fast::Got(frame), text),
-        _ => served(locked, tables, cpu, &Cmd::Alloc { path, order: 0 }, text),
+        _ => served_frame(locked, tables, cpu, group, text),
     }
 }
 

@@ -5,6 +5,8 @@ mod answering;
 mod replaying;
 mod unlocked;
 mod visiting;
+mod work;
 
 pub use replaying::replay;
 pub use visiting::replay_lines;
+pub use work::Work;

@@ -26,14 +26,13 @@ pub fn replay<N: BootName>(
 {
     let mut answers = String::new(alloc);
     for line in lines {
-        serve_line(alloc, locked, tables, cpus, line, &mut answers)?;
+        serve_line(locked, tables, cpus, line, &mut answers)?;
     }
     Ok(answers.into_bytes())
 }
 
 // Serves a line and adds its answer.
 fn serve_line<N: BootName>(
-    alloc: Global,
     locked: &mut Locked<N>,
     tables: &Tables<N>,
     cpus: &mut [Cpu<N>],
@@ -48,7 +47,7 @@ fn serve_line<N: BootName>(
         Line::Go => Ok(()),
         Line::At { processor, command } => {
             let at = (*processor - 1) as usize;
-            answer_text(alloc, locked, tables, &mut cpus[at], command, answers)
+            answer_text(locked, tables, &mut cpus[at], command, answers)
         }
     }
 }

@@ -1,20 +1,22 @@
 //! Lines, served one after the other by visits: each command takes the zone's lock by itself.
 
 ghost use Rattle.std.specs.Prelude.{◌≤◌, ◌<◌, All, length};
-ghost use Rattle.script_replay.specs.Ranges.{LineIsThere, NamesInRange};
+ghost use Rattle.script_replay.specs.Ranges.{LineIsThere, WorkInRange};
 ghost use Rattle.mem_system.specs.Commands.{IsOfZone};
 
 use crate::unlocked::{get, lists, put};
+use crate::work::{Work, work_of};
 use cpu_part::{BootName, Cpu, Fast};
 use group_tree::fault::Fault;
 use mem_system::{Cmd, System};
 use reply_texts::{write_fast, write_listed, write_refusal, write_reply, write_settled};
-use script_lines::line::{Command, Line};
+use script_lines::line::Line;
 use std::alloc::{AllocError, Global};
 use std::sync::Wait;
 
 /// Serves the lines in their order, each by a visit of the processor that it names or by a call that takes no lock, and gives
 /// their answers as `replay` does. `AllocError` comes where memory is wanting: the lines before stand then.
+#[tactic(auto, using(crate::proofs::InRange::work_in_range))]
 pub fn replay_lines<N: BootName, R: Wait>(
     rt: &R,
     alloc: Global,
@@ -28,59 +30,46 @@ pub fn replay_lines<N: BootName, R: Wait>(
     for line in lines {
         if let Line::At { processor, command } = line {
             let cpu = &mut cpus[(*processor - 1) as usize];
-            visit_line(rt, alloc, system, cpu, command, &mut answers)?;
+            let work = work_of(command);
+            visit_line(rt, alloc, system, cpu, &work, &mut answers)?;
         }
     }
     Ok(answers.into_bytes())
 }
 
-// Serves a command and adds what it is answered.
+// Does what is asked and adds what it is answered.
 fn visit_line<N: BootName, R: Wait>(
     rt: &R,
     alloc: Global,
     system: &System<N>,
     cpu: &mut Cpu<N>,
-    command: &Command<'_>,
+    work: &Work<'_>,
     text: &mut String,
 ) -> Result<(), AllocError>
-    requires { NamesInRange N.frames.frames command.now }
+    requires { WorkInRange N.frames.frames work.now }
 {
     let tables = system.tables();
-    match *command {
-        Command::Mkdir { path } => visited(rt, system, cpu, &Cmd::Mkdir { path }, text),
-        Command::Rmdir { path } => visited(rt, system, cpu, &Cmd::Rmdir { path }, text),
-        Command::Write { path, file, value } => {
-            visited(rt, system, cpu, &Cmd::Write { path, file, value }, text)
-        }
-        Command::Read { path, file } => visited(rt, system, cpu, &Cmd::Read { path, file }, text),
-        Command::Alloc { path, order } => {
-            if order == 0 {
-                return alloc_frame(rt, system, cpu, path, text);
-            }
-            visited(rt, system, cpu, &Cmd::Alloc { path, order }, text)
-        }
-        Command::Fast { group } => write_fast(&cpu.alloc_fast(tables, group), text),
-        Command::Release { frame } => {
+    match *work {
+        Work::Visit(cmd) => visited(rt, system, cpu, &cmd, text),
+        Work::Frame { path } => alloc_frame(rt, system, cpu, path, text),
+        Work::Fast { group } => write_fast(&cpu.alloc_fast(tables, group), text),
+        Work::Release { frame } => {
             if lists(tables, cpu, frame) {
                 return write_listed(text);
             }
             visited(rt, system, cpu, &Cmd::Release { frame }, text)
         }
-        Command::Get { frame } => get(tables, cpu, frame, text),
-        Command::Put { frame } => put(tables, cpu, frame, text),
-        Command::Settle => {
+        Work::Get { frame } => get(tables, cpu, frame, text),
+        Work::Put { frame } => put(tables, cpu, frame, text),
+        Work::Settle => {
             let _done = system.visit(rt, cpu, &Cmd::Settle);
             write_settled(text)
         }
-        Command::Touch { frame } => visited(rt, system, cpu, &Cmd::Touch { frame }, text),
-        Command::Dirty { frame } => visited(rt, system, cpu, &Cmd::Dirty { frame }, text),
-        Command::Clean { frame } => visited(rt, system, cpu, &Cmd::Clean { frame }, text),
-        Command::Owner { frame } => visited(rt, system, cpu, &Cmd::Owner { frame }, text),
-        Command::Blocks => {
+        Work::Blocks => {
             let told = system.blocks(rt, alloc, cpu)?;
             text.push_str(told.as_str())
         }
-        Command::Show => {
+        Work::Show => {
             let told = system.show(rt, alloc, cpu)?;
             text.push_str(told.as_str())
         }
