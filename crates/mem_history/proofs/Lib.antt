@@ -7,3 +7,4 @@ pub mod Fast
 pub mod Booting
 pub mod Currents
 pub mod Promised
+pub mod Leading

@@ -1,6 +1,6 @@
 -- A line under the lock carries the whole on. Serves `lines_follow`.
-use Rattle.std.proofs.Common.{◌≡◌, ℕ, ◌<◌, ◌==◌, ◌&&◌, Bool, true, false, cond, Some, List, [], ◌∷◌, ◌++◌, length, refl, sym, ◌∙◌, ap, subst, arith, inl, inr, suc}
-use Rattle.std.specs.Prelude.{slice_set, nat_le, not}
+use Rattle.std.proofs.Common.{◌≡◌, ℕ, ◌<◌, ◌==◌, ◌&&◌, ◌||◌, Bool, true, false, cond, Some, List, [], ◌∷◌, ◌++◌, length, refl, sym, ◌∙◌, ap, subst, arith, inl, inr, suc}
+use Rattle.std.specs.Prelude.{slice_index, slice_set, nat_le, not}
 use Rattle.std.specs.List.{slice_get}
 use Rattle.std.proofs.lemmas.Bool.{cases_eq, eq-eqb, and_from, le-leb}
 use Rattle.std.proofs.lemmas.List.{append_assoc, length-set, get_or-set_same, get_or-set_other}
@@ -10,7 +10,7 @@ use Rattle.cpu_part.specs.Cpus as parts
 use Rattle.cpu_part.specs.Cpus.{KnownCpu}
 use Rattle.step_rules.specs.declared.phase.ChargedUnit.{ChargedUnit}
 use Rattle.step_rules.specs.declared.phase.Hold.{Hold}
-use Rattle.step_rules.specs.declared.phase.Hold.TheVariants.{Unheld, HeldBy}
+use Rattle.step_rules.specs.declared.phase.Hold.TheVariants.{Unheld, HeldBy, Visiting}
 use Rattle.step_rules.specs.declared.phase.Way.TheVariants.{OnList}
 use Rattle.step_rules.specs.declared.phase.Stage.TheVariants.{FreshAt, Live, BackAt}
 use Rattle.step_rules.specs.declared.phase.Phase.TheVariants as phase
@@ -22,9 +22,10 @@ use Rattle.step_rules.specs.Phases.{is_passing}
 use Rattle.step_rules.specs.State.{Zone, State, is_cpu, is_held_by}
 use Rattle.step_rules.specs.Legal.{IsCounted, is_legal, is_settled, no_frame_passes}
 use Rattle.step_rules.specs.After.{Run, state_of, IsLegalRun}
-use Rattle.step_rules.specs.Cover.{hide}
+use Rattle.step_rules.specs.Cover.{hide, holds_lock}
 use Rattle.step_rules.specs.Laws.{ShowsLocal, pushed}
 use Rattle.step_rules.specs.Seen.{IsFreeAfter}
+use Rattle.step_rules.proofs.PhaseLemmas.{equal_test}
 use Rattle.step_rules.proofs.Sums.{all_each}
 use Rattle.step_rules.proofs.Sound.{IsSound}
 use Rattle.step_rules.proofs.Runs.{sound_run, state_more}
@@ -155,6 +156,14 @@ module _ (t : KnownTable) (run : Run) (m : KnownMachine) (cpus : List KnownCpu) 
             some (λ z. far (z ∙ named)) (held j e in_list) hold sees;
       }
 
+only_holder : (p q : ℕ) (b : Bool) → holds_lock p (cond b (Visiting q) (HeldBy q)) ≡ true → q ≡ p
+only_holder p q true holds = equal_test q p holds
+only_holder p q false holds = equal_test q p (sym (or_right_false (q == p)) ∙ holds)
+  where
+    or_right_false : (b : Bool) → (b || false) ≡ b
+    or_right_false true = refl
+    or_right_false false = refl
+
 pub lines_follow : LinesFollow
 lines_follow t run cpus k before steps after shows serves =
     let zone = zone_of t in
@@ -173,17 +182,19 @@ lines_follow t run cpus k before steps after shows serves =
     (λ r. zone_of_run zone r ∙ sym (zone_of_run zone run)) serves.leads serves.decided in
     let made : Run = lock ++ steps in
     let last = state_of zone made in
+    let number : d.number ≡ p =
+    only_holder p d.number (slice_index n.seat.view.opened d.number == 1) (ap (λ (x : State). holds_lock p x.hold) goes.0.sees ∙ goes.0.holds) in
     let free : IsFreeAfter zone (pushed made (record { seat = p; action = Unlock }) Done) =
     the_lock_is_passed_on.given_back zone made p (local_of t n d) goes.0
-    (subst (λ (q : ℕ). is_legal (local_of t n d) q Unlock ≡ true) serves.number
-    (may_unlock t n d (subst (λ (q : ℕ). is_cpu zone q ≡ true) (sym serves.number) (is_one t run m cpus k c shows serves.is_part))
+    (subst (λ (q : ℕ). is_legal (local_of t n d) q Unlock ≡ true) number
+    (may_unlock t n d (subst (λ (q : ℕ). is_cpu zone q ≡ true) (sym number) (is_one t run m cpus k c shows serves.is_part))
     (serves.shut d.number))) in
     let done : Run = pushed made (record { seat = p; action = Unlock }) Done in
     let done_is : state_of zone done ≡ record last { hold = Unheld } = state_more zone made (record { seat = p; action = Unlock }) Done in
     let held : last.hold ≡ HeldBy p =
-    sym (ap (λ (x : State). x.hold) goes.0.sees) ∙ hold_shut n.seat d.number (serves.shut d.number) ∙ ap HeldBy serves.number in
+    sym (ap (λ (x : State). x.hold) goes.0.sees) ∙ hold_shut n.seat d.number (serves.shut d.number) ∙ ap HeldBy number in
     let sees : local_of t n d ≡ hide d.number (record (record last { hold = Unheld }) { hold = HeldBy d.number }) =
-    goes.0.sees ∙ (λ i. hide (sym serves.number i) (record last { hold = (held ∙ ap HeldBy (sym serves.number)) i })) in
+    goes.0.sees ∙ (λ i. hide (sym number i) (record last { hold = (held ∙ ap HeldBy (sym number)) i })) in
     let stays : Stays p whole (record last { hold = Unheld }) = record { references = goes.1.references; parts = goes.1.parts } in
     let joined : done ≡ run ++ under_lock p steps =
     append_assoc (run ++ cpu_makes p Lock Done ∷ []) steps (cpu_makes p Unlock Done ∷ [])
@@ -197,10 +208,10 @@ lines_follow t run cpus k before steps after shows serves =
             let is : e ≡ d = set_here cpus k d e (slice_get_within cpus k c serves.is_part)
             (subst (λ (i : ℕ). slice_get (slice_set cpus k d) i ≡ Some e) here at) in
             subst (λ (x : KnownCpu). IsSeenAt t n (record last { hold = Unheld }) j x) (sym is) (record {
-              number = serves.number ∙ part_number t run m cpus k c shows serves.is_part ∙ ap suc (sym here);
+              number = number ∙ part_number t run m cpus k c shows serves.is_part ∙ ap suc (sym here);
               sees = sees;
             })
-        | inr ne ↦ others_follow t run m cpus k c shows serves.is_part n d done (record last { hold = Unheld }) (HeldBy d.number) serves.number free.legal done_is
+        | inr ne ↦ others_follow t run m cpus k c shows serves.is_part n d done (record last { hold = Unheld }) (HeldBy d.number) number free.legal done_is
             stays (λ i e there. hold_shut n.seat e.number (serves.shut e.number)) sees j e at ne
       ]);
     })

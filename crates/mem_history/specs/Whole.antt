@@ -80,7 +80,6 @@ under_lock p steps = cpu_makes p Lock Done ∷ (steps ++ cpu_makes p Unlock Done
 -- the k-th part holds the lock and is served by these steps, which leave every visit shut
 pub record ServesAt (t : KnownTable) (cpus : List KnownCpu) (k : ℕ) (before : Side) (steps : Run) (after : Side) : Type 0 where
   pub is_part : slice_get cpus k ≡ Some before.cpu
-  pub number : after.cpu.number ≡ before.cpu.number
   pub leads : Makes t before steps after
   pub decided : AreDecided t cpus before steps
   pub shut : (p : ℕ) → IsShut after.machine.seat p

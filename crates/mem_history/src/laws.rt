@@ -2,6 +2,7 @@
 
 ghost use Rattle.mem_history.specs.Whole.{LinesFollow, FastLinesFollow};
 ghost use Rattle.mem_history.specs.Kept.{ABootIsShown, CurrentIsKept, TheWholeIsPromised};
+ghost use Rattle.mem_history.specs.Leading.{FastCallsLead};
 
 /// A new boot shows the run of no step.
 pub fn a_boot_is_shown()
@@ -29,4 +30,10 @@ pub fn current_is_kept()
 /// Wherever a run shows the machine and all parts, the promise holds of what these show.
 pub fn the_whole_is_promised()
     ensures { TheWholeIsPromised }
+{}
+
+/// Where a run shows the machine and all parts, a fast call that changes a list or a reference is its one step, by what the
+/// machine shows its processor: a get that is answered Held, a put, a frame that becomes fresh, and one that is listed again.
+pub fn fast_calls_lead()
+    ensures { FastCallsLead }
 {}
