@@ -1,0 +1,4 @@
+pub mod Wanting
+pub mod Moving
+pub mod Keeping
+pub mod Meeting
