@@ -2,3 +2,5 @@ pub mod Wanting
 pub mod Moving
 pub mod Keeping
 pub mod Meeting
+pub mod Listing
+pub mod Scanning

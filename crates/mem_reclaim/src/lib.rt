@@ -7,3 +7,4 @@
 #![tactic(auto)]
 
 mod meet;
+mod scan;
