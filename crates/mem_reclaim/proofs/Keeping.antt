@@ -1,10 +1,9 @@
 -- What stays, from one call to the next, and in one call. Serves the clauses on what stays.
-use Rattle.std.proofs.Common.{◌≡◌, ◌≢◌, ℕ, ◌+◌, ◌<◌, ◌≤◌, Bool, true, false, Option, Some, None, List, refl, sym, ap, ◌∙◌, subst, inl, inr, arith, cond}
-use Rattle.std.proofs.lemmas.Bool.{cases_eq, true≢false}
+use Rattle.std.proofs.Common.{◌≡◌, ◌≢◌, ℕ, ◌+◌, Bool, true, false, Option, Some, None, List, refl, sym, ap, ◌∙◌, subst, arith, cond}
+use Rattle.std.proofs.lemmas.Bool.{true≢false}
 use Rattle.std.proofs.lemmas.Option.{none-some}
 use Rattle.std.specs.Prelude.{unwrap_or}
 use Rattle.frame_word.specs.Seats.{KnownTable, KnownSeat, IsOpen, NothingPasses, LentIsBorrowed, misses_of}
-use Rattle.group_tree.specs.declared.group.Group.{Group}
 use Rattle.group_tree.specs.Groups.{in_subtree}
 use Rattle.group_charge.specs.Charges.{current_of}
 use Rattle.lru_lists.specs.declared.record.Link.{Link}
@@ -15,7 +14,7 @@ use Rattle.lru_lists.specs.Lists.{SameOwners, owner_of}
 use Rattle.cpu_part.specs.Cpus.{KnownCpu}
 use Rattle.mem_machine.specs.Machines.{KnownMachine, Visits, home_of, side}
 use Rattle.mem_machine.specs.Evicting.{MissesUnit, EvictsUnit, Evicts}
-use Rattle.mem_reclaim.specs.Staying.{IsDirtyUnit, Keeps, OnlyLeave, IsMissed, MissedAll}
+use Rattle.mem_reclaim.specs.Staying.{IsDirtyUnit, Keeps, OnlyLeave, IsMissed}
 use Rattle.mem_reclaim.proofs.Moving.{misses_rose, misses_stay}
 
 -- ---- one call after another

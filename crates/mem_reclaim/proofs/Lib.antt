@@ -4,3 +4,4 @@ pub mod Keeping
 pub mod Meeting
 pub mod Listing
 pub mod Scanning
+pub mod Passing

@@ -1,11 +1,11 @@
 -- What is done with one unit, and what becomes of the list on which it stands. Serves `meet` and the scan.
-use Rattle.std.proofs.Common.{◌≡◌, ◌≢◌, ℕ, ◌+◌, ◌<◌, ◌==◌, ◌&&◌, ◌⊎◌, Bool, true, false, Option, Some, None, List, [], ◌∷◌, ◌++◌, refl, sym, ap, ◌∙◌, subst}
+use Rattle.std.proofs.Common.{◌≡◌, ℕ, ◌==◌, ◌&&◌, ◌⊎◌, Bool, true, false, Option, Some, None, List, [], ◌∷◌, ◌++◌, refl, sym, ap, ◌∙◌, subst}
 use Rattle.std.proofs.Common.{inl, inr, arith, cond, eq-eqb}
 use Rattle.std.specs.Prelude.{unwrap_or}
 use Rattle.std.proofs.lemmas.List.{append-nil}
 use Rattle.std.proofs.lemmas.Bool.{cases_eq, true≢false}
 use Rattle.std.proofs.lemmas.Option.{none-some}
-use Rattle.frame_word.specs.Seats.{KnownTable, misses_of}
+use Rattle.frame_word.specs.Seats.{KnownTable}
 use Rattle.lru_lists.specs.declared.record.Link.{Link}
 use Rattle.lru_lists.specs.declared.record.Home.{Home}
 use Rattle.lru_lists.specs.declared.record.Entry.{Entry}
@@ -18,7 +18,6 @@ use Rattle.mem_machine.specs.Machines.{KnownMachine, home_of}
 use Rattle.mem_machine.specs.Local.{MakesForAny}
 use Rattle.mem_machine.specs.Ageing.{RenewsUnit, entries_in}
 use Rattle.mem_machine.specs.Evicting.{EvictsUnit, Evicts, evict_steps}
-use Rattle.mem_reclaim.specs.Wanted.{Rests}
 use Rattle.mem_reclaim.specs.Moves.{Leads}
 use Rattle.mem_reclaim.specs.Units.{MeetsAs, MeetsUnit}
 use Rattle.mem_reclaim.specs.Staying.{OnlyLeave, IsMissed}

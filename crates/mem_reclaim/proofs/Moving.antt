@@ -1,21 +1,19 @@
 -- Steps of reclaim, put together; and those of one try. Serves the clauses on steps of all calls.
-use Rattle.std.proofs.Common.{◌≡◌, ◌≢◌, ℕ, ◌+◌, ◌^◌, ◌==◌, ◌||◌, Bool, true, false, Option, Some, None, List, [], ◌∷◌, ◌++◌, refl, sym, ap, ◌∙◌, subst, inl, inr, arith, cond, eq-eqb}
+use Rattle.std.proofs.Common.{◌≡◌, ℕ, ◌+◌, ◌^◌, ◌==◌, ◌||◌, Bool, true, false, Option, Some, None, [], ◌∷◌, ◌++◌, refl, sym, ap, ◌∙◌, subst, inl, inr, arith, cond, eq-eqb}
 use Rattle.std.specs.Prelude.{unwrap_or, nat_le}
-use Rattle.std.specs.List.{list_any}
 use Rattle.std.proofs.lemmas.Bool.{cases_eq, ne_eqb}
 use Rattle.std.proofs.lemmas.List.Folds.{list_any-append}
 use Rattle.std.proofs.lemmas.List.Sums.{sum_by-append}
 use Rattle.frame_word.specs.declared.view.FrameNote.{FrameNote}
-use Rattle.frame_word.specs.Views.{note_of, frozen, missed}
+use Rattle.frame_word.specs.Views.{frozen, missed}
 use Rattle.frame_word.specs.Seats.{KnownTable, KnownSeat, misses_of, seat_with}
 use Rattle.frame_word.proofs.Notes.{note_here, note_else}
 use Rattle.cpu_part.specs.Cpus.{KnownCpu, times}
 use Rattle.step_rules.specs.declared.phase.ChargedUnit.{ChargedUnit}
 use Rattle.step_rules.specs.declared.phase.Stage.TheVariants.{Live, BackAt, Ended}
-use Rattle.step_rules.specs.declared.phase.Phase.{Phase}
 use Rattle.step_rules.specs.declared.phase.Phase.TheVariants as phase
 use Rattle.step_rules.specs.declared.step.Step.{Step}
-use Rattle.step_rules.specs.declared.step.Action.TheVariants.{Freeze, Return}
+use Rattle.step_rules.specs.declared.step.Action.TheVariants.{Freeze}
 use Rattle.step_rules.specs.declared.step.Answer.{Answer}
 use Rattle.step_rules.specs.declared.step.Answer.TheVariants.{Done, Missed}
 use Rattle.step_rules.specs.Phases.{at_stage, unit_of}
@@ -31,7 +29,6 @@ use Rattle.mem_machine.specs.Evicting.{MissesUnit, EvictsUnit, Evicts, evict_ste
 use Rattle.mem_machine.specs.Steps.{zone_makes}
 use Rattle.mem_machine.proofs.Reaching.{run_both}
 use Rattle.mem_reclaim.specs.Moves.{Moves, pages_back, pages_returned, is_miss, missed_in, is_kill, has_kill}
-use Rattle.mem_reclaim.specs.Wanted.{Rests}
 
 -- ---- one list of steps after another
 

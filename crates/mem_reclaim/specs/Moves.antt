@@ -1,5 +1,5 @@
 -- What a list of steps of reclaim does, whoever holds the lock.
-use Rattle.std.specs.Prelude.{◌≡◌, ℕ, ◌+◌, ◌==◌, Bool, true, false, List, [], ◌∷◌}
+use Rattle.std.specs.Prelude.{◌≡◌, ℕ, ◌+◌, ◌==◌, Bool, true, false, [], ◌∷◌}
 use Rattle.std.specs.List.{list_any, count_by}
 use Rattle.frame_word.specs.Seats.{KnownTable, misses_of}
 use Rattle.cpu_part.specs.Cpus.{KnownCpu}

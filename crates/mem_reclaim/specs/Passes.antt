@@ -1,5 +1,5 @@
 -- Reclaim in two passes over the groups of a subtree, by ascending number.
-use Rattle.std.specs.Prelude.{◌≡◌, ℕ, ◌⊎◌, Bool, true, false, List, [], ◌∷◌}
+use Rattle.std.specs.Prelude.{◌≡◌, ℕ, ◌⊎◌, Bool, true, false, [], ◌∷◌}
 use Rattle.std.specs.List.{range_with_len}
 use Rattle.group_tree.specs.Groups.{in_subtree}
 use Rattle.lru_lists.specs.declared.record.LruList.TheVariants.{Inactive, Active}

@@ -7,4 +7,8 @@
 #![tactic(auto)]
 
 mod meet;
+mod passes;
+mod reclaiming;
 mod scan;
+
+pub use reclaiming::{Reclaimed, reclaim};

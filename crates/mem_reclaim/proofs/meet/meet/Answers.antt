@@ -1,7 +1,7 @@
 use Rattle.std.proofs.Common.{ap, sym, ◌∙◌}
 use Rattle.lru_lists.specs.declared.record.Entry.{Entry}
 use Rattle.mem_reclaim.proofs.Meeting.{meets_tried}
-use Rattle.mem_reclaim.proofs.Keeping.{keeps_try, usage_try}
+use Rattle.mem_reclaim.proofs.Keeping.{keeps_try}
 use Rattle.mem_reclaim.proofs.meet.meet.Goals as goal
 
 pub returns-clause-meets : goal.returns-clause-meets

@@ -1,4 +1,4 @@
-use Rattle.std.proofs.Common.{◌≡◌, ◌<◌, ◌≤◌, ℕ, true, sym, ap, ◌∙◌, arith, rules, IsTrue}
+use Rattle.std.proofs.Common.{◌<◌, ◌≤◌, sym, ap, ◌∙◌, arith, rules}
 use Rattle.frame_word.specs.Seats.{KnownTable}
 use Rattle.lru_lists.specs.Lists.{entry_of}
 use Rattle.mem_machine.specs.Machines.{home_of}
