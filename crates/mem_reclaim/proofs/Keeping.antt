@@ -1,0 +1,152 @@
+-- What stays, from one call to the next, and in one call. Serves the clauses on what stays.
+use Rattle.std.proofs.Common.{◌≡◌, ◌≢◌, ℕ, ◌+◌, Bool, true, false, Option, Some, None, List, refl, sym, ap, ◌∙◌, subst, arith, cond}
+use Rattle.std.proofs.lemmas.Bool.{true≢false}
+use Rattle.std.proofs.lemmas.Option.{none-some}
+use Rattle.std.specs.Prelude.{unwrap_or}
+use Rattle.frame_word.specs.Seats.{KnownTable, KnownSeat, IsOpen, NothingPasses, LentIsBorrowed, misses_of}
+use Rattle.group_tree.specs.Groups.{in_subtree}
+use Rattle.group_charge.specs.Charges.{current_of}
+use Rattle.lru_lists.specs.declared.record.Link.{Link}
+use Rattle.lru_lists.specs.declared.record.Home.{Home}
+use Rattle.lru_lists.specs.declared.record.LruList.{LruList}
+use Rattle.lru_lists.specs.Queue.{link_at}
+use Rattle.lru_lists.specs.Lists.{SameOwners, owner_of}
+use Rattle.cpu_part.specs.Cpus.{KnownCpu}
+use Rattle.mem_machine.specs.Machines.{KnownMachine, Visits, home_of, side}
+use Rattle.mem_machine.specs.Evicting.{MissesUnit, EvictsUnit, Evicts}
+use Rattle.mem_reclaim.specs.Staying.{IsDirtyUnit, Keeps, OnlyLeave, IsMissed}
+use Rattle.mem_reclaim.proofs.Moving.{misses_rose, misses_stay}
+
+-- ---- one call after another
+
+pub keeps_none : (t : KnownTable) (m : KnownMachine) → Keeps t m m
+keeps_none t m = record {
+  stock = refl;
+  killed = refl;
+  groups = refl;
+  visit = λ c v. v;
+  dirty = λ f is. is;
+  owners = λ f kept. refl;
+  dirt = λ f kept. refl;
+  misses = λ f. omega arith;
+}
+
+-- who is kept was kept
+pub kept_before : (t : KnownTable) (m n : KnownMachine) → Keeps t m n → (f : ℕ) → home_of n.links f ≢ None → home_of m.links f ≢ None
+kept_before t m n keeps f kept none = no_owner (home_of n.links f) kept (keeps.owners f kept ∙ ap owner_of none)
+  where
+    no_owner : (h : Option Home) → h ≢ None → owner_of h ≡ None → ⊥
+    no_owner None some is = some refl
+    no_owner (Some h) some is = none-some h.owner (sym is)
+
+pub keeps_both : (t : KnownTable) (a b c : KnownMachine) → Keeps t a b → Keeps t b c → Keeps t a c
+keeps_both t a b c p q = record {
+  stock = q.stock ∙ p.stock;
+  killed = q.killed ∙ p.killed;
+  groups = q.groups ∙ p.groups;
+  visit = λ x v. q.visit x (p.visit x v);
+  dirty = λ f is. q.dirty f (p.dirty f is);
+  owners = λ f kept. q.owners f kept ∙ p.owners f (kept_before t b c q f kept);
+  dirt = λ f kept. q.dirt f kept ∙ p.dirt f (kept_before t b c q f kept);
+  misses = λ f. let x = p.misses f in let y = q.misses f in omega (arith, x, y);
+}
+
+pub only_both : (a b c : KnownMachine) → OnlyLeave a b → OnlyLeave b c → OnlyLeave a c
+only_both a b c p q f h is = p f h (q f h is)
+
+-- what was missed on a list stays missed, also counted from before
+pub missed_still : (t : KnownTable) (a b c d : KnownMachine) → Keeps t a b → Keeps t c d → OnlyLeave c d → (f : ℕ) (h : Home) → IsMissed b c f h → IsMissed a d f h
+missed_still t a b c d first last only f h is home clean =
+    let there = only f h home in
+    let kept : home_of d.links f ≢ None = λ none. none-some h (sym none ∙ home) in
+    let x = is there (sym (last.dirt f kept) ∙ clean) in
+    let y = first.misses f in
+    let z = last.misses f in
+    omega (arith, x, y, z)
+
+-- ---- the lists of a group changed, and nothing else
+
+pub keeps_owners : (t : KnownTable) (m n : KnownMachine) → n ≡ record m { links = n.links; lists = n.lists } → SameOwners m.links n.links → Keeps t m n
+keeps_owners t m n is owners = record {
+  stock = ap (λ (x : KnownMachine). x.stock) is;
+  killed = ap (λ (x : KnownMachine). x.killed) is;
+  groups = ap (λ (x : KnownMachine). x.ledger.groups) is;
+  visit = λ c v.
+      let seat : m.seat ≡ n.seat = sym (ap (λ (x : KnownMachine). x.seat) is) in
+      record {
+        is_open = subst (λ (s : KnownSeat). IsOpen s c.number) seat v.is_open;
+        still = subst (λ (s : KnownSeat). NothingPasses t s c.seat) seat v.still;
+        lent = subst (λ (s : KnownSeat). LentIsBorrowed t s c.seat) seat v.lent;
+      };
+  dirty = λ f d. record { kept = still_kept (home_of m.links f) (home_of n.links f) (owners.owner f) d.kept; dirty = owners.dirty f ∙ d.dirty };
+  owners = λ f kept. owners.owner f;
+  dirt = λ f kept. owners.dirty f;
+  misses = λ f. let e = ap (λ (x : KnownMachine). misses_of x.seat f) is in omega (arith, e);
+}
+  where
+    still_kept : (h k : Option Home) → owner_of k ≡ owner_of h → h ≢ None → k ≢ None
+    still_kept None k same some none = some refl
+    still_kept (Some h) k same some none = none-some h.owner (sym (ap owner_of none) ∙ same)
+
+-- ---- a try
+
+pub keeps_missed : (t : KnownTable) (m n : KnownMachine) (f : ℕ) → MissesUnit m f n → ((c : KnownCpu) → Visits t (side m c) → Visits t (side n c)) → Keeps t m n
+keeps_missed t m n f is visit =
+    let links : n.links ≡ m.links = ap (λ (x : KnownMachine). x.links) is.machine in
+    record {
+      stock = ap (λ (x : KnownMachine). x.stock) is.machine;
+      killed = ap (λ (x : KnownMachine). x.killed) is.machine;
+      groups = ap (λ (x : KnownMachine). x.ledger.groups) is.machine;
+      visit = visit;
+      dirty = λ g d. subst (λ (l : List Link). IsDirtyUnit l g) (sym links) d;
+      owners = λ g kept. ap (λ (l : List Link). owner_of (home_of l g)) links;
+      dirt = λ g kept. ap (λ (l : List Link). (link_at l g).is_dirty) links;
+      misses = λ g. let e = misses_rose m n f is g in omega (arith, e);
+    }
+
+pub keeps_evicted : (t : KnownTable) (m n : KnownMachine) (f pages : ℕ) → EvictsUnit m f pages n → ((c : KnownCpu) → Visits t (side m c) → Visits t (side n c))
+    → (link_at m.links f).is_dirty ≡ false → Keeps t m n
+keeps_evicted t m n f pages is visit clean =
+    let gone : home_of n.links f ≡ None = ap (λ (k : Link). k.home) is.list.forgotten in
+    let other : (g : ℕ) → home_of n.links g ≢ None → g ≢ f = λ g kept e. kept (ap (home_of n.links) e ∙ gone) in
+    record {
+      stock = ap (λ (x : KnownMachine). x.stock) is.machine;
+      killed = ap (λ (x : KnownMachine). x.killed) is.machine;
+      groups = ap (λ (x : KnownMachine). x.ledger.groups) is.machine;
+      visit = visit;
+      dirty = λ g d.
+          let ne : g ≢ f = λ e. true≢false (sym d.dirty ∙ ap (λ (x : ℕ). (link_at m.links x).is_dirty) e ∙ clean) in
+          record { kept = λ none. d.kept (sym (is.list.homes g ne) ∙ none); dirty = is.list.used.dirty g ne ∙ d.dirty };
+      owners = λ g kept. ap owner_of (is.list.homes g (other g kept));
+      dirt = λ g kept. is.list.used.dirty g (other g kept);
+      misses = λ g. let e = misses_stay m n f pages is g in omega (arith, e);
+    }
+
+pub keeps_try : (t : KnownTable) (m n : KnownMachine) (f : ℕ) (answer : Option ℕ) → Evicts m f answer n
+    → ((c : KnownCpu) → Visits t (side m c) → Visits t (side n c)) → (link_at m.links f).is_dirty ≡ false → Keeps t m n
+keeps_try t m n f None is visit clean = keeps_missed t m n f is visit
+keeps_try t m n f (Some pages) is visit clean = keeps_evicted t m n f pages is visit clean
+
+-- ---- the usage of a group above
+
+on_path_true : (b : Bool) (n pages : ℕ) → b ≡ true → ◌≡◌ {A = ℕ} (cond b (n + pages) n) (n + pages)
+on_path_true b n pages is = rw is refl
+
+pub usage_evicted : (m n : KnownMachine) (f pages k g : ℕ) → EvictsUnit m f pages n → (list : LruList) → home_of m.links f ≡ Some (record { owner = k; list = list })
+    → in_subtree m.ledger.groups g k ≡ true → current_of n.ledger g + pages ≡ current_of m.ledger g
+usage_evicted m n f pages k g is list home below =
+    let groups : n.ledger.groups ≡ m.ledger.groups = ap (λ (x : KnownMachine). x.ledger.groups) is.machine in
+    let own : is.unit.group ≡ k = is.own ∙ same_owner (record { owner = is.list.group; list = is.list.list }) (record { owner = k; list = list })
+    (sym is.list.stands ∙ home) in
+    let there : in_subtree n.ledger.groups g is.unit.group ≡ true = (λ i. in_subtree (groups i) g (own i)) ∙ below in
+    sym (is.usage g ∙ on_path_true (in_subtree n.ledger.groups g is.unit.group) (current_of n.ledger g) pages there)
+  where
+    same_owner : (a b : Home) → Some a ≡ Some b → a.owner ≡ b.owner
+    same_owner a b e = cc
+
+pub usage_try : (m n : KnownMachine) (f k g : ℕ) (answer : Option ℕ) → Evicts m f answer n → (list : LruList)
+    → home_of m.links f ≡ Some (record { owner = k; list = list })
+    → in_subtree m.ledger.groups g k ≡ true → current_of n.ledger g + unwrap_or answer 0 ≡ current_of m.ledger g
+usage_try m n f k g None is list home below =
+    let e = ap (λ (x : KnownMachine). current_of x.ledger g) is.machine in omega (arith, e)
+usage_try m n f k g (Some pages) is list home below = usage_evicted m n f pages k g is list home below

@@ -1,0 +1,125 @@
+-- What is done with one unit, and what becomes of the list on which it stands. Serves `meet` and the scan.
+use Rattle.std.proofs.Common.{◌≡◌, ℕ, ◌==◌, ◌&&◌, ◌⊎◌, Bool, true, false, Option, Some, None, List, [], ◌∷◌, ◌++◌, refl, sym, ap, ◌∙◌, subst}
+use Rattle.std.proofs.Common.{inl, inr, arith, cond, eq-eqb}
+use Rattle.std.specs.Prelude.{unwrap_or}
+use Rattle.std.proofs.lemmas.List.{append-nil}
+use Rattle.std.proofs.lemmas.Bool.{cases_eq, true≢false}
+use Rattle.std.proofs.lemmas.Option.{none-some}
+use Rattle.frame_word.specs.Seats.{KnownTable}
+use Rattle.lru_lists.specs.declared.record.Link.{Link}
+use Rattle.lru_lists.specs.declared.record.Home.{Home}
+use Rattle.lru_lists.specs.declared.record.Entry.{Entry}
+use Rattle.lru_lists.specs.declared.record.LruList.{LruList}
+use Rattle.lru_lists.specs.declared.record.LruList.TheVariants.{Inactive, Active}
+use Rattle.lru_lists.specs.Queue.{link_at}
+use Rattle.lru_lists.specs.Lists.{entries_without, entry_of, marked}
+use Rattle.step_rules.specs.After.{Run}
+use Rattle.mem_machine.specs.Machines.{KnownMachine, home_of}
+use Rattle.mem_machine.specs.Local.{MakesForAny}
+use Rattle.mem_machine.specs.Ageing.{RenewsUnit, entries_in}
+use Rattle.mem_machine.specs.Evicting.{EvictsUnit, Evicts, evict_steps}
+use Rattle.mem_reclaim.specs.Moves.{Leads}
+use Rattle.mem_reclaim.specs.Units.{MeetsAs, MeetsUnit}
+use Rattle.mem_reclaim.specs.Staying.{OnlyLeave, IsMissed}
+use Rattle.mem_reclaim.proofs.Moving.{moves_rest, moves_none, moves_try, misses_rose}
+use Rattle.mem_reclaim.proofs.Wanting.{rested}
+
+-- ---- the three cases
+
+pub meets_dirty : (t : KnownTable) (marks_count : Bool) (g : ℕ) (e : Entry) (m : KnownMachine) → e.is_dirty ≡ true
+    → Leads t 0 m m (λ steps. MeetsUnit marks_count g e 1 0 m steps m)
+meets_dirty t marks_count g e m dirty = record {
+  steps = [];
+  does = subst (λ (d : Bool). MeetsAs d (marks_count && e.is_marked) g e.number 0 m [] m) (sym dirty) (rested m);
+  moves = moves_rest t m;
+}
+
+pub meets_spared : (t : KnownTable) (marks_count : Bool) (g f : ℕ) (e : Entry) (m n : KnownMachine) → e.is_dirty ≡ false → (marks_count && e.is_marked) ≡ true
+    → e.number ≡ f → RenewsUnit m g f n → MakesForAny t m [] n → Leads t 0 m n (λ steps. MeetsUnit marks_count g e 1 0 m steps n)
+meets_spared t marks_count g f e m n clean spared is renews runs = record {
+  steps = [];
+  does = subst (λ (x : Bool × Bool × ℕ). MeetsAs x.0 x.1 g x.2 0 m [] n) (λ i. (sym clean i, sym spared i, sym is i))
+      (record { no_page = refl; renews = renews; no_step = refl });
+  moves = moves_none t m n runs (ap (λ (x : KnownMachine). x.seat) renews.machine);
+}
+
+pub meets_tried : (t : KnownTable) (marks_count : Bool) (g f : ℕ) (e : Entry) (m n : KnownMachine) (answer : Option ℕ) (given : ℕ) → e.is_dirty ≡ false
+    → (marks_count && e.is_marked) ≡ false → e.number ≡ f → Evicts m f answer n → MakesForAny t m (evict_steps f answer) n → given ≡ unwrap_or answer 0
+    → Leads t given m n (λ steps. MeetsUnit marks_count g e 1 given m steps n)
+meets_tried t marks_count g f e m n answer given clean spared is evicts runs pages =
+    subst (λ (p : ℕ). Leads t p m n (λ steps. MeetsUnit marks_count g e 1 p m steps n)) (sym pages) (record {
+      steps = evict_steps f answer;
+      does = subst (λ (x : Bool × Bool × ℕ). MeetsAs x.0 x.1 g x.2 (unwrap_or answer 0) m (evict_steps f answer) n) (λ i. (sym clean i, sym spared i, sym is i))
+          (record { answer = answer; evicts = evicts; pages = refl; tries = refl });
+      moves = moves_try t m n f answer evicts runs;
+    })
+
+-- ---- the list on which the unit stood
+
+-- it is as it was, or the unit is off it, and perhaps back at its newest end
+abbrev pub MetList : ℕ → LruList → ℕ → KnownMachine → KnownMachine → Type 0
+MetList g list f m n =
+    (entries_in n g list ≡ entries_in m g list) ⊎ ((back : List Entry) × (entries_in n g list ≡ entries_without f (entries_in m g list) ++ back))
+
+same_home : (a b : Home) → Some a ≡ Some b → a.owner ≡ b.owner
+same_home a b e = cc
+
+evicted_entries : (m n : KnownMachine) (g f pages : ℕ) (list : LruList) → EvictsUnit m f pages n → home_of m.links f ≡ Some (record { owner = g; list = list })
+    → entries_in n g list ≡ entries_without f (entries_in m g list)
+evicted_entries m n g f pages Inactive is home =
+    let own : is.list.group ≡ g = same_home (record { owner = is.list.group; list = is.list.list }) (record { owner = g; list = Inactive }) (sym is.list.stands ∙ home) in
+    subst (λ (k : ℕ). entries_in n k Inactive ≡ entries_without f (entries_in m k Inactive)) own is.list.inactive
+evicted_entries m n g f pages Active is home =
+    let own : is.list.group ≡ g = same_home (record { owner = is.list.group; list = is.list.list }) (record { owner = g; list = Active }) (sym is.list.stands ∙ home) in
+    subst (λ (k : ℕ). entries_in n k Active ≡ entries_without f (entries_in m k Active)) own is.list.active
+
+tried_list : (m n : KnownMachine) (g f : ℕ) (list : LruList) (answer : Option ℕ) → Evicts m f answer n → home_of m.links f ≡ Some (record { owner = g; list = list })
+    → MetList g list f m n
+tried_list m n g f list None is home = inl (ap (λ (x : KnownMachine). entries_in x g list) is.machine)
+tried_list m n g f list (Some pages) is home =
+    inr ([], evicted_entries m n g f pages list is home ∙ sym (append-nil (entries_without f (entries_in m g list))))
+
+met_as : (dirty spared : Bool) (m n : KnownMachine) (g f given : ℕ) (steps : Run) (list : LruList) → MeetsAs dirty spared g f given m steps n
+    → (spared ≡ true → list ≡ Inactive) → home_of m.links f ≡ Some (record { owner = g; list = list }) → MetList g list f m n
+met_as true spared m n g f given steps list is inactive home = inl (ap (λ (x : KnownMachine). entries_in x g list) is.machine)
+met_as false true m n g f given steps list is inactive home =
+    subst (λ (l : LruList). MetList g l f m n) (sym (inactive refl)) (inr (marked false (entry_of m.links f) ∷ [], is.renews.inactive))
+met_as false false m n g f given steps list is inactive home = tried_list m n g f list is.answer is.evicts home
+
+pub met_list : (marks_count : Bool) (m n : KnownMachine) (g want given : ℕ) (e : Entry) (steps : Run) (list : LruList) → MeetsUnit marks_count g e want given m steps n
+    → (marks_count ≡ true → list ≡ Inactive) → home_of m.links e.number ≡ Some (record { owner = g; list = list }) → MetList g list e.number m n
+met_list true m n g want given e steps list is inactive home = met_as e.is_dirty e.is_marked m n g e.number given steps list is (λ i. inactive refl) home
+met_list false m n g want given e steps list is inactive home = met_as e.is_dirty false m n g e.number given steps list is (λ i. absurd (true≢false (sym i))) home
+
+-- ---- where marks don't count, units leave and none comes, and one that stays clean is missed
+
+try_leaves : (m n : KnownMachine) (f : ℕ) (answer : Option ℕ) → Evicts m f answer n → OnlyLeave m n
+try_leaves m n f None is x h home = ap (λ (k : KnownMachine). home_of k.links x) (sym is.machine) ∙ home
+try_leaves m n f (Some pages) is x h home = elim (cases_eq x f) [
+  | inl e ↦ absurd (none-some h (sym (ap (home_of n.links) e ∙ ap (λ (k : Link). k.home) is.list.forgotten) ∙ home))
+  | inr ne ↦ sym (is.list.homes x ne) ∙ home
+]
+
+try_misses : (m n : KnownMachine) (f : ℕ) (answer : Option ℕ) → Evicts m f answer n → (h : Home) → IsMissed m n f h
+try_misses m n f None is h home clean =
+    let a = misses_rose m n f is f in
+    let one : ◌≡◌ {A = ℕ} (cond (f == f) 1 0) 1 = ap (λ (b : Bool). cond b 1 0) (eq-eqb f f refl) in
+    omega (arith, a, one)
+try_misses m n f (Some pages) is h home clean = absurd (none-some h (sym (ap (λ (k : Link). k.home) is.list.forgotten) ∙ home))
+
+leaves_as : (dirty : Bool) (m n : KnownMachine) (g f given : ℕ) (steps : Run) → MeetsAs dirty false g f given m steps n → OnlyLeave m n
+leaves_as true m n g f given steps is x h home = ap (λ (k : KnownMachine). home_of k.links x) (sym is.machine) ∙ home
+leaves_as false m n g f given steps is x h home = try_leaves m n f is.answer is.evicts x h home
+
+misses_as : (dirty : Bool) (m n : KnownMachine) (g f given : ℕ) (steps : Run) → MeetsAs dirty false g f given m steps n → (link_at m.links f).is_dirty ≡ dirty
+    → (h : Home) → IsMissed m n f h
+misses_as true m n g f given steps is dirt h home clean =
+    absurd (true≢false (sym dirt ∙ ap (λ (k : KnownMachine). (link_at k.links f).is_dirty) (sym is.machine) ∙ clean))
+misses_as false m n g f given steps is dirt h home clean = try_misses m n f is.answer is.evicts h home clean
+
+pub met_leaves : (m n : KnownMachine) (g want given : ℕ) (e : Entry) (steps : Run) → MeetsUnit false g e want given m steps n → OnlyLeave m n
+met_leaves m n g want given e steps is = leaves_as e.is_dirty m n g e.number given steps is
+
+pub met_misses : (m n : KnownMachine) (g want given : ℕ) (e : Entry) (steps : Run) → MeetsUnit false g e want given m steps n
+    → (link_at m.links e.number).is_dirty ≡ e.is_dirty → (h : Home) → IsMissed m n e.number h
+met_misses m n g want given e steps is dirt = misses_as e.is_dirty m n g e.number given steps is dirt

@@ -1,0 +1,16 @@
+use Rattle.std.proofs.Common.{ap, sym, ◌∙◌}
+use Rattle.lru_lists.specs.declared.record.Entry.{Entry}
+use Rattle.mem_reclaim.proofs.Meeting.{meets_tried}
+use Rattle.mem_reclaim.proofs.Keeping.{keeps_try}
+use Rattle.mem_reclaim.proofs.meet.meet.Goals as goal
+
+pub returns-clause-meets : goal.returns-clause-meets
+returns-clause-meets g c =
+    meets_tried g.N.BootName.frames c.args.marks_count c.args.group c.args.frame c.args.unit _ _ c.evict.result c.unwrap_or.result c.if-unit.false
+    (sym c.is_spared.ensures ∙ c.if-is_spared.false) (ap (λ (x : Entry). x.number) c.requires.unit) c.evict.ensures.evicts c.evict.ensures.steps
+    c.unwrap_or.ensures
+
+pub returns-clause-keeps : goal.returns-clause-keeps
+returns-clause-keeps g c =
+    keeps_try g.N.BootName.frames _ _ c.args.frame c.evict.result c.evict.ensures.evicts c.evict.ensures.visit
+    (sym (ap (λ (x : Entry). x.is_dirty) c.requires.unit) ∙ c.if-unit.false)

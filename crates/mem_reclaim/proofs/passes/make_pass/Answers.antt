@@ -1,0 +1,27 @@
+use Rattle.mem_reclaim.proofs.Passing.{pass_none, pass_more, pass_enough, pass_done}
+use Rattle.mem_reclaim.proofs.passes.make_pass.Goals as goal
+
+pub loop-number-init : goal.loop-number-init
+loop-number-init g c = pass_none g.N.BootName.frames c.args.is_first c.args.group c.args.want c.args.machine.now
+
+pub returns-then-want-given-clause-passes : goal.returns-then-want-given-clause-passes
+returns-then-want-given-clause-passes g c =
+    (pass_enough g.N.BootName.frames c.args.is_first c.args.group c.args.want c.args.machine.now c.loop-number.number c.loop-number.given c.loop-number.machine
+    c.loop-number.invariant c.if-want-given.true).passes
+
+pub loop-number-preserved : goal.loop-number-preserved
+loop-number-preserved g c =
+    let e = c.take_turn-given.ensures in
+    pass_more g.N.BootName.frames c.args.is_first c.args.group c.args.want c.args.machine.now c.loop-number.number c.loop-number.given c.loop-number.machine
+    c.loop-number.invariant c.loop-number-test.true c.if-want-given.false c.in-Some.turn c.in-Some.ensures.1 c.take_turn-given.result
+    c.take_turn-given.new.machine e.turns e.keeps e.usage e.few e.leaves e.missed
+
+pub returns-clause-passes : goal.returns-clause-passes
+returns-clause-passes g c =
+    (pass_done g.N.BootName.frames g.N.BootName.stocks c.args.is_first c.args.group c.args.want c.args.machine.now c.loop-number.number c.loop-number.given
+    c.loop-number.machine c.spots-spots.ensures.consistent c.loop-number.invariant c.loop-number-test.false).passes
+
+pub returns-clause-missed : goal.returns-clause-missed
+returns-clause-missed g c =
+    (pass_done g.N.BootName.frames g.N.BootName.stocks c.args.is_first c.args.group c.args.want c.args.machine.now c.loop-number.number c.loop-number.given
+    c.loop-number.machine c.spots-spots.ensures.consistent c.loop-number.invariant c.loop-number-test.false).missed

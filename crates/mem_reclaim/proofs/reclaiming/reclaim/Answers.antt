@@ -1,0 +1,21 @@
+use Rattle.std.proofs.Common.{false, true, arith}
+use Rattle.mem_reclaim.specs.Passes.{MakesPass}
+use Rattle.mem_reclaim.proofs.Wanting.{first_enough, both_done}
+use Rattle.mem_reclaim.proofs.Keeping.{keeps_both}
+use Rattle.mem_reclaim.proofs.reclaiming.reclaim.Goals as goal
+
+pub returns-then-want-first-clause-reclaims : goal.returns-then-want-first-clause-reclaims
+returns-then-want-first-clause-reclaims g c =
+    first_enough g.N.BootName.frames (MakesPass c.args.group) true false c.args.want c.args.machine.now
+    (let ne = c.if-want-eq0.false in omega (arith, ne)) c.make_pass-first.result
+    c.make_pass-first.new.machine c.make_pass-first.ensures.passes c.if-want-first.true
+
+pub returns-clause-reclaims : goal.returns-clause-reclaims
+returns-clause-reclaims g c =
+    both_done g.N.BootName.frames (MakesPass c.args.group) true false c.args.want c.args.machine.now
+    (let ne = c.if-want-eq0.false in omega (arith, ne)) c.make_pass-first.result
+    c.make_pass-first.new.machine c.make_pass-first.ensures.passes c.if-want-first.false c.make_pass.result c.make_pass.new.machine
+    c.make_pass.ensures.passes
+
+pub returns-clause-keeps : goal.returns-clause-keeps
+returns-clause-keeps g c = keeps_both g.N.BootName.frames c.args.machine.now c.make_pass-first.new.machine c.make_pass.new.machine c.make_pass-first.ensures.keeps c.make_pass.ensures.keeps

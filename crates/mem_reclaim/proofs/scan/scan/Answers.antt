@@ -1,0 +1,74 @@
+use Rattle.std.proofs.Common.{◌<◌, ◌≤◌, sym, ap, ◌∙◌, arith, rules}
+use Rattle.frame_word.specs.Seats.{KnownTable}
+use Rattle.lru_lists.specs.Lists.{entry_of}
+use Rattle.mem_machine.specs.Machines.{home_of}
+use Rattle.mem_reclaim.proofs.Scanning.{scan_first, scan_here, scan_more, scan_done, scan_enough}
+use Rattle.mem_reclaim.proofs.scan.scan.Goals as goal
+
+pub loop-met-init : goal.loop-met-init
+loop-met-init g c =
+    let fits : c.args.group < 64 = search rules in
+    scan_first g.N.BootName.frames g.N.BootName.stocks c.args.machine.now c.spots-records.ensures.consistent c.args.marks_count c.args.group fits c.args.list
+    c.args.want c.oldest-next.result c.oldest-next.ensures
+
+pub returns-then-want-given-clause-scans : goal.returns-then-want-given-clause-scans
+returns-then-want-given-clause-scans g c =
+    (scan_enough g.N.BootName.frames c.args.marks_count c.args.group c.args.list c.args.want c.args.machine.now c.loop-met._met c.loop-met.given c.loop-met.next
+    c.loop-met.machine c.loop-met.invariant c.if-want-given.true).scans
+
+pub unreachable-requires-in_default-frame : goal.unreachable-requires-in_default-frame
+unreachable-requires-in_default-frame g c =
+    let fits : c.args.group < 64 = search rules in
+    let h = scan_here g.N.BootName.frames g.N.BootName.stocks c.args.marks_count c.args.group fits c.args.list c.args.want c.args.machine.now
+    c.loop-met._met c.loop-met.given c.loop-met.next c.loop-met.machine c.spots-spots.ensures.consistent c.loop-met.invariant c.listed-units.result
+    c.listed-units.ensures c.loop-met-test.true c.in-Some.unit c.in-Some.is in
+    let lt = h.inside in
+    let le : c.args.tables.now.frames.frames ≤ c.in-Some.unit.number = c.in_default-frame.ensures {u = tt} in
+    let tie = ap (λ (x : KnownTable). x.frames) c.args.tables.now.frames_are in
+    omega (arith, lt, le, tie)
+
+pub newer-next-requires-clause-stands : goal.newer-next-requires-clause-stands
+newer-next-requires-clause-stands g c =
+    let fits : c.args.group < 64 = search rules in
+    let h = scan_here g.N.BootName.frames g.N.BootName.stocks c.args.marks_count c.args.group fits c.args.list c.args.want c.args.machine.now
+    c.loop-met._met c.loop-met.given c.loop-met.next c.loop-met.machine c.spots-spots.ensures.consistent c.loop-met.invariant c.listed-units.result
+    c.listed-units.ensures c.loop-met-test.true c.in-Some.unit c.in-Some.is in
+    ap (home_of c.loop-met.machine.links) c.in-Some-frame.ensures.0 ∙ h.home
+
+pub meet-requires-clause-unit : goal.meet-requires-clause-unit
+meet-requires-clause-unit g c =
+    let fits : c.args.group < 64 = search rules in
+    let h = scan_here g.N.BootName.frames g.N.BootName.stocks c.args.marks_count c.args.group fits c.args.list c.args.want c.args.machine.now
+    c.loop-met._met c.loop-met.given c.loop-met.next c.loop-met.machine c.spots-spots.ensures.consistent c.loop-met.invariant c.listed-units.result
+    c.listed-units.ensures c.loop-met-test.true c.in-Some.unit c.in-Some.is in
+    h.read ∙ ap (entry_of c.loop-met.machine.links) (sym c.in-Some-frame.ensures.0)
+
+pub meet-requires-clause-stands : goal.meet-requires-clause-stands
+meet-requires-clause-stands g c =
+    let fits : c.args.group < 64 = search rules in
+    let h = scan_here g.N.BootName.frames g.N.BootName.stocks c.args.marks_count c.args.group fits c.args.list c.args.want c.args.machine.now
+    c.loop-met._met c.loop-met.given c.loop-met.next c.loop-met.machine c.spots-spots.ensures.consistent c.loop-met.invariant c.listed-units.result
+    c.listed-units.ensures c.loop-met-test.true c.in-Some.unit c.in-Some.is in
+    ap (home_of c.loop-met.machine.links) c.in-Some-frame.ensures.0 ∙ h.home
+
+pub loop-met-preserved : goal.loop-met-preserved
+loop-met-preserved g c =
+    let fits : c.args.group < 64 = search rules in
+    let small = c.meet.type_inv in
+    let e = c.from-given.ensures in
+    rw e
+    (scan_more g.N.BootName.frames g.N.BootName.stocks c.args.marks_count c.args.group fits c.args.list c.args.want c.args.machine.now
+    c.loop-met._met c.loop-met.given c.loop-met.next c.loop-met.machine c.spots-spots.ensures.consistent c.loop-met.invariant c.listed-units.result
+    c.listed-units.ensures c.loop-met-test.true c.in-Some.unit c.in-Some.is c.meet.result c.meet.new.machine c.requires.inactive c.if-want-given.false
+    (omega (arith, small)) c.meet.ensures.meets c.meet.ensures.keeps c.meet.ensures.usage c.newer-next.result c.in-Some-frame.frame c.in-Some-frame.ensures.0
+    c.newer-next.ensures)
+
+pub returns-clause-scans : goal.returns-clause-scans
+returns-clause-scans g c =
+    (scan_done g.N.BootName.frames c.args.marks_count c.args.group c.args.list c.args.want c.args.machine.now c.loop-met._met c.loop-met.given c.loop-met.next
+    c.loop-met.machine c.loop-met.invariant c.listed-units.result c.listed-units.ensures c.loop-met-test.false).scans
+
+pub returns-clause-missed : goal.returns-clause-missed
+returns-clause-missed g c =
+    (scan_done g.N.BootName.frames c.args.marks_count c.args.group c.args.list c.args.want c.args.machine.now c.loop-met._met c.loop-met.given c.loop-met.next
+    c.loop-met.machine c.loop-met.invariant c.listed-units.result c.listed-units.ensures c.loop-met-test.false).missed

@@ -1,0 +1,5 @@
+pub mod Wanted
+pub mod Moves
+pub mod Units
+pub mod Passes
+pub mod Staying

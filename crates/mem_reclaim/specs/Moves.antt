@@ -1,0 +1,56 @@
+-- What a list of steps of reclaim does, whoever holds the lock.
+use Rattle.std.specs.Prelude.{◌≡◌, ℕ, ◌+◌, ◌==◌, Bool, true, false, [], ◌∷◌}
+use Rattle.std.specs.List.{list_any, count_by}
+use Rattle.frame_word.specs.Seats.{KnownTable, misses_of}
+use Rattle.cpu_part.specs.Cpus.{KnownCpu}
+use Rattle.step_rules.specs.declared.step.Action.{Action}
+use Rattle.step_rules.specs.declared.step.Action.TheVariants.{Freeze, Return, Kill}
+use Rattle.step_rules.specs.declared.step.Answer.{Answer}
+use Rattle.step_rules.specs.declared.step.Answer.TheVariants.{Done, Missed}
+use Rattle.step_rules.specs.Phases.{unit_of}
+use Rattle.step_rules.specs.State.{State}
+use Rattle.step_rules.specs.After.{Run, after, unit_size}
+use Rattle.mem_machine.specs.Machines.{KnownMachine}
+use Rattle.mem_machine.specs.Local.{MakesForAny, local_of}
+
+-- how many pages come back by this pair: those of the unit that is returned
+abbrev pub pages_back : State → Action → Answer → ℕ
+pages_back s (Return f) Done = unit_size (unit_of (s.phases f))
+pages_back s action answer = 0
+
+-- how many pages come back by these steps, from this state on
+abbrev pub pages_returned : State → Run → ℕ
+pages_returned s [] = 0
+pages_returned s (e ∷ rest) = pages_back s e.0.action e.1 + pages_returned (after s e.0.seat e.0.action e.1) rest
+
+-- the pair is a freeze of the frame that missed
+abbrev pub is_miss : ℕ → Action → Answer → Bool
+is_miss f (Freeze g n) Missed = g == f
+is_miss f action answer = false
+
+-- how many of the steps are freezes of the frame that missed
+abbrev pub missed_in : ℕ → Run → ℕ
+missed_in f steps = count_by (λ e. is_miss f e.0.action e.1) steps
+
+-- a group is killed
+abbrev pub is_kill : Action → Bool
+is_kill (Kill g) = true
+is_kill action = false
+
+-- some step is a kill
+abbrev pub has_kill : Run → Bool
+has_kill steps = list_any (λ e. is_kill e.0.action) steps
+
+-- Whoever holds the lock, these steps lead from one machine to the other; so many pages come back by them; none of them is a kill;
+-- and the misses that the zone's seat noted of each frame grew by those among them
+pub record Moves (table : KnownTable) (before : KnownMachine) (given : ℕ) (steps : Run) (after : KnownMachine) : Type 0 where
+  pub runs : MakesForAny table before steps after
+  pub pages : (cpu : KnownCpu) → pages_returned (local_of table before cpu) steps ≡ given
+  pub quiet : has_kill steps ≡ false
+  pub misses : (f : ℕ) → misses_of after.seat f ≡ misses_of before.seat f + missed_in f steps
+
+-- some list of steps does this
+pub record Leads (table : KnownTable) (given : ℕ) (before after : KnownMachine) (Does : Run → Type 0) : Type 0 where
+  pub steps : Run
+  pub does : Does steps
+  pub moves : Moves table before given steps after

@@ -1,0 +1,39 @@
+-- What stays in every reclaim, and what was tried.
+use Rattle.std.specs.Prelude.{◌≡◌, ◌≢◌, ℕ, ◌<◌, ◌≤◌, true, false, Some, None, List}
+use Rattle.frame_word.specs.Seats.{KnownTable, misses_of}
+use Rattle.group_tree.specs.Groups.{in_subtree}
+use Rattle.lru_lists.specs.declared.record.Link.{Link}
+use Rattle.lru_lists.specs.declared.record.Home.{Home}
+use Rattle.lru_lists.specs.Queue.{link_at}
+use Rattle.lru_lists.specs.Lists.{owner_of}
+use Rattle.cpu_part.specs.Cpus.{KnownCpu}
+use Rattle.mem_machine.specs.Machines.{KnownMachine, Visits, home_of, side}
+
+-- the frame heads a kept unit, which is dirty
+pub record IsDirtyUnit (links : List Link) (frame : ℕ) : Type 0 where
+  pub kept : home_of links frame ≢ None
+  pub dirty : (link_at links frame).is_dirty ≡ true
+
+-- Stocks, killed groups, groups with their limits, and every visit stay. No dirty unit comes back. Who is kept was kept for the same
+-- group, as dirty as it is now. No miss is forgotten
+pub record Keeps (table : KnownTable) (before after : KnownMachine) : Type 0 where
+  pub stock : after.stock ≡ before.stock
+  pub killed : after.killed ≡ before.killed
+  pub groups : after.ledger.groups ≡ before.ledger.groups
+  pub visit : (cpu : KnownCpu) → Visits table (side before cpu) → Visits table (side after cpu)
+  pub dirty : (f : ℕ) → IsDirtyUnit before.links f → IsDirtyUnit after.links f
+  pub owners : (f : ℕ) → home_of after.links f ≢ None → owner_of (home_of after.links f) ≡ owner_of (home_of before.links f)
+  pub dirt : (f : ℕ) → home_of after.links f ≢ None → (link_at after.links f).is_dirty ≡ (link_at before.links f).is_dirty
+  pub misses : (f : ℕ) → misses_of before.seat f ≤ misses_of after.seat f
+
+-- no unit came onto a list: who stands on one stood there
+abbrev pub OnlyLeave : KnownMachine → KnownMachine → Type 0
+OnlyLeave before after = (f : ℕ) (h : Home) → home_of after.links f ≡ Some h → home_of before.links f ≡ Some h
+
+-- a freeze of the frame missed in between, if it heads a clean unit that is still kept on this list
+abbrev pub IsMissed : KnownMachine → KnownMachine → ℕ → Home → Type 0
+IsMissed before after f h = home_of after.links f ≡ Some h → (link_at after.links f).is_dirty ≡ false → misses_of before.seat f < misses_of after.seat f
+
+-- a freeze of each clean unit that the subtree still keeps missed in between
+abbrev pub MissedAll : ℕ → KnownMachine → KnownMachine → Type 0
+MissedAll g before after = (f : ℕ) (h : Home) → in_subtree after.ledger.groups g h.owner ≡ true → IsMissed before after f h

@@ -1,0 +1,54 @@
+//! What is done with one unit of a list.
+
+ghost use Rattle.std.specs.Prelude.{◌≡◌, ◌<◌, ◌&&◌, ◌+◌, ℕ, true, Some, IsTrue};
+ghost use Rattle.group_tree.specs.Groups.{in_subtree};
+ghost use Rattle.group_charge.specs.Charges.{current_of};
+ghost use Rattle.lru_lists.specs.declared.record.LruList.TheVariants.{Inactive};
+ghost use Rattle.lru_lists.specs.Lists.{entry_of};
+ghost use Rattle.mem_machine.specs.Machines.{home_of};
+ghost use Rattle.mem_reclaim.specs.Moves.{Leads};
+ghost use Rattle.mem_reclaim.specs.Units.{MeetsUnit};
+ghost use Rattle.mem_reclaim.specs.Staying.{Keeps};
+
+use cpu_part::{BootName, Tables};
+use frame_word::Frame;
+use group_tree::group::GroupId;
+use lru_lists::record::{Entry, LruList};
+use mem_machine::Machine;
+
+// Whether the unit is spared: it is marked, and marks count.
+fn is_spared(unit: Entry, marks_count: bool) -> bool
+    ensures { result ≡ (marks_count && unit.is_marked) }
+{
+    marks_count && unit.is_marked
+}
+
+/// Meets a unit of one of a group's lists: a dirty one is left alone, a marked one is renewed where marks count, and any other is
+/// tried. It tells how many pages came back.
+pub(crate) fn meet<N: BootName>(
+    machine: &mut Machine<N>,
+    tables: &Tables<N>,
+    group: GroupId,
+    list: LruList,
+    unit: Entry,
+    frame: Frame,
+    marks_count: bool,
+) -> u32
+    requires frame { frame < N.frames.frames }
+    requires unit { unit ≡ entry_of machine.old.links frame }
+    requires stands { home_of machine.old.links frame ≡ Some (record { owner = group; list = list }) }
+    requires inactive { IsTrue marks_count → list ≡ Inactive }
+    ensures meets { Leads N.frames result machine.old machine.new (λ steps. MeetsUnit marks_count group unit 1 result machine.old steps machine.new) }
+    ensures keeps { Keeps N.frames machine.old machine.new }
+    ensures usage { (g : ℕ) → in_subtree machine.old.ledger.groups g group ≡ true
+        → current_of machine.new.ledger g + result ≡ current_of machine.old.ledger g }
+{
+    if unit.is_dirty {
+        return 0;
+    }
+    if is_spared(unit, marks_count) {
+        machine.renew(group, frame);
+        return 0;
+    }
+    machine.evict(tables, frame).unwrap_or(0)
+}

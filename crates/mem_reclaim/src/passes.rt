@@ -1,0 +1,142 @@
+//! The two passes over the groups of a subtree, by ascending number.
+
+ghost use Rattle.std.specs.Prelude.{◌≡◌, ◌<◌, ◌+◌, ◌^◌, ℕ, [], ◌∷◌, true, false, IsTrue};
+ghost use Rattle.group_tree.specs.Groups.{has_group, in_subtree};
+ghost use Rattle.group_charge.specs.Charges.{current_of};
+ghost use Rattle.lru_lists.specs.declared.record.Home.{Home};
+ghost use Rattle.lru_lists.specs.declared.record.LruList.{LruList};
+ghost use Rattle.lru_lists.specs.declared.record.LruList.TheVariants.{Inactive, Active};
+ghost use Rattle.mem_reclaim.specs.Wanted.{WhileWanted};
+ghost use Rattle.mem_reclaim.specs.Moves.{Leads};
+ghost use Rattle.mem_reclaim.specs.Units.{ScansList};
+ghost use Rattle.mem_reclaim.specs.Passes.{AgesAndScans, TakesTurn, MakesPass};
+ghost use Rattle.mem_reclaim.specs.Staying.{Keeps, OnlyLeave, IsMissed, MissedAll};
+
+use crate::scan::scan;
+use cpu_part::{BootName, Tables};
+use group_charge::charges::Charges;
+use group_tree::group::{GroupId, MAX_GROUPS};
+use lru_lists::record::LruList;
+use mem_machine::Machine;
+
+// The first pass over a group: its lists are aged, and then its inactive units are met; marked ones are spared.
+fn age_and_scan<N: BootName>(
+    machine: &mut Machine<N>,
+    tables: &Tables<N>,
+    group: GroupId,
+    want: u64,
+) -> u64
+    requires { want < 2 ^ 40 }
+    ensures passes { Leads N.frames result machine.old machine.new (λ steps. AgesAndScans group want result machine.old steps machine.new) }
+    ensures keeps { Keeps N.frames machine.old machine.new }
+    ensures usage { (g : ℕ) → in_subtree machine.old.ledger.groups g group ≡ true
+        → current_of machine.new.ledger g + result ≡ current_of machine.old.ledger g }
+    ensures few { result < want + 2 ^ 32 }
+{
+    machine.age(group);
+    scan(machine, tables, group, LruList::Inactive, want, true)
+}
+
+// The second pass over a group: its inactive and then its active units are met, and marks don't count.
+fn scan_both<N: BootName>(
+    machine: &mut Machine<N>,
+    tables: &Tables<N>,
+    group: GroupId,
+    want: u64,
+) -> u64
+    requires wanted { 0 < want }
+    requires fits { want < 2 ^ 40 }
+    ensures passes { Leads N.frames result machine.old machine.new
+        (λ steps. WhileWanted (ScansList false group) (Inactive ∷ Active ∷ []) want result machine.old steps machine.new) }
+    ensures keeps { Keeps N.frames machine.old machine.new }
+    ensures usage { (g : ℕ) → in_subtree machine.old.ledger.groups g group ≡ true
+        → current_of machine.new.ledger g + result ≡ current_of machine.old.ledger g }
+    ensures few { result < want + 2 ^ 32 }
+    ensures leaves { OnlyLeave machine.old machine.new }
+    ensures missed { result < want → (f : ℕ) (list : LruList) → IsMissed machine.old machine.new f (record { owner = group; list = list }) }
+{
+    let inactive = scan(machine, tables, group, LruList::Inactive, want, false);
+    if want <= inactive {
+        return inactive;
+    }
+    inactive
+        + scan(
+            machine,
+            tables,
+            group,
+            LruList::Active,
+            want - inactive,
+            false,
+        )
+}
+
+// Whether the other group is there and is the group or lies below it.
+fn is_below(charges: &Charges, group: GroupId, other: GroupId) -> bool
+    requires { IsTrue (has_group charges.now.groups group) }
+    ensures { result ≡ in_subtree charges.now.groups group other }
+{
+    let tree = charges.tree();
+    tree.contains(other) && tree.in_subtree(group, other)
+}
+
+// The turn of a group number in a pass over the subtree of `group`.
+fn take_turn<N: BootName>(
+    machine: &mut Machine<N>,
+    tables: &Tables<N>,
+    group: GroupId,
+    turn: GroupId,
+    want: u64,
+    is_first: bool,
+) -> u64
+    requires there { IsTrue (has_group machine.old.ledger.groups group) }
+    requires wanted { 0 < want }
+    requires fits { want < 2 ^ 40 }
+    ensures turns { Leads N.frames result machine.old machine.new (λ steps. TakesTurn is_first group turn want result machine.old steps machine.new) }
+    ensures keeps { Keeps N.frames machine.old machine.new }
+    ensures usage { current_of machine.new.ledger group + result ≡ current_of machine.old.ledger group }
+    ensures few { result < want + 2 ^ 32 }
+    ensures leaves { is_first ≡ false → OnlyLeave machine.old machine.new }
+    ensures missed { is_first ≡ false → result < want → in_subtree machine.old.ledger.groups group turn ≡ true
+        → (f : ℕ) (list : LruList) → IsMissed machine.old machine.new f (record { owner = turn; list = list }) }
+{
+    if !is_below(machine.charges(), group, turn) {
+        return 0;
+    }
+    if is_first {
+        age_and_scan(machine, tables, turn, want)
+    } else {
+        scan_both(machine, tables, turn, want)
+    }
+}
+
+/// One pass over the groups of the subtree of `group`, by ascending number, as long as pages are wanted. It tells how many pages
+/// came back.
+pub(crate) fn make_pass<N: BootName>(
+    machine: &mut Machine<N>,
+    tables: &Tables<N>,
+    group: GroupId,
+    want: u64,
+    is_first: bool,
+) -> u64
+    requires there { IsTrue (has_group machine.old.ledger.groups group) }
+    requires fits { want < 2 ^ 40 }
+    ensures passes { Leads N.frames result machine.old machine.new (λ steps. MakesPass group is_first want result machine.old steps machine.new) }
+    ensures keeps { Keeps N.frames machine.old machine.new }
+    ensures usage { current_of machine.new.ledger group + result ≡ current_of machine.old.ledger group }
+    ensures few { result < want + 2 ^ 32 }
+    ensures leaves { is_first ≡ false → OnlyLeave machine.old machine.new }
+    ensures missed { is_first ≡ false → result < want → MissedAll group machine.old machine.new }
+{
+    let mut given = 0;
+    for number in 0..MAX_GROUPS as u32 {
+        if want <= given {
+            return given;
+        }
+        let Some(turn) = GroupId::of(number) else {
+            unreachable!()
+        };
+        given += take_turn(machine, tables, group, turn, want - given, is_first);
+    }
+    let _spots = machine.spots(); // For the clauses.
+    given
+}

@@ -1,0 +1,62 @@
+//! Reclaim of pages from a subtree.
+
+ghost use Rattle.std.specs.Prelude.{◌≡◌, ◌<◌, ◌+◌, ◌^◌, IsTrue, nat_lt};
+ghost use Rattle.group_tree.specs.Groups.{has_group};
+ghost use Rattle.group_charge.specs.Charges.{current_of};
+ghost use Rattle.mem_reclaim.specs.Moves.{Leads};
+ghost use Rattle.mem_reclaim.specs.Passes.{Reclaims};
+ghost use Rattle.mem_reclaim.specs.Staying.{Keeps, MissedAll};
+
+use crate::passes::make_pass;
+use cpu_part::{BootName, Tables};
+use group_tree::group::GroupId;
+use mem_machine::Machine;
+
+/// What a reclaim gave.
+#[derive(Clone, Copy, Debug, PartialEq, Eq)]
+pub struct Reclaimed {
+    /// How many pages came back. A block may give more than was still wanted.
+    pub pages: u64,
+    /// Whether the second pass ended without enough pages: each clean unit that the subtree still keeps was tried, and missed.
+    pub tried_all: bool,
+}
+
+/// Takes pages back from the units that the subtree of `group` keeps, until at least `want` came back or every clean unit was
+/// tried. A unit comes back where nobody but the zone has a reference on it; a dirty one never does. The first pass ages each
+/// group's lists, tries its inactive units and gives marked ones a second chance; the second pass tries all clean units. Each
+/// pass goes over the groups by ascending number, and over a list from the oldest unit to the newest. With `want` 0 nothing is
+/// done.
+pub fn reclaim<N: BootName>(
+    machine: &mut Machine<N>,
+    tables: &Tables<N>,
+    group: GroupId,
+    want: u64,
+) -> Reclaimed
+    requires there { IsTrue (has_group machine.old.ledger.groups group) }
+    requires fits { want < 2 ^ 40 }
+    ensures reclaims { Leads N.frames result.pages machine.old machine.new
+        (λ steps. Reclaims group want result.pages machine.old steps machine.new) }
+    ensures tried_all { result.tried_all ≡ nat_lt result.pages want }
+    ensures missed { IsTrue result.tried_all → MissedAll group machine.old machine.new }
+    ensures usage { current_of machine.new.ledger group + result.pages ≡ current_of machine.old.ledger group }
+    ensures keeps { Keeps N.frames machine.old machine.new }
+{
+    if want == 0 {
+        return Reclaimed {
+            pages: 0,
+            tried_all: false,
+        };
+    }
+    let first = make_pass(machine, tables, group, want, true);
+    if want <= first {
+        return Reclaimed {
+            pages: first,
+            tried_all: false,
+        };
+    }
+    let pages = first + make_pass(machine, tables, group, want - first, false);
+    Reclaimed {
+        pages,
+        tried_all: pages < want,
+    }
+}

@@ -1,0 +1,54 @@
+//! The units of one list, met one after the other.
+
+ghost use Rattle.std.specs.Prelude.{◌≡◌, ◌<◌, ◌+◌, ◌^◌, ℕ, true, false, IsTrue};
+ghost use Rattle.group_tree.specs.Groups.{in_subtree};
+ghost use Rattle.group_charge.specs.Charges.{current_of};
+ghost use Rattle.lru_lists.specs.declared.record.LruList.TheVariants.{Inactive};
+ghost use Rattle.mem_reclaim.specs.Moves.{Leads};
+ghost use Rattle.mem_reclaim.specs.Units.{ScansList};
+ghost use Rattle.mem_reclaim.specs.Staying.{Keeps, OnlyLeave, IsMissed};
+
+use crate::meet::meet;
+use cpu_part::{BootName, Tables};
+use group_tree::group::GroupId;
+use lru_lists::record::LruList;
+use mem_machine::Machine;
+
+/// Meets the units that stand on one of a group's lists, oldest first, as long as pages are wanted. It tells how many pages came
+/// back. A unit that moves to the list's newest end meanwhile isn't met twice.
+pub(crate) fn scan<N: BootName>(
+    machine: &mut Machine<N>,
+    tables: &Tables<N>,
+    group: GroupId,
+    list: LruList,
+    want: u64,
+    marks_count: bool,
+) -> u64
+    requires fits { want < 2 ^ 40 }
+    requires inactive { IsTrue marks_count → list ≡ Inactive }
+    ensures scans { Leads N.frames result machine.old machine.new (λ steps. ScansList marks_count group list want result machine.old steps machine.new) }
+    ensures keeps { Keeps N.frames machine.old machine.new }
+    ensures usage { (g : ℕ) → in_subtree machine.old.ledger.groups g group ≡ true
+        → current_of machine.new.ledger g + result ≡ current_of machine.old.ledger g }
+    ensures few { result < want + 2 ^ 32 }
+    ensures leaves { marks_count ≡ false → OnlyLeave machine.old machine.new }
+    ensures missed { marks_count ≡ false → result < want → (f : ℕ) → IsMissed machine.old machine.new f (record { owner = group; list = list }) }
+{
+    let _records = machine.spots(); // For the clauses.
+    let units = machine.listed(group, list);
+    let mut next = machine.oldest(group, list);
+    let mut given = 0;
+    for _met in 0..units {
+        if want <= given {
+            return given;
+        }
+        let _spots = machine.spots(); // For the clauses.
+        let Some(unit) = next else { unreachable!() };
+        let Some(frame) = tables.frames.frame(unit.number) else {
+            unreachable!()
+        };
+        next = machine.newer(group, list, frame);
+        given += u64::from(meet(machine, tables, group, list, unit, frame, marks_count));
+    }
+    given
+}
