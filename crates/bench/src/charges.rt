@@ -2,11 +2,24 @@
 ghost use Rattle.std.specs.Prelude.{◌≡◌, IsTrue};
 ghost use Rattle.group_tree.specs.Groups.{has_group};
 
-use crate::costs::{Pace, Row, tell_row};
+use crate::costs::{Pace, Row, Subject, tell_rows};
+use anyhow::Result;
 use group_charge::charges::Charges;
 use group_tree::group::GroupId;
 use std::alloc::Global;
 use std::time::Clock;
+
+// Paths of groups, each of them below the one before.
+const PATHS: [&[u8]; 8] = [
+    b"/d",
+    b"/d/d",
+    b"/d/d/d",
+    b"/d/d/d/d",
+    b"/d/d/d/d/d",
+    b"/d/d/d/d/d/d",
+    b"/d/d/d/d/d/d/d",
+    b"/d/d/d/d/d/d/d/d",
+];
 
 // Charges, and the group that pays.
 #[derive(Drop)]
@@ -17,22 +30,22 @@ struct Payer {
 }
 
 impl Payer {
-    // A group of this depth, which is made with those above it.
-    fn at(alloc: Global, depth: u32) -> anyhow::Result<Payer> {
+    // The group of the last of the paths, of which each is made.
+    fn new(alloc: Global, paths: &[&[u8]]) -> Result<Payer> {
         let mut charges = Charges::new(alloc)?;
         let mut group = GroupId::root();
         // Whoever asks for the tree learns that the root is there.
         let _ = charges.tree();
-        let mut path = Vec::new(alloc);
-        for _ in 0..depth {
-            path.extend_from_slice(b"/d")?;
-            group = charges.make(path.as_slice())?;
+        for path in paths {
+            group = charges.make(path)?;
         }
         Ok(Payer { charges, group })
     }
+}
 
+impl<R> Subject<R> for Payer {
     // Charges a page, after the test that it can be charged at all, and takes it back.
-    fn charge_and_uncharge(&mut self) -> bool {
+    fn call(&mut self, _rt: &R, _number: u32) -> bool {
         if !self.charges.fits(1) || self.charges.try_charge(self.group, 1).is_err() {
             return false;
         }
@@ -42,14 +55,11 @@ impl Payer {
 }
 
 /// Measures the pair at both depths.
-pub fn tell_charges<R: Print + Clock + Alloc<A = Global>>(
-    rt: &R,
-    pace: Pace,
-) -> anyhow::Result<()> {
-    let mut shallow = Payer::at(rt.alloc(), 1)?;
-    let row = Row::of("try_charge and uncharge, depth 1", 1_000_000);
-    tell_row(rt, pace, row, || shallow.charge_and_uncharge())?;
-    let mut deep = Payer::at(rt.alloc(), 8)?;
-    let row = Row::of("try_charge and uncharge, depth 8", 1_000_000);
-    tell_row(rt, pace, row, || deep.charge_and_uncharge())
+pub fn tell_charges<R: Print + Clock + Alloc<A = Global>>(rt: &R, pace: Pace) -> Result<()> {
+    let mut shallow = Payer::new(rt.alloc(), &PATHS[..1])?;
+    let row = Row::new("try_charge and uncharge, depth 1", 0, 1_000_000, 1);
+    tell_rows(rt, pace, 10, &mut [row], &mut shallow)?;
+    let mut deep = Payer::new(rt.alloc(), &PATHS)?;
+    let row = Row::new("try_charge and uncharge, depth 8", 0, 1_000_000, 1);
+    tell_rows(rt, pace, 10, &mut [row], &mut deep)
 }

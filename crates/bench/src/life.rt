@@ -4,9 +4,8 @@ ghost use Rattle.frame_word.specs.Seats.{IsShut, first_zone_view, first_cpu_view
 ghost use Rattle.stock_word.specs.Stock.{first_machine, first_processor};
 
 use crate::costs::Pace;
-use crate::machine::{Visited, tell_blocks, tell_visits};
-use crate::settling::tell_settling;
-use anyhow::anyhow;
+use crate::machine::{Visited, tell_blocks, tell_settling, tell_visits};
+use anyhow::{Context, Result};
 use cpu_part::{BootName, Cpu, Tables};
 use frame_word::{FrameSeat, FrameWords};
 use group_tree::group::GroupId;
@@ -35,14 +34,13 @@ struct Parts {
 }
 
 impl Parts {
-    fn new(alloc: Global, frames: u32) -> anyhow::Result<Parts>
+    fn new(alloc: Global, frames: u32) -> Result<Parts>
         requires { 1 ≤ frames }
     {
         let (frames, zone, mut seats) = FrameWords::new(alloc, frames, 1)?;
         let (stocks, machine, mut payers) = StockWords::new(alloc, 1)?;
-        let (Some(seat), Some(payer)) = (seats.pop(), payers.pop()) else {
-            return Err(anyhow!("no seat"));
-        };
+        let seat = seats.pop().context("no seat")?;
+        let payer = payers.pop().context("no seat")?;
         Ok(Parts {
             frames,
             stocks,
@@ -56,17 +54,23 @@ impl Parts {
 
 impl<N: BootName> Visited<N> {
     // Opens the first visit.
-    fn new(tables: Tables<N>, machine: Machine<N>, cpu: Cpu<N>, group: GroupId) -> Visited<N>
+    fn new(
+        alloc: Global,
+        tables: Tables<N>,
+        mut machine: Machine<N>,
+        mut cpu: Cpu<N>,
+        group: GroupId,
+    ) -> Visited<N>
         requires { IsShut machine.seat cpu.number }
     {
-        let mut machine = machine;
-        let mut cpu = cpu;
         machine.open(&tables, &mut cpu);
         Visited {
             tables,
             machine,
             cpu,
             group,
+            order: Order::of(0).unwrap(),
+            heads: Vec::new(alloc),
         }
     }
 
@@ -87,6 +91,8 @@ fn end<N: BootName, R: Wait>(rt: &R, mut visited: Visited<N>) {
                 machine: _,
                 cpu,
                 group: _,
+                order: _,
+                heads: _,
             } = visited;
             let _ = cpu.into_seats();
             return;
@@ -100,7 +106,7 @@ fn tell_all<N: BootName, R: Print + Clock + Alloc<A = Global>>(
     rt: &R,
     pace: Pace,
     visited: &mut Visited<N>,
-) -> anyhow::Result<()> {
+) -> Result<()> {
     tell_visits(rt, pace, visited)?;
     tell_blocks(rt, pace, visited, Order::of(0).unwrap())?;
     tell_blocks(rt, pace, visited, Order::of(4).unwrap())?;
@@ -112,7 +118,7 @@ fn live<N: BootName, R: Wait + Print + Clock + Alloc<A = Global>>(
     rt: &R,
     pace: Pace,
     parts: Parts,
-) -> anyhow::Result<()>
+) -> Result<()>
     requires { (parts.frames ≡ N.frames) × (parts.stocks ≡ N.stocks) }
 {
     let Parts {
@@ -127,17 +133,14 @@ fn live<N: BootName, R: Wait + Print + Clock + Alloc<A = Global>>(
     let mut machine = Machine::<N>::new(rt.alloc(), &tables, zone, machine)?;
     let group = machine.make(b"/a")?;
     let cpu = Cpu::<N>::new(rt.alloc(), seat, payer)?;
-    let mut visited = Visited::new(tables, machine, cpu, group);
+    let mut visited = Visited::new(rt.alloc(), tables, machine, cpu, group);
     let told = tell_all(rt, pace, &mut visited);
     end(rt, visited);
     told
 }
 
 /// Measures the machine's calls.
-pub fn tell_machine<R: Wait + Print + Clock + Alloc<A = Global>>(
-    rt: &R,
-    pace: Pace,
-) -> anyhow::Result<()> {
+pub fn tell_machine<R: Wait + Print + Clock + Alloc<A = Global>>(rt: &R, pace: Pace) -> Result<()> {
     let parts = Parts::new(rt.alloc(), 1_024)?;
     live::<Brand, R>(rt, pace, parts)
 }

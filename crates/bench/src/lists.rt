@@ -1,5 +1,6 @@
 //! The calls on the lists of one owner, over 65,536 units.
-use crate::costs::{Pace, over, tell_stages};
+use crate::costs::{Pace, Row, Subject, tell_rows};
+use anyhow::Result;
 use lru_lists::links::Links;
 use lru_lists::lru::Lru;
 use rand_core::{Rng, SeedableRng};
@@ -78,6 +79,31 @@ impl Owner {
         self.lru.take_off(&mut self.links, unit);
         true
     }
+
+    fn call(&mut self, number: u32, unit: u32) -> bool {
+        match number {
+            0 => self.add(unit),
+            1 => self.touch(unit),
+            _ => self.take_off(unit),
+        }
+    }
+}
+
+// An owner, and its units in the order in which each call goes over them.
+#[derive(Drop)]
+struct Order {
+    owner: Owner,
+    units: Vec<u32>,
+}
+
+impl<R> Subject<R> for Order {
+    fn call(&mut self, _rt: &R, number: u32) -> bool {
+        let mut all = true;
+        for unit in &self.units {
+            all &= self.owner.call(number, *unit);
+        }
+        all
+    }
 }
 
 // Measures the calls where they go over the units in this order: all are added, touched twice, which marks and then moves
@@ -85,28 +111,24 @@ impl Owner {
 fn tell_order<R: Print + Clock + Alloc<A = Global>>(
     rt: &R,
     pace: Pace,
-    units: &[u32],
     count: u32,
-) -> anyhow::Result<()> {
-    let mut owner = Owner::new(rt.alloc(), count)?;
-    let names = [
-        "  add",
-        "  touch that marks",
-        "  touch that moves",
-        "  take_off",
+    units: Vec<u32>,
+) -> Result<()> {
+    let owner = Owner::new(rt.alloc(), count)?;
+    let mut rows = [
+        Row::new("  add", 0, 1, 65_536),
+        Row::new("  touch that marks", 1, 1, 65_536),
+        Row::new("  touch that moves", 1, 1, 65_536),
+        Row::new("  take_off", 2, 1, 65_536),
     ];
-    tell_stages(rt, pace, names, 10, u64::from(count), |stage| match stage {
-        0 => over(units, |unit| owner.add(unit)),
-        3 => over(units, |unit| owner.take_off(unit)),
-        _ => over(units, |unit| owner.touch(unit)),
-    })
+    tell_rows(rt, pace, 10, &mut rows, &mut Order { owner, units })
 }
 
 /// Measures the calls, each with the test that it may be made, in two orders.
-pub fn tell_lists<R: Print + Clock + Alloc<A = Global>>(rt: &R, pace: Pace) -> anyhow::Result<()> {
+pub fn tell_lists<R: Print + Clock + Alloc<A = Global>>(rt: &R, pace: Pace) -> Result<()> {
     let count = pace.choose(65_536, 64);
     println!(rt; "{count} units, one after the other:")?;
-    tell_order(rt, pace, in_order(rt.alloc(), count)?.as_slice(), count)?;
+    tell_order(rt, pace, count, in_order(rt.alloc(), count)?)?;
     println!(rt; "{count} units in a random order:")?;
-    tell_order(rt, pace, shuffled(rt.alloc(), count)?.as_slice(), count)
+    tell_order(rt, pace, count, shuffled(rt.alloc(), count)?)
 }

@@ -5,9 +5,9 @@ ghost use Rattle.group_charge.specs.Charges.{current_of};
 ghost use Rattle.mem_machine.specs.Machines.{Visits, is_killed};
 ghost use Rattle.mem_machine.specs.Local.{side};
 
-use crate::costs::{Pace, Row, tell_row};
-use anyhow::anyhow;
-use cpu_part::{BootName, Cpu, Tables};
+use crate::costs::{Pace, Row, Subject, tell_rows};
+use anyhow::{Context, Result, ensure};
+use cpu_part::{BootName, Cpu, Fast, Tables};
 use group_tree::group::GroupId;
 use mem_machine::{Machine, Released};
 use std::time::Clock;
@@ -16,23 +16,43 @@ use zone_blocks::order::Order;
 // Frames that go to the list and come back.
 const BATCH: u32 = 64;
 
-/// The machine, and the part of its processor, whose visit is open. The group pays.
+// Fresh frames that are settled together, as many as there can be.
+const FRESH: u32 = 32;
+
+/// The machine, and the part of its processor, whose visit is open. The group pays, for blocks of this order. The heads are
+/// those of fresh frames.
 pub struct Visited<N: BootName> {
     pub tables: Tables<N>,
     pub machine: Machine<N>,
     pub cpu: Cpu<N>,
     pub group: GroupId,
+    pub order: Order,
+    pub heads: Vec<u32>,
     pub ghost visits: { Visits N.frames (side machine cpu) },
 }
 
-/// Whether so many pages may be charged to the group at all: it is there and isn't killed, and they fit.
-pub fn may_charge<N: BootName>(machine: &Machine<N>, group: GroupId, pages: u32) -> bool
+// Whether so many pages may be charged to the group at all: it is there and isn't killed, and they fit.
+fn may_charge<N: BootName>(machine: &Machine<N>, group: GroupId, pages: u32) -> bool
     ensures there { IsTrue result → IsTrue (has_group machine.now.ledger.groups group) }
     ensures alive { IsTrue result → is_killed machine.now.killed group ≡ false }
     ensures fits { IsTrue result → current_of machine.now.ledger 0 + pages < 2 ^ 32 }
 {
     let charges = machine.charges();
     charges.tree().contains(group) && !machine.is_killed(group) && charges.fits(pages)
+}
+
+// Takes the front of the list, which is fresh then.
+fn take_front<N: BootName>(tables: &Tables<N>, cpu: &mut Cpu<N>, group: GroupId) -> Option<u32>
+    ensures { (cpu.new.number ≡ cpu.old.number) × (cpu.new.seat ≡ cpu.old.seat) }
+{
+    match cpu.alloc_fast(tables, group.number()) {
+        Fast::Got(frame) => Some(frame.number()),
+        Fast::FreshFull => None,
+        Fast::ListEmpty => None,
+        Fast::OtherGroup => None,
+        Fast::Drained => None,
+        Fast::NoStock => None,
+    }
 }
 
 impl<N: BootName> Visited<N> {
@@ -43,50 +63,108 @@ impl<N: BootName> Visited<N> {
         true
     }
 
-    // Shuts the visit, opens the next one, and settles the processor.
-    fn shut_open_and_settle(&mut self) -> bool {
-        self.machine.shut(&self.tables, &mut self.cpu);
-        self.machine.open(&self.tables, &mut self.cpu);
+    // Settles the processor.
+    fn settle(&mut self) -> bool {
         self.machine.settle(&self.tables, &mut self.cpu);
         true
     }
 
-    // Refills the list and drains it: all frames go there and back.
-    fn refill_and_drain(&mut self) -> bool {
-        if self.cpu.list_len() + self.cpu.fresh_len() + BATCH as usize > 256 {
+    // Refills the list by so many frames.
+    fn refill(&mut self, frames: u32) -> bool {
+        if self.cpu.list_len() + self.cpu.fresh_len() + frames as usize > 256 {
             return false;
         }
-        self.machine.refill(&self.tables, &mut self.cpu, BATCH) == BATCH
-            && self.machine.drain_list(&self.tables, &mut self.cpu, BATCH) == BATCH
+        self.machine.refill(&self.tables, &mut self.cpu, frames) == frames
     }
 
-    // Takes a block of this order for the group, and tells its first frame.
-    fn take(&mut self, order: Order) -> Option<u32> {
-        let pages = order.frames();
-        if self.cpu.back_len() > 0 || !may_charge(&self.machine, self.group, pages) {
+    // Gives so many frames of the list back.
+    fn drain(&mut self, frames: u32) -> bool {
+        self.machine.drain_list(&self.tables, &mut self.cpu, frames) == frames
+    }
+
+    // Takes a block for the group, and tells its first frame.
+    fn take(&mut self) -> Option<u32> {
+        if self.cpu.back_len() > 0 || !may_charge(&self.machine, self.group, self.order.frames()) {
             return None;
         }
-        let head = self
+        let taken = self
             .machine
-            .take_block(&self.tables, &mut self.cpu, self.group, order)
-            .ok()?;
-        Some(head.number())
+            .take_block(&self.tables, &mut self.cpu, self.group, self.order);
+        Some(taken.ok()?.number())
     }
 
-    /// Releases the kept unit of this head, which comes back.
-    pub fn release(&mut self, head: u32) -> bool {
-        let Some(head) = self.tables.frames.frame(head) else {
-            return false;
-        };
-        self.machine.is_kept(head)
-            && self.machine.release(&self.tables, &self.cpu, head) == Released::Returned
+    // Releases the kept unit of this head, which comes back.
+    fn release(&mut self, head: u32) -> bool {
+        match self.tables.frames.frame(head) {
+            Some(head) if self.machine.is_kept(head) => {
+                self.machine.release(&self.tables, &self.cpu, head) == Released::Returned
+            }
+            _ => false,
+        }
     }
 
-    // Takes a block of this order and releases it.
-    fn take_and_release(&mut self, order: Order) -> bool {
-        match self.take(order) {
+    // Takes a block and releases it.
+    fn take_and_release(&mut self) -> bool {
+        match self.take() {
             Some(head) => self.release(head),
             None => false,
+        }
+    }
+
+    // Pays for the frames that are settled together.
+    fn prepay(&mut self) -> bool {
+        if self.cpu.fresh_len() > 0 || !may_charge(&self.machine, self.group, FRESH) {
+            return false;
+        }
+        let paid = self
+            .machine
+            .prepay(&self.tables, &mut self.cpu, self.group, FRESH);
+        paid.is_ok()
+    }
+
+    // Takes the next frame of the list.
+    fn freshen(&mut self) -> Option<u32> {
+        take_front(&self.tables, &mut self.cpu, self.group)
+    }
+
+    // Takes the frames of the list, which are the heads then.
+    fn freshen_all(&mut self) -> bool {
+        self.heads.clear();
+        for _ in 0..FRESH {
+            let Some(head) = self.freshen() else {
+                return false;
+            };
+            if self.heads.push(head).is_err() {
+                return false;
+            }
+        }
+        true
+    }
+
+    // Releases the units of all heads.
+    fn release_all(&mut self) -> bool {
+        let mut all = true;
+        for _ in 0..FRESH {
+            match self.heads.pop() {
+                Some(head) => all &= self.release(head),
+                None => return false,
+            }
+        }
+        all
+    }
+}
+
+impl<N: BootName, R> Subject<R> for Visited<N> {
+    fn call(&mut self, _rt: &R, number: u32) -> bool {
+        match number {
+            0 => self.shut_and_open(),
+            1 => self.shut_and_open() && self.settle(),
+            2 => self.refill(BATCH) && self.drain(BATCH),
+            3 => self.take_and_release(),
+            4 => self.prepay() && self.refill(FRESH),
+            5 => self.freshen_all(),
+            6 => self.settle(),
+            _ => self.release_all(),
         }
     }
 }
@@ -96,17 +174,23 @@ pub fn tell_visits<N: BootName, R: Print + Clock>(
     rt: &R,
     pace: Pace,
     visited: &mut Visited<N>,
-) -> anyhow::Result<()> {
-    let row = Row::of("open and shut", 100_000);
-    tell_row(rt, pace, row, || visited.shut_and_open())?;
-    let row = Row::of("open, settle with nothing to settle, and shut", 100_000);
-    tell_row(rt, pace, row, || visited.shut_open_and_settle())?;
-    let row = Row {
-        name: "refill and drain_list of 64 frames, a frame",
-        calls: 2_000,
-        parts: 64,
-    };
-    tell_row(rt, pace, row, || visited.refill_and_drain())
+) -> Result<()> {
+    let mut rows = [
+        Row::new("open and shut", 0, 100_000, 1),
+        Row::new(
+            "open, settle with nothing to settle, and shut",
+            1,
+            100_000,
+            1,
+        ),
+        Row::new(
+            "refill and drain_list of 64 frames, a frame",
+            2,
+            2_000,
+            BATCH,
+        ),
+    ];
+    tell_rows(rt, pace, 10, &mut rows, visited)
 }
 
 /// Measures a block of this order that is taken and released: where all frames are free, so that blocks of all higher orders
@@ -116,17 +200,30 @@ pub fn tell_blocks<N: BootName, R: Print + Clock>(
     pace: Pace,
     visited: &mut Visited<N>,
     order: Order,
-) -> anyhow::Result<()> {
+) -> Result<()> {
     println!(rt; "take_block and release, order {}:", order.exponent())?;
-    let row = Row::of("  all frames free", 100_000);
-    tell_row(rt, pace, row, || visited.take_and_release(order))?;
-    let buddy = visited
-        .take(order)
-        .ok_or(anyhow!("the buddy was not taken"))?;
-    let row = Row::of("  its buddy in use", 100_000);
-    tell_row(rt, pace, row, || visited.take_and_release(order))?;
-    if !visited.release(buddy) {
-        return Err(anyhow!("the buddy did not come back"));
-    }
+    visited.order = order;
+    let row = Row::new("  all frames free", 3, 100_000, 1);
+    tell_rows(rt, pace, 10, &mut [row], visited)?;
+    let buddy = visited.take().context("the buddy was not taken")?;
+    let row = Row::new("  its buddy in use", 3, 100_000, 1);
+    tell_rows(rt, pace, 10, &mut [row], visited)?;
+    ensure!(visited.release(buddy), "the buddy did not come back");
     Ok(())
+}
+
+/// Measures fresh frames that are settled, which makes them kept units, and are released then.
+pub fn tell_settling<N: BootName, R: Print + Clock>(
+    rt: &R,
+    pace: Pace,
+    visited: &mut Visited<N>,
+) -> Result<()> {
+    println!(rt; "32 frames, a frame:")?;
+    let mut rows = [
+        Row::new("  prepay and refill", 4, 1, FRESH),
+        Row::new("  alloc_fast", 5, 1, FRESH),
+        Row::new("  settle of fresh frames", 6, 1, FRESH),
+        Row::new("  release", 7, 1, FRESH),
+    ];
+    tell_rows(rt, pace, 10_000, &mut rows, visited)
 }

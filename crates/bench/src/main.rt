@@ -12,23 +12,26 @@ mod pins;
 mod prepaid;
 mod references;
 mod script;
-mod settling;
 mod system;
 mod tables;
 mod zone;
 
 use crate::costs::Pace;
-use crate::tables::{Table, tell_all, tell_table};
+use crate::tables::{TABLES, table_named, tell_table};
+use anyhow::Result;
 use std::env;
 
-fn main(rt: HostRuntime) -> anyhow::Result<()> {
+fn main(rt: HostRuntime) -> Result<()> {
     let mut words = env::args(&rt)?.skip(1).peekable();
     if words.peek().is_none() {
-        return tell_all(&rt, Pace::Quick);
+        for (_, table) in TABLES {
+            tell_table(&rt, table, Pace::Quick)?;
+        }
+        return Ok(());
     }
     let unit = references::measure_unit(&rt)?;
     for word in words {
-        match Table::named(word.as_str()) {
+        match table_named(word.as_str()) {
             Some(table) => tell_table(&rt, table, Pace::Timed { unit })?,
             None => println!(rt;
                 "{word}: no table; there are references, prepaid, lists, charges, zone, machine, system and script"

@@ -1,106 +1,131 @@
 //! Pairs of `get` and `put` of a processor that has pins.
 ghost use Rattle.std.specs.Prelude.{◌≡◌, ◌<◌, ◌≤◌, IfSome};
 
-use crate::costs::{Pace, Row, tell_row};
-use anyhow::anyhow;
+use crate::costs::{Pace, Row, Subject, tell_rows};
+use crate::system::{alloc, settle};
+use anyhow::{Result, ensure};
 use cpu_part::{BootName, Cpu, Tables};
 use frame_word::{Frame, Get};
+use mem_system::System;
+use std::sync::Wait;
 use std::time::Clock;
 
-// Gets the frame and puts it, which is the newest pin.
-fn newest<N: BootName>(tables: &Tables<N>, cpu: &mut Cpu<N>, frame: Frame) -> bool
-    requires { frame < N.frames.frames }
-{
-    if cpu.get(tables, frame) != Ok(Get::Held) {
-        return false;
+// A processor that has pins, and three frames in use.
+#[derive(Drop)]
+struct Pinned<'a, N: BootName> {
+    tables: &'a Tables<N>,
+    cpu: &'a mut Cpu<N>,
+    first: Frame,
+    other: Frame,
+    last: Frame,
+    ghost inside: { (first < N.frames.frames) × (other < N.frames.frames) × (last < N.frames.frames) },
+}
+
+impl<'a, N: BootName> Pinned<'a, N> {
+    // Gets the frame, if it is held.
+    fn get(&mut self, frame: Frame) -> bool
+        requires { frame < N.frames.frames }
+    {
+        self.cpu.get(self.tables, frame) == Ok(Get::Held)
     }
-    cpu.put(tables, frame);
-    true
-}
 
-// Gets the frame and puts the pin that stands first, which is sought longest: that one's frame.
-fn oldest<N: BootName>(tables: &Tables<N>, cpu: &mut Cpu<N>, frame: Frame) -> Option<Frame>
-    requires { frame < N.frames.frames }
-    ensures { IfSome result (λ first. first < N.frames.frames) }
-{
-    if cpu.get(tables, frame) != Ok(Get::Held) {
-        return None;
+    // Pins the first frame once, and the other so often that there are so many pins but one.
+    fn pin(&mut self, pins: usize) -> bool {
+        let mut all = self.get(self.first);
+        for _ in 2..pins {
+            all &= self.get(self.other);
+        }
+        all
     }
-    let first = cpu.first_pin()?;
-    cpu.put(tables, first);
-    Some(first)
-}
 
-// Does so twice: what was put first is got next.
-fn oldest_twice<N: BootName>(tables: &Tables<N>, cpu: &mut Cpu<N>, frame: Frame) -> bool
-    requires { frame < N.frames.frames }
-{
-    let Some(next) = oldest(tables, cpu, frame) else {
-        return false;
-    };
-    oldest(tables, cpu, next).is_some()
-}
+    // Lets go of the pin that stands first, which is sought longest. It tells its frame.
+    fn put_first(&mut self) -> Option<Frame>
+        ensures { IfSome result (λ first. first < N.frames.frames) }
+    {
+        let first = self.cpu.first_pin()?;
+        self.cpu.put(self.tables, first);
+        Some(first)
+    }
 
-// Pins the frame so many times.
-fn pin<N: BootName>(tables: &Tables<N>, cpu: &mut Cpu<N>, frame: Frame, count: usize)
-    requires { frame < N.frames.frames }
-{
-    for _ in 0..count {
-        let _ = cpu.get(tables, frame);
+    // Lets go of all pins.
+    fn unpin(&mut self) {
+        for _ in 0..self.cpu.pins() {
+            let _ = self.put_first();
+        }
+    }
+
+    // Gets the frame and puts it, which is the newest pin.
+    fn newest(&mut self, frame: Frame) -> bool
+        requires { frame < N.frames.frames }
+    {
+        if self.cpu.get(self.tables, frame) != Ok(Get::Held) {
+            return false;
+        }
+        self.cpu.put(self.tables, frame);
+        true
+    }
+
+    // Gets the frame and puts the pin that stands first: that one's frame.
+    fn oldest(&mut self, frame: Frame) -> Option<Frame>
+        requires { frame < N.frames.frames }
+        ensures { IfSome result (λ first. first < N.frames.frames) }
+    {
+        if !self.get(frame) {
+            return None;
+        }
+        self.put_first()
     }
 }
 
-/// Lets go of all pins.
-pub fn unpin<N: BootName>(tables: &Tables<N>, cpu: &mut Cpu<N>) {
-    for _ in 0..cpu.pins() {
-        if let Some(frame) = cpu.first_pin() {
-            cpu.put(tables, frame);
+impl<'a, N: BootName, R> Subject<R> for Pinned<'a, N> {
+    // The newest pin; or twice the one that stands first: what was put first is got next.
+    fn call(&mut self, _rt: &R, number: u32) -> bool {
+        if number == 0 {
+            return self.newest(self.last);
+        }
+        match self.oldest(self.last) {
+            Some(next) => self.oldest(next).is_some(),
+            None => false,
         }
     }
 }
 
-/// Measures pairs of a processor with so many pins, counted between a get and its put: of the newest, and of the one that is
-/// sought longest. The frames are three.
-pub fn tell_pins<N: BootName, R: Print + Clock>(
+// Measures pairs of a processor with so many pins, counted between a get and its put.
+fn tell_pins<N: BootName, R: Print + Clock>(
     rt: &R,
     pace: Pace,
-    tables: &Tables<N>,
-    cpu: &mut Cpu<N>,
-    frames: &(Frame, Frame, Frame),
+    pinned: &mut Pinned<'_, N>,
     pins: usize,
-) -> anyhow::Result<()>
-    requires frames { (frames.now.0 < N.frames.frames) × (frames.now.1 < N.frames.frames) × (frames.now.2 < N.frames.frames) }
-    requires pins { 2 ≤ pins }
-{
-    let (first, other, last) = *frames;
-    pin(tables, cpu, first, 1);
-    pin(tables, cpu, other, pins - 2);
-    if cpu.pins() != pins - 1 {
-        return Err(anyhow!("a pin is wanting"));
-    }
+) -> Result<()> {
+    ensure!(pinned.pin(pins), "a pin is wanting");
     println!(rt; "get and put of a processor with {pins} pins:")?;
-    let row = Row::of("  the newest pin", 1_000_000);
-    tell_row(
-        rt,
-        pace,
-        row,
-        ||
-            requires { last < N.frames.frames }
-        { newest(tables, cpu, last) },
-    )?;
-    let row = Row {
-        name: "  the pin that is sought longest",
-        calls: 500_000,
-        parts: 2,
-    };
-    tell_row(
-        rt,
-        pace,
-        row,
-        ||
-            requires { last < N.frames.frames }
-        { oldest_twice(tables, cpu, last) },
-    )?;
-    unpin(tables, cpu);
+    let mut rows = [
+        Row::new("  the newest pin", 0, 1_000_000, 1),
+        Row::new("  the pin that is sought longest", 1, 500_000, 2),
+    ];
+    tell_rows(rt, pace, 10, &mut rows, pinned)?;
+    pinned.unpin();
     Ok(())
+}
+
+/// Measures references of one processor, on three frames that are in use.
+pub fn tell_references<N: BootName, R: Wait + Print + Clock>(
+    rt: &R,
+    pace: Pace,
+    system: &System<N>,
+    cpu: &mut Cpu<N>,
+) -> Result<()> {
+    let first = alloc(rt, system, cpu)?;
+    let other = alloc(rt, system, cpu)?;
+    let last = alloc(rt, system, cpu)?;
+    settle(rt, system, cpu, 1);
+    let mut pinned = Pinned {
+        tables: system.tables(),
+        cpu,
+        first,
+        other,
+        last,
+    };
+    tell_pins(rt, pace, &mut pinned, 8)?;
+    tell_pins(rt, pace, &mut pinned, 256)
 }

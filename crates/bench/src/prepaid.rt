@@ -3,14 +3,17 @@
 ghost use Rattle.std.specs.Prelude.{◌≡◌, ◌<◌};
 ghost use Rattle.stock_word.specs.Stock.{IsProcessor};
 
-use crate::costs::{Pace, Row, each, tell, tell_row};
-use anyhow::anyhow;
-use cpu_part::{BootName, Cpu, Dropped, Fast, Tables};
+use crate::costs::{Pace, Row, Subject, tell_rows};
+use crate::system::{alloc, settle};
+use anyhow::{Context, Result, ensure};
+use cpu_part::{BootName, Cpu, Fast, Tables};
 use group_tree::group::GroupId;
+use mem_system::System;
 use std::alloc::Global;
+use std::sync::Wait;
 use std::thread;
 use std::thread::Threads;
-use std::time::{Clock, Instant};
+use std::time::{Clock, Duration, Instant};
 use stock_word::{Consume, Credit, StockSeat, StockWords};
 
 // A processor's seat, whose stock is filled.
@@ -23,30 +26,30 @@ struct Payer {
 }
 
 impl Payer {
-    fn new(alloc: Global) -> anyhow::Result<Payer> {
+    fn new(alloc: Global) -> Result<Payer> {
         let (words, mut machine, mut seats) = StockWords::new(alloc, 1)?;
-        let Some(mut seat) = seats.pop() else {
-            return Err(anyhow!("no seat"));
-        };
+        let mut seat = seats.pop().context("no seat")?;
         words.fill(&mut machine, &mut seat, 1, 50);
         Ok(Payer { words, seat })
     }
+}
 
-    fn consume_and_credit(&mut self) -> bool {
+impl<R> Subject<R> for Payer {
+    fn call(&mut self, _rt: &R, _number: u32) -> bool {
         self.words.consume(&mut self.seat, 1) == Consume::Took
             && self.words.credit(&mut self.seat) == Credit::Back
     }
 }
 
 /// Measures a pair on the words.
-pub fn tell_words<R: Print + Clock + Alloc<A = Global>>(rt: &R, pace: Pace) -> anyhow::Result<()> {
+pub fn tell_words<R: Print + Clock + Alloc<A = Global>>(rt: &R, pace: Pace) -> Result<()> {
     let mut payer = Payer::new(rt.alloc())?;
-    let row = Row::of("consume and credit", 1_000_000);
-    tell_row(rt, pace, row, || payer.consume_and_credit())
+    let row = Row::new("consume and credit", 0, 1_000_000, 1);
+    tell_rows(rt, pace, 10, &mut [row], &mut payer)
 }
 
 // Takes the front of the list and drops it so many times, if that goes.
-fn pairs<N: BootName>(tables: &Tables<N>, cpu: &mut Cpu<N>, group: GroupId, count: u64) {
+fn pairs<N: BootName>(tables: &Tables<N>, cpu: &mut Cpu<N>, group: GroupId, count: u32) {
     for _ in 0..count {
         if let Fast::Got(frame) = cpu.alloc_fast(tables, group.number()) {
             let _ = cpu.drop_fresh(tables, frame);
@@ -54,50 +57,66 @@ fn pairs<N: BootName>(tables: &Tables<N>, cpu: &mut Cpu<N>, group: GroupId, coun
     }
 }
 
-// The least that a pair costs each of these processors, side by side.
-fn time_threads<N: BootName + Send + Sync, R: Threads + Clock + Sync>(
+// The time of so many pairs of these processors, side by side.
+fn time_pairs<N: BootName + Send + Sync, R: Threads + Clock + Sync>(
+    rt: &R,
+    tables: &Tables<N>,
+    cpus: &mut [Cpu<N>],
+    group: GroupId,
+    count: u32,
+) -> Result<Duration> {
+    let start = Instant::now(rt)?;
+    thread::for_each_mut(
+        rt,
+        cpus,
+        4,
+        &|_, cpu: &mut Cpu<N>| pairs(tables, cpu, group, count),
+    );
+    Ok(start.elapsed(rt)?)
+}
+
+// Measures the pairs of so many processors.
+fn tell_pairs<N: BootName + Send + Sync, R: Threads + Print + Clock + Sync>(
     rt: &R,
     pace: Pace,
     tables: &Tables<N>,
     cpus: &mut [Cpu<N>],
     group: GroupId,
-) -> anyhow::Result<u128> {
+) -> Result<()> {
     let count = pace.choose(1_000_000, 2);
-    let mut least = u128::MAX;
+    let mut row = Row::new("alloc_fast and drop_fresh", 0, 1_000_000, 1);
     for _ in 0..pace.choose(10, 1) {
-        let start = Instant::now(rt)?;
-        thread::for_each_mut(
-            rt,
-            cpus,
-            4,
-            &|_, cpu: &mut Cpu<N>| pairs(tables, cpu, group, count),
-        );
-        least = least.min(each(start.elapsed(rt)?, count));
+        row.note(time_pairs(rt, tables, cpus, group, count)?);
     }
-    Ok(least)
+    row.tell(rt, pace)
+}
+
+// Gives the processor frames on its list and prepaid pages of the group of depth 1.
+fn supply<N: BootName, R: Wait>(rt: &R, system: &System<N>, cpus: &mut [Cpu<N>]) -> Result<()> {
+    for cpu in cpus.iter_mut() {
+        alloc(rt, system, cpu)?;
+        settle(rt, system, cpu, 1);
+    }
+    Ok(())
 }
 
 /// Measures the pairs of one, two and four processors. Each has a frame on its list, and a page of the group in its stock.
-pub fn tell_threads<N: BootName + Send + Sync, R: Threads + Print + Clock + Sync>(
+pub fn tell_threads<N: BootName + Send + Sync, R: Threads + Wait + Print + Clock + Sync>(
     rt: &R,
     pace: Pace,
-    tables: &Tables<N>,
+    system: &System<N>,
     cpus: &mut [Cpu<N>],
     group: GroupId,
-) -> anyhow::Result<()> {
+) -> Result<()> {
+    supply(rt, system, cpus)?;
     for threads in [1, 2, 4] {
-        let Some(part) = cpus.get_mut(..threads) else {
-            return Err(anyhow!("too few processors"));
-        };
-        let cost = time_threads(rt, pace, tables, part, group)?;
-        tell(rt, pace, "alloc_fast and drop_fresh", cost)?;
+        let part = cpus.get_mut(..threads).context("too few processors")?;
+        tell_pairs(rt, pace, system.tables(), part, group)?;
         println!(rt; "  threads: {threads}")?;
     }
-    if cpus
-        .iter()
-        .any(|cpu| cpu.drops() < pace.choose(10_000_000, 2))
-    {
-        return Err(anyhow!("a frame was not listed again"));
+    for cpu in cpus.iter() {
+        let drops = u64::from(pace.choose(10_000_000, 2));
+        ensure!(cpu.drops() >= drops, "a frame was not listed again");
     }
     Ok(())
 }

@@ -1,8 +1,8 @@
 //! The unit: a pair of `get` and `put` on the word of one frame, by one thread.
 ghost use Rattle.std.specs.Prelude.{◌≡◌, ◌<◌};
 
-use crate::costs::{Pace, tell, time};
-use anyhow::anyhow;
+use crate::costs::{Pace, Row, Subject};
+use anyhow::{Context, Result};
 use frame_word::{Frame, FrameSeat, FrameWords, Get};
 use std::alloc::Global;
 use std::time::Clock;
@@ -18,14 +18,16 @@ struct Held {
 }
 
 impl Held {
-    fn new(alloc: Global) -> anyhow::Result<Held> {
+    fn new(alloc: Global) -> Result<Held> {
         let (words, mut seat, _cpus) = FrameWords::new(alloc, 64, 1)?;
-        let frame = words.frame(0).ok_or(anyhow!("no frame"))?;
+        let frame = words.frame(0).context("no frame")?;
         words.unfreeze(&mut seat, frame, 1);
         Ok(Held { words, seat, frame })
     }
+}
 
-    fn get_and_put(&mut self) -> bool {
+impl<R> Subject<R> for Held {
+    fn call(&mut self, _rt: &R, _number: u32) -> bool {
         if self.words.get(&mut self.seat, self.frame) != Get::Held {
             return false;
         }
@@ -34,10 +36,15 @@ impl Held {
     }
 }
 
-/// Measures the unit, and tells it.
-pub fn measure_unit<R: Print + Clock + Alloc<A = Global>>(rt: &R) -> anyhow::Result<u128> {
+/// Measures the unit in nanoseconds, and tells it.
+pub fn measure_unit<R: Print + Clock + Alloc<A = Global>>(rt: &R) -> Result<f64> {
     let mut held = Held::new(rt.alloc())?;
-    let unit = time(rt, 10, 1_000_000, || held.get_and_put())?;
-    tell(rt, Pace::Timed { unit }, "get and put", unit)?;
+    let mut row = Row::new("get and put", 0, 1_000_000, 1);
+    let pace = Pace::Timed { unit: 1.0 };
+    for _ in 0..10 {
+        row.run(rt, pace, &mut held)?;
+    }
+    let unit = row.cost();
+    row.tell(rt, Pace::Timed { unit })?;
     Ok(unit)
 }

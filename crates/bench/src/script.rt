@@ -1,12 +1,13 @@
 //! Lines of a script that are parsed.
 
-use crate::costs::{Pace, Row, tell_row};
+use crate::costs::{Pace, Row, Subject, tell_rows};
+use anyhow::Result;
 use script_lines::script::parse_script;
 use std::alloc::Global;
 use std::time::Clock;
 use zone_sizes::config::Config;
 
-// A line for each command.
+// A line for each command: 16 lines.
 const LINES: &[u8] = b"1 mkdir /a
 1 rmdir /a
 1 write /a memory.max 4096
@@ -25,9 +26,6 @@ const LINES: &[u8] = b"1 mkdir /a
 1 show
 ";
 
-// The lines that stand there.
-const COUNT: u64 = 16;
-
 const SIZES: Config = Config {
     frames: 16,
     cpus: 2,
@@ -36,26 +34,33 @@ const SIZES: Config = Config {
     stock: 4,
 };
 
-// Parses the text, which has so many lines.
-fn parse(alloc: Global, text: &[u8], lines: u64) -> bool {
-    match parse_script(alloc, text, &SIZES) {
-        Ok(parsed) => parsed.len() as u64 == lines,
-        Err(_) => false,
+// A text of so many lines.
+#[derive(Drop)]
+struct Script {
+    text: Vec<u8>,
+    lines: u32,
+}
+
+impl<R: Alloc<A = Global>> Subject<R> for Script {
+    // Parses the text.
+    fn call(&mut self, rt: &R, _number: u32) -> bool {
+        match parse_script(rt.alloc(), &self.text, &SIZES) {
+            Ok(parsed) => parsed.len() == self.lines as usize,
+            Err(_) => false,
+        }
     }
 }
 
 /// Measures a line of a script of 64,000.
-pub fn tell_script<R: Print + Clock + Alloc<A = Global>>(rt: &R, pace: Pace) -> anyhow::Result<()> {
-    let copies = pace.choose(4_000, 1);
-    let mut text = Vec::new(rt.alloc());
-    for _ in 0..copies {
-        text.extend_from_slice(LINES)?;
-    }
-    let lines = COUNT.saturating_mul(copies);
-    let row = Row {
-        name: "a line of a script, parsed",
-        calls: 10,
-        parts: lines,
+pub fn tell_script<R: Print + Clock + Alloc<A = Global>>(rt: &R, pace: Pace) -> Result<()> {
+    let mut script = Script {
+        text: Vec::new(rt.alloc()),
+        lines: 0,
     };
-    tell_row(rt, pace, row, || parse(rt.alloc(), text.as_slice(), lines))
+    for _ in 0..pace.choose(4_000, 1) {
+        script.text.extend_from_slice(LINES)?;
+        script.lines = script.lines.saturating_add(16);
+    }
+    let row = Row::new("a line of a script, parsed", 0, 10, 64_000);
+    tell_rows(rt, pace, 10, &mut [row], &mut script)
 }

@@ -1,11 +1,11 @@
 //! What is measured on a system: commands that take the zone's lock, and what its processors do without it.
-ghost use Rattle.std.specs.Prelude.{◌≡◌, ◌<◌, length, IfSome};
+ghost use Rattle.std.specs.Prelude.{◌≡◌, ◌<◌, length, IfOk};
 
-use crate::costs::{Pace, Row, each, tell, tell_row};
-use crate::pins::tell_pins;
+use crate::costs::{Pace, Row, Subject, tell_rows};
+use crate::pins::tell_references;
 use crate::prepaid::tell_threads;
 use crate::tables::Table;
-use anyhow::anyhow;
+use anyhow::{Context, Result, bail};
 use cpu_part::{BootName, Cpu};
 use frame_word::Frame;
 use group_tree::group::GroupId;
@@ -14,7 +14,7 @@ use std::alloc::Global;
 use std::marker::Brand;
 use std::sync::Wait;
 use std::thread::Threads;
-use std::time::{Clock, Instant};
+use std::time::{Clock, Duration, Instant};
 use zone_sizes::config::Config;
 
 // The sizes of the system on which calls are measured.
@@ -37,7 +37,17 @@ const BIG: Config = Config {
 
 const SHALLOW: &[u8] = b"/a";
 
-const DEEP: &[u8] = b"/d/d/d/d/d/d/d/d";
+// Paths of groups, each of them below the one before.
+const PATHS: [&[u8]; 8] = [
+    b"/d",
+    b"/d/d",
+    b"/d/d/d",
+    b"/d/d/d/d",
+    b"/d/d/d/d/d",
+    b"/d/d/d/d/d/d",
+    b"/d/d/d/d/d/d/d",
+    b"/d/d/d/d/d/d/d/d",
+];
 
 // Makes the group of the path.
 fn make<N: BootName, R: Wait>(
@@ -45,36 +55,31 @@ fn make<N: BootName, R: Wait>(
     system: &System<N>,
     cpu: &mut Cpu<N>,
     path: &[u8],
-) -> anyhow::Result<GroupId> {
+) -> Result<GroupId> {
     match system.visit(rt, cpu, &Cmd::Mkdir { path }) {
         Reply::Group(group) => Ok(group),
-        _ => Err(anyhow!("a group was not made")),
+        _ => bail!("a group was not made"),
     }
 }
 
-// Allocates one frame for the group of the path.
-fn alloc<N: BootName, R: Wait>(
-    rt: &R,
-    system: &System<N>,
-    cpu: &mut Cpu<N>,
-    path: &[u8],
-) -> Option<Frame>
-    ensures { IfSome result (λ f. f < N.frames.frames) }
+// Makes the group of depth 1, and then that of depth 8 with those above it. It tells the first.
+fn make_all<N: BootName, R: Wait>(rt: &R, system: &System<N>, cpu: &mut Cpu<N>) -> Result<GroupId> {
+    for path in PATHS {
+        make(rt, system, cpu, path)?;
+    }
+    make(rt, system, cpu, SHALLOW)
+}
+
+/// Allocates one frame for the group of depth 1.
+pub fn alloc<N: BootName, R: Wait>(rt: &R, system: &System<N>, cpu: &mut Cpu<N>) -> Result<Frame>
+    ensures { IfOk result (λ f. f < N.frames.frames) }
 {
-    let Reply::Frame(number) = system.visit(rt, cpu, &Cmd::Alloc { path, order: 0 }) else {
-        return None;
+    let path = SHALLOW;
+    let number = match system.visit(rt, cpu, &Cmd::Alloc { path, order: 0 }) {
+        Reply::Frame(number) => number,
+        _ => bail!("a frame was not allocated"),
     };
-    system.tables().frames.frame(number)
-}
-
-// Settles so many times, where there is nothing to settle.
-fn settle<N: BootName, R: Wait>(rt: &R, system: &System<N>, cpu: &mut Cpu<N>, count: u64) -> bool {
-    for _ in 0..count {
-        let Reply::Done = system.visit(rt, cpu, &Cmd::Settle) else {
-            return false;
-        };
-    }
-    true
+    system.tables().frames.frame(number).context("no frame")
 }
 
 // Allocates one frame for the group of the path and releases it.
@@ -103,7 +108,7 @@ fn alloc_and_release_all<N: BootName, R: Wait>(
     system: &System<N>,
     cpu: &mut Cpu<N>,
     path: &[u8],
-    count: u64,
+    count: u32,
 ) -> bool {
     let mut all = true;
     for _ in 0..count {
@@ -112,88 +117,75 @@ fn alloc_and_release_all<N: BootName, R: Wait>(
     all
 }
 
-// Measures commands of one processor, for a group of depth 1 and for one of depth 8. A function pays at its begin for the room of
-// the replies in it, so one makes all calls that are timed together; and a reply is matched, since to compare it writes it whole.
+/// Settles so many times.
+pub fn settle<N: BootName, R: Wait>(
+    rt: &R,
+    system: &System<N>,
+    cpu: &mut Cpu<N>,
+    count: u32,
+) -> bool {
+    for _ in 0..count {
+        let Reply::Done = system.visit(rt, cpu, &Cmd::Settle) else {
+            return false;
+        };
+    }
+    true
+}
+
+// Commands of one processor, of which so many are timed together.
+#[derive(Drop)]
+struct Visits<'a, N: BootName> {
+    system: &'a System<N>,
+    cpu: &'a mut Cpu<N>,
+    together: u32,
+}
+
+// A function pays at its begin for the room of the replies in it, so one makes all commands
+// that are timed together; and a reply is matched, since to compare it writes it whole.
+impl<'a, N: BootName, R: Wait> Subject<R> for Visits<'a, N> {
+    fn call(&mut self, rt: &R, number: u32) -> bool {
+        match number {
+            0 => settle(rt, self.system, self.cpu, self.together),
+            1 => alloc_and_release_all(rt, self.system, self.cpu, SHALLOW, self.together),
+            _ => alloc_and_release_all(rt, self.system, self.cpu, PATHS[7], self.together),
+        }
+    }
+}
+
+// Measures commands of one processor.
 fn tell_visits<N: BootName, R: Wait + Print + Clock>(
     rt: &R,
     pace: Pace,
     system: &System<N>,
     cpu: &mut Cpu<N>,
-) -> anyhow::Result<()> {
-    for names in 1..9 {
-        make(rt, system, cpu, &DEEP[..2 * names])?;
-    }
-    let count = pace.choose(100_000, 2);
-    let row = Row::together("settle, with nothing to settle", count);
-    tell_row(rt, pace, row, || settle(rt, system, cpu, count))?;
-    let row = Row::together("alloc of order 0 and release, at depth 1", count);
-    tell_row(
-        rt,
-        pace,
-        row,
-        || alloc_and_release_all(rt, system, cpu, SHALLOW, count),
-    )?;
-    let row = Row::together("alloc of order 0 and release, at depth 8", count);
-    tell_row(
-        rt,
-        pace,
-        row,
-        || alloc_and_release_all(rt, system, cpu, DEEP, count),
-    )
-}
-
-// Measures references of one processor, on three frames that are in use.
-fn tell_references<N: BootName, R: Wait + Print + Clock>(
-    rt: &R,
-    pace: Pace,
-    system: &System<N>,
-    cpu: &mut Cpu<N>,
-) -> anyhow::Result<()> {
-    let (Some(first), Some(other), Some(last)) = (
-        alloc(rt, system, cpu, SHALLOW),
-        alloc(rt, system, cpu, SHALLOW),
-        alloc(rt, system, cpu, SHALLOW),
-    ) else {
-        return Err(anyhow!("a frame was not allocated"));
+) -> Result<()> {
+    let mut rows = [
+        Row::new("settle, with nothing to settle", 0, 1, 100_000),
+        Row::new("alloc of order 0 and release, at depth 1", 1, 1, 100_000),
+        Row::new("alloc of order 0 and release, at depth 8", 2, 1, 100_000),
+    ];
+    let together = pace.choose(100_000, 2);
+    let mut visits = Visits {
+        system,
+        cpu,
+        together,
     };
-    settle(rt, system, cpu, 1);
-    let frames = (first, other, last);
-    tell_pins(rt, pace, system.tables(), cpu, &frames, 8)?;
-    tell_pins(rt, pace, system.tables(), cpu, &frames, 256)
+    tell_rows(rt, pace, 10, &mut rows, &mut visits)
 }
 
-// Gives each processor frames on its list and prepaid pages of the group, and measures what they do with these.
-fn tell_prepaid<N: BootName + Send + Sync, R: Threads + Wait + Print + Clock + Sync>(
-    rt: &R,
-    pace: Pace,
-    system: &System<N>,
-    cpus: &mut [Cpu<N>],
-    group: GroupId,
-) -> anyhow::Result<()> {
-    for cpu in cpus.iter_mut() {
-        if alloc(rt, system, cpu, SHALLOW).is_none() {
-            return Err(anyhow!("a frame was not allocated"));
-        }
-        settle(rt, system, cpu, 1);
-    }
-    tell_threads(rt, pace, system.tables(), cpus, group)
-}
-
-// Measures the rows of the table, after the group of depth 1 was made.
+// Measures the rows of the table.
 fn tell_on<N: BootName + Send + Sync, R: Threads + Wait + Print + Clock + Sync>(
     rt: &R,
     pace: Pace,
     table: Table,
     system: &System<N>,
     cpus: &mut [Cpu<N>],
-) -> anyhow::Result<()> {
-    let Some(cpu) = cpus.first_mut() else {
-        return Err(anyhow!("no processor"));
-    };
-    let group = make(rt, system, cpu, SHALLOW)?;
+) -> Result<()> {
+    let cpu = cpus.first_mut().context("no processor")?;
+    let group = make_all(rt, system, cpu)?;
     match table {
         Table::References => tell_references(rt, pace, system, cpu),
-        Table::Prepaid => tell_prepaid(rt, pace, system, cpus, group),
+        Table::Prepaid => tell_threads(rt, pace, system, cpus, group),
         _ => tell_visits(rt, pace, system, cpu),
     }
 }
@@ -226,7 +218,7 @@ fn live<N: BootName + Send + Sync, R: Threads + Wait + Print + Clock + Alloc<A =
     pace: Pace,
     table: Table,
     boot: Boot,
-) -> anyhow::Result<()>
+) -> Result<()>
     requires { (boot.frames ≡ N.frames) × (boot.stocks ≡ N.stocks) }
 {
     let (system, mut cpus) = boot.start::<N>(rt.alloc())?;
@@ -240,45 +232,42 @@ pub fn tell_system<R: Threads + Wait + Print + Clock + Alloc<A = Global> + Sync>
     rt: &R,
     pace: Pace,
     table: Table,
-) -> anyhow::Result<()> {
-    let Ok(boot) = boot(rt.alloc(), SIZES) else {
-        return Err(anyhow!("no boot"));
-    };
-    live::<Brand, R>(rt, pace, table, boot)
+) -> Result<()> {
+    match boot(rt.alloc(), SIZES) {
+        Ok(boot) => live::<Brand, R>(rt, pace, table, boot),
+        Err(_) => bail!("no boot"),
+    }
 }
 
-// Starts the boot, and tells what it cost since then; the system is shut down again, which isn't timed.
+// Starts the boot, and tells the time since then; the system is shut down again, which isn't timed.
 fn start<N: BootName, R: Wait + Clock + Alloc<A = Global>>(
     rt: &R,
     boot: Boot,
     since: Instant,
-) -> anyhow::Result<u128>
+) -> Result<Duration>
     requires { (boot.frames ≡ N.frames) × (boot.stocks ≡ N.stocks) }
 {
     let (system, cpus) = boot.start::<N>(rt.alloc())?;
     let time = since.elapsed(rt);
     end(rt, system, cpus);
-    Ok(each(time?, 1))
+    Ok(time?)
+}
+
+// The time of a boot and its start.
+fn time_boot<R: Wait + Clock + Alloc<A = Global>>(rt: &R) -> Result<Duration> {
+    let since = Instant::now(rt)?;
+    match boot(rt.alloc(), BIG) {
+        Ok(boot) => start::<Brand, R>(rt, boot, since),
+        Err(_) => bail!("no boot"),
+    }
 }
 
 /// Measures a boot and its start.
-pub fn tell_boots<R: Wait + Print + Clock + Alloc<A = Global>>(
-    rt: &R,
-    pace: Pace,
-) -> anyhow::Result<()> {
-    let mut least = u128::MAX;
+pub fn tell_boots<R: Wait + Print + Clock + Alloc<A = Global>>(rt: &R, pace: Pace) -> Result<()> {
+    let name = "boot of 65,536 frames and 16 processors, and its start";
+    let mut row = Row::new(name, 0, 1, 1);
     for _ in 0..pace.choose(10, 1) {
-        let since = Instant::now(rt)?;
-        let Ok(boot) = boot(rt.alloc(), BIG) else {
-            return Err(anyhow!("no boot"));
-        };
-        least = least.min(start::<Brand, R>(rt, boot, since)?);
+        row.note(time_boot(rt)?);
     }
-    tell(
-        rt,
-        pace,
-        "boot of 65,536 frames and 16 processors, and its start",
-        least,
-    )?;
-    Ok(())
+    row.tell(rt, pace)
 }

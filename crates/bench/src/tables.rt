@@ -8,13 +8,14 @@ use crate::prepaid::tell_words;
 use crate::script::tell_script;
 use crate::system::{tell_boots, tell_system};
 use crate::zone::tell_zone;
+use anyhow::Result;
 use std::alloc::Global;
 use std::sync::Wait;
 use std::thread::Threads;
 use std::time::Clock;
 
 /// A table of rows.
-#[derive(Clone, Copy, PartialEq, Eq)]
+#[derive(Clone, Copy)]
 pub enum Table {
     /// A processor's references.
     References,
@@ -34,21 +35,26 @@ pub enum Table {
     Script,
 }
 
-impl Table {
-    /// The table of this name.
-    pub fn named(name: &str) -> Option<Table> {
-        match name {
-            "references" => Some(Table::References),
-            "prepaid" => Some(Table::Prepaid),
-            "lists" => Some(Table::Lists),
-            "charges" => Some(Table::Charges),
-            "zone" => Some(Table::Zone),
-            "machine" => Some(Table::Machine),
-            "system" => Some(Table::System),
-            "script" => Some(Table::Script),
-            _ => None,
+/// The tables, each behind its name.
+pub const TABLES: [(&str, Table); 8] = [
+    ("references", Table::References),
+    ("prepaid", Table::Prepaid),
+    ("lists", Table::Lists),
+    ("charges", Table::Charges),
+    ("zone", Table::Zone),
+    ("machine", Table::Machine),
+    ("system", Table::System),
+    ("script", Table::Script),
+];
+
+/// The table of this name.
+pub fn table_named(name: &str) -> Option<Table> {
+    for (known, table) in TABLES {
+        if known == name {
+            return Some(table);
         }
     }
+    None
 }
 
 /// Measures a table.
@@ -56,7 +62,7 @@ pub fn tell_table<R: Threads + Wait + Print + Clock + Alloc<A = Global> + Sync>(
     rt: &R,
     table: Table,
     pace: Pace,
-) -> anyhow::Result<()> {
+) -> Result<()> {
     match table {
         Table::References => tell_system(rt, pace, table),
         Table::Prepaid => {
@@ -73,24 +79,4 @@ pub fn tell_table<R: Threads + Wait + Print + Clock + Alloc<A = Global> + Sync>(
         }
         Table::Script => tell_script(rt, pace),
     }
-}
-
-/// Measures all tables.
-pub fn tell_all<R: Threads + Wait + Print + Clock + Alloc<A = Global> + Sync>(
-    rt: &R,
-    pace: Pace,
-) -> anyhow::Result<()> {
-    for table in [
-        Table::References,
-        Table::Prepaid,
-        Table::Lists,
-        Table::Charges,
-        Table::Zone,
-        Table::Machine,
-        Table::System,
-        Table::Script,
-    ] {
-        tell_table(rt, table, pace)?;
-    }
-    Ok(())
 }

@@ -1,6 +1,7 @@
 //! What `take` and `give` cost in a zone that is half full.
 
-use crate::costs::{Pace, each, tell};
+use crate::costs::{Pace, tell};
+use anyhow::Result;
 use rand_core::{Rng, SeedableRng};
 use rand_pcg::Pcg32;
 use std::alloc::{AllocError, Global};
@@ -15,8 +16,28 @@ const BATCH: u32 = 64;
 // Calls of one kind, and how long they took together.
 #[derive(Clone, Copy)]
 struct Cost {
-    calls: u64,
+    calls: u32,
     time: Duration,
+}
+
+impl Cost {
+    fn add(&mut self, calls: u32, time: Duration) {
+        self.calls = self.calls.saturating_add(calls);
+        self.time = self.time.saturating_add(time);
+    }
+
+    // The average, in nanoseconds.
+    fn average(&self) -> f64 {
+        self.time.as_secs_f64() * 1e9 / f64::from(self.calls)
+    }
+}
+
+// What the calls cost: those that take, the tests whether a block may be given, and those that give, with these tests.
+#[derive(Clone, Copy)]
+struct Costs {
+    takes: Cost,
+    tests: Cost,
+    gives: Cost,
 }
 
 const NOTHING: Cost = Cost {
@@ -24,15 +45,16 @@ const NOTHING: Cost = Cost {
     time: Duration::ZERO,
 };
 
-impl Cost {
-    fn add(&mut self, calls: usize, time: Duration) {
-        self.calls = self.calls.saturating_add(calls as u64);
-        self.time = self.time.saturating_add(time);
-    }
+const FREE: Costs = Costs {
+    takes: NOTHING,
+    tests: NOTHING,
+    gives: NOTHING,
+};
 
-    // The average.
-    fn average(&self) -> u128 {
-        each(self.time, self.calls)
+impl Costs {
+    // A take and a give.
+    fn pair(&self) -> f64 {
+        self.takes.average() + self.gives.average() - self.tests.average()
     }
 }
 
@@ -41,138 +63,137 @@ impl Cost {
 struct Load {
     random: Pcg32,
     zone: Buddy,
+    greatest: Order,
     held: Vec<Block>,
     in_use: u32,
-    takes: Cost,
-    tests: Cost,
-    gives: Cost,
+    costs: Costs,
 }
 
 // How many of these blocks may be given.
-fn count_in_use(zone: &Buddy, blocks: &[Block]) -> usize {
-    blocks
-        .iter()
-        .filter(|block| zone.is_in_use(**block))
-        .count()
+fn count_in_use(zone: &Buddy, blocks: &[Block]) -> u32 {
+    let mut count = 0_u32;
+    for block in blocks {
+        count = count.saturating_add(u32::from(zone.is_in_use(*block)));
+    }
+    count
 }
 
 impl Load {
-    fn new(alloc: Global, frames: u32) -> Result<Load, AllocError> {
+    // A zone of so many frames, all free, from which blocks of orders up to the greatest are taken.
+    fn new(alloc: Global, frames: u32, greatest: Order) -> Result<Load, AllocError> {
         Ok(Load {
             random: Pcg32::seed_from_u64(2_025),
             zone: Buddy::new(alloc, frames)?,
+            greatest,
             held: Vec::new(alloc),
             in_use: 0,
-            takes: NOTHING,
-            tests: NOTHING,
-            gives: NOTHING,
+            costs: FREE,
         })
     }
 
-    // Random orders up to `greatest`, each half as often as the one below.
-    fn orders(&mut self, alloc: Global, greatest: Order) -> Result<Vec<Order>, AllocError> {
+    // Random orders, each half as often as the one below.
+    fn orders(&mut self, alloc: Global) -> Result<Vec<Order>, AllocError> {
         let mut orders = Vec::new(alloc);
         for _ in 0..BATCH {
             let exponent = self.random.next_u32().trailing_zeros();
-            orders.push(Order::of(exponent).unwrap_or(greatest).min(greatest))?;
+            let order = Order::of(exponent).unwrap_or(self.greatest);
+            orders.push(order.min(self.greatest))?;
         }
         Ok(orders)
     }
 
     // Takes blocks of random orders.
-    fn take_batch<R: Clock + Alloc<A = Global>>(
-        &mut self,
-        rt: &R,
-        greatest: Order,
-    ) -> anyhow::Result<()> {
-        let orders = self.orders(rt.alloc(), greatest)?;
+    fn take_batch<R: Clock + Alloc<A = Global>>(&mut self, rt: &R) -> Result<()> {
+        let orders = self.orders(rt.alloc())?;
         let start = Instant::now(rt)?;
-        for order in orders.as_slice() {
+        for order in &orders {
             if let Some(block) = self.zone.take(*order) {
                 self.held.push(block)?;
                 self.in_use = self.in_use.saturating_add(order.frames());
             }
         }
-        self.takes.add(orders.len(), start.elapsed(rt)?);
+        self.costs.takes.add(BATCH, start.elapsed(rt)?);
         Ok(())
     }
 
-    // Random blocks of those that are held, which are then held no more.
-    fn pick(&mut self, alloc: Global) -> Result<Vec<Block>, AllocError> {
+    // A random block of those that are held, which is then held no more.
+    fn pick(&mut self) -> Option<Block> {
+        let index = (self.random.next_u32() as usize).checked_rem(self.held.len())?;
+        if index >= self.held.len() {
+            return None;
+        }
+        Some(self.held.swap_remove(index))
+    }
+
+    // So many random blocks.
+    fn pick_batch(&mut self, alloc: Global) -> Result<Vec<Block>, AllocError> {
         let mut picked = Vec::new(alloc);
         for _ in 0..BATCH {
-            if !self.held.is_empty() {
-                let index = self.random.next_u32() as usize % self.held.len();
-                picked.push(self.held.swap_remove(index))?;
+            if let Some(block) = self.pick() {
+                picked.push(block)?;
             }
         }
         Ok(picked)
     }
 
-    // Gives random blocks of those that are held, each after the test that it may be given. The same tests were made before,
-    // alone: once for the processor's cache, and once by the clock.
-    fn give_batch<R: Clock + Alloc<A = Global>>(&mut self, rt: &R) -> anyhow::Result<()> {
-        let picked = self.pick(rt.alloc())?;
-        let _warm = count_in_use(&self.zone, picked.as_slice());
-        let start = Instant::now(rt)?;
-        let tested = count_in_use(&self.zone, picked.as_slice());
-        self.tests.add(tested, start.elapsed(rt)?);
-        let start = Instant::now(rt)?;
-        for block in picked.as_slice() {
+    // Gives each of these blocks after the test that it may be given.
+    fn give(&mut self, blocks: &[Block]) {
+        for block in blocks {
             if self.zone.is_in_use(*block) {
                 self.zone.give(*block);
                 self.in_use = self.in_use.saturating_sub(block.order.frames());
             }
         }
-        self.gives.add(tested, start.elapsed(rt)?);
+    }
+
+    // Gives random blocks of those that are held. The tests that are in it were made before, alone: once for the processor's
+    // cache, and once by the clock.
+    fn give_batch<R: Clock + Alloc<A = Global>>(&mut self, rt: &R) -> Result<()> {
+        let picked = self.pick_batch(rt.alloc())?;
+        let _warm = count_in_use(&self.zone, &picked);
+        let start = Instant::now(rt)?;
+        let tested = count_in_use(&self.zone, &picked);
+        self.costs.tests.add(tested, start.elapsed(rt)?);
+        let start = Instant::now(rt)?;
+        self.give(&picked);
+        self.costs.gives.add(tested, start.elapsed(rt)?);
         Ok(())
     }
 
     // So many batches, which keep the zone about half full.
-    fn run<R: Clock + Alloc<A = Global>>(
-        &mut self,
-        rt: &R,
-        half: u32,
-        greatest: Order,
-        rounds: u32,
-    ) -> anyhow::Result<()> {
+    fn run<R: Clock + Alloc<A = Global>>(&mut self, rt: &R, half: u32, rounds: u32) -> Result<()> {
         for _ in 0..rounds {
             if self.in_use > half {
                 self.give_batch(rt)?;
             } else {
-                self.take_batch(rt, greatest)?;
+                self.take_batch(rt)?;
             }
         }
         Ok(())
     }
 }
 
-// Measures a zone of so many frames, with random orders up to `greatest`: it is filled by half and stirred before.
-fn tell_zone_of<R: Print + Clock + Alloc<A = Global>>(
+// What a take and a give cost together in a zone of so many frames: it is filled by half and stirred before.
+fn cost_of<R: Clock + Alloc<A = Global>>(
     rt: &R,
     pace: Pace,
     frames: u32,
     greatest: Order,
-) -> anyhow::Result<()> {
-    let mut load = Load::new(rt.alloc(), frames)?;
-    load.run(rt, frames / 2, greatest, pace.choose(frames / 8, 8))?;
-    load.takes = NOTHING;
-    load.tests = NOTHING;
-    load.gives = NOTHING;
-    load.run(rt, frames / 2, greatest, pace.choose(20_000, 8))?;
-    let test = load.tests.average();
-    let give = load.gives.average().saturating_sub(test);
-    let cost = load.takes.average().saturating_add(give);
-    println!(rt; "orders 0 to {}, {frames} frames:", greatest.exponent())?;
-    tell(rt, pace, "  take and give", cost)?;
-    Ok(())
+) -> Result<f64> {
+    let mut load = Load::new(rt.alloc(), frames, greatest)?;
+    load.run(rt, frames / 2, pace.choose(frames / 8, 8))?;
+    load.costs = FREE;
+    load.run(rt, frames / 2, pace.choose(20_000, 8))?;
+    Ok(load.costs.pair())
 }
 
 /// Measures zones of three sizes, at order 0 and at mixed orders.
-pub fn tell_zone<R: Print + Clock + Alloc<A = Global>>(rt: &R, pace: Pace) -> anyhow::Result<()> {
+pub fn tell_zone<R: Print + Clock + Alloc<A = Global>>(rt: &R, pace: Pace) -> Result<()> {
     for greatest in [Order::of(0).unwrap(), Order::of(10).unwrap()] {
         for frames in [1_024, 65_536, 1_048_576] {
-            tell_zone_of(rt, pace, frames, greatest)?;
+            let cost = cost_of(rt, pace, frames, greatest)?;
+            println!(rt; "orders 0 to {}, {frames} frames:", greatest.exponent())?;
+            tell(rt, pace, "  take and give", cost)?;
         }
     }
     Ok(())

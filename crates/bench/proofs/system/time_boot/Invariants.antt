@@ -1,4 +1,4 @@
-use Rattle.bench.proofs.system.tell_boots.Given as goal
+use Rattle.bench.proofs.system.time_boot.Given as goal
 
 abbrev pub ghosts-start : goal.ghosts-start
 ghosts-start g a = record { frames = a.boot.frames; stocks = a.boot.stocks }
