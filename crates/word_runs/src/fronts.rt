@@ -56,7 +56,8 @@ fn take_by_books<N: BootName>(
     cpu: &mut Cpu<N>,
 ) -> Option<Frame>
     requires machine { (machine.old.table ≡ N.stocks.table) × IsMachine machine.old.view }
-    ensures machine { machine.new ≡ machine.old }
+    ensures machine { (machine.new.table ≡ machine.old.table) × (machine.new.view.number ≡ machine.old.view.number) }
+    ensures books { machine.new.view.accounts ≡ machine.old.view.accounts }
     ensures none { result ≡ None → cpu.new ≡ cpu.old }
 {
     // Whoever asks for the number learns what always holds of the processor's part.
@@ -104,7 +105,8 @@ fn takes<N: BootName>(
     front: Option<Frame>,
 )
     requires { (machine.old.table ≡ N.stocks.table) × IsMachine machine.old.view }
-    ensures { machine.new ≡ machine.old }
+    ensures machine { (machine.new.table ≡ machine.old.table) × (machine.new.view.number ≡ machine.old.view.number) }
+    ensures books { machine.new.view.accounts ≡ machine.old.view.accounts }
 {
     same(rt, take_by_books(tables, machine, cpu), front);
 }

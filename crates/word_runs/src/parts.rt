@@ -197,7 +197,8 @@ fn pays_for<N: BootName>(
     paid: Frame,
 )
     requires { (machine.old.table ≡ N.stocks.table) × IsMachine machine.old.view }
-    ensures { machine.new ≡ machine.old }
+    ensures machine { (machine.new.table ≡ machine.old.table) × (machine.new.view.number ≡ machine.old.view.number) }
+    ensures books { machine.new.view.accounts ≡ machine.old.view.accounts }
 {
     same(rt, cpu.last_stock(), Stock::HeldBy { group: 1, pages: 4 });
     same(rt, cpu.alloc_fast(tables, 1), Fast::Got(paid));

@@ -1,3 +1,4 @@
+use Rattle.std.proofs.Common.{rules}
 use Rattle.script_lines.proofs.Readings.{on_none, read_has_space, read_parts}
 use Rattle.script_lines.proofs.script.parse_read.Goals as goal
 
@@ -11,3 +12,6 @@ returns-in_err-path_of c = on_none _ _ _ c.from_residual-in_err-path_of.ensures
 pub returns-in_err-path_of-2 : goal.returns-in_err-path_of-2
 returns-in_err-path_of-2 c = on_none _ _ _ c.from_residual-in_err-path_of-2.ensures
     (λ path file is. c.in_err-path_of-2.ensures (read_parts _ _ _ c.in_ok-path.ensures path file is).1)
+
+pub returns : goal.returns
+returns c = search rules

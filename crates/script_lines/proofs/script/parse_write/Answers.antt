@@ -1,3 +1,4 @@
+use Rattle.std.proofs.Common.{rules}
 use Rattle.script_lines.proofs.Readings.{on_none, write_has_space, write_has_spaces, write_parts}
 use Rattle.script_lines.proofs.script.parse_write.Goals as goal
 
@@ -14,3 +15,6 @@ returns-in_err-path_of c = on_none _ _ _ c.from_residual-in_err-path_of.ensures
 pub returns-in_err-path_of-2 : goal.returns-in_err-path_of-2
 returns-in_err-path_of-2 c = on_none _ _ _ c.from_residual-in_err-path_of-2.ensures
     (λ path file value is. c.in_err-path_of-2.ensures (write_parts _ _ _ _ _ c.in_ok-path.ensures c.in_ok-file.ensures path file value is).1)
+
+pub returns : goal.returns
+returns c = search rules
