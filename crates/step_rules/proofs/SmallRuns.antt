@@ -231,8 +231,92 @@ returned_when_killed_is_legal = legal_each (at_boot small_zone) returned_when_ki
 
 pub borders_are_kept : IsLegalRun small_zone at_the_borders
 unfolding has_group group_at sum_to all_to
-borders_are_kept = legal_each (at_boot small_zone) at_the_borders (record { legal = refl; answered = tt; counted = tt }, (refl, (record { legal = refl; answered = root_has_room _ 1; counted = tt }, (record { legal = refl; answered = (refl, front_block _ refl refl); counted = tt }, (refl, (record { legal = refl; answered = tt; counted = tt }, (record { legal = refl; answered = tt; counted = refl }, (record { legal = refl; answered = tt; counted = (refl, omega arith) }, (record { legal = refl; answered = tt; counted = refl }, (record { legal = refl; answered = tt; counted = refl }, (record { legal = refl; answered = tt; counted = λ e. absurd (true≢false (ap (λ n. n == 254) (sym e))) }, (record { legal = refl; answered = tt; counted = tt }, (refl, (refl, tt))))))))))))))
+borders_are_kept = legal_each (at_boot small_zone) at_the_borders (
+  record { legal = refl; answered = tt; counted = tt },
+  (
+    refl,
+    (
+      record { legal = refl; answered = root_has_room _ 1; counted = tt },
+      (
+        record { legal = refl; answered = (refl, front_block _ refl refl); counted = tt },
+        (
+          refl,
+          (
+            record { legal = refl; answered = tt; counted = tt },
+            (
+              record { legal = refl; answered = tt; counted = refl },
+              (
+                record { legal = refl; answered = tt; counted = (refl, omega arith) },
+                (
+                  record { legal = refl; answered = tt; counted = refl },
+                  (
+                    record { legal = refl; answered = tt; counted = refl },
+                    (
+                      record { legal = refl; answered = tt; counted = λ e. absurd (true≢false (ap (λ n. n == 254) (sym e))) },
+                      (
+                        record { legal = refl; answered = tt; counted = tt },
+                        (
+                          refl,
+                          (refl, tt),
+                        ),
+                      ),
+                    ),
+                  ),
+                ),
+              ),
+            ),
+          ),
+        ),
+      ),
+    ),
+  ),
+)
 
 pub line_is_kept : IsLegalRun small_zone in_line
 unfolding has_group group_at sum_to all_to
-line_is_kept = legal_each (at_boot small_zone) in_line (record { legal = refl; answered = tt; counted = tt }, (record { legal = refl; answered = tt; counted = tt }, (record { legal = refl; answered = tt; counted = tt }, (record { legal = refl; answered = tt; counted = tt }, (record { legal = refl; answered = tt; counted = tt }, (record { legal = refl; answered = tt; counted = tt }, (refl, (record { legal = refl; answered = tt; counted = tt }, (record { legal = refl; answered = tt; counted = tt }, (record { legal = refl; answered = root_has_room _ 1; counted = tt }, (record { legal = refl; answered = (refl, front_block _ refl refl); counted = tt }, (record { legal = refl; answered = tt; counted = tt }, (record { legal = refl; answered = tt; counted = refl }, (record { legal = refl; answered = tt; counted = tt }, (record { legal = refl; answered = tt; counted = (refl, omega arith) }, (refl, tt))))))))))))))))
+line_is_kept = legal_each (at_boot small_zone) in_line (
+  record { legal = refl; answered = tt; counted = tt },
+  (
+    record { legal = refl; answered = tt; counted = tt },
+    (
+      record { legal = refl; answered = tt; counted = tt },
+      (
+        record { legal = refl; answered = tt; counted = tt },
+        (
+          record { legal = refl; answered = tt; counted = tt },
+          (
+            record { legal = refl; answered = tt; counted = tt },
+            (
+              refl,
+              (
+                record { legal = refl; answered = tt; counted = tt },
+                (
+                  record { legal = refl; answered = tt; counted = tt },
+                  (
+                    record { legal = refl; answered = root_has_room _ 1; counted = tt },
+                    (
+                      record { legal = refl; answered = (refl, front_block _ refl refl); counted = tt },
+                      (
+                        record { legal = refl; answered = tt; counted = tt },
+                        (
+                          record { legal = refl; answered = tt; counted = refl },
+                          (
+                            record { legal = refl; answered = tt; counted = tt },
+                            (
+                              record { legal = refl; answered = tt; counted = (refl, omega arith) },
+                              (refl, tt),
+                            ),
+                          ),
+                        ),
+                      ),
+                    ),
+                  ),
+                ),
+              ),
+            ),
+          ),
+        ),
+      ),
+    ),
+  ),
+)
