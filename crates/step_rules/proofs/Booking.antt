@@ -21,6 +21,7 @@ use Rattle.step_rules.proofs.Settling.{times_are}
 use Rattle.step_rules.proofs.Counting.{gained, lost, stayed, stayed_last}
 use Rattle.step_rules.proofs.Uniting.{units_are_told}
 use Rattle.step_rules.proofs.Returning.{Along, counted_so_along}
+use Rattle.step_rules.proofs.Few.{few_fresh, few_pins}
 
 -- what a processor may pass back is fresh by the run exactly where it is fresh there
 sent_fresh : (p front f : ℕ) (x : Phase) → (has_as Listed p x && front == f || has_as Fresh p x || has_as kinds.Back p x) ≡ true →
@@ -139,4 +140,6 @@ parts_are_booked zone run legal p =
       reported = counted_so_along (reported_in p) (absorbed_in p) (λ t. reported (t.parts p)) zone refl
           (λ before seat action answer legal ok. allowed_so reported p (reported_in p) (absorbed_in p) (no_reported p) (reported_made p)
           zone before seat action answer legal ok) run legal;
+      few_fresh = few_fresh zone run legal p;
+      few_pins = few_pins zone run legal p;
     }

@@ -153,13 +153,15 @@ placed_keeper g b x = by_head (x == b.at)
     by_head false = refl
 
 -- a unit comes back
-unit_goes : (groups : List Group) (m : ℕ) (s : State) (f : ℕ) (u : ChargedUnit) → IsSound s → unit_of (s.phases f) ≡ Some u → keeper_of (s.phases f) ≡ Some u.group →
+unit_goes : (groups : List Group) (m : ℕ) (s : State) (f : ℕ) (u : ChargedUnit) → IsSound s → unit_of (s.phases f) ≡ Some u →
+    keeper_of (s.phases f) ≡ Some u.group →
     frames_kept groups s.phases s.zone.frames m
     ≡ frames_kept groups (without_unit s.phases f) s.zone.frames m + unit_pages (in_subtree groups m) (unit_of (s.phases f))
 unit_goes groups m s f u sound unit keeper =
     let size : unit_size (unit_of (s.phases f)) ≡ 2 ^ u.order = ap unit_size unit in
     let some = pow_pos u.order in
-    range_adds groups m s.zone.frames f (2 ^ u.order) u.group (without_unit s.phases f) s.phases (let e = in_zone s (f + 2 ^ u.order - 1) sound (busy (f + 2 ^ u.order - 1) (omega arith) (omega arith)) in omega arith)
+    let e = in_zone s (f + 2 ^ u.order - 1) sound (busy (f + 2 ^ u.order - 1) (omega arith) (omega arith)) in
+    range_adds groups m s.zone.frames f (2 ^ u.order) u.group (without_unit s.phases f) s.phases (omega arith)
     (λ x within. (
       ap keeper_of (in_unit s.phases f x (ap (λ n. is_within f n x) size ∙ within)),
       elim (within_cases f (2 ^ u.order) x) [ inl w ↦ kept x w.1 w.2 | inr o ↦ absurd (true≢false (sym within ∙ o.0)) ],

@@ -38,6 +38,7 @@ pub mod Heads
 pub mod Charging
 pub mod Promising
 pub mod Answering
+pub mod Few
 pub mod Booking
 pub mod Living
 pub mod LentTo

@@ -3,12 +3,14 @@ use Rattle.std.proofs.Common.{◌≡◌, ℕ, Bool, true, false, List, [], ◌�
 use Rattle.std.specs.List.{slice_index_or}
 use Rattle.std.proofs.lemmas.Bool.{cases_eq, ne_eqb, true≢false}
 use Rattle.zone_blocks.specs.Areas.{IsFreeBlock}
-use Rattle.group_tree.specs.Groups.{has_group, group_at, limit_of, initial_groups}
+use Rattle.group_tree.specs.Path.{names_of}
+use Rattle.group_tree.specs.Groups.{has_group, group_at, path_of, in_subtree, limit_of, initial_groups}
 use Rattle.step_rules.specs.State.{State, at_boot, sum_to, all_to}
 use Rattle.group_tree.specs.Room.{PathHasRoom, has_room}
 use Rattle.step_rules.specs.Legal.{Allows}
 use Rattle.step_rules.specs.After.{Run, IsLegalRun}
-use Rattle.step_rules.specs.Examples.{small_zone, life_of_a_frame, credited_twice, returned_twice, unlocked_too_soon, returned_when_killed, at_the_borders, in_line}
+use Rattle.step_rules.specs.Examples.{small_zone, life_of_a_frame, credited_twice, returned_twice, unlocked_too_soon, returned_when_killed, at_the_borders, in_line, noted}
+use Rattle.step_rules.specs.Events.{Max, Oom, OomKill, events_of, events_local_of}
 use Rattle.step_rules.proofs.Runs.{next, IsLegalFrom}
 
 -- each step is allowed after those before it
@@ -231,8 +233,109 @@ returned_when_killed_is_legal = legal_each (at_boot small_zone) returned_when_ki
 
 pub borders_are_kept : IsLegalRun small_zone at_the_borders
 unfolding has_group group_at sum_to all_to
-borders_are_kept = legal_each (at_boot small_zone) at_the_borders (record { legal = refl; answered = tt; counted = tt }, (refl, (record { legal = refl; answered = root_has_room _ 1; counted = tt }, (record { legal = refl; answered = (refl, front_block _ refl refl); counted = tt }, (refl, (record { legal = refl; answered = tt; counted = tt }, (record { legal = refl; answered = tt; counted = refl }, (record { legal = refl; answered = tt; counted = (refl, omega arith) }, (record { legal = refl; answered = tt; counted = refl }, (record { legal = refl; answered = tt; counted = refl }, (record { legal = refl; answered = tt; counted = λ e. absurd (true≢false (ap (λ n. n == 254) (sym e))) }, (record { legal = refl; answered = tt; counted = tt }, (refl, (refl, tt))))))))))))))
+borders_are_kept = legal_each (at_boot small_zone) at_the_borders (
+  record { legal = refl; answered = tt; counted = tt },
+  (
+    refl,
+    (
+      record { legal = refl; answered = root_has_room _ 1; counted = tt },
+      (
+        record { legal = refl; answered = (refl, front_block _ refl refl); counted = tt },
+        (
+          refl,
+          (
+            record { legal = refl; answered = tt; counted = tt },
+            (
+              record { legal = refl; answered = tt; counted = refl },
+              (
+                record { legal = refl; answered = tt; counted = (refl, omega arith) },
+                (
+                  record { legal = refl; answered = tt; counted = refl },
+                  (
+                    record { legal = refl; answered = tt; counted = refl },
+                    (
+                      record { legal = refl; answered = tt; counted = λ e. absurd (true≢false (ap (λ n. n == 254) (sym e))) },
+                      (
+                        record { legal = refl; answered = tt; counted = tt },
+                        (
+                          refl,
+                          (refl, tt),
+                        ),
+                      ),
+                    ),
+                  ),
+                ),
+              ),
+            ),
+          ),
+        ),
+      ),
+    ),
+  ),
+)
 
 pub line_is_kept : IsLegalRun small_zone in_line
 unfolding has_group group_at sum_to all_to
-line_is_kept = legal_each (at_boot small_zone) in_line (record { legal = refl; answered = tt; counted = tt }, (record { legal = refl; answered = tt; counted = tt }, (record { legal = refl; answered = tt; counted = tt }, (record { legal = refl; answered = tt; counted = tt }, (record { legal = refl; answered = tt; counted = tt }, (record { legal = refl; answered = tt; counted = tt }, (refl, (record { legal = refl; answered = tt; counted = tt }, (record { legal = refl; answered = tt; counted = tt }, (record { legal = refl; answered = root_has_room _ 1; counted = tt }, (record { legal = refl; answered = (refl, front_block _ refl refl); counted = tt }, (record { legal = refl; answered = tt; counted = tt }, (record { legal = refl; answered = tt; counted = refl }, (record { legal = refl; answered = tt; counted = tt }, (record { legal = refl; answered = tt; counted = (refl, omega arith) }, (refl, tt))))))))))))))))
+line_is_kept = legal_each (at_boot small_zone) in_line (
+  record { legal = refl; answered = tt; counted = tt },
+  (
+    record { legal = refl; answered = tt; counted = tt },
+    (
+      record { legal = refl; answered = tt; counted = tt },
+      (
+        record { legal = refl; answered = tt; counted = tt },
+        (
+          record { legal = refl; answered = tt; counted = tt },
+          (
+            record { legal = refl; answered = tt; counted = tt },
+            (
+              refl,
+              (
+                record { legal = refl; answered = tt; counted = tt },
+                (
+                  record { legal = refl; answered = tt; counted = tt },
+                  (
+                    record { legal = refl; answered = root_has_room _ 1; counted = tt },
+                    (
+                      record { legal = refl; answered = (refl, front_block _ refl refl); counted = tt },
+                      (
+                        record { legal = refl; answered = tt; counted = tt },
+                        (
+                          record { legal = refl; answered = tt; counted = refl },
+                          (
+                            record { legal = refl; answered = tt; counted = tt },
+                            (
+                              record { legal = refl; answered = tt; counted = (refl, omega arith) },
+                              (refl, tt),
+                            ),
+                          ),
+                        ),
+                      ),
+                    ),
+                  ),
+                ),
+              ),
+            ),
+          ),
+        ),
+      ),
+    ),
+  ),
+)
+
+pub noted_is_legal : IsLegalRun small_zone noted
+unfolding has_group group_at sum_to all_to
+noted_is_legal = legal_each (at_boot small_zone) noted
+    (record { legal = refl; answered = tt; counted = tt }, (record { legal = refl; answered = tt; counted = tt }, (record { legal = refl; answered = tt; counted = tt }, (record { legal = refl; answered = tt; counted = tt }, (record { legal = refl; answered = tt; counted = tt }, tt)))))
+
+pub max_counts : (events_of Max small_zone noted 0 ≡ 1) × (events_local_of Max small_zone noted 0 ≡ 1)
+unfolding in_subtree path_of group_at names_of
+max_counts = (refl, refl)
+
+pub oom_counts : (events_of Oom small_zone noted 0 ≡ 2) × (events_local_of Oom small_zone noted 0 ≡ 2)
+unfolding in_subtree path_of group_at names_of
+oom_counts = (refl, refl)
+
+pub oom_kill_counts : (events_of OomKill small_zone noted 0 ≡ 1) × (events_local_of OomKill small_zone noted 0 ≡ 1)
+unfolding in_subtree path_of group_at names_of
+oom_kill_counts = (refl, refl)

@@ -11,7 +11,8 @@ use Rattle.step_rules.specs.After.{Run, state_of, IsLegalRun}
 -- after every legal run a step that isn't answered Illegal is made by a processor, or by the zone's seat while one holds the lock
 abbrev pub OnlySeatsAct : Type 0
 OnlySeatsAct = (zone : Zone) (run : Run) → IsLegalRun zone run → (seat : ℕ) (action : Action) (answer : Answer) →
-    Allows (state_of zone run) seat action answer → answer ≢ Illegal → (is_cpu zone seat || may_zone_act (state_of zone run).hold seat) ≡ true
+    Allows (state_of zone run) seat action answer → answer ≢ Illegal →
+    (is_cpu zone seat || may_zone_act (state_of zone run).hold seat) ≡ true
 
 -- a block was placed
 abbrev pub IsPlacing : Answer → Type 0
@@ -20,4 +21,5 @@ IsPlacing answer = (b : Block) × (answer ≡ Placed b)
 -- after every legal run a step that may be answered so, and so too, is answered in one way, or places a block in both
 abbrev pub AnswersAreDetermined : Type 0
 AnswersAreDetermined = (zone : Zone) (run : Run) → IsLegalRun zone run → (seat : ℕ) (action : Action) (one other : Answer) →
-    Allows (state_of zone run) seat action one → Allows (state_of zone run) seat action other → (one ≡ other) ⊎ (IsPlacing one × IsPlacing other)
+    Allows (state_of zone run) seat action one → Allows (state_of zone run) seat action other →
+    (one ≡ other) ⊎ (IsPlacing one × IsPlacing other)

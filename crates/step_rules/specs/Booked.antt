@@ -1,11 +1,11 @@
 -- A processor's fresh and back frames, its book, and the pages that it passed back and that aren't absorbed.
-use Rattle.std.specs.Prelude.{◌≡◌, ℕ, ◌+◌, ◌==◌, is_some, length, if◌then◌else◌}
+use Rattle.std.specs.Prelude.{◌≡◌, ℕ, ◌+◌, ◌≤◌, ◌==◌, true, is_some, length, if◌then◌else◌}
 use Rattle.step_rules.specs.declared.step.Action.{Action}
 use Rattle.step_rules.specs.declared.step.Action.TheVariants.{PassBack, Report, Absorb}
 use Rattle.step_rules.specs.declared.step.Answer.{Answer}
 use Rattle.step_rules.specs.declared.step.Answer.TheVariants.{Done, Pages}
 use Rattle.step_rules.specs.Phases.{Fresh, Back, has_as}
-use Rattle.step_rules.specs.State.{Zone, one_if}
+use Rattle.step_rules.specs.State.{Zone, one_if, is_cpu, pins_of}
 use Rattle.step_rules.specs.After.{Run, state_of, IsLegalRun}
 use Rattle.step_rules.specs.Units.{units_of}
 use Rattle.step_rules.specs.Returns.{counted_along, times_in}
@@ -27,7 +27,8 @@ absorbed_in p run seat action answer = 0
 
 -- each frame that is fresh at the processor stands once among its fresh frames, each of its back frames once among those, and
 -- no other does; its book is the pages of its stock, those of its fresh frames, and those unreported and reported; unreported
--- are the pages of the fresh frames that it passed back, less those reported, and reported are these, less those absorbed
+-- are the pages of the fresh frames that it passed back, less those reported, and reported are these, less those absorbed; there
+-- are at most 32 fresh frames, and at most 256 pins and back frames
 pub record PartIsBooked (zone : Zone) (run : Run) (p : ℕ) : Type 0 where
   pub fresh : (f : ℕ) → times_in f ((state_of zone run).parts p).fresh ≡ one_if (has_as Fresh p ((state_of zone run).phases f))
   pub back : (f : ℕ) → times_in f ((state_of zone run).parts p).back ≡ one_if (has_as Back p ((state_of zone run).phases f))
@@ -35,6 +36,8 @@ pub record PartIsBooked (zone : Zone) (run : Run) (p : ℕ) : Type 0 where
       + ((state_of zone run).parts p).unreported + ((state_of zone run).parts p).reported
   pub unreported : counted_along (unreported_in p) run ≡ ((state_of zone run).parts p).unreported + counted_along (reported_in p) run
   pub reported : counted_along (reported_in p) run ≡ ((state_of zone run).parts p).reported + counted_along (absorbed_in p) run
+  pub few_fresh : length ((state_of zone run).parts p).fresh ≤ 32
+  pub few_pins : is_cpu zone p ≡ true → pins_of (state_of zone run) p + length ((state_of zone run).parts p).back ≤ 256
 
 -- so it is of each processor after every legal run
 abbrev pub AllPartsAreBooked : Type 0

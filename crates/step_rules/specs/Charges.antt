@@ -40,4 +40,5 @@ charged_out test run seat action answer = 0
 
 -- the pages charged to the group and those below it
 abbrev pub charged_below : Run → ℕ → ℕ
-charged_below run g = counted_along (charged_in (in_subtree (groups_of run) g)) run - counted_along (charged_out (in_subtree (groups_of run) g)) run
+charged_below run g =
+    counted_along (charged_in (in_subtree (groups_of run) g)) run - counted_along (charged_out (in_subtree (groups_of run) g)) run

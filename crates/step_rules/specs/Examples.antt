@@ -1,11 +1,11 @@
--- Small runs, to be read beside the table: one of the life of a frame, three whose last step is refused, one of a drop, and
--- two at borders: of references, limits and kills, and of the order of a list.
+-- Small runs, to be read beside the table: one of the life of a frame, three whose last step is refused, one of a drop, two at
+-- borders (of references, limits and kills, and of the order of a list), and one of notes.
 use Rattle.std.specs.Prelude.{ℕ, Some, [], ◌∷◌, ◌++◌}
 use Rattle.step_rules.specs.declared.step.Step.{Step}
 use Rattle.step_rules.specs.declared.step.Action.{Action}
 use Rattle.step_rules.specs.declared.step.Action.TheVariants.{Lock, Unlock, OpenVisit, ShutVisit, Get, Put, Freeze, Unfreeze, PassOut, TakeIn, PassBack}
 use Rattle.step_rules.specs.declared.step.Action.TheVariants.{Collect, Consume, Credit, Report, Absorb, Fill, DrainStock, Grant, Ungrant, PlaceBlock}
-use Rattle.step_rules.specs.declared.step.Action.TheVariants.{Publish, Return, SetMax, Kill}
+use Rattle.step_rules.specs.declared.step.Action.TheVariants.{Publish, Return, NoteMax, NoteOom, SetMax, Kill}
 use Rattle.step_rules.specs.declared.step.Answer.{Answer}
 use Rattle.step_rules.specs.declared.step.Answer.TheVariants.{Illegal, Done, Held, Zero, Full, Left, Last, Missed, Took, Back, Pages, Granted, Placed}
 use Rattle.step_rules.specs.State.{Zone}
@@ -87,3 +87,7 @@ in_line =
     made 1 (TakeIn 1) Done ∷ made 1 (PassBack 1) Illegal ∷ made 1 (PassBack 0) Done ∷ made 0 (Collect 0 1) Done ∷ made 0 (Grant 0 1) Granted ∷
     made 0 (PlaceBlock 0 0) (Placed (record { at = 0; order = 0 })) ∷ made 0 (Unfreeze 0 1) Done ∷ made 2 (Get 0) Held ∷
     made 0 (Publish 0) Done ∷ made 0 (Put 0) (Left 1) ∷ made 0 (Publish 0) Illegal ∷ []
+
+-- three kinds of events are noted at the root, once, twice and once
+abbrev pub noted : Run
+noted = made 1 Lock Done ∷ made 0 (NoteMax 0) Done ∷ made 0 (NoteOom 0) Done ∷ made 0 (NoteOom 0) Done ∷ made 0 (Kill 0) Done ∷ []

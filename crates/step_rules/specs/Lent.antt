@@ -14,12 +14,14 @@ lent_to _ = None
 
 -- after every legal run who a frame is lent to is one of the processors
 abbrev pub FramesAreLentToProcessors : Type 0
-FramesAreLentToProcessors = (zone : Zone) (run : Run) → IsLegalRun zone run → (f p : ℕ) → lent_to ((state_of zone run).phases f) ≡ Some p → is_cpu zone p ≡ true
+FramesAreLentToProcessors = (zone : Zone) (run : Run) → IsLegalRun zone run → (f p : ℕ) →
+    lent_to ((state_of zone run).phases f) ≡ Some p → is_cpu zone p ≡ true
 
 -- after every legal run a frame that passes out to a processor, or back from it, does so while that one's visit is open
 abbrev pub FramesPassInVisits : Type 0
 FramesPassInVisits = (zone : Zone) (run : Run) → IsLegalRun zone run → (f p : ℕ) →
-    (passes_out p ((state_of zone run).phases f) || passes_back p ((state_of zone run).phases f)) ≡ true → (state_of zone run).hold ≡ Visiting p
+    (passes_out p ((state_of zone run).phases f) || passes_back p ((state_of zone run).phases f)) ≡ true →
+    (state_of zone run).hold ≡ Visiting p
 
 -- each beginning of a legal run is a legal run
 abbrev pub BeginningsAreLegal : Type 0

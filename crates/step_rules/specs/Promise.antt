@@ -63,7 +63,8 @@ HasOnce zone shown f (Charged g) = (has_group shown.groups g ≡ true) × (shown
 
 -- by the run it lies in a unit of this group: that of a head h, of 2^k frames
 abbrev pub IsInUnit : Run → ℕ → ℕ → Type 0
-IsInUnit run g f = (h : ℕ) × (k : ℕ) × ((units_of run).unit h ≡ Some (record { group = g; order = k })) × Covers (record { at = h; order = k }) f
+IsInUnit run g f =
+    (h : ℕ) × (k : ℕ) × ((units_of run).unit h ≡ Some (record { group = g; order = k })) × Covers (record { at = h; order = k }) f
 
 -- it is seen once at one place, and at no other; and a group keeps it exactly where it lies in a unit of that group
 pub record IsInOnePlace (zone : Zone) (run : Run) (shown : Shown) (f : ℕ) : Type 0 where
@@ -83,7 +84,8 @@ kept_below shown frames g = sum_to frames (λ f. one_if (is_below shown.groups g
 
 -- the pages prepaid for them, in the stocks of the processors, which have the numbers from 1 on
 abbrev pub prepaid_below : Shown → ℕ → ℕ → ℕ
-prepaid_below shown cpus g = sum_to cpus (λ p. if is_below shown.groups g (shown.stocks (p + 1)).group then (shown.stocks (p + 1)).pages else 0)
+prepaid_below shown cpus g =
+    sum_to cpus (λ p. if is_below shown.groups g (shown.stocks (p + 1)).group then (shown.stocks (p + 1)).pages else 0)
 
 -- ---- no grant passed a limit
 -- pages are granted to a group that isn't killed; and with them the pages charged to the group and to each of its ancestors are
@@ -114,7 +116,8 @@ ComesBackOnce run seat (Unfreeze f n) Done = (is_some ((units_of run).unit f) �
 ComesBackOnce run seat (Return f) Done =
     ((is_gone run f ≡ true) ⊎ (is_drop run f ≡ true)) × (is_some ((units_of run).unit f) ≡ true) × HasNoReference run f
 ComesBackOnce run seat (Credit f) Back = (times_in f ((units_of run).hands seat).fresh ≡ 1) × HasNoReference run f
-ComesBackOnce run seat (Consume g) Took = (1 ≤ length ((units_of run).hands seat).list) × IsUnused run (front_of ((units_of run).hands seat).list)
+ComesBackOnce run seat (Consume g) Took =
+    (1 ≤ length ((units_of run).hands seat).list) × IsUnused run (front_of ((units_of run).hands seat).list)
 ComesBackOnce run seat (PlaceBlock g k) (Placed b) = (b.order ≡ k) × ((f : ℕ) → Covers b f → IsUnused run f)
 ComesBackOnce run seat action answer = Unit {0}
 

@@ -3,7 +3,8 @@
 
 ghost use Rattle.std.specs.Prelude.{◌≡◌};
 ghost use Rattle.step_rules.specs.After.{IsLegalRun, state_of};
-ghost use Rattle.step_rules.specs.Examples.{small_zone, life_of_a_frame, credited_twice, returned_twice, unlocked_too_soon, returned_when_killed, at_the_borders, in_line};
+ghost use Rattle.step_rules.specs.Examples.{small_zone, life_of_a_frame, credited_twice, returned_twice, unlocked_too_soon, returned_when_killed, at_the_borders, in_line, noted};
+ghost use Rattle.step_rules.specs.Events.{Max, Oom, OomKill, events_of, events_local_of};
 ghost use Rattle.step_rules.specs.declared.phase.Phase.TheVariants.{InZone};
 ghost use Rattle.step_rules.specs.declared.phase.Hold.TheVariants.{Unheld};
 
@@ -47,4 +48,12 @@ pub fn the_borders_are_kept()
 /// A processor passes back the front of its list alone, and the zone publishes only what it has a reference on.
 pub fn the_line_is_kept()
     ensures { IsLegalRun small_zone in_line }
+{}
+
+/// Each kind of event is counted where it is noted: one `max`, two of `oom` and one `oom_kill`.
+pub fn notes_are_counted()
+    ensures legal { IsLegalRun small_zone noted }
+    ensures max { (events_of Max small_zone noted 0 ≡ 1) × (events_local_of Max small_zone noted 0 ≡ 1) }
+    ensures oom { (events_of Oom small_zone noted 0 ≡ 2) × (events_local_of Oom small_zone noted 0 ≡ 2) }
+    ensures oom_kill { (events_of OomKill small_zone noted 0 ≡ 1) × (events_local_of OomKill small_zone noted 0 ≡ 1) }
 {}

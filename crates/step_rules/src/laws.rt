@@ -198,8 +198,8 @@ pub fn live_are_referred()
     ensures { AllLiveAreReferred }
 {}
 
-/// After every legal run a processor's fresh and back frames stand once among those, its book is its stock, its fresh
-/// frames and what is unreported and reported, and these are sums over the run.
+/// After every legal run a processor's fresh and back frames stand once among those, at most 32 and, with its pins, 256; its
+/// book is its stock, its fresh frames and what is unreported and reported, and these are sums over the run.
 pub fn parts_are_booked()
     ensures { AllPartsAreBooked }
 {}
