@@ -1,5 +1,5 @@
 -- What a script is answered.
-use Rattle.std.specs.Prelude.{◌≡◌, ℕ, Bool, Option, Some, List, ◌++◌}
+use Rattle.std.specs.Prelude.{◌≡◌, ℕ, Bool, Option, Some, List, [], ◌++◌}
 use Rattle.std.specs.Io.KnownBytes.{Appends}
 use Rattle.frame_word.specs.Seats.{KnownTable}
 use Rattle.stock_word.specs.Stock.{Words}
@@ -10,6 +10,7 @@ use Rattle.mem_system.specs.Boots.{IsSizedAs, first_cpus}
 use Rattle.script_lines.specs.declared.line.Line.{Line}
 use Rattle.script_lines.specs.Script.{IsScript}
 use Rattle.script_replay.specs.Lines.{ServesAll, Standing}
+use Rattle.script_replay.specs.History.{TellsHistory}
 use Rattle.load_run.specs.declared.command_line.Settings.{Settings}
 use Rattle.load_run.specs.Ending.{TellsEnd}
 
@@ -21,7 +22,8 @@ pub record StandsAtFirst (sizes : Config) (table : KnownTable) (stock_table : Wo
   pub sizes_are : first.locked.sizes ≡ sizes
   pub cpus : first.cpus ≡ first_cpus table stock_table 1 sizes.cpus
 
--- what a boot with these sizes answers to the lines, one after the other, and then tells of its end
+-- what a boot with these sizes answers to the lines, one after the other, and then tells of its end. All steps of the lines
+-- together are one run from the boot on, which tells of each line that the promise is kept after it
 pub record AreAnswers (sizes : Config) (is_audited : Bool) (lines : List Line) (text : List ℕ) : Type 0 where
   pub frames : KnownTable
   pub stocks : Words
@@ -31,6 +33,7 @@ pub record AreAnswers (sizes : Config) (is_audited : Bool) (lines : List Line) (
   pub ending : List ℕ
   pub first : StandsAtFirst sizes frames stocks start
   pub served : ServesAll frames start lines answers end
+  pub history : TellsHistory frames (Unit {0}) [] start lines answers end
   pub ends : TellsEnd frames stocks is_audited end ending
   pub text_is : text ≡ answers ++ ending
 

@@ -1,4 +1,5 @@
 pub mod Fronts
 pub mod InRange
-pub mod Serving
+pub mod Going
 pub mod Telling
+pub mod Following

@@ -2,3 +2,4 @@ pub mod Answers
 pub mod Lines
 pub mod Ranges
 pub mod Works
+pub mod History

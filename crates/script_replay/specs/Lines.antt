@@ -4,7 +4,6 @@ use Rattle.frame_word.specs.Seats.{KnownTable}
 use Rattle.cpu_part.specs.Cpus.{KnownCpu}
 use Rattle.mem_system.specs.Boots.{KnownLocked}
 use Rattle.mem_system.specs.Commands.{Holder, holder}
-use Rattle.script_lines.specs.declared.line.Command.{Command}
 use Rattle.script_lines.specs.declared.line.Line.{Line}
 use Rattle.script_lines.specs.declared.line.Line.TheVariants.{Go, At}
 use Rattle.script_replay.specs.Answers.{AnswersText}

@@ -1,9 +1,10 @@
-use Rattle.std.proofs.Common.{◌≡◌, ◌∙◌, ℕ, List, All, length, ap, sym, subst, refl}
+use Rattle.std.proofs.Common.{◌≡◌, ◌∙◌, ℕ, List, [], All, length, ap, sym, subst, refl}
 use Rattle.cpu_part.specs.Cpus.{KnownCpu}
 use Rattle.mem_system.proofs.Closing.{written_back}
 use Rattle.script_replay.specs.Ranges.{LineIsThere}
 use Rattle.load_run.specs.Ending.{EndsHeld, end_text}
 use Rattle.load_run.proofs.Answering.{first_long, sized_as, weakened}
+use Rattle.load_run.proofs.Starting.{boot_shown, parts_tied}
 use Rattle.load_run.proofs.running.run.Goals as goal
 
 pub replay-answers-requires : goal.replay-answers-requires
@@ -33,6 +34,8 @@ returns g c =
     let long : length c.replay-answers.new.cpus ≡ length c.in_ok-tables.cpus.items = c.replay-answers.auto.cpus ∙ ap length first in
     let same = written_back c.in_ok-tables.cpus.len c.replay-answers.new.cpus c.in_ok-tables.cpus.items long (sym c.deref_mut.ensures.len ∙ ap length first) in
     let held = c.finish-ended.result.held in
+    let sized = sized_as c.args.boot.sizes _ t _ w c.requires.sized c.requires.names in
+    let cpus = first ∙ c.in_ok-tables.ensures.cpus in
     let audit = c.finish-ended.result.audit in
     let ends : EndsHeld t w (record { locked = c.replay-answers.new.locked; cpus = c.replay-answers.new.cpus }) held audit =
     subst (λ (cpus : List KnownCpu). EndsHeld t w (record { locked = c.replay-answers.new.locked; cpus = cpus }) held audit) same c.finish-ended.ensures in
@@ -49,7 +52,10 @@ returns g c =
         sizes_are = c.in_ok-tables.ensures.sizes;
         cpus = first ∙ c.in_ok-tables.ensures.cpus;
       };
-      served = c.in_ok-answers.ensures;
+      served = c.in_ok-answers.ensures.answers;
+      history = c.in_ok-answers.ensures.history [] (boot_shown c.args.boot.sizes t w c.in_ok-tables.locked.machine c.deref_mut.result.now sized
+          c.in_ok-tables.ensures.machine cpus) (parts_tied c.args.boot.sizes t w c.in_ok-tables.locked.machine c.deref_mut.result.now sized
+          c.in_ok-tables.ensures.machine cpus);
       ends = record { held = held; audit = audit; ends = ends; text_is = refl };
       text_is = is;
     }) c.tell_end.ensures

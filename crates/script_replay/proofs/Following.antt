@@ -1,0 +1,297 @@
+-- A line carries the whole on. Serves `replay`.
+use Rattle.std.proofs.Common.{true, ◌≡◌, ◌≢◌, ℕ, ◌<◌, ◌==◌, ◌&&◌, ◌++◌, cond, Some, List, [], ◌∷◌, take, refl, sym, ◌∙◌, ap, subst, inl, inr, zero, suc}
+use Rattle.std.specs.Prelude.{IfSome, nat_le, slice_set}
+use Rattle.std.specs.List.{slice_get}
+use Rattle.std.specs.Borrow.{Bor}
+use Rattle.std.proofs.lemmas.Bool.{cases_eq}
+use Rattle.std.proofs.lemmas.List.{append-nil, length-set}
+use Rattle.std.proofs.lemmas.Option.{slice_get_within}
+use Rattle.frame_word.specs.declared.view.FrameNote.{FrameNote}
+use Rattle.frame_word.specs.declared.answers.Get.TheVariants.{Held, Zero, Raced, Full}
+use Rattle.frame_word.specs.declared.answers.Put.{Put as Putted}
+use Rattle.frame_word.specs.declared.answers.Put.TheVariants as put
+use Rattle.frame_word.specs.Views.{looked, raced}
+use Rattle.frame_word.specs.Seats.{KnownTable, KnownSeat, holds, seat_with}
+use Rattle.stock_word.specs.declared.view.Stock.{Stock}
+use Rattle.stock_word.specs.declared.view.Stock.TheVariants as stock_is
+use Rattle.stock_word.specs.Stock.{Words, Seated, drained_of, group_of}
+use Rattle.stock_word.specs.Calls.{with_view}
+use Rattle.group_tree.specs.declared.fault.Fault.TheVariants.{PinsFull, NotPinned}
+use Rattle.cpu_part.specs.declared.answers.Fast as fast
+use Rattle.cpu_part.specs.declared.answers.Fast.TheVariants.{FreshFull, ListEmpty, OtherGroup, Drained, NoStock, Got}
+use Rattle.cpu_part.specs.declared.answers.Dropped.TheVariants.{NeedVisit}
+use Rattle.cpu_part.specs.Cpus as parts
+use Rattle.cpu_part.specs.Cpus.{KnownCpu}
+use Rattle.cpu_part.specs.Calls.{FastAnswers, DropAnswers, UnpinAnswers}
+use Rattle.step_rules.specs.declared.phase.Way.TheVariants.{OnList}
+use Rattle.step_rules.specs.declared.phase.Hold.TheVariants.{HeldBy}
+use Rattle.step_rules.specs.declared.phase.Stage.TheVariants.{FreshAt}
+use Rattle.step_rules.specs.declared.phase.Phase.TheVariants as phase
+use Rattle.step_rules.specs.declared.step.Action.{Action}
+use Rattle.step_rules.specs.declared.step.Action.TheVariants as step
+use Rattle.step_rules.specs.declared.step.Answer.{Answer as Said}
+use Rattle.step_rules.specs.declared.step.Answer.TheVariants as says
+use Rattle.step_rules.specs.State.{State}
+use Rattle.step_rules.specs.After.{Run, state_of}
+use Rattle.mem_machine.specs.declared.spot.Spot.{Spot}
+use Rattle.mem_machine.specs.declared.spot.Spot.TheVariants as spot_is
+use Rattle.mem_machine.specs.Spots.{spot_at}
+use Rattle.mem_machine.specs.Machines.{KnownMachine, side}
+use Rattle.mem_machine.specs.Local.{local_of, phase_of, number_or_0, Makes, IsLocalRun}
+use Rattle.mem_machine.specs.Interleaving.{zone_of}
+use Rattle.mem_machine.specs.Steps.{cpu_makes}
+use Rattle.mem_machine.proofs.Records.{holds_same}
+use Rattle.mem_history.specs.Whole.{ShowsAll, IsSeenAt, seen_by, seen_together, state_after, IsDecided, AreDecided, under_lock, is_fast}
+use Rattle.mem_history.specs.Kept.{AreTied}
+use Rattle.mem_history.specs.Leading.{IsPart, put_answer}
+use Rattle.mem_history.proofs.Wholes.{set_here, set_else, lines_follow}
+use Rattle.mem_history.proofs.Fast.{fast_lines_follow}
+use Rattle.mem_history.proofs.Leading.{fast_calls_lead}
+use Rattle.mem_system.specs.declared.command.Cmd.{Cmd}
+use Rattle.mem_system.specs.declared.command.Cmd.TheVariants as cmd
+use Rattle.mem_system.specs.declared.command.Reply.{Reply}
+use Rattle.mem_system.specs.declared.command.Reply.TheVariants.{Refused, Done}
+use Rattle.mem_system.specs.Boots.{KnownLocked, AllShut}
+use Rattle.mem_system.specs.Commands.{Holder, holder, side_of, IsServed}
+use Rattle.reply_texts.specs.Answer.{Answer}
+use Rattle.reply_texts.specs.Answer as answer
+use Rattle.script_replay.specs.declared.work.Work.{Work}
+use Rattle.script_replay.specs.declared.work.Work.TheVariants as work
+use Rattle.script_replay.specs.Answers.{RepliesServed, AnswersGet, AnswersPut, CanNotList, AnswersRelease, AnswersSettle, AnswersFrame}
+use Rattle.script_replay.specs.Answers.{Answers, AnswersWork}
+use Rattle.script_replay.specs.Ranges.{WorkInRange}
+use Rattle.script_replay.specs.History.{served_steps, taken_steps, get_steps, put_steps, frame_steps, release_steps, settle_steps, answer_steps, work_steps}
+
+-- ---- what no one sees
+
+drained_group : (x : Stock) → group_of (drained_of x) ≡ group_of x
+drained_group stock_is.NoGroup = refl
+drained_group (stock_is.HeldBy g n) = refl
+drained_group (stock_is.DrainedOf g) = refl
+
+-- a part that changed so that its processor sees the same
+pub record IsUnseen (t : KnownTable) (m : KnownMachine) (c d : KnownCpu) : Type 0 where
+  pub number : d.number ≡ c.number
+  pub same : local_of t m d ≡ local_of t m c
+
+module _ (t : KnownTable) (m : KnownMachine) (c : KnownCpu) where
+  pub unseen_same : (d : KnownCpu) → d ≡ c → IsUnseen t m c d
+  unseen_same d is = record { number = ap (λ (x : KnownCpu). x.number) is; same = ap (local_of t m) is }
+
+  stock_phase : (stock : Seated) → group_of stock.view.last ≡ group_of c.stock.view.last → (f : ℕ) (x : Spot) →
+      phase_of (record c { stock = stock }) f x ≡ phase_of c f x
+  stock_phase stock group f spot_is.Free = refl
+  stock_phase stock group f (spot_is.Lent q) =
+      λ i. cond (q == c.number && nat_le 1 (parts.times f c.fresh)) (phase.Head (record { group = number_or_0 (group i); order = 0 }) (FreshAt q))
+      (phase.Lent q OnList)
+  stock_phase stock group f (spot_is.Head unit) = refl
+  stock_phase stock group f (spot_is.Tail g) = refl
+
+  -- it saw something of its stock, not of which group that is
+  unseen_stock : (d : KnownCpu) (stock : Seated) → d ≡ record c { stock = stock } → group_of stock.view.last ≡ group_of c.stock.view.last → IsUnseen t m c d
+  unseen_stock d stock is group = subst (IsUnseen t m c) (sym is) (record {
+    number = refl;
+    same = λ i. record (local_of t m c) { phases = λ f. stock_phase stock group f (spot_at m.spots f) i };
+  })
+
+  -- it noted something of a frame, not how many references it has
+  unseen_seat : (d : KnownCpu) (seat : KnownSeat) (f : ℕ) (change : FrameNote → FrameNote) → d ≡ record c { seat = seat } → seat ≡ seat_with c.seat f change →
+      ((k : FrameNote) → (change k).references ≡ k.references) → IsUnseen t m c d
+  unseen_seat d seat f change is changed keeps = subst (IsUnseen t m c) (sym is) (record {
+    number = refl;
+    same = λ i. record (local_of t m c) {
+      references = λ q x. cond (q == 0) (holds m.seat x) (cond (q == c.number)
+          ((ap (λ (s : KnownSeat). holds s x) changed ∙ holds_same c.seat f change keeps x) i) 0);
+    };
+  })
+
+  pub fast_unseen : (g : ℕ) (said : fast.Fast) (d : KnownCpu) → FastAnswers g said c d → ((f : ℕ) → said ≢ Got f) → IsUnseen t m c d
+  fast_unseen g FreshFull d is none = unseen_same d is.1
+  fast_unseen g ListEmpty d is none = unseen_same d is.2
+  fast_unseen g OtherGroup d is none = unseen_stock d (with_view c.stock is.1.0) is.1.2 (ap (λ v. group_of v.last) is.1.1.1)
+  fast_unseen g Drained d is none =
+      unseen_stock d (with_view c.stock is.1.0) is.1.2 (ap (λ v. group_of v.last) is.1.1.2 ∙ drained_group c.stock.view.last)
+  fast_unseen g NoStock d is none = unseen_stock d (with_view c.stock is.1.0) is.1.2 (ap (λ v. group_of v.last) is.1.1.1)
+  fast_unseen g (Got f) d is none = absurd (none f refl)
+
+  drop_unseen : (f : ℕ) (d : KnownCpu) → DropAnswers f NeedVisit c d → IsUnseen t m c d
+  drop_unseen f d is = unseen_stock d (with_view c.stock is.0) is.2 (ap (λ v. group_of v.last) is.1.2 ∙ drained_group c.stock.view.last)
+
+  pub list_unseen : (f : ℕ) (d : KnownCpu) → CanNotList f c d → IsUnseen t m c d
+  list_unseen f d (inl is) = unseen_same d is.1
+  list_unseen f d (inr is) = drop_unseen f d is.1
+
+-- ---- one part of the whole
+
+-- what is so of the entries of a list with one more behind it is so of those of the list
+within : {X : Type 0} (steps : List X) (last : X) (P : List X → X → Type 0) →
+    ((k : ℕ) → IfSome (slice_get (steps ++ last ∷ []) k) (λ e. P (take k (steps ++ last ∷ [])) e)) → (k : ℕ) → IfSome (slice_get steps k) (λ e. P (take k steps) e)
+within [] last P all k = tt
+within (x ∷ steps) last P all zero = all zero
+within (x ∷ steps) last P all (suc k) = within steps last (λ before e. P (x ∷ before) e) (λ i. all (suc i)) k
+
+module _ (t : KnownTable) (w : Words) (run : Run) (locked : KnownLocked) (cpus : List KnownCpu) (k : ℕ) (c : KnownCpu)
+    (shows : ShowsAll t run locked.machine cpus) (is_part : slice_get cpus k ≡ Some c) (tied : AreTied t w cpus) where
+  abbrev m : KnownMachine
+  m = locked.machine
+
+  abbrev p : ℕ
+  p = c.number
+
+  abbrev before : Holder
+  before = holder locked c
+
+  -- the whole after these steps, which leave this holder
+  abbrev Follows : Run → Holder → Type 0
+  Follows steps after = ShowsAll t (run ++ steps) after.locked.machine (slice_set cpus k after.cpu)
+
+  abbrev Decided : Run → Type 0
+  Decided steps = AreDecided t cpus (side_of before) steps
+
+  -- nothing that is seen changed
+  unseen_follows : (after : Holder) → after.locked ≡ locked → IsUnseen t m c after.cpu → Follows [] after
+  unseen_follows after kept unseen =
+      let d = after.cpu in
+      subst (λ (r : Run). ShowsAll t r after.locked.machine (slice_set cpus k d)) (sym (append-nil run))
+      (subst (λ (l : KnownLocked). ShowsAll t run l.machine (slice_set cpus k d)) (sym kept) (record {
+        legal = shows.legal;
+        free = shows.free;
+        count = length-set cpus k d ∙ shows.count;
+        each = λ j e at. elim (cases_eq j k) [
+          | inl here ↦
+              let is : e ≡ d = set_here cpus k d e (slice_get_within cpus k c is_part) (subst (λ (i : ℕ). slice_get (slice_set cpus k d) i ≡ Some e) here at) in
+              let was = shows.each k c is_part in
+              subst (λ (x : KnownCpu). IsSeenAt t m (state_of (zone_of t) run) j x) (sym is) (record {
+                number = unseen.number ∙ was.number ∙ ap suc (sym here);
+                sees = unseen.same ∙ was.sees ∙ ap (λ (q : ℕ). seen_by q (state_of (zone_of t) run)) (sym unseen.number);
+              })
+          | inr ne ↦ shows.each j e (set_else cpus k j d e ne at)
+        ];
+      }))
+
+  -- the processor holds the lock from its first step on, which decides nothing
+  inner_decided : (steps : Run) → Decided (under_lock p steps) → Decided steps
+  inner_decided steps decided =
+      let local = local_of t m c in
+      let hold : local.hold ≡ HeldBy p = ap (λ (x : State). x.hold) (shows.each k c is_part).sees in
+      let locks : record local { hold = HeldBy p } ≡ local = λ i. record local { hold = sym hold i } in
+      within steps (cpu_makes p step.Unlock says.Done) (λ first e. IsDecided (seen_together cpus p (state_after local first)) e.0.seat e.0.action e.1)
+      (λ j. subst (λ (l : State). IfSome (slice_get (steps ++ cpu_makes p step.Unlock says.Done ∷ []) j)
+      (λ e. IsDecided (seen_together cpus p (state_after l (take j (steps ++ cpu_makes p step.Unlock says.Done ∷ [])))) e.0.seat e.0.action e.1))
+      locks (decided (suc j)))
+
+  -- served under the lock, after a look at its own stock
+  served_follows : (seen : KnownCpu) → IsUnseen t m c seen → (command : Cmd) (reply : Reply) (after : Holder) →
+      (is : IsServed t command (holder locked seen) reply after) → AllShut after.locked.machine → Decided (under_lock p is.0) → Follows (under_lock p is.0) after
+  served_follows seen unseen command reply after is shut decided =
+      lines_follow t run cpus k (side m c) is.0 (side after.locked.machine after.cpu) shows (record {
+        is_part = is_part;
+        leads = subst (λ (x : ℕ × State). IsLocalRun x.0 x.1 is.0 (local_of t after.locked.machine after.cpu)) (λ i. (unseen.number i, unseen.same i)) is.2;
+        decided = inner_decided is.0 decided;
+        shut = shut;
+      })
+
+  -- a step without the lock
+  step_follows : (action : Action) (said : Said) (after : Holder) → after.locked ≡ locked → after.cpu.number ≡ p → is_fast action ≡ true →
+      Makes t (side m c) (cpu_makes p action said ∷ []) (side m after.cpu) → Decided (cpu_makes p action said ∷ []) → Follows (cpu_makes p action said ∷ []) after
+  step_follows action said after kept number quick leads decided =
+      subst (λ (l : KnownLocked). ShowsAll t (run ++ cpu_makes p action said ∷ []) l.machine (slice_set cpus k after.cpu)) (sym kept)
+      (fast_lines_follow t run cpus k (side m c) action said (side m after.cpu) shows (record {
+        is_part = is_part;
+        number = number;
+        fast = quick;
+        machine = refl;
+        leads = leads;
+        decided = decided;
+      }))
+
+  this_part : IsPart t w run m cpus k c
+  this_part = record { shows = shows; is_part = is_part; tied = (tied k c is_part).tied }
+
+  got_follows : (g f : ℕ) (after : Holder) → FastAnswers g (Got f) c after.cpu → after.locked ≡ locked → Decided (taken_steps p g (Got f)) →
+      Follows (taken_steps p g (Got f)) after
+  got_follows g f after is kept decided =
+      step_follows (step.Consume g) says.Took after kept (ap (λ (x : KnownCpu). x.number) is.5) refl
+      (fast_calls_lead.got t w run m cpus k c after.cpu this_part g f is decided) decided
+
+  fast_follows : (g : ℕ) (said : fast.Fast) (after : Holder) → FastAnswers g said c after.cpu → after.locked ≡ locked → Decided (taken_steps p g said) →
+      Follows (taken_steps p g said) after
+  fast_follows g FreshFull after is kept decided = unseen_follows after kept (fast_unseen t m c g FreshFull after.cpu is (λ f e. cc))
+  fast_follows g ListEmpty after is kept decided = unseen_follows after kept (fast_unseen t m c g ListEmpty after.cpu is (λ f e. cc))
+  fast_follows g OtherGroup after is kept decided = unseen_follows after kept (fast_unseen t m c g OtherGroup after.cpu is (λ f e. cc))
+  fast_follows g Drained after is kept decided = unseen_follows after kept (fast_unseen t m c g Drained after.cpu is (λ f e. cc))
+  fast_follows g NoStock after is kept decided = unseen_follows after kept (fast_unseen t m c g NoStock after.cpu is (λ f e. cc))
+  fast_follows g (Got f) after is kept decided = got_follows g f after is kept decided
+
+  get_follows : (f : ℕ) (said : Answer) (after : Holder) → f < t.frames → AnswersGet f before said after → Decided (get_steps p f said) →
+      Follows (get_steps p f said) after
+  get_follows f (answer.Got Held) after inside is decided =
+      step_follows (step.Get f) says.Held after is.2 (ap (λ (x : KnownCpu). x.number) is.1.2) refl
+      (fast_calls_lead.held t w run m cpus k c after.cpu this_part f inside is.0 is.1) decided
+  get_follows f (answer.Got Zero) after inside is decided =
+      unseen_follows after is.2 (unseen_seat t m c after.cpu is.1.0 f (looked is.1.1.0) is.1.2 is.1.1.2 (λ x. refl))
+  get_follows f (answer.Got (Raced found)) after inside is decided =
+      unseen_follows after is.2 (unseen_seat t m c after.cpu is.1.0 f (λ x. raced found (looked is.1.1.0 x)) is.1.2 is.1.1.4 (λ x. refl))
+  get_follows f (answer.Got Full) after inside is decided =
+      unseen_follows after is.2 (unseen_seat t m c after.cpu is.1.0 f (looked 255) is.1.2 is.1.1 (λ x. refl))
+  get_follows f (answer.Served (Refused PinsFull)) after inside is decided = unseen_follows after is.2 (unseen_same t m c after.cpu is.1)
+  get_follows f said after inside is decided = absurd is
+
+  put_follows : (f : ℕ) (said : Answer) (after : Holder) → AnswersPut f before said after → Decided (put_steps p f said) → Follows (put_steps p f said) after
+  put_follows f (answer.Put putted) after is decided =
+      step_follows (step.Put f) (put_answer putted) after is.2 (put_number putted is.1) refl
+      (fast_calls_lead.putted t w run m cpus k c after.cpu this_part f putted is.1) decided
+    where
+      put_number : (x : Putted) → UnpinAnswers f x c after.cpu → after.cpu.number ≡ p
+      put_number (put.Left n) a = ap (λ (y : KnownCpu). y.number) a.3
+      put_number put.Last a = ap (λ (y : KnownCpu). y.number) a.3
+  put_follows f (answer.Served (Refused NotPinned)) after is decided = unseen_follows after is.2 (unseen_same t m c after.cpu is.1)
+  put_follows f said after is decided = absurd is
+
+  replied_follows : (command : Cmd) (said : Answer) (after : Holder) (is : RepliesServed t command before said after) → AllShut after.locked.machine →
+      Decided (served_steps t command before said after is) → Follows (served_steps t command before said after is) after
+  replied_follows command (answer.Served reply) after is shut decided =
+      served_follows c (unseen_same t m c c refl) command reply after is shut decided
+  replied_follows command said after is shut decided = absurd is
+
+  frame_follows : (path : Bor (List ℕ)) (said : Answer) (after : Holder) (is : AnswersFrame t path before said after) → AllShut after.locked.machine →
+      Decided (frame_steps t path before said after is) → Follows (frame_steps t path before said after is) after
+  frame_follows path (answer.Fast (Got f)) after is shut decided = got_follows is.0 f after is.2 is.3 decided
+  frame_follows path (answer.Served reply) after (inl none) shut decided = unseen_follows after none.2 (unseen_same t m c after.cpu none.3)
+  frame_follows path (answer.Served reply) after (inr served) shut decided =
+      served_follows served.0 (fast_unseen t m c served.1.group served.1.fast served.0 served.1.answers served.1.none) (cmd.Alloc path 0) reply after served.2
+      shut decided
+  frame_follows path said after is shut decided = absurd is
+
+  release_follows : (f : ℕ) (said : Answer) (after : Holder) (is : AnswersRelease t f before said after) → AllShut after.locked.machine →
+      Decided (release_steps t f before said after is) → Follows (release_steps t f before said after is) after
+  release_follows f answer.Listed after is shut decided =
+      step_follows (step.Credit f) says.Back after is.2 (ap (λ (x : KnownCpu). x.number) is.1.5) refl
+      (fast_calls_lead.listed t w run m cpus k c after.cpu this_part f is.0 is.1 decided) decided
+  release_follows f (answer.Served reply) after is shut decided =
+      served_follows is.0 (list_unseen t m c f is.0 is.1) (cmd.Release f) reply after is.2 shut decided
+  release_follows f said after is shut decided = absurd is
+
+  settle_follows : (said : Answer) (after : Holder) (is : AnswersSettle t before said after) → AllShut after.locked.machine →
+      Decided (settle_steps t before said after is) → Follows (settle_steps t before said after is) after
+  settle_follows answer.Settled after is shut decided = served_follows c (unseen_same t m c c refl) cmd.Settle Done after is shut decided
+  settle_follows said after is shut decided = absurd is
+
+  answer_follows : (asked : Work) (said : Answer) (after : Holder) → WorkInRange t.frames asked → (is : Answers t asked before said after) →
+      AllShut after.locked.machine → Decided (answer_steps t asked before said after is) → Follows (answer_steps t asked before said after is) after
+  answer_follows (work.Visit command) said after names is shut decided = replied_follows command said after is shut decided
+  answer_follows (work.Frame path) said after names is shut decided = frame_follows path said after is shut decided
+  answer_follows (work.Fast g) (answer.Fast taken) after names is shut decided = fast_follows g taken after is.0 is.1 decided
+  answer_follows (work.Fast g) said after names is shut decided = absurd is
+  answer_follows (work.Release f) said after names is shut decided = release_follows f said after is shut decided
+  answer_follows (work.Get f) said after names is shut decided = get_follows f said after names is decided
+  answer_follows (work.Put f) said after names is shut decided = put_follows f said after is decided
+  answer_follows work.Settle said after names is shut decided = settle_follows said after is shut decided
+  answer_follows work.Blocks said after names is shut decided = absurd is
+  answer_follows work.Show said after names is shut decided = absurd is
+
+  pub work_follows : (asked : Work) (text : List ℕ) (after : Holder) → WorkInRange t.frames asked → (is : AnswersWork t asked before text after) →
+      AllShut after.locked.machine → Decided (work_steps t asked before text after is) → Follows (work_steps t asked before text after is) after
+  work_follows work.Blocks text after names is shut decided = served_follows c (unseen_same t m c c refl) cmd.Settle Done after is.0 shut decided
+  work_follows work.Show text after names is shut decided = served_follows c (unseen_same t m c c refl) cmd.Settle Done after is.0 shut decided
+  work_follows asked text after names is shut decided = answer_follows asked is.0 after names is.1 shut decided

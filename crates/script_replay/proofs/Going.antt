@@ -1,0 +1,162 @@
+-- The lines that went well so far, and the history that they tell. Serves `serve_line`, `replay`.
+use Rattle.std.proofs.Common.{Result, Ok, Err, IfOk, ◌≡◌, ℕ, ◌+◌, ◌-◌, ◌<◌, ◌≤◌, Some, None, List, [], ◌∷◌, ◌++◌, length, take, get_or, append_assoc, append-nil, ap, refl, sym, ◌∙◌, subst, arith, inl, inr}
+use Rattle.std.specs.Prelude.{slice_set}
+use Rattle.std.specs.List.{slice_get}
+use Rattle.std.proofs.lemmas.Bool.{cases_eq}
+use Rattle.std.proofs.lemmas.List.{take_more, take_all}
+use Rattle.std.proofs.lemmas.Option.{slice_get_within, slice_get_read, none-some}
+use Rattle.frame_word.specs.Seats.{KnownTable}
+use Rattle.stock_word.specs.declared.view.Stock.{Stock}
+use Rattle.stock_word.specs.declared.view.Stock.TheVariants as stock_is
+use Rattle.stock_word.specs.Stock.{Words, group_of}
+use Rattle.group_charge.specs.Charges.{AreCharges}
+use Rattle.cpu_part.specs.Cpus.{KnownCpu, IsTied}
+use Rattle.step_rules.specs.After.{Run}
+use Rattle.mem_machine.specs.Machines.{IsConsistent}
+use Rattle.mem_history.specs.Whole.{ShowsAll}
+use Rattle.mem_history.specs.Kept.{AreTied, IsTiedPart}
+use Rattle.mem_history.proofs.Wholes.{set_here, set_else}
+use Rattle.mem_history.proofs.Promised.{the_whole_is_promised}
+use Rattle.mem_system.specs.Boots.{KnownLocked, IsQuiet}
+use Rattle.mem_system.specs.Commands.{holder}
+use Rattle.script_lines.specs.declared.line.Command.{Command}
+use Rattle.script_lines.specs.declared.line.Line.{Line}
+use Rattle.script_lines.specs.declared.line.Line.TheVariants.{Go, At}
+use Rattle.script_replay.specs.Answers.{AnswersText}
+use Rattle.script_replay.specs.Lines.{Standing, AtPart, ServesLine, ServesAll}
+use Rattle.script_replay.specs.History.{line_steps, LineIsDecided, TellsHistory, GoesWell}
+use Rattle.script_replay.specs.Ranges.{LineIsThere}
+use Rattle.script_replay.specs.Works.{work_of}
+use Rattle.script_replay.proofs.InRange.{work_in_range}
+use Rattle.script_replay.proofs.Following.{work_follows}
+
+-- ---- one line
+
+no_group : (x : Stock) → group_of x ≡ None → x ≡ stock_is.NoGroup
+no_group stock_is.NoGroup e = refl
+no_group (stock_is.HeldBy h n) e = absurd (none-some h (sym e))
+no_group (stock_is.DrainedOf h) e = absurd (none-some h (sym e))
+
+-- the other parts stay what their seats know
+pub tied_still : (t : KnownTable) (w : Words) (cpus : List KnownCpu) (k : ℕ) (c d : KnownCpu) → slice_get cpus k ≡ Some c → IsTied t w d →
+    (d.stock.view.last ≡ stock_is.NoGroup → d.fresh ≡ []) → AreTied t w cpus → AreTied t w (slice_set cpus k d)
+tied_still t w cpus k c d is_part tied none all j e at = elim (cases_eq j k) [
+  | inl here ↦
+      let is : e ≡ d = set_here cpus k d e (slice_get_within cpus k c is_part) (subst (λ (i : ℕ). slice_get (slice_set cpus k d) i ≡ Some e) here at) in
+      subst (IsTiedPart t w) (sym is) (record { tied = tied; none_fresh = λ z. ap length (none (no_group d.stock.view.last z)) })
+  | inr ne ↦ all j e (set_else cpus k j d e ne at)
+]
+
+-- a command that was served at its part
+pub part_goes : (t : KnownTable) (w : Words) (before after : KnownLocked) (cpus : List KnownCpu) (line : Line) (processor : ℕ) (command : Command) (c d : KnownCpu)
+    {U E : Type 0} (r : Result U E) (old new : List ℕ) → line ≡ At processor command → LineIsThere t.frames (length cpus) line →
+    slice_get cpus (processor - 1) ≡ Some c →
+    IfOk r (λ _. (said : List ℕ) × AnswersText t command (holder before c) said (holder after d) × (new ≡ old ++ said)) →
+    IsQuiet t w after → IsConsistent t w after.machine → AreCharges after.machine.ledger → IsTied t w d → (d.stock.view.last ≡ stock_is.NoGroup → d.fresh ≡ []) →
+    IfOk r (λ _. (text : List ℕ) × GoesWell t w (record { locked = before; cpus = cpus }) line text
+    (record { locked = after; cpus = slice_set cpus (processor - 1) d }) × (new ≡ old ++ text))
+part_goes t w before after cpus line processor command c d (Err e) old new is there is_part answered quiet good charges tied none = tt
+part_goes t w before after cpus line processor command c d (Ok u) old new is there is_part answered quiet good charges tied none = (
+  answered.0,
+  record {
+    there = there;
+    serves = subst (λ (x : Line). ServesLine t (record { locked = before; cpus = cpus }) x answered.0
+        (record { locked = after; cpus = slice_set cpus (processor - 1) d })) (sym is)
+        (record { part = c; left = d; is_part = is_part; answers = answered.1; cpus = refl });
+    stands = record {
+      quiet = quiet;
+      consistent = good;
+      charges = charges;
+      tied = λ all. tied_still t w cpus (processor - 1) c d is_part tied none all;
+    };
+  },
+  answered.2,
+)
+
+-- the same, of the part that was read
+pub part_read : (t : KnownTable) (w : Words) (before after : KnownLocked) (cpus : List KnownCpu) (line : Line) (processor : ℕ) (command : Command) (c d : KnownCpu)
+    {U E : Type 0} (r : Result U E) (old new : List ℕ) → line ≡ At processor command → LineIsThere t.frames (length cpus) line →
+    c ≡ get_or cpus (processor - 1) c →
+    IfOk r (λ _. (said : List ℕ) × AnswersText t command (holder before c) said (holder after d) × (new ≡ old ++ said)) →
+    IsQuiet t w after → IsConsistent t w after.machine → AreCharges after.machine.ledger → IsTied t w d → (d.stock.view.last ≡ stock_is.NoGroup → d.fresh ≡ []) →
+    IfOk r (λ _. (text : List ℕ) × GoesWell t w (record { locked = before; cpus = cpus }) line text
+    (record { locked = after; cpus = slice_set cpus (processor - 1) d }) × (new ≡ old ++ text))
+part_read t w before after cpus line processor command c d r old new is there read answered quiet good charges tied none =
+    let named : LineIsThere t.frames (length cpus) (At processor command) = subst (LineIsThere t.frames (length cpus)) is there in
+    let low = named.low in
+    let high = named.high in
+    part_goes t w before after cpus line processor command c d r old new is there
+    (slice_get_read cpus (length cpus) (processor - 1) c refl (omega arith) read) answered quiet good charges tied none
+
+-- ---- the lines so far
+
+abbrev pub GoesAll : KnownTable → Words → Standing → List Line → List ℕ → Standing → Type 0
+GoesAll t w s [] text e = (text ≡ []) × (e ≡ s)
+GoesAll t w s (line ∷ lines) text e =
+    (first : List ℕ) × (rest : List ℕ) × (mid : Standing) × GoesWell t w s line first mid × GoesAll t w mid lines rest e × (text ≡ first ++ rest)
+
+goes_more : (t : KnownTable) (w : Words) (s m e : Standing) (lines : List Line) (line : Line) (text more : List ℕ) → GoesAll t w s lines text m
+    → GoesWell t w m line more e → GoesAll t w s (lines ++ line ∷ []) (text ++ more) e
+goes_more t w s m e [] line text more all one =
+    let at : GoesWell t w s line more e = subst (λ (x : Standing). GoesWell t w x line more e) all.1 one in
+    (more, [], e, at, (refl, refl), ap (λ l. l ++ more) all.0 ∙ sym (append-nil more))
+goes_more t w s m e (l ∷ lines) line text more all one =
+    (all.0, all.1 ++ more, all.2, all.3, goes_more t w all.2 m e lines line all.1 more all.4 one, ap (λ x. x ++ more) all.5 ∙ append_assoc all.0 all.1 more)
+
+pub goes_line : (t : KnownTable) (w : Words) (s m e : Standing) (lines : List Line) (i : ℕ) (default : Line) (text new : List ℕ)
+    → i < length lines → GoesAll t w s (take i lines) text m
+    → (more : List ℕ) × GoesWell t w m (get_or lines i default) more e × (new ≡ text ++ more)
+    → GoesAll t w s (take (i + 1) lines) new e
+goes_line t w s m e lines i default text new inside all one =
+    let next : take (i + 1) lines ≡ take i lines ++ get_or lines i default ∷ [] = take_more lines i default inside in
+    rw (next, one.2) (goes_more t w s m e (take i lines) (get_or lines i default) text one.0 all one.1)
+
+pub goes_served : (t : KnownTable) (w : Words) (s e : Standing) (lines : List Line) (text : List ℕ) → GoesAll t w s lines text e → ServesAll t s lines text e
+goes_served t w s e [] text all = all
+goes_served t w s e (line ∷ lines) text all = (all.0, all.1, all.2, all.3.serves, goes_served t w all.2 e lines all.1 all.4, all.5)
+
+-- the lines are at their end
+pub goes_end : (t : KnownTable) (w : Words) (s e : Standing) (lines : List Line) (i : ℕ) (text items : List ℕ) → length lines ≤ i →
+    GoesAll t w s (take i lines) text e → items ≡ text → GoesAll t w s lines items e
+goes_end t w s e lines i text items past all is =
+    subst (λ (x : List Line × List ℕ). GoesAll t w s x.0 x.1 e) (λ j. (take_all i lines past j, sym is j)) all
+
+-- ---- what they tell
+
+some_cpu : (t : KnownTable) (w : Words) (locked : KnownLocked) → IsQuiet t w locked → 1 ≤ t.cpus
+some_cpu t w locked quiet = let sized = quiet.sized.cpus in let low = quiet.valid.cpus_low in omega arith
+
+line_follows : (t : KnownTable) (w : Words) (run : Run) (s e : Standing) (line : Line) (text : List ℕ) → ShowsAll t run s.locked.machine s.cpus →
+    AreTied t w s.cpus → (goes : GoesWell t w s line text e) → LineIsDecided t s line text e goes.serves →
+    ShowsAll t (run ++ line_steps t s line text e goes.serves) e.locked.machine e.cpus
+line_follows t w run s e Go text shows tied goes decided =
+    subst (λ (r : Run). ShowsAll t r e.locked.machine e.cpus) (sym (append-nil run))
+    (subst (λ (x : Standing). ShowsAll t run x.locked.machine x.cpus) (sym goes.serves.1) shows)
+line_follows t w run s e (At processor command) text shows tied goes decided =
+    let is : AtPart processor (λ one other. AnswersText t command one text other) s e = goes.serves in
+    subst (λ (cpus : List KnownCpu). ShowsAll t (run ++ line_steps t s (At processor command) text e goes.serves) e.locked.machine cpus) (sym is.cpus)
+    (work_follows t w run s.locked s.cpus (processor - 1) is.part shows is.is_part tied (work_of command) text (holder e.locked is.left)
+    (work_in_range t.frames command goes.there.names) is.answers goes.stands.quiet.shut decided)
+
+pub goes_history : (t : KnownTable) (w : Words) (decided : Type 0) (run : Run) (s e : Standing) (lines : List Line) (text : List ℕ) →
+    (decided → ShowsAll t run s.locked.machine s.cpus) → AreTied t w s.cpus → GoesAll t w s lines text e → TellsHistory t decided run s lines text e
+goes_history t w decided run s e [] text shows tied all = all
+goes_history t w decided run s e (line ∷ lines) text shows tied all =
+    let goes = all.3 in
+    let mid = all.2 in
+    let next : Run = run ++ line_steps t s line all.0 mid goes.serves in
+    let follows : decided → LineIsDecided t s line all.0 mid goes.serves → ShowsAll t next mid.locked.machine mid.cpus =
+    λ so_far here. line_follows t w run s mid line all.0 (shows so_far) tied goes here in
+    let tied_then : AreTied t w mid.cpus = goes.stands.tied tied in (
+      all.0,
+      all.1,
+      mid,
+      goes.serves,
+      λ so_far here. record {
+        legal = (follows so_far here).legal;
+        promise = the_whole_is_promised t w next mid.locked.machine mid.cpus (follows so_far here) goes.stands.consistent goes.stands.charges tied_then
+            (some_cpu t w mid.locked goes.stands.quiet);
+      },
+      goes_history t w (decided × LineIsDecided t s line all.0 mid goes.serves) next mid e lines all.1 (λ both. follows both.0 both.1) tied_then all.4,
+      all.5,
+    )
