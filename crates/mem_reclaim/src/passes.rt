@@ -59,15 +59,8 @@ fn scan_both<N: BootName>(
     if want <= inactive {
         return inactive;
     }
-    inactive
-        + scan(
-            machine,
-            tables,
-            group,
-            LruList::Active,
-            want - inactive,
-            false,
-        )
+    let active = scan(machine, tables, group, LruList::Active, want - inactive, false);
+    inactive + active
 }
 
 // Whether the other group is there and is the group or lies below it.

@@ -14,20 +14,20 @@ returns-then-want-inactive-clause-passes g c =
 pub returns-clause-passes : goal.returns-clause-passes
 returns-clause-passes g c =
     both_done g.N.BootName.frames (ScansList false c.args.group) Inactive Active c.args.want c.args.machine.now c.requires.wanted c.scan-inactive.result
-    c.scan-inactive.new.machine c.scan-inactive.ensures.scans c.if-want-inactive.false c.scan.result c.scan.new.machine c.scan.ensures.scans
+    c.scan-inactive.new.machine c.scan-inactive.ensures.scans c.if-want-inactive.false c.scan-active.result c.scan-active.new.machine c.scan-active.ensures.scans
 
 pub returns-clause-keeps : goal.returns-clause-keeps
-returns-clause-keeps g c = keeps_both g.N.BootName.frames c.args.machine.now c.scan-inactive.new.machine c.scan.new.machine c.scan-inactive.ensures.keeps c.scan.ensures.keeps
+returns-clause-keeps g c = keeps_both g.N.BootName.frames c.args.machine.now c.scan-inactive.new.machine c.scan-active.new.machine c.scan-inactive.ensures.keeps c.scan-active.ensures.keeps
 
 pub returns-clause-usage : goal.returns-clause-usage
 returns-clause-usage g c x =
-    usage_both g.N.BootName.frames c.args.machine.now c.scan-inactive.new.machine c.scan.new.machine c.args.group x c.scan-inactive.result c.scan.result c.scan-inactive.ensures.keeps (c.scan-inactive.ensures.usage x)
-    (c.scan.ensures.usage x)
+    usage_both g.N.BootName.frames c.args.machine.now c.scan-inactive.new.machine c.scan-active.new.machine c.args.group x c.scan-inactive.result c.scan-active.result c.scan-inactive.ensures.keeps (c.scan-inactive.ensures.usage x)
+    (c.scan-active.ensures.usage x)
 
 pub returns-clause-leaves : goal.returns-clause-leaves
-returns-clause-leaves g c = only_both c.args.machine.now c.scan-inactive.new.machine c.scan.new.machine (c.scan-inactive.ensures.leaves refl) (c.scan.ensures.leaves refl)
+returns-clause-leaves g c = only_both c.args.machine.now c.scan-inactive.new.machine c.scan-active.new.machine (c.scan-inactive.ensures.leaves refl) (c.scan-active.ensures.leaves refl)
 
 pub returns-clause-missed : goal.returns-clause-missed
 returns-clause-missed g c less =
-    both_missed g.N.BootName.frames c.args.machine.now c.scan-inactive.new.machine c.scan.new.machine c.args.group c.scan-inactive.ensures.keeps c.scan.ensures.keeps (c.scan.ensures.leaves refl)
-    (c.scan-inactive.ensures.missed refl c.if-want-inactive.false) (c.scan.ensures.missed refl (let a = c.if-want-inactive.false in omega (arith, less, a)))
+    both_missed g.N.BootName.frames c.args.machine.now c.scan-inactive.new.machine c.scan-active.new.machine c.args.group c.scan-inactive.ensures.keeps c.scan-active.ensures.keeps (c.scan-active.ensures.leaves refl)
+    (c.scan-inactive.ensures.missed refl c.if-want-inactive.false) (c.scan-active.ensures.missed refl (let a = c.if-want-inactive.false in omega (arith, less, a)))

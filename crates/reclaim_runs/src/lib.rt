@@ -1,0 +1,7 @@
+//! Rows of reclaim on a small machine. Nothing but tests stands here.
+#![tactic(auto)]
+
+#[cfg(test)]
+mod rows;
+#[cfg(test)]
+mod small;
