@@ -463,11 +463,9 @@ fn works_beside<N: BootName + Send + Sync, R: Threads + Abort + Sync>(
 {
     let (tables, mut zone, mut machine, mut first, mut second) = set_up::<N, 8>(rt, alloc, parts);
     let used = begins(rt, &tables, &mut zone, &mut machine, &mut first);
-    same(
-        rt,
-        beside(rt, &tables, &mut first, &mut second, used),
-        (1000, false),
-    );
+    let (listed, is_last) = beside(rt, &tables, &mut first, &mut second, used);
+    same(rt, listed, 1000);
+    same(rt, is_last, false);
     same(rt, first.drops(), 1000);
     same(rt, first.number(), 1);
     same(rt, tables.stocks.drain(&mut machine, 1), 4);

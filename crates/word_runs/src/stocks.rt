@@ -7,13 +7,6 @@ use std::process::Abort;
 use std::thread::{Threads, join};
 use stock_word::{Consume, Credit, Stock, StockSeat, StockWords};
 
-// By the books of the machine's seat, nothing is booked to the stock of processor 1.
-fn nothing_booked(machine: &StockSeat)
-    requires { (account_of machine.now.view 1).book ≡ 0 }
-{
-    let _ = machine;
-}
-
 // A page of the stock is fresh when the other three are drained. It is reported and taken in.
 fn drained_beside_a_page(
     rt: &impl Abort,
@@ -31,8 +24,7 @@ fn drained_beside_a_page(
     same(rt, words.consume(seat, 1), Consume::Drained);
     same(rt, words.credit(seat), Credit::Drained);
     words.report(machine, seat, 1);
-    words.absorb(machine, 1);
-    nothing_booked(machine);
+    same(rt, words.absorb(machine, 1), 1);
 }
 
 #[test]
