@@ -54,7 +54,7 @@ module _ (sizes : Config) (t : KnownTable) (w : Words) (m : KnownMachine) (cpus 
       let below = slice_get_within cpus k c at in
       let long : length cpus ≡ sizes.cpus = ap length are ∙ first_long t w 1 sizes.cpus in
       let frames = sized.cpus in
-      let payers = sized.payers in
+      let payers = sized.stock_cpus in
       subst (IsTiedPart t w) (sym (each_first k c at)) (record {
         tied = first_tied t w (suc k) (omega arith) (omega arith) (omega arith);
         none_fresh = λ none. refl;

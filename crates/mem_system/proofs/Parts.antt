@@ -8,26 +8,26 @@ use Rattle.mem_system.specs.Boots.{part_at_first, first_cpus}
 use Rattle.mem_system.specs.Commands.{Serves}
 
 -- the seats that are left after i processors were dealt
-pub seats_left : (id : TableId) (i n : ℕ) → i < n
+pub frame_seats_left : (id : TableId) (i n : ℕ) → i < n
     → first_cpu_seats id (i + 1) (n - i) ≡ record { table = id; view = first_cpu_view (i + 1) } ∷ first_cpu_seats id ((i + 1) + 1) (n - (i + 1))
-seats_left id i n lt = ap (first_cpu_seats id (i + 1)) (let e : n - i ≡ suc (n - (i + 1)) = omega arith in e)
+frame_seats_left id i n lt = ap (first_cpu_seats id (i + 1)) (let e : n - i ≡ suc (n - (i + 1)) = omega arith in e)
 
-pub payers_left : (id : TableId) (i n : ℕ) → i < n
+pub stock_seats_left : (id : TableId) (i n : ℕ) → i < n
     → first_seats id (i + 1) (n - i) ≡ record { table = id; view = first_processor (i + 1) } ∷ first_seats id ((i + 1) + 1) (n - (i + 1))
-payers_left id i n lt = ap (first_seats id (i + 1)) (let e : n - i ≡ suc (n - (i + 1)) = omega arith in e)
+stock_seats_left id i n lt = ap (first_seats id (i + 1)) (let e : n - i ≡ suc (n - (i + 1)) = omega arith in e)
 
 -- what `remove(0)` took out is the front
 pub front_is : {A : Type 0} (xs : List A) (first : A) (rest : List A) (taken : A) → xs ≡ first ∷ rest → taken ≡ get_or xs 0 taken → taken ≡ first
 front_is xs first rest taken e is = is ∙ ap (λ l. get_or l 0 taken) e
 
 -- a first seat is one of the table's processors', and did nothing
-pub seat_first : (t : KnownTable) (s : KnownSeat) (p : ℕ) → s ≡ record { table = t.table; view = first_cpu_view p } → 1 ≤ p → p ≤ t.cpus
+pub frame_seat_first : (t : KnownTable) (s : KnownSeat) (p : ℕ) → s ≡ record { table = t.table; view = first_cpu_view p } → 1 ≤ p → p ≤ t.cpus
     → IsCpuSeat t s × (s.view ≡ first_cpu_view (number_of s))
-seat_first t s p is low high = subst (λ (x : KnownSeat). IsCpuSeat t x × (x.view ≡ first_cpu_view (number_of x))) (sym is) ((refl, low, high), refl)
+frame_seat_first t s p is low high = subst (λ (x : KnownSeat). IsCpuSeat t x × (x.view ≡ first_cpu_view (number_of x))) (sym is) ((refl, low, high), refl)
 
-pub payer_first : (w : Words) (s : Seated) (p : ℕ) → s ≡ record { table = w.table; view = first_processor p } → 1 ≤ p → p ≤ w.cpus
+pub stock_seat_first : (w : Words) (s : Seated) (p : ℕ) → s ≡ record { table = w.table; view = first_processor p } → 1 ≤ p → p ≤ w.cpus
     → (s.table ≡ w.table) × IsProcessor w s.view × (s.view.fresh ≡ 0)
-payer_first w s p is low high = subst (λ (x : Seated). (x.table ≡ w.table) × IsProcessor w x.view × (x.view.fresh ≡ 0)) (sym is) (refl, (low, high), refl)
+stock_seat_first w s p is low high = subst (λ (x : Seated). (x.table ≡ w.table) × IsProcessor w x.view × (x.view.fresh ≡ 0)) (sym is) (refl, (low, high), refl)
 
 module _ (t : KnownTable) (w : Words) where
   cpus_more : (p n : ℕ) → first_cpus t w p (suc n) ≡ first_cpus t w p n ++ part_at_first t w (p + n) ∷ []

@@ -22,16 +22,16 @@ pub record KnownLocked : Type 0 where
 pub record IsSizedAs (sizes : Config) (table : KnownTable) (words : Words) : Type 0 where
   pub frames : table.frames ≡ sizes.frames
   pub cpus : table.cpus ≡ sizes.cpus
-  pub payers : words.cpus ≡ sizes.cpus
+  pub stock_cpus : words.cpus ≡ sizes.cpus
 
 -- the sizes are in their ranges, the tables have them, and the seats are all those of the tables, none of which did anything
-pub record IsBooted (boot : KnownBoot) (zone : KnownSeat) (machine : Seated) (seats : List KnownSeat) (payers : List Seated) : Type 0 where
+pub record IsBooted (boot : KnownBoot) (zone : KnownSeat) (stock : Seated) (frame_seats : List KnownSeat) (stock_seats : List Seated) : Type 0 where
   pub valid : IsValidConfig boot.sizes
   pub sized : IsSizedAs boot.sizes boot.frames boot.stocks
   pub zone_is : zone ≡ record { table = boot.frames.table; view = first_zone_view boot.frames.frames }
-  pub machine_is : machine ≡ record { table = boot.stocks.table; view = first_machine }
-  pub seats_are : seats ≡ first_cpu_seats boot.frames.table 1 boot.sizes.cpus
-  pub payers_are : payers ≡ first_seats boot.stocks.table 1 boot.sizes.cpus
+  pub stock_is : stock ≡ record { table = boot.stocks.table; view = first_machine }
+  pub frame_seats_are : frame_seats ≡ first_cpu_seats boot.frames.table 1 boot.sizes.cpus
+  pub stock_seats_are : stock_seats ≡ first_seats boot.stocks.table 1 boot.sizes.cpus
 
 -- no visit is open
 abbrev pub AllShut : KnownMachine → Type 0

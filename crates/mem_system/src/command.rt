@@ -8,13 +8,13 @@ ghost use Rattle.mem_system.specs.Boots.{IsSizedAs};
 ghost use Rattle.mem_system.specs.Outcomes.{HasItsGroups, reply_of};
 ghost use Rattle.mem_system.specs.Commands.{BySteps, FreshAfter, IsOfZone, Obeys};
 
-use crate::allocated::allocate;
+use crate::allocations::allocate;
 use crate::directories::{make_group, remove_group};
 use crate::files::{read_file, write_file};
-use crate::kept::{note_dirt, touch_frame};
 use crate::outcome::Outcome;
 use crate::owners::tell_place;
-use crate::released::release_frame;
+use crate::releases::release_frame;
+use crate::units::{note_dirt, touch_frame};
 use control_files::text::ArrayText;
 use cpu_part::{BootName, Cpu, Tables};
 use group_tree::fault::Fault;

@@ -5,36 +5,36 @@
 //! of a type's values is known only where one of its calls says it.
 #![tactic(auto)]
 
-mod allocated;
+mod allocations;
 mod audit;
-mod booted;
-mod booting;
+mod boot_tables;
+mod boots;
 mod command;
 mod directories;
-mod ending;
+mod ends;
 mod files;
 mod gates;
-mod kept;
-mod locked;
+mod last_visits;
+mod lock;
 mod outcome;
 mod owners;
-mod released;
-mod resting;
-mod serving;
-mod shown;
-mod shutting;
+mod releases;
+mod shutdowns;
 mod system;
+mod texts;
+mod units;
+mod visits;
 
-pub use allocated::carry_out_frame;
+pub use allocations::carry_out_frame;
 pub use audit::Audit;
-pub use booted::Boot;
-pub use booting::{BootFault, boot};
+pub use boot_tables::{BootFault, boot};
+pub use boots::Boot;
 pub use command::{Cmd, Reply};
-pub use ending::{Pinned, end};
+pub use ends::{Pinned, end};
 pub use gates::{Gate, NoGate};
-pub use locked::Locked;
+pub use lock::Locked;
 pub use outcome::Outcome;
-pub use serving::{carry_out, serve};
-pub use shown::{blocks, settle, show};
-pub use shutting::Held;
+pub use shutdowns::Held;
 pub use system::System;
+pub use texts::{blocks, settle, show};
+pub use visits::{carry_out, serve};

@@ -6,11 +6,11 @@ ghost use Rattle.group_tree.specs.Groups.{number_at};
 ghost use Rattle.mem_system.specs.Boots.{KnownLocked, IsQuiet, first_cpus};
 ghost use Rattle.mem_system.specs.Commands.{FreshAfter, IsOfZone, IsServed, holder};
 
-use crate::booted::Boot;
+use crate::boots::Boot;
 use crate::command::{Cmd, Reply};
 use crate::gates::{Gate, NoGate};
-use crate::locked::Locked;
-use crate::serving::serve;
+use crate::lock::Locked;
+use crate::visits::serve;
 use cpu_part::{BootName, Cpu, Tables};
 use group_charge::charges::Charges;
 use group_tree::group::GroupId;

@@ -1,0 +1,41 @@
+use Rattle.std.proofs.Common.{◌≡◌, ◌≤◌, ℕ, Some, subst, rules}
+use Rattle.group_tree.specs.Groups.{number_at}
+use Rattle.mem_system.specs.Allocs.{Allocates, FreshOf, outcome_of}
+use Rattle.mem_system.specs.Outcomes.{reply_of}
+use Rattle.mem_system.proofs.Found.{found_there}
+use Rattle.mem_system.proofs.Allocating.{allocated, has_groups, fresh_then}
+use Rattle.mem_machine.specs.Local.{side}
+use Rattle.mem_system.specs.Commands.{BySteps, course}
+use Rattle.mem_system.proofs.allocations.allocate.Goals as goal
+
+pub allocate_as-answer-requires-clause-there : goal.allocate_as-answer-requires-clause-there
+allocate_as-answer-requires-clause-there g c =
+    let found : number_at c.args.machine.now.ledger.groups c.args.path.now ≡ Some c.in-Some.group = search rules in
+    found_there _ _ _ found
+
+pub returns-clause-allocates : goal.returns-clause-allocates
+returns-clause-allocates g c =
+    let t = g.N.BootName.frames in
+    let before = side c.args.machine.now c.args.cpu.now in
+    let after = side c.allocate_as-answer.new.machine c.allocate_as-answer.new.cpu in
+    let answer = c.allocate_as-answer.result in
+    let found : number_at c.args.machine.now.ledger.groups c.args.path.now ≡ Some c.in-Some.group = search rules in
+    let within : c.in-Some-of.order ≤ 10 = search rules in
+    let same : c.in-Some-of.order ≡ c.args.order = search rules in
+    let told = c.allocate_as-answer.ensures.allocates in
+    rw c.outcome_of.ensures (subst (λ (k : ℕ). BySteps t before after (Allocates c.args.sizes c.args.path.now k (reply_of after.machine.ledger (outcome_of answer)))) same (
+      told.0,
+      allocated c.args.sizes c.args.path.now c.in-Some-of.order c.in-Some.group (course t before told.0 after) found within answer told.1
+          c.allocate_as-answer.ensures.there,
+      told.2,
+    ))
+
+pub returns-clause-groups : goal.returns-clause-groups
+returns-clause-groups g c = rw c.outcome_of.ensures (has_groups c.allocate_as-answer.new.machine.ledger c.allocate_as-answer.result c.allocate_as-answer.ensures.there)
+
+pub returns-clause-fresh : goal.returns-clause-fresh
+returns-clause-fresh g c =
+    let same : c.in-Some-of.order ≡ c.args.order = search rules in
+    let l = c.allocate_as-answer.new.machine.ledger in
+    rw c.outcome_of.ensures (subst (λ (k : ℕ). FreshOf (reply_of l (outcome_of c.allocate_as-answer.result)) k c.allocate_as-answer.new.cpu.fresh) same
+    (fresh_then l c.in-Some-of.order c.allocate_as-answer.result _ c.allocate_as-answer.ensures.fresh))

@@ -1,0 +1,25 @@
+use Rattle.std.proofs.Common.{ℕ, subst}
+use Rattle.std.specs.Prelude.{Result}
+use Rattle.mem_alloc.specs.declared.faults.AllocFault.{AllocFault}
+use Rattle.mem_alloc.specs.Frames.{AllocatesFrame}
+use Rattle.mem_alloc.specs.Blocks.{AllocatesBlock}
+use Rattle.mem_alloc.proofs.CallerLemmas.{frame_over_there, block_over_there}
+use Rattle.mem_machine.specs.Local.{side}
+use Rattle.mem_system.specs.Commands.{course}
+use Rattle.mem_system.proofs.allocations.allocate_as.Goals as goal
+
+pub returns-then-exponent-eq0-clause-there : goal.returns-then-exponent-eq0-clause-there
+returns-then-exponent-eq0-clause-there g c =
+    let t = g.N.BootName.frames in
+    let told = c.alloc_frame.ensures.allocates in
+    λ h is. frame_over_there t c.args.sizes c.args.group h _ _ _ _ told.0
+    (subst (λ (r : Result ℕ AllocFault). AllocatesFrame c.args.sizes c.args.group r
+    (course t (side c.args.machine.now c.args.cpu.now) told.0 (side c.alloc_frame.new.machine c.alloc_frame.new.cpu))) is told.1)
+
+pub returns-else-exponent-eq0-clause-there : goal.returns-else-exponent-eq0-clause-there
+returns-else-exponent-eq0-clause-there g c =
+    let t = g.N.BootName.frames in
+    let told = c.alloc_block.ensures.allocates in
+    λ h is. block_over_there t c.args.group c.args.order h _ _ _ _ told.0
+    (subst (λ (r : Result ℕ AllocFault). AllocatesBlock c.args.group c.args.order r
+    (course t (side c.args.machine.now c.args.cpu.now) told.0 (side c.alloc_block.new.machine c.alloc_block.new.cpu))) is told.1)

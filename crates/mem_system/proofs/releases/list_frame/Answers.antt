@@ -1,0 +1,59 @@
+use Rattle.std.proofs.Common.{◌≡◌, ℕ, [], ◌∷◌, ◌++◌, length, ap, refl, ◌∙◌, subst, arith}
+use Rattle.std.proofs.lemmas.List.{length-append}
+use Rattle.cpu_part.specs.Cpus.{KnownCpu}
+use Rattle.mem_machine.specs.Machines.{KnownMachine}
+use Rattle.mem_machine.specs.Local.{IsLocalRun, local_of, side}
+use Rattle.mem_machine.specs.Steps.{lend_steps}
+use Rattle.mem_machine.proofs.Reaching.{run_both}
+use Rattle.mem_system.proofs.Listing.{cut_off}
+use Rattle.mem_system.proofs.releases.list_frame.Goals as goal
+
+pub lend-requires-clause-free : goal.lend-requires-clause-free
+lend-requires-clause-free g c = (cut_off _ _ _ _ _ c.cut_list.ensures.cuts.1.takes).free c.args.frame c.requires.free
+
+pub lend-requires-clause-room : goal.lend-requires-clause-room
+lend-requires-clause-room g c =
+    let kept = cut_off _ _ _ _ _ c.cut_list.ensures.cuts.1.takes in
+    let none = ap length (kept.fresh ∙ c.requires.none_fresh) in
+    let room = c.cut_list.ensures.room in
+    omega (arith, none, room)
+
+pub returns-clause-lists : goal.returns-clause-lists
+returns-clause-lists g c =
+    let t = g.N.BootName.frames in
+    let before = c.args.cpu.now in
+    let cuts = c.cut_list.ensures.cuts in
+    let p = before.number in
+    let same : c.cut_list.new.cpu.number ≡ p = (cut_off _ _ _ _ _ cuts.1.takes).number in
+    let lent = subst (λ (q : ℕ). IsLocalRun q (local_of t c.cut_list.new.machine c.cut_list.new.cpu) (lend_steps q c.args.frame)
+    (local_of t c.lend.new.self c.lend.new.cpu)) same c.lend.ensures.steps in (
+      cuts.0 ++ lend_steps p c.args.frame,
+      record {
+        mid = side c.cut_list.new.machine c.cut_list.new.cpu;
+        cutting = cuts.0;
+        cuts = cuts.1;
+        lends = c.lend.ensures.lends;
+        steps_are = refl;
+      },
+      run_both p cuts.0 (lend_steps p c.args.frame) (local_of t c.args.machine.now before) (local_of t c.cut_list.new.machine c.cut_list.new.cpu)
+          (local_of t c.lend.new.self c.lend.new.cpu) cuts.2 lent,
+    )
+
+pub returns-clause-stays : goal.returns-clause-stays
+returns-clause-stays g c =
+    let kept = cut_off _ _ _ _ _ c.cut_list.ensures.cuts.1.takes in
+    record {
+      visit = c.lend.ensures.visit;
+      opened = ap (λ (k : KnownMachine). k.seat.view.opened) c.lend.ensures.lends.machine ∙ kept.opened;
+      number = ap (λ (e : KnownCpu). e.number) c.lend.ensures.lends.cpu ∙ kept.number;
+      back = ap (λ (e : KnownCpu). e.back) c.lend.ensures.lends.cpu ∙ kept.back;
+    }
+
+pub returns-clause-fresh : goal.returns-clause-fresh
+returns-clause-fresh g c =
+    ap (λ (e : KnownCpu). e.fresh) c.lend.ensures.lends.cpu ∙ (cut_off _ _ _ _ _ c.cut_list.ensures.cuts.1.takes).fresh
+
+pub returns-clause-at_most_high : goal.returns-clause-at_most_high
+returns-clause-at_most_high g c =
+    let longer = ap (λ (e : KnownCpu). length e.list) c.lend.ensures.lends.cpu ∙ length-append c.cut_list.new.cpu.list (c.args.frame ∷ []) in
+    λ within. let below = c.cut_list.ensures.below_high within in omega (arith, longer, below)

@@ -1,0 +1,122 @@
+//! Frames and blocks that are allocated for the group of a path.
+
+ghost use Rattle.std.specs.Prelude.{◌≡◌, ◌≢◌, ℕ, ◌+◌, ◌<◌, ◌≤◌, List, [], length, IsTrue, Some, Err};
+ghost use Rattle.zone_sizes.specs.Config.{IsValidConfig};
+ghost use Rattle.group_tree.specs.Groups.{has_group, number_at};
+ghost use Rattle.mem_machine.specs.Machines.{KeepsVisit, Visits};
+ghost use Rattle.mem_alloc.specs.declared.faults.AllocFault.TheVariants as cause_is;
+ghost use Rattle.mem_system.specs.Boots.{IsSizedAs};
+ghost use Rattle.mem_system.specs.Allocs.{Allocates, AllocatesAs, FreshOf, HasFreshFor, outcome_of};
+ghost use Rattle.mem_system.specs.Outcomes.{HasItsGroups, reply_of};
+ghost use Rattle.mem_system.specs.Commands.{BySteps, IsServed, holder};
+ghost use Rattle.mem_system.specs.declared.command.Cmd.TheVariants.{Alloc};
+ghost use Rattle.frame_word.specs.Seats.{LentIsBorrowed, NothingPasses};
+ghost use Rattle.std.specs.Borrow.{Bor};
+ghost use Rattle.mem_machine.specs.Local.{side};
+
+use crate::lock::Locked;
+use crate::outcome::Outcome;
+use cpu_part::{BootName, Cpu, Tables};
+use frame_word::Frame;
+use group_tree::fault::Fault;
+use group_tree::group::GroupId;
+use mem_alloc::{AllocFault, alloc_block, alloc_frame};
+use mem_machine::Machine;
+use zone_blocks::order::Order;
+use zone_sizes::config::Config;
+
+// What an allocation comes to.
+fn outcome_of(answer: &Result<Frame, AllocFault>) -> Outcome
+    ensures { result ≡ outcome_of answer.now }
+{
+    match answer {
+        Ok(frame) => Outcome::Frame(frame.number()),
+        Err(cause) => match *cause {
+            AllocFault::Over(group) => Outcome::OverLimit(group),
+            AllocFault::NoFrames => Outcome::Refused(Fault::NoFrames),
+            AllocFault::Killed => Outcome::Refused(Fault::Killed),
+        },
+    }
+}
+
+// Allocates a single frame, or a block of an order above 0, for the group.
+fn allocate_as<N: BootName>(
+    machine: &mut Machine<N>,
+    tables: &Tables<N>,
+    cpu: &mut Cpu<N>,
+    sizes: Config,
+    group: GroupId,
+    order: Order,
+) -> Result<Frame, AllocFault>
+    requires visit { Visits N.frames (side machine.old cpu.old) }
+    requires sizes { IsValidConfig sizes }
+    requires sized { IsSizedAs sizes N.frames N.stocks }
+    requires there { IsTrue (has_group machine.old.ledger.groups group) }
+    requires settled { (cpu.old.fresh ≡ []) × (cpu.old.back ≡ []) }
+    ensures allocates { BySteps N.frames (side machine.old cpu.old) (side machine.new cpu.new) (AllocatesAs sizes group order result) }
+    ensures stays { KeepsVisit N.frames (side machine.old cpu.old) (side machine.new cpu.new) }
+    ensures fresh { HasFreshFor order result cpu.new.fresh }
+    ensures at_most_high { length cpu.old.list ≤ sizes.high → length cpu.new.list + length cpu.new.fresh ≤ sizes.high }
+    ensures there { (g : ℕ) → result ≡ Err (cause_is.Over g) → IsTrue (has_group machine.new.ledger.groups g) }
+{
+    if order.exponent() == 0 {
+        alloc_frame(machine, tables, cpu, sizes, group)
+    } else {
+        alloc_block(machine, tables, cpu, group, order)
+    }
+}
+
+// Allocates frames of this order for the group of the path.
+pub(crate) fn allocate<N: BootName>(
+    machine: &mut Machine<N>,
+    tables: &Tables<N>,
+    cpu: &mut Cpu<N>,
+    sizes: Config,
+    path: &[u8],
+    order: u32,
+) -> Outcome
+    requires visit { Visits N.frames (side machine.old cpu.old) }
+    requires sizes { IsValidConfig sizes }
+    requires sized { IsSizedAs sizes N.frames N.stocks }
+    requires settled { (cpu.old.fresh ≡ []) × (cpu.old.back ≡ []) }
+    ensures allocates { BySteps N.frames (side machine.old cpu.old) (side machine.new cpu.new)
+        (Allocates sizes path.now order (reply_of machine.new.ledger result)) }
+    ensures groups { HasItsGroups machine.new.ledger result }
+    ensures stays { KeepsVisit N.frames (side machine.old cpu.old) (side machine.new cpu.new) }
+    ensures fresh { FreshOf (reply_of machine.new.ledger result) order cpu.new.fresh }
+    ensures at_most_high { length cpu.old.list ≤ sizes.high → length cpu.new.list + length cpu.new.fresh ≤ sizes.high }
+{
+    let Some(group) = machine.charges().tree().find(path) else {
+        return Outcome::Refused(Fault::NoGroup);
+    };
+    let Some(order) = Order::of(order) else {
+        return Outcome::Refused(Fault::BadOrder);
+    };
+    let answer = allocate_as(machine, tables, cpu, sizes, group, order);
+    outcome_of(&answer)
+}
+
+/// Serves an Alloc of order 0 for a group that is there, as `carry_out` does for each path of that group: no path is sought.
+#[inline(always)]
+pub fn carry_out_frame<N: BootName>(
+    locked: &mut Locked<N>,
+    tables: &Tables<N>,
+    cpu: &mut Cpu<N>,
+    group: GroupId,
+) -> Outcome
+    requires there { IsTrue (has_group locked.old.machine.ledger.groups group) }
+    ensures served { (path : Bor (List ℕ)) → number_at locked.old.machine.ledger.groups path.now ≡ Some group
+        → IsServed N.frames (Alloc path 0) (holder locked.old cpu.old) (reply_of locked.new.machine.ledger result) (holder locked.new cpu.new) }
+    ensures groups { HasItsGroups locked.new.machine.ledger result }
+    ensures fresh { FreshOf (reply_of locked.new.machine.ledger result) 0 cpu.new.fresh }
+    ensures back { cpu.new.back ≡ [] }
+    ensures at_most_high { length cpu.old.list ≤ locked.old.sizes.high → length cpu.new.list + length cpu.new.fresh ≤ locked.old.sizes.high }
+    ensures still { NothingPasses N.frames locked.new.machine.seat cpu.new.seat }
+    ensures lent { LentIsBorrowed N.frames locked.new.machine.seat cpu.new.seat }
+{
+    locked.machine.open(tables, cpu);
+    locked.machine.settle(tables, cpu);
+    let answer = alloc_frame(&mut locked.machine, tables, cpu, locked.sizes, group);
+    locked.machine.shut(tables, cpu);
+    outcome_of(&answer)
+}

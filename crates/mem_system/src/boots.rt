@@ -1,0 +1,116 @@
+//! A boot, and how it starts.
+
+ghost use Rattle.std.specs.Prelude.{◌≡◌, length, All, IfOk};
+ghost use Rattle.frame_word.specs.Seats.{first_cpu_seats};
+ghost use Rattle.stock_word.specs.Stock.{first_seats};
+ghost use Rattle.mem_machine.specs.Machines.{IsFirst};
+ghost use Rattle.cpu_part.specs.Cpus.{IsIdle};
+ghost use Rattle.mem_system.specs.Boots.{first_cpus};
+
+use crate::lock::Locked;
+use cpu_part::{BootName, Cpu, Tables};
+use frame_word::{FrameSeat, FrameWords};
+use mem_machine::Machine;
+use std::alloc::{AllocError, Global};
+use std::marker::Model;
+use stock_word::{StockSeat, StockWords};
+use zone_sizes::config::Config;
+
+/// The two tables of a boot with all their seats, of which none was used yet.
+#[derive(Drop)]
+pub struct Boot {
+    pub(crate) sizes: Config,
+    pub(crate) frames: FrameWords,
+    pub(crate) stocks: StockWords,
+    pub(crate) zone: FrameSeat,
+    pub(crate) stock: StockSeat,
+    pub(crate) frame_seats: Vec<FrameSeat>,
+    pub(crate) stock_seats: Vec<StockSeat>,
+}
+
+impl Model for Boot {
+    ghost use Rattle.mem_system.specs.Boots.{KnownBoot, IsBooted};
+
+    ghost Value = { KnownBoot };
+
+    ghost view = { λ b. record { sizes = b.sizes; frames = b.frames; stocks = b.stocks } };
+
+    ghost invariant = { λ b. IsBooted (record { sizes = b.sizes; frames = b.frames; stocks = b.stocks })
+        b.zone b.stock b.frame_seats.items b.stock_seats.items };
+}
+
+impl Boot {
+    /// Makes what the boot consists of, under a name of its tables: the tables, what lies behind the lock, and a part for
+    /// each processor, in order. All room that later calls need is reserved here. `AllocError` comes where memory is
+    /// wanting; nothing stays then.
+    pub fn part<N: BootName>(
+        self,
+        alloc: Global,
+    ) -> Result<(Tables<N>, Locked<N>, Vec<Cpu<N>>), AllocError>
+        requires frames { self.frames ≡ N.frames }
+        requires stocks { self.stocks ≡ N.stocks }
+        ensures machine { IfOk result (λ r. IsFirst N.frames N.stocks r.1.machine) }
+        ensures sizes { IfOk result (λ r. r.1.sizes ≡ self.sizes) }
+        ensures cpus { IfOk result (λ r. r.2.items ≡ first_cpus N.frames N.stocks 1 self.sizes.cpus) }
+        ensures count { IfOk result (λ r. length r.2.items ≡ N.frames.cpus) }
+    {
+        let Boot {
+            sizes,
+            frames,
+            stocks,
+            zone,
+            stock,
+            frame_seats,
+            stock_seats,
+        } = self;
+        let tables = Tables::<N>::new(frames, stocks);
+        let machine = Machine::<N>::new(alloc, &tables, zone, stock)?;
+        let frame_room = Vec::with_capacity(alloc, sizes.cpus as usize)?;
+        let stock_room = Vec::with_capacity(alloc, sizes.cpus as usize)?;
+        let cpus = deal(alloc, sizes.cpus, frame_seats, stock_seats)?;
+        let locked = Locked {
+            machine,
+            sizes,
+            frame_seats: frame_room,
+            stock_seats: stock_room,
+        };
+        Ok((tables, locked, cpus))
+    }
+}
+
+// A part for each processor, from its two seats.
+fn deal<N: BootName>(
+    alloc: Global,
+    cpus: u32,
+    mut frame_seats: Vec<FrameSeat>,
+    mut stock_seats: Vec<StockSeat>,
+) -> Result<Vec<Cpu<N>>, AllocError>
+    requires frame_seats { frame_seats.items ≡ first_cpu_seats N.frames.table 1 cpus }
+    requires stock_seats { stock_seats.items ≡ first_seats N.stocks.table 1 cpus }
+    requires counts { (cpus ≡ N.frames.cpus) × (cpus ≡ N.stocks.cpus) }
+    ensures { IfOk result (λ made. made.items ≡ first_cpus N.frames N.stocks 1 cpus) }
+{
+    let mut made = Vec::with_capacity(alloc, cpus as usize)?;
+    for _dealt in 0..cpus {
+        let frame_seat = frame_seats.remove(0);
+        let stock_seat = stock_seats.remove(0);
+        match Cpu::<N>::new(alloc, frame_seat, stock_seat) {
+            Ok(cpu) => made.push_reserved(cpu),
+            Err(error) => {
+                spend(made);
+                return Err(error);
+            }
+        }
+    }
+    Ok(made)
+}
+
+// Spends parts of processors that did nothing.
+fn spend<N: BootName>(mut cpus: Vec<Cpu<N>>)
+    requires { All IsIdle cpus.items }
+{
+    while let Some(cpu) = cpus.pop() {
+        let _ = cpu.into_seats();
+    }
+    cpus.destroy_empty();
+}

@@ -1,0 +1,106 @@
+//! Kept units that are released.
+
+ghost use Rattle.std.specs.Prelude.{◌≡◌, ◌↔◌, ◌<◌, ◌≤◌, IsTrue, [], length};
+ghost use Rattle.zone_sizes.specs.Config.{IsValidConfig};
+ghost use Rattle.step_rules.specs.declared.phase.ChargedUnit.{ChargedUnit};
+ghost use Rattle.mem_machine.specs.declared.spot.Spot.TheVariants.{Free, Head};
+ghost use Rattle.mem_machine.specs.Spots.{spot_at};
+ghost use Rattle.mem_machine.specs.Machines.{KeepsVisit, Visits};
+ghost use Rattle.mem_system.specs.Outcomes.{HasItsGroups, reply_of};
+ghost use Rattle.mem_system.specs.Releases.{CutsList, ListsFrame, ReleasesFrame};
+ghost use Rattle.mem_system.specs.Commands.{BySteps};
+ghost use Rattle.mem_machine.specs.Local.{side};
+
+use crate::outcome::Outcome;
+use crate::units::find_unit;
+use cpu_part::{BootName, Cpu, Tables};
+use frame_word::Frame;
+use group_tree::fault::Fault;
+use mem_machine::{Machine, Released};
+use zone_sizes::config::Config;
+
+// Whether the unit that the frame heads is a single frame.
+fn is_single<N: BootName>(machine: &Machine<N>, frame: Frame) -> bool
+    requires { frame < N.frames.frames }
+    ensures { (unit : ChargedUnit) → spot_at machine.now.spots frame ≡ Head unit → IsTrue result ↔ (unit.order ≡ 0) }
+{
+    match machine.unit(frame) {
+        Some(unit) => unit.order.exponent() == 0,
+        None => false,
+    }
+}
+
+// Gives `batch` frames from the front of the processor's list back to the zone where the list stands at `high`.
+fn cut_list<N: BootName>(
+    machine: &mut Machine<N>,
+    tables: &Tables<N>,
+    cpu: &mut Cpu<N>,
+    sizes: Config,
+)
+    requires visit { Visits N.frames (side machine.old cpu.old) }
+    requires sizes { IsValidConfig sizes }
+    ensures cuts { BySteps N.frames (side machine.old cpu.old) (side machine.new cpu.new) (CutsList sizes) }
+    ensures visit { Visits N.frames (side machine.new cpu.new) }
+    ensures room { length cpu.new.list < 256 }
+    ensures below_high { length cpu.old.list ≤ sizes.high → length cpu.new.list < sizes.high }
+{
+    if cpu.list_len() >= sizes.high as usize {
+        machine.drain_list(tables, cpu, sizes.batch);
+    }
+}
+
+// Puts a free frame at the end of the processor's list, which is cut before where it stands at `high`.
+fn list_frame<N: BootName>(
+    machine: &mut Machine<N>,
+    tables: &Tables<N>,
+    cpu: &mut Cpu<N>,
+    sizes: Config,
+    frame: Frame,
+)
+    requires visit { Visits N.frames (side machine.old cpu.old) }
+    requires sizes { IsValidConfig sizes }
+    requires frame { frame < N.frames.frames }
+    requires free { spot_at machine.old.spots frame ≡ Free }
+    requires none_fresh { cpu.old.fresh ≡ [] }
+    ensures lists { BySteps N.frames (side machine.old cpu.old) (side machine.new cpu.new) (ListsFrame sizes frame) }
+    ensures stays { KeepsVisit N.frames (side machine.old cpu.old) (side machine.new cpu.new) }
+    ensures fresh { cpu.new.fresh ≡ cpu.old.fresh }
+    ensures at_most_high { length cpu.old.list ≤ sizes.high → length cpu.new.list ≤ sizes.high }
+{
+    cut_list(machine, tables, cpu, sizes);
+    machine.lend(tables, cpu, frame);
+}
+
+// Releases the unit that the frame heads. A single frame that comes back goes to the processor's list.
+pub(crate) fn release_frame<N: BootName>(
+    machine: &mut Machine<N>,
+    tables: &Tables<N>,
+    cpu: &mut Cpu<N>,
+    sizes: Config,
+    frame: u32,
+) -> Outcome
+    requires visit { Visits N.frames (side machine.old cpu.old) }
+    requires sizes { IsValidConfig sizes }
+    requires frame { frame < N.frames.frames }
+    requires none_fresh { cpu.old.fresh ≡ [] }
+    ensures released { BySteps N.frames (side machine.old cpu.old) (side machine.new cpu.new)
+        (ReleasesFrame sizes frame (reply_of machine.new.ledger result)) }
+    ensures groups { HasItsGroups machine.new.ledger result }
+    ensures stays { KeepsVisit N.frames (side machine.old cpu.old) (side machine.new cpu.new) }
+    ensures fresh { cpu.new.fresh ≡ cpu.old.fresh }
+    ensures at_most_high { length cpu.old.list ≤ sizes.high → length cpu.new.list ≤ sizes.high }
+{
+    let Some(frame) = find_unit(machine, tables, frame) else {
+        return Outcome::Refused(Fault::NotKept);
+    };
+    let is_single = is_single(machine, frame);
+    match machine.release(tables, cpu, frame) {
+        Released::Left(left) => Outcome::Left(left),
+        Released::Returned => {
+            if is_single {
+                list_frame(machine, tables, cpu, sizes, frame);
+            }
+            Outcome::Returned
+        }
+    }
+}

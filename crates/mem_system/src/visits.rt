@@ -1,0 +1,57 @@
+//! Commands, served under the lock.
+
+ghost use Rattle.std.specs.Prelude.{◌≡◌, ◌+◌, ◌≤◌, [], length};
+ghost use Rattle.frame_word.specs.Seats.{LentIsBorrowed, NothingPasses};
+ghost use Rattle.mem_system.specs.Outcomes.{HasItsGroups, reply_of};
+ghost use Rattle.mem_system.specs.Commands.{FreshAfter, IsOfZone, IsServed, holder};
+
+use crate::command::{Cmd, Reply, obey};
+use crate::lock::Locked;
+use crate::outcome::{Outcome, tell};
+use cpu_part::{BootName, Cpu, Tables};
+
+/// Serves one command of the processor, which holds the lock: its visit is opened, its fresh and back frames are settled, the
+/// command is obeyed, and the visit is shut. A frame that the command names is one of the zone's. Its answer is told without
+/// texts: `reply_of` the charges as they are then is the reply that `serve` gives.
+#[inline(always)]
+pub fn carry_out<N: BootName>(
+    locked: &mut Locked<N>,
+    tables: &Tables<N>,
+    cpu: &mut Cpu<N>,
+    cmd: &Cmd<'_>,
+) -> Outcome
+    requires { IsOfZone N.frames cmd.now }
+    ensures served { IsServed N.frames cmd.now (holder locked.old cpu.old) (reply_of locked.new.machine.ledger result)
+        (holder locked.new cpu.new) }
+    ensures groups { HasItsGroups locked.new.machine.ledger result }
+    ensures settled { FreshAfter cmd.now (reply_of locked.new.machine.ledger result) cpu.new.fresh × (cpu.new.back ≡ []) }
+    ensures at_most_high { length cpu.old.list ≤ locked.old.sizes.high → length cpu.new.list + length cpu.new.fresh ≤ locked.old.sizes.high }
+    ensures still { NothingPasses N.frames locked.new.machine.seat cpu.new.seat }
+    ensures lent { LentIsBorrowed N.frames locked.new.machine.seat cpu.new.seat }
+{
+    locked.machine.open(tables, cpu);
+    locked.machine.settle(tables, cpu);
+    let outcome = obey(&mut locked.machine, tables, cpu, locked.sizes, cmd);
+    locked.machine.shut(tables, cpu);
+    outcome
+}
+
+/// Serves one command of the processor, which holds the lock, as `carry_out` does, and gives its reply with its texts. A frame
+/// that the command names is one of the zone's.
+#[inline(always)]
+pub fn serve<N: BootName>(
+    locked: &mut Locked<N>,
+    tables: &Tables<N>,
+    cpu: &mut Cpu<N>,
+    cmd: &Cmd<'_>,
+) -> Reply
+    requires { IsOfZone N.frames cmd.now }
+    ensures served { IsServed N.frames cmd.now (holder locked.old cpu.old) result (holder locked.new cpu.new) }
+    ensures settled { FreshAfter cmd.now result cpu.new.fresh × (cpu.new.back ≡ []) }
+    ensures at_most_high { length cpu.old.list ≤ locked.old.sizes.high → length cpu.new.list + length cpu.new.fresh ≤ locked.old.sizes.high }
+    ensures still { NothingPasses N.frames locked.new.machine.seat cpu.new.seat }
+    ensures lent { LentIsBorrowed N.frames locked.new.machine.seat cpu.new.seat }
+{
+    let outcome = carry_out(locked, tables, cpu, cmd);
+    tell(locked.charges(), outcome)
+}
