@@ -13,7 +13,7 @@ use Rattle.step_rules.specs.declared.step.Action.TheVariants.{TakeIn, PassBack, 
 use Rattle.step_rules.specs.declared.step.Action.TheVariants.{Grant, Ungrant, PlaceBlock, Return, SetMax, Make, Remove, Kill}
 use Rattle.step_rules.specs.declared.step.Answer.{Answer}
 use Rattle.step_rules.specs.declared.step.Answer.TheVariants.{Done, Held, Left, Last, Took, Back, Pages, Granted, Placed, Number}
-use Rattle.step_rules.specs.Phases.{Kind, Listed, Fresh, has_as, is_live, is_head_in_hand}
+use Rattle.step_rules.specs.Phases.{Kind, ListFrame, FreshFrame, has_as, is_live, is_head_in_hand}
 use Rattle.step_rules.specs.State.{Zone, State, Part, with_at, sum_to, one_if, is_cpu, is_held_by, visits, front_of, frames_of, live_references}
 use Rattle.step_rules.specs.Legal.{is_legal, IsAnswer, IsCounted, get_answer}
 use Rattle.step_rules.specs.After.{after, with_back, filled, drained, with_more}
@@ -88,12 +88,12 @@ referred_live s seat f sound some = dec (is_live (s.phases f)) refl
     dec true e = refl
     dec false e = absurd (let none : s.references seat f ≡ 0 = (sound.frames f).unreferred e seat in omega arith)
 
-pub front_listed : (s : State) (p : ℕ) → IsSound s → 1 ≤ length (s.parts p).list → has_as Listed p (s.phases (front_of (s.parts p).list)) ≡ true
+pub front_listed : (s : State) (p : ℕ) → IsSound s → 1 ≤ length (s.parts p).list → has_as ListFrame p (s.phases (front_of (s.parts p).list)) ≡ true
 front_listed s p sound some =
     let f = front_of (s.parts p).list in
     let stands = front_stands (s.parts p).list some in
-    let e : times f (s.parts p).list ≡ one_if (has_as Listed p (s.phases f)) = sound.lists p Listed f in
-    one_if_true (has_as Listed p (s.phases f)) (omega arith)
+    let e : times f (s.parts p).list ≡ one_if (has_as ListFrame p (s.phases f)) = sound.lists p ListFrame f in
+    one_if_true (has_as ListFrame p (s.phases f)) (omega arith)
 
 pub front_there : (s : State) (p : ℕ) → IsSound s → 1 ≤ length (s.parts p).list → front_of (s.parts p).list < s.zone.frames
 front_there s p sound some =
@@ -101,15 +101,15 @@ front_there s p sound some =
     let listed = front_listed s p sound some in
     elim (cases_lt f s.zone.frames) [
       | inl below ↦ below
-      | inr beyond ↦ absurd (false≢true (sym (ap (has_as Listed p) (free_is (s.phases f) ((sound.frames f).inside beyond))) ∙ listed))
+      | inr beyond ↦ absurd (false≢true (sym (ap (has_as ListFrame p) (free_is (s.phases f) ((sound.frames f).inside beyond))) ∙ listed))
     ]
 
-listed_not_fresh : (p : ℕ) (x : Phase) → has_as Listed p x ≡ true → has_as Fresh p x ≡ false
-listed_not_fresh p x e = ap (has_as Fresh p) (listed_is p x e)
+listed_not_fresh : (p : ℕ) (x : Phase) → has_as ListFrame p x ≡ true → has_as FreshFrame p x ≡ false
+listed_not_fresh p x e = ap (has_as FreshFrame p) (listed_is p x e)
 
 pub paying_room : (s : State) (p : ℕ) → IsSound s → 1 ≤ length (s.parts p).list → length (s.parts p).fresh < s.zone.frames
 paying_room s p sound some =
-    room_there s p Fresh (front_of (s.parts p).list) sound (front_there s p sound some)
+    room_there s p FreshFrame (front_of (s.parts p).list) sound (front_there s p sound some)
     (listed_not_fresh p (s.phases (front_of (s.parts p).list)) (front_listed s p sound some))
 
 visitor_there : (cpus p : ℕ) (hold : Hold) → HolderIsThere cpus hold → visits p hold ≡ true → p ≤ cpus

@@ -2,7 +2,7 @@
 //! Tests on the phase of a frame, and how a step moves it on.
 
 ghost use Rattle.std.specs.Prelude.{◌≡◌};
-ghost use Rattle.step_rules.specs.Phases.{Listed, Fresh, Back, has_as, is_free, is_head, is_head_in_hand, is_passing, is_stage_in_hand};
+ghost use Rattle.step_rules.specs.Phases.{ListFrame, FreshFrame, BackFrame, has_as, is_free, is_head, is_head_in_hand, is_passing, is_stage_in_hand};
 ghost use Rattle.step_rules.specs.Phases.{is_stage_passing, keeper_of, may_return, may_stage_return, passes_out, passes_back, has_stage};
 ghost use Rattle.step_rules.specs.Phases.{stage_passes_back, at_stage, passed_back, collected, stage_passed_back, stage_collected, unit_of};
 ghost use Rattle.step_rules.specs.After.{unit_size};
@@ -48,7 +48,7 @@ pub fn keeper_of(phase: Phase) -> Option<GroupId>
 
 /// The frame is on the processor's list.
 pub fn is_listed_at(phase: Phase, at: u32) -> bool
-    ensures { result ≡ has_as Listed at phase }
+    ensures { result ≡ has_as ListFrame at phase }
 {
     match phase {
         Phase::InZone => false,
@@ -71,7 +71,7 @@ pub fn is_listed_at(phase: Phase, at: u32) -> bool
 
 /// The frame is fresh at the processor.
 pub fn is_fresh_at(phase: Phase, at: u32) -> bool
-    ensures { result ≡ has_as Fresh at phase }
+    ensures { result ≡ has_as FreshFrame at phase }
 {
     match phase {
         Phase::InZone => false,
@@ -82,7 +82,7 @@ pub fn is_fresh_at(phase: Phase, at: u32) -> bool
 }
 
 fn is_stage_fresh(stage: Stage, at: u32) -> bool
-    ensures { result ≡ has_stage Fresh at stage }
+    ensures { result ≡ has_stage FreshFrame at stage }
 {
     match stage {
         Stage::FreshAt(cpu) => cpu == at,
@@ -98,7 +98,7 @@ fn is_stage_fresh(stage: Stage, at: u32) -> bool
 
 /// The frame is a back frame of the processor.
 pub fn is_back_at(phase: Phase, at: u32) -> bool
-    ensures { result ≡ has_as Back at phase }
+    ensures { result ≡ has_as BackFrame at phase }
 {
     match phase {
         Phase::InZone => false,
@@ -109,7 +109,7 @@ pub fn is_back_at(phase: Phase, at: u32) -> bool
 }
 
 fn is_stage_back(stage: Stage, at: u32) -> bool
-    ensures { result ≡ has_stage Back at stage }
+    ensures { result ≡ has_stage BackFrame at stage }
 {
     match stage {
         Stage::FreshAt(_) => false,

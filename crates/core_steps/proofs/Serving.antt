@@ -5,7 +5,7 @@ use Rattle.std.specs.Prelude.{nat_le}
 use Rattle.std.proofs.lemmas.Bool.{leb-true, ltb-true, or_cases, and_parts, eqb-true, ne_eqb}
 use Rattle.step_rules.specs.declared.phase.Phase.{Phase}
 use Rattle.step_rules.specs.declared.step.Action.TheVariants.{Put, TakeIn, Credit, Consume}
-use Rattle.step_rules.specs.Phases.{Kind, Listed, Fresh, has_as, is_live, passes_out}
+use Rattle.step_rules.specs.Phases.{Kind, ListFrame, FreshFrame, has_as, is_live, passes_out}
 use Rattle.step_rules.specs.declared.phase.Stage.TheVariants.{BackAt, Ended}
 use Rattle.step_rules.specs.Phases.{at_stage}
 use Rattle.step_rules.specs.After.{with_part, with_phase, with_references, with_back, after_last}
@@ -17,32 +17,32 @@ use Rattle.step_rules.proofs.Sums.{sum_part}
 use Rattle.step_rules.proofs.PhaseLemmas.{out_is, fresh_is, live_is}
 use Rattle.core_rows.specs.Rooms.{IsFew}
 
-pub out_unlisted : (p : ℕ) (x : Phase) → passes_out p x ≡ true → has_as Listed p x ≡ false
-out_unlisted p x e = ap (has_as Listed p) (out_is p x e)
+pub out_unlisted : (p : ℕ) (x : Phase) → passes_out p x ≡ true → has_as ListFrame p x ≡ false
+out_unlisted p x e = ap (has_as ListFrame p) (out_is p x e)
 
-pub fresh_unlisted : (p : ℕ) (x : Phase) → has_as Fresh p x ≡ true → has_as Listed p x ≡ false
-fresh_unlisted p x e = ap (has_as Listed p) (fresh_is p x e).1
+pub fresh_unlisted : (p : ℕ) (x : Phase) → has_as FreshFrame p x ≡ true → has_as ListFrame p x ≡ false
+fresh_unlisted p x e = ap (has_as ListFrame p) (fresh_is p x e).1
 
-pub live_not_back : (p : ℕ) (x : Phase) → is_live x ≡ true → has_as kinds.Back p x ≡ false
-live_not_back p x e = ap (has_as kinds.Back p) (live_is x e).1
+pub live_not_back : (p : ℕ) (x : Phase) → is_live x ≡ true → has_as kinds.BackFrame p x ≡ false
+live_not_back p x e = ap (has_as kinds.BackFrame p) (live_is x e).1
 
 pub take_in_room : (s : State) (p f : ℕ) → IsFew s → is_legal s p (TakeIn f) ≡ true → length (s.parts p).list < s.zone.frames
 take_in_room s p f few legal =
     let frame : is_frame s.zone f ≡ true = grind (arith, legal) in
     let out : passes_out p (s.phases f) ≡ true = grind (arith, legal) in
-    few.room p Listed f (ltb-true f s.zone.frames frame) (out_unlisted p (s.phases f) out)
+    few.room p ListFrame f (ltb-true f s.zone.frames frame) (out_unlisted p (s.phases f) out)
 
 pub credit_room : (s : State) (p f : ℕ) → IsFew s → is_legal s p (Credit f) ≡ true → length (s.parts p).list < s.zone.frames
 credit_room s p f few legal =
     let frame : is_frame s.zone f ≡ true = grind (arith, legal) in
-    let fresh : has_as Fresh p (s.phases f) ≡ true = grind (arith, legal) in
-    few.room p Listed f (ltb-true f s.zone.frames frame) (fresh_unlisted p (s.phases f) fresh)
+    let fresh : has_as FreshFrame p (s.phases f) ≡ true = grind (arith, legal) in
+    few.room p ListFrame f (ltb-true f s.zone.frames frame) (fresh_unlisted p (s.phases f) fresh)
 
 pub put_room : (s : State) (p f : ℕ) → IsFew s → is_legal s p (Put f) ≡ true → length (s.parts p).back < s.zone.frames
 put_room s p f few legal =
     let frame : is_frame s.zone f ≡ true = grind (arith, legal) in
     let some : nat_le 1 (s.references p f) ≡ true = grind (arith, legal) in
-    few.room p kinds.Back f (ltb-true f s.zone.frames frame) (live_not_back p (s.phases f) (few.live p f (leb-true 1 (s.references p f) some)))
+    few.room p kinds.BackFrame f (ltb-true f s.zone.frames frame) (live_not_back p (s.phases f) (few.live p f (leb-true 1 (s.references p f) some)))
 
 -- a seat that puts is one of the sum
 pub put_counts : (s : State) (p f : ℕ) → is_legal s p (Put f) ≡ true → 1 ≤ live_references s f

@@ -31,8 +31,8 @@ pub record EndsHeld (table : KnownTable) (stock_table : Words) (before : Standin
   pub ends : Ends table stock_table before.locked cpus audit
 
 -- how many frames there are, and where
-abbrev pub places_text : Audit → List ℕ
-places_text a =
+abbrev pub audit_places_text : Audit → List ℕ
+audit_places_text a =
     codes "audit frames " ++ (decimal a.frames ++ (codes " free " ++ (decimal a.free ++ (codes " charged " ++ (decimal a.charged ++ codes "\n")))))
 
 -- how often units ended and came back
@@ -43,7 +43,7 @@ counts_text a =
 
 -- the two lines of an audit
 abbrev pub audit_text : Audit → List ℕ
-audit_text a = places_text a ++ counts_text a
+audit_text a = audit_places_text a ++ counts_text a
 
 -- the line of pins that were held, if there were any
 abbrev pub held_text : ℕ → List ℕ

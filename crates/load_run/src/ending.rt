@@ -3,7 +3,7 @@
 ghost use Rattle.std.specs.Prelude.{◌≡◌, ◌++◌, [], IfOk, length};
 ghost use Rattle.std.specs.List.{AllZip};
 ghost use Rattle.std.specs.String.{string_bytes};
-ghost use Rattle.load_run.specs.Ending.{EndsHeld, LetsGo, audit_text, counts_text, held_text, places_text};
+ghost use Rattle.load_run.specs.Ending.{EndsHeld, LetsGo, audit_text, counts_text, held_text, audit_places_text};
 
 use cpu_part::{BootName, Cpu, Tables};
 use mem_system::{Audit, Locked, Pinned, end};
@@ -88,7 +88,7 @@ fn write_audit(audit: &Audit, text: &mut String) -> Result<(), AllocError>
 }
 
 fn write_places(audit: &Audit, text: &mut String) -> Result<(), AllocError>
-    ensures { IfOk result (λ _. string_bytes text.new ≡ string_bytes text.old ++ places_text audit.now) }
+    ensures { IfOk result (λ _. string_bytes text.new ≡ string_bytes text.old ++ audit_places_text audit.now) }
 {
     let frames = audit.frames;
     let free = audit.free;

@@ -102,14 +102,14 @@ pub fn make_steps(rt: &impl Abort, core: &mut Core, rows: &[(u32, Action, Answer
 }
 
 // Where the frame has to stand in the core: a fresh one is lent to its processor by the machine, and kept by its group there.
-fn place_in_core(known: &Known) -> step::Place {
+fn place_in_core(known: &Known) -> step::FramePlace {
     if let Some(group) = known.fresh_for {
-        return step::Place::Charged(group);
+        return step::FramePlace::Charged(group);
     }
     match known.place {
-        Place::Free => step::Place::Free,
-        Place::Lent(cpu) => step::Place::Listed(cpu),
-        Place::Charged(group) => step::Place::Charged(group),
+        Place::Free => step::FramePlace::Free,
+        Place::Lent(cpu) => step::FramePlace::Listed(cpu),
+        Place::Charged(group) => step::FramePlace::Charged(group),
     }
 }
 

@@ -10,7 +10,7 @@ use Rattle.step_rules.specs.declared.phase.Way.TheVariants.{OnList}
 use Rattle.step_rules.specs.declared.phase.Stage.TheVariants.{FreshAt, Live, BackAt}
 use Rattle.step_rules.specs.declared.phase.Phase.{Phase}
 use Rattle.step_rules.specs.declared.phase.Phase.TheVariants as phase
-use Rattle.step_rules.specs.Phases.{Fresh, Back, has_as}
+use Rattle.step_rules.specs.Phases.{FreshFrame, BackFrame, has_as}
 use Rattle.step_rules.specs.State.{one_if}
 use Rattle.step_rules.specs.Cover.{hide_phase}
 use Rattle.step_rules.proofs.Lists.{times}
@@ -56,7 +56,7 @@ cover_shown c f (Tail g) = refl
 
 -- ---- what the processor sees of a frame that is neither fresh nor back there
 
-pub hidden_plain : (q : ℕ) (y : Phase) → has_as Fresh q y ≡ false → has_as Back q y ≡ false → hide_phase q y ≡ cover y
+pub hidden_plain : (q : ℕ) (y : Phase) → has_as FreshFrame q y ≡ false → has_as BackFrame q y ≡ false → hide_phase q y ≡ cover y
 hidden_plain q phase.InZone fresh back = refl
 hidden_plain q (phase.Lent r way) fresh back = refl
 hidden_plain q (phase.Tail g) fresh back = refl
@@ -121,9 +121,9 @@ same_times f (x ∷ xs) =
 
 -- what everyone sees alike, with what is fresh and back there, is what the processor sees
 pub phase_seen : (c : KnownCpu) (q f : ℕ) (x : Spot) (y : Phase) → c.number ≡ q → cover y ≡ plain x →
-    parts.times f c.fresh ≡ one_if (has_as Fresh q y) → parts.times f c.back ≡ one_if (has_as Back q y) →
+    parts.times f c.fresh ≡ one_if (has_as FreshFrame q y) → parts.times f c.back ≡ one_if (has_as BackFrame q y) →
     ((u : ChargedUnit) → y ≡ phase.Head u (FreshAt q) → u ≡ fresh_unit c) → phase_of c f x ≡ hide_phase q y
-phase_seen c q f x y named same fresh back unit = elim (cases_Bool (has_as Fresh q y)) [
+phase_seen c q f x y named same fresh back unit = elim (cases_Bool (has_as FreshFrame q y)) [
   | inl is_fresh ↦
       let was = fresh_is q y is_fresh in
       let spot : x ≡ Lent q = lent_plain x q (sym (ap cover was.1) ∙ same) in
@@ -131,7 +131,7 @@ phase_seen c q f x y named same fresh back unit = elim (cases_Bool (has_as Fresh
       fresh_phase c f x (spot ∙ ap Lent (sym named)) once
       ∙ (λ i. phase.Head (sym (unit was.0 was.1) i) (FreshAt (named i)))
       ∙ sym (own_fresh was.0 q) ∙ ap (hide_phase q) (sym was.1)
-  | inr not_fresh ↦ elim (cases_Bool (has_as Back q y)) [
+  | inr not_fresh ↦ elim (cases_Bool (has_as BackFrame q y)) [
     | inl is_back ↦
         let was = back_is q y is_back in
         let spot : x ≡ Head was.0 = head_plain x was.0 (sym (ap cover was.1) ∙ same) in

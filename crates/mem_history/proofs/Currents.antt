@@ -15,7 +15,7 @@ use Rattle.step_rules.specs.declared.phase.Way.TheVariants.{PassingOut, OnList, 
 use Rattle.step_rules.specs.declared.phase.Stage.TheVariants.{FreshAt, BackAt}
 use Rattle.step_rules.specs.declared.phase.Phase.{Phase}
 use Rattle.step_rules.specs.declared.phase.Phase.TheVariants as phase
-use Rattle.step_rules.specs.Phases.{Listed, Fresh, has_as}
+use Rattle.step_rules.specs.Phases.{ListFrame, FreshFrame, has_as}
 use Rattle.step_rules.specs.State.{State, Part, one_if, front_of}
 use Rattle.step_rules.specs.Usage.{frames_kept, pages_prepaid, usage_of}
 use Rattle.step_rules.specs.After.{Run, state_of}
@@ -82,11 +82,11 @@ module _ (t : KnownTable) (w : Words) (run : Run) (m : KnownMachine) (cpus : Lis
   own : HasOwn c whole
   own = has_own t m c whole (not_zone t run m cpus k c shows is_part) sees
 
-  listed_times : (f : ℕ) → parts.times f c.list ≡ one_if (has_as Listed p (whole.phases f))
-  listed_times f = same_times f c.list ∙ ap (times f) (sym own.list) ∙ sound.lists p Listed f
+  listed_times : (f : ℕ) → parts.times f c.list ≡ one_if (has_as ListFrame p (whole.phases f))
+  listed_times f = same_times f c.list ∙ ap (times f) (sym own.list) ∙ sound.lists p ListFrame f
 
-  fresh_times : (f : ℕ) → parts.times f c.fresh ≡ one_if (has_as Fresh p (whole.phases f))
-  fresh_times f = same_times f c.fresh ∙ ap (times f) (sym own.fresh) ∙ sound.lists p Fresh f
+  fresh_times : (f : ℕ) → parts.times f c.fresh ≡ one_if (has_as FreshFrame p (whole.phases f))
+  fresh_times f = same_times f c.fresh ∙ ap (times f) (sym own.fresh) ∙ sound.lists p FreshFrame f
 
   -- what is lent to the processor are its listed and its fresh frames
   pub lent_is_borrowed : LentIsBorrowed t m.seat c.seat
@@ -106,11 +106,11 @@ module _ (t : KnownTable) (w : Words) (run : Run) (m : KnownMachine) (cpus : Lis
           let some : 1 ≤ parts.times f c.list + parts.times f c.fresh = elim (lent_at p (whole.phases f) seen) [
             | OnItsList e ↦
                 let a = listed_times f in
-                let b : one_if (has_as Listed p (whole.phases f)) ≡ 1 = ap (λ (y : Phase). one_if (has_as Listed p y)) e ∙ ap one_if (eq-eqb p p refl) in
+                let b : one_if (has_as ListFrame p (whole.phases f)) ≡ 1 = ap (λ (y : Phase). one_if (has_as ListFrame p y)) e ∙ ap one_if (eq-eqb p p refl) in
                 omega arith
             | AsFresh u e ↦
                 let a = fresh_times f in
-                let b : one_if (has_as Fresh p (whole.phases f)) ≡ 1 = ap (λ (y : Phase). one_if (has_as Fresh p y)) e ∙ ap one_if (eq-eqb p p refl) in
+                let b : one_if (has_as FreshFrame p (whole.phases f)) ≡ 1 = ap (λ (y : Phase). one_if (has_as FreshFrame p y)) e ∙ ap one_if (eq-eqb p p refl) in
                 omega arith
           ] in
           omega arith
@@ -130,11 +130,11 @@ module _ (t : KnownTable) (w : Words) (run : Run) (m : KnownMachine) (cpus : Lis
           let borrowed_is = noted.borrowed_is in
           let a = listed_times f in
           let b = fresh_times f in
-          elim (cases_Bool (has_as Listed p (whole.phases f))) [
+          elim (cases_Bool (has_as ListFrame p (whole.phases f))) [
             | inl listed ↦ lent_of (ap cover (listed_is p (whole.phases f) listed))
             | inr off ↦
-                let none : one_if (has_as Listed p (whole.phases f)) ≡ 0 = ap one_if off in
-                let fresh = fresh_is p (whole.phases f) (one_if_true (has_as Fresh p (whole.phases f)) (omega arith)) in
+                let none : one_if (has_as ListFrame p (whole.phases f)) ≡ 0 = ap one_if off in
+                let fresh = fresh_is p (whole.phases f) (one_if_true (has_as FreshFrame p (whole.phases f)) (omega arith)) in
                 lent_of (ap cover fresh.1)
           ]
 
@@ -165,8 +165,8 @@ module _ (t : KnownTable) (w : Words) (run : Run) (m : KnownMachine) (cpus : Lis
           let f = front_of (whole.parts p).fresh in
           let long : length (whole.parts p).fresh ≡ length c.fresh = ap length own.fresh in
           let stands = front_stands (whole.parts p).fresh (omega arith) in
-          let counted : times f (whole.parts p).fresh ≡ one_if (has_as Fresh p (whole.phases f)) = sound.lists p Fresh f in
-          let fresh = fresh_is p (whole.phases f) (one_if_true (has_as Fresh p (whole.phases f)) (omega arith)) in
+          let counted : times f (whole.parts p).fresh ≡ one_if (has_as FreshFrame p (whole.phases f)) = sound.lists p FreshFrame f in
+          let fresh = fresh_is p (whole.phases f) (one_if_true (has_as FreshFrame p (whole.phases f)) (omega arith)) in
           let paid : PhasePaid whole.zone.cpus (groups_in whole.parts) (phase.Head fresh.0 (FreshAt p)) =
           subst (PhasePaid whole.zone.cpus (groups_in whole.parts)) fresh.1 (sound.frames f).paid in
           let unit = own.unit f fresh.0 fresh.1 in

@@ -24,7 +24,7 @@ use Rattle.step_rules.specs.declared.phase.Phase.{Phase}
 use Rattle.step_rules.specs.declared.phase.Phase.TheVariants as phase
 use Rattle.step_rules.specs.declared.step.Action.TheVariants.{Get, Put, Consume, Credit}
 use Rattle.step_rules.specs.declared.step.Answer.TheVariants.{Held, Left, Last, Took, Back}
-use Rattle.step_rules.specs.Phases.{Listed, Fresh, has_as, is_live, at_stage, stage_after_last}
+use Rattle.step_rules.specs.Phases.{ListFrame, FreshFrame, has_as, is_live, at_stage, stage_after_last}
 use Rattle.step_rules.specs.State.{State, Part, with_at, one_if, is_cpu, pins_of, without, with_last, front_of, may_zone_act}
 use Rattle.step_rules.specs.Legal.{is_legal, IsAnswer}
 use Rattle.step_rules.specs.After.{Run, state_of, consumed, paid, credited, with_back}
@@ -142,16 +142,16 @@ module _ (t : KnownTable) (w : Words) (run : Run) (m : KnownMachine) (cpus : Lis
   -- a listed or fresh frame is lent to the processor
   listed_lent : (f : ℕ) → 1 ≤ parts.times f c.list → spot_at m.spots f ≡ Lent q
   listed_lent f stands =
-      let a : times f (whole.parts q).list ≡ one_if (has_as Listed q (whole.phases f)) = sound.lists q Listed f in
+      let a : times f (whole.parts q).list ≡ one_if (has_as ListFrame q (whole.phases f)) = sound.lists q ListFrame f in
       let b : parts.times f c.list ≡ times f (whole.parts q).list = same_times f c.list ∙ ap (times f) (sym own.list) in
-      let was = listed_is q (whole.phases f) (one_if_true (has_as Listed q (whole.phases f)) (omega arith)) in
+      let was = listed_is q (whole.phases f) (one_if_true (has_as ListFrame q (whole.phases f)) (omega arith)) in
       lent_plain (spot_at m.spots f) q (sym (ap cover was) ∙ covers_at f)
 
   fresh_lent : (f : ℕ) → 1 ≤ parts.times f c.fresh → spot_at m.spots f ≡ Lent q
   fresh_lent f stands =
-      let a : times f (whole.parts q).fresh ≡ one_if (has_as Fresh q (whole.phases f)) = sound.lists q Fresh f in
+      let a : times f (whole.parts q).fresh ≡ one_if (has_as FreshFrame q (whole.phases f)) = sound.lists q FreshFrame f in
       let b : parts.times f c.fresh ≡ times f (whole.parts q).fresh = same_times f c.fresh ∙ ap (times f) (sym own.fresh) in
-      let was = fresh_is q (whole.phases f) (one_if_true (has_as Fresh q (whole.phases f)) (omega arith)) in
+      let was = fresh_is q (whole.phases f) (one_if_true (has_as FreshFrame q (whole.phases f)) (omega arith)) in
       lent_plain (spot_at m.spots f) q (sym (ap cover was.1) ∙ covers_at f)
 
   -- a pinned frame heads a unit
@@ -370,10 +370,10 @@ module _ (t : KnownTable) (w : Words) (run : Run) (m : KnownMachine) (cpus : Lis
         | inl h ↦ h
         | inr past ↦ absurd (let none = noted.in_table past in omega arith)
       ] in
-      let seen : times f (whole.parts q).fresh ≡ one_if (has_as Fresh q (whole.phases f)) = sound.lists q Fresh f in
+      let seen : times f (whole.parts q).fresh ≡ one_if (has_as FreshFrame q (whole.phases f)) = sound.lists q FreshFrame f in
       let same_fresh : times f (whole.parts q).fresh ≡ times f c.fresh = ap (times f) own.fresh in
-      let has : has_as Fresh q ((local_of t m c).phases f) ≡ true =
-      ap (has_as Fresh q) (fresh_phase c f (spot_at m.spots f) spot (omega arith)) ∙ eq-eqb q q refl in
+      let has : has_as FreshFrame q ((local_of t m c).phases f) ≡ true =
+      ap (has_as FreshFrame q) (fresh_phase c f (spot_at m.spots f) spot (omega arith)) ∙ eq-eqb q q refl in
       let booked = sound.booked q in
       let part_seen : part_with c.list c.fresh c.back a ≡ whole.parts q =
       sym own_part_is ∙ ap (λ (x : State). x.parts q) (is.shows.each k c is.is_part).sees ∙ own_part q whole.parts q refl in

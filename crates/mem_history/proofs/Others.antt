@@ -11,7 +11,7 @@ use Rattle.step_rules.specs.declared.phase.Hold.TheVariants.{HeldBy}
 use Rattle.step_rules.specs.declared.phase.Stage.TheVariants.{FreshAt}
 use Rattle.step_rules.specs.declared.phase.Phase.{Phase}
 use Rattle.step_rules.specs.declared.phase.Phase.TheVariants as phase
-use Rattle.step_rules.specs.Phases.{Fresh, Back, has_as}
+use Rattle.step_rules.specs.Phases.{FreshFrame, BackFrame, has_as}
 use Rattle.step_rules.specs.State.{State, Part, one_if}
 use Rattle.step_rules.specs.Cover.{hide, hide_phase, hide_part, hide_parts, hide_references}
 use Rattle.step_rules.proofs.Lists.{times, one_if_true}
@@ -138,11 +138,11 @@ own_stays c p s later ne other sound sound_later stays own =
       unit = λ f u is.
           let paid : PhasePaid later.zone.cpus (groups_in later.parts) (phase.Head u (FreshAt q)) =
           subst (PhasePaid later.zone.cpus (groups_in later.parts)) is (sound_later.frames f).paid in
-          let now : times f (later.parts q).fresh ≡ one_if (has_as Fresh q (later.phases f)) = sound_later.lists q Fresh f in
-          let yes : one_if (has_as Fresh q (later.phases f)) ≡ 1 = ap (λ (y : Phase). one_if (has_as Fresh q y)) is ∙ ap one_if (eq-eqb q q refl) in
-          let before : times f (s.parts q).fresh ≡ one_if (has_as Fresh q (s.phases f)) = sound.lists q Fresh f in
+          let now : times f (later.parts q).fresh ≡ one_if (has_as FreshFrame q (later.phases f)) = sound_later.lists q FreshFrame f in
+          let yes : one_if (has_as FreshFrame q (later.phases f)) ≡ 1 = ap (λ (y : Phase). one_if (has_as FreshFrame q y)) is ∙ ap one_if (eq-eqb q q refl) in
+          let before : times f (s.parts q).fresh ≡ one_if (has_as FreshFrame q (s.phases f)) = sound.lists q FreshFrame f in
           let as_many : times f (later.parts q).fresh ≡ times f (s.parts q).fresh = ap (times f) same_fresh in
-          let was = fresh_is q (s.phases f) (one_if_true (has_as Fresh q (s.phases f)) (omega arith)) in
+          let was = fresh_is q (s.phases f) (one_if_true (has_as FreshFrame q (s.phases f)) (omega arith)) in
           let paid_then : PhasePaid s.zone.cpus (groups_in s.parts) (phase.Head was.0 (FreshAt q)) =
           subst (PhasePaid s.zone.cpus (groups_in s.parts)) was.1 (sound.frames f).paid in
           let unit_then = own.unit f was.0 was.1 in
@@ -166,8 +166,8 @@ module _ (t : KnownTable) (n : KnownMachine) (d c : KnownCpu) (s : State) (sound
   phases_seen : (f : ℕ) → phase_of c f (spot_at n.spots f) ≡ hide_phase q (s.phases f)
   phases_seen f = phase_seen c q f (spot_at n.spots f) (s.phases f) refl
       (sym (cover_hidden p (s.phases f)) ∙ sym (ap (λ (x : State). cover (x.phases f)) sees) ∙ cover_shown d f (spot_at n.spots f))
-      (same_times f c.fresh ∙ ap (times f) (sym own.fresh) ∙ sound.lists q Fresh f)
-      (same_times f c.back ∙ ap (times f) (sym own.back) ∙ sound.lists q Back f)
+      (same_times f c.fresh ∙ ap (times f) (sym own.fresh) ∙ sound.lists q FreshFrame f)
+      (same_times f c.back ∙ ap (times f) (sym own.back) ∙ sound.lists q BackFrame f)
       (λ u is. own.unit f u is)
 
   references_seen : (a f : ℕ) → references_of n.seat c a f ≡ hide_references q s.references a f

@@ -17,7 +17,7 @@ use Rattle.step_rules.specs.declared.phase.Way.{Way}
 use Rattle.step_rules.specs.declared.phase.Stage.TheVariants.{FreshAt, BackAt, Live}
 use Rattle.step_rules.specs.declared.phase.Phase.{Phase}
 use Rattle.step_rules.specs.declared.phase.Phase.TheVariants as phase
-use Rattle.step_rules.specs.Phases.{Kind, Listed, Fresh, has_as, keeper_of}
+use Rattle.step_rules.specs.Phases.{Kind, ListFrame, FreshFrame, has_as, keeper_of}
 use Rattle.step_rules.specs.Phases as phases
 use Rattle.step_rules.specs.State.{Zone, State, Part, Stock, one_if, is_cpu, free_in}
 use Rattle.step_rules.specs.After.{Run, state_of}
@@ -124,20 +124,20 @@ module _ (t : KnownTable) (w : Words) (run : Run) (m : KnownMachine) (cpus : Lis
   -- ---- who is nobody processor has nothing
 
   nobody_listed : (p : ℕ) → is_cpu zone p ≡ false → (whole.parts p).list ≡ []
-  nobody_listed p nobody = none_stands (whole.parts p).list (λ f. elim (cases_Bool (has_as Listed p (whole.phases f))) [
+  nobody_listed p nobody = none_stands (whole.parts p).list (λ f. elim (cases_Bool (has_as ListFrame p (whole.phases f))) [
     | inl listed ↦ absurd (true≢false (sym (frames_are_lent zone run shows.legal f p (ap lent_to (listed_is p (whole.phases f) listed))) ∙ nobody))
-    | inr off ↦ sound.lists p Listed f ∙ ap one_if off
+    | inr off ↦ sound.lists p ListFrame f ∙ ap one_if off
   ])
 
   nobody_fresh : (p : ℕ) → is_cpu zone p ≡ false → (whole.parts p).fresh ≡ []
-  nobody_fresh p nobody = none_stands (whole.parts p).fresh (λ f. elim (cases_Bool (has_as Fresh p (whole.phases f))) [
+  nobody_fresh p nobody = none_stands (whole.parts p).fresh (λ f. elim (cases_Bool (has_as FreshFrame p (whole.phases f))) [
     | inl fresh ↦
         let was = fresh_is p (whole.phases f) fresh in
         let paid : PhasePaid whole.zone.cpus (groups_in whole.parts) (phase.Head was.0 (FreshAt p)) =
         subst (PhasePaid whole.zone.cpus (groups_in whole.parts)) was.1 (sound.frames f).paid in
         let high : p ≤ t.cpus = subst (λ (z : Zone). p ≤ z.cpus) (zone_of_run zone run) paid.high in
         absurd (true≢false (sym (and_from (nat_le 1 p) (nat_le p t.cpus) (le-leb 1 p paid.low) (le-leb p t.cpus high)) ∙ nobody))
-    | inr off ↦ sound.lists p Fresh f ∙ ap one_if off
+    | inr off ↦ sound.lists p FreshFrame f ∙ ap one_if off
   ])
 
   zero_no : is_cpu zone 0 ≡ false
@@ -199,10 +199,10 @@ module _ (t : KnownTable) (w : Words) (run : Run) (m : KnownMachine) (cpus : Lis
 
   -- ---- keepers
 
-  fresh_times : (f p : ℕ) → parts.times f (fresh_frames_by cpus p) ≡ one_if (has_as Fresh p (whole.phases f))
-  fresh_times f p = same_times f (fresh_frames_by cpus p) ∙ ap (times f) (fresh_is_by p) ∙ sound.lists p Fresh f
+  fresh_times : (f p : ℕ) → parts.times f (fresh_frames_by cpus p) ≡ one_if (has_as FreshFrame p (whole.phases f))
+  fresh_times f p = same_times f (fresh_frames_by cpus p) ∙ ap (times f) (fresh_is_by p) ∙ sound.lists p FreshFrame f
 
-  lent_keeper : (f p : ℕ) (b : Bool) → has_as Fresh p (whole.phases f) ≡ b → keeper_by m cpus f (Lent p) ≡ (if b then (account_of m.stock.view p).group else None)
+  lent_keeper : (f p : ℕ) (b : Bool) → has_as FreshFrame p (whole.phases f) ≡ b → keeper_by m cpus f (Lent p) ≡ (if b then (account_of m.stock.view p).group else None)
   lent_keeper f p true e = cond-true _ _ _ (le-leb 1 (parts.times f (fresh_frames_by cpus p)) (let a = fresh_times f p in let b = ap one_if e in omega arith))
   lent_keeper f p false e = cond-false _ _ _ (ap (nat_le 1) (fresh_times f p ∙ ap one_if e))
 
@@ -210,11 +210,11 @@ module _ (t : KnownTable) (w : Words) (run : Run) (m : KnownMachine) (cpus : Lis
   keeper_is f x phase.InZone e same = ap (keeper_by m cpus f) (in_zone_plain x same)
   keeper_is f x (phase.Tail g) e same = ap (keeper_by m cpus f) (tail_plain x g same)
   keeper_is f x (phase.Lent q way) e same =
-      ap (keeper_by m cpus f) (any_lent_plain x q way same) ∙ lent_keeper f q false (ap (has_as Fresh q) e)
+      ap (keeper_by m cpus f) (any_lent_plain x q way same) ∙ lent_keeper f q false (ap (has_as FreshFrame q) e)
   keeper_is f x (phase.Head u (FreshAt q)) e same =
       let paid : PhasePaid whole.zone.cpus (groups_in whole.parts) (phase.Head u (FreshAt q)) =
       subst (PhasePaid whole.zone.cpus (groups_in whole.parts)) e (sound.frames f).paid in
-      ap (keeper_by m cpus f) (lent_plain x q same) ∙ lent_keeper f q true (ap (has_as Fresh q) e ∙ eq-eqb q q refl)
+      ap (keeper_by m cpus f) (lent_plain x q same) ∙ lent_keeper f q true (ap (has_as FreshFrame q) e ∙ eq-eqb q q refl)
       ∙ ap (λ (s : Stock). s.group) (stock_is q) ∙ paid.group
   keeper_is f x (phase.Head u (BackAt q)) e same = ap (keeper_by m cpus f) (any_head_plain x u Live same)
   keeper_is f x (phase.Head u stage) e same = ap (keeper_by m cpus f) (any_head_plain x u stage same)

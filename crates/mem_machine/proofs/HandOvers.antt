@@ -199,7 +199,7 @@ module _ (s : State) (p f : ℕ) (unit : ChargedUnit) (part : Part) (visited : I
 
     may_hand : is_legal s p (PassBack f) ≡ true
     may_hand = and_from _ _ (and_from _ _ (and_from _ _ visited.cpu visited.framed) visited.visiting)
-        (or_left _ _ (or_right _ _ (ap (phases.has_as phases.Fresh p) fresh ∙ same_cpu)))
+        (or_left _ _ (or_right _ _ (ap (phases.has_as phases.FreshFrame p) fresh ∙ same_cpu)))
 
     hands : after s p (PassBack f) Done ≡ s1
     unfolding s1
@@ -300,7 +300,7 @@ module _ (s : State) (p f : ℕ) (unit : ChargedUnit) (part : Part) (visited : I
   return_run b back is =
       let r1 : State = seen s p f handed_back (phase.Head unit (BackPassing p)) s.references in
       let may_hand_back : is_legal s p (PassBack f) ≡ true = and_from _ _ (and_from _ _ (and_from _ _ visited.cpu visited.framed) visited.visiting)
-      (or_right _ _ (ap (phases.has_as phases.Back p) back ∙ same_cpu)) in
+      (or_right _ _ (ap (phases.has_as phases.BackFrame p) back ∙ same_cpu)) in
       let hands_back : after s p (PassBack f) Done ≡ r1 =
       λ i. seen s p f (without_frame (part_is i) (back i) p f) (phases.passed_back (back i)) s.references in
       let may_take : is_legal r1 0 (Collect f p) ≡ true = and_from _ _ (and_from _ _ (and_from _ _ visited.acts visited.framed) visited.cpu)

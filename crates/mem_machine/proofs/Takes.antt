@@ -159,7 +159,7 @@ module _ (t : KnownTable) (w : Words) (m : KnownMachine) (c : KnownCpu) (tied : 
       let framed : is_frame s.zone f ≡ true = lt-ltb f t.frames inside in
       let fronted : (front_of (part_of m.stock c p).list == f) ≡ true =
       ap (λ (x : Part). front_of x.list == f) own ∙ ap (λ (l : List ℕ). front_of l == f) front ∙ eq-eqb f f refl in
-      let listed : phases.has_as phases.Listed p (s.phases f) ≡ true = ap (phases.has_as phases.Listed p) was ∙ eq-eqb p p refl in
+      let listed : phases.has_as phases.ListFrame p (s.phases f) ≡ true = ap (phases.has_as phases.ListFrame p) was ∙ eq-eqb p p refl in
       let may_back : may_pass_back s p f ≡ true = or_left _ _ (or_left _ _ (and_from _ _ listed fronted)) in
       let may_pass : is_legal s p (PassBack f) ≡ true =
       and_from _ _ (and_from _ _ (and_from _ _ (seated_cpu t c seated) framed) (visits_open m.seat p visit.is_open)) may_back in

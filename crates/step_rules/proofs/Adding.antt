@@ -4,12 +4,12 @@ use Rattle.std.proofs.lemmas.Bool.{ne_eqb, lt-ltb}
 use Rattle.group_tree.specs.Groups.{in_subtree}
 use Rattle.step_rules.specs.declared.phase.Phase.{Phase}
 use Rattle.step_rules.specs.declared.phase.Phase.TheVariants.{InZone, Lent, Head, Tail}
-use Rattle.step_rules.specs.declared.step.Place.TheVariants.{Charged}
+use Rattle.step_rules.specs.declared.step.FramePlace.TheVariants.{Charged}
 use Rattle.step_rules.specs.Phases.{keeper_of}
 use Rattle.step_rules.specs.State.{Zone, State, one_if, sum_to}
 use Rattle.step_rules.specs.Usage.{is_below, frames_kept, stock_below, pages_prepaid, pages_pending}
 use Rattle.step_rules.specs.After.{state_of}
-use Rattle.step_rules.specs.Places.{places_of, is_same_place, place_in}
+use Rattle.step_rules.specs.Places.{places_of, is_same_frame_place, place_in}
 use Rattle.step_rules.specs.Returns.{counted_beside}
 use Rattle.step_rules.specs.Counts.{stock_in, stock_out, counted_over}
 use Rattle.step_rules.specs.Grants.{pending_in, pending_out}
@@ -41,7 +41,7 @@ is_of None h = false
 is_of (Some g) h = h == g
 
 -- the pair at a group, of a frame whose keeper is this
-charged_is : (x : Phase) (h : ℕ) → is_same_place (Charged h) (place_in x) ≡ is_of (keeper_of x) h
+charged_is : (x : Phase) (h : ℕ) → is_same_frame_place (Charged h) (place_in x) ≡ is_of (keeper_of x) h
 charged_is InZone h = refl
 charged_is (Lent p way) h = refl
 charged_is (Head u stage) h = refl
@@ -81,7 +81,7 @@ current_is_told zone run legal g =
           ∙ sum_same 64 (λ h. one_if (in_subtree s.groups g h && is_of (keeper_of (s.phases f)) h))
           (λ h. one_if (in_subtree s.groups g h && places_of zone run f (Charged h)))
           (λ h low. ap (λ b. one_if (in_subtree s.groups g h && b))
-          (sym (told f (Charged h) ∙ ap (λ b. b && is_same_place (Charged h) (place_in (s.phases f))) (lt-ltb f zone.frames below)
+          (sym (told f (Charged h) ∙ ap (λ b. b && is_same_frame_place (Charged h) (place_in (s.phases f))) (lt-ltb f zone.frames below)
           ∙ charged_is (s.phases f) h))));
       prepaid =
           in_and_out (zone.cpus + 1) (λ p. is_below s.groups g (last_fill run p).group) (λ p. counted_over (stock_in p) run)

@@ -1,4 +1,4 @@
--- Fresh and back frames, books and reports. Serves `parts_are_booked`.
+-- FreshFrame and back frames, books and reports. Serves `parts_are_booked`.
 use Rattle.std.proofs.Common.{◌≡◌, ℕ, ◌+◌, ◌≤◌, ◌&&◌, ◌||◌, ◌==◌, true, is_some, refl, sym, ◌∙◌, ap, subst, arith, inl, inr}
 use Rattle.std.specs.Prelude.{nat_le, if◌then◌else◌}
 use Rattle.std.proofs.lemmas.Bool.{and_parts, or_cases, leb-true}
@@ -7,7 +7,7 @@ use Rattle.step_rules.specs.declared.step.Action.{Action}
 use Rattle.step_rules.specs.declared.step.Action.TheVariants.{Lock, Put, TakeIn, PassBack, Consume, Credit, Report, Absorb, Fill, DrainStock}
 use Rattle.step_rules.specs.declared.step.Answer.{Answer}
 use Rattle.step_rules.specs.declared.step.Answer.TheVariants.{Illegal, Done, Last, Took, Back, Pages}
-use Rattle.step_rules.specs.Phases.{Listed, Fresh, has_as}
+use Rattle.step_rules.specs.Phases.{ListFrame, FreshFrame, has_as}
 use Rattle.step_rules.specs.Phases as kinds
 use Rattle.step_rules.specs.State.{Zone, Part, State, one_if, front_of}
 use Rattle.step_rules.specs.Legal.{Allows, IsMade, may_pass_back}
@@ -24,17 +24,17 @@ use Rattle.step_rules.proofs.Returning.{Along, counted_so_along}
 use Rattle.step_rules.proofs.Few.{few_fresh, few_pins}
 
 -- what a processor may pass back is fresh by the run exactly where it is fresh there
-sent_fresh : (p front f : ℕ) (x : Phase) → (has_as Listed p x && front == f || has_as Fresh p x || has_as kinds.Back p x) ≡ true →
-    is_some (fresh_group x) ≡ has_as Fresh p x
+sent_fresh : (p front f : ℕ) (x : Phase) → (has_as ListFrame p x && front == f || has_as FreshFrame p x || has_as kinds.BackFrame p x) ≡ true →
+    is_some (fresh_group x) ≡ has_as FreshFrame p x
 sent_fresh p front f x may =
-    elim (or_cases (has_as Listed p x && front == f || has_as Fresh p x) (has_as kinds.Back p x) may) [
-      | inl first ↦ elim (or_cases (has_as Listed p x && front == f) (has_as Fresh p x) first) [
+    elim (or_cases (has_as ListFrame p x && front == f || has_as FreshFrame p x) (has_as kinds.BackFrame p x) may) [
+      | inl first ↦ elim (or_cases (has_as ListFrame p x && front == f) (has_as FreshFrame p x) first) [
         | inl listed ↦
-            let is = listed_is p x (and_parts (has_as Listed p x) (front == f) listed).0 in
-            ap (λ y. is_some (fresh_group y)) is ∙ sym (ap (has_as Fresh p) is)
+            let is = listed_is p x (and_parts (has_as ListFrame p x) (front == f) listed).0 in
+            ap (λ y. is_some (fresh_group y)) is ∙ sym (ap (has_as FreshFrame p) is)
         | inr fresh ↦ let is = fresh_is p x fresh in ap (λ y. is_some (fresh_group y)) is.1 ∙ sym fresh
       ]
-      | inr back ↦ let is = back_is p x back in ap (λ y. is_some (fresh_group y)) is.1 ∙ sym (ap (has_as Fresh p) is.1)
+      | inr back ↦ let is = back_is p x back in ap (λ y. is_some (fresh_group y)) is.1 ∙ sym (ap (has_as FreshFrame p) is.1)
     ]
 
 -- where a made step changes a number of a part by what it counts in and out, and an illegal one counts nothing, so does each
@@ -76,10 +76,10 @@ unreported_made p zone run seat (PassBack f) Done legal made =
     let s = state_of zone run in
     let ok = made.legal in
     let may : may_pass_back s seat f ≡ true = grind arith in
-    let same : is_some ((units_of run).fresh_for f) ≡ has_as Fresh seat (s.phases f) =
+    let same : is_some ((units_of run).fresh_for f) ≡ has_as FreshFrame seat (s.phases f) =
     ap is_some (sym (units_are_told zone run legal f).fresh) ∙ sent_fresh seat (front_of (s.parts seat).list) f (s.phases f) may in
     ap (λ b. unreported (s.parts p) + (if seat == p then one_if b else 0)) same
-    ∙ gained unreported s.parts seat p (without_frame (s.parts seat) (s.phases f) seat f) (one_if (has_as Fresh seat (s.phases f))) refl
+    ∙ gained unreported s.parts seat p (without_frame (s.parts seat) (s.phases f) seat f) (one_if (has_as FreshFrame seat (s.phases f))) refl
 unreported_made p zone run seat (Consume g) Took legal made = stayed unreported (state_of zone run).parts seat p (paid ((state_of zone run).parts seat)) refl
 unreported_made p zone run seat (Credit f) Back legal made =
     stayed unreported (state_of zone run).parts seat p (credited ((state_of zone run).parts seat) f) refl
@@ -131,8 +131,8 @@ parts_are_booked zone run legal p =
     let s = state_of zone run in
     let sound = sound_run zone run legal in
     record {
-      fresh = λ f. times_are f (s.parts p).fresh ∙ sound.lists p Fresh f;
-      back = λ f. times_are f (s.parts p).back ∙ sound.lists p kinds.Back f;
+      fresh = λ f. times_are f (s.parts p).fresh ∙ sound.lists p FreshFrame f;
+      back = λ f. times_are f (s.parts p).back ∙ sound.lists p kinds.BackFrame f;
       book = sound.booked p;
       unreported = counted_so_along (unreported_in p) (reported_in p) (λ t. unreported (t.parts p)) zone refl
           (λ before seat action answer legal ok. allowed_so unreported p (unreported_in p) (reported_in p) (no_unreported p) (unreported_made p)

@@ -18,7 +18,7 @@ use Rattle.step_rules.specs.declared.step.Action.TheVariants.{Credit, Report, Ab
 use Rattle.step_rules.specs.declared.step.Action.TheVariants.{SetMax, Make, Remove}
 use Rattle.step_rules.specs.declared.step.Answer.{Answer}
 use Rattle.step_rules.specs.declared.step.Answer.TheVariants.{Illegal, Done, Last, Took, Back, Pages, Granted, Placed, Number}
-use Rattle.step_rules.specs.Phases.{Fresh, keeper_of, unit_of, has_as, is_free, passes_out, at_stage, passed_back, collected, stage_after_last, may_return}
+use Rattle.step_rules.specs.Phases.{FreshFrame, keeper_of, unit_of, has_as, is_free, passes_out, at_stage, passed_back, collected, stage_after_last, may_return}
 use Rattle.step_rules.specs.State.{Zone, Part, State, at_boot, with_at, sum_to, one_if, is_cpu, is_frame, visits, front_of, with_last}
 use Rattle.step_rules.specs.Usage.{is_below, frames_kept, stock_below, pages_prepaid, pages_pending, usage_of}
 use Rattle.step_rules.specs.Legal.{is_legal, IsAnswer, IsCounted, IsMade, Allows, may_fill}
@@ -276,7 +276,7 @@ module _ (groups : List Group) (m : ℕ) where
   moves_exactly s run seat (Credit f) Back sound h told legal ok counted =
       let cpu : is_cpu s.zone seat ≡ true = grind arith in
       let frame : is_frame s.zone f ≡ true = grind arith in
-      let fresh : has_as Fresh seat (s.phases f) ≡ true = grind arith in
+      let fresh : has_as FreshFrame seat (s.phases f) ≡ true = grind arith in
       let is = fresh_is seat (s.phases f) fresh in
       let paid : PhasePaid s.zone.cpus (groups_in s.parts) (Head is.0 (FreshAt seat)) =
       subst (PhasePaid s.zone.cpus (groups_in s.parts)) is.1 (sound.frames f).paid in

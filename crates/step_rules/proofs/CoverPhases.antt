@@ -8,7 +8,7 @@ use Rattle.step_rules.specs.declared.phase.Way.TheVariants.{OnList, PassingBack}
 use Rattle.step_rules.specs.declared.phase.Stage.TheVariants.{FreshAt, FreshPassing, Collected, Bare, Live, BackAt, BackPassing, Ended}
 use Rattle.step_rules.specs.declared.phase.Phase.{Phase}
 use Rattle.step_rules.specs.declared.phase.Phase.TheVariants.{InZone, Lent, Head, Tail}
-use Rattle.step_rules.specs.Phases.{Kind, Listed, Fresh, Back, is_free, has_as, passes_out, passes_back, is_head_in_hand, may_return}
+use Rattle.step_rules.specs.Phases.{Kind, ListFrame, FreshFrame, BackFrame, is_free, has_as, passes_out, passes_back, is_head_in_hand, may_return}
 use Rattle.step_rules.specs.Phases.{unit_of, at_stage, passed_back, collected}
 use Rattle.step_rules.specs.State.{Zone, with_at, free_in}
 use Rattle.step_rules.specs.After.{with_block, placed_phase, is_within, without_unit, unit_size}
@@ -111,13 +111,13 @@ collected_goes p q x (FromList e) = at_phase p collected x (Lent q PassingBack) 
 collected_goes p q x (FromFresh u e) = at_phase p collected x (Head u (FreshPassing q)) e (record { before = refl; after = refl })
 collected_goes p q x (FromBack u e) = at_phase p collected x (Head u (BackPassing q)) e (record { before = refl; after = refl })
 
-pub listed_goes : (p : ℕ) (x : Phase) → has_as Listed p x ≡ true → GoesOn p passed_back x
+pub listed_goes : (p : ℕ) (x : Phase) → has_as ListFrame p x ≡ true → GoesOn p passed_back x
 listed_goes p x has = at_phase p passed_back x (Lent p OnList) (listed_is p x has) (record { before = refl; after = refl })
 
-pub fresh_goes : (p : ℕ) (x : Phase) → has_as Fresh p x ≡ true → GoesOn p passed_back x
+pub fresh_goes : (p : ℕ) (x : Phase) → has_as FreshFrame p x ≡ true → GoesOn p passed_back x
 fresh_goes p x has = let is = fresh_is p x has in at_phase p passed_back x (Head is.0 (FreshAt p)) is.1 (record { before = own_fresh is.0 p; after = refl })
 
-pub back_goes : (p : ℕ) (x : Phase) → has_as Back p x ≡ true → GoesOn p passed_back x
+pub back_goes : (p : ℕ) (x : Phase) → has_as BackFrame p x ≡ true → GoesOn p passed_back x
 back_goes p x has = let is = back_is p x has in at_phase p passed_back x (Head is.0 (BackAt p)) is.1 (record { before = own_back is.0 p; after = refl })
 
 placed_seen : (p g : ℕ) (b : Block) (x : ℕ) → hide_phase p (placed_phase g b x) ≡ placed_phase g b x

@@ -7,7 +7,7 @@ use Rattle.step_rules.specs.declared.phase.Stage.TheVariants.{FreshAt, BackAt, L
 use Rattle.step_rules.specs.declared.phase.Phase.{Phase}
 use Rattle.step_rules.specs.declared.phase.Phase.TheVariants.{Lent, Head}
 use Rattle.step_rules.specs.declared.phase.Way.TheVariants.{OnList}
-use Rattle.step_rules.specs.Phases.{Fresh, has_as, keeper_of}
+use Rattle.step_rules.specs.Phases.{FreshFrame, has_as, keeper_of}
 use Rattle.step_rules.specs.State.{State, Part, one_if, sum_to}
 use Rattle.step_rules.specs.Usage.{is_below, frames_kept, stock_below, pages_prepaid, usage_of}
 use Rattle.step_rules.specs.Cover.{hide_phase, hide_part, hide_parts, hide}
@@ -18,10 +18,10 @@ use Rattle.step_rules.proofs.PhaseLemmas.{free_is}
 
 -- 1 where another processor than p, whose stock is of the subtree, has the frame fresh
 abbrev covered : List Group → ℕ → ℕ → (ℕ → Option ℕ) → ℕ → Phase → ℕ
-covered groups g p stocks q x = if q == p then 0 else (if is_below groups g (stocks q) then one_if (has_as Fresh q x) else 0)
+covered groups g p stocks q x = if q == p then 0 else (if is_below groups g (stocks q) then one_if (has_as FreshFrame q x) else 0)
 
-covered_not : (groups : List Group) (g p : ℕ) (stocks : ℕ → Option ℕ) (q : ℕ) (x : Phase) → has_as Fresh q x ≡ false → covered groups g p stocks q x ≡ 0
-covered_not groups g p stocks q x e = none (q == p) (is_below groups g (stocks q)) (one_if (has_as Fresh q x)) (ap one_if e)
+covered_not : (groups : List Group) (g p : ℕ) (stocks : ℕ → Option ℕ) (q : ℕ) (x : Phase) → has_as FreshFrame q x ≡ false → covered groups g p stocks q x ≡ 0
+covered_not groups g p stocks q x e = none (q == p) (is_below groups g (stocks q)) (one_if (has_as FreshFrame q x)) (ap one_if e)
   where
     none : (a b : Bool) (n : ℕ) → n ≡ 0 → cond a 0 (cond b n 0) ≡ 0
     none true b n e = refl
@@ -40,7 +40,7 @@ fresh_counts groups g p cpus stocks u r paid =
     let one : sum_to (cpus + 1) (λ q. covered groups g p stocks q (Head u (FreshAt r))) ≡ covered groups g p stocks r (Head u (FreshAt r)) =
     sum_only (cpus + 1) (λ q. covered groups g p stocks q (Head u (FreshAt r))) r below
     (λ q here ne. covered_not groups g p stocks q (Head u (FreshAt r)) (ne_eqb r q (λ e. ne (sym e)))) in
-    let mine : one_if (has_as Fresh r (Head u (FreshAt r))) ≡ 1 = ap one_if (eq-eqb r r refl) in
+    let mine : one_if (has_as FreshFrame r (Head u (FreshAt r))) ≡ 1 = ap one_if (eq-eqb r r refl) in
     let same : is_below groups g (stocks r) ≡ is_below groups g (Some u.group) = ap (is_below groups g) paid.group in
     let counted : covered groups g p stocks r (Head u (FreshAt r)) ≡ cond (r == p) 0 (cond (is_below groups g (Some u.group)) 1 0) =
     (λ i. cond (r == p) 0 (cond (same i) (mine i) 0)) in
@@ -54,7 +54,7 @@ fresh_counts groups g p cpus stocks u r paid =
     splits false false e = refl
 
 other_counts : (groups : List Group) (g p cpus : ℕ) (stocks : ℕ → Option ℕ) (x : Phase) → keeper_of (hide_phase p x) ≡ keeper_of x →
-    ((q : ℕ) → has_as Fresh q x ≡ false) →
+    ((q : ℕ) → has_as FreshFrame q x ≡ false) →
     one_if (is_below groups g (keeper_of x)) ≡ one_if (is_below groups g (keeper_of (hide_phase p x))) + sum_to (cpus + 1) (λ q. covered groups g p stocks q x)
 other_counts groups g p cpus stocks x same nobody =
     let none = sum_none (cpus + 1) (λ q. covered groups g p stocks q x) (λ q below. covered_not groups g p stocks q x (nobody q)) in
@@ -84,11 +84,11 @@ stock_counts groups g p parts q = counts (q == p) (is_below groups g (parts q).s
     counts false false e = rw e refl
 
 -- the fresh frames of a processor, counted by frame
-fresh_length : (s : State) (q : ℕ) → IsSound s → sum_to s.zone.frames (λ f. one_if (has_as Fresh q (s.phases f))) ≡ length (s.parts q).fresh
+fresh_length : (s : State) (q : ℕ) → IsSound s → sum_to s.zone.frames (λ f. one_if (has_as FreshFrame q (s.phases f))) ≡ length (s.parts q).fresh
 fresh_length s q sound =
-    sum_same s.zone.frames (λ f. one_if (has_as Fresh q (s.phases f))) (λ f. times f (s.parts q).fresh) (λ f below. sym (sound.lists q Fresh f))
-    ∙ count_length s.zone.frames (s.parts q).fresh (λ f beyond. sound.lists q Fresh f
-    ∙ ap (λ x. one_if (has_as Fresh q x)) (free_is (s.phases f) ((sound.frames f).inside beyond)))
+    sum_same s.zone.frames (λ f. one_if (has_as FreshFrame q (s.phases f))) (λ f. times f (s.parts q).fresh) (λ f below. sym (sound.lists q FreshFrame f))
+    ∙ count_length s.zone.frames (s.parts q).fresh (λ f beyond. sound.lists q FreshFrame f
+    ∙ ap (λ x. one_if (has_as FreshFrame q x)) (free_is (s.phases f) ((sound.frames f).inside beyond)))
 
 pub usage_seen : (s : State) (p : ℕ) → IsSound s → (g : ℕ) → usage_of (hide p s) g ≡ usage_of s g
 usage_seen s p sound g =
@@ -113,7 +113,7 @@ usage_seen s p sound g =
     omega arith
   where
     column : (a b : Bool) (q : ℕ) →
-        sum_to s.zone.frames (λ f. cond a 0 (cond b (one_if (has_as Fresh q (s.phases f))) 0)) ≡ cond a 0 (cond b (length (s.parts q).fresh) 0)
+        sum_to s.zone.frames (λ f. cond a 0 (cond b (one_if (has_as FreshFrame q (s.phases f))) 0)) ≡ cond a 0 (cond b (length (s.parts q).fresh) 0)
     column true b q = sum_none s.zone.frames (λ f. 0) (λ f below. refl)
     column false true q = fresh_length s q sound
     column false false q = sum_none s.zone.frames (λ f. 0) (λ f below. refl)

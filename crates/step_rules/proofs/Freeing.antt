@@ -6,11 +6,11 @@ use Rattle.std.proofs.lemmas.List.FromFn.{map-range_with_len_more}
 use Rattle.zone_blocks.proofs.Unique.{unique_blocks}
 use Rattle.step_rules.specs.declared.phase.Phase.{Phase}
 use Rattle.step_rules.specs.declared.phase.Phase.TheVariants.{InZone, Lent, Head, Tail}
-use Rattle.step_rules.specs.declared.step.Place.TheVariants.{Free}
+use Rattle.step_rules.specs.declared.step.FramePlace.TheVariants.{Free}
 use Rattle.step_rules.specs.Phases.{is_free}
 use Rattle.step_rules.specs.State.{Zone, State, at_boot, free_in}
 use Rattle.step_rules.specs.After.{Run, state_of}
-use Rattle.step_rules.specs.Places.{places_of, is_same_place, place_in}
+use Rattle.step_rules.specs.Places.{places_of, is_same_frame_place, place_in}
 use Rattle.step_rules.specs.FreeAreas.{free_frames, AllAreasAreTold}
 use Rattle.step_rules.proofs.Placed.{every_frame_has_one_place, zone_kept}
 use Rattle.step_rules.proofs.Runs.{next}
@@ -31,7 +31,7 @@ zone_on s (e ∷ run) = zone_on (next s e) run ∙ zone_kept s e.0.seat e.0.acti
 pub zone_of_run : (zone : Zone) (run : Run) → (state_of zone run).zone ≡ zone
 zone_of_run zone run = zone_on (at_boot zone) run
 
-free_place : (x : Phase) → is_same_place Free (place_in x) ≡ is_free x
+free_place : (x : Phase) → is_same_frame_place Free (place_in x) ≡ is_free x
 free_place InZone = refl
 free_place (Lent p way) = refl
 free_place (Head u stage) = refl
@@ -45,6 +45,6 @@ areas_are_told zone run legal =
       same =
           ap (λ (z : Zone). free_in z s.phases) (zone_of_run zone run)
           ∙ map_same zone.frames (λ f. is_free (s.phases f)) (λ f. places_of zone run f Free)
-          (λ f below. sym (told f Free ∙ ap (λ b. b && is_same_place Free (place_in (s.phases f))) (lt-ltb f zone.frames below) ∙ free_place (s.phases f)));
+          (λ f below. sym (told f Free ∙ ap (λ b. b && is_same_frame_place Free (place_in (s.phases f))) (lt-ltb f zone.frames below) ∙ free_place (s.phases f)));
       one = λ a b first second. unique_blocks (free_frames zone run) a b first second;
     }

@@ -15,7 +15,7 @@ use Rattle.step_rules.specs.declared.step.Action.{Action}
 use Rattle.step_rules.specs.declared.step.Action.TheVariants.{Lock, Put, Freeze, Unfreeze, PassOut, TakeIn, PassBack, Collect, Consume, Credit, PlaceBlock, Return}
 use Rattle.step_rules.specs.declared.step.Answer.{Answer}
 use Rattle.step_rules.specs.declared.step.Answer.TheVariants.{Illegal, Done, Last, Took, Back, Placed}
-use Rattle.step_rules.specs.Phases.{Fresh, is_free, has_as, passes_out, unit_of, at_stage, stage_after_last, passed_back, collected, may_return}
+use Rattle.step_rules.specs.Phases.{FreshFrame, is_free, has_as, passes_out, unit_of, at_stage, stage_after_last, passed_back, collected, may_return}
 use Rattle.step_rules.specs.State.{Zone, State, with_at, front_of}
 use Rattle.step_rules.specs.Legal.{IsMade}
 use Rattle.step_rules.specs.After.{Run, IsLegalRun, after, state_of, is_within, placed_phase, with_block, unit_size, without_unit, consumed}
@@ -213,7 +213,7 @@ heads_made s x seat (Consume g) Took sound heads made =
     no_head h z = cc
 heads_made s x seat (Credit f) Back sound heads made =
     let legal = made.legal in
-    let fresh : has_as Fresh seat (s.phases f) ≡ true = grind arith in
+    let fresh : has_as FreshFrame seat (s.phases f) ≡ true = grind arith in
     let is = fresh_is seat (s.phases f) fresh in
     let paid : PhasePaid s.zone.cpus (groups_in s.parts) (Head is.0 (FreshAt seat)) =
     subst (PhasePaid s.zone.cpus (groups_in s.parts)) is.1 (sound.frames f).paid in

@@ -21,7 +21,7 @@ use Rattle.step_rules.specs.declared.step.Action.TheVariants.{PassBack, Collect,
 use Rattle.step_rules.specs.declared.step.Action.TheVariants.{Ungrant, PlaceBlock, Return, SetMax, Make, Remove}
 use Rattle.step_rules.specs.declared.step.Answer.{Answer}
 use Rattle.step_rules.specs.declared.step.Answer.TheVariants.{Illegal, Done, Last, Took, Back, Pages, Granted, Placed, Number}
-use Rattle.step_rules.specs.Phases.{Fresh, keeper_of, has_as, at_stage, passed_back, collected, stage_after_last, unit_of}
+use Rattle.step_rules.specs.Phases.{FreshFrame, keeper_of, has_as, at_stage, passed_back, collected, stage_after_last, unit_of}
 use Rattle.step_rules.specs.State.{Zone, Part, State, with_at, one_if, is_cpu, is_unheld, is_held_by, visits, front_of}
 use Rattle.step_rules.specs.Usage.{is_below, frames_kept, stock_below, pages_prepaid, pages_pending, usage_of}
 use Rattle.step_rules.specs.Legal.{is_legal, IsAnswer, IsCounted, is_removable}
@@ -334,7 +334,7 @@ homes_step s seat (Consume g) Took sound h legal ok counted =
     (λ other. let a = h.beyond seat other in omega arith) (h.quiet seat)
 homes_step s seat (Credit f) Back sound h legal ok counted =
     let cpu : is_cpu s.zone seat ≡ true = grind arith in
-    let fresh : has_as Fresh seat (s.phases f) ≡ true = grind arith in
+    let fresh : has_as FreshFrame seat (s.phases f) ≡ true = grind arith in
     let is = fresh_is seat (s.phases f) fresh in
     let paid : PhasePaid s.zone.cpus (groups_in s.parts) (Head is.0 (FreshAt seat)) =
     subst (PhasePaid s.zone.cpus (groups_in s.parts)) is.1 (sound.frames f).paid in

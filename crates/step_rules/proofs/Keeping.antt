@@ -10,7 +10,7 @@ use Rattle.step_rules.specs.declared.phase.Phase.TheVariants.{Head}
 use Rattle.step_rules.specs.declared.step.Step.{Step}
 use Rattle.step_rules.specs.declared.step.Action.{Action}
 use Rattle.step_rules.specs.declared.step.Answer.{Answer}
-use Rattle.step_rules.specs.Phases.{Fresh, keeper_of, has_as}
+use Rattle.step_rules.specs.Phases.{FreshFrame, keeper_of, has_as}
 use Rattle.step_rules.specs.State.{Zone, State, at_boot, front_of}
 use Rattle.step_rules.specs.Legal.{Allows, is_settled}
 use Rattle.step_rules.specs.After.{Run, after, state_of, IsLegalRun}
@@ -58,8 +58,8 @@ book_there s p g sound h e more =
           let booked = sound.booked p in
           let f = front_of (s.parts p).fresh in
           let stands = front_stands (s.parts p).fresh (omega arith) in
-          let listed = sound.lists p Fresh f in
-          let fresh : has_as Fresh p (s.phases f) ≡ true = one_if_true (has_as Fresh p (s.phases f)) (omega arith) in
+          let listed = sound.lists p FreshFrame f in
+          let fresh : has_as FreshFrame p (s.phases f) ≡ true = one_if_true (has_as FreshFrame p (s.phases f)) (omega arith) in
           let is = fresh_is p (s.phases f) fresh in
           let paid : PhasePaid s.zone.cpus (groups_in s.parts) (Head is.0 (FreshAt p)) =
           subst (PhasePaid s.zone.cpus (groups_in s.parts)) is.1 (sound.frames f).paid in

@@ -22,7 +22,7 @@ use Rattle.step_rules.specs.declared.step.Action.TheVariants.{Credit, Report, Ab
 use Rattle.step_rules.specs.declared.step.Action.TheVariants.{SetMax, Make, Remove}
 use Rattle.step_rules.specs.declared.step.Answer.{Answer}
 use Rattle.step_rules.specs.declared.step.Answer.TheVariants.{Illegal, Done, Last, Took, Back, Pages, Granted, Placed, Number}
-use Rattle.step_rules.specs.Phases.{Fresh, keeper_of, unit_of, has_as, is_free, passes_out, at_stage, passed_back, collected, stage_after_last}
+use Rattle.step_rules.specs.Phases.{FreshFrame, keeper_of, unit_of, has_as, is_free, passes_out, at_stage, passed_back, collected, stage_after_last}
 use Rattle.step_rules.specs.Legal.{is_legal, IsAnswer, IsCounted}
 use Rattle.step_rules.specs.Peaks.{UsageMoves}
 use Rattle.step_rules.proofs.Sound.{IsSound, PhasePaid, groups_in}
@@ -352,7 +352,7 @@ usage_step s seat (Consume g) Took sound h legal ok counted = λ m.
 usage_step s seat (Credit f) Back sound h legal ok counted = λ m.
     let cpu : is_cpu s.zone seat ≡ true = grind arith in
     let frame : is_frame s.zone f ≡ true = grind arith in
-    let fresh : has_as Fresh seat (s.phases f) ≡ true = grind arith in
+    let fresh : has_as FreshFrame seat (s.phases f) ≡ true = grind arith in
     let is = fresh_is seat (s.phases f) fresh in
     let paid : PhasePaid s.zone.cpus (groups_in s.parts) (Head is.0 (FreshAt seat)) =
     subst (PhasePaid s.zone.cpus (groups_in s.parts)) is.1 (sound.frames f).paid in

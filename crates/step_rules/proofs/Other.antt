@@ -14,7 +14,7 @@ use Rattle.step_rules.specs.declared.step.Action.TheVariants.{TakeIn, PassBack, 
 use Rattle.step_rules.specs.declared.step.Action.TheVariants.{Grant, Ungrant, PlaceBlock, Return, SetMax, Make, Remove, Kill}
 use Rattle.step_rules.specs.declared.step.Answer.{Answer}
 use Rattle.step_rules.specs.declared.step.Answer.TheVariants.{Done, Held, Left, Last, Took, Back, Pages, Granted, Placed, Number}
-use Rattle.step_rules.specs.Phases.{Fresh, has_as, passes_out, at_stage, stage_after_last}
+use Rattle.step_rules.specs.Phases.{FreshFrame, has_as, passes_out, at_stage, stage_after_last}
 use Rattle.step_rules.specs.State.{State, with_at, one_if, is_unheld, is_held_by, visits, may_zone_act, front_of, without}
 use Rattle.step_rules.specs.Legal.{is_legal, IsAnswer}
 use Rattle.step_rules.specs.After.{after, after_last, paid, credited, with_back, consumed}
@@ -76,11 +76,11 @@ consume_hidden s p q g sound other some pages =
     same_state s (covered_phase p s.phases f (consumed q g) (other_fresh (record { group = g; order = 0 }) p q other
     ∙ sym (ap (hide_phase p) was))) refl (other_changed p s.parts q (paid (s.parts q)) other part)
 
-credit_hidden : (s : State) (p q f : ℕ) → IsSound s → (q ≡ p → ⊥) → has_as Fresh q (s.phases f) ≡ true → hide p (after s q (Credit f) Back) ≡ hide p s
+credit_hidden : (s : State) (p q f : ℕ) → IsSound s → (q ≡ p → ⊥) → has_as FreshFrame q (s.phases f) ≡ true → hide p (after s q (Credit f) Back) ≡ hide p s
 credit_hidden s p q f sound other has =
     let is = fresh_is q (s.phases f) has in
-    let c : times f (s.parts q).fresh ≡ one_if (has_as Fresh q (s.phases f)) = sound.lists q Fresh f in
-    let d : one_if (has_as Fresh q (s.phases f)) ≡ 1 = ap one_if has in
+    let c : times f (s.parts q).fresh ≡ one_if (has_as FreshFrame q (s.phases f)) = sound.lists q FreshFrame f in
+    let d : one_if (has_as FreshFrame q (s.phases f)) ≡ 1 = ap one_if has in
     let shorter = length_without f (s.parts q).fresh in
     let e : (s.parts q).stock.pages + 1 + length (without f (s.parts q).fresh) ≡ (s.parts q).stock.pages + length (s.parts q).fresh = omega arith in
     let part : hide_part (credited (s.parts q) f) ≡ hide_part (s.parts q) =
@@ -124,7 +124,7 @@ other_after s p q (Consume g) Took sound ne other holds legal ok =
     let some : nat_le 1 (length (s.parts q).list) ≡ true = grind arith in
     consume_hidden s p q g sound other (leb-true 1 (length (s.parts q).list) some) ok.2
 other_after s p q (Credit f) Back sound ne other holds legal ok =
-    let fresh : has_as Fresh q (s.phases f) ≡ true = grind arith in
+    let fresh : has_as FreshFrame q (s.phases f) ≡ true = grind arith in
     credit_hidden s p q f sound other fresh
 other_after s p q (Report n) Done sound ne other holds legal ok =
     absurd (let visit : visits q s.hold ≡ true = grind arith in other (only_visit p q s.hold holds visit))

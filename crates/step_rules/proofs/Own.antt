@@ -20,7 +20,7 @@ use Rattle.step_rules.specs.declared.step.Action.TheVariants.{Remove, Kill}
 use Rattle.step_rules.specs.declared.step.Answer.{Answer}
 use Rattle.step_rules.specs.declared.step.Answer.TheVariants.{Done, Held, Left, Last, Took, Empty, Drained, OtherGroup, Back, Pages}
 use Rattle.step_rules.specs.declared.step.Answer.TheVariants.{Granted, Over, Placed, NoFreeBlock, Number}
-use Rattle.step_rules.specs.Phases.{Kind, Listed, Fresh, has_as, passes_out, passes_back, is_free, is_head, is_live, is_head_in_hand}
+use Rattle.step_rules.specs.Phases.{Kind, ListFrame, FreshFrame, has_as, passes_out, passes_back, is_free, is_head, is_live, is_head_in_hand}
 use Rattle.step_rules.specs.Phases.{may_return, passed_back, collected, at_stage, stage_after_last}
 use Rattle.step_rules.specs.Phases as kinds
 use Rattle.step_rules.specs.State.{Zone, Part, State, with_at, sum_to, is_cpu, is_frame, visits, may_zone_act, front_of, pins_of, with_last}
@@ -144,15 +144,15 @@ own_legal s p seat (PassBack f) sound own inside holds =
     at_cpu4 s.zone p seat _ _ _ _ own (λ e.
     let k : (kind : Kind) → has_as kind seat (hide_phase p (s.phases f)) ≡ has_as kind seat (s.phases f) =
     λ kind. subst (λ (r : ℕ). has_as kind r (hide_phase p (s.phases f)) ≡ has_as kind r (s.phases f)) (sym e) (own_seen p kind (s.phases f)) in
-    (λ i. k Listed i && front_of (own_part p s.parts seat e i).list == f || k Fresh i || k kinds.Back i))
+    (λ i. k ListFrame i && front_of (own_part p s.parts seat e i).list == f || k FreshFrame i || k kinds.BackFrame i))
 own_legal s p seat (Collect f q) sound own inside holds =
     (λ i. may_zone_act s.hold seat && is_frame s.zone f && is_cpu s.zone q && back_seen p q (s.phases f) i)
 own_legal s p seat (Consume g) sound own inside holds =
     at_cpu3 s.zone p seat _ _ _ _ own (λ e. ap (λ (part : Part). nat_le 1 (length part.list)) (own_part p s.parts seat e))
     (λ e. ap (λ (part : Part). nat_lt (length part.fresh) 32) (own_part p s.parts seat e))
 own_legal s p seat (Credit f) sound own inside holds =
-    at_cpu3 s.zone p seat _ _ _ _ own (λ e. refl) (λ e. subst (λ (r : ℕ). has_as Fresh r (hide_phase p (s.phases f)) ≡ has_as Fresh r (s.phases f))
-    (sym e) (own_seen p Fresh (s.phases f)))
+    at_cpu3 s.zone p seat _ _ _ _ own (λ e. refl) (λ e. subst (λ (r : ℕ). has_as FreshFrame r (hide_phase p (s.phases f)) ≡ has_as FreshFrame r (s.phases f))
+    (sym e) (own_seen p FreshFrame (s.phases f)))
 own_legal s p seat (Report n) sound own inside holds =
     at_cpu3 s.zone p seat _ _ _ _ own (λ e. refl) (λ e. ap (λ (part : Part). nat_le n part.unreported) (own_part p s.parts seat e))
 own_legal s p seat (Absorb q) sound own inside holds = refl
@@ -288,13 +288,13 @@ own_after s p seat (PassBack f) Done sound own inside holds legal ok counted =
     let may : may_pass_back s seat f ≡ true = grind arith in
     let mine : (kind : Kind) → has_as kind seat (s.phases f) ≡ true → has_as kind p (s.phases f) ≡ true =
     λ kind. subst (λ (r : ℕ). has_as kind r (s.phases f) ≡ true) e in
-    sent_seen s p seat f e (elim (or_cases (has_as Listed seat (s.phases f) && front_of (s.parts seat).list == f || has_as Fresh seat (s.phases f))
-    (has_as kinds.Back seat (s.phases f)) may) [
-      | inl first ↦ elim (or_cases (has_as Listed seat (s.phases f) && front_of (s.parts seat).list == f) (has_as Fresh seat (s.phases f)) first) [
-        | inl front ↦ listed_goes p (s.phases f) (mine Listed (and_parts (has_as Listed seat (s.phases f)) (front_of (s.parts seat).list == f) front).0)
-        | inr fresh ↦ fresh_goes p (s.phases f) (mine Fresh fresh)
+    sent_seen s p seat f e (elim (or_cases (has_as ListFrame seat (s.phases f) && front_of (s.parts seat).list == f || has_as FreshFrame seat (s.phases f))
+    (has_as kinds.BackFrame seat (s.phases f)) may) [
+      | inl first ↦ elim (or_cases (has_as ListFrame seat (s.phases f) && front_of (s.parts seat).list == f) (has_as FreshFrame seat (s.phases f)) first) [
+        | inl front ↦ listed_goes p (s.phases f) (mine ListFrame (and_parts (has_as ListFrame seat (s.phases f)) (front_of (s.parts seat).list == f) front).0)
+        | inr fresh ↦ fresh_goes p (s.phases f) (mine FreshFrame fresh)
       ]
-      | inr back ↦ back_goes p (s.phases f) (mine kinds.Back back)
+      | inr back ↦ back_goes p (s.phases f) (mine kinds.BackFrame back)
     ])
 own_after s p seat (Collect f q) Done sound own inside holds legal ok counted =
     let passes : passes_back q (s.phases f) ≡ true = grind arith in

@@ -8,7 +8,7 @@ use Rattle.step_rules.specs.declared.phase.Way.TheVariants.{PassingOut, OnList, 
 use Rattle.step_rules.specs.declared.phase.Stage.TheVariants.{FreshAt, FreshPassing, Collected, BackAt, BackPassing, Ended}
 use Rattle.step_rules.specs.declared.phase.Phase.{Phase}
 use Rattle.step_rules.specs.declared.phase.Phase.TheVariants.{InZone, Lent, Head, Tail}
-use Rattle.step_rules.specs.Phases.{Kind, Listed, Fresh, Back, is_live, is_free, has_as, unit_of, passed_back, collected, passes_out, passes_back}
+use Rattle.step_rules.specs.Phases.{Kind, ListFrame, FreshFrame, BackFrame, is_live, is_free, has_as, unit_of, passed_back, collected, passes_out, passes_back}
 use Rattle.step_rules.specs.State.{Zone, State, with_at, one_if, frames_of, with_last, front_of}
 use Rattle.step_rules.specs.After.{with_phase, with_part, without_frame, paid, credited, consumed}
 use Rattle.step_rules.proofs.Lists.{times, length_without, length_last, front_stands, one_if_true}
@@ -75,7 +75,7 @@ booked_back : (s : State) (f p : ℕ) → IsSound s → IsBooked (without_frame 
 booked_back s f p sound =
     let a = sound.booked p in
     let b = length_without f (s.parts p).fresh in
-    let c : times f (s.parts p).fresh ≡ one_if (has_as Fresh p (s.phases f)) = sound.lists p Fresh f in
+    let c : times f (s.parts p).fresh ≡ one_if (has_as FreshFrame p (s.phases f)) = sound.lists p FreshFrame f in
     omega arith
 
 -- a frame of the processor's list, its fresh or its back frames is passed back
@@ -93,28 +93,28 @@ sound_sent s f p x y sound below visit was is dead out back paid nobody only uni
           (λ q e. visit ∙ ap Visiting (sym (out q e))) (λ q e. visit ∙ ap Visiting (sym (back q e))) paid;
       others = λ m ne seat. refl;
       group = refl;
-      lists = by_kind (λ k. ListMoves f (frames_of (s.parts p) k) (frames_of part k) (has_as k p x) (has_as k p y)) (Leaves refl (nobody p Listed))
-          (Leaves refl (nobody p Fresh)) (Leaves refl (nobody p Back));
+      lists = by_kind (λ k. ListMoves f (frames_of (s.parts p) k) (frames_of part k) (has_as k p x) (has_as k p y)) (Leaves refl (nobody p ListFrame))
+          (Leaves refl (nobody p FreshFrame)) (Leaves refl (nobody p BackFrame));
       elsewhere = λ q kind ne. nobody q kind ∙ sym (only q kind ne);
       unit = λ u e. inr (unit u e);
       no_tail = no_tail;
       booked = booked_back s f p sound;
     }))
 
-pub sound_sent_listed : (s : State) (f p : ℕ) → IsSound s → f < s.zone.frames → s.hold ≡ Visiting p → has_as Listed p (s.phases f) ≡ true →
+pub sound_sent_listed : (s : State) (f p : ℕ) → IsSound s → f < s.zone.frames → s.hold ≡ Visiting p → has_as ListFrame p (s.phases f) ≡ true →
     IsSound (with_part (with_phase s f (passed_back (s.phases f))) p (without_frame (s.parts p) (s.phases f) p f))
 sound_sent_listed s f p sound below visit has =
     sound_sent s f p (Lent p OnList) (Lent p PassingBack) sound below visit (listed_is p (s.phases f) has) refl refl
     (λ q e. absurd (false≢true e)) (λ q e. sym (equal_test p q e)) tt (nobody_has_returning p) (only_listed p) (λ u e. e) (λ g e. cc)
 
-pub sound_sent_fresh : (s : State) (f p : ℕ) → IsSound s → f < s.zone.frames → s.hold ≡ Visiting p → has_as Fresh p (s.phases f) ≡ true →
+pub sound_sent_fresh : (s : State) (f p : ℕ) → IsSound s → f < s.zone.frames → s.hold ≡ Visiting p → has_as FreshFrame p (s.phases f) ≡ true →
     IsSound (with_part (with_phase s f (passed_back (s.phases f))) p (without_frame (s.parts p) (s.phases f) p f))
 sound_sent_fresh s f p sound below visit has =
     let is = fresh_is p (s.phases f) has in
     sound_sent s f p (Head is.0 (FreshAt p)) (Head is.0 (FreshPassing p)) sound below visit is.1 refl refl
     (λ q e. absurd (false≢true e)) (λ q e. sym (equal_test p q e)) tt (nobody_has_fresh_passing is.0 p) (only_fresh is.0 p) (λ u e. e) (λ g e. cc)
 
-pub sound_sent_back : (s : State) (f p : ℕ) → IsSound s → f < s.zone.frames → s.hold ≡ Visiting p → has_as Back p (s.phases f) ≡ true →
+pub sound_sent_back : (s : State) (f p : ℕ) → IsSound s → f < s.zone.frames → s.hold ≡ Visiting p → has_as BackFrame p (s.phases f) ≡ true →
     IsSound (with_part (with_phase s f (passed_back (s.phases f))) p (without_frame (s.parts p) (s.phases f) p f))
 sound_sent_back s f p sound below visit has =
     let is = back_is p (s.phases f) has in
@@ -154,12 +154,12 @@ sound_collected s f p sound below passes = got (came_back p (s.phases f) passes)
         (nobody_has_stage u Ended refl) (nobody_has_back_passing u p) (λ v e. e) (λ g e. cc)
 
 -- a frame of a list is on it
-pub front_listed : (s : State) (p : ℕ) → IsSound s → 1 ≤ length (s.parts p).list → has_as Listed p (s.phases (front_of (s.parts p).list)) ≡ true
+pub front_listed : (s : State) (p : ℕ) → IsSound s → 1 ≤ length (s.parts p).list → has_as ListFrame p (s.phases (front_of (s.parts p).list)) ≡ true
 front_listed s p sound some =
     let a = front_stands (s.parts p).list some in
-    let b : times (front_of (s.parts p).list) (s.parts p).list ≡ one_if (has_as Listed p (s.phases (front_of (s.parts p).list))) =
-    sound.lists p Listed (front_of (s.parts p).list) in
-    one_if_true (has_as Listed p (s.phases (front_of (s.parts p).list))) (omega arith)
+    let b : times (front_of (s.parts p).list) (s.parts p).list ≡ one_if (has_as ListFrame p (s.phases (front_of (s.parts p).list))) =
+    sound.lists p ListFrame (front_of (s.parts p).list) in
+    one_if_true (has_as ListFrame p (s.phases (front_of (s.parts p).list))) (omega arith)
 
 -- a frame of a list is in the zone
 pub in_zone : (s : State) (f : ℕ) → IsSound s → is_free (s.phases f) ≡ false → f < s.zone.frames
@@ -186,7 +186,7 @@ sound_consumed s p g sound low high some group pages =
       booked = let a = sound.booked p in let b = length_last f (s.parts p).fresh in omega arith;
     })
 
-pub sound_credited : (s : State) (f p : ℕ) → IsSound s → f < s.zone.frames → has_as Fresh p (s.phases f) ≡ true →
+pub sound_credited : (s : State) (f p : ℕ) → IsSound s → f < s.zone.frames → has_as FreshFrame p (s.phases f) ≡ true →
     IsSound (with_part (with_phase s f (Lent p OnList)) p (credited (s.parts p) f))
 sound_credited s f p sound below has =
     let is = fresh_is p (s.phases f) has in
@@ -204,7 +204,7 @@ sound_credited s f p sound below has =
       booked =
           let a = sound.booked p in
           let b = length_without f (s.parts p).fresh in
-          let c : times f (s.parts p).fresh ≡ one_if (has_as Fresh p (s.phases f)) = sound.lists p Fresh f in
-          let d : one_if (has_as Fresh p (s.phases f)) ≡ 1 = ap one_if has in
+          let c : times f (s.parts p).fresh ≡ one_if (has_as FreshFrame p (s.phases f)) = sound.lists p FreshFrame f in
+          let d : one_if (has_as FreshFrame p (s.phases f)) ≡ 1 = ap one_if has in
           omega arith;
     })

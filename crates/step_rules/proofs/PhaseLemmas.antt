@@ -12,14 +12,14 @@ use Rattle.step_rules.specs.declared.phase.Phase.{Phase}
 use Rattle.step_rules.specs.declared.phase.Phase.TheVariants.{InZone, Lent, Head, Tail}
 use Rattle.step_rules.specs.declared.step.Answer.{Answer}
 use Rattle.step_rules.specs.declared.step.Answer.TheVariants.{Held, Zero, Full}
-use Rattle.step_rules.specs.Phases.{Kind, Listed, Fresh, Back, is_free, is_live, has_as, passes_out, passes_back, is_head_in_hand, may_return}
+use Rattle.step_rules.specs.Phases.{Kind, ListFrame, FreshFrame, BackFrame, is_free, is_live, has_as, passes_out, passes_back, is_head_in_hand, may_return}
 use Rattle.step_rules.specs.State.{is_unheld, is_held_by, visits}
 use Rattle.step_rules.specs.Legal.{get_answer}
 
-pub by_kind : (P : Kind → Type 0) → P Listed → P Fresh → P Back → (kind : Kind) → P kind
-by_kind P a b c Listed = a
-by_kind P a b c Fresh = b
-by_kind P a b c Back = c
+pub by_kind : (P : Kind → Type 0) → P ListFrame → P FreshFrame → P BackFrame → (kind : Kind) → P kind
+by_kind P a b c ListFrame = a
+by_kind P a b c FreshFrame = b
+by_kind P a b c BackFrame = c
 
 pub equal_test : (a b : ℕ) → (a == b) ≡ true → a ≡ b
 equal_test a b e = eqb-true a b e
@@ -49,16 +49,16 @@ came_back p (Head u (FreshPassing q)) e = FromFresh u (ap (λ r. Head u (FreshPa
 came_back p (Head u (BackPassing q)) e = FromBack u (ap (λ r. Head u (BackPassing r)) (equal_test q p e))
 came_back p x e = absurd (false≢true e)
 
-pub listed_is : (p : ℕ) (x : Phase) → has_as Listed p x ≡ true → x ≡ Lent p OnList
+pub listed_is : (p : ℕ) (x : Phase) → has_as ListFrame p x ≡ true → x ≡ Lent p OnList
 listed_is p (Lent q OnList) e = ap (λ r. Lent r OnList) (equal_test q p e)
 listed_is p (Head u stage) e = absurd (false≢true e)
 listed_is p x e = absurd (false≢true e)
 
-pub fresh_is : (p : ℕ) (x : Phase) → has_as Fresh p x ≡ true → (u : ChargedUnit) × (x ≡ Head u (FreshAt p))
+pub fresh_is : (p : ℕ) (x : Phase) → has_as FreshFrame p x ≡ true → (u : ChargedUnit) × (x ≡ Head u (FreshAt p))
 fresh_is p (Head u (FreshAt q)) e = (u, ap (λ r. Head u (FreshAt r)) (equal_test q p e))
 fresh_is p x e = absurd (false≢true e)
 
-pub back_is : (p : ℕ) (x : Phase) → has_as Back p x ≡ true → (u : ChargedUnit) × (x ≡ Head u (BackAt p))
+pub back_is : (p : ℕ) (x : Phase) → has_as BackFrame p x ≡ true → (u : ChargedUnit) × (x ≡ Head u (BackAt p))
 back_is p (Head u (BackAt q)) e = (u, ap (λ r. Head u (BackAt r)) (equal_test q p e))
 back_is p x e = absurd (false≢true e)
 

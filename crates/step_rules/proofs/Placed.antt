@@ -10,19 +10,19 @@ use Rattle.step_rules.specs.declared.phase.Stage.{Stage}
 use Rattle.step_rules.specs.declared.phase.Stage.TheVariants.{Collected, Bare, Live, Ended}
 use Rattle.step_rules.specs.declared.phase.Phase.{Phase}
 use Rattle.step_rules.specs.declared.phase.Phase.TheVariants.{InZone, Lent, Head, Tail}
-use Rattle.step_rules.specs.declared.step.Place.{Place}
-use Rattle.step_rules.specs.declared.step.Place.TheVariants.{Free, Listed, Charged}
+use Rattle.step_rules.specs.declared.step.FramePlace.{FramePlace}
+use Rattle.step_rules.specs.declared.step.FramePlace.TheVariants.{Free, Listed, Charged}
 use Rattle.step_rules.specs.declared.step.Action.{Action}
 use Rattle.step_rules.specs.declared.step.Action.TheVariants.{Lock, Put, Freeze, Unfreeze, PassOut, TakeIn, PassBack, Collect, Consume}
 use Rattle.step_rules.specs.declared.step.Action.TheVariants.{Credit, PlaceBlock, Return}
 use Rattle.step_rules.specs.declared.step.Answer.{Answer}
 use Rattle.step_rules.specs.declared.step.Answer.TheVariants.{Illegal, Done, Last, Took, Back, Placed}
-use Rattle.step_rules.specs.Phases.{Fresh, has_as, is_free, passes_out, passes_back, unit_of, at_stage, stage_after_last, passed_back, collected, may_return}
+use Rattle.step_rules.specs.Phases.{FreshFrame, has_as, is_free, passes_out, passes_back, unit_of, at_stage, stage_after_last, passed_back, collected, may_return}
 use Rattle.step_rules.specs.State.{Zone, State, at_boot, with_at, front_of, is_cpu, is_frame}
 use Rattle.step_rules.specs.Legal.{is_legal, IsAnswer, IsMade}
 use Rattle.step_rules.specs.After.{after, state_of, is_within, placed_phase, with_block, unit_size, without_unit, consumed}
 use Rattle.step_rules.specs.Units.{Units, no_units, units_after}
-use Rattle.step_rules.specs.Places.{Places, is_same_place, places_at_boot, moved, returned, credited_place, places_after, place_in, EveryFrameHasOnePlace}
+use Rattle.step_rules.specs.Places.{Places, is_same_frame_place, places_at_boot, moved, returned, credited_place, places_after, place_in, EveryFrameHasOnePlace}
 use Rattle.step_rules.proofs.Basics.{at_same, at_other, at_each}
 use Rattle.step_rules.proofs.Sound.{IsSound}
 use Rattle.step_rules.proofs.PhaseLemmas.{free_is, out_is, listed_is, fresh_is, came_back, CameBack, FromList, FromFresh, FromBack}
@@ -33,12 +33,12 @@ use Rattle.step_rules.proofs.Runs.{after_illegal}
 use Rattle.step_rules.proofs.Telling.{told_run}
 use Rattle.step_rules.proofs.Uniting.{HasUnits, units_still, units_made, units_boot, front_told}
 
-pub same_place_itself : (p : Place) → is_same_place p p ≡ true
+pub same_place_itself : (p : FramePlace) → is_same_frame_place p p ≡ true
 same_place_itself Free = refl
 same_place_itself (Listed p) = eq-eqb p p refl
 same_place_itself (Charged g) = eq-eqb g g refl
 
-pub same_place_is : (p q : Place) → is_same_place p q ≡ true → p ≡ q
+pub same_place_is : (p q : FramePlace) → is_same_frame_place p q ≡ true → p ≡ q
 same_place_is Free Free e = refl
 same_place_is (Listed p) (Listed q) e = ap Listed (eqb-true p q e)
 same_place_is (Charged g) (Charged h) e = ap Charged (eqb-true g h e)
@@ -46,10 +46,10 @@ same_place_is p q e = absurd (false≢true e)
 
 -- the set of pairs has for each frame of the zone the place that its phase tells, and no other pair
 abbrev pub AreTold : Zone → (ℕ → Phase) → Places → Type 0
-AreTold zone phases places = (f : ℕ) (p : Place) → places f p ≡ (is_frame zone f && is_same_place p (place_in (phases f)))
+AreTold zone phases places = (f : ℕ) (p : FramePlace) → places f p ≡ (is_frame zone f && is_same_frame_place p (place_in (phases f)))
 
 -- frames of one place go to another
-moves_told : (zone : Zone) (phases later : ℕ → Phase) (places : Places) (at n : ℕ) (old new : Place) → AreTold zone phases places →
+moves_told : (zone : Zone) (phases later : ℕ → Phase) (places : Places) (at n : ℕ) (old new : FramePlace) → AreTold zone phases places →
     ((x : ℕ) → at ≤ x → x < at + n → is_within at n x ≡ true → (is_frame zone x ≡ true) × (place_in (phases x) ≡ old) × (place_in (later x) ≡ new)) →
     ((x : ℕ) → is_within at n x ≡ false → place_in (later x) ≡ place_in (phases x)) →
     AreTold zone later (moved places at n old new)
@@ -57,15 +57,15 @@ moves_told zone phases later places at n old new told inside outside f p =
     elim (within_cases at n f) [
       | inl within ↦
           let known = inside f within.1 within.2 within.0 in
-          let before : places f p ≡ is_same_place p old = told f p ∙ (λ i. known.0 i && is_same_place p (known.1 i)) in
-          let after_it : (is_frame zone f && is_same_place p (place_in (later f))) ≡ is_same_place p new = (λ i. known.0 i && is_same_place p (known.2 i)) in
-          cond-true (is_within at n f) (is_same_place p new || (places f p && not (is_same_place p old))) (places f p) within.0
-          ∙ ap (λ b. is_same_place p new || (b && not (is_same_place p old))) before
-          ∙ neither (is_same_place p new) (is_same_place p old)
+          let before : places f p ≡ is_same_frame_place p old = told f p ∙ (λ i. known.0 i && is_same_frame_place p (known.1 i)) in
+          let after_it : (is_frame zone f && is_same_frame_place p (place_in (later f))) ≡ is_same_frame_place p new = (λ i. known.0 i && is_same_frame_place p (known.2 i)) in
+          cond-true (is_within at n f) (is_same_frame_place p new || (places f p && not (is_same_frame_place p old))) (places f p) within.0
+          ∙ ap (λ b. is_same_frame_place p new || (b && not (is_same_frame_place p old))) before
+          ∙ neither (is_same_frame_place p new) (is_same_frame_place p old)
           ∙ sym after_it
       | inr without ↦
-          cond-false (is_within at n f) (is_same_place p new || (places f p && not (is_same_place p old))) (places f p) without.0
-          ∙ told f p ∙ ap (λ q. is_frame zone f && is_same_place p q) (sym (outside f without.0))
+          cond-false (is_within at n f) (is_same_frame_place p new || (places f p && not (is_same_frame_place p old))) (places f p) without.0
+          ∙ told f p ∙ ap (λ q. is_frame zone f && is_same_frame_place p q) (sym (outside f without.0))
     ]
   where
     neither : (a b : Bool) → (a || (b && not b)) ≡ a
@@ -74,7 +74,7 @@ moves_told zone phases later places at n old new told inside outside f p =
     neither false false = refl
 
 -- one frame goes to another place
-one_told : (zone : Zone) (phases : ℕ → Phase) (places : Places) (f : ℕ) (y : Phase) (old new : Place) → AreTold zone phases places →
+one_told : (zone : Zone) (phases : ℕ → Phase) (places : Places) (f : ℕ) (y : Phase) (old new : FramePlace) → AreTold zone phases places →
     is_frame zone f ≡ true → place_in (phases f) ≡ old → place_in y ≡ new →
     AreTold zone (with_at phases f y) (moved places f 1 old new)
 one_told zone phases places f y old new told frame was is =
@@ -92,7 +92,7 @@ one_told zone phases places f y old new told frame was is =
 stays_told : (zone : Zone) (phases : ℕ → Phase) (places : Places) (f : ℕ) (y : Phase) → AreTold zone phases places →
     place_in y ≡ place_in (phases f) → AreTold zone (with_at phases f y) places
 stays_told zone phases places f y told same x p =
-    told x p ∙ ap (λ q. is_frame zone x && is_same_place p q) (sym (at_each phases f y (λ k z. place_in z ≡ place_in (phases k)) same (λ k ne. refl) x))
+    told x p ∙ ap (λ q. is_frame zone x && is_same_frame_place p q) (sym (at_each phases f y (λ k z. place_in z ≡ place_in (phases k)) same (λ k ne. refl) x))
 
 staged : (stage : Stage) (x : Phase) → place_in (at_stage stage x) ≡ place_in x
 staged stage InZone = refl
@@ -110,15 +110,15 @@ sent (Tail g) = refl
 collects_told : (zone : Zone) (phases : ℕ → Phase) (places : Places) (f p : ℕ) → AreTold zone phases places → is_frame zone f ≡ true → CameBack p (phases f) →
     AreTold zone (with_at phases f (collected (phases f))) (if places f (Listed p) then moved places f 1 (Listed p) Free else places)
 collects_told zone phases places f p told frame (FromList was) =
-    let there : places f (Listed p) ≡ true = told f (Listed p) ∙ (λ i. frame i && is_same_place (Listed p) (place_in (was i))) ∙ same_place_itself (Listed p) in
+    let there : places f (Listed p) ≡ true = told f (Listed p) ∙ (λ i. frame i && is_same_frame_place (Listed p) (place_in (was i))) ∙ same_place_itself (Listed p) in
     subst (AreTold zone (with_at phases f (collected (phases f)))) (sym (cond-true (places f (Listed p)) (moved places f 1 (Listed p) Free) places there))
     (one_told zone phases places f (collected (phases f)) (Listed p) Free told frame (ap place_in was) (ap (λ x. place_in (collected x)) was))
 collects_told zone phases places f p told frame (FromFresh u was) =
-    let not_there : places f (Listed p) ≡ false = told f (Listed p) ∙ (λ i. frame i && is_same_place (Listed p) (place_in (was i))) in
+    let not_there : places f (Listed p) ≡ false = told f (Listed p) ∙ (λ i. frame i && is_same_frame_place (Listed p) (place_in (was i))) in
     subst (AreTold zone (with_at phases f (collected (phases f)))) (sym (cond-false (places f (Listed p)) (moved places f 1 (Listed p) Free) places not_there))
     (stays_told zone phases places f (collected (phases f)) told (ap (λ x. place_in (collected x)) was ∙ sym (ap place_in was)))
 collects_told zone phases places f p told frame (FromBack u was) =
-    let not_there : places f (Listed p) ≡ false = told f (Listed p) ∙ (λ i. frame i && is_same_place (Listed p) (place_in (was i))) in
+    let not_there : places f (Listed p) ≡ false = told f (Listed p) ∙ (λ i. frame i && is_same_frame_place (Listed p) (place_in (was i))) in
     subst (AreTold zone (with_at phases f (collected (phases f)))) (sym (cond-false (places f (Listed p)) (moved places f 1 (Listed p) Free) places not_there))
     (stays_told zone phases places f (collected (phases f)) told (ap (λ x. place_in (collected x)) was ∙ sym (ap place_in was)))
 
@@ -213,7 +213,7 @@ places_made s places seat (Consume g) Took sound told legal ok =
     (ap place_in was) refl
 places_made s places seat (Credit f) Back sound told legal ok =
     let frame : is_frame s.zone f ≡ true = grind arith in
-    let fresh : has_as Fresh seat (s.phases f) ≡ true = grind arith in
+    let fresh : has_as FreshFrame seat (s.phases f) ≡ true = grind arith in
     let is = fresh_is seat (s.phases f) fresh in
     subst (λ (o : Option ChargedUnit). AreTold s.zone (with_at s.phases f (Lent seat OnList)) (credited_place places seat f o)) (sym (ap unit_of is.1))
     (one_told s.zone s.phases places f (Lent seat OnList) (Charged (is.0).group) (Listed seat) told frame (ap place_in is.1) refl)
@@ -273,8 +273,8 @@ every_frame_has_one_place zone run legal =
           let frame : is_frame zone f ≡ true = lt-ltb f zone.frames below in
           record {
             place = place;
-            there = told f place ∙ (λ i. frame i && is_same_place place place) ∙ same_place_itself place;
-            only = λ p e. same_place_is p place (sym (told f p ∙ (λ i. frame i && is_same_place p place)) ∙ e);
+            there = told f place ∙ (λ i. frame i && is_same_frame_place place place) ∙ same_place_itself place;
+            only = λ p e. same_place_is p place (sym (told f p ∙ (λ i. frame i && is_same_frame_place p place)) ∙ e);
           };
       told = told;
     }

@@ -13,7 +13,7 @@ use Rattle.step_rules.specs.declared.phase.Stage.{Stage}
 use Rattle.step_rules.specs.declared.phase.Stage.TheVariants.{FreshAt, Collected, Bare, Ended}
 use Rattle.step_rules.specs.declared.phase.Phase.{Phase}
 use Rattle.step_rules.specs.declared.phase.Phase.TheVariants.{InZone, Lent, Head, Tail}
-use Rattle.step_rules.specs.Phases.{Fresh, is_live, is_free, has_as, unit_of, passes_out, passes_back}
+use Rattle.step_rules.specs.Phases.{FreshFrame, is_live, is_free, has_as, unit_of, passes_out, passes_back}
 use Rattle.step_rules.specs.State.{Zone, Part, State, with_at, one_if, frames_of, free_in}
 use Rattle.step_rules.specs.Legal.{nothing_passes, rests, may_fill, is_of_group}
 use Rattle.step_rules.specs.After.{is_within, placed_phase, with_block, unit_size, without_unit, filled, drained}
@@ -277,12 +277,12 @@ of_group None g e = absurd (false≢true e)
 of_group (Some h) g e = ap Some (equal_test h g e)
 
 -- where the book is 0 nothing is fresh
-nothing_fresh : (s : State) (p : ℕ) → IsSound s → (s.parts p).book ≡ 0 → (f : ℕ) → has_as Fresh p (s.phases f) ≡ false
+nothing_fresh : (s : State) (p : ℕ) → IsSound s → (s.parts p).book ≡ 0 → (f : ℕ) → has_as FreshFrame p (s.phases f) ≡ false
 nothing_fresh s p sound none f =
     let a = sound.booked p in
-    let c : times f (s.parts p).fresh ≡ one_if (has_as Fresh p (s.phases f)) = sound.lists p Fresh f in
+    let c : times f (s.parts p).fresh ≡ one_if (has_as FreshFrame p (s.phases f)) = sound.lists p FreshFrame f in
     let d : times f (s.parts p).fresh ≡ 0 = no_frames (s.parts p).fresh (omega arith) in
-    zero_test (has_as Fresh p (s.phases f)) (sym c ∙ d)
+    zero_test (has_as FreshFrame p (s.phases f)) (sym c ∙ d)
   where
     no_frames : (xs : List ℕ) → length xs ≡ 0 → times f xs ≡ 0
     no_frames [] e = refl
@@ -293,7 +293,7 @@ nothing_fresh s p sound none f =
     zero_test false e = refl
 
 -- what is fresh stays paid where the stock of a processor with nothing fresh changes its group
-still_paid : (cpus : ℕ) (parts : ℕ → Part) (p : ℕ) (part : Part) (x : Phase) → has_as Fresh p x ≡ false → PhasePaid cpus (groups_in parts) x →
+still_paid : (cpus : ℕ) (parts : ℕ → Part) (p : ℕ) (part : Part) (x : Phase) → has_as FreshFrame p x ≡ false → PhasePaid cpus (groups_in parts) x →
     PhasePaid cpus (groups_in (with_at parts p part)) x
 still_paid cpus parts p part (Head u (FreshAt q)) not_here paid =
     let ne : q ≡ p → ⊥ = λ e. true≢false (sym (eq-eqb q p e) ∙ not_here) in

@@ -16,13 +16,13 @@ use Rattle.step_rules.specs.declared.phase.Way.TheVariants.{OnList}
 use Rattle.step_rules.specs.declared.phase.Stage.{Stage}
 use Rattle.step_rules.specs.declared.phase.Phase.{Phase}
 use Rattle.step_rules.specs.declared.phase.Phase.TheVariants.{InZone, Lent, Head, Tail}
-use Rattle.step_rules.specs.declared.step.Place.{Place}
-use Rattle.step_rules.specs.declared.step.Place.TheVariants.{Free, Listed, Charged}
+use Rattle.step_rules.specs.declared.step.FramePlace.{FramePlace}
+use Rattle.step_rules.specs.declared.step.FramePlace.TheVariants.{Free, Listed, Charged}
 use Rattle.step_rules.specs.declared.step.Action.{Action}
 use Rattle.step_rules.specs.declared.step.Action.TheVariants.{Get, Put, Freeze, Unfreeze, Consume, Credit, Grant, PlaceBlock, Return}
 use Rattle.step_rules.specs.declared.step.Answer.{Answer}
 use Rattle.step_rules.specs.declared.step.Answer.TheVariants.{Done, Held, Last, Took, Back, Granted, Placed}
-use Rattle.step_rules.specs.Phases.{Fresh, is_free, is_live, has_as, unit_of, keeper_of, is_head_in_hand, may_return}
+use Rattle.step_rules.specs.Phases.{FreshFrame, is_free, is_live, has_as, unit_of, keeper_of, is_head_in_hand, may_return}
 use Rattle.step_rules.specs.State.{Zone, Stock, State, one_if, sum_to, front_of, is_cpu, free_in, live_references}
 use Rattle.group_tree.specs.Room.{fits_limit}
 use Rattle.step_rules.specs.Usage.{is_below, usage_of, frames_kept, stock_below, pages_prepaid}
@@ -30,7 +30,7 @@ use Rattle.step_rules.specs.Legal.{is_legal, Allows}
 use Rattle.step_rules.specs.After.{Run, state_of, IsLegalRun}
 use Rattle.step_rules.specs.Folds.{limit_given, was_killed, InHand}
 use Rattle.step_rules.specs.Units.{units_of}
-use Rattle.step_rules.specs.Places.{is_same_place, place_in}
+use Rattle.step_rules.specs.Places.{is_same_frame_place, place_in}
 use Rattle.step_rules.specs.Returns.{is_open, is_drop_phase, times_in, IsAllPlaced, ReturnsOnce}
 use Rattle.step_rules.specs.Charges.{charged_below}
 use Rattle.step_rules.specs.Keepers.{StockIsKept}
@@ -151,7 +151,7 @@ module _ (zone : Zone) (run : Run) (legal : IsLegalRun zone run) (shown : Shown)
   abbrev s : State
   s = state_of zone run
 
-  times_shown : (f p : ℕ) → times_in f (shown.lists p) ≡ one_if (is_same_place (place_in (s.phases f)) (Listed p))
+  times_shown : (f p : ℕ) → times_in f (shown.lists p) ≡ one_if (is_same_frame_place (place_in (s.phases f)) (Listed p))
   times_shown f p = ap (times_in f) (is.lists p) ∙ placed.listed f p
 
   is_free_at : (f : ℕ) → f < s.zone.frames → is_free (s.phases f) ≡ true → IsFree (free_in s.zone s.phases) f
@@ -164,12 +164,12 @@ module _ (zone : Zone) (run : Run) (legal : IsLegalRun zone run) (shown : Shown)
   has_once f below InZone e = in_one_block (free_in s.zone s.phases) shown.areas is.areas f (is_free_at f below (ap is_free e))
   has_once f below (Lent p way) e = (
     frames_are_lent zone run legal f p (ap lent_to e),
-    times_shown f p ∙ ap (λ y. one_if (is_same_place (place_in y) (Listed p))) e ∙ ap one_if (same_place_itself (Listed p)),
+    times_shown f p ∙ ap (λ y. one_if (is_same_frame_place (place_in y) (Listed p))) e ∙ ap one_if (same_place_itself (Listed p)),
   )
   has_once f below (Head u stage) e = (there f u.group (ap keeper_of e), is.keeper f ∙ ap keeper_of e)
   has_once f below (Tail g) e = (there f g (ap keeper_of e), is.keeper f ∙ ap keeper_of e)
 
-  has_alone : (f : ℕ) → f < s.zone.frames → (p : Place) → Has shown f p → p ≡ place_in (s.phases f)
+  has_alone : (f : ℕ) → f < s.zone.frames → (p : FramePlace) → Has shown f p → p ≡ place_in (s.phases f)
   has_alone f below Free has =
       sym (ap place_in (free_is (s.phases f) (free_in_at s.zone s.phases f below
       (in_a_block_is_free (free_in s.zone s.phases) shown.areas is.areas has.0 has.1 f has.2))))
@@ -189,13 +189,13 @@ module _ (zone : Zone) (run : Run) (legal : IsLegalRun zone run) (shown : Shown)
   }
 
   -- a frame beyond the zone is seen nowhere
-  nowhere : (f : ℕ) → s.zone.frames ≤ f → (p : Place) → Has shown f p → ⊥
+  nowhere : (f : ℕ) → s.zone.frames ≤ f → (p : FramePlace) → Has shown f p → ⊥
   nowhere f past p has = by_place p has
     where
       free : s.phases f ≡ InZone
       free = free_is (s.phases f) (((sound_run zone run legal).frames f).inside past)
 
-      by_place : (q : Place) → Has shown f q → ⊥
+      by_place : (q : FramePlace) → Has shown f q → ⊥
       by_place Free seen =
           let inside = (is.areas.each seen.0 seen.1).is_free.block.inside in
           let size = length-map-range_with_len (λ x. is_free (s.phases x)) 0 s.zone.frames in
@@ -203,7 +203,7 @@ module _ (zone : Zone) (run : Run) (legal : IsLegalRun zone run) (shown : Shown)
           omega arith
       by_place (Listed q) seen =
           let e = times_shown f q in
-          let none : one_if (is_same_place (place_in (s.phases f)) (Listed q)) ≡ 0 = ap (λ y. one_if (is_same_place (place_in y) (Listed q))) free in
+          let none : one_if (is_same_frame_place (place_in (s.phases f)) (Listed q)) ≡ 0 = ap (λ y. one_if (is_same_frame_place (place_in y) (Listed q))) free in
           omega (arith, e, seen, none)
       by_place (Charged g) seen = none_some g (sym (is.keeper f ∙ ap keeper_of free) ∙ seen)
 
@@ -322,7 +322,7 @@ returns_kept zone run legal seat (Credit f) Back ok =
     let s = state_of zone run in
     let may = ok.legal in
     let cpu : is_cpu s.zone seat ≡ true = grind arith in
-    let fresh : has_as Fresh seat (s.phases f) ≡ true = grind arith in
+    let fresh : has_as FreshFrame seat (s.phases f) ≡ true = grind arith in
     let is = fresh_is seat (s.phases f) fresh in (
       ap (λ (h : InHand). times_in f h.fresh) ((units_are_told zone run legal f).hands seat)
           ∙ ap (times_in f) (sym (parts_are_told zone run legal seat (is_of_zone zone run legal seat cpu)).fresh)

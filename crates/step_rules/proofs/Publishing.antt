@@ -11,7 +11,7 @@ use Rattle.step_rules.specs.declared.step.Action.TheVariants.{Lock, Put, Freeze,
 use Rattle.step_rules.specs.declared.step.Action.TheVariants.{Credit, PlaceBlock, Publish, Return}
 use Rattle.step_rules.specs.declared.step.Answer.{Answer}
 use Rattle.step_rules.specs.declared.step.Answer.TheVariants.{Illegal, Done, Last, Took, Back, Placed}
-use Rattle.step_rules.specs.Phases.{Fresh, has_as, passes_out, is_free, is_head, is_live, may_return, at_stage, stage_after_last}
+use Rattle.step_rules.specs.Phases.{FreshFrame, has_as, passes_out, is_free, is_head, is_live, may_return, at_stage, stage_after_last}
 use Rattle.step_rules.specs.Phases.{passed_back, collected, unit_of}
 use Rattle.step_rules.specs.State.{State, with_at, front_of}
 use Rattle.step_rules.specs.Legal.{IsMade}
@@ -129,7 +129,7 @@ kept_made f s x seat (Consume g) Took sound kept made = λ e.
     used_at s.phases m _ f (λ used. absurd (never (s.phases m) _ listed refl used)) (kept e)
 kept_made f s x seat (Credit g) Back sound kept made = λ e.
     let legal = made.legal in
-    let fresh : has_as Fresh seat (s.phases g) ≡ true = grind arith in
+    let fresh : has_as FreshFrame seat (s.phases g) ≡ true = grind arith in
     used_at s.phases g _ f (λ used. absurd (never (s.phases g) _ (fresh_is seat (s.phases g) fresh).1 refl used)) (kept e)
 kept_made f s x seat (PlaceBlock g k) (Placed b) sound kept made = λ e. elim (within_cases b.at (2 ^ b.order) f) [
   | inl within ↦ absurd (never (s.phases f) InZone (free_is (s.phases f) (block_free s.zone s.phases b made.answered.1 f within.1 within.2).1) refl (kept e))

@@ -18,7 +18,7 @@ use Rattle.step_rules.specs.declared.step.Action.TheVariants.{Lock, Put, Freeze,
 use Rattle.step_rules.specs.declared.step.Action.TheVariants.{Credit, PlaceBlock, Return}
 use Rattle.step_rules.specs.declared.step.Answer.{Answer}
 use Rattle.step_rules.specs.declared.step.Answer.TheVariants.{Illegal, Done, Last, Took, Back, Placed}
-use Rattle.step_rules.specs.Phases.{Fresh, has_as, is_free, passes_out, passes_back, unit_of, at_stage, stage_after_last, passed_back}
+use Rattle.step_rules.specs.Phases.{FreshFrame, has_as, is_free, passes_out, passes_back, unit_of, at_stage, stage_after_last, passed_back}
 use Rattle.step_rules.specs.Phases.{collected, is_head_in_hand, may_return}
 use Rattle.step_rules.specs.State.{Zone, State, at_boot, with_at, one_if, front_of}
 use Rattle.step_rules.specs.Legal.{is_legal, IsAnswer, IsMade, Allows}
@@ -258,7 +258,7 @@ uses_made m s seat (Consume g) Took sound legal ok =
     let f = front_of (s.parts seat).list in
     stays s.phases f m (consumed seat g) (ap opens (listed_is seat (s.phases f) (front_listed s seat sound (leb-true 1 (length (s.parts seat).list) some))))
 uses_made m s seat (Credit f) Back sound legal ok =
-    let fresh : has_as Fresh seat (s.phases f) ≡ true = grind arith in
+    let fresh : has_as FreshFrame seat (s.phases f) ≡ true = grind arith in
     phase_changes s.phases f m (Lent seat OnList) 1 1 (ap (λ n. n + 1) (ap opens (fresh_is seat (s.phases f) fresh).1))
 uses_made m s seat (PlaceBlock g k) (Placed b) sound legal ok = block_stays s g b m (λ x low high. (block_free s.zone s.phases b ok.1 x low high).1)
 uses_made m s seat (Return f) Done sound legal ok =

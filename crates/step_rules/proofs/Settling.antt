@@ -8,17 +8,17 @@ use Rattle.step_rules.specs.declared.phase.Way.TheVariants.{PassingOut, PassingB
 use Rattle.step_rules.specs.declared.phase.Stage.TheVariants.{FreshPassing, BackPassing}
 use Rattle.step_rules.specs.declared.phase.Phase.{Phase}
 use Rattle.step_rules.specs.declared.phase.Phase.TheVariants.{Lent, Head}
-use Rattle.step_rules.specs.declared.step.Place.TheVariants as place
+use Rattle.step_rules.specs.declared.step.FramePlace.TheVariants as place
 use Rattle.step_rules.specs.declared.step.Step.{Step}
 use Rattle.step_rules.specs.declared.step.Action.{Action}
 use Rattle.step_rules.specs.declared.step.Action.TheVariants.{Lock, Unlock, OpenVisit, ShutVisit, Fill, DrainStock, Grant, Ungrant, PlaceBlock}
 use Rattle.step_rules.specs.declared.step.Answer.{Answer}
 use Rattle.step_rules.specs.declared.step.Answer.TheVariants.{Illegal, Done, Pages, Granted, Placed}
-use Rattle.step_rules.specs.Phases.{Listed, has_as, passes_out, passes_back, is_passing}
+use Rattle.step_rules.specs.Phases.{ListFrame, has_as, passes_out, passes_back, is_passing}
 use Rattle.step_rules.specs.State.{Zone, State, at_boot, all_to, one_if, is_unheld, may_zone_act}
 use Rattle.step_rules.specs.Usage.{pages_pending}
 use Rattle.step_rules.specs.Legal.{is_legal, Allows, is_settled}
-use Rattle.step_rules.specs.Places.{is_same_place, place_in}
+use Rattle.step_rules.specs.Places.{is_same_frame_place, place_in}
 use Rattle.step_rules.specs.After.{after, state_of}
 use Rattle.step_rules.specs.Returns.{times_in, IsAllPlaced, NothingPendsWhileTheLockIsFree}
 use Rattle.step_rules.proofs.Sums.{sum_none, all_each}
@@ -75,7 +75,7 @@ still_phase (Head u (BackPassing q)) out back = absurd (back q (eq-eqb q q refl)
 still_phase x out back = refl
 
 -- a frame that does not pass is on the list that it is lent to
-on_its_list : (p : ℕ) (x : Phase) → is_passing x ≡ false → has_as Listed p x ≡ is_same_place (place_in x) (place.Listed p)
+on_its_list : (p : ℕ) (x : Phase) → is_passing x ≡ false → has_as ListFrame p x ≡ is_same_frame_place (place_in x) (place.Listed p)
 on_its_list p (Lent q PassingOut) still = absurd (true≢false still)
 on_its_list p (Lent q PassingBack) still = absurd (true≢false still)
 on_its_list p (Head u stage) still = refl
@@ -101,7 +101,7 @@ all_placed s sound homed free settled =
           sum_none 64 (λ h. if in_subtree s.groups g h then s.pending h else 0)
           (λ h below. none_below (in_subtree s.groups g h) (s.pending h) (none h)) in omega arith;
       still = all_each s.zone.frames (λ f. not (is_passing (s.phases f))) (λ f below. ap not (rests f));
-      listed = λ f p. times_are f (s.parts p).list ∙ sound.lists p Listed f ∙ ap one_if (on_its_list p (s.phases f) (rests f));
+      listed = λ f p. times_are f (s.parts p).list ∙ sound.lists p ListFrame f ∙ ap one_if (on_its_list p (s.phases f) (rests f));
     }
 
 pub nothing_pends : NothingPendsWhileTheLockIsFree

@@ -9,7 +9,7 @@ use Rattle.step_rules.specs.declared.step.Action.TheVariants.{TakeIn, PassBack, 
 use Rattle.step_rules.specs.declared.step.Action.TheVariants.{Grant, Ungrant, PlaceBlock, Return, SetMax, Make, Remove, Kill}
 use Rattle.step_rules.specs.declared.step.Answer.{Answer}
 use Rattle.step_rules.specs.declared.step.Answer.TheVariants.{Done, Held, Left, Last, Took, Back, Pages, Granted, Placed, Number}
-use Rattle.step_rules.specs.Phases.{Kind, Listed, Fresh, has_as, passes_out, passes_back, is_free, is_head_in_hand, may_return}
+use Rattle.step_rules.specs.Phases.{Kind, ListFrame, FreshFrame, has_as, passes_out, passes_back, is_free, is_head_in_hand, may_return}
 use Rattle.step_rules.specs.Phases as kinds
 use Rattle.step_rules.specs.State.{Zone, State, is_cpu, is_frame, is_unheld, is_held_by, visits, front_of}
 use Rattle.step_rules.specs.Legal.{is_legal, IsAnswer, IsCounted, nothing_passes, may_pass_back, may_fill}
@@ -85,10 +85,10 @@ sound_step s seat (PassBack f) Done sound legal ok counted =
     let may : may_pass_back s seat f ≡ true = grind arith in
     let below = below_frames s.zone f frame in
     let at = visited seat s.hold visit in
-    elim (or_cases (has_as Listed seat (s.phases f) && front_of (s.parts seat).list == f || has_as Fresh seat (s.phases f))
-    (has_as kinds.Back seat (s.phases f)) may) [
-      | inl first ↦ elim (or_cases (has_as Listed seat (s.phases f) && front_of (s.parts seat).list == f) (has_as Fresh seat (s.phases f)) first) [
-        | inl front ↦ sound_sent_listed s f seat sound below at (and_parts (has_as Listed seat (s.phases f)) (front_of (s.parts seat).list == f) front).0
+    elim (or_cases (has_as ListFrame seat (s.phases f) && front_of (s.parts seat).list == f || has_as FreshFrame seat (s.phases f))
+    (has_as kinds.BackFrame seat (s.phases f)) may) [
+      | inl first ↦ elim (or_cases (has_as ListFrame seat (s.phases f) && front_of (s.parts seat).list == f) (has_as FreshFrame seat (s.phases f)) first) [
+        | inl front ↦ sound_sent_listed s f seat sound below at (and_parts (has_as ListFrame seat (s.phases f)) (front_of (s.parts seat).list == f) front).0
         | inr fresh ↦ sound_sent_fresh s f seat sound below at fresh
       ]
       | inr back ↦ sound_sent_back s f seat sound below at back
@@ -104,7 +104,7 @@ sound_step s seat (Consume g) Took sound legal ok counted =
     sound_consumed s seat g sound range.0 range.1 (leb-true 1 (length (s.parts seat).list) some) ok.0 ok.2
 sound_step s seat (Credit f) Back sound legal ok counted =
     let frame : is_frame s.zone f ≡ true = grind arith in
-    let fresh : has_as Fresh seat (s.phases f) ≡ true = grind arith in
+    let fresh : has_as FreshFrame seat (s.phases f) ≡ true = grind arith in
     sound_credited s f seat sound (below_frames s.zone f frame) fresh
 sound_step s seat (Report n) Done sound legal ok counted =
     let few : nat_le n (s.parts seat).unreported ≡ true = grind arith in

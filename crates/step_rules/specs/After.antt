@@ -16,7 +16,7 @@ use Rattle.step_rules.specs.declared.step.Action.TheVariants.{Collect, Consume, 
 use Rattle.step_rules.specs.declared.step.Action.TheVariants.{Return, SetMax, Make, Remove, Kill}
 use Rattle.step_rules.specs.declared.step.Answer.{Answer}
 use Rattle.step_rules.specs.declared.step.Answer.TheVariants.{Done, Held, Left, Last, Took, Back, Pages, Granted, Placed, Number}
-use Rattle.step_rules.specs.Phases.{Fresh, has_as, unit_of, at_stage, stage_after_last, passed_back, collected}
+use Rattle.step_rules.specs.Phases.{FreshFrame, has_as, unit_of, at_stage, stage_after_last, passed_back, collected}
 use Rattle.step_rules.specs.State.{Zone, Part, State, at_boot, with_at, one_if, without, with_last, front_of}
 use Rattle.step_rules.specs.Legal.{Allows}
 
@@ -72,7 +72,7 @@ taken_off part f was_fresh = record part {
 
 -- the part without one of its frames that it passes back; the page of a fresh one is to be reported
 abbrev pub without_frame : Part → Phase → ℕ → ℕ → Part
-without_frame part phase p f = taken_off part f (has_as Fresh p phase)
+without_frame part phase p f = taken_off part f (has_as FreshFrame p phase)
 
 -- so many pages were reported
 abbrev pub with_report : Part → ℕ → Part

@@ -4,7 +4,7 @@ use Rattle.step_rules.specs.declared.step.Action.{Action}
 use Rattle.step_rules.specs.declared.step.Action.TheVariants.{PassBack, Report, Absorb}
 use Rattle.step_rules.specs.declared.step.Answer.{Answer}
 use Rattle.step_rules.specs.declared.step.Answer.TheVariants.{Done, Pages}
-use Rattle.step_rules.specs.Phases.{Fresh, Back, has_as}
+use Rattle.step_rules.specs.Phases.{FreshFrame, BackFrame, has_as}
 use Rattle.step_rules.specs.State.{Zone, one_if, is_cpu, pins_of}
 use Rattle.step_rules.specs.After.{Run, state_of, IsLegalRun}
 use Rattle.step_rules.specs.Units.{units_of}
@@ -30,8 +30,8 @@ absorbed_in p run seat action answer = 0
 -- are the pages of the fresh frames that it passed back, less those reported, and reported are these, less those absorbed; there
 -- are at most 32 fresh frames, and at most 256 pins and back frames
 pub record PartIsBooked (zone : Zone) (run : Run) (p : ℕ) : Type 0 where
-  pub fresh : (f : ℕ) → times_in f ((state_of zone run).parts p).fresh ≡ one_if (has_as Fresh p ((state_of zone run).phases f))
-  pub back : (f : ℕ) → times_in f ((state_of zone run).parts p).back ≡ one_if (has_as Back p ((state_of zone run).phases f))
+  pub fresh : (f : ℕ) → times_in f ((state_of zone run).parts p).fresh ≡ one_if (has_as FreshFrame p ((state_of zone run).phases f))
+  pub back : (f : ℕ) → times_in f ((state_of zone run).parts p).back ≡ one_if (has_as BackFrame p ((state_of zone run).phases f))
   pub book : ((state_of zone run).parts p).book ≡ ((state_of zone run).parts p).stock.pages + length ((state_of zone run).parts p).fresh
       + ((state_of zone run).parts p).unreported + ((state_of zone run).parts p).reported
   pub unreported : counted_along (unreported_in p) run ≡ ((state_of zone run).parts p).unreported + counted_along (reported_in p) run

@@ -2,7 +2,7 @@
 -- put in and taken out.
 use Rattle.std.specs.Prelude.{◌≡◌, ℕ, ◌+◌, ◌&&◌, if◌then◌else◌}
 use Rattle.group_tree.specs.Groups.{in_subtree}
-use Rattle.step_rules.specs.declared.step.Place.TheVariants.{Charged}
+use Rattle.step_rules.specs.declared.step.FramePlace.TheVariants.{Charged}
 use Rattle.step_rules.specs.State.{Zone, one_if, sum_to}
 use Rattle.step_rules.specs.Usage.{is_below, frames_kept, pages_prepaid, pages_pending, usage_of}
 use Rattle.step_rules.specs.After.{Run, state_of, IsLegalRun}

@@ -3,7 +3,7 @@ use Rattle.std.specs.Prelude.{◌≡◌, Bool, List, map}
 use Rattle.std.specs.List.{range_with_len}
 use Rattle.zone_blocks.specs.declared.block.Block.{Block}
 use Rattle.zone_blocks.specs.Areas.{AreMaximalBlocks}
-use Rattle.step_rules.specs.declared.step.Place.TheVariants.{Free}
+use Rattle.step_rules.specs.declared.step.FramePlace.TheVariants.{Free}
 use Rattle.step_rules.specs.State.{Zone, free_in}
 use Rattle.step_rules.specs.After.{Run, state_of, IsLegalRun}
 use Rattle.step_rules.specs.Places.{places_of}

@@ -12,7 +12,7 @@ use Rattle.step_rules.specs.declared.step.Action.TheVariants.{Publish, Return, N
 use Rattle.step_rules.specs.declared.step.Answer.{Answer}
 use Rattle.step_rules.specs.declared.step.Answer.TheVariants.{Illegal, Done, Held, Zero, Full, Left, Last, Missed, Took, Empty, OtherGroup, Drained, Back}
 use Rattle.step_rules.specs.declared.step.Answer.TheVariants.{Pages, Granted, Over, Placed, NoFreeBlock, Number}
-use Rattle.step_rules.specs.Phases.{Kind, Listed, Fresh, is_free, is_head, has_as, passes_out, passes_back, is_passing, is_head_in_hand, may_return}
+use Rattle.step_rules.specs.Phases.{Kind, ListFrame, FreshFrame, is_free, is_head, has_as, passes_out, passes_back, is_passing, is_head_in_hand, may_return}
 use Rattle.step_rules.specs.Phases as kinds
 use Rattle.step_rules.specs.State.{State, Part, all_to, front_of, is_cpu, is_frame, is_unheld, is_held_by, visits, may_zone_act, live_references, pins_of}
 use Rattle.step_rules.specs.State.{free_in}
@@ -37,7 +37,7 @@ is_settled s = all_to 64 (λ g. s.pending g == 0)
 -- the frame is the front of the processor's list, fresh, or a back frame there
 abbrev pub may_pass_back : State → ℕ → ℕ → Bool
 may_pass_back s p f =
-    has_as Listed p (s.phases f) && front_of (s.parts p).list == f || has_as Fresh p (s.phases f) || has_as kinds.Back p (s.phases f)
+    has_as ListFrame p (s.phases f) && front_of (s.parts p).list == f || has_as FreshFrame p (s.phases f) || has_as kinds.BackFrame p (s.phases f)
 
 -- the stock is of this group
 abbrev pub is_of_group : Option ℕ → ℕ → Bool
@@ -67,7 +67,7 @@ is_legal s seat (TakeIn f) = is_cpu s.zone seat && is_frame s.zone f && passes_o
 is_legal s seat (PassBack f) = is_cpu s.zone seat && is_frame s.zone f && visits seat s.hold && may_pass_back s seat f
 is_legal s seat (Collect f p) = may_zone_act s.hold seat && is_frame s.zone f && is_cpu s.zone p && passes_back p (s.phases f)
 is_legal s seat (Consume g) = is_cpu s.zone seat && nat_le 1 (length (s.parts seat).list) && nat_lt (length (s.parts seat).fresh) 32
-is_legal s seat (Credit f) = is_cpu s.zone seat && is_frame s.zone f && has_as Fresh seat (s.phases f)
+is_legal s seat (Credit f) = is_cpu s.zone seat && is_frame s.zone f && has_as FreshFrame seat (s.phases f)
 is_legal s seat (Report n) = is_cpu s.zone seat && visits seat s.hold && nat_le n (s.parts seat).unreported
 is_legal s seat (Absorb p) = may_zone_act s.hold seat && visits p s.hold
 is_legal s seat (Fill p g n) = may_zone_act s.hold seat && visits p s.hold && has_group s.groups g && may_fill (s.parts p) g && nat_le n (s.pending g)

@@ -10,9 +10,9 @@ use Rattle.step_rules.specs.declared.phase.Phase.TheVariants.{InZone, Lent, Head
 
 -- a processor's frames are of three kinds: on its list, fresh, or with a last put of its own
 pub data Kind : Type 0 where
-  Listed : Kind
-  Fresh : Kind
-  Back : Kind
+  ListFrame : Kind
+  FreshFrame : Kind
+  BackFrame : Kind
 
 -- the frame is in the zone's free areas
 abbrev pub is_free : Phase → Bool
@@ -47,13 +47,13 @@ is_live _ = false
 
 -- the processor has the unit's head as a frame of this kind
 abbrev pub has_stage : Kind → ℕ → Stage → Bool
-has_stage Fresh p (FreshAt q) = q == p
-has_stage Back p (BackAt q) = q == p
+has_stage FreshFrame p (FreshAt q) = q == p
+has_stage BackFrame p (BackAt q) = q == p
 has_stage _ _ _ = false
 
 -- the lent frame is on the processor's list
 abbrev pub has_lent : Kind → ℕ → ℕ → Way → Bool
-has_lent Listed p q OnList = q == p
+has_lent ListFrame p q OnList = q == p
 has_lent _ _ _ _ = false
 
 -- the processor has the frame as one of this kind

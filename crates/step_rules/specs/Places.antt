@@ -4,8 +4,8 @@ use Rattle.std.specs.Prelude.{◌≡◌, ℕ, ◌^◌, ◌<◌, ◌==◌, ◌&&�
 use Rattle.step_rules.specs.declared.phase.ChargedUnit.{ChargedUnit}
 use Rattle.step_rules.specs.declared.phase.Phase.{Phase}
 use Rattle.step_rules.specs.declared.phase.Phase.TheVariants.{InZone, Lent, Head, Tail}
-use Rattle.step_rules.specs.declared.step.Place.{Place}
-use Rattle.step_rules.specs.declared.step.Place.TheVariants.{Free, Listed, Charged}
+use Rattle.step_rules.specs.declared.step.FramePlace.{FramePlace}
+use Rattle.step_rules.specs.declared.step.FramePlace.TheVariants.{Free, Listed, Charged}
 use Rattle.step_rules.specs.declared.step.Step.{Step}
 use Rattle.step_rules.specs.declared.step.Action.{Action}
 use Rattle.step_rules.specs.declared.step.Action.TheVariants.{PassOut, Collect, Consume, Credit, PlaceBlock, Return}
@@ -17,23 +17,23 @@ use Rattle.step_rules.specs.Units.{Units, no_units, units_after}
 
 -- a set of pairs of a frame and a place: the test whether a pair is in it
 abbrev pub Places : Type 0
-Places = ℕ → Place → Bool
+Places = ℕ → FramePlace → Bool
 
 -- the two places are one
-abbrev pub is_same_place : Place → Place → Bool
-is_same_place Free Free = true
-is_same_place (Listed p) (Listed q) = p == q
-is_same_place (Charged g) (Charged h) = g == h
-is_same_place _ _ = false
+abbrev pub is_same_frame_place : FramePlace → FramePlace → Bool
+is_same_frame_place Free Free = true
+is_same_frame_place (Listed p) (Listed q) = p == q
+is_same_frame_place (Charged g) (Charged h) = g == h
+is_same_frame_place _ _ = false
 
 -- at first each frame of the zone is free
 abbrev pub places_at_boot : Zone → Places
-places_at_boot zone f p = is_frame zone f && is_same_place p Free
+places_at_boot zone f p = is_frame zone f && is_same_frame_place p Free
 
 -- each of n frames from this one on gains its new place and loses the old one that is named, and no other
-abbrev pub moved : Places → ℕ → ℕ → Place → Place → Places
+abbrev pub moved : Places → ℕ → ℕ → FramePlace → FramePlace → Places
 moved places at n old new f p =
-    if is_within at n f then is_same_place p new || (places f p && not (is_same_place p old)) else places f p
+    if is_within at n f then is_same_frame_place p new || (places f p && not (is_same_frame_place p old)) else places f p
 
 -- the frames of a unit that comes back lose the place at its group
 abbrev pub returned : Places → ℕ → Option ChargedUnit → Places
@@ -67,12 +67,12 @@ places_of zone run = (fold with_places (no_units, places_at_boot zone) run).1
 
 -- the frame has one place, and no other
 pub record HasOnePlace (places : Places) (f : ℕ) : Type 0 where
-  pub place : Place
+  pub place : FramePlace
   pub there : places f place ≡ true
-  pub only : (p : Place) → places f p ≡ true → p ≡ place
+  pub only : (p : FramePlace) → places f p ≡ true → p ≡ place
 
 -- the place of a frame in this phase
-abbrev pub place_in : Phase → Place
+abbrev pub place_in : Phase → FramePlace
 place_in InZone = Free
 place_in (Lent p way) = Listed p
 place_in (Head unit stage) = Charged unit.group
@@ -81,7 +81,7 @@ place_in (Tail g) = Charged g
 -- after a legal run every frame of the zone has exactly one place, the one that its phase tells, and no other frame has any
 pub record PlacesAreTold (zone : Zone) (run : Run) : Type 0 where
   pub one : (f : ℕ) → f < zone.frames → HasOnePlace (places_of zone run) f
-  pub told : (f : ℕ) (p : Place) → places_of zone run f p ≡ (is_frame zone f && is_same_place p (place_in ((state_of zone run).phases f)))
+  pub told : (f : ℕ) (p : FramePlace) → places_of zone run f p ≡ (is_frame zone f && is_same_frame_place p (place_in ((state_of zone run).phases f)))
 
 -- every legal run tells a place of each frame, and one alone
 abbrev pub EveryFrameHasOnePlace : Type 0

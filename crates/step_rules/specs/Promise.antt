@@ -10,8 +10,8 @@ use Rattle.zone_blocks.specs.Areas.{AreMaximalBlocks}
 use Rattle.zone_blocks.specs.Laws.{IsInOneBlock}
 use Rattle.group_tree.specs.declared.group.Group.{Group}
 use Rattle.group_tree.specs.Groups.{has_group, in_subtree}
-use Rattle.step_rules.specs.declared.step.Place.{Place}
-use Rattle.step_rules.specs.declared.step.Place.TheVariants.{Free, Listed, Charged}
+use Rattle.step_rules.specs.declared.step.FramePlace.{FramePlace}
+use Rattle.step_rules.specs.declared.step.FramePlace.TheVariants.{Free, Listed, Charged}
 use Rattle.step_rules.specs.declared.step.Action.{Action}
 use Rattle.step_rules.specs.declared.step.Action.TheVariants.{Get, Put, Freeze, Unfreeze, Consume, Credit, Grant, PlaceBlock, Return}
 use Rattle.step_rules.specs.declared.step.Answer.{Answer}
@@ -50,13 +50,13 @@ pub record IsShown (s : State) (shown : Shown) : Type 0 where
 
 -- ---- each frame is in one place
 -- the frame is seen at the place: in a block of the free areas, on the processor's list, or kept by the group
-abbrev pub Has : Shown → ℕ → Place → Type 0
+abbrev pub Has : Shown → ℕ → FramePlace → Type 0
 Has shown f Free = (b : Block) × Contains shown.areas b × Covers b f
 Has shown f (Listed p) = 1 ≤ times_in f (shown.lists p)
 Has shown f (Charged g) = shown.keeper f ≡ Some g
 
 -- it is seen there once: in one block alone; once on the list, which is that of a processor; or by a group that is there
-abbrev pub HasOnce : Zone → Shown → ℕ → Place → Type 0
+abbrev pub HasOnce : Zone → Shown → ℕ → FramePlace → Type 0
 HasOnce zone shown f Free = IsInOneBlock shown.areas f
 HasOnce zone shown f (Listed p) = (is_cpu zone p ≡ true) × (times_in f (shown.lists p) ≡ 1)
 HasOnce zone shown f (Charged g) = (has_group shown.groups g ≡ true) × (shown.keeper f ≡ Some g)
@@ -68,9 +68,9 @@ IsInUnit run g f =
 
 -- it is seen once at one place, and at no other; and a group keeps it exactly where it lies in a unit of that group
 pub record IsInOnePlace (zone : Zone) (run : Run) (shown : Shown) (f : ℕ) : Type 0 where
-  pub place : Place
+  pub place : FramePlace
   pub once : HasOnce zone shown f place
-  pub only : (p : Place) → Has shown f p → p ≡ place
+  pub only : (p : FramePlace) → Has shown f p → p ≡ place
   pub kept : (g : ℕ) → (shown.keeper f ≡ Some g) ↔ IsInUnit run g f
 
 -- ---- each usage is right
@@ -130,7 +130,7 @@ pub record Promise (zone : Zone) (run : Run) (shown : Shown) : Type 0 where
   pub groups : shown.groups ≡ groups_of run
   pub areas : (free : List Bool) × (length free ≡ zone.frames) × AreMaximalBlocks free shown.areas
   pub frames : (f : ℕ) → f < zone.frames → IsInOnePlace zone run shown f
-  pub beyond : (f : ℕ) → zone.frames ≤ f → (p : Place) → ¬ Has shown f p
+  pub beyond : (f : ℕ) → zone.frames ≤ f → (p : FramePlace) → ¬ Has shown f p
   pub stocks : (p : ℕ) → 1 ≤ (shown.stocks p).pages → IsPrepaid zone shown p
   pub current : (g : ℕ) → has_group shown.groups g ≡ true →
       (shown.current g ≡ kept_below shown zone.frames g + prepaid_below shown zone.cpus g) × (shown.current g ≡ charged_below run g)

@@ -4,7 +4,7 @@ use Rattle.step_rules.specs.declared.phase.Stage.{Stage}
 use Rattle.step_rules.specs.declared.phase.Stage.TheVariants.{Collected, BackAt, BackPassing, Ended}
 use Rattle.step_rules.specs.declared.phase.Phase.{Phase}
 use Rattle.step_rules.specs.declared.phase.Phase.TheVariants.{Head}
-use Rattle.step_rules.specs.declared.step.Place.TheVariants.{Listed}
+use Rattle.step_rules.specs.declared.step.FramePlace.TheVariants.{Listed}
 use Rattle.step_rules.specs.declared.step.Step.{Step}
 use Rattle.step_rules.specs.declared.step.Action.{Action}
 use Rattle.step_rules.specs.declared.step.Action.TheVariants.{Put, Freeze, Unfreeze, Credit, Return}
@@ -16,7 +16,7 @@ use Rattle.step_rules.specs.Legal.{is_legal, IsMade, no_frame_passes}
 use Rattle.step_rules.specs.After.{Run, after, state_of, IsLegalRun}
 use Rattle.step_rules.specs.Folds.{was_killed}
 use Rattle.step_rules.specs.Units.{units_of}
-use Rattle.step_rules.specs.Places.{is_same_place, place_in}
+use Rattle.step_rules.specs.Places.{is_same_frame_place, place_in}
 
 -- the stage of a unit whose last reference is gone and that hasn't come back
 abbrev pub is_open_stage : Stage → Bool
@@ -119,7 +119,7 @@ pub record IsAllPlaced (s : State) : Type 0 where
   pub pending : (g : ℕ) → s.pending g ≡ 0
   pub usage : (g : ℕ) → usage_of s g ≡ frames_kept s.groups s.phases s.zone.frames g + pages_prepaid s.groups s.parts s.zone.cpus g
   pub still : no_frame_passes s ≡ true
-  pub listed : (f p : ℕ) → times_in f (s.parts p).list ≡ one_if (is_same_place (place_in (s.phases f)) (Listed p))
+  pub listed : (f p : ℕ) → times_in f (s.parts p).list ≡ one_if (is_same_frame_place (place_in (s.phases f)) (Listed p))
 
 -- every legal run that leaves the lock free leaves nothing pending or passing
 abbrev pub NothingPendsWhileTheLockIsFree : Type 0

@@ -8,7 +8,7 @@ use Rattle.step_rules.specs.declared.phase.Hold.{Hold}
 use Rattle.step_rules.specs.declared.phase.Hold.TheVariants.{Unheld, HeldBy, Visiting}
 use Rattle.step_rules.specs.declared.phase.Phase.{Phase}
 use Rattle.step_rules.specs.declared.phase.Phase.TheVariants.{InZone}
-use Rattle.step_rules.specs.Phases.{Kind, Listed, Fresh, Back, is_free}
+use Rattle.step_rules.specs.Phases.{Kind, ListFrame, FreshFrame, BackFrame, is_free}
 
 -- the sizes of a zone: how many frames it has, and how many processors
 pub record Zone : Type 0 where
@@ -103,9 +103,9 @@ front_of frames = slice_index_or frames 0 0
 
 -- the processor's frames of one kind
 abbrev pub frames_of : Part → Kind → List ℕ
-frames_of part Listed = part.list
-frames_of part Fresh = part.fresh
-frames_of part Back = part.back
+frames_of part ListFrame = part.list
+frames_of part FreshFrame = part.fresh
+frames_of part BackFrame = part.back
 
 -- the seat is that of a processor
 abbrev pub is_cpu : Zone → ℕ → Bool

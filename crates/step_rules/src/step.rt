@@ -7,7 +7,7 @@ use zone_blocks::order::Order;
 
 /// Where a frame is.
 #[derive(Clone, Copy, Debug, PartialEq, Eq)]
-pub enum Place {
+pub enum FramePlace {
     /// In the zone's free areas.
     Free,
     /// Lent to this processor: on its list, or on the way there or back.

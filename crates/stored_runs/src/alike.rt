@@ -6,7 +6,7 @@ use group_tree::group::GroupId;
 use mem_core::account::Events;
 use mem_core::zone::Core;
 use std::alloc::{AllocError, Global};
-use step_rules::step::Place;
+use step_rules::step::FramePlace;
 use zone_sizes::config::Config;
 
 // The groups whose files are looked at.
@@ -60,9 +60,9 @@ fn tell_place(core: &Core, cpus: u32, frame: u32, text: &mut String) -> Result<(
         return Ok(());
     }
     match core.place(frame) {
-        Place::Free => text.push_str("free\n")?,
-        Place::Listed(cpu) => writeln!(text, "cpu {cpu}")?,
-        Place::Charged(group) => tell_path(core, group, text)?,
+        FramePlace::Free => text.push_str("free\n")?,
+        FramePlace::Listed(cpu) => writeln!(text, "cpu {cpu}")?,
+        FramePlace::Charged(group) => tell_path(core, group, text)?,
     }
     Ok(())
 }

@@ -3,10 +3,10 @@
 ghost use Rattle.std.specs.Prelude.{◌≡◌, ℕ, ◌<◌, ◌^◌, Some, IsTrue, length, slice_get};
 ghost use Rattle.zone_blocks.specs.Areas.{AreMaximalBlocks};
 ghost use Rattle.group_tree.specs.Groups.{has_group, limit_of};
-ghost use Rattle.step_rules.specs.declared.step.Place.{Place};
+ghost use Rattle.step_rules.specs.declared.step.FramePlace.{FramePlace};
 ghost use Rattle.step_rules.specs.State.{State, free_in, front_of, pins_of};
 ghost use Rattle.step_rules.specs.Usage.{usage_of};
-ghost use Rattle.step_rules.specs.Places.{places_of, place_in, is_same_place};
+ghost use Rattle.step_rules.specs.Places.{places_of, place_in, is_same_frame_place};
 ghost use Rattle.step_rules.specs.Folds.{limit_given, was_killed};
 ghost use Rattle.step_rules.specs.After.{Run, state_of};
 ghost use Rattle.step_rules.specs.Peaks.{IsPeak};
@@ -20,7 +20,7 @@ use crate::account::Events;
 use group_tree::group::GroupId;
 use group_tree::tree::Tree;
 use step_rules::phase::{Hold, Phase};
-use step_rules::step::Place;
+use step_rules::step::FramePlace;
 use zone_blocks::areas::FreeAreas;
 
 impl Core {
@@ -59,10 +59,10 @@ impl Core {
     }
 
     /// Where a frame of the zone is.
-    pub fn place(&self, frame: u32) -> Place
+    pub fn place(&self, frame: u32) -> FramePlace
         requires { frame < self.now.zone.frames }
         ensures now { result ≡ place_in ((state_in self.now).phases frame) }
-        ensures run { (run : Run) → Shows self.now run → (p : Place) → places_of self.now.zone run frame p ≡ is_same_place p result }
+        ensures run { (run : Run) → Shows self.now run → (p : FramePlace) → places_of self.now.zone run frame p ≡ is_same_frame_place p result }
     {
         place_in(self.phase(frame))
     }
@@ -244,13 +244,13 @@ impl Core {
 }
 
 // The place of a frame in this phase.
-fn place_in(phase: Phase) -> Place
+fn place_in(phase: Phase) -> FramePlace
     ensures { result ≡ place_in phase }
 {
     match phase {
-        Phase::InZone => Place::Free,
-        Phase::Lent { cpu, way: _ } => Place::Listed(cpu),
-        Phase::Head { unit, stage: _ } => Place::Charged(unit.group),
-        Phase::Tail(group) => Place::Charged(group),
+        Phase::InZone => FramePlace::Free,
+        Phase::Lent { cpu, way: _ } => FramePlace::Listed(cpu),
+        Phase::Head { unit, stage: _ } => FramePlace::Charged(unit.group),
+        Phase::Tail(group) => FramePlace::Charged(group),
     }
 }

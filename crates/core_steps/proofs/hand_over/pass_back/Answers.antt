@@ -4,7 +4,7 @@ use Rattle.step_rules.specs.State.{State, one_if, without}
 use Rattle.step_rules.specs.After.{with_part, with_phase}
 use Rattle.core_rows.specs.Shown.{state_in}
 use Rattle.core_steps.proofs.Serving.{unreported_few}
-use Rattle.step_rules.specs.Phases.{has_as, Fresh, passed_back}
+use Rattle.step_rules.specs.Phases.{has_as, FreshFrame, passed_back}
 use Rattle.core_steps.proofs.hand_over.pass_back.Goals as goal
 
 pub take_from_lists-requires-clause-few : goal.take_from_lists-requires-clause-few
@@ -17,7 +17,7 @@ returns c =
     let s = state_in c.args.rows.now in
     let p = c.args.seat in
     let f = c.args.frame in
-    let fresh : c.is_fresh_at-was_fresh.result ≡ has_as Fresh p (s.phases f) = c.is_fresh_at-was_fresh.ensures ∙ ap (has_as Fresh p) c.phase.ensures in
+    let fresh : c.is_fresh_at-was_fresh.result ≡ has_as FreshFrame p (s.phases f) = c.is_fresh_at-was_fresh.ensures ∙ ap (has_as FreshFrame p) c.phase.ensures in
     let phase : c.passed_back-phase.result ≡ passed_back (s.phases f) = c.passed_back-phase.ensures ∙ ap passed_back c.phase-2.ensures in
     let mid : state_in c.set_phase.new.self ≡ with_phase s f (passed_back (s.phases f)) = c.set_phase.ensures.state ∙ ap (with_phase s f) phase in
     let left : State → Bool → State = λ t b. with_part t p (record (t.parts p) {

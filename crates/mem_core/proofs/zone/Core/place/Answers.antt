@@ -1,7 +1,7 @@
 -- The phase of a frame tells its one place.
 use Rattle.std.proofs.Common.{◌≡◌, ◌&&◌, true, sym, ◌∙◌, ap, arith}
 use Rattle.step_rules.specs.State.{State, is_frame}
-use Rattle.step_rules.specs.Places.{place_in, is_same_place}
+use Rattle.step_rules.specs.Places.{place_in, is_same_frame_place}
 use Rattle.step_rules.proofs.Placed.{every_frame_has_one_place}
 use Rattle.mem_core.specs.Shown.{state_in}
 use Rattle.mem_core.proofs.zone.Core.place.Goals as goal
@@ -15,6 +15,6 @@ returns-clause-run c run shows p =
     let phase : c.phase.result ≡ (state_in c.args.self.now).phases f = c.phase.ensures.now in
     let place : c.place_in.result ≡ place_in ((state_in c.args.self.now).phases f) = c.place_in.ensures ∙ ap place_in phase in
     told
-    ∙ ap (λ (s : State). is_frame zone f && is_same_place p (place_in (s.phases f))) (sym shows.state)
-    ∙ ap (λ b. b && is_same_place p (place_in ((state_in c.args.self.now).phases f))) inside
-    ∙ ap (is_same_place p) (sym place)
+    ∙ ap (λ (s : State). is_frame zone f && is_same_frame_place p (place_in (s.phases f))) (sym shows.state)
+    ∙ ap (λ b. b && is_same_frame_place p (place_in ((state_in c.args.self.now).phases f))) inside
+    ∙ ap (is_same_frame_place p) (sym place)
