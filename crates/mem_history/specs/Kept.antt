@@ -35,6 +35,7 @@ pub record IsTiedPart (t : KnownTable) (w : Words) (c : KnownCpu) : Type 0 where
   pub tied : IsTied t w c
   pub none_fresh : group_of c.stock.view.last ≡ None → length c.fresh ≡ 0
 
+-- so it is of all parts
 abbrev pub AreTied : KnownTable → Words → List KnownCpu → Type 0
 AreTied t w cpus = (k : ℕ) (c : KnownCpu) → slice_get cpus k ≡ Some c → IsTiedPart t w c
 
@@ -53,6 +54,7 @@ abbrev pub list_by : List KnownCpu → ℕ → List ℕ
 list_by cpus zero = []
 list_by cpus (suc k) = option_map_or (λ c. c.list) (slice_get cpus k) []
 
+-- its fresh frames, likewise
 abbrev pub fresh_frames_by : List KnownCpu → ℕ → List ℕ
 fresh_frames_by cpus zero = []
 fresh_frames_by cpus (suc k) = option_map_or (λ c. c.fresh) (slice_get cpus k) []

@@ -42,6 +42,7 @@ abbrev pub references_by : List KnownCpu → ℕ → ℕ → ℕ
 references_by cpus zero f = 0
 references_by cpus (suc k) f = option_map_or (λ c. holds c.seat f) (slice_get cpus k) 0
 
+-- how many fresh frames processor q has, by its part
 abbrev pub fresh_by : List KnownCpu → ℕ → ℕ
 fresh_by cpus zero = 0
 fresh_by cpus (suc k) = option_map_or (λ c. length c.fresh) (slice_get cpus k) 0

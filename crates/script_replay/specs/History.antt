@@ -43,11 +43,12 @@ abbrev pub taken_steps : ℕ → ℕ → Taken → Run
 taken_steps p g (Got f) = cpu_makes p (step.Consume g) says.Took ∷ []
 taken_steps p g other = []
 
--- a get that was held, a put, and a fresh frame that was listed again are each that step
+-- a get that was held is one step, and any other made none
 abbrev pub get_steps : ℕ → ℕ → Answer → Run
 get_steps p f (answer.Got Held) = cpu_makes p (step.Get f) says.Held ∷ []
 get_steps p f other = []
 
+-- each put is one step
 abbrev pub put_steps : ℕ → ℕ → Answer → Run
 put_steps p f (answer.Put put) = cpu_makes p (step.Put f) (put_answer put) ∷ []
 put_steps p f other = []
@@ -59,11 +60,13 @@ frame_steps t path before (answer.Served reply) after (inl none) = []
 frame_steps t path before (answer.Served reply) after (inr served) = under_lock before.cpu.number served.2.0
 frame_steps t path before said after is = []
 
+-- a Release: a fresh frame that was listed again is that step, any other is served under the lock
 abbrev pub release_steps : (t : KnownTable) (f : ℕ) (before : Holder) (said : Answer) (after : Holder) → AnswersRelease t f before said after → Run
 release_steps t f before answer.Listed after is = cpu_makes before.cpu.number (step.Credit f) says.Back ∷ []
 release_steps t f before (answer.Served reply) after is = under_lock before.cpu.number is.2.0
 release_steps t f before said after is = []
 
+-- a Settle is served under the lock
 abbrev pub settle_steps : (t : KnownTable) (before : Holder) (said : Answer) (after : Holder) → AnswersSettle t before said after → Run
 settle_steps t before answer.Settled after is = under_lock before.cpu.number is.0
 settle_steps t before said after is = []
@@ -79,6 +82,7 @@ answer_steps t (Put frame) before said after is = put_steps before.cpu.number fr
 answer_steps t Settle before said after is = settle_steps t before said after is
 answer_steps t work before said after is = []
 
+-- so it is with what is told as text: `blocks` and `show` settle the processor under the lock
 abbrev pub work_steps : (t : KnownTable) (work : Work) (before : Holder) (text : List ℕ) (after : Holder) → AnswersWork t work before text after → Run
 work_steps t Blocks before text after is = under_lock before.cpu.number is.0.0
 work_steps t Show before text after is = under_lock before.cpu.number is.0.0
@@ -120,6 +124,7 @@ pub record StandsWell (t : KnownTable) (w : Words) (before after : Standing) : T
   pub charges : AreCharges after.locked.machine.ledger
   pub tied : AreTied t w before.cpus → AreTied t w after.cpus
 
+-- the line names what is there, is served, and leaves all well
 pub record GoesWell (t : KnownTable) (w : Words) (before : Standing) (line : Line) (text : List ℕ) (after : Standing) : Type 0 where
   pub there : LineIsThere t.frames (length before.cpus) line
   pub serves : ServesLine t before line text after
