@@ -59,7 +59,14 @@ fn scan_both<N: BootName>(
     if want <= inactive {
         return inactive;
     }
-    let active = scan(machine, tables, group, LruList::Active, want - inactive, false);
+    let active = scan(
+        machine,
+        tables,
+        group,
+        LruList::Active,
+        want - inactive,
+        false,
+    );
     inactive + active
 }
 
