@@ -302,39 +302,41 @@ fn pin_all<N: BootName>(
     assert!(rt; cpu.holds(used.0));
 }
 
-// Beside a back frame: 255 pins on another, and no more.
+// Beside a back frame: 254 pins on a frame and one on another, and no more.
 fn pin_the_rest<N: BootName>(
     rt: &impl Abort,
     tables: &Tables<N>,
     cpu: &mut Cpu<N>,
-    used: Frame,
+    used: (Frame, Frame),
     unused: Frame,
 )
-    requires used { used < N.frames.frames }
+    requires used { (used.0 < N.frames.frames) × (used.1 < N.frames.frames) }
     requires unused { unused < N.frames.frames }
 {
-    pin(rt, tables, cpu, used, 254);
+    pin(rt, tables, cpu, used.0, 254);
     same(rt, cpu.get(tables, unused), Ok(Get::Zero));
-    pin(rt, tables, cpu, used, 1);
-    same(rt, cpu.get(tables, used), Err(Fault::PinsFull));
+    pin(rt, tables, cpu, used.1, 1);
+    same(rt, cpu.get(tables, used.1), Err(Fault::PinsFull));
 }
 
-// Frames 1 and 2, of each of which the zone has a reference now.
-fn two_in_use<N: BootName>(
+// Frames 1, 2 and 4, of each of which the zone has a reference now.
+fn three_in_use<N: BootName>(
     rt: &impl Abort,
     tables: &Tables<N>,
     zone: &mut FrameSeat,
-) -> (Frame, Frame)
+) -> (Frame, Frame, Frame)
     requires zone { IsZoneSeat N.frames zone.old × (zone.old.view ≡ first_zone_view 8) × (N.frames.frames ≡ 8) }
     ensures zone { IsZoneSeat N.frames zone.new × IsShut zone.new 1 }
     ensures held { 1 ≤ holds zone.new result.0 }
-    ensures frames { (result.0 < N.frames.frames) × (result.1 < N.frames.frames) }
+    ensures frames { (result.0 < N.frames.frames) × (result.1 < N.frames.frames) × (result.2 < N.frames.frames) }
 {
     let one = frame_of(rt, tables, 1);
     let other = frame_of(rt, tables, 2);
-    tables.frames.unfreeze(zone, other, 1);
+    let third = frame_of(rt, tables, 4);
     tables.frames.unfreeze(zone, one, 1);
-    (one, other)
+    tables.frames.unfreeze(zone, other, 1);
+    tables.frames.unfreeze(zone, third, 1);
+    (one, other, third)
 }
 
 // The frame is pinned once and goes out of use: it is a back frame.
@@ -362,11 +364,11 @@ fn pins_run_out<N: BootName>(rt: &impl Abort, alloc: Global, parts: Parts<8>)
 {
     let (tables, mut zone, _, mut cpu, second) = set_up::<N, 8>(rt, alloc, parts);
     let unused = frame_of(rt, &tables, 3);
-    let (one, other) = two_in_use(rt, &tables, &mut zone);
+    let (one, other, third) = three_in_use(rt, &tables, &mut zone);
     pin_all(rt, &tables, &mut cpu, (one, other), unused);
     unpin(rt, &tables, &mut cpu, 256);
     keeps_back(rt, &tables, &mut zone, &mut cpu, one);
-    pin_the_rest(rt, &tables, &mut cpu, other, unused);
+    pin_the_rest(rt, &tables, &mut cpu, (other, third), unused);
     same(rt, cpu.number(), 1);
     give_back(&tables, &mut zone, &mut cpu);
     same(rt, take_last(&tables, &mut zone, &mut cpu), Some(one));
