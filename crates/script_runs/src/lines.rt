@@ -6,10 +6,10 @@ use std::process::Abort;
 use std::test::Fail;
 use zone_sizes::config::Config;
 
-// 16 frames and one processor.
+// The sizes that the program has by default.
 const SIZES: Config = Config {
     frames: 16,
-    cpus: 1,
+    cpus: 2,
     batch: 4,
     high: 8,
     stock: 4,
@@ -24,7 +24,7 @@ fn bad_line(rt: &(impl Abort + AllocGlobal), script: &[u8]) -> usize {
     }
 }
 
-// The script's one line has this command, at the one processor.
+// The script's one line has this command, at the first processor.
 fn reads(rt: &(impl Abort + AllocGlobal), script: &[u8], command: Command<'_>) {
     match parse_script(rt.alloc(), script, &SIZES) {
         Ok(lines) => {
@@ -96,7 +96,7 @@ fn names_the_first_bad_line(rt: HostRuntime) {
 fn refuses_what_is_not_in_the_grammar(rt: HostRuntime) {
     let bad: [&[u8]; 37] = [
         b"0 show".as_slice(),
-        b"2 show".as_slice(),
+        b"3 show".as_slice(),
         b"1  show".as_slice(),
         b"1 show ".as_slice(),
         b"1 show\r".as_slice(),
