@@ -21,13 +21,13 @@ use Rattle.step_rules.specs.declared.phase.Stage.TheVariants.{Ended}
 use Rattle.step_rules.specs.State.{State, one_if}
 use Rattle.mem_machine.specs.declared.spot.Spot.{Spot}
 use Rattle.mem_machine.specs.declared.spot.Spot.TheVariants.{Free, Head}
-use Rattle.mem_machine.specs.declared.machine.Counts.{Counts}
+use Rattle.mem_machine.specs.declared.counts.Counts.{Counts}
 use Rattle.mem_machine.specs.Spots.{spot_at, free_of, head_group_of, some_cpu}
 use Rattle.mem_machine.specs.Machines.{KnownMachine, FitsSpot, IsConsistent, BalancesCounts, Visits, home_of}
 use Rattle.mem_machine.specs.Local.{IsLocalRun, local_of, side}
 use Rattle.mem_machine.specs.Freeing.{FreesFrames}
 use Rattle.mem_machine.specs.Settling.{ReturnsBack, return_steps}
-use Rattle.mem_machine.specs.Freeing.{with_last_put}
+use Rattle.mem_machine.specs.Counts.{with_last_put}
 use Rattle.mem_machine.proofs.Holds.{own_part}
 use Rattle.mem_machine.proofs.Records.{heads_one}
 use Rattle.mem_machine.proofs.Freeing.{free_block_given, unit_in_use, head_inside, unit_freed_consistent}

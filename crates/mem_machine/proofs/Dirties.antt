@@ -14,10 +14,10 @@ use Rattle.lru_lists.specs.declared.lru.Lru.{Lru}
 use Rattle.lru_lists.specs.Lists.{OthersStand, OneOfAllChanges, StandsIn, AllStand, ChangesOwn, list_of, place_of, entries_of, changed_at, dirtied}
 use Rattle.cpu_part.specs.Cpus.{KnownCpu}
 use Rattle.mem_machine.specs.Spots.{spot_at, head_group_of}
-use Rattle.mem_machine.specs.Machines.{KnownMachine, IsConsistent, home_of, lists_at, no_lists}
+use Rattle.mem_machine.specs.Machines.{KnownMachine, IsConsistent, OthersStay, home_of, lists_at, no_lists}
 use Rattle.mem_machine.specs.Marks.{Dirties}
 use Rattle.mem_machine.specs.Local.{local_of, IsLocalRun}
-use Rattle.mem_machine.proofs.Listed.{dirtied_owners, fits_home, place_here, loose_stay}
+use Rattle.mem_machine.proofs.Listed.{dirtied_owners, fits_home, place_here, loose_stay, others_stay}
 
 -- a home that is there is of a group number
 pub owner_bound : (t : KnownTable) (w : Words) (m : KnownMachine) → IsConsistent t w m → (f : ℕ) (h : Home) → f < t.frames
@@ -40,14 +40,17 @@ module _ (t : KnownTable) (w : Words) (m : KnownMachine) (ok : IsConsistent t w 
   pub stands : StandsIn m.links lru
   stands = subst (StandsIn m.links) (sym read) (ok.lists h.owner lru bound).1
 
-  pub its_lists : lists_at m h.owner ≡ lru
+  pub its_lists : lists_at m.lists h.owner ≡ lru
   its_lists = sym (read ∙ get_or_default m.lists h.owner lru no_lists bound)
 
   module _ (links : List Link) (d : Bool) (now_stands : StandsIn links lru)
       (entries : (list : LruList) → entries_of links lru list ≡ changed_at f (dirtied d) (entries_of m.links lru list))
       (changes : ChangesOwn m.links links lru.owner) (others_stand : OthersStand) (one_of_all_changes : OneOfAllChanges) where
+    same_lists : slice_set m.lists h.owner lru ≡ m.lists
+    same_lists = ap (slice_set m.lists h.owner) read ∙ set-get_or m.lists h.owner lru
+
     all_stand : AllStand links m.lists
-    all_stand = subst (AllStand links) (ap (λ (k : ℕ). slice_set m.lists k lru) owned ∙ ap (slice_set m.lists h.owner) read ∙ set-get_or m.lists h.owner lru)
+    all_stand = subst (AllStand links) (ap (λ (k : ℕ). slice_set m.lists k lru) owned ∙ same_lists)
         (one_of_all_changes m.links links m.lists lru ok.lists (subst (λ (k : ℕ). k < length m.lists) (sym owned) bound) now_stands changes)
 
     owners : (g : ℕ) → option_map (λ (x : Home). x.owner) (home_of links g) ≡ option_map (λ (x : Home). x.owner) (home_of m.links g)
@@ -76,12 +79,8 @@ module _ (t : KnownTable) (w : Words) (m : KnownMachine) (ok : IsConsistent t w 
       inactive = subst (λ (x : Lru). entries_of links x Inactive ≡ changed_at f (dirtied d) (entries_of m.links x Inactive)) (sym its_lists)
           (entries Inactive);
       active = subst (λ (x : Lru). entries_of links x Active ≡ changed_at f (dirtied d) (entries_of m.links x Active)) (sym its_lists) (entries Active);
-      others = λ g within ne.
-          let sized = ok.sizes.lists in
-          let there : g < length m.lists = omega (arith, within, sized) in
-          let apart : (get_or m.lists g no_lists).owner ≢ lru.owner = λ e. ne (sym (ok.lists g no_lists there).0 ∙ e ∙ owned) in
-          let same = (others_stand m.links links lru.owner (get_or m.lists g no_lists) changes apart (ok.lists g no_lists there).1).1 in
-          (same Inactive, same Active);
+      others = subst (λ (l : List Lru). OthersStay m.links m.lists h.owner links l) same_lists
+          (others_stay m.links links m.lists h.owner lru lru ok.lists ok.sizes.lists owned changes others_stand);
       loose = λ g none. loose_stay m.links links lru.owner g changes (owners g) none;
     }
 

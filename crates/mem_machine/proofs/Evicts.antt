@@ -1,7 +1,7 @@
 -- A kept unit is tried: it misses, or it is frozen and comes back. Serves `evict`.
 use Rattle.std.proofs.Common.{◌≡◌, ◌≢◌, ℕ, ◌+◌, ◌^◌, ◌<◌, ◌==◌, Bool, true, false, Option, Some, None, List, [], ◌∷◌, length, get_or, refl, sym, ap, ◌∙◌}
 use Rattle.std.proofs.Common.{subst, inl, inr, arith, cond}
-use Rattle.std.specs.Prelude.{IfSome, min}
+use Rattle.std.specs.Prelude.{IfSome}
 use Rattle.std.proofs.lemmas.Bool.{cases_eq, and_from, lt-ltb, le-leb}
 use Rattle.zone_blocks.specs.declared.block.Block.{Block}
 use Rattle.zone_blocks.specs.Areas.{AreMaximalBlocks}
@@ -11,7 +11,6 @@ use Rattle.frame_word.specs.Seats.{KnownTable, KnownSeat, seat_with, holds, Free
 use Rattle.frame_word.proofs.Notes.{note_here, note_else}
 use Rattle.stock_word.specs.Stock.{Words}
 use Rattle.zone_buddy.specs.Zone.{GivesFrames}
-use Rattle.group_tree.specs.Room.{max_count}
 use Rattle.group_charge.specs.Charges.{Ledger, UsageRises, with_uncharge}
 use Rattle.lru_lists.specs.declared.record.Link.{Link}
 use Rattle.lru_lists.specs.declared.record.Home.{Home}
@@ -22,25 +21,20 @@ use Rattle.step_rules.specs.declared.phase.ChargedUnit.{ChargedUnit}
 use Rattle.step_rules.specs.declared.step.Action.TheVariants.{Freeze}
 use Rattle.step_rules.specs.declared.step.Answer.TheVariants as answer
 use Rattle.step_rules.specs.Legal.{is_legal}
-use Rattle.mem_machine.specs.declared.machine.Counts.{Counts}
+use Rattle.mem_machine.specs.declared.counts.Counts.{Counts}
 use Rattle.mem_machine.specs.declared.spot.Spot.{Spot}
 use Rattle.mem_machine.specs.declared.spot.Spot.TheVariants.{Head}
 use Rattle.mem_machine.specs.Spots.{spot_at, free_of, head_group_of, some_cpu}
 use Rattle.mem_machine.specs.Machines.{KnownMachine, FitsSpot, IsConsistent, Visits, BalancesCounts, home_of}
 use Rattle.mem_machine.specs.Local.{MakesForAny, local_of, references_of, side}
 use Rattle.mem_machine.specs.Freeing.{FreesFrames}
+use Rattle.mem_machine.specs.Counts.{with_freeze}
 use Rattle.mem_machine.specs.Releasing.{LeavesList}
-use Rattle.mem_machine.specs.Evicting.{MissesUnit, EvictsUnit, with_freeze, evict_steps}
+use Rattle.mem_machine.specs.Evicting.{MissesUnit, EvictsUnit, evict_steps}
+use Rattle.mem_machine.proofs.Balances.{balanced_freeze}
 use Rattle.mem_machine.proofs.Reaching.{zone_step}
 use Rattle.mem_machine.proofs.Holds.{zone_may_act}
 use Rattle.mem_machine.proofs.Releases.{TakesInHand, note_keeps, visit_stays, held_once, back_all}
-
--- one more freeze, and one more return
-second_rises : (a b c most : ℕ) → min (min (a + b + c) most + 1) most ≡ min (a + min (b + 1) most + c) most
-second_rises a b c most = omega arith
-
-balanced_freeze : (counts : Counts) → BalancesCounts counts → BalancesCounts (with_freeze counts)
-balanced_freeze counts balances = rw balances (second_rises counts.last_puts counts.freezes counts.drops max_count)
 
 frozen_in_hand : TakesInHand (frozen 1)
 frozen_in_hand = record { own = λ k. refl; lent = λ k. refl; references = λ k. refl; passed_out = λ k. refl; collected = λ k. refl }

@@ -20,7 +20,8 @@ use Rattle.mem_machine.specs.declared.spot.Spot.{Spot}
 use Rattle.mem_machine.specs.declared.spot.Spot.TheVariants.{Free, Head, Tail}
 use Rattle.mem_machine.specs.Spots.{spot_at, free_of, group_of, count_of, AreUnits}
 use Rattle.mem_machine.specs.Start.{AreEmpty}
-use Rattle.mem_machine.specs.Machines.{KnownMachine, FitsSpot, IsConsistent, IsFirst, BalancesCounts, no_counts, home_of, frames_charged, pages_booked, booked}
+use Rattle.mem_machine.specs.Counts.{no_counts}
+use Rattle.mem_machine.specs.Machines.{KnownMachine, FitsSpot, IsConsistent, IsFirst, BalancesCounts, home_of, frames_charged, pages_booked, booked}
 
 pub empty_none : (lists : List Lru) → lists ≡ [] → AreEmpty lists 0
 empty_none lists none = record { count = ap length none; each = λ k any inside. let e = ap length none in absurd (omega arith) }

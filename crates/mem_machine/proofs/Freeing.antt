@@ -26,7 +26,7 @@ use Rattle.step_rules.proofs.Sums.{sum_same, sum_both, sum_none}
 use Rattle.step_rules.proofs.Placing.{within_cases}
 use Rattle.mem_machine.specs.declared.spot.Spot.{Spot}
 use Rattle.mem_machine.specs.declared.spot.Spot.TheVariants.{Free, Head, Tail}
-use Rattle.mem_machine.specs.declared.machine.Counts.{Counts}
+use Rattle.mem_machine.specs.declared.counts.Counts.{Counts}
 use Rattle.mem_machine.specs.Spots.{spot_at, is_free, free_of, group_of, head_group_of, count_of, AreUnits, IsUnitAt}
 use Rattle.mem_machine.specs.Machines.{KnownMachine, FitsSpot, IsConsistent, BalancesCounts, home_of, frames_charged}
 use Rattle.mem_machine.specs.Freeing.{FreesFrames}

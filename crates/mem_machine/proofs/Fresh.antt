@@ -28,13 +28,14 @@ use Rattle.step_rules.specs.State.{State}
 use Rattle.step_rules.specs.After.{is_within}
 use Rattle.mem_machine.specs.declared.spot.Spot.{Spot}
 use Rattle.mem_machine.specs.declared.spot.Spot.TheVariants.{Free, Lent, Head}
-use Rattle.mem_machine.specs.declared.machine.Counts.{Counts}
+use Rattle.mem_machine.specs.declared.counts.Counts.{Counts}
 use Rattle.mem_machine.specs.Spots.{spot_at, is_free, free_of, group_of as spot_group, head_group_of, some_cpu}
 use Rattle.mem_machine.specs.Machines.{KnownMachine, FitsSpot, IsConsistent, BalancesCounts, Visits, home_of, is_killed, pages_booked}
 use Rattle.mem_machine.specs.Local.{IsLocalRun, local_of, fresh_group, number_or_0, side}
 use Rattle.mem_machine.specs.Steps.{zone_makes}
 use Rattle.mem_machine.specs.Blocks.{PlacesUnit}
-use Rattle.mem_machine.specs.Freeing.{FreesFrames, with_drop}
+use Rattle.mem_machine.specs.Counts.{with_drop}
+use Rattle.mem_machine.specs.Freeing.{FreesFrames}
 use Rattle.mem_machine.specs.Settling.{KeepsFresh, DropsFresh, with_page_absorbed, keep_steps, drop_steps}
 use Rattle.mem_machine.proofs.Holds.{own_part}
 use Rattle.mem_machine.proofs.Records.{free_at, free_set, lent_spot, spots_changed, units_stay, charges_stay}

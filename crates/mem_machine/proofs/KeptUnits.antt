@@ -4,7 +4,7 @@ use Rattle.std.proofs.Common.{◌≡◌, ◌≢◌, ℕ, ◌+◌, ◌^◌, ◌�
 use Rattle.std.proofs.Common.{refl, sym, ap, ◌∙◌, subst, arith, inl, inr}
 use Rattle.std.specs.Prelude.{slice_set, IfSome}
 use Rattle.std.proofs.lemmas.Bool.{cases_eq}
-use Rattle.std.proofs.lemmas.List.{get_or_default, get_or-set_same, get_or-set_other, length-set}
+use Rattle.std.proofs.lemmas.List.{get_or_default, get_or-set_same, length-set}
 use Rattle.std.proofs.lemmas.Option.{none-some}
 use Rattle.zone_blocks.specs.declared.block.Block.{Block}
 use Rattle.zone_blocks.specs.Block.{IsBlock}
@@ -17,21 +17,22 @@ use Rattle.stock_word.specs.Stock.{Words, Seated, IsMachine, account_of}
 use Rattle.group_charge.specs.Charges.{Ledger, pages_of}
 use Rattle.lru_lists.specs.declared.record.Link.{Link}
 use Rattle.lru_lists.specs.declared.record.Home.{Home}
-use Rattle.lru_lists.specs.declared.record.LruList.TheVariants.{Inactive, Active}
+use Rattle.lru_lists.specs.declared.record.LruList.TheVariants.{Inactive}
 use Rattle.lru_lists.specs.declared.lru.Lru.{Lru}
 use Rattle.lru_lists.specs.Queue.{link_at}
-use Rattle.lru_lists.specs.Lists.{OthersStand, OneOfAllChanges, StandsIn, AllStand, ChangesOwn, MovesOnly, IsOnNone, place_of, entries_of, inactive_of, active_of}
+use Rattle.lru_lists.specs.Lists.{OthersStand, OneOfAllChanges, StandsIn, AllStand, ChangesOwn, MovesOnly, IsOnNone, place_of, inactive_of, active_of}
 use Rattle.lru_lists.specs.Lists as lists
 use Rattle.step_rules.proofs.Placing.{within_cases}
 use Rattle.mem_machine.specs.declared.spot.Spot.{Spot}
 use Rattle.mem_machine.specs.declared.spot.Spot.TheVariants.{Free, Lent, Head, Tail}
-use Rattle.mem_machine.specs.declared.machine.Counts.{Counts}
+use Rattle.mem_machine.specs.declared.counts.Counts.{Counts}
 use Rattle.mem_machine.specs.Spots.{spot_at, free_of, group_of, head_group_of, some_cpu}
 use Rattle.mem_machine.specs.Machines.{KnownMachine, FitsSpot, IsConsistent, BalancesCounts, home_of, lists_at, no_lists, frames_charged, pages_booked}
 use Rattle.mem_machine.specs.Blocks.{PlacesUnit, ListsUnit}
 use Rattle.mem_machine.proofs.PlacesUnits.{head_of_block, tail_of_block, off_block}
 use Rattle.mem_machine.proofs.BlockCharges.{charges_rise}
 use Rattle.mem_machine.proofs.Units.{units_placed}
+use Rattle.mem_machine.proofs.Listed.{others_stay}
 
 -- a frame that is charged to no group stands on no list
 homeless : (h : Option Home) (x : Spot) → group_of x ≡ None → IfSome h (λ k. (k.owner < 64) × (head_group_of x ≡ Some k.owner)) → h ≡ None
@@ -61,7 +62,7 @@ module _ (t : KnownTable) (w : Words) (m : KnownMachine) (ok : IsConsistent t w 
   pub read_stands : StandsIn m.links lru
   read_stands = subst (StandsIn m.links) (sym read) (ok.lists g any there).1
 
-  pub read_is : lists_at m g ≡ lru
+  pub read_is : lists_at m.lists g ≡ lru
   read_is = sym (read ∙ get_or_default m.lists g any no_lists there)
 
 -- a unit was added to them
@@ -95,20 +96,14 @@ module _ (t : KnownTable) (w : Words) (m : KnownMachine) (ok : IsConsistent t w 
   pub unit_listed : (x : KnownMachine) → ListsUnit m g f (record x { links = links; lists = slice_set m.lists g new })
   unit_listed x =
       let now : get_or (slice_set m.lists g new) g no_lists ≡ new = get_or-set_same m.lists g new no_lists room in
-      let was : lru ≡ lists_at m g = sym (read_is t w m ok g fits any lru read) in
+      let was : lru ≡ lists_at m.lists g = sym (read_is t w m ok g fits any lru read) in
       record {
         stands = joined_home;
         homes = λ y ne. added.moves.home y ne;
         inactive = ap (inactive_of links) now ∙ added.inactive
             ∙ ap (λ (l : Lru). inactive_of m.links l ++ record { number = f; is_marked = false; is_dirty = false } ∷ []) was;
         active = ap (active_of links) now ∙ added.active ∙ ap (active_of m.links) was;
-        others = λ h within ne.
-            let sized = ok.sizes.lists in
-            let inside : h < length m.lists = omega (arith, within, sized) in
-            let apart : (get_or m.lists h no_lists).owner ≢ lru.owner = λ e. ne (sym (ok.lists h no_lists inside).0 ∙ e ∙ own) in
-            let same = (others_stand m.links links lru.owner (get_or m.lists h no_lists) added.changes apart (ok.lists h no_lists inside).1).1 in
-            let stays : get_or (slice_set m.lists g new) h no_lists ≡ get_or m.lists h no_lists = get_or-set_other m.lists g h new no_lists ne in
-            (ap (λ (l : Lru). entries_of links l Inactive) stays ∙ same Inactive, ap (λ (l : Lru). entries_of links l Active) stays ∙ same Active);
+        others = others_stay m.links links m.lists g lru new ok.lists ok.sizes.lists own added.changes others_stand;
         loose = λ y ne none. added.moves.kept y ne (ap (λ (x : Option Home). place_of x lru.owner) none);
       }
 

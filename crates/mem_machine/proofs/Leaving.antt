@@ -2,16 +2,16 @@
 use Rattle.std.proofs.Common.{◌≡◌, ◌≢◌, ℕ, ◌<◌, Option, Some, None, List, length, get_or, sym, ap, ◌∙◌, subst}
 use Rattle.std.specs.Prelude.{slice_set, IfSome}
 use Rattle.std.proofs.lemmas.Option.{none-some}
-use Rattle.std.proofs.lemmas.List.{get_or-set_same, get_or-set_other, get_or_default, length-set}
+use Rattle.std.proofs.lemmas.List.{get_or-set_same, get_or_default, length-set}
 use Rattle.lru_lists.specs.declared.record.Link.{Link}
 use Rattle.lru_lists.specs.declared.record.Home.{Home}
-use Rattle.lru_lists.specs.declared.record.LruList.TheVariants.{Inactive, Active}
 use Rattle.lru_lists.specs.declared.lru.Lru.{Lru}
 use Rattle.lru_lists.specs.Queue.{link_at, nowhere, SameUse}
 use Rattle.lru_lists.specs.Lists.{OthersStand, OneOfAllChanges, StandsIn, AllStand, ChangesOwn, MovesOnly, inactive_of, active_of, entries_without}
 use Rattle.lru_lists.specs.Lists.{list_of, place_of}
-use Rattle.mem_machine.specs.Machines.{home_of, no_lists}
-use Rattle.mem_machine.specs.Releasing.{LeavesList, lists_in}
+use Rattle.mem_machine.specs.Machines.{home_of, lists_at, no_lists}
+use Rattle.mem_machine.specs.Releasing.{LeavesList}
+use Rattle.mem_machine.proofs.Listed.{others_stay}
 use Rattle.mem_machine.proofs.Dirties.{on_list}
 
 -- all that `leave_list` leaves
@@ -43,14 +43,14 @@ module _ (links : List Link) (lists : List Lru) (f : ℕ) (h : Home) (home : Som
   pub own_on : list_of links lru.owner f ≢ None
   own_on none = on_list links f h (sym home) (ap (λ (k : ℕ). list_of links k f) (sym own) ∙ none)
 
-  its_lists : lists_in lists h.owner ≡ lru
+  its_lists : lists_at lists h.owner ≡ lru
   its_lists = sym (read ∙ get_or_default lists h.owner any no_lists bound)
 
   module _ (after : List Link) (new : Lru) (now_stands : StandsIn after new) (same : new.owner ≡ lru.owner)
       (inactive : inactive_of after new ≡ entries_without f (inactive_of links lru)) (active : active_of after new ≡ entries_without f (active_of links lru))
       (forgotten : link_at after f ≡ nowhere) (changes : ChangesOwn links after lru.owner) (moves : MovesOnly links after lru.owner f)
       (used : SameUse links after f) (others_stand : OthersStand) (one_of_all_changes : OneOfAllChanges) where
-    now_its : lists_in (slice_set lists h.owner new) h.owner ≡ new
+    now_its : lists_at (slice_set lists h.owner new) h.owner ≡ new
     now_its = get_or-set_same lists h.owner new no_lists bound
 
     all_stand : AllStand after (slice_set lists h.owner new)
@@ -71,12 +71,7 @@ module _ (links : List Link) (lists : List Lru) (f : ℕ) (h : Home) (home : Som
         inactive = subst (λ (x : Lru × Lru). inactive_of after x.1 ≡ entries_without f (inactive_of links x.0))
             (λ i. (sym its_lists i, sym now_its i)) inactive;
         active = subst (λ (x : Lru × Lru). active_of after x.1 ≡ entries_without f (active_of links x.0)) (λ i. (sym its_lists i, sym now_its i)) active;
-        others = λ g within ne.
-            let there : g < length lists = subst (λ (n : ℕ). g < n) (sym groups) within in
-            let apart : (get_or lists g no_lists).owner ≢ lru.owner = λ e. ne (sym (all g no_lists there).0 ∙ e ∙ own) in
-            let kept = (others_stand links after lru.owner (get_or lists g no_lists) changes apart (all g no_lists there).1).1 in
-            let stays : lists_in (slice_set lists h.owner new) g ≡ lists_in lists g = get_or-set_other lists h.owner g new no_lists ne in
-            (ap (λ (x : Lru). inactive_of after x) stays ∙ kept Inactive, ap (λ (x : Lru). active_of after x) stays ∙ kept Active);
+        others = others_stay links after lists h.owner lru new all groups own changes others_stand;
       };
       stand = all_stand;
       frames = changes.frames;

@@ -1,8 +1,9 @@
--- The units of one group's lists were marked, moved or dirtied: each frame stands on a list of the group that it stood on.
--- Serves `touch` and `set_dirty`.
-use Rattle.std.proofs.Common.{◌≡◌, ◌≢◌, ℕ, ◌<◌, ◌==◌, ◌||◌, ◌⊎◌, Bool, true, false, Option, Some, None, List, [], ◌∷◌, ◌++◌, map, refl, sym, ap, ◌∙◌}
-use Rattle.std.proofs.Common.{subst, inl, inr, eq-eqb, cond}
-use Rattle.std.specs.Prelude.{option_map}
+-- The lists of one group changed: where its units were marked, moved or dirtied each frame stands on a list of the group that it
+-- stood on, and the lists of all other groups stay. Serves all calls that change a list.
+use Rattle.std.proofs.Common.{◌≡◌, ◌≢◌, ℕ, ◌<◌, ◌==◌, ◌||◌, ◌⊎◌, Bool, true, false, Option, Some, None, List, [], ◌∷◌, ◌++◌, length, map, refl, sym, ap, ◌∙◌}
+use Rattle.std.proofs.Common.{subst, inl, inr, eq-eqb, cond, get_or, arith}
+use Rattle.std.specs.Prelude.{option_map, slice_set}
+use Rattle.std.proofs.lemmas.List.{get_or-set_other}
 use Rattle.std.proofs.lemmas.Bool.{cases_eq, ne_eqb, or_left, or_right}
 use Rattle.std.proofs.lemmas.Option.{none-some}
 use Rattle.frame_word.specs.declared.view.FrameNote.{FrameNote}
@@ -13,13 +14,13 @@ use Rattle.lru_lists.specs.declared.record.LruList.{LruList}
 use Rattle.lru_lists.specs.declared.record.LruList.TheVariants.{Inactive, Active}
 use Rattle.lru_lists.specs.declared.lru.Lru.{Lru}
 use Rattle.lru_lists.specs.Queue.{link_at, is_among, units_of, without}
-use Rattle.lru_lists.specs.Lists.{StandsIn, ChangesOwn, Touches, list_of, place_of, home_of, queue_of, entries_of, entry_of, inactive_of, active_of}
+use Rattle.lru_lists.specs.Lists.{StandsIn, AllStand, OthersStand, ChangesOwn, Touches, list_of, place_of, home_of, queue_of, entries_of, entry_of, inactive_of, active_of}
 use Rattle.lru_lists.specs.Lists.{changed_at}
 use Rattle.lru_lists.specs.Lists.{entries_without, dirtied, marked}
 use Rattle.lru_lists.specs.declared.lru.Touched.{Touched}
 use Rattle.lru_lists.specs.declared.lru.Touched.TheVariants.{Marked, Moved}
 use Rattle.mem_machine.specs.declared.spot.Spot.{Spot}
-use Rattle.mem_machine.specs.Machines.{FitsSpot}
+use Rattle.mem_machine.specs.Machines.{FitsSpot, OthersStay, no_lists}
 
 cases_none : (o : Option LruList) → (o ≡ None) ⊎ (o ≢ None)
 cases_none None = inl refl
@@ -247,3 +248,15 @@ pub touched_owners : (before after : List Link) (lru new : Lru) (f : ℕ) (touch
 touched_owners before after lru new f touched old stands owner changes on touches =
     let same = touched_listed before after lru new f touched old on touches in
     owners_stay before after lru new old stands owner changes (λ g h. same g ∙ h) (λ g h. sym (same g) ∙ h)
+
+-- ---- the lists of all other groups
+
+-- where the lists of one group change, those of every other stand as they stood
+pub others_stay : (before after : List Link) (lists : List Lru) (g : ℕ) (lru new : Lru) → AllStand before lists → length lists ≡ 64 → lru.owner ≡ g
+    → ChangesOwn before after lru.owner → OthersStand → OthersStay before lists g after (slice_set lists g new)
+others_stay before after lists g lru new all sized own changes others_stand h list within ne =
+    let inside : h < length lists = omega (arith, within, sized) in
+    let apart : (get_or lists h no_lists).owner ≢ lru.owner = λ e. ne (sym (all h no_lists inside).0 ∙ e ∙ own) in
+    let same = (others_stand before after lru.owner (get_or lists h no_lists) changes apart (all h no_lists inside).1).1 in
+    let stays : get_or (slice_set lists g new) h no_lists ≡ get_or lists h no_lists = get_or-set_other lists g h new no_lists ne in
+    ap (λ (x : Lru). entries_of after x list) stays ∙ same list

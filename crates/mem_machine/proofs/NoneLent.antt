@@ -14,7 +14,7 @@ use Rattle.mem_machine.specs.declared.spot.Spot.{Spot}
 use Rattle.mem_machine.specs.declared.spot.Spot.TheVariants.{Free, Lent, Head, Tail}
 use Rattle.mem_machine.specs.Spots.{spot_at, is_free, group_of, some_cpu, lent_to}
 use Rattle.mem_machine.specs.Machines.{KnownMachine, IsConsistent}
-use Rattle.mem_machine.specs.Ending.{frames_free, frames_in_groups, NoneLentTo}
+use Rattle.mem_machine.specs.Places.{frames_free, frames_in_groups, NoneLentTo}
 
 -- the record of a lent frame names the processor that the seat notes
 pub lent_is : (n p : ℕ) → some_cpu n ≡ Some p → (n ≡ p) × (1 ≤ p)

@@ -16,10 +16,10 @@ use Rattle.lru_lists.specs.Lists.{OthersStand, OneOfAllChanges, StandsIn, AllSta
 use Rattle.lru_lists.specs.Lists.{inactive_of, active_of, entries_without, entry_of, marked, first_entry, entry_after}
 use Rattle.cpu_part.specs.Cpus.{KnownCpu}
 use Rattle.mem_machine.specs.Spots.{spot_at}
-use Rattle.mem_machine.specs.Machines.{KnownMachine, IsConsistent, home_of, lists_at, no_lists}
-use Rattle.mem_machine.specs.Ageing.{OthersStay, AgesGroup, RenewsUnit, entries_in}
+use Rattle.mem_machine.specs.Machines.{KnownMachine, IsConsistent, OthersStay, LooseStay, home_of, lists_at, entries_in, no_lists}
+use Rattle.mem_machine.specs.Ageing.{AgesGroup, RenewsUnit}
 use Rattle.mem_machine.specs.Local.{MakesForAny}
-use Rattle.mem_machine.proofs.Listed.{fits_home, loose_stay, place_here}
+use Rattle.mem_machine.proofs.Listed.{fits_home, loose_stay, others_stay, place_here}
 use Rattle.mem_machine.proofs.KeptUnits.{there, read_owner, read_stands, read_is}
 
 -- ---- the lists as they are read
@@ -28,7 +28,7 @@ use Rattle.mem_machine.proofs.KeptUnits.{there, read_owner, read_stands, read_is
 pub record AreRead (now : KnownMachine) (g : ℕ) (lru : Lru) : Type 0 where
   pub stands : StandsIn now.links lru
   pub owner : lru.owner ≡ g
-  pub are : lists_at now g ≡ lru
+  pub are : lists_at now.lists g ≡ lru
 
 pub lists_read : (t : KnownTable) (w : Words) (m now : KnownMachine) → m ≡ now → IsConsistent t w m → (g i : ℕ) → i < 64 → i ≡ g → (any lru : Lru)
     → lru ≡ get_or m.lists i any → AreRead now g lru
@@ -72,9 +72,11 @@ owner_mapped (Some h) = refl
 pub record GroupChanged (t : KnownTable) (w : Words) (now : KnownMachine) (g : ℕ) (lru new : Lru) (n : KnownMachine) : Type 0 where
   pub consistent : IsConsistent t w n
   pub machine : n ≡ record now { links = n.links; lists = n.lists }
-  pub before : lists_at now g ≡ lru
-  pub after : lists_at n g ≡ new
-  pub others : OthersStay now g n
+  pub before : lists_at now.lists g ≡ lru
+  pub after : lists_at n.lists g ≡ new
+  pub others : OthersStay now.links now.lists g n.links n.lists
+  pub owners : SameOwners now.links n.links
+  pub loose : LooseStay now.links n.links
   pub steps : MakesForAny t now [] n
 
 module _ (t : KnownTable) (w : Words) (m : KnownMachine) (ok : IsConsistent t w m) (g : ℕ) (fits : g < 64) (any lru : Lru) (read : lru ≡ get_or m.lists g any)
@@ -117,17 +119,9 @@ module _ (t : KnownTable) (w : Words) (m : KnownMachine) (ok : IsConsistent t w 
     machine = refl;
     before = read_is t w m ok g fits any lru read;
     after = get_or-set_same m.lists g new no_lists room;
-    others = record {
-      lists = λ h list within ne.
-          let sized = ok.sizes.lists in
-          let inside : h < length m.lists = omega (arith, within, sized) in
-          let apart : (get_or m.lists h no_lists).owner ≢ lru.owner = λ e. ne (sym (ok.lists h no_lists inside).0 ∙ e ∙ own) in
-          let same = (others_stand m.links links lru.owner (get_or m.lists h no_lists) changes apart (ok.lists h no_lists inside).1).1 in
-          let stays : get_or (slice_set m.lists g new) h no_lists ≡ get_or m.lists h no_lists = get_or-set_other m.lists g h new no_lists ne in
-          ap (λ (x : Lru). entries_of links x list) stays ∙ same list;
-      owners = owners;
-      loose = λ f none. loose_stay m.links links lru.owner f changes (mapped f) none;
-    };
+    others = others_stay m.links links m.lists g lru new ok.lists ok.sizes.lists own changes others_stand;
+    owners = owners;
+    loose = λ f none. loose_stay m.links links lru.owner f changes (mapped f) none;
     steps = λ c. refl;
   }
 
@@ -148,6 +142,8 @@ ages_group t w m now same g lru new n changed ages = record {
   machine = changed.machine;
   ages = subst (λ (x : KnownMachine × Lru × Lru). Ages x.0.links x.1 n.links x.2) (λ j. (same j, sym changed.before j, sym changed.after j)) ages;
   others = changed.others;
+  owners = changed.owners;
+  loose = changed.loose;
 }
 
 -- ---- a unit of the group was renewed
@@ -163,4 +159,6 @@ renews_unit t w m now same g f i is lru new n changed inactive active = record {
   active = subst (λ (x : KnownMachine × Lru × Lru). active_of n.links x.2 ≡ active_of x.0.links x.1)
       (λ j. (same j, sym changed.before j, sym changed.after j)) active;
   others = changed.others;
+  owners = changed.owners;
+  loose = changed.loose;
 }

@@ -40,10 +40,11 @@ use Rattle.mem_machine.specs.declared.spot.Spot.TheVariants.{Free, Head}
 use Rattle.mem_machine.specs.Spots.{spot_at, free_of, head_group_of, lent_to, some_cpu}
 use Rattle.mem_machine.specs.Machines.{KnownMachine, FitsSpot, IsConsistent, Visits, BalancesCounts, home_of, is_killed}
 use Rattle.mem_machine.specs.Local.{IsLocalRun, MakesForAny, local_of, phase_of, references_of, side}
-use Rattle.mem_machine.specs.Freeing.{FreesFrames, with_last_put}
+use Rattle.mem_machine.specs.Counts.{with_last_put}
+use Rattle.mem_machine.specs.Freeing.{FreesFrames}
 use Rattle.mem_machine.specs.Releasing.{LeavesList, ReturnsUnit, release_steps}
 use Rattle.mem_machine.specs.Steps.{zone_makes}
-use Rattle.mem_machine.specs.declared.machine.Counts.{Counts}
+use Rattle.mem_machine.specs.declared.counts.Counts.{Counts}
 use Rattle.mem_machine.specs.declared.releasing.Released.TheVariants.{Left, Returned}
 use Rattle.mem_machine.proofs.Reaching.{zone_step}
 use Rattle.mem_machine.proofs.Holds.{zone_may_act}

@@ -1,22 +1,21 @@
 -- A unit is touched. Serves `touch`.
 use Rattle.std.proofs.Common.{◌≡◌, ◌≢◌, ℕ, ◌<◌, Some, List, [], length, get_or, refl, sym, ap, ◌∙◌, subst, arith}
 use Rattle.std.specs.Prelude.{slice_set, option_map}
-use Rattle.std.proofs.lemmas.List.{get_or-set_same, get_or-set_other, length-set}
+use Rattle.std.proofs.lemmas.List.{get_or-set_same, length-set}
 use Rattle.frame_word.specs.Views.{note_of}
 use Rattle.frame_word.specs.Seats.{KnownTable}
 use Rattle.stock_word.specs.Stock.{Words}
 use Rattle.lru_lists.specs.declared.record.Link.{Link}
 use Rattle.lru_lists.specs.declared.record.Home.{Home}
-use Rattle.lru_lists.specs.declared.record.LruList.TheVariants.{Inactive, Active}
 use Rattle.lru_lists.specs.declared.lru.Lru.{Lru}
 use Rattle.lru_lists.specs.declared.lru.Touched.{Touched}
-use Rattle.lru_lists.specs.Lists.{OthersStand, OneOfAllChanges, StandsIn, AllStand, ChangesOwn, Touches, entries_of, list_of}
+use Rattle.lru_lists.specs.Lists.{OthersStand, OneOfAllChanges, StandsIn, AllStand, ChangesOwn, Touches, list_of}
 use Rattle.cpu_part.specs.Cpus.{KnownCpu}
 use Rattle.mem_machine.specs.Spots.{spot_at}
 use Rattle.mem_machine.specs.Machines.{KnownMachine, IsConsistent, home_of, no_lists}
 use Rattle.mem_machine.specs.Marks.{TouchesUnit}
 use Rattle.mem_machine.specs.Local.{local_of, IsLocalRun}
-use Rattle.mem_machine.proofs.Listed.{touched_owners, fits_home, loose_stay}
+use Rattle.mem_machine.proofs.Listed.{touched_owners, fits_home, loose_stay, others_stay}
 use Rattle.mem_machine.proofs.Dirties.{owner_bound, on_list, owned, stands, its_lists}
 
 module _ (t : KnownTable) (w : Words) (m : KnownMachine) (ok : IsConsistent t w m) (f : ℕ) (inside : f < t.frames) (h : Home)
@@ -67,13 +66,7 @@ module _ (t : KnownTable) (w : Words) (m : KnownMachine) (ok : IsConsistent t w 
     machine = refl;
     touches = subst (λ (x : Lru × Lru). Touches m.links x.0 f touched links x.1)
         (λ i. (sym (its_lists t w m ok f inside h home lru read) i, sym (get_or-set_same m.lists h.owner new no_lists bound) i)) touches;
-    others = λ g within ne.
-        let sized = ok.sizes.lists in
-        let there : g < length m.lists = omega (arith, within, sized) in
-        let apart : (get_or m.lists g no_lists).owner ≢ lru.owner = λ e. ne (sym (ok.lists g no_lists there).0 ∙ e ∙ own) in
-        let same = (others_stand m.links links lru.owner (get_or m.lists g no_lists) changes apart (ok.lists g no_lists there).1).1 in
-        let stays : get_or (slice_set m.lists h.owner new) g no_lists ≡ get_or m.lists g no_lists = get_or-set_other m.lists h.owner g new no_lists ne in
-        (ap (λ (x : Lru). entries_of links x Inactive) stays ∙ same Inactive, ap (λ (x : Lru). entries_of links x Active) stays ∙ same Active);
+    others = others_stay m.links links m.lists h.owner lru new ok.lists ok.sizes.lists own changes others_stand;
     loose = λ g none. loose_stay m.links links lru.owner g changes (owners g) none;
   }
 

@@ -1,5 +1,5 @@
 -- Blocks that are charged to a group and taken, and units that come onto its lists.
-use Rattle.std.specs.Prelude.{◌≡◌, ◌≢◌, ℕ, ◌^◌, ◌<◌, ◌==◌, false, Some, None, Result, Ok, Err, List, [], ◌∷◌, ◌++◌, length, if◌then◌else◌}
+use Rattle.std.specs.Prelude.{◌≡◌, ◌≢◌, ℕ, ◌^◌, ◌==◌, false, Some, None, Result, Ok, Err, List, [], ◌∷◌, ◌++◌, length, if◌then◌else◌}
 use Rattle.zone_blocks.specs.declared.block.Block.{Block}
 use Rattle.zone_blocks.specs.Areas.{AreMaximalBlocks, HasNoneFrom, IsFrontOfSmallest}
 use Rattle.frame_word.specs.Views.{unfrozen}
@@ -16,7 +16,7 @@ use Rattle.mem_machine.specs.declared.spot.Spot.TheVariants.{Head, Tail}
 use Rattle.mem_machine.specs.declared.blocks.TakeFault.{TakeFault}
 use Rattle.mem_machine.specs.declared.blocks.TakeFault.TheVariants as fault
 use Rattle.mem_machine.specs.Spots.{spot_at, free_of}
-use Rattle.mem_machine.specs.Machines.{KnownMachine, home_of, inactive_in, active_in}
+use Rattle.mem_machine.specs.Machines.{KnownMachine, OthersStay, home_of, inactive_in, active_in}
 use Rattle.mem_machine.specs.Steps.{zone_makes}
 
 -- the record of a frame once the block is a unit of the group: the first frame heads it, and the rest are tails
@@ -29,14 +29,14 @@ pub record PlacesUnit (before : List Spot) (group : ℕ) (block : Block) (after 
   pub frames : length after ≡ length before
   pub records : (f : ℕ) → spot_at after f ≡ placed_spot before group block f
 
--- the unit comes to the newest end of its group's inactive list, clean and unmarked; every other frame and every other list is
--- as it was, and each other frame on no list has the record that it had
+-- the unit comes to the newest end of its group's inactive list, clean and unmarked; every other frame and the lists of all other
+-- groups are as they were, and each other frame on no list has the record that it had
 pub record ListsUnit (before : KnownMachine) (group frame : ℕ) (after : KnownMachine) : Type 0 where
   pub stands : home_of after.links frame ≡ Some (record { owner = group; list = Inactive })
   pub homes : (x : ℕ) → x ≢ frame → home_of after.links x ≡ home_of before.links x
   pub inactive : inactive_in after group ≡ inactive_in before group ++ record { number = frame; is_marked = false; is_dirty = false } ∷ []
   pub active : active_in after group ≡ active_in before group
-  pub others : (h : ℕ) → h < 64 → h ≢ group → (inactive_in after h ≡ inactive_in before h) × (active_in after h ≡ active_in before h)
+  pub others : OthersStay before.links before.lists group after.links after.lists
   pub loose : (x : ℕ) → x ≢ frame → home_of before.links x ≡ None → link_at after.links x ≡ link_at before.links x
 
 -- The group is charged for a block of this order, and has it: the front of the free block of the least sufficient order that

@@ -3,23 +3,18 @@ use Rattle.std.specs.Prelude.{◌≡◌, ◌≢◌, ℕ, ◌^◌, Option, Some, 
 use Rattle.zone_blocks.specs.Areas.{AreMaximalBlocks}
 use Rattle.frame_word.specs.Views.{frozen, missed}
 use Rattle.frame_word.specs.Seats.{seat_with}
-use Rattle.group_tree.specs.Room.{one_more}
 use Rattle.group_charge.specs.Charges.{UsageRises, with_uncharge}
 use Rattle.step_rules.specs.declared.phase.ChargedUnit.{ChargedUnit}
 use Rattle.step_rules.specs.declared.step.Action.TheVariants.{Freeze, Return}
 use Rattle.step_rules.specs.declared.step.Answer.TheVariants.{Done, Missed}
 use Rattle.step_rules.specs.After.{Run}
-use Rattle.mem_machine.specs.declared.machine.Counts.{Counts}
 use Rattle.mem_machine.specs.declared.spot.Spot.TheVariants.{Head}
 use Rattle.mem_machine.specs.Spots.{spot_at, free_of}
 use Rattle.mem_machine.specs.Machines.{KnownMachine}
+use Rattle.mem_machine.specs.Counts.{with_freeze}
 use Rattle.mem_machine.specs.Freeing.{FreesFrames}
 use Rattle.mem_machine.specs.Releasing.{LeavesList}
 use Rattle.mem_machine.specs.Steps.{zone_makes}
-
--- one more unit that was frozen, and which came back
-abbrev pub with_freeze : Counts → Counts
-with_freeze counts = record counts { freezes = one_more counts.freezes; returns = one_more counts.returns }
 
 -- someone else has a reference: the zone's seat noted one miss more on the frame, and nothing else changed
 pub record MissesUnit (before : KnownMachine) (frame : ℕ) (after : KnownMachine) : Type 0 where

@@ -1,8 +1,6 @@
 -- Units that come back.
 use Rattle.std.specs.Prelude.{◌≡◌, ℕ, List, length, if◌then◌else◌}
-use Rattle.group_tree.specs.Room.{one_more}
 use Rattle.step_rules.specs.After.{is_within}
-use Rattle.mem_machine.specs.declared.machine.Counts.{Counts}
 use Rattle.mem_machine.specs.declared.spot.Spot.{Spot}
 use Rattle.mem_machine.specs.declared.spot.Spot.TheVariants.{Free}
 use Rattle.mem_machine.specs.Spots.{spot_at}
@@ -11,11 +9,3 @@ use Rattle.mem_machine.specs.Spots.{spot_at}
 pub record FreesFrames (before : List Spot) (at count : ℕ) (after : List Spot) : Type 0 where
   pub frames : length after ≡ length before
   pub records : (f : ℕ) → spot_at after f ≡ (if is_within at count f then Free else spot_at before f)
-
--- one more unit of which someone had the last put, and which came back
-abbrev pub with_last_put : Counts → Counts
-with_last_put counts = record counts { last_puts = one_more counts.last_puts; returns = one_more counts.returns }
-
--- one more fresh frame that was dropped, and came back
-abbrev pub with_drop : Counts → Counts
-with_drop counts = record counts { drops = one_more counts.drops; returns = one_more counts.returns }

@@ -1,4 +1,5 @@
 pub mod Spots
+pub mod Counts
 pub mod Machines
 pub mod Local
 pub mod Start
@@ -9,9 +10,9 @@ pub mod Marks
 pub mod Ageing
 pub mod Freeing
 pub mod Blocks
-pub mod Ending
 pub mod Interleaving
 pub mod Releasing
 pub mod Evicting
 pub mod Settling
 pub mod Paying
+pub mod Places

@@ -1,5 +1,5 @@
 -- What a contract sees of the machine, and what always holds of it.
-use Rattle.std.specs.Prelude.{◌≡◌, ℕ, ◌+◌, ◌<◌, ◌≤◌, ◌==◌, Bool, false, Option, Some, None, is_some, IfSome, List, length, replicate, slice_set, min, if◌then◌else◌}
+use Rattle.std.specs.Prelude.{◌≡◌, ◌≢◌, ℕ, ◌+◌, ◌<◌, ◌≤◌, ◌==◌, Bool, false, Option, Some, None, is_some, IfSome, List, length, replicate, slice_set, if◌then◌else◌}
 use Rattle.std.specs.List.{slice_index_or}
 use Rattle.zone_blocks.specs.declared.block.Block.{Block}
 use Rattle.zone_blocks.specs.Areas.{AreMaximalBlocks}
@@ -10,19 +10,23 @@ use Rattle.stock_word.specs.declared.view.Account.{Account}
 use Rattle.stock_word.specs.Stock.{Words, Seated, IsMachine, account_of, first_machine}
 use Rattle.group_charge.specs.Charges.{Ledger, pages_of, initial_ledger, with_new_group}
 use Rattle.group_tree.specs.Groups.{IsLeastFreeNumber}
-use Rattle.group_tree.specs.Room.{max_count}
 use Rattle.lru_lists.specs.declared.record.Link.{Link}
 use Rattle.lru_lists.specs.declared.record.Home.{Home}
 use Rattle.lru_lists.specs.declared.record.Entry.{Entry}
+use Rattle.lru_lists.specs.declared.record.LruList.{LruList}
+use Rattle.lru_lists.specs.declared.record.LruList.TheVariants.{Inactive, Active}
 use Rattle.lru_lists.specs.declared.lru.Lru.{Lru}
 use Rattle.lru_lists.specs.declared.queue.Queue.{Queue}
 use Rattle.lru_lists.specs.Queue.{link_at, AreNowhere}
-use Rattle.lru_lists.specs.Lists.{AllStand, inactive_of, active_of}
+use Rattle.lru_lists.specs.Lists.{AllStand, entries_of}
 use Rattle.step_rules.specs.State.{sum_to, one_if}
 use Rattle.cpu_part.specs.Cpus.{KnownCpu}
 use Rattle.mem_machine.specs.declared.spot.Spot.{Spot}
 use Rattle.mem_machine.specs.declared.spot.Spot.TheVariants.{Free}
-use Rattle.mem_machine.specs.declared.machine.Counts.{Counts}
+use Rattle.mem_machine.specs.declared.counts.Counts.{Counts}
+-- each unit that came back was put last, frozen or dropped
+pub use Rattle.mem_machine.specs.Counts.{BalancesCounts}
+use Rattle.mem_machine.specs.Counts.{no_counts}
 use Rattle.mem_machine.specs.Spots.{spot_at, free_of, is_in_hand, some_cpu, lent_to, group_of, head_group_of, count_of, AreUnits}
 
 -- The machine: the free areas, a record for each frame, the groups and their charges, the records through which the units'
@@ -39,14 +43,6 @@ pub record KnownMachine : Type 0 where
   pub killed : List Bool
   pub counts : Counts
 
--- nothing ended and nothing came back
-abbrev pub no_counts : Counts
-no_counts = record { last_puts = 0; freezes = 0; drops = 0; returns = 0 }
-
--- each unit that came back was put last, frozen or dropped, as far as the counts go, which stay at their greatest
-abbrev pub BalancesCounts : Counts → Type 0
-BalancesCounts counts = counts.returns ≡ min (counts.last_puts + counts.freezes + counts.drops) max_count
-
 -- an empty list
 abbrev pub no_queue : Queue
 no_queue = record { oldest = None; newest = None; length = 0 }
@@ -56,20 +52,33 @@ abbrev pub no_lists : Lru
 no_lists = record { owner = 64; inactive = no_queue; active = no_queue }
 
 -- the two lists of the group of this number
-abbrev pub lists_at : KnownMachine → ℕ → Lru
-lists_at m g = slice_index_or m.lists g no_lists
+abbrev pub lists_at : List Lru → ℕ → Lru
+lists_at lists g = slice_index_or lists g no_lists
+
+-- the units of one of the group's lists, from the oldest to the newest
+abbrev pub entries_in : KnownMachine → ℕ → LruList → List Entry
+entries_in m g list = entries_of m.links (lists_at m.lists g) list
 
 -- the inactive units of the group, from the oldest to the newest
 abbrev pub inactive_in : KnownMachine → ℕ → List Entry
-inactive_in m g = inactive_of m.links (lists_at m g)
+inactive_in m g = entries_in m g Inactive
 
 -- the active units of the group, from the oldest to the newest
 abbrev pub active_in : KnownMachine → ℕ → List Entry
-active_in m g = active_of m.links (lists_at m g)
+active_in m g = entries_in m g Active
 
 -- the list that the frame stands on, if it heads a kept unit
 abbrev pub home_of : List Link → ℕ → Option Home
 home_of links f = (link_at links f).home
+
+-- the lists of all groups but this one stand as they stood: the same units in the same order, with their marks and dirt
+abbrev pub OthersStay : List Link → List Lru → ℕ → List Link → List Lru → Type 0
+OthersStay before old group after new = (g : ℕ) (list : LruList) → g < 64 → g ≢ group
+    → entries_of after (lists_at new g) list ≡ entries_of before (lists_at old g) list
+
+-- each frame on no list has the record that it had, mark and dirt included
+abbrev pub LooseStay : List Link → List Link → Type 0
+LooseStay before after = (f : ℕ) → home_of before f ≡ None → link_at after f ≡ link_at before f
 
 -- the group of this number is killed
 abbrev pub is_killed : List Bool → ℕ → Bool

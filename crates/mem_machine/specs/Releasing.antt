@@ -1,5 +1,5 @@
 -- Kept units that are released: off their list, and back where nobody else has a reference.
-use Rattle.std.specs.Prelude.{◌≡◌, ◌≢◌, ℕ, ◌^◌, ◌<◌, ◌≤◌, Some, None, List, [], ◌∷◌, slice_index_or}
+use Rattle.std.specs.Prelude.{◌≡◌, ◌≢◌, ℕ, ◌^◌, ◌≤◌, Some, List, [], ◌∷◌}
 use Rattle.zone_blocks.specs.Areas.{AreMaximalBlocks}
 use Rattle.frame_word.specs.Views.{let_go, let_go_last}
 use Rattle.frame_word.specs.Seats.{seat_with}
@@ -17,13 +17,10 @@ use Rattle.mem_machine.specs.declared.spot.Spot.TheVariants.{Head}
 use Rattle.mem_machine.specs.declared.releasing.Released.{Released}
 use Rattle.mem_machine.specs.declared.releasing.Released.TheVariants.{Left, Returned}
 use Rattle.mem_machine.specs.Spots.{spot_at, free_of}
-use Rattle.mem_machine.specs.Machines.{KnownMachine, home_of, no_lists}
-use Rattle.mem_machine.specs.Freeing.{FreesFrames, with_last_put}
+use Rattle.mem_machine.specs.Machines.{KnownMachine, OthersStay, LooseStay, home_of, lists_at}
+use Rattle.mem_machine.specs.Counts.{with_last_put}
+use Rattle.mem_machine.specs.Freeing.{FreesFrames}
 use Rattle.mem_machine.specs.Steps.{zone_makes}
-
--- the two lists of the group of this number
-abbrev pub lists_in : List Lru → ℕ → Lru
-lists_in lists g = slice_index_or lists g no_lists
 
 -- the unit is off the list that it stood on, of the group of this number; every other unit stands on the list that it
 -- stood on, at its place there, marked and dirty as it was, and each frame on no list has the record that it had
@@ -32,13 +29,12 @@ pub record LeavesList (before : List Link) (old : List Lru) (frame : ℕ) (after
   pub list : LruList
   pub stands : home_of before frame ≡ Some (record { owner = group; list = list })
   pub forgotten : link_at after frame ≡ nowhere
-  pub homes : (g : ℕ) → g ≢ frame → home_of after g ≡ home_of before g
-  pub loose : (g : ℕ) → home_of before g ≡ None → link_at after g ≡ link_at before g
+  pub homes : (f : ℕ) → f ≢ frame → home_of after f ≡ home_of before f
+  pub loose : LooseStay before after
   pub used : SameUse before after frame
-  pub inactive : inactive_of after (lists_in new group) ≡ entries_without frame (inactive_of before (lists_in old group))
-  pub active : active_of after (lists_in new group) ≡ entries_without frame (active_of before (lists_in old group))
-  pub others : (g : ℕ) → g < 64 → g ≢ group
-      → (inactive_of after (lists_in new g) ≡ inactive_of before (lists_in old g)) × (active_of after (lists_in new g) ≡ active_of before (lists_in old g))
+  pub inactive : inactive_of after (lists_at new group) ≡ entries_without frame (inactive_of before (lists_at old group))
+  pub active : active_of after (lists_at new group) ≡ entries_without frame (active_of before (lists_at old group))
+  pub others : OthersStay before old group after new
 
 -- the unit is off its list, and so many references of processors are left; nothing else changed
 pub record LeavesReferences (before : KnownMachine) (frame left : ℕ) (after : KnownMachine) : Type 0 where

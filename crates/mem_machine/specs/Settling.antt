@@ -19,7 +19,8 @@ use Rattle.mem_machine.specs.Machines.{Side, is_killed}
 use Rattle.mem_machine.specs.Local.{fresh_group}
 use Rattle.mem_machine.specs.Steps.{zone_makes, cpu_makes}
 use Rattle.mem_machine.specs.Blocks.{ListsUnit}
-use Rattle.mem_machine.specs.Freeing.{FreesFrames, with_drop, with_last_put}
+use Rattle.mem_machine.specs.Counts.{with_drop, with_last_put}
+use Rattle.mem_machine.specs.Freeing.{FreesFrames}
 
 -- the stocks after a page of processor p was reported and absorbed
 abbrev pub with_page_absorbed : Seated → ℕ → Seated

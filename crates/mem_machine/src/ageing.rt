@@ -43,18 +43,18 @@ impl<N: BootName> Machine<N> {
     }
 
     /// Moves an inactive unit of a group to the newest end of the group's inactive list, unmarked. The unit goes by its head.
-    pub fn renew(&mut self, group: GroupId, frame: Frame)
-        requires frame { frame < N.frames.frames }
-        requires stands { home_of self.old.links frame ≡ Some (record { owner = group; list = Inactive }) }
-        ensures renews { RenewsUnit self.old group frame self.new }
+    pub fn renew(&mut self, group: GroupId, head: Frame)
+        requires frame { head < N.frames.frames }
+        requires stands { home_of self.old.links head ≡ Some (record { owner = group; list = Inactive }) }
+        ensures renews { RenewsUnit self.old group head self.new }
         ensures steps { MakesForAny N.frames self.old [] self.new }
     {
-        let unit = frame.number();
+        let at = head.number();
         let owner = group.number() as usize;
         laws::others_stand();
         laws::one_of_all_changes();
         let mut lists = self.lists[owner];
-        lists.renew(&mut self.links, unit);
+        lists.renew(&mut self.links, at);
         self.lists[owner] = lists;
     }
 
@@ -74,12 +74,12 @@ impl<N: BootName> Machine<N> {
 
     /// The unit just after this one on the list of a group on which it stands; None exactly where this is the newest. A walk over
     /// a list is `oldest`, and then this from each unit to the next.
-    pub fn newer(&self, group: GroupId, list: LruList, unit: Frame) -> Option<Entry>
-        requires frame { unit < N.frames.frames }
-        requires stands { home_of self.now.links unit ≡ Some (record { owner = group; list = list }) }
-        ensures { result ≡ entry_after unit (entries_in self.now group list) }
+    pub fn newer(&self, group: GroupId, list: LruList, head: Frame) -> Option<Entry>
+        requires frame { head < N.frames.frames }
+        requires stands { home_of self.now.links head ≡ Some (record { owner = group; list = list }) }
+        ensures { result ≡ entry_after head (entries_in self.now group list) }
     {
-        self.lists[group.number() as usize].newer(&self.links, unit.number())
+        self.lists[group.number() as usize].newer(&self.links, head.number())
     }
 
     /// How many frames are charged to the group itself, those of units that aren't kept any more counted. It walks over all frames.

@@ -3,49 +3,38 @@
 ghost use Rattle.std.specs.Prelude.{◌≡◌, ◌≢◌, ◌<◌, None};
 ghost use Rattle.cpu_part.specs.Cpus.{KnownCpu};
 ghost use Rattle.mem_machine.specs.Machines.{home_of, Visits};
-ghost use Rattle.mem_machine.specs.Evicting.{Evicts, with_freeze, evict_steps};
+ghost use Rattle.mem_machine.specs.Evicting.{Evicts, evict_steps};
 ghost use Rattle.mem_machine.specs.Local.{MakesForAny, side};
 
 use crate::freed::free_unit;
-use crate::machine::{Counts, Machine};
+use crate::machine::Machine;
 use crate::releasing::leave_list;
 use crate::spot::Spot;
 use cpu_part::{BootName, Tables};
 use frame_word::Frame;
 
-// Counts a freeze, and a unit that came back.
-fn counted_freeze(counts: Counts) -> Counts
-    ensures { result ≡ with_freeze counts }
-{
-    Counts {
-        freezes: counts.freezes.saturating_add(1),
-        returns: counts.returns.saturating_add(1),
-        ..counts
-    }
-}
-
 impl<N: BootName> Machine<N> {
     /// Tries to take a kept unit out of use. Where the zone's reference is the only one, no one can get the unit any more: it
     /// comes back, and the answer is its pages. Else the answer is None, a miss: the unit stays kept. The unit goes by its
     /// head, which stands on a list of its group.
-    pub fn evict(&mut self, tables: &Tables<N>, frame: Frame) -> Option<u32>
-        requires frame { frame < N.frames.frames }
-        requires kept { home_of self.old.links frame ≢ None }
-        ensures evicts { Evicts self.old frame result self.new }
+    pub fn evict(&mut self, tables: &Tables<N>, head: Frame) -> Option<u32>
+        requires frame { head < N.frames.frames }
+        requires kept { home_of self.old.links head ≢ None }
+        ensures evicts { Evicts self.old head result self.new }
         ensures visit { (cpu : KnownCpu) → Visits N.frames (side self.old cpu) → Visits N.frames (side self.new cpu) }
-        ensures steps { MakesForAny N.frames self.old (evict_steps frame result) self.new }
+        ensures steps { MakesForAny N.frames self.old (evict_steps head result) self.new }
     {
-        if !tables.frames.freeze(&mut self.seat, frame, 1) {
+        if !tables.frames.freeze(&mut self.seat, head, 1) {
             return None;
         }
-        let at = frame.number();
+        let at = head.number();
         let Spot::Head(unit) = self.spots[at as usize] else {
             unreachable!()
         };
         let order = unit.order;
         leave_list(&mut self.links, &mut self.lists, at);
         free_unit(&mut self.zone, &mut self.spots, &mut self.charges, at, unit);
-        self.counts = counted_freeze(self.counts);
+        self.counts = self.counts.with_freeze();
         Some(order.frames())
     }
 }

@@ -7,7 +7,7 @@
 
 mod ageing;
 mod blocks;
-mod ending;
+mod counts;
 mod evicting;
 mod freed;
 mod groups;
@@ -16,6 +16,7 @@ mod lending;
 mod machine;
 mod marks;
 mod paying;
+mod places;
 mod readers;
 mod releasing;
 mod settling;
@@ -25,7 +26,8 @@ mod stocks;
 mod visits;
 
 pub use blocks::TakeFault;
-pub use ending::Places;
-pub use machine::{Counts, Machine};
+pub use counts::Counts;
+pub use machine::Machine;
+pub use places::Places;
 pub use releasing::Released;
 pub use spot::{Place, Spot};

@@ -1,11 +1,12 @@
-//! The machine, and how it is made.
+//! The machine: what it holds, how it is made, and how it is taken apart.
 
 ghost use Rattle.std.specs.Prelude.{◌≡◌, IfOk};
 ghost use Rattle.frame_word.specs.Seats.{first_zone_view};
 ghost use Rattle.stock_word.specs.Stock.{first_machine};
-ghost use Rattle.mem_machine.specs.Freeing.{with_drop, with_last_put};
-ghost use Rattle.mem_machine.specs.Machines.{IsFirst};
+ghost use Rattle.stock_word.specs.Calls.{uncounted};
+ghost use Rattle.mem_machine.specs.Machines.{IsConsistent, IsFirst};
 
+use crate::counts::Counts;
 use crate::spot::Spot;
 use crate::start::{empty_lists, free_spots, no_marks};
 use cpu_part::{BootName, Tables};
@@ -18,55 +19,31 @@ use std::marker::{Model, PhantomData};
 use stock_word::StockSeat;
 use zone_buddy::buddy::Buddy;
 
-/// How often units ended and came back. A count stays at 2^64 - 1.
-#[derive(Clone, Copy, Debug, PartialEq, Eq)]
-pub struct Counts {
-    /// The last puts: of the zone itself, and of processors as they were settled.
-    pub last_puts: u64,
-    /// The freezes that took a unit out of use.
-    pub freezes: u64,
-    /// The fresh frames of killed groups that came back.
-    pub drops: u64,
-    /// The units that came back.
-    pub returns: u64,
-}
-
-impl Counts {
-    // One more unit of which someone had the last put, and which came back.
-    pub(crate) fn with_last_put(self) -> Counts
-        ensures { result ≡ with_last_put self }
-    {
-        Counts {
-            last_puts: self.last_puts.saturating_add(1),
-            returns: self.returns.saturating_add(1),
-            ..self
-        }
-    }
-
-    // One more fresh frame that was dropped, and came back.
-    pub(crate) fn with_drop(self) -> Counts
-        ensures { result ≡ with_drop self }
-    {
-        Counts {
-            drops: self.drops.saturating_add(1),
-            returns: self.returns.saturating_add(1),
-            ..self
-        }
-    }
-}
-
-/// What stands behind the zone's lock. A contract doesn't see how many steps its seat at the stocks made.
+/// What stands behind the zone's lock. What always holds of its parts together is `IsConsistent`. A contract doesn't see how
+/// many steps its seat at the stocks made.
 #[derive(Drop)]
 pub struct Machine<N: BootName> {
+    // The free areas: the maximal blocks of the frames whose record is Free.
     pub(crate) zone: Buddy,
+    // A record for each frame, by its number.
     pub(crate) spots: Vec<Spot>,
+    // The groups, and for each the pages charged to it: its frames, and the books of the stocks that are of it.
     pub(crate) charges: Charges,
+    // A link for each frame, by its number. The heads of kept units are linked into their groups' lists, no other frame is.
     pub(crate) links: Links,
+    // The ends and lengths of the two lists of each of the 64 group numbers, by the number.
     pub(crate) lists: Vec<Lru>,
+    // The zone's seat at the frames' table: which frames are in its hand, to whom it lent which, and its references, one on
+    // the head of each kept unit.
     pub(crate) seat: FrameSeat,
+    // The zone's seat at the stocks' table: of each processor's stock its group and its book, 0 to 65,535 pages. Between two
+    // calls nothing that a processor reported is unabsorbed.
     pub(crate) stock: StockSeat,
+    // Whether each of the 64 group numbers is killed, by the number.
     pub(crate) killed: Vec<bool>,
+    // How often units ended and came back, since the boot.
     pub(crate) counts: Counts,
+    // The boot whose tables these are.
     pub(crate) of: PhantomData<N>,
 }
 
@@ -135,5 +112,25 @@ impl<N: BootName> Machine<N> {
             },
             of: PhantomData,
         })
+    }
+
+    /// Takes the machine apart, for the end of the two tables: the zone's seats at the frames' table and at the stocks'.
+    pub fn into_seats(self) -> (FrameSeat, StockSeat)
+        ensures seats { (result.0 ≡ self.seat) × (uncounted result.1 ≡ self.stock) }
+        ensures consistent { IsConsistent N.frames N.stocks self }
+    {
+        let Machine {
+            zone: _,
+            spots: _,
+            charges: _,
+            links: _,
+            lists: _,
+            seat,
+            stock,
+            killed: _,
+            counts: _,
+            of: _,
+        } = self;
+        (seat, stock)
     }
 }

@@ -14,38 +14,38 @@ use lru_lists::lru::Touched;
 impl<N: BootName> Machine<N> {
     /// Notes that a kept unit was used: an inactive unit that isn't marked is marked; each other moves to the newest end of
     /// the active list of its group, unmarked. The unit goes by its head, which stands on a list of its group.
-    pub fn touch(&mut self, frame: Frame) -> Touched
-        requires frame { frame < N.frames.frames }
-        requires kept { home_of self.old.links frame ≢ None }
-        ensures touches { TouchesUnit self.old frame result self.new }
+    pub fn touch(&mut self, head: Frame) -> Touched
+        requires frame { head < N.frames.frames }
+        requires kept { home_of self.old.links head ≢ None }
+        ensures touches { TouchesUnit self.old head result self.new }
         ensures steps { MakesForAny N.frames self.old [] self.new }
     {
-        let unit = frame.number();
-        let Some(home) = self.links.home(unit) else {
+        let at = head.number();
+        let Some(home) = self.links.home(at) else {
             unreachable!()
         };
         laws::others_stand();
         laws::one_of_all_changes();
         let mut lists = self.lists[home.owner as usize];
-        let touched = lists.touch(&mut self.links, unit);
+        let touched = lists.touch(&mut self.links, at);
         self.lists[home.owner as usize] = lists;
         touched
     }
 
     /// Notes whether the pages of a kept unit are dirty. The unit goes by its head, which stands on a list of its group.
-    pub fn set_dirty(&mut self, frame: Frame, is_dirty: bool)
-        requires frame { frame < N.frames.frames }
-        requires kept { home_of self.old.links frame ≢ None }
-        ensures dirties { Dirties self.old frame is_dirty self.new }
+    pub fn set_dirty(&mut self, head: Frame, is_dirty: bool)
+        requires frame { head < N.frames.frames }
+        requires kept { home_of self.old.links head ≢ None }
+        ensures dirties { Dirties self.old head is_dirty self.new }
         ensures steps { MakesForAny N.frames self.old [] self.new }
     {
-        let unit = frame.number();
-        let Some(home) = self.links.home(unit) else {
+        let at = head.number();
+        let Some(home) = self.links.home(at) else {
             unreachable!()
         };
         let lists = self.lists[home.owner as usize];
         laws::others_stand();
         laws::one_of_all_changes();
-        lists.set_dirty(&mut self.links, unit, is_dirty);
+        lists.set_dirty(&mut self.links, at, is_dirty);
     }
 }

@@ -7,7 +7,8 @@ ghost use Rattle.zone_blocks.specs.Areas.{AreMaximalBlocks};
 ghost use Rattle.mem_machine.specs.Spots.{spot_at, free_of, place_of, unit_of};
 ghost use Rattle.mem_machine.specs.Machines.{IsConsistent, home_of, is_killed};
 
-use crate::machine::{Counts, Machine};
+use crate::counts::Counts;
+use crate::machine::Machine;
 use crate::spot::{Place, Spot};
 use cpu_part::BootName;
 use frame_word::Frame;

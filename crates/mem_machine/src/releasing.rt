@@ -26,41 +26,41 @@ pub enum Released {
 }
 
 /// Takes a kept unit off its list. The unit goes by its head.
-pub(crate) fn leave_list(links: &mut Links, lists: &mut Vec<Lru>, unit: u32)
-    requires frame { unit < length links.old }
-    requires kept { home_of links.old unit ≢ None }
-    requires owner { IfSome (home_of links.old unit) (λ h. h.owner < 64) }
+pub(crate) fn leave_list(links: &mut Links, lists: &mut Vec<Lru>, head: u32)
+    requires frame { head < length links.old }
+    requires kept { home_of links.old head ≢ None }
+    requires owner { IfSome (home_of links.old head) (λ h. h.owner < 64) }
     requires groups { length lists.old.items ≡ 64 }
     requires stand { AllStand links.old lists.old.items }
-    ensures leaves { LeavesList links.old lists.old.items unit links.new lists.new.items }
+    ensures leaves { LeavesList links.old lists.old.items head links.new lists.new.items }
     ensures stand { AllStand links.new lists.new.items }
     ensures frames { length links.new ≡ length links.old }
     ensures groups { length lists.new.items ≡ 64 }
 {
-    let Some(home) = links.home(unit) else {
+    let Some(home) = links.home(head) else {
         unreachable!()
     };
     laws::others_stand();
     laws::one_of_all_changes();
     let mut own = lists[home.owner as usize];
-    own.take_off(links, unit);
+    own.take_off(links, head);
     lists[home.owner as usize] = own;
 }
 
 impl<N: BootName> Machine<N> {
     /// Takes a kept unit off its list, and gives up the zone's reference on it. Where that was the last one, the unit comes
     /// back. The unit goes by its head, which stands on a list of its group.
-    pub fn release(&mut self, tables: &Tables<N>, cpu: &Cpu<N>, frame: Frame) -> Released
+    pub fn release(&mut self, tables: &Tables<N>, cpu: &Cpu<N>, head: Frame) -> Released
         requires visit { Visits N.frames (side self.old cpu.now) }
-        requires frame { frame < N.frames.frames }
-        requires kept { home_of self.old.links frame ≢ None }
-        ensures releases { Releases self.old frame result self.new }
+        requires frame { head < N.frames.frames }
+        requires kept { home_of self.old.links head ≢ None }
+        ensures releases { Releases self.old head result self.new }
         ensures visit { Visits N.frames (side self.new cpu.now) }
-        ensures steps { Makes N.frames (side self.old cpu.now) (release_steps frame result) (side self.new cpu.now) }
+        ensures steps { Makes N.frames (side self.old cpu.now) (release_steps head result) (side self.new cpu.now) }
     {
-        let at = frame.number();
+        let at = head.number();
         leave_list(&mut self.links, &mut self.lists, at);
-        match tables.frames.put(&mut self.seat, frame) {
+        match tables.frames.put(&mut self.seat, head) {
             Put::Left(left) => Released::Left(left),
             Put::Last => {
                 let Spot::Head(unit) = self.spots[at as usize] else {

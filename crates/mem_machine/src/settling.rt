@@ -68,14 +68,14 @@ impl<N: BootName> Machine<N> {
         let _number = cpu.number(); // For the clauses.
         let frame = collect_fresh(tables, cpu, &mut self.seat, &mut self.stock);
         tables.frames.unfreeze(&mut self.seat, frame, 1);
-        let unit = frame.number();
+        let at = frame.number();
         let order = Order::of(0).unwrap();
-        self.spots[unit as usize] = Spot::Head(ChargedUnit { group, order });
+        self.spots[at as usize] = Spot::Head(ChargedUnit { group, order });
         laws::others_stand();
         laws::one_of_all_changes();
         let owner = group.number() as usize;
         let mut lists = self.lists[owner];
-        lists.add(&mut self.links, unit);
+        lists.add(&mut self.links, at);
         self.lists[owner] = lists;
         frame
     }

@@ -93,8 +93,8 @@ listed_is t w m ok g fits list =
     let there : g < length m.lists = omega (arith, fits, sized) in
     let stand = ok.lists g no_lists there in
     let linked = stand.1 list in
-    let units : List ℕ = units_of m.links (queue_of (lists_at m g) list) in
-    let home : Some (record { owner = (lists_at m g).owner; list = list }) ≡ Some (record { owner = g; list = list }) =
+    let units : List ℕ = units_of m.links (queue_of (lists_at m.lists g) list) in
+    let home : Some (record { owner = (lists_at m.lists g).owner; list = list }) ≡ Some (record { owner = g; list = list }) =
     λ i. Some (record { owner = stand.0 i; list = list }) in
     record {
       apart = map_apart m.links units linked.apart;

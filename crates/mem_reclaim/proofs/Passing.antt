@@ -40,7 +40,7 @@ aged_leads t m aged n g want given ages runs scans =
     }
 
 pub aged_keeps : (t : KnownTable) (m aged : KnownMachine) (g : ℕ) → AgesGroup m g aged → Keeps t m aged
-aged_keeps t m aged g ages = keeps_owners t m aged ages.machine ages.others.owners
+aged_keeps t m aged g ages = keeps_owners t m aged ages.machine ages.owners
 
 -- usage falls by both parts
 pub usage_both : (t : KnownTable) (a b c : KnownMachine) (g x some more : ℕ) → Keeps t a b

@@ -19,7 +19,7 @@ use Rattle.stock_word.specs.Stock.{Words, Seated, AreOf, account_of, view_in, pa
 use Rattle.cpu_part.specs.Cpus.{KnownCpu, IsIdle, times}
 use Rattle.step_rules.specs.State.{one_if}
 use Rattle.mem_machine.specs.Machines.{KnownMachine, IsConsistent, home_of}
-use Rattle.mem_machine.specs.Ending.{NoneLentTo}
+use Rattle.mem_machine.specs.Places.{NoneLentTo}
 use Rattle.mem_machine.proofs.NoneLent.{lent_noted, each_is_placed}
 use Rattle.mem_system.specs.declared.audit.Audit.{Audit}
 use Rattle.mem_system.specs.Boots.{KnownLocked, IsQuiet, AllShut}

@@ -13,7 +13,7 @@ use Rattle.mem_machine.specs.Settling.{Settles, settle_steps}
 use Rattle.mem_machine.specs.Lending.{TakesManyBack}
 use Rattle.mem_machine.specs.Stocks.{Drains, stock_group}
 use Rattle.mem_machine.specs.Steps.{open_steps, shut_steps, drain_list_steps, drain_steps}
-use Rattle.mem_machine.specs.Ending.{frames_free, frames_in_groups, NoneLentTo}
+use Rattle.mem_machine.specs.Places.{frames_free, frames_in_groups, NoneLentTo}
 use Rattle.mem_system.specs.declared.audit.Audit.{Audit}
 use Rattle.mem_system.specs.Boots.{KnownLocked, IsQuiet}
 use Rattle.mem_machine.specs.Local.{Side, side}

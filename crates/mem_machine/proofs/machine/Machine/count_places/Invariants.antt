@@ -1,5 +1,5 @@
 use Rattle.std.proofs.Common.{◌≡◌, ◌+◌, ◌≤◌, take}
-use Rattle.mem_machine.specs.Ending.{frames_free, frames_in_groups}
+use Rattle.mem_machine.specs.Places.{frames_free, frames_in_groups}
 use Rattle.mem_machine.proofs.machine.Machine.count_places.Given as goal
 
 -- those of the frames so far are counted

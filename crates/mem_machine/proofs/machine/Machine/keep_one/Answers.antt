@@ -15,7 +15,7 @@ invariant_of-self g c =
     fits in
     let a = c.add.ensures in
     let all = (keep_all g.N.BootName.frames g.N.BootName.stocks _ _ c.self.view_is c.args.cpu.now _ c.number-number.ensures.tied c.self.invariant.0
-    c.requires.visit _ c.self.invariant.1 _ c.args.group was e.cpu _ c.unwrap-order.result _ c.number-unit.ensures k0 c.number-owner.ensures.value _ _
+    c.requires.visit _ c.self.invariant.1 _ c.args.group was e.cpu _ c.unwrap-order.result _ c.number-at.ensures k0 c.number-owner.ensures.value _ _
     e.zone c.unfreeze.ensures.seat _ (ap uncounted e.machine) _ c.index.ensures _ _
     (record { stands = a.stands; owner = a.owner; inactive = a.inactive; active = a.active; changes = a.others; moves = a.moves; joined = a.joined })
     c.others_stand.ensures c.one_of_all_changes.ensures) in
@@ -30,7 +30,7 @@ returns-clause-keeps g c =
     fits in
     let a = c.add.ensures in
     (keep_all g.N.BootName.frames g.N.BootName.stocks _ _ c.self.view_is c.args.cpu.now _ c.number-number.ensures.tied c.self.invariant.0
-    c.requires.visit _ c.self.invariant.1 _ c.args.group was e.cpu _ c.unwrap-order.result _ c.number-unit.ensures k0 c.number-owner.ensures.value _ _
+    c.requires.visit _ c.self.invariant.1 _ c.args.group was e.cpu _ c.unwrap-order.result _ c.number-at.ensures k0 c.number-owner.ensures.value _ _
     e.zone c.unfreeze.ensures.seat _ (ap uncounted e.machine) _ c.index.ensures _ _
     (record { stands = a.stands; owner = a.owner; inactive = a.inactive; active = a.active; changes = a.others; moves = a.moves; joined = a.joined })
     c.others_stand.ensures c.one_of_all_changes.ensures).keeps
@@ -44,7 +44,7 @@ returns-clause-visit g c =
     fits in
     let a = c.add.ensures in
     (keep_all g.N.BootName.frames g.N.BootName.stocks _ _ c.self.view_is c.args.cpu.now _ c.number-number.ensures.tied c.self.invariant.0
-    c.requires.visit _ c.self.invariant.1 _ c.args.group was e.cpu _ c.unwrap-order.result _ c.number-unit.ensures k0 c.number-owner.ensures.value _ _
+    c.requires.visit _ c.self.invariant.1 _ c.args.group was e.cpu _ c.unwrap-order.result _ c.number-at.ensures k0 c.number-owner.ensures.value _ _
     e.zone c.unfreeze.ensures.seat _ (ap uncounted e.machine) _ c.index.ensures _ _
     (record { stands = a.stands; owner = a.owner; inactive = a.inactive; active = a.active; changes = a.others; moves = a.moves; joined = a.joined })
     c.others_stand.ensures c.one_of_all_changes.ensures).visit
@@ -58,7 +58,7 @@ returns-clause-steps g c =
     fits in
     let a = c.add.ensures in
     (keep_all g.N.BootName.frames g.N.BootName.stocks _ _ c.self.view_is c.args.cpu.now _ c.number-number.ensures.tied c.self.invariant.0
-    c.requires.visit _ c.self.invariant.1 _ c.args.group was e.cpu _ c.unwrap-order.result _ c.number-unit.ensures k0 c.number-owner.ensures.value _ _
+    c.requires.visit _ c.self.invariant.1 _ c.args.group was e.cpu _ c.unwrap-order.result _ c.number-at.ensures k0 c.number-owner.ensures.value _ _
     e.zone c.unfreeze.ensures.seat _ (ap uncounted e.machine) _ c.index.ensures _ _
     (record { stands = a.stands; owner = a.owner; inactive = a.inactive; active = a.active; changes = a.others; moves = a.moves; joined = a.joined })
     c.others_stand.ensures c.one_of_all_changes.ensures).steps

@@ -4,25 +4,25 @@ use Rattle.mem_machine.proofs.machine.Machine.release.Goals as goal
 
 pub free_unit-requires-clause-in_use : goal.free_unit-requires-clause-in_use
 free_unit-requires-clause-in_use g c =
-    let head = read_head g.N.BootName.frames g.N.BootName.stocks _ c.self.invariant.0 c.args.frame _ c.requires.frame c.number-at.ensures _ c.in-Head.unit
+    let head = read_head g.N.BootName.frames g.N.BootName.stocks _ c.self.invariant.0 c.args.head _ c.requires.frame c.number-at.ensures _ c.in-Head.unit
     c.index.ensures c.in-Head.is in
     unit_in_use _ _ _ c.in-Head.unit c.self.invariant.1 c.self.invariant.0.units head
 
 pub free_unit-requires-clause-inside : goal.free_unit-requires-clause-inside
 free_unit-requires-clause-inside g c =
-    let head = read_head g.N.BootName.frames g.N.BootName.stocks _ c.self.invariant.0 c.args.frame _ c.requires.frame c.number-at.ensures _ c.in-Head.unit
+    let head = read_head g.N.BootName.frames g.N.BootName.stocks _ c.self.invariant.0 c.args.head _ c.requires.frame c.number-at.ensures _ c.in-Head.unit
     c.index.ensures c.in-Head.is in
     (c.self.invariant.0.units.heads _ c.in-Head.unit head).block.inside
 
 pub free_unit-requires-clause-charged : goal.free_unit-requires-clause-charged
 free_unit-requires-clause-charged g c =
-    let head = read_head g.N.BootName.frames g.N.BootName.stocks _ c.self.invariant.0 c.args.frame _ c.requires.frame c.number-at.ensures _ c.in-Head.unit
+    let head = read_head g.N.BootName.frames g.N.BootName.stocks _ c.self.invariant.0 c.args.head _ c.requires.frame c.number-at.ensures _ c.in-Head.unit
     c.index.ensures c.in-Head.is in
     unit_charged g.N.BootName.frames g.N.BootName.stocks _ c.self.invariant.0 _ c.in-Head.unit head
 
 pub invariant_of-self : goal.invariant_of-self
 invariant_of-self g c = (
-  (left_all g.N.BootName.frames g.N.BootName.stocks _ _ c.self.view_is c.self.invariant.0 c.args.frame _
+  (left_all g.N.BootName.frames g.N.BootName.stocks _ _ c.self.view_is c.self.invariant.0 c.args.head _
       c.requires.frame c.number-at.ensures c.requires.kept _ _ c.leave_list.ensures.leaves c.leave_list.ensures.stand c.leave_list.ensures.frames
       c.leave_list.ensures.groups c.in-Left.left _ c.in-Left.ensures.answer.2).consistent,
   c.self.invariant.1,
@@ -30,21 +30,21 @@ invariant_of-self g c = (
 
 pub returns-in-Left-clause-visit : goal.returns-in-Left-clause-visit
 returns-in-Left-clause-visit g c =
-    (left_all g.N.BootName.frames g.N.BootName.stocks _ _ c.self.view_is c.self.invariant.0 c.args.frame _
+    (left_all g.N.BootName.frames g.N.BootName.stocks _ _ c.self.view_is c.self.invariant.0 c.args.head _
     c.requires.frame c.number-at.ensures c.requires.kept _ _ c.leave_list.ensures.leaves c.leave_list.ensures.stand c.leave_list.ensures.frames
     c.leave_list.ensures.groups c.in-Left.left _ c.in-Left.ensures.answer.2).visit c.args.cpu.now c.requires.visit
 
 pub returns-in-Left-clause-steps : goal.returns-in-Left-clause-steps
 returns-in-Left-clause-steps g c =
-    (left_all g.N.BootName.frames g.N.BootName.stocks _ _ c.self.view_is c.self.invariant.0 c.args.frame _
+    (left_all g.N.BootName.frames g.N.BootName.stocks _ _ c.self.view_is c.self.invariant.0 c.args.head _
     c.requires.frame c.number-at.ensures c.requires.kept _ _ c.leave_list.ensures.leaves c.leave_list.ensures.stand c.leave_list.ensures.frames
     c.leave_list.ensures.groups c.in-Left.left _ c.in-Left.ensures.answer.2).steps c.args.cpu.now
 
 pub invariant_of-self-in-Last : goal.invariant_of-self-in-Last
 invariant_of-self-in-Last g c =
-    let head = read_head g.N.BootName.frames g.N.BootName.stocks _ c.self.invariant.0 c.args.frame _ c.requires.frame c.number-at.ensures _ c.in-Head.unit
+    let head = read_head g.N.BootName.frames g.N.BootName.stocks _ c.self.invariant.0 c.args.head _ c.requires.frame c.number-at.ensures _ c.in-Head.unit
     c.index.ensures c.in-Head.is in
-    let all = returned_all g.N.BootName.frames g.N.BootName.stocks _ _ c.self.view_is c.self.invariant.0 c.args.frame _
+    let all = returned_all g.N.BootName.frames g.N.BootName.stocks _ _ c.self.view_is c.self.invariant.0 c.args.head _
     c.requires.frame c.number-at.ensures c.requires.kept _ _ c.leave_list.ensures.leaves c.leave_list.ensures.stand c.leave_list.ensures.frames
     c.leave_list.ensures.groups _ c.in-Last.ensures.answer.0 c.in-Head.unit head _ _ _ _ _ _ c.self.invariant.1 c.free_unit.ensures.spots
     c.free_unit.ensures.frames c.free_unit.ensures.areas c.free_unit.ensures.charges c.with_last_put-self-inside.ensures in
@@ -52,27 +52,27 @@ invariant_of-self-in-Last g c =
 
 pub returns-in-Head-clause-releases : goal.returns-in-Head-clause-releases
 returns-in-Head-clause-releases g c =
-    let head = read_head g.N.BootName.frames g.N.BootName.stocks _ c.self.invariant.0 c.args.frame _ c.requires.frame c.number-at.ensures _ c.in-Head.unit
+    let head = read_head g.N.BootName.frames g.N.BootName.stocks _ c.self.invariant.0 c.args.head _ c.requires.frame c.number-at.ensures _ c.in-Head.unit
     c.index.ensures c.in-Head.is in
-    (returned_all g.N.BootName.frames g.N.BootName.stocks _ _ c.self.view_is c.self.invariant.0 c.args.frame _
+    (returned_all g.N.BootName.frames g.N.BootName.stocks _ _ c.self.view_is c.self.invariant.0 c.args.head _
     c.requires.frame c.number-at.ensures c.requires.kept _ _ c.leave_list.ensures.leaves c.leave_list.ensures.stand c.leave_list.ensures.frames
     c.leave_list.ensures.groups _ c.in-Last.ensures.answer.0 c.in-Head.unit head _ _ _ _ _ _ c.self.invariant.1 c.free_unit.ensures.spots
     c.free_unit.ensures.frames c.free_unit.ensures.areas c.free_unit.ensures.charges c.with_last_put-self-inside.ensures).returns
 
 pub returns-in-Head-clause-visit : goal.returns-in-Head-clause-visit
 returns-in-Head-clause-visit g c =
-    let head = read_head g.N.BootName.frames g.N.BootName.stocks _ c.self.invariant.0 c.args.frame _ c.requires.frame c.number-at.ensures _ c.in-Head.unit
+    let head = read_head g.N.BootName.frames g.N.BootName.stocks _ c.self.invariant.0 c.args.head _ c.requires.frame c.number-at.ensures _ c.in-Head.unit
     c.index.ensures c.in-Head.is in
-    (returned_all g.N.BootName.frames g.N.BootName.stocks _ _ c.self.view_is c.self.invariant.0 c.args.frame _
+    (returned_all g.N.BootName.frames g.N.BootName.stocks _ _ c.self.view_is c.self.invariant.0 c.args.head _
     c.requires.frame c.number-at.ensures c.requires.kept _ _ c.leave_list.ensures.leaves c.leave_list.ensures.stand c.leave_list.ensures.frames
     c.leave_list.ensures.groups _ c.in-Last.ensures.answer.0 c.in-Head.unit head _ _ _ _ _ _ c.self.invariant.1 c.free_unit.ensures.spots
     c.free_unit.ensures.frames c.free_unit.ensures.areas c.free_unit.ensures.charges c.with_last_put-self-inside.ensures).visit c.args.cpu.now c.requires.visit
 
 pub returns-in-Head-clause-steps : goal.returns-in-Head-clause-steps
 returns-in-Head-clause-steps g c =
-    let head = read_head g.N.BootName.frames g.N.BootName.stocks _ c.self.invariant.0 c.args.frame _ c.requires.frame c.number-at.ensures _ c.in-Head.unit
+    let head = read_head g.N.BootName.frames g.N.BootName.stocks _ c.self.invariant.0 c.args.head _ c.requires.frame c.number-at.ensures _ c.in-Head.unit
     c.index.ensures c.in-Head.is in
-    (returned_all g.N.BootName.frames g.N.BootName.stocks _ _ c.self.view_is c.self.invariant.0 c.args.frame _
+    (returned_all g.N.BootName.frames g.N.BootName.stocks _ _ c.self.view_is c.self.invariant.0 c.args.head _
     c.requires.frame c.number-at.ensures c.requires.kept _ _ c.leave_list.ensures.leaves c.leave_list.ensures.stand c.leave_list.ensures.frames
     c.leave_list.ensures.groups _ c.in-Last.ensures.answer.0 c.in-Head.unit head _ _ _ _ _ _ c.self.invariant.1 c.free_unit.ensures.spots
     c.free_unit.ensures.frames c.free_unit.ensures.areas c.free_unit.ensures.charges c.with_last_put-self-inside.ensures).steps c.args.cpu.now

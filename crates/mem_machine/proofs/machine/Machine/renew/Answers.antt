@@ -13,7 +13,7 @@ invariant_of-self g c =
 pub returns-clause-renews : goal.returns-clause-renews
 returns-clause-renews g c =
     let a = c.renew.ensures in
-    renews_unit g.N.BootName.frames g.N.BootName.stocks _ _ c.self.view_is c.args.group c.args.frame _ c.number-unit.ensures _ _ _
+    renews_unit g.N.BootName.frames g.N.BootName.stocks _ _ c.self.view_is c.args.group c.args.head _ c.number-at.ensures _ _ _
     (change_all g.N.BootName.frames g.N.BootName.stocks _ _ c.self.view_is c.self.invariant.0 c.args.group _ c.number-owner.ensures.below
     c.number-owner.ensures.value _ _ c.index.ensures _ _ a.stands a.owner a.others a.owners c.others_stand.ensures c.one_of_all_changes.ensures)
     a.inactive a.active

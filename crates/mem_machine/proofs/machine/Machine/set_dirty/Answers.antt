@@ -2,11 +2,11 @@ use Rattle.mem_machine.proofs.Dirties.{dirty_all, has_home}
 use Rattle.mem_machine.proofs.machine.Machine.set_dirty.Goals as goal
 
 pub unreachable-requires : goal.unreachable-requires
-unreachable-requires g c = has_home _ _ c.self.view_is c.args.frame _ c.number-unit.ensures c.requires.kept c.in_default.ensures
+unreachable-requires g c = has_home _ _ c.self.view_is c.args.head _ c.number-at.ensures c.requires.kept c.in_default.ensures
 
 pub invariant_of-self : goal.invariant_of-self
 invariant_of-self g c = (
-  (dirty_all g.N.BootName.frames g.N.BootName.stocks _ _ c.self.view_is c.self.invariant.0 c.args.frame _ c.requires.frame c.number-unit.ensures c.in-Some.home
+  (dirty_all g.N.BootName.frames g.N.BootName.stocks _ _ c.self.view_is c.self.invariant.0 c.args.head _ c.requires.frame c.number-at.ensures c.in-Some.home
       c.in-Some.ensures _ c.index.ensures _ c.args.is_dirty c.set_dirty.ensures.stands c.set_dirty.ensures.entries c.set_dirty.ensures.others
       c.others_stand.ensures
       c.one_of_all_changes.ensures).consistent,
@@ -15,7 +15,7 @@ invariant_of-self g c = (
 
 pub returns-clause-dirties : goal.returns-clause-dirties
 returns-clause-dirties g c =
-    (dirty_all g.N.BootName.frames g.N.BootName.stocks _ _ c.self.view_is c.self.invariant.0 c.args.frame _ c.requires.frame c.number-unit.ensures
+    (dirty_all g.N.BootName.frames g.N.BootName.stocks _ _ c.self.view_is c.self.invariant.0 c.args.head _ c.requires.frame c.number-at.ensures
     c.in-Some.home
     c.in-Some.ensures _ c.index.ensures _ c.args.is_dirty c.set_dirty.ensures.stands c.set_dirty.ensures.entries c.set_dirty.ensures.others
     c.others_stand.ensures
@@ -23,7 +23,7 @@ returns-clause-dirties g c =
 
 pub returns-clause-steps : goal.returns-clause-steps
 returns-clause-steps g c =
-    (dirty_all g.N.BootName.frames g.N.BootName.stocks _ _ c.self.view_is c.self.invariant.0 c.args.frame _ c.requires.frame c.number-unit.ensures
+    (dirty_all g.N.BootName.frames g.N.BootName.stocks _ _ c.self.view_is c.self.invariant.0 c.args.head _ c.requires.frame c.number-at.ensures
     c.in-Some.home
     c.in-Some.ensures _ c.index.ensures _ c.args.is_dirty c.set_dirty.ensures.stands c.set_dirty.ensures.entries c.set_dirty.ensures.others
     c.others_stand.ensures

@@ -3,11 +3,11 @@ use Rattle.mem_machine.proofs.Touching.{touch_all}
 use Rattle.mem_machine.proofs.machine.Machine.touch.Goals as goal
 
 pub unreachable-requires : goal.unreachable-requires
-unreachable-requires g c = has_home _ _ c.self.view_is c.args.frame _ c.number-unit.ensures c.requires.kept c.in_default.ensures
+unreachable-requires g c = has_home _ _ c.self.view_is c.args.head _ c.number-at.ensures c.requires.kept c.in_default.ensures
 
 pub invariant_of-self : goal.invariant_of-self
 invariant_of-self g c = (
-  (touch_all g.N.BootName.frames g.N.BootName.stocks _ _ c.self.view_is c.self.invariant.0 c.args.frame _ c.requires.frame c.number-unit.ensures c.in-Some.home
+  (touch_all g.N.BootName.frames g.N.BootName.stocks _ _ c.self.view_is c.self.invariant.0 c.args.head _ c.requires.frame c.number-at.ensures c.in-Some.home
       c.in-Some.ensures _ c.index.ensures _ _ c.touch-touched.result c.touch-touched.ensures.stands c.touch-touched.ensures.owner
       c.touch-touched.ensures.touches
       c.touch-touched.ensures.others c.others_stand.ensures c.one_of_all_changes.ensures).consistent,
@@ -16,14 +16,14 @@ invariant_of-self g c = (
 
 pub returns-clause-touches : goal.returns-clause-touches
 returns-clause-touches g c =
-    (touch_all g.N.BootName.frames g.N.BootName.stocks _ _ c.self.view_is c.self.invariant.0 c.args.frame _ c.requires.frame c.number-unit.ensures
+    (touch_all g.N.BootName.frames g.N.BootName.stocks _ _ c.self.view_is c.self.invariant.0 c.args.head _ c.requires.frame c.number-at.ensures
     c.in-Some.home
     c.in-Some.ensures _ c.index.ensures _ _ c.touch-touched.result c.touch-touched.ensures.stands c.touch-touched.ensures.owner c.touch-touched.ensures.touches
     c.touch-touched.ensures.others c.others_stand.ensures c.one_of_all_changes.ensures).touches
 
 pub returns-clause-steps : goal.returns-clause-steps
 returns-clause-steps g c =
-    (touch_all g.N.BootName.frames g.N.BootName.stocks _ _ c.self.view_is c.self.invariant.0 c.args.frame _ c.requires.frame c.number-unit.ensures
+    (touch_all g.N.BootName.frames g.N.BootName.stocks _ _ c.self.view_is c.self.invariant.0 c.args.head _ c.requires.frame c.number-at.ensures
     c.in-Some.home
     c.in-Some.ensures _ c.index.ensures _ _ c.touch-touched.result c.touch-touched.ensures.stands c.touch-touched.ensures.owner c.touch-touched.ensures.touches
     c.touch-touched.ensures.others c.others_stand.ensures c.one_of_all_changes.ensures).steps

@@ -1,16 +1,12 @@
-//! The end of the machine: what its frames are then, and its two seats.
+//! How many frames are at each place.
 
 ghost use Rattle.std.specs.Prelude.{◌≡◌, []};
 ghost use Rattle.frame_word.specs.Seats.{LentIsBorrowed};
-ghost use Rattle.stock_word.specs.Calls.{uncounted};
-ghost use Rattle.mem_machine.specs.Machines.{IsConsistent};
-ghost use Rattle.mem_machine.specs.Ending.{frames_free, frames_in_groups, NoneLentTo};
+ghost use Rattle.mem_machine.specs.Places.{frames_free, frames_in_groups, NoneLentTo};
 
 use crate::machine::Machine;
 use crate::spot::Spot;
 use cpu_part::{BootName, Cpu, Tables};
-use frame_word::FrameSeat;
-use stock_word::StockSeat;
 
 /// How many frames are free, and how many are charged to a group.
 #[derive(Clone, Copy, Debug, PartialEq, Eq)]
@@ -51,25 +47,5 @@ impl<N: BootName> Machine<N> {
     {
         let _ = &self.seat; // For the clauses.
         let _number = cpu.number(); // For the clauses.
-    }
-
-    /// Takes the machine apart, for the end of the two tables: the zone's seats at the frames' table and at the stocks'.
-    pub fn into_seats(self) -> (FrameSeat, StockSeat)
-        ensures seats { (result.0 ≡ self.seat) × (uncounted result.1 ≡ self.stock) }
-        ensures consistent { IsConsistent N.frames N.stocks self }
-    {
-        let Machine {
-            zone: _,
-            spots: _,
-            charges: _,
-            links: _,
-            lists: _,
-            seat,
-            stock,
-            killed: _,
-            counts: _,
-            of: _,
-        } = self;
-        (seat, stock)
     }
 }

@@ -1,4 +1,4 @@
--- What the frames are where the machine ends.
+-- How many frames are at each place.
 use Rattle.std.specs.Prelude.{◌≢◌, ℕ, List, is_some, sum_by}
 use Rattle.step_rules.specs.State.{one_if}
 use Rattle.mem_machine.specs.declared.spot.Spot.{Spot}
