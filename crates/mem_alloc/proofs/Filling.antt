@@ -26,11 +26,11 @@ use Rattle.mem_machine.proofs.Reaching.{run_both}
 use Rattle.mem_alloc.specs.declared.faults.AllocFault.{AllocFault}
 use Rattle.mem_alloc.specs.declared.faults.AllocFault.TheVariants.{Over, NoFrames}
 use Rattle.mem_alloc.specs.Stepping.{BySteps, course}
-use Rattle.mem_alloc.specs.Room.{IsRefusedAt, MakesRoom, IsOverAt, with_max_noted_at}
+use Rattle.mem_alloc.specs.Room.{IsRefusedAt, MakesRoom, IsOverAt}
 use Rattle.mem_alloc.specs.Charging.{FillsAfterRoom, IsOverForOne, ChargesFrame, RefusesFrame, DrainsOwn, PaysForFrame}
 use Rattle.mem_alloc.specs.Charging.{RefusesToPay}
 use Rattle.mem_alloc.specs.Frames.{FillsList, HasNoFrame, GetsFrame, AllocatesFrame}
-use Rattle.mem_alloc.proofs.Lowering.{Lowers, lowers_none, lowers_both, drain_lowers, all_lower, note_lowers}
+use Rattle.mem_alloc.proofs.Lowering.{Lowers, lowers_none, lowers_both, drain_lowers, clears_lower}
 
 -- ---- what is kept
 
@@ -70,8 +70,7 @@ fills_keep g k m n c d f = record {
 }
 
 pub refused_lowers : (t : KnownTable) (g pages over : ℕ) (m n : KnownMachine) (steps : Run) → IsRefusedAt g pages over (course t m steps n) → Lowers m n
-refused_lowers t g pages over m n steps r =
-    lowers_both m (with_max_noted_at m over) n (note_lowers m over) (all_lower over t.cpus (with_max_noted_at m over) n r.drains r.all)
+refused_lowers t g pages over m n steps r = clears_lower t over m n r.clearing r.clears
 
 pub makes_lower : (t : KnownTable) (g pages : ℕ) (before : List ℕ) (m n : KnownMachine) (steps : Run) → MakesRoom g pages before (course t m steps n) → Lowers m n
 makes_lower t g pages [] m n steps h = subst (λ (x : KnownMachine). Lowers m x) (sym h.0) (lowers_none m)
@@ -80,11 +79,11 @@ makes_lower t g pages (over ∷ later) m n steps h =
 
 pub over_lowers : (t : KnownTable) (g pages over : ℕ) (m n : KnownMachine) (steps : Run) → IsOverAt g pages over (course t m steps n) → Lowers m n
 over_lowers t g pages over m n steps h =
-    lowers_both m h.cleared n (makes_lower t g pages h.before m h.cleared h.making h.makes) (refused_lowers t g pages over h.cleared n h.last h.refused)
+    lowers_both m h.cleared n (makes_lower t g pages h.refused_at m h.cleared h.making h.makes) (refused_lowers t g pages over h.cleared n h.last h.refused)
 
 after_room_keeps : (t : KnownTable) (g k : ℕ) (m n : KnownMachine) (c d : KnownCpu) (steps : Run) → FillsAfterRoom g k (course t (side m c) steps (side n d)) → KeepsPart m c n d
 after_room_keeps t g k m n c d steps h =
-    keeps_both m h.cleared n c c d (lowers_keep m h.cleared c c (makes_lower t g k h.before m h.cleared h.making h.makes) refl)
+    keeps_both m h.cleared n c c d (lowers_keep m h.cleared c c (makes_lower t g k h.refused_at m h.cleared h.making h.makes) refl)
     (fills_keep g k h.cleared n c d h.fills)
 
 charges_keep : (t : KnownTable) (sizes : Config) (g : ℕ) (m n : KnownMachine) (c d : KnownCpu) (steps : Run)
@@ -322,7 +321,7 @@ module _ (t : KnownTable) (sizes : Config) (g : ℕ) (m : KnownMachine) (c : Kno
   -- a charge is refused for good
   refused_at : (over : ℕ) (n : KnownMachine) (d : KnownCpu) → BySteps t (side m c) (side n d) (RefusesToPay sizes g (Over over))
       → BySteps t (side m c) (side n d) (AllocatesFrame sizes g (Err (Over over)))
-  refused_at over n d b = (b.0, record { alive = alive; refuses = b.1 }, b.2)
+  refused_at over n d b = (b.0, record { not_killed = alive; refuses = b.1 }, b.2)
 
   pub not_paid : (r : Result ℕ AllocFault) (x : AllocFault) (n : KnownMachine) (d : KnownCpu) → IsErr r → IfErr r (λ e. e ≡ x)
       → BySteps t (side m c) (side n d) (RefusesToPay sizes g x) → BySteps t (side m c) (side n d) (AllocatesFrame sizes g r)
@@ -338,7 +337,7 @@ module _ (t : KnownTable) (sizes : Config) (g : ℕ) (m : KnownMachine) (c : Kno
         → BySteps t (side m c) (side n d) (AllocatesFrame sizes g (Err NoFrames))
     none_found n d b = (
       pays.0 ++ b.0,
-      record { paid = side k y; paying = pays.0; draining = b.0; alive = alive; pays = pays.1; none = b.1; steps_are = refl },
+      record { paid = side k y; paying = pays.0; draining = b.0; not_killed = alive; pays = pays.1; none = b.1; steps_are = refl },
       run_both c.number pays.0 b.0 (local_of t m c) (local_of t k y) (local_of t n d) pays.2
           (subst (λ (p : ℕ). IsLocalRun p (local_of t k y) b.0 (local_of t n d)) number b.2),
     )
@@ -365,7 +364,7 @@ module _ (t : KnownTable) (sizes : Config) (g : ℕ) (m : KnownMachine) (c : Kno
             filled = side l z;
             paying = pays.0;
             filling = fills.0;
-            alive = alive;
+            not_killed = alive;
             pays = pays.1;
             fills = fills.1;
             takes = takes;

@@ -19,12 +19,14 @@ use Rattle.stock_word.specs.Kinds.{draining}
 use Rattle.stock_word.specs.Calls.{with_view, after_look}
 use Rattle.cpu_part.specs.Cpus.{KnownCpu}
 use Rattle.step_rules.specs.State.{sum_to}
+use Rattle.step_rules.specs.After.{Run}
 use Rattle.mem_machine.specs.Machines.{KnownMachine, Visits, is_killed}
 use Rattle.mem_machine.specs.Paying.{HasRoomFor}
 use Rattle.mem_machine.specs.Steps.{Drain}
 use Rattle.mem_machine.specs.Stocks.{Drains, DrainsBelow, DrainsAllBelow, stock_group, uncharged}
 use Rattle.mem_machine.proofs.Draining.{groups_stay, drained_at, drained_else}
 use Rattle.mem_machine.proofs.Prepaying.{current_falls}
+use Rattle.mem_alloc.specs.Stepping.{ByStepsOfAny, course}
 use Rattle.mem_alloc.specs.Room.{ClearsBelow, has_room_for, with_max_noted_at}
 use Rattle.mem_machine.specs.Local.{side}
 
@@ -100,8 +102,12 @@ note_lowers m g = record {
   emptied = λ p is. is;
 }
 
-pub clears_lower : (t : KnownTable) (g : ℕ) (m n : KnownMachine) → ClearsBelow t g m n → Lowers m n
-clears_lower t g m n c = lowers_both m (with_max_noted_at m g) n (note_lowers m g) (all_lower g t.cpus (with_max_noted_at m g) n c.drains c.all)
+pub clears_lower : (t : KnownTable) (g : ℕ) (m n : KnownMachine) (steps : Run) → ClearsBelow g (course t m steps n) → Lowers m n
+clears_lower t g m n steps c =
+    lowers_both m (with_max_noted_at m g) n (note_lowers m g) (all_lower g t.cpus (with_max_noted_at m g) n c.drains c.all)
+
+pub clearing_lowers : (t : KnownTable) (g : ℕ) (m n : KnownMachine) → ByStepsOfAny t m n (ClearsBelow g) → Lowers m n
+clearing_lowers t g m n b = clears_lower t g m n b.0 b.1
 
 -- ---- what stays
 
@@ -153,7 +159,7 @@ room_falls o a b pages was now low = elim (cases_lt b a) [
 abbrev pub all_usages : KnownMachine → ℕ
 all_usages m = sum_to 64 (current_of m.ledger)
 
-pub usages_fall : (m n : KnownMachine) (over pages : ℕ) → Lowers m n → over < 64 → has_room_for m over pages ≡ false → has_room_for n over pages ≡ true
+pub usages_fall : (m n : KnownMachine) (over pages : ℕ) → Lowers m n → over < 64 → has_room_for m.ledger over pages ≡ false → has_room_for n.ledger over pages ≡ true
     → all_usages n < all_usages m
 usages_fall m n over pages l inside was now =
     let limit : limit_of n.ledger.groups over ≡ limit_of m.ledger.groups over = ap (λ (x : List Group). limit_of x over) l.groups in

@@ -9,20 +9,35 @@ use Rattle.group_charge.specs.Charges.{current_of}
 use Rattle.cpu_part.specs.Cpus.{KnownCpu}
 use Rattle.step_rules.specs.After.{Run}
 use Rattle.mem_machine.specs.Machines.{KnownMachine}
-use Rattle.mem_machine.specs.Local.{IsLocalRun, local_of, side}
+use Rattle.mem_machine.specs.Local.{IsLocalRun, MakesForAny, local_of, side}
 use Rattle.mem_machine.specs.Steps.{over_steps, note_max_steps, drain_stocks_steps, fill_steps}
-use Rattle.mem_machine.specs.Stocks.{Fills}
+use Rattle.mem_machine.specs.Stocks.{Fills, DrainsSubtree, DrainsAllBelow, AreDrained}
 use Rattle.mem_machine.proofs.Reaching.{run_both}
-use Rattle.mem_alloc.specs.Stepping.{BySteps, course, OfMachine}
-use Rattle.mem_alloc.specs.Room.{ClearsBelow, IsRefusedAt, MakesRoom, IsOverAt, has_room_for}
+use Rattle.mem_alloc.specs.Stepping.{BySteps, ByStepsOfAny, course, OfMachine}
+use Rattle.mem_alloc.specs.Room.{ClearsBelow, IsRefusedAt, MakesRoom, IsOverAt, has_room_for, with_max_noted_at}
 use Rattle.mem_alloc.specs.declared.faults.AllocFault.{AllocFault}
 use Rattle.mem_alloc.specs.declared.faults.AllocFault.TheVariants.{Over}
 use Rattle.mem_alloc.specs.Charging.{FillsAfterRoom, IsOverForOne}
-use Rattle.mem_alloc.proofs.Lowering.{Lowers, lowers_none, lowers_both, clears_lower}
+use Rattle.mem_alloc.proofs.Lowering.{Lowers, lowers_none, lowers_both, clearing_lowers}
+
+-- the note, and then the drains. Serves `make_room`
+pub clears_by : (t : KnownTable) (g pages : ℕ) (m x n : KnownMachine) → x ≡ with_max_noted_at m g → MakesForAny t m (note_max_steps g) x
+    → DrainsSubtree t g pages x n → AreDrained g t.cpus n → ByStepsOfAny t m n (ClearsBelow g)
+clears_by t g pages m x n noted noting drains drained = (
+  note_max_steps g ++ drain_stocks_steps drains.drains,
+  record {
+    drains = drains.drains;
+    all = subst (λ (k : KnownMachine). DrainsAllBelow g t.cpus drains.drains k n) noted drains.all;
+    drained = drained;
+    steps_are = refl;
+  },
+  λ c. run_both c.number (note_max_steps g) (drain_stocks_steps drains.drains) (local_of t m c) (local_of t x c) (local_of t n c) (noting c)
+      (drains.steps c),
+)
 
 -- tries that were refused, and then one more
 room_more : (t : KnownTable) (g pages over : ℕ) (before : List ℕ) (m x n : KnownMachine) (making last : Run) → MakesRoom g pages before (course t m making x)
-    → IsRefusedAt g pages over (course t x last n) → has_room_for n over pages ≡ true → MakesRoom g pages (before ++ over ∷ []) (course t m (making ++ last) n)
+    → IsRefusedAt g pages over (course t x last n) → has_room_for n.ledger over pages ≡ true → MakesRoom g pages (before ++ over ∷ []) (course t m (making ++ last) n)
 room_more t g pages over [] m x n making last makes refused room = (
   n,
   last,
@@ -44,62 +59,61 @@ room_more t g pages over (h ∷ before) m x n making last makes refused room = (
 
 -- what the loops keep: the tries so far were refused at groups that have room now, and nothing else happened
 pub record RoomSoFar (t : KnownTable) (g pages : ℕ) (c : KnownCpu) (m n : KnownMachine) : Type 0 where
-  pub before : List ℕ
+  pub refused_at : List ℕ
   pub making : Run
-  pub makes : MakesRoom g pages before (course t m making n)
+  pub makes : MakesRoom g pages refused_at (course t m making n)
   pub runs : IsLocalRun c.number (local_of t m c) making (local_of t n c)
   pub lowers : Lowers m n
 
 pub so_far_none : (t : KnownTable) (g pages : ℕ) (c : KnownCpu) (m : KnownMachine) → RoomSoFar t g pages c m m
-so_far_none t g pages c m = record { before = []; making = []; makes = (refl, refl); runs = refl; lowers = lowers_none m }
+so_far_none t g pages c m = record { refused_at = []; making = []; makes = (refl, refl); runs = refl; lowers = lowers_none m }
 
 module _ (t : KnownTable) (g pages : ℕ) (c : KnownCpu) (m x : KnownMachine) (so_far : RoomSoFar t g pages c m x) where
   -- one more try was refused, by its steps
   module _ (y z n : KnownMachine) (d : KnownCpu) (over : ℕ) (same : y ≡ x) (mine : d ≡ c)
       (low : IsLowestOver z.ledger.groups (current_of z.ledger) g pages over) (before_it : z ≡ x)
-      (refusing : IsLocalRun d.number (local_of t z d) (over_steps g pages over) (local_of t z d)) (clears : ClearsBelow t over y n) where
-    its : ClearsBelow t over x n
-    its = subst (λ (k : KnownMachine). ClearsBelow t over k n) same clears
+      (refusing : IsLocalRun d.number (local_of t z d) (over_steps g pages over) (local_of t z d)) (clears : ByStepsOfAny t y n (ClearsBelow over)) where
+    its : ByStepsOfAny t x n (ClearsBelow over)
+    its = subst (λ (k : KnownMachine). ByStepsOfAny t k n (ClearsBelow over)) same clears
 
-    refused : IsRefusedAt g pages over (course t x (over_steps g pages over ++ (note_max_steps over ++ drain_stocks_steps its.drains)) n)
+    refused : IsRefusedAt g pages over (course t x (over_steps g pages over ++ its.0) n)
     refused = record {
       lowest = subst (λ (k : KnownMachine). IsLowestOver k.ledger.groups (current_of k.ledger) g pages over) before_it low;
-      drains = its.drains;
-      all = its.all;
-      drained = its.drained;
+      clearing = its.0;
+      clears = its.1;
       steps_are = refl;
     }
 
-    runs_on : IsLocalRun c.number (local_of t m c) (so_far.making ++ (over_steps g pages over ++ (note_max_steps over ++ drain_stocks_steps its.drains)))
+    runs_on : IsLocalRun c.number (local_of t m c) (so_far.making ++ (over_steps g pages over ++ its.0))
         (local_of t n c)
-    runs_on = run_both c.number so_far.making (over_steps g pages over ++ (note_max_steps over ++ drain_stocks_steps its.drains)) (local_of t m c)
+    runs_on = run_both c.number so_far.making (over_steps g pages over ++ its.0) (local_of t m c)
         (local_of t x c) (local_of t n c) so_far.runs
-        (run_both c.number (over_steps g pages over) (note_max_steps over ++ drain_stocks_steps its.drains) (local_of t x c) (local_of t x c)
+        (run_both c.number (over_steps g pages over) its.0 (local_of t x c) (local_of t x c)
         (local_of t n c)
         (subst (λ (k : KnownMachine × KnownCpu). IsLocalRun k.1.number (local_of t k.0 k.1) (over_steps g pages over) (local_of t k.0 k.1))
         (λ i. (before_it i, mine i)) refusing)
-        (its.steps c))
+        (its.2 c))
 
     -- and its group has room now
-    pub so_far_more : has_room_for n over pages ≡ true → RoomSoFar t g pages c m n
+    pub so_far_more : has_room_for n.ledger over pages ≡ true → RoomSoFar t g pages c m n
     so_far_more room = record {
-      before = so_far.before ++ over ∷ [];
-      making = so_far.making ++ (over_steps g pages over ++ (note_max_steps over ++ drain_stocks_steps its.drains));
-      makes = room_more t g pages over so_far.before m x n so_far.making
-          (over_steps g pages over ++ (note_max_steps over ++ drain_stocks_steps its.drains)) so_far.makes refused room;
+      refused_at = so_far.refused_at ++ over ∷ [];
+      making = so_far.making ++ (over_steps g pages over ++ its.0);
+      makes = room_more t g pages over so_far.refused_at m x n so_far.making
+          (over_steps g pages over ++ its.0) so_far.makes refused room;
       runs = runs_on;
-      lowers = lowers_both m x n so_far.lowers (clears_lower t over x n its);
+      lowers = lowers_both m x n so_far.lowers (clearing_lowers t over x n its);
     }
 
     -- or has none still
-    pub so_far_over : has_room_for n over pages ≡ false → BySteps t (side m c) (side n c) (OfMachine (IsOverAt g pages over))
+    pub so_far_over : has_room_for n.ledger over pages ≡ false → BySteps t (side m c) (side n c) (OfMachine (IsOverAt g pages over))
     so_far_over none = (
-      so_far.making ++ (over_steps g pages over ++ (note_max_steps over ++ drain_stocks_steps its.drains)),
+      so_far.making ++ (over_steps g pages over ++ its.0),
       record {
-        before = so_far.before;
+        refused_at = so_far.refused_at;
         cleared = x;
         making = so_far.making;
-        last = over_steps g pages over ++ (note_max_steps over ++ drain_stocks_steps its.drains);
+        last = over_steps g pages over ++ its.0;
         makes = so_far.makes;
         refused = refused;
         still = none;
@@ -109,7 +123,7 @@ module _ (t : KnownTable) (g pages : ℕ) (c : KnownCpu) (m x : KnownMachine) (s
     )
 
     pub lowers_here : Lowers x n
-    lowers_here = clears_lower t over x n its
+    lowers_here = clearing_lowers t over x n its
 
   -- the pages are granted, and fill the stock
   pub so_far_fills : (y : KnownCpu) → y ≡ c → (n : KnownMachine) (d : KnownCpu) → Fills g pages (side x y) (side n d)
@@ -118,7 +132,7 @@ module _ (t : KnownTable) (g pages : ℕ) (c : KnownCpu) (m x : KnownMachine) (s
   so_far_fills y mine n d fills steps = (
     so_far.making ++ fill_steps c.number g pages,
     record {
-      before = so_far.before;
+      refused_at = so_far.refused_at;
       cleared = x;
       making = so_far.making;
       makes = so_far.makes;

@@ -62,7 +62,7 @@ module _ (t : KnownTable) (g k : ℕ) (c : KnownCpu) (m x : KnownMachine) (so_fa
       → BySteps t (side m c) (side n d) (OfMachine (TakesAfterRoom g k head))
   so_far_takes head takes run = (
     so_far.making ++ taken_steps g k head,
-    record { before = so_far.before; cleared = x; making = so_far.making; makes = so_far.makes; takes = takes; steps_are = refl },
+    record { refused_at = so_far.refused_at; cleared = x; making = so_far.making; makes = so_far.makes; takes = takes; steps_are = refl },
     runs_on (taken_steps g k head) run,
   )
 
@@ -70,7 +70,7 @@ module _ (t : KnownTable) (g k : ℕ) (c : KnownCpu) (m x : KnownMachine) (so_fa
       → BySteps t (side m c) (side n d) (OfMachine (FindsNoBlock g k))
   so_far_no_block none run = (
     so_far.making ++ unplaced_steps g k,
-    record { before = so_far.before; cleared = x; making = so_far.making; makes = so_far.makes; none = none; steps_are = refl },
+    record { refused_at = so_far.refused_at; cleared = x; making = so_far.making; makes = so_far.makes; none = none; steps_are = refl },
     runs_on (unplaced_steps g k) run,
   )
 

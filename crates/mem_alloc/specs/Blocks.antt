@@ -16,21 +16,22 @@ use Rattle.mem_alloc.specs.Stepping.{Course, course, of_machine}
 use Rattle.mem_alloc.specs.Room.{MakesRoom, IsOverAt}
 use Rattle.mem_alloc.specs.Frames.{IsDead}
 
--- The charge of the block may be refused first, at groups that have room then; after that the group is charged for it, and has it
+-- The charge of the block may be refused first, at the groups `refused_at`, which have room then; after that the group
+-- is charged for it, and has it
 pub record TakesAfterRoom (group order head : ℕ) (way : Course KnownMachine) : Type 0 where
-  pub before : List ℕ
+  pub refused_at : List ℕ
   pub cleared : KnownMachine
   pub making : Run
-  pub makes : MakesRoom group (2 ^ order) before (course way.table way.before making cleared)
+  pub makes : MakesRoom group (2 ^ order) refused_at (course way.table way.before making cleared)
   pub takes : TakesBlock cleared group order head way.after
   pub steps_are : way.steps ≡ making ++ taken_steps group order head
 
 -- so it is, but no block is free, and the pages go back
 pub record FindsNoBlock (group order : ℕ) (way : Course KnownMachine) : Type 0 where
-  pub before : List ℕ
+  pub refused_at : List ℕ
   pub cleared : KnownMachine
   pub making : Run
-  pub makes : MakesRoom group (2 ^ order) before (course way.table way.before making cleared)
+  pub makes : MakesRoom group (2 ^ order) refused_at (course way.table way.before making cleared)
   pub none : TakesNoBlock cleared group order way.after
   pub steps_are : way.steps ≡ making ++ unplaced_steps group order
 
@@ -53,19 +54,22 @@ pub record LeavesRoom (group order : ℕ) (answer : Result ℕ AllocFault) (befo
   pub opened : after.seat.view.opened ≡ before.seat.view.opened
   pub still : answer ≡ Err NoFrames → HasRoomStill group order before after
 
--- all frames of the processor's list go back to the zone, and then the block is charged and taken, or there is none still
+-- all frames of the processor's list go back to the zone, and then the block is charged and taken, or there is none
+-- still
 pub record TakesAfterList (group order head : ℕ) (way : Course Side) : Type 0 where
   pub returned : KnownMachine
   pub gives : TakesManyBack way.before.cpu.list way.before (side returned way.after.cpu)
   pub takes : TakesBlock returned group order head way.after.machine
-  pub steps_are : way.steps ≡ drain_list_steps way.before.cpu.number way.before.cpu.list ++ taken_steps group order head
+  pub steps_are : way.steps
+      ≡ drain_list_steps way.before.cpu.number way.before.cpu.list ++ taken_steps group order head
 
 -- all frames of the processor's list go back to the zone, and no block is free still
 pub record FindsNoneAgain (group order : ℕ) (way : Course Side) : Type 0 where
   pub returned : KnownMachine
   pub gives : TakesManyBack way.before.cpu.list way.before (side returned way.after.cpu)
   pub none : TakesNoBlock returned group order way.after.machine
-  pub steps_are : way.steps ≡ drain_list_steps way.before.cpu.number way.before.cpu.list ++ unplaced_steps group order
+  pub steps_are : way.steps
+      ≡ drain_list_steps way.before.cpu.number way.before.cpu.list ++ unplaced_steps group order
 
 -- the second try, with the processor's list given back
 abbrev pub TakesAgain : ℕ → ℕ → Result ℕ AllocFault → Course Side → Type 0
@@ -94,7 +98,10 @@ pub record IsNotCharged (group order over : ℕ) (way : Course Side) : Type 0 wh
 
 -- Allocates a block for the group, or tells why not
 abbrev pub AllocatesBlock : ℕ → ℕ → Result ℕ AllocFault → Course Side → Type 0
-AllocatesBlock g k (Ok head) way = (is_killed way.before.machine.killed g ≡ false) × (GetsAtOnce g k head way ⊎ TriesAgain g k (Ok head) way)
-AllocatesBlock g k (Err (Over over)) way = (is_killed way.before.machine.killed g ≡ false) × IsNotCharged g k over way
-AllocatesBlock g k (Err NoFrames) way = (is_killed way.before.machine.killed g ≡ false) × TriesAgain g k (Err NoFrames) way
+AllocatesBlock g k (Ok head) way =
+    (is_killed way.before.machine.killed g ≡ false) × (GetsAtOnce g k head way ⊎ TriesAgain g k (Ok head) way)
+AllocatesBlock g k (Err (Over over)) way =
+    (is_killed way.before.machine.killed g ≡ false) × IsNotCharged g k over way
+AllocatesBlock g k (Err NoFrames) way =
+    (is_killed way.before.machine.killed g ≡ false) × TriesAgain g k (Err NoFrames) way
 AllocatesBlock g k (Err Killed) way = IsDead g way

@@ -14,13 +14,13 @@ use Rattle.mem_alloc.specs.declared.faults.AllocFault.TheVariants.{Over}
 use Rattle.mem_alloc.specs.Stepping.{Course, course, of_machine}
 use Rattle.mem_alloc.specs.Room.{MakesRoom, IsOverAt}
 
--- the charge may be refused first, at groups that have room then; after that so many pages are charged to the group and fill
--- the processor's stock
+-- the charge may be refused first, at the groups `refused_at`, which have room then; after that so many pages are
+-- charged to the group and fill the processor's stock
 pub record FillsAfterRoom (group pages : ℕ) (way : Course Side) : Type 0 where
-  pub before : List ℕ
+  pub refused_at : List ℕ
   pub cleared : KnownMachine
   pub making : Run
-  pub makes : MakesRoom group pages before (course way.table way.before.machine making cleared)
+  pub makes : MakesRoom group pages refused_at (course way.table way.before.machine making cleared)
   pub fills : Fills group pages (side cleared way.before.cpu) way.after
   pub steps_are : way.steps ≡ making ++ fill_steps way.before.cpu.number group pages
 
@@ -39,7 +39,8 @@ pub record FillsBatch (sizes : Config) (group : ℕ) (way : Course Side) : Type 
 -- the limit of some group has no room for so many pages, which is no event; then one page fills the stock
 pub record FillsOne (sizes : Config) (group : ℕ) (way : Course Side) : Type 0 where
   pub over : ℕ
-  pub batch : IsLowestOver way.before.machine.ledger.groups (current_of way.before.machine.ledger) group sizes.stock over
+  pub batch : IsLowestOver way.before.machine.ledger.groups (current_of way.before.machine.ledger) group
+      sizes.stock over
   pub later : Run
   pub fills : FillsAfterRoom group 1 (course way.table way.before later way.after)
   pub steps_are : way.steps ≡ over_steps group sizes.stock over ++ later
@@ -48,15 +49,16 @@ pub record FillsOne (sizes : Config) (group : ℕ) (way : Course Side) : Type 0 
 abbrev pub ChargesFrame : Config → ℕ → Course Side → Type 0
 ChargesFrame sizes g way = FillsBatch sizes g way ⊎ FillsOne sizes g way
 
--- the limit of some group has no room for so many pages, which is no event, and the charge of one page is refused for good
+-- the limit of some group has no room for so many pages, which is no event, and one page is refused for good
 pub record RefusesFrame (sizes : Config) (group : ℕ) (cause : AllocFault) (way : Course Side) : Type 0 where
   pub over : ℕ
-  pub batch : IsLowestOver way.before.machine.ledger.groups (current_of way.before.machine.ledger) group sizes.stock over
+  pub batch : IsLowestOver way.before.machine.ledger.groups (current_of way.before.machine.ledger) group
+      sizes.stock over
   pub later : Run
   pub refuses : IsOverForOne group cause (course way.table way.before later way.after)
   pub steps_are : way.steps ≡ over_steps group sizes.stock over ++ later
 
--- the processor's stock holds no page of the group: it is drained, of `back` pages, which go back to the group that it is of
+-- the processor's stock holds no page of the group: it is drained, of `back` pages, which go back to their group
 pub record DrainsOwn (group : ℕ) (before : Side) (steps : Run) (emptied : KnownMachine) : Type 0 where
   pub lacks : ¬ HoldsPage before group
   pub back : ℕ

@@ -41,15 +41,17 @@ pub record HasNoFrame (cause : AllocFault) (way : Course Side) : Type 0 where
   pub back : ℕ
   pub drains : Drains way.before.machine way.before.cpu.number back way.after.machine
   pub cpu : way.after.cpu ≡ way.before.cpu
-  pub steps_are : way.steps ≡ drain_steps way.before.cpu.number (stock_group way.before.machine way.before.cpu.number) back
+  pub steps_are : way.steps
+      ≡ drain_steps way.before.cpu.number (stock_group way.before.machine way.before.cpu.number) back
 
--- a page of the group is in the processor's stock, a frame on its list, and the front of the list is paid for with the page
+-- a page of the group is in the processor's stock, a frame on its list, and the front of the list is paid for with the
+-- page
 pub record GetsFrame (sizes : Config) (group frame : ℕ) (way : Course Side) : Type 0 where
   pub paid : Side
   pub filled : Side
   pub paying : Run
   pub filling : Run
-  pub alive : is_killed way.before.machine.killed group ≡ false
+  pub not_killed : is_killed way.before.machine.killed group ≡ false
   pub pays : PaysForFrame sizes group (course way.table way.before paying paid)
   pub fills : FillsList sizes (course way.table paid filling filled)
   pub takes : PaysForFront group frame filled way.after
@@ -57,7 +59,7 @@ pub record GetsFrame (sizes : Config) (group frame : ℕ) (way : Course Side) : 
 
 -- a charge to the group is refused for good
 pub record IsNotPaid (sizes : Config) (group : ℕ) (cause : AllocFault) (way : Course Side) : Type 0 where
-  pub alive : is_killed way.before.machine.killed group ≡ false
+  pub not_killed : is_killed way.before.machine.killed group ≡ false
   pub refuses : RefusesToPay sizes group cause way
 
 -- a page of the group is in the processor's stock, but no frame is free
@@ -65,7 +67,7 @@ pub record FindsNoFrame (sizes : Config) (group : ℕ) (way : Course Side) : Typ
   pub paid : Side
   pub paying : Run
   pub draining : Run
-  pub alive : is_killed way.before.machine.killed group ≡ false
+  pub not_killed : is_killed way.before.machine.killed group ≡ false
   pub pays : PaysForFrame sizes group (course way.table way.before paying paid)
   pub none : HasNoFrame NoFrames (course way.table paid draining way.after)
   pub steps_are : way.steps ≡ paying ++ draining

@@ -1,54 +1,52 @@
 -- What becomes of the machine where a limit has no room for a charge.
 use Rattle.std.specs.Prelude.{◌≡◌, ℕ, Bool, true, false, List, [], ◌∷◌, ◌++◌}
-use Rattle.frame_word.specs.Seats.{KnownTable}
 use Rattle.group_tree.specs.Room.{has_room, IsLowestOver}
-use Rattle.group_charge.specs.Charges.{current_of, with_max_noted}
+use Rattle.group_charge.specs.Charges.{Ledger, current_of, with_max_noted}
 use Rattle.step_rules.specs.After.{Run}
 use Rattle.mem_machine.specs.Machines.{KnownMachine}
-use Rattle.mem_machine.specs.Local.{MakesForAny}
 use Rattle.mem_machine.specs.Steps.{Drain, over_steps, note_max_steps, drain_stocks_steps}
 use Rattle.mem_machine.specs.Stocks.{DrainsAllBelow, AreDrained}
 use Rattle.mem_alloc.specs.Stepping.{Course, course}
 
 -- whether the limit of the group has room for so many pages more
-abbrev pub has_room_for : KnownMachine → ℕ → ℕ → Bool
-has_room_for m g pages = has_room m.ledger.groups (current_of m.ledger) g pages
+abbrev pub has_room_for : Ledger → ℕ → ℕ → Bool
+has_room_for ledger g pages = has_room ledger.groups (current_of ledger) g pages
 
 -- the machine after it was noted that the group's usage was about to go over its limit
 abbrev pub with_max_noted_at : KnownMachine → ℕ → KnownMachine
 with_max_noted_at m g = record m { ledger = with_max_noted m.ledger g }
 
 -- it is noted that the group's usage was about to go over its limit, and then the stocks of its subtree are drained
-pub record ClearsBelow (table : KnownTable) (group : ℕ) (before after : KnownMachine) : Type 0 where
+pub record ClearsBelow (group : ℕ) (way : Course KnownMachine) : Type 0 where
   pub drains : List Drain
-  pub all : DrainsAllBelow group table.cpus drains (with_max_noted_at before group) after
-  pub drained : AreDrained group table.cpus after
-  pub steps : MakesForAny table before (note_max_steps group ++ drain_stocks_steps drains) after
+  pub all : DrainsAllBelow group way.table.cpus drains (with_max_noted_at way.before group) way.after
+  pub drained : AreDrained group way.table.cpus way.after
+  pub steps_are : way.steps ≡ note_max_steps group ++ drain_stocks_steps drains
 
--- A charge of so many pages to the group is refused at group `over`, the lowest of its path without room: that is noted there as
--- `max`, and the stocks of its subtree are drained
+-- A charge of so many pages to the group is refused at group `over`, the lowest of its path without room: that is noted
+-- there as `max`, and the stocks of its subtree are drained
 pub record IsRefusedAt (group pages over : ℕ) (way : Course KnownMachine) : Type 0 where
   pub lowest : IsLowestOver way.before.ledger.groups (current_of way.before.ledger) group pages over
-  pub drains : List Drain
-  pub all : DrainsAllBelow over way.table.cpus drains (with_max_noted_at way.before over) way.after
-  pub drained : AreDrained over way.table.cpus way.after
-  pub steps_are : way.steps ≡ over_steps group pages over ++ (note_max_steps over ++ drain_stocks_steps drains)
+  pub clearing : Run
+  pub clears : ClearsBelow over (course way.table way.before clearing way.after)
+  pub steps_are : way.steps ≡ over_steps group pages over ++ clearing
 
 -- it is refused at each of these groups, one after the other, and each has room for the pages then
 abbrev pub MakesRoom : ℕ → ℕ → List ℕ → Course KnownMachine → Type 0
 MakesRoom g pages [] way = (way.after ≡ way.before) × (way.steps ≡ [])
 MakesRoom g pages (over ∷ later) way =
     (mid : KnownMachine) × (first rest : Run) × IsRefusedAt g pages over (course way.table way.before first mid)
-    × (has_room_for mid over pages ≡ true) × MakesRoom g pages later (course way.table mid rest way.after) × (way.steps ≡ first ++ rest)
+    × (has_room_for mid.ledger over pages ≡ true) × MakesRoom g pages later (course way.table mid rest way.after)
+    × (way.steps ≡ first ++ rest)
 
--- It is refused for good at group `over`, which has no room for the pages after it was noted there and the stocks of its subtree
--- were drained. Groups that refused it before have room since
+-- It is refused for good at group `over`, which has no room for the pages after it was noted there and the stocks of
+-- its subtree were drained. The groups `refused_at` refused it before, and have room since
 pub record IsOverAt (group pages over : ℕ) (way : Course KnownMachine) : Type 0 where
-  pub before : List ℕ
+  pub refused_at : List ℕ
   pub cleared : KnownMachine
   pub making : Run
   pub last : Run
-  pub makes : MakesRoom group pages before (course way.table way.before making cleared)
+  pub makes : MakesRoom group pages refused_at (course way.table way.before making cleared)
   pub refused : IsRefusedAt group pages over (course way.table cleared last way.after)
-  pub still : has_room_for way.after over pages ≡ false
+  pub still : has_room_for way.after.ledger over pages ≡ false
   pub steps_are : way.steps ≡ making ++ last

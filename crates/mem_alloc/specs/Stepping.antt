@@ -1,12 +1,12 @@
 -- How a call is said by the steps that it is.
-use Rattle.std.specs.Prelude.{◌≡◌, []}
+use Rattle.std.specs.Prelude.{◌≡◌, [], Result, MatchResult}
 use Rattle.frame_word.specs.Seats.{KnownTable}
 use Rattle.step_rules.specs.After.{Run}
 use Rattle.mem_machine.specs.Machines.{KnownMachine}
-use Rattle.mem_machine.specs.Local.{Side, Makes}
+use Rattle.mem_machine.specs.Local.{Side, Makes, MakesForAny}
 
--- The course of a call at a table: what was there before, its steps with their answers, and what is there after. It is told of
--- a side, or of the machine alone
+-- The course of a call at a table: what was there before, its steps with their answers, and what is there after. It is
+-- told of a side, or of the machine alone
 pub record Course (Stand : Type 0) : Type 0 where
   pub table : KnownTable
   pub before : Stand
@@ -28,6 +28,16 @@ OfMachine P way = P (of_machine way)
 -- a list of local steps with their answers leads from one side to another, and this holds of that course
 abbrev pub BySteps : KnownTable → Side → Side → (Course Side → Type 0) → Type 0
 BySteps t before after P = (steps : Run) × P (course t before steps after) × Makes t before steps after
+
+-- a list of local steps leads from one machine to another, whoever holds the lock, and this holds of that course
+abbrev pub ByStepsOfAny : KnownTable → KnownMachine → KnownMachine → (Course KnownMachine → Type 0) → Type 0
+ByStepsOfAny t before after P = (steps : Run) × P (course t before steps after) × MakesForAny t before steps after
+
+-- the course of a call that answers Ok is such a one, and where it answers a cause, it is such a one of the cause
+abbrev pub ByAnswer : {T E : Type 0} → KnownTable → Side → Side → Result T E → (Course Side → Type 0)
+    → (E → Course Side → Type 0) → Type 0
+ByAnswer t before after answer Does Refuses =
+    MatchResult answer (λ done. BySteps t before after Does) (λ cause. BySteps t before after (Refuses cause))
 
 -- nothing changed, without a step
 pub record Stays (way : Course Side) : Type 0 where

@@ -28,7 +28,7 @@ fn take_charged<N: BootName>(
 ) -> Result<Frame, AllocFault>
     requires visit { Visits N.frames (side machine.old cpu.old) }
     requires there { IsTrue (has_group machine.old.ledger.groups group) }
-    requires alive { is_killed machine.old.killed group ≡ false }
+    requires not_killed { is_killed machine.old.killed group ≡ false }
     requires fits { HasRoomFor machine.old (2 ^ order) }
     requires none_back { cpu.old.back ≡ [] }
     ensures charges { BySteps N.frames (side machine.old cpu.old) (side machine.new cpu.new)
@@ -57,11 +57,12 @@ fn take_again<N: BootName>(
 ) -> Result<Frame, AllocFault>
     requires visit { Visits N.frames (side machine.old cpu.old) }
     requires there { IsTrue (has_group machine.old.ledger.groups group) }
-    requires alive { is_killed machine.old.killed group ≡ false }
+    requires not_killed { is_killed machine.old.killed group ≡ false }
     requires fits { HasRoomFor machine.old (2 ^ order) }
     requires room { PathHasRoom machine.old.ledger.groups (current_of machine.old.ledger) group (2 ^ order) }
     requires settled { (cpu.old.fresh ≡ []) × (cpu.old.back ≡ []) }
-    ensures takes { BySteps N.frames (side machine.old cpu.old) (side machine.new cpu.new) (TakesAgain group order result) }
+    ensures takes { BySteps N.frames (side machine.old cpu.old) (side machine.new cpu.new)
+        (TakesAgain group order result) }
     ensures stays { KeepsVisit N.frames (side machine.old cpu.old) (side machine.new cpu.new) }
     ensures fresh { cpu.new.fresh ≡ [] }
     ensures list { length cpu.new.list ≤ length cpu.old.list }
@@ -75,14 +76,14 @@ fn take_again<N: BootName>(
     }
 }
 
-/// Allocates a block of this order for a group that is there, for the processor that is visited and was settled: 2^`order` pages
-/// are charged to the group, and the block is a kept unit of it at once, which goes by its head.
+/// Allocates a block of this order for a group that is there, for the processor that is visited and was settled:
+/// 2^`order` pages are charged to the group, and the block is a kept unit of it at once, which goes by its head.
 ///
-/// `Killed`: the group is killed, and nothing changed. Else a limit that has no room for the pages is noted (`max`) at its group,
-/// the lowest of the path, and the stocks of that group's subtree are drained: where it has no room still, the answer is `Over`.
-/// Where no block of the order or above is free, the processor's own list goes back to the zone, and the block is tried once
-/// more. `NoFrames`: there is none then; the pages went back, and the peaks stand. The zone has at most 65,536 frames and 64
-/// processors.
+/// `Killed`: the group is killed, and nothing changed. Else a limit that has no room for the pages is noted (`max`) at
+/// its group, the lowest of the path, and the stocks of that group's subtree are drained: where it has no room still,
+/// the answer is `Over`. Where no block of the order or above is free, the processor's own list goes back to the zone,
+/// and the block is tried once more. `NoFrames`: there is none then; the pages went back, and the peaks stand. The zone
+/// has at most 65,536 frames and 64 processors.
 pub fn alloc_block<N: BootName>(
     machine: &mut Machine<N>,
     tables: &Tables<N>,
@@ -94,7 +95,8 @@ pub fn alloc_block<N: BootName>(
     requires size { IsOfSize N.frames }
     requires there { IsTrue (has_group machine.old.ledger.groups group) }
     requires settled { (cpu.old.fresh ≡ []) × (cpu.old.back ≡ []) }
-    ensures allocates { BySteps N.frames (side machine.old cpu.old) (side machine.new cpu.new) (AllocatesBlock group order result) }
+    ensures allocates { BySteps N.frames (side machine.old cpu.old) (side machine.new cpu.new)
+        (AllocatesBlock group order result) }
     ensures stays { KeepsVisit N.frames (side machine.old cpu.old) (side machine.new cpu.new) }
     ensures fresh { cpu.new.fresh ≡ [] }
     ensures list { length cpu.new.list ≤ length cpu.old.list }

@@ -1,13 +1,14 @@
 //! Pages charged for single frames: they come through the processor's stock.
 
-ghost use Rattle.std.specs.Prelude.{◌≡◌, ◌↔◌, ◌<◌, [], IsTrue, false, MatchResult, OnOk};
+ghost use Rattle.std.specs.Prelude.{◌≡◌, ◌↔◌, ◌<◌, [], IsTrue, false, OnOk};
 ghost use Rattle.zone_sizes.specs.Config.{IsValidConfig};
 ghost use Rattle.group_tree.specs.Groups.{has_group};
 ghost use Rattle.stock_word.specs.Stock.{account_of};
 ghost use Rattle.mem_machine.specs.Machines.{Visits, is_killed};
 ghost use Rattle.mem_machine.specs.Paying.{HasRoomFor, HoldsPage, IsOfSize};
-ghost use Rattle.mem_alloc.specs.Stepping.{BySteps};
-ghost use Rattle.mem_alloc.specs.Charging.{FillsAfterRoom, ChargesFrame, IsOverForOne, RefusesFrame, PaysForFrame, RefusesToPay};
+ghost use Rattle.mem_alloc.specs.Stepping.{ByAnswer};
+ghost use Rattle.mem_alloc.specs.Charging.{FillsAfterRoom, ChargesFrame, PaysForFrame};
+ghost use Rattle.mem_alloc.specs.Charging.{IsOverForOne, RefusesFrame, RefusesToPay};
 ghost use Rattle.mem_machine.specs.Local.{side};
 
 use crate::faults::AllocFault;
@@ -45,13 +46,12 @@ fn fill_one<N: BootName>(
 ) -> Result<(), AllocFault>
     requires visit { Visits N.frames (side machine.old cpu.old) }
     requires there { IsTrue (has_group machine.old.ledger.groups group) }
-    requires alive { is_killed machine.old.killed group ≡ false }
+    requires not_killed { is_killed machine.old.killed group ≡ false }
     requires fits { HasRoomFor machine.old 1 }
     requires none_fresh { cpu.old.fresh ≡ [] }
     requires drained { (account_of machine.old.stock.view cpu.old.number).filled ≡ false }
-    ensures fills { MatchResult result
-        (λ done. BySteps N.frames (side machine.old cpu.old) (side machine.new cpu.new) (FillsAfterRoom group 1))
-        (λ cause. BySteps N.frames (side machine.old cpu.old) (side machine.new cpu.new) (IsOverForOne group cause)) }
+    ensures fills { ByAnswer N.frames (side machine.old cpu.old) (side machine.new cpu.new) result
+        (FillsAfterRoom group 1) (IsOverForOne group) }
     ensures visit { Visits N.frames (side machine.new cpu.new) }
 {
     'tries: loop {
@@ -62,8 +62,8 @@ fn fill_one<N: BootName>(
     }
 }
 
-// Charges pages to the group and fills the processor's stock with them, which is drained: as many as it takes at once where
-// every limit has room for them, else one.
+// Charges pages to the group and fills the processor's stock with them, which is drained: as many as it takes at once
+// where every limit has room for them, else one.
 fn charge_frame<N: BootName>(
     machine: &mut Machine<N>,
     tables: &Tables<N>,
@@ -75,12 +75,11 @@ fn charge_frame<N: BootName>(
     requires size { IsOfSize N.frames }
     requires sizes { IsValidConfig sizes }
     requires there { IsTrue (has_group machine.old.ledger.groups group) }
-    requires alive { is_killed machine.old.killed group ≡ false }
+    requires not_killed { is_killed machine.old.killed group ≡ false }
     requires none_fresh { cpu.old.fresh ≡ [] }
     requires drained { (account_of machine.old.stock.view cpu.old.number).filled ≡ false }
-    ensures charges { MatchResult result
-        (λ done. BySteps N.frames (side machine.old cpu.old) (side machine.new cpu.new) (ChargesFrame sizes group))
-        (λ cause. BySteps N.frames (side machine.old cpu.old) (side machine.new cpu.new) (RefusesFrame sizes group cause)) }
+    ensures charges { ByAnswer N.frames (side machine.old cpu.old) (side machine.new cpu.new) result
+        (ChargesFrame sizes group) (RefusesFrame sizes group) }
     ensures visit { Visits N.frames (side machine.new cpu.new) }
 {
     machine.see_room();
@@ -102,11 +101,10 @@ pub(crate) fn pay_for_frame<N: BootName>(
     requires size { IsOfSize N.frames }
     requires sizes { IsValidConfig sizes }
     requires there { IsTrue (has_group machine.old.ledger.groups group) }
-    requires alive { is_killed machine.old.killed group ≡ false }
+    requires not_killed { is_killed machine.old.killed group ≡ false }
     requires none_fresh { cpu.old.fresh ≡ [] }
-    ensures pays { MatchResult result
-        (λ done. BySteps N.frames (side machine.old cpu.old) (side machine.new cpu.new) (PaysForFrame sizes group))
-        (λ cause. BySteps N.frames (side machine.old cpu.old) (side machine.new cpu.new) (RefusesToPay sizes group cause)) }
+    ensures pays { ByAnswer N.frames (side machine.old cpu.old) (side machine.new cpu.new) result
+        (PaysForFrame sizes group) (RefusesToPay sizes group) }
     ensures visit { Visits N.frames (side machine.new cpu.new) }
     ensures page { OnOk result (HoldsPage (side machine.new cpu.new) group) }
 {

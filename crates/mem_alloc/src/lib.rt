@@ -1,7 +1,7 @@
 //! Allocations that a processor makes under the zone's lock: pages are charged to a group, and frames are taken for it.
 //!
-//! A line that ends in 'For the clauses' calls a reader for what its contract tells, and changes nothing: what always holds
-//! of a type's values is known only where one of its calls says it.
+//! A line that ends in 'For the clauses' calls a reader for what its contract tells, and changes nothing: what always
+//! holds of a type's values is known only where one of its calls says it.
 #![tactic(auto)]
 
 mod blocks;

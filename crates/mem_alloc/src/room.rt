@@ -2,9 +2,8 @@
 
 ghost use Rattle.std.specs.Prelude.{◌≡◌, ◌<◌, IsTrue, true, false, MatchResult};
 ghost use Rattle.group_tree.specs.Groups.{has_group};
-ghost use Rattle.group_tree.specs.Room.{has_room};
-ghost use Rattle.group_charge.specs.Charges.{current_of};
 ghost use Rattle.mem_alloc.specs.declared.faults.AllocFault.TheVariants as fault;
+ghost use Rattle.mem_alloc.specs.Stepping.{ByStepsOfAny};
 ghost use Rattle.mem_alloc.specs.Room.{ClearsBelow, has_room_for};
 
 use crate::faults::AllocFault;
@@ -16,7 +15,7 @@ use mem_machine::Machine;
 // Whether the limit of the group has room for so many pages more.
 fn has_room_at(charges: &Charges, group: GroupId, pages: u32) -> bool
     requires { IsTrue (has_group charges.now.groups group) }
-    ensures { result ≡ has_room charges.now.groups (current_of charges.now) group pages }
+    ensures { result ≡ has_room_for charges.now group pages }
 {
     match charges.max(group) {
         None => true,
@@ -24,8 +23,8 @@ fn has_room_at(charges: &Charges, group: GroupId, pages: u32) -> bool
     }
 }
 
-// The group had no room for so many pages: notes that at it, and drains the stocks of its subtree. Where it has no room still,
-// the charge is refused.
+// The group had no room for so many pages: notes that at it, and drains the stocks of its subtree. Where it has no room
+// still, the charge is refused.
 pub(crate) fn make_room<N: BootName>(
     machine: &mut Machine<N>,
     tables: &Tables<N>,
@@ -33,9 +32,9 @@ pub(crate) fn make_room<N: BootName>(
     pages: u32,
 ) -> Result<(), AllocFault>
     requires { IsTrue (has_group machine.old.ledger.groups group) }
-    ensures clears { ClearsBelow N.frames group machine.old machine.new }
-    ensures room { MatchResult result (λ done. has_room_for machine.new group pages ≡ true)
-        (λ cause. (cause ≡ fault.Over group) × (has_room_for machine.new group pages ≡ false)) }
+    ensures clears { ByStepsOfAny N.frames machine.old machine.new (ClearsBelow group) }
+    ensures room { MatchResult result (λ done. has_room_for machine.new.ledger group pages ≡ true)
+        (λ cause. (cause ≡ fault.Over group) × (has_room_for machine.new.ledger group pages ≡ false)) }
     ensures fits { group < 64 }
 {
     let _number = group.number(); // For the clauses.

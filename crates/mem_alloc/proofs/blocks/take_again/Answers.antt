@@ -12,7 +12,7 @@ take_block-requires-clause-there g c =
 
 pub take_block-requires-clause-alive : goal.take_block-requires-clause-alive
 take_block-requires-clause-alive g c =
-    ap (λ l. is_killed l c.args.group) (back_part _ _ _ _ _ c.drain_list.ensures.takes).killed ∙ c.requires.alive
+    ap (λ l. is_killed l c.args.group) (back_part _ _ _ _ _ c.drain_list.ensures.takes).killed ∙ c.requires.not_killed
 
 pub take_block-requires-clause-fits : goal.take_block-requires-clause-fits
 take_block-requires-clause-fits g c =

@@ -3,6 +3,7 @@ use Rattle.group_tree.specs.Groups.{has_group}
 use Rattle.group_charge.specs.Charges.{Ledger}
 use Rattle.mem_machine.specs.Machines.{KnownMachine}
 use Rattle.mem_alloc.proofs.Lowering.{Lowers, lowers_both, note_lowers, all_lower, lowered_there}
+use Rattle.mem_alloc.proofs.Making.{clears_by}
 use Rattle.mem_alloc.proofs.room.make_room.Goals as goal
 
 pub has_room_at-requires : goal.has_room_at-requires
@@ -12,3 +13,13 @@ has_room_at-requires g c =
     subst (λ (y : KnownMachine). Lowers c.args.machine.now y) (sym c.note_max.ensures.machine) (note_lowers c.args.machine.now c.args.group) in
     let lowers = lowers_both _ _ _ noted (all_lower c.args.group g.N.BootName.frames.cpus _ _ sub.drains sub.all) in
     subst (λ (l : Ledger). has_group l.groups c.args.group ≡ true) (sym c.charges.ensures) (lowered_there _ _ c.args.group lowers c.requires)
+
+pub returns-then-has_room_at-clause-clears : goal.returns-then-has_room_at-clause-clears
+returns-then-has_room_at-clause-clears g c =
+    clears_by g.N.BootName.frames c.args.group c.drain_stocks.result c.args.machine.now c.note_max.new.self c.drain_stocks.new.self
+    c.note_max.ensures.machine c.note_max.ensures.steps c.drain_stocks.ensures.drains c.drain_stocks.ensures.drained
+
+pub returns-else-has_room_at-clause-clears : goal.returns-else-has_room_at-clause-clears
+returns-else-has_room_at-clause-clears g c =
+    clears_by g.N.BootName.frames c.args.group c.drain_stocks.result c.args.machine.now c.note_max.new.self c.drain_stocks.new.self
+    c.note_max.ensures.machine c.note_max.ensures.steps c.drain_stocks.ensures.drains c.drain_stocks.ensures.drained
