@@ -7,11 +7,11 @@
 
 mod allocations;
 mod audit;
+mod boot_end;
 mod boot_tables;
 mod boots;
 mod command;
 mod directories;
-mod ends;
 mod files;
 mod gates;
 mod last_visits;
@@ -19,22 +19,22 @@ mod lock;
 mod outcome;
 mod owners;
 mod releases;
-mod shutdowns;
 mod system;
+mod system_end;
 mod texts;
 mod units;
 mod visits;
 
 pub use allocations::carry_out_frame;
 pub use audit::Audit;
+pub use boot_end::{Pinned, end};
 pub use boot_tables::{BootFault, boot};
 pub use boots::Boot;
 pub use command::{Cmd, Reply};
-pub use ends::{Pinned, end};
 pub use gates::{Gate, NoGate};
 pub use lock::Locked;
 pub use outcome::Outcome;
-pub use shutdowns::Held;
 pub use system::System;
+pub use system_end::Held;
 pub use texts::{blocks, settle, show};
 pub use visits::{carry_out, serve};
