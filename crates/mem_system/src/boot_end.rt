@@ -87,9 +87,10 @@ fn close<N: BootName>(
     let _stock_words = stocks.close(seat, stock_seats);
 }
 
-/// Ends a boot, from all that it consists of: as many processors' parts as it has processors, in any order. Where no pin remains,
-/// each processor is settled in a visit; then each processor's list is given back and its stock drained, in a visit; then the
-/// tables are closed, and the answer is what was counted. Where a pin remains, nothing is done, and all is given back.
+/// Ends a boot, from all that it consists of: as many processors' parts as it has processors, in any order. Where no
+/// pin remains, each processor is settled in a visit; then each processor's list is given back and its stock drained,
+/// in a visit; then the tables are closed, and the answer is what was counted. Where a pin remains, nothing is done,
+/// and all is given back.
 pub fn end<N: BootName>(
     tables: Tables<N>,
     locked: Locked<N>,

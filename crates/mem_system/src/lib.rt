@@ -1,8 +1,8 @@
-//! The system: a boot's tables, the machine behind the zone's lock and a part for each processor, and the commands that a
-//! processor makes under that lock.
+//! The system: a boot's tables, the machine behind the zone's lock and a part for each processor, and the commands
+//! that a processor makes under that lock.
 //!
-//! A line that ends in 'For the clauses' calls a reader for what its contract tells, and changes nothing: what always holds
-//! of a type's values is known only where one of its calls says it.
+//! A line that ends in 'For the clauses' calls a reader for what its contract tells, and changes nothing: what always
+//! holds of a type's values is known only where one of its calls says it.
 #![tactic(auto)]
 
 mod allocations;

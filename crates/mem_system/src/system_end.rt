@@ -19,8 +19,9 @@ pub struct Held<N: BootName> {
 }
 
 impl<N: BootName> System<N> {
-    /// Shuts the system down, with all its processors' parts in any order, as `end` does. `Held` comes exactly where a pin
-    /// remains. No clause can name what lies behind the lock, so it is said that there was such a value, which ended so.
+    /// Shuts the system down, with all its processors' parts in any order, as `end` does. `Held` comes exactly where
+    /// a pin remains. No clause can name what lies behind the lock, so it is said that there was such a value, which
+    /// ended so.
     pub fn shutdown(self, cpus: Vec<Cpu<N>>) -> Result<Audit, Held<N>>
         requires { length cpus.items ≡ N.frames.cpus }
         ensures ends { IfOk result (λ a. (l : KnownLocked) × Ends N.frames N.stocks l cpus.items a) }
