@@ -2,7 +2,7 @@
 #![tactic(auto)]
 
 pub mod command_line;
-pub mod ending;
 pub mod fault;
 pub mod program;
+pub mod run_end;
 pub mod running;

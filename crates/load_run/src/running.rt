@@ -6,7 +6,7 @@ ghost use Rattle.script_replay.specs.Ranges.{LineIsThere};
 ghost use Rattle.load_run.specs.Answers.{AreAnswers};
 ghost use Rattle.load_run.specs.Ending.{end_text};
 
-use crate::ending::{Ended, finish, write_end};
+use crate::run_end::{Ended, finish, write_end};
 use cpu_part::BootName;
 use mem_system::Boot;
 use script_lines::line::Line;

@@ -24,7 +24,8 @@ pub record IsSizedAs (sizes : Config) (table : KnownTable) (words : Words) : Typ
   pub cpus : table.cpus ≡ sizes.cpus
   pub stock_cpus : words.cpus ≡ sizes.cpus
 
--- the sizes are in their ranges, the tables have them, and the seats are all those of the tables, none of which did anything
+-- the sizes are in their ranges, the tables have them, and the seats are all those of the tables, none of which did
+-- anything
 pub record IsBooted (boot : KnownBoot) (zone : KnownSeat) (stock : Seated) (frame_seats : List KnownSeat) (stock_seats : List Seated) : Type 0 where
   pub valid : IsValidConfig boot.sizes
   pub sized : IsSizedAs boot.sizes boot.frames boot.stocks

@@ -1,7 +1,9 @@
 -- What each command does to the machine, what it answers, and its steps.
-use Rattle.std.specs.Prelude.{◌≡◌, ℕ, true, false, ◌<◌, ◌≤◌, Option, Some, None, List, [], ◌++◌}
-use Rattle.frame_word.specs.Seats.{KnownTable, seat_with_visit}
-use Rattle.group_tree.specs.Groups.{make_fault}
+use Rattle.std.specs.Prelude.{◌≡◌, ℕ, true, false, ◌+◌, ◌<◌, ◌≤◌, Option, Some, None, List, [], ◌++◌, length}
+use Rattle.std.specs.Borrow.{Bor}
+use Rattle.frame_word.specs.Seats.{KnownTable, LentIsBorrowed, seat_with_visit}
+use Rattle.stock_word.specs.Stock.{Words}
+use Rattle.group_tree.specs.Groups.{make_fault, number_at}
 use Rattle.group_tree.specs.declared.fault.Fault.TheVariants.{Busy}
 use Rattle.group_charge.specs.Charges.{current_of, with_group_limit, with_group_removed}
 use Rattle.control_files.specs.declared.file.File.TheVariants.{Max}
@@ -20,7 +22,9 @@ use Rattle.mem_system.specs.declared.command.Cmd.{Cmd}
 use Rattle.mem_system.specs.declared.command.Cmd.TheVariants.{Mkdir, Rmdir, Write, Read, Settle, Owner, Touch, Dirty, Clean, Release, Alloc}
 use Rattle.mem_system.specs.declared.command.Reply.{Reply}
 use Rattle.mem_system.specs.declared.command.Reply.TheVariants.{Group, Done, Refused}
-use Rattle.mem_system.specs.Boots.{KnownLocked}
+use Rattle.mem_system.specs.declared.outcome.Outcome.{Outcome}
+use Rattle.mem_system.specs.Outcomes.{reply_of}
+use Rattle.mem_system.specs.Boots.{KnownLocked, IsQuiet}
 use Rattle.mem_system.specs.Leaves.{IsLeafAt, HasNoLeaf}
 use Rattle.mem_system.specs.Files.{IsFileOf, Reads, RefusesWrite, IsAbove}
 use Rattle.mem_system.specs.Owners.{TellsPlace}
@@ -28,8 +32,8 @@ use Rattle.mem_system.specs.Kept.{TouchesFrame, NotesDirt}
 use Rattle.mem_system.specs.Releases.{ReleasesFrame}
 use Rattle.mem_system.specs.Allocs.{Allocates, FreshOf}
 
--- Mkdir: no cause of a refusal holds, and the group is made, as the machine makes it; or it is refused for the first cause that
--- holds, and nothing changed
+-- Mkdir: no cause of a refusal holds, and the group is made, as the machine makes it; or it is refused for the first
+-- cause that holds, and nothing changed
 abbrev pub MakesGroup : List ℕ → Reply → Course KnownMachine → Type 0
 MakesGroup path (Group n) way = (make_fault way.before.ledger.groups path ≡ None) × AddsGroup way.before n path way.after × (way.steps ≡ make_steps path n)
 MakesGroup path (Refused fault) way = (make_fault way.before.ledger.groups path ≡ Some fault) × (way.after ≡ way.before) × (way.steps ≡ [])
@@ -55,8 +59,8 @@ pub record StaysBusy (path : List ℕ) (way : Course KnownMachine) : Type 0 wher
   pub pages : 1 ≤ current_of way.after.ledger group
   pub steps_are : way.steps ≡ drain_stocks_steps drains
 
--- Rmdir: the group is gone; or pages stay charged to it, and the drained ones are given back; or there is no such group, and
--- nothing changed
+-- Rmdir: the group is gone; or pages stay charged to it, and the drained ones are given back; or there is no such
+-- group, and nothing changed
 abbrev pub Removes : List ℕ → Reply → Course KnownMachine → Type 0
 Removes path Done way = RemovesGroup path way
 Removes path (Refused Busy) way = StaysBusy path way
@@ -67,7 +71,8 @@ Removes path other way = ⊥
 abbrev pub with_limit_of : KnownMachine → ℕ → Option ℕ → KnownMachine
 with_limit_of m g limit = record m { ledger = with_group_limit m.ledger g limit }
 
--- The group gets the limit. Where its usage is above it, the stocks of its subtree are drained; else nothing else changed
+-- The group gets the limit. Where its usage is above it, the stocks of its subtree are drained; else nothing else
+-- changed
 pub record SetsLimit (group : ℕ) (limit : Option ℕ) (way : Course KnownMachine) : Type 0 where
   pub drains : List Drain
   pub above : IsAbove (current_of (with_limit_of way.before group limit).ledger group) limit
@@ -122,6 +127,19 @@ abbrev pub FreshAfter : Cmd → Reply → List ℕ → Type 0
 FreshAfter (Alloc path order) reply fresh = FreshOf reply order fresh
 FreshAfter other reply fresh = fresh ≡ []
 
+-- so they are, and no frame is back
+abbrev pub IsSettledAfter : Cmd → Reply → KnownCpu → Type 0
+IsSettledAfter cmd reply cpu = FreshAfter cmd reply cpu.fresh × (cpu.back ≡ [])
+
+-- where the processor's list had at most `high` frames, it has
+abbrev pub ListStaysWithin : Config → KnownCpu → KnownCpu → Type 0
+ListStaysWithin sizes before after = length before.list ≤ sizes.high → length after.list ≤ sizes.high
+
+-- where the processor's list had at most `high` frames, its list and its fresh frames together have
+abbrev pub ListAndFreshStayWithin : Config → KnownCpu → KnownCpu → Type 0
+ListAndFreshStayWithin sizes before after =
+    length before.list ≤ sizes.high → length after.list + length after.fresh ≤ sizes.high
+
 -- the machine with p's visit open (1) or shut (0)
 abbrev pub with_visit_of : KnownMachine → ℕ → ℕ → KnownMachine
 with_visit_of m p state = record m { seat = seat_with_visit m.seat p state }
@@ -143,7 +161,8 @@ holder locked cpu = record { locked = locked; cpu = cpu }
 abbrev pub side_of : Holder → Side
 side_of held = side held.locked.machine held.cpu
 
--- A command under the lock: the caller's visit is opened, its part is settled, the command is obeyed, and the visit is shut
+-- A command under the lock: the caller's visit is opened, its part is settled, the command is obeyed, and the visit
+-- is shut
 pub record Serves (cmd : Cmd) (reply : Reply) (way : Course Holder) : Type 0 where
   pub settled : Side
   pub settles : Settles (visited (side_of way.before)) settled
@@ -158,3 +177,20 @@ pub record Serves (cmd : Cmd) (reply : Reply) (way : Course Holder) : Type 0 whe
 abbrev pub IsServed : KnownTable → Cmd → Holder → Reply → Holder → Type 0
 IsServed t cmd before reply after =
     (steps : Run) × Serves cmd reply (course t before steps after) × Makes t (side_of before) steps (side_of after)
+
+-- so it was, and the command came to this, of which the charges then tell the reply
+abbrev pub IsCarriedOut : KnownTable → Cmd → Holder → Outcome → Holder → Type 0
+IsCarriedOut t cmd before outcome after = IsServed t cmd before (reply_of after.locked.machine.ledger outcome) after
+
+-- so it was with an Alloc of order 0, for each path of the group
+abbrev pub IsCarriedOutFor : KnownTable → ℕ → Holder → Outcome → Holder → Type 0
+IsCarriedOutFor t group before outcome after =
+    (path : Bor (List ℕ)) → number_at before.locked.machine.ledger.groups path.now ≡ Some group
+    → IsCarriedOut t (Alloc path 0) before outcome after
+
+-- Through the lock: there was such a value behind it, with no visit open; the command was served in it; and what it
+-- lends the processor then are the frames that the processor's seat has borrowed
+abbrev pub IsVisited : KnownTable → Words → Cmd → KnownCpu → Reply → KnownCpu → Type 0
+IsVisited t w cmd before reply after =
+    (l : KnownLocked) × (k : KnownLocked) × IsQuiet t w l × IsServed t cmd (holder l before) reply (holder k after)
+    × LentIsBorrowed t k.machine.seat after.seat

@@ -1,4 +1,5 @@
--- How a system ends: each processor is settled, each list given back and each stock drained, and then the tables are closed.
+-- How a system ends: each processor is settled, each list given back and each stock drained, and then the tables are
+-- closed.
 use Rattle.std.specs.Prelude.{◌≡◌, ℕ, ◌+◌, ◌≤◌, ◌<◌, false, is_some, List, [], ◌∷◌, ◌++◌, length, map, min, sum_by, slice_index, All}
 use Rattle.frame_word.specs.ReferenceRule.{ReferenceRule}
 use Rattle.step_rules.specs.State.{one_if}
@@ -49,12 +50,14 @@ pub record Empties (way : Course Side) : Type 0 where
   pub machine : way.after.machine ≡ with_visit_of drained way.before.cpu.number 0
   pub steps_are : way.steps ≡ open_steps way.before.cpu.number
       ++ (drain_list_steps way.before.cpu.number way.before.cpu.list
-      ++ (drain_steps way.before.cpu.number (stock_group emptied way.before.cpu.number) pages ++ shut_steps way.before.cpu.number))
+      ++ (drain_steps way.before.cpu.number (stock_group emptied way.before.cpu.number) pages
+      ++ shut_steps way.before.cpu.number))
 
 -- so it is with these processors, one after the other, each by local steps of its own
 abbrev pub InTurn : KnownTable → Happens → KnownMachine → List KnownCpu → KnownMachine → List KnownCpu → Type 0
 InTurn t P m [] n [] = n ≡ m
-InTurn t P m (c ∷ cpus) n (d ∷ rest) = (mid : KnownMachine) × BySteps t (side m c) (side mid d) P × InTurn t P mid cpus n rest
+InTurn t P m (c ∷ cpus) n (d ∷ rest) =
+    (mid : KnownMachine) × BySteps t (side m c) (side mid d) P × InTurn t P mid cpus n rest
 InTurn t P m cpus n rest = ⊥
 
 -- nothing of the processor is fresh or back, and it has no pin
@@ -73,10 +76,11 @@ pub record IsSpent (table : KnownTable) (words : Words) (machine : KnownMachine)
 -- no frame was lent to anyone, and no stock was filled
 pub record LeavesAlone (before after : KnownMachine) : Type 0 where
   pub none_lent : (p : ℕ) → NoneLentTo p before.spots → NoneLentTo p after.spots
-  pub drained : (p : ℕ) → (account_of before.stock.view p).filled ≡ false → (account_of after.stock.view p).filled ≡ false
+  pub drained : (p : ℕ) → (account_of before.stock.view p).filled ≡ false
+      → (account_of after.stock.view p).filled ≡ false
 
--- What the audit tells of the machine, with so many drops of the processors' own, each of which is a return too. A count stays
--- at its greatest
+-- What the audit tells of the machine, with so many drops of the processors' own, each of which is a return too. A
+-- count stays at its greatest
 pub record Tells (table : KnownTable) (machine : KnownMachine) (own : ℕ) (audit : Audit) : Type 0 where
   pub frames : audit.frames ≡ table.frames
   pub free : audit.free ≡ frames_free machine.spots
@@ -86,8 +90,8 @@ pub record Tells (table : KnownTable) (machine : KnownMachine) (own : ℕ) (audi
   pub drops : audit.drops ≡ min (machine.counts.drops + own) max_count
   pub returns : audit.returns ≡ min (machine.counts.returns + own) max_count
 
--- Each frame is free or charged, and each unit that came back was put last, frozen or dropped, as far as the counts go, which
--- stay at their greatest
+-- Each frame is free or charged, and each unit that came back was put last, frozen or dropped, as far as the counts
+-- go, which stay at their greatest
 pub record AddsUp (audit : Audit) : Type 0 where
   pub places : audit.free + audit.charged ≡ audit.frames
   pub balances : audit.returns ≡ min (audit.last_puts + audit.freezes + audit.drops) max_count
@@ -100,20 +104,33 @@ frame_seat_of c = c.seat
 abbrev pub stock_seat_of : KnownCpu → Seated
 stock_seat_of c = c.stock
 
--- Both tables are closed with these seats and the machine's, which was consistent. The frames' words keep the reference rule.
--- Each processor has a seat at the stocks' table, and the stocks' words are what it and the machine's seat tell
-pub record IsClosed (table : KnownTable) (stock_table : Words) (machine : KnownMachine) (frame_seats : List KnownSeat) (stock_seats : List Seated) : Type 0 where
+-- one of the seats is that of processor p
+abbrev pub HasSeatOf : List Seated → ℕ → Type 0
+HasSeatOf seats p = (k : ℕ) × (k < length seats) × ((view_in seats k).number ≡ p)
+
+-- the words tell the stock of the processor whose seat is the k-th
+abbrev pub TellsStockAt : List ℕ → KnownMachine → List Seated → ℕ → Type 0
+TellsStockAt words machine seats k =
+    IsStockOf words (view_in seats k).number machine.stock.view (view_in seats k)
+
+-- Both tables are closed with these seats and the machine's, which was consistent. The frames' words keep the
+-- reference rule. Each processor has a seat at the stocks' table, and the stocks' words are what it and the machine's
+-- seat tell
+pub record IsClosed (table : KnownTable) (stock_table : Words) (machine : KnownMachine)
+    (frame_seats : List KnownSeat) (stock_seats : List Seated) : Type 0 where
   pub consistent : IsConsistent table stock_table machine
   pub words : List ℕ
   pub rule : ReferenceRule table.frames table.cpus words ((machine.seat.view ∷ map view_of frame_seats) ∷ [])
   pub stock_words : List ℕ
-  pub each : (p : ℕ) → 0 < p → p ≤ stock_table.cpus → (k : ℕ) × (k < length stock_seats) × ((view_in stock_seats k).number ≡ p)
-  pub stocks : (k : ℕ) → k < length stock_seats → IsStockOf stock_words (view_in stock_seats k).number machine.stock.view (view_in stock_seats k)
+  pub each : (p : ℕ) → 0 < p → p ≤ stock_table.cpus → HasSeatOf stock_seats p
+  pub stocks : (k : ℕ) → k < length stock_seats → TellsStockAt stock_words machine stock_seats k
 
--- the words of the table at the end: they keep the reference rule with the seats' views, and each frame's word is the zone's
--- reference where the frame heads a kept unit, else 0
-pub record AreLastWords (table : KnownTable) (machine : KnownMachine) (cpus : List KnownCpu) (last : List ℕ) : Type 0 where
-  pub rule : ReferenceRule table.frames table.cpus last ((machine.seat.view ∷ map view_of (map frame_seat_of cpus)) ∷ [])
+-- the words of the table at the end: they keep the reference rule with the seats' views, and each frame's word is the
+-- zone's reference where the frame heads a kept unit, else 0
+pub record AreLastWords (table : KnownTable) (machine : KnownMachine) (cpus : List KnownCpu)
+    (last : List ℕ) : Type 0 where
+  pub rule : ReferenceRule table.frames table.cpus last
+      ((machine.seat.view ∷ map view_of (map frame_seat_of cpus)) ∷ [])
   pub references : (f : ℕ) → f < table.frames → slice_index last f ≡ one_if (is_some (home_of machine.links f))
 
 -- the words of processor p's stock have no page, and neither has its book
@@ -124,9 +141,11 @@ pub record HasNoPage (machine : KnownMachine) (stock_words : List ℕ) (processo
   pub none_reported : slice_index stock_words (report_place processor) ≡ 0
   pub book : (account_of machine.stock.view processor).book ≡ 0
 
--- The end of a boot where no pin remains: each processor is settled, each list is given back and each stock drained. No frame
--- is lent to anyone then, the closed words tell each processor's stock, no page is in one, and the audit tells what was counted
-pub record Ends (table : KnownTable) (stock_table : Words) (locked : KnownLocked) (cpus : List KnownCpu) (audit : Audit) : Type 0 where
+-- The end of a boot where no pin remains: each processor is settled, each list is given back and each stock drained.
+-- No frame is lent to anyone then, the closed words tell each processor's stock, no page is in one, and the audit
+-- tells what was counted
+pub record Ends (table : KnownTable) (stock_table : Words) (locked : KnownLocked) (cpus : List KnownCpu)
+    (audit : Audit) : Type 0 where
   pub quiet : IsQuiet table stock_table locked
   pub no_pin : pins_of cpus ≡ 0
   pub settled : KnownMachine

@@ -14,7 +14,8 @@ pub record HeadsNoUnit (frame : ℕ) (way : Course KnownMachine) : Type 0 where
   pub machine : way.after ≡ way.before
   pub steps_are : way.steps ≡ []
 
--- Touch: the unit is marked, on the inactive list; or it is at the newest end of the active list, unmarked; or there is none
+-- Touch: the unit is marked, on the inactive list; or it is at the newest end of the active list, unmarked; or there
+-- is none
 abbrev pub TouchesFrame : ℕ → Reply → Course KnownMachine → Type 0
 TouchesFrame f Marked way = TouchesUnit way.before f touched.Marked way.after × (way.steps ≡ [])
 TouchesFrame f Active way = TouchesUnit way.before f touched.Moved way.after × (way.steps ≡ [])

@@ -30,7 +30,8 @@ pub record ListsFrame (sizes : Config) (frame : ℕ) (way : Course Side) : Type 
   pub lends : LendsFrame frame mid way.after
   pub steps_are : way.steps ≡ cutting ++ lend_steps way.before.cpu.number frame
 
--- The unit is off its list and came back, uncharged; a single frame is on the processor's list then, and a block stays free
+-- The unit is off its list and came back, uncharged; a single frame is on the processor's list then, and a block
+-- stays free
 pub record ReturnsFrames (sizes : Config) (frame : ℕ) (way : Course Side) : Type 0 where
   pub freed : KnownMachine
   pub returns : ReturnsUnit way.before.machine frame freed

@@ -1,17 +1,15 @@
 //! Frames and blocks that are allocated for the group of a path.
 
-ghost use Rattle.std.specs.Prelude.{◌≡◌, ◌≢◌, ℕ, ◌+◌, ◌<◌, ◌≤◌, List, [], length, IsTrue, Some, Err};
+ghost use Rattle.std.specs.Prelude.{◌≡◌, ℕ, [], IsTrue, Err};
 ghost use Rattle.zone_sizes.specs.Config.{IsValidConfig};
-ghost use Rattle.group_tree.specs.Groups.{has_group, number_at};
+ghost use Rattle.group_tree.specs.Groups.{has_group};
 ghost use Rattle.mem_machine.specs.Machines.{KeepsVisit, Visits};
 ghost use Rattle.mem_alloc.specs.declared.faults.AllocFault.TheVariants as cause_is;
 ghost use Rattle.mem_system.specs.Boots.{IsSizedAs};
 ghost use Rattle.mem_system.specs.Allocs.{Allocates, AllocatesAs, FreshOf, HasFreshFor, outcome_of};
 ghost use Rattle.mem_system.specs.Outcomes.{HasItsGroups, reply_of};
-ghost use Rattle.mem_system.specs.Commands.{BySteps, IsServed, holder};
-ghost use Rattle.mem_system.specs.declared.command.Cmd.TheVariants.{Alloc};
+ghost use Rattle.mem_system.specs.Commands.{BySteps, IsCarriedOutFor, ListAndFreshStayWithin, holder};
 ghost use Rattle.frame_word.specs.Seats.{LentIsBorrowed, NothingPasses};
-ghost use Rattle.std.specs.Borrow.{Bor};
 ghost use Rattle.mem_machine.specs.Local.{side};
 
 use crate::lock::Locked;
@@ -53,10 +51,11 @@ fn allocate_as<N: BootName>(
     requires sized { IsSizedAs sizes N.frames N.stocks }
     requires there { IsTrue (has_group machine.old.ledger.groups group) }
     requires settled { (cpu.old.fresh ≡ []) × (cpu.old.back ≡ []) }
-    ensures allocates { BySteps N.frames (side machine.old cpu.old) (side machine.new cpu.new) (AllocatesAs sizes group order result) }
+    ensures allocates { BySteps N.frames (side machine.old cpu.old) (side machine.new cpu.new)
+        (AllocatesAs sizes group order result) }
     ensures stays { KeepsVisit N.frames (side machine.old cpu.old) (side machine.new cpu.new) }
     ensures fresh { HasFreshFor order result cpu.new.fresh }
-    ensures at_most_high { length cpu.old.list ≤ sizes.high → length cpu.new.list + length cpu.new.fresh ≤ sizes.high }
+    ensures at_most_high { ListAndFreshStayWithin sizes cpu.old cpu.new }
     ensures there { (g : ℕ) → result ≡ Err (cause_is.Over g) → IsTrue (has_group machine.new.ledger.groups g) }
 {
     if order.exponent() == 0 {
@@ -84,7 +83,7 @@ pub(crate) fn allocate<N: BootName>(
     ensures groups { HasItsGroups machine.new.ledger result }
     ensures stays { KeepsVisit N.frames (side machine.old cpu.old) (side machine.new cpu.new) }
     ensures fresh { FreshOf (reply_of machine.new.ledger result) order cpu.new.fresh }
-    ensures at_most_high { length cpu.old.list ≤ sizes.high → length cpu.new.list + length cpu.new.fresh ≤ sizes.high }
+    ensures at_most_high { ListAndFreshStayWithin sizes cpu.old cpu.new }
 {
     let Some(group) = machine.charges().tree().find(path) else {
         return Outcome::Refused(Fault::NoGroup);
@@ -96,7 +95,8 @@ pub(crate) fn allocate<N: BootName>(
     outcome_of(&answer)
 }
 
-/// Serves an Alloc of order 0 for a group that is there, as `carry_out` does for each path of that group: no path is sought.
+/// Serves an Alloc of order 0 for a group that is there, as `carry_out` does for each path of that group: no path is
+/// sought.
 #[inline(always)]
 pub fn carry_out_frame<N: BootName>(
     locked: &mut Locked<N>,
@@ -105,12 +105,11 @@ pub fn carry_out_frame<N: BootName>(
     group: GroupId,
 ) -> Outcome
     requires there { IsTrue (has_group locked.old.machine.ledger.groups group) }
-    ensures served { (path : Bor (List ℕ)) → number_at locked.old.machine.ledger.groups path.now ≡ Some group
-        → IsServed N.frames (Alloc path 0) (holder locked.old cpu.old) (reply_of locked.new.machine.ledger result) (holder locked.new cpu.new) }
+    ensures served { IsCarriedOutFor N.frames group (holder locked.old cpu.old) result (holder locked.new cpu.new) }
     ensures groups { HasItsGroups locked.new.machine.ledger result }
     ensures fresh { FreshOf (reply_of locked.new.machine.ledger result) 0 cpu.new.fresh }
     ensures back { cpu.new.back ≡ [] }
-    ensures at_most_high { length cpu.old.list ≤ locked.old.sizes.high → length cpu.new.list + length cpu.new.fresh ≤ locked.old.sizes.high }
+    ensures at_most_high { ListAndFreshStayWithin locked.old.sizes cpu.old cpu.new }
     ensures still { NothingPasses N.frames locked.new.machine.seat cpu.new.seat }
     ensures lent { LentIsBorrowed N.frames locked.new.machine.seat cpu.new.seat }
 {

@@ -40,9 +40,9 @@ impl Model for Boot {
 }
 
 impl Boot {
-    /// Makes what the boot consists of, under a name of its tables: the tables, what lies behind the lock, and a part for
-    /// each processor, in order. All room that later calls need is reserved here. `AllocError` comes where memory is
-    /// wanting; nothing stays then.
+    /// Makes what the boot consists of, under a name of its tables: the tables, what lies behind the lock, and a part
+    /// for each processor, in order. All room that later calls need is reserved here. `AllocError` comes where memory
+    /// is wanting; nothing stays then.
     pub fn part<N: BootName>(
         self,
         alloc: Global,

@@ -1,12 +1,12 @@
 //! What a processor asks for under the lock, how it is obeyed, and what is answered.
 
-ghost use Rattle.std.specs.Prelude.{◌≡◌, ◌+◌, ◌≤◌, [], length};
+ghost use Rattle.std.specs.Prelude.{◌≡◌, []};
 ghost use Rattle.zone_sizes.specs.Config.{IsValidConfig};
 ghost use Rattle.mem_machine.specs.Machines.{KeepsVisit, Visits};
 ghost use Rattle.mem_machine.specs.Local.{side};
 ghost use Rattle.mem_system.specs.Boots.{IsSizedAs};
 ghost use Rattle.mem_system.specs.Outcomes.{HasItsGroups, reply_of};
-ghost use Rattle.mem_system.specs.Commands.{BySteps, FreshAfter, IsOfZone, Obeys};
+ghost use Rattle.mem_system.specs.Commands.{BySteps, FreshAfter, IsOfZone, ListAndFreshStayWithin, Obeys};
 
 use crate::allocations::allocate;
 use crate::directories::{make_group, remove_group};
@@ -124,7 +124,7 @@ pub(crate) fn obey<N: BootName>(
     ensures groups { HasItsGroups machine.new.ledger result }
     ensures stays { KeepsVisit N.frames (side machine.old cpu.old) (side machine.new cpu.new) }
     ensures fresh { FreshAfter cmd.now (reply_of machine.new.ledger result) cpu.new.fresh }
-    ensures at_most_high { length cpu.old.list ≤ sizes.high → length cpu.new.list + length cpu.new.fresh ≤ sizes.high }
+    ensures at_most_high { ListAndFreshStayWithin sizes cpu.old cpu.new }
 {
     match cmd {
         Cmd::Mkdir { path } => make_group(machine, path),

@@ -88,7 +88,8 @@ fn set_limit<N: BootName>(
 )
     requires there { IsTrue (has_group machine.old.ledger.groups group) }
     requires below_root { group ≢ 0 }
-    ensures sets { (c : KnownCpu) → BySteps N.frames (side machine.old c) (side machine.new c) (OfMachine (SetsLimit group limit)) }
+    ensures sets { (c : KnownCpu) → BySteps N.frames (side machine.old c) (side machine.new c)
+        (OfMachine (SetsLimit group limit)) }
     ensures seat { machine.new.seat ≡ machine.old.seat }
 {
     machine.set_max(group, limit);

@@ -2,13 +2,16 @@
 
 /// What is called around each line of a processor, and once in each of its visits. It changes nothing of the system.
 pub trait Gate {
-    /// Before the processor comes to the line of this number.
+    /// Before the processor comes to the line of this number. No visit calls it, since none knows of lines: whoever
+    /// serves a processor line by line does, right before each.
     fn before(&self, cpu: u32, line: usize);
 
-    /// Inside a visit of the processor: the lock is held, and the command isn't served yet.
+    /// Inside a visit of the processor: the lock is held, and the command isn't served yet. `System::visit_with`
+    /// calls it.
     fn inside(&self, cpu: u32);
 
-    /// After the line of this number was answered to the processor.
+    /// After the line of this number was answered to the processor. As with `before`, whoever serves the lines calls
+    /// it.
     fn after(&self, cpu: u32, line: usize);
 }
 

@@ -1,17 +1,17 @@
-//! The system: a boot's tables, the machine behind the zone's lock and a part for each processor, and the commands that a
-//! processor makes under that lock.
+//! The system: a boot's tables, the machine behind the zone's lock and a part for each processor, and the commands
+//! that a processor makes under that lock.
 //!
-//! A line that ends in 'For the clauses' calls a reader for what its contract tells, and changes nothing: what always holds
-//! of a type's values is known only where one of its calls says it.
+//! A line that ends in 'For the clauses' calls a reader for what its contract tells, and changes nothing: what always
+//! holds of a type's values is known only where one of its calls says it.
 #![tactic(auto)]
 
 mod allocations;
 mod audit;
+mod boot_end;
 mod boot_tables;
 mod boots;
 mod command;
 mod directories;
-mod ends;
 mod files;
 mod gates;
 mod last_visits;
@@ -19,22 +19,22 @@ mod lock;
 mod outcome;
 mod owners;
 mod releases;
-mod shutdowns;
 mod system;
+mod system_end;
 mod texts;
 mod units;
 mod visits;
 
 pub use allocations::carry_out_frame;
 pub use audit::Audit;
+pub use boot_end::{Pinned, end};
 pub use boot_tables::{BootFault, boot};
 pub use boots::Boot;
 pub use command::{Cmd, Reply};
-pub use ends::{Pinned, end};
 pub use gates::{Gate, NoGate};
 pub use lock::Locked;
 pub use outcome::Outcome;
-pub use shutdowns::Held;
 pub use system::System;
+pub use system_end::Held;
 pub use texts::{blocks, settle, show};
 pub use visits::{carry_out, serve};

@@ -1,11 +1,14 @@
 //! What lies behind the zone's lock.
 
 ghost use Rattle.std.specs.Prelude.{◌≡◌};
+ghost use Rattle.group_tree.specs.Groups.{number_at};
 ghost use Rattle.mem_machine.specs.Machines.{IsConsistent};
 ghost use Rattle.mem_system.specs.Boots.{IsQuiet};
 
 use cpu_part::BootName;
 use frame_word::FrameSeat;
+use group_charge::charges::Charges;
+use group_tree::group::GroupId;
 use mem_machine::Machine;
 use std::marker::Model;
 use stock_word::StockSeat;
@@ -30,12 +33,13 @@ impl<N: BootName> Model for Locked<N> {
     ghost view = { λ l. record { machine = l.machine; sizes = l.sizes } };
 
     ghost invariant = { λ l. IsQuiet N.frames N.stocks (record { machine = l.machine; sizes = l.sizes })
-        × HasRoom l.sizes.cpus (length l.frame_seats.items) (vec_capacity l.frame_seats) (length l.stock_seats.items) (vec_capacity l.stock_seats) };
+        × HasRoom l.sizes.cpus (length l.frame_seats.items) (vec_capacity l.frame_seats)
+        (length l.stock_seats.items) (vec_capacity l.stock_seats) };
 }
 
 impl<N: BootName> Locked<N> {
-    /// Shows what always holds behind the lock: no visit is open, the sizes are in their ranges and are those of the tables,
-    /// and the machine is consistent. It does nothing.
+    /// Shows what always holds behind the lock: no visit is open, the sizes are in their ranges and are those of the
+    /// tables, and the machine is consistent. It does nothing.
     pub fn see_quiet(&self)
         ensures quiet { IsQuiet N.frames N.stocks self.now }
         ensures consistent { IsConsistent N.frames N.stocks self.now.machine }
@@ -50,5 +54,19 @@ impl<N: BootName> Locked<N> {
     {
         let _spots = self.machine.spots(); // For the clauses.
         &self.machine
+    }
+
+    /// The group of this path; None where no group has it.
+    pub fn find(&self, path: &[u8]) -> Option<GroupId>
+        ensures found { result ≡ number_at self.now.machine.ledger.groups path.now }
+    {
+        self.machine.charges().tree().find(path)
+    }
+
+    /// The charges of the groups, and the tree of their paths and limits.
+    pub fn charges(&self) -> &Charges
+        ensures { result.now ≡ self.now.machine.ledger }
+    {
+        self.machine.charges()
     }
 }

@@ -9,8 +9,8 @@ use group_charge::charges::Charges;
 use group_tree::fault::Fault;
 use group_tree::group::GroupId;
 
-/// What a command came to: a `Reply` without its texts, which the charges tell while the lock is held. It is small, so whoever
-/// writes a reply at once needs no room for a path.
+/// What a command came to: a `Reply` without its texts, which the charges tell while the lock is held. It is small,
+/// so whoever writes a reply at once needs no room for a path.
 #[derive(Clone, Copy, Debug, PartialEq, Eq)]
 pub enum Outcome {
     /// The group that was made.

@@ -8,7 +8,7 @@ ghost use Rattle.mem_machine.specs.Spots.{spot_at};
 ghost use Rattle.mem_machine.specs.Machines.{KeepsVisit, Visits};
 ghost use Rattle.mem_system.specs.Outcomes.{HasItsGroups, reply_of};
 ghost use Rattle.mem_system.specs.Releases.{CutsList, ListsFrame, ReleasesFrame};
-ghost use Rattle.mem_system.specs.Commands.{BySteps};
+ghost use Rattle.mem_system.specs.Commands.{BySteps, ListStaysWithin};
 ghost use Rattle.mem_machine.specs.Local.{side};
 
 use crate::outcome::Outcome;
@@ -65,7 +65,7 @@ fn list_frame<N: BootName>(
     ensures lists { BySteps N.frames (side machine.old cpu.old) (side machine.new cpu.new) (ListsFrame sizes frame) }
     ensures stays { KeepsVisit N.frames (side machine.old cpu.old) (side machine.new cpu.new) }
     ensures fresh { cpu.new.fresh ≡ cpu.old.fresh }
-    ensures at_most_high { length cpu.old.list ≤ sizes.high → length cpu.new.list ≤ sizes.high }
+    ensures at_most_high { ListStaysWithin sizes cpu.old cpu.new }
 {
     cut_list(machine, tables, cpu, sizes);
     machine.lend(tables, cpu, frame);
@@ -88,7 +88,7 @@ pub(crate) fn release_frame<N: BootName>(
     ensures groups { HasItsGroups machine.new.ledger result }
     ensures stays { KeepsVisit N.frames (side machine.old cpu.old) (side machine.new cpu.new) }
     ensures fresh { cpu.new.fresh ≡ cpu.old.fresh }
-    ensures at_most_high { length cpu.old.list ≤ sizes.high → length cpu.new.list ≤ sizes.high }
+    ensures at_most_high { ListStaysWithin sizes cpu.old cpu.new }
 {
     let Some(frame) = find_unit(machine, tables, frame) else {
         return Outcome::Refused(Fault::NotKept);

@@ -1,10 +1,9 @@
 //! The system: the tables that all processors share, and the zone's lock.
 
-ghost use Rattle.std.specs.Prelude.{◌≡◌, [], length, IfOk};
-ghost use Rattle.frame_word.specs.Seats.{LentIsBorrowed};
+ghost use Rattle.std.specs.Prelude.{◌≡◌, length, IfOk};
 ghost use Rattle.group_tree.specs.Groups.{number_at};
 ghost use Rattle.mem_system.specs.Boots.{KnownLocked, IsQuiet, first_cpus};
-ghost use Rattle.mem_system.specs.Commands.{FreshAfter, IsOfZone, IsServed, holder};
+ghost use Rattle.mem_system.specs.Commands.{IsOfZone, IsSettledAfter, IsVisited};
 
 use crate::boots::Boot;
 use crate::command::{Cmd, Reply};
@@ -12,7 +11,6 @@ use crate::gates::{Gate, NoGate};
 use crate::lock::Locked;
 use crate::visits::serve;
 use cpu_part::{BootName, Cpu, Tables};
-use group_charge::charges::Charges;
 use group_tree::group::GroupId;
 use std::alloc::{AllocError, Global};
 use std::sync::{Mutex, Wait};
@@ -25,8 +23,9 @@ pub struct System<N: BootName> {
 }
 
 impl Boot {
-    /// Starts the boot under a name of its tables: the system, and a part for each processor, in order. `AllocError` comes
-    /// where memory is wanting; nothing stays then. A clause can't look through the lock: `part` says what lies behind it.
+    /// Starts the boot under a name of its tables: the system, and a part for each processor, in order. `AllocError`
+    /// comes where memory is wanting; nothing stays then. A clause can't look through the lock: `part` says what lies
+    /// behind it.
     pub fn start<N: BootName>(self, alloc: Global) -> Result<(System<N>, Vec<Cpu<N>>), AllocError>
         requires frames { self.frames ≡ N.frames }
         requires stocks { self.stocks ≡ N.stocks }
@@ -39,22 +38,6 @@ impl Boot {
     }
 }
 
-impl<N: BootName> Locked<N> {
-    /// The group of this path; None where no group has it.
-    pub fn find(&self, path: &[u8]) -> Option<GroupId>
-        ensures found { result ≡ number_at self.now.machine.ledger.groups path.now }
-    {
-        self.machine.charges().tree().find(path)
-    }
-
-    /// The charges of the groups, and the tree of their paths and limits.
-    pub fn charges(&self) -> &Charges
-        ensures { result.now ≡ self.now.machine.ledger }
-    {
-        self.machine.charges()
-    }
-}
-
 impl<N: BootName> System<N> {
     /// The tables, for the calls that take no lock: those that N names.
     pub fn tables(&self) -> &Tables<N>
@@ -64,10 +47,11 @@ impl<N: BootName> System<N> {
         &self.tables
     }
 
-    /// The group of this path; None where no group has it. It takes the lock, and settles nothing. As with `visit`, it is said
-    /// that there was such a value behind the lock.
+    /// The group of this path; None where no group has it. It takes the lock, and settles nothing. As with `visit`,
+    /// it is said that there was such a value behind the lock.
     pub fn find<R: Wait>(&self, rt: &R, path: &[u8]) -> Option<GroupId>
-        ensures { (l : KnownLocked) × IsQuiet N.frames N.stocks l × (result ≡ number_at l.machine.ledger.groups path.now) }
+        ensures { (l : KnownLocked) × IsQuiet N.frames N.stocks l
+            × (result ≡ number_at l.machine.ledger.groups path.now) }
     {
         let guard = self.locked.lock(rt);
         let locked = &*guard;
@@ -75,22 +59,21 @@ impl<N: BootName> System<N> {
         locked.find(path)
     }
 
-    /// Serves one command of the processor: takes the lock, serves, and gives the lock back. A frame that the command names is
-    /// one of the zone's. No clause can name what lies behind the lock, so it is said that there was such a value: no visit was
-    /// open in it, it was served as `serve` says, and what it lends the processor then are its listed and fresh frames.
+    /// Serves one command of the processor: takes the lock, serves, and gives the lock back. A frame that the command
+    /// names is one of the zone's. No clause can name what lies behind the lock, so it is said that there was such a
+    /// value: no visit was open in it, it was served as `serve` says, and what it lends the processor then are its
+    /// listed and fresh frames.
     #[inline(always)]
     pub fn visit<R: Wait>(&self, rt: &R, cpu: &mut Cpu<N>, cmd: &Cmd<'_>) -> Reply
         requires { IsOfZone N.frames cmd.now }
-        ensures served { (l k : KnownLocked) × IsQuiet N.frames N.stocks l × IsServed N.frames cmd.now (holder l cpu.old) result
-            (holder k cpu.new)
-            × LentIsBorrowed N.frames k.machine.seat cpu.new.seat }
-        ensures settled { FreshAfter cmd.now result cpu.new.fresh × (cpu.new.back ≡ []) }
+        ensures served { IsVisited N.frames N.stocks cmd.now cpu.old result cpu.new }
+        ensures settled { IsSettledAfter cmd.now result cpu.new }
     {
         self.visit_with(rt, cpu, cmd, &NoGate)
     }
 
-    /// Serves one command of the processor as `visit` does, and calls the gate's `inside` once, while it holds the lock and
-    /// before the command is served.
+    /// Serves one command of the processor as `visit` does, and calls the gate's `inside` once, while it holds the
+    /// lock and before the command is served.
     #[inline(always)]
     pub fn visit_with<R: Wait, G: Gate>(
         &self,
@@ -100,10 +83,8 @@ impl<N: BootName> System<N> {
         gate: &G,
     ) -> Reply
         requires { IsOfZone N.frames cmd.now }
-        ensures served { (l k : KnownLocked) × IsQuiet N.frames N.stocks l × IsServed N.frames cmd.now (holder l cpu.old) result
-            (holder k cpu.new)
-            × LentIsBorrowed N.frames k.machine.seat cpu.new.seat }
-        ensures settled { FreshAfter cmd.now result cpu.new.fresh × (cpu.new.back ≡ []) }
+        ensures served { IsVisited N.frames N.stocks cmd.now cpu.old result cpu.new }
+        ensures settled { IsSettledAfter cmd.now result cpu.new }
     {
         let mut guard = self.locked.lock(rt);
         gate.inside(cpu.number());

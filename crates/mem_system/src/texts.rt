@@ -1,13 +1,12 @@
 //! The texts that a processor is told of the machine, settled as for any command.
 
-ghost use Rattle.std.specs.Prelude.{◌≡◌, ◌≤◌, [], IfOk, length};
+ghost use Rattle.std.specs.Prelude.{◌≡◌, [], IfOk};
 ghost use Rattle.std.specs.String.{string_bytes};
 ghost use Rattle.frame_word.specs.Seats.{NothingPasses};
 ghost use Rattle.machine_texts.specs.Blocks.{blocks_text};
 ghost use Rattle.machine_texts.specs.Show.{show_text};
-ghost use Rattle.mem_system.specs.Boots.{KnownLocked};
-ghost use Rattle.mem_system.specs.Shown.{SettlesCaller, TellsSettled};
-ghost use Rattle.mem_system.specs.Commands.{holder};
+ghost use Rattle.mem_system.specs.Shown.{SettlesCaller, TellsOf};
+ghost use Rattle.mem_system.specs.Commands.{ListStaysWithin, holder};
 
 use crate::command::Cmd;
 use crate::lock::Locked;
@@ -22,24 +21,25 @@ use std::sync::Wait;
 pub fn settle<N: BootName>(locked: &mut Locked<N>, tables: &Tables<N>, cpu: &mut Cpu<N>)
     ensures served { SettlesCaller N.frames (holder locked.old cpu.old) (holder locked.new cpu.new) }
     ensures settled { (cpu.new.fresh ≡ []) × (cpu.new.back ≡ []) }
-    ensures at_most_high { length cpu.old.list ≤ locked.old.sizes.high → length cpu.new.list ≤ locked.old.sizes.high }
+    ensures at_most_high { ListStaysWithin locked.old.sizes cpu.old cpu.new }
     ensures still { NothingPasses N.frames locked.new.machine.seat cpu.new.seat }
 {
     let _done = carry_out(locked, tables, cpu, &Cmd::Settle);
 }
 
-/// Serves `Settle`, and then tells a line for each longest run of frames with equal place, and one for each group but the
-/// root with its usage in bytes. `AllocError` comes where memory is wanting: the settling stands then, and nothing else changed.
+/// Serves `Settle`, and then tells a line for each longest run of frames with equal place, and one for each group but
+/// the root with its usage in bytes. `AllocError` comes where memory is wanting: the settling stands then, and
+/// nothing else changed.
 pub fn show<N: BootName>(
+    alloc: Global,
     locked: &mut Locked<N>,
     tables: &Tables<N>,
     cpu: &mut Cpu<N>,
-    alloc: Global,
 ) -> Result<String, AllocError>
     ensures served { SettlesCaller N.frames (holder locked.old cpu.old) (holder locked.new cpu.new) }
     ensures text { IfOk result (λ text. string_bytes text ≡ show_text locked.new.machine) }
     ensures settled { (cpu.new.fresh ≡ []) × (cpu.new.back ≡ []) }
-    ensures at_most_high { length cpu.old.list ≤ locked.old.sizes.high → length cpu.new.list ≤ locked.old.sizes.high }
+    ensures at_most_high { ListStaysWithin locked.old.sizes cpu.old cpu.new }
     ensures still { NothingPasses N.frames locked.new.machine.seat cpu.new.seat }
 {
     settle(locked, tables, cpu);
@@ -48,18 +48,18 @@ pub fn show<N: BootName>(
     Ok(text)
 }
 
-/// Serves `Settle`, and then tells a line with each free block, its order and its first frame; `none` where there is none.
-/// `AllocError` comes where memory is wanting: the settling stands then, and nothing else changed.
+/// Serves `Settle`, and then tells a line with each free block, its order and its first frame; `none` where there is
+/// none. `AllocError` comes where memory is wanting: the settling stands then, and nothing else changed.
 pub fn blocks<N: BootName>(
+    alloc: Global,
     locked: &mut Locked<N>,
     tables: &Tables<N>,
     cpu: &mut Cpu<N>,
-    alloc: Global,
 ) -> Result<String, AllocError>
     ensures served { SettlesCaller N.frames (holder locked.old cpu.old) (holder locked.new cpu.new) }
     ensures text { IfOk result (λ text. string_bytes text ≡ blocks_text locked.new.machine.blocks) }
     ensures settled { (cpu.new.fresh ≡ []) × (cpu.new.back ≡ []) }
-    ensures at_most_high { length cpu.old.list ≤ locked.old.sizes.high → length cpu.new.list ≤ locked.old.sizes.high }
+    ensures at_most_high { ListStaysWithin locked.old.sizes cpu.old cpu.new }
     ensures still { NothingPasses N.frames locked.new.machine.seat cpu.new.seat }
 {
     settle(locked, tables, cpu);
@@ -69,22 +69,23 @@ pub fn blocks<N: BootName>(
 }
 
 impl<N: BootName> System<N> {
-    /// What `show` tells, under the lock. No clause can name what lies behind the lock, so it is said that there was such a
-    /// value, with no visit open, that the processor was settled in it, and that the text is that of what it left.
+    /// What `show` tells, under the lock. No clause can name what lies behind the lock, so it is said that there was
+    /// such a value, with no visit open, that the processor was settled in it, and that the text is that of what it
+    /// left.
     pub fn show<R: Wait>(
         &self,
         rt: &R,
         alloc: Global,
         cpu: &mut Cpu<N>,
     ) -> Result<String, AllocError>
-        ensures told { (l k : KnownLocked) × TellsSettled N.frames N.stocks (holder l cpu.old) (holder k cpu.new)
-            × IfOk result (λ text. string_bytes text ≡ show_text k.machine) }
+        ensures told { TellsOf N.frames N.stocks cpu.old cpu.new
+            (λ m. IfOk result (λ text. string_bytes text ≡ show_text m)) }
         ensures settled { (cpu.new.fresh ≡ []) × (cpu.new.back ≡ []) }
     {
         let mut guard = self.locked.lock(rt);
         let locked = &mut *guard;
         locked.see_quiet();
-        let text = show(locked, &self.tables, cpu, alloc);
+        let text = show(alloc, locked, &self.tables, cpu);
         locked.see_quiet();
         text
     }
@@ -96,14 +97,14 @@ impl<N: BootName> System<N> {
         alloc: Global,
         cpu: &mut Cpu<N>,
     ) -> Result<String, AllocError>
-        ensures told { (l k : KnownLocked) × TellsSettled N.frames N.stocks (holder l cpu.old) (holder k cpu.new)
-            × IfOk result (λ text. string_bytes text ≡ blocks_text k.machine.blocks) }
+        ensures told { TellsOf N.frames N.stocks cpu.old cpu.new
+            (λ m. IfOk result (λ text. string_bytes text ≡ blocks_text m.blocks)) }
         ensures settled { (cpu.new.fresh ≡ []) × (cpu.new.back ≡ []) }
     {
         let mut guard = self.locked.lock(rt);
         let locked = &mut *guard;
         locked.see_quiet();
-        let text = blocks(locked, &self.tables, cpu, alloc);
+        let text = blocks(alloc, locked, &self.tables, cpu);
         locked.see_quiet();
         text
     }

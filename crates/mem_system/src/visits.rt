@@ -1,18 +1,18 @@
 //! Commands, served under the lock.
 
-ghost use Rattle.std.specs.Prelude.{◌≡◌, ◌+◌, ◌≤◌, [], length};
 ghost use Rattle.frame_word.specs.Seats.{LentIsBorrowed, NothingPasses};
 ghost use Rattle.mem_system.specs.Outcomes.{HasItsGroups, reply_of};
-ghost use Rattle.mem_system.specs.Commands.{FreshAfter, IsOfZone, IsServed, holder};
+ghost use Rattle.mem_system.specs.Commands.{IsCarriedOut, IsOfZone, IsServed, IsSettledAfter};
+ghost use Rattle.mem_system.specs.Commands.{ListAndFreshStayWithin, holder};
 
 use crate::command::{Cmd, Reply, obey};
 use crate::lock::Locked;
 use crate::outcome::{Outcome, tell};
 use cpu_part::{BootName, Cpu, Tables};
 
-/// Serves one command of the processor, which holds the lock: its visit is opened, its fresh and back frames are settled, the
-/// command is obeyed, and the visit is shut. A frame that the command names is one of the zone's. Its answer is told without
-/// texts: `reply_of` the charges as they are then is the reply that `serve` gives.
+/// Serves one command of the processor, which holds the lock: its visit is opened, its fresh and back frames are
+/// settled, the command is obeyed, and the visit is shut. A frame that the command names is one of the zone's. Its
+/// answer is told without texts: `reply_of` the charges as they are then is the reply that `serve` gives.
 #[inline(always)]
 pub fn carry_out<N: BootName>(
     locked: &mut Locked<N>,
@@ -21,11 +21,10 @@ pub fn carry_out<N: BootName>(
     cmd: &Cmd<'_>,
 ) -> Outcome
     requires { IsOfZone N.frames cmd.now }
-    ensures served { IsServed N.frames cmd.now (holder locked.old cpu.old) (reply_of locked.new.machine.ledger result)
-        (holder locked.new cpu.new) }
+    ensures served { IsCarriedOut N.frames cmd.now (holder locked.old cpu.old) result (holder locked.new cpu.new) }
     ensures groups { HasItsGroups locked.new.machine.ledger result }
-    ensures settled { FreshAfter cmd.now (reply_of locked.new.machine.ledger result) cpu.new.fresh × (cpu.new.back ≡ []) }
-    ensures at_most_high { length cpu.old.list ≤ locked.old.sizes.high → length cpu.new.list + length cpu.new.fresh ≤ locked.old.sizes.high }
+    ensures settled { IsSettledAfter cmd.now (reply_of locked.new.machine.ledger result) cpu.new }
+    ensures at_most_high { ListAndFreshStayWithin locked.old.sizes cpu.old cpu.new }
     ensures still { NothingPasses N.frames locked.new.machine.seat cpu.new.seat }
     ensures lent { LentIsBorrowed N.frames locked.new.machine.seat cpu.new.seat }
 {
@@ -36,8 +35,8 @@ pub fn carry_out<N: BootName>(
     outcome
 }
 
-/// Serves one command of the processor, which holds the lock, as `carry_out` does, and gives its reply with its texts. A frame
-/// that the command names is one of the zone's.
+/// Serves one command of the processor, which holds the lock, as `carry_out` does, and gives its reply with its
+/// texts. A frame that the command names is one of the zone's.
 #[inline(always)]
 pub fn serve<N: BootName>(
     locked: &mut Locked<N>,
@@ -47,8 +46,8 @@ pub fn serve<N: BootName>(
 ) -> Reply
     requires { IsOfZone N.frames cmd.now }
     ensures served { IsServed N.frames cmd.now (holder locked.old cpu.old) result (holder locked.new cpu.new) }
-    ensures settled { FreshAfter cmd.now result cpu.new.fresh × (cpu.new.back ≡ []) }
-    ensures at_most_high { length cpu.old.list ≤ locked.old.sizes.high → length cpu.new.list + length cpu.new.fresh ≤ locked.old.sizes.high }
+    ensures settled { IsSettledAfter cmd.now result cpu.new }
+    ensures at_most_high { ListAndFreshStayWithin locked.old.sizes cpu.old cpu.new }
     ensures still { NothingPasses N.frames locked.new.machine.seat cpu.new.seat }
     ensures lent { LentIsBorrowed N.frames locked.new.machine.seat cpu.new.seat }
 {

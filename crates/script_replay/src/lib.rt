@@ -1,12 +1,12 @@
 //! The lines of a script, served one after the other: by value of what lies behind the zone's lock, and through it.
 #![tactic(auto)]
 
-mod answering;
-mod replaying;
-mod unlocked;
-mod visiting;
+mod command_answers;
+mod unlocked_calls;
+mod value_replay;
+mod visit_replay;
 mod work;
 
-pub use replaying::replay;
-pub use visiting::replay_lines;
+pub use value_replay::replay;
+pub use visit_replay::replay_lines;
 pub use work::Work;

@@ -21,7 +21,7 @@
 
 mod closed;
 mod kinds;
-mod machine;
+mod machine_seat;
 mod make;
 mod seat;
 mod view;

@@ -3,10 +3,10 @@
 #![tactic(auto)]
 
 mod alike;
-mod lives;
 mod plays;
 mod runs;
 mod steps;
+mod stored_run;
 mod turns;
 
 use anyhow::{Context, Result};

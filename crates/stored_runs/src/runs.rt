@@ -1,6 +1,6 @@
 //! The text of a stored run: its sizes, and then its turns, with an empty line between each two.
 
-use crate::lives::{Stored, live};
+use crate::stored_run::{Stored, live};
 use anyhow::{Context, Result, bail, ensure};
 use mem_core::zone::Core;
 use mem_system::boot;

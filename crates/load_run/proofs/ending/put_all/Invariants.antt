@@ -1,5 +1,0 @@
-use Rattle.load_run.proofs.Putting.{GoneSoFar}
-use Rattle.load_run.proofs.ending.put_all.Given as goal
-
-abbrev pub invariant-loop-cpu : goal.invariant-loop-cpu
-invariant-loop-cpu g l = GoneSoFar l.cpu-index l.fn.cpus l.cpus

@@ -1,0 +1,15 @@
+use Rattle.std.proofs.Common.{◌≡◌, ◌∙◌, arith, ap, length, sym}
+use Rattle.mem_system.specs.Ends.{pins_of}
+use Rattle.mem_system.proofs.Closing.{written_back}
+use Rattle.load_run.proofs.Putting.{none_pinned, zip_long}
+use Rattle.load_run.proofs.run_end.finish.Goals as goal
+
+pub unreachable-requires : goal.unreachable-requires
+unreachable-requires g c =
+    let first = c.deref_mut.ensures.value in
+    let long = zip_long _ _ c.put_all.ensures ∙ ap length first in
+    let same = written_back c.in-Err.pinned.cpus.len c.put_all.new.cpus c.in-Err.pinned.cpus.items long (sym c.deref_mut.ensures.len ∙ ap length first) in
+    let pinned = c.in-Err-end.ensures.pinned in
+    let none : c.in-Err-end.field-0.pins ≡ 0 = pinned.0 ∙ ap pins_of same ∙ none_pinned _ _ c.put_all.ensures in
+    let some = pinned.1 in
+    omega arith

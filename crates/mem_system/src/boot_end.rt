@@ -1,0 +1,127 @@
+//! The end of a system: the machine is taken apart, and the two tables are closed.
+
+ghost use Rattle.std.specs.Prelude.{◌≡◌, ◌<◌, ◌≤◌, ◌^◌, min, length, map, All, IfOk, IfErr};
+ghost use Rattle.std.specs.Vec.{vec_capacity};
+ghost use Rattle.group_tree.specs.Room.{max_count};
+ghost use Rattle.frame_word.specs.Seats.{AreSeatsAt};
+ghost use Rattle.stock_word.specs.Stock.{AreOf};
+ghost use Rattle.cpu_part.specs.Cpus.{IsIdle};
+ghost use Rattle.mem_system.specs.Boots.{HasRoom};
+ghost use Rattle.mem_system.specs.Ends.{Ends, IsClosed, frame_seat_of, stock_seat_of, drops_of, pins_of};
+
+use crate::audit::{Audit, take_audit};
+use crate::last_visits::{empty_all, rest_all};
+use crate::lock::Locked;
+use cpu_part::{BootName, Cpu, Tables};
+use frame_word::FrameSeat;
+use mem_machine::Machine;
+use stock_word::StockSeat;
+
+/// What a boot consists of, given back since pins remain.
+pub struct Pinned<N: BootName> {
+    pub tables: Tables<N>,
+    pub locked: Locked<N>,
+    pub cpus: Vec<Cpu<N>>,
+    /// The pins of all processors together, at least 1.
+    pub pins: u64,
+}
+
+// The pins of the processors, together.
+fn count_pins<N: BootName>(cpus: &[Cpu<N>]) -> u64
+    requires { length cpus.now < 2 ^ 32 }
+    ensures { result ≡ pins_of cpus.now }
+{
+    let mut pins = 0;
+    for cpu in cpus {
+        pins += cpu.pins() as u64;
+    }
+    pins
+}
+
+// How often fresh frames went back to their processors' lists. The sum stays at 2^64 - 1.
+fn count_drops<N: BootName>(cpus: &[Cpu<N>]) -> u64
+    ensures { result ≡ min (drops_of cpus.now) max_count }
+{
+    let mut drops: u64 = 0;
+    for cpu in cpus {
+        drops = drops.saturating_add(cpu.drops());
+    }
+    drops
+}
+
+// The seats of the processors, which have nothing left, in two lists that have room for them.
+fn gather_seats<N: BootName>(
+    mut cpus: Vec<Cpu<N>>,
+    mut frame_seats: Vec<FrameSeat>,
+    mut stock_seats: Vec<StockSeat>,
+) -> (Vec<FrameSeat>, Vec<StockSeat>)
+    requires idle { All IsIdle cpus.items }
+    requires room { HasRoom (length cpus.items) (length frame_seats.items) (vec_capacity frame_seats)
+        (length stock_seats.items) (vec_capacity stock_seats) }
+    ensures frames { result.0.items ≡ map frame_seat_of cpus.items }
+    ensures stocks { result.1.items ≡ map stock_seat_of cpus.items }
+{
+    while !cpus.is_empty() {
+        let (frame_seat, stock_seat) = cpus.remove(0).into_seats();
+        frame_seats.push_reserved(frame_seat);
+        stock_seats.push_reserved(stock_seat);
+    }
+    cpus.destroy_empty();
+    (frame_seats, stock_seats)
+}
+
+// Takes the machine apart and closes the tables, with all their seats.
+fn close<N: BootName>(
+    tables: Tables<N>,
+    machine: Machine<N>,
+    frame_seats: Vec<FrameSeat>,
+    stock_seats: Vec<StockSeat>,
+)
+    requires frames { AreSeatsAt N.frames.table frame_seats.items × (length frame_seats.items ≡ N.frames.cpus) }
+    requires stocks { AreOf N.stocks.table stock_seats.items × (length stock_seats.items ≡ N.stocks.cpus) }
+    ensures { IsClosed N.frames N.stocks machine frame_seats.items stock_seats.items }
+{
+    let (frames, stocks) = tables.into_tables();
+    let (zone, seat) = machine.into_seats();
+    let _frame_words = frames.close(zone, frame_seats);
+    let _stock_words = stocks.close(seat, stock_seats);
+}
+
+/// Ends a boot, from all that it consists of: as many processors' parts as it has processors, in any order. Where no
+/// pin remains, each processor is settled in a visit; then each processor's list is given back and its stock drained,
+/// in a visit; then the tables are closed, and the answer is what was counted. Where a pin remains, nothing is done,
+/// and all is given back.
+pub fn end<N: BootName>(
+    tables: Tables<N>,
+    locked: Locked<N>,
+    mut cpus: Vec<Cpu<N>>,
+) -> Result<Audit, Pinned<N>>
+    requires { length cpus.items ≡ N.frames.cpus }
+    ensures ends { IfOk result (λ a. Ends N.frames N.stocks locked cpus.items a) }
+    ensures pinned { IfErr result (λ p. (p.pins ≡ pins_of cpus.items) × (1 ≤ p.pins)) }
+    ensures same { IfErr result (λ p. (p.tables ≡ tables) × (p.locked ≡ locked) × (p.cpus.items ≡ cpus.items)) }
+{
+    let _few = tables.frames.cpus(); // For the clauses.
+    let pins = count_pins(&cpus);
+    if pins > 0 {
+        return Err(Pinned {
+            tables,
+            locked,
+            cpus,
+            pins,
+        });
+    }
+    let drops = count_drops(&cpus);
+    let Locked {
+        mut machine,
+        sizes: _,
+        frame_seats,
+        stock_seats,
+    } = locked;
+    rest_all(&mut machine, &tables, &mut cpus);
+    empty_all(&mut machine, &tables, &mut cpus);
+    let audit = take_audit(&tables, &machine, drops);
+    let (frame_seats, stock_seats) = gather_seats(cpus, frame_seats, stock_seats);
+    close(tables, machine, frame_seats, stock_seats);
+    Ok(audit)
+}

@@ -1,0 +1,60 @@
+//! A system that is shut down.
+
+ghost use Rattle.std.specs.Prelude.{◌≡◌, ◌≤◌, length, IfOk, IfErr};
+ghost use Rattle.mem_system.specs.Boots.{KnownLocked};
+ghost use Rattle.mem_system.specs.Ends.{AddsUp, Ends, pins_of};
+
+use crate::audit::Audit;
+use crate::boot_end::{Pinned, end};
+use crate::system::System;
+use cpu_part::{BootName, Cpu};
+use std::sync::Mutex;
+
+/// A system that isn't shut down, since pins remain: it and the processors' parts are as they were.
+pub struct Held<N: BootName> {
+    pub system: System<N>,
+    pub cpus: Vec<Cpu<N>>,
+    /// The pins of all processors together, at least 1.
+    pub pins: u64,
+}
+
+impl<N: BootName> System<N> {
+    /// Shuts the system down, with all its processors' parts in any order, as `end` does. `Held` comes exactly where
+    /// a pin remains. No clause can name what lies behind the lock, so it is said that there was such a value, which
+    /// ended so.
+    pub fn shutdown(self, cpus: Vec<Cpu<N>>) -> Result<Audit, Held<N>>
+        requires { length cpus.items ≡ N.frames.cpus }
+        ensures ends { IfOk result (λ a. (l : KnownLocked) × Ends N.frames N.stocks l cpus.items a) }
+        ensures frames { IfOk result (λ a. a.frames ≡ N.frames.frames) }
+        ensures adds_up { IfOk result (λ a. AddsUp a) }
+        ensures no_pin { IfOk result (λ a. pins_of cpus.items ≡ 0) }
+        ensures held { IfErr result (λ h. (h.pins ≡ pins_of cpus.items) × (1 ≤ h.pins) × (h.cpus.items ≡ cpus.items)) }
+    {
+        let System { tables, locked } = self;
+        match end(tables, locked.into_inner(), cpus) {
+            Ok(audit) => Ok(audit),
+            Err(pinned) => Err(Held::of(pinned)),
+        }
+    }
+}
+
+impl<N: BootName> Held<N> {
+    // The system that goes on, with its lock again.
+    fn of(pinned: Pinned<N>) -> Held<N>
+        ensures cpus { result.cpus.items ≡ pinned.cpus.items }
+        ensures pins { result.pins ≡ pinned.pins }
+    {
+        let Pinned {
+            tables,
+            locked,
+            cpus,
+            pins,
+        } = pinned;
+        let locked = Mutex::new(locked);
+        Held {
+            system: System { tables, locked },
+            cpus,
+            pins,
+        }
+    }
+}

@@ -1,0 +1,47 @@
+use Rattle.std.proofs.Common.{ℕ, inl, refl, subst, sym}
+use Rattle.std.specs.String.{string_bytes}
+use Rattle.cpu_part.specs.declared.answers.Fast.TheVariants.{Got}
+use Rattle.cpu_part.specs.Calls.{FastAnswers}
+use Rattle.group_tree.specs.declared.fault.Fault.TheVariants.{NoGroup}
+use Rattle.mem_system.specs.declared.command.Cmd.TheVariants as cmd
+use Rattle.mem_system.specs.declared.command.Reply.TheVariants.{Refused}
+use Rattle.reply_texts.specs.Answer.{Answer, Served}
+use Rattle.reply_texts.specs.Answer as answer
+use Rattle.script_replay.specs.Answers.{AnswersFrame, RepliesServed}
+use Rattle.mem_system.proofs.Found.{found_there}
+use Rattle.script_replay.proofs.Fronts.{served_after}
+use Rattle.script_replay.proofs.Telling.{told, told_as}
+use Rattle.mem_system.specs.Commands.{holder}
+use Rattle.script_replay.proofs.command_answers.alloc_frame.Goals as goal
+
+pub returns-in_default : goal.returns-in_default
+returns-in_default g c = told (λ (said : Answer). AnswersFrame g.N.BootName.frames c.args.path (holder c.args.locked.now c.args.cpu.now) said (holder c.args.locked.now c.args.cpu.now)) (Served (Refused NoGroup)) (string_bytes c.args.text.now)
+    (string_bytes c.write_refusal.new.text) c.write_refusal.result (inl (sym c.in_default.ensures.found, refl, refl, refl))
+    c.write_refusal.ensures
+
+pub served_frame-requires : goal.served_frame-requires
+served_frame-requires g c = record { there = found_there _ _ _ (sym c.in-Some.ensures.found) }
+
+pub returns-in-Got : goal.returns-in-Got
+returns-in-Got g c = told (λ (said : Answer). AnswersFrame g.N.BootName.frames c.args.path (holder c.args.locked.now c.args.cpu.now) said (holder c.args.locked.now c.alloc_fast.new.self)) (answer.Fast (Got c.in-Got.frame)) (string_bytes c.args.text.now)
+    (string_bytes c.write_fast.new.text) c.write_fast.result (
+      c.in-Some.group,
+      sym c.in-Some.ensures.found,
+      subst (λ (group : ℕ). FastAnswers group (Got c.in-Got.frame) c.args.cpu.now c.alloc_fast.new.self) c.number.ensures.value c.in-Got.ensures.answer,
+      refl,
+    ) c.write_fast.ensures
+
+pub returns-in_default-alloc_fast : goal.returns-in_default-alloc_fast
+returns-in_default-alloc_fast g c = told_as
+    (λ (said : Answer). RepliesServed g.N.BootName.frames (cmd.Alloc c.args.path 0) (holder c.args.locked.now c.alloc_fast.new.self) said
+    (holder c.served_frame.new.locked c.served_frame.new.cpu))
+    (λ (said : Answer). AnswersFrame g.N.BootName.frames c.args.path (holder c.args.locked.now c.args.cpu.now) said (holder c.served_frame.new.locked c.served_frame.new.cpu))
+    (string_bytes c.args.text.now) (string_bytes c.served_frame.new.text) c.served_frame.result
+    (λ said so. served_after g.N.BootName.frames c.args.path c.args.locked.now c.args.cpu.now c.alloc_fast.new.self said c.served_frame.new.locked
+    c.served_frame.new.cpu (record {
+      group = c.in-Some.group;
+      found = sym c.in-Some.ensures.found;
+      fast = c.alloc_fast.result;
+      answers = subst (λ (g : ℕ). FastAnswers g c.alloc_fast.result c.args.cpu.now c.alloc_fast.new.self) c.number.ensures.value c.alloc_fast.ensures.answer;
+      none = c.in_default-alloc_fast.not-Got;
+    }) so) (c.served_frame.ensures c.args.path (sym c.in-Some.ensures.found))

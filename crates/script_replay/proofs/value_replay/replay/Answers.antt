@@ -1,0 +1,28 @@
+use Rattle.std.proofs.Common.{ap}
+use Rattle.std.specs.String.{string_bytes}
+use Rattle.script_replay.specs.Lines.{Standing}
+use Rattle.script_replay.proofs.Going.{goes_line, goes_end, goes_served, goes_history}
+use Rattle.script_replay.proofs.value_replay.replay.Goals as goal
+
+pub loop-line-preserved : goal.loop-line-preserved
+loop-line-preserved g c =
+    goes_line g.N.BootName.frames g.N.BootName.stocks (record { locked = c.args.locked.now; cpus = c.args.cpus.now })
+    (record { locked = c.loop-line.locked; cpus = c.loop-line.cpus }) (record { locked = c.serve_line.new.locked; cpus = c.serve_line.new.cpus })
+    c.args.lines.now c.loop-line.line-index _ (string_bytes c.loop-line.answers) (string_bytes c.serve_line.new.answers) c.loop-line-test.true
+    c.loop-line.invariant c.in_ok-serve_line.ensures
+
+pub returns-clause-answers : goal.returns-clause-answers
+returns-clause-answers g c =
+    let first : Standing = record { locked = c.args.locked.now; cpus = c.args.cpus.now } in
+    let last : Standing = record { locked = c.loop-line.locked; cpus = c.loop-line.cpus } in
+    goes_served g.N.BootName.frames g.N.BootName.stocks first last c.args.lines.now c.into_bytes.result.items
+    (goes_end g.N.BootName.frames g.N.BootName.stocks first last c.args.lines.now c.loop-line.line-index (string_bytes c.loop-line.answers)
+    c.into_bytes.result.items c.loop-line-test.false c.loop-line.invariant (ap (λ v. v.items) c.into_bytes.ensures.value))
+
+pub returns-clause-history : goal.returns-clause-history
+returns-clause-history g c run shows tied =
+    let first : Standing = record { locked = c.args.locked.now; cpus = c.args.cpus.now } in
+    let last : Standing = record { locked = c.loop-line.locked; cpus = c.loop-line.cpus } in
+    goes_history g.N.BootName.frames g.N.BootName.stocks (Unit {0}) run first last c.args.lines.now c.into_bytes.result.items (λ u. shows) tied
+    (goes_end g.N.BootName.frames g.N.BootName.stocks first last c.args.lines.now c.loop-line.line-index (string_bytes c.loop-line.answers)
+    c.into_bytes.result.items c.loop-line-test.false c.loop-line.invariant (ap (λ v. v.items) c.into_bytes.ensures.value))
