@@ -31,7 +31,7 @@ fn unaudited(
 }
 
 /// Groups, files and refusals, and blocks of each order.
-pub fn group_rows() -> [Row; 12] {
+pub fn group_rows() -> [Row; 13] {
     [
         unaudited(
             "groups and frames are shown",
@@ -50,6 +50,12 @@ pub fn group_rows() -> [Row; 12] {
             "replay",
             "1 mkdir /a\n1 write /a memory.max 5000\n1 read /a memory.max\n1 write /a memory.max  1k \n1 read /a memory.max\n",
             "group 1\nok\n8192\nok\n4096\n",
+        ),
+        unaudited(
+            "no text is no limit",
+            "replay",
+            "1 mkdir /a\n1 write /a memory.max \n1 read /a memory.max\n",
+            "group 1\nrefused 12 BadLimit\nmax\n",
         ),
         unaudited(
             "a number that is too great is refused",
@@ -109,7 +115,7 @@ pub fn group_rows() -> [Row; 12] {
 }
 
 /// Processors: their lists, their stocks and their references.
-pub fn processor_rows() -> [Row; 11] {
+pub fn processor_rows() -> [Row; 12] {
     [
         unaudited(
             "a stock of pages and a list of frames are had at once",
@@ -141,6 +147,13 @@ pub fn processor_rows() -> [Row; 11] {
             script: "1 mkdir /a\n1 alloc /a 0\n1 settle\n2 get 0\n1 release 0\n",
             answers: "group 1\nframe 0\nsettled\nheld\nleft 1\n",
             ending: "held 1\naudit frames 16 free 16 charged 0\naudit puts 1 freezes 0 drops 0 returns 1\n",
+        },
+        Row {
+            name: "references that are held at the end are put",
+            words: "replay --audit",
+            script: "1 mkdir /a\n1 alloc /a 0\n1 settle\n2 get 0\n2 get 0\n2 get 0\n",
+            answers: "group 1\nframe 0\nsettled\nheld\nheld\nheld\n",
+            ending: "held 3\naudit frames 16 free 15 charged 1\naudit puts 0 freezes 0 drops 0 returns 0\n",
         },
         unaudited(
             "the own list goes back for a block",
