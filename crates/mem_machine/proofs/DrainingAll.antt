@@ -62,28 +62,22 @@ module _ (g q : ℕ) (x n : KnownMachine) where
 
 -- ---- one processor's stock
 
--- it is drained of so many pages where it is of the subtree
-abbrev pub DrainsPages : KnownTable → ℕ → ℕ → ℕ → KnownMachine → KnownMachine → Type 0
-DrainsPages t g q pages m n = (done : DrainsIfBelow t g q m n) × (pages ≡ pages_drained done.drains)
-
 -- it is of the subtree, and is drained
 pub drained_one : (t : KnownTable) (g q pages : ℕ) (m n : KnownMachine) → is_below m.ledger.groups g (stock_group m q) ≡ true → Drains m q pages n
-    → ((c : KnownCpu) → IsLocalRun c.number (local_of t m c) (drain_steps q (stock_group m q) pages) (local_of t n c)) → DrainsPages t g q pages m n
-drained_one t g q pages m n below drains steps = (
-  record {
-    drains = record { cpu = q; group = stock_group m q; pages = pages } ∷ [];
-    one = (below, record { cpu = refl; group = refl; drains = drains });
-    steps = λ c. subst (λ (r : Run). IsLocalRun c.number (local_of t m c) r (local_of t n c))
-        (sym (append-nil (drain_steps q (stock_group m q) pages))) (steps c);
-  },
-  omega arith,
-)
+    → ((c : KnownCpu) → IsLocalRun c.number (local_of t m c) (drain_steps q (stock_group m q) pages) (local_of t n c)) → DrainsIfBelow t g q pages m n
+drained_one t g q pages m n below drains steps = record {
+  drains = record { cpu = q; group = stock_group m q; pages = pages } ∷ [];
+  one = (below, record { cpu = refl; group = refl; drains = drains });
+  sum = omega arith;
+  steps = λ c. subst (λ (r : Run). IsLocalRun c.number (local_of t m c) r (local_of t n c))
+      (sym (append-nil (drain_steps q (stock_group m q) pages))) (steps c);
+}
 
 -- it is of another group, or of none
 pub drained_not : (t : KnownTable) (g q : ℕ) (m n : KnownMachine) → is_below m.ledger.groups g (stock_group m q) ≡ false
     → n ≡ record m { stock = with_view m.stock (after_look m.stock.view q (stock_group m q)) }
-    → ((c : KnownCpu) → IsLocalRun c.number (local_of t m c) [] (local_of t n c)) → DrainsPages t g q 0 m n
-drained_not t g q m n other is steps = (record { drains = []; one = (other, is); steps = steps }, refl)
+    → ((c : KnownCpu) → IsLocalRun c.number (local_of t m c) [] (local_of t n c)) → DrainsIfBelow t g q 0 m n
+drained_not t g q m n other is steps = record { drains = []; one = (other, is); sum = refl; steps = steps }
 
 -- a part whose stock is of no group shows the same once that counts as drained
 part_none : (l f b : List ℕ) (a : Account) → a.group ≡ None → part_with l f b (record a { book = a.book - 0; filled = false }) ≡ part_with l f b a
@@ -126,30 +120,30 @@ module _ (t : KnownTable) (m : KnownMachine) (q : ℕ) (none : stock_group m q �
 pub looked_own : (t : KnownTable) (m now : KnownMachine) → m ≡ now → (stock : Seated) → stock ≡ m.stock → (g q h pages : ℕ) (n : KnownMachine)
     → Some h ≡ stock_group m q → in_subtree m.ledger.groups g h ≡ true → Drains (record m { stock = stock }) q pages n
     → ((c : KnownCpu) → IsLocalRun c.number (local_of t (record m { stock = stock }) c) (drain_steps q (stock_group (record m { stock = stock }) q) pages)
-    (local_of t n c)) → DrainsPages t g q pages now n
+    (local_of t n c)) → DrainsIfBelow t g q pages now n
 looked_own t m now same stock is g q h pages n of below drains steps =
-    subst (λ (x : KnownMachine). DrainsPages t g q pages x n) (looked_now m now same stock is)
+    subst (λ (x : KnownMachine). DrainsIfBelow t g q pages x n) (looked_now m now same stock is)
     (drained_one t g q pages (record m { stock = stock }) n
     (ap (is_below m.ledger.groups g) (ap (λ (s : Seated). (account_of s.view q).group) is ∙ sym of) ∙ below) drains steps)
 
 -- the stock of another group
 pub looked_other : (t : KnownTable) (m now : KnownMachine) → m ≡ now → (g q h : ℕ) → Some h ≡ stock_group m q → in_subtree m.ledger.groups g h ≡ false
-    → (stock : Seated) → stock ≡ m.stock → DrainsPages t g q 0 now (record m { stock = stock })
+    → (stock : Seated) → stock ≡ m.stock → DrainsIfBelow t g q 0 now (record m { stock = stock })
 looked_other t m now same g q h of other stock is =
     let n : KnownMachine = record m { stock = stock } in
     let none : n ≡ record m { stock = with_view m.stock (after_look m.stock.view q (stock_group m q)) } =
     (λ i. record m { stock = is i }) ∙ (λ i. record m { stock = with_view m.stock (after_look m.stock.view q (of i)) }) in
-    subst (λ (x : KnownMachine). DrainsPages t g q 0 x n) same
+    subst (λ (x : KnownMachine). DrainsIfBelow t g q 0 x n) same
     (drained_not t g q m n (ap (is_below m.ledger.groups g) (sym of) ∙ other) none (stayed_runs t m m refl n (λ i. record m { stock = is i })))
 
 -- the stock of no group
 pub looked_never : (t : KnownTable) (m now : KnownMachine) → m ≡ now → (g q : ℕ) → None ≡ stock_group m q
-    → (stock : Seated) → stock ≡ with_view m.stock (draining m.stock.view q 0) → DrainsPages t g q 0 now (record m { stock = stock })
+    → (stock : Seated) → stock ≡ with_view m.stock (draining m.stock.view q 0) → DrainsIfBelow t g q 0 now (record m { stock = stock })
 looked_never t m now same g q of stock is =
     let n : KnownMachine = record m { stock = with_view m.stock (draining m.stock.view q 0) } in
     let seen : n ≡ record m { stock = with_view m.stock (after_look m.stock.view q (stock_group m q)) } =
     λ i. record m { stock = with_view m.stock (after_look m.stock.view q (of i)) } in
-    subst (λ (x : KnownMachine × KnownMachine). DrainsPages t g q 0 x.0 x.1) (λ i. (same i, record m { stock = sym is i }))
+    subst (λ (x : KnownMachine × KnownMachine). DrainsIfBelow t g q 0 x.0 x.1) (λ i. (same i, record m { stock = sym is i }))
     (drained_not t g q m n (ap (is_below m.ledger.groups g) (sym of)) seen (looked_none t m q (sym of)))
 
 -- ---- all of them
@@ -189,26 +183,26 @@ drained_now g k x n last d before q some few below =
           ∙ before q some (omega (arith, few, ne)) ((λ i. is_below (sym groups i) g (sym same i).group) ∙ below)
     ]
 
-pub drained_more : (t : KnownTable) (g k pages more : ℕ) (m x n : KnownMachine) → DrainedSoFar t g k pages m x → DrainsPages t g (k + 1) more x n
+pub drained_more : (t : KnownTable) (g k pages more : ℕ) (m x n : KnownMachine) → DrainedSoFar t g k pages m x → DrainsIfBelow t g (k + 1) more x n
     → more ≤ 4294967295 → DrainedSoFar t g (k + 1) (pages + more) m n
 drained_more t g k pages more m x n before last bound =
     let next : suc k ≡ k + 1 = omega arith in
-    let both = sum_by-append (λ (d : Drain). d.pages) before.drains last.0.drains in
+    let both = sum_by-append (λ (d : Drain). d.pages) before.drains last.drains in
     let a = before.sum in
-    let b = last.1 in
+    let b = last.sum in
     let low = before.small in
-    let list : drain_stocks_steps before.drains ++ drain_stocks_steps last.0.drains ≡ drain_stocks_steps (before.drains ++ last.0.drains) =
-    sym (flat_map-append (λ (d : Drain). drain_steps d.cpu d.group d.pages) before.drains last.0.drains) in
+    let list : drain_stocks_steps before.drains ++ drain_stocks_steps last.drains ≡ drain_stocks_steps (before.drains ++ last.drains) =
+    sym (flat_map-append (λ (d : Drain). drain_steps d.cpu d.group d.pages) before.drains last.drains) in
     record {
-      drains = before.drains ++ last.0.drains;
-      all = subst (λ (j : ℕ). DrainsAllBelow g j (before.drains ++ last.0.drains) m n) next
-          (before.drains, last.0.drains, x, refl, before.all, subst (λ (j : ℕ). DrainsBelow g x j last.0.drains n) (sym next) last.0.one);
+      drains = before.drains ++ last.drains;
+      all = subst (λ (j : ℕ). DrainsAllBelow g j (before.drains ++ last.drains) m n) next
+          (before.drains, last.drains, x, refl, before.all, subst (λ (j : ℕ). DrainsBelow g x j last.drains n) (sym next) last.one);
       sum = omega (arith, both, a, b);
-      groups = below_groups g (k + 1) x n last.0.drains last.0.one ∙ before.groups;
-      drained = drained_now g k x n last.0.drains last.0.one before.drained;
+      groups = below_groups g (k + 1) x n last.drains last.one ∙ before.groups;
+      drained = drained_now g k x n last.drains last.one before.drained;
       steps = λ c. subst (λ (r : Run). IsLocalRun c.number (local_of t m c) r (local_of t n c)) list
-          (run_both c.number (drain_stocks_steps before.drains) (drain_stocks_steps last.0.drains) (local_of t m c) (local_of t x c) (local_of t n c)
-          (before.steps c) (last.0.steps c));
+          (run_both c.number (drain_stocks_steps before.drains) (drain_stocks_steps last.drains) (local_of t m c) (local_of t x c) (local_of t n c)
+          (before.steps c) (last.steps c));
       small = omega (arith, low, bound);
     }
 

@@ -1,10 +1,8 @@
 -- What the own stock holds, the room for more pages, and the front of a list that is paid for. Serves `own_stock`, `see_room` and `take_front`.
 use Rattle.std.proofs.Common.{◌≡◌, ℕ, ◌+◌, ◌-◌, ◌*◌, ◌<◌, ◌≤◌, ◌==◌, Bool, true, false, List, [], ◌∷◌, ◌++◌, length, zero, suc}
-use Rattle.std.proofs.Common.{refl, sym, ap, ◌∙◌, subst, inl, inr, arith, cond, eq-eqb, length-append}
+use Rattle.std.proofs.Common.{refl, sym, ap, ◌∙◌, subst, inl, inr, arith, cond, length-append}
 use Rattle.std.specs.Prelude.{◌&&◌, is_some, not, nat_le, nat_lt}
 use Rattle.std.proofs.lemmas.Bool.{cases_eq, ne_eqb, and_from, le-leb}
-use Rattle.group_tree.specs.declared.group.Group.{Group}
-use Rattle.group_tree.specs.Groups.{in_subtree}
 use Rattle.group_charge.specs.Charges.{AreCharges, current_of}
 use Rattle.frame_word.specs.Views.{note_of}
 use Rattle.frame_word.specs.Seats.{KnownTable}
@@ -16,13 +14,11 @@ use Rattle.cpu_part.specs.Cpus.{KnownCpu, IsTied, times}
 use Rattle.cpu_part.specs.Calls.{TakesFront}
 use Rattle.step_rules.specs.declared.step.Action.TheVariants.{Consume}
 use Rattle.step_rules.specs.declared.step.Answer.TheVariants.{Took}
-use Rattle.step_rules.specs.Phases.{keeper_of}
 use Rattle.step_rules.specs.State.{Part, with_at, one_if, sum_to, front_of, without, is_cpu}
-use Rattle.step_rules.specs.Usage.{is_below, frames_kept, stock_below, pages_prepaid, pages_pending, usage_of}
+use Rattle.step_rules.specs.Usage.{is_below}
 use Rattle.step_rules.specs.After.{paid, consumed}
 use Rattle.step_rules.specs.Legal.{is_legal, IsAnswer}
 use Rattle.step_rules.proofs.Basics.{at_same, at_other}
-use Rattle.step_rules.proofs.Sums.{sum_none}
 use Rattle.mem_machine.specs.declared.spot.Spot.{Spot}
 use Rattle.mem_machine.specs.declared.spot.Spot.TheVariants.{Free, Lent, Head, Tail}
 use Rattle.mem_machine.specs.Spots.{spot_at, some_cpu}

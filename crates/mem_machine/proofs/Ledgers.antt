@@ -1,12 +1,11 @@
 -- The usage of a group by the ledger, as the frames that are charged in its subtree and the books of the stocks of it. Serves
 -- `see_usage` and `see_room`.
-use Rattle.std.proofs.Common.{◌≡◌, ◌≢◌, ℕ, ◌+◌, ◌-◌, ◌<◌, ◌≤◌, ◌==◌, ◌&&◌, Bool, true, false, cond, Option, Some, None, List, [], ◌∷◌, length}
-use Rattle.std.proofs.Common.{get_or, All, AllPairs, refl, sym, ap, ◌∙◌, subst, arith, inl, inr, suc}
-use Rattle.std.specs.Prelude.{◌⊎◌, nat_le}
+use Rattle.std.proofs.Common.{◌≡◌, ◌≢◌, ℕ, ◌+◌, ◌<◌, ◌≤◌, ◌==◌, Bool, true, false, cond, Option, Some, None, List, [], ◌∷◌, length}
+use Rattle.std.proofs.Common.{get_or, All, AllPairs, refl, sym, ap, ◌∙◌, arith, inl, inr, suc}
+use Rattle.std.specs.Prelude.{◌⊎◌}
 use Rattle.std.specs.List.{find, sum_by}
 use Rattle.std.specs.Option.{option_map_or}
-use Rattle.std.proofs.lemmas.Bool.{cases_eq, cases_lt, ne_eqb, eq-eqb, and_from, le-leb}
-use Rattle.std.proofs.lemmas.Option.{none-some}
+use Rattle.std.proofs.lemmas.Bool.{cases_eq, cases_lt, ne_eqb, eq-eqb}
 use Rattle.std.proofs.lemmas.List.{get_or-map}
 use Rattle.std.proofs.lemmas.List.Sums.{sum_by-cons}
 use Rattle.group_tree.specs.declared.group.Group.{Group}
@@ -15,27 +14,14 @@ use Rattle.group_charge.specs.declared.account.Account.{Account}
 use Rattle.group_charge.specs.Charges.{Ledger, AreCharges, current_of, usage_of as usage_charged, pages_of, account_at}
 use Rattle.group_charge.proofs.ChargeLemmas.{all_distinct, as_many}
 use Rattle.stock_word.specs.declared.view.Account.{Account as Book}
-use Rattle.stock_word.specs.declared.view.Stock.{Stock}
-use Rattle.stock_word.specs.declared.view.Stock.TheVariants as stock_is
 use Rattle.stock_word.specs.Stock.{Words, account_of}
-use Rattle.stock_word.specs.Stock as stocks
-use Rattle.frame_word.specs.Views.{note_of}
-use Rattle.frame_word.specs.Seats.{KnownTable, LentIsBorrowed}
-use Rattle.cpu_part.specs.Cpus.{KnownCpu, times, IsTied}
-use Rattle.step_rules.specs.declared.phase.ChargedUnit.{ChargedUnit}
-use Rattle.step_rules.specs.declared.phase.Way.TheVariants.{OnList}
-use Rattle.step_rules.specs.declared.phase.Stage.TheVariants.{FreshAt, Live, BackAt}
-use Rattle.step_rules.specs.declared.phase.Phase.TheVariants as phase
-use Rattle.step_rules.specs.Phases.{keeper_of}
+use Rattle.frame_word.specs.Seats.{KnownTable}
 use Rattle.step_rules.specs.State.{one_if, sum_to}
-use Rattle.step_rules.specs.Usage.{is_below, frames_kept, stock_below, pages_prepaid, pages_pending, usage_of}
+use Rattle.step_rules.specs.Usage.{is_below}
 use Rattle.step_rules.proofs.Sums.{sum_same, sum_none, sum_both, sum_part, sum_swap, sum_only}
-use Rattle.step_rules.proofs.Lists as steps
 use Rattle.mem_machine.specs.declared.spot.Spot.{Spot}
-use Rattle.mem_machine.specs.declared.spot.Spot.TheVariants.{Free, Lent, Head, Tail}
-use Rattle.mem_machine.specs.Spots.{spot_at, some_cpu, group_of, count_of}
+use Rattle.mem_machine.specs.Spots.{spot_at, group_of, count_of}
 use Rattle.mem_machine.specs.Machines.{KnownMachine, IsConsistent, booked, pages_booked}
-use Rattle.mem_machine.specs.Local.{number_or_0, fresh_group, phase_of, part_with, part_of, local_of, side}
 
 abbrev nothing : ℕ
 nothing = 0

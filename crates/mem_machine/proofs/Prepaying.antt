@@ -351,9 +351,9 @@ module _ (m x : KnownMachine) (q p k : ℕ) (named : q ≡ p) (d : Drains m q k 
         fills = subst (λ (z : KnownMachine × KnownCpu). Fills g pages (side z.0 z.1) (side n f)) (λ i. (same i, stays i)) fills;
       }
 
-      pub prepay_steps : Makes t (side y e) (fill_steps e.number g pages) (side n f)
+      pub prepay_runs : Makes t (side y e) (fill_steps e.number g pages) (side n f)
           → Makes t (side m c) (own_drain_steps (side m c) ++ fill_steps c.number g pages) (side n f)
-      prepay_steps steps = run_both c.number (own_drain_steps (side m c)) (fill_steps c.number g pages) (local_of t m c) (local_of t x c)
+      prepay_runs steps = run_both c.number (own_drain_steps (side m c)) (fill_steps c.number g pages) (local_of t m c) (local_of t x c)
           (local_of t n f) drained_own
           (subst (λ (z : KnownMachine × KnownCpu). Makes t (side z.0 z.1) (fill_steps z.1.number g pages) (side n f)) (λ i. (same i, stays i)) steps)
 
@@ -367,9 +367,9 @@ module _ (m x : KnownMachine) (q p k : ℕ) (named : q ≡ p) (d : Drains m q k 
               cpu = refl;
             })
 
-        pub refused_steps : Makes t (side y e) (over_steps g pages over) (side y e)
+        pub refused_runs : Makes t (side y e) (over_steps g pages over) (side y e)
             → Makes t (side m c) (own_drain_steps (side m c) ++ over_steps g pages over) (side n f)
-        refused_steps steps = subst (λ (z : KnownMachine × KnownCpu). Makes t (side m c) (own_drain_steps (side m c) ++ over_steps g pages over) (side z.0 z.1))
+        refused_runs steps = subst (λ (z : KnownMachine × KnownCpu). Makes t (side m c) (own_drain_steps (side m c) ++ over_steps g pages over) (side z.0 z.1))
             (λ i. (sym (kept ∙ same) i, sym (own_kept ∙ stays) i))
             (run_both c.number (own_drain_steps (side m c)) (over_steps g pages over) (local_of t m c) (local_of t x c) (local_of t x c) drained_own
             (subst (λ (z : KnownMachine × KnownCpu). Makes t (side z.0 z.1) (over_steps g pages over) (side z.0 z.1)) (λ i. (same i, stays i)) steps))

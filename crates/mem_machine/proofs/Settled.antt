@@ -130,7 +130,9 @@ fresh_more t m c x y x' y' f so_far one visit run =
 pub record FreshSettled (t : KnownTable) (m : KnownMachine) (c : KnownCpu) (n : KnownMachine) (d : KnownCpu) : Type 0 where
   pub settles : SettlesAllFresh c.fresh (side m c) (side n d)
   pub steps : IsLocalRun c.number (local_of t m c) (flat_map (fresh_steps (is_killed m.killed (fresh_group c)) c.number) c.fresh) (local_of t n d)
-  pub leaves : LeavesOthers c d × (d.back ≡ c.back) × (d.fresh ≡ [])
+  pub others : LeavesOthers c d
+  pub back : d.back ≡ c.back
+  pub none_fresh : d.fresh ≡ []
 
 pub fresh_end : (t : KnownTable) (m : KnownMachine) (c : KnownCpu) (x : KnownMachine) (y : KnownCpu) (n : KnownMachine) (d : KnownCpu)
     → FreshSoFar t m c x y → (y.fresh ≡ []) × (n ≡ x) × (d ≡ y) → FreshSettled t m c n d
@@ -141,11 +143,9 @@ fresh_end t m c x y n d so_far none =
       steps = so_far.steps (local_of t n d)
           (subst (λ (l : List ℕ). IsLocalRun c.number (local_of t x y) (flat_map (fresh_steps k c.number) l) (local_of t n d)) (sym none.0)
           (λ i. local_of t (sym none.1 i) (sym none.2 i)));
-      leaves = (
-        subst (λ (e : KnownCpu). LeavesOthers c e) (sym none.2) so_far.others,
-        ap (λ (e : KnownCpu). e.back) none.2 ∙ so_far.back,
-        ap (λ (e : KnownCpu). e.fresh) none.2 ∙ none.0,
-      );
+      others = subst (λ (e : KnownCpu). LeavesOthers c e) (sym none.2) so_far.others;
+      back = ap (λ (e : KnownCpu). e.back) none.2 ∙ so_far.back;
+      none_fresh = ap (λ (e : KnownCpu). e.fresh) none.2 ∙ none.0;
     }
 
 -- ---- all back frames
@@ -185,7 +185,9 @@ back_more t m c x y x' y' f so_far one visit run =
 pub record BackSettled (t : KnownTable) (m : KnownMachine) (c : KnownCpu) (n : KnownMachine) (d : KnownCpu) : Type 0 where
   pub returns : ReturnsAllBack c.back (side m c) (side n d)
   pub steps : IsLocalRun c.number (local_of t m c) (flat_map (return_steps c.number) c.back) (local_of t n d)
-  pub leaves : LeavesOthers c d × (d.fresh ≡ c.fresh) × (d.back ≡ [])
+  pub others : LeavesOthers c d
+  pub fresh : d.fresh ≡ c.fresh
+  pub none_back : d.back ≡ []
 
 pub back_end : (t : KnownTable) (m : KnownMachine) (c : KnownCpu) (x : KnownMachine) (y : KnownCpu) (n : KnownMachine) (d : KnownCpu)
     → BackSoFar t m c x y → (y.back ≡ []) × (n ≡ x) × (d ≡ y) → BackSettled t m c n d
@@ -194,11 +196,9 @@ back_end t m c x y n d so_far none = record {
   steps = so_far.steps (local_of t n d)
       (subst (λ (l : List ℕ). IsLocalRun c.number (local_of t x y) (flat_map (return_steps c.number) l) (local_of t n d)) (sym none.0)
       (λ i. local_of t (sym none.1 i) (sym none.2 i)));
-  leaves = (
-    subst (λ (e : KnownCpu). LeavesOthers c e) (sym none.2) so_far.others,
-    ap (λ (e : KnownCpu). e.fresh) none.2 ∙ so_far.fresh,
-    ap (λ (e : KnownCpu). e.back) none.2 ∙ none.0,
-  );
+  others = subst (λ (e : KnownCpu). LeavesOthers c e) (sym none.2) so_far.others;
+  fresh = ap (λ (e : KnownCpu). e.fresh) none.2 ∙ so_far.fresh;
+  none_back = ap (λ (e : KnownCpu). e.back) none.2 ∙ none.0;
 }
 
 -- ---- both

@@ -1,19 +1,14 @@
 -- The usage by the rules of the steps is the ledger's: the caller's fresh frames count for the group of its stock there, and
 -- are in its stock's book here. Serves `see_usage` and `fill_stock`, and so `remove` and `prepay`.
-use Rattle.std.proofs.Common.{◌≡◌, ◌≢◌, ℕ, ◌+◌, ◌-◌, ◌<◌, ◌≤◌, ◌==◌, ◌&&◌, Bool, true, false, cond, Option, Some, None, List, [], ◌∷◌, length}
-use Rattle.std.proofs.Common.{get_or, All, AllPairs, refl, sym, ap, ◌∙◌, subst, arith, inl, inr, suc}
+use Rattle.std.proofs.Common.{◌≡◌, ℕ, ◌+◌, ◌-◌, ◌<◌, ◌≤◌, ◌==◌, ◌&&◌, Bool, true, false, cond, Option, Some, None, List, [], ◌∷◌, length}
+use Rattle.std.proofs.Common.{refl, sym, ap, ◌∙◌, subst, arith, inl, inr}
 use Rattle.std.specs.Prelude.{◌⊎◌, nat_le}
-use Rattle.std.specs.List.{find, sum_by}
-use Rattle.std.specs.Option.{option_map_or}
 use Rattle.std.proofs.lemmas.Bool.{cases_eq, cases_lt, ne_eqb, eq-eqb, and_from, le-leb}
 use Rattle.std.proofs.lemmas.Option.{none-some}
-use Rattle.std.proofs.lemmas.List.{get_or-map}
 use Rattle.std.proofs.lemmas.List.Sums.{sum_by-cons}
 use Rattle.group_tree.specs.declared.group.Group.{Group}
-use Rattle.group_tree.specs.Groups.{the_root, in_subtree}
-use Rattle.group_charge.specs.declared.account.Account.{Account}
-use Rattle.group_charge.specs.Charges.{Ledger, AreCharges, current_of, usage_of as usage_charged, pages_of, account_at}
-use Rattle.group_charge.proofs.ChargeLemmas.{all_distinct, as_many}
+use Rattle.group_tree.specs.Groups.{in_subtree}
+use Rattle.group_charge.specs.Charges.{AreCharges, current_of}
 use Rattle.stock_word.specs.declared.view.Account.{Account as Book}
 use Rattle.stock_word.specs.declared.view.Stock.{Stock}
 use Rattle.stock_word.specs.declared.view.Stock.TheVariants as stock_is
@@ -29,13 +24,13 @@ use Rattle.step_rules.specs.declared.phase.Phase.TheVariants as phase
 use Rattle.step_rules.specs.Phases.{keeper_of}
 use Rattle.step_rules.specs.State.{one_if, sum_to}
 use Rattle.step_rules.specs.Usage.{is_below, frames_kept, stock_below, pages_prepaid, pages_pending, usage_of}
-use Rattle.step_rules.proofs.Sums.{sum_same, sum_none, sum_both, sum_part, sum_swap, sum_only}
+use Rattle.step_rules.proofs.Sums.{sum_same, sum_none, sum_both, sum_only}
 use Rattle.step_rules.proofs.Lists as steps
 use Rattle.mem_machine.specs.declared.spot.Spot.{Spot}
 use Rattle.mem_machine.specs.declared.spot.Spot.TheVariants.{Free, Lent, Head, Tail}
-use Rattle.mem_machine.specs.Spots.{spot_at, some_cpu, group_of, count_of}
-use Rattle.mem_machine.specs.Machines.{KnownMachine, IsConsistent, booked, pages_booked}
-use Rattle.mem_machine.specs.Local.{number_or_0, fresh_group, phase_of, part_with, part_of, local_of, side}
+use Rattle.mem_machine.specs.Spots.{spot_at, some_cpu, group_of}
+use Rattle.mem_machine.specs.Machines.{KnownMachine, IsConsistent}
+use Rattle.mem_machine.specs.Local.{number_or_0, fresh_group, phase_of, part_with, part_of, local_of}
 use Rattle.mem_machine.proofs.Ledgers.{cond_zero, cond_one, cond_sum, ledger_side}
 use Rattle.mem_machine.proofs.Records.{lent_spot}
 

@@ -5,8 +5,9 @@ use Rattle.mem_machine.specs.Machines.{KnownMachine, OthersStay, LooseStay, list
 -- one of the two lists of the group, from the oldest unit to the newest
 pub use Rattle.mem_machine.specs.Machines.{entries_in}
 
--- The group's oldest active units, as few as leave its active list no longer than the inactive one, are at the newest end of
--- that, unmarked, and each frame stands on a list of the group on whose lists it stood, as dirty as it was; nothing else changed
+-- The group's oldest active units, as few as leave its active list no longer than the inactive one, are at the newest
+-- end of that, unmarked, and each frame stands on a list of the group on whose lists it stood, as dirty as it was;
+-- nothing else changed
 pub record AgesGroup (before : KnownMachine) (group : ℕ) (after : KnownMachine) : Type 0 where
   pub machine : after ≡ record before { links = after.links; lists = after.lists }
   pub ages : Ages before.links (lists_at before.lists group) after.links (lists_at after.lists group)
@@ -14,8 +15,8 @@ pub record AgesGroup (before : KnownMachine) (group : ℕ) (after : KnownMachine
   pub owners : SameOwners before.links after.links
   pub loose : LooseStay before.links after.links
 
--- The unit is at the newest end of the group's inactive list, unmarked, and each frame stands on a list of the group on whose
--- lists it stood, as dirty as it was; nothing else changed
+-- The unit is at the newest end of the group's inactive list, unmarked, and each frame stands on a list of the group on
+-- whose lists it stood, as dirty as it was; nothing else changed
 pub record RenewsUnit (before : KnownMachine) (group frame : ℕ) (after : KnownMachine) : Type 0 where
   pub machine : after ≡ record before { links = after.links; lists = after.lists }
   pub inactive : inactive_in after group

@@ -1,10 +1,11 @@
 -- Blocks that are charged to a group and taken, and units that come onto its lists.
-use Rattle.std.specs.Prelude.{◌≡◌, ◌≢◌, ℕ, ◌^◌, ◌==◌, false, Some, None, Result, Ok, Err, List, [], ◌∷◌, ◌++◌, length, if◌then◌else◌}
+use Rattle.std.specs.Prelude.{◌≡◌, ◌≢◌, ℕ, ◌^◌, ◌==◌, false, Some, None, Result, Ok, Err}
+use Rattle.std.specs.Prelude.{List, [], ◌∷◌, ◌++◌, length, if◌then◌else◌}
 use Rattle.zone_blocks.specs.declared.block.Block.{Block}
 use Rattle.zone_blocks.specs.Areas.{AreMaximalBlocks, HasNoneFrom, IsFrontOfSmallest}
 use Rattle.frame_word.specs.Views.{unfrozen}
 use Rattle.frame_word.specs.Seats.{seat_with}
-use Rattle.group_tree.specs.Room.{PathHasRoom, IsLowestOver}
+use Rattle.group_tree.specs.Room.{PathHasRoom}
 use Rattle.group_charge.specs.Charges.{current_of, with_charge, with_uncharge}
 use Rattle.lru_lists.specs.declared.record.LruList.TheVariants.{Inactive}
 use Rattle.lru_lists.specs.Queue.{link_at}
@@ -16,31 +17,35 @@ use Rattle.mem_machine.specs.declared.spot.Spot.TheVariants.{Head, Tail}
 use Rattle.mem_machine.specs.declared.blocks.TakeFault.{TakeFault}
 use Rattle.mem_machine.specs.declared.blocks.TakeFault.TheVariants as fault
 use Rattle.mem_machine.specs.Spots.{spot_at, free_of}
-use Rattle.mem_machine.specs.Machines.{KnownMachine, OthersStay, home_of, inactive_in, active_in}
+use Rattle.mem_machine.specs.Machines.{KnownMachine, OthersStay, LacksRoom, home_of, inactive_in, active_in}
 use Rattle.mem_machine.specs.Steps.{zone_makes}
 
 -- the record of a frame once the block is a unit of the group: the first frame heads it, and the rest are tails
 abbrev pub placed_spot : List Spot → ℕ → Block → ℕ → Spot
 placed_spot spots g b f =
-    if is_within b.at (2 ^ b.order) f then (if f == b.at then Head (record { group = g; order = b.order }) else Tail g) else spot_at spots f
+    if is_within b.at (2 ^ b.order) f
+    then (if f == b.at then Head (record { group = g; order = b.order }) else Tail g)
+    else spot_at spots f
 
 -- the block is a unit of the group, and all other frames have the records that they had
 pub record PlacesUnit (before : List Spot) (group : ℕ) (block : Block) (after : List Spot) : Type 0 where
   pub frames : length after ≡ length before
   pub records : (f : ℕ) → spot_at after f ≡ placed_spot before group block f
 
--- the unit comes to the newest end of its group's inactive list, clean and unmarked; every other frame and the lists of all other
--- groups are as they were, and each other frame on no list has the record that it had
+-- the unit comes to the newest end of its group's inactive list, clean and unmarked; every other frame and the lists of
+-- all other groups are as they were, and each other frame on no list has the record that it had
 pub record ListsUnit (before : KnownMachine) (group frame : ℕ) (after : KnownMachine) : Type 0 where
   pub stands : home_of after.links frame ≡ Some (record { owner = group; list = Inactive })
   pub homes : (x : ℕ) → x ≢ frame → home_of after.links x ≡ home_of before.links x
-  pub inactive : inactive_in after group ≡ inactive_in before group ++ record { number = frame; is_marked = false; is_dirty = false } ∷ []
+  pub inactive : inactive_in after group
+      ≡ inactive_in before group ++ record { number = frame; is_marked = false; is_dirty = false } ∷ []
   pub active : active_in after group ≡ active_in before group
   pub others : OthersStay before.links before.lists group after.links after.lists
   pub loose : (x : ℕ) → x ≢ frame → home_of before.links x ≡ None → link_at after.links x ≡ link_at before.links x
 
--- The group is charged for a block of this order, and has it: the front of the free block of the least sufficient order that
--- has the least address. Its head is in use, with one reference of the zone, and stands on the group's inactive list
+-- The group is charged for a block of this order, and has it: the front of the free block of the least sufficient order
+-- that has the least address. Its head is in use, with one reference of the zone, and stands on the group's inactive
+-- list
 pub record TakesBlock (before : KnownMachine) (group order at : ℕ) (after : KnownMachine) : Type 0 where
   pub room : PathHasRoom before.ledger.groups (current_of before.ledger) group (2 ^ order)
   pub front : IsFrontOfSmallest before.blocks order (record { at = at; order = order })
@@ -56,17 +61,20 @@ pub record TakesBlock (before : KnownMachine) (group order at : ℕ) (after : Kn
     seat = seat_with before.seat at (unfrozen 1);
   }
 
--- there is no free block of the order or above: the pages were charged and went back, so that the peaks alone may be higher
+-- there is no free block of the order or above: the pages were charged and went back, so that the peaks alone may be
+-- higher
 pub record TakesNoBlock (before : KnownMachine) (group order : ℕ) (after : KnownMachine) : Type 0 where
   pub room : PathHasRoom before.ledger.groups (current_of before.ledger) group (2 ^ order)
   pub none : HasNoneFrom before.blocks order
-  pub machine : after ≡ record before { ledger = with_uncharge (with_charge before.ledger group (2 ^ order)) group (2 ^ order) }
+  pub machine : after ≡ record before {
+    ledger = with_uncharge (with_charge before.ledger group (2 ^ order)) group (2 ^ order);
+  }
 
--- The machine where no block was taken. A limit had no room for it, that of the named group the lowest, and nothing changed; or
--- no free block of the order or above is there
+-- The machine where no block was taken. A limit had no room for it, that of the named group the lowest, and nothing
+-- changed; or no free block of the order or above is there
 abbrev pub RefusesBlock : KnownMachine → ℕ → ℕ → TakeFault → KnownMachine → Type 0
 RefusesBlock before g k (fault.Over over) after =
-    IsLowestOver before.ledger.groups (current_of before.ledger) g (2 ^ k) over.group × (after ≡ before)
+    LacksRoom before g (2 ^ k) over.group × (after ≡ before)
 RefusesBlock before g k fault.NoBlock after = TakesNoBlock before g k after
 
 -- the steps of a block of this order that is charged to the group and begins at this frame
@@ -85,7 +93,10 @@ refused_steps g k h = zone_makes (Grant g (2 ^ k)) (Over h) ∷ []
 -- the steps where no free block of the order or above is there
 abbrev pub unplaced_steps : ℕ → ℕ → Run
 unplaced_steps g k =
-    zone_makes (Grant g (2 ^ k)) Granted ∷ zone_makes (PlaceBlock g k) NoFreeBlock ∷ zone_makes (Ungrant g (2 ^ k)) Done ∷ []
+    zone_makes (Grant g (2 ^ k)) Granted
+    ∷ zone_makes (PlaceBlock g k) NoFreeBlock
+    ∷ zone_makes (Ungrant g (2 ^ k)) Done
+    ∷ []
 
 -- the steps of a call that takes a block, by its answer
 abbrev pub block_steps : ℕ → ℕ → Result ℕ TakeFault → Run

@@ -22,8 +22,8 @@ pub record MissesUnit (before : KnownMachine) (frame : ℕ) (after : KnownMachin
   pub others : word ≢ 1
   pub machine : after ≡ record before { seat = seat_with before.seat frame (missed word) }
 
--- the unit was frozen and came back: it is off its list, its frames are free, and its pages, so many, off the charge of its
--- group, whose list it stood on; nothing else changed
+-- the unit was frozen and came back: it is off its list, its frames are free, and its pages, so many, off the charge of
+-- its group, whose list it stood on; nothing else changed
 pub record EvictsUnit (before : KnownMachine) (frame pages : ℕ) (after : KnownMachine) : Type 0 where
   pub unit : ChargedUnit
   pub heads : spot_at before.spots frame ≡ Head unit

@@ -15,15 +15,17 @@ zone_of t = record { frames = t.frames; cpus = t.cpus }
 abbrev pub Shows : KnownTable → Run → Side → Type 0
 Shows t run now = ShowsLocal (zone_of t) run now.cpu.number (local_of t now.machine now.cpu)
 
--- `mixed` may follow the run: the steps in it of this processor and of the zone's seat are these, in this order; each of them is
--- answered as all seats' references and stocks decide where it stands; and each other step is allowed where it stands
+-- `mixed` may follow the run: the steps in it of this processor and of the zone's seat are these, in this order; each
+-- of them is answered as all seats' references and stocks decide where it stands; and each other step is allowed where
+-- it stands
 pub record IsMixed (table : KnownTable) (run : Run) (processor : ℕ) (steps mixed : Run) : Type 0 where
   pub own : own_steps processor mixed ≡ steps
   pub follows : IsInterleaved (zone_of table) run processor mixed
 
--- Where a run shows a processor the machine, and a call leads by these steps to another machine and part of the processor, the
--- run with the call's steps, and any steps of other processors between them, is legal, and shows the processor what the call
--- left
+-- Where a run shows a processor the machine, and a call leads by these steps to another machine and part of the
+-- processor, the run with the call's steps, and any steps of other processors between them, is legal, and shows the
+-- processor what the call left
 abbrev pub CallsInterleave : Type 0
-CallsInterleave = (t : KnownTable) (run steps mixed : Run) (before after : Side) → after.cpu.number ≡ before.cpu.number → Shows t run before
-    → Makes t before steps after → IsMixed t run before.cpu.number steps mixed → Shows t (run ++ mixed) after
+CallsInterleave = (t : KnownTable) (run steps mixed : Run) (before after : Side)
+    → after.cpu.number ≡ before.cpu.number → Shows t run before → Makes t before steps after
+    → IsMixed t run before.cpu.number steps mixed → Shows t (run ++ mixed) after

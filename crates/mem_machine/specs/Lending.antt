@@ -1,14 +1,18 @@
 -- Frames that go between the free areas and a processor's list.
-use Rattle.std.specs.Prelude.{◌≡◌, ℕ, List, [], ◌∷◌, ◌++◌, length, slice_set}
+use Rattle.std.specs.Prelude.{◌≡◌, ℕ, ◌+◌, ◌≤◌, Bool, true, false, List, [], ◌∷◌, ◌++◌, length, take, slice_set}
 use Rattle.zone_blocks.specs.Areas.{AreMaximalBlocks, HasNoneFrom, IsFrontOfSmallest}
 use Rattle.frame_word.specs.Views.{passed_out_to, took_in, gave_back, collected_from}
 use Rattle.frame_word.specs.Seats.{KnownTable, seat_with}
+use Rattle.cpu_part.specs.declared.cpu.TheConstants.{MOST_LISTED}
+use Rattle.cpu_part.specs.Cpus.{KnownCpu}
+use Rattle.step_rules.specs.After.{Run}
 use Rattle.mem_machine.specs.declared.spot.Spot.TheVariants.{Free, Lent}
 use Rattle.mem_machine.specs.Spots.{free_of}
 use Rattle.mem_machine.specs.Local.{Side, Makes}
-use Rattle.mem_machine.specs.Steps.{lend_steps, back_steps, refill_steps}
+use Rattle.mem_machine.specs.Steps.{lend_steps, back_steps, refill_steps, drain_list_steps}
 
--- the frame, the free frame of the least sufficient order that has the least address, is at the end of the processor's list
+-- the frame, the free frame of the least sufficient order that has the least address, is at the end of the processor's
+-- list
 pub record LendsOne (frame : ℕ) (before after : Side) : Type 0 where
   pub front : IsFrontOfSmallest before.machine.blocks 0 (record { at = frame; order = 0 })
   pub areas : AreMaximalBlocks (free_of after.machine.spots) after.machine.blocks
@@ -17,7 +21,10 @@ pub record LendsOne (frame : ℕ) (before after : Side) : Type 0 where
     spots = slice_set before.machine.spots frame (Lent before.cpu.number);
     seat = seat_with before.machine.seat frame (passed_out_to before.cpu.number);
   }
-  pub cpu : after.cpu ≡ record before.cpu { list = before.cpu.list ++ frame ∷ []; seat = seat_with before.cpu.seat frame took_in }
+  pub cpu : after.cpu ≡ record before.cpu {
+    list = before.cpu.list ++ frame ∷ [];
+    seat = seat_with before.cpu.seat frame took_in;
+  }
 
 -- the frame, which was free, is at the end of the processor's list; nothing else changed
 pub record LendsFrame (frame : ℕ) (before after : Side) : Type 0 where
@@ -27,13 +34,20 @@ pub record LendsFrame (frame : ℕ) (before after : Side) : Type 0 where
     spots = slice_set before.machine.spots frame (Lent before.cpu.number);
     seat = seat_with before.machine.seat frame (passed_out_to before.cpu.number);
   }
-  pub cpu : after.cpu ≡ record before.cpu { list = before.cpu.list ++ frame ∷ []; seat = seat_with before.cpu.seat frame took_in }
+  pub cpu : after.cpu ≡ record before.cpu {
+    list = before.cpu.list ++ frame ∷ [];
+    seat = seat_with before.cpu.seat frame took_in;
+  }
 
 -- there is no free frame, and nothing changed
 pub record LendsNone (before after : Side) : Type 0 where
   pub none : HasNoneFrom before.machine.blocks 0
   pub machine : after.machine ≡ before.machine
   pub cpu : after.cpu ≡ before.cpu
+
+-- so many frames more fit the processor's list: with those it has fresh it lists 256 at most
+abbrev pub HasListRoom : KnownCpu → ℕ → Type 0
+HasListRoom c count = length c.list + length c.fresh + count ≤ MOST_LISTED
 
 -- these frames are lent, one after the other
 abbrev pub LendsMany : List ℕ → Side → Side → Type 0
@@ -45,6 +59,11 @@ pub record LendsByStep (table : KnownTable) (before after : Side) : Type 0 where
   pub frame : ℕ
   pub lends : LendsOne frame before after
   pub steps : Makes table before (lend_steps before.cpu.number frame) after
+
+-- what lending one frame leaves, by what it tells: one is lent; or none is free
+abbrev pub LendsIfFree : KnownTable → Bool → Side → Side → Type 0
+LendsIfFree t true before after = LendsByStep t before after
+LendsIfFree t false before after = LendsNone before after
 
 -- so many frames are lent, one after the other, by their steps
 pub record Refills (table : KnownTable) (count : ℕ) (before after : Side) : Type 0 where
@@ -81,3 +100,12 @@ pub record TakesBackByStep (table : KnownTable) (before after : Side) : Type 0 w
   pub frame : ℕ
   pub takes : TakesOneBack frame before after
   pub steps : Makes table before (back_steps before.cpu.number frame) after
+
+-- what taking one frame back leaves, by what it tells: the front of the list is free again; or the list is empty
+abbrev pub TakesBackIfListed : KnownTable → Bool → Side → Side → Type 0
+TakesBackIfListed t true before after = TakesBackByStep t before after
+TakesBackIfListed t false before after = TakesNoneBack before after
+
+-- the steps by which so many frames are taken back from the front of the processor's list
+abbrev pub take_back_steps : ℕ → Side → Run
+take_back_steps count now = drain_list_steps now.cpu.number (take count now.cpu.list)

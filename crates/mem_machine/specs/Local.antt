@@ -1,5 +1,6 @@
 -- The local state: what stands where, as the processor that holds the lock sees it from the machine and its own part.
-use Rattle.std.specs.Prelude.{ℕ, ◌-◌, ◌==◌, ◌&&◌, nat_le, not, Option, Some, None, is_some, List, [], length, slice_index, if◌then◌else◌}
+use Rattle.std.specs.Prelude.{ℕ, ◌-◌, ◌==◌, ◌&&◌, nat_le, not, Option, Some, None, is_some}
+use Rattle.std.specs.Prelude.{List, [], length, slice_index, if◌then◌else◌}
 use Rattle.frame_word.specs.Seats.{KnownTable, KnownSeat, holds}
 use Rattle.stock_word.specs.declared.view.Account.{Account}
 use Rattle.stock_word.specs.Stock.{Seated, account_of}
@@ -31,22 +32,29 @@ number_or_0 (Some n) = n
 abbrev pub fresh_group : KnownCpu → ℕ
 fresh_group c = number_or_0 (stocks.group_of c.stock.view.last)
 
--- the phase of frame f with this record, to the processor: a frame lent to it is fresh or listed, and a unit with its own
--- last put is in its hand
+-- the phase of frame f with this record, to the processor: a frame lent to it is fresh or listed, and a unit with its
+-- own last put is in its hand
 abbrev pub phase_of : KnownCpu → ℕ → Spot → Phase
 phase_of c f Free = phase.InZone
 phase_of c f (Lent q) =
-    if q == c.number && nat_le 1 (times f c.fresh) then phase.Head (record { group = fresh_group c; order = 0 }) (FreshAt q) else phase.Lent q OnList
+    if q == c.number && nat_le 1 (times f c.fresh)
+    then phase.Head (record { group = fresh_group c; order = 0 }) (FreshAt q)
+    else phase.Lent q OnList
 phase_of c f (Head unit) = if nat_le 1 (times f c.back) then phase.Head unit (BackAt c.number) else phase.Head unit Live
 phase_of c f (Tail g) = phase.Tail g
 
--- the part of a processor with these lists and this account: its stock has the booked pages that are neither fresh nor noted
+-- the part of a processor with these lists and this account: its stock has the booked pages that are neither fresh nor
+-- noted
 abbrev pub part_with : List ℕ → List ℕ → List ℕ → Account → Part
 part_with list fresh back a = record {
   list = list;
   fresh = fresh;
   back = back;
-  stock = record { group = a.group; pages = a.book - length fresh - a.noted; is_drained = is_some a.group && not a.filled };
+  stock = record {
+    group = a.group;
+    pages = a.book - length fresh - a.noted;
+    is_drained = is_some a.group && not a.filled;
+  };
   book = a.book;
   unreported = 0;
   reported = a.noted;
@@ -54,7 +62,10 @@ part_with list fresh back a = record {
 
 -- the part of processor q as processor c sees it: its own lists, and of the others the account alone
 abbrev pub part_of : Seated → KnownCpu → ℕ → Part
-part_of stock c q = if q == c.number then part_with c.list c.fresh c.back (account_of stock.view q) else part_with [] [] [] (account_of stock.view q)
+part_of stock c q =
+    if q == c.number
+    then part_with c.list c.fresh c.back (account_of stock.view q)
+    else part_with [] [] [] (account_of stock.view q)
 
 -- the references that the processor sees: the zone's and its own
 abbrev pub references_of : KnownSeat → KnownCpu → ℕ → ℕ → ℕ
@@ -79,7 +90,12 @@ local_of t m c = record {
 
 -- these steps lead the processor that holds the lock, by what it sees, from one side to another
 abbrev pub Makes : KnownTable → Side → Run → Side → Type 0
-Makes t before steps after = IsLocalRun before.cpu.number (local_of t before.machine before.cpu) steps (local_of t after.machine after.cpu)
+Makes t before steps after =
+    IsLocalRun before.cpu.number (local_of t before.machine before.cpu) steps (local_of t after.machine after.cpu)
+
+-- so it is by the steps that the side before tells
+abbrev pub MakesBy : KnownTable → (Side → Run) → Side → Side → Type 0
+MakesBy t steps before after = Makes t before (steps before) after
 
 -- whichever processor holds the lock, these steps lead it from one machine to another, and its own part stays
 abbrev pub MakesForAny : KnownTable → KnownMachine → Run → KnownMachine → Type 0

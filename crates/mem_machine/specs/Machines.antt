@@ -1,15 +1,19 @@
 -- What a contract sees of the machine, and what always holds of it.
-use Rattle.std.specs.Prelude.{◌≡◌, ◌≢◌, ℕ, ◌+◌, ◌<◌, ◌≤◌, ◌==◌, Bool, false, Option, Some, None, is_some, IfSome, List, length, replicate, slice_set, if◌then◌else◌}
+use Rattle.std.specs.Prelude.{◌≡◌, ◌≢◌, ℕ, ◌+◌, ◌<◌, ◌≤◌, ◌==◌, Bool, false, Option, Some, None, is_some, IfSome}
+use Rattle.std.specs.Prelude.{List, length, replicate, slice_set, if◌then◌else◌}
 use Rattle.std.specs.List.{slice_index_or}
 use Rattle.zone_blocks.specs.declared.block.Block.{Block}
 use Rattle.zone_blocks.specs.Areas.{AreMaximalBlocks}
 use Rattle.frame_word.specs.declared.view.FrameNote.{FrameNote}
 use Rattle.frame_word.specs.Views.{note_of}
-use Rattle.frame_word.specs.Seats.{KnownTable, KnownSeat, IsZoneSeat, IsOpen, NothingPasses, LentIsBorrowed, first_zone_view}
+use Rattle.frame_word.specs.Seats.{KnownTable, KnownSeat, IsZoneSeat, IsOpen, NothingPasses, LentIsBorrowed}
+use Rattle.frame_word.specs.Seats.{first_zone_view}
 use Rattle.stock_word.specs.declared.view.Account.{Account}
 use Rattle.stock_word.specs.Stock.{Words, Seated, IsMachine, account_of, first_machine}
-use Rattle.group_charge.specs.Charges.{Ledger, pages_of, initial_ledger, with_new_group}
+use Rattle.group_charge.specs.Charges.{Ledger, pages_of, current_of, initial_ledger, with_new_group}
+use Rattle.group_tree.specs.declared.group.TheConstants.{MAX_GROUPS}
 use Rattle.group_tree.specs.Groups.{IsLeastFreeNumber}
+use Rattle.group_tree.specs.Room.{IsLowestOver}
 use Rattle.lru_lists.specs.declared.record.Link.{Link}
 use Rattle.lru_lists.specs.declared.record.Home.{Home}
 use Rattle.lru_lists.specs.declared.record.Entry.{Entry}
@@ -27,11 +31,12 @@ use Rattle.mem_machine.specs.declared.counts.Counts.{Counts}
 -- each unit that came back was put last, frozen or dropped
 pub use Rattle.mem_machine.specs.Counts.{BalancesCounts}
 use Rattle.mem_machine.specs.Counts.{no_counts}
-use Rattle.mem_machine.specs.Spots.{spot_at, free_of, is_in_hand, some_cpu, lent_to, group_of, head_group_of, count_of, AreUnits}
+use Rattle.mem_machine.specs.Spots.{AreUnits, spot_at, free_of, is_in_hand, some_cpu, lent_to}
+use Rattle.mem_machine.specs.Spots.{group_of, head_group_of, count_of}
 
--- The machine: the free areas, a record for each frame, the groups and their charges, the records through which the units'
--- lists are linked and two lists for each group number, the zone's seats at the two tables, which group numbers are killed,
--- and how often units ended and came back
+-- The machine: the free areas, a record for each frame, the groups and their charges, the records through which the
+-- units' lists are linked and two lists for each group number, the zone's seats at the two tables, which group numbers
+-- are killed, and how often units ended and came back
 pub record KnownMachine : Type 0 where
   pub blocks : List Block
   pub spots : List Spot
@@ -49,7 +54,7 @@ no_queue = record { oldest = None; newest = None; length = 0 }
 
 -- two empty lists, of no owner that is there
 abbrev pub no_lists : Lru
-no_lists = record { owner = 64; inactive = no_queue; active = no_queue }
+no_lists = record { owner = MAX_GROUPS; inactive = no_queue; active = no_queue }
 
 -- the two lists of the group of this number
 abbrev pub lists_at : List Lru → ℕ → Lru
@@ -73,7 +78,7 @@ home_of links f = (link_at links f).home
 
 -- the lists of all groups but this one stand as they stood: the same units in the same order, with their marks and dirt
 abbrev pub OthersStay : List Link → List Lru → ℕ → List Link → List Lru → Type 0
-OthersStay before old group after new = (g : ℕ) (list : LruList) → g < 64 → g ≢ group
+OthersStay before old group after new = (g : ℕ) (list : LruList) → g < MAX_GROUPS → g ≢ group
     → entries_of after (lists_at new g) list ≡ entries_of before (lists_at old g) list
 
 -- each frame on no list has the record that it had, mark and dirt included
@@ -96,21 +101,21 @@ booked g a = if count_of g a.group == 0 then 0 else a.book
 abbrev pub pages_booked : KnownTable → Seated → ℕ → ℕ
 pages_booked t stock g = sum_to (t.cpus + 1) (λ p. booked g (account_of stock.view p))
 
--- The zone's seat notes of a frame what its record says: it is in the zone's hand where it is free or a tail, it is lent to
--- whom the record says, and the zone has one reference exactly where the frame stands on a list; that is one of the group
--- of the unit that it heads
+-- The zone's seat notes of a frame what its record says: it is in the zone's hand where it is free or a tail, it is
+-- lent to whom the record says, and the zone has one reference exactly where the frame stands on a list; that is one of
+-- the group of the unit that it heads
 pub record FitsSpot (note : FrameNote) (home : Option Home) (spot : Spot) : Type 0 where
   pub own : note.own ≡ one_if (is_in_hand spot)
   pub lent : some_cpu note.lent ≡ lent_to spot
   pub references : note.references ≡ one_if (is_some home)
-  pub kept : IfSome home (λ h. (h.owner < 64) × (head_group_of spot ≡ Some h.owner))
+  pub kept : IfSome home (λ h. (h.owner < MAX_GROUPS) × (head_group_of spot ≡ Some h.owner))
 
 -- the parts have the sizes of the tables, which agree
 pub record AreSized (table : KnownTable) (words : Words) (machine : KnownMachine) : Type 0 where
   pub spots : length machine.spots ≡ table.frames
   pub links : length machine.links ≡ table.frames
-  pub lists : length machine.lists ≡ 64
-  pub killed : length machine.killed ≡ 64
+  pub lists : length machine.lists ≡ MAX_GROUPS
+  pub killed : length machine.killed ≡ MAX_GROUPS
   pub cpus : words.cpus ≡ table.cpus
 
 -- the seats are the zone's, at these tables
@@ -119,26 +124,35 @@ pub record AreZoneSeats (frame_table : KnownTable) (words : Words) (seat : Known
   pub table : stock.table ≡ words.table
   pub stocks : IsMachine stock.view
 
--- The machine is consistent. Its free areas are the maximal blocks of the free frames. Each frame is what its record says,
--- to the zone's seat and to the lists. The charged frames are units of their groups. The lists stand. Nothing that was
--- reported is unabsorbed. Each book fits a stock's word. What is charged to a group itself are the frames charged to it and the
--- books of its stocks. Each unit that came back was put last, frozen or dropped
+-- The machine is consistent. Its free areas are the maximal blocks of the free frames. Each frame is what its record
+-- says, to the zone's seat and to the lists. The charged frames are units of their groups. The lists stand. Nothing
+-- that was reported is unabsorbed. Each book fits a stock's word. What is charged to a group itself are the frames
+-- charged to it and the books of its stocks. Each unit that came back was put last, frozen or dropped
 pub record IsConsistent (table : KnownTable) (words : Words) (machine : KnownMachine) : Type 0 where
   pub sizes : AreSized table words machine
   pub seats : AreZoneSeats table words machine.seat machine.stock
   pub areas : AreMaximalBlocks (free_of machine.spots) machine.blocks
-  pub spots : (f : ℕ) → f < table.frames → FitsSpot (note_of machine.seat.view f) (home_of machine.links f) (spot_at machine.spots f)
+  pub spots : (f : ℕ) → f < table.frames
+      → FitsSpot (note_of machine.seat.view f) (home_of machine.links f) (spot_at machine.spots f)
   pub units : AreUnits machine.spots
   pub lists : AllStand machine.links machine.lists
   pub noted : (p : ℕ) → (account_of machine.stock.view p).noted ≡ 0
   pub bounded : (p : ℕ) → (account_of machine.stock.view p).book < 65536
-  pub charged : (g : ℕ) → pages_of machine.ledger g ≡ frames_charged machine.spots g + pages_booked table machine.stock g
+  pub charged : (g : ℕ)
+      → pages_of machine.ledger g ≡ frames_charged machine.spots g + pages_booked table machine.stock g
   pub balances : BalancesCounts machine.counts
 
 -- a group of this path was made, and got the least free number
 pub record AddsGroup (before : KnownMachine) (number : ℕ) (path : List ℕ) (after : KnownMachine) : Type 0 where
   pub least : IsLeastFreeNumber before.ledger.groups number
-  pub machine : after ≡ record before { ledger = with_new_group before.ledger number path; killed = slice_set before.killed number false }
+  pub machine : after ≡ record before {
+    ledger = with_new_group before.ledger number path;
+    killed = slice_set before.killed number false;
+  }
+
+-- group `lowest` is the lowest of the group's path whose limit has no room for so many pages more
+abbrev pub LacksRoom : KnownMachine → ℕ → ℕ → ℕ → Type 0
+LacksRoom m g pages lowest = IsLowestOver m.ledger.groups (current_of m.ledger) g pages lowest
 
 -- the machine, and the part of the processor that holds its lock
 pub record Side : Type 0 where
@@ -155,8 +169,8 @@ pub record Visits (table : KnownTable) (now : Side) : Type 0 where
   pub still : NothingPasses table now.machine.seat now.cpu.seat
   pub lent : LentIsBorrowed table now.machine.seat now.cpu.seat
 
--- What stays of a side while a visit goes on: it is open still, no other was opened or shut, and the processor has its number
--- and its back frames
+-- What stays of a side while a visit goes on: it is open still, no other was opened or shut, and the processor has its
+-- number and its back frames
 pub record KeepsVisit (table : KnownTable) (before after : Side) : Type 0 where
   pub visit : Visits table after
   pub opened : after.machine.seat.view.opened ≡ before.machine.seat.view.opened
@@ -175,5 +189,5 @@ pub record IsFirst (table : KnownTable) (words : Words) (machine : KnownMachine)
   pub nowhere : AreNowhere machine.links
   pub seat : machine.seat ≡ record { table = table.table; view = first_zone_view table.frames }
   pub stock : machine.stock ≡ record { table = words.table; view = first_machine }
-  pub killed : machine.killed ≡ replicate 64 false
+  pub killed : machine.killed ≡ replicate MAX_GROUPS false
   pub counts : machine.counts ≡ no_counts

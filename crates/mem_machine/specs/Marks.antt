@@ -22,6 +22,7 @@ pub record TouchesUnit (before : KnownMachine) (frame : ℕ) (touched : Touched)
   pub list : LruList
   pub stands : home_of before.links frame ≡ Some (record { owner = group; list = list })
   pub machine : after ≡ record before { links = after.links; lists = after.lists }
-  pub touches : Touches before.links (lists_at before.lists group) frame touched after.links (lists_at after.lists group)
+  pub touches : Touches before.links (lists_at before.lists group) frame touched
+      after.links (lists_at after.lists group)
   pub others : OthersStay before.links before.lists group after.links after.lists
   pub loose : LooseStay before.links after.links

@@ -24,7 +24,8 @@ use Rattle.mem_machine.specs.Steps.{zone_makes}
 
 -- the unit is off the list that it stood on, of the group of this number; every other unit stands on the list that it
 -- stood on, at its place there, marked and dirty as it was, and each frame on no list has the record that it had
-pub record LeavesList (before : List Link) (old : List Lru) (frame : ℕ) (after : List Link) (new : List Lru) : Type 0 where
+pub record LeavesList (before : List Link) (old : List Lru) (frame : ℕ)
+    (after : List Link) (new : List Lru) : Type 0 where
   pub group : ℕ
   pub list : LruList
   pub stands : home_of before frame ≡ Some (record { owner = group; list = list })
@@ -32,17 +33,24 @@ pub record LeavesList (before : List Link) (old : List Lru) (frame : ℕ) (after
   pub homes : (f : ℕ) → f ≢ frame → home_of after f ≡ home_of before f
   pub loose : LooseStay before after
   pub used : SameUse before after frame
-  pub inactive : inactive_of after (lists_at new group) ≡ entries_without frame (inactive_of before (lists_at old group))
-  pub active : active_of after (lists_at new group) ≡ entries_without frame (active_of before (lists_at old group))
+  pub inactive : inactive_of after (lists_at new group)
+      ≡ entries_without frame (inactive_of before (lists_at old group))
+  pub active : active_of after (lists_at new group)
+      ≡ entries_without frame (active_of before (lists_at old group))
   pub others : OthersStay before old group after new
 
 -- the unit is off its list, and so many references of processors are left; nothing else changed
 pub record LeavesReferences (before : KnownMachine) (frame left : ℕ) (after : KnownMachine) : Type 0 where
   pub list : LeavesList before.links before.lists frame after.links after.lists
   pub some : 1 ≤ left
-  pub machine : after ≡ record before { links = after.links; lists = after.lists; seat = seat_with before.seat frame (let_go left) }
+  pub machine : after ≡ record before {
+    links = after.links;
+    lists = after.lists;
+    seat = seat_with before.seat frame (let_go left);
+  }
 
--- the unit is off its list and came back: its frames are free, and its pages off the charge of its group; nothing else changed
+-- the unit is off its list and came back: its frames are free, and its pages off the charge of its group; nothing else
+-- changed
 pub record ReturnsUnit (before : KnownMachine) (frame : ℕ) (after : KnownMachine) : Type 0 where
   pub unit : ChargedUnit
   pub heads : spot_at before.spots frame ≡ Head unit

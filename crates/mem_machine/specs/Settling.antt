@@ -1,22 +1,25 @@
 -- Fresh and back frames of the processor that is visited, settled one after the other.
-use Rattle.std.specs.Prelude.{◌≡◌, ℕ, ◌^◌, Bool, true, false, List, [], ◌∷◌, ◌++◌, slice_set, if◌then◌else◌}
+use Rattle.std.specs.Prelude.{◌≡◌, ℕ, ◌+◌, ◌^◌, ◌≤◌, Bool, true, false, Option, Some, None, IfSome, List, [], ◌∷◌, ◌++◌}
+use Rattle.std.specs.Prelude.{slice_set, if◌then◌else◌}
 use Rattle.std.specs.List.{flat_map}
 use Rattle.zone_blocks.specs.Areas.{AreMaximalBlocks}
 use Rattle.frame_word.specs.Views.{gave_back, collected_from, unfrozen}
-use Rattle.frame_word.specs.Seats.{seat_with}
+use Rattle.frame_word.specs.Seats.{KnownTable, seat_with}
+use Rattle.stock_word.specs.declared.view.Account.{Account}
 use Rattle.stock_word.specs.Stock.{Seated}
-use Rattle.stock_word.specs.Kinds.{after_report, noting, absorbing}
+use Rattle.stock_word.specs.Kinds.{after_report, noting, absorbing, with_steps}
 use Rattle.stock_word.specs.Calls.{with_view}
 use Rattle.group_charge.specs.Charges.{with_uncharge}
 use Rattle.cpu_part.specs.Cpus.{KnownCpu}
 use Rattle.step_rules.specs.declared.phase.ChargedUnit.{ChargedUnit}
-use Rattle.step_rules.specs.declared.step.Action.TheVariants.{PassBack, Collect, Report, Absorb, Unfreeze, Publish, Return}
+use Rattle.step_rules.specs.declared.step.Action.TheVariants.{PassBack, Collect, Report, Absorb}
+use Rattle.step_rules.specs.declared.step.Action.TheVariants.{Unfreeze, Publish, Return}
 use Rattle.step_rules.specs.declared.step.Answer.TheVariants.{Done, Pages}
 use Rattle.step_rules.specs.After.{Run}
 use Rattle.mem_machine.specs.declared.spot.Spot.TheVariants.{Head}
 use Rattle.mem_machine.specs.Spots.{spot_at, free_of}
 use Rattle.mem_machine.specs.Machines.{Side, is_killed}
-use Rattle.mem_machine.specs.Local.{fresh_group}
+use Rattle.mem_machine.specs.Local.{Makes, fresh_group}
 use Rattle.mem_machine.specs.Steps.{zone_makes, cpu_makes}
 use Rattle.mem_machine.specs.Blocks.{ListsUnit}
 use Rattle.mem_machine.specs.Counts.{with_drop, with_last_put}
@@ -26,6 +29,14 @@ use Rattle.mem_machine.specs.Freeing.{FreesFrames}
 abbrev pub with_page_absorbed : Seated → ℕ → Seated
 with_page_absorbed stock p = with_view stock (absorbing (noting stock.view p 1) p)
 
+-- the stocks' seat after it absorbed that page, by one step
+abbrev pub after_page_absorbed : Seated → ℕ → Seated
+after_page_absorbed seat p = with_view seat (with_steps 1 (absorbing (noting seat.view p 1) p))
+
+-- a page of the account's book isn't noted yet
+abbrev pub HasUnnotedPage : Account → Type 0
+HasUnnotedPage a = 1 + a.noted ≤ a.book
+
 -- the oldest fresh frame is handed over, and its page reported
 abbrev pub HandsOver : ℕ → KnownCpu → KnownCpu → Type 0
 HandsOver f before after = (before.fresh ≡ f ∷ after.fresh) × (after ≡ record before {
@@ -34,8 +45,8 @@ HandsOver f before after = (before.fresh ≡ f ∷ after.fresh) × (after ≡ re
   stock = with_view before.stock (after_report before.stock.view 1);
 })
 
--- The oldest fresh frame is a kept unit of one frame, of the group: in use, with one reference of the zone, and on the group's
--- inactive list. Its page, which was booked, is charged for it
+-- The oldest fresh frame is a kept unit of one frame, of the group: in use, with one reference of the zone, and on the
+-- group's inactive list. Its page, which was booked, is charged for it
 pub record KeepsFresh (group frame : ℕ) (before after : Side) : Type 0 where
   pub listed : ListsUnit before.machine group frame after.machine
   pub machine : after.machine ≡ record before.machine {
@@ -77,10 +88,24 @@ pub record ReturnsBack (frame : ℕ) (before after : Side) : Type 0 where
   pub front : before.cpu.back ≡ frame ∷ after.cpu.back
   pub cpu : after.cpu ≡ record before.cpu { back = after.cpu.back; seat = seat_with before.cpu.seat frame gave_back }
 
+-- the group that the processor's fresh frames are of is killed
+abbrev pub is_fresh_killed : Side → Bool
+is_fresh_killed now = is_killed now.machine.killed (fresh_group now.cpu)
+
 -- the oldest fresh frame is kept for the group that it is of, or dropped where that is killed
 pub record SettlesFresh (frame : ℕ) (before after : Side) : Type 0 where
-  pub keeps : is_killed before.machine.killed (fresh_group before.cpu) ≡ false → KeepsFresh (fresh_group before.cpu) frame before after
-  pub drops : is_killed before.machine.killed (fresh_group before.cpu) ≡ true → DropsFresh (fresh_group before.cpu) frame before after
+  pub keeps : is_fresh_killed before ≡ false → KeepsFresh (fresh_group before.cpu) frame before after
+  pub drops : is_fresh_killed before ≡ true → DropsFresh (fresh_group before.cpu) frame before after
+
+-- what settling the oldest fresh frame leaves, by what it tells: the frame; or there is none, and nothing changed
+abbrev pub SettlesNext : Option ℕ → Side → Side → Type 0
+SettlesNext None before after = (before.cpu.fresh ≡ []) × (after.machine ≡ before.machine) × (after.cpu ≡ before.cpu)
+SettlesNext (Some f) before after = SettlesFresh f before after
+
+-- what returning the oldest back frame leaves, by what it tells: the frame; or there is none, and nothing changed
+abbrev pub ReturnsNext : Option ℕ → Side → Side → Type 0
+ReturnsNext None before after = (before.cpu.back ≡ []) × (after.machine ≡ before.machine) × (after.cpu ≡ before.cpu)
+ReturnsNext (Some f) before after = ReturnsBack f before after
 
 -- so it is with these fresh frames, one after the other
 abbrev pub SettlesAllFresh : List ℕ → Side → Side → Type 0
@@ -98,7 +123,8 @@ pub record LeavesOthers (before after : KnownCpu) : Type 0 where
   pub list : after.list ≡ before.list
   pub pins : after.pins ≡ before.pins
 
--- all fresh frames are settled, in the order in which they were taken, and then all back frames, in the order of their last puts
+-- all fresh frames are settled, in the order in which they were taken, and then all back frames, in the order of their
+-- last puts
 pub record Settles (before after : Side) : Type 0 where
   pub mid : Side
   pub fresh : SettlesAllFresh before.cpu.fresh before mid
@@ -109,7 +135,11 @@ pub record Settles (before after : Side) : Type 0 where
 -- the steps by which a fresh frame f of processor p comes into the zone's hand, and its page off the book
 abbrev pub collect_steps : ℕ → ℕ → Run
 collect_steps p f =
-    cpu_makes p (PassBack f) Done ∷ cpu_makes p (Report 1) Done ∷ zone_makes (Collect f p) Done ∷ zone_makes (Absorb p) (Pages 1) ∷ []
+    cpu_makes p (PassBack f) Done
+    ∷ cpu_makes p (Report 1) Done
+    ∷ zone_makes (Collect f p) Done
+    ∷ zone_makes (Absorb p) (Pages 1)
+    ∷ []
 
 -- the steps of a fresh frame that is kept
 abbrev pub keep_steps : ℕ → ℕ → Run
@@ -127,11 +157,23 @@ return_steps p f = cpu_makes p (PassBack f) Done ∷ zone_makes (Collect f p) Do
 abbrev pub fresh_steps : Bool → ℕ → ℕ → Run
 fresh_steps is_killed p f = if is_killed then drop_steps p f else keep_steps p f
 
--- the steps of these fresh frames, and then of these back frames, each list in its order
-abbrev pub all_steps : Bool → ℕ → List ℕ → List ℕ → Run
-all_steps is_killed p fresh back = flat_map (fresh_steps is_killed p) fresh ++ flat_map (return_steps p) back
+-- the steps of all fresh frames, in the order in which they were taken
+abbrev pub all_fresh_steps : Side → Run
+all_fresh_steps now = flat_map (fresh_steps (is_fresh_killed now) now.cpu.number) now.cpu.fresh
+
+-- the steps of all back frames, in the order of their last puts
+abbrev pub all_back_steps : Side → Run
+all_back_steps now = flat_map (return_steps now.cpu.number) now.cpu.back
 
 -- the steps of a settle
 abbrev pub settle_steps : Side → Run
-settle_steps before =
-    all_steps (is_killed before.machine.killed (fresh_group before.cpu)) before.cpu.number before.cpu.fresh before.cpu.back
+settle_steps now = all_fresh_steps now ++ all_back_steps now
+
+-- where a fresh frame was settled, it was by its steps
+abbrev pub MakesFreshSteps : KnownTable → Option ℕ → Side → Side → Type 0
+MakesFreshSteps t next before after =
+    IfSome next (λ f. Makes t before (fresh_steps (is_fresh_killed before) before.cpu.number f) after)
+
+-- where a back frame was returned, it was by its steps
+abbrev pub MakesReturnSteps : KnownTable → Option ℕ → Side → Side → Type 0
+MakesReturnSteps t next before after = IfSome next (λ f. Makes t before (return_steps before.cpu.number f) after)

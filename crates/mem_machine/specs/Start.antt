@@ -10,4 +10,5 @@ use Rattle.lru_lists.specs.Lists.{StandsIn}
 pub record AreEmpty (lists : List Lru) (number : ℕ) : Type 0 where
   pub count : length lists ≡ number
   pub each : (k : ℕ) (any : Lru) → k < length lists
-      → ((slice_index_or lists k any).owner ≡ k) × ((links : List Link) → AreNowhere links → StandsIn links (slice_index_or lists k any))
+      → ((slice_index_or lists k any).owner ≡ k)
+      × ((links : List Link) → AreNowhere links → StandsIn links (slice_index_or lists k any))

@@ -3,7 +3,8 @@ use Rattle.std.specs.Prelude.{ℕ, zero, suc, Option, Some, None, List, [], ◌�
 use Rattle.std.specs.List.{flat_map}
 use Rattle.step_rules.specs.declared.step.Step.{Step}
 use Rattle.step_rules.specs.declared.step.Action.{Action}
-use Rattle.step_rules.specs.declared.step.Action.TheVariants.{OpenVisit, ShutVisit, PassOut, TakeIn, PassBack, Collect, Fill, DrainStock, Grant, Ungrant}
+use Rattle.step_rules.specs.declared.step.Action.TheVariants.{OpenVisit, ShutVisit, PassOut, TakeIn, PassBack}
+use Rattle.step_rules.specs.declared.step.Action.TheVariants.{Collect, Fill, DrainStock, Grant, Ungrant}
 use Rattle.step_rules.specs.declared.step.Action.TheVariants.{Consume, NoteMax, SetMax, Make, Remove, Kill}
 use Rattle.step_rules.specs.declared.step.Answer.{Answer}
 use Rattle.step_rules.specs.declared.step.Answer.TheVariants.{Done, Took, Pages, Granted, Over, Number}

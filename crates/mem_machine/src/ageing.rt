@@ -28,8 +28,8 @@ fn is_charged_to(spot: &Spot, group: GroupId) -> bool
 }
 
 impl<N: BootName> Machine<N> {
-    /// Moves the oldest active units of a group, as few as leave its active list no longer than the inactive one, to the newest
-    /// end of that, unmarked.
+    /// Moves the oldest active units of a group, as few as leave its active list no longer than the inactive one, to
+    /// the newest end of that, unmarked.
     pub fn age(&mut self, group: GroupId)
         ensures ages { AgesGroup self.old group self.new }
         ensures steps { MakesForAny N.frames self.old [] self.new }
@@ -42,7 +42,8 @@ impl<N: BootName> Machine<N> {
         self.lists[owner] = lists;
     }
 
-    /// Moves an inactive unit of a group to the newest end of the group's inactive list, unmarked. The unit goes by its head.
+    /// Moves an inactive unit of a group to the newest end of the group's inactive list, unmarked. The unit goes by its
+    /// head.
     pub fn renew(&mut self, group: GroupId, head: Frame)
         requires frame { head < N.frames.frames }
         requires stands { home_of self.old.links head ≡ Some (record { owner = group; list = Inactive }) }
@@ -72,8 +73,8 @@ impl<N: BootName> Machine<N> {
         self.lists[group.number() as usize].oldest(&self.links, list)
     }
 
-    /// The unit just after this one on the list of a group on which it stands; None exactly where this is the newest. A walk over
-    /// a list is `oldest`, and then this from each unit to the next.
+    /// The unit just after this one on the list of a group on which it stands; None exactly where this is the newest. A
+    /// walk over a list is `oldest`, and then this from each unit to the next.
     pub fn newer(&self, group: GroupId, list: LruList, head: Frame) -> Option<Entry>
         requires frame { head < N.frames.frames }
         requires stands { home_of self.now.links head ≡ Some (record { owner = group; list = list }) }
@@ -82,7 +83,8 @@ impl<N: BootName> Machine<N> {
         self.lists[group.number() as usize].newer(&self.links, head.number())
     }
 
-    /// How many frames are charged to the group itself, those of units that aren't kept any more counted. It walks over all frames.
+    /// How many frames are charged to the group itself, those of units that aren't kept any more counted. It walks over
+    /// all frames.
     pub fn frames_of(&self, group: GroupId) -> u64
         ensures { result ≡ frames_charged self.now.spots group }
     {

@@ -1,9 +1,9 @@
 //! Blocks of frames that are charged to a group and taken.
 
-ghost use Rattle.std.specs.Prelude.{◌≡◌, ◌+◌, ◌^◌, ◌≤◌, ◌<◌, false, IsTrue, IfOk, IfErr, [], length};
+ghost use Rattle.std.specs.Prelude.{◌≡◌, ◌+◌, ◌^◌, ◌≤◌, false, IsTrue, IfOk, IfErr, [], length};
 ghost use Rattle.group_tree.specs.Groups.{has_group};
-ghost use Rattle.group_charge.specs.Charges.{current_of};
 ghost use Rattle.mem_machine.specs.Machines.{Visits, is_killed};
+ghost use Rattle.mem_machine.specs.Paying.{HasRoomFor};
 ghost use Rattle.mem_machine.specs.Blocks.{PlacesUnit, TakesBlock, RefusesBlock, block_steps};
 ghost use Rattle.mem_machine.specs.Local.{Makes, side};
 
@@ -42,11 +42,11 @@ fn place_unit(spots: &mut Vec<Spot>, block: Block, group: GroupId)
 }
 
 impl<N: BootName> Machine<N> {
-    /// Charges 2^`order` pages to a group that isn't killed, and gives it a block of that order, in use: its head, which is
-    /// returned, has one reference of the zone and stands at the newest end of the group's inactive list. Where a limit has
-    /// no room, the error names the lowest such group, and nothing is charged. Where no block is there, the pages go back,
-    /// and the peaks stand. In all, at most 2^32 - 1 pages can be charged, as `Charges::fits` tells. The processor has no back
-    /// frame, as once it was settled.
+    /// Charges 2^`order` pages to a group that isn't killed, and gives it a block of that order, in use: its head,
+    /// which is returned, has one reference of the zone and stands at the newest end of the group's inactive list.
+    /// Where a limit has no room, the error names the lowest such group, and nothing is charged. Where no block is
+    /// there, the pages go back, and the peaks stand. In all, at most 2^32 - 1 pages can be charged, as `Charges::fits`
+    /// tells. The processor has no back frame, as once it was settled.
     pub fn take_block(
         &mut self,
         tables: &Tables<N>,
@@ -57,13 +57,14 @@ impl<N: BootName> Machine<N> {
         requires visit { Visits N.frames (side self.old cpu.old) }
         requires there { IsTrue (has_group self.old.ledger.groups group) }
         requires alive { is_killed self.old.killed group ≡ false }
-        requires fits { current_of self.old.ledger 0 + 2 ^ order < 2 ^ 32 }
+        requires fits { HasRoomFor self.old (2 ^ order) }
         requires none_back { cpu.old.back ≡ [] }
         ensures takes { IfOk result (λ head. TakesBlock self.old group order head self.new) }
         ensures refuses { IfErr result (λ fault. RefusesBlock self.old group order fault self.new) }
         ensures cpu { cpu.new ≡ cpu.old }
         ensures visit { Visits N.frames (side self.new cpu.new) }
-        ensures steps { Makes N.frames (side self.old cpu.old) (block_steps group order result) (side self.new cpu.new) }
+        ensures steps { Makes N.frames (side self.old cpu.old)
+            (block_steps group order result) (side self.new cpu.new) }
     {
         let pages = order.frames();
         self.see_usage(tables, cpu);

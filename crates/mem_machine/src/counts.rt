@@ -3,8 +3,8 @@
 ghost use Rattle.std.specs.Prelude.{◌≡◌};
 ghost use Rattle.mem_machine.specs.Counts.{with_last_put, with_freeze, with_drop};
 
-/// How often units ended and came back, since the boot. A count stays at 2^64 - 1. The returns are the last puts, freezes and
-/// drops together, or 2^64 - 1 where that is less.
+/// How often units ended and came back, since the boot. A count stays at 2^64 - 1. The returns are the last puts,
+/// freezes and drops together, or 2^64 - 1 where that is less.
 #[derive(Clone, Copy, Debug, PartialEq, Eq)]
 pub struct Counts {
     /// The last puts: of the zone itself, and of processors as they were settled.

@@ -14,9 +14,9 @@ use cpu_part::{BootName, Tables};
 use frame_word::Frame;
 
 impl<N: BootName> Machine<N> {
-    /// Tries to take a kept unit out of use. Where the zone's reference is the only one, no one can get the unit any more: it
-    /// comes back, and the answer is its pages. Else the answer is None, a miss: the unit stays kept. The unit goes by its
-    /// head, which stands on a list of its group.
+    /// Tries to take a kept unit out of use. Where the zone's reference is the only one, no one can get the unit any
+    /// more: it comes back, and the answer is its pages. Else the answer is None, a miss: the unit stays kept. The unit
+    /// goes by its head, which stands on a list of its group.
     pub fn evict(&mut self, tables: &Tables<N>, head: Frame) -> Option<u32>
         requires frame { head < N.frames.frames }
         requires kept { home_of self.old.links head ≢ None }

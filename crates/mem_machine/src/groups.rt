@@ -15,8 +15,8 @@ use group_tree::fault::Fault;
 use group_tree::group::GroupId;
 
 impl<N: BootName> Machine<N> {
-    /// Notes that the usage of a group was about to go over its limit: one more `max` in its events and in those of each of
-    /// its ancestors, and in its local events.
+    /// Notes that the usage of a group was about to go over its limit: one more `max` in its events and in those of
+    /// each of its ancestors, and in its local events.
     pub fn note_max(&mut self, group: GroupId)
         requires { IsTrue (has_group self.old.ledger.groups group) }
         ensures machine { self.new ≡ record self.old { ledger = with_max_noted self.old.ledger group } }
@@ -38,9 +38,9 @@ impl<N: BootName> Machine<N> {
         Ok(group)
     }
 
-    /// Shows that the usage of each group which the rules of the steps count, in pages, is that of the charges: frames that
-    /// the processor has fresh, which the rules count as kept, are in its stock's book. One look at the processor's stock,
-    /// which changes nothing.
+    /// Shows that the usage of each group which the rules of the steps count, in pages, is that of the charges: frames
+    /// that the processor has fresh, which the rules count as kept, are in its stock's book. One look at the
+    /// processor's stock, which changes nothing.
     pub fn see_usage(&mut self, tables: &Tables<N>, cpu: &mut Cpu<N>)
         requires { Visits N.frames (side self.old cpu.old) }
         ensures usage { (g : ℕ) → usage_of (local_of N.frames self.old cpu.old) g ≡ current_of self.old.ledger g }

@@ -4,9 +4,10 @@ ghost use Rattle.mem_machine.specs.Interleaving.{CallsInterleave};
 
 use step_rules::laws as rules;
 
-/// What the list of steps of a call means whatever other processors do meanwhile. Where a run shows the processor the machine
-/// before the call, the run goes on with the call's steps, with any allowed steps of other processors between them, and then
-/// shows the processor the machine after it. Each answer in the list is the one that the whole state decides.
+/// What the list of steps of a call means whatever other processors do meanwhile. Where a run shows the processor the
+/// machine before the call, the run goes on with the call's steps, with any allowed steps of other processors between
+/// them, and then shows the processor the machine after it. Each answer in the list is the one that the whole state
+/// decides.
 pub fn calls_interleave()
     ensures { CallsInterleave }
 {

@@ -1,13 +1,14 @@
 //! Frames that go between the free areas and the list of the processor that is visited.
 
-ghost use Rattle.std.specs.Prelude.{◌≡◌, ◌+◌, ◌<◌, ◌≤◌, [], length, take, MatchBool};
+ghost use Rattle.std.specs.Prelude.{◌≡◌, ◌<◌, ◌≤◌, [], length, take};
 ghost use Rattle.zone_blocks.specs.Areas.{HasNoneFrom};
 ghost use Rattle.mem_machine.specs.declared.spot.Spot.TheVariants.{Free};
 ghost use Rattle.mem_machine.specs.Spots.{spot_at};
 ghost use Rattle.mem_machine.specs.Machines.{Visits};
-ghost use Rattle.mem_machine.specs.Lending.{LendsByStep, LendsFrame, LendsNone, Refills, TakesBackByStep, TakesNoneBack, TakesManyBack};
-ghost use Rattle.mem_machine.specs.Local.{Makes, side};
-ghost use Rattle.mem_machine.specs.Steps.{drain_list_steps, lend_steps};
+ghost use Rattle.mem_machine.specs.Lending.{HasListRoom, LendsIfFree, LendsFrame, Refills};
+ghost use Rattle.mem_machine.specs.Lending.{TakesBackIfListed, TakesManyBack, take_back_steps};
+ghost use Rattle.mem_machine.specs.Local.{Makes, MakesBy, side};
+ghost use Rattle.mem_machine.specs.Steps.{lend_steps};
 
 use crate::machine::Machine;
 use crate::spot::Spot;
@@ -20,9 +21,8 @@ impl<N: BootName> Machine<N> {
     // Lends one free frame to the processor, if there is one: it comes to the end of the list.
     fn lend_one(&mut self, tables: &Tables<N>, cpu: &mut Cpu<N>) -> bool
         requires visit { Visits N.frames (side self.old cpu.old) }
-        requires room { length cpu.old.list + length cpu.old.fresh < 256 }
-        ensures lends { MatchBool result (LendsByStep N.frames (side self.old cpu.old) (side self.new cpu.new))
-            (LendsNone (side self.old cpu.old) (side self.new cpu.new)) }
+        requires room { HasListRoom cpu.old 1 }
+        ensures lends { LendsIfFree N.frames result (side self.old cpu.old) (side self.new cpu.new) }
         ensures visit { Visits N.frames (side self.new cpu.new) }
     {
         let number = cpu.number();
@@ -38,11 +38,11 @@ impl<N: BootName> Machine<N> {
         true
     }
 
-    /// Lends up to `batch` free frames to the processor that is visited, one after the other, and tells how many there were.
-    /// They come to the end of its list. It has room for all of them: listed and fresh frames are 256 at most.
+    /// Lends up to `batch` free frames to the processor that is visited, one after the other, and tells how many there
+    /// were. They come to the end of its list. It has room for all of them: listed and fresh frames are 256 at most.
     pub fn refill(&mut self, tables: &Tables<N>, cpu: &mut Cpu<N>, batch: u32) -> u32
         requires visit { Visits N.frames (side self.old cpu.old) }
-        requires room { length cpu.old.list + length cpu.old.fresh + batch ≤ 256 }
+        requires room { HasListRoom cpu.old batch }
         ensures at_most { result ≤ batch }
         ensures refills { Refills N.frames result (side self.old cpu.old) (side self.new cpu.new) }
         ensures fewer_only_at_the_end { result < batch → HasNoneFrom self.new.blocks 0 }
@@ -56,16 +56,17 @@ impl<N: BootName> Machine<N> {
         batch
     }
 
-    /// Lends this frame, which is free, to the processor that is visited: it comes to the end of its list. There is room for
-    /// it: listed and fresh frames are 256 at most.
+    /// Lends this frame, which is free, to the processor that is visited: it comes to the end of its list. There is
+    /// room for it: listed and fresh frames are 256 at most.
     pub fn lend(&mut self, tables: &Tables<N>, cpu: &mut Cpu<N>, frame: Frame)
         requires visit { Visits N.frames (side self.old cpu.old) }
         requires frame { frame < N.frames.frames }
         requires free { spot_at self.old.spots frame ≡ Free }
-        requires room { length cpu.old.list + length cpu.old.fresh < 256 }
+        requires room { HasListRoom cpu.old 1 }
         ensures lends { LendsFrame frame (side self.old cpu.old) (side self.new cpu.new) }
         ensures visit { Visits N.frames (side self.new cpu.new) }
-        ensures steps { Makes N.frames (side self.old cpu.old) (lend_steps cpu.old.number frame) (side self.new cpu.new) }
+        ensures steps { Makes N.frames (side self.old cpu.old)
+            (lend_steps cpu.old.number frame) (side self.new cpu.new) }
     {
         let number = cpu.number();
         let at = frame.number();
@@ -78,8 +79,7 @@ impl<N: BootName> Machine<N> {
     // Takes the front of the processor's list back, if there is one: it is free again.
     fn take_one_back(&mut self, tables: &Tables<N>, cpu: &mut Cpu<N>) -> bool
         requires { Visits N.frames (side self.old cpu.old) }
-        ensures takes { MatchBool result (TakesBackByStep N.frames (side self.old cpu.old) (side self.new cpu.new))
-            (TakesNoneBack (side self.old cpu.old) (side self.new cpu.new)) }
+        ensures takes { TakesBackIfListed N.frames result (side self.old cpu.old) (side self.new cpu.new) }
         ensures visit { Visits N.frames (side self.new cpu.new) }
     {
         let _number = cpu.number(); // For the clauses.
@@ -96,8 +96,8 @@ impl<N: BootName> Machine<N> {
         true
     }
 
-    /// Takes up to `count` frames back from the front of the list of the processor that is visited, one after the other, and
-    /// tells how many there were. They are free again.
+    /// Takes up to `count` frames back from the front of the list of the processor that is visited, one after the
+    /// other, and tells how many there were. They are free again.
     pub fn drain_list(&mut self, tables: &Tables<N>, cpu: &mut Cpu<N>, count: u32) -> u32
         requires { Visits N.frames (side self.old cpu.old) }
         ensures at_most { result ≤ count }
@@ -105,8 +105,7 @@ impl<N: BootName> Machine<N> {
         ensures takes { TakesManyBack (take result cpu.old.list) (side self.old cpu.old) (side self.new cpu.new) }
         ensures fewer_only_at_the_end { result < count → cpu.new.list ≡ [] }
         ensures visit { Visits N.frames (side self.new cpu.new) }
-        ensures steps { Makes N.frames (side self.old cpu.old)
-            (drain_list_steps cpu.old.number (take result cpu.old.list)) (side self.new cpu.new) }
+        ensures steps { MakesBy N.frames (take_back_steps result) (side self.old cpu.old) (side self.new cpu.new) }
     {
         for taken in 0..count {
             if !self.take_one_back(tables, cpu) {

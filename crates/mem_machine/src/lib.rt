@@ -1,8 +1,8 @@
 //! What stands behind the zone's lock: the free areas, one record for each frame, the groups with their charges and
 //! their lists of kept units, and the zone's own seats at the two tables. Each call is a list of steps of the core.
 //!
-//! A line that ends in 'For the clauses' calls a reader for what its contract tells, and changes nothing: what always holds
-//! of a type's values is known only where one of its calls says it.
+//! A line that ends in 'For the clauses' calls a reader for what its contract tells, and changes nothing: what always
+//! holds of a type's values is known only where one of its calls says it.
 #![tactic(auto)]
 
 mod ageing;

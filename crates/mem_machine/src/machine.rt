@@ -19,8 +19,8 @@ use std::marker::{Model, PhantomData};
 use stock_word::StockSeat;
 use zone_buddy::buddy::Buddy;
 
-/// What stands behind the zone's lock. What always holds of its parts together is `IsConsistent`. A contract doesn't see how
-/// many steps its seat at the stocks made.
+/// What stands behind the zone's lock. What always holds of its parts together is `IsConsistent`. A contract doesn't
+/// see how many steps its seat at the stocks made.
 #[derive(Drop)]
 pub struct Machine<N: BootName> {
     // The free areas: the maximal blocks of the frames whose record is Free.
@@ -29,15 +29,16 @@ pub struct Machine<N: BootName> {
     pub(crate) spots: Vec<Spot>,
     // The groups, and for each the pages charged to it: its frames, and the books of the stocks that are of it.
     pub(crate) charges: Charges,
-    // A link for each frame, by its number. The heads of kept units are linked into their groups' lists, no other frame is.
+    // A link for each frame, by its number. The heads of kept units are linked into their groups' lists, no other frame
+    // is.
     pub(crate) links: Links,
     // The ends and lengths of the two lists of each of the 64 group numbers, by the number.
     pub(crate) lists: Vec<Lru>,
-    // The zone's seat at the frames' table: which frames are in its hand, to whom it lent which, and its references, one on
-    // the head of each kept unit.
+    // The zone's seat at the frames' table: which frames are in its hand, to whom it lent which, and its references,
+    // one on the head of each kept unit.
     pub(crate) seat: FrameSeat,
-    // The zone's seat at the stocks' table: of each processor's stock its group and its book, 0 to 65,535 pages. Between two
-    // calls nothing that a processor reported is unabsorbed.
+    // The zone's seat at the stocks' table: of each processor's stock its group and its book, 0 to 65,535 pages.
+    // Between two calls nothing that a processor reported is unabsorbed.
     pub(crate) stock: StockSeat,
     // Whether each of the 64 group numbers is killed, by the number.
     pub(crate) killed: Vec<bool>,
@@ -81,8 +82,9 @@ impl<N: BootName> Model for Machine<N> {
 }
 
 impl<N: BootName> Machine<N> {
-    /// The machine of a new boot, from the zone's seats at its two tables, which did nothing yet: all frames are free, and
-    /// there is the root alone. All room that its calls need is reserved here. `AllocError` comes where memory is wanting.
+    /// The machine of a new boot, from the zone's seats at its two tables, which did nothing yet: all frames are free,
+    /// and there is the root alone. All room that its calls need is reserved here. `AllocError` comes where memory is
+    /// wanting.
     pub fn new(
         alloc: Global,
         tables: &Tables<N>,
@@ -114,7 +116,8 @@ impl<N: BootName> Machine<N> {
         })
     }
 
-    /// Takes the machine apart, for the end of the two tables: the zone's seats at the frames' table and at the stocks'.
+    /// Takes the machine apart, for the end of the two tables: the zone's seats at the frames' table and at the
+    /// stocks'.
     pub fn into_seats(self) -> (FrameSeat, StockSeat)
         ensures seats { (result.0 ≡ self.seat) × (uncounted result.1 ≡ self.stock) }
         ensures consistent { IsConsistent N.frames N.stocks self }

@@ -12,8 +12,8 @@ use lru_lists::laws;
 use lru_lists::lru::Touched;
 
 impl<N: BootName> Machine<N> {
-    /// Notes that a kept unit was used: an inactive unit that isn't marked is marked; each other moves to the newest end of
-    /// the active list of its group, unmarked. The unit goes by its head, which stands on a list of its group.
+    /// Notes that a kept unit was used: an inactive unit that isn't marked is marked; each other moves to the newest
+    /// end of the active list of its group, unmarked. The unit goes by its head, which stands on a list of its group.
     pub fn touch(&mut self, head: Frame) -> Touched
         requires frame { head < N.frames.frames }
         requires kept { home_of self.old.links head ≢ None }
@@ -32,7 +32,8 @@ impl<N: BootName> Machine<N> {
         touched
     }
 
-    /// Notes whether the pages of a kept unit are dirty. The unit goes by its head, which stands on a list of its group.
+    /// Notes whether the pages of a kept unit are dirty. The unit goes by its head, which stands on a list of its
+    /// group.
     pub fn set_dirty(&mut self, head: Frame, is_dirty: bool)
         requires frame { head < N.frames.frames }
         requires kept { home_of self.old.links head ≢ None }

@@ -13,8 +13,8 @@ use group_tree::group::GroupId;
 use stock_word::Stock;
 
 impl<N: BootName> Machine<N> {
-    /// The processor's own stock: its group, the pages that it holds, and whether it was drained. One look, which changes
-    /// nothing.
+    /// The processor's own stock: its group, the pages that it holds, and whether it was drained. One look, which
+    /// changes nothing.
     pub fn own_stock(&mut self, tables: &Tables<N>, cpu: &mut Cpu<N>) -> Stock
         ensures stock { IsOwnStock (side self.old cpu.old) result }
         ensures machine { self.new ≡ self.old }
@@ -24,8 +24,8 @@ impl<N: BootName> Machine<N> {
         cpu.look(tables, &mut self.stock)
     }
 
-    /// Shows that 65,535 pages more can be charged in a zone of this size: so many frames, and so many pages in the stocks,
-    /// stay far below 2^32. It does nothing.
+    /// Shows that 65,535 pages more can be charged in a zone of this size: so many frames, and so many pages in the
+    /// stocks, stay far below 2^32. It does nothing.
     pub fn see_room(&self)
         requires size { IsOfSize N.frames }
         ensures room { (pages : ℕ) → pages < 65536 → HasRoomFor self.now pages }
@@ -33,8 +33,9 @@ impl<N: BootName> Machine<N> {
         let _tree = self.charges.tree(); // For the clauses.
     }
 
-    /// Takes the front of the list of the processor that is visited for `group`, and pays for it with a page of its stock,
-    /// which is of that group. The frame is fresh then. No frame was fresh before, as once the processor was settled.
+    /// Takes the front of the list of the processor that is visited for `group`, and pays for it with a page of its
+    /// stock, which is of that group. The frame is fresh then. No frame was fresh before, as once the processor was
+    /// settled.
     pub fn take_front(&mut self, tables: &Tables<N>, cpu: &mut Cpu<N>, group: GroupId) -> Frame
         requires visit { Visits N.frames (side self.old cpu.old) }
         requires page { HoldsPage (side self.old cpu.old) group }
@@ -43,7 +44,8 @@ impl<N: BootName> Machine<N> {
         ensures pays { PaysForFront group result (side self.old cpu.old) (side self.new cpu.new) }
         ensures frame { result < N.frames.frames }
         ensures visit { Visits N.frames (side self.new cpu.new) }
-        ensures steps { Makes N.frames (side self.old cpu.old) (take_front_steps cpu.old.number group) (side self.new cpu.new) }
+        ensures steps { Makes N.frames (side self.old cpu.old)
+            (take_front_steps cpu.old.number group) (side self.new cpu.new) }
     {
         let _number = cpu.number(); // For the clauses.
         cpu.take_front(tables, &mut self.stock, group.number())

@@ -1,6 +1,7 @@
 //! Kept units that are released.
 
 ghost use Rattle.std.specs.Prelude.{◌≡◌, ◌≢◌, ◌<◌, None, IfSome, length};
+ghost use Rattle.group_tree.specs.declared.group.TheConstants.{MAX_GROUPS};
 ghost use Rattle.lru_lists.specs.Lists.{AllStand};
 ghost use Rattle.mem_machine.specs.Machines.{home_of, Visits};
 ghost use Rattle.mem_machine.specs.Releasing.{LeavesList, Releases, release_steps};
@@ -18,8 +19,8 @@ use lru_lists::lru::Lru;
 /// What a release left.
 #[derive(Clone, Copy, Debug, PartialEq, Eq)]
 pub enum Released {
-    /// So many references of processors are left: the unit stays charged, and isn't kept any more. It comes back after the
-    /// last put of a processor, when that one is settled.
+    /// So many references of processors are left: the unit stays charged, and isn't kept any more. It comes back after
+    /// the last put of a processor, when that one is settled.
     Left(u64),
     /// It came back: its frames are free, and its pages off the charge of its group.
     Returned,
@@ -29,13 +30,13 @@ pub enum Released {
 pub(crate) fn leave_list(links: &mut Links, lists: &mut Vec<Lru>, head: u32)
     requires frame { head < length links.old }
     requires kept { home_of links.old head ≢ None }
-    requires owner { IfSome (home_of links.old head) (λ h. h.owner < 64) }
-    requires groups { length lists.old.items ≡ 64 }
+    requires owner { IfSome (home_of links.old head) (λ h. h.owner < MAX_GROUPS) }
+    requires groups { length lists.old.items ≡ MAX_GROUPS }
     requires stand { AllStand links.old lists.old.items }
     ensures leaves { LeavesList links.old lists.old.items head links.new lists.new.items }
     ensures stand { AllStand links.new lists.new.items }
     ensures frames { length links.new ≡ length links.old }
-    ensures groups { length lists.new.items ≡ 64 }
+    ensures groups { length lists.new.items ≡ MAX_GROUPS }
 {
     let Some(home) = links.home(head) else {
         unreachable!()
@@ -48,8 +49,8 @@ pub(crate) fn leave_list(links: &mut Links, lists: &mut Vec<Lru>, head: u32)
 }
 
 impl<N: BootName> Machine<N> {
-    /// Takes a kept unit off its list, and gives up the zone's reference on it. Where that was the last one, the unit comes
-    /// back. The unit goes by its head, which stands on a list of its group.
+    /// Takes a kept unit off its list, and gives up the zone's reference on it. Where that was the last one, the unit
+    /// comes back. The unit goes by its head, which stands on a list of its group.
     pub fn release(&mut self, tables: &Tables<N>, cpu: &Cpu<N>, head: Frame) -> Released
         requires visit { Visits N.frames (side self.old cpu.now) }
         requires frame { head < N.frames.frames }

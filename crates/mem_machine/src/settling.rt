@@ -1,17 +1,17 @@
 //! Settling: what the visited processor paid for is kept, and what it put last comes back.
 
-ghost use Rattle.std.specs.Prelude.{◌≡◌, ◌≢◌, ◌+◌, ◌≤◌, ◌<◌, [], true, MatchOption, IfSome, Some};
-ghost use Rattle.std.specs.List.{flat_map};
+ghost use Rattle.std.specs.Prelude.{◌≡◌, ◌≢◌, ◌<◌, [], true, Some};
 ghost use Rattle.frame_word.specs.Views.{collected_from};
 ghost use Rattle.frame_word.specs.Seats.{IsZoneSeat, IsOpen, NothingPasses, HasNothingOf, IsLent, seat_with};
 ghost use Rattle.stock_word.specs.Stock.{IsMachine, account_of, group_of};
-ghost use Rattle.stock_word.specs.Kinds.{absorbing, noting, with_steps};
-ghost use Rattle.stock_word.specs.Calls.{with_view};
 ghost use Rattle.cpu_part.specs.Calls.{HandsFresh};
 ghost use Rattle.mem_machine.specs.Machines.{Visits, is_killed};
-ghost use Rattle.mem_machine.specs.Local.{Makes, side, fresh_group};
-ghost use Rattle.mem_machine.specs.Settling.{KeepsFresh, DropsFresh, SettlesFresh, SettlesAllFresh, ReturnsBack, ReturnsAllBack, Settles, LeavesOthers};
-ghost use Rattle.mem_machine.specs.Settling.{keep_steps, drop_steps, fresh_steps, return_steps, settle_steps};
+ghost use Rattle.mem_machine.specs.Local.{Makes, MakesBy, side};
+ghost use Rattle.mem_machine.specs.Settling.{KeepsFresh, DropsFresh, SettlesNext, SettlesAllFresh, Settles};
+ghost use Rattle.mem_machine.specs.Settling.{ReturnsNext, ReturnsAllBack, LeavesOthers};
+ghost use Rattle.mem_machine.specs.Settling.{HasUnnotedPage, after_page_absorbed};
+ghost use Rattle.mem_machine.specs.Settling.{MakesFreshSteps, MakesReturnSteps, keep_steps, drop_steps};
+ghost use Rattle.mem_machine.specs.Settling.{all_fresh_steps, all_back_steps, settle_steps};
 
 use crate::freed::free_unit;
 use crate::machine::Machine;
@@ -39,11 +39,10 @@ fn collect_fresh<N: BootName>(
     ensures cpu { HandsFresh result cpu.old cpu.new }
     ensures frame { result < N.frames.frames }
     ensures zone { zone.new ≡ seat_with zone.old result (collected_from cpu.old.number) }
-    ensures machine { machine.new ≡ with_view machine.old
-        (with_steps 1 (absorbing (noting machine.old.view cpu.old.number 1) cpu.old.number)) }
+    ensures machine { machine.new ≡ after_page_absorbed machine.old cpu.old.number }
     ensures nothing { HasNothingOf zone.old result }
     ensures lent { IsLent zone.old result cpu.old.number }
-    ensures booked { 1 + (account_of machine.old.view cpu.old.number).noted ≤ (account_of machine.old.view cpu.old.number).book }
+    ensures booked { HasUnnotedPage (account_of machine.old.view cpu.old.number) }
     ensures group { group_of cpu.old.stock.view.last ≡ (account_of machine.old.view cpu.old.number).group }
 {
     let number = cpu.number();
@@ -63,7 +62,8 @@ impl<N: BootName> Machine<N> {
         requires group { group_of cpu.old.stock.view.last ≡ Some group }
         ensures keeps { KeepsFresh group result (side self.old cpu.old) (side self.new cpu.new) }
         ensures visit { Visits N.frames (side self.new cpu.new) }
-        ensures steps { Makes N.frames (side self.old cpu.old) (keep_steps cpu.old.number result) (side self.new cpu.new) }
+        ensures steps { Makes N.frames (side self.old cpu.old)
+            (keep_steps cpu.old.number result) (side self.new cpu.new) }
     {
         let _number = cpu.number(); // For the clauses.
         let frame = collect_fresh(tables, cpu, &mut self.seat, &mut self.stock);
@@ -88,7 +88,8 @@ impl<N: BootName> Machine<N> {
         requires killed { is_killed self.old.killed group ≡ true }
         ensures drops { DropsFresh group result (side self.old cpu.old) (side self.new cpu.new) }
         ensures visit { Visits N.frames (side self.new cpu.new) }
-        ensures steps { Makes N.frames (side self.old cpu.old) (drop_steps cpu.old.number result) (side self.new cpu.new) }
+        ensures steps { Makes N.frames (side self.old cpu.old)
+            (drop_steps cpu.old.number result) (side self.new cpu.new) }
     {
         let _number = cpu.number(); // For the clauses.
         let frame = collect_fresh(tables, cpu, &mut self.seat, &mut self.stock);
@@ -108,11 +109,9 @@ impl<N: BootName> Machine<N> {
     // Takes the oldest back frame, if there is one, into the zone's hand: its unit comes back.
     fn return_one(&mut self, tables: &Tables<N>, cpu: &mut Cpu<N>) -> Option<Frame>
         requires { Visits N.frames (side self.old cpu.old) }
-        ensures returns { MatchOption result ((cpu.old.back ≡ []) × (self.new ≡ self.old) × (cpu.new ≡ cpu.old))
-            (λ f. ReturnsBack f (side self.old cpu.old) (side self.new cpu.new)) }
+        ensures returns { ReturnsNext result (side self.old cpu.old) (side self.new cpu.new) }
         ensures visit { Visits N.frames (side self.new cpu.new) }
-        ensures steps { IfSome result (λ f.
-            Makes N.frames (side self.old cpu.old) (return_steps cpu.old.number f) (side self.new cpu.new)) }
+        ensures steps { MakesReturnSteps N.frames result (side self.old cpu.old) (side self.new cpu.new) }
     {
         let _number = cpu.number(); // For the clauses.
         let Some(frame) = cpu.hand_back(tables, &mut self.seat) else {
@@ -131,11 +130,9 @@ impl<N: BootName> Machine<N> {
     // Settles the oldest fresh frame, if there is one: it is kept for its group, or dropped where that is killed.
     fn settle_one(&mut self, tables: &Tables<N>, cpu: &mut Cpu<N>) -> Option<Frame>
         requires { Visits N.frames (side self.old cpu.old) }
-        ensures settles { MatchOption result ((cpu.old.fresh ≡ []) × (self.new ≡ self.old) × (cpu.new ≡ cpu.old))
-            (λ f. SettlesFresh f (side self.old cpu.old) (side self.new cpu.new)) }
+        ensures settles { SettlesNext result (side self.old cpu.old) (side self.new cpu.new) }
         ensures visit { Visits N.frames (side self.new cpu.new) }
-        ensures steps { IfSome result (λ f. Makes N.frames (side self.old cpu.old)
-            (fresh_steps (is_killed self.old.killed (fresh_group cpu.old)) cpu.old.number f) (side self.new cpu.new)) }
+        ensures steps { MakesFreshSteps N.frames result (side self.old cpu.old) (side self.new cpu.new) }
     {
         if cpu.fresh_len() == 0 {
             return None;
@@ -155,10 +152,11 @@ impl<N: BootName> Machine<N> {
     fn settle_fresh(&mut self, tables: &Tables<N>, cpu: &mut Cpu<N>)
         requires { Visits N.frames (side self.old cpu.old) }
         ensures settles { SettlesAllFresh cpu.old.fresh (side self.old cpu.old) (side self.new cpu.new) }
-        ensures leaves { LeavesOthers cpu.old cpu.new × (cpu.new.back ≡ cpu.old.back) × (cpu.new.fresh ≡ []) }
+        ensures others { LeavesOthers cpu.old cpu.new }
+        ensures back { cpu.new.back ≡ cpu.old.back }
+        ensures none_fresh { cpu.new.fresh ≡ [] }
         ensures visit { Visits N.frames (side self.new cpu.new) }
-        ensures steps { Makes N.frames (side self.old cpu.old)
-            (flat_map (fresh_steps (is_killed self.old.killed (fresh_group cpu.old)) cpu.old.number) cpu.old.fresh) (side self.new cpu.new) }
+        ensures steps { MakesBy N.frames all_fresh_steps (side self.old cpu.old) (side self.new cpu.new) }
     {
         while let Some(_frame) = self.settle_one(tables, cpu) {}
     }
@@ -167,17 +165,19 @@ impl<N: BootName> Machine<N> {
     fn settle_back(&mut self, tables: &Tables<N>, cpu: &mut Cpu<N>)
         requires { Visits N.frames (side self.old cpu.old) }
         ensures returns { ReturnsAllBack cpu.old.back (side self.old cpu.old) (side self.new cpu.new) }
-        ensures leaves { LeavesOthers cpu.old cpu.new × (cpu.new.fresh ≡ cpu.old.fresh) × (cpu.new.back ≡ []) }
+        ensures others { LeavesOthers cpu.old cpu.new }
+        ensures fresh { cpu.new.fresh ≡ cpu.old.fresh }
+        ensures none_back { cpu.new.back ≡ [] }
         ensures visit { Visits N.frames (side self.new cpu.new) }
-        ensures steps { Makes N.frames (side self.old cpu.old)
-            (flat_map (return_steps cpu.old.number) cpu.old.back) (side self.new cpu.new) }
+        ensures steps { MakesBy N.frames all_back_steps (side self.old cpu.old) (side self.new cpu.new) }
     {
         while let Some(_frame) = self.return_one(tables, cpu) {}
     }
 
-    /// Settles the processor that is visited. Each fresh frame, in the order in which they were taken, is now a kept unit of the
-    /// group that paid for it; where that group was killed meanwhile, it goes back, and its page comes off the group's charge,
-    /// which counts as a drop. Then the unit of each back frame goes back, in the order of their last puts.
+    /// Settles the processor that is visited. Each fresh frame, in the order in which they were taken, is now a kept
+    /// unit of the group that paid for it; where that group was killed meanwhile, it goes back, and its page comes off
+    /// the group's charge, which counts as a drop. Then the unit of each back frame goes back, in the order of their
+    /// last puts.
     pub fn settle(&mut self, tables: &Tables<N>, cpu: &mut Cpu<N>)
         requires { Visits N.frames (side self.old cpu.old) }
         ensures settles { Settles (side self.old cpu.old) (side self.new cpu.new) }
@@ -185,7 +185,7 @@ impl<N: BootName> Machine<N> {
         ensures none_fresh { cpu.new.fresh ≡ [] }
         ensures none_back { cpu.new.back ≡ [] }
         ensures visit { Visits N.frames (side self.new cpu.new) }
-        ensures steps { Makes N.frames (side self.old cpu.old) (settle_steps (side self.old cpu.old)) (side self.new cpu.new) }
+        ensures steps { MakesBy N.frames settle_steps (side self.old cpu.old) (side self.new cpu.new) }
     {
         self.settle_fresh(tables, cpu);
         self.settle_back(tables, cpu);

@@ -1,14 +1,15 @@
 //! The processors' stocks: drained, and filled.
 
-ghost use Rattle.std.specs.Prelude.{◌≡◌, ◌+◌, ◌^◌, ◌≤◌, ◌<◌, ◌++◌, [], false, Some, IsTrue, OnOk, OnErr, IfErr};
+ghost use Rattle.std.specs.Prelude.{◌≡◌, ◌≤◌, ◌<◌, [], false, Some, IsTrue, OnOk, OnErr, IfErr};
+ghost use Rattle.group_tree.specs.declared.group.TheConstants.{MAX_GROUPS};
 ghost use Rattle.group_tree.specs.Groups.{has_group, in_subtree};
-ghost use Rattle.stock_word.specs.Stock.{account_of};
-ghost use Rattle.group_tree.specs.Room.{IsLowestOver};
-ghost use Rattle.group_charge.specs.Charges.{current_of};
-ghost use Rattle.mem_machine.specs.Machines.{Visits, is_killed};
-ghost use Rattle.mem_machine.specs.Stocks.{Drains, DrainsIfBelow, DrainsSubtree, AreDrained, Fills, Prepays, IsOver, own_drain_steps, stock_group};
-ghost use Rattle.mem_machine.specs.Local.{Makes, MakesForAny, side};
-ghost use Rattle.mem_machine.specs.Steps.{drain_steps, fill_steps, over_steps, pages_drained};
+ghost use Rattle.mem_machine.specs.Machines.{LacksRoom, Visits, is_killed};
+ghost use Rattle.mem_machine.specs.Stocks.{IsDrained, AreDrained, FitsStock, stock_group};
+ghost use Rattle.mem_machine.specs.Stocks.{Drains, DrainsIfBelow, DrainsSubtree, Fills, Prepays, IsOver};
+ghost use Rattle.mem_machine.specs.Stocks.{RefusesGrant, RefusesPrepay, own_fill_steps, prepay_steps};
+ghost use Rattle.mem_machine.specs.Paying.{HasRoomFor};
+ghost use Rattle.mem_machine.specs.Local.{MakesBy, MakesForAny, side};
+ghost use Rattle.mem_machine.specs.Steps.{drain_steps};
 
 use crate::machine::Machine;
 use cpu_part::{BootName, Cpu, Tables};
@@ -20,7 +21,7 @@ impl<N: BootName> Machine<N> {
     fn drain_of(&mut self, tables: &Tables<N>, q: u32, group: u32) -> u32
         requires processor { (1 ≤ q) × (q ≤ N.frames.cpus) }
         requires group { stock_group self.old q ≡ Some group }
-        requires fits { group < 64 }
+        requires fits { group < MAX_GROUPS }
         ensures drains { Drains self.old q result self.new }
         ensures steps { MakesForAny N.frames self.old (drain_steps q (stock_group self.old q) result) self.new }
     {
@@ -32,8 +33,8 @@ impl<N: BootName> Machine<N> {
         pages
     }
 
-    /// Drains the stock of processor `q`, which may be any of the boot's, and tells how many pages were in it. They come off
-    /// its book and off the charge of the group that it is of. The processor's own calls may go on meanwhile.
+    /// Drains the stock of processor `q`, which may be any of the boot's, and tells how many pages were in it. They
+    /// come off its book and off the charge of the group that it is of. The processor's own calls may go on meanwhile.
     pub fn drain_stock(&mut self, tables: &Tables<N>, q: u32) -> u32
         requires processor { (1 ≤ q) × (q ≤ N.frames.cpus) }
         ensures drains { Drains self.old q result self.new }
@@ -48,7 +49,7 @@ impl<N: BootName> Machine<N> {
     // Whether a group of this number is there and is the group or lies below it.
     fn is_below(&self, group: GroupId, number: u32) -> bool
         requires there { IsTrue (has_group self.now.ledger.groups group) }
-        requires fits { number < 64 }
+        requires fits { number < MAX_GROUPS }
         ensures { result ≡ in_subtree self.now.ledger.groups group number }
     {
         let tree = self.charges.tree();
@@ -60,7 +61,7 @@ impl<N: BootName> Machine<N> {
     fn drain_below(&mut self, tables: &Tables<N>, q: u32, group: GroupId) -> u32
         requires processor { (1 ≤ q) × (q ≤ N.frames.cpus) }
         requires there { IsTrue (has_group self.old.ledger.groups group) }
-        ensures { (done : DrainsIfBelow N.frames group q self.old self.new) × (result ≡ pages_drained done.drains) }
+        ensures { DrainsIfBelow N.frames group q result self.old self.new }
     {
         match tables.stocks.group(&mut self.stock, q) {
             None => 0,
@@ -69,8 +70,9 @@ impl<N: BootName> Machine<N> {
         }
     }
 
-    /// Drains the stocks of all groups of the subtree of `group`, also where one has no page, and tells how many pages were in
-    /// them. They come off the books and off the charges of their groups. It looks at each processor's stock once.
+    /// Drains the stocks of all groups of the subtree of `group`, also where one has no page, and tells how many pages
+    /// were in them. They come off the books and off the charges of their groups. It looks at each processor's stock
+    /// once.
     pub fn drain_stocks(&mut self, tables: &Tables<N>, group: GroupId) -> u64
         requires there { IsTrue (has_group self.old.ledger.groups group) }
         ensures drains { DrainsSubtree N.frames group result self.old self.new }
@@ -83,10 +85,10 @@ impl<N: BootName> Machine<N> {
         pages
     }
 
-    /// Charges `pages` pages (1 to 65,535) to a group that isn't killed, and fills the stock of the processor that is visited
-    /// with them; that stock is drained, or was never filled. Where a limit has no room, the error names the lowest such
-    /// group, and nothing changed. The processor has no fresh frame. In all, at most 2^32 - 1 pages can be charged, as
-    /// `see_room` tells.
+    /// Charges `pages` pages (1 to 65,535) to a group that isn't killed, and fills the stock of the processor that is
+    /// visited with them; that stock is drained, or was never filled. Where a limit has no room, the error names the
+    /// lowest such group, and nothing changed. The processor has no fresh frame. In all, at most 2^32 - 1 pages can be
+    /// charged, as `see_room` tells.
     pub fn fill_stock(
         &mut self,
         tables: &Tables<N>,
@@ -97,18 +99,17 @@ impl<N: BootName> Machine<N> {
         requires visit { Visits N.frames (side self.old cpu.old) }
         requires there { IsTrue (has_group self.old.ledger.groups group) }
         requires alive { is_killed self.old.killed group ≡ false }
-        requires pages { (0 < pages) × (pages < 65536) }
-        requires fits { current_of self.old.ledger 0 + pages < 2 ^ 32 }
+        requires pages { FitsStock pages }
+        requires fits { HasRoomFor self.old pages }
         requires none_fresh { cpu.old.fresh ≡ [] }
-        requires drained { (account_of self.old.stock.view cpu.old.number).filled ≡ false }
+        requires drained { IsDrained self.old cpu.old.number }
         ensures fills { OnOk result (Fills group pages (side self.old cpu.old) (side self.new cpu.new)) }
-        ensures over { IfErr result (λ e. IsLowestOver self.old.ledger.groups (current_of self.old.ledger) group pages e.group) }
+        ensures over { IfErr result (λ e. LacksRoom self.old group pages e.group) }
         ensures unchanged { OnErr result ((self.new ≡ self.old) × (cpu.new ≡ cpu.old)) }
         ensures visit { Visits N.frames (side self.new cpu.new) }
-        ensures steps { OnOk result (Makes N.frames (side self.old cpu.old)
-            (fill_steps cpu.old.number group pages) (side self.new cpu.new)) }
-        ensures refused { IfErr result (λ e. Makes N.frames (side self.old cpu.old)
-            (over_steps group pages e.group) (side self.old cpu.old)) }
+        ensures steps { OnOk result
+            (MakesBy N.frames (own_fill_steps group pages) (side self.old cpu.old) (side self.new cpu.new)) }
+        ensures refused { IfErr result (RefusesGrant N.frames group pages (side self.old cpu.old)) }
     {
         let _number = cpu.number(); // For the clauses.
         let _tree = self.charges.tree(); // For the clauses.
@@ -117,10 +118,10 @@ impl<N: BootName> Machine<N> {
         Ok(())
     }
 
-    /// Tries once to prepay `pages` pages (1 to 65,535) of a group that isn't killed. The caller's own stock is drained first,
-    /// and all its pages are taken back; then the pages are charged to the group and fill the stock. Where a limit has no room,
-    /// the error names the lowest such group, and nothing is charged. The processor has no fresh frame. In all, at most
-    /// 2^32 - 1 pages can be charged, as `Charges::fits` tells.
+    /// Tries once to prepay `pages` pages (1 to 65,535) of a group that isn't killed. The caller's own stock is drained
+    /// first, and all its pages are taken back; then the pages are charged to the group and fill the stock. Where a
+    /// limit has no room, the error names the lowest such group, and nothing is charged. The processor has no fresh
+    /// frame. In all, at most 2^32 - 1 pages can be charged, as `Charges::fits` tells.
     pub fn prepay(
         &mut self,
         tables: &Tables<N>,
@@ -131,16 +132,16 @@ impl<N: BootName> Machine<N> {
         requires visit { Visits N.frames (side self.old cpu.old) }
         requires there { IsTrue (has_group self.old.ledger.groups group) }
         requires alive { is_killed self.old.killed group ≡ false }
-        requires pages { (0 < pages) × (pages < 65536) }
-        requires fits { current_of self.old.ledger 0 + pages < 2 ^ 32 }
+        requires pages { FitsStock pages }
+        requires fits { HasRoomFor self.old pages }
         requires none_fresh { cpu.old.fresh ≡ [] }
         ensures prepays { OnOk result (Prepays group pages (side self.old cpu.old) (side self.new cpu.new)) }
         ensures over { IfErr result (λ e. IsOver group pages e.group (side self.old cpu.old) (side self.new cpu.new)) }
         ensures visit { Visits N.frames (side self.new cpu.new) }
-        ensures steps { OnOk result (Makes N.frames (side self.old cpu.old)
-            (own_drain_steps (side self.old cpu.old) ++ fill_steps cpu.old.number group pages) (side self.new cpu.new)) }
-        ensures refused { IfErr result (λ e. Makes N.frames (side self.old cpu.old)
-            (own_drain_steps (side self.old cpu.old) ++ over_steps group pages e.group) (side self.new cpu.new)) }
+        ensures steps { OnOk result
+            (MakesBy N.frames (prepay_steps group pages) (side self.old cpu.old) (side self.new cpu.new)) }
+        ensures refused { IfErr result
+            (RefusesPrepay N.frames group pages (side self.old cpu.old) (side self.new cpu.new)) }
     {
         let number = cpu.number();
         self.drain_stock(tables, number);

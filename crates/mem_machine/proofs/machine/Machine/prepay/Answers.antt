@@ -3,7 +3,7 @@ use Rattle.group_charge.specs.Charges.{current_of}
 use Rattle.stock_word.specs.Stock.{account_of}
 use Rattle.cpu_part.specs.Cpus.{KnownCpu}
 use Rattle.mem_machine.specs.Machines.{KnownMachine}
-use Rattle.mem_machine.proofs.Prepaying.{emptied_fits, emptied_drained, emptied_whole, prepays, prepay_steps, is_refused, refused_steps, on_ok_both, if_err_both}
+use Rattle.mem_machine.proofs.Prepaying.{emptied_fits, emptied_drained, emptied_whole, prepays, prepay_runs, is_refused, refused_runs, on_ok_both, if_err_both}
 use Rattle.mem_machine.proofs.machine.Machine.prepay.Goals as goal
 
 pub fill_stock-requires-clause-fits : goal.fill_stock-requires-clause-fits
@@ -35,7 +35,7 @@ returns-clause-steps g c =
     let whole = emptied_whole _ _ _ _ _ number drains c.args.cpu.now _ _ refl refl c.requires.none_fresh c.own_stock-emptied.ensures.stock in
     let steps = c.drain_stock.ensures.steps c.args.cpu.now in
     on_ok_both c.fill_stock.result
-    (λ fills run. prepay_steps _ _ _ _ _ number drains g.N.BootName.frames c.args.cpu.now refl whole steps _ _ c.own_stock-emptied.ensures.machine
+    (λ fills run. prepay_runs _ _ _ _ _ number drains g.N.BootName.frames c.args.cpu.now refl whole steps _ _ c.own_stock-emptied.ensures.machine
     c.own_stock-emptied.ensures.cpu c.args.group c.args.pages c.fill_stock.new.self c.fill_stock.new.cpu run)
     c.fill_stock.ensures.fills c.fill_stock.ensures.steps
 
@@ -57,6 +57,6 @@ returns-clause-refused g c =
     let whole = emptied_whole _ _ _ _ _ number drains c.args.cpu.now _ _ refl refl c.requires.none_fresh c.own_stock-emptied.ensures.stock in
     let steps = c.drain_stock.ensures.steps c.args.cpu.now in
     if_err_both c.fill_stock.result
-    (λ e same low run. refused_steps _ _ _ _ _ number drains g.N.BootName.frames c.args.cpu.now refl whole steps _ _ c.own_stock-emptied.ensures.machine
+    (λ e same low run. refused_runs _ _ _ _ _ number drains g.N.BootName.frames c.args.cpu.now refl whole steps _ _ c.own_stock-emptied.ensures.machine
     c.own_stock-emptied.ensures.cpu c.args.group c.args.pages _ _ e.group same.0 same.1 run)
     c.fill_stock.ensures.unchanged c.fill_stock.ensures.over c.fill_stock.ensures.refused

@@ -14,8 +14,14 @@ loop-frame-smaller g c = fewer _ _ _ c.in-Some.ensures.returns.front
 pub returns-clause-returns : goal.returns-clause-returns
 returns-clause-returns g c = (back_end g.N.BootName.frames _ _ _ _ _ _ c.loop-frame.invariant c.in_default.ensures.returns).returns
 
-pub returns-clause-leaves : goal.returns-clause-leaves
-returns-clause-leaves g c = (back_end g.N.BootName.frames _ _ _ _ _ _ c.loop-frame.invariant c.in_default.ensures.returns).leaves
+pub returns-clause-others : goal.returns-clause-others
+returns-clause-others g c = (back_end g.N.BootName.frames _ _ _ _ _ _ c.loop-frame.invariant c.in_default.ensures.returns).others
+
+pub returns-clause-fresh : goal.returns-clause-fresh
+returns-clause-fresh g c = (back_end g.N.BootName.frames _ _ _ _ _ _ c.loop-frame.invariant c.in_default.ensures.returns).fresh
+
+pub returns-clause-none_back : goal.returns-clause-none_back
+returns-clause-none_back g c = (back_end g.N.BootName.frames _ _ _ _ _ _ c.loop-frame.invariant c.in_default.ensures.returns).none_back
 
 pub returns-clause-steps : goal.returns-clause-steps
 returns-clause-steps g c = (back_end g.N.BootName.frames _ _ _ _ _ _ c.loop-frame.invariant c.in_default.ensures.returns).steps

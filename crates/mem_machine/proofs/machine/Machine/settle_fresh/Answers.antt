@@ -14,8 +14,14 @@ loop-frame-smaller g c = fewer _ _ _ (settled_over _ _ _ _ _ c.in-Some.ensures.s
 pub returns-clause-settles : goal.returns-clause-settles
 returns-clause-settles g c = (fresh_end g.N.BootName.frames _ _ _ _ _ _ c.loop-frame.invariant c.in_default.ensures.settles).settles
 
-pub returns-clause-leaves : goal.returns-clause-leaves
-returns-clause-leaves g c = (fresh_end g.N.BootName.frames _ _ _ _ _ _ c.loop-frame.invariant c.in_default.ensures.settles).leaves
+pub returns-clause-others : goal.returns-clause-others
+returns-clause-others g c = (fresh_end g.N.BootName.frames _ _ _ _ _ _ c.loop-frame.invariant c.in_default.ensures.settles).others
+
+pub returns-clause-back : goal.returns-clause-back
+returns-clause-back g c = (fresh_end g.N.BootName.frames _ _ _ _ _ _ c.loop-frame.invariant c.in_default.ensures.settles).back
+
+pub returns-clause-none_fresh : goal.returns-clause-none_fresh
+returns-clause-none_fresh g c = (fresh_end g.N.BootName.frames _ _ _ _ _ _ c.loop-frame.invariant c.in_default.ensures.settles).none_fresh
 
 pub returns-clause-steps : goal.returns-clause-steps
 returns-clause-steps g c = (fresh_end g.N.BootName.frames _ _ _ _ _ _ c.loop-frame.invariant c.in_default.ensures.settles).steps
