@@ -1,5 +1,5 @@
 -- What crates above cite: the group over whose limit a charge would have gone is there.
-use Rattle.std.proofs.Common.{◌≡◌, ℕ, ◌^◌, true, sym, subst}
+use Rattle.std.proofs.Common.{◌≡◌, ℕ, ◌^◌, true, subst}
 use Rattle.std.specs.Prelude.{Err}
 use Rattle.frame_word.specs.Seats.{KnownTable}
 use Rattle.group_tree.specs.Groups.{has_group}
@@ -19,7 +19,7 @@ use Rattle.mem_alloc.specs.Stepping.{course}
 
 over_there : (t : KnownTable) (g pages over : ℕ) (m n : KnownMachine) (steps : Run) → IsOverAt g pages over (course t m steps n) → has_group n.ledger.groups over ≡ true
 over_there t g pages over m n steps h =
-    lowered_there h.cleared n over (refused_lowers t g pages over h.cleared n h.last h.refused)
+    lowered_there t h.cleared n over (refused_lowers t g pages over h.cleared n h.last h.refused)
     (in_subtree-above h.cleared.ledger.groups over g h.refused.lowest.on_path)
 
 -- after a frame was refused

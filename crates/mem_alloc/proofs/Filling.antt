@@ -51,9 +51,9 @@ keeps_both m x n c y d a b = record {
   back = b.back ∙ a.back;
 }
 
-pub lowers_keep : (m n : KnownMachine) (c d : KnownCpu) → Lowers m n → d ≡ c → KeepsPart m c n d
-lowers_keep m n c d l same = record {
-  opened = ap (λ (y : KnownMachine). y.seat.view.opened) l.same;
+pub lowers_keep : (t : KnownTable) (m n : KnownMachine) (c d : KnownCpu) → Lowers t m n → d ≡ c → KeepsPart m c n d
+lowers_keep t m n c d l same = record {
+  opened = l.opened;
   number = ap (λ (e : KnownCpu). e.number) same;
   list = ap (λ (e : KnownCpu). e.list) same;
   fresh = ap (λ (e : KnownCpu). e.fresh) same;
@@ -69,21 +69,21 @@ fills_keep g k m n c d f = record {
   back = ap (λ (e : KnownCpu). e.back) f.cpu;
 }
 
-pub refused_lowers : (t : KnownTable) (g pages over : ℕ) (m n : KnownMachine) (steps : Run) → IsRefusedAt g pages over (course t m steps n) → Lowers m n
+pub refused_lowers : (t : KnownTable) (g pages over : ℕ) (m n : KnownMachine) (steps : Run) → IsRefusedAt g pages over (course t m steps n) → Lowers t m n
 refused_lowers t g pages over m n steps r = clears_lower t over m n r.clearing r.clears
 
-pub makes_lower : (t : KnownTable) (g pages : ℕ) (before : List ℕ) (m n : KnownMachine) (steps : Run) → MakesRoom g pages before (course t m steps n) → Lowers m n
-makes_lower t g pages [] m n steps h = subst (λ (x : KnownMachine). Lowers m x) (sym h.0) (lowers_none m)
+pub makes_lower : (t : KnownTable) (g pages : ℕ) (before : List ℕ) (m n : KnownMachine) (steps : Run) → MakesRoom g pages before (course t m steps n) → Lowers t m n
+makes_lower t g pages [] m n steps h = subst (λ (x : KnownMachine). Lowers t m x) (sym h.0) (lowers_none t m)
 makes_lower t g pages (over ∷ later) m n steps h =
-    lowers_both m h.0 n (refused_lowers t g pages over m h.0 h.1 h.3) (makes_lower t g pages later h.0 n h.2 h.5)
+    lowers_both t m h.0 n (refused_lowers t g pages over m h.0 h.1 h.3) (makes_lower t g pages later h.0 n h.2 h.5)
 
-pub over_lowers : (t : KnownTable) (g pages over : ℕ) (m n : KnownMachine) (steps : Run) → IsOverAt g pages over (course t m steps n) → Lowers m n
+pub over_lowers : (t : KnownTable) (g pages over : ℕ) (m n : KnownMachine) (steps : Run) → IsOverAt g pages over (course t m steps n) → Lowers t m n
 over_lowers t g pages over m n steps h =
-    lowers_both m h.cleared n (makes_lower t g pages h.refused_at m h.cleared h.making h.makes) (refused_lowers t g pages over h.cleared n h.last h.refused)
+    lowers_both t m h.cleared n (makes_lower t g pages h.refused_at m h.cleared h.making h.makes) (refused_lowers t g pages over h.cleared n h.last h.refused)
 
 after_room_keeps : (t : KnownTable) (g k : ℕ) (m n : KnownMachine) (c d : KnownCpu) (steps : Run) → FillsAfterRoom g k (course t (side m c) steps (side n d)) → KeepsPart m c n d
 after_room_keeps t g k m n c d steps h =
-    keeps_both m h.cleared n c c d (lowers_keep m h.cleared c c (makes_lower t g k h.refused_at m h.cleared h.making h.makes) refl)
+    keeps_both m h.cleared n c c d (lowers_keep t m h.cleared c c (makes_lower t g k h.refused_at m h.cleared h.making h.makes) refl)
     (fills_keep g k h.cleared n c d h.fills)
 
 charges_keep : (t : KnownTable) (sizes : Config) (g : ℕ) (m n : KnownMachine) (c d : KnownCpu) (steps : Run)
@@ -94,17 +94,17 @@ charges_keep t sizes g m n c d steps (inr h) = after_room_keeps t g 1 m n c d h.
 pub pays_keep : (t : KnownTable) (sizes : Config) (g : ℕ) (m n : KnownMachine) (c d : KnownCpu) (steps : Run)
     → PaysForFrame sizes g (course t (side m c) steps (side n d)) → KeepsPart m c n d
 pays_keep t sizes g m n c d steps (inl h) =
-    lowers_keep m n c d (subst (λ (x : KnownMachine). Lowers m x) (sym h.machine) (lowers_none m)) h.cpu
+    lowers_keep t m n c d (subst (λ (x : KnownMachine). Lowers t m x) (sym h.machine) (lowers_none t m)) h.cpu
 pays_keep t sizes g m n c d steps (inr h) =
-    keeps_both m h.emptied n c c d (lowers_keep m h.emptied c c (drain_lowers m h.emptied c.number h.drains.back h.drains.drains) refl)
+    keeps_both m h.emptied n c c d (lowers_keep t m h.emptied c c (drain_lowers t m h.emptied c.number h.drains.back h.drains.drains) refl)
     (charges_keep t sizes g h.emptied n c d h.later h.charges)
 
 pub refuses_keep : (t : KnownTable) (sizes : Config) (g : ℕ) (cause : AllocFault) (m n : KnownMachine) (c d : KnownCpu) (steps : Run)
     → RefusesToPay sizes g cause (course t (side m c) steps (side n d)) → KeepsPart m c n d
 refuses_keep t sizes g cause m n c d steps h =
     let over = h.refuses.refuses in
-    keeps_both m h.emptied n c c d (lowers_keep m h.emptied c c (drain_lowers m h.emptied c.number h.drains.back h.drains.drains) refl)
-    (lowers_keep h.emptied n c d (over_lowers t g 1 over.over h.emptied n h.refuses.later over.refuses) over.cpu)
+    keeps_both m h.emptied n c c d (lowers_keep t m h.emptied c c (drain_lowers t m h.emptied c.number h.drains.back h.drains.drains) refl)
+    (lowers_keep t h.emptied n c d (over_lowers t g 1 over.over h.emptied n h.refuses.later over.refuses) over.cpu)
 
 -- ---- the stock holds a page
 

@@ -1,5 +1,5 @@
--- What notes and drains leave as it was: usage is no higher, and no stock is filled. Serves all calls.
-use Rattle.std.proofs.Common.{◌≡◌, ℕ, zero, suc, ◌+◌, ◌-◌, ◌<◌, ◌≤◌, ◌==◌, true, false, Option, Some, None, List, [], ◌∷◌, map, refl, sym, ap, ◌∙◌}
+-- What notes and drains keep: usage is no higher, no stock is filled, and groups and visits stay. Serves all calls.
+use Rattle.std.proofs.Common.{◌≡◌, ℕ, zero, suc, ◌+◌, ◌-◌, ◌<◌, ◌≤◌, ◌==◌, Bool, true, false, Option, Some, None, List, [], ◌∷◌, map, refl, sym, ap, ◌∙◌}
 use Rattle.std.proofs.Common.{subst, inl, inr, arith, cond, eq-eqb}
 use Rattle.std.specs.List.{sum_by}
 use Rattle.std.proofs.lemmas.Bool.{cases_eq, cases_lt, ne_eqb, cond-true, cond-false, false≢true}
@@ -30,20 +30,39 @@ use Rattle.mem_alloc.specs.Stepping.{ByStepsOfAny, course}
 use Rattle.mem_alloc.specs.Room.{ClearsBelow, has_room_for, with_max_noted_at}
 use Rattle.mem_machine.specs.Local.{side}
 
--- only the charges and the stocks changed: the groups stay, no usage is higher, and no stock is filled that wasn't
-pub record Lowers (m n : KnownMachine) : Type 0 where
-  pub same : n ≡ record m { ledger = n.ledger; stock = n.stock }
+-- the groups, the killed ones and the visits stay, no usage is higher, and no stock is filled that wasn't
+pub record Lowers (t : KnownTable) (m n : KnownMachine) : Type 0 where
   pub groups : n.ledger.groups ≡ m.ledger.groups
+  pub killed : n.killed ≡ m.killed
+  pub opened : n.seat.view.opened ≡ m.seat.view.opened
+  pub visit : (c : KnownCpu) → Visits t (side m c) → Visits t (side n c)
   pub falls : (h : ℕ) → current_of n.ledger h ≤ current_of m.ledger h
   pub emptied : (p : ℕ) → (account_of m.stock.view p).filled ≡ false → (account_of n.stock.view p).filled ≡ false
 
-pub lowers_none : (m : KnownMachine) → Lowers m m
-lowers_none m = record { same = refl; groups = refl; falls = λ h. omega arith; emptied = λ p is. is }
+-- a visit stays where the zone's seat does
+same_visit : (t : KnownTable) (m n : KnownMachine) → n.seat ≡ m.seat → (c : KnownCpu) → Visits t (side m c) → Visits t (side n c)
+same_visit t m n seat c v = record {
+  is_open = subst (λ (s : KnownSeat). IsOpen s c.number) (sym seat) v.is_open;
+  still = subst (λ (s : KnownSeat). NothingPasses t s c.seat) (sym seat) v.still;
+  lent = subst (λ (s : KnownSeat). LentIsBorrowed t s c.seat) (sym seat) v.lent;
+}
 
-pub lowers_both : (m x n : KnownMachine) → Lowers m x → Lowers x n → Lowers m n
-lowers_both m x n a b = record {
-  same = b.same ∙ ap (λ (y : KnownMachine). record y { ledger = n.ledger; stock = n.stock }) a.same;
+pub lowers_none : (t : KnownTable) (m : KnownMachine) → Lowers t m m
+lowers_none t m = record {
+  groups = refl;
+  killed = refl;
+  opened = refl;
+  visit = λ c v. v;
+  falls = λ h. omega arith;
+  emptied = λ p is. is;
+}
+
+pub lowers_both : (t : KnownTable) (m x n : KnownMachine) → Lowers t m x → Lowers t x n → Lowers t m n
+lowers_both t m x n a b = record {
   groups = b.groups ∙ a.groups;
+  killed = b.killed ∙ a.killed;
+  opened = b.opened ∙ a.opened;
+  visit = λ c v. b.visit c (a.visit c v);
   falls = λ h. let u = a.falls h in let v = b.falls h in omega (arith, u, v);
   emptied = λ p is. b.emptied p (a.emptied p is);
 }
@@ -54,9 +73,11 @@ emptied_at view q k p is = elim (cases_eq p q) [
   | inr ne ↦ ap (λ (a : Account). a.filled) (drained_else view q k p ne) ∙ is
 ]
 
-pub drain_lowers : (m n : KnownMachine) (q k : ℕ) → Drains m q k n → Lowers m n
-drain_lowers m n q k d = record {
-  same = d.machine ∙ sym (ap (λ (y : KnownMachine). record m { ledger = y.ledger; stock = y.stock }) d.machine);
+pub drain_lowers : (t : KnownTable) (m n : KnownMachine) (q k : ℕ) → Drains m q k n → Lowers t m n
+drain_lowers t m n q k d = record {
+  killed = ap (λ (y : KnownMachine). y.killed) d.machine;
+  opened = ap (λ (y : KnownMachine). y.seat.view.opened) d.machine;
+  visit = same_visit t m n (ap (λ (y : KnownMachine). y.seat) d.machine);
   groups = ap (λ (y : KnownMachine). y.ledger.groups) d.machine ∙ groups_stay m.ledger (stock_group m q) k;
   falls = λ h.
       let a : current_of n.ledger h ≡ current_of (uncharged m.ledger (stock_group m q) k) h = ap (λ (y : KnownMachine). current_of y.ledger h) d.machine in
@@ -65,69 +86,69 @@ drain_lowers m n q k d = record {
   emptied = λ p is. ap (λ (y : KnownMachine). (account_of y.stock.view p).filled) d.machine ∙ emptied_at m.stock.view q k p is;
 }
 
-look_lowers : (m n : KnownMachine) (q : ℕ) (o : Option ℕ) → n ≡ record m { stock = with_view m.stock (after_look m.stock.view q o) } → Lowers m n
-look_lowers m n q None is = record {
-  same = is ∙ sym (ap (λ (y : KnownMachine). record m { ledger = y.ledger; stock = y.stock }) is);
+look_lowers : (t : KnownTable) (m n : KnownMachine) (q : ℕ) (o : Option ℕ) → n ≡ record m { stock = with_view m.stock (after_look m.stock.view q o) } → Lowers t m n
+look_lowers t m n q None is = record {
+  killed = ap (λ (y : KnownMachine). y.killed) is;
+  opened = ap (λ (y : KnownMachine). y.seat.view.opened) is;
+  visit = same_visit t m n (ap (λ (y : KnownMachine). y.seat) is);
   groups = ap (λ (y : KnownMachine). y.ledger.groups) is;
   falls = λ h. let a : current_of n.ledger h ≡ current_of m.ledger h = ap (λ (y : KnownMachine). current_of y.ledger h) is in omega (arith, a);
   emptied = λ p e. ap (λ (y : KnownMachine). (account_of y.stock.view p).filled) is ∙ emptied_at m.stock.view q 0 p e;
 }
-look_lowers m n q (Some g) is = record {
-  same = is ∙ sym (ap (λ (y : KnownMachine). record m { ledger = y.ledger; stock = y.stock }) is);
+look_lowers t m n q (Some g) is = record {
+  killed = ap (λ (y : KnownMachine). y.killed) is;
+  opened = ap (λ (y : KnownMachine). y.seat.view.opened) is;
+  visit = same_visit t m n (ap (λ (y : KnownMachine). y.seat) is);
   groups = ap (λ (y : KnownMachine). y.ledger.groups) is;
   falls = λ h. let a : current_of n.ledger h ≡ current_of m.ledger h = ap (λ (y : KnownMachine). current_of y.ledger h) is in omega (arith, a);
   emptied = λ p e. ap (λ (y : KnownMachine). (account_of y.stock.view p).filled) is ∙ e;
 }
 
-below_lowers : (g q : ℕ) (m n : KnownMachine) (drains : List Drain) → DrainsBelow g m q drains n → Lowers m n
-below_lowers g q m n [] h = look_lowers m n q (stock_group m q) h.1
-below_lowers g q m n (drain ∷ []) h = drain_lowers m n q drain.pages h.1.drains
-below_lowers g q m n (one ∷ two ∷ more) h = absurd h
+below_lowers : (t : KnownTable) (g q : ℕ) (m n : KnownMachine) (drains : List Drain) → DrainsBelow g m q drains n → Lowers t m n
+below_lowers t g q m n [] h = look_lowers t m n q (stock_group m q) h.1
+below_lowers t g q m n (drain ∷ []) h = drain_lowers t m n q drain.pages h.1.drains
+below_lowers t g q m n (one ∷ two ∷ more) h = absurd h
 
-pub all_lower : (g k : ℕ) (m n : KnownMachine) (drains : List Drain) → DrainsAllBelow g k drains m n → Lowers m n
-all_lower g zero m n drains h = subst (λ (x : KnownMachine). Lowers m x) (sym h.1) (lowers_none m)
-all_lower g (suc k) m n drains h = lowers_both m h.2 n (all_lower g k m h.2 h.0 h.4) (below_lowers g (suc k) h.2 n h.1 h.5)
+pub all_lower : (t : KnownTable) (g k : ℕ) (m n : KnownMachine) (drains : List Drain) → DrainsAllBelow g k drains m n → Lowers t m n
+all_lower t g zero m n drains h = subst (λ (x : KnownMachine). Lowers t m x) (sym h.1) (lowers_none t m)
+all_lower t g (suc k) m n drains h = lowers_both t m h.2 n (all_lower t g k m h.2 h.0 h.4) (below_lowers t g (suc k) h.2 n h.1 h.5)
 
 usage_noted : (groups : List Group) (xs : List charge.Account) (g m : ℕ) → usage_of groups (map (noted groups g) xs) m ≡ usage_of groups xs m
 unfolding usage_of
 usage_noted groups xs g m = sum-map_same (share groups m) (noted groups g) (λ a. refl) xs
 
-pub note_lowers : (m : KnownMachine) (g : ℕ) → Lowers m (with_max_noted_at m g)
-note_lowers m g = record {
-  same = refl;
+pub note_lowers : (t : KnownTable) (m : KnownMachine) (g : ℕ) → Lowers t m (with_max_noted_at m g)
+note_lowers t m g = record {
   groups = refl;
+  killed = refl;
+  opened = refl;
+  visit = same_visit t m (with_max_noted_at m g) refl;
   falls = λ h.
       let a : current_of (with_max_noted_at m g).ledger h ≡ current_of m.ledger h = usage_noted m.ledger.groups m.ledger.accounts g h in
       omega (arith, a);
   emptied = λ p is. is;
 }
 
-pub clears_lower : (t : KnownTable) (g : ℕ) (m n : KnownMachine) (steps : Run) → ClearsBelow g (course t m steps n) → Lowers m n
+pub clears_lower : (t : KnownTable) (g : ℕ) (m n : KnownMachine) (steps : Run) → ClearsBelow g (course t m steps n) → Lowers t m n
 clears_lower t g m n steps c =
-    lowers_both m (with_max_noted_at m g) n (note_lowers m g) (all_lower g t.cpus (with_max_noted_at m g) n c.drains c.all)
+    lowers_both t m (with_max_noted_at m g) n (note_lowers t m g) (all_lower t g t.cpus (with_max_noted_at m g) n c.drains c.all)
 
-pub clearing_lowers : (t : KnownTable) (g : ℕ) (m n : KnownMachine) → ByStepsOfAny t m n (ClearsBelow g) → Lowers m n
+pub clearing_lowers : (t : KnownTable) (g : ℕ) (m n : KnownMachine) → ByStepsOfAny t m n (ClearsBelow g) → Lowers t m n
 clearing_lowers t g m n b = clears_lower t g m n b.0 b.1
 
 -- ---- what stays
 
-pub lowered_visit : (t : KnownTable) (m n : KnownMachine) (c d : KnownCpu) → Lowers m n → d ≡ c → Visits t (side m c) → Visits t (side n d)
-lowered_visit t m n c d l cpu v =
-    let seat : n.seat ≡ m.seat = ap (λ (y : KnownMachine). y.seat) l.same in
-    subst (λ (x : KnownCpu). Visits t (side n x)) (sym cpu) (record {
-      is_open = subst (λ (s : KnownSeat). IsOpen s c.number) (sym seat) v.is_open;
-      still = subst (λ (s : KnownSeat). NothingPasses t s c.seat) (sym seat) v.still;
-      lent = subst (λ (s : KnownSeat). LentIsBorrowed t s c.seat) (sym seat) v.lent;
-    })
+pub lowered_visit : (t : KnownTable) (m n : KnownMachine) (c d : KnownCpu) → Lowers t m n → d ≡ c → Visits t (side m c) → Visits t (side n d)
+lowered_visit t m n c d l cpu v = subst (λ (x : KnownCpu). Visits t (side n x)) (sym cpu) (l.visit c v)
 
-pub lowered_there : (m n : KnownMachine) (g : ℕ) → Lowers m n → has_group m.ledger.groups g ≡ true → has_group n.ledger.groups g ≡ true
-lowered_there m n g l there = ap (λ (x : List Group). has_group x g) l.groups ∙ there
+pub lowered_there : (t : KnownTable) (m n : KnownMachine) (g : ℕ) → Lowers t m n → has_group m.ledger.groups g ≡ true → has_group n.ledger.groups g ≡ true
+lowered_there t m n g l there = ap (λ (x : List Group). has_group x g) l.groups ∙ there
 
-pub lowered_alive : (m n : KnownMachine) (g : ℕ) → Lowers m n → is_killed m.killed g ≡ false → is_killed n.killed g ≡ false
-lowered_alive m n g l alive = ap (λ (y : KnownMachine). is_killed y.killed g) l.same ∙ alive
+pub lowered_alive : (t : KnownTable) (m n : KnownMachine) (g : ℕ) → Lowers t m n → is_killed m.killed g ≡ false → is_killed n.killed g ≡ false
+lowered_alive t m n g l alive = ap (λ (k : List Bool). is_killed k g) l.killed ∙ alive
 
-pub lowered_fits : (m n : KnownMachine) (pages : ℕ) → Lowers m n → HasRoomFor m pages → HasRoomFor n pages
-lowered_fits m n pages l fits = let a = l.falls 0 in omega (arith, a, fits)
+pub lowered_fits : (t : KnownTable) (m n : KnownMachine) (pages : ℕ) → Lowers t m n → HasRoomFor m pages → HasRoomFor n pages
+lowered_fits t m n pages l fits = let a = l.falls 0 in omega (arith, a, fits)
 
 -- ---- each try that is refused, where there is room then, lowers the sum of all usages
 
@@ -159,9 +180,9 @@ room_falls o a b pages was now low = elim (cases_lt b a) [
 abbrev pub all_usages : KnownMachine → ℕ
 all_usages m = sum_to 64 (current_of m.ledger)
 
-pub usages_fall : (m n : KnownMachine) (over pages : ℕ) → Lowers m n → over < 64 → has_room_for m.ledger over pages ≡ false → has_room_for n.ledger over pages ≡ true
+pub usages_fall : (t : KnownTable) (m n : KnownMachine) (over pages : ℕ) → Lowers t m n → over < 64 → has_room_for m.ledger over pages ≡ false → has_room_for n.ledger over pages ≡ true
     → all_usages n < all_usages m
-usages_fall m n over pages l inside was now =
+usages_fall t m n over pages l inside was now =
     let limit : limit_of n.ledger.groups over ≡ limit_of m.ledger.groups over = ap (λ (x : List Group). limit_of x over) l.groups in
     let less = room_falls (limit_of m.ledger.groups over) (current_of m.ledger over) (current_of n.ledger over) pages was
     (ap (λ (o : Option ℕ). fits_limit o (current_of n.ledger over + pages)) (sym limit) ∙ now) (l.falls over) in

@@ -63,10 +63,10 @@ pub record RoomSoFar (t : KnownTable) (g pages : ℕ) (c : KnownCpu) (m n : Know
   pub making : Run
   pub makes : MakesRoom g pages refused_at (course t m making n)
   pub runs : IsLocalRun c.number (local_of t m c) making (local_of t n c)
-  pub lowers : Lowers m n
+  pub lowers : Lowers t m n
 
 pub so_far_none : (t : KnownTable) (g pages : ℕ) (c : KnownCpu) (m : KnownMachine) → RoomSoFar t g pages c m m
-so_far_none t g pages c m = record { refused_at = []; making = []; makes = (refl, refl); runs = refl; lowers = lowers_none m }
+so_far_none t g pages c m = record { refused_at = []; making = []; makes = (refl, refl); runs = refl; lowers = lowers_none t m }
 
 module _ (t : KnownTable) (g pages : ℕ) (c : KnownCpu) (m x : KnownMachine) (so_far : RoomSoFar t g pages c m x) where
   -- one more try was refused, by its steps
@@ -102,7 +102,7 @@ module _ (t : KnownTable) (g pages : ℕ) (c : KnownCpu) (m x : KnownMachine) (s
       makes = room_more t g pages over so_far.refused_at m x n so_far.making
           (over_steps g pages over ++ its.0) so_far.makes refused room;
       runs = runs_on;
-      lowers = lowers_both m x n so_far.lowers (clearing_lowers t over x n its);
+      lowers = lowers_both t m x n so_far.lowers (clearing_lowers t over x n its);
     }
 
     -- or has none still
@@ -122,7 +122,7 @@ module _ (t : KnownTable) (g pages : ℕ) (c : KnownCpu) (m x : KnownMachine) (s
       runs_on,
     )
 
-    pub lowers_here : Lowers x n
+    pub lowers_here : Lowers t x n
     lowers_here = clearing_lowers t over x n its
 
   -- the pages are granted, and fill the stock

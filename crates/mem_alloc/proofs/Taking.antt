@@ -79,20 +79,20 @@ module _ (t : KnownTable) (g k : ℕ) (c : KnownCpu) (m x : KnownMachine) (so_fa
   room_still none there fits =
       let ledger : n.ledger ≡ with_uncharge (with_charge x.ledger g (2 ^ k)) g (2 ^ k) = ap (λ (z : KnownMachine). z.ledger) none.machine in
       let groups : n.ledger.groups ≡ m.ledger.groups = ap (λ (z : KnownMachine). z.ledger.groups) none.machine ∙ so_far.lowers.groups in
-      let here : HasRoomFor x (2 ^ k) = lowered_fits m x (2 ^ k) so_far.lowers fits in
+      let here : HasRoomFor x (2 ^ k) = lowered_fits t m x (2 ^ k) so_far.lowers fits in
       let back : current_of n.ledger 0 ≡ current_of x.ledger 0 = ap (λ l. current_of l 0) ledger ∙ usage_back x.ledger g (2 ^ k) 0 in
       record {
         there = ap (λ (l : List Group). has_group l g) groups ∙ there;
-        killed = ap (λ (z : KnownMachine). z.killed) none.machine ∙ ap (λ (z : KnownMachine). z.killed) so_far.lowers.same;
+        killed = ap (λ (z : KnownMachine). z.killed) none.machine ∙ so_far.lowers.killed;
         fits = omega (arith, here, back);
         room = subst (λ l. PathHasRoom l.groups (current_of l) g (2 ^ k)) (sym ledger) (room_back x.ledger g (2 ^ k) none.room);
       }
 
   pub none_opened : TakesNoBlock x g k n → n.seat.view.opened ≡ m.seat.view.opened
-  none_opened none = ap (λ (z : KnownMachine). z.seat.view.opened) none.machine ∙ ap (λ (z : KnownMachine). z.seat.view.opened) so_far.lowers.same
+  none_opened none = ap (λ (z : KnownMachine). z.seat.view.opened) none.machine ∙ so_far.lowers.opened
 
   pub taken_opened : (head : ℕ) → TakesBlock x g k head n → n.seat.view.opened ≡ m.seat.view.opened
-  taken_opened head takes = ap (λ (z : KnownMachine). z.seat.view.opened) takes.machine ∙ ap (λ (z : KnownMachine). z.seat.view.opened) so_far.lowers.same
+  taken_opened head takes = ap (λ (z : KnownMachine). z.seat.view.opened) takes.machine ∙ so_far.lowers.opened
 
 -- a charge is refused for good
 pub over_charges : (t : KnownTable) (g k over : ℕ) (r : Result ℕ AllocFault) (x : AllocFault) (m n : KnownMachine) (c d : KnownCpu) → IsErr r
@@ -109,11 +109,11 @@ over_charges t g k over (Err (Over h)) x m n c d not is named cpu b =
 over_charges t g k over (Err NoFrames) x m n c d not is named cpu b = let e = is ∙ named in cc
 over_charges t g k over (Err Killed) x m n c d not is named cpu b = let e = is ∙ named in cc
 
-pub over_leaves : (g k over : ℕ) (r : Result ℕ AllocFault) (x : AllocFault) (m n : KnownMachine) → IsErr r → IfErr r (λ e. e ≡ x) → x ≡ Over over
-    → Lowers m n → LeavesRoom g k r m n
-over_leaves g k over (Ok h) x m n not is named l = absurd (false≢true not)
-over_leaves g k over (Err e) x m n not is named l = record {
-  opened = ap (λ (z : KnownMachine). z.seat.view.opened) l.same;
+pub over_leaves : (t : KnownTable) (g k over : ℕ) (r : Result ℕ AllocFault) (x : AllocFault) (m n : KnownMachine) → IsErr r → IfErr r (λ e. e ≡ x) → x ≡ Over over
+    → Lowers t m n → LeavesRoom g k r m n
+over_leaves t g k over (Ok h) x m n not is named l = absurd (false≢true not)
+over_leaves t g k over (Err e) x m n not is named l = record {
+  opened = l.opened;
   still = λ none. let other = is ∙ named in cc;
 }
 

@@ -1,5 +1,5 @@
 -- What stays, from one call to the next, and in one call. Serves the clauses on what stays.
-use Rattle.std.proofs.Common.{◌≡◌, ◌≢◌, ℕ, ◌+◌, Bool, true, false, Option, Some, None, List, refl, sym, ap, ◌∙◌, subst, arith, cond}
+use Rattle.std.proofs.Common.{◌≡◌, ◌≢◌, ℕ, ◌+◌, ◌≤◌, Bool, true, false, Option, Some, None, List, refl, sym, ap, ◌∙◌, subst, arith, cond}
 use Rattle.std.proofs.lemmas.Bool.{true≢false}
 use Rattle.std.proofs.lemmas.Option.{none-some}
 use Rattle.std.specs.Prelude.{unwrap_or}
@@ -24,6 +24,8 @@ keeps_none t m = record {
   stock = refl;
   killed = refl;
   groups = refl;
+  opened = refl;
+  usage = λ g. omega arith;
   visit = λ c v. v;
   dirty = λ f is. is;
   owners = λ f kept. refl;
@@ -44,6 +46,8 @@ keeps_both t a b c p q = record {
   stock = q.stock ∙ p.stock;
   killed = q.killed ∙ p.killed;
   groups = q.groups ∙ p.groups;
+  opened = q.opened ∙ p.opened;
+  usage = λ g. let x = p.usage g in let y = q.usage g in omega (arith, x, y);
   visit = λ x v. q.visit x (p.visit x v);
   dirty = λ f is. q.dirty f (p.dirty f is);
   owners = λ f kept. q.owners f kept ∙ p.owners f (kept_before t b c q f kept);
@@ -71,6 +75,8 @@ keeps_owners t m n is owners = record {
   stock = ap (λ (x : KnownMachine). x.stock) is;
   killed = ap (λ (x : KnownMachine). x.killed) is;
   groups = ap (λ (x : KnownMachine). x.ledger.groups) is;
+  opened = ap (λ (x : KnownMachine). x.seat.view.opened) is;
+  usage = λ g. let e = ap (λ (x : KnownMachine). current_of x.ledger g) is in omega (arith, e);
   visit = λ c v.
       let seat : m.seat ≡ n.seat = sym (ap (λ (x : KnownMachine). x.seat) is) in
       record {
@@ -90,6 +96,10 @@ keeps_owners t m n is owners = record {
 
 -- ---- a try
 
+on_path_low : (b : Bool) (n pages : ℕ) → n ≤ cond b (n + pages) n
+on_path_low true n pages = omega arith
+on_path_low false n pages = omega arith
+
 pub keeps_missed : (t : KnownTable) (m n : KnownMachine) (f : ℕ) → MissesUnit m f n → ((c : KnownCpu) → Visits t (side m c) → Visits t (side n c)) → Keeps t m n
 keeps_missed t m n f is visit =
     let links : n.links ≡ m.links = ap (λ (x : KnownMachine). x.links) is.machine in
@@ -97,6 +107,8 @@ keeps_missed t m n f is visit =
       stock = ap (λ (x : KnownMachine). x.stock) is.machine;
       killed = ap (λ (x : KnownMachine). x.killed) is.machine;
       groups = ap (λ (x : KnownMachine). x.ledger.groups) is.machine;
+      opened = ap (λ (x : KnownMachine). x.seat.view.opened) is.machine;
+      usage = λ g. let e = ap (λ (x : KnownMachine). current_of x.ledger g) is.machine in omega (arith, e);
       visit = visit;
       dirty = λ g d. subst (λ (l : List Link). IsDirtyUnit l g) (sym links) d;
       owners = λ g kept. ap (λ (l : List Link). owner_of (home_of l g)) links;
@@ -113,6 +125,8 @@ keeps_evicted t m n f pages is visit clean =
       stock = ap (λ (x : KnownMachine). x.stock) is.machine;
       killed = ap (λ (x : KnownMachine). x.killed) is.machine;
       groups = ap (λ (x : KnownMachine). x.ledger.groups) is.machine;
+      opened = ap (λ (x : KnownMachine). x.seat.view.opened) is.machine;
+      usage = λ g. let e = is.usage g in let low = on_path_low (in_subtree n.ledger.groups g is.unit.group) (current_of n.ledger g) pages in omega (arith, e, low);
       visit = visit;
       dirty = λ g d.
           let ne : g ≢ f = λ e. true≢false (sym d.dirty ∙ ap (λ (x : ℕ). (link_at m.links x).is_dirty) e ∙ clean) in

@@ -5,3 +5,4 @@ pub mod Meeting
 pub mod Listing
 pub mod Scanning
 pub mod Passing
+pub mod Rounding

@@ -2,4 +2,5 @@ pub mod Wanted
 pub mod Moves
 pub mod Units
 pub mod Passes
+pub mod Rounds
 pub mod Staying

@@ -2,6 +2,7 @@
 use Rattle.std.specs.Prelude.{◌≡◌, ◌≢◌, ℕ, ◌<◌, ◌≤◌, true, false, Some, None, List}
 use Rattle.frame_word.specs.Seats.{KnownTable, misses_of}
 use Rattle.group_tree.specs.Groups.{in_subtree}
+use Rattle.group_charge.specs.Charges.{current_of}
 use Rattle.lru_lists.specs.declared.record.Link.{Link}
 use Rattle.lru_lists.specs.declared.record.Home.{Home}
 use Rattle.lru_lists.specs.Queue.{link_at}
@@ -14,12 +15,14 @@ pub record IsDirtyUnit (links : List Link) (frame : ℕ) : Type 0 where
   pub kept : home_of links frame ≢ None
   pub dirty : (link_at links frame).is_dirty ≡ true
 
--- Stocks, killed groups, groups with their limits, and every visit stay. No dirty unit comes back. Who is kept was kept for the same
--- group, as dirty as it is now. No miss is forgotten
+-- Stocks, killed groups, groups with their limits, and every visit stay, and none is opened or shut. No usage
+-- rises. No dirty unit comes back. Who is kept was kept for the same group, as dirty as it is now. No miss is forgotten
 pub record Keeps (table : KnownTable) (before after : KnownMachine) : Type 0 where
   pub stock : after.stock ≡ before.stock
   pub killed : after.killed ≡ before.killed
   pub groups : after.ledger.groups ≡ before.ledger.groups
+  pub opened : after.seat.view.opened ≡ before.seat.view.opened
+  pub usage : (g : ℕ) → current_of after.ledger g ≤ current_of before.ledger g
   pub visit : (cpu : KnownCpu) → Visits table (side before cpu) → Visits table (side after cpu)
   pub dirty : (f : ℕ) → IsDirtyUnit before.links f → IsDirtyUnit after.links f
   pub owners : (f : ℕ) → home_of after.links f ≢ None → owner_of (home_of after.links f) ≡ owner_of (home_of before.links f)

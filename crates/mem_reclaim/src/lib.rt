@@ -9,6 +9,8 @@
 mod meet;
 mod passes;
 mod reclaiming;
+mod rounds;
 mod scan;
 
 pub use reclaiming::{Reclaimed, reclaim};
+pub use rounds::{MAX_ROUNDS, make_rounds};

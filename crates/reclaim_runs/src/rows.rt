@@ -2,7 +2,7 @@
 ghost use Rattle.std.specs.Prelude.{◌≡◌};
 ghost use Rattle.mem_machine.specs.Machines.{Visits, side};
 
-use crate::small::{Parts, frame, holds, is_kept, make_parts, reclaim_from, take};
+use crate::small::{Parts, frame, holds, is_kept, make_parts, reclaim_from, rounds_from, take};
 use cpu_part::{BootName, Cpu, Tables};
 use frame_word::Get;
 use group_tree::group::GroupId;
@@ -21,6 +21,8 @@ enum Row {
     WantReachedEarly,
     NothingWanted,
     Subtree,
+    RoundsMakeRoom,
+    RoundsEnd,
 }
 
 // So many pages, and whether all was tried.
@@ -146,6 +148,55 @@ fn subtree<N: BootName>(
     holds(rt, is_kept(rt, tables, machine, 0), "the unit above stays");
 }
 
+// Rounds want what is missing, and none is made where there is room.
+fn rounds_make_room<N: BootName>(
+    rt: &impl Abort,
+    tables: &Tables<N>,
+    machine: &mut Machine<N>,
+    cpu: &mut Cpu<N>,
+)
+    requires { Visits N.frames (side machine.old cpu.old) }
+{
+    let root = GroupId::root();
+    take(rt, tables, machine, cpu, root, 0, 0);
+    take(rt, tables, machine, cpu, root, 0, 1);
+    take(rt, tables, machine, cpu, root, 0, 2);
+    let given = rounds_from(rt, tables, machine, root, 1, 2);
+    holds(rt, given == 2, "two pages were missing");
+    holds(
+        rt,
+        is_kept(rt, tables, machine, 2),
+        "the youngest unit stays",
+    );
+    let given = rounds_from(rt, tables, machine, root, 1, 2);
+    holds(rt, given == 0, "there is room");
+    holds(rt, is_kept(rt, tables, machine, 2), "nothing is done");
+}
+
+// The first round gives something, and a later one nothing: a pinned unit stays, and comes back once the pin is gone.
+fn rounds_end<N: BootName>(
+    rt: &impl Abort,
+    tables: &Tables<N>,
+    machine: &mut Machine<N>,
+    cpu: &mut Cpu<N>,
+)
+    requires { Visits N.frames (side machine.old cpu.old) }
+{
+    let root = GroupId::root();
+    take(rt, tables, machine, cpu, root, 0, 0);
+    take(rt, tables, machine, cpu, root, 0, 1);
+    let pinned = frame(rt, tables, 0);
+    holds(rt, cpu.get(tables, pinned) == Ok(Get::Held), "a pin");
+    let given = rounds_from(rt, tables, machine, root, 0, 0);
+    holds(rt, given == 1, "one of two pages");
+    holds(rt, is_kept(rt, tables, machine, 0), "the pinned unit stays");
+    holds(rt, !is_kept(rt, tables, machine, 1), "the other went");
+    assert!(rt; cpu.holds(pinned));
+    let _ = cpu.put(tables, pinned);
+    let given = rounds_from(rt, tables, machine, root, 0, 0);
+    holds(rt, given == 1, "it comes back");
+}
+
 // One row on a new machine.
 fn play<N: BootName>(rt: &impl Abort, alloc: Global, parts: Parts, row: Row)
     requires { (parts.frames ≡ N.frames) × (parts.stocks ≡ N.stocks) }
@@ -169,6 +220,8 @@ fn play<N: BootName>(rt: &impl Abort, alloc: Global, parts: Parts, row: Row)
         Row::WantReachedEarly => want_reached_early(rt, &tables, &mut machine, &mut cpu),
         Row::NothingWanted => nothing_wanted(rt, &tables, &mut machine, &mut cpu),
         Row::Subtree => subtree(rt, &tables, &mut machine, &mut cpu),
+        Row::RoundsMakeRoom => rounds_make_room(rt, &tables, &mut machine, &mut cpu),
+        Row::RoundsEnd => rounds_end(rt, &tables, &mut machine, &mut cpu),
     }
     assert!(rt; cpu.is_idle());
     let _ = cpu.into_seats();
@@ -214,5 +267,19 @@ fn with_nothing_wanted_nothing_is_done(rt: HostRuntime) -> Result<(), Fail> {
 fn what_is_outside_the_subtree_stays(rt: HostRuntime) -> Result<(), Fail> {
     let parts = make_parts(&rt, rt.alloc())?;
     play::<Brand>(&rt, rt.alloc(), parts, Row::Subtree);
+    Ok(())
+}
+
+#[test]
+fn rounds_end_where_there_is_room(rt: HostRuntime) -> Result<(), Fail> {
+    let parts = make_parts(&rt, rt.alloc())?;
+    play::<Brand>(&rt, rt.alloc(), parts, Row::RoundsMakeRoom);
+    Ok(())
+}
+
+#[test]
+fn rounds_end_where_nothing_comes(rt: HostRuntime) -> Result<(), Fail> {
+    let parts = make_parts(&rt, rt.alloc())?;
+    play::<Brand>(&rt, rt.alloc(), parts, Row::RoundsEnd);
     Ok(())
 }

@@ -8,7 +8,7 @@ use cpu_part::{BootName, Cpu, Tables};
 use frame_word::{Frame, FrameSeat, FrameWords};
 use group_tree::group::GroupId;
 use mem_machine::Machine;
-use mem_reclaim::{Reclaimed, reclaim};
+use mem_reclaim::{Reclaimed, make_rounds, reclaim};
 use std::alloc::{AllocError, Global};
 use std::process::Abort;
 use stock_word::{StockSeat, StockWords};
@@ -102,4 +102,17 @@ pub fn reclaim_from<N: BootName>(
 ) -> Reclaimed {
     assert!(rt; want < 1 << 32 && machine.charges().tree().contains(group));
     reclaim(machine, tables, group, want)
+}
+
+/// Reclaims from the subtree of the group in rounds, until its usage with `need` pages more is at most `limit`.
+pub fn rounds_from<N: BootName>(
+    rt: &impl Abort,
+    tables: &Tables<N>,
+    machine: &mut Machine<N>,
+    group: GroupId,
+    need: u32,
+    limit: u32,
+) -> u64 {
+    assert!(rt; machine.charges().tree().contains(group));
+    make_rounds(machine, tables, group, need, limit)
 }

@@ -1,5 +1,4 @@
-use Rattle.std.proofs.Common.{◌≡◌, ◌^◌, false, sym, ◌∙◌, ap, arith}
-use Rattle.cpu_part.specs.Cpus.{KnownCpu}
+use Rattle.std.proofs.Common.{◌≡◌, ◌^◌, false, sym, ◌∙◌, arith}
 use Rattle.mem_machine.specs.Machines.{is_killed}
 use Rattle.mem_alloc.proofs.Taking.{first_none, decides_again}
 use Rattle.mem_alloc.proofs.blocks.alloc_block.Goals as goal

@@ -44,7 +44,7 @@ make_room-requires g c =
 pub tries-smaller : goal.tries-smaller
 tries-smaller g c =
     let r = is_refused _ _ c.args.group c.args.order c.in-Err-Over.field-0 c.in-Err-Over.over c.in-Err-Over.field-0-is c.in-Err-Over.ensures.refuses in
-    usages_fall c.tries.machine c.make_room.new.machine c.in-Err-Over.over.group (2 ^ c.args.order)
+    usages_fall g.N.BootName.frames c.tries.machine c.make_room.new.machine c.in-Err-Over.over.group (2 ^ c.args.order)
     (clearing_lowers g.N.BootName.frames c.in-Err-Over.over.group c.tries.machine c.make_room.new.machine
     (subst (λ (y : KnownMachine). ByStepsOfAny g.N.BootName.frames y c.make_room.new.machine (ClearsBelow c.in-Err-Over.over.group)) r.1
     c.make_room.ensures.clears)) c.make_room.ensures.fits r.0.over
@@ -95,7 +95,7 @@ returns-in_err-make_room-in-Err-Over-clause-leaves g c =
     let x = c.in_err-make_room-in-Err-Over.field-0.0 in
     let is : IfErr c.from_residual.result (λ e. e ≡ x) = search rules in
     let clears = clearing_lowers t c.in-Err-Over.over.group c.take_block.new.self c.make_room.new.machine c.make_room.ensures.clears in
-    over_leaves c.args.group c.args.order c.in-Err-Over.over.group c.from_residual.result x c.args.machine.now c.make_room.new.machine
+    over_leaves g.N.BootName.frames c.args.group c.args.order c.in-Err-Over.over.group c.from_residual.result x c.args.machine.now c.make_room.new.machine
     c.from_residual.ensures.0 is c.in_err-make_room-in-Err-Over.ensures.room.0
-    (lowers_both c.args.machine.now c.tries.machine c.make_room.new.machine c.tries.invariant.0.lowers
-    (subst (λ (y : KnownMachine). Lowers y c.make_room.new.machine) r.1 clears))
+    (lowers_both g.N.BootName.frames c.args.machine.now c.tries.machine c.make_room.new.machine c.tries.invariant.0.lowers
+    (subst (λ (y : KnownMachine). Lowers g.N.BootName.frames y c.make_room.new.machine) r.1 clears))

@@ -21,7 +21,7 @@ make_room-requires g c =
 
 pub tries-smaller : goal.tries-smaller
 tries-smaller g c =
-    usages_fall c.tries.machine c.make_room.new.machine c.in-Err.over.group 1
+    usages_fall g.N.BootName.frames c.tries.machine c.make_room.new.machine c.in-Err.over.group 1
     (clearing_lowers g.N.BootName.frames c.in-Err.over.group c.tries.machine c.make_room.new.machine
     (subst (λ (y : KnownMachine). ByStepsOfAny g.N.BootName.frames y c.make_room.new.machine (ClearsBelow c.in-Err.over.group)) c.in-Err.ensures.unchanged.0
     c.make_room.ensures.clears)) c.make_room.ensures.fits c.in-Err.ensures.over.over c.in_ok-make_room.ensures.room

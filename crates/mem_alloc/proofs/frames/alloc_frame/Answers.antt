@@ -37,7 +37,7 @@ returns-in_err-fill_list g c =
     let paid = c.in_ok-pay_for_frame.ensures.pays in
     let none = c.in_err-fill_list.ensures.fills in
     let first = pays_keep t c.args.sizes c.args.group _ _ _ _ paid.0 paid.1 in
-    let then = lowers_keep _ _ _ _ (drain_lowers _ _ _ none.1.back none.1.drains) none.1.cpu in
+    let then = lowers_keep g.N.BootName.frames _ _ _ _ (drain_lowers g.N.BootName.frames _ _ _ none.1.back none.1.drains) none.1.cpu in
     let k = keeps_both _ _ _ _ _ _ first then in
     let fresh = k.fresh ∙ c.requires.settled.0 in
     record {

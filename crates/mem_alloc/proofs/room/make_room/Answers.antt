@@ -9,10 +9,10 @@ use Rattle.mem_alloc.proofs.room.make_room.Goals as goal
 pub has_room_at-requires : goal.has_room_at-requires
 has_room_at-requires g c =
     let sub = c.drain_stocks.ensures.drains in
-    let noted : Lowers c.args.machine.now c.note_max.new.self =
-    subst (λ (y : KnownMachine). Lowers c.args.machine.now y) (sym c.note_max.ensures.machine) (note_lowers c.args.machine.now c.args.group) in
-    let lowers = lowers_both _ _ _ noted (all_lower c.args.group g.N.BootName.frames.cpus _ _ sub.drains sub.all) in
-    subst (λ (l : Ledger). has_group l.groups c.args.group ≡ true) (sym c.charges.ensures) (lowered_there _ _ c.args.group lowers c.requires)
+    let noted : Lowers g.N.BootName.frames c.args.machine.now c.note_max.new.self =
+    subst (λ (y : KnownMachine). Lowers g.N.BootName.frames c.args.machine.now y) (sym c.note_max.ensures.machine) (note_lowers g.N.BootName.frames c.args.machine.now c.args.group) in
+    let lowers = lowers_both g.N.BootName.frames _ _ _ noted (all_lower g.N.BootName.frames c.args.group g.N.BootName.frames.cpus _ _ sub.drains sub.all) in
+    subst (λ (l : Ledger). has_group l.groups c.args.group ≡ true) (sym c.charges.ensures) (lowered_there g.N.BootName.frames _ _ c.args.group lowers c.requires)
 
 pub returns-then-has_room_at-clause-clears : goal.returns-then-has_room_at-clause-clears
 returns-then-has_room_at-clause-clears g c =
