@@ -7,7 +7,7 @@ ghost use Rattle.script_replay.specs.Ranges.{LineIsThere};
 use cpu_part::{BootName, Cpu, Tables};
 use mem_system::{Boot, Held, System};
 use script_lines::line::Line;
-use script_replay::replay_lines;
+use script_replay::replay_by_visits;
 use std::alloc::{AllocError, Global};
 use std::process::Abort;
 use std::sync::Wait;
@@ -52,7 +52,7 @@ pub fn visit_all<N: BootName, R: Wait + Abort>(
     requires lines { All (LineIsThere boot.sizes.frames boot.sizes.cpus) lines.now }
 {
     let (system, mut cpus) = boot.start::<N>(alloc)?;
-    let answers = replay_lines(rt, alloc, &system, &mut cpus, lines);
+    let answers = replay_by_visits(rt, alloc, &system, &mut cpus, lines);
     shut(rt, system, cpus);
     answers
 }

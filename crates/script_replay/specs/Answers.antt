@@ -1,5 +1,5 @@
 -- What a command is answered at a processor, and what it does there and behind the lock.
-use Rattle.std.specs.Prelude.{◌≡◌, ◌≢◌, ◌⊎◌, ℕ, ◌+◌, ◌<◌, ◌≤◌, List, ◌++◌, Some, None, length}
+use Rattle.std.specs.Prelude.{◌≡◌, ◌≢◌, ◌⊎◌, ℕ, ◌+◌, ◌<◌, ◌≤◌, List, ◌++◌, Some, None, Result, IfOk, length}
 use Rattle.std.specs.Borrow.{Bor}
 use Rattle.frame_word.specs.Seats.{KnownTable}
 use Rattle.group_tree.specs.Groups.{number_at}
@@ -27,7 +27,18 @@ use Rattle.script_replay.specs.Works.{work_of}
 
 -- behind the text before stands what is written for an answer of which this is so
 abbrev pub TellsAnswer : (Answer → Type 0) → List ℕ → List ℕ → Type 0
-TellsAnswer is before after = (text : List ℕ) × ((said : Answer) × is said × (text ≡ answer_text said)) × (after ≡ before ++ text)
+TellsAnswer is before after =
+    (text : List ℕ) × ((said : Answer) × is said × (text ≡ answer_text said)) × (after ≡ before ++ text)
+
+-- where memory was there, the holder came from one to the other with this answer, of which the text behind the old
+-- one tells
+abbrev pub AddsAnswer : {T E : Type 0} → Result T E → (Holder → Answer → Holder → Type 0) → Holder → Holder → List ℕ → List ℕ → Type 0
+AddsAnswer result answers before after old new = IfOk result (λ _. TellsAnswer (λ said. answers before said after) old new)
+
+-- where memory was there, one came to the other with this text, which stands behind the old one
+abbrev pub AddsText : {S T E : Type 0} → Result T E → (S → List ℕ → S → Type 0) → S → S → List ℕ → List ℕ → Type 0
+AddsText result tells before after old new =
+    IfOk result (λ _. (text : List ℕ) × tells before text after × (new ≡ old ++ text))
 
 -- the command was served under the lock, and its reply is the answer
 abbrev pub RepliesServed : KnownTable → Cmd → Holder → Answer → Holder → Type 0
@@ -42,9 +53,11 @@ AnswersFast g before other after = ⊥
 -- Get: without the lock, a pin on the frame; refused where pins and back frames are 256 together
 abbrev pub AnswersGet : ℕ → Holder → Answer → Holder → Type 0
 AnswersGet f before (answer.Got got) after =
-    (length before.cpu.back + length before.cpu.pins < 256) × PinAnswers f got before.cpu after.cpu × (after.locked ≡ before.locked)
+    (length before.cpu.back + length before.cpu.pins < 256)
+    × PinAnswers f got before.cpu after.cpu × (after.locked ≡ before.locked)
 AnswersGet f before (answer.Served (Refused PinsFull)) after =
-    (length before.cpu.back + length before.cpu.pins ≡ 256) × (after.cpu ≡ before.cpu) × (after.locked ≡ before.locked)
+    (length before.cpu.back + length before.cpu.pins ≡ 256)
+    × (after.cpu ≡ before.cpu) × (after.locked ≡ before.locked)
 AnswersGet f before other after = ⊥
 
 -- Put: without the lock, a pin less on the frame; refused where the processor has none on it
@@ -55,7 +68,8 @@ AnswersPut f before (answer.Served (Refused NotPinned)) after =
     (times f before.cpu.pins ≡ 0) × (after.cpu ≡ before.cpu) × (after.locked ≡ before.locked)
 AnswersPut f before other after = ⊥
 
--- the frame can't be listed again without the lock: it isn't fresh at the processor, or its stock was drained, which was seen
+-- the frame can't be listed again without the lock: it isn't fresh at the processor, or its stock was drained, which
+-- was seen
 abbrev pub CanNotList : ℕ → KnownCpu → KnownCpu → Type 0
 CanNotList f c seen = ((times f c.fresh ≡ 0) × (seen ≡ c)) ⊎ ((1 ≤ times f c.fresh) × DropAnswers f dropped.NeedVisit c seen)
 
@@ -83,16 +97,18 @@ pub record GetsNoneFast (path : List ℕ) (before : Holder) (seen : KnownCpu) : 
 -- no group has the path, and nothing changed
 abbrev pub FindsNoGroup : List ℕ → Holder → Reply → Holder → Type 0
 FindsNoGroup path before reply after =
-    (number_at before.locked.machine.ledger.groups path ≡ None) × (reply ≡ Refused NoGroup) × (after.locked ≡ before.locked) × (after.cpu ≡ before.cpu)
+    (number_at before.locked.machine.ledger.groups path ≡ None) × (reply ≡ Refused NoGroup)
+    × (after.locked ≡ before.locked) × (after.cpu ≡ before.cpu)
 
 -- Alloc of a single frame: without the lock one of the list, where it can be; else the command is served under the lock
 abbrev pub AnswersFrame : KnownTable → Bor (List ℕ) → Holder → Answer → Holder → Type 0
 AnswersFrame t path before (answer.Fast (Got f)) after =
-    (g : ℕ) × (number_at before.locked.machine.ledger.groups path.now ≡ Some g) × FastAnswers g (Got f) before.cpu after.cpu
-    × (after.locked ≡ before.locked)
+    (g : ℕ) × (number_at before.locked.machine.ledger.groups path.now ≡ Some g)
+    × FastAnswers g (Got f) before.cpu after.cpu × (after.locked ≡ before.locked)
 AnswersFrame t path before (answer.Served reply) after =
     FindsNoGroup path.now before reply after
-    ⊎ ((seen : KnownCpu) × GetsNoneFast path.now before seen × IsServed t (cmd.Alloc path 0) (holder before.locked seen) reply after)
+    ⊎ ((seen : KnownCpu) × GetsNoneFast path.now before seen
+    × IsServed t (cmd.Alloc path 0) (holder before.locked seen) reply after)
 AnswersFrame t path before other after = ⊥
 
 -- What is answered where this is done, but where the answer is a text of any length

@@ -106,8 +106,9 @@ pub record Keeps (t : KnownTable) (run : Run) (now : Standing) : Type 0 where
   pub legal : IsLegalRun (zone_of t) run
   pub promise : Promise (zone_of t) run (shown_of now.locked.machine now.cpus)
 
--- The lines are served one after the other, as `ServesAll` says. After each of them, where its answers and those of all lines before
--- are what all parts together decided (`decided`, of those before), the run so far with the line's steps is legal, and keeps the promise
+-- The lines are served one after the other, as `ServesAll` says. After each of them, where its answers and those of
+-- all lines before are what all parts together decided (`decided`, of those before), the run so far with the line's
+-- steps is legal, and keeps the promise
 abbrev pub TellsHistory : KnownTable → Type 0 → Run → Standing → List Line → List ℕ → Standing → Type 0
 TellsHistory t decided run s [] text e = (text ≡ []) × (e ≡ s)
 TellsHistory t decided run s (line ∷ lines) text e =

@@ -13,6 +13,10 @@ pub record Standing : Type 0 where
   pub locked : KnownLocked
   pub cpus : List KnownCpu
 
+-- this behind the lock, and these parts
+abbrev pub standing : KnownLocked → List KnownCpu → Standing
+standing locked cpus = record { locked = locked; cpus = cpus }
+
 -- so it goes at the part of this processor, and the other parts stay
 pub record AtPart (processor : ℕ) (goes : Holder → Holder → Type 0) (before after : Standing) : Type 0 where
   pub part : KnownCpu
@@ -24,7 +28,8 @@ pub record AtPart (processor : ℕ) (goes : Holder → Holder → Type 0) (befor
 -- a line is answered this text; `go` is answered nothing, and does nothing
 abbrev pub ServesLine : KnownTable → Standing → Line → List ℕ → Standing → Type 0
 ServesLine t before Go text after = (text ≡ []) × (after ≡ before)
-ServesLine t before (At processor command) text after = AtPart processor (λ one other. AnswersText t command one text other) before after
+ServesLine t before (At processor command) text after =
+    AtPart processor (λ one other. AnswersText t command one text other) before after
 
 -- the lines are served one after the other, and their texts stand one after the other
 abbrev pub ServesAll : KnownTable → Standing → List Line → List ℕ → Standing → Type 0

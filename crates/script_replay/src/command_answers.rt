@@ -1,16 +1,16 @@
 //! One command, answered at a processor by value of what lies behind the lock.
 
 ghost use Rattle.std.specs.Borrow.{Bor};
-ghost use Rattle.std.specs.Prelude.{◌≡◌, ◌++◌, ◌<◌, IfOk, IsTrue, List, Some, ℕ};
+ghost use Rattle.std.specs.Prelude.{◌≡◌, ◌<◌, IsTrue, List, Some, ℕ};
 ghost use Rattle.group_tree.specs.Groups.{has_group, number_at};
 ghost use Rattle.mem_system.specs.declared.command.Cmd.TheVariants.{Alloc};
 ghost use Rattle.std.specs.String.{string_bytes};
 ghost use Rattle.mem_system.specs.Commands.{IsOfZone, holder};
-ghost use Rattle.script_replay.specs.Answers.{AnswersFrame, AnswersRelease, AnswersText, AnswersWork, RepliesServed};
-ghost use Rattle.script_replay.specs.Answers.{TellsAnswer};
+ghost use Rattle.script_replay.specs.Answers.{AddsAnswer, AddsText, AnswersFrame, AnswersRelease, AnswersText};
+ghost use Rattle.script_replay.specs.Answers.{AnswersWork, RepliesServed};
 ghost use Rattle.script_replay.specs.Ranges.{NamesInRange, WorkInRange};
 
-use crate::unlocked_calls::{get, lists, put};
+use crate::unlocked_calls::{get, put, try_list};
 use crate::work::{Work, work_of};
 use cpu_part::{BootName, Cpu, Fast, Tables};
 use group_tree::fault::Fault;
@@ -31,15 +31,15 @@ pub(crate) fn answer_text<N: BootName>(
     text: &mut String,
 ) -> Result<(), AllocError>
     requires { NamesInRange N.frames.frames command.now }
-    ensures { IfOk result (λ _. (said : List ℕ) × AnswersText N.frames command.now (holder locked.old cpu.old) said (holder locked.new cpu.new)
-        × (string_bytes text.new ≡ string_bytes text.old ++ said)) }
+    ensures { AddsText result (AnswersText N.frames command.now) (holder locked.old cpu.old) (holder locked.new cpu.new)
+        (string_bytes text.old) (string_bytes text.new) }
 {
     let work = work_of(command);
     answer_work(locked, tables, cpu, &work, text)
 }
 
-// Does what is asked and adds what it is answered. Each text is written where the answer is made, and that of a command under
-// the lock from its outcome: a reply would have room for a path of 512 bytes.
+// Does what is asked and adds what it is answered. Each text is written where the answer is made, and that of a
+// command under the lock from its outcome: a reply would have room for a path of 512 bytes.
 fn answer_work<N: BootName>(
     locked: &mut Locked<N>,
     tables: &Tables<N>,
@@ -48,11 +48,11 @@ fn answer_work<N: BootName>(
     text: &mut String,
 ) -> Result<(), AllocError>
     requires { WorkInRange N.frames.frames work.now }
-    ensures { IfOk result (λ _. (said : List ℕ) × AnswersWork N.frames work.now (holder locked.old cpu.old) said (holder locked.new cpu.new)
-        × (string_bytes text.new ≡ string_bytes text.old ++ said)) }
+    ensures { AddsText result (AnswersWork N.frames work.now) (holder locked.old cpu.old) (holder locked.new cpu.new)
+        (string_bytes text.old) (string_bytes text.new) }
 {
     match *work {
-        Work::Visit(cmd) => served(locked, tables, cpu, &cmd, text),
+        Work::Visit(cmd) => serve_command(locked, tables, cpu, &cmd, text),
         Work::Frame { path } => alloc_frame(locked, tables, cpu, path, text),
         Work::Fast { group } => write_fast(&cpu.alloc_fast(tables, group), text),
         Work::Release { frame } => release(locked, tables, cpu, frame, text),
@@ -73,8 +73,8 @@ fn answer_work<N: BootName>(
     }
 }
 
-// What is served under the lock.
-fn served<N: BootName>(
+// Serves the command under the lock, and adds its reply.
+fn serve_command<N: BootName>(
     locked: &mut Locked<N>,
     tables: &Tables<N>,
     cpu: &mut Cpu<N>,
@@ -82,15 +82,15 @@ fn served<N: BootName>(
     text: &mut String,
 ) -> Result<(), AllocError>
     requires { IsOfZone N.frames cmd.now }
-    ensures { IfOk result (λ _. TellsAnswer (λ said. RepliesServed N.frames cmd.now (holder locked.old cpu.old) said (holder locked.new cpu.new))
-        (string_bytes text.old) (string_bytes text.new)) }
+    ensures { AddsAnswer result (RepliesServed N.frames cmd.now) (holder locked.old cpu.old) (holder locked.new cpu.new)
+        (string_bytes text.old) (string_bytes text.new) }
 {
     let outcome = carry_out(locked, tables, cpu, cmd);
     write_outcome(locked.charges(), &outcome, text)
 }
 
-// What is served under the lock for a single frame of this group: an Alloc for its path, which isn't sought again.
-fn served_frame<N: BootName>(
+// Serves an Alloc of a single frame for this group under the lock, and adds its reply: its path isn't sought again.
+fn serve_frame<N: BootName>(
     locked: &mut Locked<N>,
     tables: &Tables<N>,
     cpu: &mut Cpu<N>,
@@ -99,8 +99,8 @@ fn served_frame<N: BootName>(
 ) -> Result<(), AllocError>
     requires there { IsTrue (has_group locked.old.machine.ledger.groups group) }
     ensures { (path : Bor (List ℕ)) → number_at locked.old.machine.ledger.groups path.now ≡ Some group
-        → IfOk result (λ _. TellsAnswer (λ said. RepliesServed N.frames (Alloc path 0) (holder locked.old cpu.old) said (holder locked.new cpu.new))
-        (string_bytes text.old) (string_bytes text.new)) }
+        → AddsAnswer result (RepliesServed N.frames (Alloc path 0))
+        (holder locked.old cpu.old) (holder locked.new cpu.new) (string_bytes text.old) (string_bytes text.new) }
 {
     let outcome = carry_out_frame(locked, tables, cpu, group);
     write_outcome(locked.charges(), &outcome, text)
@@ -114,15 +114,15 @@ fn alloc_frame<N: BootName>(
     path: &[u8],
     text: &mut String,
 ) -> Result<(), AllocError>
-    ensures { IfOk result (λ _. TellsAnswer (λ said. AnswersFrame N.frames path.entry (holder locked.old cpu.old) said (holder locked.new cpu.new))
-        (string_bytes text.old) (string_bytes text.new)) }
+    ensures { AddsAnswer result (AnswersFrame N.frames path.entry)
+        (holder locked.old cpu.old) (holder locked.new cpu.new) (string_bytes text.old) (string_bytes text.new) }
 {
     let Some(group) = locked.find(path) else {
         return write_refusal(&Fault::NoGroup, text);
     };
     match cpu.alloc_fast(tables, group.number()) {
         Fast::Got(frame) => write_fast(&Fast::Got(frame), text),
-        _ => served_frame(locked, tables, cpu, group, text),
+        _ => serve_frame(locked, tables, cpu, group, text),
     }
 }
 
@@ -135,11 +135,11 @@ fn release<N: BootName>(
     text: &mut String,
 ) -> Result<(), AllocError>
     requires { number < N.frames.frames }
-    ensures { IfOk result (λ _. TellsAnswer (λ said. AnswersRelease N.frames number (holder locked.old cpu.old) said (holder locked.new cpu.new))
-        (string_bytes text.old) (string_bytes text.new)) }
+    ensures { AddsAnswer result (AnswersRelease N.frames number) (holder locked.old cpu.old) (holder locked.new cpu.new)
+        (string_bytes text.old) (string_bytes text.new) }
 {
-    if lists(tables, cpu, number) {
+    if try_list(tables, cpu, number) {
         return write_listed(text);
     }
-    served(locked, tables, cpu, &Cmd::Release { frame: number }, text)
+    serve_command(locked, tables, cpu, &Cmd::Release { frame: number }, text)
 }

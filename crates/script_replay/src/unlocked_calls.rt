@@ -1,12 +1,12 @@
 //! The commands that take no lock.
 
-ghost use Rattle.std.specs.Prelude.{◌≡◌, ◌≤◌, ◌<◌, IfOk, MatchBool};
+ghost use Rattle.std.specs.Prelude.{◌≤◌, ◌<◌, MatchBool};
 ghost use Rattle.std.specs.String.{string_bytes};
 ghost use Rattle.cpu_part.specs.declared.answers.Dropped.TheVariants.{Listed};
 ghost use Rattle.cpu_part.specs.Cpus.{times};
 ghost use Rattle.cpu_part.specs.Calls.{DropAnswers};
 ghost use Rattle.mem_system.specs.Boots.{KnownLocked};
-ghost use Rattle.script_replay.specs.Answers.{AnswersGet, AnswersPut, CanNotList, TellsAnswer};
+ghost use Rattle.script_replay.specs.Answers.{AddsAnswer, AnswersGet, AnswersPut, CanNotList};
 ghost use Rattle.mem_system.specs.Commands.{holder};
 
 use cpu_part::{BootName, Cpu, Dropped, Tables};
@@ -14,8 +14,8 @@ use group_tree::fault::Fault;
 use reply_texts::{write_get, write_put, write_refusal};
 use std::alloc::AllocError;
 
-// Lists the frame again, where it is fresh at the processor and its page can be credited.
-pub(crate) fn lists<N: BootName>(tables: &Tables<N>, cpu: &mut Cpu<N>, number: u32) -> bool
+// Lists the frame again, where it is fresh at the processor and its page can be credited, and tells whether it did.
+pub(crate) fn try_list<N: BootName>(tables: &Tables<N>, cpu: &mut Cpu<N>, number: u32) -> bool
     requires { number < N.frames.frames }
     ensures { MatchBool result ((1 ≤ times number cpu.old.fresh) × DropAnswers number Listed cpu.old cpu.new)
         (CanNotList number cpu.old cpu.new) }
@@ -38,8 +38,8 @@ pub(crate) fn get<N: BootName>(
     text: &mut String,
 ) -> Result<(), AllocError>
     requires { number < N.frames.frames }
-    ensures { (l : KnownLocked) → IfOk result (λ _. TellsAnswer (λ said. AnswersGet number (holder l cpu.old) said (holder l cpu.new))
-        (string_bytes text.old) (string_bytes text.new)) }
+    ensures { (l : KnownLocked) → AddsAnswer result (AnswersGet number) (holder l cpu.old) (holder l cpu.new)
+        (string_bytes text.old) (string_bytes text.new) }
 {
     let frame = tables.frames.frame(number).unwrap();
     match cpu.get(tables, frame) {
@@ -56,8 +56,8 @@ pub(crate) fn put<N: BootName>(
     text: &mut String,
 ) -> Result<(), AllocError>
     requires { number < N.frames.frames }
-    ensures { (l : KnownLocked) → IfOk result (λ _. TellsAnswer (λ said. AnswersPut number (holder l cpu.old) said (holder l cpu.new))
-        (string_bytes text.old) (string_bytes text.new)) }
+    ensures { (l : KnownLocked) → AddsAnswer result (AnswersPut number) (holder l cpu.old) (holder l cpu.new)
+        (string_bytes text.old) (string_bytes text.new) }
 {
     let frame = tables.frames.frame(number).unwrap();
     if !cpu.holds(frame) {

@@ -1,6 +1,6 @@
 //! Lines, served one after the other by value of what lies behind the lock.
 
-ghost use Rattle.std.specs.Prelude.{◌≡◌, ◌++◌, ℕ, [], All, IfOk, List, length, map};
+ghost use Rattle.std.specs.Prelude.{◌≡◌, [], All, IfOk, length};
 ghost use Rattle.std.specs.String.{string_bytes};
 ghost use Rattle.stock_word.specs.declared.view.Stock.TheVariants.{NoGroup};
 ghost use Rattle.group_charge.specs.Charges.{AreCharges};
@@ -11,9 +11,9 @@ ghost use Rattle.mem_history.specs.Whole.{ShowsAll};
 ghost use Rattle.mem_history.specs.Kept.{AreTied};
 ghost use Rattle.mem_system.specs.Boots.{IsQuiet};
 ghost use Rattle.mem_system.specs.Commands.{holder};
-ghost use Rattle.script_replay.specs.Answers.{AnswersText};
+ghost use Rattle.script_replay.specs.Answers.{AddsText, AnswersText};
 ghost use Rattle.script_replay.specs.History.{GoesWell, TellsHistory};
-ghost use Rattle.script_replay.specs.Lines.{ServesAll};
+ghost use Rattle.script_replay.specs.Lines.{ServesAll, standing};
 ghost use Rattle.script_replay.specs.Ranges.{LineIsThere, NamesInRange};
 
 use crate::command_answers::answer_text;
@@ -22,8 +22,9 @@ use mem_system::Locked;
 use script_lines::line::{Command, Line};
 use std::alloc::{AllocError, Global};
 
-/// Serves the lines in their order, each at the part of the processor that it names, and gives their answers, each of whose
-/// lines ends with a line feed. `go` does nothing. `AllocError` comes where memory is wanting: the lines before stand then.
+/// Serves the lines in their order, each at the part of the processor that it names, and gives their answers, each of
+/// whose lines ends with a line feed. `go` does nothing. `AllocError` comes where memory is wanting: the lines before
+/// stand then.
 pub fn replay<N: BootName>(
     alloc: Global,
     locked: &mut Locked<N>,
@@ -32,11 +33,12 @@ pub fn replay<N: BootName>(
     lines: &[Line<'_>],
 ) -> Result<Vec<u8>, AllocError>
     requires { All (LineIsThere N.frames.frames (length cpus.old)) lines.now }
-    ensures answers { IfOk result (λ answers. ServesAll N.frames (record { locked = locked.old; cpus = cpus.old }) lines.now answers.items
-        (record { locked = locked.new; cpus = cpus.new })) }
-    ensures history { (run : Run) → ShowsAll N.frames run locked.old.machine cpus.old → AreTied N.frames N.stocks cpus.old → IfOk result (λ answers.
-        TellsHistory N.frames (Unit {0}) run (record { locked = locked.old; cpus = cpus.old }) lines.now answers.items
-        (record { locked = locked.new; cpus = cpus.new })) }
+    ensures answers { IfOk result (λ answers. ServesAll N.frames (standing locked.old cpus.old) lines.now answers.items
+        (standing locked.new cpus.new)) }
+    ensures history { (run : Run) → ShowsAll N.frames run locked.old.machine cpus.old
+        → AreTied N.frames N.stocks cpus.old → IfOk result (λ answers.
+        TellsHistory N.frames (Unit {0}) run (standing locked.old cpus.old) lines.now answers.items
+        (standing locked.new cpus.new)) }
 {
     let mut answers = String::new(alloc);
     for line in lines {
@@ -54,8 +56,9 @@ fn serve_line<N: BootName>(
     answers: &mut String,
 ) -> Result<(), AllocError>
     requires { LineIsThere N.frames.frames (length cpus.old) line.now }
-    ensures { IfOk result (λ _. (text : List ℕ) × GoesWell N.frames N.stocks (record { locked = locked.old; cpus = cpus.old }) line.now text
-        (record { locked = locked.new; cpus = cpus.new }) × (string_bytes answers.new ≡ string_bytes answers.old ++ text)) }
+    ensures { AddsText result (λ before text after. GoesWell N.frames N.stocks before line.now text after)
+        (standing locked.old cpus.old) (standing locked.new cpus.new)
+        (string_bytes answers.old) (string_bytes answers.new) }
 {
     match line {
         Line::Go => {
@@ -78,8 +81,8 @@ fn serve_part<N: BootName>(
     answers: &mut String,
 ) -> Result<(), AllocError>
     requires { NamesInRange N.frames.frames command.now }
-    ensures answered { IfOk result (λ _. (said : List ℕ) × AnswersText N.frames command.now (holder locked.old cpu.old) said
-        (holder locked.new cpu.new) × (string_bytes answers.new ≡ string_bytes answers.old ++ said)) }
+    ensures answered { AddsText result (AnswersText N.frames command.now)
+        (holder locked.old cpu.old) (holder locked.new cpu.new) (string_bytes answers.old) (string_bytes answers.new) }
     ensures quiet { IsQuiet N.frames N.stocks locked.new }
     ensures consistent { IsConsistent N.frames N.stocks locked.new.machine }
     ensures charges { AreCharges locked.new.machine.ledger }
@@ -93,8 +96,8 @@ fn serve_part<N: BootName>(
     served
 }
 
-// Shows what always holds behind the lock: no visit is open, the machine is consistent, and the charges are those of a tree.
-// It does nothing.
+// Shows what always holds behind the lock: no visit is open, the machine is consistent, and the charges are those of
+// a tree. It does nothing.
 fn see_well<N: BootName>(locked: &Locked<N>)
     ensures quiet { IsQuiet N.frames N.stocks locked.now }
     ensures consistent { IsConsistent N.frames N.stocks locked.now.machine }

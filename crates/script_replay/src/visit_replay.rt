@@ -4,7 +4,7 @@ ghost use Rattle.std.specs.Prelude.{◌≤◌, ◌<◌, All, length};
 ghost use Rattle.script_replay.specs.Ranges.{LineIsThere, WorkInRange};
 ghost use Rattle.mem_system.specs.Commands.{IsOfZone};
 
-use crate::unlocked_calls::{get, lists, put};
+use crate::unlocked_calls::{get, put, try_list};
 use crate::work::{Work, work_of};
 use cpu_part::{BootName, Cpu, Fast};
 use group_tree::fault::Fault;
@@ -14,10 +14,10 @@ use script_lines::line::Line;
 use std::alloc::{AllocError, Global};
 use std::sync::Wait;
 
-/// Serves the lines in their order, each by a visit of the processor that it names or by a call that takes no lock, and gives
-/// their answers as `replay` does. `AllocError` comes where memory is wanting: the lines before stand then.
+/// Serves the lines in their order, each by a visit of the processor that it names or by a call that takes no lock,
+/// and gives their answers as `replay` does. `AllocError` comes where memory is wanting: the lines before stand then.
 #[tactic(auto, using(crate::proofs::InRange::work_in_range))]
-pub fn replay_lines<N: BootName, R: Wait>(
+pub fn replay_by_visits<N: BootName, R: Wait>(
     rt: &R,
     alloc: Global,
     system: &System<N>,
@@ -50,14 +50,14 @@ fn visit_line<N: BootName, R: Wait>(
 {
     let tables = system.tables();
     match *work {
-        Work::Visit(cmd) => visited(rt, system, cpu, &cmd, text),
+        Work::Visit(cmd) => visit_command(rt, system, cpu, &cmd, text),
         Work::Frame { path } => alloc_frame(rt, system, cpu, path, text),
         Work::Fast { group } => write_fast(&cpu.alloc_fast(tables, group), text),
         Work::Release { frame } => {
-            if lists(tables, cpu, frame) {
+            if try_list(tables, cpu, frame) {
                 return write_listed(text);
             }
-            visited(rt, system, cpu, &Cmd::Release { frame }, text)
+            visit_command(rt, system, cpu, &Cmd::Release { frame }, text)
         }
         Work::Get { frame } => get(tables, cpu, frame, text),
         Work::Put { frame } => put(tables, cpu, frame, text),
@@ -76,8 +76,8 @@ fn visit_line<N: BootName, R: Wait>(
     }
 }
 
-// What a visit serves, and adds what it is answered.
-fn visited<N: BootName, R: Wait>(
+// Serves the command by a visit, and adds its reply.
+fn visit_command<N: BootName, R: Wait>(
     rt: &R,
     system: &System<N>,
     cpu: &mut Cpu<N>,
@@ -102,6 +102,6 @@ fn alloc_frame<N: BootName, R: Wait>(
     };
     match cpu.alloc_fast(system.tables(), group.number()) {
         Fast::Got(frame) => write_fast(&Fast::Got(frame), text),
-        _ => visited(rt, system, cpu, &Cmd::Alloc { path, order: 0 }, text),
+        _ => visit_command(rt, system, cpu, &Cmd::Alloc { path, order: 0 }, text),
     }
 }

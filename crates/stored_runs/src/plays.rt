@@ -10,7 +10,7 @@ use cpu_part::{BootName, Cpu, Dropped, Tables};
 use mem_system::{Cmd, Reply, System};
 use reply_texts::write_reply;
 use script_lines::line::{Command, Line};
-use script_replay::replay_lines;
+use script_replay::replay_by_visits;
 use std::alloc::Global;
 use std::slice;
 use std::sync::Wait;
@@ -48,7 +48,7 @@ pub fn ask<N: BootName, R: Wait>(
         processor: 1,
         command: *command,
     };
-    Ok(replay_lines(rt, alloc, system, slice::from_mut(cpu), &[line])?)
+    Ok(replay_by_visits(rt, alloc, system, slice::from_mut(cpu), &[line])?)
 }
 
 // What the processor is answered to this command under the lock.

@@ -19,8 +19,8 @@ returns-in_default g c = told (λ (said : Answer). AnswersFrame g.N.BootName.fra
     (string_bytes c.write_refusal.new.text) c.write_refusal.result (inl (sym c.in_default.ensures.found, refl, refl, refl))
     c.write_refusal.ensures
 
-pub served_frame-requires : goal.served_frame-requires
-served_frame-requires g c = record { there = found_there _ _ _ (sym c.in-Some.ensures.found) }
+pub serve_frame-requires : goal.serve_frame-requires
+serve_frame-requires g c = record { there = found_there _ _ _ (sym c.in-Some.ensures.found) }
 
 pub returns-in-Got : goal.returns-in-Got
 returns-in-Got g c = told (λ (said : Answer). AnswersFrame g.N.BootName.frames c.args.path (holder c.args.locked.now c.args.cpu.now) said (holder c.args.locked.now c.alloc_fast.new.self)) (answer.Fast (Got c.in-Got.frame)) (string_bytes c.args.text.now)
@@ -34,14 +34,14 @@ returns-in-Got g c = told (λ (said : Answer). AnswersFrame g.N.BootName.frames 
 pub returns-in_default-alloc_fast : goal.returns-in_default-alloc_fast
 returns-in_default-alloc_fast g c = told_as
     (λ (said : Answer). RepliesServed g.N.BootName.frames (cmd.Alloc c.args.path 0) (holder c.args.locked.now c.alloc_fast.new.self) said
-    (holder c.served_frame.new.locked c.served_frame.new.cpu))
-    (λ (said : Answer). AnswersFrame g.N.BootName.frames c.args.path (holder c.args.locked.now c.args.cpu.now) said (holder c.served_frame.new.locked c.served_frame.new.cpu))
-    (string_bytes c.args.text.now) (string_bytes c.served_frame.new.text) c.served_frame.result
-    (λ said so. served_after g.N.BootName.frames c.args.path c.args.locked.now c.args.cpu.now c.alloc_fast.new.self said c.served_frame.new.locked
-    c.served_frame.new.cpu (record {
+    (holder c.serve_frame.new.locked c.serve_frame.new.cpu))
+    (λ (said : Answer). AnswersFrame g.N.BootName.frames c.args.path (holder c.args.locked.now c.args.cpu.now) said (holder c.serve_frame.new.locked c.serve_frame.new.cpu))
+    (string_bytes c.args.text.now) (string_bytes c.serve_frame.new.text) c.serve_frame.result
+    (λ said so. served_after g.N.BootName.frames c.args.path c.args.locked.now c.args.cpu.now c.alloc_fast.new.self said c.serve_frame.new.locked
+    c.serve_frame.new.cpu (record {
       group = c.in-Some.group;
       found = sym c.in-Some.ensures.found;
       fast = c.alloc_fast.result;
       answers = subst (λ (g : ℕ). FastAnswers g c.alloc_fast.result c.args.cpu.now c.alloc_fast.new.self) c.number.ensures.value c.alloc_fast.ensures.answer;
       none = c.in_default-alloc_fast.not-Got;
-    }) so) (c.served_frame.ensures c.args.path (sym c.in-Some.ensures.found))
+    }) so) (c.serve_frame.ensures c.args.path (sym c.in-Some.ensures.found))

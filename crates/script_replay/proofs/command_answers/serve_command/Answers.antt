@@ -7,7 +7,7 @@ use Rattle.reply_texts.specs.Answer.{Answer, Served}
 use Rattle.reply_texts.specs.Replies.{reply_text}
 use Rattle.script_replay.specs.Answers.{RepliesServed}
 use Rattle.script_replay.proofs.Telling.{told}
-use Rattle.script_replay.proofs.command_answers.served.Goals as goal
+use Rattle.script_replay.proofs.command_answers.serve_command.Goals as goal
 
 pub returns : goal.returns
 returns g c =

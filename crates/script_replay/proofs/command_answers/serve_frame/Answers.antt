@@ -8,7 +8,7 @@ use Rattle.reply_texts.specs.Replies.{reply_text}
 use Rattle.script_replay.specs.Answers.{RepliesServed}
 use Rattle.mem_system.specs.declared.command.Cmd.TheVariants.{Alloc}
 use Rattle.script_replay.proofs.Telling.{told}
-use Rattle.script_replay.proofs.command_answers.served_frame.Goals as goal
+use Rattle.script_replay.proofs.command_answers.serve_frame.Goals as goal
 
 pub returns : goal.returns
 returns g c path at =
