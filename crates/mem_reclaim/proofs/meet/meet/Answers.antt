@@ -1,4 +1,4 @@
-use Rattle.std.proofs.Common.{ap, sym, ◌∙◌}
+use Rattle.std.proofs.Common.{rules, ap, sym, ◌∙◌}
 use Rattle.lru_lists.specs.declared.record.Entry.{Entry}
 use Rattle.mem_reclaim.proofs.Meeting.{meets_tried}
 use Rattle.mem_reclaim.proofs.Keeping.{keeps_try}
@@ -14,3 +14,9 @@ pub returns-clause-keeps : goal.returns-clause-keeps
 returns-clause-keeps g c =
     keeps_try g.N.BootName.frames _ _ c.args.frame c.evict.result c.evict.ensures.evicts c.evict.ensures.visit
     (sym (ap (λ (x : Entry). x.is_dirty) c.requires.unit) ∙ c.if-unit.false)
+
+pub returns-then-is_spared-clause-meets : goal.returns-then-is_spared-clause-meets
+returns-then-is_spared-clause-meets g c = search rules
+
+pub returns-then-unit-clause-meets : goal.returns-then-unit-clause-meets
+returns-then-unit-clause-meets g c = search rules

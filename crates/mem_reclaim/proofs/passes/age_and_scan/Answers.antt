@@ -1,3 +1,4 @@
+use Rattle.std.proofs.Common.{rules}
 use Rattle.mem_reclaim.proofs.Passing.{aged_leads, aged_keeps, aged_usage}
 use Rattle.mem_reclaim.proofs.Keeping.{keeps_both}
 use Rattle.mem_reclaim.proofs.passes.age_and_scan.Goals as goal
@@ -13,3 +14,6 @@ returns-clause-keeps g c =
 
 pub returns-clause-usage : goal.returns-clause-usage
 returns-clause-usage g c x = aged_usage g.N.BootName.frames c.args.machine.now c.age.new.self c.scan.new.machine c.args.group x c.scan.result c.age.ensures.ages (c.scan.ensures.usage x)
+
+pub returns-clause-few : goal.returns-clause-few
+returns-clause-few g c = search rules

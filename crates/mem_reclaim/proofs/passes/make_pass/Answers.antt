@@ -1,3 +1,4 @@
+use Rattle.std.proofs.Common.{rules}
 use Rattle.mem_reclaim.proofs.Passing.{pass_none, pass_more, pass_enough, pass_done}
 use Rattle.mem_reclaim.proofs.passes.make_pass.Goals as goal
 
@@ -25,3 +26,12 @@ pub returns-clause-missed : goal.returns-clause-missed
 returns-clause-missed g c =
     (pass_done g.N.BootName.frames g.N.BootName.stocks c.args.is_first c.args.group c.args.want c.args.machine.now c.loop-number.number c.loop-number.given
     c.loop-number.machine c.spots-spots.ensures.consistent c.loop-number.invariant c.loop-number-test.false).missed
+
+pub returns-clause-few : goal.returns-clause-few
+returns-clause-few g c = search rules
+
+pub returns-then-want-given-clause-few : goal.returns-then-want-given-clause-few
+returns-then-want-given-clause-few g c = search rules
+
+pub returns-then-want-given-clause-missed : goal.returns-then-want-given-clause-missed
+returns-then-want-given-clause-missed g c = search rules

@@ -1,4 +1,4 @@
-use Rattle.std.proofs.Common.{false, refl, arith}
+use Rattle.std.proofs.Common.{rules, false, refl, arith}
 use Rattle.lru_lists.specs.declared.record.LruList.TheVariants.{Inactive, Active}
 use Rattle.mem_reclaim.specs.Units.{ScansList}
 use Rattle.mem_reclaim.proofs.Wanting.{first_enough, both_done}
@@ -31,3 +31,12 @@ pub returns-clause-missed : goal.returns-clause-missed
 returns-clause-missed g c less =
     both_missed g.N.BootName.frames c.args.machine.now c.scan-inactive.new.machine c.scan-active.new.machine c.args.group c.scan-inactive.ensures.keeps c.scan-active.ensures.keeps (c.scan-active.ensures.leaves refl)
     (c.scan-inactive.ensures.missed refl c.if-want-inactive.false) (c.scan-active.ensures.missed refl (let a = c.if-want-inactive.false in omega (arith, less, a)))
+
+pub returns-clause-few : goal.returns-clause-few
+returns-clause-few g c = search rules
+
+pub returns-then-want-inactive-clause-few : goal.returns-then-want-inactive-clause-few
+returns-then-want-inactive-clause-few g c = search rules
+
+pub returns-then-want-inactive-clause-missed : goal.returns-then-want-inactive-clause-missed
+returns-then-want-inactive-clause-missed g c = search rules

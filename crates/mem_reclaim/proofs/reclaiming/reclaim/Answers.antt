@@ -1,4 +1,4 @@
-use Rattle.std.proofs.Common.{false, true, arith}
+use Rattle.std.proofs.Common.{rules, false, true, arith}
 use Rattle.mem_reclaim.specs.Passes.{MakesPass}
 use Rattle.mem_reclaim.proofs.Wanting.{first_enough, both_done}
 use Rattle.mem_reclaim.proofs.Keeping.{keeps_both}
@@ -19,3 +19,12 @@ returns-clause-reclaims g c =
 
 pub returns-clause-keeps : goal.returns-clause-keeps
 returns-clause-keeps g c = keeps_both g.N.BootName.frames c.args.machine.now c.make_pass-first.new.machine c.make_pass.new.machine c.make_pass-first.ensures.keeps c.make_pass.ensures.keeps
+
+pub returns-clause-missed : goal.returns-clause-missed
+returns-clause-missed g c = search rules
+
+pub returns-clause-tried_all : goal.returns-clause-tried_all
+returns-clause-tried_all g c = search rules
+
+pub returns-then-want-eq0-clause-reclaims : goal.returns-then-want-eq0-clause-reclaims
+returns-then-want-eq0-clause-reclaims g c = search rules

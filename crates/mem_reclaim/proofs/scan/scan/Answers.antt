@@ -72,3 +72,12 @@ pub returns-clause-missed : goal.returns-clause-missed
 returns-clause-missed g c =
     (scan_done g.N.BootName.frames c.args.marks_count c.args.group c.args.list c.args.want c.args.machine.now c.loop-met._met c.loop-met.given c.loop-met.next
     c.loop-met.machine c.loop-met.invariant c.listed-units.result c.listed-units.ensures c.loop-met-test.false).missed
+
+pub returns-clause-few : goal.returns-clause-few
+returns-clause-few g c = search rules
+
+pub returns-then-want-given-clause-few : goal.returns-then-want-given-clause-few
+returns-then-want-given-clause-few g c = search rules
+
+pub returns-then-want-given-clause-missed : goal.returns-then-want-given-clause-missed
+returns-then-want-given-clause-missed g c = search rules

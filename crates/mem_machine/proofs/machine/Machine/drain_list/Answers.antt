@@ -1,3 +1,4 @@
+use Rattle.std.proofs.Common.{rules}
 use Rattle.mem_machine.proofs.Many.{taken_more, taken_end, taken_front, taken_whole}
 use Rattle.mem_machine.proofs.machine.Machine.drain_list.Goals as goal
 
@@ -29,3 +30,6 @@ returns-clause-takes g c = (taken_whole _ _ _ _ _ _ _ c.loop-taken.invariant c.l
 
 pub returns-clause-steps : goal.returns-clause-steps
 returns-clause-steps g c = (taken_whole _ _ _ _ _ _ _ c.loop-taken.invariant c.loop-taken.auto.taken-end c.loop-taken-test.false).steps
+
+pub returns-then-not-take_one_back-clause-at_most : goal.returns-then-not-take_one_back-clause-at_most
+returns-then-not-take_one_back-clause-at_most g c = search rules

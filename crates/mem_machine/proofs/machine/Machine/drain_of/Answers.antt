@@ -64,3 +64,6 @@ returns-else-pages-gt0-clause-steps g c =
     (λ some. c.tree-tree.ensures.legal) c.requires.processor.0 c.requires.processor.1
     c.drain-pages.ensures.booked c.drain-pages.ensures.drained_before (Some c.args.group) c.requires.group (some_not_none _ _) _ _
     (drained_none c.self.inside.charges (Some c.args.group) _ none) (ap uncounted c.drain-pages.ensures.machine)).steps
+
+pub returns-then-pages-gt0-clause-drains : goal.returns-then-pages-gt0-clause-drains
+returns-then-pages-gt0-clause-drains g c = search rules

@@ -31,3 +31,15 @@ returns-in_err-try_charge-clause-refused g c =
     IfErr-weaker c.from_residual.result _ _ (λ e low. refused_all g.N.BootName.frames g.N.BootName.stocks _ _ c.self.view_is c.args.cpu.now c.args.group
     c.args.pages e.group c.self.invariant.0 c.tree-tree.ensures.legal c.number-number.ensures.tied c.requires.visit c.requires.none_fresh c.requires.there
     c.requires.alive low) over
+
+pub invariant_of-self : goal.invariant_of-self
+invariant_of-self g c = search rules
+
+pub returns-clause-fills : goal.returns-clause-fills
+returns-clause-fills g c = search rules
+
+pub returns-clause-over : goal.returns-clause-over
+returns-clause-over g c = search rules
+
+pub returns-in_err-try_charge-clause-over : goal.returns-in_err-try_charge-clause-over
+returns-in_err-try_charge-clause-over g c = search rules

@@ -57,3 +57,6 @@ unreachable-requires g c =
     let inside = there.0 in
     let sized = c.self.invariant.0.sizes.spots in
     omega (arith, past, inside, sized)
+
+pub invariant_of-self : goal.invariant_of-self
+invariant_of-self g c = search rules

@@ -1,4 +1,4 @@
-use Rattle.std.proofs.Common.{ℕ, ◌<◌, false, length, arith, ap}
+use Rattle.std.proofs.Common.{rules, ℕ, ◌<◌, false, length, arith, ap}
 use Rattle.std.specs.Prelude.{slice_set}
 use Rattle.mem_machine.proofs.GroupSteps.{made_runs}
 use Rattle.mem_machine.proofs.machine.Machine.make.Goals as goal
@@ -12,3 +12,12 @@ returns-clause-steps g c =
     made_runs g.N.BootName.frames _ _ c.self.view_is _ _ c.in_ok-group.group c.args.path.now inside c.in_ok-group.ensures.refused
     c.in_ok-group.ensures.least
     c.in_ok-group.ensures.made (ap (λ (n : ℕ). slice_set c.self.inside.killed.items n false) value)
+
+pub invariant_of-self : goal.invariant_of-self
+invariant_of-self g c = search rules
+
+pub invariant_of-self-2 : goal.invariant_of-self-2
+invariant_of-self-2 g c = search rules
+
+pub returns-clause-made : goal.returns-clause-made
+returns-clause-made g c = search rules

@@ -1,3 +1,4 @@
+use Rattle.std.proofs.Common.{rules}
 use Rattle.mem_machine.proofs.Fronts.{own_is}
 use Rattle.mem_machine.proofs.machine.Machine.own_stock.Goals as goal
 
@@ -5,3 +6,9 @@ pub returns-clause-stock : goal.returns-clause-stock
 returns-clause-stock g c =
     own_is g.N.BootName.frames g.N.BootName.stocks _ _ c.self.view_is c.args.cpu.now c.look.result c.number-number.ensures.tied c.self.invariant.0
     c.look.ensures.balanced c.look.ensures.group c.look.ensures.held
+
+pub invariant_of-self : goal.invariant_of-self
+invariant_of-self g c = search rules
+
+pub returns-clause-machine : goal.returns-clause-machine
+returns-clause-machine g c = search rules

@@ -1,3 +1,4 @@
+use Rattle.std.proofs.Common.{rules}
 use Rattle.mem_machine.proofs.Freeing.{unit_in_use, unit_charged}
 use Rattle.mem_machine.proofs.Releases.{left_all, read_head, returned_all}
 use Rattle.mem_machine.proofs.machine.Machine.release.Goals as goal
@@ -76,3 +77,6 @@ returns-in-Head-clause-steps g c =
     c.requires.frame c.number-at.ensures c.requires.kept _ _ c.leave_list.ensures.leaves c.leave_list.ensures.stand c.leave_list.ensures.frames
     c.leave_list.ensures.groups _ c.in-Last.ensures.answer.0 c.in-Head.unit head _ _ _ _ _ _ c.self.invariant.1 c.free_unit.ensures.spots
     c.free_unit.ensures.frames c.free_unit.ensures.areas c.free_unit.ensures.charges c.with_last_put-self-inside.ensures).steps c.args.cpu.now
+
+pub returns-in-Left-clause-releases : goal.returns-in-Left-clause-releases
+returns-in-Left-clause-releases g c = search rules

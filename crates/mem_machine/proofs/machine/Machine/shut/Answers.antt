@@ -1,4 +1,4 @@
-use Rattle.std.proofs.Common.{ap}
+use Rattle.std.proofs.Common.{rules, ap}
 use Rattle.cpu_part.specs.Cpus.{KnownCpu}
 use Rattle.mem_machine.proofs.Holds.{shuts, is_shut_then}
 use Rattle.mem_machine.proofs.machine.Machine.shut.Goals as goal
@@ -8,3 +8,18 @@ returns-clause-shut g c = is_shut_then _ _ _ _ c.shut.ensures.zone (ap (λ (d : 
 
 pub returns-clause-steps : goal.returns-clause-steps
 returns-clause-steps g c = shuts g.N.BootName.frames _ _ c.self.view_is _ _ c.shut.ensures.cpu _ c.shut.ensures.zone c.requires (c.self.invariant.0.noted _)
+
+pub invariant_of-self : goal.invariant_of-self
+invariant_of-self g c = search rules
+
+pub returns-clause-cpu : goal.returns-clause-cpu
+returns-clause-cpu g c = search rules
+
+pub returns-clause-machine : goal.returns-clause-machine
+returns-clause-machine g c = search rules
+
+pub returns-clause-lent : goal.returns-clause-lent
+returns-clause-lent g c = search rules
+
+pub returns-clause-still : goal.returns-clause-still
+returns-clause-still g c = search rules

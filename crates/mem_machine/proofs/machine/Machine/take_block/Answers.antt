@@ -139,3 +139,12 @@ returns-clause-steps g c =
       moves = c.add.ensures.moves;
       joined = c.add.ensures.joined;
     }) c.others_stand.ensures c.one_of_all_changes.ensures).steps
+
+pub invariant_of-self : goal.invariant_of-self
+invariant_of-self g c = search rules
+
+pub invariant_of-self-in_default-take : goal.invariant_of-self-in_default-take
+invariant_of-self-in_default-take g c = search rules
+
+pub returns-in_default-take-clause-takes : goal.returns-in_default-take-clause-takes
+returns-in_default-take-clause-takes g c = search rules

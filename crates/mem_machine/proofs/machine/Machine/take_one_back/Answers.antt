@@ -42,3 +42,6 @@ returns-clause-visit g c =
     (take_all g.N.BootName.frames g.N.BootName.stocks _ _ c.self.view_is c.args.cpu.now c.hand_front.new.self _ c.number-number.ensures.tied c.self.invariant.0
     c.requires _ _ c.unwrap.result _ c.in-Some.frame _ _ c.self.invariant.1 k0 c.give.ensures.frames c.give.ensures.areas inside c.in-Some.ensures.borrowed.1
     c.number-at.ensures c.in-Some.ensures.answer collected c.collect.ensures.cpu).visit
+
+pub invariant_of-self : goal.invariant_of-self
+invariant_of-self g c = search rules
