@@ -11,7 +11,7 @@ use Rattle.zone_sizes.specs.declared.config.Config.{Config}
 use Rattle.zone_sizes.specs.Config.{IsValidConfig}
 use Rattle.script_lines.specs.declared.line.Line.{Line}
 use Rattle.script_lines.specs.Script.{IsScript}
-use Rattle.load_run.specs.declared.command_line.Settings.{Settings}
+use Rattle.load_run.specs.declared.settings.Settings.{Settings}
 use Rattle.load_run.specs.Answers.{AreAnswers, IsAnswered, IsReplayed}
 
 -- the answers were written behind what the writer held, where the script is known

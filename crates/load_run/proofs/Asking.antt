@@ -20,9 +20,9 @@ use Rattle.clap.specs.declared.error.kind.ErrorKind.{ErrorKind}
 use Rattle.clap.specs.declared.parser.matches.Found.{Found}
 use Rattle.clap.proofs.WalkLemmas.{one_text-rows}
 use Rattle.clap.proofs.ValueTestLemmas.{Accepts-accepts, accepts-Accepts}
-use Rattle.load_run.specs.declared.command_line.Settings.{Settings}
-use Rattle.load_run.specs.declared.fault.LineFault.{LineFault}
-use Rattle.load_run.specs.declared.fault.LineFault.TheVariants.{Words, NoMemory}
+use Rattle.load_run.specs.declared.settings.Settings.{Settings}
+use Rattle.load_run.specs.declared.fault.WordsFault.{WordsFault}
+use Rattle.load_run.specs.declared.fault.WordsFault.TheVariants.{BadWords, NoMemory}
 use Rattle.load_run.specs.Fault.{IsNoMemory}
 use Rattle.load_run.specs.Words.{Answers, if_none, number_in, program, settings_of, settings_under, size_in}
 
@@ -151,17 +151,17 @@ asked_nothing words kind among = go (fault_of program words) among
     go (k ∷ rest) some = refl
 
 -- a fault is what such words are answered
-pub answers_fault : (asked : Option Settings) (fault : LineFault) → asked ≡ None → Answers asked (Err fault)
-answers_fault asked (Words text) none = none
+pub answers_fault : (asked : Option Settings) (fault : WordsFault) → asked ≡ None → Answers asked (Err fault)
+answers_fault asked (BadWords text) none = none
 answers_fault asked (NoMemory e) none = tt
 
 -- and want of memory is an answer to all words
-pub answers_memory : (asked : Option Settings) (fault : LineFault) → IsNoMemory fault → Answers asked (Err fault)
-answers_memory asked (Words text) memory = absurd memory
+pub answers_memory : (asked : Option Settings) (fault : WordsFault) → IsNoMemory fault → Answers asked (Err fault)
+answers_memory asked (BadWords text) memory = absurd memory
 answers_memory asked (NoMemory e) memory = tt
 
 -- settings that are answered are those that were asked for
-pub asked_ok : (asked : Option Settings) (r : Result Settings LineFault) → Answers asked r → IfOk r (λ s. asked ≡ Some s)
+pub asked_ok : (asked : Option Settings) (r : Result Settings WordsFault) → Answers asked r → IfOk r (λ s. asked ≡ Some s)
 asked_ok asked (Ok s) is = is
 asked_ok asked (Err fault) is = tt
 

@@ -1,5 +1,5 @@
 -- What a script is answered.
-use Rattle.std.specs.Prelude.{◌≡◌, ℕ, Bool, Option, Some, List, [], ◌++◌}
+use Rattle.std.specs.Prelude.{◌≡◌, ℕ, Bool, Option, Some, List, [], ◌++◌, take}
 use Rattle.std.specs.Io.KnownBytes.{Appends}
 use Rattle.frame_word.specs.Seats.{KnownTable}
 use Rattle.stock_word.specs.Stock.{Words}
@@ -11,19 +11,23 @@ use Rattle.script_lines.specs.declared.line.Line.{Line}
 use Rattle.script_lines.specs.Script.{IsScript}
 use Rattle.script_replay.specs.Lines.{ServesAll, Standing}
 use Rattle.script_replay.specs.History.{TellsHistory}
-use Rattle.load_run.specs.declared.command_line.Settings.{Settings}
+use Rattle.load_run.specs.declared.settings.Settings.{Settings}
 use Rattle.load_run.specs.Ending.{TellsEnd}
 
--- what stands after a boot with these sizes, under these tables: the machine of a new boot, and the parts of the processors,
--- which did nothing yet
+-- what is read of an input: a byte more than a script may have, as far as there are so many
+abbrev pub bytes_read : List ℕ → List ℕ
+bytes_read input = take 1048577 input
+
+-- what stands after a boot with these sizes, under these tables: the machine of a new boot, and the parts of the
+-- processors, which did nothing yet
 pub record StandsAtFirst (sizes : Config) (table : KnownTable) (stock_table : Words) (first : Standing) : Type 0 where
   pub sized : IsSizedAs sizes table stock_table
   pub machine : IsFirst table stock_table first.locked.machine
   pub sizes_are : first.locked.sizes ≡ sizes
   pub cpus : first.cpus ≡ first_cpus table stock_table 1 sizes.cpus
 
--- what a boot with these sizes answers to the lines, one after the other, and then tells of its end. All steps of the lines
--- together are one run from the boot on, which tells of each line that the promise is kept after it
+-- what a boot with these sizes answers to the lines, one after the other, and then tells of its end. All steps of the
+-- lines together are one run from the boot on, which tells of each line that the promise is kept after it
 pub record AreAnswers (sizes : Config) (is_audited : Bool) (lines : List Line) (text : List ℕ) : Type 0 where
   pub frames : KnownTable
   pub stocks : Words
@@ -37,8 +41,8 @@ pub record AreAnswers (sizes : Config) (is_audited : Bool) (lines : List Line) (
   pub ends : TellsEnd frames stocks is_audited end ending
   pub text_is : text ≡ answers ++ ending
 
--- these settings are asked for, their sizes may be, and the input is a script for them: the text is what a boot of these sizes
--- answers to it, and tells of its end where they say so
+-- these settings are asked for, their sizes may be, and the input is a script for them: the text is what a boot of
+-- these sizes answers to it, and tells of its end where they say so
 pub record IsAnswered (asked : Option Settings) (input text : List ℕ) : Type 0 where
   pub settings : Settings
   pub is_asked : asked ≡ Some settings

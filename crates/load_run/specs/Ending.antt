@@ -14,7 +14,8 @@ use Rattle.script_replay.specs.Lines.{Standing}
 -- a pin of each of these frames is put, one after the other
 abbrev pub PutsEach : List ℕ → KnownCpu → KnownCpu → Type 0
 PutsEach [] before after = after ≡ before
-PutsEach (f ∷ frames) before after = (answer : Put) × (mid : KnownCpu) × UnpinAnswers f answer before mid × PutsEach frames mid after
+PutsEach (f ∷ frames) before after =
+    (answer : Put) × (mid : KnownCpu) × UnpinAnswers f answer before mid × PutsEach frames mid after
 
 -- every pin of the processor is put
 pub record LetsGo (before after : KnownCpu) : Type 0 where
@@ -23,7 +24,8 @@ pub record LetsGo (before after : KnownCpu) : Type 0 where
   pub none_left : after.pins ≡ []
 
 -- the boot ended, where so many pins were held: none; or every pin was put, and then it ended
-pub record EndsHeld (table : KnownTable) (stock_table : Words) (before : Standing) (held : ℕ) (audit : Audit) : Type 0 where
+pub record EndsHeld (table : KnownTable) (stock_table : Words) (before : Standing)
+    (held : ℕ) (audit : Audit) : Type 0 where
   pub held_are : held ≡ pins_of before.cpus
   pub cpus : List KnownCpu
   pub free : held ≡ 0 → cpus ≡ before.cpus
@@ -33,7 +35,8 @@ pub record EndsHeld (table : KnownTable) (stock_table : Words) (before : Standin
 -- how many frames there are, and where
 abbrev pub audit_places_text : Audit → List ℕ
 audit_places_text a =
-    codes "audit frames " ++ (decimal a.frames ++ (codes " free " ++ (decimal a.free ++ (codes " charged " ++ (decimal a.charged ++ codes "\n")))))
+    codes "audit frames " ++ (decimal a.frames ++ (codes " free " ++ (decimal a.free
+    ++ (codes " charged " ++ (decimal a.charged ++ codes "\n")))))
 
 -- how often units ended and came back
 abbrev pub counts_text : Audit → List ℕ
@@ -55,7 +58,8 @@ end_text true held a = held_text held ++ audit_text a
 end_text false held a = []
 
 -- so it is told, of a boot that ended
-pub record TellsEnd (table : KnownTable) (stock_table : Words) (is_audited : Bool) (before : Standing) (text : List ℕ) : Type 0 where
+pub record TellsEnd (table : KnownTable) (stock_table : Words) (is_audited : Bool) (before : Standing)
+    (text : List ℕ) : Type 0 where
   pub held : ℕ
   pub audit : Audit
   pub ends : EndsHeld table stock_table before held audit

@@ -11,9 +11,9 @@ use Rattle.clap.specs.declared.builder.action.ArgAction.TheVariants.{SetTrue}
 use Rattle.clap.specs.declared.builder.value_parser.ValueParser.TheVariants.{Signed}
 use Rattle.clap.specs.Kinds.{Kinds}
 use Rattle.zone_sizes.specs.declared.config.Config.{Config}
-use Rattle.load_run.specs.declared.command_line.Settings.{Settings}
-use Rattle.load_run.specs.declared.fault.LineFault.{LineFault}
-use Rattle.load_run.specs.declared.fault.LineFault.TheVariants.{Words, NoMemory}
+use Rattle.load_run.specs.declared.settings.Settings.{Settings}
+use Rattle.load_run.specs.declared.fault.WordsFault.{WordsFault}
+use Rattle.load_run.specs.declared.fault.WordsFault.TheVariants.{BadWords, NoMemory}
 
 -- an option whose value is a whole number from 1 to `most`, and the value that stands where it is left out
 abbrev pub size_rule : List ℕ → ℕ → List ℕ → Rule
@@ -100,10 +100,11 @@ if_none (fault ∷ faults) asked = None
 
 -- the settings that the words ask for: clap finds no fault in them, and finds these values behind `replay`
 unfoldable pub settings_of : List (List ℕ) → Option Settings
-settings_of words = if_none (fault_of program words) (option_and_then (λ p. settings_under p.0 p.1) (subcommand_of program words))
+settings_of words =
+    if_none (fault_of program words) (option_and_then (λ p. settings_under p.0 p.1) (subcommand_of program words))
 
 -- what the words are answered: the settings that they ask for; a fault where they ask for none; or that memory ran out
-abbrev pub Answers : Option Settings → Result Settings LineFault → Type 0
+abbrev pub Answers : Option Settings → Result Settings WordsFault → Type 0
 Answers asked (Ok settings) = asked ≡ Some settings
-Answers asked (Err (Words text)) = asked ≡ None
+Answers asked (Err (BadWords text)) = asked ≡ None
 Answers asked (Err (NoMemory e)) = ⊤

@@ -1,42 +1,34 @@
 //! The words of the command line.
 
-ghost use Rattle.std.specs.Prelude.{◌≡◌, ◌≤◌, IfOk, IfSome, Some, codes, false, map, option_and_then};
-ghost use Rattle.clap.specs.Words.{app_of, found_of, kind_of, rows_of, rule_of, subcommand_rows_of};
+ghost use Rattle.std.specs.Prelude.{◌≡◌, IfOk, codes, false, map};
+ghost use Rattle.clap.specs.Words.{app_of, kind_of, rule_of};
 ghost use Rattle.clap.specs.declared.builder.command.Command.TheViews.{out-Command as fields_of};
 ghost use Rattle.load_run.specs.Fault.{IsNoMemory};
 ghost use Rattle.load_run.specs.Settings.{HasSizesInRange};
-ghost use Rattle.load_run.specs.Words.{Answers, flag_rule, is_given, program, replay_shape, settings_of};
-ghost use Rattle.load_run.specs.Words.{settings_under, size_in, size_rule, sizes_in};
+ghost use Rattle.load_run.specs.Words.{Answers, flag_rule, program, replay_shape, settings_of, size_rule};
 
-use crate::fault::LineFault;
+use crate::fault::WordsFault;
+use crate::settings::{
+    MOST_BATCH, MOST_CPUS, MOST_FRAMES, MOST_HIGH, MOST_STOCK, Settings, read_settings,
+};
 use clap::error::ErrorKind;
-use clap::{Arg, ArgAction, ArgMatches, Command, Error, value_parser};
+use clap::{Arg, ArgAction, Command, Error, value_parser};
 use std::alloc::{AllocError, Global};
 use std::convert::AsStr;
 use std::rt::Env;
 use std::{env, io};
-use zone_sizes::config::Config;
-
-/// What the words of the command line ask for.
-#[derive(Clone, Copy, Debug, PartialEq, Eq)]
-pub struct Settings {
-    /// The sizes to boot with.
-    pub sizes: Config,
-    /// Whether the end is told: the pins that are still held, and what was counted.
-    pub is_audited: bool,
-}
 
 /// The words of the command line that follow the program's name. A word that isn't UTF-8 is a fault of the
-/// words.
-pub fn words<R: Env + AllocGlobal>(rt: &R) -> Result<Vec<String>, LineFault> {
+/// words. It has no contract: no clause has a name for the words that a process was started with.
+pub fn words<R: Env + AllocGlobal>(rt: &R) -> Result<Vec<String>, WordsFault> {
     match env::args(rt) {
         Ok(words) => Ok(words.skip(1).collect(rt.alloc())?),
         Err(error) if error.kind() == io::ErrorKind::OutOfMemory => {
-            Err(LineFault::NoMemory(AllocError))
+            Err(WordsFault::NoMemory(AllocError))
         }
         Err(_) => {
             let text = "error: a word of the command line is not valid UTF-8\n";
-            Err(LineFault::Words(String::from_str(rt.alloc(), text)?))
+            Err(WordsFault::BadWords(String::from_str(rt.alloc(), text)?))
         }
     }
 }
@@ -46,35 +38,38 @@ pub fn words<R: Env + AllocGlobal>(rt: &R) -> Result<Vec<String>, LineFault> {
 /// processors 1 to 16, batch 1 to 64, high 1 to 256, stock 1 to 64; and `--audit`, at most once.
 /// `Config::is_valid` asks more: high is at least batch. A size that is left out is 16, 2, 4, 8, 4 in turn.
 /// Anything else is a fault of the words, a request for help too.
-pub fn options<S: AsStr>(alloc: Global, words: &[S]) -> Result<Settings, LineFault>
+pub fn parse_words<S: AsStr>(alloc: Global, words: &[S]) -> Result<Settings, WordsFault>
     ensures asked { Answers (settings_of (map S.text words.now)) result }
     ensures in_range { IfOk result (λ o. HasSizesInRange o.sizes) }
 {
-    let mut command = memcg(alloc).map_err(LineFault::NoMemory)?;
+    let mut command = memcg(alloc).map_err(WordsFault::NoMemory)?;
     let found = match command.try_get_matches_from_mut(words) {
         Ok(found) => found,
         Err(error) => return Err(fault_of(alloc, &error)),
     };
     match read_settings(&found) {
-        Some(options) => Ok(options),
+        Some(settings) => Ok(settings),
+        // Clap refuses each such word before, and every size has a default; but of a value that it found it promises no
+        // range, so what can't come is answered as it would be if it came.
         None => {
             let text = "an option has no value in its range";
             let error = command
                 .error(ErrorKind::InvalidValue, text)
-                .map_err(LineFault::NoMemory)?;
+                .map_err(WordsFault::NoMemory)?;
             Err(fault_of(alloc, &error))
         }
     }
 }
 
-fn fault_of(alloc: Global, error: &Error) -> LineFault
+// The fault that clap's error is to whoever gave the words: its text, or that memory ran out.
+fn fault_of(alloc: Global, error: &Error) -> WordsFault
     ensures { kind_of error.now ≡ ErrorKind.OutOfMemory → IsNoMemory result }
 {
     match error.kind() {
-        ErrorKind::OutOfMemory => LineFault::NoMemory(AllocError),
+        ErrorKind::OutOfMemory => WordsFault::NoMemory(AllocError),
         _ => match format!(in alloc; "{error}") {
-            Ok(text) => LineFault::Words(text),
-            Err(error) => LineFault::NoMemory(error),
+            Ok(text) => WordsFault::BadWords(text),
+            Err(error) => WordsFault::NoMemory(error),
         },
     }
 }
@@ -102,29 +97,29 @@ fn replay<'a>(alloc: Global) -> Result<Command<'a>, AllocError>
             alloc,
             "frames",
             "Frames of the zone, 1 to 65536",
-            65_536,
+            MOST_FRAMES,
             "16",
         ))?
-        .arg(size_option(alloc, "cpus", "Processors, 1 to 16", 16, "2"))?
+        .arg(size_option(alloc, "cpus", "Processors, 1 to 16", MOST_CPUS, "2"))?
         .arg(size_option(
             alloc,
             "batch",
             "Frames by which a processor's list is refilled, 1 to 64",
-            64,
+            MOST_BATCH,
             "4",
         ))?
         .arg(size_option(
             alloc,
             "high",
             "Frames at which a processor's list gives back, batch to 256",
-            256,
+            MOST_HIGH,
             "8",
         ))?
         .arg(size_option(
             alloc,
             "stock",
             "Pages that a processor prepays, 1 to 64",
-            64,
+            MOST_STOCK,
             "4",
         ))?
         .arg(audit_option(alloc))
@@ -158,46 +153,4 @@ fn size_option<'a>(
         .help(help)
         .value_parser(value_parser!(u32).range(1..=i64::from(most)))
         .default_value(default)
-}
-
-fn read_settings(found: &ArgMatches<'_>) -> Option<Settings>
-    ensures asked { result ≡ option_and_then (λ p. settings_under p.0 p.1) (subcommand_rows_of found.now) }
-    ensures in_range { IfSome result (λ o. HasSizesInRange o.sizes) }
-{
-    let replay = found.subcommand_matches("replay")?;
-    let sizes = sizes(replay)?;
-    let is_audited = is_set(replay, "audit");
-    Some(Settings { sizes, is_audited })
-}
-
-fn sizes(replay: &ArgMatches<'_>) -> Option<Config>
-    ensures asked { result ≡ sizes_in (rows_of (found_of replay.now)) }
-    ensures in_range { IfSome result HasSizesInRange }
-{
-    Some(Config {
-        frames: size(replay, "frames", 65_536)?,
-        cpus: size(replay, "cpus", 16)?,
-        batch: size(replay, "batch", 64)?,
-        high: size(replay, "high", 256)?,
-        stock: size(replay, "stock", 64)?,
-    })
-}
-
-// Whether an option without a value is given.
-fn is_set(found: &ArgMatches<'_>, name: &str) -> bool
-    ensures { result ≡ is_given name.now (rows_of (found_of found.now)) }
-{
-    found.get_one::<bool>(name).unwrap_or(false)
-}
-
-fn size(found: &ArgMatches<'_>, name: &str, most: u32) -> Option<u32>
-    ensures asked { result ≡ size_in name.now most (rows_of (found_of found.now)) }
-    ensures in_range { IfSome result (λ size. (1 ≤ size) × (size ≤ most)) }
-{
-    let size = found.get_one::<u32>(name)?;
-    if size < 1 || most < size {
-        None
-    } else {
-        Some(size)
-    }
 }

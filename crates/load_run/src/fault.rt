@@ -7,13 +7,13 @@ use script_lines::fault::ScriptFault;
 use std::alloc::AllocError;
 use thiserror::Error;
 
-/// Why the words of the command line give no options.
+/// Why the words of the command line give no settings.
 #[derive(Debug, Drop, Error)]
-pub enum LineFault {
+pub enum WordsFault {
     /// The words aren't those of the program, or ask for help. It holds the text for the user, each line
     /// with its line feed.
     #[error("{0}")]
-    Words(String),
+    BadWords(String),
     /// Memory ran out.
     #[error("no memory")]
     NoMemory(#[from(alloc)] AllocError),
@@ -22,9 +22,9 @@ pub enum LineFault {
 /// Why the program ends without its answers.
 #[derive(Debug, Drop, Error)]
 pub enum ProgramFault {
-    /// The words of the command line give no options.
+    /// The words of the command line give no settings.
     #[error("{0}")]
-    Line(LineFault),
+    Words(WordsFault),
     /// The script gives no lines.
     #[error("{0}")]
     Script(ScriptFault),
@@ -50,10 +50,10 @@ impl ProgramFault {
         ensures { result ≡ status_of self.now }
     {
         match self {
-            ProgramFault::Line(LineFault::Words(_))
+            ProgramFault::Words(WordsFault::BadWords(_))
             | ProgramFault::Script(ScriptFault::BadLine(_))
             | ProgramFault::BadConfig => 2,
-            ProgramFault::Line(LineFault::NoMemory(_))
+            ProgramFault::Words(WordsFault::NoMemory(_))
             | ProgramFault::Script(ScriptFault::NoMemory)
             | ProgramFault::Input
             | ProgramFault::Output

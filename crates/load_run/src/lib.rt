@@ -6,3 +6,4 @@ pub mod fault;
 pub mod program;
 pub mod run_end;
 pub mod running;
+pub mod settings;

@@ -1,19 +1,19 @@
 //! The program over any reader and two writers.
 
-ghost use Rattle.std.specs.Prelude.{◌≡◌, ◌≤◌, [], All, IfErr, IfOk, IfSome, IsSome, OnOk, Some, map, take};
+ghost use Rattle.std.specs.Prelude.{◌≡◌, ◌≤◌, [], All, IfErr, IfOk, IfSome, IsSome, OnOk, Some, map};
 ghost use Rattle.std.specs.Io.KnownBytes.{Appends};
-ghost use Rattle.load_run.specs.Answers.{IsAnswered, IsReplayed};
 ghost use Rattle.load_run.specs.Fault.{TellsFirstBadLine, status_of};
 ghost use Rattle.script_lines.specs.Script.{IsScript};
 ghost use Rattle.script_replay.specs.Ranges.{LineIsThere};
 ghost use Rattle.load_run.specs.Settings.{HasSizesInRange};
 ghost use Rattle.load_run.specs.Words.{settings_of};
-ghost use Rattle.load_run.specs.Answers.{AreAnswers};
+ghost use Rattle.load_run.specs.Answers.{AreAnswers, IsAnswered, IsReplayed, bytes_read};
 ghost use Rattle.zone_sizes.specs.Config.{IsValidConfig};
 
-use crate::command_line::{Settings, options};
-use crate::fault::{LineFault, ProgramFault};
+use crate::command_line::parse_words;
+use crate::fault::{ProgramFault, WordsFault};
 use crate::running::run;
+use crate::settings::Settings;
 use mem_system::{BootFault, boot};
 use script_lines::line::Line;
 use script_lines::script::{MOST_INPUT, parse_script};
@@ -25,7 +25,7 @@ use std::marker::Brand;
 /// Runs the program: the words that follow its name, the script, the answers and the faults. It gives the
 /// status to end with.
 ///
-/// First the options are read, then the whole script is read and parsed, then the configuration checked,
+/// First the words are read, then the whole script is read and parsed, then the configuration checked,
 /// then a boot replays the lines and ends. The answers are gathered and written once; where anything fails,
 /// none are. A fault is told in one line, those of the words in clap's text. The status is 0; 2 after a
 /// fault of the words, a bad line or a bad configuration; 1 where the script can't be read or the answers
@@ -63,25 +63,25 @@ fn answers_to<S: AsStr, I: Read>(
     ensures answered { IfOk result (λ answers. IfSome (I.remaining input.old) (λ bytes.
         IsAnswered (settings_of (map S.text words.now)) bytes answers.items)) }
     ensures bad_line { IfErr result (λ fault. IfSome (I.remaining input.old) (λ bytes.
-        TellsFirstBadLine (settings_of (map S.text words.now)) (take 1048577 bytes) fault)) }
+        TellsFirstBadLine (settings_of (map S.text words.now)) (bytes_read bytes) fault)) }
 {
-    let options = options(alloc, words).map_err(ProgramFault::Line)?;
+    let settings = parse_words(alloc, words).map_err(ProgramFault::Words)?;
     let script = read_script(alloc, input)?;
-    let lines = lines_of(alloc, &script, &options)?;
-    answers_of(alloc, &options, &lines)
+    let lines = lines_of(alloc, &script, &settings)?;
+    answers_of(alloc, &settings, &lines)
 }
 
 // The lines of the script.
 fn lines_of<'a>(
     alloc: Global,
     script: &'a [u8],
-    options: &Settings,
+    settings: &Settings,
 ) -> Result<Vec<Line<'a>>, ProgramFault>
-    requires { HasSizesInRange options.now.sizes }
-    ensures lines { IfOk result (λ lines. IsScript options.now.sizes script.now lines.items) }
-    ensures bad_line { IfErr result (TellsFirstBadLine (Some options.now) script.now) }
+    requires { HasSizesInRange settings.now.sizes }
+    ensures lines { IfOk result (λ lines. IsScript settings.now.sizes script.now lines.items) }
+    ensures bad_line { IfErr result (TellsFirstBadLine (Some settings.now) script.now) }
 {
-    match parse_script(alloc, script, &options.sizes) {
+    match parse_script(alloc, script, &settings.sizes) {
         Ok(lines) => Ok(lines),
         Err(fault) => Err(ProgramFault::Script(fault)),
     }
@@ -90,16 +90,16 @@ fn lines_of<'a>(
 // What a new boot answers to the lines.
 fn answers_of(
     alloc: Global,
-    options: &Settings,
+    settings: &Settings,
     lines: &[Line<'_>],
 ) -> Result<Vec<u8>, ProgramFault>
-    requires { All (LineIsThere options.now.sizes.frames options.now.sizes.cpus) lines.now }
-    ensures answers { IfOk result (λ text. AreAnswers options.now.sizes options.now.is_audited lines.now text.items) }
-    ensures valid { IfOk result (λ _. IsValidConfig options.now.sizes) }
-    ensures other { IfErr result (TellsFirstBadLine (Some options.now) []) }
+    requires { All (LineIsThere settings.now.sizes.frames settings.now.sizes.cpus) lines.now }
+    ensures answers { IfOk result (λ text. AreAnswers settings.now.sizes settings.now.is_audited lines.now text.items) }
+    ensures valid { IfOk result (λ _. IsValidConfig settings.now.sizes) }
+    ensures other { IfErr result (TellsFirstBadLine (Some settings.now) []) }
 {
-    match boot(alloc, options.sizes) {
-        Ok(boot) => run::<Brand>(alloc, boot, lines, options.is_audited).map_err(
+    match boot(alloc, settings.sizes) {
+        Ok(boot) => run::<Brand>(alloc, boot, lines, settings.is_audited).map_err(
             ProgramFault::NoMemory,
         ),
         Err(BootFault::BadConfig) => Err(ProgramFault::BadConfig),
@@ -109,7 +109,7 @@ fn answers_of(
 
 // Reads all of the script. Where it is longer than a script may be, one byte more tells so.
 fn read_script<I: Read>(alloc: Global, input: &mut I) -> Result<Vec<u8>, ProgramFault>
-    ensures read { IfOk result (λ script. IfSome (I.remaining input.old) (λ bytes. script.items ≡ take 1048577 bytes)) }
+    ensures read { IfOk result (λ script. IfSome (I.remaining input.old) (λ bytes. script.items ≡ bytes_read bytes)) }
     ensures failed { IfErr result (λ fault. status_of fault ≡ 1) }
 {
     let mut script = Vec::new(alloc);
@@ -138,7 +138,7 @@ pub fn tell<F: Write>(faults: &mut F, fault: &ProgramFault) -> u8
     ensures { result ≡ status_of fault.now }
 {
     let _ = match fault {
-        ProgramFault::Line(LineFault::Words(text)) => faults.write_all(text.as_bytes()),
+        ProgramFault::Words(WordsFault::BadWords(text)) => faults.write_all(text.as_bytes()),
         _ => writeln!(faults, "{fault}"),
     };
     let _ = faults.flush();

@@ -59,10 +59,11 @@ pub fn finish<N: BootName>(tables: Tables<N>, locked: Locked<N>, cpus: Vec<Cpu<N
     }
 }
 
-/// Adds what is told of the end: the pins that were held, where there were any, and what was counted. It fails only for want of
-/// memory.
+/// Adds what is told of the end: the pins that were held, where there were any, and what was counted. It fails only
+/// for want of memory.
 pub fn write_end(ended: &Ended, text: &mut String) -> Result<(), AllocError>
-    ensures { IfOk result (λ _. string_bytes text.new ≡ string_bytes text.old ++ (held_text ended.now.held ++ audit_text ended.now.audit)) }
+    ensures { IfOk result (λ _. string_bytes text.new
+        ≡ string_bytes text.old ++ (held_text ended.now.held ++ audit_text ended.now.audit)) }
 {
     write_held(ended.held, text)?;
     write_audit(&ended.audit, text)
@@ -87,6 +88,7 @@ fn write_audit(audit: &Audit, text: &mut String) -> Result<(), AllocError>
     write_counts(audit, text)
 }
 
+// The line of the frames, and where they are.
 fn write_places(audit: &Audit, text: &mut String) -> Result<(), AllocError>
     ensures { IfOk result (λ _. string_bytes text.new ≡ string_bytes text.old ++ audit_places_text audit.now) }
 {
@@ -96,6 +98,7 @@ fn write_places(audit: &Audit, text: &mut String) -> Result<(), AllocError>
     writeln!(text, "audit frames {frames} free {free} charged {charged}")
 }
 
+// The line of the units that ended, and that came back.
 fn write_counts(audit: &Audit, text: &mut String) -> Result<(), AllocError>
     ensures { IfOk result (λ _. string_bytes text.new ≡ string_bytes text.old ++ counts_text audit.now) }
 {

@@ -13,8 +13,8 @@ use script_lines::line::Line;
 use script_replay::replay;
 use std::alloc::{AllocError, Global};
 
-/// Replays the lines on a boot under a name of its tables, and ends it; what they are answered, and what is told of the end
-/// where that is asked for. `AllocError` comes where memory is wanting: the boot has ended then too.
+/// Replays the lines on a boot under a name of its tables, and ends it; what they are answered, and what is told of
+/// the end where that is asked for. `AllocError` comes where memory is wanting: the boot has ended then too.
 pub fn run<N: BootName>(
     alloc: Global,
     boot: Boot,

@@ -14,7 +14,7 @@ fn main(rt: HostRuntime) -> ExitCode {
             let mut output = rt.stdout();
             drive(rt.alloc(), &words, &mut input, &mut output, &mut faults)
         }
-        Err(fault) => tell(&mut faults, &ProgramFault::Line(fault)),
+        Err(fault) => tell(&mut faults, &ProgramFault::Words(fault)),
     };
     ExitCode::from(status)
 }

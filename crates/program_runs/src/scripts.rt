@@ -2,7 +2,7 @@
 
 use crate::rows::{Row, group_rows, processor_rows};
 use crate::visits::visit_all;
-use load_run::command_line::options;
+use load_run::command_line::parse_words;
 use load_run::program::drive;
 use mem_system::boot;
 use script_lines::script::parse_script;
@@ -150,7 +150,7 @@ fn answers<R: AllocGlobal + Abort>(rt: &R, row: &Row) -> Result<(), AllocError> 
 fn visits_answer<R: AllocGlobal + Abort + Wait>(rt: &R, row: &Row) -> Result<(), Fail> {
     let alloc = rt.alloc();
     let words: Vec<&str> = row.words.split(' ').collect(alloc)?;
-    let sizes = options(alloc, &words)?.sizes;
+    let sizes = parse_words(alloc, &words)?.sizes;
     let lines = parse_script(alloc, row.script.as_bytes(), &sizes)?;
     let boot = boot(alloc, sizes).expect(rt, row.name);
     let answers = visit_all::<Brand, _>(rt, alloc, boot, &lines)?;

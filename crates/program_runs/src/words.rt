@@ -1,13 +1,14 @@
 //! The words of the command line.
 
-use load_run::command_line::{Settings, options};
-use load_run::fault::LineFault;
+use load_run::command_line::parse_words;
+use load_run::fault::WordsFault;
+use load_run::settings::Settings;
 use std::test::Fail;
 use zone_sizes::config::Config;
 
 #[test]
 fn has_defaults(rt: HostRuntime) -> Result<(), Fail> {
-    let found = options(rt.alloc(), &["replay"])?;
+    let found = parse_words(rt.alloc(), &["replay"])?;
     let defaults = Config {
         frames: 16,
         cpus: 2,
@@ -34,7 +35,7 @@ fn takes_the_greatest_values(rt: HostRuntime) -> Result<(), Fail> {
         "64",
         "--audit",
     ];
-    let found = options(rt.alloc(), &words)?;
+    let found = parse_words(rt.alloc(), &words)?;
     let greatest = Config {
         frames: 65_536,
         cpus: 16,
@@ -71,8 +72,8 @@ fn reads_both_spellings_in_any_order(rt: HostRuntime) -> Result<(), Fail> {
         },
         is_audited: true,
     };
-    assert!(rt; options(rt.alloc(), &attached)? == wanted);
-    assert!(rt; options(rt.alloc(), &parted)? == wanted);
+    assert!(rt; parse_words(rt.alloc(), &attached)? == wanted);
+    assert!(rt; parse_words(rt.alloc(), &parted)? == wanted);
     Ok(())
 }
 
@@ -86,7 +87,7 @@ fn reads_each_option_alone(rt: HostRuntime) -> Result<(), Fail> {
         ("--stock=9", [16, 2, 4, 8, 9]),
     ];
     for (word, wanted) in cases {
-        let found = options(rt.alloc(), &["replay", word])?;
+        let found = parse_words(rt.alloc(), &["replay", word])?;
         let sizes = found.sizes;
         let values = [
             sizes.frames,
@@ -102,10 +103,10 @@ fn reads_each_option_alone(rt: HostRuntime) -> Result<(), Fail> {
 
 // What is told of the words, or the empty text where they are taken.
 fn told<R: AllocGlobal>(rt: &R, words: &[&str]) -> Result<String, Fail> {
-    match options(rt.alloc(), words) {
+    match parse_words(rt.alloc(), words) {
         Ok(_) => Ok(String::new(rt.alloc())),
-        Err(LineFault::Words(text)) => Ok(text),
-        Err(LineFault::NoMemory(error)) => Err(error)?,
+        Err(WordsFault::BadWords(text)) => Ok(text),
+        Err(WordsFault::NoMemory(error)) => Err(error)?,
     }
 }
 

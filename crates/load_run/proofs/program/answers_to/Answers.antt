@@ -10,25 +10,25 @@ use Rattle.load_run.proofs.program.answers_to.Goals as goal
 
 pub answers_of-requires : goal.answers_of-requires
 answers_of-requires g c =
-    let is : IsScript c.in_ok-options.options.sizes c.deref.result.now c.deref-2.result.now =
-    subst (λ (lines : List Line). IsScript c.in_ok-options.options.sizes c.deref.result.now lines) (sym c.deref-2.ensures.value) c.in_ok-lines.ensures.lines in
+    let is : IsScript c.in_ok-settings.settings.sizes c.deref.result.now c.deref-2.result.now =
+    subst (λ (lines : List Line). IsScript c.in_ok-settings.settings.sizes c.deref.result.now lines) (sym c.deref-2.ensures.value) c.in_ok-lines.ensures.lines in
     script_there _ _ _ is
 
 pub returns-clause-asked : goal.returns-clause-asked
 returns-clause-asked g c =
     let asked = settings_of (map g.S.AsStr.text c.args.words.now) in
     let ok : IfOk c.map_err.result (λ s. asked ≡ Some s) =
-    kept c.options.result c.map_err.result _ _ c.map_err.ensures.cases (asked_ok asked _ c.options.ensures.asked) in
-    let is_asked : asked ≡ Some c.in_ok-options.options = rw c.in_ok-options.was at ok in
+    kept c.parse_words.result c.map_err.result _ _ c.map_err.ensures.cases (asked_ok asked _ c.parse_words.ensures.asked) in
+    let is_asked : asked ≡ Some c.in_ok-settings.settings = rw c.in_ok-settings.was at ok in
     asked_some asked _ c.answers_of.result is_asked
 
 pub returns-clause-answered : goal.returns-clause-answered
 returns-clause-answered g c =
     let asked = settings_of (map g.S.AsStr.text c.args.words.now) in
     let ok : IfOk c.map_err.result (λ s. asked ≡ Some s) =
-    kept c.options.result c.map_err.result _ _ c.map_err.ensures.cases (asked_ok asked _ c.options.ensures.asked) in
-    let is_asked : asked ≡ Some c.in_ok-options.options = rw c.in_ok-options.was at ok in
-    let sizes = c.in_ok-options.options.sizes in
+    kept c.parse_words.result c.map_err.result _ _ c.map_err.ensures.cases (asked_ok asked _ c.parse_words.ensures.asked) in
+    let is_asked : asked ≡ Some c.in_ok-settings.settings = rw c.in_ok-settings.was at ok in
+    let sizes = c.in_ok-settings.settings.sizes in
     let is : IsScript sizes c.in_ok-script.script.items c.deref-2.result.now =
     subst (λ (text : List ℕ). IsScript sizes text c.deref-2.result.now) c.deref.ensures.value
     (subst (λ (lines : List Line). IsScript sizes c.deref.result.now lines) (sym c.deref-2.ensures.value) c.in_ok-lines.ensures.lines) in

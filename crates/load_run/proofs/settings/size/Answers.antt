@@ -4,7 +4,7 @@ use Rattle.std.specs.Str.Parse.{ExplainsUnsignedError, HasUnsignedDigitsIfOk, Pa
 use Rattle.clap.specs.Words.{found_of, rows_of}
 use Rattle.load_run.specs.Words.{size_in}
 use Rattle.load_run.proofs.Asking.{kept, kept_none, kept_some, read_as_row}
-use Rattle.load_run.proofs.command_line.size.Goals as goal
+use Rattle.load_run.proofs.settings.size.Goals as goal
 
 pub returns-in_err-size-clause-asked : goal.returns-in_err-size-clause-asked
 returns-in_err-size-clause-asked c =

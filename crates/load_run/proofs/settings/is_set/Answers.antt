@@ -5,7 +5,7 @@ use Rattle.std.specs.Str.{bytes_eq}
 use Rattle.clap.specs.Words.{found_of, one_text}
 use Rattle.clap.proofs.WalkLemmas.{one_text-rows}
 use Rattle.load_run.proofs.Asking.{given_read}
-use Rattle.load_run.proofs.command_line.is_set.Goals as goal
+use Rattle.load_run.proofs.settings.is_set.Goals as goal
 
 pub returns : goal.returns
 returns c =

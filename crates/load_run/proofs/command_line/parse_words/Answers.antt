@@ -1,11 +1,11 @@
--- Serves the contract of `options`: clap found no fault in the words and these values, or a fault.
+-- Serves the contract of `parse_words`: clap found no fault in the words and these values, or a fault.
 use Rattle.std.proofs.Common.{◌≡◌, ◌∙◌, ap, sym, subst, inl, inr, IfOk, List, [], ℕ, map, option_and_then}
 use Rattle.clap.specs.Words.{App, Row, app_of, fault_of, is_simple, is_simple_and_free, subcommand_of, subcommand_rows_of}
 use Rattle.clap.specs.Kinds.{HasKind}
 use Rattle.load_run.specs.Words.{program, settings_under}
 use Rattle.load_run.proofs.Answering.{kept}
 use Rattle.load_run.proofs.Asking.{answers_fault, answers_memory, asked_found, asked_nothing}
-use Rattle.load_run.proofs.command_line.options.Goals as goal
+use Rattle.load_run.proofs.command_line.parse_words.Goals as goal
 
 pub returns-in-Err-clause-asked : goal.returns-in-Err-clause-asked
 returns-in-Err-clause-asked g c =

@@ -1,0 +1,74 @@
+//! What the words of the command line ask for, read from what clap found in them.
+
+ghost use Rattle.std.specs.Prelude.{◌≡◌, ◌≤◌, IfSome, option_and_then};
+ghost use Rattle.clap.specs.Words.{found_of, rows_of, subcommand_rows_of};
+ghost use Rattle.load_run.specs.Settings.{HasSizesInRange};
+ghost use Rattle.load_run.specs.Words.{is_given, settings_under, size_in, sizes_in};
+
+use clap::ArgMatches;
+use zone_sizes::config::Config;
+
+// The greatest value that the option of each size takes.
+pub(crate) const MOST_FRAMES: u32 = 65_536;
+
+pub(crate) const MOST_CPUS: u32 = 16;
+
+pub(crate) const MOST_BATCH: u32 = 64;
+
+pub(crate) const MOST_HIGH: u32 = 256;
+
+pub(crate) const MOST_STOCK: u32 = 64;
+
+/// What the words of the command line ask for.
+#[derive(Clone, Copy, Debug, PartialEq, Eq)]
+pub struct Settings {
+    /// The sizes to boot with.
+    pub sizes: Config,
+    /// Whether the end is told: the pins that are still held, and what was counted.
+    pub is_audited: bool,
+}
+
+// The settings, where `replay` is found and each size has a value in its range.
+pub(crate) fn read_settings(found: &ArgMatches<'_>) -> Option<Settings>
+    ensures asked { result ≡ option_and_then (λ p. settings_under p.0 p.1) (subcommand_rows_of found.now) }
+    ensures in_range { IfSome result (λ o. HasSizesInRange o.sizes) }
+{
+    let replay = found.subcommand_matches("replay")?;
+    let sizes = sizes(replay)?;
+    let is_audited = is_set(replay, "audit");
+    Some(Settings { sizes, is_audited })
+}
+
+// The five sizes.
+fn sizes(replay: &ArgMatches<'_>) -> Option<Config>
+    ensures asked { result ≡ sizes_in (rows_of (found_of replay.now)) }
+    ensures in_range { IfSome result HasSizesInRange }
+{
+    Some(Config {
+        frames: size(replay, "frames", MOST_FRAMES)?,
+        cpus: size(replay, "cpus", MOST_CPUS)?,
+        batch: size(replay, "batch", MOST_BATCH)?,
+        high: size(replay, "high", MOST_HIGH)?,
+        stock: size(replay, "stock", MOST_STOCK)?,
+    })
+}
+
+// Whether an option without a value is given.
+fn is_set(found: &ArgMatches<'_>, name: &str) -> bool
+    ensures { result ≡ is_given name.now (rows_of (found_of found.now)) }
+{
+    found.get_one::<bool>(name).unwrap_or(false)
+}
+
+// The value of this option, where it is from 1 to `most`.
+fn size(found: &ArgMatches<'_>, name: &str, most: u32) -> Option<u32>
+    ensures asked { result ≡ size_in name.now most (rows_of (found_of found.now)) }
+    ensures in_range { IfSome result (λ size. (1 ≤ size) × (size ≤ most)) }
+{
+    let size = found.get_one::<u32>(name)?;
+    if size < 1 || most < size {
+        None
+    } else {
+        Some(size)
+    }
+}
