@@ -39,3 +39,6 @@ returns-clause-fresh g c =
     let l = c.allocate_as-answer.new.machine.ledger in
     rw c.outcome_of.ensures (subst (λ (k : ℕ). FreshOf (reply_of l (outcome_of c.allocate_as-answer.result)) k c.allocate_as-answer.new.cpu.fresh) same
     (fresh_then l c.in-Some-of.order c.allocate_as-answer.result _ c.allocate_as-answer.ensures.fresh))
+
+pub returns-in_default-of-clause-allocates : goal.returns-in_default-of-clause-allocates
+returns-in_default-of-clause-allocates g c = search rules

@@ -1,4 +1,4 @@
-use Rattle.std.proofs.Common.{refl}
+use Rattle.std.proofs.Common.{rules, refl}
 use Rattle.mem_system.proofs.command.obey.Goals as goal
 
 pub returns-in-Mkdir-clause-obeyed : goal.returns-in-Mkdir-clause-obeyed
@@ -20,3 +20,6 @@ returns-in-Dirty-clause-obeyed g c =
 pub returns-in-Clean-clause-obeyed : goal.returns-in-Clean-clause-obeyed
 returns-in-Clean-clause-obeyed g c =
     let noted = c.note_dirt-in-Clean.ensures.noted c.args.cpu.now in rw c.in-Clean.is (noted.0, (noted.1, refl), noted.2)
+
+pub returns-in-Alloc-clause-obeyed : goal.returns-in-Alloc-clause-obeyed
+returns-in-Alloc-clause-obeyed g c = search rules

@@ -6,3 +6,6 @@ use Rattle.mem_system.proofs.directories.find_leaf.Goals as goal
 pub has_child-requires : goal.has_child-requires
 has_child-requires c =
     let found : number_at c.tree-tree.result.now c.args.path.now ≡ Some c.in-Some.group = search rules in found_there _ _ _ found
+
+pub returns : goal.returns
+returns c = search rules

@@ -1,4 +1,4 @@
-use Rattle.std.proofs.Common.{◌≡◌, ◌++◌, ap, sym, ◌∙◌, refl, subst, arith}
+use Rattle.std.proofs.Common.{rules, ◌≡◌, ◌++◌, ap, sym, ◌∙◌, refl, subst, arith}
 use Rattle.group_charge.specs.Charges.{Ledger}
 use Rattle.mem_machine.specs.Machines.{KnownMachine}
 use Rattle.mem_machine.specs.Local.{local_of}
@@ -67,3 +67,6 @@ pub returns-clause-seat : goal.returns-clause-seat
 returns-clause-seat g c =
     let sub = c.drain_stocks.ensures.drains in
     ap (λ (k : KnownMachine). k.seat) c.remove.ensures.machine ∙ (all_keep _ _ _ _ sub.drains sub.all).seat
+
+pub returns-then-current-gt0-clause-removed : goal.returns-then-current-gt0-clause-removed
+returns-then-current-gt0-clause-removed g c = search rules

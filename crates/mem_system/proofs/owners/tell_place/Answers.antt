@@ -23,3 +23,6 @@ returns-in-Charged-clause-groups g c =
     let legal = subst AreCharges c.charges.ensures c.tree-groups.ensures.legal in
     keeper_there g.N.BootName.frames g.N.BootName.stocks c.args.machine.now c.unwrap-frame.result c.in-Charged.group c.in-Charged.ensures.consistent legal
     inside (sym c.in-Charged.ensures.place)
+
+pub returns-in-Lent-clause-told : goal.returns-in-Lent-clause-told
+returns-in-Lent-clause-told g c = search rules

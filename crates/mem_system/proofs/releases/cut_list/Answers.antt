@@ -1,4 +1,4 @@
-use Rattle.std.proofs.Common.{ℕ, ◌<◌, ◌≤◌, [], length, take, ap, refl, arith}
+use Rattle.std.proofs.Common.{rules, ℕ, ◌<◌, ◌≤◌, [], length, take, ap, refl, arith}
 use Rattle.mem_machine.specs.Steps.{drain_list_steps}
 use Rattle.mem_system.proofs.Listing.{cut_off, whole_batch, left_over}
 use Rattle.mem_system.proofs.releases.cut_list.Goals as goal
@@ -53,3 +53,6 @@ returns-else-list_len-sizes-clause-cuts g c =
       record { cut = []; at_high = λ stands. absurd (omega (arith, stands, below)); below_high = λ _. refl; takes = (refl, refl); steps_are = refl },
       refl,
     )
+
+pub returns-else-list_len-sizes-clause-below_high : goal.returns-else-list_len-sizes-clause-below_high
+returns-else-list_len-sizes-clause-below_high g c = search rules

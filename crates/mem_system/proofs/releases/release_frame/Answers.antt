@@ -1,4 +1,4 @@
-use Rattle.std.proofs.Common.{ℕ, ◌∙◌, sym, subst}
+use Rattle.std.proofs.Common.{rules, ℕ, ◌∙◌, sym, subst}
 use Rattle.std.proofs.lemmas.Bool.{false≢true}
 use Rattle.mem_system.specs.Commands.{BySteps}
 use Rattle.mem_system.specs.Releases.{ReturnsFrames}
@@ -22,3 +22,6 @@ returns-after-is_single-clause-released g c =
       | else-is_single w ↦ rw (w.machine-is, w.cpu-is) (returned_block t sizes f m c.release.new.self before done.releases
           (λ single. false≢true (sym w.if-is_single.false ∙ told.1 single)) done.steps)
     ])
+
+pub returns-in-Left-clause-released : goal.returns-in-Left-clause-released
+returns-in-Left-clause-released g c = search rules

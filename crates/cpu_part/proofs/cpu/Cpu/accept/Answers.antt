@@ -10,3 +10,9 @@ invariant_of-self g c =
           c.push_back_reserved.ensures.items c.take_in.ensures.nothing.1.1 c.requires.frame room,
       search rules,
     )
+
+pub returns-clause-cpu : goal.returns-clause-cpu
+returns-clause-cpu g c = search rules
+
+pub returns-clause-zone : goal.returns-clause-zone
+returns-clause-zone g c = search rules

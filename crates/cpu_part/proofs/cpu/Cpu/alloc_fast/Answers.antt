@@ -1,4 +1,5 @@
 use Rattle.std.proofs.Common.{◌<◌, length, inl, arith, rules}
+use Rattle.std.proofs.lemmas.Grind.{common_steps}
 use Rattle.cpu_part.proofs.Answered.{got}
 use Rattle.cpu_part.proofs.Tied.{front_inside}
 use Rattle.cpu_part.proofs.cpu.Cpu.alloc_fast.Goals as goal
@@ -21,3 +22,15 @@ returns-in-Empty-clause-answer g c = search rules
 
 pub returns-in-Empty-clause-frame : goal.returns-in-Empty-clause-frame
 returns-in-Empty-clause-frame g c = search rules
+
+pub returns-in-Drained-clause-answer : goal.returns-in-Drained-clause-answer
+returns-in-Drained-clause-answer g c = search rules
+
+pub returns-in-OtherGroup-clause-answer : goal.returns-in-OtherGroup-clause-answer
+returns-in-OtherGroup-clause-answer g c = search rules
+
+pub returns-then-is_empty-clause-answer : goal.returns-then-is_empty-clause-answer
+returns-then-is_empty-clause-answer g c = grind (arith, common_steps)
+
+pub returns-then-len-eq-MOST_FRESH-clause-answer : goal.returns-then-len-eq-MOST_FRESH-clause-answer
+returns-then-len-eq-MOST_FRESH-clause-answer g c = search rules

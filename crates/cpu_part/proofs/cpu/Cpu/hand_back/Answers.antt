@@ -1,4 +1,5 @@
-use Rattle.std.proofs.Common.{rules, inr}
+use Rattle.std.proofs.Common.{rules, inr, arith}
+use Rattle.std.proofs.lemmas.Grind.{common_steps}
 use Rattle.cpu_part.proofs.Tied.{tied_back_handed, front_inside}
 use Rattle.cpu_part.proofs.cpu.Cpu.hand_back.Goals as goal
 
@@ -12,3 +13,12 @@ invariant_of-self-2 g c = (
       c.in_ok-frame.ensures.items,
   search rules,
 )
+
+pub returns-clause-answer : goal.returns-clause-answer
+returns-clause-answer g c = search rules
+
+pub returns-clause-zone : goal.returns-clause-zone
+returns-clause-zone g c = search rules
+
+pub returns-clause-own : goal.returns-clause-own
+returns-clause-own g c = grind (arith, common_steps)

@@ -20,3 +20,15 @@ invariant_of-self g c =
           c.pass_back.ensures.cpu c.report.ensures.processor front,
       search rules,
     )
+
+pub returns-clause-answer : goal.returns-clause-answer
+returns-clause-answer g c = search rules
+
+pub returns-clause-machine : goal.returns-clause-machine
+returns-clause-machine g c = search rules
+
+pub returns-clause-zone : goal.returns-clause-zone
+returns-clause-zone g c = search rules
+
+pub returns-clause-booked : goal.returns-clause-booked
+returns-clause-booked g c = search rules

@@ -12,3 +12,9 @@ invariant_of-self-2 g c = (
       c.in_ok-frame.ensures.items,
   search rules,
 )
+
+pub returns-clause-answer : goal.returns-clause-answer
+returns-clause-answer g c = search rules
+
+pub returns-clause-zone : goal.returns-clause-zone
+returns-clause-zone g c = search rules

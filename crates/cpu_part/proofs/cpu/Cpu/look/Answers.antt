@@ -15,3 +15,6 @@ returns-clause-last g c = search rules
 
 pub returns-clause-machine : goal.returns-clause-machine
 returns-clause-machine g c = search rules
+
+pub returns-clause-cpu : goal.returns-clause-cpu
+returns-clause-cpu g c = search rules

@@ -3,3 +3,6 @@ use Rattle.cpu_part.proofs.cpu.Cpu.new.Goals as goal
 
 pub returns : goal.returns
 returns g c = search rules
+
+pub invariant_of-result : goal.invariant_of-result
+invariant_of-result g c = search rules

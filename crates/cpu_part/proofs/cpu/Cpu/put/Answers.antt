@@ -15,3 +15,9 @@ invariant_of-self-in-Left g c = (
       c.in-Left.ensures.answer c.unpin.ensures.pins,
   search rules,
 )
+
+pub returns-in-Last-clause-answer : goal.returns-in-Last-clause-answer
+returns-in-Last-clause-answer g c = search rules
+
+pub returns-in-Left-clause-answer : goal.returns-in-Left-clause-answer
+returns-in-Left-clause-answer g c = search rules

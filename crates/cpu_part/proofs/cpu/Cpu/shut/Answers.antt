@@ -9,3 +9,6 @@ returns-clause-lent_is_borrowed g c = search rules
 
 pub returns-clause-hands_apart : goal.returns-clause-hands_apart
 returns-clause-hands_apart g c = search rules
+
+pub returns-clause-cpu : goal.returns-clause-cpu
+returns-clause-cpu g c = search rules
