@@ -71,9 +71,9 @@ fn finish<N: BootName>(
     requires { AllShut machine.old }
     ensures { AllShut machine.new }
 {
-    play(rt, tables, machine, cpu, account, 0x8000_000b);
-    for _ in 0..32 {
-        play(rt, tables, machine, cpu, account, 0x8000_0c02);
+    for turn in 0..33u32 {
+        let word = if turn == 0 { 0x8000_000b } else { 0x8000_0c02 };
+        play(rt, tables, machine, cpu, account, word);
     }
 }
 
