@@ -10,8 +10,7 @@ use Rattle.mem_machine.specs.Machines.{KnownMachine, Visits, AddsGroup}
 use Rattle.mem_machine.specs.Lending.{LendsMany, TakesManyBack, Refills}
 use Rattle.mem_machine.specs.Steps.{Drain}
 use Rattle.mem_machine.specs.Stocks.{DrainsBelow, DrainsAllBelow, Prepays, IsOver}
-use Rattle.stock_word.specs.Stock.{Words}
-use Rattle.mem_machine.specs.Machines.{is_killed, IsFirst}
+use Rattle.mem_machine.specs.Machines.{is_killed}
 use Rattle.mem_machine.specs.Local.{fresh_group, side}
 use Rattle.mem_machine.specs.Settling.{SettlesFresh, SettlesAllFresh, ReturnsAllBack, Settles, LeavesOthers}
 use Rattle.mem_machine.specs.declared.blocks.TakeFault.{TakeFault}
@@ -164,7 +163,3 @@ shut_again m n p q zone last shut opens stays number shuts r =
           ∙ ap (λ (l : List ℕ). get_or l r 0) (stays ∙ ap (λ (s : KnownSeat). s.view.opened) opens)
           ∙ put_else 0 m.seat.view.opened p r 1 (λ e. ne (e ∙ sym number)) ∙ shut r
     ])
-
--- no visit is open at first
-pub first_shut : (t : KnownTable) (w : Words) (m : KnownMachine) → IsFirst t w m → AllShut m
-first_shut t w m first q = subst (λ (s : KnownSeat). IsShut s q) (sym first.seat) refl

@@ -4,7 +4,7 @@
 use crate::holds::holds;
 use group_tree::group::GroupId;
 use mem_machine::{Counts, Place};
-use std::alloc::{AllocError, Global};
+use std::alloc::Global;
 use std::process::Abort;
 use step_rules::phase::ChargedUnit;
 use step_rules::step::{Action, Answer};
@@ -64,7 +64,7 @@ fn owner(known: &Known) -> Option<GroupId> {
 
 impl Account {
     /// All frames are free, and there is the root alone.
-    pub fn new(alloc: Global, frames: u32) -> Result<Account, AllocError> {
+    pub fn new(rt: &impl Abort, alloc: Global, frames: u32) -> Account {
         let no_stock = Stock {
             group: None,
             pages: 0,
@@ -79,15 +79,15 @@ impl Account {
             drops: 0,
             returns: 0,
         };
-        Ok(Account {
+        Account {
             size: frames,
-            frames: vec![in alloc; FREE; frames as usize]?,
+            frames: vec![in alloc; FREE; frames as usize].expect(rt, "memory"),
             stocks: [no_stock; 5],
             groups: [no_group; 8],
             counts,
             rows: Vec::new(alloc),
             now: 1,
-        })
+        }
     }
 
     /// A step of a call, and the answer that it has to get.

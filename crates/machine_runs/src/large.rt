@@ -9,10 +9,9 @@ use crate::parts::{Seats, close, new_cpu};
 use cpu_part::{BootName, Tables};
 use frame_word::{FrameSeat, FrameWords};
 use mem_machine::Machine;
-use std::alloc::{AllocError, Global};
+use std::alloc::Global;
 use std::marker::Brand;
 use std::process::Abort;
-use std::test::Fail;
 use stock_word::{StockSeat, StockWords};
 
 /// The tables of F frames and 16 processors, and the seats of the machine and of processor 16, as they are at first.
@@ -31,25 +30,22 @@ pub struct LastParts<const F: u32> {
 }
 
 /// The parts of a new boot.
-pub fn make_last_parts<const F: u32>(
-    rt: &impl Abort,
-    alloc: Global,
-) -> Result<LastParts<F>, AllocError>
+pub fn make_last_parts<const F: u32>(rt: &impl Abort, alloc: Global) -> LastParts<F>
     requires { 1 ≤ F }
 {
-    let (frames, zone, mut seats) = FrameWords::new(alloc, F, 16)?;
-    let (stocks, machine, mut payers) = StockWords::new(alloc, 16)?;
+    let (frames, zone, mut seats) = FrameWords::new(alloc, F, 16).expect(rt, "memory");
+    let (stocks, machine, mut payers) = StockWords::new(alloc, 16).expect(rt, "memory");
     let last = Seats {
         frames: seats.pop().expect(rt, "a seat"),
         stock: payers.pop().expect(rt, "a stock seat"),
     };
-    Ok(LastParts {
+    LastParts {
         frames,
         stocks,
         zone,
         machine,
         last,
-    })
+    }
 }
 
 /// In a visit of processor 16, so many frames come to its list and go back.
@@ -86,8 +82,7 @@ fn lends_of_many<N: BootName>(rt: &impl Abort, alloc: Global, parts: LastParts<6
 
 // A machine of 65,536 frames and 16 processors is made, and serves the last of them.
 #[test]
-fn a_large_machine_lends_and_takes_back(rt: HostRuntime) -> Result<(), Fail> {
-    let parts = make_last_parts::<65536>(&rt, rt.alloc())?;
+fn a_large_machine_lends_and_takes_back(rt: HostRuntime) {
+    let parts = make_last_parts::<65536>(&rt, rt.alloc());
     lends_of_many::<Brand>(&rt, rt.alloc(), parts);
-    Ok(())
 }

@@ -5,7 +5,7 @@ ghost use Rattle.stock_word.specs.Stock.{first_machine, first_processor, IsProce
 
 use cpu_part::{BootName, Cpu};
 use frame_word::{FrameSeat, FrameWords};
-use std::alloc::{AllocError, Global};
+use std::alloc::Global;
 use std::process::Abort;
 use stock_word::{StockSeat, StockWords};
 
@@ -41,11 +41,11 @@ pub struct Parts<const F: u32> {
 }
 
 /// The parts of a new boot.
-pub fn make_parts<const F: u32>(rt: &impl Abort, alloc: Global) -> Result<Parts<F>, AllocError>
+pub fn make_parts<const F: u32>(rt: &impl Abort, alloc: Global) -> Parts<F>
     requires { 1 ≤ F }
 {
-    let (frames, zone, mut seats) = FrameWords::new(alloc, F, 4)?;
-    let (stocks, machine, mut payers) = StockWords::new(alloc, 4)?;
+    let (frames, zone, mut seats) = FrameWords::new(alloc, F, 4).expect(rt, "memory");
+    let (stocks, machine, mut payers) = StockWords::new(alloc, 4).expect(rt, "memory");
     let fourth = Seats {
         frames: seats.pop().expect(rt, "a seat"),
         stock: payers.pop().expect(rt, "a stock seat"),
@@ -62,7 +62,7 @@ pub fn make_parts<const F: u32>(rt: &impl Abort, alloc: Global) -> Result<Parts<
         frames: seats.pop().expect(rt, "a seat"),
         stock: payers.pop().expect(rt, "a stock seat"),
     };
-    Ok(Parts {
+    Parts {
         frames,
         stocks,
         zone,
@@ -71,7 +71,7 @@ pub fn make_parts<const F: u32>(rt: &impl Abort, alloc: Global) -> Result<Parts<
         second,
         third,
         fourth,
-    })
+    }
 }
 
 /// The part of the processor whose seats these are.

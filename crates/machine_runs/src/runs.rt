@@ -20,10 +20,9 @@ use mem_core::zone::Core;
 use mem_machine::Machine;
 use rand_core::{Rng, SeedableRng};
 use rand_pcg::Pcg32;
-use std::alloc::{AllocError, Global};
+use std::alloc::Global;
 use std::marker::Brand;
 use std::process::Abort;
-use std::test::Fail;
 use stock_word::StockSeat;
 
 // How many calls a run has, and what stands beside it: an account, and in one run a core.
@@ -72,9 +71,9 @@ fn finish<N: BootName>(
     requires { AllShut machine.old }
     ensures { AllShut machine.new }
 {
-    play(rt, tables, machine, cpu, account, 0x8000_000b);
-    for _ in 0..32 {
-        play(rt, tables, machine, cpu, account, 0x8000_0c02);
+    for turn in 0..33u32 {
+        let word = if turn == 0 { 0x8000_000b } else { 0x8000_0c02 };
+        play(rt, tables, machine, cpu, account, word);
     }
 }
 
@@ -91,10 +90,7 @@ fn new_machine<N: BootName>(
     requires cpus { N.stocks.cpus ≡ N.frames.cpus }
     ensures { AllShut result }
 {
-    match Machine::<N>::new(alloc, tables, zone, stock) {
-        Ok(machine) => machine,
-        Err(_) => panic!(rt; "memory"),
-    }
+    Machine::<N>::new(alloc, tables, zone, stock).expect(rt, "memory")
 }
 
 // The parts of the four processors.
@@ -251,51 +247,41 @@ fn run<const F: u32, N: BootName>(
 }
 
 // A boot of 64 frames runs beside an account and a core.
-fn runs_small<N: BootName>(
-    rt: &impl Abort,
-    alloc: Global,
-    parts: Parts<64>,
-) -> Result<Tally, AllocError>
+fn runs_small<N: BootName>(rt: &impl Abort, alloc: Global, parts: Parts<64>) -> Tally
     requires { (parts.frames ≡ N.frames) × (parts.stocks ≡ N.stocks) }
 {
     let mut beside = Beside {
         calls: 1_000,
-        account: Account::new(alloc, 64)?,
-        core: Some(Core::new(alloc, 64, 4)?),
+        account: Account::new(rt, alloc, 64),
+        core: Some(Core::new(alloc, 64, 4).expect(rt, "memory")),
     };
-    Ok(run::<64, N>(rt, alloc, parts, &mut beside))
+    run::<64, N>(rt, alloc, parts, &mut beside)
 }
 
 // A boot of 2,048 frames runs beside an account.
-fn runs_large<N: BootName>(
-    rt: &impl Abort,
-    alloc: Global,
-    parts: Parts<2048>,
-) -> Result<Tally, AllocError>
+fn runs_large<N: BootName>(rt: &impl Abort, alloc: Global, parts: Parts<2048>) -> Tally
     requires { (parts.frames ≡ N.frames) × (parts.stocks ≡ N.stocks) }
 {
     let mut beside = Beside {
         calls: 20_000,
-        account: Account::new(alloc, 2_048)?,
+        account: Account::new(rt, alloc, 2_048),
         core: None,
     };
-    Ok(run::<2048, N>(rt, alloc, parts, &mut beside))
+    run::<2048, N>(rt, alloc, parts, &mut beside)
 }
 
 // 1,000 random calls on 64 frames do what the steps of the core do.
 #[test]
-fn a_thousand_calls_are_steps_of_a_core(rt: HostRuntime) -> Result<(), Fail> {
-    let parts = make_parts::<64>(&rt, rt.alloc())?;
-    let tally = runs_small::<Brand>(&rt, rt.alloc(), parts)?;
+fn a_thousand_calls_are_steps_of_a_core(rt: HostRuntime) {
+    let parts = make_parts::<64>(&rt, rt.alloc());
+    let tally = runs_small::<Brand>(&rt, rt.alloc(), parts);
     tally.holds(&rt, 3);
-    Ok(())
 }
 
 // 20,000 random calls on 2,048 frames do what a plain recount of their answers tells.
 #[test]
-fn twenty_thousand_calls_are_counted_again(rt: HostRuntime) -> Result<(), Fail> {
-    let parts = make_parts::<2048>(&rt, rt.alloc())?;
-    let tally = runs_large::<Brand>(&rt, rt.alloc(), parts)?;
+fn twenty_thousand_calls_are_counted_again(rt: HostRuntime) {
+    let parts = make_parts::<2048>(&rt, rt.alloc());
+    let tally = runs_large::<Brand>(&rt, rt.alloc(), parts);
     tally.holds(&rt, 20);
-    Ok(())
 }
