@@ -1,6 +1,6 @@
 use Rattle.std.proofs.Common.{rules, arith}
 use Rattle.std.proofs.lemmas.Grind.{common_steps}
-use Rattle.mem_system.proofs.ends.count_pins.Goals as goal
+use Rattle.mem_system.proofs.boot_end.count_pins.Goals as goal
 
 pub loop-cpu-init : goal.loop-cpu-init
 loop-cpu-init g c = search rules
