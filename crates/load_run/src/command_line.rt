@@ -1,14 +1,16 @@
 //! The words of the command line.
 
-ghost use Rattle.std.specs.Prelude.{◌≡◌, ◌≤◌, IfOk, IfSome, Some, codes, false, map, option_and_then};
+ghost use Rattle.std.specs.Prelude.{◌≡◌, ◌≤◌, IfOk, IfSome, Some, codes, false, map, option_and_then, pos};
 ghost use Rattle.clap.specs.Words.{app_of, found_of, kind_of, rows_of, rule_of, subcommand_rows_of};
 ghost use Rattle.clap.specs.declared.builder.command.Command.TheViews.{out-Command as fields_of};
+ghost use Rattle.clap.specs.declared.builder.value_parser.ValueParser.TheVariants.{Signed};
 ghost use Rattle.load_run.specs.Fault.{IsNoMemory};
 ghost use Rattle.load_run.specs.Settings.{HasSizesInRange};
 ghost use Rattle.load_run.specs.Words.{Answers, flag_rule, is_given, program, replay_shape, settings_of};
-ghost use Rattle.load_run.specs.Words.{settings_under, size_in, size_rule, sizes_in};
+ghost use Rattle.load_run.specs.Words.{number_kept, settings_under, size_in, size_rule, sizes_in};
 
 use crate::fault::LineFault;
+use clap::builder::ValueParser;
 use clap::error::ErrorKind;
 use clap::{Arg, ArgAction, ArgMatches, Command, Error, value_parser};
 use std::alloc::{AllocError, Global};
@@ -141,6 +143,13 @@ fn audit_option<'a>(alloc: Global) -> Arg<'a>
         .action(ArgAction::SetTrue)
 }
 
+// A whole number from 1 to `most`.
+fn whole_number<'a>(most: u32) -> ValueParser<'a>
+    ensures { result ≡ Signed (pos 1) (pos most) }
+{
+    value_parser!(u32).range(1..=i64::from(most))
+}
+
 // A number option from 1 to `most`.
 fn size_option<'a>(
     alloc: Global,
@@ -156,7 +165,7 @@ fn size_option<'a>(
         .long(name)
         .value_name("N")
         .help(help)
-        .value_parser(value_parser!(u32).range(1..=i64::from(most)))
+        .value_parser(whole_number(most))
         .default_value(default)
 }
 
@@ -195,9 +204,17 @@ fn size(found: &ArgMatches<'_>, name: &str, most: u32) -> Option<u32>
     ensures in_range { IfSome result (λ size. (1 ≤ size) × (size ≤ most)) }
 {
     let size = found.get_one::<u32>(name)?;
-    if size < 1 || most < size {
+    in_range(size, most)
+}
+
+// The number, where it is one from 1 to `most`.
+fn in_range(number: u32, most: u32) -> Option<u32>
+    ensures kept { result ≡ number_kept most number }
+    ensures in_range { IfSome result (λ number. (1 ≤ number) × (number ≤ most)) }
+{
+    if number < 1 || most < number {
         None
     } else {
-        Some(size)
+        Some(number)
     }
 }
