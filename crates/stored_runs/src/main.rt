@@ -3,6 +3,7 @@
 #![tactic(auto)]
 
 mod alike;
+mod ends;
 mod lives;
 mod plays;
 mod runs;
