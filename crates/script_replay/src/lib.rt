@@ -8,5 +8,5 @@ mod visiting;
 mod work;
 
 pub use replaying::replay;
-pub use visiting::replay_lines;
+pub use visiting::{replay_lines, visited};
 pub use work::Work;
