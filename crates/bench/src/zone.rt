@@ -78,6 +78,41 @@ fn count_in_use(zone: &Buddy, blocks: &[Block]) -> u32 {
     count
 }
 
+// Random orders up to the greatest, each half as often as the one below.
+fn orders(alloc: Global, random: &mut Pcg32, greatest: Order) -> Result<Vec<Order>, AllocError> {
+    let mut orders = Vec::new(alloc);
+    for _ in 0..BATCH {
+        let exponent = random.next_u32().trailing_zeros();
+        let order = Order::of(exponent).unwrap_or(greatest);
+        orders.push(order.min(greatest))?;
+    }
+    Ok(orders)
+}
+
+// A random block of those that are held, which is then held no more.
+fn pick(random: &mut Pcg32, held: &mut Vec<Block>) -> Option<Block> {
+    let index = (random.next_u32() as usize).checked_rem(held.len())?;
+    if index >= held.len() {
+        return None;
+    }
+    Some(held.swap_remove(index))
+}
+
+// So many random blocks.
+fn pick_batch(
+    alloc: Global,
+    random: &mut Pcg32,
+    held: &mut Vec<Block>,
+) -> Result<Vec<Block>, AllocError> {
+    let mut picked = Vec::new(alloc);
+    for _ in 0..BATCH {
+        if let Some(block) = pick(random, held) {
+            picked.push(block)?;
+        }
+    }
+    Ok(picked)
+}
+
 impl Load {
     // A zone of so many frames, all free, from which blocks of orders up to the greatest are taken.
     fn new(alloc: Global, frames: u32, greatest: Order) -> Result<Load, AllocError> {
@@ -91,20 +126,9 @@ impl Load {
         })
     }
 
-    // Random orders, each half as often as the one below.
-    fn orders(&mut self, alloc: Global) -> Result<Vec<Order>, AllocError> {
-        let mut orders = Vec::new(alloc);
-        for _ in 0..BATCH {
-            let exponent = self.random.next_u32().trailing_zeros();
-            let order = Order::of(exponent).unwrap_or(self.greatest);
-            orders.push(order.min(self.greatest))?;
-        }
-        Ok(orders)
-    }
-
     // Takes blocks of random orders.
     fn take_batch<R: Clock + Alloc<A = Global>>(&mut self, rt: &R) -> Result<()> {
-        let orders = self.orders(rt.alloc())?;
+        let orders = orders(rt.alloc(), &mut self.random, self.greatest)?;
         let start = Instant::now(rt)?;
         for order in &orders {
             if let Some(block) = self.zone.take(*order) {
@@ -114,26 +138,6 @@ impl Load {
         }
         self.costs.takes.add(BATCH, start.elapsed(rt)?);
         Ok(())
-    }
-
-    // A random block of those that are held, which is then held no more.
-    fn pick(&mut self) -> Option<Block> {
-        let index = (self.random.next_u32() as usize).checked_rem(self.held.len())?;
-        if index >= self.held.len() {
-            return None;
-        }
-        Some(self.held.swap_remove(index))
-    }
-
-    // So many random blocks.
-    fn pick_batch(&mut self, alloc: Global) -> Result<Vec<Block>, AllocError> {
-        let mut picked = Vec::new(alloc);
-        for _ in 0..BATCH {
-            if let Some(block) = self.pick() {
-                picked.push(block)?;
-            }
-        }
-        Ok(picked)
     }
 
     // Gives each of these blocks after the test that it may be given.
@@ -149,7 +153,7 @@ impl Load {
     // Gives random blocks of those that are held. The tests that are in it were made before, alone: once for the processor's
     // cache, and once by the clock.
     fn give_batch<R: Clock + Alloc<A = Global>>(&mut self, rt: &R) -> Result<()> {
-        let picked = self.pick_batch(rt.alloc())?;
+        let picked = pick_batch(rt.alloc(), &mut self.random, &mut self.held)?;
         let _warm = count_in_use(&self.zone, &picked);
         let start = Instant::now(rt)?;
         let tested = count_in_use(&self.zone, &picked);

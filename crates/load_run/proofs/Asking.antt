@@ -24,7 +24,7 @@ use Rattle.load_run.specs.declared.settings.Settings.{Settings}
 use Rattle.load_run.specs.declared.fault.WordsFault.{WordsFault}
 use Rattle.load_run.specs.declared.fault.WordsFault.TheVariants.{BadWords, NoMemory}
 use Rattle.load_run.specs.Fault.{IsNoMemory}
-use Rattle.load_run.specs.Words.{Answers, if_none, number_in, program, settings_of, settings_under, size_in}
+use Rattle.load_run.specs.Words.{Answers, if_none, number_in, number_kept, program, settings_of, settings_under, size_in}
 
 -- ---- options
 
@@ -54,10 +54,6 @@ option_added old new option app rule read is local added = (
 
 -- ---- values
 
--- what the program keeps of a number
-abbrev pub kept : ℕ → ℕ → Option ℕ
-kept most n = cond (nat_lt n 1 || nat_lt most n) None (Some n)
-
 no_number : (most : ℕ) (t : List ℕ) → (IsUnsignedIn 1 most t → ⊥) → number_in most t ≡ None
 no_number most t refused = go (is_unsigned_in 1 most t) refl
   where
@@ -74,7 +70,7 @@ is_number E most n t parsed low high =
     Accepts-accepts false (Unsigned 1 most) t (parsed.0.0, small, omega (arith, is, low), omega (arith, is, high)) in
     ap (λ (b : Bool). cond b (Some v) None) passes ∙ ap (λ (k : ℕ). Some k) (sym is)
 
-one_number : (E : Type 0) (most n : ℕ) (t : List ℕ) → ParsesUnsigned {E = E} 32 10 t (Ok n) → number_in most t ≡ kept most n
+one_number : (E : Type 0) (most n : ℕ) (t : List ℕ) → ParsesUnsigned {E = E} 32 10 t (Ok n) → number_in most t ≡ number_kept most n
 one_number E most n t parsed = go (nat_lt n 1) (nat_lt most n) refl refl
   where
     is : n ≡ digits_value 10 (without_leading_plus t)
@@ -85,27 +81,11 @@ one_number E most n t parsed = go (nat_lt n 1) (nat_lt most n) refl refl
     go false true low high = no_number most t (λ h. omega (arith, is, h.3, ltb-true most n high))
     go false false low high = is_number E most n t parsed (omega (arith, ltb-false n 1 low)) (ltb-false most n high)
 
-pub kept_some : (most n : ℕ) → 1 ≤ n → n ≤ most → kept most n ≡ Some n
-kept_some most n low high = go (nat_lt n 1) (nat_lt most n) refl refl
-  where
-    go : (a b : Bool) → nat_lt n 1 ≡ a → nat_lt most n ≡ b → cond (a || b) None (Some n) ≡ Some n
-    go true b under over = absurd (omega (arith, low, ltb-true n 1 under))
-    go false true under over = absurd (omega (arith, high, ltb-true most n over))
-    go false false under over = refl
-
-pub kept_none : (most n : ℕ) → (1 ≤ n → n ≤ most → ⊥) → kept most n ≡ None
-kept_none most n outside = go (nat_lt n 1) (nat_lt most n) refl refl
-  where
-    go : (a b : Bool) → nat_lt n 1 ≡ a → nat_lt most n ≡ b → cond (a || b) None (Some n) ≡ None
-    go true b low high = refl
-    go false true low high = refl
-    go false false low high = absurd (outside (ltb-false n 1 low) (ltb-false most n high))
-
 -- a size, by what clap reads of its option
 pub size_read : (E : Type 0) (G : List ℕ → Result ℕ E → Type 0) → ((u : List ℕ) (x : Result ℕ E) → G u x → ParsesUnsigned 32 10 u x)
     → (most : ℕ) → most < 2 ^ 32 → (text : Option (List ℕ)) (r : Option ℕ) → (text ≡ None → r ≡ None) → ((t : List ℕ) → text ≡ Some t → ReadsOne G t r)
-    → option_and_then (number_in most) text ≡ option_and_then (kept most) r
-size_read E G parses most fits None r none value = sym (ap (option_and_then (kept most)) (none refl))
+    → option_and_then (number_in most) text ≡ option_and_then (number_kept most) r
+size_read E G parses most fits None r none value = sym (ap (option_and_then (number_kept most)) (none refl))
 size_read E G parses most fits (Some t) (Some n) none value = one_number E most n t (parses t (Ok n) (value t refl))
 size_read E G parses most fits (Some t) None none value =
     let failed = value t refl in
@@ -114,7 +94,7 @@ size_read E G parses most fits (Some t) None none value =
 -- so by its row
 pub read_as_row : (E : Type 0) (G : List ℕ → Result ℕ E → Type 0) → ((u : List ℕ) (x : Result ℕ E) → G u x → ParsesUnsigned 32 10 u x)
     → (most : ℕ) → most < 2 ^ 32 → (found : Found) (name : List ℕ) (r : Option ℕ) → (one_text found name ≡ None → r ≡ None)
-    → ((t : List ℕ) → one_text found name ≡ Some t → ReadsOne G t r) → size_in name most (rows_of found) ≡ option_and_then (kept most) r
+    → ((t : List ℕ) → one_text found name ≡ Some t → ReadsOne G t r) → size_in name most (rows_of found) ≡ option_and_then (number_kept most) r
 read_as_row E G parses most fits found name r none value =
     ap (option_and_then (number_in most)) (sym (one_text-rows found name)) ∙ size_read E G parses most fits (one_text found name) r none value
 

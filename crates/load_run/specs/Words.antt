@@ -1,6 +1,6 @@
 -- What the words of a command line ask for: what clap finds in them by the options of the program.
 use Rattle.std.specs.Prelude.{◌≡◌, ℕ, Bool, true, false, List, [], ◌∷◌, Option, Some, None, Result, Ok, Err, ⊤, pos}
-use Rattle.std.specs.Prelude.{codes, if◌then◌else◌, option_and_then}
+use Rattle.std.specs.Prelude.{codes, if◌then◌else◌, nat_lt, option_and_then, ◌||◌}
 use Rattle.std.specs.Option.{option_map_or}
 use Rattle.std.specs.Str.{bytes_eq}
 use Rattle.std.specs.Str.Parse.{digits_value, without_leading_plus}
@@ -60,6 +60,10 @@ program = record {
 -- the number that a text writes, in decimal digits, perhaps behind a plus, where it is from 1 to `most`
 abbrev pub number_in : ℕ → List ℕ → Option ℕ
 number_in most text = if is_unsigned_in 1 most text then Some (digits_value 10 (without_leading_plus text)) else None
+
+-- a number, where it is one from 1 to `most`
+abbrev pub number_kept : ℕ → ℕ → Option ℕ
+number_kept most n = if nat_lt n 1 || nat_lt most n then None else Some n
 
 -- the value of an option, given or left out
 abbrev pub size_in : List ℕ → ℕ → List Row → Option ℕ

@@ -1,8 +1,9 @@
 //! The words of the command line.
 
-ghost use Rattle.std.specs.Prelude.{◌≡◌, IfOk, codes, false, map};
+ghost use Rattle.std.specs.Prelude.{◌≡◌, IfOk, codes, false, map, pos};
 ghost use Rattle.clap.specs.Words.{app_of, kind_of, rule_of};
 ghost use Rattle.clap.specs.declared.builder.command.Command.TheViews.{out-Command as fields_of};
+ghost use Rattle.clap.specs.declared.builder.value_parser.ValueParser.TheVariants.{Signed};
 ghost use Rattle.load_run.specs.Fault.{IsNoMemory};
 ghost use Rattle.load_run.specs.Settings.{HasSizesInRange};
 ghost use Rattle.load_run.specs.Words.{Answers, flag_rule, program, replay_shape, settings_of, size_rule};
@@ -11,6 +12,7 @@ use crate::fault::WordsFault;
 use crate::settings::{
     MOST_BATCH, MOST_CPUS, MOST_FRAMES, MOST_HIGH, MOST_STOCK, Settings, read_settings,
 };
+use clap::builder::ValueParser;
 use clap::error::ErrorKind;
 use clap::{Arg, ArgAction, Command, Error, value_parser};
 use std::alloc::{AllocError, Global};
@@ -136,6 +138,13 @@ fn audit_option<'a>(alloc: Global) -> Arg<'a>
         .action(ArgAction::SetTrue)
 }
 
+// A whole number from 1 to `most`.
+fn whole_number<'a>(most: u32) -> ValueParser<'a>
+    ensures { result ≡ Signed (pos 1) (pos most) }
+{
+    value_parser!(u32).range(1..=i64::from(most))
+}
+
 // A number option from 1 to `most`.
 fn size_option<'a>(
     alloc: Global,
@@ -151,6 +160,6 @@ fn size_option<'a>(
         .long(name)
         .value_name("N")
         .help(help)
-        .value_parser(value_parser!(u32).range(1..=i64::from(most)))
+        .value_parser(whole_number(most))
         .default_value(default)
 }

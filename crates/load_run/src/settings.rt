@@ -3,7 +3,7 @@
 ghost use Rattle.std.specs.Prelude.{◌≡◌, ◌≤◌, IfSome, option_and_then};
 ghost use Rattle.clap.specs.Words.{found_of, rows_of, subcommand_rows_of};
 ghost use Rattle.load_run.specs.Settings.{HasSizesInRange};
-ghost use Rattle.load_run.specs.Words.{is_given, settings_under, size_in, sizes_in};
+ghost use Rattle.load_run.specs.Words.{is_given, number_kept, settings_under, size_in, sizes_in};
 
 use clap::ArgMatches;
 use zone_sizes::config::Config;
@@ -66,9 +66,17 @@ fn size(found: &ArgMatches<'_>, name: &str, most: u32) -> Option<u32>
     ensures in_range { IfSome result (λ size. (1 ≤ size) × (size ≤ most)) }
 {
     let size = found.get_one::<u32>(name)?;
-    if size < 1 || most < size {
+    in_range(size, most)
+}
+
+// The number, where it is one from 1 to `most`.
+fn in_range(number: u32, most: u32) -> Option<u32>
+    ensures kept { result ≡ number_kept most number }
+    ensures in_range { IfSome result (λ number. (1 ≤ number) × (number ≤ most)) }
+{
+    if number < 1 || most < number {
         None
     } else {
-        Some(size)
+        Some(number)
     }
 }

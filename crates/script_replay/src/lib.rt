@@ -8,5 +8,5 @@ mod visit_replay;
 mod work;
 
 pub use value_replay::replay;
-pub use visit_replay::replay_by_visits;
+pub use visit_replay::{replay_by_visits, visit_command};
 pub use work::Work;

@@ -76,8 +76,10 @@ fn visit_line<N: BootName, R: Wait>(
     }
 }
 
-// Serves the command by a visit, and adds its reply.
-fn visit_command<N: BootName, R: Wait>(
+/// Serves the command by a visit at once, and adds what it is answered. Its contract leaves out what `System::visit`
+/// says: for a caller that wants the text alone these clauses are minutes of a check. `AllocError` comes where memory is
+/// wanting for the text: the command was served then.
+pub fn visit_command<N: BootName, R: Wait>(
     rt: &R,
     system: &System<N>,
     cpu: &mut Cpu<N>,

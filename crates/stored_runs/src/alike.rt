@@ -12,14 +12,13 @@ use zone_sizes::config::Config;
 // The groups whose files are looked at.
 const PATHS: [&str; 6] = ["/a", "/b", "/a/c", "/a/d", "/a/c/e", "/b/f"];
 
-// Their files.
-const FILES: [&str; 5] = [
-    "memory.current",
-    "memory.max",
-    "memory.peak",
-    "memory.events",
-    "memory.events.local",
-];
+// What is told of the five files of a group that isn't there.
+const NO_FILES: &str = "refused 6 NoGroup
+refused 6 NoGroup
+refused 6 NoGroup
+refused 6 NoGroup
+refused 6 NoGroup
+";
 
 /// The script of what is looked at: where each frame is, which blocks are free, and the files of the groups.
 pub fn looks(alloc: Global, frames: u32) -> Result<String, AllocError> {
@@ -28,12 +27,23 @@ pub fn looks(alloc: Global, frames: u32) -> Result<String, AllocError> {
         writeln!(text, "1 owner {frame}")?;
     }
     text.push_str("1 blocks\n")?;
-    for path in PATHS {
-        for file in FILES {
-            writeln!(text, "1 read {path} {file}")?;
-        }
-    }
+    look_at_files(&mut text)?;
     Ok(text)
+}
+
+// The lines that read the files of the groups.
+fn look_at_files(text: &mut String) -> Result<(), AllocError> {
+    for path in PATHS {
+        writeln!(
+            text,
+            "1 read {path} memory.current
+1 read {path} memory.max
+1 read {path} memory.peak
+1 read {path} memory.events
+1 read {path} memory.events.local"
+        )?;
+    }
+    Ok(())
 }
 
 // The processor at which a frame is fresh: it is lent to it still.
@@ -117,6 +127,17 @@ fn tell_files(core: &Core, group: GroupId, text: &mut String) -> Result<()> {
     Ok(())
 }
 
+// The files of the groups.
+fn tell_groups(core: &Core, text: &mut String) -> Result<()> {
+    for path in PATHS {
+        match core.tree().find(path.as_bytes()) {
+            Some(group) => tell_files(core, group, text)?,
+            None => text.push_str(NO_FILES)?,
+        }
+    }
+    Ok(())
+}
+
 /// What has to be told to `looks`, beside this core.
 pub fn wanted(alloc: Global, core: &Core, sizes: &Config) -> Result<String> {
     let mut text = String::new(alloc);
@@ -124,16 +145,7 @@ pub fn wanted(alloc: Global, core: &Core, sizes: &Config) -> Result<String> {
         tell_place(core, sizes.cpus, frame, &mut text)?;
     }
     tell_blocks(core, &mut text)?;
-    for path in PATHS {
-        match core.tree().find(path.as_bytes()) {
-            Some(group) => tell_files(core, group, &mut text)?,
-            None => {
-                for _ in FILES {
-                    text.push_str("refused 6 NoGroup\n")?;
-                }
-            }
-        }
-    }
+    tell_groups(core, &mut text)?;
     Ok(text)
 }
 

@@ -3,6 +3,7 @@
 #![tactic(auto)]
 
 mod alike;
+mod ends;
 mod plays;
 mod runs;
 mod steps;

@@ -1,16 +1,14 @@
 //! A turn on the system.
 
-ghost use Rattle.std.specs.Prelude.{◌<◌, IsTrue};
-ghost use Rattle.mem_system.specs.Commands.{IsOfZone};
+ghost use Rattle.std.specs.Prelude.{IsTrue};
 ghost use Rattle.script_replay.specs.Ranges.{NamesInRange};
 
 use crate::turns::Way;
 use anyhow::{Context, Result, bail, ensure};
 use cpu_part::{BootName, Cpu, Dropped, Tables};
-use mem_system::{Cmd, Reply, System};
-use reply_texts::write_reply;
+use mem_system::{Cmd, System};
 use script_lines::line::{Command, Line};
-use script_replay::replay_by_visits;
+use script_replay::{replay_by_visits, visit_command};
 use std::alloc::Global;
 use std::slice;
 use std::sync::Wait;
@@ -51,29 +49,26 @@ pub fn ask<N: BootName, R: Wait>(
     Ok(replay_by_visits(rt, alloc, system, slice::from_mut(cpu), &[line])?)
 }
 
-// What the processor is answered to this command under the lock.
-fn serve<N: BootName, R: Wait>(rt: &R, system: &System<N>, cpu: &mut Cpu<N>, cmd: &Cmd<'_>) -> Reply
-    requires { IsOfZone N.frames cmd.now }
-{
-    system.visit(rt, cpu, cmd)
-}
-
-// What the processor is answered that visits at once.
+// Adds what the processor is answered that visits at once.
 fn visit<N: BootName, R: Wait>(
     rt: &R,
     system: &System<N>,
     cpu: &mut Cpu<N>,
     command: &Command<'_>,
-) -> Result<Reply> {
+    text: &mut String,
+) -> Result<()> {
     match *command {
-        Command::Alloc { path, order } => Ok(serve(rt, system, cpu, &Cmd::Alloc { path, order })),
+        Command::Alloc { path, order } => {
+            visit_command(rt, system, cpu, &Cmd::Alloc { path, order }, text)?;
+        }
         Command::Release { frame } => {
             let frame = system.tables().frames.frame(frame).context("no frame")?;
             let frame = frame.number();
-            Ok(serve(rt, system, cpu, &Cmd::Release { frame }))
+            visit_command(rt, system, cpu, &Cmd::Release { frame }, text)?;
         }
         _ => bail!("a visit of another kind"),
     }
+    Ok(())
 }
 
 // A fresh frame goes back to the list, or not.
@@ -107,7 +102,7 @@ pub fn play<N: BootName, R: Wait>(
     let mut text = String::new(alloc);
     match way {
         Way::Usual => return ask(rt, alloc, system, cpu, command),
-        Way::Visit => write_reply(&visit(rt, system, cpu, command)?, &mut text)?,
+        Way::Visit => visit(rt, system, cpu, command, &mut text)?,
         Way::Drop => text.push_str(drop_fresh(system.tables(), cpu, command)?)?,
         Way::End => bail!("an end before the last turn"),
     }

@@ -1,16 +1,16 @@
 //! The life of a system, from its boot to its end, beside a core or alone.
 
-ghost use Rattle.std.specs.Prelude.{◌≡◌, length};
+ghost use Rattle.std.specs.Prelude.{◌≡◌};
 
 use crate::alike::{are_lists_alike, looks, wanted};
+use crate::ends::{Ended, shut, write_end};
 use crate::plays::{ask, play};
 use crate::steps::first_wrong;
 use crate::turns::{Turn, turn_of};
 use anyhow::{Context, Result, bail, ensure};
-use cpu_part::{BootName, Cpu, Tables};
-use load_run::run_end::{Ended, write_end};
+use cpu_part::{BootName, Cpu};
 use mem_core::zone::Core;
-use mem_system::{Boot, Held, System};
+use mem_system::{Boot, System};
 use script_lines::line::Line;
 use script_lines::script::parse_script;
 use std::alloc::Global;
@@ -159,42 +159,6 @@ fn take_all<N: BootName, R: Wait>(
         count = count.saturating_add(taken);
     }
     Ok(count)
-}
-
-// Each processor puts so many pins, or as many as it has.
-fn put_pins<N: BootName>(tables: &Tables<N>, cpus: &mut [Cpu<N>], most: u64) {
-    for cpu in cpus.iter_mut() {
-        for _ in 0..most {
-            if let Some(frame) = cpu.first_pin() {
-                let _put = cpu.put(tables, frame);
-            }
-        }
-    }
-}
-
-// The system is shut down. Where it is held for its pins, these are put first.
-fn shut<N: BootName, R: Wait>(rt: &R, mut system: System<N>, mut cpus: Vec<Cpu<N>>) -> Ended
-    requires { length cpus.items ≡ N.frames.cpus }
-{
-    let mut held = 0;
-    for _ in rt.forever() {
-        match system.shutdown(cpus) {
-            Ok(audit) => return Ended { held, audit },
-            Err(
-                Held {
-                    system: left,
-                    cpus: parts,
-                    pins,
-                },
-            ) => {
-                system = left;
-                cpus = parts;
-                held = pins;
-                put_pins(system.tables(), &mut cpus, pins);
-            }
-        }
-    }
-    unreachable!()
 }
 
 // The end is as it is told.
