@@ -4,7 +4,9 @@ ghost use Rattle.std.specs.Prelude.{◌≡◌, ◌≤◌, None};
 ghost use Rattle.frame_word.specs.Seats.{IsZoneSeat, first_zone_view};
 ghost use Rattle.stock_word.specs.Stock.{IsMachine};
 
-use crate::parts::{Parts, frame_of, give_back, give_first, give_up, make_parts, set_up};
+use crate::parts::{
+    Given, Parts, drains, drops, fast, frame_of, give_back, give_some, give_up, make_parts, set_up,
+};
 use crate::rows::same;
 use cpu_part::{BootName, Cpu, Dropped, Fast, MOST_FRESH, Tables};
 use frame_word::{Frame, FrameSeat, Get};
@@ -87,12 +89,12 @@ fn takes_fronts<N: BootName>(
     takes(rt, tables, machine, cpu, Some(zeroth));
     takes(rt, tables, machine, cpu, Some(first));
     takes(rt, tables, machine, cpu, None);
-    same(rt, cpu.alloc_fast(tables, 1), Fast::NoStock);
-    drops(rt, tables, cpu, zeroth);
+    fast(rt, tables, cpu, 1, Fast::NoStock);
+    drops(rt, tables, cpu, zeroth, Dropped::Listed);
     takes(rt, tables, machine, cpu, Some(second));
-    drops(rt, tables, cpu, first);
-    drops(rt, tables, cpu, second);
-    same(rt, tables.stocks.drain(machine, 1), 2);
+    drops(rt, tables, cpu, first, Dropped::Listed);
+    drops(rt, tables, cpu, second, Dropped::Listed);
+    drains(rt, tables, machine, 2);
     takes(rt, tables, machine, cpu, None);
 }
 
@@ -105,16 +107,9 @@ fn takes<N: BootName>(
     front: Option<Frame>,
 )
     requires { (machine.old.table ≡ N.stocks.table) × IsMachine machine.old.view }
-    ensures machine { (machine.new.table ≡ machine.old.table) × (machine.new.view.number ≡ machine.old.view.number) }
-    ensures books { machine.new.view.accounts ≡ machine.old.view.accounts }
+    ensures { (machine.new.table ≡ machine.old.table) × (machine.new.view.number ≡ machine.old.view.number) }
 {
     same(rt, take_by_books(tables, machine, cpu), front);
-}
-
-// Drops a frame that is fresh, and it is listed.
-fn drops<N: BootName>(rt: &impl Abort, tables: &Tables<N>, cpu: &mut Cpu<N>, frame: Frame) {
-    assert!(rt; cpu.has_fresh(frame));
-    same(rt, cpu.drop_fresh(tables, frame), Dropped::Listed);
 }
 
 // 256 frames are listed. None of them is taken before there is a stock.
@@ -122,7 +117,17 @@ fn pays_inside_a_visit<N: BootName>(rt: &impl Abort, alloc: Global, parts: Parts
     requires { (parts.frames ≡ N.frames) × (parts.stocks ≡ N.stocks) }
 {
     let (tables, mut zone, mut machine, mut cpu, second) = set_up::<N, 256>(rt, alloc, parts);
-    give_first(rt, &tables, &mut zone, &mut cpu, 256);
+    give_some(
+        rt,
+        &tables,
+        &mut zone,
+        &mut cpu,
+        Given {
+            cpu: 1,
+            from: 0,
+            to: 256,
+        },
+    );
     same(rt, take_by_books(&tables, &mut machine, &mut cpu), None);
     cpu.fill(&tables, &mut machine, 1, 2);
     takes_fronts(rt, &tables, &mut machine, &mut cpu);

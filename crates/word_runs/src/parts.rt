@@ -3,7 +3,6 @@ ghost use Rattle.std.specs.Prelude.{◌≡◌, ◌≢◌, ◌+◌, ◌<◌, ◌�
 ghost use Rattle.frame_word.specs.Seats.{IsInOwnHand, IsOpen, IsShut, IsZoneSeat, NothingPasses};
 ghost use Rattle.frame_word.specs.Seats.{first_cpu_view, first_zone_view, holds};
 ghost use Rattle.stock_word.specs.Stock.{IsMachine, first_machine, first_processor};
-ghost use Rattle.cpu_part.specs.Cpus.{IsIdle, first_cpu};
 
 use crate::rows::same;
 use cpu_part::{BootName, Cpu, Dropped, Fast, Tables};
@@ -61,10 +60,8 @@ pub(crate) fn set_up<N: BootName, const F: u32>(
     ensures sizes { (N.frames.frames ≡ F) × (N.frames.cpus ≡ 2) × (N.stocks.cpus ≡ 2) }
     ensures zone { (result.1.table ≡ N.frames.table) × (result.1.view ≡ first_zone_view F) }
     ensures machine { (result.2.table ≡ N.stocks.table) × (result.2.view ≡ first_machine) }
-    ensures first { result.3 ≡ first_cpu result.3.seat result.3.stock }
-    ensures first_seat { (result.3.number ≡ 1) × (result.3.seat.view ≡ first_cpu_view 1) }
-    ensures second { result.4 ≡ first_cpu result.4.seat result.4.stock }
-    ensures second_seat { (result.4.number ≡ 2) × (result.4.seat.view ≡ first_cpu_view 2) }
+    ensures first { (result.3.number ≡ 1) × (result.3.list ≡ []) × (result.3.fresh ≡ []) }
+    ensures second { (result.4.number ≡ 2) × (result.4.list ≡ []) × (result.4.fresh ≡ []) }
 {
     let Parts {
         frames,
@@ -92,10 +89,13 @@ pub(crate) fn frame_of<N: BootName>(rt: &impl Abort, tables: &Tables<N>, number:
     tables.frames.frame(number).expect(rt, "a frame")
 }
 
-// Gives a processor up, which has nothing left.
-fn spend<N: BootName>(rt: &impl Abort, cpu: Cpu<N>) {
+// Takes a processor apart, which has nothing left.
+fn spend<N: BootName>(rt: &impl Abort, cpu: Cpu<N>) -> (FrameSeat, StockSeat)
+    ensures { (result.0.table ≡ N.frames.table) × (result.1.table ≡ N.stocks.table) }
+{
+    let _ = cpu.number();
     assert!(rt; cpu.is_idle());
-    let _ = cpu.into_seats();
+    cpu.into_seats()
 }
 
 // Gives the tables and the processors up, which have nothing left.
@@ -105,8 +105,8 @@ pub(crate) fn give_up<N: BootName>(
     first: Cpu<N>,
     second: Cpu<N>,
 ) {
-    spend(rt, first);
-    spend(rt, second);
+    let _ = spend(rt, first);
+    let _ = spend(rt, second);
     let _ = tables.into_tables();
 }
 
@@ -129,36 +129,23 @@ fn take_back<N: BootName>(
     Some(frame)
 }
 
-// Frame 3 goes to processor 2, which lists it. Processor 1 doesn't get it while it passes.
-fn goes_over<N: BootName>(
-    rt: &impl Abort,
-    tables: &Tables<N>,
-    zone: &mut FrameSeat,
-    first: &mut Cpu<N>,
-    second: &mut Cpu<N>,
-) -> Frame
-    requires zone { IsZoneSeat N.frames zone.old × (zone.old.view ≡ first_zone_view 8) }
-    requires sizes { (N.frames.frames ≡ 8) × (N.frames.cpus ≡ 2) }
-    requires second { second.old ≡ first_cpu second.old.seat second.old.stock }
-    requires number { (second.old.number ≡ 2) × (second.old.seat.view ≡ first_cpu_view 2) }
-    ensures zone { IsZoneSeat N.frames zone.new × IsShut zone.new 2 }
-{
-    let frame = frame_of(rt, tables, 3);
-    second.open(tables, zone);
-    tables.frames.pass_out(zone, frame, 2);
-    same(rt, first.get(tables, frame), Ok(Get::Zero));
-    second.accept(tables, zone, frame);
-    same(rt, second.list_len(), 1);
-    second.shut(tables, zone);
-    frame
-}
-
 // Frame 3 goes to processor 2 and comes back.
 fn hands_over<N: BootName>(rt: &impl Abort, alloc: Global, parts: Parts<8>)
     requires { (parts.frames ≡ N.frames) × (parts.stocks ≡ N.stocks) }
 {
-    let (tables, mut zone, _, mut first, mut second) = set_up::<N, 8>(rt, alloc, parts);
-    goes_over(rt, &tables, &mut zone, &mut first, &mut second);
+    let (tables, mut zone, _, first, mut second) = set_up::<N, 8>(rt, alloc, parts);
+    give_some(
+        rt,
+        &tables,
+        &mut zone,
+        &mut second,
+        Given {
+            cpu: 2,
+            from: 3,
+            to: 4,
+        },
+    );
+    same(rt, second.list_len(), 1);
     same(rt, second.number(), 2);
     give_back(&tables, &mut zone, &mut second);
     same(rt, second.list_len(), 0);
@@ -188,39 +175,42 @@ fn take_fresh<N: BootName>(
     Some(frame)
 }
 
-// Group 1, of which the stock has 4 pages, pays for a frame, and group 2 does not.
-fn pays_for<N: BootName>(
+// A frame is paid for on the fast path, and this is the answer.
+pub(crate) fn fast<N: BootName>(
     rt: &impl Abort,
     tables: &Tables<N>,
-    machine: &mut StockSeat,
     cpu: &mut Cpu<N>,
-    paid: Frame,
+    group: u32,
+    answer: Fast,
 )
-    requires { (machine.old.table ≡ N.stocks.table) × IsMachine machine.old.view }
-    ensures machine { (machine.new.table ≡ machine.old.table) × (machine.new.view.number ≡ machine.old.view.number) }
-    ensures books { machine.new.view.accounts ≡ machine.old.view.accounts }
+    requires { group < 64 }
 {
-    same(rt, cpu.last_stock(), Stock::HeldBy { group: 1, pages: 4 });
-    same(rt, cpu.alloc_fast(tables, 1), Fast::Got(paid));
-    same(rt, cpu.look(tables, machine).pages(), 3);
-    same(rt, cpu.alloc_fast(tables, 2), Fast::OtherGroup);
+    same(rt, cpu.alloc_fast(tables, group), answer);
 }
 
-// The 3 pages that are left are drained: the frame, which is fresh, can't be dropped without a visit.
-fn is_drained<N: BootName>(
+// The stock of processor 1 is drained of so many pages.
+pub(crate) fn drains<N: BootName>(
     rt: &impl Abort,
     tables: &Tables<N>,
     machine: &mut StockSeat,
-    cpu: &mut Cpu<N>,
-    paid: Frame,
+    pages: u32,
 )
-    requires machine { (machine.old.table ≡ N.stocks.table) × IsMachine machine.old.view × (1 ≤ N.stocks.cpus) }
+    requires { (machine.old.table ≡ N.stocks.table) × IsMachine machine.old.view × (1 ≤ N.stocks.cpus) }
     ensures { (machine.new.table ≡ N.stocks.table) × IsMachine machine.new.view }
 {
-    same(rt, tables.stocks.drain(machine, 1), 3);
-    same(rt, cpu.alloc_fast(tables, 1), Fast::Drained);
-    assert!(rt; cpu.has_fresh(paid));
-    same(rt, cpu.drop_fresh(tables, paid), Dropped::NeedVisit);
+    same(rt, tables.stocks.drain(machine, 1), pages);
+}
+
+// A fresh frame is dropped, and this is the answer.
+pub(crate) fn drops<N: BootName>(
+    rt: &impl Abort,
+    tables: &Tables<N>,
+    cpu: &mut Cpu<N>,
+    frame: Frame,
+    answer: Dropped,
+) {
+    assert!(rt; cpu.has_fresh(frame));
+    same(rt, cpu.drop_fresh(tables, frame), answer);
 }
 
 // Frames 0 and 1 are given to processor 1, whose stock is filled with 4 pages of group 1, and drained.
@@ -230,9 +220,22 @@ fn pays<N: BootName>(rt: &impl Abort, alloc: Global, parts: Parts<8>)
     let (tables, mut zone, mut machine, mut cpu, second) = set_up::<N, 8>(rt, alloc, parts);
     let paid = frame_of(rt, &tables, 0);
     cpu.fill(&tables, &mut machine, 1, 4);
-    give_first(rt, &tables, &mut zone, &mut cpu, 2);
-    pays_for(rt, &tables, &mut machine, &mut cpu, paid);
-    is_drained(rt, &tables, &mut machine, &mut cpu, paid);
+    give_some(
+        rt,
+        &tables,
+        &mut zone,
+        &mut cpu,
+        Given {
+            cpu: 1,
+            from: 0,
+            to: 2,
+        },
+    );
+    fast(rt, &tables, &mut cpu, 1, Fast::Got(paid));
+    fast(rt, &tables, &mut cpu, 2, Fast::OtherGroup);
+    drains(rt, &tables, &mut machine, 3);
+    fast(rt, &tables, &mut cpu, 1, Fast::Drained);
+    drops(rt, &tables, &mut cpu, paid, Dropped::NeedVisit);
     same(rt, cpu.drops(), 0);
     same(rt, cpu.number(), 1);
     give_back(&tables, &mut zone, &mut cpu);
@@ -333,9 +336,9 @@ fn three_in_use<N: BootName>(
     let one = frame_of(rt, tables, 1);
     let other = frame_of(rt, tables, 2);
     let third = frame_of(rt, tables, 4);
-    tables.frames.unfreeze(zone, one, 1);
     tables.frames.unfreeze(zone, other, 1);
     tables.frames.unfreeze(zone, third, 1);
+    tables.frames.unfreeze(zone, one, 1);
     (one, other, third)
 }
 
@@ -435,22 +438,27 @@ fn begins<N: BootName>(
     machine: &mut StockSeat,
     cpu: &mut Cpu<N>,
 ) -> Frame
-    requires zone { IsZoneSeat N.frames zone.old × (zone.old.view ≡ first_zone_view 8) }
-    requires sizes { (N.frames.frames ≡ 8) × (N.frames.cpus ≡ 2) }
+    requires zone { IsZoneSeat N.frames zone.old × (zone.old.view ≡ first_zone_view 8) × (N.frames.frames ≡ 8) }
     requires machine { (machine.old.table ≡ N.stocks.table) × (machine.old.view ≡ first_machine) }
-    requires cpu { cpu.old ≡ first_cpu cpu.old.seat cpu.old.stock }
-    requires number { (cpu.old.number ≡ 1) × (cpu.old.seat.view ≡ first_cpu_view 1) }
+    requires cpu { (cpu.old.number ≡ 1) × (cpu.old.list ≡ []) × (cpu.old.fresh ≡ []) }
     ensures zone { IsZoneSeat N.frames zone.new × IsShut zone.new 1 }
     ensures machine { (machine.new.table ≡ N.stocks.table) × IsMachine machine.new.view }
     ensures frame { result < 8 }
 {
     let used = frame_of(rt, tables, 5);
-    let listed = frame_of(rt, tables, 6);
-    tables.frames.unfreeze(zone, used, 1);
-    cpu.open(tables, zone);
-    give(tables, zone, cpu, listed);
     cpu.fill(tables, machine, 1, 4);
-    cpu.shut(tables, zone);
+    give_some(
+        rt,
+        tables,
+        zone,
+        cpu,
+        Given {
+            cpu: 1,
+            from: 6,
+            to: 7,
+        },
+    );
+    tables.frames.unfreeze(zone, used, 1);
     used
 }
 
@@ -469,10 +477,8 @@ fn works_beside<N: BootName + Send + Sync, R: Threads + Abort + Sync>(
     same(rt, is_last, false);
     same(rt, first.drops(), 1000);
     same(rt, first.number(), 1);
-    same(rt, tables.stocks.drain(&mut machine, 1), 4);
+    drains(rt, &tables, &mut machine, 4);
     give_back(&tables, &mut zone, &mut first);
-    assert!(rt; first.is_idle());
-    assert!(rt; second.is_idle());
     ends(rt, alloc, tables, (zone, machine), (first, second), used);
 }
 
@@ -535,14 +541,13 @@ fn ends<N: BootName>(
     used: Frame,
 )
     requires zone { (zone.0.table ≡ N.frames.table) × (zone.1.table ≡ N.stocks.table) × IsMachine zone.1.view }
-    requires idle { IsIdle cpus.0 × IsIdle cpus.1 }
     requires sizes { (N.frames.frames ≡ 8) × (N.frames.cpus ≡ 2) × (N.stocks.cpus ≡ 2) }
     requires used { used < 8 }
 {
     let (first, second) = cpus;
     let (frames, stocks) = tables.into_tables();
-    let (first_seat, first_payer) = first.into_seats();
-    let (second_seat, second_payer) = second.into_seats();
+    let (first_seat, first_payer) = spend(rt, first);
+    let (second_seat, second_payer) = spend(rt, second);
     close_frames(rt, alloc, frames, zone.0, (first_seat, second_seat), used);
     close_stocks(rt, alloc, stocks, zone.1, (first_payer, second_payer));
 }
@@ -564,23 +569,32 @@ fn give<N: BootName>(tables: &Tables<N>, zone: &mut FrameSeat, cpu: &mut Cpu<N>,
     cpu.accept(tables, zone, frame);
 }
 
-// Gives the first frames, so many, to processor 1, which has none.
-pub(crate) fn give_first<N: BootName>(
+// Which frames a processor is given: those from `from` on, below `to`.
+#[derive(Clone, Copy)]
+pub(crate) struct Given {
+    pub cpu: u32,
+    pub from: u32,
+    pub to: u32,
+}
+
+// Gives the zone's frames to the processor, which has none.
+pub(crate) fn give_some<N: BootName>(
     rt: &impl Abort,
     tables: &Tables<N>,
     zone: &mut FrameSeat,
     cpu: &mut Cpu<N>,
-    count: u32,
+    given: Given,
 )
-    requires frames { (count ≤ N.frames.frames) × (count ≤ 256) }
+    requires frames { (given.to ≤ N.frames.frames) × (given.to ≤ 256) × (given.from ≤ given.to) }
     requires zone { IsZoneSeat N.frames zone.old × (zone.old.view ≡ first_zone_view N.frames.frames) }
-    requires cpu { (cpu.old.number ≡ 1) × (cpu.old.list ≡ []) × (cpu.old.fresh ≡ []) }
+    requires cpu { (cpu.old.number ≡ given.cpu) × (cpu.old.list ≡ []) × (cpu.old.fresh ≡ []) }
     ensures zone { IsZoneSeat N.frames zone.new }
-    ensures shut { IsShut zone.new 1 }
-    ensures cpu { (cpu.new.number ≡ 1) × (cpu.new.fresh ≡ []) }
+    ensures shut { IsShut zone.new given.cpu }
+    ensures cpu { (cpu.new.number ≡ given.cpu) × (cpu.new.fresh ≡ []) }
+    ensures own { (k : ℕ) → k < given.from → IsInOwnHand zone.new k }
 {
     cpu.open(tables, zone);
-    for n in 0..count {
+    for n in given.from..given.to {
         let frame = frame_of(rt, tables, n);
         give(tables, zone, cpu, frame);
     }
@@ -591,7 +605,7 @@ pub(crate) fn give_first<N: BootName>(
 fn take<N: BootName>(rt: &impl Abort, tables: &Tables<N>, cpu: &mut Cpu<N>, count: u32) {
     for n in 0..count {
         let frame = frame_of(rt, tables, n);
-        same(rt, cpu.alloc_fast(tables, 1), Fast::Got(frame));
+        fast(rt, tables, cpu, 1, Fast::Got(frame));
     }
 }
 
@@ -599,8 +613,7 @@ fn take<N: BootName>(rt: &impl Abort, tables: &Tables<N>, cpu: &mut Cpu<N>, coun
 fn drop_all<N: BootName>(rt: &impl Abort, tables: &Tables<N>, cpu: &mut Cpu<N>, count: u32) {
     for n in 0..count {
         let frame = frame_of(rt, tables, n);
-        assert!(rt; cpu.has_fresh(frame));
-        same(rt, cpu.drop_fresh(tables, frame), Dropped::Listed);
+        drops(rt, tables, cpu, frame, Dropped::Listed);
     }
 }
 
@@ -622,16 +635,26 @@ fn fresh_runs_out<N: BootName>(rt: &impl Abort, alloc: Global, parts: Parts<40>)
 {
     let (tables, mut zone, mut machine, mut cpu, second) = set_up::<N, 40>(rt, alloc, parts);
     cpu.fill(&tables, &mut machine, 1, 40);
-    give_first(rt, &tables, &mut zone, &mut cpu, 33);
+    give_some(
+        rt,
+        &tables,
+        &mut zone,
+        &mut cpu,
+        Given {
+            cpu: 1,
+            from: 0,
+            to: 33,
+        },
+    );
     take(rt, &tables, &mut cpu, 32);
-    same(rt, cpu.alloc_fast(&tables, 1), Fast::FreshFull);
+    fast(rt, &tables, &mut cpu, 1, Fast::FreshFull);
     same(rt, cpu.fresh_len(), 32);
     drop_all(rt, &tables, &mut cpu, 32);
     same(rt, cpu.list_len(), 33);
     same(rt, cpu.drops(), 32);
     same(rt, cpu.number(), 1);
     give_back(&tables, &mut zone, &mut cpu);
-    same(rt, cpu.alloc_fast(&tables, 1), Fast::ListEmpty);
+    fast(rt, &tables, &mut cpu, 1, Fast::ListEmpty);
     give_up(rt, tables, cpu, second);
 }
 

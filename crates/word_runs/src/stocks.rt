@@ -58,17 +58,8 @@ fn takes_both(rt: &impl Abort, words: &StockWords, machine: &mut StockSeat, seat
 {
     words.fill(machine, seat, 63, 2);
     same(rt, take_left(words, machine, seat), true);
-    same(
-        rt,
-        seat.last(),
-        Stock::HeldBy {
-            group: 63,
-            pages: 1,
-        },
-    );
     same(rt, words.consume(seat, 63), Consume::Took);
     same(rt, words.consume(seat, 63), Consume::Empty);
-    same(rt, words.look(machine, seat).pages(), 0);
 }
 
 #[test]

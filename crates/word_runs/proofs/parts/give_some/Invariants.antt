@@ -1,6 +1,6 @@
 use Rattle.std.proofs.Common.{◌≡◌, ◌<◌, ◌≤◌, ℕ, [], length}
 use Rattle.frame_word.specs.Seats.{IsZoneSeat, IsOpen, NothingPasses, IsInOwnHand}
-use Rattle.word_runs.proofs.parts.give_first.Given as goal
+use Rattle.word_runs.proofs.parts.give_some.Given as goal
 
 abbrev pub invariant-loop-n : goal.invariant-loop-n
 invariant-loop-n g l = record {
@@ -8,7 +8,9 @@ invariant-loop-n g l = record {
   opened : IsOpen l.zone l.cpu.number;
   still : NothingPasses g.N.BootName.frames l.zone l.cpu.seat;
   own : (k : ℕ) → l.n ≤ k → k < g.N.BootName.frames.frames → IsInOwnHand l.zone k;
-  number : l.cpu.number ≡ 1;
-  listed : length l.cpu.list ≡ l.n;
+  before : (k : ℕ) → k < l.fn.given.from → IsInOwnHand l.zone k;
+  begun : l.fn.given.from ≤ l.n;
+  number : l.cpu.number ≡ l.fn.given.cpu;
+  listed : length l.cpu.list ≤ l.n;
   fresh : l.cpu.fresh ≡ [];
 }
