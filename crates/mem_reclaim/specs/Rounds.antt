@@ -10,13 +10,15 @@ use Rattle.mem_reclaim.specs.Passes.{Reclaims}
 abbrev pub pages_missing : ℕ → ℕ → ℕ → Ledger → ℕ
 pages_missing group need limit ledger = current_of ledger group + need - limit
 
--- Rounds of reclaim from the group's subtree, at most so many, where `missing` tells how many pages are missing. Each round
--- wants the pages that are missing when it begins. They end as soon as none is missing, and after a round that gave none
+-- Rounds of reclaim from the group's subtree, at most so many, where `missing` tells how many pages are missing. Each
+-- round wants the pages that are missing when it begins. They end as soon as none is missing, and after a round that
+-- gave none
 abbrev pub MakesRounds : ℕ → (Ledger → ℕ) → ℕ → ℕ → KnownMachine → Run → KnownMachine → Type 0
 MakesRounds group missing zero given before steps after = Rests given before steps after
 MakesRounds group missing (suc more_rounds) given before steps after =
     ((missing before.ledger ≡ 0) × Rests given before steps after)
     ⊎ ((1 ≤ missing before.ledger) × (between : KnownMachine) × (first rest : Run) × (some more : ℕ)
     × Reclaims group (missing before.ledger) some before first between
-    × (((some ≡ 0) × Rests more between rest after) ⊎ ((1 ≤ some) × MakesRounds group missing more_rounds more between rest after))
+    × (((some ≡ 0) × Rests more between rest after)
+    ⊎ ((1 ≤ some) × MakesRounds group missing more_rounds more between rest after))
     × (given ≡ some + more) × (steps ≡ first ++ rest))

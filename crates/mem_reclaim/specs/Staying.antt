@@ -15,8 +15,8 @@ pub record IsDirtyUnit (links : List Link) (frame : ℕ) : Type 0 where
   pub kept : home_of links frame ≢ None
   pub dirty : (link_at links frame).is_dirty ≡ true
 
--- Stocks, killed groups, groups with their limits, and every visit stay, and none is opened or shut. No usage
--- rises. No dirty unit comes back. Who is kept was kept for the same group, as dirty as it is now. No miss is forgotten
+-- Stocks, killed groups, groups with their limits, and every visit stay, and none is opened or shut. No usage rises. No
+-- dirty unit comes back. Who is kept was kept for the same group, as dirty as it is now. No miss is forgotten
 pub record Keeps (table : KnownTable) (before after : KnownMachine) : Type 0 where
   pub stock : after.stock ≡ before.stock
   pub killed : after.killed ≡ before.killed

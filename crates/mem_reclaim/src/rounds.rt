@@ -17,7 +17,8 @@ use mem_machine::Machine;
 /// those alone that gave nothing.
 pub const MAX_ROUNDS: u32 = 16;
 
-// How many pages must come back from the group's subtree, so that with `need` pages more its usage is at most the limit.
+// How many pages must come back from the group's subtree, so that with `need` pages more its usage is at most the
+// limit.
 fn missing(charges: &Charges, group: GroupId, need: u32, limit: u32) -> u64
     requires { IsTrue (has_group charges.now.groups group) }
     ensures missing { result ≡ pages_missing group need limit charges.now }
@@ -26,9 +27,9 @@ fn missing(charges: &Charges, group: GroupId, need: u32, limit: u32) -> u64
     (u64::from(charges.current(group)) + u64::from(need)).saturating_sub(u64::from(limit))
 }
 
-/// Reclaims from the subtree of `group`, until its usage with `need` pages more is at most `limit`: in at most 16 rounds,
-/// each of which wants the pages that are missing then. A round that gave none is the last. It tells how many pages came
-/// back. Where that wasn't enough, each clean unit that the subtree still keeps was tried, and missed.
+/// Reclaims from the subtree of `group`, until its usage with `need` pages more is at most `limit`: in at most 16
+/// rounds, each of which wants the pages that are missing then. A round that gave none is the last. It tells how many
+/// pages came back. Where that wasn't enough, each clean unit that the subtree still keeps was tried, and missed.
 pub fn make_rounds<N: BootName>(
     machine: &mut Machine<N>,
     tables: &Tables<N>,
