@@ -1,5 +1,6 @@
 //! Of the reading core, on which the program doesn't run.
-//! Which steps may be made: a line of the table for each action.
+//! Which steps may be made: `may_ACTION` for each line of the table; what several lines share stands below them, from
+//! `has_group` on.
 
 ghost use Rattle.std.specs.Prelude.{◌≡◌};
 ghost use Rattle.group_tree.specs.Groups.{has_group};
@@ -243,7 +244,7 @@ fn has_group(rows: &Rows, group: GroupId) -> bool
     rows.tree.contains(group)
 }
 
-// The frame is the front of the processor's list, fresh, or a back frame there.
+// The frame is the front of the processor's list, fresh, or a back frame there: `may_pass_back` of the rules.
 fn may_pass(rows: &Rows, cpu: u32, frame: u32) -> bool
     ensures { result ≡ may_pass_back (state_in rows.now) cpu frame }
 {
@@ -252,14 +253,14 @@ fn may_pass(rows: &Rows, cpu: u32, frame: u32) -> bool
         || is_back_at(rows.phase(frame), cpu)
 }
 
-// The stock has no page, and the book is 0 or of the group.
+// The stock has no page, and the book is 0 or of the group: `may_fill` of the rules.
 fn may_take_fill(rows: &Rows, cpu: u32, group: GroupId) -> bool
     ensures { result ≡ may_fill ((state_in rows.now).parts cpu) group }
 {
     rows.stock_pages(cpu) == 0 && (rows.book(cpu) == 0 || is_of_group(rows.stock_group(cpu), group))
 }
 
-// The unit may come back.
+// The frame heads a unit that may come back: `may_return` of the rules.
 fn may_come_back(rows: &Rows, frame: u32) -> bool
     ensures { result ≡ may_return (state_in rows.now).killed ((state_in rows.now).phases frame) }
 {

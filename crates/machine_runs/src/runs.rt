@@ -1,4 +1,4 @@
-//! The runs.
+//! A run: random calls on the machine, compared after each with the account and the core.
 
 ghost use Rattle.std.specs.Prelude.{◌≡◌};
 ghost use Rattle.frame_word.specs.Seats.{first_zone_view};
