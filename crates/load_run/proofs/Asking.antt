@@ -24,7 +24,7 @@ use Rattle.load_run.specs.declared.settings.Settings.{Settings}
 use Rattle.load_run.specs.declared.fault.WordsFault.{WordsFault}
 use Rattle.load_run.specs.declared.fault.WordsFault.TheVariants.{BadWords, NoMemory}
 use Rattle.load_run.specs.Fault.{IsNoMemory}
-use Rattle.load_run.specs.Words.{Answers, if_none, number_in, number_kept, program, settings_of, settings_under, size_in}
+use Rattle.load_run.specs.Words.{TellsSettings, if_none, number_in, number_kept, program, settings_of, settings_under, size_in}
 
 -- ---- options
 
@@ -131,17 +131,17 @@ asked_nothing words kind among = go (fault_of program words) among
     go (k ∷ rest) some = refl
 
 -- a fault is what such words are answered
-pub answers_fault : (asked : Option Settings) (fault : WordsFault) → asked ≡ None → Answers asked (Err fault)
+pub answers_fault : (asked : Option Settings) (fault : WordsFault) → asked ≡ None → TellsSettings asked (Err fault)
 answers_fault asked (BadWords text) none = none
 answers_fault asked (NoMemory e) none = tt
 
 -- and want of memory is an answer to all words
-pub answers_memory : (asked : Option Settings) (fault : WordsFault) → IsNoMemory fault → Answers asked (Err fault)
+pub answers_memory : (asked : Option Settings) (fault : WordsFault) → IsNoMemory fault → TellsSettings asked (Err fault)
 answers_memory asked (BadWords text) memory = absurd memory
 answers_memory asked (NoMemory e) memory = tt
 
 -- settings that are answered are those that were asked for
-pub asked_ok : (asked : Option Settings) (r : Result Settings WordsFault) → Answers asked r → IfOk r (λ s. asked ≡ Some s)
+pub asked_ok : (asked : Option Settings) (r : Result Settings WordsFault) → TellsSettings asked r → IfOk r (λ s. asked ≡ Some s)
 asked_ok asked (Ok s) is = is
 asked_ok asked (Err fault) is = tt
 

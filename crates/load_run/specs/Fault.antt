@@ -17,7 +17,8 @@ IsNoMemory (words.NoMemory e) = ⊤
 -- where the fault is a bad line, it is the first that isn't good of what was read, for the sizes that were asked for
 abbrev pub TellsFirstBadLine : Option Settings → List ℕ → ProgramFault → Type 0
 TellsFirstBadLine asked read (Script (script.BadLine n)) =
-    (settings : Settings) × (asked ≡ Some settings) × HasSizesInRange settings.sizes × IsFirstBadLine settings.sizes read n
+    (settings : Settings) × (asked ≡ Some settings) × HasSizesInRange settings.sizes
+    × IsFirstBadLine settings.sizes read n
 TellsFirstBadLine asked read fault = ⊤
 
 -- 2 where the program was used wrongly, 1 where it failed at its work

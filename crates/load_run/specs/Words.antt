@@ -73,6 +73,7 @@ size_in name most found = option_and_then (number_in most) (one_of name found)
 abbrev pub is_given : List ℕ → List Row → Bool
 is_given name found = option_map_or (λ text. bytes_eq text (codes "true")) (one_of name found) false
 
+-- what f makes of the value, where there is one: by this the lines of a `do` follow each other
 infixl 10 ◌>>=◌
 abbrev ◌>>=◌ : {A B : Type 0} → Option A → (A → Option B) → Option B
 o >>= f = option_and_then f o
@@ -108,7 +109,7 @@ settings_of words =
     if_none (fault_of program words) (option_and_then (λ p. settings_under p.0 p.1) (subcommand_of program words))
 
 -- what the words are answered: the settings that they ask for; a fault where they ask for none; or that memory ran out
-abbrev pub Answers : Option Settings → Result Settings WordsFault → Type 0
-Answers asked (Ok settings) = asked ≡ Some settings
-Answers asked (Err (BadWords text)) = asked ≡ None
-Answers asked (Err (NoMemory e)) = ⊤
+abbrev pub TellsSettings : Option Settings → Result Settings WordsFault → Type 0
+TellsSettings asked (Ok settings) = asked ≡ Some settings
+TellsSettings asked (Err (BadWords text)) = asked ≡ None
+TellsSettings asked (Err (NoMemory e)) = ⊤

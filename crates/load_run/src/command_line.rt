@@ -6,7 +6,7 @@ ghost use Rattle.clap.specs.declared.builder.command.Command.TheViews.{out-Comma
 ghost use Rattle.clap.specs.declared.builder.value_parser.ValueParser.TheVariants.{Signed};
 ghost use Rattle.load_run.specs.Fault.{IsNoMemory};
 ghost use Rattle.load_run.specs.Settings.{HasSizesInRange};
-ghost use Rattle.load_run.specs.Words.{Answers, flag_rule, program, replay_shape, settings_of, size_rule};
+ghost use Rattle.load_run.specs.Words.{TellsSettings, flag_rule, program, replay_shape, settings_of, size_rule};
 
 use crate::fault::WordsFault;
 use crate::settings::{
@@ -41,7 +41,7 @@ pub fn words<R: Env + AllocGlobal>(rt: &R) -> Result<Vec<String>, WordsFault> {
 /// `Config::is_valid` asks more: high is at least batch. A size that is left out is 16, 2, 4, 8, 4 in turn.
 /// Anything else is a fault of the words, a request for help too.
 pub fn parse_words<S: AsStr>(alloc: Global, words: &[S]) -> Result<Settings, WordsFault>
-    ensures asked { Answers (settings_of (map S.text words.now)) result }
+    ensures asked { TellsSettings (settings_of (map S.text words.now)) result }
     ensures in_range { IfOk result (λ o. HasSizesInRange o.sizes) }
 {
     let mut command = memcg(alloc).map_err(WordsFault::NoMemory)?;

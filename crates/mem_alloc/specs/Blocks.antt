@@ -14,7 +14,7 @@ use Rattle.mem_alloc.specs.declared.faults.AllocFault.{AllocFault}
 use Rattle.mem_alloc.specs.declared.faults.AllocFault.TheVariants.{Over, NoFrames, Killed}
 use Rattle.mem_alloc.specs.Stepping.{Course, course, of_machine}
 use Rattle.mem_alloc.specs.Room.{MakesRoom, IsOverAt}
-use Rattle.mem_alloc.specs.Frames.{IsDead}
+use Rattle.mem_alloc.specs.Frames.{RefusesKilled}
 
 -- The charge of the block may be refused first, at the groups `refused_at`, which have room then; after that the group
 -- is charged for it, and has it
@@ -104,4 +104,4 @@ AllocatesBlock g k (Err (Over over)) way =
     (is_killed way.before.machine.killed g ≡ false) × IsNotCharged g k over way
 AllocatesBlock g k (Err NoFrames) way =
     (is_killed way.before.machine.killed g ≡ false) × TriesAgain g k (Err NoFrames) way
-AllocatesBlock g k (Err Killed) way = IsDead g way
+AllocatesBlock g k (Err Killed) way = RefusesKilled g way

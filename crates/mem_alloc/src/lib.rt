@@ -1,4 +1,5 @@
 //! Allocations that a processor makes under the zone's lock: pages are charged to a group, and frames are taken for it.
+//! One that is refused gives no frame and charges no page; what was noted and drained for it stands.
 //!
 //! A line that ends in 'For the clauses' calls a reader for what its contract tells, and changes nothing: what always
 //! holds of a type's values is known only where one of its calls says it.

@@ -28,29 +28,29 @@ use zone_blocks::order::Order;
 fn collect_fresh<N: BootName>(
     tables: &Tables<N>,
     cpu: &mut Cpu<N>,
-    zone: &mut FrameSeat,
-    machine: &mut StockSeat,
+    seat: &mut FrameSeat,
+    stock: &mut StockSeat,
 ) -> Frame
-    requires zone { IsZoneSeat N.frames zone.old }
-    requires machine { (machine.old.table ≡ N.stocks.table) × IsMachine machine.old.view }
-    requires open { IsOpen zone.old cpu.old.number }
-    requires still { NothingPasses N.frames zone.old cpu.old.seat }
+    requires zone { IsZoneSeat N.frames seat.old }
+    requires machine { (stock.old.table ≡ N.stocks.table) × IsMachine stock.old.view }
+    requires open { IsOpen seat.old cpu.old.number }
+    requires still { NothingPasses N.frames seat.old cpu.old.seat }
     requires fresh { cpu.old.fresh ≢ [] }
     ensures cpu { HandsFresh result cpu.old cpu.new }
     ensures frame { result < N.frames.frames }
-    ensures zone { zone.new ≡ seat_with zone.old result (collected_from cpu.old.number) }
-    ensures machine { machine.new ≡ after_page_absorbed machine.old cpu.old.number }
-    ensures nothing { HasNothingOf zone.old result }
-    ensures lent { IsLent zone.old result cpu.old.number }
-    ensures booked { HasUnnotedPage (account_of machine.old.view cpu.old.number) }
-    ensures group { group_of cpu.old.stock.view.last ≡ (account_of machine.old.view cpu.old.number).group }
+    ensures zone { seat.new ≡ seat_with seat.old result (collected_from cpu.old.number) }
+    ensures machine { stock.new ≡ after_page_absorbed stock.old cpu.old.number }
+    ensures nothing { HasNothingOf seat.old result }
+    ensures lent { IsLent seat.old result cpu.old.number }
+    ensures booked { HasUnnotedPage (account_of stock.old.view cpu.old.number) }
+    ensures group { group_of cpu.old.stock.view.last ≡ (account_of stock.old.view cpu.old.number).group }
 {
     let number = cpu.number();
-    let Some(frame) = cpu.hand_fresh(tables, zone, machine) else {
+    let Some(frame) = cpu.hand_fresh(tables, seat, stock) else {
         unreachable!()
     };
-    cpu.collect(tables, zone, frame);
-    tables.stocks.absorb(machine, number);
+    cpu.collect(tables, seat, frame);
+    tables.stocks.absorb(stock, number);
     frame
 }
 

@@ -121,7 +121,7 @@ impl<N: BootName> Machine<N> {
     /// Tries once to prepay `pages` pages (1 to 65,535) of a group that isn't killed. The caller's own stock is drained
     /// first, and all its pages are taken back; then the pages are charged to the group and fill the stock. Where a
     /// limit has no room, the error names the lowest such group, and nothing is charged. The processor has no fresh
-    /// frame. In all, at most 2^32 - 1 pages can be charged, as `Charges::fits` tells.
+    /// frame. In all, at most 2^32 - 1 pages can be charged, as `see_room` tells.
     pub fn prepay(
         &mut self,
         tables: &Tables<N>,

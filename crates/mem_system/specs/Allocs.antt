@@ -15,12 +15,14 @@ use Rattle.mem_system.specs.declared.command.Reply.{Reply}
 use Rattle.mem_system.specs.declared.command.Reply.TheVariants.{Frame, OverLimit, Refused}
 
 -- an allocation of this order for the group: a single frame, or a block
-pub record AllocatesAs (sizes : Config) (group order : ℕ) (answer : Result ℕ AllocFault) (way : Course Side) : Type 0 where
+pub record AllocatesAs (sizes : Config) (group order : ℕ) (answer : Result ℕ AllocFault)
+    (way : Course Side) : Type 0 where
   pub frame : order ≡ 0 → AllocatesFrame sizes group answer way
   pub block : order ≢ 0 → AllocatesBlock group order answer way
 
 -- the path is that of a group and the order is one of 0 to 10: the allocation is made for the group, with this answer
-pub record AllocatesFor (sizes : Config) (path : List ℕ) (order : ℕ) (answer : Result ℕ AllocFault) (way : Course Side) : Type 0 where
+pub record AllocatesFor (sizes : Config) (path : List ℕ) (order : ℕ) (answer : Result ℕ AllocFault)
+    (way : Course Side) : Type 0 where
   pub group : ℕ
   pub found : number_at way.before.machine.ledger.groups path ≡ Some group
   pub within : order ≤ 10
@@ -38,7 +40,8 @@ abbrev pub Allocates : Config → List ℕ → ℕ → Reply → Course Side →
 Allocates sizes path order (Frame f) way = AllocatesFor sizes path order (Ok f) way
 Allocates sizes path order (OverLimit g text) way =
     AllocatesFor sizes path order (Err (Over g)) way × (path_of way.after.machine.ledger.groups g ≡ Some text)
-Allocates sizes path order (Refused fault.NoGroup) way = (number_at way.before.machine.ledger.groups path ≡ None) × Stays way
+Allocates sizes path order (Refused fault.NoGroup) way =
+    (number_at way.before.machine.ledger.groups path ≡ None) × Stays way
 Allocates sizes path order (Refused fault.BadOrder) way = HasBadOrder path order way
 Allocates sizes path order (Refused fault.NoFrames) way = AllocatesFor sizes path order (Err NoFrames) way
 Allocates sizes path order (Refused fault.Killed) way = AllocatesFor sizes path order (Err Killed) way

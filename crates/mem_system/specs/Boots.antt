@@ -26,7 +26,8 @@ pub record IsSizedAs (sizes : Config) (table : KnownTable) (words : Words) : Typ
 
 -- the sizes are in their ranges, the tables have them, and the seats are all those of the tables, none of which did
 -- anything
-pub record IsBooted (boot : KnownBoot) (zone : KnownSeat) (stock : Seated) (frame_seats : List KnownSeat) (stock_seats : List Seated) : Type 0 where
+pub record IsBooted (boot : KnownBoot) (zone : KnownSeat) (stock : Seated)
+    (frame_seats : List KnownSeat) (stock_seats : List Seated) : Type 0 where
   pub valid : IsValidConfig boot.sizes
   pub sized : IsSizedAs boot.sizes boot.frames boot.stocks
   pub zone_is : zone ≡ record { table = boot.frames.table; view = first_zone_view boot.frames.frames }
@@ -53,7 +54,9 @@ pub record HasRoom (cpus frame_count frame_room stock_count stock_room : ℕ) : 
 
 -- the part of processor p, which did nothing yet
 abbrev pub part_at_first : KnownTable → Words → ℕ → KnownCpu
-part_at_first t w p = first_cpu (record { table = t.table; view = first_cpu_view p }) (record { table = w.table; view = first_processor p })
+part_at_first t w p =
+    first_cpu (record { table = t.table; view = first_cpu_view p })
+    (record { table = w.table; view = first_processor p })
 
 -- the parts of n processors, from p on, which did nothing yet: no frame is listed, fresh or back, and there is no pin
 abbrev pub first_cpus : KnownTable → Words → ℕ → ℕ → List KnownCpu

@@ -15,11 +15,13 @@ use Rattle.mem_machine.specs.Machines.{KnownMachine, AddsGroup}
 use Rattle.mem_machine.specs.Local.{Side, side, Makes}
 use Rattle.mem_machine.specs.Stocks.{DrainsAllBelow}
 use Rattle.mem_machine.specs.Settling.{Settles, settle_steps}
-use Rattle.mem_machine.specs.Steps.{Drain, open_steps, shut_steps, make_steps, remove_steps, set_max_steps, drain_stocks_steps}
+use Rattle.mem_machine.specs.Steps.{Drain, open_steps, shut_steps, make_steps, remove_steps, set_max_steps}
+use Rattle.mem_machine.specs.Steps.{drain_stocks_steps}
 -- how a call is said by its steps
 pub use Rattle.mem_alloc.specs.Stepping.{Course, course, of_machine, OfMachine, BySteps, Stays}
 use Rattle.mem_system.specs.declared.command.Cmd.{Cmd}
-use Rattle.mem_system.specs.declared.command.Cmd.TheVariants.{Mkdir, Rmdir, Write, Read, Settle, Owner, Touch, Dirty, Clean, Release, Alloc}
+use Rattle.mem_system.specs.declared.command.Cmd.TheVariants.{Mkdir, Rmdir, Write, Read, Settle, Owner}
+use Rattle.mem_system.specs.declared.command.Cmd.TheVariants.{Touch, Dirty, Clean, Release, Alloc}
 use Rattle.mem_system.specs.declared.command.Reply.{Reply}
 use Rattle.mem_system.specs.declared.command.Reply.TheVariants.{Group, Done, Refused}
 use Rattle.mem_system.specs.declared.outcome.Outcome.{Outcome}
@@ -35,8 +37,11 @@ use Rattle.mem_system.specs.Allocs.{Allocates, FreshOf}
 -- Mkdir: no cause of a refusal holds, and the group is made, as the machine makes it; or it is refused for the first
 -- cause that holds, and nothing changed
 abbrev pub MakesGroup : List ℕ → Reply → Course KnownMachine → Type 0
-MakesGroup path (Group n) way = (make_fault way.before.ledger.groups path ≡ None) × AddsGroup way.before n path way.after × (way.steps ≡ make_steps path n)
-MakesGroup path (Refused fault) way = (make_fault way.before.ledger.groups path ≡ Some fault) × (way.after ≡ way.before) × (way.steps ≡ [])
+MakesGroup path (Group n) way =
+    (make_fault way.before.ledger.groups path ≡ None) × AddsGroup way.before n path way.after
+    × (way.steps ≡ make_steps path n)
+MakesGroup path (Refused fault) way =
+    (make_fault way.before.ledger.groups path ≡ Some fault) × (way.after ≡ way.before) × (way.steps ≡ [])
 MakesGroup path other way = ⊥
 
 -- the stocks of the group are drained, which leaves it no page, and it is gone
@@ -64,7 +69,8 @@ pub record StaysBusy (path : List ℕ) (way : Course KnownMachine) : Type 0 wher
 abbrev pub Removes : List ℕ → Reply → Course KnownMachine → Type 0
 Removes path Done way = RemovesGroup path way
 Removes path (Refused Busy) way = StaysBusy path way
-Removes path (Refused fault) way = HasNoLeaf way.before.ledger.groups path fault × (way.after ≡ way.before) × (way.steps ≡ [])
+Removes path (Refused fault) way =
+    HasNoLeaf way.before.ledger.groups path fault × (way.after ≡ way.before) × (way.steps ≡ [])
 Removes path other way = ⊥
 
 -- the machine with another limit of the group
@@ -92,7 +98,8 @@ pub record WritesLimit (path name value : List ℕ) (way : Course KnownMachine) 
 -- Write: the limit is set; or it is refused, and nothing changed
 abbrev pub Writes : List ℕ → List ℕ → List ℕ → Reply → Course KnownMachine → Type 0
 Writes path name value Done way = WritesLimit path name value way
-Writes path name value (Refused fault) way = RefusesWrite way.before.ledger.groups path name value fault × (way.after ≡ way.before) × (way.steps ≡ [])
+Writes path name value (Refused fault) way =
+    RefusesWrite way.before.ledger.groups path name value fault × (way.after ≡ way.before) × (way.steps ≡ [])
 Writes path name value other way = ⊥
 
 -- a frame that the command names is one of so many
@@ -112,7 +119,8 @@ IsOfZone t command = NamesFrameBelow t.frames command
 abbrev pub Obeys : Config → Cmd → Reply → Course Side → Type 0
 Obeys sizes (Mkdir path) reply way = MakesGroup path.now reply (of_machine way) × (way.after.cpu ≡ way.before.cpu)
 Obeys sizes (Rmdir path) reply way = Removes path.now reply (of_machine way) × (way.after.cpu ≡ way.before.cpu)
-Obeys sizes (Write path file value) reply way = Writes path.now file.now value.now reply (of_machine way) × (way.after.cpu ≡ way.before.cpu)
+Obeys sizes (Write path file value) reply way =
+    Writes path.now file.now value.now reply (of_machine way) × (way.after.cpu ≡ way.before.cpu)
 Obeys sizes (Read path file) reply way = Reads way.before.machine.ledger path.now file.now reply × Stays way
 Obeys sizes Settle reply way = (reply ≡ Done) × Stays way
 Obeys sizes (Owner f) reply way = TellsPlace way.before.machine f reply × Stays way
@@ -171,7 +179,8 @@ pub record Serves (cmd : Cmd) (reply : Reply) (way : Course Holder) : Type 0 whe
   pub obeys : Obeys way.before.locked.sizes cmd reply (course way.table settled inner (side done way.after.cpu))
   pub machine : way.after.locked.machine ≡ with_visit_of done way.before.cpu.number 0
   pub sizes : way.after.locked.sizes ≡ way.before.locked.sizes
-  pub steps_are : way.steps ≡ open_steps way.before.cpu.number ++ (settle_steps (visited (side_of way.before)) ++ (inner ++ shut_steps way.before.cpu.number))
+  pub steps_are : way.steps ≡ open_steps way.before.cpu.number
+      ++ (settle_steps (visited (side_of way.before)) ++ (inner ++ shut_steps way.before.cpu.number))
 
 -- a command was served under the lock, by steps, and this was its reply
 abbrev pub IsServed : KnownTable → Cmd → Holder → Reply → Holder → Type 0

@@ -1,6 +1,7 @@
 -- How a system ends: each processor is settled, each list given back and each stock drained, and then the tables are
 -- closed.
-use Rattle.std.specs.Prelude.{◌≡◌, ℕ, ◌+◌, ◌≤◌, ◌<◌, false, is_some, List, [], ◌∷◌, ◌++◌, length, map, min, sum_by, slice_index, All}
+use Rattle.std.specs.Prelude.{◌≡◌, ℕ, ◌+◌, ◌≤◌, ◌<◌, false, is_some, List, [], ◌∷◌, ◌++◌, length, map, min}
+use Rattle.std.specs.Prelude.{sum_by, slice_index, All}
 use Rattle.frame_word.specs.ReferenceRule.{ReferenceRule}
 use Rattle.step_rules.specs.State.{one_if}
 use Rattle.frame_word.specs.Seats.{KnownTable, KnownSeat, view_of}

@@ -21,7 +21,8 @@ pub record IsFileOf (groups : List Group) (path name : List ℕ) (group : ℕ) (
 -- no group has the path; or it is the root's, or no file has the name
 abbrev pub HasNoFile : List Group → List ℕ → List ℕ → Fault → Type 0
 HasNoFile groups path name NoGroup = number_at groups path ≡ None
-HasNoFile groups path name NoFile = (g : ℕ) × (number_at groups path ≡ Some g) × ((g ≡ 0) ⊎ ((file : File) → name ≢ name_of file))
+HasNoFile groups path name NoFile =
+    (g : ℕ) × (number_at groups path ≡ Some g) × ((g ≡ 0) ⊎ ((file : File) → name ≢ name_of file))
 HasNoFile groups path name fault = ⊥
 
 -- the text is that of the file of the group
@@ -47,7 +48,8 @@ RefusesValue file value fault = ⊥
 -- why nothing is written: there is no such file, or it doesn't take the value
 abbrev pub RefusesWrite : List Group → List ℕ → List ℕ → List ℕ → Fault → Type 0
 RefusesWrite groups path name value fault =
-    HasNoFile groups path name fault ⊎ ((g : ℕ) × (file : File) × IsFileOf groups path name g file × RefusesValue file value fault)
+    HasNoFile groups path name fault
+    ⊎ ((g : ℕ) × (file : File) × IsFileOf groups path name g file × RefusesValue file value fault)
 
 -- so many pages are more than the limit
 abbrev pub IsAbove : ℕ → Option ℕ → Type 0

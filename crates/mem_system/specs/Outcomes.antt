@@ -6,8 +6,8 @@ use Rattle.control_files.specs.Files.{file_text}
 use Rattle.mem_system.specs.declared.outcome.Outcome.{Outcome}
 use Rattle.mem_system.specs.declared.outcome.Outcome.TheVariants as outcome
 use Rattle.mem_system.specs.declared.command.Reply.{Reply}
-use Rattle.mem_system.specs.declared.command.Reply.TheVariants.{Group, Frame, Done, Text, Free, Lent, Charged, Marked, Active, Left, Returned, OverLimit}
-use Rattle.mem_system.specs.declared.command.Reply.TheVariants.{Refused}
+use Rattle.mem_system.specs.declared.command.Reply.TheVariants.{Group, Frame, Done, Text, Free, Lent, Charged}
+use Rattle.mem_system.specs.declared.command.Reply.TheVariants.{Marked, Active, Left, Returned, OverLimit, Refused}
 
 -- the path, empty where there is none
 abbrev pub path_or_empty : Option (List ℕ) → List ℕ

@@ -11,5 +11,6 @@ use Rattle.mem_system.specs.declared.command.Reply.TheVariants.{Free, Lent, Char
 abbrev pub TellsPlace : KnownMachine → ℕ → Reply → Type 0
 TellsPlace m f Free = place_of (spot_at m.spots f) ≡ place.Free
 TellsPlace m f (Lent p) = place_of (spot_at m.spots f) ≡ place.Lent p
-TellsPlace m f (Charged g path) = (place_of (spot_at m.spots f) ≡ place.Charged g) × (path_of m.ledger.groups g ≡ Some path)
+TellsPlace m f (Charged g path) =
+    (place_of (spot_at m.spots f) ≡ place.Charged g) × (path_of m.ledger.groups g ≡ Some path)
 TellsPlace m f other = ⊥

@@ -36,7 +36,8 @@ pub record ReturnsFrames (sizes : Config) (frame : ℕ) (way : Course Side) : Ty
   pub freed : KnownMachine
   pub returns : ReturnsUnit way.before.machine frame freed
   pub listing : Run
-  pub single : returns.unit.order ≡ 0 → ListsFrame sizes frame (course way.table (side freed way.before.cpu) listing way.after)
+  pub single : returns.unit.order ≡ 0
+      → ListsFrame sizes frame (course way.table (side freed way.before.cpu) listing way.after)
   pub block : returns.unit.order ≢ 0 → (way.after.machine ≡ freed) × (way.after.cpu ≡ way.before.cpu) × (listing ≡ [])
   pub steps_are : way.steps ≡ release_steps frame released.Returned ++ listing
 

@@ -1,4 +1,4 @@
-//! How a boot is made.
+//! How a boot is made: its two tables, with all their seats; or why there is none.
 
 ghost use Rattle.std.specs.Prelude.{◌≡◌, ◌↔◌, IfOk};
 ghost use Rattle.zone_sizes.specs.Config.{IsValidConfig};

@@ -1,4 +1,4 @@
-//! A boot, and how it starts.
+//! A boot, and the tables, machine and processors' parts that it is taken apart into.
 
 ghost use Rattle.std.specs.Prelude.{◌≡◌, length, All, IfOk};
 ghost use Rattle.frame_word.specs.Seats.{first_cpu_seats};

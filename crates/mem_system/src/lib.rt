@@ -1,5 +1,6 @@
 //! The system: a boot's tables, the machine behind the zone's lock and a part for each processor, and the commands
-//! that a processor makes under that lock.
+//! that a processor makes under that lock. Each is served in a visit, as a list of steps of the core, and whoever takes
+//! the lock finds no visit open.
 //!
 //! A line that ends in 'For the clauses' calls a reader for what its contract tells, and changes nothing: what always
 //! holds of a type's values is known only where one of its calls says it.

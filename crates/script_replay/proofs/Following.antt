@@ -60,7 +60,7 @@ use Rattle.script_replay.specs.declared.work.Work.TheVariants as work
 use Rattle.script_replay.specs.Answers.{RepliesServed, AnswersGet, AnswersPut, CanNotList, AnswersRelease, AnswersSettle, AnswersFrame}
 use Rattle.script_replay.specs.Answers.{Answers, AnswersWork}
 use Rattle.script_replay.specs.Ranges.{WorkInRange}
-use Rattle.script_replay.specs.History.{served_steps, taken_steps, get_steps, put_steps, frame_steps, release_steps, settle_steps, answer_steps, work_steps}
+use Rattle.script_replay.specs.History.{served_steps, fast_answer_steps, get_steps, put_steps, frame_steps, release_answer_steps, settle_answer_steps, answer_steps, work_steps}
 
 -- ---- what no one sees
 
@@ -208,14 +208,14 @@ module _ (t : KnownTable) (w : Words) (run : Run) (locked : KnownLocked) (cpus :
   this_part : IsPart t w run m cpus k c
   this_part = record { shows = shows; is_part = is_part; tied = (tied k c is_part).tied }
 
-  got_follows : (g f : ℕ) (after : Holder) → FastAnswers g (Got f) c after.cpu → after.locked ≡ locked → Decided (taken_steps p g (Got f)) →
-      Follows (taken_steps p g (Got f)) after
+  got_follows : (g f : ℕ) (after : Holder) → FastAnswers g (Got f) c after.cpu → after.locked ≡ locked → Decided (fast_answer_steps p g (Got f)) →
+      Follows (fast_answer_steps p g (Got f)) after
   got_follows g f after is kept decided =
       step_follows (step.Consume g) says.Took after kept (ap (λ (x : KnownCpu). x.number) is.5) refl
       (fast_calls_lead.got t w run m cpus k c after.cpu this_part g f is decided) decided
 
-  fast_follows : (g : ℕ) (said : fast.Fast) (after : Holder) → FastAnswers g said c after.cpu → after.locked ≡ locked → Decided (taken_steps p g said) →
-      Follows (taken_steps p g said) after
+  fast_follows : (g : ℕ) (said : fast.Fast) (after : Holder) → FastAnswers g said c after.cpu → after.locked ≡ locked → Decided (fast_answer_steps p g said) →
+      Follows (fast_answer_steps p g said) after
   fast_follows g FreshFull after is kept decided = unseen_follows after kept (fast_unseen t m c g FreshFull after.cpu is (λ f e. cc))
   fast_follows g ListEmpty after is kept decided = unseen_follows after kept (fast_unseen t m c g ListEmpty after.cpu is (λ f e. cc))
   fast_follows g OtherGroup after is kept decided = unseen_follows after kept (fast_unseen t m c g OtherGroup after.cpu is (λ f e. cc))
@@ -264,7 +264,7 @@ module _ (t : KnownTable) (w : Words) (run : Run) (locked : KnownLocked) (cpus :
   frame_follows path said after is shut decided = absurd is
 
   release_follows : (f : ℕ) (said : Answer) (after : Holder) (is : AnswersRelease t f before said after) → AllShut after.locked.machine →
-      Decided (release_steps t f before said after is) → Follows (release_steps t f before said after is) after
+      Decided (release_answer_steps t f before said after is) → Follows (release_answer_steps t f before said after is) after
   release_follows f answer.Listed after is shut decided =
       step_follows (step.Credit f) says.Back after is.2 (ap (λ (x : KnownCpu). x.number) is.1.5) refl
       (fast_calls_lead.listed t w run m cpus k c after.cpu this_part f is.0 is.1 decided) decided
@@ -273,7 +273,7 @@ module _ (t : KnownTable) (w : Words) (run : Run) (locked : KnownLocked) (cpus :
   release_follows f said after is shut decided = absurd is
 
   settle_follows : (said : Answer) (after : Holder) (is : AnswersSettle t before said after) → AllShut after.locked.machine →
-      Decided (settle_steps t before said after is) → Follows (settle_steps t before said after is) after
+      Decided (settle_answer_steps t before said after is) → Follows (settle_answer_steps t before said after is) after
   settle_follows answer.Settled after is shut decided = served_follows c (unseen_same t m c c refl) cmd.Settle Done after is shut decided
   settle_follows said after is shut decided = absurd is
 

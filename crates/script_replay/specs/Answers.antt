@@ -22,7 +22,8 @@ use Rattle.reply_texts.specs.Answer as answer
 use Rattle.reply_texts.specs.Answers.{answer_text}
 use Rattle.script_lines.specs.declared.line.Command.{Command}
 use Rattle.script_replay.specs.declared.work.Work.{Work}
-use Rattle.script_replay.specs.declared.work.Work.TheVariants.{Visit, Frame, Fast, Release, Get, Put, Settle, Blocks, Show}
+use Rattle.script_replay.specs.declared.work.Work.TheVariants.{Visit, Frame, Fast, Release, Get, Put, Settle}
+use Rattle.script_replay.specs.declared.work.Work.TheVariants.{Blocks, Show}
 use Rattle.script_replay.specs.Works.{work_of}
 
 -- behind the text before stands what is written for an answer of which this is so
@@ -32,8 +33,10 @@ TellsAnswer is before after =
 
 -- where memory was there, the holder came from one to the other with this answer, of which the text behind the old
 -- one tells
-abbrev pub AddsAnswer : {T E : Type 0} → Result T E → (Holder → Answer → Holder → Type 0) → Holder → Holder → List ℕ → List ℕ → Type 0
-AddsAnswer result answers before after old new = IfOk result (λ _. TellsAnswer (λ said. answers before said after) old new)
+abbrev pub AddsAnswer : {T E : Type 0} → Result T E → (Holder → Answer → Holder → Type 0) → Holder → Holder
+    → List ℕ → List ℕ → Type 0
+AddsAnswer result answers before after old new =
+    IfOk result (λ _. TellsAnswer (λ said. answers before said after) old new)
 
 -- where memory was there, one came to the other with this text, which stands behind the old one
 abbrev pub AddsText : {S T E : Type 0} → Result T E → (S → List ℕ → S → Type 0) → S → S → List ℕ → List ℕ → Type 0
@@ -71,14 +74,16 @@ AnswersPut f before other after = ⊥
 -- the frame can't be listed again without the lock: it isn't fresh at the processor, or its stock was drained, which
 -- was seen
 abbrev pub CanNotList : ℕ → KnownCpu → KnownCpu → Type 0
-CanNotList f c seen = ((times f c.fresh ≡ 0) × (seen ≡ c)) ⊎ ((1 ≤ times f c.fresh) × DropAnswers f dropped.NeedVisit c seen)
+CanNotList f c seen =
+    ((times f c.fresh ≡ 0) × (seen ≡ c)) ⊎ ((1 ≤ times f c.fresh) × DropAnswers f dropped.NeedVisit c seen)
 
 -- Release: a fresh frame is listed again without the lock, where it can be; else the command is served under the lock
 abbrev pub AnswersRelease : KnownTable → ℕ → Holder → Answer → Holder → Type 0
 AnswersRelease t f before answer.Listed after =
     (1 ≤ times f before.cpu.fresh) × DropAnswers f dropped.Listed before.cpu after.cpu × (after.locked ≡ before.locked)
 AnswersRelease t f before (answer.Served reply) after =
-    (seen : KnownCpu) × CanNotList f before.cpu seen × IsServed t (cmd.Release f) (holder before.locked seen) reply after
+    (seen : KnownCpu) × CanNotList f before.cpu seen
+    × IsServed t (cmd.Release f) (holder before.locked seen) reply after
 AnswersRelease t f before other after = ⊥
 
 -- Settle: it was served

@@ -26,22 +26,25 @@ use Rattle.reply_texts.specs.Answer as answer
 use Rattle.script_lines.specs.declared.line.Line.{Line}
 use Rattle.script_lines.specs.declared.line.Line.TheVariants.{Go, At}
 use Rattle.script_replay.specs.declared.work.Work.{Work}
-use Rattle.script_replay.specs.declared.work.Work.TheVariants.{Visit, Frame, Fast, Release, Get, Put, Settle, Blocks, Show}
+use Rattle.script_replay.specs.declared.work.Work.TheVariants.{Visit, Frame, Fast, Release, Get, Put, Settle}
+use Rattle.script_replay.specs.declared.work.Work.TheVariants.{Blocks, Show}
 use Rattle.script_replay.specs.Works.{work_of}
-use Rattle.script_replay.specs.Answers.{RepliesServed, AnswersFrame, AnswersRelease, AnswersSettle, Answers, AnswersWork}
+use Rattle.script_replay.specs.Answers.{RepliesServed, AnswersFrame, AnswersRelease, AnswersSettle, Answers}
+use Rattle.script_replay.specs.Answers.{AnswersWork}
 use Rattle.script_replay.specs.Lines.{Standing, ServesLine}
 use Rattle.script_replay.specs.Ranges.{LineIsThere}
 
 -- ---- the steps of a line
 -- under the lock: Lock, the steps by which the command was served, Unlock
-abbrev pub served_steps : (t : KnownTable) (command : Cmd) (before : Holder) (said : Answer) (after : Holder) → RepliesServed t command before said after → Run
+abbrev pub served_steps : (t : KnownTable) (command : Cmd) (before : Holder) (said : Answer) (after : Holder)
+    → RepliesServed t command before said after → Run
 served_steps t command before (answer.Served reply) after is = under_lock before.cpu.number is.0
 served_steps t command before said after is = []
 
 -- a fast allocation that got a frame consumed a page, and any other made no step
-abbrev pub taken_steps : ℕ → ℕ → Taken → Run
-taken_steps p g (Got f) = cpu_makes p (step.Consume g) says.Took ∷ []
-taken_steps p g other = []
+abbrev pub fast_answer_steps : ℕ → ℕ → Taken → Run
+fast_answer_steps p g (Got f) = cpu_makes p (step.Consume g) says.Took ∷ []
+fast_answer_steps p g other = []
 
 -- a get that was held is one step, and any other made none
 abbrev pub get_steps : ℕ → ℕ → Answer → Run
@@ -54,51 +57,60 @@ put_steps p f (answer.Put put) = cpu_makes p (step.Put f) (put_answer put) ∷ [
 put_steps p f other = []
 
 -- an Alloc of a single frame, which was refused before the lock, or served under it
-abbrev pub frame_steps : (t : KnownTable) (path : Bor (List ℕ)) (before : Holder) (said : Answer) (after : Holder) → AnswersFrame t path before said after → Run
-frame_steps t path before (answer.Fast (Got f)) after is = cpu_makes before.cpu.number (step.Consume is.0) says.Took ∷ []
+abbrev pub frame_steps : (t : KnownTable) (path : Bor (List ℕ)) (before : Holder) (said : Answer) (after : Holder)
+    → AnswersFrame t path before said after → Run
+frame_steps t path before (answer.Fast (Got f)) after is =
+    cpu_makes before.cpu.number (step.Consume is.0) says.Took ∷ []
 frame_steps t path before (answer.Served reply) after (inl none) = []
 frame_steps t path before (answer.Served reply) after (inr served) = under_lock before.cpu.number served.2.0
 frame_steps t path before said after is = []
 
 -- a Release: a fresh frame that was listed again is that step, any other is served under the lock
-abbrev pub release_steps : (t : KnownTable) (f : ℕ) (before : Holder) (said : Answer) (after : Holder) → AnswersRelease t f before said after → Run
-release_steps t f before answer.Listed after is = cpu_makes before.cpu.number (step.Credit f) says.Back ∷ []
-release_steps t f before (answer.Served reply) after is = under_lock before.cpu.number is.2.0
-release_steps t f before said after is = []
+abbrev pub release_answer_steps : (t : KnownTable) (f : ℕ) (before : Holder) (said : Answer) (after : Holder)
+    → AnswersRelease t f before said after → Run
+release_answer_steps t f before answer.Listed after is = cpu_makes before.cpu.number (step.Credit f) says.Back ∷ []
+release_answer_steps t f before (answer.Served reply) after is = under_lock before.cpu.number is.2.0
+release_answer_steps t f before said after is = []
 
 -- a Settle is served under the lock
-abbrev pub settle_steps : (t : KnownTable) (before : Holder) (said : Answer) (after : Holder) → AnswersSettle t before said after → Run
-settle_steps t before answer.Settled after is = under_lock before.cpu.number is.0
-settle_steps t before said after is = []
+abbrev pub settle_answer_steps : (t : KnownTable) (before : Holder) (said : Answer) (after : Holder)
+    → AnswersSettle t before said after → Run
+settle_answer_steps t before answer.Settled after is = under_lock before.cpu.number is.0
+settle_answer_steps t before said after is = []
 
 -- the steps of what was done, and answered so
-abbrev pub answer_steps : (t : KnownTable) (work : Work) (before : Holder) (said : Answer) (after : Holder) → Answers t work before said after → Run
+abbrev pub answer_steps : (t : KnownTable) (work : Work) (before : Holder) (said : Answer) (after : Holder)
+    → Answers t work before said after → Run
 answer_steps t (Visit command) before said after is = served_steps t command before said after is
 answer_steps t (Frame path) before said after is = frame_steps t path before said after is
-answer_steps t (Fast group) before (answer.Fast fast) after is = taken_steps before.cpu.number group fast
-answer_steps t (Release frame) before said after is = release_steps t frame before said after is
+answer_steps t (Fast group) before (answer.Fast fast) after is = fast_answer_steps before.cpu.number group fast
+answer_steps t (Release frame) before said after is = release_answer_steps t frame before said after is
 answer_steps t (Get frame) before said after is = get_steps before.cpu.number frame said
 answer_steps t (Put frame) before said after is = put_steps before.cpu.number frame said
-answer_steps t Settle before said after is = settle_steps t before said after is
+answer_steps t Settle before said after is = settle_answer_steps t before said after is
 answer_steps t work before said after is = []
 
 -- so it is with what is told as text: `blocks` and `show` settle the processor under the lock
-abbrev pub work_steps : (t : KnownTable) (work : Work) (before : Holder) (text : List ℕ) (after : Holder) → AnswersWork t work before text after → Run
+abbrev pub work_steps : (t : KnownTable) (work : Work) (before : Holder) (text : List ℕ) (after : Holder)
+    → AnswersWork t work before text after → Run
 work_steps t Blocks before text after is = under_lock before.cpu.number is.0.0
 work_steps t Show before text after is = under_lock before.cpu.number is.0.0
 work_steps t work before text after is = answer_steps t work before is.0 after is.1
 
 -- the steps of a line that was served so; `go` makes none
-abbrev pub line_steps : (t : KnownTable) (before : Standing) (line : Line) (text : List ℕ) (after : Standing) → ServesLine t before line text after → Run
+abbrev pub line_steps : (t : KnownTable) (before : Standing) (line : Line) (text : List ℕ) (after : Standing)
+    → ServesLine t before line text after → Run
 line_steps t before Go text after is = []
 line_steps t before (At processor command) text after is =
     work_steps t (work_of command) (holder before.locked is.part) text (holder after.locked is.left) is.answers
 
 -- each answer of a Get, a Put, a Freeze, a drain, a Consume and a Credit among them is what all parts together decide
-abbrev pub LineIsDecided : (t : KnownTable) (before : Standing) (line : Line) (text : List ℕ) (after : Standing) → ServesLine t before line text after → Type 0
+abbrev pub LineIsDecided : (t : KnownTable) (before : Standing) (line : Line) (text : List ℕ) (after : Standing)
+    → ServesLine t before line text after → Type 0
 LineIsDecided t before Go text after is = Unit {0}
 LineIsDecided t before (At processor command) text after is =
-    AreDecided t before.cpus (side_of (holder before.locked is.part)) (line_steps t before (At processor command) text after is)
+    AreDecided t before.cpus (side_of (holder before.locked is.part))
+    (line_steps t before (At processor command) text after is)
 
 -- ---- the history
 -- the run is legal, and the promise holds after it of what stands then
@@ -114,7 +126,8 @@ TellsHistory t decided run s [] text e = (text ≡ []) × (e ≡ s)
 TellsHistory t decided run s (line ∷ lines) text e =
     (first : List ℕ) × (rest : List ℕ) × (mid : Standing) × (serves : ServesLine t s line first mid)
     × (decided → LineIsDecided t s line first mid serves → Keeps t (run ++ line_steps t s line first mid serves) mid)
-    × TellsHistory t (decided × LineIsDecided t s line first mid serves) (run ++ line_steps t s line first mid serves) mid lines rest e
+    × TellsHistory t (decided × LineIsDecided t s line first mid serves)
+    (run ++ line_steps t s line first mid serves) mid lines rest e
     × (text ≡ first ++ rest)
 
 -- ---- what is known of a line beside what it is answered
@@ -126,7 +139,8 @@ pub record StandsWell (t : KnownTable) (w : Words) (before after : Standing) : T
   pub tied : AreTied t w before.cpus → AreTied t w after.cpus
 
 -- the line names what is there, is served, and leaves all well
-pub record GoesWell (t : KnownTable) (w : Words) (before : Standing) (line : Line) (text : List ℕ) (after : Standing) : Type 0 where
+pub record GoesWell (t : KnownTable) (w : Words) (before : Standing) (line : Line) (text : List ℕ)
+    (after : Standing) : Type 0 where
   pub there : LineIsThere t.frames (length before.cpus) line
   pub serves : ServesLine t before line text after
   pub stands : StandsWell t w before after

@@ -2,8 +2,9 @@
 use Rattle.std.specs.Prelude.{zero, suc}
 use Rattle.mem_system.specs.declared.command.Cmd.TheVariants as cmd
 use Rattle.script_lines.specs.declared.line.Command.{Command}
-use Rattle.script_lines.specs.declared.line.Command.TheVariants.{Mkdir, Rmdir, Write, Read, Alloc, Fast, Release, Get, Put, Settle, Touch}
-use Rattle.script_lines.specs.declared.line.Command.TheVariants.{Dirty, Clean, Owner, Blocks, Show}
+use Rattle.script_lines.specs.declared.line.Command.TheVariants.{Mkdir, Rmdir, Write, Read, Alloc, Fast, Release}
+use Rattle.script_lines.specs.declared.line.Command.TheVariants.{Get, Put, Settle, Touch, Dirty, Clean}
+use Rattle.script_lines.specs.declared.line.Command.TheVariants.{Owner, Blocks, Show}
 use Rattle.script_replay.specs.declared.work.Work.{Work}
 use Rattle.script_replay.specs.declared.work.Work.TheVariants as work
 

@@ -1,4 +1,7 @@
 //! The lines of a script, served one after the other: by value of what lies behind the zone's lock, and through it.
+//!
+//! A line that ends in 'For the clauses' calls a reader for what its contract tells, and changes nothing: what always
+//! holds of a type's values is known only where one of its calls says it.
 #![tactic(auto)]
 
 mod command_answers;
