@@ -1,5 +1,6 @@
 //! What is measured on a system: commands that take the zone's lock, and what its processors do without it.
 ghost use Rattle.std.specs.Prelude.{◌≡◌, ◌<◌, length, IfOk};
+ghost use Rattle.mem_system.specs.Commands.{IsOfZone};
 
 use crate::costs::{Pace, Row, Subject, tell_rows};
 use crate::pins::tell_references;
@@ -49,6 +50,14 @@ const PATHS: [&[u8]; 8] = [
     b"/d/d/d/d/d/d/d/d",
 ];
 
+// Serves the command by a visit. What `System::visit` says of it is left out: for callers that want the reply alone its
+// clauses are minutes of a check.
+fn visit<N: BootName, R: Wait>(rt: &R, system: &System<N>, cpu: &mut Cpu<N>, cmd: &Cmd<'_>) -> Reply
+    requires { IsOfZone N.frames cmd.now }
+{
+    system.visit(rt, cpu, cmd)
+}
+
 // Makes the group of the path.
 fn make<N: BootName, R: Wait>(
     rt: &R,
@@ -56,7 +65,7 @@ fn make<N: BootName, R: Wait>(
     cpu: &mut Cpu<N>,
     path: &[u8],
 ) -> Result<GroupId> {
-    match system.visit(rt, cpu, &Cmd::Mkdir { path }) {
+    match visit(rt, system, cpu, &Cmd::Mkdir { path }) {
         Reply::Group(group) => Ok(group),
         _ => bail!("a group was not made"),
     }
@@ -75,7 +84,7 @@ pub fn alloc<N: BootName, R: Wait>(rt: &R, system: &System<N>, cpu: &mut Cpu<N>)
     ensures { IfOk result (λ f. f < N.frames.frames) }
 {
     let path = SHALLOW;
-    let number = match system.visit(rt, cpu, &Cmd::Alloc { path, order: 0 }) {
+    let number = match visit(rt, system, cpu, &Cmd::Alloc { path, order: 0 }) {
         Reply::Frame(number) => number,
         _ => bail!("a frame was not allocated"),
     };
@@ -89,7 +98,7 @@ fn alloc_and_release<N: BootName, R: Wait>(
     cpu: &mut Cpu<N>,
     path: &[u8],
 ) -> bool {
-    let Reply::Frame(number) = system.visit(rt, cpu, &Cmd::Alloc { path, order: 0 }) else {
+    let Reply::Frame(number) = visit(rt, system, cpu, &Cmd::Alloc { path, order: 0 }) else {
         return false;
     };
     let Some(frame) = system.tables().frames.frame(number) else {
@@ -97,7 +106,7 @@ fn alloc_and_release<N: BootName, R: Wait>(
     };
     let frame = frame.number();
     matches!(
-        system.visit(rt, cpu, &Cmd::Release { frame }),
+        visit(rt, system, cpu, &Cmd::Release { frame }),
         Reply::Returned
     )
 }
@@ -125,7 +134,7 @@ pub fn settle<N: BootName, R: Wait>(
     count: u32,
 ) -> bool {
     for _ in 0..count {
-        let Reply::Done = system.visit(rt, cpu, &Cmd::Settle) else {
+        let Reply::Done = visit(rt, system, cpu, &Cmd::Settle) else {
             return false;
         };
     }

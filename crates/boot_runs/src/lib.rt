@@ -7,3 +7,5 @@ mod life;
 mod rows;
 #[cfg(test)]
 mod second;
+#[cfg(test)]
+mod usage;

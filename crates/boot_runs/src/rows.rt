@@ -22,6 +22,7 @@ enum Told {
 // What the processor asks for.
 enum Line {
     Alloc(u32, Told),
+    Dirty(u32),
     Release(u32),
     Settle,
 }
@@ -38,7 +39,7 @@ struct Row {
 
 const NO_EVENT: &[u8] = b"low 0\nhigh 0\nmax 0\noom 0\noom_kill 0\n";
 
-const ROWS: [Row; 6] = [
+const ROWS: [Row; 7] = [
     // a frame, with a stock of three pages
     Row {
         frames: 16,
@@ -77,16 +78,29 @@ const ROWS: [Row; 6] = [
         peak: b"4194304\n",
         events: NO_EVENT,
     },
-    // the charge of a stock was granted and taken back
+    // the charge of a stock was granted and taken back, since a dirty unit isn't reclaimed
+    Row {
+        frames: 16,
+        limit: b"max",
+        lines: [
+            Line::Alloc(4, Told::Frame(0)),
+            Line::Dirty(0),
+            Line::Alloc(0, Told::Refused(Fault::NoFrames)),
+        ],
+        current: b"65536\n",
+        peak: b"81920\n",
+        events: NO_EVENT,
+    },
+    // the older of two blocks is reclaimed for a frame
     Row {
         frames: 16,
         limit: b"max",
         lines: [
             Line::Alloc(3, Told::Frame(0)),
             Line::Alloc(3, Told::Frame(8)),
-            Line::Alloc(0, Told::Refused(Fault::NoFrames)),
+            Line::Alloc(0, Told::Frame(0)),
         ],
-        current: b"65536\n",
+        current: b"49152\n",
         peak: b"81920\n",
         events: NO_EVENT,
     },
@@ -126,6 +140,11 @@ fn asks<N: BootName, R: Wait + Abort>(rt: &R, system: &System<N>, cpu: &mut Cpu<
             let order = *order;
             let reply = system.visit(rt, cpu, &Cmd::Alloc { path, order });
             assert!(rt; is_told(&reply, told));
+        }
+        Line::Dirty(number) => {
+            let frame = system.tables().frames.frame(*number);
+            let frame = frame.expect(rt, "a frame").number();
+            assert!(rt; system.visit(rt, cpu, &Cmd::Dirty { frame }) == Reply::Done);
         }
         Line::Release(number) => {
             let frame = system.tables().frames.frame(*number);

@@ -18,17 +18,22 @@ use zone_buddy::buddy::Buddy;
 fn main(rt: HostRuntime) -> Result<()> {
     let mut charges = Charges::new(rt.alloc())?;
     let mut zone = Buddy::new(rt.alloc(), 16)?;
+    share(&rt, &mut charges, &mut zone)
+}
+
+// Takes blocks of the zone for a group of three pages at most, and prints what came of each.
+fn share<R: Print>(rt: &R, charges: &mut Charges, zone: &mut Buddy) -> Result<()> {
     let web = charges.make(b"/web".as_slice())?;
     charges.set_max(web, Some(3));
     let pair = Order::of(1).context("an order is at most 10")?;
-    let first = take_block(&mut charges, &mut zone, web, pair).context("no room")?;
+    let first = take_block(charges, zone, web, pair).context("no room")?;
     let at = first.at;
     println!(rt; "two pages, with a limit of three: the block at frame {at}")?;
-    let refused = take_block(&mut charges, &mut zone, web, pair).is_none();
+    let refused = take_block(charges, zone, web, pair).is_none();
     println!(rt; "two pages more are refused: {refused}")?;
-    let given = give_block(&mut charges, &mut zone, web, &first);
+    let given = give_block(charges, zone, web, &first);
     println!(rt; "the block is given back: {given}")?;
-    let again = take_block(&mut charges, &mut zone, web, pair).context("no room")?;
+    let again = take_block(charges, zone, web, pair).context("no room")?;
     let at = again.at;
     println!(rt; "two pages once more: the block at frame {at}")?;
     Ok(())

@@ -1,4 +1,6 @@
 pub mod Answering
 pub mod Asking
+pub mod Causing
 pub mod Putting
 pub mod Starting
+pub mod Written

@@ -1,25 +1,21 @@
 -- How the program ends.
-use Rattle.std.specs.Prelude.{◌≡◌, ℕ, List, Option, Some, ⊤}
+use Rattle.std.specs.Prelude.{ℕ, List, Option, Err, ⊤, ◌++◌, codes, string_bytes}
+use Rattle.std.specs.Fmt.{decimal}
+use Rattle.zone_sizes.specs.declared.config.Config.{Config}
+use Rattle.zone_sizes.specs.Config.{IsValidConfig}
+use Rattle.script_lines.specs.declared.fault.ScriptFault.TheVariants as script
+use Rattle.script_lines.specs.Script.{NamesFirstBadLine}
 use Rattle.load_run.specs.declared.settings.Settings.{Settings}
 use Rattle.load_run.specs.declared.fault.WordsFault.{WordsFault}
 use Rattle.load_run.specs.declared.fault.WordsFault.TheVariants as words
-use Rattle.script_lines.specs.declared.fault.ScriptFault.TheVariants as script
 use Rattle.load_run.specs.declared.fault.ProgramFault.{ProgramFault}
-use Rattle.script_lines.specs.Script.{IsFirstBadLine}
-use Rattle.load_run.specs.Settings.{HasSizesInRange}
 use Rattle.load_run.specs.declared.fault.ProgramFault.TheVariants.{Words, Script, BadConfig, Input, Output, NoMemory}
+use Rattle.load_run.specs.Words.{TellsSettings}
 
 -- memory ran out
 abbrev pub IsNoMemory : WordsFault → Type 0
 IsNoMemory (words.BadWords text) = ⊥
 IsNoMemory (words.NoMemory e) = ⊤
-
--- where the fault is a bad line, it is the first that isn't good of what was read, for the sizes that were asked for
-abbrev pub TellsFirstBadLine : Option Settings → List ℕ → ProgramFault → Type 0
-TellsFirstBadLine asked read (Script (script.BadLine n)) =
-    (settings : Settings) × (asked ≡ Some settings) × HasSizesInRange settings.sizes
-    × IsFirstBadLine settings.sizes read n
-TellsFirstBadLine asked read fault = ⊤
 
 -- 2 where the program was used wrongly, 1 where it failed at its work
 abbrev pub status_of : ProgramFault → ℕ
@@ -31,3 +27,36 @@ status_of BadConfig = 2
 status_of Input = 1
 status_of Output = 1
 status_of (NoMemory e) = 1
+
+-- the text that tells a fault: one line, or clap's text of the words
+abbrev pub fault_text : ProgramFault → List ℕ
+fault_text (Words (words.BadWords text)) = string_bytes text
+fault_text (Words (words.NoMemory e)) = codes "no memory\n"
+fault_text (Script (script.BadLine n)) = codes "bad line " ++ decimal n ++ codes "\n"
+fault_text (Script script.NoMemory) = codes "no memory\n"
+fault_text BadConfig = codes "refused 14 BadConfig\n"
+fault_text Input = codes "input failed\n"
+fault_text Output = codes "output failed\n"
+fault_text (NoMemory e) = codes "no memory\n"
+
+-- a fault of the words: they ask for no settings, or memory ran out
+abbrev pub IsWordsFault : Option Settings → ProgramFault → Type 0
+IsWordsFault asked (Words fault) = TellsSettings asked (Err fault)
+IsWordsFault asked fault = ⊥
+
+-- a fault of reading: the input failed, or memory ran out
+abbrev pub IsReadFault : ProgramFault → Type 0
+IsReadFault Input = ⊤
+IsReadFault (NoMemory e) = ⊤
+IsReadFault fault = ⊥
+
+-- a fault of a script: its first bad line, or memory ran out
+abbrev pub IsScriptFault : Config → List ℕ → ProgramFault → Type 0
+IsScriptFault sizes script (Script fault) = NamesFirstBadLine sizes script fault
+IsScriptFault sizes script fault = ⊥
+
+-- a fault of a boot: its sizes may not be; or they may, and memory ran out
+abbrev pub IsBootFault : Config → ProgramFault → Type 0
+IsBootFault sizes BadConfig = ¬ IsValidConfig sizes
+IsBootFault sizes (NoMemory e) = IsValidConfig sizes
+IsBootFault sizes fault = ⊥

@@ -2,7 +2,6 @@
 
 ghost use Rattle.std.specs.Prelude.{◌≡◌};
 
-use group_tree::fault::Fault;
 use script_lines::fault::ScriptFault;
 use std::alloc::AllocError;
 use thiserror::Error;
@@ -20,25 +19,19 @@ pub enum WordsFault {
 }
 
 /// Why the program ends without its answers.
-#[derive(Debug, Drop, Error)]
+#[derive(Debug, Drop)]
 pub enum ProgramFault {
     /// The words of the command line give no settings.
-    #[error("{0}")]
     Words(WordsFault),
     /// The script gives no lines.
-    #[error("{0}")]
     Script(ScriptFault),
     /// A size is out of its range.
-    #[error("refused {number} {name}", number = Fault::BadConfig.number(), name = Fault::BadConfig.name())]
     BadConfig,
     /// The script can't be read.
-    #[error("input failed")]
     Input,
     /// The answers can't be written.
-    #[error("output failed")]
     Output,
     /// Memory ran out.
-    #[error("no memory")]
     NoMemory(AllocError),
 }
 

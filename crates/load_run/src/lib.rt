@@ -7,3 +7,5 @@ pub mod program;
 pub mod run_end;
 pub mod running;
 pub mod settings;
+pub mod telling;
+pub mod writing;

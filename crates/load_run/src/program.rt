@@ -1,8 +1,10 @@
 //! The program over any reader and two writers.
 
-ghost use Rattle.std.specs.Prelude.{◌≡◌, ◌≤◌, [], All, IfErr, IfOk, IfSome, IsSome, OnOk, Some, map};
+ghost use Rattle.std.specs.Prelude.{◌≡◌, ◌≤◌, All, IfErr, IfOk, IfSome, IsSome, OnOk, Some, map};
 ghost use Rattle.std.specs.Io.KnownBytes.{Appends};
-ghost use Rattle.load_run.specs.Fault.{TellsFirstBadLine, status_of};
+ghost use Rattle.load_run.specs.Causes.{FailsAtWork, HasCause, IsMisused};
+ghost use Rattle.load_run.specs.Fault.{IsBootFault, IsReadFault, IsScriptFault, IsWordsFault};
+ghost use Rattle.load_run.specs.Writing.{AppendsBeginning};
 ghost use Rattle.script_lines.specs.Script.{IsScript};
 ghost use Rattle.script_replay.specs.Ranges.{LineIsThere};
 ghost use Rattle.load_run.specs.Settings.{HasSizesInRange};
@@ -11,9 +13,11 @@ ghost use Rattle.load_run.specs.Answers.{AreAnswers, IsAnswered, IsReplayed, byt
 ghost use Rattle.zone_sizes.specs.Config.{IsValidConfig};
 
 use crate::command_line::parse_words;
-use crate::fault::{ProgramFault, WordsFault};
+use crate::fault::ProgramFault;
 use crate::running::run;
 use crate::settings::Settings;
+use crate::telling::tell;
+use crate::writing::write_whole;
 use mem_system::{BootFault, boot};
 use script_lines::line::Line;
 use script_lines::script::{MOST_INPUT, parse_script};
@@ -43,11 +47,16 @@ pub fn drive<S: AsStr, I: Read, O: Write, F: Write>(
     ensures asked { result ≡ 0 → IsSome (settings_of (map S.text words.now)) }
     ensures replayed { result ≡ 0 → IfSome (I.remaining input.old) (λ bytes.
         IsReplayed (settings_of (map S.text words.now)) bytes (O.contents output.old) (O.contents output.new)) }
+    ensures misused { result ≡ 2 → IfSome (I.remaining input.old) (λ bytes.
+        IsMisused (settings_of (map S.text words.now)) bytes (F.contents faults.old) (F.contents faults.new)) }
+    ensures fails { result ≡ 1 → IfSome (I.remaining input.old) (λ bytes.
+        FailsAtWork (settings_of (map S.text words.now)) bytes (O.contents output.old) (O.contents output.new)
+        (F.contents faults.old) (F.contents faults.new)) }
 {
     match answers_to(alloc, words, input) {
         Ok(answers) => match write_answers(output, &answers) {
             Ok(()) => 0,
-            Err(fault) => tell(faults, &fault),
+            Err(unwritten) => tell(faults, &unwritten),
         },
         Err(fault) => tell(faults, &fault),
     }
@@ -62,13 +71,25 @@ fn answers_to<S: AsStr, I: Read>(
     ensures asked { OnOk result (IsSome (settings_of (map S.text words.now))) }
     ensures answered { IfOk result (λ answers. IfSome (I.remaining input.old) (λ bytes.
         IsAnswered (settings_of (map S.text words.now)) bytes answers.items)) }
-    ensures bad_line { IfErr result (λ fault. IfSome (I.remaining input.old) (λ bytes.
-        TellsFirstBadLine (settings_of (map S.text words.now)) (bytes_read bytes) fault)) }
+    ensures cause { IfErr result (λ fault. IfSome (I.remaining input.old) (λ bytes.
+        HasCause (settings_of (map S.text words.now)) bytes fault)) }
 {
-    let settings = parse_words(alloc, words).map_err(ProgramFault::Words)?;
+    let settings = read_words(alloc, words)?;
     let script = read_script(alloc, input)?;
     let lines = lines_of(alloc, &script, &settings)?;
     answers_of(alloc, &settings, &lines)
+}
+
+// The settings that the words ask for.
+fn read_words<S: AsStr>(alloc: Global, words: &[S]) -> Result<Settings, ProgramFault>
+    ensures asked { IfOk result (λ settings. settings_of (map S.text words.now) ≡ Some settings) }
+    ensures in_range { IfOk result (λ settings. HasSizesInRange settings.sizes) }
+    ensures fault { IfErr result (IsWordsFault (settings_of (map S.text words.now))) }
+{
+    match parse_words(alloc, words) {
+        Ok(settings) => Ok(settings),
+        Err(fault) => Err(ProgramFault::Words(fault)),
+    }
 }
 
 // The lines of the script.
@@ -77,9 +98,8 @@ fn lines_of<'a>(
     script: &'a [u8],
     settings: &Settings,
 ) -> Result<Vec<Line<'a>>, ProgramFault>
-    requires { HasSizesInRange settings.now.sizes }
     ensures lines { IfOk result (λ lines. IsScript settings.now.sizes script.now lines.items) }
-    ensures bad_line { IfErr result (TellsFirstBadLine (Some settings.now) script.now) }
+    ensures fault { IfErr result (IsScriptFault settings.now.sizes script.now) }
 {
     match parse_script(alloc, script, &settings.sizes) {
         Ok(lines) => Ok(lines),
@@ -96,12 +116,13 @@ fn answers_of(
     requires { All (LineIsThere settings.now.sizes.frames settings.now.sizes.cpus) lines.now }
     ensures answers { IfOk result (λ text. AreAnswers settings.now.sizes settings.now.is_audited lines.now text.items) }
     ensures valid { IfOk result (λ _. IsValidConfig settings.now.sizes) }
-    ensures other { IfErr result (TellsFirstBadLine (Some settings.now) []) }
+    ensures fault { IfErr result (IsBootFault settings.now.sizes) }
 {
     match boot(alloc, settings.sizes) {
-        Ok(boot) => run::<Brand>(alloc, boot, lines, settings.is_audited).map_err(
-            ProgramFault::NoMemory,
-        ),
+        Ok(boot) => match run::<Brand>(alloc, boot, lines, settings.is_audited) {
+            Ok(answers) => Ok(answers),
+            Err(error) => Err(ProgramFault::NoMemory(error)),
+        },
         Err(BootFault::BadConfig) => Err(ProgramFault::BadConfig),
         Err(BootFault::NoMemory) => Err(ProgramFault::NoMemory(AllocError)),
     }
@@ -110,7 +131,7 @@ fn answers_of(
 // Reads all of the script. Where it is longer than a script may be, one byte more tells so.
 fn read_script<I: Read>(alloc: Global, input: &mut I) -> Result<Vec<u8>, ProgramFault>
     ensures read { IfOk result (λ script. IfSome (I.remaining input.old) (λ bytes. script.items ≡ bytes_read bytes)) }
-    ensures failed { IfErr result (λ fault. status_of fault ≡ 1) }
+    ensures fault { IfErr result IsReadFault }
 {
     let mut script = Vec::new(alloc);
     let most = MOST_INPUT as u64 + 1;
@@ -126,21 +147,13 @@ fn read_script<I: Read>(alloc: Global, input: &mut I) -> Result<Vec<u8>, Program
 
 // Writes all of the answers.
 fn write_answers<O: Write>(output: &mut O, answers: &[u8]) -> Result<(), ProgramFault>
-    ensures failed { IfErr result (λ fault. status_of fault ≡ 1) }
+    ensures fault { IfErr result (λ fault. fault ≡ ProgramFault.Output) }
     ensures written { OnOk result (Appends (O.contents output.old) (O.contents output.new) answers.now) }
+    ensures beginning { AppendsBeginning (O.contents output.old) (O.contents output.new) answers.now }
 {
-    output.write_all(answers).map_err(|_| ProgramFault::Output)?;
-    output.flush().map_err(|_| ProgramFault::Output)
-}
-
-/// Tells a fault in its words, as far as the writer takes them, and gives the status to end with.
-pub fn tell<F: Write>(faults: &mut F, fault: &ProgramFault) -> u8
-    ensures { result ≡ status_of fault.now }
-{
-    let _ = match fault {
-        ProgramFault::Words(WordsFault::BadWords(text)) => faults.write_all(text.as_bytes()),
-        _ => writeln!(faults, "{fault}"),
-    };
-    let _ = faults.flush();
-    fault.status()
+    if write_whole(output, answers).is_ok() && output.flush().is_ok() {
+        Ok(())
+    } else {
+        Err(ProgramFault::Output)
+    }
 }

@@ -1,6 +1,6 @@
 -- What is kept on the way to a frame, and how the parts of an allocation fit together. Serves `charge_frame`, `pay_for_frame`, `fill_list` and
 -- `alloc_frame`.
-use Rattle.std.proofs.Common.{◌≡◌, ℕ, ◌+◌, ◌<◌, ◌≤◌, false, List, [], ◌∷◌, ◌++◌, length, refl, sym, ap, ◌∙◌, subst, inl, inr}
+use Rattle.std.proofs.Common.{◌≡◌, ℕ, zero, suc, ◌+◌, ◌<◌, ◌≤◌, true, false, List, [], ◌∷◌, ◌++◌, length, refl, sym, ap, ◌∙◌, subst, inl, inr}
 use Rattle.std.proofs.Common.{arith, length-append}
 use Rattle.std.specs.Prelude.{Result, Ok, Err, IsErr, IfErr}
 use Rattle.std.proofs.lemmas.Bool.{false≢true}
@@ -20,7 +20,7 @@ use Rattle.mem_machine.specs.Local.{IsLocalRun, local_of, side}
 use Rattle.mem_machine.specs.Lending.{LendsMany, Refills}
 use Rattle.mem_machine.specs.Paying.{HoldsPage, PaysForFront}
 use Rattle.mem_machine.specs.Stocks.{Drains, Fills, stock_group}
-use Rattle.mem_machine.specs.Steps.{drain_steps, fill_steps, over_steps, take_front_steps}
+use Rattle.mem_machine.specs.Steps.{drain_steps, fill_steps, over_steps, refill_steps, take_front_steps}
 use Rattle.mem_machine.proofs.Prepaying.{filled_account, filled_at}
 use Rattle.mem_machine.proofs.Reaching.{run_both}
 use Rattle.mem_alloc.specs.declared.faults.AllocFault.{AllocFault}
@@ -29,8 +29,11 @@ use Rattle.mem_alloc.specs.Stepping.{BySteps, course}
 use Rattle.mem_alloc.specs.Room.{IsRefusedAt, MakesRoom, IsOverAt}
 use Rattle.mem_alloc.specs.Charging.{FillsAfterRoom, IsOverForOne, ChargesFrame, RefusesFrame, DrainsOwn, PaysForFrame}
 use Rattle.mem_alloc.specs.Charging.{RefusesToPay}
+use Rattle.mem_alloc.specs.Rounds.{FailsInRounds}
 use Rattle.mem_alloc.specs.Frames.{FillsList, HasNoFrame, GetsFrame, AllocatesFrame}
-use Rattle.mem_alloc.proofs.Lowering.{Lowers, lowers_none, lowers_both, drain_lowers, clears_lower}
+use Rattle.mem_alloc.specs.Frames.{LendsBatch, LendsNoFrame, ReclaimsForList, RefillsInRounds}
+use Rattle.mem_alloc.proofs.Lowering.{Lowers, lowers_none, lowers_both, drain_lowers, relieves_lower}
+use Rattle.mem_alloc.proofs.Rounding.{Spares, FailureSpares, InTheEnd, spares_same, fails_spare, in_the_end}
 
 -- ---- what is kept
 
@@ -70,7 +73,7 @@ fills_keep g k m n c d f = record {
 }
 
 pub refused_lowers : (t : KnownTable) (g pages over : ℕ) (m n : KnownMachine) (steps : Run) → IsRefusedAt g pages over (course t m steps n) → Lowers t m n
-refused_lowers t g pages over m n steps r = clears_lower t over m n r.clearing r.clears
+refused_lowers t g pages over m n steps r = relieves_lower t over pages m n r.relieving r.relieves
 
 pub makes_lower : (t : KnownTable) (g pages : ℕ) (before : List ℕ) (m n : KnownMachine) (steps : Run) → MakesRoom g pages before (course t m steps n) → Lowers t m n
 makes_lower t g pages [] m n steps h = subst (λ (x : KnownMachine). Lowers t m x) (sym h.0) (lowers_none t m)
@@ -253,30 +256,135 @@ none_lent : (frames : List ℕ) (m n : KnownMachine) (c d : KnownCpu) → length
 none_lent [] m n c d none h = h
 none_lent (f ∷ frames) m n c d none h = absurd (omega (arith, none))
 
--- no frame is free: none was lent, and the stock is drained
-pub no_frame : (t : KnownTable) (sizes : Config) (count back q : ℕ) (m k n : KnownMachine) (c e : KnownCpu) → Refills t count (side m c) (side k e) → count ≤ 0 → c.list ≡ []
-    → (count < sizes.batch → HasNoneFrom k.blocks 0) → 1 ≤ sizes.batch → q ≡ e.number → Drains k q back n
-    → ((h : KnownCpu) → IsLocalRun h.number (local_of t k h) (drain_steps q (stock_group k q) back) (local_of t n h))
-    → BySteps t (side m c) (side n e) (HasNoFrame NoFrames)
-no_frame t sizes count back q m k n c e refills few empty fewer some named drains steps =
+-- no frame was lent, since none is free
+no_steps : (t : KnownTable) (frames : List ℕ) (m n : KnownMachine) (c d : KnownCpu) → length frames ≡ 0
+    → IsLocalRun c.number (local_of t m c) (refill_steps c.number frames) (local_of t n d)
+    → IsLocalRun c.number (local_of t m c) [] (local_of t n d)
+no_steps t [] m n c d none run = run
+no_steps t (f ∷ frames) m n c d none run = absurd (omega (arith, none))
+
+pub lent_none : (t : KnownTable) (count batch : ℕ) (m n : KnownMachine) (c d : KnownCpu) → Refills t count (side m c) (side n d)
+    → count ≤ 0 → (count < batch → HasNoneFrom n.blocks 0) → 1 ≤ batch → BySteps t (side m c) (side n d) LendsNoFrame
+lent_none t count batch m n c d refills few fewer some =
     let all = refills.all in
-    let same = none_lent refills.frames m k c e (omega (arith, few, all)) refills.lends in
-    let number : q ≡ c.number = named ∙ ap (λ (h : KnownCpu). h.number) same.1 in
-    let none : HasNoneFrom m.blocks 0 = subst (λ (x : KnownMachine). HasNoneFrom x.blocks 0) same.0 (fewer (omega (arith, few, some))) in
-    subst (λ (z : KnownCpu). BySteps t (side m c) (side n z) (HasNoFrame NoFrames)) (sym same.1) (
-      drain_steps c.number (stock_group m c.number) back,
-      record {
-        named = refl;
-        empty = empty;
-        none = none;
-        back = back;
-        drains = subst (λ (x : KnownMachine × ℕ). Drains x.0 x.1 back n) (λ i. (same.0 i, number i)) drains;
-        cpu = refl;
-        steps_are = refl;
-      },
-      subst (λ (x : KnownMachine × ℕ). IsLocalRun c.number (local_of t x.0 c) (drain_steps x.1 (stock_group x.0 x.1) back) (local_of t n c))
-          (λ i. (same.0 i, number i)) (steps c),
+    let none : length refills.frames ≡ 0 = omega (arith, few, all) in
+    let same = none_lent refills.frames m n c d none refills.lends in
+    let free : HasNoneFrom m.blocks 0 = subst (λ (x : KnownMachine). HasNoneFrom x.blocks 0) same.0 (fewer (omega (arith, few, some))) in (
+      [],
+      record { none = free; stays = record { machine = same.0; cpu = same.1; steps_are = refl } },
+      no_steps t refills.frames m n c d none refills.steps,
     )
+
+-- some were lent
+pub lent_batch : (t : KnownTable) (count batch : ℕ) (m n : KnownMachine) (c d : KnownCpu) (refills : Refills t count (side m c) (side n d))
+    → 1 ≤ count → count ≤ batch → (count < batch → HasNoneFrom n.blocks 0)
+    → LendsBatch batch (course t (side m c) (refill_steps c.number refills.frames) (side n d))
+lent_batch t count batch m n c d refills many low fewer =
+    let all = refills.all in
+    record {
+      frames = refills.frames;
+      some = omega (arith, all, many);
+      at_most = omega (arith, all, low);
+      fewer = λ less. fewer (omega (arith, all, less));
+      lends = refills.lends;
+      steps_are = refl;
+    }
+
+-- ---- rounds of reclaim for the list
+
+pub no_frame_spares : (t : KnownTable) → FailureSpares t LendsNoFrame
+no_frame_spares t m n c d steps h = spares_same t m n c d h.stays.machine h.stays.cpu
+
+none_after : (t : KnownTable) (rounds : ℕ) (m n : KnownMachine) (c d : KnownCpu) (steps : Run) → HasNoneFrom m.blocks 0
+    → FailsInRounds rounds 1 LendsNoFrame (course t (side m c) steps (side n d)) → HasNoneFrom n.blocks 0
+none_after t zero m n c d steps none h = subst (λ (x : KnownMachine). HasNoneFrom x.blocks 0) (sym h.machine) none
+none_after t (suc more) m n c d steps none h =
+    let tries = h.4.tries in
+    let here : HasNoneFrom h.1.machine.blocks 0 =
+    subst (λ (x : KnownMachine). HasNoneFrom x.blocks 0) (sym tries.stays.machine) tries.none in
+    elim h.5 [
+      | inl last ↦ subst (λ (x : KnownMachine). HasNoneFrom x.blocks 0) (sym last.1.machine) here
+      | inr again ↦ none_after t more h.1.machine n h.1.cpu d h.3 here again.1
+    ]
+
+-- no frame is free, also after rounds of reclaim, and the stock is drained
+module _ (t : KnownTable) (sizes : Config) (m k x n : KnownMachine) (c e y : KnownCpu) (empty : c.list ≡ [])
+    (first : BySteps t (side m c) (side k e) LendsNoFrame) where
+  from_first : (P : KnownMachine → KnownCpu → Type 0) → P k e → P m c
+  from_first P p = subst (λ (z : KnownMachine × KnownCpu). P z.0 z.1) (λ i. (first.1.stays.machine i, first.1.stays.cpu i)) p
+
+  pub no_frame : (back q : ℕ) → BySteps t (side k e) (side x y) (RefillsInRounds sizes.batch false) → q ≡ y.number → Drains x q back n
+      → ((h : KnownCpu) → IsLocalRun h.number (local_of t x h) (drain_steps q (stock_group x q) back) (local_of t n h))
+      → BySteps t (side m c) (side n y) (HasNoFrame NoFrames)
+  no_frame back q rounds named drains steps =
+      let there = from_first (λ u v. BySteps t (side u v) (side x y) (RefillsInRounds sizes.batch false)) rounds in
+      let cpu : y ≡ c = (fails_spare t 1 LendsNoFrame (no_frame_spares t) 16 m x c y there.0 there.1).cpu in
+      let here = subst (λ (z : KnownCpu). BySteps t (side m c) (side x z) (RefillsInRounds sizes.batch false)) cpu there in
+      let number : q ≡ c.number = named ∙ ap (λ (h : KnownCpu). h.number) cpu in
+      let last : IsLocalRun c.number (local_of t x c) (drain_steps c.number (stock_group x c.number) back) (local_of t n c) =
+      subst (λ (p : ℕ). IsLocalRun c.number (local_of t x c) (drain_steps p (stock_group x p) back) (local_of t n c)) number (steps c) in
+      subst (λ (z : KnownCpu). BySteps t (side m c) (side n z) (HasNoFrame NoFrames)) (sym cpu) (
+        here.0 ++ drain_steps c.number (stock_group x c.number) back,
+        record {
+          named = refl;
+          empty = empty;
+          none = first.1.none;
+          reclaimed = x;
+          reclaiming = here.0;
+          rounds = here.1;
+          none_still = none_after t 16 m x c c here.0 first.1.none here.1;
+          back = back;
+          drains = subst (λ (p : ℕ). Drains x p back n) number drains;
+          cpu = refl;
+          steps_are = refl;
+        },
+        run_both c.number here.0 (drain_steps c.number (stock_group x c.number) back) (local_of t m c) (local_of t x c) (local_of t n c) here.2 last,
+      )
+
+  -- or free frames come to the list after rounds
+  pub reclaims_for : BySteps t (side k e) (side x y) (RefillsInRounds sizes.batch true) → BySteps t (side m c) (side x y) (ReclaimsForList sizes)
+  reclaims_for rounds =
+      let here = from_first (λ u v. BySteps t (side u v) (side x y) (RefillsInRounds sizes.batch true)) rounds in (
+        here.0,
+        record { empty = empty; none = first.1.none; rounds = here.1 },
+        here.2,
+      )
+
+pub no_frame_keeps : (t : KnownTable) (cause : AllocFault) (m n : KnownMachine) (c d : KnownCpu) (steps : Run)
+    → HasNoFrame cause (course t (side m c) steps (side n d)) → KeepsPart m c n d
+no_frame_keeps t cause m n c d steps h =
+    let rounds = fails_spare t 1 LendsNoFrame (no_frame_spares t) 16 m h.reclaimed c c h.reclaiming h.rounds in
+    lowers_keep t m n c d (lowers_both t m h.reclaimed n rounds.lowers (drain_lowers t h.reclaimed n c.number h.back h.drains)) h.cpu
+
+-- a reclaim leaves the stock's page
+spared_page : (t : KnownTable) (g : ℕ) (m n : KnownMachine) (c d : KnownCpu) → Spares t m c n d → HoldsPage (side m c) g → HoldsPage (side n d) g
+spared_page t g m n c d s page =
+    let at : account_of n.stock.view d.number ≡ account_of m.stock.view c.number = λ i. account_of (s.stock i).view (s.cpu i).number in
+    let book : (account_of n.stock.view d.number).book ≡ (account_of m.stock.view c.number).book = ap (λ (a : Account). a.book) at in
+    let fresh : length d.fresh ≡ length c.fresh = ap (λ (e : KnownCpu). length e.fresh) s.cpu in
+    let some = page.some in
+    record {
+      group = ap (λ (a : Account). a.group) at ∙ page.group;
+      held = ap (λ (a : Account). a.filled) at ∙ page.held;
+      some = omega (arith, book, fresh, some);
+    }
+
+module _ (t : KnownTable) (sizes : Config) (m n : KnownMachine) (c d : KnownCpu) (steps : Run)
+    (h : ReclaimsForList sizes (course t (side m c) steps (side n d))) where
+  abbrev last : InTheEnd t 1 LendsNoFrame (no_frame_spares t) (LendsBatch sizes.batch) m c (side n d)
+  last = in_the_end t 1 LendsNoFrame (no_frame_spares t) (LendsBatch sizes.batch) 16 m c (side n d) steps h.rounds
+
+  pub reclaimed_page : (g : ℕ) → HoldsPage (side m c) g → HoldsPage (side n d) g
+  reclaimed_page g page =
+      lent_page last.succeeds.frames g last.before n last.cpu d last.succeeds.lends
+      (spared_page t g m last.before c last.cpu last.spares page)
+
+  pub reclaimed_front : 1 ≤ length d.list
+  reclaimed_front =
+      let l = lent_part last.succeeds.frames last.before n last.cpu d last.succeeds.lends in
+      let a = ap length l.list ∙ length-append last.cpu.list last.succeeds.frames in
+      let some = last.succeeds.some in
+      omega (arith, some, a)
 
 -- what a list that has a frame leaves
 pub record FilledPart (sizes : Config) (m : KnownMachine) (c : KnownCpu) (n : KnownMachine) (d : KnownCpu) : Type 0 where
@@ -285,6 +393,23 @@ pub record FilledPart (sizes : Config) (m : KnownMachine) (c : KnownCpu) (n : Kn
   pub fresh : d.fresh ≡ c.fresh
   pub back : d.back ≡ c.back
   pub high : length c.list ≤ sizes.high → length d.list ≤ sizes.high
+
+batch_part : (t : KnownTable) (sizes : Config) (m n : KnownMachine) (c d : KnownCpu) (steps : Run) → IsValidConfig sizes → c.list ≡ []
+    → LendsBatch sizes.batch (course t (side m c) steps (side n d)) → FilledPart sizes m c n d
+batch_part t sizes m n c d steps valid empty h =
+    let l = lent_part h.frames m n c d h.lends in
+    record {
+      opened = l.opened;
+      number = l.number;
+      fresh = l.fresh;
+      back = l.back;
+      high = λ low.
+          let a : length d.list ≡ length c.list + length h.frames = ap length l.list ∙ length-append c.list h.frames in
+          let b : length c.list ≡ 0 = ap length empty in
+          let e = h.at_most in
+          let v = valid.high_low in
+          omega (arith, a, b, e, v);
+    }
 
 pub filled_part : (t : KnownTable) (sizes : Config) (m n : KnownMachine) (c d : KnownCpu) (steps : Run) → IsValidConfig sizes → FillsList sizes (course t (side m c) steps (side n d))
     → FilledPart sizes m c n d
@@ -295,19 +420,17 @@ filled_part t sizes m n c d steps valid (inl h) = record {
   back = ap (λ (e : KnownCpu). e.back) h.stays.cpu;
   high = λ low. let a : length d.list ≡ length c.list = ap (λ (e : KnownCpu). length e.list) h.stays.cpu in omega (arith, a, low);
 }
-filled_part t sizes m n c d steps valid (inr h) =
-    let l = lent_part h.frames m n c d h.lends in
+filled_part t sizes m n c d steps valid (inr (inl h)) = batch_part t sizes m n c d steps valid h.empty h.lends
+filled_part t sizes m n c d steps valid (inr (inr h)) =
+    let e = in_the_end t 1 LendsNoFrame (no_frame_spares t) (LendsBatch sizes.batch) 16 m c (side n d) steps h.rounds in
+    let cpu = e.spares.cpu in
+    let b = batch_part t sizes e.before n e.cpu d e.trying valid (ap (λ (y : KnownCpu). y.list) cpu ∙ h.empty) e.succeeds in
     record {
-      opened = l.opened;
-      number = l.number;
-      fresh = l.fresh;
-      back = l.back;
-      high = λ low.
-          let a : length d.list ≡ length c.list + length h.frames = ap length l.list ∙ length-append c.list h.frames in
-          let b : length c.list ≡ 0 = ap length h.empty in
-          let e = h.at_most in
-          let v = valid.high_low in
-          omega (arith, a, b, e, v);
+      opened = b.opened ∙ e.spares.lowers.opened;
+      number = b.number ∙ ap (λ (y : KnownCpu). y.number) cpu;
+      fresh = b.fresh ∙ ap (λ (y : KnownCpu). y.fresh) cpu;
+      back = b.back ∙ ap (λ (y : KnownCpu). y.back) cpu;
+      high = λ low. let a : length e.cpu.list ≡ length c.list = ap (λ (y : KnownCpu). length y.list) cpu in b.high (omega (arith, a, low));
     }
 
 -- ---- the whole allocation

@@ -1,5 +1,6 @@
 pub mod Lowering
 pub mod Making
 pub mod Filling
+pub mod Rounding
 pub mod Taking
 pub mod CallerLemmas

@@ -2,7 +2,7 @@
 use Rattle.std.proofs.Common.{◌≡◌, ℕ, zero, suc, ◌+◌, ◌-◌, ◌<◌, ◌≤◌, ◌==◌, Bool, true, false, Option, Some, None, List, [], ◌∷◌, map, refl, sym, ap, ◌∙◌}
 use Rattle.std.proofs.Common.{subst, inl, inr, arith, cond, eq-eqb}
 use Rattle.std.specs.List.{sum_by}
-use Rattle.std.proofs.lemmas.Bool.{cases_eq, cases_lt, ne_eqb, cond-true, cond-false, false≢true}
+use Rattle.std.proofs.lemmas.Bool.{cases_eq, cases_lt, ne_eqb, cond-true, cond-false, leb-true, le-leb, false≢true}
 use Rattle.std.proofs.lemmas.List.Sums.{sum_by-cons}
 use Rattle.frame_word.specs.Seats.{KnownTable, KnownSeat, IsOpen, NothingPasses, LentIsBorrowed}
 use Rattle.group_tree.specs.declared.group.Group.{Group}
@@ -14,7 +14,7 @@ use Rattle.group_charge.proofs.CallerLemmas.{sum-map_same}
 use Rattle.group_charge.proofs.SumLemmas.{share}
 use Rattle.stock_word.specs.declared.view.Account.{Account}
 use Rattle.stock_word.specs.declared.view.StockView.{StockView}
-use Rattle.stock_word.specs.Stock.{account_of}
+use Rattle.stock_word.specs.Stock.{Seated, account_of}
 use Rattle.stock_word.specs.Kinds.{draining}
 use Rattle.stock_word.specs.Calls.{with_view, after_look}
 use Rattle.cpu_part.specs.Cpus.{KnownCpu}
@@ -26,8 +26,9 @@ use Rattle.mem_machine.specs.Steps.{Drain}
 use Rattle.mem_machine.specs.Stocks.{Drains, DrainsBelow, DrainsAllBelow, stock_group, uncharged}
 use Rattle.mem_machine.proofs.Draining.{groups_stay, drained_at, drained_else}
 use Rattle.mem_machine.proofs.Prepaying.{current_falls}
+use Rattle.mem_reclaim.specs.Staying.{Keeps}
 use Rattle.mem_alloc.specs.Stepping.{ByStepsOfAny, course}
-use Rattle.mem_alloc.specs.Room.{ClearsBelow, has_room_for, with_max_noted_at}
+use Rattle.mem_alloc.specs.Room.{ClearsBelow, RelievesLimit, has_room_for, with_max_noted_at}
 use Rattle.mem_machine.specs.Local.{side}
 
 -- the groups, the killed ones and the visits stay, no usage is higher, and no stock is filled that wasn't
@@ -40,7 +41,7 @@ pub record Lowers (t : KnownTable) (m n : KnownMachine) : Type 0 where
   pub emptied : (p : ℕ) → (account_of m.stock.view p).filled ≡ false → (account_of n.stock.view p).filled ≡ false
 
 -- a visit stays where the zone's seat does
-same_visit : (t : KnownTable) (m n : KnownMachine) → n.seat ≡ m.seat → (c : KnownCpu) → Visits t (side m c) → Visits t (side n c)
+pub same_visit : (t : KnownTable) (m n : KnownMachine) → n.seat ≡ m.seat → (c : KnownCpu) → Visits t (side m c) → Visits t (side n c)
 same_visit t m n seat c v = record {
   is_open = subst (λ (s : KnownSeat). IsOpen s c.number) (sym seat) v.is_open;
   still = subst (λ (s : KnownSeat). NothingPasses t s c.seat) (sym seat) v.still;
@@ -133,8 +134,24 @@ pub clears_lower : (t : KnownTable) (g : ℕ) (m n : KnownMachine) (steps : Run)
 clears_lower t g m n steps c =
     lowers_both t m (with_max_noted_at m g) n (note_lowers t m g) (all_lower t g t.cpus (with_max_noted_at m g) n c.drains c.all)
 
-pub clearing_lowers : (t : KnownTable) (g : ℕ) (m n : KnownMachine) → ByStepsOfAny t m n (ClearsBelow g) → Lowers t m n
-clearing_lowers t g m n b = clears_lower t g m n b.0 b.1
+-- reclaim keeps it too
+pub keeps_lower : (t : KnownTable) (m n : KnownMachine) → Keeps t m n → Lowers t m n
+keeps_lower t m n keeps = record {
+  groups = keeps.groups;
+  killed = keeps.killed;
+  opened = keeps.opened;
+  visit = keeps.visit;
+  falls = keeps.usage;
+  emptied = λ p is. ap (λ (s : Seated). (account_of s.view p).filled) keeps.stock ∙ is;
+}
+
+pub relieves_lower : (t : KnownTable) (g pages : ℕ) (m n : KnownMachine) (steps : Run) → RelievesLimit g pages (course t m steps n)
+    → Lowers t m n
+relieves_lower t g pages m n steps r =
+    lowers_both t m r.cleared n (clears_lower t g m r.cleared r.clearing r.clears) (keeps_lower t r.cleared n r.reclaims.keeps)
+
+pub relieving_lowers : (t : KnownTable) (g pages : ℕ) (m n : KnownMachine) → ByStepsOfAny t m n (RelievesLimit g pages) → Lowers t m n
+relieving_lowers t g pages m n b = relieves_lower t g pages m n b.0 b.1
 
 -- ---- what stays
 
@@ -149,6 +166,19 @@ lowered_alive t m n g l alive = ap (λ (k : List Bool). is_killed k g) l.killed 
 
 pub lowered_fits : (t : KnownTable) (m n : KnownMachine) (pages : ℕ) → Lowers t m n → HasRoomFor m pages → HasRoomFor n pages
 lowered_fits t m n pages l fits = let a = l.falls 0 in omega (arith, a, fits)
+
+-- less usage fits the limit still
+less_fits : (o : Option ℕ) (a b : ℕ) → b ≤ a → fits_limit o a ≡ true → fits_limit o b ≡ true
+less_fits None a b low fits = refl
+less_fits (Some limit) a b low fits = le-leb b limit (let l = leb-true a limit fits in omega (arith, l, low))
+
+pub lowered_room : (t : KnownTable) (m n : KnownMachine) (g pages : ℕ) → Lowers t m n → PathHasRoom m.ledger.groups (current_of m.ledger) g pages
+    → PathHasRoom n.ledger.groups (current_of n.ledger) g pages
+lowered_room t m n g pages l room =
+    subst (λ (x : List Group). PathHasRoom x (current_of n.ledger) g pages) (sym l.groups)
+    (λ h on.
+    let low = l.falls h in
+    less_fits (limit_of m.ledger.groups h) (current_of m.ledger h + pages) (current_of n.ledger h + pages) (omega (arith, low)) (room h on))
 
 -- ---- each try that is refused, where there is room then, lowers the sum of all usages
 

@@ -1,10 +1,12 @@
 -- Tries that are refused, one after the other. Serves the loops of `fill_one` and `take_charged`.
-use Rattle.std.proofs.Common.{◌≡◌, ℕ, true, false, List, [], ◌∷◌, ◌++◌, refl, sym, ap, ◌∙◌, subst}
-use Rattle.std.specs.Prelude.{Result, Ok, Err, IsErr, IfErr, IfOk, OnOk, MatchResult}
-use Rattle.std.proofs.lemmas.Bool.{false≢true}
+use Rattle.std.proofs.Common.{◌≡◌, ℕ, ◌+◌, ◌<◌, true, false, Option, Some, None, List, [], ◌∷◌, ◌++◌, refl, sym, ap, ◌∙◌, subst, arith}
+use Rattle.std.specs.Prelude.{Result, Ok, Err, IsErr, IfErr, IfOk, OnOk, MatchResult, nat_le}
+use Rattle.std.proofs.lemmas.Bool.{false≢true, leb-false}
 use Rattle.std.proofs.lemmas.List.{append_assoc, append-nil}
 use Rattle.frame_word.specs.Seats.{KnownTable}
-use Rattle.group_tree.specs.Room.{IsLowestOver}
+use Rattle.group_tree.specs.declared.group.Group.{Group}
+use Rattle.group_tree.specs.Groups.{limit_of}
+use Rattle.group_tree.specs.Room.{IsLowestOver, fits_limit}
 use Rattle.group_charge.specs.Charges.{current_of}
 use Rattle.cpu_part.specs.Cpus.{KnownCpu}
 use Rattle.step_rules.specs.After.{Run}
@@ -14,11 +16,16 @@ use Rattle.mem_machine.specs.Steps.{over_steps, note_max_steps, drain_stocks_ste
 use Rattle.mem_machine.specs.Stocks.{Fills, DrainsSubtree, DrainsAllBelow, AreDrained}
 use Rattle.mem_machine.proofs.Reaching.{run_both}
 use Rattle.mem_alloc.specs.Stepping.{BySteps, ByStepsOfAny, course, OfMachine}
-use Rattle.mem_alloc.specs.Room.{ClearsBelow, IsRefusedAt, MakesRoom, IsOverAt, has_room_for, with_max_noted_at}
+use Rattle.mem_reclaim.specs.Moves.{Leads}
+use Rattle.mem_reclaim.specs.Rounds.{MakesRounds, pages_missing}
+use Rattle.mem_reclaim.specs.Staying.{Keeps, MissedAll}
+use Rattle.mem_reclaim.proofs.Keeping.{keeps_none}
+use Rattle.mem_alloc.specs.Room.{ClearsBelow, RoundsBefore, ReclaimsFor, RelievesLimit, IsRefusedAt, MakesRoom, IsOverAt}
+use Rattle.mem_alloc.specs.Room.{has_room_for, with_max_noted_at}
 use Rattle.mem_alloc.specs.declared.faults.AllocFault.{AllocFault}
 use Rattle.mem_alloc.specs.declared.faults.AllocFault.TheVariants.{Over}
 use Rattle.mem_alloc.specs.Charging.{FillsAfterRoom, IsOverForOne}
-use Rattle.mem_alloc.proofs.Lowering.{Lowers, lowers_none, lowers_both, clearing_lowers}
+use Rattle.mem_alloc.proofs.Lowering.{Lowers, lowers_none, lowers_both, relieving_lowers}
 
 -- the note, and then the drains. Serves `make_room`
 pub clears_by : (t : KnownTable) (g pages : ℕ) (m x n : KnownMachine) → x ≡ with_max_noted_at m g → MakesForAny t m (note_max_steps g) x
@@ -33,6 +40,45 @@ clears_by t g pages m x n noted noting drains drained = (
   },
   λ c. run_both c.number (note_max_steps g) (drain_stocks_steps drains.drains) (local_of t m c) (local_of t x c) (local_of t n c) (noting c)
       (drains.steps c),
+)
+
+-- and then the rounds
+pub relieves_by : (t : KnownTable) (g pages : ℕ) (m x n : KnownMachine) → ByStepsOfAny t m x (ClearsBelow g) → ByStepsOfAny t x n (ReclaimsFor g pages)
+    → ByStepsOfAny t m n (RelievesLimit g pages)
+relieves_by t g pages m x n first last = (
+  first.0 ++ last.0,
+  record { cleared = x; clearing = first.0; reclaiming = last.0; clears = first.1; reclaims = last.1; steps_are = refl },
+  λ c. run_both c.number first.0 last.0 (local_of t m c) (local_of t x c) (local_of t n c) (first.2 c) (last.2 c),
+)
+
+-- there is no limit
+pub no_rounds : (t : KnownTable) (g pages : ℕ) (m : KnownMachine) → limit_of m.ledger.groups g ≡ None → ByStepsOfAny t m m (ReclaimsFor g pages)
+no_rounds t g pages m none = (
+  [],
+  record {
+    rounds = subst (λ (o : Option ℕ). RoundsBefore o g pages (course t m [] m)) (sym none) (refl, refl);
+    missed = λ over. absurd (false≢true (sym over ∙ ap (λ (o : Option ℕ). fits_limit o (current_of m.ledger g + pages)) none));
+    keeps = keeps_none t m;
+  },
+  λ c. refl,
+)
+
+-- there is one
+pub rounds_for : (t : KnownTable) (g pages limit given : ℕ) (m n : KnownMachine) → limit_of m.ledger.groups g ≡ Some limit
+    → Leads t given m n (λ steps. MakesRounds g (pages_missing g pages limit) 16 given m steps n) → Keeps t m n
+    → (limit < current_of n.ledger g + pages → MissedAll g m n) → ByStepsOfAny t m n (ReclaimsFor g pages)
+rounds_for t g pages limit given m n is leads keeps missed = (
+  leads.steps,
+  record {
+    rounds = subst (λ (o : Option ℕ). RoundsBefore o g pages (course t m leads.steps n)) (sym is) (given, leads.does);
+    missed = λ over.
+        let here : limit_of n.ledger.groups g ≡ Some limit = ap (λ (x : List Group). limit_of x g) keeps.groups ∙ is in
+        let full : nat_le (current_of n.ledger g + pages) limit ≡ false =
+        sym (ap (λ (o : Option ℕ). fits_limit o (current_of n.ledger g + pages)) here) ∙ over in
+        missed (let ne = leb-false (current_of n.ledger g + pages) limit full in omega (arith, ne));
+    keeps = keeps;
+  },
+  leads.moves.runs,
 )
 
 -- tries that were refused, and then one more
@@ -72,15 +118,15 @@ module _ (t : KnownTable) (g pages : ℕ) (c : KnownCpu) (m x : KnownMachine) (s
   -- one more try was refused, by its steps
   module _ (y z n : KnownMachine) (d : KnownCpu) (over : ℕ) (same : y ≡ x) (mine : d ≡ c)
       (low : IsLowestOver z.ledger.groups (current_of z.ledger) g pages over) (before_it : z ≡ x)
-      (refusing : IsLocalRun d.number (local_of t z d) (over_steps g pages over) (local_of t z d)) (clears : ByStepsOfAny t y n (ClearsBelow over)) where
-    its : ByStepsOfAny t x n (ClearsBelow over)
-    its = subst (λ (k : KnownMachine). ByStepsOfAny t k n (ClearsBelow over)) same clears
+      (refusing : IsLocalRun d.number (local_of t z d) (over_steps g pages over) (local_of t z d)) (relieves : ByStepsOfAny t y n (RelievesLimit over pages)) where
+    its : ByStepsOfAny t x n (RelievesLimit over pages)
+    its = subst (λ (k : KnownMachine). ByStepsOfAny t k n (RelievesLimit over pages)) same relieves
 
     refused : IsRefusedAt g pages over (course t x (over_steps g pages over ++ its.0) n)
     refused = record {
       lowest = subst (λ (k : KnownMachine). IsLowestOver k.ledger.groups (current_of k.ledger) g pages over) before_it low;
-      clearing = its.0;
-      clears = its.1;
+      relieving = its.0;
+      relieves = its.1;
       steps_are = refl;
     }
 
@@ -102,7 +148,7 @@ module _ (t : KnownTable) (g pages : ℕ) (c : KnownCpu) (m x : KnownMachine) (s
       makes = room_more t g pages over so_far.refused_at m x n so_far.making
           (over_steps g pages over ++ its.0) so_far.makes refused room;
       runs = runs_on;
-      lowers = lowers_both t m x n so_far.lowers (clearing_lowers t over x n its);
+      lowers = lowers_both t m x n so_far.lowers (relieving_lowers t over pages x n its);
     }
 
     -- or has none still
@@ -123,7 +169,7 @@ module _ (t : KnownTable) (g pages : ℕ) (c : KnownCpu) (m x : KnownMachine) (s
     )
 
     pub lowers_here : Lowers t x n
-    lowers_here = clearing_lowers t over x n its
+    lowers_here = relieving_lowers t over pages x n its
 
   -- the pages are granted, and fill the stock
   pub so_far_fills : (y : KnownCpu) → y ≡ c → (n : KnownMachine) (d : KnownCpu) → Fills g pages (side x y) (side n d)

@@ -9,6 +9,7 @@ use Rattle.group_tree.specs.Groups.{has_group}
 use Rattle.group_tree.specs.Room.{PathHasRoom, IsLowestOver}
 use Rattle.group_charge.specs.declared.charges.Over.{Over as OverLimit}
 use Rattle.group_charge.specs.Charges.{current_of, with_charge, with_uncharge}
+use Rattle.stock_word.specs.Stock.{account_of}
 use Rattle.cpu_part.specs.Cpus.{KnownCpu}
 use Rattle.step_rules.specs.After.{Run}
 use Rattle.step_rules.specs.State.{State}
@@ -25,10 +26,11 @@ use Rattle.mem_alloc.specs.declared.faults.AllocFault.{AllocFault}
 use Rattle.mem_alloc.specs.declared.faults.AllocFault.TheVariants.{Over, NoFrames, Killed}
 use Rattle.mem_alloc.specs.Stepping.{BySteps, course, OfMachine}
 use Rattle.mem_alloc.specs.Room.{IsOverAt}
-use Rattle.mem_alloc.specs.Blocks.{TakesAfterRoom, FindsNoBlock, ChargesBlock, HasRoomStill, LeavesRoom, TakesAfterList, FindsNoneAgain, TakesAgain}
-use Rattle.mem_alloc.specs.Blocks.{TriesAgain, AllocatesBlock}
-use Rattle.mem_alloc.proofs.Lowering.{Lowers, lowered_fits, usage_back, room_back}
-use Rattle.mem_alloc.proofs.Making.{RoomSoFar}
+use Rattle.mem_alloc.specs.Blocks.{TakesAfterRoom, FindsNoBlock, ChargesBlock, HasRoomStill, LeavesRoom, TakesAgain}
+use Rattle.mem_alloc.specs.Blocks.{TryTakes, TryFindsNone, TakesInRounds, TriesInRounds, TakesSecond, TriesAgain, AllocatesBlock}
+use Rattle.mem_alloc.proofs.Lowering.{Lowers, same_visit, lowered_fits, usage_back, room_back}
+use Rattle.mem_alloc.proofs.Making.{RoomSoFar, so_far_none}
+use Rattle.mem_alloc.proofs.Rounding.{FailureSpares, fails_spare, in_the_end}
 
 -- ---- one try
 
@@ -158,14 +160,51 @@ all_back k count list left few counts rest split = elim (cases_lt k count) [
   | inr enough ↦ take_all k list (omega (arith, counts, enough))
 ]
 
--- the usage and the limits are what they were, so the second try isn't refused
-pub never_over : (m n : KnownMachine) (g pages over : ℕ) → n.ledger ≡ m.ledger → PathHasRoom m.ledger.groups (current_of m.ledger) g pages
-    → IsLowestOver n.ledger.groups (current_of n.ledger) g pages over → ⊥
-never_over m n g pages over same room low =
-    let here = subst (λ l. IsLowestOver l.groups (current_of l) g pages over) same low in
-    false≢true (sym here.over ∙ room over here.on_path)
+-- every limit of the path has room, so no try is refused
+pub never_over : (m : KnownMachine) (g pages over : ℕ) → PathHasRoom m.ledger.groups (current_of m.ledger) g pages
+    → IsLowestOver m.ledger.groups (current_of m.ledger) g pages over → ⊥
+never_over m g pages over room low = false≢true (sym low.over ∙ room over low.on_path)
 
--- what the second try leaves
+-- ---- rounds of reclaim
+
+-- a try that finds no block keeps usages and stocks
+pub none_spares : (t : KnownTable) (g k : ℕ) → FailureSpares t (TryFindsNone g k)
+none_spares t g k m n c d steps h = record {
+  lowers = record {
+    groups = ap (λ (y : KnownMachine). y.ledger.groups) h.none.machine;
+    killed = ap (λ (y : KnownMachine). y.killed) h.none.machine;
+    opened = ap (λ (y : KnownMachine). y.seat.view.opened) h.none.machine;
+    visit = same_visit t m n (ap (λ (y : KnownMachine). y.seat) h.none.machine);
+    falls = λ j.
+        let ledger = ap (λ (y : KnownMachine). current_of y.ledger j) h.none.machine in
+        let back : current_of n.ledger j ≡ current_of m.ledger j = ledger ∙ usage_back m.ledger g (2 ^ k) j in
+        omega (arith, back);
+    emptied = λ p is. ap (λ (y : KnownMachine). (account_of y.stock.view p).filled) h.none.machine ∙ is;
+  };
+  stock = ap (λ (y : KnownMachine). y.stock) h.none.machine;
+  cpu = h.cpu;
+}
+
+-- what one try that finds no block leaves
+pub none_leaves : (t : KnownTable) (g k : ℕ) (m n : KnownMachine) (c d : KnownCpu) → TakesNoBlock m g k n → has_group m.ledger.groups g ≡ true
+    → HasRoomFor m (2 ^ k) → HasRoomStill g k m n
+none_leaves t g k m n c d none there fits = room_still t g k c m m (so_far_none t g (2 ^ k) c m) c refl n d none there fits
+
+-- rounds open and shut no visit
+taken_opens : (m n : KnownMachine) (g k head : ℕ) → TakesBlock m g k head n → n.seat.view.opened ≡ m.seat.view.opened
+taken_opens m n g k head takes = ap (λ (y : KnownMachine). y.seat.view.opened) takes.machine
+
+rounds_open : (t : KnownTable) (g k : ℕ) (r : Result ℕ AllocFault) (m n : KnownMachine) (c d : KnownCpu) (steps : Run)
+    → TakesInRounds g k r (course t (side m c) steps (side n d)) → n.seat.view.opened ≡ m.seat.view.opened
+rounds_open t g k (Ok head) m n c d steps h =
+    let last = in_the_end t (2 ^ k) (TryFindsNone g k) (none_spares t g k) (TryTakes g k head) 16 m c (side n d) steps h in
+    taken_opens last.before n g k head last.succeeds.takes ∙ last.spares.lowers.opened
+rounds_open t g k (Err NoFrames) m n c d steps h =
+    (fails_spare t (2 ^ k) (TryFindsNone g k) (none_spares t g k) 16 m n c d steps h).lowers.opened
+rounds_open t g k (Err (Over over)) m n c d steps h = absurd h
+rounds_open t g k (Err Killed) m n c d steps h = absurd h
+
+-- ---- what the second try leaves
 module _ (t : KnownTable) (g k : ℕ) (m x n : KnownMachine) (c y d : KnownCpu) (count listed : ℕ) (counts : listed ≡ length c.list) (few : count ≤ listed)
     (gives : TakesManyBack (take count c.list) (side m c) (side x y)) (rest : count < listed → y.list ≡ []) (stays : d ≡ y)
     (giving : IsLocalRun c.number (local_of t m c) (drain_list_steps c.number (take count c.list)) (local_of t x y)) where
@@ -186,21 +225,54 @@ module _ (t : KnownTable) (g k : ℕ) (m x n : KnownMachine) (c y d : KnownCpu) 
   then steps run = run_both c.number (drain_list_steps c.number c.list) steps (local_of t m c) (local_of t x y) (local_of t n d) by_giving
       (subst (λ (p : ℕ). IsLocalRun p (local_of t x y) steps (local_of t n d)) part.number run)
 
-  pub takes_after : (head : ℕ) → TakesBlock x g k head n → IsLocalRun y.number (local_of t x y) (taken_steps g k head) (local_of t n d)
-      → BySteps t (side m c) (side n d) (TakesAfterList g k head)
-  takes_after head takes run = (
-    drain_list_steps c.number c.list ++ taken_steps g k head,
-    record { returned = x; gives = given; takes = takes; steps_are = refl },
-    then (taken_steps g k head) run,
+  takes_again : (r : Result ℕ AllocFault) → BySteps t (side x y) (side n d) (TakesSecond g k r) → BySteps t (side m c) (side n d) (TakesAgain g k r)
+  takes_again r second = (
+    drain_list_steps c.number c.list ++ second.0,
+    record {
+      returned = x;
+      later = second.0;
+      gives = given;
+      takes = subst (λ (z : KnownCpu). TakesSecond g k r (course t (side x z) second.0 (side n d))) (sym stays) second.1;
+      steps_are = refl;
+    },
+    then second.0 second.2,
   )
 
-  pub finds_none : TakesNoBlock x g k n → IsLocalRun y.number (local_of t x y) (unplaced_steps g k) (local_of t n d)
-      → BySteps t (side m c) (side n d) (FindsNoneAgain g k)
-  finds_none none run = (
-    drain_list_steps c.number c.list ++ unplaced_steps g k,
-    record { returned = x; gives = given; none = none; steps_are = refl },
-    then (unplaced_steps g k) run,
-  )
+  -- it takes the block
+  pub takes_after : (head : ℕ) → TakesBlock x g k head n → IsLocalRun y.number (local_of t x y) (taken_steps g k head) (local_of t n d)
+      → BySteps t (side m c) (side n d) (TakesAgain g k (Ok head))
+  takes_after head takes run =
+      takes_again (Ok head) (taken_steps g k head, inl (record { takes = takes; cpu = stays; steps_are = refl }), run)
+
+  -- or finds none, and rounds of reclaim follow
+  module _ (w : KnownMachine) (z : KnownCpu) (none : TakesNoBlock x g k w) (same : z ≡ y)
+      (vain : IsLocalRun y.number (local_of t x y) (unplaced_steps g k) (local_of t w z)) where
+    in_rounds : (r : Result ℕ AllocFault) → BySteps t (side w z) (side n d) (TakesInRounds g k r) → BySteps t (side x y) (side n d) (TriesInRounds g k r)
+    in_rounds r there =
+        let rounds = subst (λ (u : KnownCpu). BySteps t (side w u) (side n d) (TakesInRounds g k r)) same there in
+        let first = subst (λ (u : KnownCpu). IsLocalRun y.number (local_of t x y) (unplaced_steps g k) (local_of t w u)) same vain in (
+          unplaced_steps g k ++ rounds.0,
+          record {
+            tried = w;
+            first = unplaced_steps g k;
+            later = rounds.0;
+            none = record { none = none; cpu = refl; steps_are = refl };
+            rounds = rounds.1;
+            steps_are = refl;
+          },
+          run_both y.number (unplaced_steps g k) rounds.0 (local_of t x y) (local_of t w y) (local_of t n d) first rounds.2,
+        )
+
+    as_second : (r : Result ℕ AllocFault) → BySteps t (side x y) (side n d) (TriesInRounds g k r) → BySteps t (side x y) (side n d) (TakesSecond g k r)
+    as_second (Ok head) b = (b.0, inr b.1, b.2)
+    as_second (Err cause) b = b
+
+    pub reclaims_after : (r : Result ℕ AllocFault) → BySteps t (side w z) (side n d) (TakesInRounds g k r) → BySteps t (side m c) (side n d) (TakesAgain g k r)
+    reclaims_after r there = takes_again r (as_second r (in_rounds r there))
+
+    pub reclaims_open : (r : Result ℕ AllocFault) → BySteps t (side w z) (side n d) (TakesInRounds g k r) → n.seat.view.opened ≡ m.seat.view.opened
+    reclaims_open r there =
+        rounds_open t g k r w n z d there.0 there.1 ∙ ap (λ (u : KnownMachine). u.seat.view.opened) none.machine ∙ part.opened
 
   pub list_shrinks : length d.list ≤ length c.list
   list_shrinks =
@@ -220,9 +292,9 @@ module _ (t : KnownTable) (g k : ℕ) (m : KnownMachine) (c : KnownCpu) (alive :
       → (TakesAgain g k r (course t (side x c) later (side n d)) → TriesAgain g k r (course t (side m c) (first ++ later) (side n d)))
       → IsLocalRun c.number (local_of t m c) (first ++ later) (local_of t n d) → BySteps t (side m c) (side n d) (AllocatesBlock g k r)
   by_answer (Ok head) x n d first later told tries run = (first ++ later, (alive, inr (tries told)), run)
-  by_answer (Err (Over over)) x n d first later told tries run = absurd told
+  by_answer (Err (Over over)) x n d first later told tries run = absurd told.takes.rounds
   by_answer (Err NoFrames) x n d first later told tries run = (first ++ later, (alive, tries told), run)
-  by_answer (Err Killed) x n d first later told tries run = absurd told
+  by_answer (Err Killed) x n d first later told tries run = absurd told.takes.rounds
 
   -- the second one does
   pub decides_again : (r : Result ℕ AllocFault) (x n : KnownMachine) (y d : KnownCpu) → y ≡ c → BySteps t (side m c) (side x y) (OfMachine (FindsNoBlock g k))

@@ -14,6 +14,7 @@ use Rattle.mem_alloc.specs.declared.faults.AllocFault.{AllocFault}
 use Rattle.mem_alloc.specs.declared.faults.AllocFault.TheVariants.{Over, NoFrames, Killed}
 use Rattle.mem_alloc.specs.Stepping.{Course, course, of_machine}
 use Rattle.mem_alloc.specs.Room.{MakesRoom, IsOverAt}
+use Rattle.mem_alloc.specs.Rounds.{FailsInRounds, SucceedsInRounds}
 use Rattle.mem_alloc.specs.Frames.{RefusesKilled}
 
 -- The charge of the block may be refused first, at the groups `refused_at`, which have room then; after that the group
@@ -54,28 +55,46 @@ pub record LeavesRoom (group order : ℕ) (answer : Result ℕ AllocFault) (befo
   pub opened : after.seat.view.opened ≡ before.seat.view.opened
   pub still : answer ≡ Err NoFrames → HasRoomStill group order before after
 
--- all frames of the processor's list go back to the zone, and then the block is charged and taken, or there is none
--- still
-pub record TakesAfterList (group order head : ℕ) (way : Course Side) : Type 0 where
-  pub returned : KnownMachine
-  pub gives : TakesManyBack way.before.cpu.list way.before (side returned way.after.cpu)
-  pub takes : TakesBlock returned group order head way.after.machine
-  pub steps_are : way.steps
-      ≡ drain_list_steps way.before.cpu.number way.before.cpu.list ++ taken_steps group order head
+-- one try: the block is charged and taken
+pub record TryTakes (group order head : ℕ) (way : Course Side) : Type 0 where
+  pub takes : TakesBlock way.before.machine group order head way.after.machine
+  pub cpu : way.after.cpu ≡ way.before.cpu
+  pub steps_are : way.steps ≡ taken_steps group order head
 
--- all frames of the processor's list go back to the zone, and no block is free still
-pub record FindsNoneAgain (group order : ℕ) (way : Course Side) : Type 0 where
-  pub returned : KnownMachine
-  pub gives : TakesManyBack way.before.cpu.list way.before (side returned way.after.cpu)
-  pub none : TakesNoBlock returned group order way.after.machine
-  pub steps_are : way.steps
-      ≡ drain_list_steps way.before.cpu.number way.before.cpu.list ++ unplaced_steps group order
+-- one try: no block is free, and the pages go back
+pub record TryFindsNone (group order : ℕ) (way : Course Side) : Type 0 where
+  pub none : TakesNoBlock way.before.machine group order way.after.machine
+  pub cpu : way.after.cpu ≡ way.before.cpu
+  pub steps_are : way.steps ≡ unplaced_steps group order
 
--- the second try, with the processor's list given back
-abbrev pub TakesAgain : ℕ → ℕ → Result ℕ AllocFault → Course Side → Type 0
-TakesAgain g k (Ok head) way = TakesAfterList g k head way
-TakesAgain g k (Err NoFrames) way = FindsNoneAgain g k way
-TakesAgain g k (Err other) way = ⊥
+-- rounds of reclaim, each of which wants the pages of the block and is followed by a try: the block is charged and
+-- taken, or in no round is any block free
+abbrev pub TakesInRounds : ℕ → ℕ → Result ℕ AllocFault → Course Side → Type 0
+TakesInRounds g k (Ok head) way = SucceedsInRounds 16 (2 ^ k) (TryTakes g k head) (TryFindsNone g k) way
+TakesInRounds g k (Err NoFrames) way = FailsInRounds 16 (2 ^ k) (TryFindsNone g k) way
+TakesInRounds g k (Err other) way = ⊥
+
+-- a try finds no block, and this is what comes of the rounds of reclaim after it
+pub record TriesInRounds (group order : ℕ) (answer : Result ℕ AllocFault) (way : Course Side) : Type 0 where
+  pub tried : KnownMachine
+  pub first : Run
+  pub later : Run
+  pub none : TryFindsNone group order (course way.table way.before first (side tried way.before.cpu))
+  pub rounds : TakesInRounds group order answer (course way.table (side tried way.before.cpu) later way.after)
+  pub steps_are : way.steps ≡ first ++ later
+
+-- the second try: the block is charged and taken, at once or after rounds of reclaim
+abbrev pub TakesSecond : ℕ → ℕ → Result ℕ AllocFault → Course Side → Type 0
+TakesSecond g k (Ok head) way = TryTakes g k head way ⊎ TriesInRounds g k (Ok head) way
+TakesSecond g k (Err cause) way = TriesInRounds g k (Err cause) way
+
+-- all frames of the processor's list go back to the zone, and then comes the second try
+pub record TakesAgain (group order : ℕ) (answer : Result ℕ AllocFault) (way : Course Side) : Type 0 where
+  pub returned : KnownMachine
+  pub later : Run
+  pub gives : TakesManyBack way.before.cpu.list way.before (side returned way.after.cpu)
+  pub takes : TakesSecond group order answer (course way.table (side returned way.after.cpu) later way.after)
+  pub steps_are : way.steps ≡ drain_list_steps way.before.cpu.number way.before.cpu.list ++ later
 
 -- the block is charged and taken at once
 pub record GetsAtOnce (group order head : ℕ) (way : Course Side) : Type 0 where

@@ -1,10 +1,10 @@
 -- How single frames are allocated: from the processor's list.
-use Rattle.std.specs.Prelude.{◌≡◌, ◌⊎◌, ℕ, ◌<◌, ◌≤◌, true, false, Result, Ok, Err, List, [], ◌++◌, length}
+use Rattle.std.specs.Prelude.{◌≡◌, ◌⊎◌, ℕ, ◌<◌, ◌≤◌, Bool, true, false, Result, Ok, Err, List, [], ◌++◌, length}
 use Rattle.zone_blocks.specs.Areas.{HasNoneFrom}
 use Rattle.zone_sizes.specs.declared.config.Config.{Config}
 use Rattle.step_rules.specs.After.{Run}
-use Rattle.mem_machine.specs.Machines.{is_killed}
-use Rattle.mem_machine.specs.Local.{Side}
+use Rattle.mem_machine.specs.Machines.{KnownMachine, is_killed}
+use Rattle.mem_machine.specs.Local.{Side, side}
 use Rattle.mem_machine.specs.Stocks.{Drains, stock_group}
 use Rattle.mem_machine.specs.Lending.{LendsMany}
 use Rattle.mem_machine.specs.Paying.{PaysForFront}
@@ -13,36 +13,64 @@ use Rattle.mem_alloc.specs.declared.faults.AllocFault.{AllocFault}
 use Rattle.mem_alloc.specs.declared.faults.AllocFault.TheVariants.{Over, NoFrames, Killed}
 use Rattle.mem_alloc.specs.Stepping.{Course, course, Stays}
 use Rattle.mem_alloc.specs.Charging.{PaysForFrame, RefusesToPay}
+use Rattle.mem_alloc.specs.Rounds.{FailsInRounds, SucceedsInRounds}
 
 -- a frame stands on the processor's list, and nothing changed
 pub record HasFront (way : Course Side) : Type 0 where
   pub some : 1 ≤ length way.before.cpu.list
   pub stays : Stays way
 
--- the list is empty: a batch of free frames comes to it, or all that are free where they are fewer
-pub record RefillsList (sizes : Config) (way : Course Side) : Type 0 where
-  pub empty : way.before.cpu.list ≡ []
+-- a batch of free frames comes to the end of the list, or all that are free where they are fewer; at least one
+pub record LendsBatch (batch : ℕ) (way : Course Side) : Type 0 where
   pub frames : List ℕ
   pub some : 1 ≤ length frames
-  pub at_most : length frames ≤ sizes.batch
-  pub fewer : length frames < sizes.batch → HasNoneFrom way.after.machine.blocks 0
+  pub at_most : length frames ≤ batch
+  pub fewer : length frames < batch → HasNoneFrom way.after.machine.blocks 0
   pub lends : LendsMany frames way.before way.after
   pub steps_are : way.steps ≡ refill_steps way.before.cpu.number frames
 
--- a frame stands on the processor's list: one did, or free frames come to it
-abbrev pub FillsList : Config → Course Side → Type 0
-FillsList sizes way = HasFront way ⊎ RefillsList sizes way
+-- no frame is free, and nothing changed
+pub record LendsNoFrame (way : Course Side) : Type 0 where
+  pub none : HasNoneFrom way.before.machine.blocks 0
+  pub stays : Stays way
 
--- the list is empty and no frame is free: the processor's stock is drained, of `back` pages, which go back to its group
+-- rounds of reclaim, each of which wants a page and is followed by a refill: free frames come to the list, or in no
+-- round is any frame free
+abbrev pub RefillsInRounds : ℕ → Bool → Course Side → Type 0
+RefillsInRounds batch true way = SucceedsInRounds 16 1 (LendsBatch batch) LendsNoFrame way
+RefillsInRounds batch false way = FailsInRounds 16 1 LendsNoFrame way
+
+-- the list is empty, and free frames come to it
+pub record RefillsList (sizes : Config) (way : Course Side) : Type 0 where
+  pub empty : way.before.cpu.list ≡ []
+  pub lends : LendsBatch sizes.batch way
+
+-- the list is empty and no frame is free; after rounds of reclaim free frames come to the list
+pub record ReclaimsForList (sizes : Config) (way : Course Side) : Type 0 where
+  pub empty : way.before.cpu.list ≡ []
+  pub none : HasNoneFrom way.before.machine.blocks 0
+  pub rounds : RefillsInRounds sizes.batch true way
+
+-- a frame stands on the processor's list: one did, or free frames come to it, at once or after rounds of reclaim
+abbrev pub FillsList : Config → Course Side → Type 0
+FillsList sizes way = HasFront way ⊎ (RefillsList sizes way ⊎ ReclaimsForList sizes way)
+
+-- the list is empty and no frame is free, nor is one after any round of reclaim: then the processor's stock is drained,
+-- of `back` pages, which go back to its group
 pub record HasNoFrame (cause : AllocFault) (way : Course Side) : Type 0 where
   pub named : cause ≡ NoFrames
   pub empty : way.before.cpu.list ≡ []
   pub none : HasNoneFrom way.before.machine.blocks 0
+  pub reclaimed : KnownMachine
+  pub reclaiming : Run
+  pub rounds : FailsInRounds 16 1 LendsNoFrame
+      (course way.table way.before reclaiming (side reclaimed way.before.cpu))
+  pub none_still : HasNoneFrom reclaimed.blocks 0
   pub back : ℕ
-  pub drains : Drains way.before.machine way.before.cpu.number back way.after.machine
+  pub drains : Drains reclaimed way.before.cpu.number back way.after.machine
   pub cpu : way.after.cpu ≡ way.before.cpu
   pub steps_are : way.steps
-      ≡ drain_steps way.before.cpu.number (stock_group way.before.machine way.before.cpu.number) back
+      ≡ reclaiming ++ drain_steps way.before.cpu.number (stock_group reclaimed way.before.cpu.number) back
 
 -- a page of the group is in the processor's stock, a frame on its list, and the front of the list is paid for with the
 -- page
@@ -62,7 +90,7 @@ pub record IsNotPaid (sizes : Config) (group : ℕ) (cause : AllocFault) (way : 
   pub not_killed : is_killed way.before.machine.killed group ≡ false
   pub refuses : RefusesToPay sizes group cause way
 
--- a page of the group is in the processor's stock, but no frame is free
+-- a page of the group is in the processor's stock, but no frame is free, also after rounds of reclaim
 pub record FindsNoFrame (sizes : Config) (group : ℕ) (way : Course Side) : Type 0 where
   pub paid : Side
   pub paying : Run

@@ -7,15 +7,17 @@ ghost use Rattle.group_charge.specs.Charges.{current_of};
 ghost use Rattle.mem_machine.specs.Machines.{KeepsVisit, Visits, is_killed};
 ghost use Rattle.mem_machine.specs.Paying.{HasRoomFor, IsOfSize};
 ghost use Rattle.mem_alloc.specs.Stepping.{BySteps, OfMachine};
-ghost use Rattle.mem_alloc.specs.Blocks.{AllocatesBlock, ChargesBlock, TakesAgain, LeavesRoom};
+ghost use Rattle.mem_alloc.specs.Blocks.{AllocatesBlock, ChargesBlock, TakesAgain, TakesInRounds, LeavesRoom};
 ghost use Rattle.mem_machine.specs.Local.{side};
 
 use crate::faults::AllocFault;
 use crate::room::make_room;
+use crate::rounds::reclaim_anywhere;
 use cpu_part::{BootName, Cpu, Tables};
 use frame_word::Frame;
 use group_tree::group::GroupId;
 use mem_machine::{Machine, TakeFault};
+use mem_reclaim::MAX_ROUNDS;
 use zone_blocks::order::Order;
 
 // Charges a block to the group and takes it, as soon as every limit has room.
@@ -47,7 +49,41 @@ fn take_charged<N: BootName>(
     }
 }
 
-// Gives the processor's list back to the zone, and takes the block then, for which every limit has room.
+// No block is free: reclaims its pages from anywhere, and takes the block then, in rounds. The round that reclaims
+// nothing is the last.
+fn take_in_rounds<N: BootName>(
+    machine: &mut Machine<N>,
+    tables: &Tables<N>,
+    cpu: &mut Cpu<N>,
+    group: GroupId,
+    order: Order,
+) -> Result<Frame, AllocFault>
+    requires visit { Visits N.frames (side machine.old cpu.old) }
+    requires there { IsTrue (has_group machine.old.ledger.groups group) }
+    requires not_killed { is_killed machine.old.killed group ≡ false }
+    requires fits { HasRoomFor machine.old (2 ^ order) }
+    requires room { PathHasRoom machine.old.ledger.groups (current_of machine.old.ledger) group (2 ^ order) }
+    requires none_back { cpu.old.back ≡ [] }
+    ensures takes { BySteps N.frames (side machine.old cpu.old) (side machine.new cpu.new)
+        (TakesInRounds group order result) }
+    ensures cpu { cpu.new ≡ cpu.old }
+    ensures visit { Visits N.frames (side machine.new cpu.new) }
+{
+    let pages = order.frames();
+    for _round in 0..MAX_ROUNDS {
+        let given = reclaim_anywhere(machine, tables, u64::from(pages));
+        match machine.take_block(tables, cpu, group, order) {
+            Ok(head) => return Ok(head),
+            Err(TakeFault::Over(_)) => unreachable!(),
+            Err(TakeFault::NoBlock) if given == 0 => return Err(AllocFault::NoFrames),
+            Err(TakeFault::NoBlock) => {}
+        }
+    }
+    Err(AllocFault::NoFrames)
+}
+
+// Gives the processor's list back to the zone, and takes the block then, for which every limit has room. Where no block
+// is free still, its pages are reclaimed in rounds.
 fn take_again<N: BootName>(
     machine: &mut Machine<N>,
     tables: &Tables<N>,
@@ -71,7 +107,7 @@ fn take_again<N: BootName>(
     machine.drain_list(tables, cpu, listed);
     match machine.take_block(tables, cpu, group, order) {
         Ok(head) => Ok(head),
-        Err(TakeFault::NoBlock) => Err(AllocFault::NoFrames),
+        Err(TakeFault::NoBlock) => take_in_rounds(machine, tables, cpu, group, order),
         Err(TakeFault::Over(_)) => unreachable!(),
     }
 }
@@ -80,10 +116,12 @@ fn take_again<N: BootName>(
 /// 2^`order` pages are charged to the group, and the block is a kept unit of it at once, which goes by its head.
 ///
 /// `Killed`: the group is killed, and nothing changed. Else a limit that has no room for the pages is noted (`max`) at
-/// its group, the lowest of the path, and the stocks of that group's subtree are drained: where it has no room still,
-/// the answer is `Over`. Where no block of the order or above is free, the processor's own list goes back to the zone,
-/// and the block is tried once more. `NoFrames`: there is none then; the pages went back, and the peaks stand. The zone
-/// has at most 65,536 frames and 64 processors.
+/// its group, the lowest of the path, the stocks of that group's subtree are drained, and where it has no room still,
+/// clean units of the subtree are reclaimed in at most 16 rounds. Where that makes no room, the answer is `Over`. Where
+/// no block of the order or above is free, the processor's own list goes back to the zone, and the block is tried once
+/// more. Where there is none still, as many pages as it has are reclaimed from the units of all groups, and it is tried
+/// again: in at most 16 such rounds, of which one that gave no page is the last. `NoFrames`: there is none then; the
+/// pages went back, and the peaks and what was reclaimed stand. The zone has at most 65,536 frames and 64 processors.
 pub fn alloc_block<N: BootName>(
     machine: &mut Machine<N>,
     tables: &Tables<N>,

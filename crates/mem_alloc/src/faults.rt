@@ -5,9 +5,10 @@ use group_tree::group::GroupId;
 /// Why nothing was allocated. No frame and no charge was given then.
 #[derive(Clone, Copy, Debug, PartialEq, Eq)]
 pub enum AllocFault {
-    /// The limit of this group has no room for the pages, after the stocks of its subtree were drained.
+    /// The limit of this group has no room for the pages, after the stocks of its subtree were drained and clean units
+    /// of it were reclaimed in rounds.
     Over(GroupId),
-    /// No sufficient free block is there.
+    /// No sufficient free block is there, also after rounds of reclaim from all groups.
     NoFrames,
     /// The group is killed.
     Killed,

@@ -7,18 +7,49 @@ ghost use Rattle.group_tree.specs.Groups.{has_group};
 ghost use Rattle.mem_machine.specs.Machines.{KeepsVisit, Visits};
 ghost use Rattle.mem_machine.specs.Paying.{HoldsPage, IsOfSize};
 ghost use Rattle.mem_alloc.specs.Stepping.{ByAnswer, BySteps};
-ghost use Rattle.mem_alloc.specs.Frames.{FillsList, HasNoFrame, AllocatesFrame};
+ghost use Rattle.mem_machine.specs.Lending.{HasListRoom};
+ghost use Rattle.mem_alloc.specs.Frames.{FillsList, HasNoFrame, RefillsInRounds, AllocatesFrame};
 ghost use Rattle.mem_machine.specs.Local.{side};
 
 use crate::charging::pay_for_frame;
 use crate::faults::AllocFault;
+use crate::rounds::reclaim_anywhere;
 use cpu_part::{BootName, Cpu, Tables};
 use frame_word::Frame;
 use group_tree::group::GroupId;
 use mem_machine::Machine;
+use mem_reclaim::MAX_ROUNDS;
 use zone_sizes::config::Config;
 
-// Sees to it that a frame stands on the processor's list. Where none is free, the processor's stock is drained.
+// No frame is free: reclaims one page from anywhere, and lends free frames to the processor's list then, in rounds. The
+// round that reclaims nothing is the last. Whether frames came to the list.
+fn refill_in_rounds<N: BootName>(
+    machine: &mut Machine<N>,
+    tables: &Tables<N>,
+    cpu: &mut Cpu<N>,
+    batch: u32,
+) -> bool
+    requires visit { Visits N.frames (side machine.old cpu.old) }
+    requires room { HasListRoom cpu.old batch }
+    requires some { 1 ≤ batch }
+    ensures refills { BySteps N.frames (side machine.old cpu.old) (side machine.new cpu.new)
+        (RefillsInRounds batch result) }
+    ensures visit { Visits N.frames (side machine.new cpu.new) }
+{
+    for _round in 0..MAX_ROUNDS {
+        let given = reclaim_anywhere(machine, tables, 1);
+        if machine.refill(tables, cpu, batch) > 0 {
+            return true;
+        }
+        if given == 0 {
+            return false;
+        }
+    }
+    false
+}
+
+// Sees to it that a frame stands on the processor's list. Where none is free, also after rounds of reclaim, the
+// processor's stock is drained.
 fn fill_list<N: BootName>(
     machine: &mut Machine<N>,
     tables: &Tables<N>,
@@ -42,6 +73,9 @@ fn fill_list<N: BootName>(
     if machine.refill(tables, cpu, sizes.batch) > 0 {
         return Ok(());
     }
+    if refill_in_rounds(machine, tables, cpu, sizes.batch) {
+        return Ok(());
+    }
     let number = cpu.number();
     machine.drain_stock(tables, number);
     Err(AllocFault::NoFrames)
@@ -52,10 +86,13 @@ fn fill_list<N: BootName>(
 ///
 /// `Killed`: the group is killed, and nothing changed. Else, where the stock holds no page of the group, it is drained
 /// and filled with `sizes.stock` pages where every limit has room for them, else with one page. A limit that has no
-/// room for that one is noted (`max`) at its group, the lowest of the path, and the stocks of that group's subtree are
-/// drained: where it has no room still, the answer is `Over`. Where the list is empty, up to `sizes.batch` free frames
-/// come to it. `NoFrames`: none is free, and the stock is drained again. The peaks, the notes and the drained stocks
-/// stand after a refusal. The zone has at most 65,536 frames and 64 processors.
+/// room for that one is noted (`max`) at its group, the lowest of the path, the stocks of that group's subtree are
+/// drained, and where it has no room still, clean units of the subtree are reclaimed in at most 16 rounds. Where that
+/// makes no room, the answer is `Over`. Where the list is empty, up to `sizes.batch` free frames come to it. Where none
+/// is free, a page is reclaimed from the units of all groups, and free frames come to the list then: in at most 16 such
+/// rounds, of which one that gave no page is the last. `NoFrames`: none is free still, and the stock is drained again.
+/// The peaks, the notes, the drained stocks and what was reclaimed stand after a refusal. The zone has at most 65,536
+/// frames and 64 processors.
 pub fn alloc_frame<N: BootName>(
     machine: &mut Machine<N>,
     tables: &Tables<N>,

@@ -1,5 +1,5 @@
 //! Allocations that a processor makes under the zone's lock: pages are charged to a group, and frames are taken for it.
-//! One that is refused gives no frame and charges no page; what was noted and drained for it stands.
+//! One that is refused gives no frame and charges no page; what was noted, drained and reclaimed for it stands.
 //!
 //! A line that ends in 'For the clauses' calls a reader for what its contract tells, and changes nothing: what always
 //! holds of a type's values is known only where one of its calls says it.
@@ -10,6 +10,7 @@ mod charging;
 mod faults;
 mod frames;
 mod room;
+mod rounds;
 
 pub use blocks::alloc_block;
 pub use faults::AllocFault;

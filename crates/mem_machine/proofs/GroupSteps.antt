@@ -1,4 +1,4 @@
--- Steps on the groups alone. Serves `note_max`, `set_max`, `mark_killed`, `remove`.
+-- Steps on the groups alone. Serves `note_max`, `set_max`, `remove`.
 use Rattle.std.proofs.Common.{◌≡◌, ◌≢◌, ℕ, ◌<◌, Bool, true, false, Option, List, [], length, get_or, refl, sym, ap, ◌∙◌, subst}
 use Rattle.std.specs.Prelude.{not, None, is_none}
 use Rattle.std.specs.Prelude.{slice_set}
@@ -9,7 +9,7 @@ use Rattle.group_tree.specs.Groups.{has_group, has_child, with_group, make_fault
 use Rattle.group_tree.specs.declared.fault.Fault.{Fault}
 use Rattle.group_charge.specs.Charges.{Ledger, current_of, with_max_noted, with_group_limit, with_new_group, with_group_removed}
 use Rattle.cpu_part.specs.Cpus.{KnownCpu}
-use Rattle.step_rules.specs.declared.step.Action.TheVariants.{NoteMax, SetMax, Make, Kill, Remove}
+use Rattle.step_rules.specs.declared.step.Action.TheVariants.{NoteMax, SetMax, Make, Remove}
 use Rattle.step_rules.specs.declared.step.Answer.TheVariants.{Done, Number}
 use Rattle.step_rules.specs.Usage.{usage_of}
 use Rattle.step_rules.specs.Legal.{is_removable}
@@ -17,7 +17,7 @@ use Rattle.step_rules.specs.State.{with_at}
 use Rattle.step_rules.proofs.Basics.{at_each}
 use Rattle.mem_machine.specs.Machines.{KnownMachine, is_killed, AddsGroup}
 use Rattle.mem_machine.specs.Local.{local_of, IsLocalRun}
-use Rattle.mem_machine.specs.Steps.{note_max_steps, set_max_steps, kill_steps, make_steps, remove_steps}
+use Rattle.mem_machine.specs.Steps.{note_max_steps, set_max_steps, make_steps, remove_steps}
 use Rattle.mem_machine.proofs.Reaching.{zone_step, run_one}
 use Rattle.mem_machine.proofs.Holds.{zone_may_act}
 
@@ -37,20 +37,6 @@ module _ (t : KnownTable) (m n : KnownMachine) (g : ℕ) (there : has_group m.le
       (run_one c.number s _ 0 (SetMax g limit) Done
       (zone_step s c.number (SetMax g limit) Done refl (and_from _ _ (and_from _ _ (zone_may_act m.seat c.number) there) (ap not (ne_eqb g 0 below))) tt) refl)
 
-  -- the marks after one more was set
-  marks : g < length m.killed → is_killed (slice_set m.killed g true) ≡ with_at (is_killed m.killed) g true
-  marks inside = λ i. λ k. (at_each (is_killed m.killed) g true (λ (h : ℕ) (x : Bool). get_or (slice_set m.killed g true) h false ≡ x)
-      (get_or-set_same m.killed g true false inside) (λ h ne. get_or-set_other m.killed g h true false ne)) k i
-
-  pub kill_runs : g < length m.killed → is_killed m.killed g ≡ false → n ≡ record m { killed = slice_set m.killed g true } → (c : KnownCpu)
-      → IsLocalRun c.number (local_of t m c) (kill_steps g) (local_of t n c)
-  kill_runs inside alive is c =
-      let s = local_of t m c in
-      subst (λ (k : KnownMachine). IsLocalRun c.number s (kill_steps g) (local_of t k c)) (sym is)
-      (run_one c.number s _ 0 (Kill g) Done
-      (zone_step s c.number (Kill g) Done refl (and_from _ _ (and_from _ _ (zone_may_act m.seat c.number) there) (ap not alive)) tt)
-      (λ i. record s { killed = marks inside i }))
-
 -- the same, of the machine as it was seen before
 module _ (t : KnownTable) (m now : KnownMachine) (same : m ≡ now) (g : ℕ) (there : has_group now.ledger.groups g ≡ true) where
   pub notes_max : (l : Ledger) → l ≡ with_max_noted m.ledger g → (c : KnownCpu)
@@ -62,11 +48,6 @@ module _ (t : KnownTable) (m now : KnownMachine) (same : m ≡ now) (g : ℕ) (t
       → IsLocalRun c.number (local_of t now c) (set_max_steps g limit) (local_of t (record m { ledger = l }) c)
   sets_max l limit below is c = set_max_runs t now (record m { ledger = l }) g there limit below
       ((λ i. record m { ledger = is i }) ∙ ap (λ (k : KnownMachine). record k { ledger = with_group_limit k.ledger g limit }) same) c
-
-  pub marks_killed : (marks : List Bool) → g < length now.killed → is_killed now.killed g ≡ false → marks ≡ slice_set m.killed g true → (c : KnownCpu)
-      → IsLocalRun c.number (local_of t now c) (kill_steps g) (local_of t (record m { killed = marks }) c)
-  marks_killed marks inside alive is c = kill_runs t now (record m { killed = marks }) g there inside alive
-      ((λ i. record m { killed = is i }) ∙ ap (λ (k : KnownMachine). record k { killed = slice_set k.killed g true }) same) c
 
 -- the marks after one was cleared
 unmarks : (marks : List Bool) (g : ℕ) → g < length marks → is_killed (slice_set marks g false) ≡ with_at (is_killed marks) g false

@@ -5,7 +5,7 @@ use Rattle.step_rules.specs.declared.step.Step.{Step}
 use Rattle.step_rules.specs.declared.step.Action.{Action}
 use Rattle.step_rules.specs.declared.step.Action.TheVariants.{OpenVisit, ShutVisit, PassOut, TakeIn, PassBack}
 use Rattle.step_rules.specs.declared.step.Action.TheVariants.{Collect, Fill, DrainStock, Grant, Ungrant}
-use Rattle.step_rules.specs.declared.step.Action.TheVariants.{Consume, NoteMax, SetMax, Make, Remove, Kill}
+use Rattle.step_rules.specs.declared.step.Action.TheVariants.{Consume, NoteMax, SetMax, Make, Remove}
 use Rattle.step_rules.specs.declared.step.Answer.{Answer}
 use Rattle.step_rules.specs.declared.step.Answer.TheVariants.{Done, Took, Pages, Granted, Over, Number}
 use Rattle.step_rules.specs.After.{Run}
@@ -93,7 +93,3 @@ remove_steps g = zone_makes (Remove g) Done ∷ []
 -- the group gets this limit
 abbrev pub set_max_steps : ℕ → Option ℕ → Run
 set_max_steps g limit = zone_makes (SetMax g limit) Done ∷ []
-
--- the group is killed
-abbrev pub kill_steps : ℕ → Run
-kill_steps g = zone_makes (Kill g) Done ∷ []

@@ -1,4 +1,4 @@
-//! The groups: made, removed, limited, noted and killed.
+//! The groups: made, removed, limited and noted.
 
 ghost use Rattle.std.specs.Prelude.{◌≡◌, ◌≢◌, ℕ, IsTrue, IfOk, OnErr, false, true, slice_set};
 ghost use Rattle.std.specs.Result.{result_err};
@@ -7,7 +7,7 @@ ghost use Rattle.group_charge.specs.Charges.{current_of, with_max_noted, with_gr
 ghost use Rattle.step_rules.specs.Usage.{usage_of};
 ghost use Rattle.mem_machine.specs.Machines.{is_killed, AddsGroup, Visits};
 ghost use Rattle.mem_machine.specs.Local.{Makes, MakesForAny, side, local_of};
-ghost use Rattle.mem_machine.specs.Steps.{note_max_steps, make_steps, remove_steps, set_max_steps, kill_steps};
+ghost use Rattle.mem_machine.specs.Steps.{note_max_steps, make_steps, remove_steps, set_max_steps};
 
 use crate::machine::Machine;
 use cpu_part::{BootName, Cpu, Tables};
@@ -76,16 +76,5 @@ impl<N: BootName> Machine<N> {
         ensures steps { MakesForAny N.frames self.old (set_max_steps group limit) self.new }
     {
         self.charges.set_max(group, limit);
-    }
-
-    /// Marks a group as killed. It gets no charge any more.
-    pub fn mark_killed(&mut self, group: GroupId)
-        requires there { IsTrue (has_group self.old.ledger.groups group) }
-        requires alive { is_killed self.old.killed group ≡ false }
-        ensures machine { self.new ≡ record self.old { killed = slice_set self.old.killed group true } }
-        ensures steps { MakesForAny N.frames self.old (kill_steps group) self.new }
-    {
-        let number = group.number();
-        self.killed[number as usize] = true;
     }
 }

@@ -8,7 +8,7 @@ ghost use Rattle.mem_machine.specs.Machines.{IsConsistent, IsFirst};
 
 use crate::counts::Counts;
 use crate::spot::Spot;
-use crate::start::{empty_lists, free_spots, no_marks};
+use crate::start::{frame_rooms, group_rooms};
 use cpu_part::{BootName, Tables};
 use frame_word::FrameSeat;
 use group_charge::charges::Charges;
@@ -96,16 +96,17 @@ impl<N: BootName> Machine<N> {
         requires cpus { N.stocks.cpus ≡ N.frames.cpus }
         ensures { IfOk result (λ m. IsFirst N.frames N.stocks m) }
     {
-        let frames = tables.frames.frames();
+        let (zone, spots, links) = frame_rooms(alloc, tables.frames.frames())?;
+        let (charges, lists, killed) = group_rooms(alloc)?;
         Ok(Machine {
-            zone: Buddy::new(alloc, frames)?,
-            spots: free_spots(alloc, frames)?,
-            charges: Charges::new(alloc)?,
-            links: Links::new(alloc, frames)?,
-            lists: empty_lists(alloc)?,
+            zone,
+            spots,
+            charges,
+            links,
+            lists,
             seat,
             stock,
-            killed: no_marks(alloc)?,
+            killed,
             counts: Counts {
                 last_puts: 0,
                 freezes: 0,

@@ -1,31 +1,67 @@
 //! The parts of the first machine.
 
-ghost use Rattle.std.specs.Prelude.{◌≡◌, false, replicate, IfOk};
+ghost use Rattle.std.specs.Prelude.{◌≡◌, true, false, replicate, length, IfOk};
+ghost use Rattle.zone_blocks.specs.Areas.{AreMaximalBlocks};
+ghost use Rattle.lru_lists.specs.Queue.{AreNowhere};
+ghost use Rattle.group_charge.specs.Charges.{initial_ledger};
 ghost use Rattle.mem_machine.specs.Start.{AreEmpty};
 ghost use Rattle.mem_machine.specs.declared.spot.Spot.TheVariants.{Free};
 ghost use Rattle.group_tree.specs.declared.group.TheConstants.{MAX_GROUPS};
 
 use crate::spot::Spot;
+use group_charge::charges::Charges;
 use group_tree::group::MAX_GROUPS;
+use lru_lists::links::Links;
 use lru_lists::lru::Lru;
 use std::alloc::{AllocError, Global};
+use zone_buddy::buddy::Buddy;
 
-/// A record for each frame, all free.
-pub(crate) fn free_spots(alloc: Global, frames: u32) -> Result<Vec<Spot>, AllocError>
+/// What is there for each frame, which is free: the zone, a record, and a place on no list.
+pub(crate) fn frame_rooms(
+    alloc: Global,
+    frames: u32,
+) -> Result<(Buddy, Vec<Spot>, Links), AllocError>
+    ensures free { IfOk result (λ rooms. rooms.0.free ≡ replicate frames true) }
+    ensures areas { IfOk result (λ rooms. AreMaximalBlocks rooms.0.free rooms.0.blocks) }
+    ensures spots { IfOk result (λ rooms. rooms.1.items ≡ replicate frames Free) }
+    ensures frames { IfOk result (λ rooms. length rooms.2 ≡ frames) }
+    ensures nowhere { IfOk result (λ rooms. AreNowhere rooms.2) }
+{
+    let zone = Buddy::new(alloc, frames)?;
+    let spots = free_spots(alloc, frames)?;
+    let links = Links::new(alloc, frames)?;
+    Ok((zone, spots, links))
+}
+
+/// What is there for each group number, of which the root alone has a group: its charges, two empty lists, and whether
+/// it is killed.
+pub(crate) fn group_rooms(alloc: Global) -> Result<(Charges, Vec<Lru>, Vec<bool>), AllocError>
+    ensures charges { IfOk result (λ rooms. rooms.0 ≡ initial_ledger) }
+    ensures lists { IfOk result (λ rooms. AreEmpty rooms.1.items MAX_GROUPS) }
+    ensures killed { IfOk result (λ rooms. rooms.2.items ≡ replicate MAX_GROUPS false) }
+{
+    let charges = Charges::new(alloc)?;
+    let lists = empty_lists(alloc)?;
+    let killed = no_marks(alloc)?;
+    Ok((charges, lists, killed))
+}
+
+// A record for each frame, all free.
+fn free_spots(alloc: Global, frames: u32) -> Result<Vec<Spot>, AllocError>
     ensures { IfOk result (λ spots. spots.items ≡ replicate frames Free) }
 {
     vec![in alloc; Spot::Free; frames as usize]
 }
 
-/// A mark for each group number, all false.
-pub(crate) fn no_marks(alloc: Global) -> Result<Vec<bool>, AllocError>
+// A mark for each group number, all false.
+fn no_marks(alloc: Global) -> Result<Vec<bool>, AllocError>
     ensures { IfOk result (λ marks. marks.items ≡ replicate MAX_GROUPS false) }
 {
     vec![in alloc; false; MAX_GROUPS]
 }
 
-/// Two empty lists for each group number.
-pub(crate) fn empty_lists(alloc: Global) -> Result<Vec<Lru>, AllocError>
+// Two empty lists for each group number.
+fn empty_lists(alloc: Global) -> Result<Vec<Lru>, AllocError>
     ensures { IfOk result (λ lists. AreEmpty lists.items MAX_GROUPS) }
 {
     let mut lists = Vec::with_capacity(alloc, MAX_GROUPS)?;

@@ -1,51 +1,181 @@
--- Serves the commands that drain stocks: the groups and the zone's seat stay as they are, so the visit stays open.
-use Rattle.std.proofs.Common.{◌≡◌, ℕ, zero, suc, ◌∷◌, [], List, true, false, sym, ap, ◌∙◌, subst}
+-- Serves the commands that lower a usage: the groups and the visits stay as they are.
+use Rattle.std.proofs.Common.{◌≡◌, ℕ, zero, suc, ◌+◌, ◌<◌, ◌≤◌, ◌∷◌, ◌++◌, [], List, Option, Some, None, true, false}
+use Rattle.std.proofs.Common.{refl, sym, ap, ◌∙◌, subst, inl, inr, arith}
+use Rattle.std.proofs.lemmas.Bool.{cases_lt}
 use Rattle.frame_word.specs.Seats.{KnownTable, KnownSeat, IsOpen, NothingPasses, LentIsBorrowed}
 use Rattle.group_tree.specs.declared.group.Group.{Group}
 use Rattle.group_tree.specs.Groups.{has_group, has_child}
+use Rattle.group_charge.specs.Charges.{current_of}
 use Rattle.cpu_part.specs.Cpus.{KnownCpu}
-use Rattle.mem_machine.specs.Machines.{KnownMachine, Visits}
-use Rattle.mem_machine.specs.Steps.{Drain}
-use Rattle.mem_machine.specs.Stocks.{Drains, DrainsBelow, DrainsAllBelow, stock_group}
+use Rattle.mem_machine.specs.Machines.{KnownMachine, Visits, KeepsVisit}
+use Rattle.mem_machine.specs.Steps.{Drain, drain_stocks_steps, set_max_steps}
+use Rattle.mem_machine.specs.Stocks.{Drains, DrainsBelow, DrainsAllBelow, DrainsSubtree, AreDrained, stock_group}
+use Rattle.mem_machine.specs.Local.{MakesForAny, side, local_of}
 use Rattle.mem_machine.proofs.Draining.{groups_stay}
+use Rattle.mem_machine.proofs.Reaching.{run_both}
+use Rattle.mem_reclaim.specs.Moves.{Leads}
+use Rattle.mem_reclaim.specs.Rounds.{MakesRounds, pages_missing}
+use Rattle.mem_reclaim.specs.Staying.{Keeps, MissedAll}
+use Rattle.mem_alloc.specs.Stepping.{ByStepsOfAny, course}
 use Rattle.mem_system.specs.Leaves.{IsLeafAt}
+use Rattle.mem_system.specs.Usage.{LowersUsage, LowersAbove, KeepsToLimit}
 use Rattle.mem_system.proofs.Found.{found_there}
-use Rattle.mem_machine.specs.Local.{side}
-use Rattle.mem_system.specs.Commands.{Serves}
+use Rattle.mem_system.specs.Commands.{SetsLimit, with_limit_of}
 
--- the groups and the zone's seat are the same
-pub record Keeps (m n : KnownMachine) : Type 0 where
+-- ---- drains: the groups and the zone's seat are the same
+
+pub record SameSeat (m n : KnownMachine) : Type 0 where
   pub groups : n.ledger.groups ≡ m.ledger.groups
   pub seat : n.seat ≡ m.seat
 
-drain_keeps : (m n : KnownMachine) (q k : ℕ) → Drains m q k n → Keeps m n
-drain_keeps m n q k d = record {
+drain_same : (m n : KnownMachine) (q k : ℕ) → Drains m q k n → SameSeat m n
+drain_same m n q k d = record {
   groups = ap (λ (x : KnownMachine). x.ledger.groups) d.machine ∙ groups_stay m.ledger (stock_group m q) k;
   seat = ap (λ (x : KnownMachine). x.seat) d.machine;
 }
 
-one_keeps : (g q : ℕ) (m n : KnownMachine) (drains : List Drain) → DrainsBelow g m q drains n → Keeps m n
-one_keeps g q m n [] h = record { groups = ap (λ (x : KnownMachine). x.ledger.groups) h.1; seat = ap (λ (x : KnownMachine). x.seat) h.1 }
-one_keeps g q m n (drain ∷ []) h = drain_keeps m n q drain.pages h.1.drains
-one_keeps g q m n (one ∷ two ∷ more) h = absurd h
+one_same : (g q : ℕ) (m n : KnownMachine) (drains : List Drain) → DrainsBelow g m q drains n → SameSeat m n
+one_same g q m n [] h =
+    record { groups = ap (λ (x : KnownMachine). x.ledger.groups) h.1; seat = ap (λ (x : KnownMachine). x.seat) h.1 }
+one_same g q m n (drain ∷ []) h = drain_same m n q drain.pages h.1.drains
+one_same g q m n (one ∷ two ∷ more) h = absurd h
 
-pub all_keep : (g k : ℕ) (m n : KnownMachine) (drains : List Drain) → DrainsAllBelow g k drains m n → Keeps m n
-all_keep g zero m n drains h = record { groups = ap (λ (x : KnownMachine). x.ledger.groups) h.1; seat = ap (λ (x : KnownMachine). x.seat) h.1 }
-all_keep g (suc k) m n drains h =
-    let one = one_keeps g (suc k) h.2 n h.1 h.5 in
-    let rest = all_keep g k m h.2 h.0 h.4 in
+pub all_same : (g k : ℕ) (m n : KnownMachine) (drains : List Drain) → DrainsAllBelow g k drains m n → SameSeat m n
+all_same g zero m n drains h =
+    record { groups = ap (λ (x : KnownMachine). x.ledger.groups) h.1; seat = ap (λ (x : KnownMachine). x.seat) h.1 }
+all_same g (suc k) m n drains h =
+    let one = one_same g (suc k) h.2 n h.1 h.5 in
+    let rest = all_same g k m h.2 h.0 h.4 in
     record { groups = one.groups ∙ rest.groups; seat = one.seat ∙ rest.seat }
 
--- the visit stays open
-pub visit_keeps : (t : KnownTable) (m n : KnownMachine) (c d : KnownCpu) → n.seat ≡ m.seat → d ≡ c → Visits t (side m c) → Visits t (side n d)
-visit_keeps t m n c d seat cpu v = subst (λ (x : KnownCpu). Visits t (side n x)) (sym cpu) (record {
-  is_open = subst (λ (s : KnownSeat). IsOpen s c.number) (sym seat) v.is_open;
-  still = subst (λ (s : KnownSeat). NothingPasses t s c.seat) (sym seat) v.still;
-  lent = subst (λ (s : KnownSeat). LentIsBorrowed t s c.seat) (sym seat) v.lent;
-})
+-- ---- a visit
+
+-- the visit stays where the zone's seat does
+pub visit_keeps : (t : KnownTable) (m n : KnownMachine) (c : KnownCpu) → n.seat ≡ m.seat → Visits t (side m c)
+    → KeepsVisit t (side m c) (side n c)
+visit_keeps t m n c seat v = record {
+  visit = record {
+    is_open = subst (λ (s : KnownSeat). IsOpen s c.number) (sym seat) v.is_open;
+    still = subst (λ (s : KnownSeat). NothingPasses t s c.seat) (sym seat) v.still;
+    lent = subst (λ (s : KnownSeat). LentIsBorrowed t s c.seat) (sym seat) v.lent;
+  };
+  opened = ap (λ (s : KnownSeat). s.view.opened) seat;
+  number = refl;
+  back = refl;
+}
+
+-- one call after another
+pub visit_both : (t : KnownTable) (m x n : KnownMachine) (c : KnownCpu) → KeepsVisit t (side m c) (side x c)
+    → KeepsVisit t (side x c) (side n c)
+    → KeepsVisit t (side m c) (side n c)
+visit_both t m x n c a b = record { visit = b.visit; opened = b.opened ∙ a.opened; number = refl; back = refl }
+
+-- ---- a usage that is lowered
+
+pub lowered_groups : (t : KnownTable) (g limit : ℕ) (m n : KnownMachine) → ByStepsOfAny t m n (LowersUsage g limit)
+    → n.ledger.groups ≡ m.ledger.groups
+lowered_groups t g limit m n b = b.1.keeps.groups ∙ (all_same g t.cpus m b.1.drained b.1.drains b.1.drains_all).groups
+
+pub lowered_visit : (t : KnownTable) (g limit : ℕ) (m n : KnownMachine) (c : KnownCpu)
+    → ByStepsOfAny t m n (LowersUsage g limit) → Visits t (side m c)
+    → KeepsVisit t (side m c) (side n c)
+lowered_visit t g limit m n c b v =
+    let x = b.1.drained in
+    let first = visit_keeps t m x c (all_same g t.cpus m x b.1.drains b.1.drains_all).seat v in
+    let opened = b.1.keeps.opened ∙ first.opened in
+    record { visit = b.1.keeps.visit c first.visit; opened = opened; number = refl; back = refl }
+
+-- so it is where it is lowered only if it is above
+pub above_visit : (t : KnownTable) (g limit : ℕ) (m n : KnownMachine) (c : KnownCpu)
+    → ByStepsOfAny t m n (LowersAbove g limit) → Visits t (side m c)
+    → KeepsVisit t (side m c) (side n c)
+above_visit t g limit m n c b v = elim (cases_lt limit (current_of m.ledger g)) [
+  | inl over ↦ lowered_visit t g limit m n c (b.0, b.1.above over, b.2) v
+  | inr within ↦ visit_keeps t m n c (ap (λ (k : KnownMachine). k.seat) (b.1.within (omega (arith, within))).0) v
+]
+
+-- the stocks are drained, and then the rounds are made
+pub lowered_by : (t : KnownTable) (g limit pages given : ℕ) (m x n : KnownMachine) → DrainsSubtree t g pages m x
+    → AreDrained g t.cpus x
+    → Leads t given x n (λ steps. MakesRounds g (pages_missing g 0 limit) 16 given x steps n)
+    → (limit < current_of n.ledger g + 0 → MissedAll g x n) → Keeps t x n → ByStepsOfAny t m n (LowersUsage g limit)
+lowered_by t g limit pages given m x n sub none leads missed keeps = (
+  drain_stocks_steps sub.drains ++ leads.steps,
+  record {
+    drains = sub.drains;
+    drained = x;
+    drains_all = sub.all;
+    none_held = none;
+    given = given;
+    reclaims = leads;
+    missed = λ over. missed (omega (arith, over));
+    keeps = keeps;
+    steps_are = refl;
+  },
+  λ c. run_both c.number (drain_stocks_steps sub.drains) leads.steps (local_of t m c) (local_of t x c) (local_of t n c)
+      (sub.steps c) (leads.moves.runs c),
+)
+
+-- ---- a limit that is set
+
+-- the usage is above it
+pub lowered_above : (t : KnownTable) (g limit : ℕ) (m n : KnownMachine) → limit < current_of m.ledger g
+    → ByStepsOfAny t m n (LowersUsage g limit)
+    → ByStepsOfAny t m n (LowersAbove g limit)
+lowered_above t g limit m n over b = (
+  b.0,
+  record { above = λ more. b.1; within = λ (less : current_of m.ledger g ≤ limit). absurd (omega (arith, over, less)) },
+  b.2,
+)
+
+-- the usage is within it
+pub lowered_none : (t : KnownTable) (g limit : ℕ) (m : KnownMachine) → current_of m.ledger g ≤ limit
+    → ByStepsOfAny t m m (LowersAbove g limit)
+lowered_none t g limit m within = (
+  [],
+  record {
+    above = λ (over : limit < current_of m.ledger g). absurd (omega (arith, over, within));
+    within = λ less. (refl, refl);
+  },
+  λ c. refl,
+)
+
+-- the limit is set, and then the usage is kept to it
+limited_by : (t : KnownTable) (g : ℕ) (of : Option ℕ) (m x n : KnownMachine) → x ≡ with_limit_of m g of
+    → MakesForAny t m (set_max_steps g of) x
+    → ByStepsOfAny t x n (KeepsToLimit g of) → ByStepsOfAny t m n (SetsLimit g of)
+limited_by t g of m x n is first last = (
+  set_max_steps g of ++ last.0,
+  record {
+    lowering = last.0;
+    keeps = subst (λ (k : KnownMachine). KeepsToLimit g of (course t k last.0 n)) is last.1;
+    steps_are = refl;
+  },
+  λ c. run_both c.number (set_max_steps g of) last.0 (local_of t m c) (local_of t x c) (local_of t n c) (first c)
+      (last.2 c),
+)
+
+-- there is one
+pub limited_to : (t : KnownTable) (g limit : ℕ) (of : Option ℕ) (m x n : KnownMachine) → of ≡ Some limit
+    → x ≡ with_limit_of m g of
+    → MakesForAny t m (set_max_steps g of) x → ByStepsOfAny t x n (LowersAbove g limit)
+    → ByStepsOfAny t m n (SetsLimit g of)
+limited_to t g limit of m x n some is first last =
+    let keeps = subst (λ (o : Option ℕ). KeepsToLimit g o (course t x last.0 n)) (sym some) last.1 in
+    limited_by t g of m x n is first (last.0, keeps, last.2)
+
+-- there is none
+pub limited_none : (t : KnownTable) (g : ℕ) (of : Option ℕ) (m x : KnownMachine) → of ≡ None → x ≡ with_limit_of m g of
+    → MakesForAny t m (set_max_steps g of) x → ByStepsOfAny t m x (SetsLimit g of)
+limited_none t g of m x none is first =
+    let keeps = subst (λ (o : Option ℕ). KeepsToLimit g o (course t x [] x)) (sym none) (refl, refl) in
+    limited_by t g of m x x is first ([], keeps, λ c. refl)
+
+-- ---- a group that is taken out
 
 -- the group of a path is there still, and no group lies below it
-pub leaf_keeps : (m n : KnownMachine) (path : List ℕ) (g : ℕ) → Keeps m n → IsLeafAt m.ledger.groups path g
-    → (has_group n.ledger.groups g ≡ true) × (has_child n.ledger.groups g ≡ false)
-leaf_keeps m n path g keeps is = subst (λ (l : List Group). (has_group l g ≡ true) × (has_child l g ≡ false)) (sym keeps.groups)
-    (found_there m.ledger.groups path g is.number, is.leaf)
+pub leaf_keeps : (was now : List Group) (path : List ℕ) (g : ℕ) → now ≡ was → IsLeafAt was path g
+    → (has_group now g ≡ true) × (has_child now g ≡ false)
+leaf_keeps was now path g same is =
+    subst (λ (l : List Group). (has_group l g ≡ true) × (has_child l g ≡ false)) (sym same)
+    (found_there was path g is.number, is.leaf)

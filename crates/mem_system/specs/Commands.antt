@@ -13,10 +13,8 @@ use Rattle.zone_sizes.specs.declared.config.Config.{Config}
 use Rattle.step_rules.specs.After.{Run}
 use Rattle.mem_machine.specs.Machines.{KnownMachine, AddsGroup}
 use Rattle.mem_machine.specs.Local.{Side, side, Makes}
-use Rattle.mem_machine.specs.Stocks.{DrainsAllBelow}
 use Rattle.mem_machine.specs.Settling.{Settles, settle_steps}
-use Rattle.mem_machine.specs.Steps.{Drain, open_steps, shut_steps, make_steps, remove_steps, set_max_steps}
-use Rattle.mem_machine.specs.Steps.{drain_stocks_steps}
+use Rattle.mem_machine.specs.Steps.{open_steps, shut_steps, make_steps, remove_steps, set_max_steps}
 -- how a call is said by its steps
 pub use Rattle.mem_alloc.specs.Stepping.{Course, course, of_machine, OfMachine, BySteps, Stays}
 use Rattle.mem_system.specs.declared.command.Cmd.{Cmd}
@@ -28,7 +26,8 @@ use Rattle.mem_system.specs.declared.outcome.Outcome.{Outcome}
 use Rattle.mem_system.specs.Outcomes.{reply_of}
 use Rattle.mem_system.specs.Boots.{KnownLocked, IsQuiet}
 use Rattle.mem_system.specs.Leaves.{IsLeafAt, HasNoLeaf}
-use Rattle.mem_system.specs.Files.{IsFileOf, Reads, RefusesWrite, IsAbove}
+use Rattle.mem_system.specs.Files.{IsFileOf, Reads, RefusesWrite}
+use Rattle.mem_system.specs.Usage.{LowersUsage, KeepsToLimit}
 use Rattle.mem_system.specs.Owners.{TellsPlace}
 use Rattle.mem_system.specs.Kept.{TouchesFrame, NotesDirt}
 use Rattle.mem_system.specs.Releases.{ReleasesFrame}
@@ -44,28 +43,26 @@ MakesGroup path (Refused fault) way =
     (make_fault way.before.ledger.groups path ≡ Some fault) × (way.after ≡ way.before) × (way.steps ≡ [])
 MakesGroup path other way = ⊥
 
--- the stocks of the group are drained, which leaves it no page, and it is gone
+-- the usage of the group is lowered to nothing, and it is gone
 pub record RemovesGroup (path : List ℕ) (way : Course KnownMachine) : Type 0 where
   pub group : ℕ
   pub leaf : IsLeafAt way.before.ledger.groups path group
-  pub drains : List Drain
-  pub drained : KnownMachine
-  pub drains_all : DrainsAllBelow group way.table.cpus drains way.before drained
-  pub empty : current_of drained.ledger group ≡ 0
-  pub machine : way.after ≡ record drained { ledger = with_group_removed drained.ledger group }
-  pub steps_are : way.steps ≡ drain_stocks_steps drains ++ remove_steps group
+  pub lowering : Run
+  pub emptied : KnownMachine
+  pub lowers : LowersUsage group 0 (course way.table way.before lowering emptied)
+  pub empty : current_of emptied.ledger group ≡ 0
+  pub machine : way.after ≡ record emptied { ledger = with_group_removed emptied.ledger group }
+  pub steps_are : way.steps ≡ lowering ++ remove_steps group
 
--- the stocks of the group are drained, and pages are still charged to it
+-- the usage of the group is lowered as far as that can be, and pages are still charged to it
 pub record StaysBusy (path : List ℕ) (way : Course KnownMachine) : Type 0 where
   pub group : ℕ
   pub leaf : IsLeafAt way.before.ledger.groups path group
-  pub drains : List Drain
-  pub drains_all : DrainsAllBelow group way.table.cpus drains way.before way.after
+  pub lowers : LowersUsage group 0 way
   pub pages : 1 ≤ current_of way.after.ledger group
-  pub steps_are : way.steps ≡ drain_stocks_steps drains
 
--- Rmdir: the group is gone; or pages stay charged to it, and the drained ones are given back; or there is no such
--- group, and nothing changed
+-- Rmdir: the group is gone; or pages stay charged to it, and the drained and reclaimed ones are given back; or there is
+-- no such group, and nothing changed
 abbrev pub Removes : List ℕ → Reply → Course KnownMachine → Type 0
 Removes path Done way = RemovesGroup path way
 Removes path (Refused Busy) way = StaysBusy path way
@@ -77,15 +74,11 @@ Removes path other way = ⊥
 abbrev pub with_limit_of : KnownMachine → ℕ → Option ℕ → KnownMachine
 with_limit_of m g limit = record m { ledger = with_group_limit m.ledger g limit }
 
--- The group gets the limit. Where its usage is above it, the stocks of its subtree are drained; else nothing else
--- changed
+-- the group gets the limit, and then its usage is kept to it
 pub record SetsLimit (group : ℕ) (limit : Option ℕ) (way : Course KnownMachine) : Type 0 where
-  pub drains : List Drain
-  pub above : IsAbove (current_of (with_limit_of way.before group limit).ledger group) limit
-      → DrainsAllBelow group way.table.cpus drains (with_limit_of way.before group limit) way.after
-  pub within : ¬ IsAbove (current_of (with_limit_of way.before group limit).ledger group) limit
-      → (drains ≡ []) × (way.after ≡ with_limit_of way.before group limit)
-  pub steps_are : way.steps ≡ set_max_steps group limit ++ drain_stocks_steps drains
+  pub lowering : Run
+  pub keeps : KeepsToLimit group limit (course way.table (with_limit_of way.before group limit) lowering way.after)
+  pub steps_are : way.steps ≡ set_max_steps group limit ++ lowering
 
 -- the file is memory.max of a group, and the value is the limit that the group gets
 pub record WritesLimit (path name value : List ℕ) (way : Course KnownMachine) : Type 0 where

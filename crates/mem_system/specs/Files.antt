@@ -1,5 +1,5 @@
 -- The files of the groups: which is meant, what is read, and why one isn't written.
-use Rattle.std.specs.Prelude.{◌≡◌, ◌≢◌, ◌⊎◌, ℕ, ◌<◌, Option, Some, None, List}
+use Rattle.std.specs.Prelude.{◌≡◌, ◌≢◌, ◌⊎◌, ℕ, Some, None, List}
 use Rattle.group_tree.specs.declared.group.Group.{Group}
 use Rattle.group_tree.specs.Groups.{number_at}
 use Rattle.group_tree.specs.declared.fault.Fault.{Fault}
@@ -50,8 +50,3 @@ abbrev pub RefusesWrite : List Group → List ℕ → List ℕ → List ℕ → 
 RefusesWrite groups path name value fault =
     HasNoFile groups path name fault
     ⊎ ((g : ℕ) × (file : File) × IsFileOf groups path name g file × RefusesValue file value fault)
-
--- so many pages are more than the limit
-abbrev pub IsAbove : ℕ → Option ℕ → Type 0
-IsAbove pages None = ⊥
-IsAbove pages (Some limit) = limit < pages

@@ -9,3 +9,4 @@ pub mod Outcomes
 pub mod Owners
 pub mod Releases
 pub mod Shown
+pub mod Usage

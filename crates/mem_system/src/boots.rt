@@ -5,7 +5,7 @@ ghost use Rattle.frame_word.specs.Seats.{first_cpu_seats};
 ghost use Rattle.stock_word.specs.Stock.{first_seats};
 ghost use Rattle.mem_machine.specs.Machines.{IsFirst};
 ghost use Rattle.cpu_part.specs.Cpus.{IsIdle};
-ghost use Rattle.mem_system.specs.Boots.{first_cpus};
+ghost use Rattle.mem_system.specs.Boots.{IsQuiet, first_cpus};
 
 use crate::lock::Locked;
 use cpu_part::{BootName, Cpu, Tables};
@@ -65,17 +65,30 @@ impl Boot {
         } = self;
         let tables = Tables::<N>::new(frames, stocks);
         let machine = Machine::<N>::new(alloc, &tables, zone, stock)?;
-        let frame_room = Vec::with_capacity(alloc, sizes.cpus as usize)?;
-        let stock_room = Vec::with_capacity(alloc, sizes.cpus as usize)?;
+        let locked = lock_up(alloc, sizes, machine)?;
         let cpus = deal(alloc, sizes.cpus, frame_seats, stock_seats)?;
-        let locked = Locked {
-            machine,
-            sizes,
-            frame_seats: frame_room,
-            stock_seats: stock_room,
-        };
         Ok((tables, locked, cpus))
     }
+}
+
+// What lies behind the lock at first: the machine, the sizes, and room for the processors' seats at the end.
+fn lock_up<N: BootName>(
+    alloc: Global,
+    sizes: Config,
+    machine: Machine<N>,
+) -> Result<Locked<N>, AllocError>
+    requires quiet { IsQuiet N.frames N.stocks (record { machine = machine; sizes = sizes }) }
+    ensures machine { IfOk result (λ locked. locked.machine ≡ machine) }
+    ensures sizes { IfOk result (λ locked. locked.sizes ≡ sizes) }
+{
+    let frame_seats = Vec::with_capacity(alloc, sizes.cpus as usize)?;
+    let stock_seats = Vec::with_capacity(alloc, sizes.cpus as usize)?;
+    Ok(Locked {
+        machine,
+        sizes,
+        frame_seats,
+        stock_seats,
+    })
 }
 
 // A part for each processor, from its two seats.

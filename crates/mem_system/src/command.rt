@@ -30,11 +30,13 @@ pub enum Cmd<'a> {
     Mkdir {
         path: &'a [u8],
     },
-    /// Takes out the group of this path.
+    /// Takes out the group of this path, which has no group below it. Its stocks are drained and its clean units are
+    /// reclaimed first; where pages stay charged to it then, it is refused as busy.
     Rmdir {
         path: &'a [u8],
     },
-    /// Writes a value to a file of the group of this path.
+    /// Writes a value to a file of the group of this path. Where the group's usage is above its new memory.max, the
+    /// stocks of its subtree are drained and clean units of it are reclaimed, until the usage is at most that.
     Write {
         path: &'a [u8],
         file: &'a [u8],

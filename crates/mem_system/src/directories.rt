@@ -2,13 +2,14 @@
 
 ghost use Rattle.std.specs.Prelude.{◌≡◌, ◌<◌, MatchResult};
 ghost use Rattle.cpu_part.specs.Cpus.{KnownCpu};
-ghost use Rattle.mem_machine.specs.Machines.{Visits};
+ghost use Rattle.mem_machine.specs.Machines.{KeepsVisit, Visits};
 ghost use Rattle.mem_system.specs.Leaves.{IsLeafAt, HasNoLeaf};
 ghost use Rattle.mem_system.specs.Outcomes.{HasItsGroups, reply_of};
 ghost use Rattle.mem_system.specs.Commands.{BySteps, MakesGroup, Removes, OfMachine};
 ghost use Rattle.mem_machine.specs.Local.{side};
 
 use crate::outcome::Outcome;
+use crate::usage::lower_usage;
 use cpu_part::{BootName, Cpu, Tables};
 use group_charge::charges::Charges;
 use group_tree::fault::Fault;
@@ -45,7 +46,8 @@ fn find_leaf(charges: &Charges, path: &[u8]) -> Result<GroupId, Fault>
     Ok(group)
 }
 
-// Drains the stocks of the group of the path and takes it out where nothing is charged to it then.
+// Empties the group of the path, as far as that can be, and takes it out where nothing is charged to it then. It has no
+// group below it, so all of its usage is its own.
 pub(crate) fn remove_group<N: BootName>(
     machine: &mut Machine<N>,
     tables: &Tables<N>,
@@ -57,13 +59,13 @@ pub(crate) fn remove_group<N: BootName>(
         (OfMachine (Removes path.now (reply_of machine.new.ledger result))) }
     ensures cpu { cpu.new ≡ cpu.old }
     ensures groups { HasItsGroups machine.new.ledger result }
-    ensures seat { machine.new.seat ≡ machine.old.seat }
+    ensures stays { KeepsVisit N.frames (side machine.old cpu.old) (side machine.new cpu.new) }
 {
     let group = match find_leaf(machine.charges(), path) {
         Ok(group) => group,
         Err(fault) => return Outcome::Refused(fault),
     };
-    machine.drain_stocks(tables, group);
+    lower_usage(machine, tables, group, 0);
     if machine.current(group) > 0 {
         return Outcome::Refused(Fault::Busy);
     }

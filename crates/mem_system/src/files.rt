@@ -1,16 +1,19 @@
 //! The files of the groups: read and written.
 
-ghost use Rattle.std.specs.Prelude.{◌≡◌, ◌≢◌, ◌↔◌, ◌<◌, IsTrue, MatchResult};
+ghost use Rattle.std.specs.Prelude.{◌≡◌, ◌≢◌, ◌<◌, IsTrue, MatchResult};
 ghost use Rattle.group_tree.specs.Groups.{has_group};
 ghost use Rattle.control_files.specs.declared.file.File.TheVariants.{Max};
 ghost use Rattle.control_files.specs.Limit.{ReadsAs};
 ghost use Rattle.cpu_part.specs.Cpus.{KnownCpu};
 ghost use Rattle.mem_system.specs.Outcomes.{HasItsGroups, reply_of};
-ghost use Rattle.mem_system.specs.Files.{Reads, IsFileOf, HasNoFile, RefusesWrite, IsAbove};
+ghost use Rattle.mem_machine.specs.Machines.{KeepsVisit, Visits};
+ghost use Rattle.mem_alloc.specs.Stepping.{ByStepsOfAny};
+ghost use Rattle.mem_system.specs.Files.{Reads, IsFileOf, HasNoFile, RefusesWrite};
 ghost use Rattle.mem_system.specs.Commands.{BySteps, SetsLimit, Writes, OfMachine};
 ghost use Rattle.mem_machine.specs.Local.{side};
 
 use crate::outcome::Outcome;
+use crate::usage::lower_above;
 use control_files::file::{File, file_named};
 use control_files::limit::{Limit, read_limit};
 use cpu_part::{BootName, Tables};
@@ -69,17 +72,7 @@ fn find_limit(
     }
 }
 
-// Whether so many pages are more than the limit.
-fn is_above(pages: u32, limit: Limit) -> bool
-    ensures { IsTrue result ↔ IsAbove pages limit }
-{
-    match limit {
-        None => false,
-        Some(limit) => limit < pages,
-    }
-}
-
-// Gives the group the limit, and drains the stocks of its subtree where its usage is above it.
+// Gives the group the limit, and brings its usage down to it, as far as that can be, where it is above it.
 fn set_limit<N: BootName>(
     machine: &mut Machine<N>,
     tables: &Tables<N>,
@@ -88,13 +81,13 @@ fn set_limit<N: BootName>(
 )
     requires there { IsTrue (has_group machine.old.ledger.groups group) }
     requires below_root { group ≢ 0 }
-    ensures sets { (c : KnownCpu) → BySteps N.frames (side machine.old c) (side machine.new c)
-        (OfMachine (SetsLimit group limit)) }
-    ensures seat { machine.new.seat ≡ machine.old.seat }
+    ensures sets { ByStepsOfAny N.frames machine.old machine.new (SetsLimit group limit) }
+    ensures stays { (c : KnownCpu) → Visits N.frames (side machine.old c)
+        → KeepsVisit N.frames (side machine.old c) (side machine.new c) }
 {
     machine.set_max(group, limit);
-    if is_above(machine.current(group), limit) {
-        machine.drain_stocks(tables, group);
+    if let Some(limit) = limit {
+        lower_above(machine, tables, group, limit);
     }
 }
 
@@ -109,7 +102,8 @@ pub(crate) fn write_file<N: BootName>(
     ensures written { (c : KnownCpu) → BySteps N.frames (side machine.old c) (side machine.new c)
         (OfMachine (Writes path.now name.now value.now (reply_of machine.new.ledger result))) }
     ensures groups { HasItsGroups machine.new.ledger result }
-    ensures seat { machine.new.seat ≡ machine.old.seat }
+    ensures stays { (c : KnownCpu) → Visits N.frames (side machine.old c)
+        → KeepsVisit N.frames (side machine.old c) (side machine.new c) }
 {
     let (group, limit) = match find_limit(machine.charges(), path, name, value) {
         Ok(found) => found,

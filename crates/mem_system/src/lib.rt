@@ -24,6 +24,7 @@ mod system;
 mod system_end;
 mod texts;
 mod units;
+mod usage;
 mod visits;
 
 pub use allocations::carry_out_frame;

@@ -3,7 +3,8 @@
 
 use load_run::command_line::words;
 use load_run::fault::ProgramFault;
-use load_run::program::{drive, tell};
+use load_run::program::drive;
+use load_run::telling::tell;
 use std::process::ExitCode;
 
 fn main(rt: HostRuntime) -> ExitCode {

@@ -3,9 +3,13 @@
 #![tactic(auto)]
 
 #[cfg(test)]
+mod faults;
+#[cfg(test)]
 mod rows;
 #[cfg(test)]
 mod scripts;
+#[cfg(test)]
+mod streams;
 #[cfg(test)]
 mod visits;
 #[cfg(test)]

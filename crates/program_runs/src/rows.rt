@@ -102,15 +102,65 @@ pub fn group_rows() -> [Row; 13] {
         unaudited(
             "frames above 1024 are taken",
             "replay --frames 1104",
-            "1 alloc / 10\n1 alloc / 10\n1 alloc / 6\n1 alloc / 2\n1 blocks\n1 show\n",
-            "frame 0\nrefused 16 NoFrames\nframe 1024\nframe 1088\n2:1092 3:1096\n0-1091 /\n1092-1103 free\n",
+            "1 alloc / 10\n1 dirty 0\n1 alloc / 10\n1 alloc / 6\n1 alloc / 2\n1 blocks\n1 show\n",
+            "frame 0\nok\nrefused 16 NoFrames\nframe 1024\nframe 1088\n2:1092 3:1096\n0-1091 /\n1092-1103 free\n",
         ),
         unaudited(
             "no frame is free",
             "replay --frames 1",
-            "1 alloc / 0\n1 alloc / 0\n1 alloc /a 0\n1 show\n",
-            "frame 0\nrefused 16 NoFrames\nrefused 6 NoGroup\n0 /\n",
+            "1 alloc / 0\n1 dirty 0\n1 alloc / 0\n1 alloc /a 0\n1 show\n",
+            "frame 0\nok\nrefused 16 NoFrames\nrefused 6 NoGroup\n0 /\n",
         ),
+    ]
+}
+
+/// Reclaim: before a limit, of a group that is taken out, and where no frame is free.
+pub fn reclaim_rows() -> [Row; 7] {
+    [
+        unaudited(
+            "a limit above gives back what lies below",
+            "replay",
+            "1 mkdir /a\n1 mkdir /a/b\n1 write /a memory.max 4096\n1 alloc /a/b 0\n1 alloc /a/b 0\n1 read /a memory.events\n1 read /a/b memory.events\n1 blocks\n",
+            "group 1\ngroup 2\nok\nframe 0\nframe 1\nlow 0\nhigh 0\nmax 1\noom 0\noom_kill 0\nlow 0\nhigh 0\nmax 0\noom 0\noom_kill 0\n0:0 2:4 3:8\n",
+        ),
+        unaudited(
+            "a limit that is written needs no reclaim where the stock is enough",
+            "replay",
+            "1 mkdir /a\n1 alloc /a 0\n1 write /a memory.max 4096\n1 read /a memory.current\n1 fast 1\n1 alloc /a 0\n1 read /a memory.events\n",
+            "group 1\nframe 0\nok\n4096\ndrained\nframe 1\nlow 0\nhigh 0\nmax 1\noom 0\noom_kill 0\n",
+        ),
+        unaudited(
+            "a unit that was touched has a second chance",
+            "replay --batch 1 --high 1 --stock 1",
+            "1 mkdir /a\n1 write /a memory.max 8192\n1 alloc /a 0\n1 alloc /a 0\n1 settle\n1 touch 0\n1 alloc /a 0\n1 owner 0\n",
+            "group 1\nok\nframe 0\nframe 1\nsettled\nmarked\nframe 1\n/a\n",
+        ),
+        unaudited(
+            "active units become inactive before they come back",
+            "replay --cpus 1 --batch 1 --high 1 --stock 1",
+            "1 mkdir /a\n1 alloc /a 0\n1 alloc /a 0\n1 alloc /a 0\n1 settle\n1 touch 0\n1 touch 0\n1 touch 1\n1 touch 1\n1 write /a memory.max 8192\n1 owner 2\n1 owner 0\n1 write /a memory.max 4096\n1 owner 0\n1 owner 1\n1 read /a memory.current\n",
+            "group 1\nframe 0\nframe 1\nframe 2\nsettled\nmarked\nactive\nmarked\nactive\nok\nfree\n/a\nok\nfree\n/a\n4096\n",
+        ),
+        Row {
+            name: "a group goes with its units",
+            words: "replay --audit",
+            script: "1 mkdir /a\n1 alloc /a 0\n1 rmdir /a\n",
+            answers: "group 1\nframe 0\nok\n",
+            ending: "audit frames 16 free 16 charged 0\naudit puts 0 freezes 1 drops 0 returns 1\n",
+        },
+        unaudited(
+            "one group's unit comes back for another",
+            "replay --frames 1 --cpus 1",
+            "1 mkdir /a\n1 mkdir /b\n1 alloc /a 0\n1 alloc /b 0\n1 read /a memory.current\n",
+            "group 1\ngroup 2\nframe 0\nframe 0\n0\n",
+        ),
+        Row {
+            name: "a reference keeps a unit",
+            words: "replay --audit",
+            script: "1 mkdir /a\n1 alloc /a 4\n2 get 0\n1 alloc /a 1\n2 put 0\n1 alloc /a 1\n1 blocks\n",
+            answers: "group 1\nframe 0\nheld\nrefused 16 NoFrames\nleft 1\nframe 0\n1:2 2:4 3:8\n",
+            ending: "audit frames 16 free 14 charged 2\naudit puts 0 freezes 1 drops 0 returns 1\n",
+        },
     ]
 }
 

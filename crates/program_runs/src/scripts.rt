@@ -1,134 +1,16 @@
-//! Scripts over readers and writers in memory, those that fail too.
+//! Scripts over readers and writers in memory.
 
-use crate::rows::{Row, group_rows, processor_rows};
+use crate::rows::{Row, group_rows, processor_rows, reclaim_rows};
+use crate::streams::{PLAIN, broken, in_steps, is_refused, run, whole};
 use crate::visits::visit_all;
 use load_run::command_line::parse_words;
-use load_run::program::drive;
 use mem_system::boot;
 use script_lines::script::parse_script;
-use std::alloc::{AllocError, Global};
-use std::cmp::min;
-use std::io;
-use std::io::{ErrorKind, Read, Write};
+use std::alloc::AllocError;
 use std::marker::Brand;
 use std::process::Abort;
 use std::sync::Wait;
 use std::test::Fail;
-
-// A script that is read a few bytes at a time, and fails where it says so.
-#[derive(Drop)]
-struct Script<'a> {
-    rest: &'a [u8],
-    at_once: usize,
-    fails: bool,
-}
-
-impl Read for Script<'_> {
-    fn read(&mut self, buf: &mut [u8]) -> io::Result<usize> {
-        if self.rest.is_empty() && self.fails {
-            return Err(io::Error::from(ErrorKind::ConnectionReset));
-        }
-        let n = min(self.at_once, min(buf.len(), self.rest.len()));
-        buf[..n].copy_from_slice(&self.rest[..n]);
-        self.rest = &self.rest[n..];
-        Ok(n)
-    }
-}
-
-// A writer that takes a few bytes at a time, and fails after so many, or where it is flushed.
-#[derive(Drop)]
-struct Paper {
-    text: Vec<u8>,
-    at_once: usize,
-    room: usize,
-    keeps: bool,
-}
-
-// A writer with room for so many bytes, which has all of its memory.
-fn new_paper(alloc: Global, room: usize) -> Result<Paper, AllocError> {
-    Ok(Paper {
-        text: Vec::with_capacity(alloc, room)?,
-        at_once: 3,
-        room,
-        keeps: true,
-    })
-}
-
-impl Write for Paper {
-    fn write(&mut self, buf: &[u8]) -> io::Result<usize> {
-        let n = min(self.at_once, min(buf.len(), self.room));
-        if n == 0 && !buf.is_empty() {
-            return Err(io::Error::from(ErrorKind::StorageFull));
-        }
-        self.text.extend_from_slice(&buf[..n])?;
-        self.room -= n;
-        Ok(n)
-    }
-
-    fn flush(&mut self) -> io::Result<()> {
-        if self.keeps {
-            Ok(())
-        } else {
-            Err(io::Error::from(ErrorKind::BrokenPipe))
-        }
-    }
-}
-
-// What a run of the program leaves.
-#[derive(Drop)]
-struct Outcome {
-    status: u8,
-    output: Vec<u8>,
-    faults: Vec<u8>,
-}
-
-const PLAIN: [&str; 1] = ["replay"];
-
-fn run<R: AllocGlobal>(
-    rt: &R,
-    words: &[&str],
-    script: Script<'_>,
-    room: usize,
-) -> Result<Outcome, AllocError> {
-    run_on(rt.alloc(), words, script, new_paper(rt.alloc(), room)?)
-}
-
-// The same with this writer for the answers.
-fn run_on(
-    alloc: Global,
-    words: &[&str],
-    mut script: Script<'_>,
-    mut output: Paper,
-) -> Result<Outcome, AllocError> {
-    let mut faults = new_paper(alloc, 10_000)?;
-    let status = drive(alloc, words, &mut script, &mut output, &mut faults);
-    Ok(Outcome {
-        status,
-        output: output.text,
-        faults: faults.text,
-    })
-}
-
-fn whole(rest: &[u8]) -> Script<'_> {
-    Script {
-        rest,
-        at_once: 5,
-        fails: false,
-    }
-}
-
-// Whether the words and the script are told this status and these faults, and no answer.
-fn is_refused<R: AllocGlobal>(
-    rt: &R,
-    words: &[&str],
-    script: Script<'_>,
-    status: u8,
-    faults: &[u8],
-) -> Result<bool, AllocError> {
-    let outcome = run(rt, words, script, 10_000)?;
-    let told = outcome.faults.starts_with(faults);
-    Ok(outcome.status == status && outcome.output.is_empty() && told)
-}
 
 // The row is answered as it says.
 fn answers<R: AllocGlobal + Abort>(rt: &R, row: &Row) -> Result<(), AllocError> {
@@ -185,6 +67,22 @@ fn answers_each_row(rt: HostRuntime) -> Result<(), Fail> {
 }
 
 #[test]
+fn visits_answer_each_row_of_reclaim(rt: HostRuntime) -> Result<(), Fail> {
+    for row in reclaim_rows().iter() {
+        visits_answer(&rt, row)?;
+    }
+    Ok(())
+}
+
+#[test]
+fn answers_each_row_of_reclaim(rt: HostRuntime) -> Result<(), Fail> {
+    for row in reclaim_rows().iter() {
+        answers(&rt, row)?;
+    }
+    Ok(())
+}
+
+#[test]
 fn tells_the_64_blocks_of_the_greatest_zone(rt: HostRuntime) -> Result<(), Fail> {
     let mut expected = String::from_str(rt.alloc(), "10:0")?;
     for number in 1..64u32 {
@@ -215,19 +113,12 @@ fn refuses_a_path_of_more_than_512_bytes(rt: HostRuntime) -> Result<(), Fail> {
     Ok(())
 }
 
-// A script that fails as soon as it is read.
-const BROKEN: Script<'static> = Script {
-    rest: &[],
-    at_once: 1,
-    fails: true,
-};
-
 #[test]
 fn judges_the_words_then_the_script_then_the_configuration(rt: HostRuntime) -> Result<(), Fail> {
     let bad_words = ["replay", "--frames=0"];
     let clap = b"error: invalid value '0' for '--frames <N>'".as_slice();
-    assert!(rt; is_refused(&rt, &bad_words, BROKEN, 2, clap)?);
-    assert!(rt; is_refused(&rt, &["replay"], BROKEN, 1, b"input failed\n".as_slice())?);
+    assert!(rt; is_refused(&rt, &bad_words, broken(), 2, clap)?);
+    assert!(rt; is_refused(&rt, &PLAIN, broken(), 1, b"input failed\n".as_slice())?);
     let cut = whole(b"1 mkdir /a\n1 alloc /a".as_slice());
     assert!(rt; is_refused(&rt, &PLAIN, cut, 2, b"bad line 2\n".as_slice())?);
     let sizes = ["replay", "--batch", "4", "--high", "2"];
@@ -239,31 +130,6 @@ fn judges_the_words_then_the_script_then_the_configuration(rt: HostRuntime) -> R
 }
 
 #[test]
-fn tells_that_the_input_failed(rt: HostRuntime) -> Result<(), Fail> {
-    let script = Script {
-        rest: b"1 show\n".as_slice(),
-        at_once: 2,
-        fails: true,
-    };
-    assert!(rt; is_refused(&rt, &PLAIN, script, 1, b"input failed\n".as_slice())?);
-    Ok(())
-}
-
-#[test]
-fn tells_that_the_output_failed(rt: HostRuntime) -> Result<(), Fail> {
-    let outcome = run(&rt, &PLAIN, whole(b"1 show\n".as_slice()), 4)?;
-    assert_eq!(rt; outcome.status, 1);
-    assert!(rt; outcome.faults.as_slice() == b"output failed\n".as_slice());
-    let mut output = new_paper(rt.alloc(), 100)?;
-    output.keeps = false;
-    let script = whole(b"1 show\n".as_slice());
-    let outcome = run_on(rt.alloc(), &PLAIN, script, output)?;
-    assert_eq!(rt; outcome.status, 1);
-    assert!(rt; outcome.faults.as_slice() == b"output failed\n".as_slice());
-    Ok(())
-}
-
-#[test]
 fn takes_scripts_of_1048576_bytes_alone(rt: HostRuntime) -> Result<(), Fail> {
     let alloc = rt.alloc();
     let mut script = Vec::new(alloc);
@@ -271,18 +137,10 @@ fn takes_scripts_of_1048576_bytes_alone(rt: HostRuntime) -> Result<(), Fail> {
         script.extend_from_slice(vec![in alloc; b'#'; 1_023]?.as_slice())?;
         script.push(b'\n')?;
     }
-    let good = Script {
-        rest: &script,
-        at_once: 100_000,
-        fails: false,
-    };
+    let good = in_steps(&script, 100_000);
     assert_eq!(rt; run(&rt, &PLAIN, good, 0)?.status, 0);
     script.push(b'#')?;
-    let long = Script {
-        rest: &script,
-        at_once: 100_000,
-        fails: false,
-    };
+    let long = in_steps(&script, 100_000);
     assert!(rt; is_refused(&rt, &PLAIN, long, 2, b"bad line 1025\n".as_slice())?);
     Ok(())
 }
@@ -294,11 +152,7 @@ fn tells_a_bad_line_far_behind(rt: HostRuntime) -> Result<(), Fail> {
         script.extend_from_slice(b"1 blocks\n".as_slice())?;
     }
     script.extend_from_slice(b"1 block\n1 bloc\n".as_slice())?;
-    let bad = Script {
-        rest: &script,
-        at_once: 100,
-        fails: false,
-    };
+    let bad = in_steps(&script, 100);
     assert!(rt; is_refused(&rt, &PLAIN, bad, 2, b"bad line 3001\n".as_slice())?);
     Ok(())
 }

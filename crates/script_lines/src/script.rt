@@ -41,6 +41,20 @@ pub fn parse_script<'a>(
     ensures bad_line { IfErr result (NamesFirstBadLine sizes.now input.now) }
 {
     let names = command_names(alloc)?;
+    parse_lines(alloc, &names, input, sizes)
+}
+
+// The lines, by the table of the commands' names.
+fn parse_lines<'a>(
+    alloc: Global,
+    names: &Names,
+    input: &'a [u8],
+    sizes: &Config,
+) -> Result<Vec<Line<'a>>, ScriptFault>
+    requires { IsNames names.now }
+    ensures ok { IfOk result (λ lines. IsScript sizes.now input.now lines.items) }
+    ensures bad_line { IfErr result (NamesFirstBadLine sizes.now input.now) }
+{
     let over = line_over(input);
     let mut lines = Vec::new(alloc);
     let mut went = false;
@@ -57,7 +71,7 @@ pub fn parse_script<'a>(
         if is_skipped(text) {
             continue;
         }
-        match parse_line(&names, text, sizes) {
+        match parse_line(names, text, sizes) {
             Some(line) => lines.push(line)?,
             None => return Err(ScriptFault::BadLine(number)),
         }

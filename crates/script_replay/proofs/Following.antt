@@ -226,27 +226,27 @@ module _ (t : KnownTable) (w : Words) (run : Run) (locked : KnownLocked) (cpus :
   get_follows : (f : ℕ) (said : Answer) (after : Holder) → f < t.frames → AnswersGet f before said after → Decided (get_steps p f said) →
       Follows (get_steps p f said) after
   get_follows f (answer.Got Held) after inside is decided =
-      step_follows (step.Get f) says.Held after is.2 (ap (λ (x : KnownCpu). x.number) is.1.2) refl
-      (fast_calls_lead.held t w run m cpus k c after.cpu this_part f inside is.0 is.1) decided
+      step_follows (step.Get f) says.Held after is.1 (ap (λ (x : KnownCpu). x.number) is.0.1.2) refl
+      (fast_calls_lead.held t w run m cpus k c after.cpu this_part f inside is.0.0 is.0.1) decided
   get_follows f (answer.Got Zero) after inside is decided =
-      unseen_follows after is.2 (unseen_seat t m c after.cpu is.1.0 f (looked is.1.1.0) is.1.2 is.1.1.2 (λ x. refl))
+      unseen_follows after is.1 (unseen_seat t m c after.cpu is.0.1.0 f (looked is.0.1.1.0) is.0.1.2 is.0.1.1.2 (λ x. refl))
   get_follows f (answer.Got (Raced found)) after inside is decided =
-      unseen_follows after is.2 (unseen_seat t m c after.cpu is.1.0 f (λ x. raced found (looked is.1.1.0 x)) is.1.2 is.1.1.4 (λ x. refl))
+      unseen_follows after is.1 (unseen_seat t m c after.cpu is.0.1.0 f (λ x. raced found (looked is.0.1.1.0 x)) is.0.1.2 is.0.1.1.4 (λ x. refl))
   get_follows f (answer.Got Full) after inside is decided =
-      unseen_follows after is.2 (unseen_seat t m c after.cpu is.1.0 f (looked 255) is.1.2 is.1.1 (λ x. refl))
-  get_follows f (answer.Served (Refused PinsFull)) after inside is decided = unseen_follows after is.2 (unseen_same t m c after.cpu is.1)
-  get_follows f said after inside is decided = absurd is
+      unseen_follows after is.1 (unseen_seat t m c after.cpu is.0.1.0 f (looked 255) is.0.1.2 is.0.1.1 (λ x. refl))
+  get_follows f (answer.Served (Refused PinsFull)) after inside is decided = unseen_follows after is.1 (unseen_same t m c after.cpu is.0.1)
+  get_follows f said after inside is decided = absurd is.0
 
   put_follows : (f : ℕ) (said : Answer) (after : Holder) → AnswersPut f before said after → Decided (put_steps p f said) → Follows (put_steps p f said) after
   put_follows f (answer.Put putted) after is decided =
-      step_follows (step.Put f) (put_answer putted) after is.2 (put_number putted is.1) refl
-      (fast_calls_lead.putted t w run m cpus k c after.cpu this_part f putted is.1) decided
+      step_follows (step.Put f) (put_answer putted) after is.1 (put_number putted is.0.1) refl
+      (fast_calls_lead.putted t w run m cpus k c after.cpu this_part f putted is.0.1) decided
     where
       put_number : (x : Putted) → UnpinAnswers f x c after.cpu → after.cpu.number ≡ p
       put_number (put.Left n) a = ap (λ (y : KnownCpu). y.number) a.3
       put_number put.Last a = ap (λ (y : KnownCpu). y.number) a.3
-  put_follows f (answer.Served (Refused NotPinned)) after is decided = unseen_follows after is.2 (unseen_same t m c after.cpu is.1)
-  put_follows f said after is decided = absurd is
+  put_follows f (answer.Served (Refused NotPinned)) after is decided = unseen_follows after is.1 (unseen_same t m c after.cpu is.0.1)
+  put_follows f said after is decided = absurd is.0
 
   replied_follows : (command : Cmd) (said : Answer) (after : Holder) (is : RepliesServed t command before said after) → AllShut after.locked.machine →
       Decided (served_steps t command before said after is) → Follows (served_steps t command before said after is) after

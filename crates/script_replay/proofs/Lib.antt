@@ -3,3 +3,4 @@ pub mod InRange
 pub mod Going
 pub mod Telling
 pub mod Following
+pub mod Visiting

@@ -31,10 +31,8 @@ abbrev pub TellsAnswer : (Answer → Type 0) → List ℕ → List ℕ → Type 
 TellsAnswer is before after =
     (text : List ℕ) × ((said : Answer) × is said × (text ≡ answer_text said)) × (after ≡ before ++ text)
 
--- where memory was there, the holder came from one to the other with this answer, of which the text behind the old
--- one tells
-abbrev pub AddsAnswer : {T E : Type 0} → Result T E → (Holder → Answer → Holder → Type 0) → Holder → Holder
-    → List ℕ → List ℕ → Type 0
+-- where memory was there, one came to the other with this answer, of which the text behind the old one tells
+abbrev pub AddsAnswer : {S T E : Type 0} → Result T E → (S → Answer → S → Type 0) → S → S → List ℕ → List ℕ → Type 0
 AddsAnswer result answers before after old new =
     IfOk result (λ _. TellsAnswer (λ said. answers before said after) old new)
 
@@ -53,23 +51,25 @@ abbrev pub AnswersFast : ℕ → Holder → Answer → Holder → Type 0
 AnswersFast g before (answer.Fast fast) after = FastAnswers g fast before.cpu after.cpu × (after.locked ≡ before.locked)
 AnswersFast g before other after = ⊥
 
--- Get: without the lock, a pin on the frame; refused where pins and back frames are 256 together
-abbrev pub AnswersGet : ℕ → Holder → Answer → Holder → Type 0
-AnswersGet f before (answer.Got got) after =
-    (length before.cpu.back + length before.cpu.pins < 256)
-    × PinAnswers f got before.cpu after.cpu × (after.locked ≡ before.locked)
-AnswersGet f before (answer.Served (Refused PinsFull)) after =
-    (length before.cpu.back + length before.cpu.pins ≡ 256)
-    × (after.cpu ≡ before.cpu) × (after.locked ≡ before.locked)
-AnswersGet f before other after = ⊥
+-- Get: a pin on the frame; refused where pins and back frames are 256 together
+abbrev pub GetsPin : ℕ → KnownCpu → Answer → KnownCpu → Type 0
+GetsPin f c (answer.Got got) d = (length c.back + length c.pins < 256) × PinAnswers f got c d
+GetsPin f c (answer.Served (Refused PinsFull)) d = (length c.back + length c.pins ≡ 256) × (d ≡ c)
+GetsPin f c other d = ⊥
 
--- Put: without the lock, a pin less on the frame; refused where the processor has none on it
+-- so it is answered without the lock
+abbrev pub AnswersGet : ℕ → Holder → Answer → Holder → Type 0
+AnswersGet f before answer after = GetsPin f before.cpu answer after.cpu × (after.locked ≡ before.locked)
+
+-- Put: a pin less on the frame; refused where the processor has none on it
+abbrev pub PutsPin : ℕ → KnownCpu → Answer → KnownCpu → Type 0
+PutsPin f c (answer.Put put) d = (1 ≤ times f c.pins) × UnpinAnswers f put c d
+PutsPin f c (answer.Served (Refused NotPinned)) d = (times f c.pins ≡ 0) × (d ≡ c)
+PutsPin f c other d = ⊥
+
+-- so it is answered without the lock
 abbrev pub AnswersPut : ℕ → Holder → Answer → Holder → Type 0
-AnswersPut f before (answer.Put put) after =
-    (1 ≤ times f before.cpu.pins) × UnpinAnswers f put before.cpu after.cpu × (after.locked ≡ before.locked)
-AnswersPut f before (answer.Served (Refused NotPinned)) after =
-    (times f before.cpu.pins ≡ 0) × (after.cpu ≡ before.cpu) × (after.locked ≡ before.locked)
-AnswersPut f before other after = ⊥
+AnswersPut f before answer after = PutsPin f before.cpu answer after.cpu × (after.locked ≡ before.locked)
 
 -- the frame can't be listed again without the lock: it isn't fresh at the processor, or its stock was drained, which
 -- was seen

@@ -1,5 +1,6 @@
 pub mod Answers
 pub mod Lines
 pub mod Ranges
+pub mod Visits
 pub mod Works
 pub mod History

@@ -7,9 +7,11 @@
 mod command_answers;
 mod unlocked_calls;
 mod value_replay;
+mod visit_answers;
 mod visit_replay;
 mod work;
 
 pub use value_replay::replay;
+pub use visit_answers::visit_line;
 pub use visit_replay::{replay_by_visits, visit_command};
 pub use work::Work;

@@ -5,9 +5,7 @@ ghost use Rattle.std.specs.String.{string_bytes};
 ghost use Rattle.cpu_part.specs.declared.answers.Dropped.TheVariants.{Listed};
 ghost use Rattle.cpu_part.specs.Cpus.{times};
 ghost use Rattle.cpu_part.specs.Calls.{DropAnswers};
-ghost use Rattle.mem_system.specs.Boots.{KnownLocked};
-ghost use Rattle.script_replay.specs.Answers.{AddsAnswer, AnswersGet, AnswersPut, CanNotList};
-ghost use Rattle.mem_system.specs.Commands.{holder};
+ghost use Rattle.script_replay.specs.Answers.{AddsAnswer, CanNotList, GetsPin, PutsPin};
 
 use cpu_part::{BootName, Cpu, Dropped, Tables};
 use group_tree::fault::Fault;
@@ -38,8 +36,7 @@ pub(crate) fn get<N: BootName>(
     text: &mut String,
 ) -> Result<(), AllocError>
     requires { number < N.frames.frames }
-    ensures { (l : KnownLocked) → AddsAnswer result (AnswersGet number) (holder l cpu.old) (holder l cpu.new)
-        (string_bytes text.old) (string_bytes text.new) }
+    ensures { AddsAnswer result (GetsPin number) cpu.old cpu.new (string_bytes text.old) (string_bytes text.new) }
 {
     let frame = tables.frames.frame(number).unwrap();
     match cpu.get(tables, frame) {
@@ -56,8 +53,7 @@ pub(crate) fn put<N: BootName>(
     text: &mut String,
 ) -> Result<(), AllocError>
     requires { number < N.frames.frames }
-    ensures { (l : KnownLocked) → AddsAnswer result (AnswersPut number) (holder l cpu.old) (holder l cpu.new)
-        (string_bytes text.old) (string_bytes text.new) }
+    ensures { AddsAnswer result (PutsPin number) cpu.old cpu.new (string_bytes text.old) (string_bytes text.new) }
 {
     let frame = tables.frames.frame(number).unwrap();
     if !cpu.holds(frame) {

@@ -1,22 +1,23 @@
 //! Lines, served one after the other by visits: each command takes the zone's lock by itself.
 
-ghost use Rattle.std.specs.Prelude.{◌≤◌, ◌<◌, All, length};
-ghost use Rattle.script_replay.specs.Ranges.{LineIsThere, WorkInRange};
+ghost use Rattle.std.specs.Prelude.{◌≡◌, All, IfOk, length};
+ghost use Rattle.std.specs.String.{string_bytes};
 ghost use Rattle.mem_system.specs.Commands.{IsOfZone};
+ghost use Rattle.script_replay.specs.Answers.{AddsText};
+ghost use Rattle.script_replay.specs.Ranges.{LineIsThere};
+ghost use Rattle.script_replay.specs.Visits.{VisitsAll, VisitsLine};
 
-use crate::unlocked_calls::{get, put, try_list};
-use crate::work::{Work, work_of};
-use cpu_part::{BootName, Cpu, Fast};
-use group_tree::fault::Fault;
-use mem_system::{Cmd, System};
-use reply_texts::{write_fast, write_listed, write_refusal, write_reply, write_settled};
+use crate::visit_answers::visit_text;
+use cpu_part::{BootName, Cpu};
+use mem_system::{Cmd, NoGate, System};
+use reply_texts::write_reply;
 use script_lines::line::Line;
 use std::alloc::{AllocError, Global};
 use std::sync::Wait;
 
 /// Serves the lines in their order, each by a visit of the processor that it names or by a call that takes no lock,
-/// and gives their answers as `replay` does. `AllocError` comes where memory is wanting: the lines before stand then.
-#[tactic(auto, using(crate::proofs::InRange::work_in_range))]
+/// and gives their answers, each of whose lines ends with a line feed. `go` does nothing. `AllocError` comes where memory is
+/// wanting: the lines before stand then.
 pub fn replay_by_visits<N: BootName, R: Wait>(
     rt: &R,
     alloc: Global,
@@ -25,53 +26,33 @@ pub fn replay_by_visits<N: BootName, R: Wait>(
     lines: &[Line<'_>],
 ) -> Result<Vec<u8>, AllocError>
     requires { All (LineIsThere N.frames.frames (length cpus.old)) lines.now }
+    ensures { IfOk result (λ answers. VisitsAll N.frames N.stocks cpus.old lines.now answers.items cpus.new) }
 {
     let mut answers = String::new(alloc);
     for line in lines {
-        if let Line::At { processor, command } = line {
-            let cpu = &mut cpus[(*processor - 1) as usize];
-            let work = work_of(command);
-            visit_line(rt, alloc, system, cpu, &work, &mut answers)?;
-        }
+        serve_line(rt, alloc, system, cpus, line, &mut answers)?;
     }
     Ok(answers.into_bytes())
 }
 
-// Does what is asked and adds what it is answered.
-fn visit_line<N: BootName, R: Wait>(
+// Serves a line and adds its answer.
+fn serve_line<N: BootName, R: Wait>(
     rt: &R,
     alloc: Global,
     system: &System<N>,
-    cpu: &mut Cpu<N>,
-    work: &Work<'_>,
-    text: &mut String,
+    cpus: &mut [Cpu<N>],
+    line: &Line<'_>,
+    answers: &mut String,
 ) -> Result<(), AllocError>
-    requires { WorkInRange N.frames.frames work.now }
+    requires { LineIsThere N.frames.frames (length cpus.old) line.now }
+    ensures { AddsText result (λ before text after. VisitsLine N.frames N.stocks before line.now text after)
+        cpus.old cpus.new (string_bytes answers.old) (string_bytes answers.new) }
 {
-    let tables = system.tables();
-    match *work {
-        Work::Visit(cmd) => visit_command(rt, system, cpu, &cmd, text),
-        Work::Frame { path } => alloc_frame(rt, system, cpu, path, text),
-        Work::Fast { group } => write_fast(&cpu.alloc_fast(tables, group), text),
-        Work::Release { frame } => {
-            if try_list(tables, cpu, frame) {
-                return write_listed(text);
-            }
-            visit_command(rt, system, cpu, &Cmd::Release { frame }, text)
-        }
-        Work::Get { frame } => get(tables, cpu, frame, text),
-        Work::Put { frame } => put(tables, cpu, frame, text),
-        Work::Settle => {
-            let _done = system.visit(rt, cpu, &Cmd::Settle);
-            write_settled(text)
-        }
-        Work::Blocks => {
-            let told = system.blocks(rt, alloc, cpu)?;
-            text.push_str(told.as_str())
-        }
-        Work::Show => {
-            let told = system.show(rt, alloc, cpu)?;
-            text.push_str(told.as_str())
+    match line {
+        Line::Go => Ok(()),
+        Line::At { processor, command } => {
+            let at = (*processor - 1) as usize;
+            visit_text(rt, alloc, system, &mut cpus[at], command, &NoGate, answers)
         }
     }
 }
@@ -89,21 +70,4 @@ pub fn visit_command<N: BootName, R: Wait>(
     requires { IsOfZone N.frames cmd.now }
 {
     write_reply(&system.visit(rt, cpu, cmd), text)
-}
-
-// Takes a frame, without the lock where it can be, and adds what is answered.
-fn alloc_frame<N: BootName, R: Wait>(
-    rt: &R,
-    system: &System<N>,
-    cpu: &mut Cpu<N>,
-    path: &[u8],
-    text: &mut String,
-) -> Result<(), AllocError> {
-    let Some(group) = system.find(rt, path) else {
-        return write_refusal(&Fault::NoGroup, text);
-    };
-    match cpu.alloc_fast(system.tables(), group.number()) {
-        Fast::Got(frame) => write_fast(&Fast::Got(frame), text),
-        _ => visit_command(rt, system, cpu, &Cmd::Alloc { path, order: 0 }, text),
-    }
 }

@@ -14,12 +14,15 @@ use anyhow::{Context, Result};
 use runs::replay_run;
 use std::fs;
 
-const RUNS: [&str; 6] = [
+const RUNS: [&str; 9] = [
     "frames-64.txt",
     "frames-8.txt",
     "frames-43.txt",
     "frames-128.txt",
     "refusals.txt",
+    "reclaim.txt",
+    "reclaim-by-one.txt",
+    "reclaim-rounds.txt",
     "frames-65536.txt",
 ];
 

@@ -34,6 +34,7 @@ fn action_of(word: &str, a: u32, b: u32, c: u32) -> Option<(u32, Action)> {
         "report" => (a, Action::Report { pages: b }),
         "absorb" => (0, Action::Absorb { cpu: a }),
         "drain" => (0, Action::DrainStock { cpu: a }),
+        "freeze" => (0, Action::Freeze { frame: a, count: 1 }),
         "return" => (0, Action::Return { frame: a }),
         _ => return group_action_of(word, a, b, c),
     };

@@ -46,7 +46,8 @@ fn live<N: BootName, R: Wait>(rt: &R, alloc: Global, boot: Boot, text: &mut Stri
 }
 
 // Processor 1 makes a group with a limit and takes two frames for it, the second without the lock. Processor 2 has a reference on
-// the first, which outlives its release. Then a limit is met, and a file is read.
+// the first, which outlives its release. Then a limit is met, also once the
+// second frame was reclaimed, and a file is read.
 fn share<N: BootName, R: Wait>(
     rt: &R,
     system: &System<N>,
@@ -73,7 +74,7 @@ fn share<N: BootName, R: Wait>(
     if second.holds(shared) {
         write_put(&second.put(tables, shared), text)?;
     }
-    ask(rt, system, second, &Cmd::Alloc { path, order: 3 }, text)?;
+    ask(rt, system, second, &Cmd::Alloc { path, order: 4 }, text)?;
     let file: &[u8] = b"memory.current";
     ask(rt, system, second, &Cmd::Read { path, file }, text)
 }

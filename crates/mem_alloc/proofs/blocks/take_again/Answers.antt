@@ -1,9 +1,11 @@
 use Rattle.std.proofs.Common.{◌+◌, ◌^◌, ◌<◌, sym, ap, ◌∙◌, subst}
 use Rattle.group_tree.specs.Groups.{has_group}
+use Rattle.group_tree.specs.Room.{PathHasRoom}
 use Rattle.group_charge.specs.Charges.{current_of}
 use Rattle.cpu_part.specs.Cpus.{KnownCpu}
 use Rattle.mem_machine.specs.Machines.{KnownMachine, is_killed}
-use Rattle.mem_alloc.proofs.Taking.{is_refused, is_none, by_none, back_part, never_over, takes_after, finds_none, list_shrinks}
+use Rattle.mem_alloc.proofs.Taking.{is_refused, is_none, by_none, back_part, never_over}
+use Rattle.mem_alloc.proofs.Taking.{none_leaves, takes_after, reclaims_after, reclaims_open, list_shrinks}
 use Rattle.mem_alloc.proofs.blocks.take_again.Goals as goal
 
 pub take_block-requires-clause-there : goal.take_block-requires-clause-there
@@ -23,8 +25,9 @@ take_block-requires-clause-none_back g c = (back_part _ _ _ _ _ c.drain_list.ens
 
 pub unreachable-requires : goal.unreachable-requires
 unreachable-requires g c =
-    never_over c.args.machine.now c.drain_list.new.self c.args.group (2 ^ c.args.order) c.in-Err-Over.field-0-0.group
-    (back_part _ _ _ _ _ c.drain_list.ensures.takes).ledger c.requires.room
+    let room = subst (λ l. PathHasRoom l.groups (current_of l) c.args.group (2 ^ c.args.order))
+    (sym (back_part _ _ _ _ _ c.drain_list.ensures.takes).ledger) c.requires.room in
+    never_over c.drain_list.new.self c.args.group (2 ^ c.args.order) c.in-Err-Over.field-0-0.group room
     (is_refused c.drain_list.new.self c.take_block.new.self c.args.group c.args.order c.in-Err-Over.field-0 c.in-Err-Over.field-0-0
     c.in-Err-Over.field-0-is c.in-Err-Over.ensures.refuses).0
 
@@ -54,30 +57,72 @@ returns-in-Ok-clause-list g c =
     c.list_len-listed.ensures.count
     c.drain_list.ensures.at_most c.drain_list.ensures.takes c.drain_list.ensures.fewer_only_at_the_end c.in-Ok.ensures.cpu c.drain_list.ensures.steps
 
+pub take_in_rounds-requires-clause-there : goal.take_in_rounds-requires-clause-there
+take_in_rounds-requires-clause-there g c =
+    let none = is_none _ _ c.args.group c.args.order c.in-Err-NoBlock.field-0 c.in-Err-NoBlock.field-0-is c.in-Err-NoBlock.ensures.refuses in
+    let part = back_part _ _ _ _ _ c.drain_list.ensures.takes in
+    ap (λ (y : KnownMachine). has_group y.ledger.groups c.args.group) none.machine ∙ ap (λ l. has_group l.groups c.args.group) part.ledger
+    ∙ c.requires.there
+
+pub take_in_rounds-requires-clause-not_killed : goal.take_in_rounds-requires-clause-not_killed
+take_in_rounds-requires-clause-not_killed g c =
+    let none = is_none _ _ c.args.group c.args.order c.in-Err-NoBlock.field-0 c.in-Err-NoBlock.field-0-is c.in-Err-NoBlock.ensures.refuses in
+    let part = back_part _ _ _ _ _ c.drain_list.ensures.takes in
+    ap (λ (y : KnownMachine). is_killed y.killed c.args.group) none.machine ∙ ap (λ l. is_killed l c.args.group) part.killed ∙ c.requires.not_killed
+
+pub take_in_rounds-requires-clause-fits : goal.take_in_rounds-requires-clause-fits
+take_in_rounds-requires-clause-fits g c =
+    let none = is_none _ _ c.args.group c.args.order c.in-Err-NoBlock.field-0 c.in-Err-NoBlock.field-0-is c.in-Err-NoBlock.ensures.refuses in
+    let part = back_part _ _ _ _ _ c.drain_list.ensures.takes in
+    let there = ap (λ l. has_group l.groups c.args.group) part.ledger ∙ c.requires.there in
+    let fits = subst (λ l. current_of l 0 + 2 ^ c.args.order < 2 ^ 32) (sym part.ledger) c.requires.fits in
+    (none_leaves g.N.BootName.frames c.args.group c.args.order c.drain_list.new.self c.take_block.new.self c.drain_list.new.cpu
+    c.take_block.new.cpu none there fits).fits
+
+pub take_in_rounds-requires-clause-room : goal.take_in_rounds-requires-clause-room
+take_in_rounds-requires-clause-room g c =
+    let none = is_none _ _ c.args.group c.args.order c.in-Err-NoBlock.field-0 c.in-Err-NoBlock.field-0-is c.in-Err-NoBlock.ensures.refuses in
+    let part = back_part _ _ _ _ _ c.drain_list.ensures.takes in
+    let there = ap (λ l. has_group l.groups c.args.group) part.ledger ∙ c.requires.there in
+    let fits = subst (λ l. current_of l 0 + 2 ^ c.args.order < 2 ^ 32) (sym part.ledger) c.requires.fits in
+    (none_leaves g.N.BootName.frames c.args.group c.args.order c.drain_list.new.self c.take_block.new.self c.drain_list.new.cpu
+    c.take_block.new.cpu none there fits).room
+
+pub take_in_rounds-requires-clause-none_back : goal.take_in_rounds-requires-clause-none_back
+take_in_rounds-requires-clause-none_back g c =
+    ap (λ (e : KnownCpu). e.back) c.in-Err-NoBlock.ensures.cpu ∙ (back_part _ _ _ _ _ c.drain_list.ensures.takes).back ∙ c.requires.settled.1
+
 pub returns-in-Err-NoBlock-clause-takes : goal.returns-in-Err-NoBlock-clause-takes
 returns-in-Err-NoBlock-clause-takes g c =
-    finds_none g.N.BootName.frames c.args.group c.args.order _ _ _ _ _ _ c.drain_list.result c.list_len-listed.result c.list_len-listed.ensures.count
-    c.drain_list.ensures.at_most c.drain_list.ensures.takes c.drain_list.ensures.fewer_only_at_the_end c.in-Err-NoBlock.ensures.cpu c.drain_list.ensures.steps
-    (is_none _ _ c.args.group c.args.order c.in-Err-NoBlock.field-0 c.in-Err-NoBlock.field-0-is c.in-Err-NoBlock.ensures.refuses)
-    (by_none _ c.args.group c.args.order _ _ c.in-Err-NoBlock.field-0 c.in-Err-NoBlock.field-0-is c.in-Err-NoBlock.ensures.steps)
+    let none = is_none _ _ c.args.group c.args.order c.in-Err-NoBlock.field-0 c.in-Err-NoBlock.field-0-is c.in-Err-NoBlock.ensures.refuses in
+    let vain = by_none _ c.args.group c.args.order _ _ c.in-Err-NoBlock.field-0 c.in-Err-NoBlock.field-0-is c.in-Err-NoBlock.ensures.steps in
+    reclaims_after g.N.BootName.frames c.args.group c.args.order _ _ _ _ _ _ c.drain_list.result c.list_len-listed.result
+    c.list_len-listed.ensures.count c.drain_list.ensures.at_most c.drain_list.ensures.takes c.drain_list.ensures.fewer_only_at_the_end
+    (c.take_in_rounds.ensures.cpu ∙ c.in-Err-NoBlock.ensures.cpu) c.drain_list.ensures.steps _ _ none c.in-Err-NoBlock.ensures.cpu vain
+    c.take_in_rounds.result c.take_in_rounds.ensures.takes
 
 pub returns-in-Err-NoBlock-clause-stays : goal.returns-in-Err-NoBlock-clause-stays
 returns-in-Err-NoBlock-clause-stays g c =
     let none = is_none _ _ c.args.group c.args.order c.in-Err-NoBlock.field-0 c.in-Err-NoBlock.field-0-is c.in-Err-NoBlock.ensures.refuses in
+    let vain = by_none _ c.args.group c.args.order _ _ c.in-Err-NoBlock.field-0 c.in-Err-NoBlock.field-0-is c.in-Err-NoBlock.ensures.steps in
     let part = back_part _ _ _ _ _ c.drain_list.ensures.takes in
+    let cpu = c.take_in_rounds.ensures.cpu ∙ c.in-Err-NoBlock.ensures.cpu in
     record {
-      visit = c.take_block.ensures.visit;
-      opened = ap (λ (z : KnownMachine). z.seat.view.opened) none.machine ∙ part.opened;
-      number = ap (λ (e : KnownCpu). e.number) c.take_block.ensures.cpu ∙ part.number;
-      back = ap (λ (e : KnownCpu). e.back) c.take_block.ensures.cpu ∙ part.back;
+      visit = c.take_in_rounds.ensures.visit;
+      opened = reclaims_open g.N.BootName.frames c.args.group c.args.order _ _ _ _ _ _ c.drain_list.result c.list_len-listed.result
+          c.list_len-listed.ensures.count c.drain_list.ensures.at_most c.drain_list.ensures.takes c.drain_list.ensures.fewer_only_at_the_end
+          cpu c.drain_list.ensures.steps _ _ none c.in-Err-NoBlock.ensures.cpu vain c.take_in_rounds.result c.take_in_rounds.ensures.takes;
+      number = ap (λ (e : KnownCpu). e.number) cpu ∙ part.number;
+      back = ap (λ (e : KnownCpu). e.back) cpu ∙ part.back;
     }
 
 pub returns-in-Err-NoBlock-clause-fresh : goal.returns-in-Err-NoBlock-clause-fresh
 returns-in-Err-NoBlock-clause-fresh g c =
-    ap (λ (e : KnownCpu). e.fresh) c.take_block.ensures.cpu ∙ (back_part _ _ _ _ _ c.drain_list.ensures.takes).fresh ∙ c.requires.settled.0
+    ap (λ (e : KnownCpu). e.fresh) (c.take_in_rounds.ensures.cpu ∙ c.in-Err-NoBlock.ensures.cpu)
+    ∙ (back_part _ _ _ _ _ c.drain_list.ensures.takes).fresh ∙ c.requires.settled.0
 
 pub returns-in-Err-NoBlock-clause-list : goal.returns-in-Err-NoBlock-clause-list
 returns-in-Err-NoBlock-clause-list g c =
-    list_shrinks g.N.BootName.frames c.args.group c.args.order _ _ c.take_block.new.self _ _ _ c.drain_list.result c.list_len-listed.result
-    c.list_len-listed.ensures.count
-    c.drain_list.ensures.at_most c.drain_list.ensures.takes c.drain_list.ensures.fewer_only_at_the_end c.in-Err-NoBlock.ensures.cpu c.drain_list.ensures.steps
+    list_shrinks g.N.BootName.frames c.args.group c.args.order _ _ c.take_in_rounds.new.machine _ _ _ c.drain_list.result
+    c.list_len-listed.result c.list_len-listed.ensures.count c.drain_list.ensures.at_most c.drain_list.ensures.takes
+    c.drain_list.ensures.fewer_only_at_the_end (c.take_in_rounds.ensures.cpu ∙ c.in-Err-NoBlock.ensures.cpu) c.drain_list.ensures.steps

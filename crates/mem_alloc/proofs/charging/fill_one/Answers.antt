@@ -4,8 +4,8 @@ use Rattle.group_tree.specs.Groups.{has_group}
 use Rattle.group_tree.proofs.CallerLemmas.{in_subtree-above}
 use Rattle.mem_machine.specs.Machines.{KnownMachine}
 use Rattle.mem_alloc.specs.Stepping.{ByStepsOfAny}
-use Rattle.mem_alloc.specs.Room.{ClearsBelow}
-use Rattle.mem_alloc.proofs.Lowering.{lowered_visit, clearing_lowers, usages_fall}
+use Rattle.mem_alloc.specs.Room.{RelievesLimit}
+use Rattle.mem_alloc.proofs.Lowering.{lowered_visit, relieving_lowers, usages_fall}
 use Rattle.mem_alloc.proofs.Making.{so_far_fills, so_far_more, so_far_over, refused_with, over_for_one}
 use Rattle.mem_alloc.proofs.charging.fill_one.Goals as goal
 
@@ -22,8 +22,8 @@ make_room-requires g c =
 pub tries-smaller : goal.tries-smaller
 tries-smaller g c =
     usages_fall g.N.BootName.frames c.tries.machine c.make_room.new.machine c.in-Err.over.group 1
-    (clearing_lowers g.N.BootName.frames c.in-Err.over.group c.tries.machine c.make_room.new.machine
-    (subst (λ (y : KnownMachine). ByStepsOfAny g.N.BootName.frames y c.make_room.new.machine (ClearsBelow c.in-Err.over.group)) c.in-Err.ensures.unchanged.0
+    (relieving_lowers g.N.BootName.frames c.in-Err.over.group 1 c.tries.machine c.make_room.new.machine
+    (subst (λ (y : KnownMachine). ByStepsOfAny g.N.BootName.frames y c.make_room.new.machine (RelievesLimit c.in-Err.over.group 1)) c.in-Err.ensures.unchanged.0
     c.make_room.ensures.clears)) c.make_room.ensures.fits c.in-Err.ensures.over.over c.in_ok-make_room.ensures.room
 
 pub tries-preserved : goal.tries-preserved
@@ -46,5 +46,5 @@ returns-in_err-make_room-clause-fills g c =
 
 pub returns-in_err-make_room-clause-visit : goal.returns-in_err-make_room-clause-visit
 returns-in_err-make_room-clause-visit g c =
-    lowered_visit g.N.BootName.frames _ _ _ c.fill_stock.new.cpu (clearing_lowers g.N.BootName.frames c.in-Err.over.group _ _ c.make_room.ensures.clears) refl
+    lowered_visit g.N.BootName.frames _ _ _ c.fill_stock.new.cpu (relieving_lowers g.N.BootName.frames c.in-Err.over.group 1 _ _ c.make_room.ensures.clears) refl
     c.in-Err.ensures.visit

@@ -2,9 +2,8 @@ use Rattle.std.proofs.Common.{◌≡◌, ◌∷◌, ◌++◌, [], length, false,
 use Rattle.std.specs.Prelude.{IfErr}
 use Rattle.mem_machine.specs.Machines.{KnownMachine, is_killed}
 use Rattle.cpu_part.specs.Cpus.{KnownCpu}
-use Rattle.mem_alloc.proofs.Lowering.{drain_lowers}
 use Rattle.mem_alloc.proofs.Making.{refused_with, if_ok_none}
-use Rattle.mem_alloc.proofs.Filling.{keeps_both, lowers_keep, pays_keep, refuses_keep, filled_part, not_paid, not_found, gets_frame}
+use Rattle.mem_alloc.proofs.Filling.{keeps_both, pays_keep, refuses_keep, no_frame_keeps, filled_part, not_paid, not_found, gets_frame}
 use Rattle.mem_alloc.proofs.frames.alloc_frame.Goals as goal
 
 pub returns-in_err-pay_for_frame : goal.returns-in_err-pay_for_frame
@@ -37,7 +36,7 @@ returns-in_err-fill_list g c =
     let paid = c.in_ok-pay_for_frame.ensures.pays in
     let none = c.in_err-fill_list.ensures.fills in
     let first = pays_keep t c.args.sizes c.args.group _ _ _ _ paid.0 paid.1 in
-    let then = lowers_keep g.N.BootName.frames _ _ _ _ (drain_lowers g.N.BootName.frames _ _ _ none.1.back none.1.drains) none.1.cpu in
+    let then = no_frame_keeps g.N.BootName.frames x _ _ _ _ none.0 none.1 in
     let k = keeps_both _ _ _ _ _ _ first then in
     let fresh = k.fresh ∙ c.requires.settled.0 in
     record {

@@ -1,24 +1,20 @@
-use Rattle.std.proofs.Common.{length, inr, refl, ap, ◌∙◌, arith, length-append}
+use Rattle.std.proofs.Common.{length, inl, inr, ap, ◌∙◌, arith, length-append}
 use Rattle.std.proofs.lemmas.List.{nil_from_length}
 use Rattle.mem_machine.specs.Steps.{refill_steps}
-use Rattle.mem_alloc.proofs.Filling.{lent_part, lent_page, no_frame}
+use Rattle.mem_alloc.proofs.Filling.{lent_part, lent_page, lent_none, lent_batch, no_frame, reclaims_for, reclaimed_page, reclaimed_front}
 use Rattle.mem_alloc.proofs.frames.fill_list.Goals as goal
 
 pub returns-then-refill-gt0-clause-fills : goal.returns-then-refill-gt0-clause-fills
 returns-then-refill-gt0-clause-fills g c =
+    let t = g.N.BootName.frames in
     let done = c.refill.ensures in
-    let all = done.refills.all in
-    let low = done.at_most in (
+    let many = c.if-refill-gt0.true in (
       refill_steps c.args.cpu.now.number done.refills.frames,
-      inr (record {
+      inr (inl (record {
         empty = nil_from_length c.args.cpu.now.list (omega (arith, c.list_len.ensures.count));
-        frames = done.refills.frames;
-        some = omega (arith, all);
-        at_most = omega (arith, all, low);
-        fewer = λ less. done.fewer_only_at_the_end (omega (arith, all, less));
-        lends = done.refills.lends;
-        steps_are = refl;
-      }),
+        lends = lent_batch t c.refill.result c.args.sizes.batch _ _ _ _ done.refills (omega (arith, many)) done.at_most
+            done.fewer_only_at_the_end;
+      })),
       done.refills.steps,
     )
 
@@ -33,9 +29,49 @@ returns-then-refill-gt0-clause-front g c =
     let a = ap length l.list ∙ length-append c.args.cpu.now.list done.refills.frames in
     omega (arith, all, a)
 
+pub returns-then-refill_in_rounds-clause-fills : goal.returns-then-refill_in_rounds-clause-fills
+returns-then-refill_in_rounds-clause-fills g c =
+    let t = g.N.BootName.frames in
+    let done = c.refill.ensures in
+    let first = lent_none t c.refill.result c.args.sizes.batch c.args.machine.now c.refill.new.self c.args.cpu.now c.refill.new.cpu
+    done.refills c.if-refill-gt0.false done.fewer_only_at_the_end c.requires.sizes.batch_low in
+    let reclaims = reclaims_for t c.args.sizes c.args.machine.now c.refill.new.self c.refill_in_rounds.new.machine
+    c.refill_in_rounds.new.machine c.args.cpu.now c.refill.new.cpu c.refill_in_rounds.new.cpu
+    (nil_from_length c.args.cpu.now.list (omega (arith, c.list_len.ensures.count))) first c.if-refill_in_rounds.ensures.refills in
+    (reclaims.0, inr (inr reclaims.1), reclaims.2)
+
+pub returns-then-refill_in_rounds-clause-page : goal.returns-then-refill_in_rounds-clause-page
+returns-then-refill_in_rounds-clause-page g c =
+    let t = g.N.BootName.frames in
+    let done = c.refill.ensures in
+    let first = lent_none t c.refill.result c.args.sizes.batch c.args.machine.now c.refill.new.self c.args.cpu.now c.refill.new.cpu
+    done.refills c.if-refill-gt0.false done.fewer_only_at_the_end c.requires.sizes.batch_low in
+    let reclaims = reclaims_for t c.args.sizes c.args.machine.now c.refill.new.self c.refill_in_rounds.new.machine
+    c.refill_in_rounds.new.machine c.args.cpu.now c.refill.new.cpu c.refill_in_rounds.new.cpu
+    (nil_from_length c.args.cpu.now.list (omega (arith, c.list_len.ensures.count))) first c.if-refill_in_rounds.ensures.refills in
+    reclaimed_page t c.args.sizes c.args.machine.now c.refill_in_rounds.new.machine c.args.cpu.now c.refill_in_rounds.new.cpu
+    reclaims.0 reclaims.1 c.args.group c.requires.page
+
+pub returns-then-refill_in_rounds-clause-front : goal.returns-then-refill_in_rounds-clause-front
+returns-then-refill_in_rounds-clause-front g c =
+    let t = g.N.BootName.frames in
+    let done = c.refill.ensures in
+    let first = lent_none t c.refill.result c.args.sizes.batch c.args.machine.now c.refill.new.self c.args.cpu.now c.refill.new.cpu
+    done.refills c.if-refill-gt0.false done.fewer_only_at_the_end c.requires.sizes.batch_low in
+    let reclaims = reclaims_for t c.args.sizes c.args.machine.now c.refill.new.self c.refill_in_rounds.new.machine
+    c.refill_in_rounds.new.machine c.args.cpu.now c.refill.new.cpu c.refill_in_rounds.new.cpu
+    (nil_from_length c.args.cpu.now.list (omega (arith, c.list_len.ensures.count))) first c.if-refill_in_rounds.ensures.refills in
+    reclaimed_front t c.args.sizes c.args.machine.now c.refill_in_rounds.new.machine c.args.cpu.now c.refill_in_rounds.new.cpu
+    reclaims.0 reclaims.1
+
 pub returns-clause-fills : goal.returns-clause-fills
 returns-clause-fills g c =
+    let t = g.N.BootName.frames in
     let done = c.refill.ensures in
-    no_frame g.N.BootName.frames c.args.sizes c.refill.result c.drain_stock.result c.number-number.result _ _ _ _ _ done.refills c.if-refill-gt0.false
-    (nil_from_length c.args.cpu.now.list (omega (arith, c.list_len.ensures.count)))
-    done.fewer_only_at_the_end c.requires.sizes.batch_low c.number-number.ensures.number c.drain_stock.ensures.drains c.drain_stock.ensures.steps
+    let first = lent_none t c.refill.result c.args.sizes.batch c.args.machine.now c.refill.new.self c.args.cpu.now c.refill.new.cpu
+    done.refills c.if-refill-gt0.false done.fewer_only_at_the_end c.requires.sizes.batch_low in
+    no_frame t c.args.sizes c.args.machine.now c.refill.new.self c.refill_in_rounds.new.machine c.drain_stock.new.self
+    c.args.cpu.now c.refill.new.cpu c.refill_in_rounds.new.cpu
+    (nil_from_length c.args.cpu.now.list (omega (arith, c.list_len.ensures.count))) first c.drain_stock.result
+    c.number-number.result c.if-refill_in_rounds.ensures.refills c.number-number.ensures.number c.drain_stock.ensures.drains
+    c.drain_stock.ensures.steps

@@ -1,25 +1,43 @@
-use Rattle.std.proofs.Common.{◌≡◌, true, sym, subst}
+use Rattle.std.proofs.Common.{◌≡◌, true, List, sym, ap, ◌∙◌, subst}
+use Rattle.group_tree.specs.declared.group.Group.{Group}
 use Rattle.group_tree.specs.Groups.{has_group}
 use Rattle.group_charge.specs.Charges.{Ledger}
 use Rattle.mem_machine.specs.Machines.{KnownMachine}
 use Rattle.mem_alloc.proofs.Lowering.{Lowers, lowers_both, note_lowers, all_lower, lowered_there}
-use Rattle.mem_alloc.proofs.Making.{clears_by}
+use Rattle.mem_alloc.proofs.Making.{clears_by, relieves_by}
 use Rattle.mem_alloc.proofs.room.make_room.Goals as goal
+
+pub reclaim_for-requires : goal.reclaim_for-requires
+reclaim_for-requires g c =
+    let sub = c.drain_stocks.ensures.drains in
+    let noted : Lowers g.N.BootName.frames c.args.machine.now c.note_max.new.self =
+    subst (λ (y : KnownMachine). Lowers g.N.BootName.frames c.args.machine.now y) (sym c.note_max.ensures.machine)
+    (note_lowers g.N.BootName.frames c.args.machine.now c.args.group) in
+    let lowers = lowers_both g.N.BootName.frames _ _ _ noted (all_lower g.N.BootName.frames c.args.group g.N.BootName.frames.cpus _ _ sub.drains sub.all) in
+    lowered_there g.N.BootName.frames _ _ c.args.group lowers c.requires
 
 pub has_room_at-requires : goal.has_room_at-requires
 has_room_at-requires g c =
     let sub = c.drain_stocks.ensures.drains in
     let noted : Lowers g.N.BootName.frames c.args.machine.now c.note_max.new.self =
-    subst (λ (y : KnownMachine). Lowers g.N.BootName.frames c.args.machine.now y) (sym c.note_max.ensures.machine) (note_lowers g.N.BootName.frames c.args.machine.now c.args.group) in
+    subst (λ (y : KnownMachine). Lowers g.N.BootName.frames c.args.machine.now y) (sym c.note_max.ensures.machine)
+    (note_lowers g.N.BootName.frames c.args.machine.now c.args.group) in
     let lowers = lowers_both g.N.BootName.frames _ _ _ noted (all_lower g.N.BootName.frames c.args.group g.N.BootName.frames.cpus _ _ sub.drains sub.all) in
-    subst (λ (l : Ledger). has_group l.groups c.args.group ≡ true) (sym c.charges.ensures) (lowered_there g.N.BootName.frames _ _ c.args.group lowers c.requires)
+    let there : has_group c.drain_stocks.new.self.ledger.groups c.args.group ≡ true =
+    lowered_there g.N.BootName.frames _ _ c.args.group lowers c.requires in
+    subst (λ (l : Ledger). has_group l.groups c.args.group ≡ true) (sym c.charges.ensures)
+    (ap (λ (x : List Group). has_group x c.args.group) c.reclaim_for.ensures.reclaims.1.keeps.groups ∙ there)
 
 pub returns-then-has_room_at-clause-clears : goal.returns-then-has_room_at-clause-clears
 returns-then-has_room_at-clause-clears g c =
-    clears_by g.N.BootName.frames c.args.group c.drain_stocks.result c.args.machine.now c.note_max.new.self c.drain_stocks.new.self
-    c.note_max.ensures.machine c.note_max.ensures.steps c.drain_stocks.ensures.drains c.drain_stocks.ensures.drained
+    relieves_by g.N.BootName.frames c.args.group c.args.pages c.args.machine.now c.drain_stocks.new.self c.reclaim_for.new.machine
+    (clears_by g.N.BootName.frames c.args.group c.drain_stocks.result c.args.machine.now c.note_max.new.self c.drain_stocks.new.self
+    c.note_max.ensures.machine c.note_max.ensures.steps c.drain_stocks.ensures.drains c.drain_stocks.ensures.drained)
+    c.reclaim_for.ensures.reclaims
 
 pub returns-else-has_room_at-clause-clears : goal.returns-else-has_room_at-clause-clears
 returns-else-has_room_at-clause-clears g c =
-    clears_by g.N.BootName.frames c.args.group c.drain_stocks.result c.args.machine.now c.note_max.new.self c.drain_stocks.new.self
-    c.note_max.ensures.machine c.note_max.ensures.steps c.drain_stocks.ensures.drains c.drain_stocks.ensures.drained
+    relieves_by g.N.BootName.frames c.args.group c.args.pages c.args.machine.now c.drain_stocks.new.self c.reclaim_for.new.machine
+    (clears_by g.N.BootName.frames c.args.group c.drain_stocks.result c.args.machine.now c.note_max.new.self c.drain_stocks.new.self
+    c.note_max.ensures.machine c.note_max.ensures.steps c.drain_stocks.ensures.drains c.drain_stocks.ensures.drained)
+    c.reclaim_for.ensures.reclaims

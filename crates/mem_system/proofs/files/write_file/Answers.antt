@@ -14,7 +14,8 @@ set_limit-requires-clause-there g c =
 pub returns-clause-written : goal.returns-clause-written
 returns-clause-written g c =
     let is = subst (λ (l : Ledger). IsFileOf l.groups c.args.path.now c.args.name.now c.in-Ok.found.0 Max) c.charges.ensures c.in-Ok.ensures.0 in
-    λ (x : KnownCpu). let set = c.set_limit.ensures.sets x in (
+    let set = c.set_limit.ensures.sets in
+    λ (x : KnownCpu). (
       set.0,
       record {
         group = c.in-Ok.found.0;
@@ -23,5 +24,5 @@ returns-clause-written g c =
         reads = c.in-Ok.ensures.1;
         sets = set.1;
       },
-      set.2,
+      set.2 x,
     )

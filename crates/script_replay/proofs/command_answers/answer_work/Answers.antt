@@ -3,8 +3,8 @@ use Rattle.std.specs.String.{string_bytes}
 use Rattle.reply_texts.specs.Answer.{Answer}
 use Rattle.reply_texts.specs.Answer as answer
 use Rattle.script_replay.specs.declared.work.Work.{Work}
-use Rattle.script_replay.specs.Answers.{AnswersFast, AnswersWork}
-use Rattle.script_replay.proofs.Telling.{told}
+use Rattle.script_replay.specs.Answers.{AnswersFast, AnswersGet, AnswersPut, AnswersWork, GetsPin, PutsPin}
+use Rattle.script_replay.proofs.Telling.{told, told_as}
 use Rattle.mem_system.specs.Commands.{holder}
 use Rattle.script_replay.proofs.command_answers.answer_work.Goals as goal
 
@@ -17,8 +17,14 @@ returns-in-Fast g c = subst (λ (work : Work). IfOk c.write_fast.result (λ _. (
 
 pub returns-in-Get : goal.returns-in-Get
 returns-in-Get g c = subst (λ (work : Work). IfOk c.get.result (λ _. (said : List ℕ) × AnswersWork g.N.BootName.frames work (holder c.args.locked.now c.args.cpu.now) said (holder c.args.locked.now c.get.new.cpu)
-    × (string_bytes c.get.new.text ≡ string_bytes c.args.text.now ++ said))) (sym c.in-Get.is) (c.get.ensures c.args.locked.now)
+    × (string_bytes c.get.new.text ≡ string_bytes c.args.text.now ++ said))) (sym c.in-Get.is)
+    (told_as (λ (said : Answer). GetsPin c.in-Get.frame c.args.cpu.now said c.get.new.cpu)
+    (λ (said : Answer). AnswersGet c.in-Get.frame (holder c.args.locked.now c.args.cpu.now) said (holder c.args.locked.now c.get.new.cpu))
+    (string_bytes c.args.text.now) (string_bytes c.get.new.text) c.get.result (λ said so. (so, refl)) c.get.ensures)
 
 pub returns-in-Put : goal.returns-in-Put
 returns-in-Put g c = subst (λ (work : Work). IfOk c.put.result (λ _. (said : List ℕ) × AnswersWork g.N.BootName.frames work (holder c.args.locked.now c.args.cpu.now) said (holder c.args.locked.now c.put.new.cpu)
-    × (string_bytes c.put.new.text ≡ string_bytes c.args.text.now ++ said))) (sym c.in-Put.is) (c.put.ensures c.args.locked.now)
+    × (string_bytes c.put.new.text ≡ string_bytes c.args.text.now ++ said))) (sym c.in-Put.is)
+    (told_as (λ (said : Answer). PutsPin c.in-Put.frame c.args.cpu.now said c.put.new.cpu)
+    (λ (said : Answer). AnswersPut c.in-Put.frame (holder c.args.locked.now c.args.cpu.now) said (holder c.args.locked.now c.put.new.cpu))
+    (string_bytes c.args.text.now) (string_bytes c.put.new.text) c.put.result (λ said so. (so, refl)) c.put.ensures)

@@ -1,0 +1,296 @@
+//! Usage of the group `/a` brought down by Rmdir and by a write of memory.max: which units come back, and which stay.
+ghost use Rattle.std.specs.Prelude.{◌≡◌, ◌<◌};
+ghost use Rattle.mem_system.specs.Commands.{IsOfZone};
+
+use crate::life::reads;
+use cpu_part::{BootName, Cpu};
+use frame_word::{Frame, Get};
+use group_tree::fault::Fault;
+use mem_system::{Boot, Cmd, Reply, System, boot};
+use std::alloc::Global;
+use std::marker::Brand;
+use std::process::Abort;
+use std::sync::Wait;
+use std::test::Fail;
+use zone_sizes::config::Config;
+
+// What the processor does: an allocation of an order is answered with a frame, and a group is taken out or is busy.
+enum Line {
+    Alloc(u32, u32),
+    Dirty(u32),
+    Pin(u32),
+    Unpin(u32),
+    Write(&'static [u8]),
+    TakeOut,
+    Busy,
+    Settle,
+}
+
+// What is done, where frames 0 to 7 are then ('c': charged, 'l': lent, '-': free), and what memory.current reads, where
+// the group is there still.
+struct Row {
+    lines: [Line; 6],
+    places: &'static [u8],
+    current: Option<&'static [u8]>,
+}
+
+const ROWS: [Row; 9] = [
+    // clean units come back, and the group goes
+    Row {
+        lines: [
+            Line::Alloc(2, 0),
+            Line::Alloc(1, 4),
+            Line::TakeOut,
+            Line::Settle,
+            Line::Settle,
+            Line::Settle,
+        ],
+        places: b"--------",
+        current: None,
+    },
+    // the stock's pages and the unit of a single frame come back
+    Row {
+        lines: [
+            Line::Alloc(0, 0),
+            Line::TakeOut,
+            Line::Settle,
+            Line::Settle,
+            Line::Settle,
+            Line::Settle,
+        ],
+        places: b"-lll----",
+        current: None,
+    },
+    // a dirty unit keeps the group, and what was reclaimed stays so
+    Row {
+        lines: [
+            Line::Alloc(2, 0),
+            Line::Alloc(1, 4),
+            Line::Dirty(0),
+            Line::Busy,
+            Line::Settle,
+            Line::Settle,
+        ],
+        places: b"cccc----",
+        current: Some(b"16384\n"),
+    },
+    // so does a pinned one
+    Row {
+        lines: [
+            Line::Alloc(2, 0),
+            Line::Alloc(1, 4),
+            Line::Pin(4),
+            Line::Busy,
+            Line::Unpin(4),
+            Line::Settle,
+        ],
+        places: b"----cc--",
+        current: Some(b"8192\n"),
+    },
+    // until the pin is gone
+    Row {
+        lines: [
+            Line::Alloc(2, 0),
+            Line::Pin(0),
+            Line::Busy,
+            Line::Unpin(0),
+            Line::TakeOut,
+            Line::Settle,
+        ],
+        places: b"--------",
+        current: None,
+    },
+    // a limit below the usage: the oldest units come back, as many as it takes
+    Row {
+        lines: [
+            Line::Alloc(1, 0),
+            Line::Alloc(1, 2),
+            Line::Alloc(1, 4),
+            Line::Write(b"8K"),
+            Line::Settle,
+            Line::Settle,
+        ],
+        places: b"----cc--",
+        current: Some(b"8192\n"),
+    },
+    // a pinned unit is missed, and a younger one comes back
+    Row {
+        lines: [
+            Line::Alloc(1, 0),
+            Line::Alloc(1, 2),
+            Line::Pin(0),
+            Line::Write(b"8K"),
+            Line::Unpin(0),
+            Line::Settle,
+        ],
+        places: b"cc------",
+        current: Some(b"8192\n"),
+    },
+    // a limit that the usage meets: nothing comes back
+    Row {
+        lines: [
+            Line::Alloc(1, 0),
+            Line::Alloc(1, 2),
+            Line::Write(b"16K"),
+            Line::Settle,
+            Line::Settle,
+            Line::Settle,
+        ],
+        places: b"cccc----",
+        current: Some(b"16384\n"),
+    },
+    // a usage that stays above the limit is no fault
+    Row {
+        lines: [
+            Line::Alloc(1, 0),
+            Line::Alloc(1, 2),
+            Line::Dirty(2),
+            Line::Write(b"0"),
+            Line::Settle,
+            Line::Settle,
+        ],
+        places: b"--cc----",
+        current: Some(b"8192\n"),
+    },
+];
+
+// The frame of this number.
+fn frame<N: BootName>(rt: &impl Abort, system: &System<N>, number: u32) -> Frame
+    ensures { result < N.frames.frames }
+{
+    system.tables().frames.frame(number).expect(rt, "a frame")
+}
+
+// The processor puts its pin of the frame.
+fn puts<N: BootName>(rt: &impl Abort, system: &System<N>, cpu: &mut Cpu<N>, number: u32) {
+    let pinned = frame(rt, system, number);
+    assert!(rt; cpu.holds(pinned));
+    let _ = cpu.put(system.tables(), pinned);
+}
+
+// What the processor is answered in a visit.
+fn visit<N: BootName, R: Wait + Abort>(
+    rt: &R,
+    system: &System<N>,
+    cpu: &mut Cpu<N>,
+    cmd: &Cmd<'_>,
+) -> Reply
+    requires { IsOfZone N.frames cmd.now }
+{
+    system.visit(rt, cpu, cmd)
+}
+
+// What the processor is answered to the line.
+fn answer<N: BootName, R: Wait + Abort>(
+    rt: &R,
+    system: &System<N>,
+    cpu: &mut Cpu<N>,
+    line: &Line,
+) -> Reply {
+    let path: &[u8] = b"/a";
+    let file: &[u8] = b"memory.max";
+    match line {
+        Line::Alloc(order, _) => {
+            let order = *order;
+            visit(rt, system, cpu, &Cmd::Alloc { path, order })
+        }
+        Line::Dirty(number) => {
+            let frame = frame(rt, system, *number).number();
+            visit(rt, system, cpu, &Cmd::Dirty { frame })
+        }
+        Line::Write(value) => {
+            let value = *value;
+            visit(rt, system, cpu, &Cmd::Write { path, file, value })
+        }
+        Line::TakeOut | Line::Busy => visit(rt, system, cpu, &Cmd::Rmdir { path }),
+        _ => visit(rt, system, cpu, &Cmd::Settle),
+    }
+}
+
+// The processor does what the line says.
+fn does<N: BootName, R: Wait + Abort>(rt: &R, system: &System<N>, cpu: &mut Cpu<N>, line: &Line) {
+    if let Line::Pin(number) = line {
+        let pinned = frame(rt, system, *number);
+        assert!(rt; cpu.get(system.tables(), pinned) == Ok(Get::Held));
+    }
+    if let Line::Unpin(number) = line {
+        puts(rt, system, cpu, *number);
+    }
+    let told = match line {
+        Line::Alloc(_, frame) => Reply::Frame(*frame),
+        Line::Busy => Reply::Refused(Fault::Busy),
+        _ => Reply::Done,
+    };
+    assert!(rt; answer(rt, system, cpu, line) == told);
+}
+
+// The letter of the place where the frame is.
+fn place<N: BootName, R: Wait + Abort>(
+    rt: &R,
+    system: &System<N>,
+    cpu: &mut Cpu<N>,
+    number: u32,
+) -> u8 {
+    let frame = frame(rt, system, number).number();
+    match visit(rt, system, cpu, &Cmd::Owner { frame }) {
+        Reply::Charged { group: _, path: _ } => b'c',
+        Reply::Lent(_) => b'l',
+        _ => b'-',
+    }
+}
+
+// The processor makes the group and does all of the row.
+fn plays<N: BootName, R: Wait + Abort>(rt: &R, system: &System<N>, cpu: &mut Cpu<N>, row: &Row) {
+    let path: &[u8] = b"/a";
+    let _made = visit(rt, system, cpu, &Cmd::Mkdir { path });
+    for line in &row.lines {
+        does(rt, system, cpu, line);
+    }
+}
+
+// The frames are where the row says, and memory.current reads so.
+fn ends<N: BootName, R: Wait + Abort>(rt: &R, system: &System<N>, cpu: &mut Cpu<N>, row: &Row) {
+    let path: &[u8] = b"/a";
+    match row.current {
+        Some(current) => reads(rt, system, cpu, b"memory.current", current),
+        None => assert!(rt; system.find(rt, path) == None),
+    }
+    let mut number = 0;
+    for letter in row.places {
+        assert!(rt; number < 8);
+        assert!(rt; place(rt, system, cpu, number) == *letter);
+        number += 1;
+    }
+}
+
+// The life of a system of one processor.
+fn lives<N: BootName, R: Wait + Abort>(rt: &R, alloc: Global, boot: Boot, row: &Row)
+    requires { (boot.frames ≡ N.frames) × (boot.stocks ≡ N.stocks) }
+{
+    let (system, mut cpus) = boot.start::<N>(alloc).expect(rt, "memory");
+    for cpu in cpus.iter_mut() {
+        plays(rt, &system, cpu, row);
+        ends(rt, &system, cpu, row);
+    }
+    assert!(rt; cpus.len() == system.tables().frames.cpus() as usize);
+    match system.shutdown(cpus) {
+        Ok(audit) => assert!(rt; audit.frames == 16),
+        Err(_) => panic!(rt; "a pin"),
+    }
+}
+
+#[test]
+fn usage_comes_down_as_the_rows_say(rt: HostRuntime) -> Result<(), Fail> {
+    for row in &ROWS {
+        let sizes = Config {
+            frames: 16,
+            cpus: 1,
+            batch: 4,
+            high: 8,
+            stock: 4,
+        };
+        let boot = boot(rt.alloc(), sizes).expect(&rt, "a boot");
+        lives::<Brand, _>(&rt, rt.alloc(), boot, row);
+    }
+    Ok(())
+}

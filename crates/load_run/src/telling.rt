@@ -1,0 +1,54 @@
+//! A fault is told in its words.
+
+ghost use Rattle.std.specs.Prelude.{◌≡◌, ◌++◌, OnOk, codes};
+ghost use Rattle.std.specs.Fmt.{decimal};
+ghost use Rattle.std.specs.Io.KnownBytes.{Appends};
+ghost use Rattle.load_run.specs.Fault.{fault_text, status_of};
+ghost use Rattle.load_run.specs.Writing.{AppendsBeginning};
+
+use crate::fault::{ProgramFault, WordsFault};
+use crate::writing::write_whole;
+use itoa::Buffer;
+use script_lines::fault::ScriptFault;
+use std::io;
+use std::io::Write;
+
+/// Tells a fault in its words, as far as the writer takes them, and gives the status to end with.
+pub fn tell<F: Write>(faults: &mut F, fault: &ProgramFault) -> u8
+    ensures status { result ≡ status_of fault.now }
+    ensures told { AppendsBeginning (F.contents faults.old) (F.contents faults.new) (fault_text fault.now) }
+{
+    let _ = write_fault(faults, fault);
+    let _ = faults.flush();
+    fault.status()
+}
+
+// Writes the text of a fault.
+fn write_fault<F: Write>(faults: &mut F, fault: &ProgramFault) -> io::Result<()>
+    ensures whole { OnOk result (Appends (F.contents faults.old) (F.contents faults.new) (fault_text fault.now)) }
+    ensures beginning { AppendsBeginning (F.contents faults.old) (F.contents faults.new) (fault_text fault.now) }
+{
+    match fault {
+        ProgramFault::Words(WordsFault::BadWords(text)) => write_whole(faults, text.as_bytes()),
+        ProgramFault::Script(ScriptFault::BadLine(number)) => write_bad_line(faults, *number),
+        ProgramFault::BadConfig => write_whole(faults, "refused 14 BadConfig\n".as_bytes()),
+        ProgramFault::Input => write_whole(faults, "input failed\n".as_bytes()),
+        ProgramFault::Output => write_whole(faults, "output failed\n".as_bytes()),
+        ProgramFault::Words(WordsFault::NoMemory(_))
+        | ProgramFault::Script(ScriptFault::NoMemory)
+        | ProgramFault::NoMemory(_) => write_whole(faults, "no memory\n".as_bytes()),
+    }
+}
+
+// Writes the text of the bad line with this number.
+fn write_bad_line<F: Write>(faults: &mut F, number: usize) -> io::Result<()>
+    ensures whole { OnOk result (Appends (F.contents faults.old) (F.contents faults.new)
+        (codes "bad line " ++ decimal number ++ codes "\n")) }
+    ensures beginning { AppendsBeginning (F.contents faults.old) (F.contents faults.new)
+        (codes "bad line " ++ decimal number ++ codes "\n") }
+{
+    let mut digits = Buffer::new();
+    write_whole(faults, "bad line ".as_bytes())?;
+    write_whole(faults, digits.format(number).as_bytes())?;
+    write_whole(faults, "\n".as_bytes())
+}

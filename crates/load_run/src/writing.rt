@@ -1,0 +1,29 @@
+//! Bytes that are written whole, or as far as the writer takes them.
+
+ghost use Rattle.std.specs.Prelude.{OnOk};
+ghost use Rattle.std.specs.Io.KnownBytes.{Appends};
+ghost use Rattle.load_run.specs.Writing.{AppendsBeginning};
+
+use std::io;
+use std::io::{ErrorKind, Write};
+
+/// Writes all of the bytes. A write that was interrupted is made again; where the writer fails, a beginning of the
+/// bytes was written.
+pub fn write_whole<W: Write>(writer: &mut W, bytes: &[u8]) -> io::Result<()>
+    ensures whole { OnOk result (Appends (W.contents writer.old) (W.contents writer.new) bytes.now) }
+    ensures beginning { AppendsBeginning (W.contents writer.old) (W.contents writer.new) bytes.now }
+{
+    let mut taken = 0;
+    for _ in 0..u64::MAX {
+        if taken == bytes.len() {
+            return Ok(());
+        }
+        match writer.write(&bytes[taken..]) {
+            Ok(0) => return Err(io::Error::from(ErrorKind::WriteZero)),
+            Ok(n) => taken += n,
+            Err(error) if error.kind() == ErrorKind::Interrupted => {}
+            Err(error) => return Err(error),
+        }
+    }
+    Err(io::Error::from(ErrorKind::TimedOut))
+}

@@ -1,0 +1,209 @@
+-- Rounds of reclaim with one more try each, as far as they were made, and what they keep. Serves `refill_in_rounds`,
+-- `take_in_rounds`, and those who call them.
+use Rattle.std.proofs.Common.{◌≡◌, ◌≢◌, ℕ, zero, suc, ◌+◌, ◌-◌, ◌<◌, ◌≤◌, [], ◌++◌, refl, sym, ap, ◌∙◌, subst, inl, inr, arith}
+use Rattle.std.proofs.lemmas.List.{append_assoc, append-nil}
+use Rattle.frame_word.specs.Seats.{KnownTable}
+use Rattle.cpu_part.specs.Cpus.{KnownCpu}
+use Rattle.step_rules.specs.After.{Run}
+use Rattle.mem_machine.specs.Machines.{KnownMachine}
+use Rattle.mem_machine.specs.Local.{Side, IsLocalRun, local_of, side}
+use Rattle.mem_machine.proofs.Reaching.{run_both}
+use Rattle.mem_reclaim.specs.Moves.{Leads}
+use Rattle.mem_reclaim.specs.Passes.{Reclaims}
+use Rattle.mem_reclaim.specs.Staying.{Keeps}
+use Rattle.mem_alloc.specs.Stepping.{Course, BySteps, course}
+use Rattle.mem_alloc.specs.Rounds.{MakesRound, FailsInRounds, SucceedsInRounds}
+use Rattle.mem_alloc.proofs.Lowering.{Lowers, lowers_none, lowers_both, keeps_lower}
+
+-- ---- what is kept where a try fails
+
+-- the machine as after a note, a drain or a reclaim, with the stocks as they were; and the processor's part stays
+pub record Spares (t : KnownTable) (m : KnownMachine) (c : KnownCpu) (n : KnownMachine) (d : KnownCpu) : Type 0 where
+  pub lowers : Lowers t m n
+  pub stock : n.stock ≡ m.stock
+  pub cpu : d ≡ c
+
+pub spares_none : (t : KnownTable) (m : KnownMachine) (c : KnownCpu) → Spares t m c m c
+spares_none t m c = record { lowers = lowers_none t m; stock = refl; cpu = refl }
+
+pub spares_both : (t : KnownTable) (m x n : KnownMachine) (c y d : KnownCpu) → Spares t m c x y → Spares t x y n d → Spares t m c n d
+spares_both t m x n c y d a b = record {
+  lowers = lowers_both t m x n a.lowers b.lowers;
+  stock = b.stock ∙ a.stock;
+  cpu = b.cpu ∙ a.cpu;
+}
+
+pub spares_same : (t : KnownTable) (m n : KnownMachine) (c d : KnownCpu) → n ≡ m → d ≡ c → Spares t m c n d
+spares_same t m n c d machine cpu = record {
+  lowers = subst (λ (x : KnownMachine). Lowers t m x) (sym machine) (lowers_none t m);
+  stock = ap (λ (x : KnownMachine). x.stock) machine;
+  cpu = cpu;
+}
+
+spares_reclaim : (t : KnownTable) (m n : KnownMachine) (c : KnownCpu) → Keeps t m n → Spares t m c n c
+spares_reclaim t m n c keeps = record { lowers = keeps_lower t m n keeps; stock = keeps.stock; cpu = refl }
+
+-- a try that fails keeps this
+abbrev pub FailureSpares : KnownTable → (Course Side → Type 0) → Type 0
+FailureSpares t Fails =
+    (m n : KnownMachine) (c d : KnownCpu) (steps : Run) → Fails (course t (side m c) steps (side n d)) → Spares t m c n d
+
+module _ (t : KnownTable) (want : ℕ) (Fails : Course Side → Type 0) (failure : FailureSpares t Fails) where
+  -- so does a round in which it fails
+  round_spares : (given : ℕ) (m n : KnownMachine) (c d : KnownCpu) (steps : Run)
+      → MakesRound want given Fails (course t (side m c) steps (side n d)) → Spares t m c n d
+  round_spares given m n c d steps h =
+      spares_both t m h.reclaimed n c c d (spares_reclaim t m h.reclaimed c h.keeps)
+      (failure h.reclaimed n c d h.trying h.tries)
+
+  -- and so do all rounds
+  pub fails_spare : (rounds : ℕ) (m n : KnownMachine) (c d : KnownCpu) (steps : Run)
+      → FailsInRounds rounds want Fails (course t (side m c) steps (side n d)) → Spares t m c n d
+  fails_spare zero m n c d steps h = spares_same t m n c d h.machine h.cpu
+  fails_spare (suc more) m n c d steps h =
+      let one = round_spares h.0 m h.1.machine c h.1.cpu h.2 h.4 in
+      spares_both t m h.1.machine n c h.1.cpu d one (elim h.5 [
+        | inl last ↦ spares_same t h.1.machine n h.1.cpu d last.1.machine last.1.cpu
+        | inr again ↦ fails_spare more h.1.machine n h.1.cpu d h.3 again.1
+      ])
+
+  -- where it succeeds in a round, this was kept before the try that succeeds
+  pub record InTheEnd (Succeeds : Course Side → Type 0) (m : KnownMachine) (c : KnownCpu) (n : Side) : Type 0 where
+    pub before : KnownMachine
+    pub cpu : KnownCpu
+    pub trying : Run
+    pub spares : Spares t m c before cpu
+    pub succeeds : Succeeds (course t (side before cpu) trying n)
+
+  pub in_the_end : (Succeeds : Course Side → Type 0) (rounds : ℕ) (m : KnownMachine) (c : KnownCpu) (n : Side) (steps : Run)
+      → SucceedsInRounds rounds want Succeeds Fails (course t (side m c) steps n) → InTheEnd Succeeds m c n
+  in_the_end Succeeds zero m c n steps h = absurd h
+  in_the_end Succeeds (suc more) m c n steps (inl h) = record {
+    before = h.1.reclaimed;
+    cpu = c;
+    trying = h.1.trying;
+    spares = spares_reclaim t m h.1.reclaimed c h.1.keeps;
+    succeeds = h.1.tries;
+  }
+  in_the_end Succeeds (suc more) m c n steps (inr h) =
+      let one = round_spares h.0 m h.1.machine c h.1.cpu h.2 h.5 in
+      let last = in_the_end Succeeds more h.1.machine h.1.cpu n h.3 h.6 in
+      record {
+        before = last.before;
+        cpu = last.cpu;
+        trying = last.trying;
+        spares = spares_both t m h.1.machine last.before c h.1.cpu last.cpu one last.spares;
+        succeeds = last.succeeds;
+      }
+
+-- ---- the rounds of a loop
+
+-- so many rounds were made, in which the try failed, so that whatever comes of those that are left comes of the whole
+pub record RoundsSoFar (t : KnownTable) (want : ℕ) (Fails : Course Side → Type 0) (Succeeds : ℕ → Course Side → Type 0)
+    (m : KnownMachine) (c : KnownCpu) (made : ℕ) (now : KnownMachine) (d : KnownCpu) : Type 0 where
+  pub steps : Run
+  pub fails : (rest : Run) (n : Side) → FailsInRounds (16 - made) want Fails (course t (side now d) rest n)
+      → FailsInRounds 16 want Fails (course t (side m c) (steps ++ rest) n)
+  pub succeeds : (k : ℕ) (rest : Run) (n : Side)
+      → SucceedsInRounds (16 - made) want (Succeeds k) Fails (course t (side now d) rest n)
+      → SucceedsInRounds 16 want (Succeeds k) Fails (course t (side m c) (steps ++ rest) n)
+  pub runs : IsLocalRun c.number (local_of t m c) steps (local_of t now d)
+  pub spares : Spares t m c now d
+
+module _ (t : KnownTable) (want : ℕ) (Fails : Course Side → Type 0) (Succeeds : ℕ → Course Side → Type 0)
+    (m : KnownMachine) (c : KnownCpu) where
+  pub rounds_none : RoundsSoFar t want Fails Succeeds m c 0 m c
+  rounds_none = record {
+    steps = [];
+    fails = λ rest n h. h;
+    succeeds = λ k rest n h. h;
+    runs = refl;
+    spares = spares_none t m c;
+  }
+
+  module _ (made : ℕ) (now : KnownMachine) (d : KnownCpu) (so : RoundsSoFar t want Fails Succeeds m c made now d) where
+    -- it failed in all rounds
+    pub rounds_done : 16 ≤ made → BySteps t (side m c) (side now d) (FailsInRounds 16 want Fails)
+    rounds_done all =
+        let e : 0 ≡ 16 - made = omega (arith, all) in
+        let none : FailsInRounds 0 want Fails (course t (side now d) [] (side now d)) =
+        record { machine = refl; cpu = refl; steps_are = refl } in (
+          so.steps ++ [],
+          so.fails [] (side now d)
+              (subst (λ (k : ℕ). FailsInRounds k want Fails (course t (side now d) [] (side now d))) e none),
+          subst (λ (r : Run). IsLocalRun c.number (local_of t m c) r (local_of t now d)) (sym (append-nil so.steps)) so.runs,
+        )
+
+    -- one round more
+    module _ (left : made < 16) (given : ℕ) (x : KnownMachine) (leads : Leads t given now x (λ steps. Reclaims 0 want given now steps x))
+        (keeps : Keeps t now x) (then : KnownMachine) (e : KnownCpu) (trying : Run)
+        (tries : IsLocalRun d.number (local_of t x d) trying (local_of t then e)) where
+      next_left : suc (16 - (made + 1)) ≡ 16 - made
+      next_left = omega (arith, left)
+
+      abbrev first : Run
+      first = leads.steps ++ trying
+
+      round : (Tries : Course Side → Type 0) → Tries (course t (side x d) trying (side then e))
+          → MakesRound want given Tries (course t (side now d) first (side then e))
+      round Tries does = record {
+        reclaimed = x;
+        reclaiming = leads.steps;
+        trying = trying;
+        reclaims = leads.does;
+        keeps = keeps;
+        tries = does;
+        steps_are = refl;
+      }
+
+      runs_on : IsLocalRun c.number (local_of t m c) (so.steps ++ first) (local_of t then e)
+      runs_on =
+          let number = ap (λ (y : KnownCpu). y.number) so.spares.cpu in
+          run_both c.number so.steps first (local_of t m c) (local_of t now d) (local_of t then e) so.runs
+          (subst (λ (p : ℕ). IsLocalRun p (local_of t now d) first (local_of t then e)) number
+          (run_both d.number leads.steps trying (local_of t now d) (local_of t x d) (local_of t then e) (leads.moves.runs d) tries))
+
+      -- in which it succeeded
+      pub rounds_succeed : (k : ℕ) → Succeeds k (course t (side x d) trying (side then e))
+          → BySteps t (side m c) (side then e) (SucceedsInRounds 16 want (Succeeds k) Fails)
+      rounds_succeed k does = (
+        so.steps ++ first,
+        so.succeeds k first (side then e)
+            (subst (λ (j : ℕ). SucceedsInRounds j want (Succeeds k) Fails (course t (side now d) first (side then e))) next_left
+            (inl (given, round (Succeeds k) does))),
+        runs_on,
+      )
+
+      module _ (does : Fails (course t (side x d) trying (side then e))) where
+        -- in which it failed, and no page came back
+        pub rounds_end : given ≡ 0 → BySteps t (side m c) (side then e) (FailsInRounds 16 want Fails)
+        rounds_end none =
+            let last : FailsInRounds (suc (16 - (made + 1))) want Fails (course t (side now d) (first ++ []) (side then e)) =
+            (given, side then e, first, [], round Fails does, inl (none, record { machine = refl; cpu = refl; steps_are = refl }), refl) in
+            let run = subst (λ (r : Run). IsLocalRun c.number (local_of t m c) (so.steps ++ r) (local_of t then e)) (sym (append-nil first)) runs_on in (
+              so.steps ++ (first ++ []),
+              so.fails (first ++ []) (side then e)
+                  (subst (λ (j : ℕ). FailsInRounds j want Fails (course t (side now d) (first ++ []) (side then e))) next_left last),
+              run,
+            )
+
+        -- in which it failed, and pages came back
+        pub rounds_more : given ≢ 0 → Spares t x d then e → RoundsSoFar t want Fails Succeeds m c (made + 1) then e
+        rounds_more gave spares = record {
+          steps = so.steps ++ first;
+          fails = λ rest n h.
+              let one : FailsInRounds (suc (16 - (made + 1))) want Fails (course t (side now d) (first ++ rest) n) =
+              (given, side then e, first, rest, round Fails does, inr (omega (arith, gave), h), refl) in
+              subst (λ (r : Run). FailsInRounds 16 want Fails (course t (side m c) r n)) (sym (append_assoc so.steps first rest))
+              (so.fails (first ++ rest) n
+              (subst (λ (j : ℕ). FailsInRounds j want Fails (course t (side now d) (first ++ rest) n)) next_left one));
+          succeeds = λ k rest n h.
+              let one : SucceedsInRounds (suc (16 - (made + 1))) want (Succeeds k) Fails (course t (side now d) (first ++ rest) n) =
+              inr (given, side then e, first, rest, omega (arith, gave), round Fails does, h, refl) in
+              subst (λ (r : Run). SucceedsInRounds 16 want (Succeeds k) Fails (course t (side m c) r n)) (sym (append_assoc so.steps first rest))
+              (so.succeeds k (first ++ rest) n
+              (subst (λ (j : ℕ). SucceedsInRounds j want (Succeeds k) Fails (course t (side now d) (first ++ rest) n)) next_left one));
+          runs = runs_on;
+          spares = spares_both t m now then c d e so.spares
+              (spares_both t now x then d d e (spares_reclaim t now x d keeps) spares);
+        }

@@ -1,0 +1,10 @@
+use Rattle.std.proofs.Common.{ℕ, subst}
+use Rattle.mem_reclaim.specs.Moves.{Leads}
+use Rattle.mem_reclaim.specs.Passes.{Reclaims}
+use Rattle.mem_alloc.proofs.rounds.reclaim_anywhere.Goals as goal
+
+pub returns-clause-reclaims : goal.returns-clause-reclaims
+returns-clause-reclaims g c =
+    subst (λ (h : ℕ). Leads g.N.BootName.frames c.reclaim.result.pages c.args.machine.now c.reclaim.new.machine
+    (λ steps. Reclaims h c.args.want c.reclaim.result.pages c.args.machine.now steps c.reclaim.new.machine))
+    c.root.ensures c.reclaim.ensures.reclaims

@@ -1,0 +1,26 @@
+//! Reclaim where no frame is free: from the units of all groups.
+
+ghost use Rattle.std.specs.Prelude.{◌<◌, ◌^◌};
+ghost use Rattle.mem_reclaim.specs.Moves.{Leads};
+ghost use Rattle.mem_reclaim.specs.Passes.{Reclaims};
+ghost use Rattle.mem_reclaim.specs.Staying.{Keeps};
+
+use cpu_part::{BootName, Tables};
+use group_tree::group::GroupId;
+use mem_machine::Machine;
+use mem_reclaim::reclaim;
+
+// Reclaims so many pages from the units of all groups, and tells how many came back.
+pub(crate) fn reclaim_anywhere<N: BootName>(
+    machine: &mut Machine<N>,
+    tables: &Tables<N>,
+    want: u64,
+) -> u64
+    requires { want < 2 ^ 40 }
+    ensures reclaims { Leads N.frames result machine.old machine.new
+        (λ steps. Reclaims 0 want result machine.old steps machine.new) }
+    ensures keeps { Keeps N.frames machine.old machine.new }
+{
+    let _tree = machine.charges().tree(); // For the clauses.
+    reclaim(machine, tables, GroupId::root(), want).pages
+}

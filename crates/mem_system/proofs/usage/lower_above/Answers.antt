@@ -1,0 +1,16 @@
+use Rattle.std.proofs.Common.{arith}
+use Rattle.mem_system.proofs.Keeping.{lowered_above, lowered_none}
+use Rattle.mem_system.proofs.usage.lower_above.Goals as goal
+
+pub returns-then-limit-current : goal.returns-then-limit-current
+returns-then-limit-current g c =
+    let over = c.if-limit-current.true in
+    let same = c.current.ensures in
+    lowered_above g.N.BootName.frames c.args.group c.args.limit c.args.machine.now c.lower_usage.new.machine
+    (omega (arith, over, same)) c.lower_usage.ensures
+
+pub returns-else-limit-current : goal.returns-else-limit-current
+returns-else-limit-current g c =
+    let within = c.if-limit-current.false in
+    let same = c.current.ensures in
+    lowered_none g.N.BootName.frames c.args.group c.args.limit c.args.machine.now (omega (arith, within, same))

@@ -1,0 +1,18 @@
+use Rattle.std.proofs.Common.{List, ap, ◌∙◌}
+use Rattle.group_tree.specs.declared.group.Group.{Group}
+use Rattle.group_tree.specs.Groups.{has_group}
+use Rattle.mem_system.proofs.Keeping.{all_same, lowered_by}
+use Rattle.mem_system.proofs.usage.lower_usage.Goals as goal
+
+pub make_rounds-requires : goal.make_rounds-requires
+make_rounds-requires g c =
+    let sub = c.drain_stocks.ensures.drains in
+    let same = (all_same _ _ _ _ sub.drains sub.all).groups in
+    record { there = ap (λ (x : List Group). has_group x c.args.group) same ∙ c.requires }
+
+pub returns : goal.returns
+returns g c =
+    lowered_by g.N.BootName.frames c.args.group c.args.limit c.drain_stocks.result c.make_rounds.result
+    c.args.machine.now
+    c.drain_stocks.new.self c.make_rounds.new.machine c.drain_stocks.ensures.drains c.drain_stocks.ensures.drained
+    c.make_rounds.ensures.rounds c.make_rounds.ensures.missed c.make_rounds.ensures.keeps

@@ -1,0 +1,35 @@
+-- A group's usage brought down to a limit.
+use Rattle.std.specs.Prelude.{◌≡◌, ℕ, ◌<◌, ◌≤◌, Option, Some, None, List, [], ◌++◌}
+use Rattle.group_charge.specs.Charges.{current_of}
+use Rattle.mem_machine.specs.Machines.{KnownMachine}
+use Rattle.mem_machine.specs.Steps.{Drain, drain_stocks_steps}
+use Rattle.mem_machine.specs.Stocks.{DrainsAllBelow, AreDrained}
+use Rattle.mem_reclaim.specs.Moves.{Leads}
+use Rattle.mem_reclaim.specs.Rounds.{MakesRounds, pages_missing}
+use Rattle.mem_reclaim.specs.Staying.{Keeps, MissedAll}
+use Rattle.mem_alloc.specs.Stepping.{Course}
+
+-- The stocks of the group's subtree are drained, and then its units are reclaimed, in at most 16 rounds, as long as its
+-- usage is above the limit. Where it is above it even then, each clean unit that the subtree still keeps was tried, and
+-- missed
+pub record LowersUsage (group limit : ℕ) (way : Course KnownMachine) : Type 0 where
+  pub drains : List Drain
+  pub drained : KnownMachine
+  pub drains_all : DrainsAllBelow group way.table.cpus drains way.before drained
+  pub none_held : AreDrained group way.table.cpus drained
+  pub given : ℕ
+  pub reclaims : Leads way.table given drained way.after
+      (λ steps. MakesRounds group (pages_missing group 0 limit) 16 given drained steps way.after)
+  pub missed : limit < current_of way.after.ledger group → MissedAll group drained way.after
+  pub keeps : Keeps way.table drained way.after
+  pub steps_are : way.steps ≡ drain_stocks_steps drains ++ reclaims.steps
+
+-- the group's usage is lowered to the limit where it is above it, and else nothing is done
+pub record LowersAbove (group limit : ℕ) (way : Course KnownMachine) : Type 0 where
+  pub above : limit < current_of way.before.ledger group → LowersUsage group limit way
+  pub within : current_of way.before.ledger group ≤ limit → (way.after ≡ way.before) × (way.steps ≡ [])
+
+-- the group's usage is kept to its limit, if it has one
+abbrev pub KeepsToLimit : ℕ → Option ℕ → Course KnownMachine → Type 0
+KeepsToLimit group None way = (way.after ≡ way.before) × (way.steps ≡ [])
+KeepsToLimit group (Some limit) way = LowersAbove group limit way

@@ -1,0 +1,41 @@
+//! A group's usage brought down to a limit.
+
+ghost use Rattle.std.specs.Prelude.{IsTrue};
+ghost use Rattle.group_tree.specs.Groups.{has_group};
+ghost use Rattle.mem_alloc.specs.Stepping.{ByStepsOfAny};
+ghost use Rattle.mem_system.specs.Usage.{LowersAbove, LowersUsage};
+
+use cpu_part::{BootName, Tables};
+use group_tree::group::GroupId;
+use mem_machine::Machine;
+use mem_reclaim::make_rounds;
+
+// Brings the group's usage down to so many pages, as far as that can be: drains the stocks of its subtree, and reclaims
+// from it in rounds.
+pub(crate) fn lower_usage<N: BootName>(
+    machine: &mut Machine<N>,
+    tables: &Tables<N>,
+    group: GroupId,
+    limit: u32,
+)
+    requires { IsTrue (has_group machine.old.ledger.groups group) }
+    ensures { ByStepsOfAny N.frames machine.old machine.new (LowersUsage group limit) }
+{
+    machine.drain_stocks(tables, group);
+    make_rounds(machine, tables, group, 0, limit);
+}
+
+// Brings the group's usage down to so many pages where it is above them, as far as that can be.
+pub(crate) fn lower_above<N: BootName>(
+    machine: &mut Machine<N>,
+    tables: &Tables<N>,
+    group: GroupId,
+    limit: u32,
+)
+    requires { IsTrue (has_group machine.old.ledger.groups group) }
+    ensures { ByStepsOfAny N.frames machine.old machine.new (LowersAbove group limit) }
+{
+    if limit < machine.current(group) {
+        lower_usage(machine, tables, group, limit);
+    }
+}

@@ -1,0 +1,93 @@
+-- What lines were answered by visits. Serves `visit_answers`, `visit_replay`.
+use Rattle.std.proofs.Common.{Result, Ok, Err, IfOk, ◌≡◌, ℕ, ◌+◌, ◌-◌, ◌<◌, ◌≤◌, List, [], ◌∷◌, ◌++◌, length, take, get_or, append_assoc, append-nil, ap, refl, sym, ◌∙◌, subst, arith, inr}
+use Rattle.std.specs.Prelude.{slice_set}
+use Rattle.std.specs.Borrow.{Bor}
+use Rattle.std.proofs.lemmas.List.{take_more, take_all}
+use Rattle.std.proofs.lemmas.Option.{slice_get_read}
+use Rattle.frame_word.specs.Seats.{KnownTable}
+use Rattle.stock_word.specs.Stock.{Words}
+use Rattle.cpu_part.specs.Cpus.{KnownCpu}
+use Rattle.mem_system.specs.declared.command.Cmd.TheVariants as cmd
+use Rattle.mem_system.specs.declared.command.Reply.{Reply}
+use Rattle.mem_system.specs.declared.command.Reply.TheVariants.{Done}
+use Rattle.mem_system.specs.Boots.{KnownLocked, IsQuiet}
+use Rattle.mem_system.specs.Commands.{holder, IsVisited}
+use Rattle.reply_texts.specs.Answer.{Answer, Served}
+use Rattle.script_lines.specs.declared.line.Command.{Command}
+use Rattle.script_lines.specs.declared.line.Line.{Line}
+use Rattle.script_lines.specs.declared.line.Line.TheVariants.{At}
+use Rattle.script_replay.specs.Answers.{CanNotList, GetsNoneFast}
+use Rattle.script_replay.specs.Visits.{RepliesVisited, VisitsRelease, VisitsFrame, VisitsText, VisitsLine, VisitsAll}
+use Rattle.script_replay.specs.Ranges.{LineIsThere}
+
+-- ---- one visit
+
+-- a Settle is answered that it was done
+pub settled_done : (t : KnownTable) (w : Words) (c d : KnownCpu) (reply : Reply) → IsVisited t w cmd.Settle c reply d → IsVisited t w cmd.Settle c Done d
+settled_done t w c d reply is = subst (λ (r : Reply). IsVisited t w cmd.Settle c r d) is.3.1.obeys.0 is
+
+-- where there is no frame for the group, the command is served by a visit
+pub visited_after : (t : KnownTable) (w : Words) (path : Bor (List ℕ)) (l : KnownLocked) (c seen : KnownCpu) (said : Answer) (d : KnownCpu) →
+    IsQuiet t w l → GetsNoneFast path.now (holder l c) seen → RepliesVisited t w (cmd.Alloc path 0) seen said d → VisitsFrame t w path c said d
+visited_after t w path l c seen (Served reply) d quiet none served = inr (seen, l, quiet, none, served)
+visited_after t w path l c seen said d quiet none served = absurd served
+
+-- where the frame can't be listed again, the command is served by a visit
+pub released_after : (t : KnownTable) (w : Words) (f : ℕ) (c seen : KnownCpu) (said : Answer) (d : KnownCpu) →
+    CanNotList f c seen → RepliesVisited t w (cmd.Release f) seen said d → VisitsRelease t w f c said d
+released_after t w f c seen (Served reply) d can_not served = (seen, can_not, served)
+released_after t w f c seen said d can_not served = absurd served
+
+-- ---- one line
+
+-- what is so of a text is so of what stands behind the text before
+pub said_as : {T E : Type 0} (is : List ℕ → Type 0) (said before after : List ℕ) (r : Result T E) → is said →
+    IfOk r (λ _. after ≡ before ++ said) → IfOk r (λ _. (more : List ℕ) × is more × (after ≡ before ++ more))
+said_as is said before after (Ok x) so text = (said, so, text)
+said_as is said before after (Err e) so text = tt
+
+-- a command that was answered at the part that was read
+pub part_visited : (t : KnownTable) (w : Words) (cpus : List KnownCpu) (line : Line) (processor : ℕ) (command : Command) (c d : KnownCpu)
+    {U E : Type 0} (r : Result U E) (old new : List ℕ) → line ≡ At processor command → LineIsThere t.frames (length cpus) line →
+    c ≡ get_or cpus (processor - 1) c →
+    IfOk r (λ _. (said : List ℕ) × VisitsText t w command c said d × (new ≡ old ++ said)) →
+    IfOk r (λ _. (text : List ℕ) × VisitsLine t w cpus line text (slice_set cpus (processor - 1) d) × (new ≡ old ++ text))
+part_visited t w cpus line processor command c d (Err e) old new is there read answered = tt
+part_visited t w cpus line processor command c d (Ok u) old new is there read answered =
+    let named : LineIsThere t.frames (length cpus) (At processor command) = subst (LineIsThere t.frames (length cpus)) is there in
+    let low = named.low in
+    let high = named.high in (
+      answered.0,
+      subst (λ (x : Line). VisitsLine t w cpus x answered.0 (slice_set cpus (processor - 1) d)) (sym is) (record {
+        part = c;
+        left = d;
+        is_part = slice_get_read cpus (length cpus) (processor - 1) c refl (omega arith) read;
+        answers = answered.1;
+        cpus = refl;
+      }),
+      answered.2,
+    )
+
+-- ---- the lines so far
+
+visits_more : (t : KnownTable) (w : Words) (s m e : List KnownCpu) (lines : List Line) (line : Line) (text more : List ℕ) → VisitsAll t w s lines text m
+    → VisitsLine t w m line more e → VisitsAll t w s (lines ++ line ∷ []) (text ++ more) e
+visits_more t w s m e [] line text more all one =
+    let at : VisitsLine t w s line more e = subst (λ (x : List KnownCpu). VisitsLine t w x line more e) all.1 one in
+    (more, [], e, at, (refl, refl), ap (λ l. l ++ more) all.0 ∙ sym (append-nil more))
+visits_more t w s m e (l ∷ lines) line text more all one =
+    (all.0, all.1 ++ more, all.2, all.3, visits_more t w all.2 m e lines line all.1 more all.4 one, ap (λ x. x ++ more) all.5 ∙ append_assoc all.0 all.1 more)
+
+pub visits_line : (t : KnownTable) (w : Words) (s m e : List KnownCpu) (lines : List Line) (i : ℕ) (default : Line) (text new : List ℕ)
+    → i < length lines → VisitsAll t w s (take i lines) text m
+    → (more : List ℕ) × VisitsLine t w m (get_or lines i default) more e × (new ≡ text ++ more)
+    → VisitsAll t w s (take (i + 1) lines) new e
+visits_line t w s m e lines i default text new inside all one =
+    let next : take (i + 1) lines ≡ take i lines ++ get_or lines i default ∷ [] = take_more lines i default inside in
+    rw (next, one.2) (visits_more t w s m e (take i lines) (get_or lines i default) text one.0 all one.1)
+
+-- the lines are at their end
+pub visits_end : (t : KnownTable) (w : Words) (s e : List KnownCpu) (lines : List Line) (i : ℕ) (text items : List ℕ) → length lines ≤ i →
+    VisitsAll t w s (take i lines) text e → items ≡ text → VisitsAll t w s lines items e
+visits_end t w s e lines i text items past all is =
+    subst (λ (x : List Line × List ℕ). VisitsAll t w s x.0 x.1 e) (λ j. (take_all i lines past j, sym is j)) all

@@ -1,0 +1,47 @@
+use Rattle.std.proofs.Common.{ℕ, inl, refl, subst, sym}
+use Rattle.std.specs.String.{string_bytes}
+use Rattle.cpu_part.specs.declared.answers.Fast.TheVariants.{Got}
+use Rattle.cpu_part.specs.Calls.{FastAnswers}
+use Rattle.group_tree.specs.declared.fault.Fault.TheVariants.{NoGroup}
+use Rattle.mem_system.specs.declared.command.Cmd.TheVariants as cmd
+use Rattle.mem_system.specs.declared.command.Reply.TheVariants.{Refused}
+use Rattle.reply_texts.specs.Answer.{Answer, Served}
+use Rattle.reply_texts.specs.Answer as answer
+use Rattle.script_replay.specs.Visits.{RepliesVisited, VisitsFrame}
+use Rattle.script_replay.proofs.Telling.{told, told_as}
+use Rattle.script_replay.proofs.Visiting.{visited_after}
+use Rattle.script_replay.proofs.visit_answers.alloc_frame.Goals as goal
+
+pub returns-in_default : goal.returns-in_default
+returns-in_default g c =
+    let found = c.in_default.ensures in
+    told (λ (said : Answer). VisitsFrame g.N.BootName.frames g.N.BootName.stocks c.args.path c.args.cpu.now said c.args.cpu.now) (Served (Refused NoGroup))
+    (string_bytes c.args.text.now) (string_bytes c.write_refusal.new.text) c.write_refusal.result
+    (inl (found.0, found.1, (sym found.2, refl, refl, refl))) c.write_refusal.ensures
+
+pub returns-in-Got : goal.returns-in-Got
+returns-in-Got g c =
+    let found = c.in-Some.ensures in
+    told (λ (said : Answer). VisitsFrame g.N.BootName.frames g.N.BootName.stocks c.args.path c.args.cpu.now said c.alloc_fast.new.self)
+    (answer.Fast (Got c.in-Got.frame)) (string_bytes c.args.text.now) (string_bytes c.write_fast.new.text) c.write_fast.result (
+      found.0,
+      c.in-Some.group,
+      found.1,
+      sym found.2,
+      subst (λ (group : ℕ). FastAnswers group (Got c.in-Got.frame) c.args.cpu.now c.alloc_fast.new.self) c.number.ensures.value c.in-Got.ensures.answer,
+    ) c.write_fast.ensures
+
+pub returns-in_default-alloc_fast : goal.returns-in_default-alloc_fast
+returns-in_default-alloc_fast g c =
+    let found = c.in-Some.ensures in
+    told_as
+    (λ (said : Answer). RepliesVisited g.N.BootName.frames g.N.BootName.stocks (cmd.Alloc c.args.path 0) c.alloc_fast.new.self said c.visited.new.cpu)
+    (λ (said : Answer). VisitsFrame g.N.BootName.frames g.N.BootName.stocks c.args.path c.args.cpu.now said c.visited.new.cpu)
+    (string_bytes c.args.text.now) (string_bytes c.visited.new.text) c.visited.result
+    (λ said so. visited_after g.N.BootName.frames g.N.BootName.stocks c.args.path found.0 c.args.cpu.now c.alloc_fast.new.self said c.visited.new.cpu found.1 (record {
+      group = c.in-Some.group;
+      found = sym found.2;
+      fast = c.alloc_fast.result;
+      answers = subst (λ (g : ℕ). FastAnswers g c.alloc_fast.result c.args.cpu.now c.alloc_fast.new.self) c.number.ensures.value c.alloc_fast.ensures.answer;
+      none = c.in_default-alloc_fast.not-Got;
+    }) so) c.visited.ensures

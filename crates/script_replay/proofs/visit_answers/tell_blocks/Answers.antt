@@ -1,0 +1,13 @@
+use Rattle.std.proofs.Common.{List, ℕ, rules}
+use Rattle.std.specs.String.{string_bytes}
+use Rattle.script_replay.specs.declared.work.Work.TheVariants.{Blocks}
+use Rattle.script_replay.specs.Visits.{VisitsWork}
+use Rattle.script_replay.proofs.Visiting.{said_as}
+use Rattle.script_replay.proofs.visit_answers.tell_blocks.Goals as goal
+
+pub returns : goal.returns
+returns g c =
+    let told = c.in_ok-told.ensures.told in
+    said_as (λ (said : List ℕ). VisitsWork g.N.BootName.frames g.N.BootName.stocks Blocks c.args.cpu.now said c.blocks-2.new.cpu)
+    (string_bytes c.in_ok-told.told) (string_bytes c.args.text.now) (string_bytes c.push_str.new.self) c.push_str.result
+    (told.0, told.1, told.2, search rules) (search rules)

@@ -1,0 +1,29 @@
+-- The lines before `go`, and those from it on.
+use Rattle.std.specs.Prelude.{◌≡◌, ℕ, ◌+◌, List, [], ◌∷◌, ◌++◌, take, drop}
+use Rattle.frame_word.specs.Seats.{KnownTable}
+use Rattle.stock_word.specs.Stock.{Words}
+use Rattle.cpu_part.specs.Cpus.{KnownCpu}
+use Rattle.script_lines.specs.declared.line.Line.{Line}
+use Rattle.script_lines.specs.declared.line.Line.TheVariants.{Go, At}
+use Rattle.script_replay.specs.Visits.{VisitsAll}
+use Rattle.script_threads.specs.Each.{TellsEach, workers_from}
+
+-- how many lines stand before the first `go`; `last`, where there is none
+abbrev pub go_or : ℕ → ℕ → List Line → ℕ
+go_or last place [] = last
+go_or last place (Go ∷ lines) = place
+go_or last place (At processor command ∷ lines) = go_or last (place + 1) lines
+
+-- how many lines stand before `go`; none where it isn't there
+abbrev pub lines_before_go : List Line → ℕ
+lines_before_go lines = go_or 0 0 lines
+
+-- The lines before `go` are answered one after the other, and those from it on by a worker for each part as it was left
+-- then. The texts of the first stand first
+pub record RunsLines (t : KnownTable) (w : Words) (cpus : List KnownCpu) (lines : List Line) (text : List ℕ) : Type 0 where
+  pub early : List ℕ
+  pub later : List ℕ
+  pub parts : List KnownCpu
+  pub visits : VisitsAll t w cpus (take (lines_before_go lines) lines) early parts
+  pub tells : TellsEach t w (workers_from 1 parts (drop (lines_before_go lines) lines)) later
+  pub is : text ≡ early ++ later

@@ -1,0 +1,117 @@
+//! A thread for each processor.
+
+ghost use Rattle.std.specs.Prelude.{◌≡◌, ◌<◌, ◌^◌, All, IfOk, length};
+ghost use Rattle.std.specs.String.{string_bytes};
+ghost use Rattle.std.specs.Thread.{IsSend, IsSync};
+ghost use Rattle.script_replay.specs.Ranges.{LineIsThere};
+ghost use Rattle.script_threads.specs.Own.{LineNames};
+ghost use Rattle.script_threads.specs.Each.{TellsEach, workers_from};
+
+use crate::workers::{Job, Worker, start};
+use cpu_part::{BootName, Cpu};
+use mem_system::{Gate, System};
+use script_lines::line::Line;
+use std::alloc::{AllocError, Global};
+use std::sync::Wait;
+use std::thread;
+use std::thread::{Scope, Threads};
+
+/// Serves the lines by a thread for each processor, each of which serves the lines of its own processor in their
+/// order. All are started before any is joined. Gives the answers by processor, those of each behind a line `cpu P`,
+/// which a processor without lines has too. The gate stands around each line, and is told its place among the lines,
+/// from 0; each visit of a command calls its `inside`. `AllocError` comes where memory is wanting, or a thread can't
+/// be made: those that were started have come to their ends then.
+pub fn run_each<N: BootName + Send + Sync, R: Threads + Wait + Sync, G: Gate + Sync>(
+    rt: &R,
+    alloc: Global,
+    system: &System<N>,
+    cpus: &mut [Cpu<N>],
+    lines: &[Line<'_>],
+    gate: &G,
+) -> Result<Vec<u8>, AllocError>
+    requires count { length cpus.old < 2 ^ 31 }
+    requires lines { All (LineIsThere N.frames.frames (length cpus.old)) lines.now }
+    ensures { IfOk result (λ text. TellsEach N.frames N.stocks (workers_from 1 cpus.old lines.now) text.items) }
+{
+    run_named(rt, alloc, system, cpus, lines, gate)
+}
+
+// The same for lines that name frames and groups in range.
+fn run_named<N: BootName + Send + Sync, R: Threads + Wait + Sync, G: Gate + Sync>(
+    rt: &R,
+    alloc: Global,
+    system: &System<N>,
+    cpus: &mut [Cpu<N>],
+    lines: &[Line<'_>],
+    gate: &G,
+) -> Result<Vec<u8>, AllocError>
+    requires count { length cpus.old < 2 ^ 31 }
+    requires lines { All (LineNames N.frames.frames) lines.now }
+    ensures { IfOk result (λ text. TellsEach N.frames N.stocks (workers_from 1 cpus.old lines.now) text.items) }
+{
+    let rt = &*rt;
+    let system = &*system;
+    let lines = &*lines;
+    let gate = &*gate;
+    thread::scope(
+        thread::scope_env(),
+        rt,
+        |scope| -> Result<Vec<u8>, AllocError>
+            requires { IsSync R.row × IsSync G.row × IsSync N.row × IsSend N.row × (length cpus.now < 2 ^ 31)
+                × All (LineNames N.frames.frames) lines.now }
+            ensures { IfOk result (λ text. TellsEach N.frames N.stocks
+                (workers_from 1 cpus.entry.now lines.entry.now) text.items) }
+        {
+            let workers = start_all(scope, rt, alloc, system, lines, gate, cpus)?;
+            gather(rt, alloc, workers)
+        },
+    )
+}
+
+// Starts a worker for each part, in order.
+fn start_all<'s, E, N: BootName + Send + Sync, R: Wait + Sync, G: Gate + Sync>(
+    scope: &Scope<'s, E>,
+    rt: &'s R,
+    alloc: Global,
+    system: &'s System<N>,
+    lines: &'s [Line<'s>],
+    gate: &'s G,
+    cpus: &'s mut [Cpu<N>],
+) -> Result<Vec<Worker<'s, N>>, AllocError>
+    requires count { length cpus.old < 2 ^ 31 }
+    requires lines { All (LineNames N.frames.frames) lines.now }
+    ensures { IfOk result (λ workers. workers.items ≡ workers_from 1 cpus.old lines.now) }
+{
+    let mut workers = Vec::with_capacity(alloc, cpus.len())?;
+    let mut number = 1;
+    for cpu in cpus.iter_mut() {
+        let job = Job {
+            rt,
+            alloc,
+            system,
+            cpu,
+            number,
+            lines,
+            gate,
+        };
+        workers.push(start(scope, job)?)?;
+        number += 1;
+    }
+    Ok(workers)
+}
+
+// Waits for the workers, one after the other, and gives their answers.
+fn gather<'s, N: BootName, R: Threads>(
+    rt: &R,
+    alloc: Global,
+    mut workers: Vec<Worker<'s, N>>,
+) -> Result<Vec<u8>, AllocError>
+    ensures { IfOk result (λ text. TellsEach N.frames N.stocks workers.entry.items text.items) }
+{
+    let mut text = String::new(alloc);
+    while !workers.is_empty() {
+        let worker = workers.remove(0);
+        worker.join(rt, &mut text)?;
+    }
+    Ok(text.into_bytes())
+}

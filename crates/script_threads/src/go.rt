@@ -1,0 +1,51 @@
+//! The lines before `go` one after the other, and those from it on by a thread for each processor.
+
+ghost use Rattle.std.specs.Prelude.{◌≡◌, ◌<◌, ◌^◌, All, IfOk, length};
+ghost use Rattle.script_replay.specs.Ranges.{LineIsThere};
+ghost use Rattle.script_threads.specs.Runs.{RunsLines, lines_before_go};
+
+use crate::each::run_each;
+use cpu_part::{BootName, Cpu};
+use mem_system::{Gate, System};
+use script_lines::line::Line;
+use script_replay::replay_by_visits;
+use std::alloc::{AllocError, Global};
+use std::sync::Wait;
+use std::thread::Threads;
+
+/// Serves the lines before `go` in their order, as `replay_by_visits` does, with no gate, and then those from `go` on
+/// by a thread for each processor, as `run_each` does. Where there is no `go`, all lines run in threads. The answers of
+/// the lines before `go` stand first, without a heading. `AllocError` comes as with `replay_by_visits`, in which case
+/// no thread was started, and as with `run_each`.
+pub fn run_lines<N: BootName + Send + Sync, R: Threads + Wait + Sync, G: Gate + Sync>(
+    rt: &R,
+    alloc: Global,
+    system: &System<N>,
+    cpus: &mut [Cpu<N>],
+    lines: &[Line<'_>],
+    gate: &G,
+) -> Result<Vec<u8>, AllocError>
+    requires count { length cpus.old < 2 ^ 31 }
+    requires lines { All (LineIsThere N.frames.frames (length cpus.old)) lines.now }
+    ensures { IfOk result (λ text. RunsLines N.frames N.stocks cpus.old lines.now text.items) }
+{
+    let (early, later) = lines.split_at(before_go(lines));
+    let mut text = replay_by_visits(rt, alloc, system, cpus, early)?;
+    let told = run_each(rt, alloc, system, cpus, later, gate)?;
+    text.extend_from_slice(&told)?;
+    Ok(text)
+}
+
+// How many lines stand before `go`; none where it isn't there.
+fn before_go(lines: &[Line<'_>]) -> usize
+    ensures { result ≡ lines_before_go lines.now }
+{
+    let mut place = 0;
+    for line in lines {
+        if matches!(line, Line::Go) {
+            return place;
+        }
+        place += 1;
+    }
+    0
+}

@@ -1,0 +1,63 @@
+//! The lines of one processor, served in their order. Those of others are left out.
+
+ghost use Rattle.std.specs.Prelude.{All, IfOk};
+ghost use Rattle.std.specs.String.{string_bytes};
+ghost use Rattle.script_replay.specs.Answers.{AddsText};
+ghost use Rattle.script_threads.specs.Own.{LineNames, ServesOwn, ServesOwnLine};
+
+use cpu_part::{BootName, Cpu};
+use mem_system::{Gate, System};
+use script_lines::line::Line;
+use script_replay::visit_line;
+use std::alloc::{AllocError, Global};
+use std::sync::Wait;
+
+// Serves the lines of the processor of this number, whose part this is, and gives their answers. The gate is told the
+// place of each of them among all lines.
+pub(crate) fn serve_own<N: BootName, R: Wait, G: Gate>(
+    rt: &R,
+    alloc: Global,
+    system: &System<N>,
+    cpu: &mut Cpu<N>,
+    number: u32,
+    lines: &[Line<'_>],
+    gate: &G,
+) -> Result<String, AllocError>
+    requires { All (LineNames N.frames.frames) lines.now }
+    ensures { IfOk result (λ text. ServesOwn N.frames N.stocks number cpu.old lines.now (string_bytes text) cpu.new) }
+{
+    let mut text = String::new(alloc);
+    let mut place = 0;
+    for line in lines {
+        serve_own_line(rt, alloc, system, cpu, number, place, line, gate, &mut text)?;
+        place += 1;
+    }
+    Ok(text)
+}
+
+// Serves the line, where it is one of the processor of this number, and adds its answer.
+fn serve_own_line<N: BootName, R: Wait, G: Gate>(
+    rt: &R,
+    alloc: Global,
+    system: &System<N>,
+    cpu: &mut Cpu<N>,
+    number: u32,
+    place: usize,
+    line: &Line<'_>,
+    gate: &G,
+    text: &mut String,
+) -> Result<(), AllocError>
+    requires { LineNames N.frames.frames line.now }
+    ensures { AddsText result (λ before said after. ServesOwnLine N.frames N.stocks number before line.now said after)
+        cpu.old cpu.new (string_bytes text.old) (string_bytes text.new) }
+{
+    match line {
+        Line::Go => Ok(()),
+        Line::At { processor, command } => {
+            if *processor != number {
+                return Ok(());
+            }
+            visit_line(rt, alloc, system, cpu, place, command, gate, text)
+        }
+    }
+}

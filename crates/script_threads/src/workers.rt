@@ -1,0 +1,133 @@
+//! A worker: a thread that serves the lines of one processor, with what is promised of its answers.
+
+ghost use Rattle.std.specs.Prelude.{◌≡◌, ◌++◌, ℕ, All, IfOk, List};
+ghost use Rattle.std.specs.String.{string_bytes};
+ghost use Rattle.cpu_part.specs.Cpus.{KnownCpu};
+ghost use Rattle.script_threads.specs.Own.{LineNames, ServesOwn};
+ghost use Rattle.script_threads.specs.Each.{KnownWorker, heading};
+
+use crate::own_lines::serve_own;
+use cpu_part::{BootName, Cpu};
+use mem_system::{Gate, System};
+use script_lines::line::Line;
+use std::alloc::{AllocError, Global};
+use std::marker::Model;
+use std::snapshot::Snapshot;
+use std::sync::Wait;
+use std::thread::{Promise, PromisedHandle, Scope, Threads};
+
+// What a worker was answered, and its part as it was left.
+#[derive(Drop)]
+struct Told<N: BootName> {
+    text: String,
+    after: Snapshot<Cpu<N>>,
+}
+
+// What a worker is given: its part and its number, and what all workers share.
+#[derive(Drop)]
+pub(crate) struct Job<'a, N: BootName, R, G> {
+    pub(crate) rt: &'a R,
+    pub(crate) alloc: Global,
+    pub(crate) system: &'a System<N>,
+    pub(crate) cpu: &'a mut Cpu<N>,
+    pub(crate) number: u32,
+    pub(crate) lines: &'a [Line<'a>],
+    pub(crate) gate: &'a G,
+}
+
+// The promise that the lines of the processor are answered, from what its part was.
+#[derive(Drop)]
+struct Answers<'a, N: BootName> {
+    before: Snapshot<Cpu<N>>,
+    number: u32,
+    lines: &'a [Line<'a>],
+}
+
+impl<'a, N: BootName> Promise<Result<Told<N>, AllocError>> for Answers<'a, N> {
+    ghost kept_by = { λ p r. IfOk r (λ told. ServesOwn N.frames N.stocks p.number p.before.value p.lines.now
+        (string_bytes told.text) told.after.value) };
+}
+
+// A worker that runs.
+#[derive(Drop)]
+pub(crate) struct Worker<'a, N: BootName> {
+    number: u32,
+    handle: PromisedHandle<Result<Told<N>, AllocError>, Answers<'a, N>>,
+}
+
+impl<'a, N: BootName> Model for Worker<'a, N> {
+    ghost Value = { KnownWorker };
+
+    ghost view = { λ w. record {
+      number = w.handle.promise.number;
+      before = w.handle.promise.before.value;
+      lines = w.handle.promise.lines.now;
+    } };
+
+    ghost invariant = { λ w. w.number ≡ w.handle.promise.number };
+}
+
+impl<'a, N: BootName, R: Wait, G: Gate> Job<'a, N, R, G> {
+    // Serves the lines.
+    fn run(self) -> Result<Told<N>, AllocError>
+        requires { All (LineNames N.frames.frames) self.lines.now }
+        ensures { IfOk result (λ told. ServesOwn N.frames N.stocks self.entry.number self.entry.cpu.now
+            self.entry.lines.now (string_bytes told.text) told.after.value) }
+    {
+        let Job {
+            rt,
+            alloc,
+            system,
+            cpu,
+            number,
+            lines,
+            gate,
+        } = self;
+        let text = serve_own(rt, alloc, system, cpu, number, lines, gate)?;
+        let after = Snapshot::of(&*cpu);
+        Ok(Told { text, after })
+    }
+}
+
+// Starts a worker. `AllocError` comes where no thread can be made.
+pub(crate) fn start<'s, E, N: BootName + Send + Sync, R: Wait + Sync, G: Gate + Sync>(
+    scope: &Scope<'s, E>,
+    job: Job<'s, N, R, G>,
+) -> Result<Worker<'s, N>, AllocError>
+    requires { All (LineNames N.frames.frames) job.lines.now }
+    ensures { IfOk result (λ w. w ≡ record {
+      number = job.entry.number;
+      before = job.entry.cpu.now;
+      lines = job.entry.lines.now;
+    }) }
+{
+    let number = job.number;
+    let promise = Answers {
+        before: Snapshot::of(&*job.cpu),
+        number,
+        lines: job.lines,
+    };
+    let handle = scope.spawn_with(promise, move || job.run())?;
+    Ok(Worker { number, handle })
+}
+
+impl<'a, N: BootName> Worker<'a, N> {
+    // Waits for the worker's end, and adds its answers under its heading.
+    pub(crate) fn join<R: Threads>(self, rt: &R, text: &mut String) -> Result<(), AllocError>
+        ensures { IfOk result (λ _. (own : List ℕ) × (d : KnownCpu)
+            × ServesOwn N.frames N.stocks self.entry.number self.entry.before self.entry.lines own d
+            × (string_bytes text.new ≡ string_bytes text.old ++ (heading self.entry.number ++ own))) }
+    {
+        let Worker { number, handle } = self;
+        let told = handle.join(rt)?;
+        write_heading(number, text)?;
+        text.push_str(told.text.as_str())
+    }
+}
+
+// Adds the line that heads the answers of a processor.
+fn write_heading(number: u32, text: &mut String) -> Result<(), AllocError>
+    ensures { IfOk result (λ _. string_bytes text.new ≡ string_bytes text.old ++ heading number) }
+{
+    writeln!(text, "cpu {number}")
+}

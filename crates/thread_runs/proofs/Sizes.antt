@@ -1,0 +1,19 @@
+-- The sizes of a boot under its name. Serves `live`.
+use Rattle.std.proofs.Common.{◌≡◌, ℕ, List, All, length, sym, ◌∙◌, subst}
+use Rattle.frame_word.specs.Seats.{KnownTable}
+use Rattle.stock_word.specs.Stock.{Words}
+use Rattle.zone_sizes.specs.declared.config.Config.{Config}
+use Rattle.mem_system.specs.Boots.{IsSizedAs}
+use Rattle.script_lines.specs.declared.line.Line.{Line}
+use Rattle.script_replay.specs.Ranges.{LineIsThere}
+
+-- the tables under their names have the sizes
+pub sized_as : (sizes : Config) (f t : KnownTable) (s w : Words) → IsSizedAs sizes f s → (f ≡ t) × (s ≡ w) → IsSizedAs sizes t w
+sized_as sizes f t s w sized names = subst (λ (b : KnownTable × Words). IsSizedAs sizes b.0 b.1) (λ i. (names.0 i, names.1 i)) sized
+
+-- what lines name is there, by so many parts as the name has processors
+pub lines_there : (sizes : Config) (f t : KnownTable) (s w : Words) (n : ℕ) (lines : List Line) → IsSizedAs sizes f s → (f ≡ t) × (s ≡ w)
+    → n ≡ t.cpus → All (LineIsThere sizes.frames sizes.cpus) lines → All (LineIsThere t.frames n) lines
+lines_there sizes f t s w n lines sized names long there =
+    let as_named = sized_as sizes f t s w sized names in
+    subst (λ (b : ℕ × ℕ). All (LineIsThere b.0 b.1) lines) (λ i. (sym as_named.frames i, sym (long ∙ as_named.cpus) i)) there

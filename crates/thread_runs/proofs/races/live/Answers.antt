@@ -1,0 +1,22 @@
+use Rattle.std.proofs.Common.{◌≡◌, ◌∙◌, length, ap, sym}
+use Rattle.mem_system.proofs.Closing.{written_back}
+use Rattle.thread_runs.proofs.Sizes.{lines_there, sized_as}
+use Rattle.thread_runs.proofs.races.live.Goals as goal
+
+pub race-raced-requires-clause-first : goal.race-raced-requires-clause-first
+race-raced-requires-clause-first g c =
+    lines_there c.args.boot.sizes _ g.N.BootName.frames _ g.N.BootName.stocks _ c.args.first.now c.requires.sized c.requires.names
+    (ap length c.deref_mut.ensures.value ∙ c.in_ok-system.ensures.count) c.requires.first
+
+pub race-raced-requires-clause-last : goal.race-raced-requires-clause-last
+race-raced-requires-clause-last g c =
+    lines_there c.args.boot.sizes _ g.N.BootName.frames _ g.N.BootName.stocks _ c.args.last.now c.requires.sized c.requires.names
+    (ap length c.deref_mut.ensures.value ∙ c.in_ok-system.ensures.count) c.requires.last
+
+pub shut-audit-requires : goal.shut-audit-requires
+shut-audit-requires g c =
+    let first = c.deref_mut.ensures.value in
+    let long : length c.race-raced.new.cpus ≡ length c.in_ok-system.cpus.items = c.race-raced.auto.cpus ∙ ap length first in
+    let size = sym c.deref_mut.ensures.len ∙ ap length first in
+    let same = written_back c.in_ok-system.cpus.len c.race-raced.new.cpus c.in_ok-system.cpus.items long size in
+    ap length same ∙ long ∙ c.in_ok-system.ensures.count

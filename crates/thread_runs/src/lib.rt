@@ -1,0 +1,11 @@
+//! Scripts and calls of two processors, each in a thread of its own, as tests. Nothing but tests stands here.
+#![tactic(auto)]
+
+#[cfg(test)]
+mod gates;
+#[cfg(test)]
+mod races;
+#[cfg(test)]
+mod scripts;
+#[cfg(test)]
+mod systems;

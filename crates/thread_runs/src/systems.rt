@@ -1,0 +1,89 @@
+//! A system of two processors, and its life under a name of its tables.
+
+ghost use Rattle.std.specs.Prelude.{◌≡◌, ◌<◌, ◌≤◌, ◌^◌, All, length};
+ghost use Rattle.mem_system.specs.Boots.{IsSizedAs};
+ghost use Rattle.script_replay.specs.Ranges.{LineIsThere};
+
+use cpu_part::{BootName, Cpu};
+use mem_system::{Audit, Boot, Gate, System};
+use script_lines::line::Line;
+use script_replay::replay_by_visits;
+use script_threads::run_lines;
+use std::alloc::{AllocError, Global};
+use std::process::Abort;
+use std::sync::Wait;
+use std::thread::Threads;
+use zone_sizes::config::Config;
+
+/// 16 frames and two processors.
+pub const SIZES: Config = Config {
+    frames: 16,
+    cpus: 2,
+    batch: 4,
+    high: 8,
+    stock: 4,
+};
+
+/// What the lines in threads were answered, and those after them; and the audit of the end.
+#[derive(Drop)]
+pub struct Told {
+    pub threads: Vec<u8>,
+    pub last: Vec<u8>,
+    pub audit: Audit,
+}
+
+// Runs the lines by threads, and then the last ones by visits.
+fn run_and_replay<N: BootName + Send + Sync, R: Threads + Wait + Sync, G: Gate + Sync>(
+    rt: &R,
+    alloc: Global,
+    system: &System<N>,
+    cpus: &mut [Cpu<N>],
+    lines: &[Line<'_>],
+    last: &[Line<'_>],
+    gate: &G,
+) -> Result<(Vec<u8>, Vec<u8>), AllocError>
+    requires count { length cpus.old < 2 ^ 31 }
+    requires lines { All (LineIsThere N.frames.frames (length cpus.old)) lines.now }
+    requires last { All (LineIsThere N.frames.frames (length cpus.old)) last.now }
+{
+    let threads = run_lines(rt, alloc, system, cpus, lines, gate)?;
+    let last = replay_by_visits(rt, alloc, system, cpus, last)?;
+    Ok((threads, last))
+}
+
+/// Shuts the system down, which no processor has a pin in.
+pub fn shut<N: BootName>(rt: &impl Abort, system: System<N>, cpus: Vec<Cpu<N>>) -> Audit
+    requires { length cpus.items ≡ N.frames.cpus }
+{
+    match system.shutdown(cpus) {
+        Ok(audit) => audit,
+        Err(_held) => panic!(rt; "pins remain"),
+    }
+}
+
+/// Starts the boot under a name of its tables, runs the lines by threads and then the last ones by visits, and shuts
+/// the system down.
+pub fn live<N: BootName + Send + Sync, R: Threads + Wait + Abort + Sync, G: Gate + Sync>(
+    rt: &R,
+    alloc: Global,
+    boot: Boot,
+    lines: &[Line<'_>],
+    last: &[Line<'_>],
+    gate: &G,
+) -> Result<Told, AllocError>
+    requires names { (boot.frames ≡ N.frames) × (boot.stocks ≡ N.stocks) }
+    requires sized { IsSizedAs boot.sizes boot.frames boot.stocks }
+    requires count { boot.sizes.cpus < 2 ^ 31 }
+    requires lines { All (LineIsThere boot.sizes.frames boot.sizes.cpus) lines.now }
+    requires last { All (LineIsThere boot.sizes.frames boot.sizes.cpus) last.now }
+{
+    let (system, mut cpus) = boot.start::<N>(alloc)?;
+    let told = run_and_replay(rt, alloc, &system, &mut cpus, lines, last, gate);
+    let audit = shut(rt, system, cpus);
+    let (threads, last) = told?;
+    Ok(Told {
+        threads,
+        last,
+        audit,
+    })
+}
