@@ -5,7 +5,9 @@ use Rattle.stock_word.specs.Stock.{Words}
 use Rattle.zone_sizes.specs.declared.config.Config.{Config}
 use Rattle.mem_system.specs.Boots.{IsSizedAs}
 use Rattle.script_lines.specs.declared.line.Line.{Line}
+use Rattle.script_lines.specs.Script.{IsScript}
 use Rattle.script_replay.specs.Ranges.{LineIsThere}
+use Rattle.script_replay.proofs.InRange.{script_there}
 
 -- the tables under their names have the sizes
 pub sized_as : (sizes : Config) (f t : KnownTable) (s w : Words) → IsSizedAs sizes f s → (f ≡ t) × (s ≡ w) → IsSizedAs sizes t w
@@ -17,3 +19,14 @@ pub lines_there : (sizes : Config) (f t : KnownTable) (s w : Words) (n : ℕ) (l
 lines_there sizes f t s w n lines sized names long there =
     let as_named = sized_as sizes f t s w sized names in
     subst (λ (b : ℕ × ℕ). All (LineIsThere b.0 b.1) lines) (λ i. (sym as_named.frames i, sym (long ∙ as_named.cpus) i)) there
+
+-- the sizes of the tests
+abbrev pub tests_sizes : Config
+tests_sizes = record { frames = 16; cpus = 2; batch = 4; high = 8; stock = 4 }
+
+-- what the lines of a script name is there, in a boot of the script's sizes
+pub script_of_boot : (sizes booted : Config) (bytes : List ℕ) (parsed lines : List Line) → booted ≡ sizes → lines ≡ parsed
+    → IsScript sizes bytes parsed → All (LineIsThere booted.frames booted.cpus) lines
+script_of_boot sizes booted bytes parsed lines same is_parsed is =
+    let there = script_there sizes bytes parsed is in
+    subst (λ (b : Config × List Line). All (LineIsThere b.0.frames b.0.cpus) b.1) (λ i. (sym same i, sym is_parsed i)) there

@@ -1,15 +1,15 @@
 use Rattle.std.proofs.Common.{◌≡◌, ◌∙◌, length, ap, sym}
 use Rattle.mem_system.proofs.Closing.{written_back}
-use Rattle.thread_runs.proofs.Sizes.{lines_there, sized_as}
+use Rattle.thread_runs.proofs.Sizes.{lines_there}
 use Rattle.thread_runs.proofs.races.live.Goals as goal
 
 pub race-raced-requires-clause-first : goal.race-raced-requires-clause-first
-race-raced-requires-clause-first g c =
+race-raced-requires-clause-first g c κs within =
     lines_there c.args.boot.sizes _ g.N.BootName.frames _ g.N.BootName.stocks _ c.args.first.now c.requires.sized c.requires.names
     (ap length c.deref_mut.ensures.value ∙ c.in_ok-system.ensures.count) c.requires.first
 
 pub race-raced-requires-clause-last : goal.race-raced-requires-clause-last
-race-raced-requires-clause-last g c =
+race-raced-requires-clause-last g c κs within =
     lines_there c.args.boot.sizes _ g.N.BootName.frames _ g.N.BootName.stocks _ c.args.last.now c.requires.sized c.requires.names
     (ap length c.deref_mut.ensures.value ∙ c.in_ok-system.ensures.count) c.requires.last
 

@@ -1,15 +1,15 @@
 use Rattle.std.proofs.Common.{◌≡◌, ◌∙◌, length, ap, sym}
 use Rattle.mem_system.proofs.Closing.{written_back}
-use Rattle.thread_runs.proofs.Sizes.{lines_there, sized_as}
+use Rattle.thread_runs.proofs.Sizes.{lines_there}
 use Rattle.thread_runs.proofs.systems.live.Goals as goal
 
 pub run_and_replay-told-requires-clause-lines : goal.run_and_replay-told-requires-clause-lines
-run_and_replay-told-requires-clause-lines g c =
+run_and_replay-told-requires-clause-lines g c κs within =
     lines_there c.args.boot.sizes _ g.N.BootName.frames _ g.N.BootName.stocks _ c.args.lines.now c.requires.sized c.requires.names
     (ap length c.deref_mut.ensures.value ∙ c.in_ok-system.ensures.count) c.requires.lines
 
 pub run_and_replay-told-requires-clause-last : goal.run_and_replay-told-requires-clause-last
-run_and_replay-told-requires-clause-last g c =
+run_and_replay-told-requires-clause-last g c κs within =
     lines_there c.args.boot.sizes _ g.N.BootName.frames _ g.N.BootName.stocks _ c.args.last.now c.requires.sized c.requires.names
     (ap length c.deref_mut.ensures.value ∙ c.in_ok-system.ensures.count) c.requires.last
 
