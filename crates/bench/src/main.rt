@@ -10,6 +10,7 @@ mod lists;
 mod machine;
 mod pins;
 mod prepaid;
+mod reclaim;
 mod references;
 mod script;
 mod system;
@@ -34,7 +35,7 @@ fn main(rt: HostRuntime) -> Result<()> {
         match table_named(word.as_str()) {
             Some(table) => tell_table(&rt, table, Pace::Timed { unit })?,
             None => println!(rt;
-                "{word}: no table; there are references, prepaid, lists, charges, zone, machine, system and script"
+                "{word}: no table; there are references, prepaid, lists, charges, zone, machine, system, reclaim and script"
             )?,
         }
     }

@@ -10,6 +10,22 @@ use mem_system::System;
 use std::sync::Wait;
 use std::time::Clock;
 
+// Lets go of the pin of the processor that stands first. It tells its frame.
+fn put_first<N: BootName>(tables: &Tables<N>, cpu: &mut Cpu<N>) -> Option<Frame>
+    ensures { IfSome result (λ first. first < N.frames.frames) }
+{
+    let first = cpu.first_pin()?;
+    cpu.put(tables, first);
+    Some(first)
+}
+
+/// Lets go of all pins of the processor.
+pub fn put_all<N: BootName>(tables: &Tables<N>, cpu: &mut Cpu<N>) {
+    for _ in 0..cpu.pins() {
+        let _ = put_first(tables, cpu);
+    }
+}
+
 // A processor that has pins, and three frames in use.
 #[derive(Drop)]
 struct Pinned<'a, N: BootName> {
@@ -38,22 +54,6 @@ impl<'a, N: BootName> Pinned<'a, N> {
         all
     }
 
-    // Lets go of the pin that stands first, which is sought longest. It tells its frame.
-    fn put_first(&mut self) -> Option<Frame>
-        ensures { IfSome result (λ first. first < N.frames.frames) }
-    {
-        let first = self.cpu.first_pin()?;
-        self.cpu.put(self.tables, first);
-        Some(first)
-    }
-
-    // Lets go of all pins.
-    fn unpin(&mut self) {
-        for _ in 0..self.cpu.pins() {
-            let _ = self.put_first();
-        }
-    }
-
     // Gets the frame and puts it, which is the newest pin.
     fn newest(&mut self, frame: Frame) -> bool
         requires { frame < N.frames.frames }
@@ -65,7 +65,7 @@ impl<'a, N: BootName> Pinned<'a, N> {
         true
     }
 
-    // Gets the frame and puts the pin that stands first: that one's frame.
+    // Gets the frame and puts the pin that stands first, which is sought longest: that one's frame.
     fn oldest(&mut self, frame: Frame) -> Option<Frame>
         requires { frame < N.frames.frames }
         ensures { IfSome result (λ first. first < N.frames.frames) }
@@ -73,7 +73,7 @@ impl<'a, N: BootName> Pinned<'a, N> {
         if !self.get(frame) {
             return None;
         }
-        self.put_first()
+        put_first(self.tables, self.cpu)
     }
 }
 
@@ -104,7 +104,7 @@ fn tell_pins<N: BootName, R: Print + Clock>(
         Row::new("  the pin that is sought longest", 1, 500_000, 2),
     ];
     tell_rows(rt, pace, 10, &mut rows, pinned)?;
-    pinned.unpin();
+    put_all(pinned.tables, pinned.cpu);
     Ok(())
 }
 

@@ -36,7 +36,8 @@ const BIG: Config = Config {
     stock: 64,
 };
 
-const SHALLOW: &[u8] = b"/a";
+/// The path of the group of depth 1.
+pub const SHALLOW: &[u8] = b"/a";
 
 // Paths of groups, each of them below the one before.
 const PATHS: [&[u8]; 8] = [
@@ -50,16 +51,21 @@ const PATHS: [&[u8]; 8] = [
     b"/d/d/d/d/d/d/d/d",
 ];
 
-// Serves the command by a visit. What `System::visit` says of it is left out: for callers that want the reply alone its
-// clauses are minutes of a check.
-fn visit<N: BootName, R: Wait>(rt: &R, system: &System<N>, cpu: &mut Cpu<N>, cmd: &Cmd<'_>) -> Reply
+/// Serves the command by a visit. What `System::visit` says of it is left out: for callers that want the reply alone its
+/// clauses are minutes of a check.
+pub fn visit<N: BootName, R: Wait>(
+    rt: &R,
+    system: &System<N>,
+    cpu: &mut Cpu<N>,
+    cmd: &Cmd<'_>,
+) -> Reply
     requires { IsOfZone N.frames cmd.now }
 {
     system.visit(rt, cpu, cmd)
 }
 
-// Makes the group of the path.
-fn make<N: BootName, R: Wait>(
+/// Makes the group of the path.
+pub fn make<N: BootName, R: Wait>(
     rt: &R,
     system: &System<N>,
     cpu: &mut Cpu<N>,
@@ -199,8 +205,8 @@ fn tell_on<N: BootName + Send + Sync, R: Threads + Wait + Print + Clock + Sync>(
     }
 }
 
-// Shuts the system down, none of whose processors has a pin.
-fn end<N: BootName, R: Wait>(rt: &R, mut system: System<N>, mut cpus: Vec<Cpu<N>>)
+/// Shuts the system down, none of whose processors has a pin.
+pub fn end<N: BootName, R: Wait>(rt: &R, mut system: System<N>, mut cpus: Vec<Cpu<N>>)
     requires { length cpus.items ≡ N.frames.cpus }
 {
     for _ in rt.forever() {

@@ -5,6 +5,7 @@ use crate::costs::Pace;
 use crate::life::tell_machine;
 use crate::lists::tell_lists;
 use crate::prepaid::tell_words;
+use crate::reclaim::tell_reclaim;
 use crate::script::tell_script;
 use crate::system::{tell_boots, tell_system};
 use crate::zone::tell_zone;
@@ -31,12 +32,14 @@ pub enum Table {
     Machine,
     /// Commands that take the lock.
     System,
+    /// Rounds of reclaim.
+    Reclaim,
     /// The lines of a script.
     Script,
 }
 
 /// The tables, each behind its name.
-pub const TABLES: [(&str, Table); 8] = [
+pub const TABLES: [(&str, Table); 9] = [
     ("references", Table::References),
     ("prepaid", Table::Prepaid),
     ("lists", Table::Lists),
@@ -44,6 +47,7 @@ pub const TABLES: [(&str, Table); 8] = [
     ("zone", Table::Zone),
     ("machine", Table::Machine),
     ("system", Table::System),
+    ("reclaim", Table::Reclaim),
     ("script", Table::Script),
 ];
 
@@ -77,6 +81,7 @@ pub fn tell_table<R: Threads + Wait + Print + Clock + Alloc<A = Global> + Sync>(
             tell_system(rt, pace, table)?;
             tell_boots(rt, pace)
         }
+        Table::Reclaim => tell_reclaim(rt, pace),
         Table::Script => tell_script(rt, pace),
     }
 }

@@ -6,6 +6,8 @@ mod gates;
 #[cfg(test)]
 mod races;
 #[cfg(test)]
+mod rounds;
+#[cfg(test)]
 mod scripts;
 #[cfg(test)]
 mod systems;
