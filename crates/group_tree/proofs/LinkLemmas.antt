@@ -1,22 +1,25 @@
 -- What a tree keeps by number beside its rows, and how a change keeps it. Serves the contracts of `Tree::new`, `make`,
 -- `set_max`, `remove`, `parent` and `depth`.
 use Rattle.std.proofs.Common.{◌≡◌, ◌≢◌, ℕ, ◌+◌, ◌<◌, false, not, cond, ◌==◌, IsTrue, Option, Some, None, List, [], ◌∷◌, length, map}
-use Rattle.std.proofs.Common.{filter, get_or, set, replicate, Contains, is_some, refl, sym, ap, ◌∙◌, subst, arith, ⊎_elim, lit<, length-append}
+use Rattle.std.proofs.Common.{filter, get_or, set, replicate, Contains, is_some, refl, sym, ap, ◌∙◌, subst, arith, ⊎_elim, length-append}
+use Rattle.std.proofs.Common.{Bool, true, ◌||◌}
+use Rattle.std.specs.List.{list_any}
 use Rattle.std.specs.Option.{option_and_then, option_map_or}
-use Rattle.std.proofs.lemmas.Bool.{both_ways, cases_Bool, cases_eq, cond-false, cond-true, eq-eqb, ne_eqb}
-use Rattle.std.proofs.lemmas.List.{get_or_default, get_or-set_other, get_or-set_same, get_or-replicate, length-set, length-replicate}
+use Rattle.std.proofs.lemmas.Bool.{cases_lt, both_ways, cases_Bool, cases_eq, cond-false, cond-true, eq-eqb, ne_eqb}
+use Rattle.std.proofs.lemmas.List.{get_or_default, get_or_past, get_or-set_other, get_or-set_same, get_or-replicate, length-set, length-replicate}
 use Rattle.std.proofs.lemmas.List.Elements.{All-contains, All-filter, All-map, Contains-get_or, Contains-push_cases}
 use Rattle.std.proofs.lemmas.Option.{same_Some}
 use Rattle.group_tree.specs.declared.group.Group.{Group}
 use Rattle.group_tree.specs.declared.tree.Link.{Link}
 use Rattle.group_tree.specs.Path.{depth_of, names_of, parent_path}
-use Rattle.group_tree.specs.Groups.{the_root, initial_groups, has_group, limit_of, number_at, parent_of, path_of, with_group, with_limit}
+use Rattle.group_tree.specs.Groups.{the_root, initial_groups, group_at, has_group, limit_of, number_at, parent_of, path_of, with_group, with_limit}
 use Rattle.group_tree.specs.Groups.{without_group, limited, AreGroups}
-use Rattle.group_tree.specs.Links.{AreLinks, link_at, root_link}
+use Rattle.group_tree.specs.Links.{AreLinks, link_at, no_link}
 use Rattle.group_tree.specs.Ancestors.{depth_at}
 use Rattle.group_tree.proofs.PathLemmas.{names_parent}
-use Rattle.group_tree.proofs.GroupLemmas.{CanMake, All-one, some_is, has_group-contains, has_group-is, group_at-contains, number_at-contains}
+use Rattle.group_tree.proofs.GroupLemmas.{has_group-any, CanMake, All-one, some_is, has_group-contains, has_group-is, group_at-contains, number_at-contains}
 use Rattle.group_tree.proofs.GroupLemmas.{number_at-there, path_of-at, parent_of-below, parent-there, limited-number, limited-path}
+use Rattle.group_tree.proofs.CallerLemmas.{has_group-with, has_group-with_new, has_group-limited, has_group-without}
 
 -- ---- at first
 one_number : (x : Group) → Contains initial_groups x → x.number ≡ 0
@@ -29,11 +32,42 @@ one_depth x h = All-contains (λ (y : Group). depth_of y.path ≡ 0) initial_gro
 one_limit : (x : Group) → Contains initial_groups x → x.limit ≡ None
 one_limit x h = All-contains (λ (y : Group). y.limit ≡ None) initial_groups x (All-one (λ (y : Group). y.limit ≡ None) the_root refl) h
 
-pub AreLinks-initial : (links : List Link) → links ≡ replicate 64 root_link → AreLinks initial_groups links
+-- the root's number is the only one
+alone : (n : ℕ) → n ≢ 0 → has_group initial_groups n ≡ false
+unfolding has_group group_at
+alone n other = ap is_some (cond-false (0 == n) (Some the_root) None (ne_eqb 0 n (λ e. other (sym e))))
+
+-- the links of numbers that no group has
+none_there : (n : ℕ) → link_at (replicate 64 no_link) n ≡ no_link
+none_there n = ⊎_elim
+    (λ lt. get_or-replicate 64 n no_link no_link lt)
+    (λ le. get_or_past (replicate 64 no_link) n no_link (omega (arith, le, length-replicate 64 no_link)))
+    (cases_lt n 64)
+
+-- only the root's number is a group's
+abbrev pub first_links : List Link
+first_links = set (replicate 64 no_link) 0 (record no_link { is_there = true })
+
+first_at : (n : ℕ) → (link_at first_links n).is_there ≡ has_group initial_groups n
+unfolding has_group group_at
+first_at n = ⊎_elim
+    (λ zero.
+    let within : 0 < length (replicate 64 no_link) = omega (arith, length-replicate 64 no_link) in
+    ap (λ k. (link_at first_links k).is_there) zero
+    ∙ ap (λ (l : Link). l.is_there) (get_or-set_same (replicate 64 no_link) 0 (record no_link { is_there = true }) no_link within)
+    ∙ sym (ap (has_group initial_groups) zero))
+    (λ other. ap (λ (l : Link). l.is_there) (get_or-set_other (replicate 64 no_link) 0 n (record no_link { is_there = true }) no_link other ∙ none_there n)
+    ∙ sym (alone n other))
+    (cases_eq n 0)
+
+pub AreLinks-initial : (links : List Link) → links ≡ first_links → AreLinks initial_groups links
 AreLinks-initial links e =
-    let first : link_at links 0 ≡ root_link = ap (λ ls. link_at ls 0) e ∙ get_or-replicate 64 0 root_link root_link (lit< tt) in
+    let within : 0 < length (replicate 64 no_link) = omega (arith, length-replicate 64 no_link) in
+    let first : link_at links 0 ≡ record no_link { is_there = true } = ap (λ ls. link_at ls 0) e
+    ∙ get_or-set_same (replicate 64 no_link) 0 (record no_link { is_there = true }) no_link within in
     record {
-      size = ap length e ∙ length-replicate 64 root_link;
+      size = ap length e ∙ length-set (replicate 64 no_link) 0 (record no_link { is_there = true }) ∙ length-replicate 64 no_link;
+      there = λ n. ap (λ ls. (link_at ls n).is_there) e ∙ first_at n;
       parents = λ x y hx hy same. ap (λ n. (link_at links n).parent) (one_number x hx) ∙ ap (λ (l : Link). l.parent) first ∙ sym (one_number y hy);
       depths = λ x hx. ap (λ n. (link_at links n).depth) (one_number x hx) ∙ ap (λ (l : Link). l.depth) first ∙ sym (one_depth x hx);
       limits = λ x hx. ap (λ n. (link_at links n).limit) (one_number x hx) ∙ ap (λ (l : Link). l.limit) first ∙ sym (one_limit x hx);
@@ -60,18 +94,23 @@ no_new_parent groups path x facts can here e =
 
 pub AreLinks-with : (groups : List Group) (links : List Link) (n p : ℕ) (path : List ℕ) → AreGroups groups → AreLinks groups links →
     CanMake groups path → n < 64 → has_group groups n ≡ false → number_at groups (parent_path path) ≡ Some p →
-    AreLinks (with_group groups n path) (set links n (record { parent = p; depth = depth_of path; limit = None }))
+    AreLinks (with_group groups n path) (set links n (record { is_there = true; parent = p; depth = depth_of path; limit = None }))
 AreLinks-with groups links n p path facts are can below free up =
     let row : Group = record { number = n; path = path; limit = None } in
-    let link : Link = record { parent = p; depth = depth_of path; limit = None } in
+    let link : Link = record { is_there = true; parent = p; depth = depth_of path; limit = None } in
     let new : List Link = set links n link in
     let within : n < length links = omega (arith, are.size) in
-    let here : link_at new n ≡ link = get_or-set_same links n link root_link within in
+    let here : link_at new n ≡ link = get_or-set_same links n link no_link within in
     record {
       size = length-set links n link ∙ are.size;
+      there = λ k. ⊎_elim
+          (λ same. ap (λ j. (link_at new j).is_there) same ∙ ap (λ (l : Link). l.is_there) here
+          ∙ sym (ap (has_group (with_group groups n path)) same ∙ has_group-with_new groups n path free))
+          (λ other. ap (λ (l : Link). l.is_there) (get_or-set_other links n k link no_link other) ∙ are.there k ∙ sym (has_group-with groups n k path other))
+          (cases_eq k n);
       parents = λ x y hx hy e. ⊎_elim
           (λ old_x. ⊎_elim
-          (λ old_y. ap (λ (l : Link). l.parent) (get_or-set_other links n x.number link root_link (apart groups n x free old_x))
+          (λ old_y. ap (λ (l : Link). l.parent) (get_or-set_other links n x.number link no_link (apart groups n x free old_x))
           ∙ are.parents x y old_x old_y e)
           (λ new_y. absurd (no_new_parent groups path x facts can old_x (ap (λ (g : Group). g.path) new_y ∙ e)))
           (Contains-push_cases groups row y hy))
@@ -84,11 +123,11 @@ AreLinks-with groups links n p path facts are can below free up =
           (Contains-push_cases groups row y hy))
           (Contains-push_cases groups row x hx);
       depths = λ x hx. ⊎_elim
-          (λ old_x. ap (λ (l : Link). l.depth) (get_or-set_other links n x.number link root_link (apart groups n x free old_x)) ∙ are.depths x old_x)
+          (λ old_x. ap (λ (l : Link). l.depth) (get_or-set_other links n x.number link no_link (apart groups n x free old_x)) ∙ are.depths x old_x)
           (λ new_x. ap (λ (g : Group). (link_at new g.number).depth) (sym new_x) ∙ ap (λ (l : Link). l.depth) here ∙ ap (λ (g : Group). depth_of g.path) new_x)
           (Contains-push_cases groups row x hx);
       limits = λ x hx. ⊎_elim
-          (λ old_x. ap (λ (l : Link). l.limit) (get_or-set_other links n x.number link root_link (apart groups n x free old_x)) ∙ are.limits x old_x)
+          (λ old_x. ap (λ (l : Link). l.limit) (get_or-set_other links n x.number link no_link (apart groups n x free old_x)) ∙ are.limits x old_x)
           (λ new_x. ap (λ (g : Group). (link_at new g.number).limit) (sym new_x) ∙ ap (λ (l : Link). l.limit) here ∙ ap (λ (g : Group). g.limit) new_x)
           (Contains-push_cases groups row x hx);
     }
@@ -132,10 +171,10 @@ limit_set links n limit = set links n (record (link_at links n) { limit = limit 
 
 module _ (links : List Link) (n : ℕ) (limit : Option ℕ) (within : n < length links) where
   limit_set-here : link_at (limit_set links n limit) n ≡ record (link_at links n) { limit = limit }
-  limit_set-here = get_or-set_same links n (record (link_at links n) { limit = limit }) root_link within
+  limit_set-here = get_or-set_same links n (record (link_at links n) { limit = limit }) no_link within
 
   limit_set-other : (k : ℕ) → k ≢ n → link_at (limit_set links n limit) k ≡ link_at links k
-  limit_set-other k other = get_or-set_other links n k (record (link_at links n) { limit = limit }) root_link other
+  limit_set-other k other = get_or-set_other links n k (record (link_at links n) { limit = limit }) no_link other
 
   limit_set-parent : (k : ℕ) → (link_at (limit_set links n limit) k).parent ≡ (link_at links k).parent
   limit_set-parent k =
@@ -153,12 +192,21 @@ module _ (links : List Link) (n : ℕ) (limit : Option ℕ) (within : n < length
       (λ other. ap (λ (l : Link). l.depth) (limit_set-other k other))
       (cases_eq k n)
 
+  limit_set-there : (k : ℕ) → (link_at (limit_set links n limit) k).is_there ≡ (link_at links k).is_there
+  limit_set-there k =
+      ⊎_elim
+      (λ same. ap (λ j. (link_at (limit_set links n limit) j).is_there) same ∙ ap (λ (l : Link). l.is_there) limit_set-here
+      ∙ ap (λ j. (link_at links j).is_there) (sym same))
+      (λ other. ap (λ (l : Link). l.is_there) (limit_set-other k other))
+      (cases_eq k n)
+
 pub AreLinks-limited : (groups : List Group) (links : List Link) (n : ℕ) (limit : Option ℕ) → n < 64 → AreLinks groups links →
     AreLinks (with_limit groups n limit) (limit_set links n limit)
 AreLinks-limited groups links n limit below are =
     let within : n < length links = omega (arith, are.size) in
     record {
       size = length-set links n (record (link_at links n) { limit = limit }) ∙ are.size;
+      there = λ k. limit_set-there links n limit within k ∙ are.there k ∙ sym (has_group-limited groups n k limit);
       parents = λ x y hx hy e.
           let u = was_row groups n limit x hx in
           let v = was_row groups n limit y hy in
@@ -191,13 +239,43 @@ still_row groups n x h =
     (All-filter (λ (g : Group). not (g.number == n)) (λ (z : Group). Contains groups z) groups (λ k d lt. Contains-get_or groups k d lt))
     h
 
-pub AreLinks-without : (groups : List Group) (links : List Link) (n : ℕ) → AreLinks groups links → AreLinks (without_group groups n) links
-AreLinks-without groups links n are = record {
-  size = are.size;
-  parents = λ x y hx hy e. are.parents x y (still_row groups n x hx) (still_row groups n y hy) e;
-  depths = λ x hx. are.depths x (still_row groups n x hx);
-  limits = λ x hx. are.limits x (still_row groups n x hx);
-}
+-- none is left of those that are filtered out
+none_left : {X : Type 0} (p : X → Bool) (xs : List X) → list_any p (filter (λ x. not (p x)) xs) ≡ false
+none_left p [] = refl
+none_left p (x ∷ xs) =
+    let rest = filter (λ y. not (p y)) xs in
+    ⊎_elim
+    (λ t. subst (λ b. list_any p (cond (not b) (x ∷ rest) rest) ≡ false) (sym t) (none_left p xs))
+    (λ f. subst (λ b. list_any p (cond (not b) (x ∷ rest) rest) ≡ false) (sym f) (ap (λ b. b || list_any p rest) f ∙ none_left p xs))
+    (cases_Bool (p x))
+
+gone : (groups : List Group) (n : ℕ) → has_group (without_group groups n) n ≡ false
+unfolding without_group
+gone groups n = has_group-any (filter (λ (g : Group). not (g.number == n)) groups) n ∙ none_left (λ (g : Group). g.number == n) groups
+
+-- who is still there has another number
+still_other : (groups : List Group) (n : ℕ) (x : Group) → Contains (without_group groups n) x → x.number ≢ n
+still_other groups n x h = λ same. both_ways (has_group (without_group groups n) n) (gone groups n)
+    (subst (λ m. IsTrue (has_group (without_group groups n) m)) same (has_group-contains (without_group groups n) x h))
+
+pub AreLinks-without : (groups : List Group) (links : List Link) (n : ℕ) → n < 64 → AreLinks groups links →
+    AreLinks (without_group groups n) (set links n no_link)
+AreLinks-without groups links n below are =
+    let new : List Link = set links n no_link in
+    let within : n < length links = omega (arith, are.size) in
+    let stays : (x : Group) → Contains (without_group groups n) x → link_at new x.number ≡ link_at links x.number =
+    λ x hx. get_or-set_other links n x.number no_link no_link (still_other groups n x hx) in
+    record {
+      size = length-set links n no_link ∙ are.size;
+      there = λ k. ⊎_elim
+          (λ same. ap (λ j. (link_at new j).is_there) same ∙ ap (λ (l : Link). l.is_there) (get_or-set_same links n no_link no_link within)
+          ∙ sym (ap (has_group (without_group groups n)) same ∙ gone groups n))
+          (λ other. ap (λ (l : Link). l.is_there) (get_or-set_other links n k no_link no_link other) ∙ are.there k ∙ sym (has_group-without groups n k other))
+          (cases_eq k n);
+      parents = λ x y hx hy e. ap (λ (l : Link). l.parent) (stays x hx) ∙ are.parents x y (still_row groups n x hx) (still_row groups n y hy) e;
+      depths = λ x hx. ap (λ (l : Link). l.depth) (stays x hx) ∙ are.depths x (still_row groups n x hx);
+      limits = λ x hx. ap (λ (l : Link). l.limit) (stays x hx) ∙ are.limits x (still_row groups n x hx);
+    }
 
 -- ---- what a link tells
 pub parent-link : (groups : List Group) (links : List Link) (g : ℕ) → AreGroups groups → AreLinks groups links → IsTrue (has_group groups g) →
@@ -233,4 +311,4 @@ limit-link groups links g are there =
 pub link_read : (links : List Link) (i g : ℕ) (d : Link) → length links ≡ 64 → i < 64 → i ≡ g → get_or links i d ≡ link_at links g
 link_read links i g d size below e =
     let within : i < length links = omega (arith, size) in
-    get_or_default links i d root_link within ∙ ap (link_at links) e
+    get_or_default links i d no_link within ∙ ap (link_at links) e

@@ -1,20 +1,17 @@
 -- The names of a path and its bytes. Serves `src/names.rt` and what the tree says of paths.
-use Rattle.std.proofs.Common.{◌≡◌, ℕ, suc, ◌<◌, ◌≤◌, true, false, not, eqb, leb, get_or, Option, Some, None, MatchOption, Bor, ◌+◌, ◌-◌}
-use Rattle.std.proofs.Common.{length-append, nat_eq, List, [], ◌∷◌, ◌++◌, length, take, drop, refl, sym, ap, ◌∙◌, subst, arith, ⊎_elim, ◌&&◌}
+use Rattle.std.proofs.Common.{◌≡◌, ℕ, suc, ◌<◌, ◌≤◌, true, false, not, eqb, leb, get_or, ◌+◌, ◌-◌}
+use Rattle.std.proofs.Common.{length-append, nat_eq, List, [], ◌∷◌, ◌++◌, length, take, drop, refl, sym, ap, ◌∙◌, arith, ⊎_elim, ◌&&◌}
 use Rattle.std.specs.List.{slice_split, list_any, before_last, suffix_len, count_by, onto_first, flat_map, starts_with, list_all}
-use Rattle.std.specs.Cmp.Lexicographic.{pointwise}
 use Rattle.std.specs.Str.{bytes_eq}
-use Rattle.std.proofs.lemmas.Bool.{eqb-true, eqb-false, eq-eqb, and_parts, cases_Bool, both_ways, or_cases, and_left, ne_eqb, not_from_true}
-use Rattle.std.proofs.lemmas.Bool.{not_from_false, false_from_ne_true, false≢true, cond-true, cond-false}
+use Rattle.std.proofs.lemmas.Bool.{eqb-true, eq-eqb, and_parts, cases_Bool, both_ways, or_cases, and_left, ne_eqb, not_from_true}
+use Rattle.std.proofs.lemmas.Bool.{not_from_false, false≢true, cond-true, cond-false}
 use Rattle.std.proofs.lemmas.List.Splits.{slice_split-cons_yes, slice_split-cons_no, slice_split_none, length-slice_split}
-use Rattle.std.proofs.lemmas.List.{append_cancel_left, append-nil, get_or_at, get_or-append_right, take_at, length-take-le, take_rest}
+use Rattle.std.proofs.lemmas.List.{get_or_at, get_or-append_right, take_at, length-take-le, take_rest}
 use Rattle.std.proofs.lemmas.List.Sums.{suffix_len_is}
-use Rattle.std.proofs.lemmas.Grind.{flat_map-append, get_or_tail}
+use Rattle.std.proofs.lemmas.Grind.{get_or_tail}
 use Rattle.std.proofs.lemmas.List.Folds.{list_any_at}
 use Rattle.std.proofs.lemmas.List.Elements.{All-from_get_or}
-use Rattle.std.proofs.lemmas.Slice.Eq.{bytes_eq-Decides, starts_is, strip_prefix_is}
-use Rattle.std.proofs.lemmas.Option.{MatchOption-at_none, MatchOption-at_some}
-use Rattle.std.proofs.lemmas.Bool.Decides.{Decides-eqb}
+use Rattle.std.proofs.lemmas.Slice.Eq.{bytes_eq-Decides, starts_is}
 use Rattle.group_tree.specs.Path.{is_slash, or_root, parent_path, root_path, is_root, names_of, is_name, is_well_formed, IsWellFormed}
 
 -- the path begins with a slash
@@ -92,15 +89,6 @@ depth-slashes path e s =
     let names : length (names_of path) ≡ length (slice_split is_slash s.0) = ap length (names-below path s.0 e s.1) in
     omega arith
 
--- the text is empty or begins with a slash
-abbrev pub AtSlash : List ℕ → Type 0
-AtSlash [] = Unit {0}
-AtSlash (b ∷ bs) = b ≡ 47
-
-AtSlash-slashed : (names : List (List ℕ)) → AtSlash (slashed names)
-AtSlash-slashed [] = tt
-AtSlash-slashed (n ∷ ns) = refl
-
 -- the names begin with other names
 pub begins_names : (below above : List (List ℕ)) → starts_with bytes_eq below above ≡ true → below ≡ above ++ drop (length above) below
 begins_names below above = (starts_is bytes_eq-Decides below above (starts_with bytes_eq below above) refl).0
@@ -108,81 +96,13 @@ begins_names below above = (starts_is bytes_eq-Decides below above (starts_with 
 pub begins_from_names : (below above rest : List (List ℕ)) → below ≡ above ++ rest → starts_with bytes_eq below above ≡ true
 begins_from_names below above = (starts_is bytes_eq-Decides below above (starts_with bytes_eq below above) refl).1
 
-not_root-from_length : (path : List ℕ) → 1 < length path → is_root path ≡ false
-not_root-from_length path h =
-    ⊎_elim (λ e. let one : length path ≡ 1 = ap length (root-from_test path e) in absurd (omega arith)) (λ e. e) (cases_Bool (is_root path))
-
-not_root-from_names : (path : List ℕ) → 0 < length (names_of path) → is_root path ≡ false
-not_root-from_names path h =
-    ⊎_elim (λ e. let none : length (names_of path) ≡ 0 = ap length (names-root path e) in absurd (omega arith)) (λ e. e) (cases_Bool (is_root path))
-
 pub has_name : (path : List ℕ) → is_root path ≡ false → BeginsWithSlash path → 0 < length (names_of path)
 has_name path e s =
     let h = split-cons s.0 in
     rw (names-below path s.0 e s.1, h.2) (omega arith)
 
--- the names of one path begin those of another where its bytes do, up to a slash
-pub begins_from_bytes : (above below rest : List ℕ) → is_root above ≡ false → BeginsWithSlash above → below ≡ above ++ rest → AtSlash rest →
-    starts_with bytes_eq (names_of below) (names_of above) ≡ true
-begins_from_bytes above below [] e s b h =
-    begins_from_names (names_of below) (names_of above) [] (ap names_of (b ∙ append-nil above) ∙ sym (append-nil (names_of above)))
-begins_from_bytes above below (x ∷ ys) e s b h =
-    let whole : below ≡ 47 ∷ (s.0 ++ 47 ∷ ys) = rw (b, h, s.1) in
-    let long : 1 < length below = rw whole (omega (arith, length-append s.0 (47 ∷ ys))) in
-    begins_from_names (names_of below) (names_of above) (slice_split is_slash ys)
-    (rw (names-below below (s.0 ++ 47 ∷ ys) (not_root-from_length below long) whole, names-below above s.0 e s.1) (split-append s.0 ys))
-
-pub bytes_from_begins : (above below : List ℕ) → is_root above ≡ false → BeginsWithSlash above → BeginsWithSlash below →
-    starts_with bytes_eq (names_of below) (names_of above) ≡ true → (rest : List ℕ) × (below ≡ above ++ rest) × AtSlash rest
-bytes_from_begins above below e s t h =
-    let more = drop (length (names_of above)) (names_of below) in
-    let names : names_of below ≡ names_of above ++ more = begins_names (names_of below) (names_of above) h in
-    let some : 0 < length (names_of below) = rw names (omega (arith, length-append (names_of above) more, has_name above e s)) in
-    let bytes : slashed (names_of below) ≡ slashed (names_of above) ++ slashed more = ap slashed names
-    ∙ flat_map-append (λ name. 47 ∷ name) (names_of above) more in (
-      slashed more,
-      sym (slashed-names below (not_root-from_names below some) t) ∙ bytes ∙ ap (λ x. x ++ slashed more) (slashed-names above e s),
-      AtSlash-slashed more,
-    )
-
 pub begins_root : (above below : List ℕ) → is_root above ≡ true → starts_with bytes_eq (names_of below) (names_of above) ≡ true
 begins_root above below e = begins_from_names (names_of below) (names_of above) (names_of below) (sym (ap (λ x. x ++ names_of below) (names-root above e)))
-
--- what is left of the one path behind the other decides it
-pub begins_empty : (above below rest : List ℕ) → is_root above ≡ false → BeginsWithSlash above → below ≡ above ++ rest → length rest ≡ 0 →
-    starts_with bytes_eq (names_of below) (names_of above) ≡ true
-begins_empty above below [] e s b h = begins_from_bytes above below [] e s b tt
-begins_empty above below (x ∷ xs) e s b h = absurd (omega arith)
-
-pub begins_byte : (above below rest : List ℕ) → is_root above ≡ false → BeginsWithSlash above → BeginsWithSlash below → below ≡ above ++ rest →
-    0 < length rest → eqb (get_or rest 0 0) 47 ≡ starts_with bytes_eq (names_of below) (names_of above)
-begins_byte above below [] e s t b h = absurd (omega arith)
-begins_byte above below (x ∷ xs) e s t b h =
-    let named = starts_with bytes_eq (names_of below) (names_of above) in
-    ⊎_elim
-    (λ slash. slash ∙ sym (begins_from_bytes above below (x ∷ xs) e s b (eqb-true x 47 slash)))
-    (λ other. other ∙ sym (false_from_ne_true named (λ n.
-    let w = bytes_from_begins above below e s t n in
-    let same : x ∷ xs ≡ w.0 = append_cancel_left above (x ∷ xs) w.0 (sym b ∙ w.1) in
-    eqb-false x 47 other (subst AtSlash (sym same) w.2))))
-    (cases_Bool (eqb x 47))
-
-pub begins_nowhere : (above below : List ℕ) (r : Option (Bor (List ℕ))) → is_root above ≡ false → BeginsWithSlash above → BeginsWithSlash below →
-    r ≡ None → MatchOption r (pointwise eqb (take (length above) below) above ≡ false)
-    (λ x. (pointwise eqb (take (length above) below) above ≡ true) × (x.now ≡ drop (length above) below) × (length x.now + length above ≡ length below)) →
-    false ≡ starts_with bytes_eq (names_of below) (names_of above)
-begins_nowhere above below r e s t none h =
-    let named = starts_with bytes_eq (names_of below) (names_of above) in
-    let nowhere = strip_prefix_is Decides-eqb below above r h in
-    sym (false_from_ne_true named (λ n.
-    let w = bytes_from_begins above below e s t n in
-    MatchOption-at_none _ _ none nowhere w.0 w.1))
-
-pub stripped : (above below : List ℕ) (r : Option (Bor (List ℕ))) (x : Bor (List ℕ)) → r ≡ Some x →
-    MatchOption r (pointwise eqb (take (length above) below) above ≡ false)
-    (λ x. (pointwise eqb (take (length above) below) above ≡ true) × (x.now ≡ drop (length above) below) × (length x.now + length above ≡ length below)) →
-    below ≡ above ++ x.now
-stripped above below r x some h = MatchOption-at_some _ _ x some (strip_prefix_is Decides-eqb below above r h)
 
 -- what stands before the last slash, where that is found from the end
 before_last-at : (path : List ℕ) (end : ℕ) → end ≤ length path → ((k : ℕ) → end ≤ k → k < length path → get_or path k 0 ≡ 47 → ⊥) →

@@ -2,7 +2,6 @@
 
 ghost use Rattle.std.specs.Prelude.{◌≡◌, IsTrue, nat_eq};
 ghost use Rattle.std.specs.List.{count_by, list_all, slice_split, starts_with};
-ghost use Rattle.std.specs.Str.{bytes_eq};
 ghost use Rattle.group_tree.specs.Path.{IsWellFormed, depth_of, is_dots, is_name, is_name_byte, is_root, is_slash, is_well_formed, names_of, parent_path};
 ghost use Rattle.group_tree.specs.Path.{root_path};
 
@@ -91,19 +90,4 @@ pub fn parent_path(path: &[u8]) -> &[u8]
         end -= 1;
     }
     if end <= 1 { b"/" } else { &path[..end - 1] }
-}
-
-/// Whether the group of the second path is that of the first or lies below it.
-pub fn begins(above: &[u8], below: &[u8]) -> bool
-    requires above { IsWellFormed above.now }
-    requires below { IsWellFormed below.now }
-    ensures { result ≡ starts_with bytes_eq (names_of below.now) (names_of above.now) }
-{
-    if is_root(above) {
-        return true;
-    }
-    match below.strip_prefix(above) {
-        Some(rest) => rest.is_empty() || rest[0] == b'/',
-        None => false,
-    }
 }

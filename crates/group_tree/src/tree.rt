@@ -4,7 +4,7 @@ ghost use Rattle.std.specs.Prelude.{◌≡◌, ◌≢◌, ℕ, ◌↔◌, ◌<�
 ghost use Rattle.std.specs.Option.{option_copied};
 ghost use Rattle.std.specs.Result.{result_err};
 ghost use Rattle.group_tree.specs.Ancestors.{depth_at};
-ghost use Rattle.group_tree.specs.Links.{root_link};
+ghost use Rattle.group_tree.specs.Links.{no_link};
 ghost use Rattle.group_tree.specs.Path.{IsWellFormed};
 ghost use Rattle.group_tree.specs.Groups.{AreGroups, IsLeastFreeNumber, group_at, has_child, has_group, in_subtree, initial_groups, limit_of, limited};
 ghost use Rattle.group_tree.specs.Groups.{make_fault, number_at, parent_of, path_of, the_root, with_group, with_limit, without_group};
@@ -21,13 +21,15 @@ use std::marker::Model;
 #[derive(Debug, Drop)]
 pub struct Tree {
     rows: Vec<Group>,
-    // By number: what a walk to the root reads of each group.
+    // By number: whether a group has it, and what a walk to the root reads of that group.
     links: [Link; MAX_GROUPS],
 }
 
 // What is kept of a group by its number, beside its row.
 #[derive(Clone, Copy, Debug, PartialEq, Eq)]
 struct Link {
+    // Whether a group has the number.
+    is_there: bool,
     // The group just above; the root's own number at the root.
     parent: GroupId,
     // How many names the path has.
@@ -56,7 +58,8 @@ impl Tree {
     {
         let mut rows = Vec::with_capacity(alloc, MAX_GROUPS)?;
         rows.push(root_group()).unwrap();
-        let links = [root_link(); MAX_GROUPS];
+        let mut links = [no_link(); MAX_GROUPS];
+        links[0].is_there = true;
         Ok(Tree { rows, links })
     }
 
@@ -77,11 +80,12 @@ impl Tree {
     }
 
     /// Whether there is a group of this number.
-    #[tactic(auto, unfolding(crate::specs::Groups::has_group))]
     pub fn contains(&self, g: GroupId) -> bool
         ensures { result ≡ has_group self.now g }
     {
-        self.row(g).is_some()
+        let _ = &self.rows;
+        let link = self.links[g.number() as usize];
+        link.is_there
     }
 
     /// The group with this path; None where no group has it.
@@ -149,9 +153,8 @@ impl Tree {
         requires below { IsTrue (has_group self.now h) }
         ensures { result ≡ in_subtree self.now g h }
     {
-        let above = self.path_of(g);
-        let below = self.path_of(h);
-        names::begins(above.as_bytes(), below.as_bytes())
+        let _ = self.groups();
+        self.ancestors(h).any(|above| above == g)
     }
 
     // Whether the second group is another one that lies below the first.
@@ -241,6 +244,7 @@ impl Tree {
         };
         self.rows.push(row).unwrap();
         self.links[number.number() as usize] = Link {
+            is_there: true,
             parent,
             depth,
             limit: None,
@@ -267,6 +271,7 @@ impl Tree {
     {
         let number = g.number();
         self.rows.retain(|row| row.number.number() != number);
+        self.links[number as usize] = no_link();
     }
 }
 
@@ -281,11 +286,12 @@ fn root_group() -> Group
     }
 }
 
-// The root's link, which the numbers of no group have at first.
-fn root_link() -> Link
-    ensures { result ≡ root_link }
+// The link of a number that no group has.
+fn no_link() -> Link
+    ensures { result ≡ no_link }
 {
     Link {
+        is_there: false,
         parent: GroupId::root(),
         depth: 0,
         limit: None,

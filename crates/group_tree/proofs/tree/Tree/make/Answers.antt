@@ -1,4 +1,4 @@
-use Rattle.std.proofs.Common.{◌≡◌, ◌∷◌, [], sym, ap, ◌∙◌, subst, rules, None, is_some, set, IsTrue}
+use Rattle.std.proofs.Common.{◌≡◌, ◌∷◌, [], sym, ap, ◌∙◌, subst, rules, true, None, is_some, set, IsTrue}
 use Rattle.std.proofs.lemmas.Slice.{pushed}
 use Rattle.group_tree.specs.Path.{depth_of}
 use Rattle.group_tree.specs.Groups.{AreGroups, has_group, number_at, with_group}
@@ -34,12 +34,12 @@ invariant_of-self c =
       subst AreGroups (sym (rows ∙ ap (with_group c.args.self.now c.least_free-number.result) path)) new,
       search (rules, c.self.invariant.1),
       subst (λ r. AreLinks r (set c.self.inside.links c.number.result
-          (record { parent = c.unwrap-parent.result; depth = c.depth-depth.result; limit = None })))
+          (record { is_there = true; parent = c.unwrap-parent.result; depth = c.depth-depth.result; limit = None })))
           (sym (rows ∙ ap (with_group c.args.self.now c.least_free-number.result) path))
           (subst (AreLinks (with_group c.args.self.now c.least_free-number.result c.args.path.now))
-          (ap (λ n. set c.self.inside.links n (record { parent = c.unwrap-parent.result; depth = depth_of c.args.path.now; limit = None }))
+          (ap (λ n. set c.self.inside.links n (record { is_there = true; parent = c.unwrap-parent.result; depth = depth_of c.args.path.now; limit = None }))
           (sym c.number.ensures.value)
-          ∙ ap (λ d. set c.self.inside.links c.number.result (record { parent = c.unwrap-parent.result; depth = d; limit = None })) (sym c.depth-depth.ensures))
+          ∙ ap (λ d. set c.self.inside.links c.number.result (record { is_there = true; parent = c.unwrap-parent.result; depth = d; limit = None })) (sym c.depth-depth.ensures))
           (AreLinks-with c.args.self.now c.self.inside.links c.least_free-number.result c.unwrap-parent.result c.args.path.now old
           (subst (λ r. AreLinks r c.self.inside.links) c.self.view_is c.self.invariant.2) can c.least_free-number.ensures.below
           c.least_free-number.ensures.number.free (sym (ap (number_at c.args.self.now) c.parent_path.ensures) ∙ sym c.find.ensures ∙ c.unwrap-parent.ensures))),

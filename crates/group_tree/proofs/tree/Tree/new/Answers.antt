@@ -1,4 +1,4 @@
-use Rattle.std.proofs.Common.{◌≡◌, ◌∷◌, [], sym, ap, ◌∙◌, subst, rules, replicate}
+use Rattle.std.proofs.Common.{◌≡◌, ◌∷◌, [], sym, ap, ◌∙◌, subst, rules, true, get_or, set, replicate}
 use Rattle.std.proofs.lemmas.Slice.{pushed}
 use Rattle.group_tree.specs.Groups.{AreGroups, initial_groups}
 use Rattle.group_tree.proofs.GroupLemmas.{AreGroups-initial}
@@ -13,5 +13,6 @@ invariant_of-result c =
       subst AreGroups (sym rows) AreGroups-initial,
       search (rules, c.in_ok-rows.ensures),
       subst
-          (λ r. AreLinks r (replicate 64 c.root_link-links.result)) (sym rows) (AreLinks-initial _ (ap (replicate 64) c.root_link-links.ensures)),
+          (λ r. AreLinks r (set (replicate 64 c.no_link-links.result) 0 (record (get_or (replicate 64 c.no_link-links.result) 0 c.index-links-0.result) { is_there = true })))
+          (sym rows) (AreLinks-initial _ (search rules)),
     )

@@ -2,7 +2,7 @@ use Rattle.std.proofs.Common.{◌≡◌, ◌++◌, take, drop, length, sym, ap, 
 use Rattle.group_tree.specs.Groups.{AreGroups, with_limit}
 use Rattle.group_tree.proofs.GroupLemmas.{AreGroups-limited, length-limited, take_new}
 use Rattle.std.proofs.lemmas.List.{get_or_default}
-use Rattle.group_tree.specs.Links.{AreLinks, root_link}
+use Rattle.group_tree.specs.Links.{AreLinks, no_link}
 use Rattle.group_tree.proofs.LinkLemmas.{AreLinks-limited, limit_set}
 use Rattle.group_tree.proofs.tree.Tree.set_max.Goals as goal
 
@@ -21,7 +21,7 @@ invariant_of-self c =
           (record (get_or c.self.inside.links c.number.result c.index-self-number.result) { limit = c.args.limit }))) (sym (whole ∙ new))
           (subst (AreLinks (with_limit old c.args.g c.args.limit)) (ap (λ n. limit_set c.self.inside.links n c.args.limit) (sym c.number.ensures.value)
           ∙ ap (λ l. set c.self.inside.links c.number.result (record l { limit = c.args.limit }))
-          (get_or_default c.self.inside.links c.number.result root_link c.index-self-number.result within))
+          (get_or_default c.self.inside.links c.number.result no_link c.index-self-number.result within))
           (AreLinks-limited old c.self.inside.links c.args.g c.args.limit
           (subst (λ n. n < 64) c.number.ensures.value c.number.ensures.below) c.self.invariant.2)),
     )
