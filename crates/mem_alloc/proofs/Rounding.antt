@@ -10,7 +10,7 @@ use Rattle.mem_machine.specs.Local.{Side, IsLocalRun, local_of, side}
 use Rattle.mem_machine.proofs.Reaching.{run_both}
 use Rattle.mem_reclaim.specs.Moves.{Leads}
 use Rattle.mem_reclaim.specs.Passes.{Reclaims}
-use Rattle.mem_reclaim.specs.Staying.{Keeps}
+use Rattle.mem_reclaim.specs.Staying.{Keeps, MissedAll}
 use Rattle.mem_alloc.specs.Stepping.{Course, BySteps, course}
 use Rattle.mem_alloc.specs.Rounds.{MakesRound, FailsInRounds, SucceedsInRounds}
 use Rattle.mem_alloc.proofs.Lowering.{Lowers, lowers_none, lowers_both, keeps_lower}
@@ -136,7 +136,7 @@ module _ (t : KnownTable) (want : ℕ) (Fails : Course Side → Type 0) (Succeed
 
     -- one round more
     module _ (left : made < 16) (given : ℕ) (x : KnownMachine) (leads : Leads t given now x (λ steps. Reclaims 0 want given now steps x))
-        (keeps : Keeps t now x) (then : KnownMachine) (e : KnownCpu) (trying : Run)
+        (missed : given < want → MissedAll 0 now x) (keeps : Keeps t now x) (then : KnownMachine) (e : KnownCpu) (trying : Run)
         (tries : IsLocalRun d.number (local_of t x d) trying (local_of t then e)) where
       next_left : suc (16 - (made + 1)) ≡ 16 - made
       next_left = omega (arith, left)
@@ -151,6 +151,7 @@ module _ (t : KnownTable) (want : ℕ) (Fails : Course Side → Type 0) (Succeed
         reclaiming = leads.steps;
         trying = trying;
         reclaims = leads.does;
+        missed = missed;
         keeps = keeps;
         tries = does;
         steps_are = refl;

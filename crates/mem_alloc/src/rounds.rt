@@ -3,14 +3,15 @@
 ghost use Rattle.std.specs.Prelude.{◌<◌, ◌^◌};
 ghost use Rattle.mem_reclaim.specs.Moves.{Leads};
 ghost use Rattle.mem_reclaim.specs.Passes.{Reclaims};
-ghost use Rattle.mem_reclaim.specs.Staying.{Keeps};
+ghost use Rattle.mem_reclaim.specs.Staying.{Keeps, MissedAll};
 
 use cpu_part::{BootName, Tables};
 use group_tree::group::GroupId;
 use mem_machine::Machine;
 use mem_reclaim::reclaim;
 
-// Reclaims so many pages from the units of all groups, and tells how many came back.
+// Reclaims so many pages from the units of all groups, and tells how many came back. Where that is fewer, each clean
+// unit that is still kept was tried, and missed.
 pub(crate) fn reclaim_anywhere<N: BootName>(
     machine: &mut Machine<N>,
     tables: &Tables<N>,
@@ -19,6 +20,7 @@ pub(crate) fn reclaim_anywhere<N: BootName>(
     requires { want < 2 ^ 40 }
     ensures reclaims { Leads N.frames result machine.old machine.new
         (λ steps. Reclaims 0 want result machine.old steps machine.new) }
+    ensures missed { result < want → MissedAll 0 machine.old machine.new }
     ensures keeps { Keeps N.frames machine.old machine.new }
 {
     let _tree = machine.charges().tree(); // For the clauses.

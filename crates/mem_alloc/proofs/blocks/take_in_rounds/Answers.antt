@@ -1,7 +1,8 @@
-use Rattle.std.proofs.Common.{◌≡◌, ℕ, ◌^◌, refl, ◌∙◌, subst}
+use Rattle.std.proofs.Common.{◌≡◌, ℕ, ◌^◌, ◌<◌, refl, ◌∙◌, subst}
 use Rattle.mem_machine.specs.Blocks.{taken_steps, unplaced_steps}
 use Rattle.mem_reclaim.specs.Moves.{Leads}
 use Rattle.mem_reclaim.specs.Passes.{Reclaims}
+use Rattle.mem_reclaim.specs.Staying.{MissedAll}
 use Rattle.mem_machine.specs.Local.{side}
 use Rattle.mem_alloc.specs.Stepping.{course}
 use Rattle.mem_alloc.specs.Blocks.{TryTakes, TryFindsNone}
@@ -22,9 +23,10 @@ returns-in-Ok-clause-takes g c =
     let wants : c.from.result ≡ 2 ^ c.args.order = c.from.ensures ∙ c.frames-pages.ensures.frames in
     let reclaims = subst (λ (w : ℕ). Leads t given c.loop-round.machine x (λ steps. Reclaims 0 w given c.loop-round.machine steps x)) wants
     c.reclaim_anywhere-given.ensures.reclaims in
+    let missed = subst (λ (w : ℕ). given < w → MissedAll 0 c.loop-round.machine x) wants c.reclaim_anywhere-given.ensures.missed in
     rounds_succeed t (2 ^ c.args.order) (TryFindsNone c.args.group c.args.order) (TryTakes c.args.group c.args.order) c.args.machine.now
     c.args.cpu.now c.loop-round._round c.loop-round.machine c.loop-round.cpu c.loop-round.invariant c.loop-round-test.true given x reclaims
-    c.reclaim_anywhere-given.ensures.keeps c.take_block.new.self c.take_block.new.cpu (taken_steps c.args.group c.args.order c.in-Ok.head)
+    missed c.reclaim_anywhere-given.ensures.keeps c.take_block.new.self c.take_block.new.cpu (taken_steps c.args.group c.args.order c.in-Ok.head)
     c.in-Ok.ensures.steps c.in-Ok.head (record { takes = c.in-Ok.ensures.takes; cpu = c.in-Ok.ensures.cpu; steps_are = refl })
 
 pub returns-in-Err-NoBlock-clause-takes : goal.returns-in-Err-NoBlock-clause-takes
@@ -35,11 +37,12 @@ returns-in-Err-NoBlock-clause-takes g c =
     let wants : c.from.result ≡ 2 ^ c.args.order = c.from.ensures ∙ c.frames-pages.ensures.frames in
     let reclaims = subst (λ (w : ℕ). Leads t given c.loop-round.machine x (λ steps. Reclaims 0 w given c.loop-round.machine steps x)) wants
     c.reclaim_anywhere-given.ensures.reclaims in
+    let missed = subst (λ (w : ℕ). given < w → MissedAll 0 c.loop-round.machine x) wants c.reclaim_anywhere-given.ensures.missed in
     let none = is_none _ _ c.args.group c.args.order c.in-Err-NoBlock.field-0 c.in-Err-NoBlock.field-0-is c.in-Err-NoBlock.ensures.refuses in
     let vain = by_none _ c.args.group c.args.order _ _ c.in-Err-NoBlock.field-0 c.in-Err-NoBlock.field-0-is c.in-Err-NoBlock.ensures.steps in
     rounds_end t (2 ^ c.args.order) (TryFindsNone c.args.group c.args.order) (TryTakes c.args.group c.args.order) c.args.machine.now
     c.args.cpu.now c.loop-round._round c.loop-round.machine c.loop-round.cpu c.loop-round.invariant c.loop-round-test.true given x reclaims
-    c.reclaim_anywhere-given.ensures.keeps c.take_block.new.self c.take_block.new.cpu (unplaced_steps c.args.group c.args.order) vain
+    missed c.reclaim_anywhere-given.ensures.keeps c.take_block.new.self c.take_block.new.cpu (unplaced_steps c.args.group c.args.order) vain
     (record { none = none; cpu = c.in-Err-NoBlock.ensures.cpu; steps_are = refl }) c.if-given-eq0.true
 
 pub loop-round-preserved : goal.loop-round-preserved
@@ -50,13 +53,14 @@ loop-round-preserved g c =
     let wants : c.from.result ≡ 2 ^ c.args.order = c.from.ensures ∙ c.frames-pages.ensures.frames in
     let reclaims = subst (λ (w : ℕ). Leads t given c.loop-round.machine x (λ steps. Reclaims 0 w given c.loop-round.machine steps x)) wants
     c.reclaim_anywhere-given.ensures.reclaims in
+    let missed = subst (λ (w : ℕ). given < w → MissedAll 0 c.loop-round.machine x) wants c.reclaim_anywhere-given.ensures.missed in
     let none = is_none _ _ c.args.group c.args.order c.in-Err-NoBlock.field-0 c.in-Err-NoBlock.field-0-is c.in-Err-NoBlock.ensures.refuses in
     let vain = by_none _ c.args.group c.args.order _ _ c.in-Err-NoBlock.field-0 c.in-Err-NoBlock.field-0-is c.in-Err-NoBlock.ensures.steps in
     let does : TryFindsNone c.args.group c.args.order (course t (side x c.loop-round.cpu) (unplaced_steps c.args.group c.args.order)
     (side c.take_block.new.self c.take_block.new.cpu)) = record { none = none; cpu = c.in-Err-NoBlock.ensures.cpu; steps_are = refl } in
     rounds_more t (2 ^ c.args.order) (TryFindsNone c.args.group c.args.order) (TryTakes c.args.group c.args.order) c.args.machine.now
     c.args.cpu.now c.loop-round._round c.loop-round.machine c.loop-round.cpu c.loop-round.invariant c.loop-round-test.true given x reclaims
-    c.reclaim_anywhere-given.ensures.keeps c.take_block.new.self c.take_block.new.cpu (unplaced_steps c.args.group c.args.order) vain
+    missed c.reclaim_anywhere-given.ensures.keeps c.take_block.new.self c.take_block.new.cpu (unplaced_steps c.args.group c.args.order) vain
     does c.if-given-eq0.false
     (none_spares t c.args.group c.args.order x c.take_block.new.self c.loop-round.cpu c.take_block.new.cpu
     (unplaced_steps c.args.group c.args.order) does)

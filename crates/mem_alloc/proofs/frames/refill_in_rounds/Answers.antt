@@ -16,7 +16,8 @@ returns-then-refill-gt0-clause-refills g c =
     let many = c.if-refill-gt0.true in
     rounds_succeed t 1 LendsNoFrame (λ _. LendsBatch c.args.batch) c.args.machine.now c.args.cpu.now c.loop-round._round
     c.loop-round.machine c.loop-round.cpu c.loop-round.invariant c.loop-round-test.true c.reclaim_anywhere-given.result
-    c.reclaim_anywhere-given.new.machine c.reclaim_anywhere-given.ensures.reclaims c.reclaim_anywhere-given.ensures.keeps
+    c.reclaim_anywhere-given.new.machine c.reclaim_anywhere-given.ensures.reclaims c.reclaim_anywhere-given.ensures.missed
+    c.reclaim_anywhere-given.ensures.keeps
     c.refill.new.self c.refill.new.cpu (refill_steps c.loop-round.cpu.number done.refills.frames) done.refills.steps 0
     (lent_batch t c.refill.result c.args.batch _ _ _ _ done.refills (omega (arith, many)) done.at_most done.fewer_only_at_the_end)
 
@@ -28,7 +29,8 @@ returns-then-given-eq0-clause-refills g c =
     c.requires.some in
     rounds_end t 1 LendsNoFrame (λ _. LendsBatch c.args.batch) c.args.machine.now c.args.cpu.now c.loop-round._round
     c.loop-round.machine c.loop-round.cpu c.loop-round.invariant c.loop-round-test.true c.reclaim_anywhere-given.result
-    c.reclaim_anywhere-given.new.machine c.reclaim_anywhere-given.ensures.reclaims c.reclaim_anywhere-given.ensures.keeps
+    c.reclaim_anywhere-given.new.machine c.reclaim_anywhere-given.ensures.reclaims c.reclaim_anywhere-given.ensures.missed
+    c.reclaim_anywhere-given.ensures.keeps
     c.refill.new.self c.refill.new.cpu none.0 none.2 none.1 c.if-given-eq0.true
 
 pub loop-round-preserved : goal.loop-round-preserved
@@ -39,7 +41,8 @@ loop-round-preserved g c =
     c.requires.some in
     rounds_more t 1 LendsNoFrame (λ _. LendsBatch c.args.batch) c.args.machine.now c.args.cpu.now c.loop-round._round
     c.loop-round.machine c.loop-round.cpu c.loop-round.invariant c.loop-round-test.true c.reclaim_anywhere-given.result
-    c.reclaim_anywhere-given.new.machine c.reclaim_anywhere-given.ensures.reclaims c.reclaim_anywhere-given.ensures.keeps
+    c.reclaim_anywhere-given.new.machine c.reclaim_anywhere-given.ensures.reclaims c.reclaim_anywhere-given.ensures.missed
+    c.reclaim_anywhere-given.ensures.keeps
     c.refill.new.self c.refill.new.cpu none.0 none.2 none.1 c.if-given-eq0.false
     (no_frame_spares t _ _ _ _ none.0 none.1)
 
