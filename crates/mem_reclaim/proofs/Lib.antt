@@ -6,3 +6,4 @@ pub mod Listing
 pub mod Scanning
 pub mod Passing
 pub mod Rounding
+pub mod Choosing

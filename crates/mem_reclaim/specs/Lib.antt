@@ -4,3 +4,4 @@ pub mod Units
 pub mod Passes
 pub mod Rounds
 pub mod Staying
+pub mod Victim

@@ -11,6 +11,8 @@ mod passes;
 mod reclaiming;
 mod rounds;
 mod scan;
+mod victims;
 
 pub use reclaiming::{Reclaimed, reclaim};
 pub use rounds::{MAX_ROUNDS, make_rounds};
+pub use victims::victim;
