@@ -1,7 +1,7 @@
 -- The victim among the group numbers below some number. Serves `victim`.
-use Rattle.std.proofs.Common.{◌≡◌, ℕ, ◌<◌, ◌≤◌, true, Option, Some, None, ◌∙◌, arith}
+use Rattle.std.proofs.Common.{◌≡◌, ℕ, ◌<◌, ◌≤◌, true, Option, Some, None, IsTrue, ◌∙◌, arith}
 use Rattle.std.proofs.lemmas.Bool.{and_parts}
-use Rattle.group_tree.specs.Groups.{AreGroups, in_subtree}
+use Rattle.group_tree.specs.Groups.{AreGroups, has_group, in_subtree}
 use Rattle.group_tree.proofs.CallerLemmas.{in_subtree-below}
 use Rattle.group_charge.proofs.KeptLemmas.{number_below}
 use Rattle.mem_machine.specs.Machines.{KnownMachine}
@@ -21,11 +21,13 @@ abbrev pub BestBelow : KnownMachine → ℕ → ℕ → Option ℕ → ℕ → T
 BestBelow m g k None frames = (frames ≡ 0) × ((j : ℕ) → j < k → may_be_killed m g j ≡ true → own_frames m j ≡ 0)
 BestBelow m g k (Some v) frames = BestSoFar m g k v frames
 
+-- who may be killed is there
+pub chosen_there : (m : KnownMachine) (g k : ℕ) → may_be_killed m g k ≡ true → IsTrue (has_group m.ledger.groups k)
+chosen_there m g k chosen = in_subtree-below m.ledger.groups g k (and_parts (in_subtree m.ledger.groups g k) _ chosen).0
+
 -- who may be killed has a group's number
 chosen_below : (m : KnownMachine) → AreGroups m.ledger.groups → (g k : ℕ) → may_be_killed m g k ≡ true → k < 64
-chosen_below m facts g k chosen =
-    let below = and_parts (in_subtree m.ledger.groups g k) _ chosen in
-    number_below m.ledger.groups k facts (in_subtree-below m.ledger.groups g k below.0)
+chosen_below m facts g k chosen = number_below m.ledger.groups k facts (chosen_there m g k chosen)
 
 -- all numbers were looked at
 pub best_end : (m : KnownMachine) → AreGroups m.ledger.groups → (g k : ℕ) (best : Option ℕ) (frames : ℕ) → BestBelow m g k best frames → 64 ≤ k → IsVictim m g best

@@ -7,3 +7,4 @@ pub mod Scanning
 pub mod Passing
 pub mod Rounding
 pub mod Choosing
+pub mod LettingGo

@@ -5,3 +5,4 @@ pub mod Passes
 pub mod Rounds
 pub mod Staying
 pub mod Victim
+pub mod Killing

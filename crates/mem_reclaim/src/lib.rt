@@ -6,6 +6,7 @@
 //! of a type's values is known only where one of its calls says it.
 #![tactic(auto)]
 
+mod kills;
 mod meet;
 mod passes;
 mod reclaiming;
@@ -13,6 +14,7 @@ mod rounds;
 mod scan;
 mod victims;
 
+pub use kills::kill;
 pub use reclaiming::{Reclaimed, reclaim};
 pub use rounds::{MAX_ROUNDS, make_rounds};
 pub use victims::victim;
