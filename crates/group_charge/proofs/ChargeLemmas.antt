@@ -16,8 +16,9 @@ use Rattle.group_tree.specs.Groups.{the_root, IsLeastFreeNumber, has_group, in_s
 use Rattle.group_tree.proofs.GroupLemmas.{CanMake, has_group-any, has_group-contains, length-full, AreGroups-initial, AreGroups-with}
 use Rattle.group_tree.proofs.GroupLemmas.{AreGroups-without, AreGroups-limited, limited-number}
 use Rattle.group_tree.proofs.CallerLemmas.{in_subtree-root}
+use Rattle.group_charge.specs.declared.account.Counts.{Counts}
 use Rattle.group_charge.specs.Charges.{Account, Ledger, AreCharges, UsageRises, account_at, pages_of, current_of, usage_of, total_pages, added, taken}
-use Rattle.group_charge.specs.Charges.{peaked, noted, charged, empty_account, initial_ledger, with_charge, with_uncharge, with_new_group}
+use Rattle.group_charge.specs.Charges.{peaked, with_event_at, charged, empty_account, initial_ledger, with_charge, with_uncharge, with_new_group}
 use Rattle.group_charge.specs.Charges.{with_group_removed, with_group_limit}
 use Rattle.group_charge.proofs.SumLemmas.{AreDistinct, share, total-added, total-taken, usage-le-total, added-group, taken-group, peaked-group}
 use Rattle.group_charge.proofs.SumLemmas.{peaked-pages, sum-map_same}
@@ -150,12 +151,12 @@ AreCharges-limited l g limit facts = record {
 }
 
 -- and after a note
-pub AreCharges-noted : (l : Ledger) (g : ℕ) → AreCharges l → AreCharges (record { groups = l.groups; accounts = map (noted l.groups g) l.accounts })
-AreCharges-noted l g facts = record {
+pub AreCharges-noted : (more : Counts → Counts) (l : Ledger) (g : ℕ) → AreCharges l → AreCharges (record { groups = l.groups; accounts = map (with_event_at more l.groups g) l.accounts })
+AreCharges-noted more l g facts = record {
   groups = facts.groups;
-  numbers = same_groups (noted l.groups g) (λ a. refl) l.accounts ∙ facts.numbers;
-  fits = omega (arith, sum-map_same (λ (a : Account). a.pages) (noted l.groups g) (λ a. refl) l.accounts, facts.fits);
-  peaks = cover_noted l.groups l.accounts g facts.peaks;
+  numbers = same_groups (with_event_at more l.groups g) (λ a. refl) l.accounts ∙ facts.numbers;
+  fits = omega (arith, sum-map_same (λ (a : Account). a.pages) (with_event_at more l.groups g) (λ a. refl) l.accounts, facts.fits);
+  peaks = cover_noted more l.groups l.accounts g facts.peaks;
 }
 
 -- and after pages were taken

@@ -10,8 +10,9 @@ use Rattle.group_tree.specs.declared.group.Group.{Group}
 use Rattle.group_tree.specs.Groups.{AreGroups, has_group, in_subtree, with_group, with_limit, without_group, limited}
 use Rattle.group_tree.specs.Room.{on_path}
 use Rattle.group_tree.proofs.GroupLemmas.{has_group-contains, has_group-is, group_at-contains, limited-number}
-use Rattle.group_charge.specs.Charges.{Account, AreCharges, account_at, added, charged, empty_account, noted, pages_of, peaked, taken, usage_of}
-use Rattle.group_charge.specs.Charges.{with_charge, with_max}
+use Rattle.group_charge.specs.declared.account.Counts.{Counts}
+use Rattle.group_charge.specs.Charges.{Account, AreCharges, account_at, added, charged, empty_account, pages_of, peaked, taken, usage_of}
+use Rattle.group_charge.specs.Charges.{with_charge, with_event_at}
 use Rattle.group_charge.specs.Kept.{AccountsOnPath, AreUsages, account_by, accounts_of, ledger_of, usage_by, with_event, with_local_event, with_usage_peak}
 use Rattle.group_charge.proofs.ChargeLemmas.{account_at-there, same_groups}
 use Rattle.group_charge.proofs.SumLemmas.{added-group}
@@ -103,43 +104,43 @@ kept_peaked groups old new usages g bear walked sums =
     (max a.peak (usage_of groups (accounts_of groups old) a.group)) a.peak (sym side ∙ f))))
     (cases_Bool (in_subtree groups k g)))
 
--- one more `max` along the path and at the group itself
-abbrev events_noted : List Group → ℕ → Account → Account
-events_noted groups g a = record a { events = on_path groups g with_max a.group a.events }
+-- one more event along the path and at the group itself
+abbrev events_noted : (Counts → Counts) → List Group → ℕ → Account → Account
+events_noted more groups g a = record a { events = on_path groups g more a.group a.events }
 
-events_walked : (groups : List Group) (g k : ℕ) (a : Account) → a.group ≡ k → on_path groups g (with_event k) k a ≡ events_noted groups g a
-events_walked groups g k a own =
+events_walked : (more : Counts → Counts) (groups : List Group) (g k : ℕ) (a : Account) → a.group ≡ k → on_path groups g (with_event more k) k a ≡ events_noted more groups g a
+events_walked more groups g k a own =
     let side : in_subtree groups k g ≡ in_subtree groups a.group g = ap (λ j. in_subtree groups j g) (sym own) in
     ⊎_elim
     (λ t.
-    cond-true (in_subtree groups k g) (with_event k a) a t
-    ∙ ap (λ e. record a { events = e }) (sym (cond-true (in_subtree groups a.group g) (with_max a.events) a.events (sym side ∙ t))))
+    cond-true (in_subtree groups k g) (with_event more k a) a t
+    ∙ ap (λ e. record a { events = e }) (sym (cond-true (in_subtree groups a.group g) (more a.events) a.events (sym side ∙ t))))
     (λ f.
-    cond-false (in_subtree groups k g) (with_event k a) a f
-    ∙ ap (λ e. record a { events = e }) (sym (cond-false (in_subtree groups a.group g) (with_max a.events) a.events (sym side ∙ f))))
+    cond-false (in_subtree groups k g) (with_event more k a) a f
+    ∙ ap (λ e. record a { events = e }) (sym (cond-false (in_subtree groups a.group g) (more a.events) a.events (sym side ∙ f))))
     (cases_Bool (in_subtree groups k g))
 
-pub kept_noted : (groups : List Group) (old new : List Account) (g : ℕ) → BearNumbers groups old → g < length new →
-    AccountsOnPath groups g with_event old new → accounts_of groups (with_local_event g new) ≡ map (noted groups g) (accounts_of groups old)
-kept_noted groups old new g bear within walked =
-    kept_mapped groups old (with_local_event g new) (noted groups g)
+pub kept_noted : (more : Counts → Counts) (groups : List Group) (old new : List Account) (g : ℕ) → BearNumbers groups old → g < length new →
+    AccountsOnPath groups g (with_event more) old new → accounts_of groups (with_local_event more g new) ≡ map (with_event_at more groups g) (accounts_of groups old)
+kept_noted more groups old new g bear within walked =
+    kept_mapped groups old (with_local_event more g new) (with_event_at more groups g)
     (λ k there.
     let own = own_number groups old k bear there in
     let a = account_by old k in
-    let half : account_by new k ≡ events_noted groups g a = walked k ∙ events_walked groups g k a own in
+    let half : account_by new k ≡ events_noted more groups g a = walked k ∙ events_walked more groups g k a own in
     ⊎_elim
     (λ same.
-    let item : Account = record (account_by new g) { events_local = with_max (account_by new g).events_local } in
-    ap (account_by (with_local_event g new)) same ∙ get_or-set_same new g item (empty_account 0) within
-    ∙ ap (λ j. record (account_by new j) { events_local = with_max (account_by new j).events_local }) (sym same)
-    ∙ ap (λ (x : Account). record x { events_local = with_max x.events_local }) half
-    ∙ ap (λ e. record (events_noted groups g a) { events_local = e })
-    (sym (cond-true (a.group == g) (with_max a.events_local) a.events_local (eq-eqb a.group g (own ∙ same)))))
+    let item : Account = record (account_by new g) { events_local = more (account_by new g).events_local } in
+    ap (account_by (with_local_event more g new)) same ∙ get_or-set_same new g item (empty_account 0) within
+    ∙ ap (λ j. record (account_by new j) { events_local = more (account_by new j).events_local }) (sym same)
+    ∙ ap (λ (x : Account). record x { events_local = more x.events_local }) half
+    ∙ ap (λ e. record (events_noted more groups g a) { events_local = e })
+    (sym (cond-true (a.group == g) (more a.events_local) a.events_local (eq-eqb a.group g (own ∙ same)))))
     (λ other.
-    let item : Account = record (account_by new g) { events_local = with_max (account_by new g).events_local } in
+    let item : Account = record (account_by new g) { events_local = more (account_by new g).events_local } in
     get_or-set_other new g k item (empty_account 0) other ∙ half
-    ∙ ap (λ e. record (events_noted groups g a) { events_local = e })
-    (sym (cond-false (a.group == g) (with_max a.events_local) a.events_local (ne_eqb a.group g (λ e. other (sym own ∙ e))))))
+    ∙ ap (λ e. record (events_noted more groups g a) { events_local = e })
+    (sym (cond-false (a.group == g) (more a.events_local) a.events_local (ne_eqb a.group g (λ e. other (sym own ∙ e))))))
     (cases_eq k g))
 
 -- ---- other trees

@@ -12,9 +12,10 @@ use Rattle.group_tree.specs.Groups.{group_at, has_group, in_subtree, without_gro
 use Rattle.group_tree.specs.Room.{at_group, on_path, peak_after}
 use Rattle.group_tree.proofs.GroupLemmas.{find-filter, found_in, found_passes, is_some-find}
 use Rattle.group_tree.proofs.CallerLemmas.{find-map, in_subtree-above, in_subtree-refl}
-use Rattle.group_charge.specs.Charges.{Account, Ledger, AreCharges, CountsMax, PagesRise, PeaksRise, SameEvents, SamePages, SamePeaks, account_at}
-use Rattle.group_charge.specs.Charges.{pages_of, peak_of, events_of, events_local_of, current_of, usage_of, added, taken, peaked, noted, charged}
-use Rattle.group_charge.specs.Charges.{with_max, empty_account, no_events, with_charge, with_uncharge, with_max_noted, with_new_group}
+use Rattle.group_charge.specs.declared.account.Counts.{Counts}
+use Rattle.group_charge.specs.Charges.{Account, Ledger, AreCharges, CountsEvent, PagesRise, PeaksRise, SameEvents, SamePages, SamePeaks, account_at}
+use Rattle.group_charge.specs.Charges.{pages_of, peak_of, events_of, events_local_of, current_of, usage_of, added, taken, peaked, with_event_at, charged}
+use Rattle.group_charge.specs.Charges.{empty_account, no_events, with_charge, with_uncharge, with_noted, with_new_group}
 use Rattle.group_charge.specs.Charges.{with_group_limit, with_group_removed}
 use Rattle.group_charge.proofs.SumLemmas.{share, added-group, taken-group}
 use Rattle.group_charge.proofs.UsageLemmas.{usage-absent, usage-peaked, usage-removed_other}
@@ -178,24 +179,24 @@ uncharge_events l g n = record {
 }
 
 -- ---- a note
-pub note_counts : (l : Ledger) (g : ℕ) → AreCharges l → IsTrue (has_group l.groups g) → CountsMax l (with_max_noted l g) g
+pub note_counts : (more : Counts → Counts) (l : Ledger) (g : ℕ) → AreCharges l → IsTrue (has_group l.groups g) → CountsEvent more l (with_noted more l g) g
 unfolding events_of events_local_of
-note_counts l g facts there = record {
-  events = λ m. read_mapped (λ (a : Account). a.events) no_events l (noted l.groups g) (on_path l.groups g with_max m) m (λ a. refl)
-      (λ a own. ap (λ k. on_path l.groups g with_max k a.events) own)
-      (λ e. sym (cond-false (in_subtree l.groups m g) (with_max no_events) no_events (not_on_path l m g (no_account l m facts e))));
-  events_local = λ m. read_mapped (λ (a : Account). a.events_local) no_events l (noted l.groups g) (at_group g with_max m) m (λ a. refl)
-      (λ a own. ap (λ k. at_group g with_max k a.events_local) own)
-      (λ e. sym (cond-false (m == g) (with_max no_events) no_events (not_same l m g (no_account l m facts e) there)));
+note_counts more l g facts there = record {
+  events = λ m. read_mapped (λ (a : Account). a.events) no_events l (with_event_at more l.groups g) (on_path l.groups g more m) m (λ a. refl)
+      (λ a own. ap (λ k. on_path l.groups g more k a.events) own)
+      (λ e. sym (cond-false (in_subtree l.groups m g) (more no_events) no_events (not_on_path l m g (no_account l m facts e))));
+  events_local = λ m. read_mapped (λ (a : Account). a.events_local) no_events l (with_event_at more l.groups g) (at_group g more m) m (λ a. refl)
+      (λ a own. ap (λ k. at_group g more k a.events_local) own)
+      (λ e. sym (cond-false (m == g) (more no_events) no_events (not_same l m g (no_account l m facts e) there)));
 }
 
-pub note_pages : (l : Ledger) (g : ℕ) → SamePages l (with_max_noted l g)
+pub note_pages : (more : Counts → Counts) (l : Ledger) (g : ℕ) → SamePages l (with_noted more l g)
 unfolding pages_of
-note_pages l g = λ m. read_mapped (λ (a : Account). a.pages) 0 l (noted l.groups g) (λ x. x) m (λ a. refl) (λ a own. refl) (λ e. refl)
+note_pages more l g = λ m. read_mapped (λ (a : Account). a.pages) 0 l (with_event_at more l.groups g) (λ x. x) m (λ a. refl) (λ a own. refl) (λ e. refl)
 
-pub note_peaks : (l : Ledger) (g : ℕ) → SamePeaks l (with_max_noted l g)
+pub note_peaks : (more : Counts → Counts) (l : Ledger) (g : ℕ) → SamePeaks l (with_noted more l g)
 unfolding peak_of
-note_peaks l g = λ m. read_mapped (λ (a : Account). a.peak) 0 l (noted l.groups g) (λ x. x) m (λ a. refl) (λ a own. refl) (λ e. refl)
+note_peaks more l g = λ m. read_mapped (λ (a : Account). a.peak) 0 l (with_event_at more l.groups g) (λ x. x) m (λ a. refl) (λ a own. refl) (λ e. refl)
 
 -- ---- another tree
 pub limit_pages : (l : Ledger) (g : ℕ) (limit : Option ℕ) → SamePages l (with_group_limit l g limit)

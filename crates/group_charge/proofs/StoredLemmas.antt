@@ -8,8 +8,9 @@ use Rattle.group_tree.specs.Ancestors.{is_passed}
 use Rattle.group_tree.specs.Groups.{has_group, in_subtree}
 use Rattle.group_tree.proofs.GroupLemmas.{CanMake}
 use Rattle.group_tree.proofs.Walks.{passed_all}
+use Rattle.group_charge.specs.declared.account.Counts.{Counts}
 use Rattle.group_charge.specs.Charges.{Account, AreCharges, Ledger, current_of, initial_ledger, pages_of, with_charge, with_group_limit}
-use Rattle.group_charge.specs.Charges.{with_group_removed, with_max_noted, with_new_group, with_uncharge}
+use Rattle.group_charge.specs.Charges.{with_group_removed, with_noted, with_new_group, with_uncharge}
 use Rattle.group_charge.specs.Kept.{AreKept, AreUsages, UsagesPassed, ledger_of, usage_by}
 use Rattle.group_charge.proofs.SumLemmas.{usage-le-total}
 use Rattle.group_charge.proofs.UsageLemmas.{usage-absent, usage-limited, usage-new, usage-new_other, usage-noted}
@@ -81,8 +82,8 @@ enough_stored l usages g n m facts there enough are passed =
     omega arith
 
 -- ---- after what changes no usage
-pub stored_noted : (l : Ledger) (usages : List ℕ) (g : ℕ) → AreUsages l usages → AreUsages (with_max_noted l g) usages
-stored_noted l usages g are = record { size = are.size; sums = λ m. are.sums m ∙ sym (usage-noted l.groups l.accounts g m) }
+pub stored_noted : (more : Counts → Counts) (l : Ledger) (usages : List ℕ) (g : ℕ) → AreUsages l usages → AreUsages (with_noted more l g) usages
+stored_noted more l usages g are = record { size = are.size; sums = λ m. are.sums m ∙ sym (usage-noted more l.groups l.accounts g m) }
 
 pub stored_limited : (l : Ledger) (usages : List ℕ) (g : ℕ) (limit : Option ℕ) → AreUsages l usages → AreUsages (with_group_limit l g limit) usages
 stored_limited l usages g limit are = record { size = are.size; sums = λ m. are.sums m ∙ sym (usage-limited l.groups l.accounts g m limit) }

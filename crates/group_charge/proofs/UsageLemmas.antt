@@ -10,7 +10,8 @@ use Rattle.group_tree.specs.declared.group.Group.{Group}
 use Rattle.group_tree.specs.Groups.{AreGroups, has_group, in_subtree, with_group, with_limit, without_group}
 use Rattle.group_tree.proofs.GroupLemmas.{CanMake}
 use Rattle.group_tree.proofs.CallerLemmas.{in_subtree-above, in_subtree-limited, in_subtree-with, in_subtree-with_new, in_subtree-without}
-use Rattle.group_charge.specs.Charges.{Account, usage_of, added, taken, peaked, noted, charged, empty_account}
+use Rattle.group_charge.specs.declared.account.Counts.{Counts}
+use Rattle.group_charge.specs.Charges.{Account, usage_of, added, taken, peaked, with_event_at, charged, empty_account}
 use Rattle.group_charge.proofs.SumLemmas.{share, extra, extra_once, AreDistinct, sum-plus, sum-map_same, peaked-group, peaked-share, added-group, taken-group}
 
 -- the same items make the same sum
@@ -224,9 +225,9 @@ pub usage-limited : (groups : List Group) (xs : List Account) (g m : ℕ) (limit
 usage-limited groups xs g m limit = usage_groups (with_limit groups g limit) groups xs m (λ j e h. in_subtree-limited groups g m (get_or xs j e).group limit)
 
 -- nor does a note
-pub usage-noted : (groups : List Group) (xs : List Account) (g m : ℕ) → usage_of groups (map (noted groups g) xs) m ≡ usage_of groups xs m
+pub usage-noted : (more : Counts → Counts) (groups : List Group) (xs : List Account) (g m : ℕ) → usage_of groups (map (with_event_at more groups g) xs) m ≡ usage_of groups xs m
 unfolding usage_of
-usage-noted groups xs g m = sum-map_same (share groups m) (noted groups g) (λ x. refl) xs
+usage-noted more groups xs g m = sum-map_same (share groups m) (with_event_at more groups g) (λ x. refl) xs
 
 -- peaks cover usage under another limit
 pub cover_limited : (groups : List Group) (xs : List Account) (g : ℕ) (limit : Option ℕ) → PeaksCover groups xs → PeaksCover (with_limit groups g limit) xs
@@ -240,11 +241,11 @@ cover_limited groups xs g limit cover = λ k d lt.
     )
 
 -- peaks cover usage after a note
-pub cover_noted : (groups : List Group) (xs : List Account) (g : ℕ) → PeaksCover groups xs → PeaksCover groups (map (noted groups g) xs)
+pub cover_noted : (more : Counts → Counts) (groups : List Group) (xs : List Account) (g : ℕ) → PeaksCover groups xs → PeaksCover groups (map (with_event_at more groups g) xs)
 unfolding usage_of
-cover_noted groups xs g cover =
-    All-map (λ x. usage_of groups (map (noted groups g) xs) x.group ≤ x.peak) (noted groups g) xs
-    (λ k d lt. let a = get_or xs k d in omega (arith, cover k d lt, sum-map_same (share groups a.group) (noted groups g) (λ x. refl) xs))
+cover_noted more groups xs g cover =
+    All-map (λ x. usage_of groups (map (with_event_at more groups g) xs) x.group ≤ x.peak) (with_event_at more groups g) xs
+    (λ k d lt. let a = get_or xs k d in omega (arith, cover k d lt, sum-map_same (share groups a.group) (with_event_at more groups g) (λ x. refl) xs))
 
 -- what is left of a list sums to no more
 sum-filter_le : (F G : Account → ℕ) (p : Account → Bool) (xs : List Account) → All (λ x. p x ≡ true → F x ≤ G x) xs → sum_by F (filter p xs) ≤ sum_by G xs

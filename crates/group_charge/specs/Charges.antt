@@ -74,12 +74,24 @@ peaked groups accounts g a = record a { peak = peak_after groups (usage_of group
 abbrev pub with_max : Counts → Counts
 with_max c = record c { max = one_more c.max }
 
+-- one more `oom`
+abbrev pub with_oom : Counts → Counts
+with_oom c = record c { oom = one_more c.oom }
+
+-- one more `oom_kill`
+abbrev pub with_oom_kill : Counts → Counts
+with_oom_kill c = record c { oom_kill = one_more c.oom_kill }
+
+-- an event, counted by `more`, at the group itself, and at each group above it for all below that
+abbrev pub with_event_at : (Counts → Counts) → List Group → ℕ → Account → Account
+with_event_at more groups g a = record a {
+  events = on_path groups g more a.group a.events;
+  events_local = at_group g more a.group a.events_local;
+}
+
 -- one more `max` at the group itself, and at each group above it for all below that
 abbrev pub noted : List Group → ℕ → Account → Account
-noted groups g a = record a {
-  events = on_path groups g with_max a.group a.events;
-  events_local = at_group g with_max a.group a.events_local;
-}
+noted groups g a = with_event_at with_max groups g a
 
 -- the accounts with n pages more for the group, where the peaks of it and of its ancestors follow
 unfoldable pub charged : List Group → List Account → ℕ → ℕ → List Account
@@ -93,9 +105,21 @@ with_charge l g n = record l { accounts = charged l.groups l.accounts g n }
 abbrev pub with_uncharge : Ledger → ℕ → ℕ → Ledger
 with_uncharge l g n = record l { accounts = map (taken g n) l.accounts }
 
+-- the ledger after an event, counted by `more`, was noted at the group
+abbrev pub with_noted : (Counts → Counts) → Ledger → ℕ → Ledger
+with_noted more l g = record l { accounts = map (with_event_at more l.groups g) l.accounts }
+
 -- the ledger after one more note that usage was about to go over the group's limit
 abbrev pub with_max_noted : Ledger → ℕ → Ledger
-with_max_noted l g = record l { accounts = map (noted l.groups g) l.accounts }
+with_max_noted l g = with_noted with_max l g
+
+-- the ledger after one more note that the group's limit couldn't be kept by reclaim
+abbrev pub with_oom_noted : Ledger → ℕ → Ledger
+with_oom_noted l g = with_noted with_oom l g
+
+-- the ledger after one more note that the group was killed
+abbrev pub with_kill_noted : Ledger → ℕ → Ledger
+with_kill_noted l g = with_noted with_oom_kill l g
 
 -- the ledger with a new group, which has an empty account
 abbrev pub with_new_group : Ledger → ℕ → List ℕ → Ledger
@@ -121,6 +145,10 @@ PagesRise l k g n = (m : ℕ) → pages_of k m ≡ pages_of l m + (if m == g the
 abbrev pub SamePages : Ledger → Ledger → Type 0
 SamePages l k = (m : ℕ) → pages_of k m ≡ pages_of l m
 
+-- each group has the same usage in both
+abbrev pub SameUsage : Ledger → Ledger → Type 0
+SameUsage l k = (m : ℕ) → current_of k m ≡ current_of l m
+
 -- the peak of g and of each of its ancestors is the greater of the old peak and its usage now, and each other is the same
 abbrev pub PeaksRise : Ledger → Ledger → ℕ → Type 0
 PeaksRise l k g = (m : ℕ) → peak_of k m ≡ peak_after l.groups (current_of k) g m (peak_of l m)
@@ -134,10 +162,22 @@ pub record SameEvents (l k : Ledger) : Type 0 where
   pub events : (m : ℕ) → events_of k m ≡ events_of l m
   pub events_local : (m : ℕ) → events_local_of k m ≡ events_local_of l m
 
--- one `max` more in the events of g and of each of its ancestors, and in the local events of g alone
-pub record CountsMax (l k : Ledger) (g : ℕ) : Type 0 where
-  pub events : (m : ℕ) → events_of k m ≡ on_path l.groups g with_max m (events_of l m)
-  pub events_local : (m : ℕ) → events_local_of k m ≡ at_group g with_max m (events_local_of l m)
+-- one event more, counted by `more`, in the events of g and of each of its ancestors, and in the local events of g alone
+pub record CountsEvent (more : Counts → Counts) (l k : Ledger) (g : ℕ) : Type 0 where
+  pub events : (m : ℕ) → events_of k m ≡ on_path l.groups g more m (events_of l m)
+  pub events_local : (m : ℕ) → events_local_of k m ≡ at_group g more m (events_local_of l m)
+
+-- one `max` more
+abbrev pub CountsMax : Ledger → Ledger → ℕ → Type 0
+CountsMax l k g = CountsEvent with_max l k g
+
+-- one `oom` more
+abbrev pub CountsOom : Ledger → Ledger → ℕ → Type 0
+CountsOom l k g = CountsEvent with_oom l k g
+
+-- one `oom_kill` more
+abbrev pub CountsKill : Ledger → Ledger → ℕ → Type 0
+CountsKill l k g = CountsEvent with_oom_kill l k g
 
 -- what holds of every ledger: the groups are a tree's, each has an account, all pages fit 32 bits, and no
 -- peak is below the usage

@@ -5,7 +5,10 @@ use Rattle.group_tree.specs.declared.group.Group.{Group}
 use Rattle.group_tree.specs.declared.group.TheConstants.{MAX_GROUPS}
 use Rattle.group_tree.specs.Ancestors.{is_passed}
 use Rattle.group_tree.specs.Room.{on_path}
-use Rattle.group_charge.specs.Charges.{Account, AreCharges, Ledger, current_of, empty_account, with_max}
+use Rattle.group_charge.specs.declared.account.Counts.{Counts}
+use Rattle.group_charge.specs.declared.account.Event.{Event}
+use Rattle.group_charge.specs.declared.account.Event.TheVariants.{Max, Oom, OomKill}
+use Rattle.group_charge.specs.Charges.{Account, AreCharges, Ledger, current_of, empty_account, with_max, with_oom, with_oom_kill}
 
 -- the account kept under this number
 abbrev pub account_by : List Account → ℕ → Account
@@ -49,11 +52,17 @@ AccountsOnPath groups g f old new = (m : ℕ) → account_by new m ≡ on_path g
 abbrev pub with_usage_peak : List ℕ → ℕ → Account → Account
 with_usage_peak usages m a = record a { peak = max a.peak (usage_by usages m) }
 
--- the account with one more `max` of the group and all below it
-abbrev pub with_event : ℕ → Account → Account
-with_event m a = record a { events = with_max a.events }
+-- one more event of this kind
+abbrev pub one_more_of : Event → Counts → Counts
+one_more_of Max c = with_max c
+one_more_of Oom c = with_oom c
+one_more_of OomKill c = with_oom_kill c
 
--- the accounts with one more `max` of group g itself
-abbrev pub with_local_event : ℕ → List Account → List Account
-with_local_event g accounts =
-    let a = account_by accounts g in set accounts g (record a { events_local = with_max a.events_local })
+-- the account with one more event of the group and all below it, counted by `more`
+abbrev pub with_event : (Counts → Counts) → ℕ → Account → Account
+with_event more m a = record a { events = more a.events }
+
+-- the accounts with one more event of group g itself, counted by `more`
+abbrev pub with_local_event : (Counts → Counts) → ℕ → List Account → List Account
+with_local_event more g accounts =
+    let a = account_by accounts g in set accounts g (record a { events_local = more a.events_local })

@@ -14,6 +14,17 @@ pub struct Counts {
     pub oom_kill: u64,
 }
 
+/// The kinds of event that are counted, by the keys of memory.events.
+#[derive(Clone, Copy, Debug, PartialEq, Eq)]
+pub(crate) enum Event {
+    /// Usage was about to go over the limit.
+    Max,
+    /// An allocation was about to fail at the limit, and killing was an option.
+    Oom,
+    /// The group was killed.
+    OomKill,
+}
+
 /// The account of one group.
 #[derive(Clone, Copy, Debug, PartialEq, Eq)]
 pub struct Account {

@@ -5,11 +5,14 @@ ghost use Rattle.std.specs.Option.{option_copied};
 ghost use Rattle.std.specs.Result.{result_err};
 ghost use Rattle.group_tree.specs.Groups.{IsLeastFreeNumber, has_child, has_group, limit_of, make_fault};
 ghost use Rattle.group_tree.specs.Room.{IsLowestOver, PathHasRoom};
-ghost use Rattle.group_charge.specs.Charges.{AreCharges, CountsMax, PagesRise, PeaksRise, SameEvents, SamePages, SamePeaks, UsageRises, account_at};
+ghost use Rattle.group_charge.specs.Charges.{AreCharges, CountsEvent, CountsKill, CountsMax, CountsOom, PagesRise, PeaksRise};
+ghost use Rattle.group_charge.specs.Charges.{SameEvents, SamePages, SamePeaks, SameUsage, UsageRises, account_at};
 ghost use Rattle.group_charge.specs.Charges.{current_of, empty_account, events_local_of, events_of, initial_ledger, pages_of, peak_of, total_pages};
-ghost use Rattle.group_charge.specs.Charges.{with_charge, with_group_limit, with_group_removed, with_max_noted, with_new_group, with_uncharge};
+ghost use Rattle.group_charge.specs.Charges.{with_charge, with_group_limit, with_group_removed, with_kill_noted, with_max_noted, with_new_group, with_noted};
+ghost use Rattle.group_charge.specs.Charges.{with_oom_noted, with_uncharge};
+ghost use Rattle.group_charge.specs.Kept.{one_more_of};
 
-use crate::account::{Account, Counts};
+use crate::account::{Account, Counts, Event};
 use crate::walks;
 use group_tree::fault::Fault;
 use group_tree::group::{GroupId, MAX_GROUPS};
@@ -220,6 +223,20 @@ impl Charges {
         walks::take_off(&self.tree, &mut self.usages, g, None, n);
     }
 
+    // Notes an event of a group: one more of its kind for the group itself, and for it and each of its ancestors.
+    fn note(&mut self, event: Event, g: GroupId)
+        requires { IsTrue (has_group self.old.groups g) }
+        ensures noted { self.new ≡ with_noted (one_more_of event) self.old g }
+        ensures groups { self.new.groups ≡ self.old.groups }
+        ensures counts { CountsEvent (one_more_of event) self.old self.new g }
+        ensures usage { SameUsage self.old self.new }
+        ensures pages { SamePages self.old self.new }
+        ensures peaks { SamePeaks self.old self.new }
+    {
+        walks::count_event(&self.tree, &mut self.accounts, event, g);
+        walks::count_local_event(&mut self.accounts, event, g);
+    }
+
     /// Notes that usage was about to go over the group's limit: one more `max` for the group itself, and
     /// for it and each of its ancestors. A count stays at 2^64 - 1.
     pub fn note_max(&mut self, g: GroupId)
@@ -227,11 +244,38 @@ impl Charges {
         ensures noted { self.new ≡ with_max_noted self.old g }
         ensures groups { self.new.groups ≡ self.old.groups }
         ensures counts { CountsMax self.old self.new g }
+        ensures usage { SameUsage self.old self.new }
         ensures pages { SamePages self.old self.new }
         ensures peaks { SamePeaks self.old self.new }
     {
-        walks::count_max(&self.tree, &mut self.accounts, g);
-        walks::count_local_max(&mut self.accounts, g);
+        self.note(Event::Max, g);
+    }
+
+    /// Notes that an allocation was about to fail at the group's limit, and that killing was an option: one more `oom`,
+    /// counted as `note_max` counts.
+    pub fn note_oom(&mut self, g: GroupId)
+        requires { IsTrue (has_group self.old.groups g) }
+        ensures noted { self.new ≡ with_oom_noted self.old g }
+        ensures groups { self.new.groups ≡ self.old.groups }
+        ensures counts { CountsOom self.old self.new g }
+        ensures usage { SameUsage self.old self.new }
+        ensures pages { SamePages self.old self.new }
+        ensures peaks { SamePeaks self.old self.new }
+    {
+        self.note(Event::Oom, g);
+    }
+
+    /// Notes that the group was killed: one more `oom_kill`, counted as `note_max` counts.
+    pub fn note_kill(&mut self, g: GroupId)
+        requires { IsTrue (has_group self.old.groups g) }
+        ensures noted { self.new ≡ with_kill_noted self.old g }
+        ensures groups { self.new.groups ≡ self.old.groups }
+        ensures counts { CountsKill self.old self.new g }
+        ensures usage { SameUsage self.old self.new }
+        ensures pages { SamePages self.old self.new }
+        ensures peaks { SamePeaks self.old self.new }
+    {
+        self.note(Event::OomKill, g);
     }
 }
 

@@ -1,5 +1,6 @@
--- The stocks of a subtree are drained, one processor after the other. Serves `drain_below` and the loop of `drain_stocks`.
-use Rattle.std.proofs.Common.{◌≡◌, ℕ, ◌+◌, ◌-◌, ◌*◌, ◌≤◌, ◌==◌, ◌&&◌, true, false, cond, Option, Some, None, List, [], ◌∷◌, ◌++◌, length, suc, refl}
+-- The stocks of a subtree, or of a group, are drained, one processor after the other. Serves `drain_below`, `drain_own` and the
+-- loops of `drain_stocks` and `drain_own_stocks`.
+use Rattle.std.proofs.Common.{◌≡◌, ℕ, ◌+◌, ◌-◌, ◌*◌, ◌≤◌, ◌==◌, ◌&&◌, Bool, true, false, cond, Option, Some, None, List, [], ◌∷◌, ◌++◌, length, suc, refl}
 use Rattle.std.proofs.Common.{sym, ap, ◌∙◌, subst, inl, inr, arith}
 use Rattle.std.specs.Prelude.{not, is_some}
 use Rattle.std.proofs.lemmas.List.{append-nil}
@@ -16,13 +17,12 @@ use Rattle.group_tree.specs.declared.group.Group.{Group}
 use Rattle.group_tree.specs.Groups.{has_group, in_subtree}
 use Rattle.group_tree.proofs.CallerLemmas.{in_subtree-below}
 use Rattle.cpu_part.specs.Cpus.{KnownCpu}
-use Rattle.step_rules.specs.Usage.{is_below}
 use Rattle.mem_machine.specs.Machines.{KnownMachine}
 use Rattle.step_rules.specs.State.{Part}
 use Rattle.step_rules.specs.After.{Run}
 use Rattle.mem_machine.specs.Local.{local_of, part_with, IsLocalRun}
 use Rattle.mem_machine.specs.Steps.{Drain, drain_steps, drain_stocks_steps, pages_drained}
-use Rattle.mem_machine.specs.Stocks.{stock_group, Drains, DrainsBelow, DrainsAllBelow, DrainsIfBelow, DrainsSubtree, AreDrained}
+use Rattle.mem_machine.specs.Stocks.{stock_group, Drains, DrainsIf, DrainsAllIf, DrainsIfChosen, DrainsChosen, AreDrainedIf}
 use Rattle.mem_machine.proofs.Reaching.{run_both}
 use Rattle.mem_machine.proofs.GroupSteps.{stayed_runs}
 use Rattle.mem_machine.proofs.Draining.{drained_at, drained_else, groups_stay, looked_now}
@@ -37,23 +37,23 @@ look_group : (view : StockView) (q : ℕ) (o : Option ℕ) → (account_of (afte
 look_group view q None = ap (λ (a : Account). a.group) (drained_at view q 0)
 look_group view q (Some g) = refl
 
-module _ (g q : ℕ) (x n : KnownMachine) where
-  pub below_groups : (drains : List Drain) → DrainsBelow g x q drains n → n.ledger.groups ≡ x.ledger.groups
+module _ (test : List Group → Option ℕ → Bool) (q : ℕ) (x n : KnownMachine) where
+  pub below_groups : (drains : List Drain) → DrainsIf test x q drains n → n.ledger.groups ≡ x.ledger.groups
   below_groups [] d = ap (λ (y : KnownMachine). y.ledger.groups) d.1
   below_groups (e ∷ []) d = ap (λ (y : KnownMachine). y.ledger.groups) d.1.drains.machine ∙ groups_stay x.ledger (stock_group x q) e.pages
   below_groups (e ∷ f ∷ more) d = absurd d
 
-  pub below_else : (drains : List Drain) → DrainsBelow g x q drains n → (p : ℕ) → (p ≡ q → ⊥) → account_of n.stock.view p ≡ account_of x.stock.view p
+  pub below_else : (drains : List Drain) → DrainsIf test x q drains n → (p : ℕ) → (p ≡ q → ⊥) → account_of n.stock.view p ≡ account_of x.stock.view p
   below_else [] d p ne = ap (λ (y : KnownMachine). account_of y.stock.view p) d.1 ∙ look_else x.stock.view q p (stock_group x q) ne
   below_else (e ∷ []) d p ne = ap (λ (y : KnownMachine). account_of y.stock.view p) d.1.drains.machine ∙ drained_else x.stock.view q e.pages p ne
   below_else (e ∷ f ∷ more) d p ne = absurd d
 
-  pub below_group : (drains : List Drain) → DrainsBelow g x q drains n → stock_group n q ≡ stock_group x q
+  pub below_group : (drains : List Drain) → DrainsIf test x q drains n → stock_group n q ≡ stock_group x q
   below_group [] d = ap (λ (y : KnownMachine). stock_group y q) d.1 ∙ look_group x.stock.view q (stock_group x q)
   below_group (e ∷ []) d = ap (λ (y : KnownMachine). stock_group y q) d.1.drains.machine ∙ ap (λ (a : Account). a.group) (drained_at x.stock.view q e.pages)
   below_group (e ∷ f ∷ more) d = absurd d
 
-  pub below_filled : (drains : List Drain) → DrainsBelow g x q drains n → is_below x.ledger.groups g (stock_group x q) ≡ true
+  pub below_filled : (drains : List Drain) → DrainsIf test x q drains n → test x.ledger.groups (stock_group x q) ≡ true
       → (account_of n.stock.view q).filled ≡ false
   below_filled [] d below = absurd (false≢true (sym d.0 ∙ below))
   below_filled (e ∷ []) d below = ap (λ (y : KnownMachine). (account_of y.stock.view q).filled) d.1.drains.machine
@@ -63,9 +63,9 @@ module _ (g q : ℕ) (x n : KnownMachine) where
 -- ---- one processor's stock
 
 -- it is of the subtree, and is drained
-pub drained_one : (t : KnownTable) (g q pages : ℕ) (m n : KnownMachine) → is_below m.ledger.groups g (stock_group m q) ≡ true → Drains m q pages n
-    → ((c : KnownCpu) → IsLocalRun c.number (local_of t m c) (drain_steps q (stock_group m q) pages) (local_of t n c)) → DrainsIfBelow t g q pages m n
-drained_one t g q pages m n below drains steps = record {
+pub drained_one : (t : KnownTable) (test : List Group → Option ℕ → Bool) (q pages : ℕ) (m n : KnownMachine) → test m.ledger.groups (stock_group m q) ≡ true → Drains m q pages n
+    → ((c : KnownCpu) → IsLocalRun c.number (local_of t m c) (drain_steps q (stock_group m q) pages) (local_of t n c)) → DrainsIfChosen t test q pages m n
+drained_one t test q pages m n below drains steps = record {
   drains = record { cpu = q; group = stock_group m q; pages = pages } ∷ [];
   one = (below, record { cpu = refl; group = refl; drains = drains });
   sum = omega arith;
@@ -74,10 +74,10 @@ drained_one t g q pages m n below drains steps = record {
 }
 
 -- it is of another group, or of none
-pub drained_not : (t : KnownTable) (g q : ℕ) (m n : KnownMachine) → is_below m.ledger.groups g (stock_group m q) ≡ false
+pub drained_not : (t : KnownTable) (test : List Group → Option ℕ → Bool) (q : ℕ) (m n : KnownMachine) → test m.ledger.groups (stock_group m q) ≡ false
     → n ≡ record m { stock = with_view m.stock (after_look m.stock.view q (stock_group m q)) }
-    → ((c : KnownCpu) → IsLocalRun c.number (local_of t m c) [] (local_of t n c)) → DrainsIfBelow t g q 0 m n
-drained_not t g q m n other is steps = record { drains = []; one = (other, is); sum = refl; steps = steps }
+    → ((c : KnownCpu) → IsLocalRun c.number (local_of t m c) [] (local_of t n c)) → DrainsIfChosen t test q 0 m n
+drained_not t test q m n other is steps = record { drains = []; one = (other, is); sum = refl; steps = steps }
 
 -- a part whose stock is of no group shows the same once that counts as drained
 part_none : (l f b : List ℕ) (a : Account) → a.group ≡ None → part_with l f b (record a { book = a.book - 0; filled = false }) ≡ part_with l f b a
@@ -116,50 +116,51 @@ module _ (t : KnownTable) (m : KnownMachine) (q : ℕ) (none : stock_group m q �
   pub looked_none : IsLocalRun c.number (local_of t m c) [] (local_of t (record m { stock = with_view m.stock (draining m.stock.view q 0) }) c)
   looked_none = λ i. record (local_of t m c) { parts = λ p. sym (shown_same p) i }
 
--- the stock of a group of the subtree, of the machine as it was seen before the look
-pub looked_own : (t : KnownTable) (m now : KnownMachine) → m ≡ now → (stock : Seated) → stock ≡ m.stock → (g q h pages : ℕ) (n : KnownMachine)
-    → Some h ≡ stock_group m q → in_subtree m.ledger.groups g h ≡ true → Drains (record m { stock = stock }) q pages n
+-- the stock of a group that the test chooses, of the machine as it was seen before the look
+pub looked_own : (t : KnownTable) (m now : KnownMachine) → m ≡ now → (stock : Seated) → stock ≡ m.stock → (test : List Group → Option ℕ → Bool)
+    → (q h pages : ℕ) (n : KnownMachine) → Some h ≡ stock_group m q → test m.ledger.groups (Some h) ≡ true → Drains (record m { stock = stock }) q pages n
     → ((c : KnownCpu) → IsLocalRun c.number (local_of t (record m { stock = stock }) c) (drain_steps q (stock_group (record m { stock = stock }) q) pages)
-    (local_of t n c)) → DrainsIfBelow t g q pages now n
-looked_own t m now same stock is g q h pages n of below drains steps =
-    subst (λ (x : KnownMachine). DrainsIfBelow t g q pages x n) (looked_now m now same stock is)
-    (drained_one t g q pages (record m { stock = stock }) n
-    (ap (is_below m.ledger.groups g) (ap (λ (s : Seated). (account_of s.view q).group) is ∙ sym of) ∙ below) drains steps)
+    (local_of t n c)) → DrainsIfChosen t test q pages now n
+looked_own t m now same stock is test q h pages n of chosen drains steps =
+    subst (λ (x : KnownMachine). DrainsIfChosen t test q pages x n) (looked_now m now same stock is)
+    (drained_one t test q pages (record m { stock = stock }) n
+    (ap (test m.ledger.groups) (ap (λ (s : Seated). (account_of s.view q).group) is ∙ sym of) ∙ chosen) drains steps)
 
 -- the stock of another group
-pub looked_other : (t : KnownTable) (m now : KnownMachine) → m ≡ now → (g q h : ℕ) → Some h ≡ stock_group m q → in_subtree m.ledger.groups g h ≡ false
-    → (stock : Seated) → stock ≡ m.stock → DrainsIfBelow t g q 0 now (record m { stock = stock })
-looked_other t m now same g q h of other stock is =
+pub looked_other : (t : KnownTable) (m now : KnownMachine) → m ≡ now → (test : List Group → Option ℕ → Bool) (q h : ℕ) → Some h ≡ stock_group m q
+    → test m.ledger.groups (Some h) ≡ false → (stock : Seated) → stock ≡ m.stock → DrainsIfChosen t test q 0 now (record m { stock = stock })
+looked_other t m now same test q h of other stock is =
     let n : KnownMachine = record m { stock = stock } in
     let none : n ≡ record m { stock = with_view m.stock (after_look m.stock.view q (stock_group m q)) } =
     (λ i. record m { stock = is i }) ∙ (λ i. record m { stock = with_view m.stock (after_look m.stock.view q (of i)) }) in
-    subst (λ (x : KnownMachine). DrainsIfBelow t g q 0 x n) same
-    (drained_not t g q m n (ap (is_below m.ledger.groups g) (sym of) ∙ other) none (stayed_runs t m m refl n (λ i. record m { stock = is i })))
+    subst (λ (x : KnownMachine). DrainsIfChosen t test q 0 x n) same
+    (drained_not t test q m n (ap (test m.ledger.groups) (sym of) ∙ other) none (stayed_runs t m m refl n (λ i. record m { stock = is i })))
 
 -- the stock of no group
-pub looked_never : (t : KnownTable) (m now : KnownMachine) → m ≡ now → (g q : ℕ) → None ≡ stock_group m q
-    → (stock : Seated) → stock ≡ with_view m.stock (draining m.stock.view q 0) → DrainsIfBelow t g q 0 now (record m { stock = stock })
-looked_never t m now same g q of stock is =
+pub looked_never : (t : KnownTable) (m now : KnownMachine) → m ≡ now → (test : List Group → Option ℕ → Bool) (q : ℕ) → None ≡ stock_group m q
+    → test m.ledger.groups None ≡ false → (stock : Seated) → stock ≡ with_view m.stock (draining m.stock.view q 0)
+    → DrainsIfChosen t test q 0 now (record m { stock = stock })
+looked_never t m now same test q of none_chosen stock is =
     let n : KnownMachine = record m { stock = with_view m.stock (draining m.stock.view q 0) } in
     let seen : n ≡ record m { stock = with_view m.stock (after_look m.stock.view q (stock_group m q)) } =
     λ i. record m { stock = with_view m.stock (after_look m.stock.view q (of i)) } in
-    subst (λ (x : KnownMachine × KnownMachine). DrainsIfBelow t g q 0 x.0 x.1) (λ i. (same i, record m { stock = sym is i }))
-    (drained_not t g q m n (ap (is_below m.ledger.groups g) (sym of)) seen (looked_none t m q (sym of)))
+    subst (λ (x : KnownMachine × KnownMachine). DrainsIfChosen t test q 0 x.0 x.1) (λ i. (same i, record m { stock = sym is i }))
+    (drained_not t test q m n (ap (test m.ledger.groups) (sym of) ∙ none_chosen) seen (looked_none t m q (sym of)))
 
 -- ---- all of them
 
 -- what the loop of `drain_stocks` keeps after k processors
-pub record DrainedSoFar (t : KnownTable) (g k pages : ℕ) (m n : KnownMachine) : Type 0 where
+pub record DrainedSoFar (t : KnownTable) (test : List Group → Option ℕ → Bool) (k pages : ℕ) (m n : KnownMachine) : Type 0 where
   pub drains : List Drain
-  pub all : DrainsAllBelow g k drains m n
+  pub all : DrainsAllIf test k drains m n
   pub sum : pages ≡ pages_drained drains
   pub groups : n.ledger.groups ≡ m.ledger.groups
-  pub drained : AreDrained g k n
+  pub drained : AreDrainedIf test k n
   pub steps : (c : KnownCpu) → IsLocalRun c.number (local_of t m c) (drain_stocks_steps drains) (local_of t n c)
   pub small : pages ≤ k * 4294967295
 
-pub drained_start : (t : KnownTable) (g : ℕ) (m : KnownMachine) → DrainedSoFar t g 0 0 m m
-drained_start t g m = record {
+pub drained_start : (t : KnownTable) (test : List Group → Option ℕ → Bool) (m : KnownMachine) → DrainedSoFar t test 0 0 m m
+drained_start t test m = record {
   drains = [];
   all = (refl, refl);
   sum = refl;
@@ -169,23 +170,23 @@ drained_start t g m = record {
   small = omega arith;
 }
 
-drained_now : (g k : ℕ) (x n : KnownMachine) (last : List Drain) → DrainsBelow g x (k + 1) last n → AreDrained g k x → AreDrained g (k + 1) n
-drained_now g k x n last d before q some few below =
-    let groups = below_groups g (k + 1) x n last d in
+drained_now : (test : List Group → Option ℕ → Bool) (k : ℕ) (x n : KnownMachine) (last : List Drain) → DrainsIf test x (k + 1) last n → AreDrainedIf test k x → AreDrainedIf test (k + 1) n
+drained_now test k x n last d before q some few below =
+    let groups = below_groups test (k + 1) x n last d in
     elim (cases_eq q (k + 1)) [
       | inl e ↦
           subst (λ (j : ℕ). (account_of n.stock.view j).filled ≡ false) (sym e)
-          (below_filled g (k + 1) x n last d ((λ i. is_below (sym groups i) g (sym (below_group g (k + 1) x n last d) i))
-          ∙ ap (λ (j : ℕ). is_below n.ledger.groups g (stock_group n j)) (sym e) ∙ below))
+          (below_filled test (k + 1) x n last d ((λ i. test (sym groups i) (sym (below_group test (k + 1) x n last d) i))
+          ∙ ap (λ (j : ℕ). test n.ledger.groups (stock_group n j)) (sym e) ∙ below))
       | inr ne ↦
-          let same = below_else g (k + 1) x n last d q ne in
+          let same = below_else test (k + 1) x n last d q ne in
           ap (λ (a : Account). a.filled) same
-          ∙ before q some (omega (arith, few, ne)) ((λ i. is_below (sym groups i) g (sym same i).group) ∙ below)
+          ∙ before q some (omega (arith, few, ne)) ((λ i. test (sym groups i) (sym same i).group) ∙ below)
     ]
 
-pub drained_more : (t : KnownTable) (g k pages more : ℕ) (m x n : KnownMachine) → DrainedSoFar t g k pages m x → DrainsIfBelow t g (k + 1) more x n
-    → more ≤ 4294967295 → DrainedSoFar t g (k + 1) (pages + more) m n
-drained_more t g k pages more m x n before last bound =
+pub drained_more : (t : KnownTable) (test : List Group → Option ℕ → Bool) (k pages more : ℕ) (m x n : KnownMachine) → DrainedSoFar t test k pages m x → DrainsIfChosen t test (k + 1) more x n
+    → more ≤ 4294967295 → DrainedSoFar t test (k + 1) (pages + more) m n
+drained_more t test k pages more m x n before last bound =
     let next : suc k ≡ k + 1 = omega arith in
     let both = sum_by-append (λ (d : Drain). d.pages) before.drains last.drains in
     let a = before.sum in
@@ -195,21 +196,21 @@ drained_more t g k pages more m x n before last bound =
     sym (flat_map-append (λ (d : Drain). drain_steps d.cpu d.group d.pages) before.drains last.drains) in
     record {
       drains = before.drains ++ last.drains;
-      all = subst (λ (j : ℕ). DrainsAllBelow g j (before.drains ++ last.drains) m n) next
-          (before.drains, last.drains, x, refl, before.all, subst (λ (j : ℕ). DrainsBelow g x j last.drains n) (sym next) last.one);
+      all = subst (λ (j : ℕ). DrainsAllIf test j (before.drains ++ last.drains) m n) next
+          (before.drains, last.drains, x, refl, before.all, subst (λ (j : ℕ). DrainsIf test x j last.drains n) (sym next) last.one);
       sum = omega (arith, both, a, b);
-      groups = below_groups g (k + 1) x n last.drains last.one ∙ before.groups;
-      drained = drained_now g k x n last.drains last.one before.drained;
+      groups = below_groups test (k + 1) x n last.drains last.one ∙ before.groups;
+      drained = drained_now test k x n last.drains last.one before.drained;
       steps = λ c. subst (λ (r : Run). IsLocalRun c.number (local_of t m c) r (local_of t n c)) list
           (run_both c.number (drain_stocks_steps before.drains) (drain_stocks_steps last.drains) (local_of t m c) (local_of t x c) (local_of t n c)
           (before.steps c) (last.steps c));
       small = omega (arith, low, bound);
     }
 
-pub drained_end : (t : KnownTable) (g k pages : ℕ) (m n : KnownMachine) → DrainedSoFar t g k pages m n → k ≡ t.cpus → DrainsSubtree t g pages m n
-drained_end t g k pages m n so_far all = record {
+pub drained_end : (t : KnownTable) (test : List Group → Option ℕ → Bool) (k pages : ℕ) (m n : KnownMachine) → DrainedSoFar t test k pages m n → k ≡ t.cpus → DrainsChosen t test pages m n
+drained_end t test k pages m n so_far all = record {
   drains = so_far.drains;
-  all = subst (λ (j : ℕ). DrainsAllBelow g j so_far.drains m n) all so_far.all;
+  all = subst (λ (j : ℕ). DrainsAllIf test j so_far.drains m n) all so_far.all;
   sum = so_far.sum;
   steps = so_far.steps;
 }

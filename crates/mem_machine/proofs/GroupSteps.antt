@@ -1,4 +1,4 @@
--- Steps on the groups alone. Serves `note_max`, `set_max`, `remove`.
+-- Steps on the groups alone. Serves `note_max`, `note_oom`, `mark_killed`, `set_max`, `remove`.
 use Rattle.std.proofs.Common.{◌≡◌, ◌≢◌, ℕ, ◌<◌, Bool, true, false, Option, List, [], length, get_or, refl, sym, ap, ◌∙◌, subst}
 use Rattle.std.specs.Prelude.{not, None, is_none}
 use Rattle.std.specs.Prelude.{slice_set}
@@ -7,9 +7,9 @@ use Rattle.std.proofs.lemmas.List.{get_or-set_same, get_or-set_other}
 use Rattle.frame_word.specs.Seats.{KnownTable}
 use Rattle.group_tree.specs.Groups.{has_group, has_child, with_group, make_fault, IsLeastFreeNumber}
 use Rattle.group_tree.specs.declared.fault.Fault.{Fault}
-use Rattle.group_charge.specs.Charges.{Ledger, current_of, with_max_noted, with_group_limit, with_new_group, with_group_removed}
+use Rattle.group_charge.specs.Charges.{Ledger, current_of, with_kill_noted, with_max_noted, with_oom_noted, with_group_limit, with_new_group, with_group_removed}
 use Rattle.cpu_part.specs.Cpus.{KnownCpu}
-use Rattle.step_rules.specs.declared.step.Action.TheVariants.{NoteMax, SetMax, Make, Remove}
+use Rattle.step_rules.specs.declared.step.Action.TheVariants.{Kill, NoteMax, NoteOom, SetMax, Make, Remove}
 use Rattle.step_rules.specs.declared.step.Answer.TheVariants.{Done, Number}
 use Rattle.step_rules.specs.Usage.{usage_of}
 use Rattle.step_rules.specs.Legal.{is_removable}
@@ -17,7 +17,7 @@ use Rattle.step_rules.specs.State.{with_at}
 use Rattle.step_rules.proofs.Basics.{at_each}
 use Rattle.mem_machine.specs.Machines.{KnownMachine, is_killed, AddsGroup}
 use Rattle.mem_machine.specs.Local.{local_of, IsLocalRun}
-use Rattle.mem_machine.specs.Steps.{note_max_steps, set_max_steps, make_steps, remove_steps}
+use Rattle.mem_machine.specs.Steps.{kill_steps, note_max_steps, note_oom_steps, set_max_steps, make_steps, remove_steps}
 use Rattle.mem_machine.proofs.Reaching.{zone_step, run_one}
 use Rattle.mem_machine.proofs.Holds.{zone_may_act}
 
@@ -28,6 +28,13 @@ module _ (t : KnownTable) (m n : KnownMachine) (g : ℕ) (there : has_group m.le
       let s = local_of t m c in
       subst (λ (k : KnownMachine). IsLocalRun c.number s (note_max_steps g) (local_of t k c)) (sym is)
       (run_one c.number s _ 0 (NoteMax g) Done (zone_step s c.number (NoteMax g) Done refl (and_from _ _ (zone_may_act m.seat c.number) there) tt) refl)
+
+  pub note_oom_runs : n ≡ record m { ledger = with_oom_noted m.ledger g } → (c : KnownCpu)
+      → IsLocalRun c.number (local_of t m c) (note_oom_steps g) (local_of t n c)
+  note_oom_runs is c =
+      let s = local_of t m c in
+      subst (λ (k : KnownMachine). IsLocalRun c.number s (note_oom_steps g) (local_of t k c)) (sym is)
+      (run_one c.number s _ 0 (NoteOom g) Done (zone_step s c.number (NoteOom g) Done refl (and_from _ _ (zone_may_act m.seat c.number) there) tt) refl)
 
   pub set_max_runs : (limit : Option ℕ) → g ≢ 0 → n ≡ record m { ledger = with_group_limit m.ledger g limit } → (c : KnownCpu)
       → IsLocalRun c.number (local_of t m c) (set_max_steps g limit) (local_of t n c)
@@ -44,15 +51,40 @@ module _ (t : KnownTable) (m now : KnownMachine) (same : m ≡ now) (g : ℕ) (t
   notes_max l is c = note_max_runs t now (record m { ledger = l }) g there
       ((λ i. record m { ledger = is i }) ∙ ap (λ (k : KnownMachine). record k { ledger = with_max_noted k.ledger g }) same) c
 
+  pub notes_oom : (l : Ledger) → l ≡ with_oom_noted m.ledger g → (c : KnownCpu)
+      → IsLocalRun c.number (local_of t now c) (note_oom_steps g) (local_of t (record m { ledger = l }) c)
+  notes_oom l is c = note_oom_runs t now (record m { ledger = l }) g there
+      ((λ i. record m { ledger = is i }) ∙ ap (λ (k : KnownMachine). record k { ledger = with_oom_noted k.ledger g }) same) c
+
   pub sets_max : (l : Ledger) (limit : Option ℕ) → g ≢ 0 → l ≡ with_group_limit m.ledger g limit → (c : KnownCpu)
       → IsLocalRun c.number (local_of t now c) (set_max_steps g limit) (local_of t (record m { ledger = l }) c)
   sets_max l limit below is c = set_max_runs t now (record m { ledger = l }) g there limit below
       ((λ i. record m { ledger = is i }) ∙ ap (λ (k : KnownMachine). record k { ledger = with_group_limit k.ledger g limit }) same) c
 
--- the marks after one was cleared
-unmarks : (marks : List Bool) (g : ℕ) → g < length marks → is_killed (slice_set marks g false) ≡ with_at (is_killed marks) g false
-unmarks marks g inside = λ i. λ k. (at_each (is_killed marks) g false (λ (h : ℕ) (x : Bool). get_or (slice_set marks g false) h false ≡ x)
-    (get_or-set_same marks g false false inside) (λ h ne. get_or-set_other marks g h false false ne)) k i
+-- the marks after one was set or cleared
+marks_set : (marks : List Bool) (g : ℕ) (b : Bool) → g < length marks → is_killed (slice_set marks g b) ≡ with_at (is_killed marks) g b
+marks_set marks g b inside = λ i. λ k. (at_each (is_killed marks) g b (λ (h : ℕ) (x : Bool). get_or (slice_set marks g b) h false ≡ x)
+    (get_or-set_same marks g b false inside) (λ h ne. get_or-set_other marks g h b false ne)) k i
+
+-- a group is killed
+pub kill_runs : (t : KnownTable) (m n : KnownMachine) (g : ℕ) → g < length m.killed → has_group m.ledger.groups g ≡ true → is_killed m.killed g ≡ false
+    → n ≡ record m { ledger = with_kill_noted m.ledger g; killed = slice_set m.killed g true }
+    → (c : KnownCpu) → IsLocalRun c.number (local_of t m c) (kill_steps g) (local_of t n c)
+kill_runs t m n g inside there alive is c =
+    let s = local_of t m c in
+    subst (λ (k : KnownMachine). IsLocalRun c.number s (kill_steps g) (local_of t k c)) (sym is)
+    (run_one c.number s _ 0 (Kill g) Done
+    (zone_step s c.number (Kill g) Done refl (and_from _ _ (and_from _ _ (zone_may_act m.seat c.number) there) (ap not alive)) tt)
+    (λ i. record s { killed = marks_set m.killed g true inside i }))
+
+-- the same, of the machine as it was seen before
+pub kills : (t : KnownTable) (m now : KnownMachine) → m ≡ now → (g : ℕ) → g < length m.killed → has_group now.ledger.groups g ≡ true
+    → is_killed now.killed g ≡ false → (l : Ledger) → l ≡ with_kill_noted m.ledger g → (marks : List Bool) → marks ≡ slice_set m.killed g true
+    → (c : KnownCpu) → IsLocalRun c.number (local_of t now c) (kill_steps g) (local_of t (record m { ledger = l; killed = marks }) c)
+kills t m now same g inside there alive l is marks set =
+    kill_runs t now (record m { ledger = l; killed = marks }) g (subst (λ (k : KnownMachine). g < length k.killed) same inside) there alive
+    ((λ i. record m { ledger = is i; killed = set i })
+    ∙ ap (λ (k : KnownMachine). record k { ledger = with_kill_noted k.ledger g; killed = slice_set k.killed g true }) same)
 
 make_runs : (t : KnownTable) (m n : KnownMachine) (g : ℕ) (path : List ℕ) → g < length m.killed → is_none (make_fault m.ledger.groups path) ≡ true
     → AddsGroup m g path n → (c : KnownCpu) → IsLocalRun c.number (local_of t m c) (make_steps path g) (local_of t n c)
@@ -61,7 +93,7 @@ make_runs t m n g path inside allowed makes c =
     subst (λ (k : KnownMachine). IsLocalRun c.number s (make_steps path g) (local_of t k c)) (sym makes.machine)
     (run_one c.number s _ 0 (Make path) (Number g) (zone_step s c.number (Make path) (Number g) refl (and_from _ _
     (zone_may_act m.seat c.number) allowed) makes.least)
-    (λ i. record s { groups = with_group m.ledger.groups g path; killed = unmarks m.killed g inside i }))
+    (λ i. record s { groups = with_group m.ledger.groups g path; killed = marks_set m.killed g false inside i }))
 
 -- nothing was refused
 none_of : (x : Option Fault) → x ≡ None → is_none x ≡ true

@@ -5,7 +5,7 @@ use Rattle.step_rules.specs.declared.step.Step.{Step}
 use Rattle.step_rules.specs.declared.step.Action.{Action}
 use Rattle.step_rules.specs.declared.step.Action.TheVariants.{OpenVisit, ShutVisit, PassOut, TakeIn, PassBack}
 use Rattle.step_rules.specs.declared.step.Action.TheVariants.{Collect, Fill, DrainStock, Grant, Ungrant}
-use Rattle.step_rules.specs.declared.step.Action.TheVariants.{Consume, NoteMax, SetMax, Make, Remove}
+use Rattle.step_rules.specs.declared.step.Action.TheVariants.{Consume, NoteMax, NoteOom, SetMax, Make, Remove, Kill}
 use Rattle.step_rules.specs.declared.step.Answer.{Answer}
 use Rattle.step_rules.specs.declared.step.Answer.TheVariants.{Done, Took, Pages, Granted, Over, Number}
 use Rattle.step_rules.specs.After.{Run}
@@ -81,6 +81,14 @@ take_front_steps p g = cpu_makes p (Consume g) Took ∷ []
 -- it is noted that the group's usage was about to go over its limit
 abbrev pub note_max_steps : ℕ → Run
 note_max_steps g = zone_makes (NoteMax g) Done ∷ []
+
+-- it is noted that the group's limit couldn't be kept by reclaim
+abbrev pub note_oom_steps : ℕ → Run
+note_oom_steps g = zone_makes (NoteOom g) Done ∷ []
+
+-- the group is killed, which is an event at it
+abbrev pub kill_steps : ℕ → Run
+kill_steps g = zone_makes (Kill g) Done ∷ []
 
 -- group n is made, of this path
 abbrev pub make_steps : List ℕ → ℕ → Run

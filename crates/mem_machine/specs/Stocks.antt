@@ -1,5 +1,5 @@
 -- Stocks that are drained and filled.
-use Rattle.std.specs.Prelude.{◌≡◌, ℕ, zero, suc, ◌-◌, ◌≤◌, ◌<◌, true, false, Option, Some, None}
+use Rattle.std.specs.Prelude.{◌≡◌, ℕ, zero, suc, ◌-◌, ◌≤◌, ◌<◌, Bool, true, false, Option, Some, None}
 use Rattle.std.specs.Prelude.{List, [], ◌∷◌, ◌++◌, length}
 use Rattle.frame_word.specs.Seats.{KnownTable}
 use Rattle.stock_word.specs.Stock.{account_of}
@@ -8,7 +8,9 @@ use Rattle.stock_word.specs.Calls.{with_view, after_look}
 use Rattle.group_tree.specs.Room.{PathHasRoom}
 use Rattle.group_charge.specs.declared.charges.Over.{Over}
 use Rattle.group_charge.specs.Charges.{Ledger, current_of, with_charge, with_uncharge}
+use Rattle.group_tree.specs.declared.group.Group.{Group}
 use Rattle.step_rules.specs.Usage.{is_below}
+use Rattle.step_rules.specs.Legal.{is_of_group}
 use Rattle.step_rules.specs.After.{Run}
 use Rattle.mem_machine.specs.Machines.{KnownMachine, LacksRoom}
 use Rattle.mem_machine.specs.Local.{Side, side, Makes, MakesForAny}
@@ -51,41 +53,76 @@ pub record DrainsOne (before : KnownMachine) (processor : ℕ) (drain : Drain) (
   pub group : drain.group ≡ stock_group before processor
   pub drains : Drains before processor drain.pages after
 
--- Processor q's stock is drained where it is of the group's subtree: that is the one drain. Else there is none, and
--- nothing changed but that a stock of no group, of which the zone's seat now knows, counts as drained of no page
-abbrev pub DrainsBelow : ℕ → KnownMachine → ℕ → List Drain → KnownMachine → Type 0
-DrainsBelow g before q [] after =
-    (is_below before.ledger.groups g (stock_group before q) ≡ false)
+-- the stock is of a group of g's subtree
+abbrev pub of_subtree : ℕ → List Group → Option ℕ → Bool
+of_subtree g groups stock = is_below groups g stock
+
+-- the stock is of group g itself
+abbrev pub of_group : ℕ → List Group → Option ℕ → Bool
+of_group g groups stock = is_of_group stock g
+
+-- Processor q's stock is drained where the test, by the groups that are there and the group that the stock is of, chooses
+-- it: that is the one drain. Else there is none, and nothing changed but that a stock of no group, of which the zone's
+-- seat now knows, counts as drained of no page
+abbrev pub DrainsIf : (List Group → Option ℕ → Bool) → KnownMachine → ℕ → List Drain → KnownMachine → Type 0
+DrainsIf test before q [] after =
+    (test before.ledger.groups (stock_group before q) ≡ false)
     × (after ≡ record before { stock = with_view before.stock (after_look before.stock.view q (stock_group before q)) })
-DrainsBelow g before q (drain ∷ []) after =
-    (is_below before.ledger.groups g (stock_group before q) ≡ true) × DrainsOne before q drain after
-DrainsBelow g before q (one ∷ two ∷ more) after = ⊥
+DrainsIf test before q (drain ∷ []) after =
+    (test before.ledger.groups (stock_group before q) ≡ true) × DrainsOne before q drain after
+DrainsIf test before q (one ∷ two ∷ more) after = ⊥
+
+-- so it is with processors 1 to k, one after the other
+abbrev pub DrainsAllIf : (List Group → Option ℕ → Bool) → ℕ → List Drain → KnownMachine → KnownMachine → Type 0
+DrainsAllIf test zero drains before after = (drains ≡ []) × (after ≡ before)
+DrainsAllIf test (suc k) drains before after =
+    (first last : List Drain) × (mid : KnownMachine) × (drains ≡ first ++ last)
+    × DrainsAllIf test k first before mid × DrainsIf test mid (suc k) last after
+
+-- processor q's stock is drained where it is of the group's subtree
+abbrev pub DrainsBelow : ℕ → KnownMachine → ℕ → List Drain → KnownMachine → Type 0
+DrainsBelow g before q drains after = DrainsIf (of_subtree g) before q drains after
 
 -- so it is with processors 1 to k, one after the other
 abbrev pub DrainsAllBelow : ℕ → ℕ → List Drain → KnownMachine → KnownMachine → Type 0
-DrainsAllBelow g zero drains before after = (drains ≡ []) × (after ≡ before)
-DrainsAllBelow g (suc k) drains before after =
-    (first last : List Drain) × (mid : KnownMachine) × (drains ≡ first ++ last)
-    × DrainsAllBelow g k first before mid × DrainsBelow g mid (suc k) last after
+DrainsAllBelow g k drains before after = DrainsAllIf (of_subtree g) k drains before after
 
--- the processor's stock is drained where it is of the group's subtree, of so many pages, by the drain's steps
-pub record DrainsIfBelow (table : KnownTable) (group processor pages : ℕ) (before after : KnownMachine) : Type 0 where
+-- the processor's stock is drained where the test chooses it, of so many pages, by the drain's steps
+pub record DrainsIfChosen (table : KnownTable) (test : List Group → Option ℕ → Bool) (processor pages : ℕ)
+    (before after : KnownMachine) : Type 0 where
   pub drains : List Drain
-  pub one : DrainsBelow group before processor drains after
+  pub one : DrainsIf test before processor drains after
   pub sum : pages ≡ pages_drained drains
   pub steps : MakesForAny table before (drain_stocks_steps drains) after
 
--- the stocks of the group's subtree are drained, one processor after the other, of so many pages in all, by the drains'
+-- the stocks that the test chooses are drained, one processor after the other, of so many pages in all, by the drains'
 -- steps
-pub record DrainsSubtree (table : KnownTable) (group pages : ℕ) (before after : KnownMachine) : Type 0 where
+pub record DrainsChosen (table : KnownTable) (test : List Group → Option ℕ → Bool) (pages : ℕ)
+    (before after : KnownMachine) : Type 0 where
   pub drains : List Drain
-  pub all : DrainsAllBelow group table.cpus drains before after
+  pub all : DrainsAllIf test table.cpus drains before after
   pub sum : pages ≡ pages_drained drains
   pub steps : MakesForAny table before (drain_stocks_steps drains) after
+
+-- those of the group's subtree
+abbrev pub DrainsSubtree : KnownTable → ℕ → ℕ → KnownMachine → KnownMachine → Type 0
+DrainsSubtree t g pages before after = DrainsChosen t (of_subtree g) pages before after
+
+-- those of the group itself
+abbrev pub DrainsGroup : KnownTable → ℕ → ℕ → KnownMachine → KnownMachine → Type 0
+DrainsGroup t g pages before after = DrainsChosen t (of_group g) pages before after
+
+-- no stock that the test chooses is held
+abbrev pub AreDrainedIf : (List Group → Option ℕ → Bool) → ℕ → KnownMachine → Type 0
+AreDrainedIf test cpus m = (q : ℕ) → 1 ≤ q → q ≤ cpus → test m.ledger.groups (stock_group m q) ≡ true → IsDrained m q
 
 -- no stock of the group's subtree is held
 abbrev pub AreDrained : ℕ → ℕ → KnownMachine → Type 0
-AreDrained g cpus m = (q : ℕ) → 1 ≤ q → q ≤ cpus → is_below m.ledger.groups g (stock_group m q) ≡ true → IsDrained m q
+AreDrained g cpus m = AreDrainedIf (of_subtree g) cpus m
+
+-- no stock of the group itself is held
+abbrev pub AreOwnDrained : ℕ → ℕ → KnownMachine → Type 0
+AreOwnDrained g cpus m = AreDrainedIf (of_group g) cpus m
 
 -- so many pages are charged to the group, whose limits have room for them, and are in the processor's stock
 pub record Fills (group pages : ℕ) (before after : Side) : Type 0 where

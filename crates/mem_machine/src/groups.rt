@@ -1,13 +1,13 @@
-//! The groups: made, removed, limited and noted.
+//! The groups: made, removed, limited, noted and killed.
 
 ghost use Rattle.std.specs.Prelude.{◌≡◌, ◌≢◌, ℕ, IsTrue, IfOk, OnErr, false, true, slice_set};
 ghost use Rattle.std.specs.Result.{result_err};
 ghost use Rattle.group_tree.specs.Groups.{has_group, has_child, make_fault};
-ghost use Rattle.group_charge.specs.Charges.{current_of, with_max_noted, with_group_limit, with_group_removed};
+ghost use Rattle.group_charge.specs.Charges.{current_of, SameUsage, with_kill_noted, with_max_noted, with_oom_noted, with_group_limit, with_group_removed};
 ghost use Rattle.step_rules.specs.Usage.{usage_of};
 ghost use Rattle.mem_machine.specs.Machines.{is_killed, AddsGroup, Visits};
 ghost use Rattle.mem_machine.specs.Local.{Makes, MakesForAny, side, local_of};
-ghost use Rattle.mem_machine.specs.Steps.{note_max_steps, make_steps, remove_steps, set_max_steps};
+ghost use Rattle.mem_machine.specs.Steps.{kill_steps, note_max_steps, note_oom_steps, make_steps, remove_steps, set_max_steps};
 
 use crate::machine::Machine;
 use cpu_part::{BootName, Cpu, Tables};
@@ -23,6 +23,34 @@ impl<N: BootName> Machine<N> {
         ensures steps { MakesForAny N.frames self.old (note_max_steps group) self.new }
     {
         self.charges.note_max(group);
+    }
+
+    /// Notes that an allocation was about to fail at the limit of a group, and that killing was an option: one more `oom` in
+    /// its events and in those of each of its ancestors, and in its local events.
+    pub fn note_oom(&mut self, group: GroupId)
+        requires { IsTrue (has_group self.old.ledger.groups group) }
+        ensures machine { self.new ≡ record self.old { ledger = with_oom_noted self.old.ledger group } }
+        ensures usage { SameUsage self.old.ledger self.new.ledger }
+        ensures steps { MakesForAny N.frames self.old (note_oom_steps group) self.new }
+    {
+        self.charges.note_oom(group);
+    }
+
+    /// Kills a group that isn't killed: nothing can be charged to it any more, until it is removed. That is one more
+    /// `oom_kill` in its events and in those of each of its ancestors, and in its local events. Its stocks and its kept units
+    /// stay as they are.
+    pub fn mark_killed(&mut self, group: GroupId)
+        requires there { IsTrue (has_group self.old.ledger.groups group) }
+        requires alive { is_killed self.old.killed group ≡ false }
+        ensures machine { self.new ≡ record self.old {
+          ledger = with_kill_noted self.old.ledger group;
+          killed = slice_set self.old.killed group true;
+        } }
+        ensures usage { SameUsage self.old.ledger self.new.ledger }
+        ensures steps { MakesForAny N.frames self.old (kill_steps group) self.new }
+    {
+        self.charges.note_kill(group);
+        self.killed[group.number() as usize] = true;
     }
 
     /// Makes a group, as `Tree::make` does. It has no page, peak 0 and all counts 0, and isn't killed.

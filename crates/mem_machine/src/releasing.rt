@@ -5,7 +5,8 @@ ghost use Rattle.group_tree.specs.declared.group.TheConstants.{MAX_GROUPS};
 ghost use Rattle.lru_lists.specs.Lists.{AllStand};
 ghost use Rattle.mem_machine.specs.Machines.{home_of, Visits};
 ghost use Rattle.mem_machine.specs.Releasing.{LeavesList, Releases, release_steps};
-ghost use Rattle.mem_machine.specs.Local.{Makes, side};
+ghost use Rattle.cpu_part.specs.Cpus.{KnownCpu};
+ghost use Rattle.mem_machine.specs.Local.{Makes, MakesForAny, side};
 
 use crate::freed::free_unit;
 use crate::machine::Machine;
@@ -50,14 +51,13 @@ pub(crate) fn leave_list(links: &mut Links, lists: &mut Vec<Lru>, head: u32)
 
 impl<N: BootName> Machine<N> {
     /// Takes a kept unit off its list, and gives up the zone's reference on it. Where that was the last one, the unit
-    /// comes back. The unit goes by its head, which stands on a list of its group.
-    pub fn release(&mut self, tables: &Tables<N>, cpu: &Cpu<N>, head: Frame) -> Released
-        requires visit { Visits N.frames (side self.old cpu.now) }
+    /// comes back. The unit goes by its head, which stands on a list of its group. Whose visit is open is all the same.
+    pub fn let_go(&mut self, tables: &Tables<N>, head: Frame) -> Released
         requires frame { head < N.frames.frames }
         requires kept { home_of self.old.links head ≢ None }
         ensures releases { Releases self.old head result self.new }
-        ensures visit { Visits N.frames (side self.new cpu.now) }
-        ensures steps { Makes N.frames (side self.old cpu.now) (release_steps head result) (side self.new cpu.now) }
+        ensures visit { (cpu : KnownCpu) → Visits N.frames (side self.old cpu) → Visits N.frames (side self.new cpu) }
+        ensures steps { MakesForAny N.frames self.old (release_steps head result) self.new }
     {
         let at = head.number();
         leave_list(&mut self.links, &mut self.lists, at);
@@ -72,5 +72,18 @@ impl<N: BootName> Machine<N> {
                 Released::Returned
             }
         }
+    }
+
+    /// Takes a kept unit off its list, and gives up the zone's reference on it, as `let_go` does, in the visit of this
+    /// processor.
+    pub fn release(&mut self, tables: &Tables<N>, cpu: &Cpu<N>, head: Frame) -> Released
+        requires visit { Visits N.frames (side self.old cpu.now) }
+        requires frame { head < N.frames.frames }
+        requires kept { home_of self.old.links head ≢ None }
+        ensures releases { Releases self.old head result self.new }
+        ensures visit { Visits N.frames (side self.new cpu.now) }
+        ensures steps { Makes N.frames (side self.old cpu.now) (release_steps head result) (side self.new cpu.now) }
+    {
+        self.let_go(tables, head)
     }
 }

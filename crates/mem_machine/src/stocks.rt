@@ -4,8 +4,8 @@ ghost use Rattle.std.specs.Prelude.{◌≡◌, ◌≤◌, ◌<◌, [], false, So
 ghost use Rattle.group_tree.specs.declared.group.TheConstants.{MAX_GROUPS};
 ghost use Rattle.group_tree.specs.Groups.{has_group, in_subtree};
 ghost use Rattle.mem_machine.specs.Machines.{LacksRoom, Visits, is_killed};
-ghost use Rattle.mem_machine.specs.Stocks.{IsDrained, AreDrained, FitsStock, stock_group};
-ghost use Rattle.mem_machine.specs.Stocks.{Drains, DrainsIfBelow, DrainsSubtree, Fills, Prepays, IsOver};
+ghost use Rattle.mem_machine.specs.Stocks.{IsDrained, AreDrained, AreOwnDrained, FitsStock, of_group, of_subtree, stock_group};
+ghost use Rattle.mem_machine.specs.Stocks.{Drains, DrainsGroup, DrainsIfChosen, DrainsSubtree, Fills, Prepays, IsOver};
 ghost use Rattle.mem_machine.specs.Stocks.{RefusesGrant, RefusesPrepay, own_fill_steps, prepay_steps};
 ghost use Rattle.mem_machine.specs.Paying.{HasRoomFor};
 ghost use Rattle.mem_machine.specs.Local.{MakesBy, MakesForAny, side};
@@ -61,7 +61,7 @@ impl<N: BootName> Machine<N> {
     fn drain_below(&mut self, tables: &Tables<N>, q: u32, group: GroupId) -> u32
         requires processor { (1 ≤ q) × (q ≤ N.frames.cpus) }
         requires there { IsTrue (has_group self.old.ledger.groups group) }
-        ensures { DrainsIfBelow N.frames group q result self.old self.new }
+        ensures { DrainsIfChosen N.frames (of_subtree group) q result self.old self.new }
     {
         match tables.stocks.group(&mut self.stock, q) {
             None => 0,
@@ -81,6 +81,31 @@ impl<N: BootName> Machine<N> {
         let mut pages = 0;
         for before in 0..tables.frames.cpus() {
             pages += u64::from(self.drain_below(tables, before + 1, group));
+        }
+        pages
+    }
+
+    // Drains the stock of processor q where it is of the group itself, and tells how many pages came from it.
+    fn drain_own(&mut self, tables: &Tables<N>, q: u32, group: GroupId) -> u32
+        requires processor { (1 ≤ q) × (q ≤ N.frames.cpus) }
+        ensures { DrainsIfChosen N.frames (of_group group) q result self.old self.new }
+    {
+        match tables.stocks.group(&mut self.stock, q) {
+            None => 0,
+            Some(number) if number == group.number() => self.drain_of(tables, q, number),
+            Some(_) => 0,
+        }
+    }
+
+    /// Drains the stocks of the group itself, also where one has no page, and tells how many pages were in them. They come
+    /// off the books and off the charge of the group. It looks at each processor's stock once.
+    pub fn drain_own_stocks(&mut self, tables: &Tables<N>, group: GroupId) -> u64
+        ensures drains { DrainsGroup N.frames group result self.old self.new }
+        ensures drained { AreOwnDrained group N.frames.cpus self.new }
+    {
+        let mut pages = 0;
+        for before in 0..tables.frames.cpus() {
+            pages += u64::from(self.drain_own(tables, before + 1, group));
         }
         pages
     }

@@ -6,3 +6,5 @@ pub mod Listing
 pub mod Scanning
 pub mod Passing
 pub mod Rounding
+pub mod Choosing
+pub mod LettingGo

@@ -4,3 +4,5 @@ pub mod Units
 pub mod Passes
 pub mod Rounds
 pub mod Staying
+pub mod Victim
+pub mod Killing

@@ -6,11 +6,15 @@
 //! of a type's values is known only where one of its calls says it.
 #![tactic(auto)]
 
+mod kills;
 mod meet;
 mod passes;
 mod reclaiming;
 mod rounds;
 mod scan;
+mod victims;
 
+pub use kills::kill;
 pub use reclaiming::{Reclaimed, reclaim};
 pub use rounds::{MAX_ROUNDS, make_rounds};
+pub use victims::victim;

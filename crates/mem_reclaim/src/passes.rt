@@ -70,8 +70,8 @@ fn scan_both<N: BootName>(
     inactive + active
 }
 
-// Whether the other group is there and is the group or lies below it.
-fn is_below(charges: &Charges, group: GroupId, other: GroupId) -> bool
+/// Whether the other group is there and is the group or lies below it.
+pub(crate) fn is_below(charges: &Charges, group: GroupId, other: GroupId) -> bool
     requires { IsTrue (has_group charges.now.groups group) }
     ensures { result ≡ in_subtree charges.now.groups group other }
 {

@@ -1,5 +1,6 @@
-use Rattle.std.proofs.Common.{◌∙◌, sym, ap}
+use Rattle.std.proofs.Common.{◌∙◌, sym, ap, refl}
 use Rattle.stock_word.specs.Calls.{uncounted}
+use Rattle.mem_machine.specs.Stocks.{of_subtree}
 use Rattle.mem_machine.proofs.Draining.{never_drained}
 use Rattle.mem_machine.proofs.DrainingAll.{looked_own, looked_other, looked_never}
 use Rattle.mem_machine.proofs.machine.Machine.drain_below.Goals as goal
@@ -12,14 +13,14 @@ invariant_of-self g c = (
 )
 
 pub returns-in-None : goal.returns-in-None
-returns-in-None g c = looked_never g.N.BootName.frames _ _ c.self.view_is c.args.group c.args.q c.in-None.ensures.group _ (ap uncounted c.in-None.ensures.machine)
+returns-in-None g c = looked_never g.N.BootName.frames _ _ c.self.view_is (of_subtree c.args.group) c.args.q c.in-None.ensures.group refl _ (ap uncounted c.in-None.ensures.machine)
 
 pub returns-in-Some : goal.returns-in-Some
 returns-in-Some g c =
-    looked_own g.N.BootName.frames _ _ c.self.view_is _ (ap uncounted c.in-Some.ensures.machine) c.args.group c.args.q c.in-Some.number c.drain_of.result _
+    looked_own g.N.BootName.frames _ _ c.self.view_is _ (ap uncounted c.in-Some.ensures.machine) (of_subtree c.args.group) c.args.q c.in-Some.number c.drain_of.result _
     c.in-Some.ensures.group (sym c.is_below.ensures ∙ c.if-is_below.true) c.drain_of.ensures.drains c.drain_of.ensures.steps
 
 pub returns-in-Some-2 : goal.returns-in-Some-2
 returns-in-Some-2 g c =
-    looked_other g.N.BootName.frames _ _ c.self.view_is c.args.group c.args.q c.in-Some.number c.in-Some.ensures.group
+    looked_other g.N.BootName.frames _ _ c.self.view_is (of_subtree c.args.group) c.args.q c.in-Some.number c.in-Some.ensures.group
     (sym c.is_below.ensures ∙ c.if-is_below.false) _ (ap uncounted c.in-Some.ensures.machine)

@@ -1,7 +1,7 @@
 use Rattle.std.proofs.Common.{rules}
 use Rattle.mem_machine.proofs.Freeing.{unit_in_use, unit_charged}
 use Rattle.mem_machine.proofs.Releases.{left_all, read_head, returned_all}
-use Rattle.mem_machine.proofs.machine.Machine.release.Goals as goal
+use Rattle.mem_machine.proofs.machine.Machine.let_go.Goals as goal
 
 pub free_unit-requires-clause-in_use : goal.free_unit-requires-clause-in_use
 free_unit-requires-clause-in_use g c =
@@ -33,13 +33,13 @@ pub returns-in-Left-clause-visit : goal.returns-in-Left-clause-visit
 returns-in-Left-clause-visit g c =
     (left_all g.N.BootName.frames g.N.BootName.stocks _ _ c.self.view_is c.self.invariant.0 c.args.head _
     c.requires.frame c.number-at.ensures c.requires.kept _ _ c.leave_list.ensures.leaves c.leave_list.ensures.stand c.leave_list.ensures.frames
-    c.leave_list.ensures.groups c.in-Left.left _ c.in-Left.ensures.answer.2).visit c.args.cpu.now c.requires.visit
+    c.leave_list.ensures.groups c.in-Left.left _ c.in-Left.ensures.answer.2).visit
 
 pub returns-in-Left-clause-steps : goal.returns-in-Left-clause-steps
 returns-in-Left-clause-steps g c =
     (left_all g.N.BootName.frames g.N.BootName.stocks _ _ c.self.view_is c.self.invariant.0 c.args.head _
     c.requires.frame c.number-at.ensures c.requires.kept _ _ c.leave_list.ensures.leaves c.leave_list.ensures.stand c.leave_list.ensures.frames
-    c.leave_list.ensures.groups c.in-Left.left _ c.in-Left.ensures.answer.2).steps c.args.cpu.now
+    c.leave_list.ensures.groups c.in-Left.left _ c.in-Left.ensures.answer.2).steps
 
 pub invariant_of-self-in-Last : goal.invariant_of-self-in-Last
 invariant_of-self-in-Last g c =
@@ -67,7 +67,7 @@ returns-in-Head-clause-visit g c =
     (returned_all g.N.BootName.frames g.N.BootName.stocks _ _ c.self.view_is c.self.invariant.0 c.args.head _
     c.requires.frame c.number-at.ensures c.requires.kept _ _ c.leave_list.ensures.leaves c.leave_list.ensures.stand c.leave_list.ensures.frames
     c.leave_list.ensures.groups _ c.in-Last.ensures.answer.0 c.in-Head.unit head _ _ _ _ _ _ c.self.invariant.1 c.free_unit.ensures.spots
-    c.free_unit.ensures.frames c.free_unit.ensures.areas c.free_unit.ensures.charges c.with_last_put-self-inside.ensures).visit c.args.cpu.now c.requires.visit
+    c.free_unit.ensures.frames c.free_unit.ensures.areas c.free_unit.ensures.charges c.with_last_put-self-inside.ensures).visit
 
 pub returns-in-Head-clause-steps : goal.returns-in-Head-clause-steps
 returns-in-Head-clause-steps g c =
@@ -76,7 +76,7 @@ returns-in-Head-clause-steps g c =
     (returned_all g.N.BootName.frames g.N.BootName.stocks _ _ c.self.view_is c.self.invariant.0 c.args.head _
     c.requires.frame c.number-at.ensures c.requires.kept _ _ c.leave_list.ensures.leaves c.leave_list.ensures.stand c.leave_list.ensures.frames
     c.leave_list.ensures.groups _ c.in-Last.ensures.answer.0 c.in-Head.unit head _ _ _ _ _ _ c.self.invariant.1 c.free_unit.ensures.spots
-    c.free_unit.ensures.frames c.free_unit.ensures.areas c.free_unit.ensures.charges c.with_last_put-self-inside.ensures).steps c.args.cpu.now
+    c.free_unit.ensures.frames c.free_unit.ensures.areas c.free_unit.ensures.charges c.with_last_put-self-inside.ensures).steps
 
 pub returns-in-Left-clause-releases : goal.returns-in-Left-clause-releases
 returns-in-Left-clause-releases g c = search rules

@@ -1,0 +1,23 @@
+use Rattle.std.proofs.Common.{◌∙◌, ap, refl}
+use Rattle.std.proofs.lemmas.Bool.{eq-eqb}
+use Rattle.stock_word.specs.Calls.{uncounted}
+use Rattle.mem_machine.specs.Stocks.{of_group}
+use Rattle.mem_machine.proofs.Draining.{never_drained}
+use Rattle.mem_machine.proofs.DrainingAll.{looked_own, looked_never}
+use Rattle.mem_machine.proofs.machine.Machine.drain_own.Goals as goal
+
+pub invariant_of-self : goal.invariant_of-self
+invariant_of-self g c = (
+  (never_drained g.N.BootName.frames g.N.BootName.stocks _ _ c.self.view_is c.self.invariant.0 c.args.q c.requires.processor.0 c.requires.processor.1
+      c.in-None.ensures.group _ (ap uncounted c.in-None.ensures.machine)).consistent,
+  c.self.invariant.1,
+)
+
+pub returns-in-None : goal.returns-in-None
+returns-in-None g c =
+    looked_never g.N.BootName.frames _ _ c.self.view_is (of_group c.args.group) c.args.q c.in-None.ensures.group refl _ (ap uncounted c.in-None.ensures.machine)
+
+pub returns-in-Some : goal.returns-in-Some
+returns-in-Some g c =
+    looked_own g.N.BootName.frames _ _ c.self.view_is _ (ap uncounted c.in-Some.ensures.machine) (of_group c.args.group) c.args.q c.in-Some.number
+    c.drain_of.result _ c.in-Some.ensures.group (eq-eqb _ _ (c.if-number.true ∙ c.number.ensures.value)) c.drain_of.ensures.drains c.drain_of.ensures.steps

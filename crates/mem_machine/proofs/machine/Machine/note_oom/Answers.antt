@@ -1,0 +1,12 @@
+use Rattle.std.proofs.Common.{rules}
+use Rattle.mem_machine.proofs.GroupSteps.{notes_oom}
+use Rattle.mem_machine.proofs.machine.Machine.note_oom.Goals as goal
+
+pub returns-clause-steps : goal.returns-clause-steps
+returns-clause-steps g c = notes_oom g.N.BootName.frames _ _ c.self.view_is c.args.group c.requires _ c.note_oom.ensures.noted
+
+pub invariant_of-self : goal.invariant_of-self
+invariant_of-self g c = search rules
+
+pub returns-clause-machine : goal.returns-clause-machine
+returns-clause-machine g c = search rules

@@ -1,0 +1,346 @@
+-- Units that are let go, and what stays meanwhile; and a group that is killed. Serves `let_go_all` and `kill_group`.
+use Rattle.std.proofs.Common.{◌≡◌, ◌≢◌, ℕ, ◌+◌, ◌<◌, ◌≤◌, ◌==◌, Bool, true, Option, Some, None, List, [], ◌∷◌, ◌++◌, length, zero, suc, refl, sym, ap, ◌∙◌, subst}
+use Rattle.std.proofs.Common.{inl, inr, arith, eq-eqb}
+use Rattle.std.specs.Prelude.{slice_set}
+use Rattle.std.proofs.lemmas.Bool.{cases_eq, false≢true}
+use Rattle.std.proofs.lemmas.Option.{none-some}
+use Rattle.std.proofs.lemmas.List.{append_assoc, append-nil}
+use Rattle.frame_word.specs.declared.view.FrameNote.{FrameNote}
+use Rattle.frame_word.specs.Views.{let_go, let_go_last}
+use Rattle.frame_word.specs.Seats.{KnownTable, KnownSeat, IsOpen, NothingPasses, LentIsBorrowed, misses_of, seat_with}
+use Rattle.frame_word.proofs.Notes.{note_here, note_else}
+use Rattle.stock_word.specs.Stock.{Seated, Words, account_of}
+use Rattle.group_tree.specs.declared.group.Group.{Group}
+use Rattle.lru_lists.specs.declared.record.Link.{Link}
+use Rattle.lru_lists.specs.declared.record.Home.{Home}
+use Rattle.lru_lists.specs.declared.record.Entry.{Entry}
+use Rattle.lru_lists.specs.declared.record.LruList.{LruList}
+use Rattle.lru_lists.specs.declared.record.LruList.TheVariants.{Inactive, Active}
+use Rattle.lru_lists.specs.Queue.{link_at}
+use Rattle.lru_lists.specs.Lists.{entries_without, first_entry}
+use Rattle.cpu_part.specs.Cpus.{KnownCpu}
+use Rattle.step_rules.specs.After.{Run}
+use Rattle.mem_machine.specs.declared.releasing.Released.{Released}
+use Rattle.mem_machine.specs.declared.releasing.Released.TheVariants.{Left, Returned}
+use Rattle.mem_machine.specs.Machines.{KnownMachine, IsConsistent, Visits, home_of, side}
+use Rattle.mem_machine.specs.Local.{MakesForAny, local_of}
+use Rattle.mem_machine.specs.Ageing.{entries_in}
+use Rattle.mem_machine.specs.Releasing.{LeavesList, Releases, release_steps}
+use Rattle.mem_machine.specs.Steps.{Drain, drain_stocks_steps, kill_steps}
+use Rattle.mem_machine.specs.Stocks.{AreOwnDrained, Drains, DrainsIf, DrainsAllIf, DrainsGroup, of_group, stock_group}
+use Rattle.mem_machine.proofs.Reaching.{run_both}
+use Rattle.mem_machine.proofs.Draining.{groups_stay}
+use Rattle.mem_reclaim.specs.Staying.{OnlyLeave}
+use Rattle.mem_reclaim.specs.Killing.{IsKilledBy, KeepsNone, KeepsStocks, LetsGoAll, LetsGoBySteps, OnlyLetsGo, with_killed}
+use Rattle.mem_reclaim.proofs.Listing.{has_unit, listed_is, home_inside, has_mid}
+
+-- ---- what stays
+
+pub only_lets_none : (t : KnownTable) (m : KnownMachine) → OnlyLetsGo t m m
+only_lets_none t m = record {
+  groups = refl;
+  opened = refl;
+  visit = λ c v. v;
+  leaves = λ f h is. is;
+  dirt = λ f kept. refl;
+  misses = λ f. refl;
+}
+
+kept_was : (m n : KnownMachine) → OnlyLeave m n → (f : ℕ) → home_of n.links f ≢ None → home_of m.links f ≢ None
+kept_was m n leaves f kept none = was (home_of n.links f) refl
+  where
+    was : (h : Option Home) → home_of n.links f ≡ h → ⊥
+    was None is = kept is
+    was (Some h) is = none-some h (sym none ∙ leaves f h is)
+
+pub only_lets_both : (t : KnownTable) (a b c : KnownMachine) → OnlyLetsGo t a b → OnlyLetsGo t b c → OnlyLetsGo t a c
+only_lets_both t a b c p q = record {
+  groups = q.groups ∙ p.groups;
+  opened = q.opened ∙ p.opened;
+  visit = λ x v. q.visit x (p.visit x v);
+  leaves = λ f h is. p.leaves f h (q.leaves f h is);
+  dirt = λ f kept. q.dirt f kept ∙ p.dirt f (kept_was b c q.leaves f kept);
+  misses = λ f. q.misses f ∙ p.misses f;
+}
+
+-- where the links and the zone's seat at the frames stay
+pub only_lets_same : (t : KnownTable) (m n : KnownMachine) → n.ledger.groups ≡ m.ledger.groups → n.seat ≡ m.seat → n.links ≡ m.links → OnlyLetsGo t m n
+only_lets_same t m n groups seat links = record {
+  groups = groups;
+  opened = ap (λ (s : KnownSeat). s.view.opened) seat;
+  visit = λ c v. record {
+    is_open = subst (λ (s : KnownSeat). IsOpen s c.number) (sym seat) v.is_open;
+    still = subst (λ (s : KnownSeat). NothingPasses t s c.seat) (sym seat) v.still;
+    lent = subst (λ (s : KnownSeat). LentIsBorrowed t s c.seat) (sym seat) v.lent;
+  };
+  leaves = λ f h is. ap (λ (l : List Link). home_of l f) (sym links) ∙ is;
+  dirt = λ f kept. ap (λ (l : List Link). (link_at l f).is_dirty) links;
+  misses = λ f. ap (λ (s : KnownSeat). misses_of s f) seat;
+}
+
+-- ---- one unit
+
+-- a put is no miss
+misses_put : (seat : KnownSeat) (f g : ℕ) (change : FrameNote → FrameNote) → ((k : FrameNote) → (change k).misses ≡ k.misses)
+    → misses_of (seat_with seat f change) g ≡ misses_of seat g
+misses_put seat f g change keeps = elim (cases_eq g f) [
+  | inl e ↦ subst (λ (x : ℕ). misses_of (seat_with seat f change) x ≡ misses_of seat x) (sym e)
+      (ap (λ (k : FrameNote). k.misses) (note_here seat.view f change) ∙ keeps _)
+  | inr ne ↦ ap (λ (k : FrameNote). k.misses) (note_else seat.view f g change ne)
+]
+
+off_list : (t : KnownTable) (m n : KnownMachine) (f : ℕ) → LeavesList m.links m.lists f n.links n.lists → n.ledger.groups ≡ m.ledger.groups
+    → n.seat.view.opened ≡ m.seat.view.opened → ((g : ℕ) → misses_of n.seat g ≡ misses_of m.seat g)
+    → ((c : KnownCpu) → Visits t (side m c) → Visits t (side n c)) → OnlyLetsGo t m n
+off_list t m n f list groups opened misses visit =
+    let gone : home_of n.links f ≡ None = ap (λ (k : Link). k.home) list.forgotten in
+    record {
+      groups = groups;
+      opened = opened;
+      visit = visit;
+      leaves = λ x h home. elim (cases_eq x f) [
+        | inl e ↦ absurd (none-some h (sym (ap (home_of n.links) e ∙ gone) ∙ home))
+        | inr ne ↦ sym (list.homes x ne) ∙ home
+      ];
+      dirt = λ g kept. list.used.dirty g (λ e. kept (ap (home_of n.links) e ∙ gone));
+      misses = misses;
+    }
+
+pub release_lets : (t : KnownTable) (m n : KnownMachine) (f : ℕ) (left : Released) → Releases m f left n
+    → ((c : KnownCpu) → Visits t (side m c) → Visits t (side n c)) → OnlyLetsGo t m n
+release_lets t m n f (Left left) is visit = off_list t m n f is.list (ap (λ (x : KnownMachine). x.ledger.groups) is.machine)
+    (ap (λ (x : KnownMachine). x.seat.view.opened) is.machine)
+    (λ g. ap (λ (x : KnownMachine). misses_of x.seat g) is.machine ∙ misses_put m.seat f g (let_go left) (λ k. refl)) visit
+release_lets t m n f Returned is visit = off_list t m n f is.list (ap (λ (x : KnownMachine). x.ledger.groups) is.machine)
+    (ap (λ (x : KnownMachine). x.seat.view.opened) is.machine)
+    (λ g. ap (λ (x : KnownMachine). misses_of x.seat g) is.machine ∙ misses_put m.seat f g let_go_last (λ k. refl)) visit
+
+release_stocks : (m n : KnownMachine) (f : ℕ) (left : Released) → Releases m f left n → KeepsStocks m n
+release_stocks m n f (Left left) is = record { stock = ap (λ (x : KnownMachine). x.stock) is.machine; killed = ap (λ (x : KnownMachine). x.killed) is.machine }
+release_stocks m n f Returned is = record { stock = ap (λ (x : KnownMachine). x.stock) is.machine; killed = ap (λ (x : KnownMachine). x.killed) is.machine }
+
+release_list : (m n : KnownMachine) (f : ℕ) (left : Released) → Releases m f left n → LeavesList m.links m.lists f n.links n.lists
+release_list m n f (Left left) is = is.list
+release_list m n f Returned is = is.list
+
+same_home : (a b : Home) → Some a ≡ Some b → a.owner ≡ b.owner
+same_home a b e = cc
+
+off_entries : (m n : KnownMachine) (g f : ℕ) (list : LruList) → LeavesList m.links m.lists f n.links n.lists
+    → home_of m.links f ≡ Some (record { owner = g; list = list }) → entries_in n g list ≡ entries_without f (entries_in m g list)
+off_entries m n g f Inactive is home =
+    let own : is.group ≡ g = same_home (record { owner = is.group; list = is.list }) (record { owner = g; list = Inactive }) (sym is.stands ∙ home) in
+    subst (λ (k : ℕ). entries_in n k Inactive ≡ entries_without f (entries_in m k Inactive)) own is.inactive
+off_entries m n g f Active is home =
+    let own : is.group ≡ g = same_home (record { owner = is.group; list = is.list }) (record { owner = g; list = Active }) (sym is.stands ∙ home) in
+    subst (λ (k : ℕ). entries_in n k Active ≡ entries_without f (entries_in m k Active)) own is.active
+
+-- ---- the units of a list, as far as they were let go
+
+pub record LetGoSoFar (t : KnownTable) (g : ℕ) (list : LruList) (m : KnownMachine) (i : ℕ) (now : KnownMachine) : Type 0 where
+  pub steps : Run
+  pub whole : (rest : Run) (n : KnownMachine) → LetsGoAll (entries_in now g list) now rest n → LetsGoAll (entries_in m g list) m (steps ++ rest) n
+  pub runs : MakesForAny t m steps now
+  pub left : length (entries_in now g list) + i ≡ length (entries_in m g list)
+  pub keeps : OnlyLetsGo t m now
+  pub stocks : KeepsStocks m now
+
+pub let_go_first : (t : KnownTable) (g : ℕ) (list : LruList) (m : KnownMachine) → LetGoSoFar t g list m 0 m
+let_go_first t g list m = record {
+  steps = [];
+  whole = λ rest n all. all;
+  runs = λ c. refl;
+  left = omega arith;
+  keeps = only_lets_none t m;
+  stocks = record { stock = refl; killed = refl };
+}
+
+-- the oldest unit that is left
+pub record Oldest (t : KnownTable) (g : ℕ) (list : LruList) (now : KnownMachine) (u : Entry) : Type 0 where
+  pub rest : List Entry
+  pub entries : entries_in now g list ≡ u ∷ rest
+  pub home : home_of now.links u.number ≡ Some (record { owner = g; list = list })
+  pub inside : u.number < t.frames
+
+first_is : (entries : List Entry) (u : Entry) → Some u ≡ first_entry entries → (rest : List Entry) × (entries ≡ u ∷ rest)
+first_is [] u is = absurd (none-some u (sym is))
+first_is (e ∷ es) u is = (es, ap (λ (x : Entry). x ∷ es) (same e u (sym is)))
+  where
+    same : (a b : Entry) → Some a ≡ Some b → a ≡ b
+    same a b e = cc
+
+none_first : (entries : List Entry) (i n : ℕ) → None ≡ first_entry entries → length entries + i ≡ n → i < n → ⊥
+none_first [] i n is left lt = omega (arith, left, lt)
+none_first (e ∷ es) i n is left lt = none-some e is
+
+-- there is one, as long as not all were let go
+pub some_oldest : (t : KnownTable) (g : ℕ) (list : LruList) (m : KnownMachine) (i : ℕ) (now : KnownMachine) → LetGoSoFar t g list m i now
+    → i < length (entries_in m g list) → (oldest : Option Entry) → oldest ≡ first_entry (entries_in now g list) → oldest ≡ None → ⊥
+some_oldest t g list m i now s more oldest first none = none_first (entries_in now g list) i _ (sym none ∙ first) s.left more
+
+pub oldest_is : (t : KnownTable) (w : Words) (g : ℕ) → g < 64 → (list : LruList) (now : KnownMachine) → IsConsistent t w now → (u : Entry)
+    → (oldest : Option Entry) → oldest ≡ first_entry (entries_in now g list) → oldest ≡ Some u → Oldest t g list now u
+oldest_is t w g fits list now ok u oldest first some =
+    let e = first_is (entries_in now g list) u (sym some ∙ first) in
+    let listed = listed_is t w now ok g fits list in
+    let home = listed.homes u.number (ap (has_unit u.number) e.1 ∙ has_mid [] e.0 u u.number refl) in
+    record {
+      rest = e.0;
+      entries = e.1;
+      home = home;
+      inside = home_inside t w now ok u.number (record { owner = g; list = list }) home;
+    }
+
+without_first : (u : Entry) (rest : List Entry) → entries_without u.number (u ∷ rest) ≡ rest
+without_first u rest = let t : (u.number == u.number) ≡ true = eq-eqb u.number u.number refl in rw t refl
+
+pub let_go_more : (t : KnownTable) (g : ℕ) (list : LruList) (m : KnownMachine) (i : ℕ) (now : KnownMachine) → LetGoSoFar t g list m i now
+    → (u : Entry) → Oldest t g list now u → (f : ℕ) → f ≡ u.number → (left : Released) (then : KnownMachine) → Releases now f left then
+    → ((c : KnownCpu) → Visits t (side now c) → Visits t (side then c)) → MakesForAny t now (release_steps f left) then → LetGoSoFar t g list m (i + 1) then
+let_go_more t g list m i now s u o f at left then releases_f visit runs_f =
+    let releases : Releases now u.number left then = subst (λ (x : ℕ). Releases now x left then) at releases_f in
+    let runs : MakesForAny t now (release_steps u.number left) then = subst (λ (x : ℕ). MakesForAny t now (release_steps x left) then) at runs_f in
+    let tail : entries_in then g list ≡ o.rest =
+    off_entries now then g u.number list (release_list now then u.number left releases) o.home ∙ ap (entries_without u.number) o.entries
+    ∙ without_first u o.rest in
+    record {
+      steps = s.steps ++ release_steps u.number left;
+      whole = λ rest n all.
+          subst (λ (r : Run). LetsGoAll (entries_in m g list) m r n) (sym (append_assoc s.steps (release_steps u.number left) rest))
+          (s.whole (release_steps u.number left ++ rest) n (subst (λ (l : List Entry). LetsGoAll l now (release_steps u.number left ++ rest) n) (sym o.entries)
+          (then, left, rest, releases, subst (λ (l : List Entry). LetsGoAll l then rest n) tail all, refl)));
+      runs = λ c. run_both c.number s.steps (release_steps u.number left) (local_of t m c) (local_of t now c) (local_of t then c) (s.runs c) (runs c);
+      left =
+          let a = s.left in
+          let b : length (entries_in now g list) ≡ length (u ∷ o.rest) = ap length o.entries in
+          let d : length (entries_in then g list) ≡ length o.rest = ap length tail in
+          omega (arith, a, b, d);
+      keeps = only_lets_both t m now then s.keeps (release_lets t now then u.number left releases visit);
+      stocks =
+          let x = release_stocks now then u.number left releases in
+          record { stock = x.stock ∙ s.stocks.stock; killed = x.killed ∙ s.stocks.killed };
+    }
+
+none_left : (entries : List Entry) (i n : ℕ) → length entries + i ≡ n → n ≤ i → entries ≡ []
+none_left [] i n left all = refl
+none_left (e ∷ es) i n left all = absurd (let a : length (e ∷ es) + i ≡ n = left in omega (arith, a, all))
+
+pub let_go_empty : (t : KnownTable) (g : ℕ) (list : LruList) (m : KnownMachine) (i : ℕ) (now : KnownMachine) → LetGoSoFar t g list m i now
+    → length (entries_in m g list) ≤ i → entries_in now g list ≡ []
+let_go_empty t g list m i now s all = none_left (entries_in now g list) i _ s.left all
+
+pub let_go_done : (t : KnownTable) (g : ℕ) (list : LruList) (m : KnownMachine) (i : ℕ) (now : KnownMachine) → LetGoSoFar t g list m i now
+    → length (entries_in m g list) ≤ i → LetsGoBySteps t (entries_in m g list) m now
+let_go_done t g list m i now s all =
+    let empty = let_go_empty t g list m i now s all in
+    record {
+      steps = s.steps;
+      lets_go = subst (λ (r : Run). LetsGoAll (entries_in m g list) m r now) (append-nil s.steps)
+          (s.whole [] now (subst (λ (l : List Entry). LetsGoAll l now [] now) (sym empty) (refl, refl)));
+      runs = s.runs;
+    }
+
+-- ---- the stocks are drained
+
+-- what a drain leaves
+pub record LeavesUnits (before after : KnownMachine) : Type 0 where
+  pub groups : after.ledger.groups ≡ before.ledger.groups
+  pub seat : after.seat ≡ before.seat
+  pub links : after.links ≡ before.links
+  pub killed : after.killed ≡ before.killed
+
+leaves_units_none : (m : KnownMachine) → LeavesUnits m m
+leaves_units_none m = record { groups = refl; seat = refl; links = refl; killed = refl }
+
+leaves_units_both : (a b c : KnownMachine) → LeavesUnits a b → LeavesUnits b c → LeavesUnits a c
+leaves_units_both a b c p q = record {
+  groups = q.groups ∙ p.groups;
+  seat = q.seat ∙ p.seat;
+  links = q.links ∙ p.links;
+  killed = q.killed ∙ p.killed;
+}
+
+drain_leaves : (m n : KnownMachine) (q pages : ℕ) → Drains m q pages n → LeavesUnits m n
+drain_leaves m n q pages d = record {
+  groups = ap (λ (x : KnownMachine). x.ledger.groups) d.machine ∙ groups_stay m.ledger (stock_group m q) pages;
+  seat = ap (λ (x : KnownMachine). x.seat) d.machine;
+  links = ap (λ (x : KnownMachine). x.links) d.machine;
+  killed = ap (λ (x : KnownMachine). x.killed) d.machine;
+}
+
+one_leaves : (test : List Group → Option ℕ → Bool) (q : ℕ) (m n : KnownMachine) (drains : List Drain) → DrainsIf test m q drains n → LeavesUnits m n
+one_leaves test q m n [] h = record {
+  groups = ap (λ (x : KnownMachine). x.ledger.groups) h.1;
+  seat = ap (λ (x : KnownMachine). x.seat) h.1;
+  links = ap (λ (x : KnownMachine). x.links) h.1;
+  killed = ap (λ (x : KnownMachine). x.killed) h.1;
+}
+one_leaves test q m n (drain ∷ []) h = drain_leaves m n q drain.pages h.1.drains
+one_leaves test q m n (one ∷ two ∷ more) h = absurd h
+
+pub drains_leave : (test : List Group → Option ℕ → Bool) (k : ℕ) (m n : KnownMachine) (drains : List Drain) → DrainsAllIf test k drains m n → LeavesUnits m n
+drains_leave test zero m n drains h = subst (λ (x : KnownMachine). LeavesUnits m x) (sym h.1) (leaves_units_none m)
+drains_leave test (suc k) m n drains h =
+    leaves_units_both m h.2 n (drains_leave test k m h.2 h.0 h.4) (one_leaves test (suc k) h.2 n h.1 h.5)
+
+-- ---- a group is killed
+
+-- what the parts of a kill leave, one after the other
+pub record AllKilled (t : KnownTable) (v : ℕ) (m n : KnownMachine) : Type 0 where
+  pub kills : IsKilledBy t v m n
+  pub marked : n.killed ≡ slice_set m.killed v true
+  pub drained : AreOwnDrained v t.cpus n
+  pub none_kept : KeepsNone v n
+  pub keeps : OnlyLetsGo t m n
+
+-- nobody stands on an empty list
+none_listed : (t : KnownTable) (w : Words) (m : KnownMachine) → IsConsistent t w m → (v : ℕ) → v < 64 → (list : LruList) → entries_in m v list ≡ []
+    → (f : ℕ) → home_of m.links f ≡ Some (record { owner = v; list = list }) → ⊥
+none_listed t w m ok v fits list empty f home =
+    false≢true (sym (ap (has_unit f) empty) ∙ (listed_is t w m ok v fits list).at_home f home)
+
+keeps_none_of : (t : KnownTable) (w : Words) (b n : KnownMachine) → IsConsistent t w b → IsConsistent t w n → (v : ℕ) → v < 64
+    → entries_in b v Inactive ≡ [] → entries_in n v Active ≡ [] → OnlyLeave b n → (f : ℕ) (list : LruList)
+    → home_of n.links f ≡ Some (record { owner = v; list = list }) → ⊥
+keeps_none_of t w b n ok_b ok_n v fits first last leaves f Inactive home = none_listed t w b ok_b v fits Inactive first f (leaves f _ home)
+keeps_none_of t w b n ok_b ok_n v fits first last leaves f Active home = none_listed t w n ok_n v fits Active last f home
+
+pub all_killed : (t : KnownTable) (w : Words) (v : ℕ) → v < 64 → (m a d b n : KnownMachine) → a ≡ with_killed m v → MakesForAny t m (kill_steps v) a
+    → (pages : ℕ) → DrainsGroup t v pages a d → AreOwnDrained v t.cpus d
+    → LetsGoBySteps t (entries_in d v Inactive) d b → entries_in b v Inactive ≡ [] → OnlyLetsGo t d b → KeepsStocks d b → IsConsistent t w b
+    → LetsGoBySteps t (entries_in b v Active) b n → entries_in n v Active ≡ [] → OnlyLetsGo t b n → KeepsStocks b n → IsConsistent t w n → AllKilled t v m n
+all_killed t w v fits m a d b n is killed pages drains drained first first_empty first_keeps first_stocks ok_b last last_empty last_keeps last_stocks ok_n =
+    let unit = drains_leave (of_group v) t.cpus a d drains.drains drains.all in
+    let stock : n.stock ≡ d.stock = last_stocks.stock ∙ first_stocks.stock in
+    let groups : n.ledger.groups ≡ d.ledger.groups = last_keeps.groups ∙ first_keeps.groups in
+    let at_first : OnlyLetsGo t m a = only_lets_same t m a (ap (λ (x : KnownMachine). x.ledger.groups) is) (ap (λ (x : KnownMachine). x.seat) is)
+    (ap (λ (x : KnownMachine). x.links) is) in
+    let at_drain : OnlyLetsGo t a d = only_lets_same t a d unit.groups unit.seat unit.links in
+    record {
+      kills = record {
+        steps = kill_steps v ++ (drain_stocks_steps drains.drains ++ (first.steps ++ last.steps));
+        kills = record {
+          drained = d;
+          between = b;
+          drains = drains.drains;
+          first = first.steps;
+          last = last.steps;
+          stocks = subst (λ (x : KnownMachine). DrainsAllIf (of_group v) t.cpus drains.drains x d) is drains.all;
+          inactive = first.lets_go;
+          active = last.lets_go;
+          steps_are = refl;
+        };
+        runs = λ c.
+            run_both c.number (kill_steps v) (drain_stocks_steps drains.drains ++ (first.steps ++ last.steps)) (local_of t m c) (local_of t a c) (local_of t n c)
+            (killed c) (run_both c.number (drain_stocks_steps drains.drains) (first.steps ++ last.steps) (local_of t a c) (local_of t d c) (local_of t n c)
+            (drains.steps c) (run_both c.number first.steps last.steps (local_of t d c) (local_of t b c) (local_of t n c) (first.runs c) (last.runs c)));
+      };
+      marked = last_stocks.killed ∙ first_stocks.killed ∙ unit.killed ∙ ap (λ (x : KnownMachine). x.killed) is;
+      drained = λ q some few of.
+          ap (λ (s : Seated). (account_of s.view q).filled) stock
+          ∙ drained q some few ((λ i. of_group v (sym groups i) (account_of (sym stock i).view q).group) ∙ of);
+      none_kept = λ f h home owner.
+          keeps_none_of t w b n ok_b ok_n v fits first_empty last_empty last_keeps.leaves f h.list
+          (home ∙ (λ i. Some (record { owner = owner i; list = h.list })));
+      keeps = only_lets_both t m a n at_first (only_lets_both t a d n at_drain (only_lets_both t d b n first_keeps last_keeps));
+    }

@@ -1,0 +1,40 @@
+use Rattle.std.proofs.Common.{◌<◌, ◌≤◌, length, ap, arith, rules}
+use Rattle.frame_word.specs.Seats.{KnownTable}
+use Rattle.mem_machine.specs.Ageing.{entries_in}
+use Rattle.mem_reclaim.proofs.LettingGo.{let_go_done, let_go_empty, let_go_first, let_go_more, oldest_is}
+use Rattle.mem_reclaim.proofs.kills.let_go_all.Goals as goal
+
+pub loop-unit-init : goal.loop-unit-init
+loop-unit-init g c = let_go_first g.N.BootName.frames c.args.group c.args.list c.args.machine.now
+
+pub unreachable-requires-in_default-frame : goal.unreachable-requires-in_default-frame
+unreachable-requires-in_default-frame g c =
+    let fits : c.args.group < 64 = search rules in
+    let o = oldest_is g.N.BootName.frames g.N.BootName.stocks c.args.group fits c.args.list c.loop-unit.machine c.spots-spots.ensures.consistent
+    c.in-Some.unit c.oldest.result c.oldest.ensures c.in-Some.is in
+    let lt = o.inside in
+    let le : c.args.tables.now.frames.frames ≤ c.in-Some.unit.number = c.in_default-frame.ensures {u = tt} in
+    let tie = ap (λ (x : KnownTable). x.frames) c.args.tables.now.frames_are in
+    omega (arith, lt, le, tie)
+
+pub loop-unit-preserved : goal.loop-unit-preserved
+loop-unit-preserved g c =
+    let fits : c.args.group < 64 = search rules in
+    let o = oldest_is g.N.BootName.frames g.N.BootName.stocks c.args.group fits c.args.list c.loop-unit.machine c.spots-spots.ensures.consistent
+    c.in-Some.unit c.oldest.result c.oldest.ensures c.in-Some.is in
+    let_go_more g.N.BootName.frames c.args.group c.args.list c.args.machine.now c.loop-unit._unit c.loop-unit.machine c.loop-unit.invariant c.in-Some.unit o
+    c.in-Some-frame.frame c.in-Some-frame.ensures.0 c.let_go.result c.let_go.new.self c.let_go.ensures.releases c.let_go.ensures.visit c.let_go.ensures.steps
+
+pub returns-clause-lets_go : goal.returns-clause-lets_go
+returns-clause-lets_go g c =
+    let counted = c.listed-unit-end.ensures in
+    let all = c.loop-unit-test.false in
+    let done : length (entries_in c.args.machine.now c.args.group c.args.list) ≤ c.loop-unit._unit = omega (arith, counted, all) in
+    let_go_done g.N.BootName.frames c.args.group c.args.list c.args.machine.now c.loop-unit._unit c.loop-unit.machine c.loop-unit.invariant done
+
+pub returns-clause-empty : goal.returns-clause-empty
+returns-clause-empty g c =
+    let counted = c.listed-unit-end.ensures in
+    let all = c.loop-unit-test.false in
+    let done : length (entries_in c.args.machine.now c.args.group c.args.list) ≤ c.loop-unit._unit = omega (arith, counted, all) in
+    let_go_empty g.N.BootName.frames c.args.group c.args.list c.args.machine.now c.loop-unit._unit c.loop-unit.machine c.loop-unit.invariant done

@@ -1,0 +1,77 @@
+-- A group is killed, and its kept units leave.
+use Rattle.std.specs.Prelude.{◌≡◌, ◌≢◌, ℕ, true, Option, Some, None, slice_set, List, [], ◌∷◌, ◌++◌}
+use Rattle.frame_word.specs.Seats.{KnownTable, misses_of}
+use Rattle.group_charge.specs.Charges.{with_kill_noted}
+use Rattle.lru_lists.specs.declared.record.Entry.{Entry}
+use Rattle.lru_lists.specs.declared.record.Home.{Home}
+use Rattle.lru_lists.specs.Queue.{link_at}
+use Rattle.cpu_part.specs.Cpus.{KnownCpu}
+use Rattle.step_rules.specs.After.{Run}
+use Rattle.mem_machine.specs.declared.releasing.Released.{Released}
+use Rattle.mem_machine.specs.Machines.{KnownMachine, Visits, active_in, home_of, inactive_in, side}
+use Rattle.mem_machine.specs.Local.{MakesForAny}
+use Rattle.mem_machine.specs.Releasing.{Releases, release_steps}
+use Rattle.mem_machine.specs.Steps.{Drain, drain_stocks_steps, kill_steps}
+use Rattle.mem_machine.specs.Stocks.{DrainsAllIf, of_group}
+use Rattle.mem_reclaim.specs.Staying.{OnlyLeave}
+
+-- The units leave their lists in this order, and the zone's reference on each is put: one without another reference comes
+-- back, its frames are free and its pages uncharged; any other stays charged, kept by no one
+abbrev pub LetsGoAll : List Entry → KnownMachine → Run → KnownMachine → Type 0
+LetsGoAll [] before steps after = (after ≡ before) × (steps ≡ [])
+LetsGoAll (e ∷ later) before steps after =
+    (between : KnownMachine) × (left : Released) × (rest : Run) × Releases before e.number left between
+    × LetsGoAll later between rest after × (steps ≡ release_steps e.number left ++ rest)
+
+-- so it is by some steps, whoever holds the lock
+pub record LetsGoBySteps (table : KnownTable) (units : List Entry) (before after : KnownMachine) : Type 0 where
+  pub steps : Run
+  pub lets_go : LetsGoAll units before steps after
+  pub runs : MakesForAny table before steps after
+
+-- the group counts as killed, and one kill more is noted at it
+abbrev pub with_killed : KnownMachine → ℕ → KnownMachine
+with_killed m v = record m { ledger = with_kill_noted m.ledger v; killed = slice_set m.killed v true }
+
+-- Group v is killed. First it counts as killed; then its own stocks are drained, one processor after the other; then its
+-- kept units leave, dirty ones too, the inactive ones first, and of each list the oldest first
+pub record KillsGroup (table : KnownTable) (v : ℕ) (before : KnownMachine) (steps : Run) (after : KnownMachine) : Type 0 where
+  pub drained : KnownMachine
+  pub between : KnownMachine
+  pub drains : List Drain
+  pub first : Run
+  pub last : Run
+  pub stocks : DrainsAllIf (of_group v) table.cpus drains (with_killed before v) drained
+  pub inactive : LetsGoAll (inactive_in drained v) drained first between
+  pub active : LetsGoAll (active_in between v) between last after
+  pub steps_are : steps ≡ kill_steps v ++ (drain_stocks_steps drains ++ (first ++ last))
+
+-- so it is by these steps, whoever holds the lock
+pub record IsKilledBy (table : KnownTable) (v : ℕ) (before after : KnownMachine) : Type 0 where
+  pub steps : Run
+  pub kills : KillsGroup table v before steps after
+  pub runs : MakesForAny table before steps after
+
+-- the victim, if there is one, is killed; else nothing changed
+abbrev pub KillsVictim : KnownTable → Option ℕ → KnownMachine → KnownMachine → Type 0
+KillsVictim t None before after = after ≡ before
+KillsVictim t (Some v) before after = IsKilledBy t v before after
+
+-- Groups with their limits and every visit stay, and no visit is opened or shut. Who is kept was kept on the same list, and is
+-- as dirty as it was. No unit is frozen, so no miss is noted
+pub record OnlyLetsGo (table : KnownTable) (before after : KnownMachine) : Type 0 where
+  pub groups : after.ledger.groups ≡ before.ledger.groups
+  pub opened : after.seat.view.opened ≡ before.seat.view.opened
+  pub visit : (cpu : KnownCpu) → Visits table (side before cpu) → Visits table (side after cpu)
+  pub leaves : OnlyLeave before after
+  pub dirt : (f : ℕ) → home_of after.links f ≢ None → (link_at after.links f).is_dirty ≡ (link_at before.links f).is_dirty
+  pub misses : (f : ℕ) → misses_of after.seat f ≡ misses_of before.seat f
+
+-- what each processor's stock is stays, and who is killed
+pub record KeepsStocks (before after : KnownMachine) : Type 0 where
+  pub stock : after.stock ≡ before.stock
+  pub killed : after.killed ≡ before.killed
+
+-- no unit is kept for the group
+abbrev pub KeepsNone : ℕ → KnownMachine → Type 0
+KeepsNone v m = (f : ℕ) (h : Home) → home_of m.links f ≡ Some h → h.owner ≢ v
