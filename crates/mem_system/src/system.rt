@@ -2,6 +2,7 @@
 
 ghost use Rattle.std.specs.Prelude.{◌≡◌, length, IfOk};
 ghost use Rattle.group_tree.specs.Groups.{number_at};
+ghost use Rattle.mem_machine.specs.Machines.{IsConsistent};
 ghost use Rattle.mem_system.specs.Boots.{KnownLocked, IsQuiet, first_cpus};
 ghost use Rattle.mem_system.specs.Commands.{IsOfZone, IsSettledAfter, IsVisited};
 
@@ -33,12 +34,34 @@ impl Boot {
         ensures count { IfOk result (λ r. length r.1.items ≡ N.frames.cpus) }
     {
         let (tables, locked, cpus) = self.part(alloc)?;
-        let locked = Mutex::new(locked);
-        Ok((System { tables, locked }, cpus))
+        Ok((System::of(tables, locked), cpus))
     }
 }
 
 impl<N: BootName> System<N> {
+    /// The system of these tables and of what lies behind the lock: processors share it from now on. What it says of
+    /// the tables is all that a clause can say: none looks through the lock.
+    pub fn of(tables: Tables<N>, locked: Locked<N>) -> System<N>
+        ensures tables { result.tables ≡ tables }
+    {
+        let locked = Mutex::new(locked);
+        System { tables, locked }
+    }
+
+    /// Takes the system apart again, once nobody shares it: its tables, and what lies behind the lock, which is as the
+    /// last visit left it. Of that value it is said what always holds there: no visit is open, and the machine is
+    /// consistent.
+    pub fn into_parts(self) -> (Tables<N>, Locked<N>)
+        ensures tables { result.0 ≡ self.tables }
+        ensures quiet { IsQuiet N.frames N.stocks result.1 }
+        ensures consistent { IsConsistent N.frames N.stocks result.1.machine }
+    {
+        let System { tables, locked } = self;
+        let locked = locked.into_inner();
+        locked.see_quiet();
+        (tables, locked)
+    }
+
     /// The tables, for the calls that take no lock: those that N names.
     pub fn tables(&self) -> &Tables<N>
         ensures frames { result.now.frames ≡ N.frames }
