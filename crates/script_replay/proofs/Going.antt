@@ -1,5 +1,5 @@
 -- The lines that went well so far, and the history that they tell. Serves `serve_line`, `replay`.
-use Rattle.std.proofs.Common.{Result, Ok, Err, IfOk, ◌≡◌, ℕ, ◌+◌, ◌-◌, ◌<◌, ◌≤◌, Some, None, List, [], ◌∷◌, ◌++◌, length, take, get_or, append_assoc, append-nil, ap, refl, sym, ◌∙◌, subst, arith, inl, inr}
+use Rattle.std.proofs.Common.{Result, IfOk, ◌≡◌, ℕ, ◌+◌, ◌-◌, ◌<◌, ◌≤◌, Some, None, List, [], ◌∷◌, ◌++◌, length, take, get_or, append_assoc, append-nil, ap, refl, sym, ◌∙◌, subst, arith, inl, inr}
 use Rattle.std.specs.Prelude.{slice_set}
 use Rattle.std.specs.List.{slice_get}
 use Rattle.std.proofs.lemmas.Bool.{cases_eq}
@@ -23,8 +23,8 @@ use Rattle.script_lines.specs.declared.line.Command.{Command}
 use Rattle.script_lines.specs.declared.line.Line.{Line}
 use Rattle.script_lines.specs.declared.line.Line.TheVariants.{Go, At}
 use Rattle.script_replay.specs.Answers.{AnswersText}
-use Rattle.script_replay.specs.Lines.{Standing, AtPart, ServesLine, ServesAll}
-use Rattle.script_replay.specs.History.{line_steps, LineIsDecided, TellsHistory, GoesWell}
+use Rattle.script_replay.specs.Lines.{Standing, AtPart, ServesLine, ServesAll, StopsAt}
+use Rattle.script_replay.specs.History.{line_steps, LineIsDecided, TellsHistory, Replays, GoesWell}
 use Rattle.script_replay.specs.Ranges.{LineIsThere}
 use Rattle.script_replay.specs.Works.{work_of}
 use Rattle.script_replay.proofs.InRange.{work_in_range}
@@ -51,12 +51,11 @@ tied_still t w cpus k c d is_part tied none all j e at = elim (cases_eq j k) [
 pub part_goes : (t : KnownTable) (w : Words) (before after : KnownLocked) (cpus : List KnownCpu) (line : Line) (processor : ℕ) (command : Command) (c d : KnownCpu)
     {U E : Type 0} (r : Result U E) (old new : List ℕ) → line ≡ At processor command → LineIsThere t.frames (length cpus) line →
     slice_get cpus (processor - 1) ≡ Some c →
-    IfOk r (λ _. (said : List ℕ) × AnswersText t command (holder before c) said (holder after d) × (new ≡ old ++ said)) →
+    (said : List ℕ) × AnswersText t command (holder before c) said (holder after d) × IfOk r (λ _. new ≡ old ++ said) →
     IsQuiet t w after → IsConsistent t w after.machine → AreCharges after.machine.ledger → IsTied t w d → (d.stock.view.last ≡ stock_is.NoGroup → d.fresh ≡ []) →
-    IfOk r (λ _. (text : List ℕ) × GoesWell t w (record { locked = before; cpus = cpus }) line text
-    (record { locked = after; cpus = slice_set cpus (processor - 1) d }) × (new ≡ old ++ text))
-part_goes t w before after cpus line processor command c d (Err e) old new is there is_part answered quiet good charges tied none = tt
-part_goes t w before after cpus line processor command c d (Ok u) old new is there is_part answered quiet good charges tied none = (
+    (text : List ℕ) × GoesWell t w (record { locked = before; cpus = cpus }) line text
+    (record { locked = after; cpus = slice_set cpus (processor - 1) d }) × IfOk r (λ _. new ≡ old ++ text)
+part_goes t w before after cpus line processor command c d r old new is there is_part answered quiet good charges tied none = (
   answered.0,
   record {
     there = there;
@@ -77,10 +76,10 @@ part_goes t w before after cpus line processor command c d (Ok u) old new is the
 pub part_read : (t : KnownTable) (w : Words) (before after : KnownLocked) (cpus : List KnownCpu) (line : Line) (processor : ℕ) (command : Command) (c d : KnownCpu)
     {U E : Type 0} (r : Result U E) (old new : List ℕ) → line ≡ At processor command → LineIsThere t.frames (length cpus) line →
     c ≡ get_or cpus (processor - 1) c →
-    IfOk r (λ _. (said : List ℕ) × AnswersText t command (holder before c) said (holder after d) × (new ≡ old ++ said)) →
+    (said : List ℕ) × AnswersText t command (holder before c) said (holder after d) × IfOk r (λ _. new ≡ old ++ said) →
     IsQuiet t w after → IsConsistent t w after.machine → AreCharges after.machine.ledger → IsTied t w d → (d.stock.view.last ≡ stock_is.NoGroup → d.fresh ≡ []) →
-    IfOk r (λ _. (text : List ℕ) × GoesWell t w (record { locked = before; cpus = cpus }) line text
-    (record { locked = after; cpus = slice_set cpus (processor - 1) d }) × (new ≡ old ++ text))
+    (text : List ℕ) × GoesWell t w (record { locked = before; cpus = cpus }) line text
+    (record { locked = after; cpus = slice_set cpus (processor - 1) d }) × IfOk r (λ _. new ≡ old ++ text)
 part_read t w before after cpus line processor command c d r old new is there read answered quiet good charges tied none =
     let named : LineIsThere t.frames (length cpus) (At processor command) = subst (LineIsThere t.frames (length cpus)) is there in
     let low = named.low in
@@ -160,3 +159,22 @@ goes_history t w decided run s e (line ∷ lines) text shows tied all =
       goes_history t w (decided × LineIsDecided t s line all.0 mid goes.serves) next mid e lines all.1 (λ both. follows both.0 both.1) tied_then all.4,
       all.5,
     )
+
+-- memory was wanting for the text of the next line
+pub goes_stop : (t : KnownTable) (w : Words) (s m e : Standing) (lines : List Line) (i : ℕ) (default : Line) (text more : List ℕ)
+    → i < length lines → GoesAll t w s (take i lines) text m → GoesWell t w m (get_or lines i default) more e
+    → StopsAt lines (λ served said. Replays t w s served said e)
+goes_stop t w s m e lines i default text more inside all one =
+    let first = take (i + 1) lines in
+    let said = text ++ more in
+    let goes : GoesAll t w s first said e = goes_line t w s m e lines i default text said inside all (more, one, refl) in
+    record {
+      number = i + 1;
+      low = omega arith;
+      high = omega (arith, inside);
+      text = said;
+      served = record {
+        served = goes_served t w s e first said goes;
+        history = λ run shows tied. goes_history t w (Unit {0}) run s e first said (λ u. shows) tied goes;
+      };
+    }

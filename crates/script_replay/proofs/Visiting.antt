@@ -1,5 +1,5 @@
 -- What lines were answered by visits. Serves `visit_answers`, `visit_replay`.
-use Rattle.std.proofs.Common.{Result, Ok, Err, IfOk, ◌≡◌, ℕ, ◌+◌, ◌-◌, ◌<◌, ◌≤◌, List, [], ◌∷◌, ◌++◌, length, take, get_or, append_assoc, append-nil, ap, refl, sym, ◌∙◌, subst, arith, inr}
+use Rattle.std.proofs.Common.{Result, IfOk, ◌≡◌, ℕ, ◌+◌, ◌-◌, ◌<◌, ◌≤◌, List, [], ◌∷◌, ◌++◌, length, take, get_or, append_assoc, append-nil, ap, refl, sym, ◌∙◌, subst, arith, inr}
 use Rattle.std.specs.Prelude.{slice_set}
 use Rattle.std.specs.Borrow.{Bor}
 use Rattle.std.proofs.lemmas.List.{take_more, take_all}
@@ -18,6 +18,7 @@ use Rattle.script_lines.specs.declared.line.Line.{Line}
 use Rattle.script_lines.specs.declared.line.Line.TheVariants.{At}
 use Rattle.script_replay.specs.Answers.{CanNotList, GetsNoneFast}
 use Rattle.script_replay.specs.Visits.{RepliesVisited, VisitsRelease, VisitsFrame, VisitsText, VisitsLine, VisitsAll}
+use Rattle.script_replay.specs.Lines.{StopsAt}
 use Rattle.script_replay.specs.Ranges.{LineIsThere}
 
 -- ---- one visit
@@ -42,18 +43,16 @@ released_after t w f c seen said d can_not served = absurd served
 
 -- what is so of a text is so of what stands behind the text before
 pub said_as : {T E : Type 0} (is : List ℕ → Type 0) (said before after : List ℕ) (r : Result T E) → is said →
-    IfOk r (λ _. after ≡ before ++ said) → IfOk r (λ _. (more : List ℕ) × is more × (after ≡ before ++ more))
-said_as is said before after (Ok x) so text = (said, so, text)
-said_as is said before after (Err e) so text = tt
+    IfOk r (λ _. after ≡ before ++ said) → (more : List ℕ) × is more × IfOk r (λ _. after ≡ before ++ more)
+said_as is said before after r so text = (said, so, text)
 
 -- a command that was answered at the part that was read
 pub part_visited : (t : KnownTable) (w : Words) (cpus : List KnownCpu) (line : Line) (processor : ℕ) (command : Command) (c d : KnownCpu)
     {U E : Type 0} (r : Result U E) (old new : List ℕ) → line ≡ At processor command → LineIsThere t.frames (length cpus) line →
     c ≡ get_or cpus (processor - 1) c →
-    IfOk r (λ _. (said : List ℕ) × VisitsText t w command c said d × (new ≡ old ++ said)) →
-    IfOk r (λ _. (text : List ℕ) × VisitsLine t w cpus line text (slice_set cpus (processor - 1) d) × (new ≡ old ++ text))
-part_visited t w cpus line processor command c d (Err e) old new is there read answered = tt
-part_visited t w cpus line processor command c d (Ok u) old new is there read answered =
+    (said : List ℕ) × VisitsText t w command c said d × IfOk r (λ _. new ≡ old ++ said) →
+    (text : List ℕ) × VisitsLine t w cpus line text (slice_set cpus (processor - 1) d) × IfOk r (λ _. new ≡ old ++ text)
+part_visited t w cpus line processor command c d r old new is there read answered =
     let named : LineIsThere t.frames (length cpus) (At processor command) = subst (LineIsThere t.frames (length cpus)) is there in
     let low = named.low in
     let high = named.high in (
@@ -85,6 +84,18 @@ pub visits_line : (t : KnownTable) (w : Words) (s m e : List KnownCpu) (lines : 
 visits_line t w s m e lines i default text new inside all one =
     let next : take (i + 1) lines ≡ take i lines ++ get_or lines i default ∷ [] = take_more lines i default inside in
     rw (next, one.2) (visits_more t w s m e (take i lines) (get_or lines i default) text one.0 all one.1)
+
+-- memory was wanting for the text of the next line
+pub visits_stop : (t : KnownTable) (w : Words) (s m e : List KnownCpu) (lines : List Line) (i : ℕ) (default : Line) (text more : List ℕ)
+    → i < length lines → VisitsAll t w s (take i lines) text m → VisitsLine t w m (get_or lines i default) more e
+    → StopsAt lines (λ served said. VisitsAll t w s served said e)
+visits_stop t w s m e lines i default text more inside all one = record {
+  number = i + 1;
+  low = omega arith;
+  high = omega (arith, inside);
+  text = text ++ more;
+  served = visits_line t w s m e lines i default text (text ++ more) inside all (more, one, refl);
+}
 
 -- the lines are at their end
 pub visits_end : (t : KnownTable) (w : Words) (s e : List KnownCpu) (lines : List Line) (i : ℕ) (text items : List ℕ) → length lines ≤ i →

@@ -26,20 +26,17 @@ use Rattle.script_replay.specs.declared.work.Work.TheVariants.{Visit, Frame, Fas
 use Rattle.script_replay.specs.declared.work.Work.TheVariants.{Blocks, Show}
 use Rattle.script_replay.specs.Works.{work_of}
 
--- behind the text before stands what is written for an answer of which this is so
-abbrev pub TellsAnswer : (Answer → Type 0) → List ℕ → List ℕ → Type 0
-TellsAnswer is before after =
-    (text : List ℕ) × ((said : Answer) × is said × (text ≡ answer_text said)) × (after ≡ before ++ text)
-
--- where memory was there, one came to the other with this answer, of which the text behind the old one tells
-abbrev pub AddsAnswer : {S T E : Type 0} → Result T E → (S → Answer → S → Type 0) → S → S → List ℕ → List ℕ → Type 0
-AddsAnswer result answers before after old new =
-    IfOk result (λ _. TellsAnswer (λ said. answers before said after) old new)
-
--- where memory was there, one came to the other with this text, which stands behind the old one
+-- one came to the other with this text, whether or not memory was there for it; where it was, the text stands behind
+-- the old one
 abbrev pub AddsText : {S T E : Type 0} → Result T E → (S → List ℕ → S → Type 0) → S → S → List ℕ → List ℕ → Type 0
 AddsText result tells before after old new =
-    IfOk result (λ _. (text : List ℕ) × tells before text after × (new ≡ old ++ text))
+    (text : List ℕ) × tells before text after × IfOk result (λ _. new ≡ old ++ text)
+
+-- one came to the other with this answer, whose text is added so
+abbrev pub AddsAnswer : {S T E : Type 0} → Result T E → (S → Answer → S → Type 0) → S → S → List ℕ → List ℕ → Type 0
+AddsAnswer result answers before after old new =
+    AddsText result (λ one text other. (said : Answer) × answers one said other × (text ≡ answer_text said))
+    before after old new
 
 -- the command was served under the lock, and its reply is the answer
 abbrev pub RepliesServed : KnownTable → Cmd → Holder → Answer → Holder → Type 0

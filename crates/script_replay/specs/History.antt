@@ -15,7 +15,7 @@ use Rattle.step_rules.specs.Promise.{Promise}
 use Rattle.mem_machine.specs.Machines.{IsConsistent}
 use Rattle.mem_machine.specs.Interleaving.{zone_of}
 use Rattle.mem_machine.specs.Steps.{cpu_makes}
-use Rattle.mem_history.specs.Whole.{AreDecided, under_lock}
+use Rattle.mem_history.specs.Whole.{AreDecided, ShowsAll, under_lock}
 use Rattle.mem_history.specs.Kept.{AreTied, shown_of}
 use Rattle.mem_history.specs.Leading.{put_answer}
 use Rattle.mem_system.specs.declared.command.Cmd.{Cmd}
@@ -31,7 +31,7 @@ use Rattle.script_replay.specs.declared.work.Work.TheVariants.{Blocks, Show}
 use Rattle.script_replay.specs.Works.{work_of}
 use Rattle.script_replay.specs.Answers.{RepliesServed, AnswersFrame, AnswersRelease, AnswersSettle, Answers}
 use Rattle.script_replay.specs.Answers.{AnswersWork}
-use Rattle.script_replay.specs.Lines.{Standing, ServesLine}
+use Rattle.script_replay.specs.Lines.{Standing, ServesAll, ServesLine}
 use Rattle.script_replay.specs.Ranges.{LineIsThere}
 
 -- ---- the steps of a line
@@ -129,6 +129,13 @@ TellsHistory t decided run s (line ∷ lines) text e =
     × TellsHistory t (decided × LineIsDecided t s line first mid serves)
     (run ++ line_steps t s line first mid serves) mid lines rest e
     × (text ≡ first ++ rest)
+
+-- the lines are served one after the other, and tell their history where a run shows what stood before
+pub record Replays (t : KnownTable) (w : Words) (before : Standing) (lines : List Line) (text : List ℕ)
+    (after : Standing) : Type 0 where
+  pub served : ServesAll t before lines text after
+  pub history : (run : Run) → ShowsAll t run before.locked.machine before.cpus → AreTied t w before.cpus
+      → TellsHistory t (Unit {0}) run before lines text after
 
 -- ---- what is known of a line beside what it is answered
 -- what lies behind the lock is well, and where each part before was what its seats know, so is each part after

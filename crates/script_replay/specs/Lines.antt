@@ -1,5 +1,5 @@
 -- What lines are answered, one after the other.
-use Rattle.std.specs.Prelude.{◌≡◌, ℕ, ◌-◌, List, [], ◌∷◌, ◌++◌, Some, slice_get, slice_set}
+use Rattle.std.specs.Prelude.{◌≡◌, ℕ, ◌-◌, ◌≤◌, List, [], ◌∷◌, ◌++◌, Some, length, slice_get, slice_set, take}
 use Rattle.frame_word.specs.Seats.{KnownTable}
 use Rattle.cpu_part.specs.Cpus.{KnownCpu}
 use Rattle.mem_system.specs.Boots.{KnownLocked}
@@ -37,3 +37,12 @@ ServesAll t s [] text e = (text ≡ []) × (e ≡ s)
 ServesAll t s (line ∷ lines) text e =
     (first : List ℕ) × (rest : List ℕ) × (mid : Standing)
     × ServesLine t s line first mid × ServesAll t mid lines rest e × (text ≡ first ++ rest)
+
+-- Memory was wanting for the text of the line of this number. This is so of the lines up to it, itself among them, and of
+-- their texts, its own too, which nobody gets: they were served, once each, and no line after them
+pub record StopsAt (lines : List Line) (is : List Line → List ℕ → Type 0) : Type 0 where
+  pub number : ℕ
+  pub low : 1 ≤ number
+  pub high : number ≤ length lines
+  pub text : List ℕ
+  pub served : is (take number lines) text

@@ -1,6 +1,6 @@
 //! Lines, served one after the other by value of what lies behind the lock.
 
-ghost use Rattle.std.specs.Prelude.{◌≡◌, [], All, IfOk, length};
+ghost use Rattle.std.specs.Prelude.{◌≡◌, [], All, IfErr, IfOk, length};
 ghost use Rattle.std.specs.String.{string_bytes};
 ghost use Rattle.stock_word.specs.declared.view.Stock.TheVariants.{NoGroup};
 ghost use Rattle.group_charge.specs.Charges.{AreCharges};
@@ -12,8 +12,8 @@ ghost use Rattle.mem_history.specs.Kept.{AreTied};
 ghost use Rattle.mem_system.specs.Boots.{IsQuiet};
 ghost use Rattle.mem_system.specs.Commands.{holder};
 ghost use Rattle.script_replay.specs.Answers.{AddsText, AnswersText};
-ghost use Rattle.script_replay.specs.History.{GoesWell, TellsHistory};
-ghost use Rattle.script_replay.specs.Lines.{ServesAll, standing};
+ghost use Rattle.script_replay.specs.History.{GoesWell, Replays, TellsHistory};
+ghost use Rattle.script_replay.specs.Lines.{ServesAll, StopsAt, standing};
 ghost use Rattle.script_replay.specs.Ranges.{LineIsThere, NamesInRange};
 
 use crate::command_answers::answer_text;
@@ -23,8 +23,8 @@ use script_lines::line::{Command, Line};
 use std::alloc::{AllocError, Global};
 
 /// Serves the lines in their order, each at the part of the processor that it names, and gives their answers, each of
-/// whose lines ends with a line feed. `go` does nothing. `AllocError` comes where memory is wanting: the lines before
-/// stand then.
+/// whose lines ends with a line feed. `go` does nothing. `AllocError` comes where memory is wanting for the text of a
+/// line: the lines before it were served then, it was served too, once, without its text, and no line after it was.
 pub fn replay<N: BootName>(
     alloc: Global,
     locked: &mut Locked<N>,
@@ -39,6 +39,8 @@ pub fn replay<N: BootName>(
         → AreTied N.frames N.stocks cpus.old → IfOk result (λ answers.
         TellsHistory N.frames (Unit {0}) run (standing locked.old cpus.old) lines.now answers.items
         (standing locked.new cpus.new)) }
+    ensures stopped { IfErr result (λ _. StopsAt lines.now (λ served text.
+        Replays N.frames N.stocks (standing locked.old cpus.old) served text (standing locked.new cpus.new))) }
 {
     let mut answers = String::new(alloc);
     for line in lines {

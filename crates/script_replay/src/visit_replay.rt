@@ -1,9 +1,10 @@
 //! Lines, served one after the other by visits: each command takes the zone's lock by itself.
 
-ghost use Rattle.std.specs.Prelude.{◌≡◌, All, IfOk, length};
+ghost use Rattle.std.specs.Prelude.{◌≡◌, All, IfErr, IfOk, length};
 ghost use Rattle.std.specs.String.{string_bytes};
 ghost use Rattle.mem_system.specs.Commands.{IsOfZone};
 ghost use Rattle.script_replay.specs.Answers.{AddsText};
+ghost use Rattle.script_replay.specs.Lines.{StopsAt};
 ghost use Rattle.script_replay.specs.Ranges.{LineIsThere};
 ghost use Rattle.script_replay.specs.Visits.{VisitsAll, VisitsLine};
 
@@ -16,8 +17,9 @@ use std::alloc::{AllocError, Global};
 use std::sync::Wait;
 
 /// Serves the lines in their order, each by a visit of the processor that it names or by a call that takes no lock,
-/// and gives their answers, each of whose lines ends with a line feed. `go` does nothing. `AllocError` comes where memory is
-/// wanting: the lines before stand then.
+/// and gives their answers, each of whose lines ends with a line feed. `go` does nothing. `AllocError` comes where memory
+/// is wanting for the text of a line: the lines before it were served then, it was served too, once, without its text,
+/// and no line after it was.
 pub fn replay_by_visits<N: BootName, R: Wait>(
     rt: &R,
     alloc: Global,
@@ -26,7 +28,9 @@ pub fn replay_by_visits<N: BootName, R: Wait>(
     lines: &[Line<'_>],
 ) -> Result<Vec<u8>, AllocError>
     requires { All (LineIsThere N.frames.frames (length cpus.old)) lines.now }
-    ensures { IfOk result (λ answers. VisitsAll N.frames N.stocks cpus.old lines.now answers.items cpus.new) }
+    ensures answers { IfOk result (λ answers. VisitsAll N.frames N.stocks cpus.old lines.now answers.items cpus.new) }
+    ensures stopped { IfErr result (λ _. StopsAt lines.now (λ served text.
+        VisitsAll N.frames N.stocks cpus.old served text cpus.new)) }
 {
     let mut answers = String::new(alloc);
     for line in lines {

@@ -1,7 +1,8 @@
 use Rattle.std.proofs.Common.{ap}
 use Rattle.std.specs.String.{string_bytes}
 use Rattle.script_replay.specs.Lines.{Standing}
-use Rattle.script_replay.proofs.Going.{goes_line, goes_end, goes_served, goes_history}
+use Rattle.script_replay.proofs.Going.{goes_line, goes_end, goes_served, goes_history, goes_stop}
+use Rattle.script_replay.proofs.Telling.{at_error}
 use Rattle.script_replay.proofs.value_replay.replay.Goals as goal
 
 pub loop-line-preserved : goal.loop-line-preserved
@@ -10,6 +11,13 @@ loop-line-preserved g c =
     (record { locked = c.loop-line.locked; cpus = c.loop-line.cpus }) (record { locked = c.serve_line.new.locked; cpus = c.serve_line.new.cpus })
     c.args.lines.now c.loop-line.line-index _ (string_bytes c.loop-line.answers) (string_bytes c.serve_line.new.answers) c.loop-line-test.true
     c.loop-line.invariant c.in_ok-serve_line.ensures
+
+pub returns-in_err-serve_line-clause-stopped : goal.returns-in_err-serve_line-clause-stopped
+returns-in_err-serve_line-clause-stopped g c =
+    at_error c.from_residual.result _ (goes_stop g.N.BootName.frames g.N.BootName.stocks (record { locked = c.args.locked.now; cpus = c.args.cpus.now })
+    (record { locked = c.loop-line.locked; cpus = c.loop-line.cpus }) (record { locked = c.serve_line.new.locked; cpus = c.serve_line.new.cpus })
+    c.args.lines.now c.loop-line.line-index _ (string_bytes c.loop-line.answers) c.serve_line.ensures.0 c.loop-line-test.true
+    c.loop-line.invariant c.serve_line.ensures.1)
 
 pub returns-clause-answers : goal.returns-clause-answers
 returns-clause-answers g c =

@@ -1,9 +1,15 @@
-use Rattle.std.proofs.Common.{List, ℕ, rules}
+use Rattle.std.proofs.Common.{List, ℕ, refl, rules}
 use Rattle.std.specs.String.{string_bytes}
+use Rattle.machine_texts.specs.Show.{show_text}
 use Rattle.script_replay.specs.declared.work.Work.TheVariants.{Show}
 use Rattle.script_replay.specs.Visits.{VisitsWork}
 use Rattle.script_replay.proofs.Visiting.{said_as}
 use Rattle.script_replay.proofs.visit_answers.tell_show.Goals as goal
+
+pub returns-in_err-told : goal.returns-in_err-told
+returns-in_err-told g c =
+    let told = c.in_err-told.ensures.told in
+    (show_text told.1.machine, (told.0, told.1, told.2, refl), search rules)
 
 pub returns : goal.returns
 returns g c =

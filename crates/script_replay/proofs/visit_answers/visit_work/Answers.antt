@@ -9,9 +9,9 @@ use Rattle.script_replay.proofs.visit_answers.visit_work.Goals as goal
 
 pub returns-in-Fast : goal.returns-in-Fast
 returns-in-Fast g c =
-    subst (λ (work : Work). IfOk c.write_fast.result (λ _. (said : List ℕ)
+    subst (λ (work : Work). (said : List ℕ)
     × VisitsWork g.N.BootName.frames g.N.BootName.stocks work c.args.cpu.now said c.alloc_fast.new.self
-    × (string_bytes c.write_fast.new.text ≡ string_bytes c.args.text.now ++ said))) (sym c.in-Fast.is)
+    × IfOk c.write_fast.result (λ _. string_bytes c.write_fast.new.text ≡ string_bytes c.args.text.now ++ said)) (sym c.in-Fast.is)
     (told (λ (said : Answer). VisitsFast c.in-Fast.group c.args.cpu.now said c.alloc_fast.new.self)
     (answer.Fast c.alloc_fast.result) (string_bytes c.args.text.now) (string_bytes c.write_fast.new.text) c.write_fast.result
     c.alloc_fast.ensures.answer c.write_fast.ensures)

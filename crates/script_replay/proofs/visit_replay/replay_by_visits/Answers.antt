@@ -1,6 +1,7 @@
 use Rattle.std.proofs.Common.{ap}
 use Rattle.std.specs.String.{string_bytes}
-use Rattle.script_replay.proofs.Visiting.{visits_line, visits_end}
+use Rattle.script_replay.proofs.Visiting.{visits_line, visits_stop, visits_end}
+use Rattle.script_replay.proofs.Telling.{at_error}
 use Rattle.script_replay.proofs.visit_replay.replay_by_visits.Goals as goal
 
 pub loop-line-preserved : goal.loop-line-preserved
@@ -9,7 +10,13 @@ loop-line-preserved g c =
     c.args.lines.now c.loop-line.line-index _ (string_bytes c.loop-line.answers) (string_bytes c.serve_line.new.answers) c.loop-line-test.true
     c.loop-line.invariant c.in_ok-serve_line.ensures
 
-pub returns : goal.returns
-returns g c =
+pub returns-in_err-serve_line-clause-stopped : goal.returns-in_err-serve_line-clause-stopped
+returns-in_err-serve_line-clause-stopped g c =
+    at_error c.from_residual.result _ (visits_stop g.N.BootName.frames g.N.BootName.stocks c.args.cpus.now c.loop-line.cpus c.serve_line.new.cpus
+    c.args.lines.now c.loop-line.line-index _ (string_bytes c.loop-line.answers) c.serve_line.ensures.0 c.loop-line-test.true
+    c.loop-line.invariant c.serve_line.ensures.1)
+
+pub returns-clause-answers : goal.returns-clause-answers
+returns-clause-answers g c =
     visits_end g.N.BootName.frames g.N.BootName.stocks c.args.cpus.now c.loop-line.cpus c.args.lines.now c.loop-line.line-index (string_bytes c.loop-line.answers)
     c.into_bytes.result.items c.loop-line-test.false c.loop-line.invariant (ap (λ v. v.items) c.into_bytes.ensures.value)
