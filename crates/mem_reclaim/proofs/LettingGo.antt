@@ -1,5 +1,5 @@
 -- Units that are let go, and what stays meanwhile; and a group that is killed. Serves `let_go_all` and `kill_group`.
-use Rattle.std.proofs.Common.{◌≡◌, ◌≢◌, ℕ, ◌+◌, ◌<◌, ◌≤◌, ◌==◌, Bool, true, Option, Some, None, List, [], ◌∷◌, ◌++◌, length, zero, suc, refl, sym, ap, ◌∙◌, subst}
+use Rattle.std.proofs.Common.{◌≡◌, ◌≢◌, ℕ, ◌+◌, ◌<◌, ◌≤◌, ◌==◌, Bool, true, Option, Some, None, List, [], ◌∷◌, ◌++◌, length, zero, suc, refl, sym, ap, ◌∙◌, subst, ◌||◌, ◌^◌, cond, false}
 use Rattle.std.proofs.Common.{inl, inr, arith, eq-eqb}
 use Rattle.std.specs.Prelude.{slice_set}
 use Rattle.std.proofs.lemmas.Bool.{cases_eq, false≢true}
@@ -26,12 +26,23 @@ use Rattle.mem_machine.specs.Machines.{KnownMachine, IsConsistent, Visits, home_
 use Rattle.mem_machine.specs.Local.{MakesForAny, local_of}
 use Rattle.mem_machine.specs.Ageing.{entries_in}
 use Rattle.mem_machine.specs.Releasing.{LeavesList, Releases, release_steps}
-use Rattle.mem_machine.specs.Steps.{Drain, drain_stocks_steps, kill_steps}
-use Rattle.mem_machine.specs.Stocks.{AreOwnDrained, Drains, DrainsIf, DrainsAllIf, DrainsGroup, of_group, stock_group}
+use Rattle.mem_machine.specs.Steps.{Drain, drain_stocks_steps, kill_steps, drain_steps}
+use Rattle.mem_machine.specs.Stocks.{AreOwnDrained, Drains, DrainsIf, DrainsAllIf, DrainsGroup, of_group, stock_group, uncharged}
 use Rattle.mem_machine.proofs.Reaching.{run_both}
-use Rattle.mem_machine.proofs.Draining.{groups_stay}
+use Rattle.mem_machine.proofs.Draining.{drained_at, groups_stay}
+use Rattle.std.proofs.lemmas.List.Folds.{list_any-append}
+use Rattle.std.proofs.lemmas.List.Sums.{sum_by-append}
+use Rattle.group_charge.specs.Charges.{current_of}
+use Rattle.stock_word.specs.declared.view.Account.{Account}
+use Rattle.stock_word.specs.declared.view.StockView.{StockView}
+use Rattle.stock_word.specs.Calls.{after_look}
+use Rattle.step_rules.specs.declared.step.Step.{Step}
+use Rattle.step_rules.specs.declared.step.Answer.{Answer}
+use Rattle.mem_machine.proofs.DrainingAll.{below_else, below_group}
+use Rattle.mem_machine.proofs.Prepaying.{current_falls}
+use Rattle.mem_reclaim.specs.Moves.{has_kill, is_kill, is_miss, missed_in}
 use Rattle.mem_reclaim.specs.Staying.{OnlyLeave}
-use Rattle.mem_reclaim.specs.Killing.{IsKilledBy, KeepsNone, KeepsStocks, LetsGoAll, LetsGoBySteps, OnlyLetsGo, with_killed}
+use Rattle.mem_reclaim.specs.Killing.{IsKilledBy, KeepsNone, KeepsStocks, LetsGoAll, LetsGoBySteps, OnlyDrains, OnlyLetsGo, with_killed}
 use Rattle.mem_reclaim.proofs.Listing.{has_unit, listed_is, home_inside, has_mid}
 
 -- ---- what stays
@@ -40,6 +51,7 @@ pub only_lets_none : (t : KnownTable) (m : KnownMachine) → OnlyLetsGo t m m
 only_lets_none t m = record {
   groups = refl;
   opened = refl;
+  usage = λ g. omega arith;
   visit = λ c v. v;
   leaves = λ f h is. is;
   dirt = λ f kept. refl;
@@ -57,6 +69,7 @@ pub only_lets_both : (t : KnownTable) (a b c : KnownMachine) → OnlyLetsGo t a 
 only_lets_both t a b c p q = record {
   groups = q.groups ∙ p.groups;
   opened = q.opened ∙ p.opened;
+  usage = λ g. let x = p.usage g in let y = q.usage g in omega (arith, x, y);
   visit = λ x v. q.visit x (p.visit x v);
   leaves = λ f h is. p.leaves f h (q.leaves f h is);
   dirt = λ f kept. q.dirt f kept ∙ p.dirt f (kept_was b c q.leaves f kept);
@@ -64,9 +77,11 @@ only_lets_both t a b c p q = record {
 }
 
 -- where the links and the zone's seat at the frames stay
-pub only_lets_same : (t : KnownTable) (m n : KnownMachine) → n.ledger.groups ≡ m.ledger.groups → n.seat ≡ m.seat → n.links ≡ m.links → OnlyLetsGo t m n
-only_lets_same t m n groups seat links = record {
+pub only_lets_same : (t : KnownTable) (m n : KnownMachine) → n.ledger.groups ≡ m.ledger.groups
+    → ((g : ℕ) → current_of n.ledger g ≤ current_of m.ledger g) → n.seat ≡ m.seat → n.links ≡ m.links → OnlyLetsGo t m n
+only_lets_same t m n groups usage seat links = record {
   groups = groups;
+  usage = usage;
   opened = ap (λ (s : KnownSeat). s.view.opened) seat;
   visit = λ c v. record {
     is_open = subst (λ (s : KnownSeat). IsOpen s c.number) (sym seat) v.is_open;
@@ -90,12 +105,13 @@ misses_put seat f g change keeps = elim (cases_eq g f) [
 ]
 
 off_list : (t : KnownTable) (m n : KnownMachine) (f : ℕ) → LeavesList m.links m.lists f n.links n.lists → n.ledger.groups ≡ m.ledger.groups
-    → n.seat.view.opened ≡ m.seat.view.opened → ((g : ℕ) → misses_of n.seat g ≡ misses_of m.seat g)
+    → ((g : ℕ) → current_of n.ledger g ≤ current_of m.ledger g) → n.seat.view.opened ≡ m.seat.view.opened → ((g : ℕ) → misses_of n.seat g ≡ misses_of m.seat g)
     → ((c : KnownCpu) → Visits t (side m c) → Visits t (side n c)) → OnlyLetsGo t m n
-off_list t m n f list groups opened misses visit =
+off_list t m n f list groups usage opened misses visit =
     let gone : home_of n.links f ≡ None = ap (λ (k : Link). k.home) list.forgotten in
     record {
       groups = groups;
+      usage = usage;
       opened = opened;
       visit = visit;
       leaves = λ x h home. elim (cases_eq x f) [
@@ -109,9 +125,14 @@ off_list t m n f list groups opened misses visit =
 pub release_lets : (t : KnownTable) (m n : KnownMachine) (f : ℕ) (left : Released) → Releases m f left n
     → ((c : KnownCpu) → Visits t (side m c) → Visits t (side n c)) → OnlyLetsGo t m n
 release_lets t m n f (Left left) is visit = off_list t m n f is.list (ap (λ (x : KnownMachine). x.ledger.groups) is.machine)
+    (λ g. let e = ap (λ (x : KnownMachine). current_of x.ledger g) is.machine in omega (arith, e))
     (ap (λ (x : KnownMachine). x.seat.view.opened) is.machine)
     (λ g. ap (λ (x : KnownMachine). misses_of x.seat g) is.machine ∙ misses_put m.seat f g (let_go left) (λ k. refl)) visit
 release_lets t m n f Returned is visit = off_list t m n f is.list (ap (λ (x : KnownMachine). x.ledger.groups) is.machine)
+    (λ g.
+    let e = ap (λ (x : KnownMachine). current_of x.ledger g) is.machine in
+    let low = current_falls m.ledger (Some is.unit.group) (2 ^ is.unit.order) g in
+    omega (arith, e, low))
     (ap (λ (x : KnownMachine). x.seat.view.opened) is.machine)
     (λ g. ap (λ (x : KnownMachine). misses_of x.seat g) is.machine ∙ misses_put m.seat f g let_go_last (λ k. refl)) visit
 
@@ -248,9 +269,18 @@ pub record LeavesUnits (before after : KnownMachine) : Type 0 where
   pub seat : after.seat ≡ before.seat
   pub links : after.links ≡ before.links
   pub killed : after.killed ≡ before.killed
+  pub usage : (g : ℕ) → current_of after.ledger g ≤ current_of before.ledger g
+  pub stocks : OnlyDrains before after
 
 leaves_units_none : (m : KnownMachine) → LeavesUnits m m
-leaves_units_none m = record { groups = refl; seat = refl; links = refl; killed = refl }
+leaves_units_none m = record {
+  groups = refl;
+  seat = refl;
+  links = refl;
+  killed = refl;
+  usage = λ g. omega arith;
+  stocks = record { of = λ p. refl; drained = λ p is. is };
+}
 
 leaves_units_both : (a b c : KnownMachine) → LeavesUnits a b → LeavesUnits b c → LeavesUnits a c
 leaves_units_both a b c p q = record {
@@ -258,14 +288,48 @@ leaves_units_both a b c p q = record {
   seat = q.seat ∙ p.seat;
   links = q.links ∙ p.links;
   killed = q.killed ∙ p.killed;
+  usage = λ g. let x = p.usage g in let y = q.usage g in omega (arith, x, y);
+  stocks = record { of = λ x. q.stocks.of x ∙ p.stocks.of x; drained = λ x is. q.stocks.drained x (p.stocks.drained x is) };
 }
 
-drain_leaves : (m n : KnownMachine) (q pages : ℕ) → Drains m q pages n → LeavesUnits m n
-drain_leaves m n q pages d = record {
+-- a stock that was looked at, and is of no group, counts as drained
+looked_filled : (view : StockView) (q : ℕ) (o : Option ℕ) → (account_of view q).filled ≡ false → (account_of (after_look view q o) q).filled ≡ false
+looked_filled view q None is = ap (λ (a : Account). a.filled) (drained_at view q 0)
+looked_filled view q (Some g) is = is
+
+filled_after : (test : List Group → Option ℕ → Bool) (q : ℕ) (m n : KnownMachine) (drains : List Drain) → DrainsIf test m q drains n
+    → (account_of m.stock.view q).filled ≡ false → (account_of n.stock.view q).filled ≡ false
+filled_after test q m n [] h is =
+    ap (λ (x : KnownMachine). (account_of x.stock.view q).filled) h.1 ∙ looked_filled m.stock.view q (stock_group m q) is
+filled_after test q m n (drain ∷ []) h is =
+    ap (λ (x : KnownMachine). (account_of x.stock.view q).filled) h.1.drains.machine ∙ ap (λ (a : Account). a.filled) (drained_at m.stock.view q drain.pages)
+filled_after test q m n (one ∷ two ∷ more) h is = absurd h
+
+one_drains : (test : List Group → Option ℕ → Bool) (q : ℕ) (m n : KnownMachine) (drains : List Drain) → DrainsIf test m q drains n → OnlyDrains m n
+one_drains test q m n drains h = record {
+  of = λ p. elim (cases_eq p q) [
+    | inl e ↦ subst (λ (x : ℕ). stock_group n x ≡ stock_group m x) (sym e) (below_group test q m n drains h)
+    | inr ne ↦ ap (λ (a : Account). a.group) (below_else test q m n drains h p ne)
+  ];
+  drained = λ p is. elim (cases_eq p q) [
+    | inl e ↦
+        subst (λ (x : ℕ). (account_of n.stock.view x).filled ≡ false) (sym e)
+        (filled_after test q m n drains h (ap (λ (x : ℕ). (account_of m.stock.view x).filled) (sym e) ∙ is))
+    | inr ne ↦ ap (λ (a : Account). a.filled) (below_else test q m n drains h p ne) ∙ is
+  ];
+}
+
+drain_leaves : (m n : KnownMachine) (q pages : ℕ) → Drains m q pages n → OnlyDrains m n → LeavesUnits m n
+drain_leaves m n q pages d stocks = record {
   groups = ap (λ (x : KnownMachine). x.ledger.groups) d.machine ∙ groups_stay m.ledger (stock_group m q) pages;
   seat = ap (λ (x : KnownMachine). x.seat) d.machine;
   links = ap (λ (x : KnownMachine). x.links) d.machine;
   killed = ap (λ (x : KnownMachine). x.killed) d.machine;
+  usage = λ g.
+      let e : current_of n.ledger g ≡ current_of (uncharged m.ledger (stock_group m q) pages) g = ap (λ (x : KnownMachine). current_of x.ledger g) d.machine in
+      let low = current_falls m.ledger (stock_group m q) pages g in
+      omega (arith, e, low);
+  stocks = stocks;
 }
 
 one_leaves : (test : List Group → Option ℕ → Bool) (q : ℕ) (m n : KnownMachine) (drains : List Drain) → DrainsIf test m q drains n → LeavesUnits m n
@@ -274,14 +338,55 @@ one_leaves test q m n [] h = record {
   seat = ap (λ (x : KnownMachine). x.seat) h.1;
   links = ap (λ (x : KnownMachine). x.links) h.1;
   killed = ap (λ (x : KnownMachine). x.killed) h.1;
+  usage = λ g. let e = ap (λ (x : KnownMachine). current_of x.ledger g) h.1 in omega (arith, e);
+  stocks = one_drains test q m n [] h;
 }
-one_leaves test q m n (drain ∷ []) h = drain_leaves m n q drain.pages h.1.drains
+one_leaves test q m n (drain ∷ []) h = drain_leaves m n q drain.pages h.1.drains (one_drains test q m n (drain ∷ []) h)
 one_leaves test q m n (one ∷ two ∷ more) h = absurd h
 
 pub drains_leave : (test : List Group → Option ℕ → Bool) (k : ℕ) (m n : KnownMachine) (drains : List Drain) → DrainsAllIf test k drains m n → LeavesUnits m n
 drains_leave test zero m n drains h = subst (λ (x : KnownMachine). LeavesUnits m x) (sym h.1) (leaves_units_none m)
 drains_leave test (suc k) m n drains h =
     leaves_units_both m h.2 n (drains_leave test k m h.2 h.0 h.4) (one_leaves test (suc k) h.2 n h.1 h.5)
+
+-- ---- which steps these are
+
+-- none of the steps is a kill, and none is a freeze that missed
+pub record AreQuiet (steps : Run) : Type 0 where
+  pub quiet : has_kill steps ≡ false
+  pub no_miss : (f : ℕ) → missed_in f steps ≡ 0
+
+both_false : (a b : Bool) → a ≡ false → b ≡ false → (a || b) ≡ false
+both_false a b x y = rw x y
+
+quiet_both : (one two : Run) → AreQuiet one → AreQuiet two → AreQuiet (one ++ two)
+quiet_both one two p q = record {
+  quiet = list_any-append (λ (e : Step × Answer). is_kill e.0.action) one two ∙ both_false (has_kill one) (has_kill two) p.quiet q.quiet;
+  no_miss = λ f.
+      let x = p.no_miss f in
+      let y = q.no_miss f in
+      let z : missed_in f (one ++ two) ≡ missed_in f one + missed_in f two =
+      sum_by-append (λ (e : Step × Answer). cond (is_miss f e.0.action e.1) 1 0) one two in
+      omega (arith, x, y, z);
+}
+
+quiet_release : (f : ℕ) (left : Released) → AreQuiet (release_steps f left)
+quiet_release f (Left left) = record { quiet = refl; no_miss = λ g. refl }
+quiet_release f Returned = record { quiet = refl; no_miss = λ g. refl }
+
+quiet_units : (units : List Entry) (m : KnownMachine) (steps : Run) (n : KnownMachine) → LetsGoAll units m steps n → AreQuiet steps
+quiet_units [] m steps n all = subst AreQuiet (sym all.1) (record { quiet = refl; no_miss = λ f. refl })
+quiet_units (u ∷ rest) m steps n all =
+    subst AreQuiet (sym all.5) (quiet_both (release_steps u.number all.1) all.2 (quiet_release u.number all.1) (quiet_units rest all.0 all.2 n all.4))
+
+quiet_drain : (q : ℕ) (o : Option ℕ) (pages : ℕ) → AreQuiet (drain_steps q o pages)
+quiet_drain q None pages = record { quiet = refl; no_miss = λ f. refl }
+quiet_drain q (Some g) zero = record { quiet = refl; no_miss = λ f. refl }
+quiet_drain q (Some g) (suc n) = record { quiet = refl; no_miss = λ f. refl }
+
+quiet_drains : (drains : List Drain) → AreQuiet (drain_stocks_steps drains)
+quiet_drains [] = record { quiet = refl; no_miss = λ f. refl }
+quiet_drains (d ∷ rest) = quiet_both (drain_steps d.cpu d.group d.pages) (drain_stocks_steps rest) (quiet_drain d.cpu d.group d.pages) (quiet_drains rest)
 
 -- ---- a group is killed
 
@@ -292,6 +397,7 @@ pub record AllKilled (t : KnownTable) (v : ℕ) (m n : KnownMachine) : Type 0 wh
   pub drained : AreOwnDrained v t.cpus n
   pub none_kept : KeepsNone v n
   pub keeps : OnlyLetsGo t m n
+  pub stocks : OnlyDrains m n
 
 -- nobody stands on an empty list
 none_listed : (t : KnownTable) (w : Words) (m : KnownMachine) → IsConsistent t w m → (v : ℕ) → v < 64 → (list : LruList) → entries_in m v list ≡ []
@@ -305,17 +411,23 @@ keeps_none_of : (t : KnownTable) (w : Words) (b n : KnownMachine) → IsConsiste
 keeps_none_of t w b n ok_b ok_n v fits first last leaves f Inactive home = none_listed t w b ok_b v fits Inactive first f (leaves f _ home)
 keeps_none_of t w b n ok_b ok_n v fits first last leaves f Active home = none_listed t w n ok_n v fits Active last f home
 
-pub all_killed : (t : KnownTable) (w : Words) (v : ℕ) → v < 64 → (m a d b n : KnownMachine) → a ≡ with_killed m v → MakesForAny t m (kill_steps v) a
+pub all_killed : (t : KnownTable) (w : Words) (v : ℕ) → v < 64 → (m a d b n : KnownMachine) → a ≡ with_killed m v
+    → ((g : ℕ) → current_of a.ledger g ≡ current_of m.ledger g) → MakesForAny t m (kill_steps v) a
     → (pages : ℕ) → DrainsGroup t v pages a d → AreOwnDrained v t.cpus d
     → LetsGoBySteps t (entries_in d v Inactive) d b → entries_in b v Inactive ≡ [] → OnlyLetsGo t d b → KeepsStocks d b → IsConsistent t w b
     → LetsGoBySteps t (entries_in b v Active) b n → entries_in n v Active ≡ [] → OnlyLetsGo t b n → KeepsStocks b n → IsConsistent t w n → AllKilled t v m n
-all_killed t w v fits m a d b n is killed pages drains drained first first_empty first_keeps first_stocks ok_b last last_empty last_keeps last_stocks ok_n =
+all_killed t w v fits m a d b n is usage killed pages drains drained first first_empty first_keeps first_stocks ok_b last last_empty last_keeps last_stocks ok_n =
     let unit = drains_leave (of_group v) t.cpus a d drains.drains drains.all in
     let stock : n.stock ≡ d.stock = last_stocks.stock ∙ first_stocks.stock in
     let groups : n.ledger.groups ≡ d.ledger.groups = last_keeps.groups ∙ first_keeps.groups in
-    let at_first : OnlyLetsGo t m a = only_lets_same t m a (ap (λ (x : KnownMachine). x.ledger.groups) is) (ap (λ (x : KnownMachine). x.seat) is)
+    let at_first : OnlyLetsGo t m a = only_lets_same t m a (ap (λ (x : KnownMachine). x.ledger.groups) is)
+    (λ g. let e = usage g in omega (arith, e)) (ap (λ (x : KnownMachine). x.seat) is)
     (ap (λ (x : KnownMachine). x.links) is) in
-    let at_drain : OnlyLetsGo t a d = only_lets_same t a d unit.groups unit.seat unit.links in
+    let at_drain : OnlyLetsGo t a d = only_lets_same t a d unit.groups unit.usage unit.seat unit.links in
+    let later : Run = drain_stocks_steps drains.drains ++ (first.steps ++ last.steps) in
+    let quiet : AreQuiet later = quiet_both (drain_stocks_steps drains.drains) (first.steps ++ last.steps) (quiet_drains drains.drains)
+    (quiet_both first.steps last.steps (quiet_units (entries_in d v Inactive) d first.steps b first.lets_go)
+    (quiet_units (entries_in b v Active) b last.steps n last.lets_go)) in
     record {
       kills = record {
         steps = kill_steps v ++ (drain_stocks_steps drains.drains ++ (first.steps ++ last.steps));
@@ -334,6 +446,10 @@ all_killed t w v fits m a d b n is killed pages drains drained first first_empty
             run_both c.number (kill_steps v) (drain_stocks_steps drains.drains ++ (first.steps ++ last.steps)) (local_of t m c) (local_of t a c) (local_of t n c)
             (killed c) (run_both c.number (drain_stocks_steps drains.drains) (first.steps ++ last.steps) (local_of t a c) (local_of t d c) (local_of t n c)
             (drains.steps c) (run_both c.number first.steps last.steps (local_of t d c) (local_of t b c) (local_of t n c) (first.runs c) (last.runs c)));
+        later = later;
+        front = refl;
+        quiet = quiet.quiet;
+        no_miss = quiet.no_miss;
       };
       marked = last_stocks.killed ∙ first_stocks.killed ∙ unit.killed ∙ ap (λ (x : KnownMachine). x.killed) is;
       drained = λ q some few of.
@@ -343,4 +459,10 @@ all_killed t w v fits m a d b n is killed pages drains drained first first_empty
           keeps_none_of t w b n ok_b ok_n v fits first_empty last_empty last_keeps.leaves f h.list
           (home ∙ (λ i. Some (record { owner = owner i; list = h.list })));
       keeps = only_lets_both t m a n at_first (only_lets_both t a d n at_drain (only_lets_both t d b n first_keeps last_keeps));
+      stocks = record {
+        of = λ p. ap (λ (x : Seated). (account_of x.view p).group) stock ∙ unit.stocks.of p ∙ ap (λ (x : KnownMachine). stock_group x p) is;
+        drained = λ p was.
+            ap (λ (x : Seated). (account_of x.view p).filled) stock
+            ∙ unit.stocks.drained p (ap (λ (x : KnownMachine). (account_of x.stock.view p).filled) is ∙ was);
+      };
     }

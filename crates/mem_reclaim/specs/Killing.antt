@@ -1,7 +1,7 @@
 -- A group is killed, and its kept units leave.
-use Rattle.std.specs.Prelude.{◌≡◌, ◌≢◌, ℕ, true, Option, Some, None, slice_set, List, [], ◌∷◌, ◌++◌}
+use Rattle.std.specs.Prelude.{◌≡◌, ◌≢◌, ℕ, ◌≤◌, true, false, Option, Some, None, slice_set, List, [], ◌∷◌, ◌++◌}
 use Rattle.frame_word.specs.Seats.{KnownTable, misses_of}
-use Rattle.group_charge.specs.Charges.{with_kill_noted}
+use Rattle.group_charge.specs.Charges.{current_of, with_kill_noted}
 use Rattle.lru_lists.specs.declared.record.Entry.{Entry}
 use Rattle.lru_lists.specs.declared.record.Home.{Home}
 use Rattle.lru_lists.specs.Queue.{link_at}
@@ -12,7 +12,8 @@ use Rattle.mem_machine.specs.Machines.{KnownMachine, Visits, active_in, home_of,
 use Rattle.mem_machine.specs.Local.{MakesForAny}
 use Rattle.mem_machine.specs.Releasing.{Releases, release_steps}
 use Rattle.mem_machine.specs.Steps.{Drain, drain_stocks_steps, kill_steps}
-use Rattle.mem_machine.specs.Stocks.{DrainsAllIf, of_group}
+use Rattle.mem_machine.specs.Stocks.{DrainsAllIf, IsDrained, of_group, stock_group}
+use Rattle.mem_reclaim.specs.Moves.{has_kill, missed_in}
 use Rattle.mem_reclaim.specs.Staying.{OnlyLeave}
 
 -- The units leave their lists in this order, and the zone's reference on each is put: one without another reference comes
@@ -46,22 +47,28 @@ pub record KillsGroup (table : KnownTable) (v : ℕ) (before : KnownMachine) (st
   pub active : LetsGoAll (active_in between v) between last after
   pub steps_are : steps ≡ kill_steps v ++ (drain_stocks_steps drains ++ (first ++ last))
 
--- so it is by these steps, whoever holds the lock
+-- so it is by some steps, whoever holds the lock: first the kill, which is the only one among them, and none is a freeze that
+-- missed
 pub record IsKilledBy (table : KnownTable) (v : ℕ) (before after : KnownMachine) : Type 0 where
   pub steps : Run
   pub kills : KillsGroup table v before steps after
   pub runs : MakesForAny table before steps after
+  pub later : Run
+  pub front : steps ≡ kill_steps v ++ later
+  pub quiet : has_kill later ≡ false
+  pub no_miss : (f : ℕ) → missed_in f later ≡ 0
 
 -- the victim, if there is one, is killed; else nothing changed
 abbrev pub KillsVictim : KnownTable → Option ℕ → KnownMachine → KnownMachine → Type 0
 KillsVictim t None before after = after ≡ before
 KillsVictim t (Some v) before after = IsKilledBy t v before after
 
--- Groups with their limits and every visit stay, and no visit is opened or shut. Who is kept was kept on the same list, and is
+-- Groups with their limits and every visit stay, and no visit is opened or shut. No usage rises. Who is kept was kept on the same list, and is
 -- as dirty as it was. No unit is frozen, so no miss is noted
 pub record OnlyLetsGo (table : KnownTable) (before after : KnownMachine) : Type 0 where
   pub groups : after.ledger.groups ≡ before.ledger.groups
   pub opened : after.seat.view.opened ≡ before.seat.view.opened
+  pub usage : (g : ℕ) → current_of after.ledger g ≤ current_of before.ledger g
   pub visit : (cpu : KnownCpu) → Visits table (side before cpu) → Visits table (side after cpu)
   pub leaves : OnlyLeave before after
   pub dirt : (f : ℕ) → home_of after.links f ≢ None → (link_at after.links f).is_dirty ≡ (link_at before.links f).is_dirty
@@ -71,6 +78,11 @@ pub record OnlyLetsGo (table : KnownTable) (before after : KnownMachine) : Type 
 pub record KeepsStocks (before after : KnownMachine) : Type 0 where
   pub stock : after.stock ≡ before.stock
   pub killed : after.killed ≡ before.killed
+
+-- each processor's stock is of the group that it was of, and none is held that wasn't
+pub record OnlyDrains (before after : KnownMachine) : Type 0 where
+  pub of : (p : ℕ) → stock_group after p ≡ stock_group before p
+  pub drained : (p : ℕ) → IsDrained before p → IsDrained after p
 
 -- no unit is kept for the group
 abbrev pub KeepsNone : ℕ → KnownMachine → Type 0

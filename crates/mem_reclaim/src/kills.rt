@@ -7,7 +7,7 @@ ghost use Rattle.mem_machine.specs.Machines.{is_killed};
 ghost use Rattle.mem_machine.specs.Ageing.{entries_in};
 ghost use Rattle.mem_machine.specs.Stocks.{AreOwnDrained};
 ghost use Rattle.mem_reclaim.specs.Victim.{IsVictim};
-ghost use Rattle.mem_reclaim.specs.Killing.{IsKilledBy, KeepsNone, KeepsStocks, KillsVictim, LetsGoBySteps, OnlyLetsGo};
+ghost use Rattle.mem_reclaim.specs.Killing.{IsKilledBy, KeepsNone, KeepsStocks, KillsVictim, LetsGoBySteps, OnlyDrains, OnlyLetsGo};
 
 use crate::victims::victim;
 use cpu_part::{BootName, Tables};
@@ -46,6 +46,7 @@ fn kill_group<N: BootName>(machine: &mut Machine<N>, tables: &Tables<N>, group: 
     ensures kills { IsKilledBy N.frames group machine.old machine.new }
     ensures marked { machine.new.killed ≡ slice_set machine.old.killed group true }
     ensures drained { AreOwnDrained group N.frames.cpus machine.new }
+    ensures stocks { OnlyDrains machine.old machine.new }
     ensures none_kept { KeepsNone group machine.new }
     ensures keeps { OnlyLetsGo N.frames machine.old machine.new }
 {
@@ -71,6 +72,7 @@ pub fn kill<N: BootName>(
     ensures kills { KillsVictim N.frames result machine.old machine.new }
     ensures marked { IfSome result (λ v. machine.new.killed ≡ slice_set machine.old.killed v true) }
     ensures drained { IfSome result (λ v. AreOwnDrained v N.frames.cpus machine.new) }
+    ensures stocks { OnlyDrains machine.old machine.new }
     ensures none_kept { IfSome result (λ v. KeepsNone v machine.new) }
     ensures keeps { OnlyLetsGo N.frames machine.old machine.new }
 {
