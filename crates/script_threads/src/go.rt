@@ -36,8 +36,8 @@ pub fn run_lines<N: BootName + Send + Sync, R: Threads + Wait + Sync, G: Gate + 
     Ok(text)
 }
 
-// How many lines stand before `go`; none where it isn't there.
-fn before_go(lines: &[Line<'_>]) -> usize
+/// How many lines stand before `go`; none where it isn't there.
+pub fn before_go(lines: &[Line<'_>]) -> usize
     ensures { result ≡ lines_before_go lines.now }
 {
     let mut place = 0;

@@ -8,4 +8,4 @@ mod own_lines;
 mod workers;
 
 pub use each::run_each;
-pub use go::run_lines;
+pub use go::{before_go, run_lines};
