@@ -2,7 +2,10 @@
 ghost use Rattle.std.specs.Prelude.{◌≡◌};
 ghost use Rattle.mem_machine.specs.Machines.{Visits, side};
 
-use crate::small::{Parts, frame, holds, is_kept, make_parts, reclaim_from, rounds_from, take};
+use crate::small::{
+    Parts, frame, holds, is_kept, kill_for, make_parts, reclaim_from, rounds_from, take,
+    usage_and_kills,
+};
 use cpu_part::{BootName, Cpu, Tables};
 use frame_word::Get;
 use group_tree::group::GroupId;
@@ -23,6 +26,8 @@ enum Row {
     Subtree,
     RoundsMakeRoom,
     RoundsEnd,
+    MostFrames,
+    PinOutlivesAKill,
 }
 
 // So many pages, and whether all was tried.
@@ -197,6 +202,67 @@ fn rounds_end<N: BootName>(
     holds(rt, given == 1, "it comes back");
 }
 
+// The group with the most frames of its own is killed, its dirty unit too; then the next one; then there is nobody.
+fn most_frames<N: BootName>(
+    rt: &impl Abort,
+    tables: &Tables<N>,
+    machine: &mut Machine<N>,
+    cpu: &mut Cpu<N>,
+)
+    requires { Visits N.frames (side machine.old cpu.old) }
+{
+    let above = machine.make(b"/a").expect(rt, "a group");
+    let one = machine.make(b"/a/b").expect(rt, "a group");
+    let two = machine.make(b"/a/c").expect(rt, "a group");
+    take(rt, tables, machine, cpu, one, 0, 0);
+    take(rt, tables, machine, cpu, two, 1, 2);
+    let dirty = frame(rt, tables, 2);
+    assert!(rt; machine.is_kept(dirty));
+    machine.set_dirty(dirty, true);
+    let killed = kill_for(rt, tables, machine, above);
+    holds(rt, killed == two.number(), "the group with two frames");
+    holds(rt, !is_kept(rt, tables, machine, 2), "its unit went");
+    holds(rt, is_kept(rt, tables, machine, 0), "the other stays");
+    let told = usage_and_kills(rt, machine, above);
+    holds(rt, told == (1, 1), "a page, and a kill");
+    let killed = kill_for(rt, tables, machine, above);
+    holds(rt, killed == one.number(), "the group with one frame");
+    let killed = kill_for(rt, tables, machine, above);
+    holds(rt, killed == 64, "nobody is left");
+    let told = usage_and_kills(rt, machine, above);
+    holds(rt, told == (0, 2), "no page, and two kills");
+}
+
+// A unit that a processor has pinned stays charged past the kill of its group, kept by no one, until the last put is settled.
+fn pin_outlives_a_kill<N: BootName>(
+    rt: &impl Abort,
+    tables: &Tables<N>,
+    machine: &mut Machine<N>,
+    cpu: &mut Cpu<N>,
+)
+    requires { Visits N.frames (side machine.old cpu.old) }
+{
+    let root = GroupId::root();
+    let group = machine.make(b"/a").expect(rt, "a group");
+    take(rt, tables, machine, cpu, group, 0, 0);
+    machine.shut(tables, cpu);
+    let pinned = frame(rt, tables, 0);
+    holds(rt, cpu.get(tables, pinned) == Ok(Get::Held), "a pin");
+    let killed = kill_for(rt, tables, machine, root);
+    holds(rt, killed == group.number(), "the one group with a frame");
+    holds(rt, !is_kept(rt, tables, machine, 0), "it isn't kept");
+    let told = usage_and_kills(rt, machine, group);
+    holds(rt, told == (1, 1), "it is charged still");
+    let killed = kill_for(rt, tables, machine, root);
+    holds(rt, killed == 64, "a killed group is no victim");
+    assert!(rt; cpu.holds(pinned));
+    let _ = cpu.put(tables, pinned);
+    machine.open(tables, cpu);
+    machine.settle(tables, cpu);
+    let told = usage_and_kills(rt, machine, group);
+    holds(rt, told == (0, 1), "it came back");
+}
+
 // One row on a new machine.
 fn play<N: BootName>(rt: &impl Abort, alloc: Global, parts: Parts, row: Row)
     requires { (parts.frames ≡ N.frames) × (parts.stocks ≡ N.stocks) }
@@ -222,6 +288,8 @@ fn play<N: BootName>(rt: &impl Abort, alloc: Global, parts: Parts, row: Row)
         Row::Subtree => subtree(rt, &tables, &mut machine, &mut cpu),
         Row::RoundsMakeRoom => rounds_make_room(rt, &tables, &mut machine, &mut cpu),
         Row::RoundsEnd => rounds_end(rt, &tables, &mut machine, &mut cpu),
+        Row::MostFrames => most_frames(rt, &tables, &mut machine, &mut cpu),
+        Row::PinOutlivesAKill => pin_outlives_a_kill(rt, &tables, &mut machine, &mut cpu),
     }
     assert!(rt; cpu.is_idle());
     let _ = cpu.into_seats();
@@ -281,5 +349,19 @@ fn rounds_end_where_there_is_room(rt: HostRuntime) -> Result<(), Fail> {
 fn rounds_end_where_nothing_comes(rt: HostRuntime) -> Result<(), Fail> {
     let parts = make_parts(&rt, rt.alloc())?;
     play::<Brand>(&rt, rt.alloc(), parts, Row::RoundsEnd);
+    Ok(())
+}
+
+#[test]
+fn the_group_with_most_frames_is_killed(rt: HostRuntime) -> Result<(), Fail> {
+    let parts = make_parts(&rt, rt.alloc())?;
+    play::<Brand>(&rt, rt.alloc(), parts, Row::MostFrames);
+    Ok(())
+}
+
+#[test]
+fn a_pin_outlives_a_kill(rt: HostRuntime) -> Result<(), Fail> {
+    let parts = make_parts(&rt, rt.alloc())?;
+    play::<Brand>(&rt, rt.alloc(), parts, Row::PinOutlivesAKill);
     Ok(())
 }

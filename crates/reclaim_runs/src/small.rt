@@ -8,7 +8,7 @@ use cpu_part::{BootName, Cpu, Tables};
 use frame_word::{Frame, FrameSeat, FrameWords};
 use group_tree::group::GroupId;
 use mem_machine::Machine;
-use mem_reclaim::{Reclaimed, make_rounds, reclaim};
+use mem_reclaim::{Reclaimed, kill, make_rounds, reclaim};
 use std::alloc::{AllocError, Global};
 use std::process::Abort;
 use stock_word::{StockSeat, StockWords};
@@ -102,6 +102,33 @@ pub fn reclaim_from<N: BootName>(
 ) -> Reclaimed {
     assert!(rt; want < 1 << 32 && machine.charges().tree().contains(group));
     reclaim(machine, tables, group, want)
+}
+
+/// Kills the victim of the group, and tells its number; 64 where there is none.
+pub fn kill_for<N: BootName>(
+    rt: &impl Abort,
+    tables: &Tables<N>,
+    machine: &mut Machine<N>,
+    group: GroupId,
+) -> u32
+    ensures { machine.new.seat.view.opened ≡ machine.old.seat.view.opened }
+{
+    assert!(rt; machine.charges().tree().contains(group));
+    match kill(machine, tables, group) {
+        Some(victim) => victim.number(),
+        None => 64,
+    }
+}
+
+/// The usage of a group, in pages, and how many kills its events count.
+pub fn usage_and_kills<N: BootName>(
+    rt: &impl Abort,
+    machine: &Machine<N>,
+    group: GroupId,
+) -> (u32, u64) {
+    let charges = machine.charges();
+    assert!(rt; charges.tree().contains(group));
+    (charges.current(group), charges.events(group).oom_kill)
 }
 
 /// Reclaims from the subtree of the group in rounds, until its usage with `need` pages more is at most `limit`.
