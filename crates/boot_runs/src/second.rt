@@ -23,11 +23,14 @@ fn boots_and_ends<R: Abort>(rt: &R, alloc: Global) -> Option<Audit> {
     starts_and_ends::<Brand, _>(rt, alloc, boot)
 }
 
-// The script `tests/refused-boots` runs this with each of its allocations refused in turn: the second life is whole.
+// `tests/refuse-memory` runs this with each of its calls for memory refused in turn, until the first life ends.
 #[test]
 fn a_second_boot_lives_where_the_first_was_refused(rt: HostRuntime) -> Result<(), Fail> {
-    if boots_and_ends(&rt, rt.alloc()) != Some(nothing_was_charged()) {
-        assert!(&rt; boots_and_ends(&rt, rt.alloc()) == Some(nothing_was_charged()));
+    let mut audit = boots_and_ends(&rt, rt.alloc());
+    if audit.is_none() {
+        println!(rt; "the first life was refused")?;
+        audit = boots_and_ends(&rt, rt.alloc());
     }
+    assert!(&rt; audit == Some(nothing_was_charged()));
     Ok(())
 }

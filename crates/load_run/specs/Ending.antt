@@ -32,6 +32,13 @@ pub record EndsHeld (table : KnownTable) (stock_table : Words) (before : Standin
   pub pinned : 1 ≤ held → AllZip LetsGo before.cpus cpus
   pub ends : Ends table stock_table before.locked cpus audit
 
+-- so the boot ended after something of which this is so
+pub record EndsAfter (table : KnownTable) (stock_table : Words) (is : Standing → Type 0)
+    (held : ℕ) (audit : Audit) : Type 0 where
+  pub before : Standing
+  pub is_before : is before
+  pub ends : EndsHeld table stock_table before held audit
+
 -- how many frames there are, and where
 abbrev pub audit_places_text : Audit → List ℕ
 audit_places_text a =

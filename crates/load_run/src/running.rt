@@ -1,14 +1,16 @@
 //! The life of a boot in the program: it replays the lines, and ends.
 
-ghost use Rattle.std.specs.Prelude.{◌≡◌, ◌++◌, All, IfOk, length};
+ghost use Rattle.std.specs.Prelude.{◌≡◌, ◌++◌, All, IfOk, MatchResult, length};
 ghost use Rattle.mem_system.specs.Boots.{IsSizedAs};
+ghost use Rattle.script_replay.specs.History.{Replays};
+ghost use Rattle.script_replay.specs.Lines.{StopsAt, standing};
 ghost use Rattle.script_replay.specs.Ranges.{LineIsThere};
 ghost use Rattle.load_run.specs.Answers.{AreAnswers};
-ghost use Rattle.load_run.specs.Ending.{end_text};
+ghost use Rattle.load_run.specs.Ending.{EndsAfter, end_text};
 
 use crate::run_end::{Ended, finish, write_end};
-use cpu_part::BootName;
-use mem_system::Boot;
+use cpu_part::{BootName, Cpu, Tables};
+use mem_system::{Boot, Locked};
 use script_lines::line::Line;
 use script_replay::replay;
 use std::alloc::{AllocError, Global};
@@ -26,10 +28,30 @@ pub fn run<N: BootName>(
     requires lines { All (LineIsThere boot.sizes.frames boot.sizes.cpus) lines.now }
     ensures { IfOk result (λ text. AreAnswers boot.sizes is_audited lines.now text.items) }
 {
-    let (tables, mut locked, mut cpus) = boot.part::<N>(alloc)?;
+    let (tables, locked, cpus) = boot.part::<N>(alloc)?;
+    let (answers, ended) = replay_and_end(alloc, tables, locked, cpus, lines);
+    tell_end(alloc, answers?, ended, is_audited)
+}
+
+// Replays the lines, and ends the boot, also where memory was wanting for what they are answered.
+fn replay_and_end<N: BootName>(
+    alloc: Global,
+    tables: Tables<N>,
+    mut locked: Locked<N>,
+    mut cpus: Vec<Cpu<N>>,
+    lines: &[Line<'_>],
+) -> (Result<Vec<u8>, AllocError>, Ended)
+    requires count { length cpus.items ≡ N.frames.cpus }
+    requires lines { All (LineIsThere N.frames.frames N.frames.cpus) lines.now }
+    ensures { EndsAfter N.frames N.stocks (λ end. MatchResult result.0
+        (λ answers. Replays N.frames N.stocks (standing locked cpus.items) lines.now answers.items end)
+        (λ _. StopsAt lines.now (λ served text.
+        Replays N.frames N.stocks (standing locked cpus.items) served text end)))
+        result.1.held result.1.audit }
+{
     let answers = replay(alloc, &mut locked, &tables, &mut cpus, lines);
     let ended = finish(tables, locked, cpus);
-    tell_end(alloc, answers?, ended, is_audited)
+    (answers, ended)
 }
 
 // The answers, and after them what is told of the end.
