@@ -37,9 +37,7 @@ impl<N: BootName> Machine<N> {
         let owner = group.number() as usize;
         laws::others_stand();
         laws::one_of_all_changes();
-        let mut lists = self.lists[owner];
-        lists.age(&mut self.links);
-        self.lists[owner] = lists;
+        self.lists[owner].age(&mut self.links);
     }
 
     /// Moves an inactive unit of a group to the newest end of the group's inactive list, unmarked. The unit goes by its
@@ -54,9 +52,7 @@ impl<N: BootName> Machine<N> {
         let owner = group.number() as usize;
         laws::others_stand();
         laws::one_of_all_changes();
-        let mut lists = self.lists[owner];
-        lists.renew(&mut self.links, at);
-        self.lists[owner] = lists;
+        self.lists[owner].renew(&mut self.links, at);
     }
 
     /// How many units stand on one of a group's lists.
