@@ -24,7 +24,7 @@ use Rattle.load_run.specs.declared.settings.Settings.{Settings}
 use Rattle.load_run.specs.declared.fault.WordsFault.{WordsFault}
 use Rattle.load_run.specs.declared.fault.WordsFault.TheVariants.{BadWords, NoMemory}
 use Rattle.load_run.specs.Fault.{IsNoMemory}
-use Rattle.load_run.specs.Words.{TellsSettings, if_none, number_in, number_kept, program, settings_of, settings_under, size_in}
+use Rattle.load_run.specs.Words.{TellsSettings, if_none, number_in, number_kept, program, settings_for, settings_under, size_in}
 
 -- ---- options
 
@@ -114,19 +114,19 @@ given_read E (Some t) None none value = go (bytes_eq t (codes "true")) refl
 -- ---- all the words
 
 -- the settings are those that clap found, where it found no fault
-pub asked_found : (words : List (List ℕ)) → fault_of program words ≡ []
-    → settings_of words ≡ option_and_then (λ (p : List ℕ × List Row). settings_under p.0 p.1) (subcommand_of program words)
-unfolding settings_of
-asked_found words none =
-    ap (λ (kinds : Kinds). if_none kinds (option_and_then (λ (p : List ℕ × List Row). settings_under p.0 p.1) (subcommand_of program words))) none
+pub asked_found : (task : List ℕ) (words : List (List ℕ)) → fault_of program words ≡ []
+    → settings_for task words ≡ option_and_then (λ (p : List ℕ × List Row). settings_under task p.0 p.1) (subcommand_of program words)
+unfolding settings_for
+asked_found task words none =
+    ap (λ (kinds : Kinds). if_none kinds (option_and_then (λ (p : List ℕ × List Row). settings_under task p.0 p.1) (subcommand_of program words))) none
 
 -- and there are none where it found one
-pub asked_nothing : (words : List (List ℕ)) (kind : ErrorKind) → IsAmong kind (fault_of program words) → settings_of words ≡ None
-unfolding settings_of
-asked_nothing words kind among = go (fault_of program words) among
+pub asked_nothing : (task : List ℕ) (words : List (List ℕ)) (kind : ErrorKind) → IsAmong kind (fault_of program words) → settings_for task words ≡ None
+unfolding settings_for
+asked_nothing task words kind among = go (fault_of program words) among
   where
     go : (kinds : Kinds) → IsAmong kind kinds
-        → if_none kinds (option_and_then (λ (p : List ℕ × List Row). settings_under p.0 p.1) (subcommand_of program words)) ≡ None
+        → if_none kinds (option_and_then (λ (p : List ℕ × List Row). settings_under task p.0 p.1) (subcommand_of program words)) ≡ None
     go [] none = absurd none
     go (k ∷ rest) some = refl
 

@@ -31,9 +31,9 @@ flag_rule name = record (new_rule name) {
   action = Some SetTrue;
 }
 
--- the options of `replay`
-abbrev pub replay_rules : List Rule
-replay_rules =
+-- the options of a subcommand
+abbrev pub task_rules : List Rule
+task_rules =
     size_rule (codes "frames") 65536 (codes "16")
     ∷ size_rule (codes "cpus") 16 (codes "2")
     ∷ size_rule (codes "batch") 64 (codes "4")
@@ -42,11 +42,11 @@ replay_rules =
     ∷ flag_rule (codes "audit")
     ∷ []
 
--- the subcommand `replay`
-abbrev pub replay_shape : Shape
-replay_shape = record (new_shape (codes "replay")) { rules = replay_rules }
+-- the subcommand of this name
+abbrev pub task_shape : List ℕ → Shape
+task_shape name = record (new_shape name) { rules = task_rules }
 
--- the program: it wants its one subcommand, and its own name is not among the words
+-- the program: it wants one of its two subcommands, and its own name is not among the words
 abbrev pub program : App
 program = record {
   top = record (new_shape (codes "memcg")) {
@@ -54,7 +54,7 @@ program = record {
     subcommand_required = true;
     is_leaf = false;
   };
-  subs = replay_shape ∷ [];
+  subs = task_shape (codes "replay") ∷ task_shape (codes "run") ∷ [];
 }
 
 -- the number that a text writes, in decimal digits, perhaps behind a plus, where it is from 1 to `most`
@@ -94,19 +94,27 @@ settings_in found = do
   sizes ← sizes_in found
   Some (record { sizes = sizes; is_audited = is_given (codes "audit") found })
 
--- what stands in the words of `replay`
-abbrev pub settings_under : List ℕ → List Row → Option Settings
-settings_under name found = if bytes_eq name (codes "replay") then settings_in found else None
+-- what stands in the words of the subcommand that is asked, where it is this one
+abbrev pub settings_under : List ℕ → List ℕ → List Row → Option Settings
+settings_under task name found = if bytes_eq name task then settings_in found else None
 
 -- what was found, where there is no fault
 abbrev pub if_none : Kinds → Option Settings → Option Settings
 if_none [] asked = asked
 if_none (fault ∷ faults) asked = None
 
--- the settings that the words ask for: clap finds no fault in them, and finds these values behind `replay`
-unfoldable pub settings_of : List (List ℕ) → Option Settings
-settings_of words =
-    if_none (fault_of program words) (option_and_then (λ p. settings_under p.0 p.1) (subcommand_of program words))
+-- the settings that the words ask of this subcommand: clap finds no fault in them, and finds these values behind its name
+unfoldable pub settings_for : List ℕ → List (List ℕ) → Option Settings
+settings_for task words =
+    if_none (fault_of program words) (option_and_then (λ p. settings_under task p.0 p.1) (subcommand_of program words))
+
+-- the settings that the words ask of `replay`
+abbrev pub settings_of : List (List ℕ) → Option Settings
+settings_of words = settings_for (codes "replay") words
+
+-- the settings that the words ask of `run`
+abbrev pub run_settings_of : List (List ℕ) → Option Settings
+run_settings_of words = settings_for (codes "run") words
 
 -- what the words are answered: the settings that they ask for; a fault where they ask for none; or that memory ran out
 abbrev pub TellsSettings : Option Settings → Result Settings WordsFault → Type 0

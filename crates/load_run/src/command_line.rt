@@ -6,7 +6,8 @@ ghost use Rattle.clap.specs.declared.builder.command.Command.TheViews.{out-Comma
 ghost use Rattle.clap.specs.declared.builder.value_parser.ValueParser.TheVariants.{Signed};
 ghost use Rattle.load_run.specs.Fault.{IsNoMemory};
 ghost use Rattle.load_run.specs.Settings.{HasSizesInRange};
-ghost use Rattle.load_run.specs.Words.{TellsSettings, flag_rule, program, replay_shape, settings_of, size_rule};
+ghost use Rattle.load_run.specs.Words.{TellsSettings, flag_rule, program, run_settings_of, settings_for, settings_of};
+ghost use Rattle.load_run.specs.Words.{size_rule, task_shape};
 
 use crate::fault::WordsFault;
 use crate::settings::{
@@ -44,17 +45,34 @@ pub fn parse_words<S: AsStr>(alloc: Global, words: &[S]) -> Result<Settings, Wor
     ensures asked { TellsSettings (settings_of (map S.text words.now)) result }
     ensures in_range { IfOk result (λ o. HasSizesInRange o.sizes) }
 {
+    parse_task(alloc, "replay", words)
+}
+
+/// Reads the words that follow the program's name as `parse_words` does, where `run` stands in place of `replay`.
+pub fn parse_run_words<S: AsStr>(alloc: Global, words: &[S]) -> Result<Settings, WordsFault>
+    ensures asked { TellsSettings (run_settings_of (map S.text words.now)) result }
+    ensures in_range { IfOk result (λ o. HasSizesInRange o.sizes) }
+{
+    parse_task(alloc, "run", words)
+}
+
+// Reads the words that follow the program's name, where this subcommand is to be the first.
+fn parse_task<S: AsStr>(alloc: Global, task: &str, words: &[S]) -> Result<Settings, WordsFault>
+    ensures asked { TellsSettings (settings_for task.now (map S.text words.now)) result }
+    ensures in_range { IfOk result (λ o. HasSizesInRange o.sizes) }
+{
     let mut command = memcg(alloc).map_err(WordsFault::NoMemory)?;
     let found = match command.try_get_matches_from_mut(words) {
         Ok(found) => found,
         Err(error) => return Err(fault_of(alloc, &error)),
     };
-    match read_settings(&found) {
+    match read_settings(&found, task) {
         Some(settings) => Ok(settings),
-        // Clap refuses each such word before, and every size has a default; but of a value that it found it promises no
-        // range, so what can't come is answered as it would be if it came.
+        // The words are those of the other subcommand. Clap refuses each word that has no value in its range before,
+        // and every size has a default; but of a value that it found it promises no range, so what can't come is
+        // answered as it would be if it came.
         None => {
-            let text = "an option has no value in its range";
+            let text = "the subcommand is another, or an option has no value in its range";
             let error = command
                 .error(ErrorKind::InvalidValue, text)
                 .map_err(WordsFault::NoMemory)?;
@@ -85,16 +103,25 @@ fn memcg<'a>(alloc: Global) -> Result<Command<'a>, AllocError>
         .no_binary_name(true)
         .about("Charges page frames to the groups of a tree")
         .subcommand_required(true)
-        .subcommand(replay(alloc)?)
+        .subcommand(task(
+            alloc,
+            "replay",
+            "Runs the lines of a script, one after the other",
+        )?)?
+        .subcommand(task(
+            alloc,
+            "run",
+            "Runs the lines before `go` so, and those behind it by a thread for each processor",
+        )?)
 }
 
-// Its one subcommand.
-fn replay<'a>(alloc: Global) -> Result<Command<'a>, AllocError>
-    ensures shape { IfOk result (λ command. (app_of command).top ≡ replay_shape) }
+// A subcommand, with its options.
+fn task<'a>(alloc: Global, name: &'a str, about: &'a str) -> Result<Command<'a>, AllocError>
+    ensures shape { IfOk result (λ command. (app_of command).top ≡ task_shape name.entry.now) }
     ensures local { IfOk result (λ command. (fields_of command).has_globals ≡ false) }
 {
-    Command::new(alloc, "replay")
-        .about("Runs the lines of a script, one after the other")
+    Command::new(alloc, name)
+        .about(about)
         .arg(size_option(
             alloc,
             "frames",

@@ -92,8 +92,8 @@ fn read_words<S: AsStr>(alloc: Global, words: &[S]) -> Result<Settings, ProgramF
     }
 }
 
-// The lines of the script.
-fn lines_of<'a>(
+/// The lines of the script, for the sizes of the settings. A bad line is a fault of the script, with its number.
+pub fn lines_of<'a>(
     alloc: Global,
     script: &'a [u8],
     settings: &Settings,
@@ -128,8 +128,8 @@ fn answers_of(
     }
 }
 
-// Reads all of the script. Where it is longer than a script may be, one byte more tells so.
-fn read_script<I: Read>(alloc: Global, input: &mut I) -> Result<Vec<u8>, ProgramFault>
+/// Reads all of the script. Where it is longer than a script may be, one byte more tells so.
+pub fn read_script<I: Read>(alloc: Global, input: &mut I) -> Result<Vec<u8>, ProgramFault>
     ensures read { IfOk result (λ script. IfSome (I.remaining input.old) (λ bytes. script.items ≡ bytes_read bytes)) }
     ensures fault { IfErr result IsReadFault }
 {
@@ -145,8 +145,8 @@ fn read_script<I: Read>(alloc: Global, input: &mut I) -> Result<Vec<u8>, Program
     }
 }
 
-// Writes all of the answers.
-fn write_answers<O: Write>(output: &mut O, answers: &[u8]) -> Result<(), ProgramFault>
+/// Writes all of the answers, or a beginning of them where the writer fails.
+pub fn write_answers<O: Write>(output: &mut O, answers: &[u8]) -> Result<(), ProgramFault>
     ensures fault { IfErr result (λ fault. fault ≡ ProgramFault.Output) }
     ensures written { OnOk result (Appends (O.contents output.old) (O.contents output.new) answers.now) }
     ensures beginning { AppendsBeginning (O.contents output.old) (O.contents output.new) answers.now }

@@ -54,8 +54,9 @@ fn replay_and_end<N: BootName>(
     (answers, ended)
 }
 
-// The answers, and after them what is told of the end.
-fn tell_end(
+/// The answers, and after them what is told of the end, where that is asked for. `AllocError` comes where memory is
+/// wanting.
+pub fn tell_end(
     alloc: Global,
     mut answers: Vec<u8>,
     ended: Ended,

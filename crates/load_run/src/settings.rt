@@ -28,28 +28,28 @@ pub struct Settings {
     pub is_audited: bool,
 }
 
-// The settings, where `replay` is found and each size has a value in its range.
-pub(crate) fn read_settings(found: &ArgMatches<'_>) -> Option<Settings>
-    ensures asked { result ≡ option_and_then (λ p. settings_under p.0 p.1) (subcommand_rows_of found.now) }
+// The settings, where this subcommand is found and each size has a value in its range.
+pub(crate) fn read_settings(found: &ArgMatches<'_>, task: &str) -> Option<Settings>
+    ensures asked { result ≡ option_and_then (λ p. settings_under task.now p.0 p.1) (subcommand_rows_of found.now) }
     ensures in_range { IfSome result (λ o. HasSizesInRange o.sizes) }
 {
-    let replay = found.subcommand_matches("replay")?;
-    let sizes = sizes(replay)?;
-    let is_audited = is_set(replay, "audit");
+    let options = found.subcommand_matches(task)?;
+    let sizes = sizes(options)?;
+    let is_audited = is_set(options, "audit");
     Some(Settings { sizes, is_audited })
 }
 
 // The five sizes.
-fn sizes(replay: &ArgMatches<'_>) -> Option<Config>
-    ensures asked { result ≡ sizes_in (rows_of (found_of replay.now)) }
+fn sizes(options: &ArgMatches<'_>) -> Option<Config>
+    ensures asked { result ≡ sizes_in (rows_of (found_of options.now)) }
     ensures in_range { IfSome result HasSizesInRange }
 {
     Some(Config {
-        frames: size(replay, "frames", MOST_FRAMES)?,
-        cpus: size(replay, "cpus", MOST_CPUS)?,
-        batch: size(replay, "batch", MOST_BATCH)?,
-        high: size(replay, "high", MOST_HIGH)?,
-        stock: size(replay, "stock", MOST_STOCK)?,
+        frames: size(options, "frames", MOST_FRAMES)?,
+        cpus: size(options, "cpus", MOST_CPUS)?,
+        batch: size(options, "batch", MOST_BATCH)?,
+        high: size(options, "high", MOST_HIGH)?,
+        stock: size(options, "stock", MOST_STOCK)?,
     })
 }
 

@@ -5,6 +5,7 @@ use load_run::command_line::words;
 use load_run::fault::ProgramFault;
 use load_run::program::drive;
 use load_run::telling::tell;
+use load_threads::program::drive_run;
 use std::process::ExitCode;
 
 fn main(rt: HostRuntime) -> ExitCode {
@@ -13,9 +14,28 @@ fn main(rt: HostRuntime) -> ExitCode {
         Ok(words) => {
             let mut input = rt.stdin();
             let mut output = rt.stdout();
-            drive(rt.alloc(), &words, &mut input, &mut output, &mut faults)
+            if asks_for_run(&words) {
+                drive_run(
+                    &rt,
+                    rt.alloc(),
+                    &words,
+                    &mut input,
+                    &mut output,
+                    &mut faults,
+                )
+            } else {
+                drive(rt.alloc(), &words, &mut input, &mut output, &mut faults)
+            }
         }
         Err(fault) => tell(&mut faults, &ProgramFault::Words(fault)),
     };
     ExitCode::from(status)
+}
+
+// Whether the first word is `run`.
+fn asks_for_run(words: &[String]) -> bool {
+    match words.first() {
+        Some(word) => word.as_str() == "run",
+        None => false,
+    }
 }

@@ -4,6 +4,8 @@
 #[cfg(test)]
 mod gates;
 #[cfg(test)]
+mod programs;
+#[cfg(test)]
 mod races;
 #[cfg(test)]
 mod rounds;

@@ -1,15 +1,15 @@
--- Serves the contract of `replay`: its options, one after the other.
-use Rattle.std.proofs.Common.{◌∙◌, ap, codes}
+-- Serves the contract of `task`: its options, one after the other.
+use Rattle.std.proofs.Common.{◌∙◌, ap}
 use Rattle.std.proofs.lemmas.Result.{IfOk-weaker}
 use Rattle.clap.specs.Simple.{App, app_of_fields, new_app}
 use Rattle.clap.specs.declared.builder.command.Command.{Command}
 use Rattle.clap.specs.declared.builder.command.Command.TheOpen.{Command-F}
 use Rattle.load_run.proofs.Asking.{IsRead, option_added}
-use Rattle.load_run.proofs.command_line.replay.Goals as goal
+use Rattle.load_run.proofs.command_line.task.Goals as goal
 
 pub returns : goal.returns
 returns c =
-    let none : IsRead (new_app (codes "replay")) c.about.result =
+    let none : IsRead (new_app c.args.name.now) c.about.result =
     (ap app_of_fields c.about.ensures ∙ c.new.ensures.app, ap (λ (f : Command-F Command). f.has_globals) c.about.ensures ∙ c.new.ensures.local) in
     let frames = option_added _ _ _ _ _ none c.size_option.ensures.rule c.size_option.ensures.local c.in_ok-arg.ensures in
     let cpus = option_added _ _ _ _ _ frames c.size_option-2.ensures.rule c.size_option-2.ensures.local c.in_ok-arg-2.ensures in

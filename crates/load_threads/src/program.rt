@@ -1,0 +1,115 @@
+//! The program's `run` over any reader and two writers.
+
+ghost use Rattle.std.specs.Prelude.{◌≡◌, ◌≤◌, All, IfErr, IfOk, IfSome, IsSome, OnOk, Some, map};
+ghost use Rattle.zone_sizes.specs.Config.{IsValidConfig};
+ghost use Rattle.script_replay.specs.Ranges.{LineIsThere};
+ghost use Rattle.load_run.specs.Causes.{IsMisused};
+ghost use Rattle.load_run.specs.Fault.{IsBootFault, IsWordsFault};
+ghost use Rattle.load_run.specs.Settings.{HasSizesInRange};
+ghost use Rattle.load_run.specs.Words.{run_settings_of};
+ghost use Rattle.load_threads.specs.Answers.{AreThreadAnswers, IsAnsweredByThreads, IsRun};
+ghost use Rattle.load_threads.specs.Causes.{FailsAtRun, HasRunCause};
+
+use crate::running::run_by_threads;
+use load_run::command_line::parse_run_words;
+use load_run::fault::ProgramFault;
+use load_run::program::{lines_of, read_script, write_answers};
+use load_run::settings::Settings;
+use load_run::telling::tell;
+use mem_system::{BootFault, boot};
+use script_lines::line::Line;
+use std::alloc::{AllocError, Global};
+use std::convert::AsStr;
+use std::io::{Read, Write};
+use std::marker::Brand;
+use std::sync::Wait;
+use std::thread::Threads;
+
+/// Runs the program's `run`: the words that follow its name, the script, the answers and the faults. It gives the status
+/// to end with.
+///
+/// All is as with `drive` of `load_run`, and in the same order, but for the words, which name `run`, and for the lines:
+/// those before `go` are replayed, and those from it on served by a thread for each processor. A thread that can't be
+/// made is told as want of memory.
+pub fn drive_run<R: Threads + Wait + Sync, S: AsStr, I: Read, O: Write, F: Write>(
+    rt: &R,
+    alloc: Global,
+    words: &[S],
+    input: &mut I,
+    output: &mut O,
+    faults: &mut F,
+) -> u8
+    ensures status { result ≤ 2 }
+    ensures quiet { result ≡ 2 → O.contents output.new ≡ O.contents output.old }
+    ensures silent { result ≡ 0 → F.contents faults.new ≡ F.contents faults.old }
+    ensures asked { result ≡ 0 → IsSome (run_settings_of (map S.text words.now)) }
+    ensures ran { result ≡ 0 → IfSome (I.remaining input.old) (λ bytes.
+        IsRun (run_settings_of (map S.text words.now)) bytes (O.contents output.old) (O.contents output.new)) }
+    ensures misused { result ≡ 2 → IfSome (I.remaining input.old) (λ bytes.
+        IsMisused (run_settings_of (map S.text words.now)) bytes (F.contents faults.old) (F.contents faults.new)) }
+    ensures fails { result ≡ 1 → IfSome (I.remaining input.old) (λ bytes.
+        FailsAtRun (run_settings_of (map S.text words.now)) bytes (O.contents output.old) (O.contents output.new)
+        (F.contents faults.old) (F.contents faults.new)) }
+{
+    match answers_to(rt, alloc, words, input) {
+        Ok(answers) => match write_answers(output, &answers) {
+            Ok(()) => 0,
+            Err(unwritten) => tell(faults, &unwritten),
+        },
+        Err(fault) => tell(faults, &fault),
+    }
+}
+
+// The answers to the script that the input holds.
+fn answers_to<R: Threads + Wait + Sync, S: AsStr, I: Read>(
+    rt: &R,
+    alloc: Global,
+    words: &[S],
+    input: &mut I,
+) -> Result<Vec<u8>, ProgramFault>
+    ensures asked { OnOk result (IsSome (run_settings_of (map S.text words.now))) }
+    ensures answered { IfOk result (λ answers. IfSome (I.remaining input.old) (λ bytes.
+        IsAnsweredByThreads (run_settings_of (map S.text words.now)) bytes answers.items)) }
+    ensures cause { IfErr result (λ fault. IfSome (I.remaining input.old) (λ bytes.
+        HasRunCause (run_settings_of (map S.text words.now)) bytes fault)) }
+{
+    let settings = read_words(alloc, words)?;
+    let script = read_script(alloc, input)?;
+    let lines = lines_of(alloc, &script, &settings)?;
+    answers_of(rt, alloc, &settings, &lines)
+}
+
+// The settings that the words ask for.
+fn read_words<S: AsStr>(alloc: Global, words: &[S]) -> Result<Settings, ProgramFault>
+    ensures asked { IfOk result (λ settings. run_settings_of (map S.text words.now) ≡ Some settings) }
+    ensures in_range { IfOk result (λ settings. HasSizesInRange settings.sizes) }
+    ensures fault { IfErr result (IsWordsFault (run_settings_of (map S.text words.now))) }
+{
+    match parse_run_words(alloc, words) {
+        Ok(settings) => Ok(settings),
+        Err(fault) => Err(ProgramFault::Words(fault)),
+    }
+}
+
+// What a new boot answers to the lines.
+fn answers_of<R: Threads + Wait + Sync>(
+    rt: &R,
+    alloc: Global,
+    settings: &Settings,
+    lines: &[Line<'_>],
+) -> Result<Vec<u8>, ProgramFault>
+    requires { All (LineIsThere settings.now.sizes.frames settings.now.sizes.cpus) lines.now }
+    ensures answers { IfOk result (λ text.
+        AreThreadAnswers settings.now.sizes settings.now.is_audited lines.now text.items) }
+    ensures valid { IfOk result (λ _. IsValidConfig settings.now.sizes) }
+    ensures fault { IfErr result (IsBootFault settings.now.sizes) }
+{
+    match boot(alloc, settings.sizes) {
+        Ok(boot) => match run_by_threads::<Brand, R>(rt, alloc, boot, lines, settings.is_audited) {
+            Ok(answers) => Ok(answers),
+            Err(error) => Err(ProgramFault::NoMemory(error)),
+        },
+        Err(BootFault::BadConfig) => Err(ProgramFault::BadConfig),
+        Err(BootFault::NoMemory) => Err(ProgramFault::NoMemory(AllocError)),
+    }
+}
