@@ -111,7 +111,8 @@ fn take_and_give<N: BootName, R: Wait>(
 }
 
 // Refers to frame 0 if it is kept still, and lets go of it, and tells how often that went as it should: a reference that
-// is put is never the last, since the zone's own is frozen only where it stands alone.
+// is put is never the last, since the zone's own is frozen only where it stands alone. Where the freeze comes between a
+// get's look and its exchange, the get takes no reference, and says so.
 fn get_and_put<N: BootName>(system: &System<N>, cpu: &mut Cpu<N>, here: &AtomicU32) -> u32 {
     let tables = system.tables();
     let Some(frame) = tables.frames.frame(0) else {
@@ -124,7 +125,7 @@ fn get_and_put<N: BootName>(system: &System<N>, cpu: &mut Cpu<N>, here: &AtomicU
     for _ in 0..ROUNDS {
         let went_well = match cpu.get(tables, frame) {
             Ok(Get::Held) => cpu.put(tables, frame) != Put::Last,
-            Ok(Get::Zero) => true,
+            Ok(Get::Zero | Get::Raced(_)) => true,
             _ => false,
         };
         if went_well {
