@@ -1,5 +1,7 @@
 //! Four processors beside each other, each with random lines, and what is asked of the zone after them.
 
+ghost use Rattle.std.specs.Prelude.{◌≡◌, length};
+
 use crate::systems::live;
 use mem_system::{NoGate, boot};
 use rand_core::{Rng, SeedableRng};
@@ -133,7 +135,7 @@ impl Pinned {
 }
 
 // Reads off the answers which references are left.
-fn pinned(lines: &[Line<'_>], told: &str) -> Pinned {
+fn read_pins(lines: &[Line<'_>], told: &str) -> Pinned {
     let mut pinned = Pinned {
         of: [0; 4],
         on: [0; 64],
@@ -142,7 +144,7 @@ fn pinned(lines: &[Line<'_>], told: &str) -> Pinned {
     let mut own = lines.iter();
     for answer in told.split('\n') {
         if answer.starts_with("cpu ") {
-            cpu += 1;
+            cpu = cpu.wrapping_add(1);
             own = lines.iter();
         } else if let Some(command) = next_of(&mut own, cpu) {
             pinned.note(cpu, command, answer);
@@ -163,8 +165,8 @@ fn next_of<'a>(lines: &mut Iter<'a, Line<'a>>, cpu: u32) -> Option<&'a Command<'
 }
 
 // Whether the frames of this block are there, and free.
-fn is_free(owners: &[&str], at: usize, size: usize) -> bool {
-    match owners.get(at..at.wrapping_add(size)) {
+fn is_free(owners: &[&str], at: u32, size: u32) -> bool {
+    match owners.get(at as usize..at.wrapping_add(size) as usize) {
         Some(block) => block.iter().all(|owner| *owner == "free"),
         None => false,
     }
@@ -173,12 +175,15 @@ fn is_free(owners: &[&str], at: usize, size: usize) -> bool {
 // The free blocks that are in no greater one, as `blocks` tells them.
 fn blocks_of(alloc: Global, owners: &[&str]) -> Result<String, AllocError> {
     let mut text = String::new(alloc);
-    for place in 0..448usize {
+    for place in 0..448u32 {
         let order = place / 64;
         let at = place % 64;
-        let size = 1usize << order;
-        let above = at / size / 2 * size * 2;
-        if at % size == 0 && is_free(owners, at, size) && !is_free(owners, above, 2 * size) {
+        let greater = order + 1;
+        let above = (at >> greater) << greater;
+        if at % (1 << order) == 0
+            && is_free(owners, at, 1 << order)
+            && !is_free(owners, above, 1 << greater)
+        {
             write!(text, " {order}:{at}")?;
         }
     }
@@ -199,7 +204,9 @@ fn add_up<R: AllocGlobal + Abort>(
     rt: &R,
     answers: &[&str],
     pinned: &Pinned,
-) -> Result<(), AllocError> {
+) -> Result<(), AllocError>
+    requires { length answers.now ≡ 82 }
+{
     let blocks = answers[8];
     let owners = &answers[9..73];
     let told = format!(in rt.alloc(); " {blocks}")?;
@@ -210,7 +217,7 @@ fn add_up<R: AllocGlobal + Abort>(
     }
     for ((path, _), current) in GROUPS.iter().zip(answers[73..81].iter()) {
         let kept = kept_below(owners, path);
-        let bytes = format!(in rt.alloc(); "{}", kept * 4096)?;
+        let bytes = format!(in rt.alloc(); "{}", kept.wrapping_mul(4096))?;
         assert!(rt; *current == bytes.as_str() || (*current == "refused 6 NoGroup" && kept == 0));
     }
     Ok(())
@@ -228,13 +235,13 @@ fn what_threads_leave_adds_up(rt: HostRuntime) -> Result<(), Fail> {
     let told = live::<Brand, _, _>(&rt, alloc, boot, &lines, &asked, &NoGate)?;
     let threads = str::from_utf8(&told.threads).expect(&rt, "a text");
     let later = &lines[before_go(&lines)..];
-    let pinned = pinned(later, threads);
+    let pinned = read_pins(later, threads);
     assert!(rt; told.pins == pinned.of);
     let last = str::from_utf8(&told.last).expect(&rt, "a text");
     let answers: Vec<&str> = last.split('\n').collect(alloc)?;
     assert_eq!(rt; answers.len(), 82);
     add_up(&rt, &answers, &pinned)?;
     let audit = told.audit;
-    assert!(rt; audit.frames == FRAMES && audit.free + audit.charged == FRAMES);
+    assert!(rt; audit.frames == FRAMES && audit.free.wrapping_add(audit.charged) == FRAMES);
     Ok(())
 }
