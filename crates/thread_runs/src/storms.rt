@@ -140,7 +140,7 @@ fn read_pins(lines: &[Line<'_>], told: &str) -> Pinned {
         of: [0; 4],
         on: [0; 64],
     };
-    let mut cpu = 0;
+    let mut cpu = 0u32;
     let mut own = lines.iter();
     for answer in told.split('\n') {
         if answer.starts_with("cpu ") {
