@@ -109,7 +109,7 @@ fn last_of(alloc: Global) -> Result<String, AllocError> {
 
 // The references that the processors' answers leave: of each, and on each frame.
 #[derive(Drop)]
-struct Pinned {
+struct PinCounts {
     of: [u64; 4],
     on: [u64; 64],
 }
@@ -121,7 +121,7 @@ fn add(counts: &mut [u64], place: u32, change: u64) {
     }
 }
 
-impl Pinned {
+impl PinCounts {
     // Counts what a line of the processor was answered.
     fn note(&mut self, cpu: u32, command: &Command<'_>, answer: &str) {
         let (frame, change) = match command {
@@ -135,8 +135,8 @@ impl Pinned {
 }
 
 // Reads off the answers which references are left.
-fn read_pins(lines: &[Line<'_>], told: &str) -> Pinned {
-    let mut pinned = Pinned {
+fn read_pins(lines: &[Line<'_>], told: &str) -> PinCounts {
+    let mut left = PinCounts {
         of: [0; 4],
         on: [0; 64],
     };
@@ -147,10 +147,10 @@ fn read_pins(lines: &[Line<'_>], told: &str) -> Pinned {
             cpu = cpu.wrapping_add(1);
             own = lines.iter();
         } else if let Some(command) = next_of(&mut own, cpu) {
-            pinned.note(cpu, command, answer);
+            left.note(cpu, command, answer);
         }
     }
-    pinned
+    left
 }
 
 // The processor's next command.
@@ -203,7 +203,7 @@ fn kept_below(owners: &[&str], path: &str) -> usize {
 fn add_up<R: AllocGlobal + Abort>(
     rt: &R,
     answers: &[&str],
-    pinned: &Pinned,
+    left: &PinCounts,
 ) -> Result<(), AllocError>
     requires { length answers.now ≡ 82 }
 {
@@ -212,7 +212,7 @@ fn add_up<R: AllocGlobal + Abort>(
     let told = format!(in rt.alloc(); " {blocks}")?;
     let free = blocks_of(rt.alloc(), owners)?;
     assert!(rt; told == free || (blocks == "none" && free.is_empty()));
-    for (owner, pins) in owners.iter().zip(pinned.on.iter()) {
+    for (owner, pins) in owners.iter().zip(left.on.iter()) {
         assert!(rt; *pins == 0 || owner.starts_with('/'));
     }
     for ((path, _), current) in GROUPS.iter().zip(answers[73..81].iter()) {
@@ -235,12 +235,12 @@ fn what_threads_leave_adds_up(rt: HostRuntime) -> Result<(), Fail> {
     let told = live::<Brand, _, _>(&rt, alloc, boot, &lines, &asked, &NoGate)?;
     let threads = str::from_utf8(&told.threads).expect(&rt, "a text");
     let later = &lines[before_go(&lines)..];
-    let pinned = read_pins(later, threads);
-    assert!(rt; told.pins == pinned.of);
+    let left = read_pins(later, threads);
+    assert!(rt; told.pins == left.of);
     let last = str::from_utf8(&told.last).expect(&rt, "a text");
     let answers: Vec<&str> = last.split('\n').collect(alloc)?;
     assert_eq!(rt; answers.len(), 82);
-    add_up(&rt, &answers, &pinned)?;
+    add_up(&rt, &answers, &left)?;
     let audit = told.audit;
     assert!(rt; audit.frames == FRAMES && audit.free.wrapping_add(audit.charged) == FRAMES);
     Ok(())
