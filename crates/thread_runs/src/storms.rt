@@ -234,7 +234,9 @@ fn what_threads_leave_adds_up(rt: HostRuntime) -> Result<(), Fail> {
     let boot = boot(alloc, sizes).expect(&rt, "a boot");
     let told = live::<Brand, _, _>(&rt, alloc, boot, &lines, &asked, &NoGate)?;
     let threads = str::from_utf8(&told.threads).expect(&rt, "a text");
-    let later = &lines[before_go(&lines)..];
+    let later = lines
+        .get(before_go(&lines)..)
+        .expect(&rt, "lines from `go` on");
     let left = read_pins(later, threads);
     assert!(rt; told.pins == left.of);
     let last = str::from_utf8(&told.last).expect(&rt, "a text");
