@@ -24,6 +24,10 @@ lines_there sizes f t s w n lines sized names long there =
 abbrev pub tests_sizes : Config
 tests_sizes = record { frames = 16; cpus = 2; batch = 4; high = 8; stock = 4 }
 
+-- the sizes of the storm
+abbrev pub storm_sizes : Config
+storm_sizes = record { frames = 64; cpus = 4; batch = 4; high = 8; stock = 4 }
+
 -- what the lines of a script name is there, in a boot of the script's sizes
 pub script_of_boot : (sizes booted : Config) (bytes : List ℕ) (parsed lines : List Line) → booted ≡ sizes → lines ≡ parsed
     → IsScript sizes bytes parsed → All (LineIsThere booted.frames booted.cpus) lines

@@ -12,4 +12,6 @@ mod rounds;
 #[cfg(test)]
 mod scripts;
 #[cfg(test)]
+mod storms;
+#[cfg(test)]
 mod systems;
