@@ -1,5 +1,5 @@
 -- What crates above cite: the group over whose limit a charge would have gone is there.
-use Rattle.std.proofs.Common.{◌≡◌, ℕ, ◌^◌, true, subst}
+use Rattle.std.proofs.Common.{◌≡◌, ℕ, ◌^◌, true, subst, sym}
 use Rattle.std.specs.Prelude.{Err}
 use Rattle.frame_word.specs.Seats.{KnownTable}
 use Rattle.group_tree.specs.Groups.{has_group}
@@ -9,7 +9,7 @@ use Rattle.zone_sizes.specs.declared.config.Config.{Config}
 use Rattle.step_rules.specs.After.{Run}
 use Rattle.mem_machine.specs.Machines.{KnownMachine}
 use Rattle.mem_alloc.specs.declared.faults.AllocFault.TheVariants.{Over}
-use Rattle.mem_alloc.specs.Room.{IsOverAt}
+use Rattle.mem_alloc.specs.Room.{IsRefusedFor}
 use Rattle.mem_alloc.specs.Frames.{AllocatesFrame}
 use Rattle.mem_alloc.specs.Blocks.{AllocatesBlock}
 use Rattle.mem_alloc.proofs.Lowering.{lowered_there}
@@ -17,22 +17,19 @@ use Rattle.mem_alloc.proofs.Filling.{refused_lowers}
 use Rattle.mem_machine.specs.Local.{side}
 use Rattle.mem_alloc.specs.Stepping.{course}
 
-over_there : (t : KnownTable) (g pages over : ℕ) (m n : KnownMachine) (steps : Run) → IsOverAt g pages over (course t m steps n) → has_group n.ledger.groups over ≡ true
+over_there : (t : KnownTable) (g pages over : ℕ) (m n : KnownMachine) (steps : Run) → IsRefusedFor g pages (Over over) (course t m steps n) → has_group n.ledger.groups over ≡ true
 over_there t g pages over m n steps h =
-    lowered_there t h.cleared n over (refused_lowers t g pages over h.cleared n h.last h.refused)
-    (in_subtree-above h.cleared.ledger.groups over g h.refused.lowest.on_path)
+    subst (λ (o : ℕ). has_group n.ledger.groups o ≡ true) (sym h.is_cause.0)
+    (lowered_there t h.cleared n h.over (refused_lowers t g pages h.over h.cleared n h.last h.refused)
+    (in_subtree-above h.cleared.ledger.groups h.over g h.refused.lowest.on_path))
 
 -- after a frame was refused
 pub frame_over_there : (t : KnownTable) (sizes : Config) (g over : ℕ) (m n : KnownMachine) (c d : KnownCpu) (steps : Run)
     → AllocatesFrame sizes g (Err (Over over)) (course t (side m c) steps (side n d)) → has_group n.ledger.groups over ≡ true
 frame_over_there t sizes g over m n c d steps h =
-    let last = h.refuses.refuses.refuses in
-    let named = last.named in
-    let same : last.over ≡ over = cc in
-    subst (λ (o : ℕ). has_group n.ledger.groups o ≡ true) same
-    (over_there t g 1 last.over h.refuses.emptied n h.refuses.refuses.later last.refuses)
+    over_there t g 1 over h.refuses.emptied n h.refuses.refuses.later h.refuses.refuses.refuses.refuses
 
 -- after a block was refused
 pub block_over_there : (t : KnownTable) (g k over : ℕ) (m n : KnownMachine) (c d : KnownCpu) (steps : Run)
     → AllocatesBlock g k (Err (Over over)) (course t (side m c) steps (side n d)) → has_group n.ledger.groups over ≡ true
-block_over_there t g k over m n c d steps h = over_there t g (2 ^ k) over m n steps h.1.refuses
+block_over_there t g k over m n c d steps h = over_there t g (2 ^ k) over m n steps h.refuses

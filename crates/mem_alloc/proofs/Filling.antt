@@ -24,15 +24,16 @@ use Rattle.mem_machine.specs.Steps.{drain_steps, fill_steps, over_steps, refill_
 use Rattle.mem_machine.proofs.Prepaying.{filled_account, filled_at}
 use Rattle.mem_machine.proofs.Reaching.{run_both}
 use Rattle.mem_alloc.specs.declared.faults.AllocFault.{AllocFault}
-use Rattle.mem_alloc.specs.declared.faults.AllocFault.TheVariants.{Over, NoFrames}
+use Rattle.mem_alloc.specs.declared.faults.AllocFault.TheVariants.{Over, NoFrames, Killed}
 use Rattle.mem_alloc.specs.Stepping.{BySteps, course}
-use Rattle.mem_alloc.specs.Room.{IsRefusedAt, MakesRoom, IsOverAt}
-use Rattle.mem_alloc.specs.Charging.{FillsAfterRoom, IsOverForOne, ChargesFrame, RefusesFrame, DrainsOwn, PaysForFrame}
+use Rattle.mem_alloc.specs.Room.{IsRefusedAt, IsRefusedFor, MakesRoom}
+use Rattle.mem_alloc.specs.Charging.{FillsAfterRoom, RefusesOne, ChargesFrame, RefusesFrame, DrainsOwn, PaysForFrame}
 use Rattle.mem_alloc.specs.Charging.{RefusesToPay}
 use Rattle.mem_alloc.specs.Rounds.{FailsInRounds}
 use Rattle.mem_alloc.specs.Frames.{FillsList, HasNoFrame, GetsFrame, AllocatesFrame}
 use Rattle.mem_alloc.specs.Frames.{LendsBatch, LendsNoFrame, ReclaimsForList, RefillsInRounds}
-use Rattle.mem_alloc.proofs.Lowering.{Lowers, lowers_none, lowers_both, drain_lowers, relieves_lower}
+use Rattle.mem_alloc.proofs.Lowering.{Lowers, lowers_none, lowers_both, drain_lowers}
+use Rattle.mem_alloc.proofs.Killing.{relieves_lower}
 use Rattle.mem_alloc.proofs.Rounding.{Spares, FailureSpares, InTheEnd, spares_same, fails_spare, in_the_end}
 
 -- ---- what is kept
@@ -73,16 +74,16 @@ fills_keep g k m n c d f = record {
 }
 
 pub refused_lowers : (t : KnownTable) (g pages over : ℕ) (m n : KnownMachine) (steps : Run) → IsRefusedAt g pages over (course t m steps n) → Lowers t m n
-refused_lowers t g pages over m n steps r = relieves_lower t over pages m n r.relieving r.relieves
+refused_lowers t g pages over m n steps r = relieves_lower t g over pages m n r.relieving r.relieves
 
 pub makes_lower : (t : KnownTable) (g pages : ℕ) (before : List ℕ) (m n : KnownMachine) (steps : Run) → MakesRoom g pages before (course t m steps n) → Lowers t m n
 makes_lower t g pages [] m n steps h = subst (λ (x : KnownMachine). Lowers t m x) (sym h.0) (lowers_none t m)
 makes_lower t g pages (over ∷ later) m n steps h =
     lowers_both t m h.0 n (refused_lowers t g pages over m h.0 h.1 h.3) (makes_lower t g pages later h.0 n h.2 h.5)
 
-pub over_lowers : (t : KnownTable) (g pages over : ℕ) (m n : KnownMachine) (steps : Run) → IsOverAt g pages over (course t m steps n) → Lowers t m n
-over_lowers t g pages over m n steps h =
-    lowers_both t m h.cleared n (makes_lower t g pages h.refused_at m h.cleared h.making h.makes) (refused_lowers t g pages over h.cleared n h.last h.refused)
+pub over_lowers : (t : KnownTable) (g pages : ℕ) (cause : AllocFault) (m n : KnownMachine) (steps : Run) → IsRefusedFor g pages cause (course t m steps n) → Lowers t m n
+over_lowers t g pages cause m n steps h =
+    lowers_both t m h.cleared n (makes_lower t g pages h.refused_at m h.cleared h.making h.makes) (refused_lowers t g pages h.over h.cleared n h.last h.refused)
 
 after_room_keeps : (t : KnownTable) (g k : ℕ) (m n : KnownMachine) (c d : KnownCpu) (steps : Run) → FillsAfterRoom g k (course t (side m c) steps (side n d)) → KeepsPart m c n d
 after_room_keeps t g k m n c d steps h =
@@ -107,7 +108,7 @@ pub refuses_keep : (t : KnownTable) (sizes : Config) (g : ℕ) (cause : AllocFau
 refuses_keep t sizes g cause m n c d steps h =
     let over = h.refuses.refuses in
     keeps_both m h.emptied n c c d (lowers_keep t m h.emptied c c (drain_lowers t m h.emptied c.number h.drains.back h.drains.drains) refl)
-    (lowers_keep t h.emptied n c d (over_lowers t g 1 over.over h.emptied n h.refuses.later over.refuses) over.cpu)
+    (lowers_keep t h.emptied n c d (over_lowers t g 1 cause h.emptied n h.refuses.later over.refuses) over.cpu)
 
 -- ---- the stock holds a page
 
@@ -193,10 +194,10 @@ module _ (t : KnownTable) (sizes : Config) (g over : ℕ) (m x n : KnownMachine)
         run_both c.number (over_steps g sizes.stock over) here.0 (local_of t m c) (local_of t m c) (local_of t n d) refused here.2,
       )
 
-  pub none_fits : (cause : AllocFault) → BySteps t (side x y) (side n d) (IsOverForOne g cause)
+  pub none_fits : (cause : AllocFault) → BySteps t (side x y) (side n d) (RefusesOne g cause)
       → BySteps t (side m c) (side n d) (RefusesFrame sizes g cause)
   none_fits cause b =
-      let here = subst (λ (z : KnownMachine × KnownCpu). BySteps t (side z.0 z.1) (side n d) (IsOverForOne g cause)) (λ i. (stays i, its i)) b in (
+      let here = subst (λ (z : KnownMachine × KnownCpu). BySteps t (side z.0 z.1) (side n d) (RefusesOne g cause)) (λ i. (stays i, its i)) b in (
         over_steps g sizes.stock over ++ here.0,
         record { over = over; batch = lowest; later = here.0; refuses = here.1; steps_are = refl },
         run_both c.number (over_steps g sizes.stock over) here.0 (local_of t m c) (local_of t m c) (local_of t n d) refused here.2,
@@ -442,17 +443,18 @@ answer_is (Err e) x not is = ap (λ (z : AllocFault). Err z) is
 
 module _ (t : KnownTable) (sizes : Config) (g : ℕ) (m : KnownMachine) (c : KnownCpu) (alive : is_killed m.killed g ≡ false) where
   -- a charge is refused for good
-  refused_at : (over : ℕ) (n : KnownMachine) (d : KnownCpu) → BySteps t (side m c) (side n d) (RefusesToPay sizes g (Over over))
-      → BySteps t (side m c) (side n d) (AllocatesFrame sizes g (Err (Over over)))
-  refused_at over n d b = (b.0, record { not_killed = alive; refuses = b.1 }, b.2)
+  refused_for : (x : AllocFault) (n : KnownMachine) (d : KnownCpu) → BySteps t (side m c) (side n d) (RefusesToPay sizes g x)
+      → BySteps t (side m c) (side n d) (AllocatesFrame sizes g (Err x))
+  refused_for (Over over) n d b = (b.0, record { not_killed = alive; refuses = b.1 }, b.2)
+  refused_for NoFrames n d b = absurd b.1.refuses.refuses.refuses.is_cause
+  refused_for Killed n d b = (b.0, inr (record { not_killed = alive; refuses = b.1 }), b.2)
 
   pub not_paid : (r : Result ℕ AllocFault) (x : AllocFault) (n : KnownMachine) (d : KnownCpu) → IsErr r → IfErr r (λ e. e ≡ x)
       → BySteps t (side m c) (side n d) (RefusesToPay sizes g x) → BySteps t (side m c) (side n d) (AllocatesFrame sizes g r)
   not_paid r x n d not is b =
-      let last = b.1.refuses.refuses in
       subst (λ (z : Result ℕ AllocFault). BySteps t (side m c) (side n d) (AllocatesFrame sizes g z))
-      (sym (answer_is r x not is ∙ ap (λ (e : AllocFault). Err e) last.named))
-      (refused_at last.over n d (subst (λ (e : AllocFault). BySteps t (side m c) (side n d) (RefusesToPay sizes g e)) last.named b))
+      (sym (answer_is r x not is))
+      (refused_for x n d b)
 
   module _ (k : KnownMachine) (y : KnownCpu) (number : y.number ≡ c.number) (pays : BySteps t (side m c) (side k y) (PaysForFrame sizes g)) where
     -- no frame is free

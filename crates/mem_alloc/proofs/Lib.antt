@@ -1,4 +1,5 @@
 pub mod Lowering
+pub mod Killing
 pub mod Making
 pub mod Filling
 pub mod Rounding

@@ -27,14 +27,14 @@ use Rattle.mem_machine.specs.Stocks.{Drains, DrainsBelow, DrainsAllBelow, stock_
 use Rattle.mem_machine.proofs.Draining.{groups_stay, drained_at, drained_else}
 use Rattle.mem_machine.proofs.Prepaying.{current_falls}
 use Rattle.mem_reclaim.specs.Staying.{Keeps}
-use Rattle.mem_alloc.specs.Stepping.{ByStepsOfAny, course}
-use Rattle.mem_alloc.specs.Room.{ClearsBelow, RelievesLimit, has_room_for, with_max_noted_at}
+use Rattle.mem_alloc.specs.Stepping.{course}
+use Rattle.mem_alloc.specs.Room.{ClearsBelow, has_room_for, with_max_noted_at}
 use Rattle.mem_machine.specs.Local.{side}
 
--- the groups, the killed ones and the visits stay, no usage is higher, and no stock is filled that wasn't
+-- the groups and the visits stay, who was killed stays killed, no usage is higher, and no stock is filled that wasn't
 pub record Lowers (t : KnownTable) (m n : KnownMachine) : Type 0 where
   pub groups : n.ledger.groups ≡ m.ledger.groups
-  pub killed : n.killed ≡ m.killed
+  pub killed : (v : ℕ) → is_killed m.killed v ≡ true → is_killed n.killed v ≡ true
   pub opened : n.seat.view.opened ≡ m.seat.view.opened
   pub visit : (c : KnownCpu) → Visits t (side m c) → Visits t (side n c)
   pub falls : (h : ℕ) → current_of n.ledger h ≤ current_of m.ledger h
@@ -51,7 +51,7 @@ same_visit t m n seat c v = record {
 pub lowers_none : (t : KnownTable) (m : KnownMachine) → Lowers t m m
 lowers_none t m = record {
   groups = refl;
-  killed = refl;
+  killed = λ v dead. dead;
   opened = refl;
   visit = λ c v. v;
   falls = λ h. omega arith;
@@ -61,7 +61,7 @@ lowers_none t m = record {
 pub lowers_both : (t : KnownTable) (m x n : KnownMachine) → Lowers t m x → Lowers t x n → Lowers t m n
 lowers_both t m x n a b = record {
   groups = b.groups ∙ a.groups;
-  killed = b.killed ∙ a.killed;
+  killed = λ v dead. b.killed v (a.killed v dead);
   opened = b.opened ∙ a.opened;
   visit = λ c v. b.visit c (a.visit c v);
   falls = λ h. let u = a.falls h in let v = b.falls h in omega (arith, u, v);
@@ -76,7 +76,7 @@ emptied_at view q k p is = elim (cases_eq p q) [
 
 pub drain_lowers : (t : KnownTable) (m n : KnownMachine) (q k : ℕ) → Drains m q k n → Lowers t m n
 drain_lowers t m n q k d = record {
-  killed = ap (λ (y : KnownMachine). y.killed) d.machine;
+  killed = λ v dead. ap (λ (y : KnownMachine). is_killed y.killed v) d.machine ∙ dead;
   opened = ap (λ (y : KnownMachine). y.seat.view.opened) d.machine;
   visit = same_visit t m n (ap (λ (y : KnownMachine). y.seat) d.machine);
   groups = ap (λ (y : KnownMachine). y.ledger.groups) d.machine ∙ groups_stay m.ledger (stock_group m q) k;
@@ -89,7 +89,7 @@ drain_lowers t m n q k d = record {
 
 look_lowers : (t : KnownTable) (m n : KnownMachine) (q : ℕ) (o : Option ℕ) → n ≡ record m { stock = with_view m.stock (after_look m.stock.view q o) } → Lowers t m n
 look_lowers t m n q None is = record {
-  killed = ap (λ (y : KnownMachine). y.killed) is;
+  killed = λ v dead. ap (λ (y : KnownMachine). is_killed y.killed v) is ∙ dead;
   opened = ap (λ (y : KnownMachine). y.seat.view.opened) is;
   visit = same_visit t m n (ap (λ (y : KnownMachine). y.seat) is);
   groups = ap (λ (y : KnownMachine). y.ledger.groups) is;
@@ -97,7 +97,7 @@ look_lowers t m n q None is = record {
   emptied = λ p e. ap (λ (y : KnownMachine). (account_of y.stock.view p).filled) is ∙ emptied_at m.stock.view q 0 p e;
 }
 look_lowers t m n q (Some g) is = record {
-  killed = ap (λ (y : KnownMachine). y.killed) is;
+  killed = λ v dead. ap (λ (y : KnownMachine). is_killed y.killed v) is ∙ dead;
   opened = ap (λ (y : KnownMachine). y.seat.view.opened) is;
   visit = same_visit t m n (ap (λ (y : KnownMachine). y.seat) is);
   groups = ap (λ (y : KnownMachine). y.ledger.groups) is;
@@ -121,7 +121,7 @@ usage_noted groups xs g m = sum-map_same (share groups m) (noted groups g) (λ a
 pub note_lowers : (t : KnownTable) (m : KnownMachine) (g : ℕ) → Lowers t m (with_max_noted_at m g)
 note_lowers t m g = record {
   groups = refl;
-  killed = refl;
+  killed = λ v dead. dead;
   opened = refl;
   visit = same_visit t m (with_max_noted_at m g) refl;
   falls = λ h.
@@ -138,20 +138,12 @@ clears_lower t g m n steps c =
 pub keeps_lower : (t : KnownTable) (m n : KnownMachine) → Keeps t m n → Lowers t m n
 keeps_lower t m n keeps = record {
   groups = keeps.groups;
-  killed = keeps.killed;
+  killed = λ v dead. ap (λ (k : List Bool). is_killed k v) keeps.killed ∙ dead;
   opened = keeps.opened;
   visit = keeps.visit;
   falls = keeps.usage;
   emptied = λ p is. ap (λ (s : Seated). (account_of s.view p).filled) keeps.stock ∙ is;
 }
-
-pub relieves_lower : (t : KnownTable) (g pages : ℕ) (m n : KnownMachine) (steps : Run) → RelievesLimit g pages (course t m steps n)
-    → Lowers t m n
-relieves_lower t g pages m n steps r =
-    lowers_both t m r.cleared n (clears_lower t g m r.cleared r.clearing r.clears) (keeps_lower t r.cleared n r.reclaims.keeps)
-
-pub relieving_lowers : (t : KnownTable) (g pages : ℕ) (m n : KnownMachine) → ByStepsOfAny t m n (RelievesLimit g pages) → Lowers t m n
-relieving_lowers t g pages m n b = relieves_lower t g pages m n b.0 b.1
 
 -- ---- what stays
 
@@ -160,9 +152,6 @@ lowered_visit t m n c d l cpu v = subst (λ (x : KnownCpu). Visits t (side n x))
 
 pub lowered_there : (t : KnownTable) (m n : KnownMachine) (g : ℕ) → Lowers t m n → has_group m.ledger.groups g ≡ true → has_group n.ledger.groups g ≡ true
 lowered_there t m n g l there = ap (λ (x : List Group). has_group x g) l.groups ∙ there
-
-pub lowered_alive : (t : KnownTable) (m n : KnownMachine) (g : ℕ) → Lowers t m n → is_killed m.killed g ≡ false → is_killed n.killed g ≡ false
-lowered_alive t m n g l alive = ap (λ (k : List Bool). is_killed k g) l.killed ∙ alive
 
 pub lowered_fits : (t : KnownTable) (m n : KnownMachine) (pages : ℕ) → Lowers t m n → HasRoomFor m pages → HasRoomFor n pages
 lowered_fits t m n pages l fits = let a = l.falls 0 in omega (arith, a, fits)
@@ -187,7 +176,7 @@ unfolding sum_to
 sum_le zero f g each = omega arith
 sum_le (suc n) f g each = let a = sum_le n f g each in let b = each n in omega (arith, a, b)
 
-sum_less : (n : ℕ) (f g : ℕ → ℕ) (k : ℕ) → k < n → ((i : ℕ) → f i ≤ g i) → f k < g k → sum_to n f < sum_to n g
+pub sum_less : (n : ℕ) (f g : ℕ → ℕ) (k : ℕ) → k < n → ((i : ℕ) → f i ≤ g i) → f k < g k → sum_to n f < sum_to n g
 unfolding sum_to
 sum_less zero f g k inside each less = absurd (omega (arith, inside))
 sum_less (suc n) f g k inside each less = elim (cases_eq k n) [

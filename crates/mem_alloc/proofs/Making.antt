@@ -1,5 +1,5 @@
 -- Tries that are refused, one after the other. Serves the loops of `fill_one` and `take_charged`.
-use Rattle.std.proofs.Common.{◌≡◌, ℕ, ◌+◌, ◌<◌, true, false, Option, Some, None, List, [], ◌∷◌, ◌++◌, refl, sym, ap, ◌∙◌, subst, arith}
+use Rattle.std.proofs.Common.{◌≡◌, ℕ, ◌+◌, ◌<◌, ◌≤◌, true, false, Option, Some, None, List, [], ◌∷◌, ◌++◌, refl, sym, ap, ◌∙◌, subst, arith}
 use Rattle.std.specs.Prelude.{Result, Ok, Err, IsErr, IfErr, IfOk, OnOk, MatchResult, nat_le}
 use Rattle.std.proofs.lemmas.Bool.{false≢true, leb-false}
 use Rattle.std.proofs.lemmas.List.{append_assoc, append-nil}
@@ -10,7 +10,7 @@ use Rattle.group_tree.specs.Room.{IsLowestOver, fits_limit}
 use Rattle.group_charge.specs.Charges.{current_of}
 use Rattle.cpu_part.specs.Cpus.{KnownCpu}
 use Rattle.step_rules.specs.After.{Run}
-use Rattle.mem_machine.specs.Machines.{KnownMachine}
+use Rattle.mem_machine.specs.Machines.{KnownMachine, is_killed}
 use Rattle.mem_machine.specs.Local.{IsLocalRun, MakesForAny, local_of, side}
 use Rattle.mem_machine.specs.Steps.{over_steps, note_max_steps, drain_stocks_steps, fill_steps}
 use Rattle.mem_machine.specs.Stocks.{Fills, DrainsSubtree, DrainsAllBelow, AreDrained}
@@ -20,12 +20,13 @@ use Rattle.mem_reclaim.specs.Moves.{Leads}
 use Rattle.mem_reclaim.specs.Rounds.{MakesRounds, pages_missing}
 use Rattle.mem_reclaim.specs.Staying.{Keeps, MissedAll}
 use Rattle.mem_reclaim.proofs.Keeping.{keeps_none}
-use Rattle.mem_alloc.specs.Room.{ClearsBelow, RoundsBefore, ReclaimsFor, RelievesLimit, IsRefusedAt, MakesRoom, IsOverAt}
-use Rattle.mem_alloc.specs.Room.{has_room_for, with_max_noted_at}
+use Rattle.mem_alloc.specs.Kills.{KillsFor, has_room_for}
+use Rattle.mem_alloc.specs.Room.{ClearsBelow, HasMadeRoom, IsCause, IsRefusedAt, IsRefusedFor, KillsForFew, MakesRoom, ReclaimsFor, RelievesLimit, RoundsBefore}
+use Rattle.mem_alloc.specs.Room.{with_max_noted_at}
 use Rattle.mem_alloc.specs.declared.faults.AllocFault.{AllocFault}
-use Rattle.mem_alloc.specs.declared.faults.AllocFault.TheVariants.{Over}
-use Rattle.mem_alloc.specs.Charging.{FillsAfterRoom, IsOverForOne}
-use Rattle.mem_alloc.proofs.Lowering.{Lowers, lowers_none, lowers_both, relieving_lowers}
+use Rattle.mem_alloc.specs.Charging.{FillsAfterRoom, RefusesOne}
+use Rattle.mem_alloc.proofs.Lowering.{Lowers, lowers_none, lowers_both}
+use Rattle.mem_alloc.proofs.Killing.{relieving_lowers}
 
 -- the note, and then the drains. Serves `make_room`
 pub clears_by : (t : KnownTable) (g pages : ℕ) (m x n : KnownMachine) → x ≡ with_max_noted_at m g → MakesForAny t m (note_max_steps g) x
@@ -42,13 +43,37 @@ clears_by t g pages m x n noted noting drains drained = (
       (drains.steps c),
 )
 
--- and then the rounds
-pub relieves_by : (t : KnownTable) (g pages : ℕ) (m x n : KnownMachine) → ByStepsOfAny t m x (ClearsBelow g) → ByStepsOfAny t x n (ReclaimsFor g pages)
-    → ByStepsOfAny t m n (RelievesLimit g pages)
-relieves_by t g pages m x n first last = (
-  first.0 ++ last.0,
-  record { cleared = x; clearing = first.0; reclaiming = last.0; clears = first.1; reclaims = last.1; steps_are = refl },
-  λ c. run_both c.number first.0 last.0 (local_of t m c) (local_of t x c) (local_of t n c) (first.2 c) (last.2 c),
+-- and then the rounds, and the kills
+pub relieves_by : (t : KnownTable) (r g pages : ℕ) (m x y n : KnownMachine) → ByStepsOfAny t m x (ClearsBelow g) → ByStepsOfAny t x y (ReclaimsFor g pages)
+    → ByStepsOfAny t y n (KillsForFew r g pages) → ByStepsOfAny t m n (RelievesLimit r g pages)
+relieves_by t r g pages m x y n first next last = (
+  first.0 ++ (next.0 ++ last.0),
+  record {
+    cleared = x;
+    reclaimed = y;
+    clearing = first.0;
+    reclaiming = next.0;
+    killing = last.0;
+    clears = first.1;
+    reclaims = next.1;
+    kills = last.1;
+    steps_are = refl;
+  },
+  λ c. run_both c.number first.0 (next.0 ++ last.0) (local_of t m c) (local_of t x c) (local_of t n c) (first.2 c)
+      (run_both c.number next.0 last.0 (local_of t x c) (local_of t y c) (local_of t n c) (next.2 c) (last.2 c)),
+)
+
+-- victims are killed for few pages
+pub kills_few : (t : KnownTable) (r g pages : ℕ) (m n : KnownMachine) → pages ≤ 8 → ByStepsOfAny t m n (KillsFor (Some r) g pages)
+    → ByStepsOfAny t m n (KillsForFew r g pages)
+kills_few t r g pages m n few b = (b.0, record { few = λ _. b.1; many = λ many. absurd (omega (arith, few, many)) }, b.2)
+
+-- and nobody for more
+pub kills_nobody : (t : KnownTable) (r g pages : ℕ) (m : KnownMachine) → 8 < pages → ByStepsOfAny t m m (KillsForFew r g pages)
+kills_nobody t r g pages m many = (
+  [],
+  record { few = λ few. absurd (omega (arith, few, many)); many = λ _. record { machine = refl; steps_are = refl } },
+  λ c. refl,
 )
 
 -- there is no limit
@@ -59,6 +84,7 @@ no_rounds t g pages m none = (
     rounds = subst (λ (o : Option ℕ). RoundsBefore o g pages (course t m [] m)) (sym none) (refl, refl);
     missed = λ over. absurd (false≢true (sym over ∙ ap (λ (o : Option ℕ). fits_limit o (current_of m.ledger g + pages)) none));
     keeps = keeps_none t m;
+    none_killed = record { quiet = refl; misses = λ f. omega arith };
   },
   λ c. refl,
 )
@@ -77,13 +103,14 @@ rounds_for t g pages limit given m n is leads keeps missed = (
         sym (ap (λ (o : Option ℕ). fits_limit o (current_of n.ledger g + pages)) here) ∙ over in
         missed (let ne = leb-false (current_of n.ledger g + pages) limit full in omega (arith, ne));
     keeps = keeps;
+    none_killed = record { quiet = leads.moves.quiet; misses = leads.moves.misses };
   },
   leads.moves.runs,
 )
 
 -- tries that were refused, and then one more
 room_more : (t : KnownTable) (g pages over : ℕ) (before : List ℕ) (m x n : KnownMachine) (making last : Run) → MakesRoom g pages before (course t m making x)
-    → IsRefusedAt g pages over (course t x last n) → has_room_for n.ledger over pages ≡ true → MakesRoom g pages (before ++ over ∷ []) (course t m (making ++ last) n)
+    → IsRefusedAt g pages over (course t x last n) → HasMadeRoom g pages over n → MakesRoom g pages (before ++ over ∷ []) (course t m (making ++ last) n)
 room_more t g pages over [] m x n making last makes refused room = (
   n,
   last,
@@ -110,17 +137,25 @@ pub record RoomSoFar (t : KnownTable) (g pages : ℕ) (c : KnownCpu) (m n : Know
   pub makes : MakesRoom g pages refused_at (course t m making n)
   pub runs : IsLocalRun c.number (local_of t m c) making (local_of t n c)
   pub lowers : Lowers t m n
+  pub alive : is_killed n.killed g ≡ false
 
-pub so_far_none : (t : KnownTable) (g pages : ℕ) (c : KnownCpu) (m : KnownMachine) → RoomSoFar t g pages c m m
-so_far_none t g pages c m = record { refused_at = []; making = []; makes = (refl, refl); runs = refl; lowers = lowers_none t m }
+pub so_far_none : (t : KnownTable) (g pages : ℕ) (c : KnownCpu) (m : KnownMachine) → is_killed m.killed g ≡ false → RoomSoFar t g pages c m m
+so_far_none t g pages c m alive = record {
+  refused_at = [];
+  making = [];
+  makes = (refl, refl);
+  runs = refl;
+  lowers = lowers_none t m;
+  alive = alive;
+}
 
 module _ (t : KnownTable) (g pages : ℕ) (c : KnownCpu) (m x : KnownMachine) (so_far : RoomSoFar t g pages c m x) where
   -- one more try was refused, by its steps
   module _ (y z n : KnownMachine) (d : KnownCpu) (over : ℕ) (same : y ≡ x) (mine : d ≡ c)
       (low : IsLowestOver z.ledger.groups (current_of z.ledger) g pages over) (before_it : z ≡ x)
-      (refusing : IsLocalRun d.number (local_of t z d) (over_steps g pages over) (local_of t z d)) (relieves : ByStepsOfAny t y n (RelievesLimit over pages)) where
-    its : ByStepsOfAny t x n (RelievesLimit over pages)
-    its = subst (λ (k : KnownMachine). ByStepsOfAny t k n (RelievesLimit over pages)) same relieves
+      (refusing : IsLocalRun d.number (local_of t z d) (over_steps g pages over) (local_of t z d)) (relieves : ByStepsOfAny t y n (RelievesLimit g over pages)) where
+    its : ByStepsOfAny t x n (RelievesLimit g over pages)
+    its = subst (λ (k : KnownMachine). ByStepsOfAny t k n (RelievesLimit g over pages)) same relieves
 
     refused : IsRefusedAt g pages over (course t x (over_steps g pages over ++ its.0) n)
     refused = record {
@@ -141,35 +176,37 @@ module _ (t : KnownTable) (g pages : ℕ) (c : KnownCpu) (m x : KnownMachine) (s
         (its.2 c))
 
     -- and its group has room now
-    pub so_far_more : has_room_for n.ledger over pages ≡ true → RoomSoFar t g pages c m n
+    pub so_far_more : HasMadeRoom g pages over n → RoomSoFar t g pages c m n
     so_far_more room = record {
       refused_at = so_far.refused_at ++ over ∷ [];
       making = so_far.making ++ (over_steps g pages over ++ its.0);
       makes = room_more t g pages over so_far.refused_at m x n so_far.making
           (over_steps g pages over ++ its.0) so_far.makes refused room;
       runs = runs_on;
-      lowers = lowers_both t m x n so_far.lowers (relieving_lowers t over pages x n its);
+      lowers = lowers_both t m x n so_far.lowers (relieving_lowers t g over pages x n its);
+      alive = room.alive;
     }
 
-    -- or has none still
-    pub so_far_over : has_room_for n.ledger over pages ≡ false → BySteps t (side m c) (side n c) (OfMachine (IsOverAt g pages over))
-    so_far_over none = (
+    -- or it is refused for good
+    pub so_far_over : (cause : AllocFault) → IsCause g pages over cause n → BySteps t (side m c) (side n c) (OfMachine (IsRefusedFor g pages cause))
+    so_far_over cause is = (
       so_far.making ++ (over_steps g pages over ++ its.0),
       record {
+        over = over;
         refused_at = so_far.refused_at;
         cleared = x;
         making = so_far.making;
         last = over_steps g pages over ++ its.0;
         makes = so_far.makes;
         refused = refused;
-        still = none;
+        is_cause = is;
         steps_are = refl;
       },
       runs_on,
     )
 
     pub lowers_here : Lowers t x n
-    lowers_here = relieving_lowers t over pages x n its
+    lowers_here = relieving_lowers t g over pages x n its
 
   -- the pages are granted, and fill the stock
   pub so_far_fills : (y : KnownCpu) → y ≡ c → (n : KnownMachine) (d : KnownCpu) → Fills g pages (side x y) (side n d)
@@ -196,11 +233,11 @@ refused_with (Ok v) x P Q not is q = absurd (false≢true not)
 refused_with (Err e) x P Q is same q = q e same
 
 -- a refusal for good of a charge of one page
-pub over_for_one : (t : KnownTable) (g over : ℕ) (cause : AllocFault) (m : KnownMachine) (c : KnownCpu) (n : KnownMachine) (d : KnownCpu) → cause ≡ Over over
-    → d ≡ c → BySteps t (side m c) (side n c) (OfMachine (IsOverAt g 1 over)) → BySteps t (side m c) (side n d) (IsOverForOne g cause)
-over_for_one t g over cause m c n d named cpu b = (
+pub refuses_one : (t : KnownTable) (g : ℕ) (cause : AllocFault) (m : KnownMachine) (c : KnownCpu) (n : KnownMachine) (d : KnownCpu)
+    → d ≡ c → BySteps t (side m c) (side n c) (OfMachine (IsRefusedFor g 1 cause)) → BySteps t (side m c) (side n d) (RefusesOne g cause)
+refuses_one t g cause m c n d cpu b = (
   b.0,
-  record { over = over; named = named; refuses = b.1; cpu = cpu },
+  record { refuses = b.1; cpu = cpu },
   subst (λ (k : KnownCpu). IsLocalRun c.number (local_of t m c) b.0 (local_of t n k)) (sym cpu) b.2,
 )
 

@@ -20,15 +20,17 @@ use Rattle.mem_alloc.proofs.Lowering.{Lowers, lowers_none, lowers_both, keeps_lo
 -- the machine as after a note, a drain or a reclaim, with the stocks as they were; and the processor's part stays
 pub record Spares (t : KnownTable) (m : KnownMachine) (c : KnownCpu) (n : KnownMachine) (d : KnownCpu) : Type 0 where
   pub lowers : Lowers t m n
+  pub killed : n.killed ≡ m.killed
   pub stock : n.stock ≡ m.stock
   pub cpu : d ≡ c
 
 pub spares_none : (t : KnownTable) (m : KnownMachine) (c : KnownCpu) → Spares t m c m c
-spares_none t m c = record { lowers = lowers_none t m; stock = refl; cpu = refl }
+spares_none t m c = record { lowers = lowers_none t m; killed = refl; stock = refl; cpu = refl }
 
 pub spares_both : (t : KnownTable) (m x n : KnownMachine) (c y d : KnownCpu) → Spares t m c x y → Spares t x y n d → Spares t m c n d
 spares_both t m x n c y d a b = record {
   lowers = lowers_both t m x n a.lowers b.lowers;
+  killed = b.killed ∙ a.killed;
   stock = b.stock ∙ a.stock;
   cpu = b.cpu ∙ a.cpu;
 }
@@ -36,12 +38,13 @@ spares_both t m x n c y d a b = record {
 pub spares_same : (t : KnownTable) (m n : KnownMachine) (c d : KnownCpu) → n ≡ m → d ≡ c → Spares t m c n d
 spares_same t m n c d machine cpu = record {
   lowers = subst (λ (x : KnownMachine). Lowers t m x) (sym machine) (lowers_none t m);
+  killed = ap (λ (x : KnownMachine). x.killed) machine;
   stock = ap (λ (x : KnownMachine). x.stock) machine;
   cpu = cpu;
 }
 
 spares_reclaim : (t : KnownTable) (m n : KnownMachine) (c : KnownCpu) → Keeps t m n → Spares t m c n c
-spares_reclaim t m n c keeps = record { lowers = keeps_lower t m n keeps; stock = keeps.stock; cpu = refl }
+spares_reclaim t m n c keeps = record { lowers = keeps_lower t m n keeps; killed = keeps.killed; stock = keeps.stock; cpu = refl }
 
 -- a try that fails keeps this
 abbrev pub FailureSpares : KnownTable → (Course Side → Type 0) → Type 0
@@ -153,6 +156,7 @@ module _ (t : KnownTable) (want : ℕ) (Fails : Course Side → Type 0) (Succeed
         reclaims = leads.does;
         missed = missed;
         keeps = keeps;
+        none_killed = leads.moves.quiet;
         tries = does;
         steps_are = refl;
       }

@@ -25,7 +25,7 @@ use Rattle.mem_machine.proofs.Reaching.{run_both}
 use Rattle.mem_alloc.specs.declared.faults.AllocFault.{AllocFault}
 use Rattle.mem_alloc.specs.declared.faults.AllocFault.TheVariants.{Over, NoFrames, Killed}
 use Rattle.mem_alloc.specs.Stepping.{BySteps, course, OfMachine}
-use Rattle.mem_alloc.specs.Room.{IsOverAt}
+use Rattle.mem_alloc.specs.Room.{IsCause, IsRefusedFor}
 use Rattle.mem_alloc.specs.Blocks.{TakesAfterRoom, FindsNoBlock, ChargesBlock, HasRoomStill, LeavesRoom, TakesAgain}
 use Rattle.mem_alloc.specs.Blocks.{TryTakes, TryFindsNone, TakesInRounds, TriesInRounds, TakesSecond, TriesAgain, AllocatesBlock}
 use Rattle.mem_alloc.proofs.Lowering.{Lowers, same_visit, lowered_fits, usage_back, room_back}
@@ -85,7 +85,7 @@ module _ (t : KnownTable) (g k : ℕ) (c : KnownCpu) (m x : KnownMachine) (so_fa
       let back : current_of n.ledger 0 ≡ current_of x.ledger 0 = ap (λ l. current_of l 0) ledger ∙ usage_back x.ledger g (2 ^ k) 0 in
       record {
         there = ap (λ (l : List Group). has_group l g) groups ∙ there;
-        killed = ap (λ (z : KnownMachine). z.killed) none.machine ∙ so_far.lowers.killed;
+        not_killed = ap (λ (z : KnownMachine). is_killed z.killed g) none.machine ∙ so_far.alive;
         fits = omega (arith, here, back);
         room = subst (λ l. PathHasRoom l.groups (current_of l) g (2 ^ k)) (sym ledger) (room_back x.ledger g (2 ^ k) none.room);
       }
@@ -97,26 +97,29 @@ module _ (t : KnownTable) (g k : ℕ) (c : KnownCpu) (m x : KnownMachine) (so_fa
   taken_opened head takes = ap (λ (z : KnownMachine). z.seat.view.opened) takes.machine ∙ so_far.lowers.opened
 
 -- a charge is refused for good
-pub over_charges : (t : KnownTable) (g k over : ℕ) (r : Result ℕ AllocFault) (x : AllocFault) (m n : KnownMachine) (c d : KnownCpu) → IsErr r
-    → IfErr r (λ e. e ≡ x) → x ≡ Over over → d ≡ c → BySteps t (side m c) (side n c) (OfMachine (IsOverAt g (2 ^ k) over))
+charges_refused : (t : KnownTable) (g k : ℕ) (e : AllocFault) (m n : KnownMachine) (c d : KnownCpu)
+    → BySteps t (side m c) (side n d) (OfMachine (IsRefusedFor g (2 ^ k) e)) → BySteps t (side m c) (side n d) (OfMachine (ChargesBlock g k (Err e)))
+charges_refused t g k (Over over) m n c d b = b
+charges_refused t g k NoFrames m n c d b = absurd b.1.is_cause
+charges_refused t g k Killed m n c d b = b
+
+pub over_charges : (t : KnownTable) (g k : ℕ) (r : Result ℕ AllocFault) (x : AllocFault) (m n : KnownMachine) (c d : KnownCpu) → IsErr r
+    → IfErr r (λ e. e ≡ x) → d ≡ c → BySteps t (side m c) (side n c) (OfMachine (IsRefusedFor g (2 ^ k) x))
     → BySteps t (side m c) (side n d) (OfMachine (ChargesBlock g k r))
-over_charges t g k over (Ok h) x m n c d not is named cpu b = absurd (false≢true not)
-over_charges t g k over (Err (Over h)) x m n c d not is named cpu b =
-    let e : Over h ≡ Over over = is ∙ named in
-    let same : over ≡ h = cc in (
+over_charges t g k (Ok h) x m n c d not is cpu b = absurd (false≢true not)
+over_charges t g k (Err e) x m n c d not is cpu b =
+    charges_refused t g k e m n c d (
       b.0,
-      subst (λ (o : ℕ). IsOverAt g (2 ^ k) o (course t m b.0 n)) same b.1,
+      subst (λ (z : AllocFault). IsRefusedFor g (2 ^ k) z (course t m b.0 n)) (sym is) b.1,
       subst (λ (e : KnownCpu). IsLocalRun c.number (local_of t m c) b.0 (local_of t n e)) (sym cpu) b.2,
     )
-over_charges t g k over (Err NoFrames) x m n c d not is named cpu b = let e = is ∙ named in cc
-over_charges t g k over (Err Killed) x m n c d not is named cpu b = let e = is ∙ named in cc
 
-pub over_leaves : (t : KnownTable) (g k over : ℕ) (r : Result ℕ AllocFault) (x : AllocFault) (m n : KnownMachine) → IsErr r → IfErr r (λ e. e ≡ x) → x ≡ Over over
-    → Lowers t m n → LeavesRoom g k r m n
-over_leaves t g k over (Ok h) x m n not is named l = absurd (false≢true not)
-over_leaves t g k over (Err e) x m n not is named l = record {
+pub over_leaves : (t : KnownTable) (g k over : ℕ) (r : Result ℕ AllocFault) (x : AllocFault) (m n : KnownMachine) → IsErr r → IfErr r (λ e. e ≡ x)
+    → IsCause g (2 ^ k) over x n → Lowers t m n → LeavesRoom g k r m n
+over_leaves t g k over (Ok h) x m n not is why l = absurd (false≢true not)
+over_leaves t g k over (Err e) x m n not is why l = record {
   opened = l.opened;
-  still = λ none. let other = is ∙ named in cc;
+  still = λ none. let same : e ≡ NoFrames = cc in absurd (subst (λ (z : AllocFault). IsCause g (2 ^ k) over z n) (sym is ∙ same) why);
 }
 
 -- ---- the list given back
@@ -172,7 +175,7 @@ pub none_spares : (t : KnownTable) (g k : ℕ) → FailureSpares t (TryFindsNone
 none_spares t g k m n c d steps h = record {
   lowers = record {
     groups = ap (λ (y : KnownMachine). y.ledger.groups) h.none.machine;
-    killed = ap (λ (y : KnownMachine). y.killed) h.none.machine;
+    killed = λ v dead. ap (λ (y : KnownMachine). is_killed y.killed v) h.none.machine ∙ dead;
     opened = ap (λ (y : KnownMachine). y.seat.view.opened) h.none.machine;
     visit = same_visit t m n (ap (λ (y : KnownMachine). y.seat) h.none.machine);
     falls = λ j.
@@ -181,14 +184,15 @@ none_spares t g k m n c d steps h = record {
         omega (arith, back);
     emptied = λ p is. ap (λ (y : KnownMachine). (account_of y.stock.view p).filled) h.none.machine ∙ is;
   };
+  killed = ap (λ (y : KnownMachine). y.killed) h.none.machine;
   stock = ap (λ (y : KnownMachine). y.stock) h.none.machine;
   cpu = h.cpu;
 }
 
 -- what one try that finds no block leaves
-pub none_leaves : (t : KnownTable) (g k : ℕ) (m n : KnownMachine) (c d : KnownCpu) → TakesNoBlock m g k n → has_group m.ledger.groups g ≡ true
+pub none_leaves : (t : KnownTable) (g k : ℕ) (m n : KnownMachine) (c d : KnownCpu) → TakesNoBlock m g k n → is_killed m.killed g ≡ false → has_group m.ledger.groups g ≡ true
     → HasRoomFor m (2 ^ k) → HasRoomStill g k m n
-none_leaves t g k m n c d none there fits = room_still t g k c m m (so_far_none t g (2 ^ k) c m) c refl n d none there fits
+none_leaves t g k m n c d none alive there fits = room_still t g k c m m (so_far_none t g (2 ^ k) c m alive) c refl n d none there fits
 
 -- rounds open and shut no visit
 taken_opens : (m n : KnownMachine) (g k head : ℕ) → TakesBlock m g k head n → n.seat.view.opened ≡ m.seat.view.opened

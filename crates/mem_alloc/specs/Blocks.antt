@@ -13,7 +13,7 @@ use Rattle.mem_machine.specs.Steps.{drain_list_steps}
 use Rattle.mem_alloc.specs.declared.faults.AllocFault.{AllocFault}
 use Rattle.mem_alloc.specs.declared.faults.AllocFault.TheVariants.{Over, NoFrames, Killed}
 use Rattle.mem_alloc.specs.Stepping.{Course, course, of_machine}
-use Rattle.mem_alloc.specs.Room.{MakesRoom, IsOverAt}
+use Rattle.mem_alloc.specs.Room.{MakesRoom, IsRefusedFor}
 use Rattle.mem_alloc.specs.Rounds.{FailsInRounds, SucceedsInRounds}
 use Rattle.mem_alloc.specs.Frames.{RefusesKilled}
 
@@ -39,14 +39,14 @@ pub record FindsNoBlock (group order : ℕ) (way : Course KnownMachine) : Type 0
 -- the block is charged and taken, or the charge is refused for good, or no block is free
 abbrev pub ChargesBlock : ℕ → ℕ → Result ℕ AllocFault → Course KnownMachine → Type 0
 ChargesBlock g k (Ok head) way = TakesAfterRoom g k head way
-ChargesBlock g k (Err (Over over)) way = IsOverAt g (2 ^ k) over way
+ChargesBlock g k (Err (Over over)) way = IsRefusedFor g (2 ^ k) (Over over) way
 ChargesBlock g k (Err NoFrames) way = FindsNoBlock g k way
-ChargesBlock g k (Err Killed) way = ⊥
+ChargesBlock g k (Err Killed) way = IsRefusedFor g (2 ^ k) Killed way
 
--- what a call for which no block is free leaves: the group as it was, and room for the block
+-- what a call for which no block is free leaves: the group, which isn't killed, and room for the block
 pub record HasRoomStill (group order : ℕ) (before after : KnownMachine) : Type 0 where
   pub there : IsTrue (has_group after.ledger.groups group)
-  pub killed : after.killed ≡ before.killed
+  pub not_killed : is_killed after.killed group ≡ false
   pub fits : HasRoomFor after (2 ^ order)
   pub room : PathHasRoom after.ledger.groups (current_of after.ledger) group (2 ^ order)
 
@@ -110,17 +110,17 @@ pub record TriesAgain (group order : ℕ) (answer : Result ℕ AllocFault) (way 
   pub again : TakesAgain group order answer (course way.table (side charged way.before.cpu) later way.after)
   pub steps_are : way.steps ≡ first ++ later
 
--- the charge of the block is refused for good, and the processor's part stays
-pub record IsNotCharged (group order over : ℕ) (way : Course Side) : Type 0 where
-  pub refuses : IsOverAt group (2 ^ order) over (of_machine way)
+-- the charge of the block is refused for good, for this cause, and the processor's part stays
+pub record IsNotCharged (group order : ℕ) (cause : AllocFault) (way : Course Side) : Type 0 where
+  pub not_killed : is_killed way.before.machine.killed group ≡ false
+  pub refuses : IsRefusedFor group (2 ^ order) cause (of_machine way)
   pub cpu : way.after.cpu ≡ way.before.cpu
 
 -- Allocates a block for the group, or tells why not
 abbrev pub AllocatesBlock : ℕ → ℕ → Result ℕ AllocFault → Course Side → Type 0
 AllocatesBlock g k (Ok head) way =
     (is_killed way.before.machine.killed g ≡ false) × (GetsAtOnce g k head way ⊎ TriesAgain g k (Ok head) way)
-AllocatesBlock g k (Err (Over over)) way =
-    (is_killed way.before.machine.killed g ≡ false) × IsNotCharged g k over way
+AllocatesBlock g k (Err (Over over)) way = IsNotCharged g k (Over over) way
 AllocatesBlock g k (Err NoFrames) way =
     (is_killed way.before.machine.killed g ≡ false) × TriesAgain g k (Err NoFrames) way
-AllocatesBlock g k (Err Killed) way = RefusesKilled g way
+AllocatesBlock g k (Err Killed) way = RefusesKilled g way ⊎ IsNotCharged g k Killed way

@@ -10,9 +10,8 @@ use Rattle.mem_machine.specs.Steps.{drain_steps, fill_steps, over_steps}
 use Rattle.mem_machine.specs.Paying.{HoldsPage}
 use Rattle.mem_machine.specs.Local.{Side, side}
 use Rattle.mem_alloc.specs.declared.faults.AllocFault.{AllocFault}
-use Rattle.mem_alloc.specs.declared.faults.AllocFault.TheVariants.{Over}
 use Rattle.mem_alloc.specs.Stepping.{Course, course, of_machine}
-use Rattle.mem_alloc.specs.Room.{MakesRoom, IsOverAt}
+use Rattle.mem_alloc.specs.Room.{MakesRoom, IsRefusedFor}
 
 -- the charge may be refused first, at the groups `refused_at`, which have room then; after that so many pages are
 -- charged to the group and fill the processor's stock
@@ -24,11 +23,9 @@ pub record FillsAfterRoom (group pages : ℕ) (way : Course Side) : Type 0 where
   pub fills : Fills group pages (side cleared way.before.cpu) way.after
   pub steps_are : way.steps ≡ making ++ fill_steps way.before.cpu.number group pages
 
--- the charge of one page is refused for good, at the group that the cause names
-pub record IsOverForOne (group : ℕ) (cause : AllocFault) (way : Course Side) : Type 0 where
-  pub over : ℕ
-  pub named : cause ≡ Over over
-  pub refuses : IsOverAt group 1 over (of_machine way)
+-- the charge of one page is refused for good, for this cause
+pub record RefusesOne (group : ℕ) (cause : AllocFault) (way : Course Side) : Type 0 where
+  pub refuses : IsRefusedFor group 1 cause (of_machine way)
   pub cpu : way.after.cpu ≡ way.before.cpu
 
 -- the stock is filled at once with all the pages that it takes
@@ -55,7 +52,7 @@ pub record RefusesFrame (sizes : Config) (group : ℕ) (cause : AllocFault) (way
   pub batch : IsLowestOver way.before.machine.ledger.groups (current_of way.before.machine.ledger) group
       sizes.stock over
   pub later : Run
-  pub refuses : IsOverForOne group cause (course way.table way.before later way.after)
+  pub refuses : RefusesOne group cause (course way.table way.before later way.after)
   pub steps_are : way.steps ≡ over_steps group sizes.stock over ++ later
 
 -- the processor's stock holds no page of the group: it is drained, of `back` pages, which go back to their group

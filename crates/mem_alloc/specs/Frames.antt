@@ -100,7 +100,7 @@ pub record FindsNoFrame (sizes : Config) (group : ℕ) (way : Course Side) : Typ
   pub none : HasNoFrame NoFrames (course way.table paid draining way.after)
   pub steps_are : way.steps ≡ paying ++ draining
 
--- the group is killed, and nothing changed
+-- the group was killed before, and nothing changed
 pub record RefusesKilled (group : ℕ) (way : Course Side) : Type 0 where
   pub killed : is_killed way.before.machine.killed group ≡ true
   pub stays : Stays way
@@ -110,4 +110,4 @@ abbrev pub AllocatesFrame : Config → ℕ → Result ℕ AllocFault → Course 
 AllocatesFrame sizes g (Ok f) way = GetsFrame sizes g f way
 AllocatesFrame sizes g (Err (Over h)) way = IsNotPaid sizes g (Over h) way
 AllocatesFrame sizes g (Err NoFrames) way = FindsNoFrame sizes g way
-AllocatesFrame sizes g (Err Killed) way = RefusesKilled g way
+AllocatesFrame sizes g (Err Killed) way = RefusesKilled g way ⊎ IsNotPaid sizes g Killed way

@@ -1,19 +1,21 @@
 -- What becomes of the machine where a limit has no room for a charge.
-use Rattle.std.specs.Prelude.{◌≡◌, ℕ, Bool, true, false, Option, Some, None, List, [], ◌∷◌, ◌++◌}
+use Rattle.std.specs.Prelude.{◌≡◌, ℕ, ◌+◌, ◌<◌, ◌≤◌, true, false, Option, Some, None, List, [], ◌∷◌, ◌++◌}
+use Rattle.frame_word.specs.Seats.{misses_of}
 use Rattle.group_tree.specs.Groups.{limit_of}
-use Rattle.group_tree.specs.Room.{has_room, IsLowestOver}
-use Rattle.group_charge.specs.Charges.{Ledger, current_of, with_max_noted}
+use Rattle.group_tree.specs.Room.{IsLowestOver}
+use Rattle.group_charge.specs.Charges.{current_of, with_max_noted}
 use Rattle.step_rules.specs.After.{Run}
-use Rattle.mem_machine.specs.Machines.{KnownMachine}
+use Rattle.mem_machine.specs.Machines.{KnownMachine, is_killed}
 use Rattle.mem_machine.specs.Steps.{Drain, over_steps, note_max_steps, drain_stocks_steps}
 use Rattle.mem_machine.specs.Stocks.{DrainsAllBelow, AreDrained}
+use Rattle.mem_reclaim.specs.Moves.{has_kill, missed_in}
 use Rattle.mem_reclaim.specs.Rounds.{MakesRounds, pages_missing}
 use Rattle.mem_reclaim.specs.Staying.{Keeps, MissedAll}
-use Rattle.mem_alloc.specs.Stepping.{Course, course}
-
--- whether the limit of the group has room for so many pages more
-abbrev pub has_room_for : Ledger → ℕ → ℕ → Bool
-has_room_for ledger g pages = has_room ledger.groups (current_of ledger) g pages
+use Rattle.mem_alloc.specs.declared.faults.AllocFault.{AllocFault}
+use Rattle.mem_alloc.specs.declared.faults.AllocFault.TheVariants.{Over, NoFrames, Killed}
+use Rattle.mem_alloc.specs.Stepping.{Course, course, Rests}
+-- what is killed, and whether there is room
+pub use Rattle.mem_alloc.specs.Kills.{KillsFor, has_room_for}
 
 -- the machine after it was noted that the group's usage was about to go over its limit
 abbrev pub with_max_noted_at : KnownMachine → ℕ → KnownMachine
@@ -33,47 +35,81 @@ RoundsBefore None g pages way = (way.after ≡ way.before) × (way.steps ≡ [])
 RoundsBefore (Some limit) g pages way =
     (given : ℕ) × MakesRounds g (pages_missing g pages limit) 16 given way.before way.steps way.after
 
+-- no step is a kill, and the misses that were noted of each frame are those among the steps
+pub record KillsNone (way : Course KnownMachine) : Type 0 where
+  pub quiet : has_kill way.steps ≡ false
+  pub misses : (f : ℕ) → misses_of way.after.seat f ≡ misses_of way.before.seat f + missed_in f way.steps
+
 -- Clean units of the group's subtree come back in rounds, until its limit has room for so many pages. Where it has none
 -- still, each clean unit that the subtree still keeps was tried, and missed
 pub record ReclaimsFor (group pages : ℕ) (way : Course KnownMachine) : Type 0 where
   pub rounds : RoundsBefore (limit_of way.before.ledger.groups group) group pages way
   pub missed : has_room_for way.after.ledger group pages ≡ false → MissedAll group way.before way.after
   pub keeps : Keeps way.table way.before way.after
+  pub none_killed : KillsNone way
+
+-- what is done where reclaim makes no room: victims are killed for up to 8 pages, an order of at most 3, and nobody for
+-- more
+pub record KillsForFew (requester group pages : ℕ) (way : Course KnownMachine) : Type 0 where
+  pub few : pages ≤ 8 → KillsFor (Some requester) group pages way
+  pub many : 8 < pages → Rests way
 
 -- The limit of the group had no room for so many pages: that is noted there as `max`, the stocks of its subtree are
--- drained, and then its units are reclaimed in rounds
-pub record RelievesLimit (group pages : ℕ) (way : Course KnownMachine) : Type 0 where
+-- drained, its units are reclaimed in rounds, and then its victims are killed
+pub record RelievesLimit (requester group pages : ℕ) (way : Course KnownMachine) : Type 0 where
   pub cleared : KnownMachine
+  pub reclaimed : KnownMachine
   pub clearing : Run
   pub reclaiming : Run
+  pub killing : Run
   pub clears : ClearsBelow group (course way.table way.before clearing cleared)
-  pub reclaims : ReclaimsFor group pages (course way.table cleared reclaiming way.after)
-  pub steps_are : way.steps ≡ clearing ++ reclaiming
+  pub reclaims : ReclaimsFor group pages (course way.table cleared reclaiming reclaimed)
+  pub kills : KillsForFew requester group pages (course way.table reclaimed killing way.after)
+  pub steps_are : way.steps ≡ clearing ++ (reclaiming ++ killing)
 
 -- A charge of so many pages to the group is refused at group `over`, the lowest of its path without room: that is noted
--- there as `max`, the stocks of its subtree are drained, and units of it are reclaimed in rounds
+-- there as `max`, the stocks of its subtree are drained, units of it are reclaimed in rounds, and victims of it killed
 pub record IsRefusedAt (group pages over : ℕ) (way : Course KnownMachine) : Type 0 where
   pub lowest : IsLowestOver way.before.ledger.groups (current_of way.before.ledger) group pages over
   pub relieving : Run
-  pub relieves : RelievesLimit over pages (course way.table way.before relieving way.after)
+  pub relieves : RelievesLimit group over pages (course way.table way.before relieving way.after)
   pub steps_are : way.steps ≡ over_steps group pages over ++ relieving
+
+-- the limit of group `over` has room for so many pages, and the group that asks for them isn't killed
+pub record HasMadeRoom (group pages over : ℕ) (after : KnownMachine) : Type 0 where
+  pub room : has_room_for after.ledger over pages ≡ true
+  pub alive : is_killed after.killed group ≡ false
 
 -- it is refused at each of these groups, one after the other, and each has room for the pages then
 abbrev pub MakesRoom : ℕ → ℕ → List ℕ → Course KnownMachine → Type 0
 MakesRoom g pages [] way = (way.after ≡ way.before) × (way.steps ≡ [])
 MakesRoom g pages (over ∷ later) way =
     (mid : KnownMachine) × (first rest : Run) × IsRefusedAt g pages over (course way.table way.before first mid)
-    × (has_room_for mid.ledger over pages ≡ true) × MakesRoom g pages later (course way.table mid rest way.after)
+    × HasMadeRoom g pages over mid × MakesRoom g pages later (course way.table mid rest way.after)
     × (way.steps ≡ first ++ rest)
 
--- It is refused for good at group `over`, which has no room for the pages after it was noted there, the stocks of its
--- subtree were drained and units of it were reclaimed. The groups `refused_at` refused it before, and have room since
-pub record IsOverAt (group pages over : ℕ) (way : Course KnownMachine) : Type 0 where
+-- group `over` has no room for the pages still, and the group that asks for them isn't killed
+pub record IsStillOver (group pages over : ℕ) (after : KnownMachine) : Type 0 where
+  pub still : has_room_for after.ledger over pages ≡ false
+  pub alive : is_killed after.killed group ≡ false
+
+-- why a charge is refused for good after it was refused at group `over`: that has no room for the pages still; or the
+-- group that asks for them was killed
+abbrev pub IsCause : ℕ → ℕ → ℕ → AllocFault → KnownMachine → Type 0
+IsCause g pages over (Over named) after = (named ≡ over) × IsStillOver g pages over after
+IsCause g pages over Killed after = is_killed after.killed g ≡ true
+IsCause g pages over NoFrames after = ⊥
+
+-- It is refused for good at group `over`, for this cause, after it was noted there, the stocks of its subtree were
+-- drained, units of it were reclaimed and victims of it killed. The groups `refused_at` refused it before, and have room
+-- since
+pub record IsRefusedFor (group pages : ℕ) (cause : AllocFault) (way : Course KnownMachine) : Type 0 where
+  pub over : ℕ
   pub refused_at : List ℕ
   pub cleared : KnownMachine
   pub making : Run
   pub last : Run
   pub makes : MakesRoom group pages refused_at (course way.table way.before making cleared)
   pub refused : IsRefusedAt group pages over (course way.table cleared last way.after)
-  pub still : has_room_for way.after.ledger over pages ≡ false
+  pub is_cause : IsCause group pages over cause way.after
   pub steps_are : way.steps ≡ making ++ last

@@ -1,8 +1,9 @@
 -- Rounds of reclaim from the units of all groups, each followed by one more try.
-use Rattle.std.specs.Prelude.{◌≡◌, ℕ, zero, suc, ◌<◌, ◌≤◌, ◌⊎◌, ◌++◌}
+use Rattle.std.specs.Prelude.{◌≡◌, ℕ, false, zero, suc, ◌<◌, ◌≤◌, ◌⊎◌, ◌++◌}
 use Rattle.step_rules.specs.After.{Run}
 use Rattle.mem_machine.specs.Machines.{KnownMachine}
 use Rattle.mem_machine.specs.Local.{Side, side}
+use Rattle.mem_reclaim.specs.Moves.{has_kill}
 use Rattle.mem_reclaim.specs.Passes.{Reclaims}
 use Rattle.mem_reclaim.specs.Staying.{Keeps, MissedAll}
 use Rattle.mem_alloc.specs.Stepping.{Course, course, Stays}
@@ -17,6 +18,7 @@ pub record MakesRound (want given : ℕ) (Tries : Course Side → Type 0) (way :
   pub reclaims : Reclaims 0 want given way.before.machine reclaiming reclaimed
   pub missed : given < want → MissedAll 0 way.before.machine reclaimed
   pub keeps : Keeps way.table way.before.machine reclaimed
+  pub none_killed : has_kill reclaiming ≡ false
   pub tries : Tries (course way.table (side reclaimed way.before.cpu) trying way.after)
   pub steps_are : way.steps ≡ reclaiming ++ trying
 

@@ -39,6 +39,11 @@ abbrev pub ByAnswer : {T E : Type 0} → KnownTable → Side → Side → Result
 ByAnswer t before after answer Does Refuses =
     MatchResult answer (λ done. BySteps t before after Does) (λ cause. BySteps t before after (Refuses cause))
 
+-- nothing of the machine changed, without a step
+pub record Rests (way : Course KnownMachine) : Type 0 where
+  pub machine : way.after ≡ way.before
+  pub steps_are : way.steps ≡ []
+
 -- nothing changed, without a step
 pub record Stays (way : Course Side) : Type 0 where
   pub machine : way.after.machine ≡ way.before.machine

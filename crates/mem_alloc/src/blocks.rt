@@ -44,7 +44,7 @@ fn take_charged<N: BootName>(
         match machine.take_block(tables, cpu, group, order) {
             Ok(head) => return Ok(head),
             Err(TakeFault::NoBlock) => return Err(AllocFault::NoFrames),
-            Err(TakeFault::Over(over)) => make_room(machine, tables, over.group, pages)?,
+            Err(TakeFault::Over(over)) => make_room(machine, tables, group, over.group, pages)?,
         }
     }
 }
@@ -115,9 +115,11 @@ fn take_again<N: BootName>(
 /// Allocates a block of this order for a group that is there, for the processor that is visited and was settled:
 /// 2^`order` pages are charged to the group, and the block is a kept unit of it at once, which goes by its head.
 ///
-/// `Killed`: the group is killed, and nothing changed. Else a limit that has no room for the pages is noted (`max`) at
+/// `Killed`: the group was killed before, and nothing changed. Else a limit that has no room for the pages is noted (`max`) at
 /// its group, the lowest of the path, the stocks of that group's subtree are drained, and where it has no room still,
-/// clean units of the subtree are reclaimed in at most 16 rounds. Where that makes no room, the answer is `Over`. Where
+/// clean units of the subtree are reclaimed in at most 16 rounds. Where that makes no room, `oom` is noted there for an
+/// order of at most 3, and victims of the subtree are killed until it has. Where none is left, or the order is greater, the
+/// answer is `Over`; where the group itself is killed, it is `Killed`. Where
 /// no block of the order or above is free, the processor's own list goes back to the zone, and the block is tried once
 /// more. Where there is none still, as many pages as it has are reclaimed from the units of all groups, and it is tried
 /// again: in at most 16 such rounds, of which one that gave no page is the last. `NoFrames`: there is none then; the

@@ -8,7 +8,7 @@ ghost use Rattle.mem_machine.specs.Machines.{Visits, is_killed};
 ghost use Rattle.mem_machine.specs.Paying.{HasRoomFor, HoldsPage, IsOfSize};
 ghost use Rattle.mem_alloc.specs.Stepping.{ByAnswer};
 ghost use Rattle.mem_alloc.specs.Charging.{FillsAfterRoom, ChargesFrame, PaysForFrame};
-ghost use Rattle.mem_alloc.specs.Charging.{IsOverForOne, RefusesFrame, RefusesToPay};
+ghost use Rattle.mem_alloc.specs.Charging.{RefusesOne, RefusesFrame, RefusesToPay};
 ghost use Rattle.mem_machine.specs.Local.{side};
 
 use crate::faults::AllocFault;
@@ -51,14 +51,14 @@ fn fill_one<N: BootName>(
     requires none_fresh { cpu.old.fresh ≡ [] }
     requires drained { (account_of machine.old.stock.view cpu.old.number).filled ≡ false }
     ensures fills { ByAnswer N.frames (side machine.old cpu.old) (side machine.new cpu.new) result
-        (FillsAfterRoom group 1) (IsOverForOne group) }
+        (FillsAfterRoom group 1) (RefusesOne group) }
     ensures visit { Visits N.frames (side machine.new cpu.new) }
 {
     'tries: loop {
         let Err(over) = machine.fill_stock(tables, cpu, group, 1) else {
             return Ok(());
         };
-        make_room(machine, tables, over.group, 1)?;
+        make_room(machine, tables, group, over.group, 1)?;
     }
 }
 

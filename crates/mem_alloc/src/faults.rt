@@ -6,10 +6,10 @@ use group_tree::group::GroupId;
 #[derive(Clone, Copy, Debug, PartialEq, Eq)]
 pub enum AllocFault {
     /// The limit of this group has no room for the pages, after the stocks of its subtree were drained and clean units
-    /// of it were reclaimed in rounds.
+    /// of it were reclaimed in rounds; for up to 8 pages also after its victims were killed.
     Over(GroupId),
     /// No sufficient free block is there, also after rounds of reclaim from all groups.
     NoFrames,
-    /// The group is killed.
+    /// The group was killed: before, or where a limit had no room for these pages.
     Killed,
 }

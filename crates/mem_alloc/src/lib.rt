@@ -9,9 +9,11 @@ mod blocks;
 mod charging;
 mod faults;
 mod frames;
+mod kills;
 mod room;
 mod rounds;
 
 pub use blocks::alloc_block;
 pub use faults::AllocFault;
 pub use frames::alloc_frame;
+pub use kills::kill_for;

@@ -16,7 +16,10 @@ use Rattle.mem_machine.proofs.Reaching.{run_both}
 use Rattle.mem_reclaim.specs.Moves.{Leads}
 use Rattle.mem_reclaim.specs.Rounds.{MakesRounds, pages_missing}
 use Rattle.mem_reclaim.specs.Staying.{Keeps, MissedAll}
+use Rattle.step_rules.specs.After.{Run}
+use Rattle.mem_alloc.specs.Kills.{KillsFor}
 use Rattle.mem_alloc.specs.Stepping.{ByStepsOfAny, course}
+use Rattle.mem_alloc.proofs.Killing.{kills_lower}
 use Rattle.mem_system.specs.Leaves.{IsLeafAt}
 use Rattle.mem_system.specs.Usage.{LowersUsage, LowersAbove, KeepsToLimit}
 use Rattle.mem_system.proofs.Found.{found_there}
@@ -76,21 +79,29 @@ pub lowered_groups : (t : KnownTable) (g limit : ℕ) (m n : KnownMachine) → B
     → n.ledger.groups ≡ m.ledger.groups
 lowered_groups t g limit m n b = b.1.keeps.groups ∙ (all_same g t.cpus m b.1.drained b.1.drains b.1.drains_all).groups
 
+usage_visit : (t : KnownTable) (g limit : ℕ) (m n : KnownMachine) (c : KnownCpu) (steps : Run) → LowersUsage g limit (course t m steps n)
+    → Visits t (side m c) → KeepsVisit t (side m c) (side n c)
+usage_visit t g limit m n c steps h v =
+    let x = h.drained in
+    let first = visit_keeps t m x c (all_same g t.cpus m x h.drains h.drains_all).seat v in
+    record { visit = h.keeps.visit c first.visit; opened = h.keeps.opened ∙ first.opened; number = refl; back = refl }
+
 pub lowered_visit : (t : KnownTable) (g limit : ℕ) (m n : KnownMachine) (c : KnownCpu)
     → ByStepsOfAny t m n (LowersUsage g limit) → Visits t (side m c)
     → KeepsVisit t (side m c) (side n c)
-lowered_visit t g limit m n c b v =
-    let x = b.1.drained in
-    let first = visit_keeps t m x c (all_same g t.cpus m x b.1.drains b.1.drains_all).seat v in
-    let opened = b.1.keeps.opened ∙ first.opened in
-    record { visit = b.1.keeps.visit c first.visit; opened = opened; number = refl; back = refl }
+lowered_visit t g limit m n c b v = usage_visit t g limit m n c b.0 b.1 v
 
 -- so it is where it is lowered only if it is above
 pub above_visit : (t : KnownTable) (g limit : ℕ) (m n : KnownMachine) (c : KnownCpu)
     → ByStepsOfAny t m n (LowersAbove g limit) → Visits t (side m c)
     → KeepsVisit t (side m c) (side n c)
 above_visit t g limit m n c b v = elim (cases_lt limit (current_of m.ledger g)) [
-  | inl over ↦ lowered_visit t g limit m n c (b.0, b.1.above over, b.2) v
+  | inl over ↦
+      let h = b.1.above over in
+      let x = h.lowered in
+      let first = usage_visit t g limit m x c h.lowering h.lowers v in
+      let kills = kills_lower None t g 0 x n h.killing h.kills in
+      record { visit = kills.visit c first.visit; opened = kills.opened ∙ first.opened; number = refl; back = refl }
   | inr within ↦ visit_keeps t m n c (ap (λ (k : KnownMachine). k.seat) (b.1.within (omega (arith, within))).0) v
 ]
 
@@ -119,13 +130,16 @@ lowered_by t g limit pages given m x n sub none leads missed keeps = (
 -- ---- a limit that is set
 
 -- the usage is above it
-pub lowered_above : (t : KnownTable) (g limit : ℕ) (m n : KnownMachine) → limit < current_of m.ledger g
-    → ByStepsOfAny t m n (LowersUsage g limit)
+pub lowered_above : (t : KnownTable) (g limit : ℕ) (m x n : KnownMachine) → limit < current_of m.ledger g
+    → ByStepsOfAny t m x (LowersUsage g limit) → ByStepsOfAny t x n (KillsFor None g 0)
     → ByStepsOfAny t m n (LowersAbove g limit)
-lowered_above t g limit m n over b = (
-  b.0,
-  record { above = λ more. b.1; within = λ (less : current_of m.ledger g ≤ limit). absurd (omega (arith, over, less)) },
-  b.2,
+lowered_above t g limit m x n over b k = (
+  b.0 ++ k.0,
+  record {
+    above = λ more. record { lowered = x; lowering = b.0; killing = k.0; lowers = b.1; kills = k.1; steps_are = refl };
+    within = λ (less : current_of m.ledger g ≤ limit). absurd (omega (arith, over, less));
+  },
+  λ c. run_both c.number b.0 k.0 (local_of t m c) (local_of t x c) (local_of t n c) (b.2 c) (k.2 c),
 )
 
 -- the usage is within it

@@ -1,13 +1,15 @@
 -- A group's usage brought down to a limit.
 use Rattle.std.specs.Prelude.{◌≡◌, ℕ, ◌<◌, ◌≤◌, Option, Some, None, List, [], ◌++◌}
 use Rattle.group_charge.specs.Charges.{current_of}
+use Rattle.step_rules.specs.After.{Run}
 use Rattle.mem_machine.specs.Machines.{KnownMachine}
 use Rattle.mem_machine.specs.Steps.{Drain, drain_stocks_steps}
 use Rattle.mem_machine.specs.Stocks.{DrainsAllBelow, AreDrained}
 use Rattle.mem_reclaim.specs.Moves.{Leads}
 use Rattle.mem_reclaim.specs.Rounds.{MakesRounds, pages_missing}
 use Rattle.mem_reclaim.specs.Staying.{Keeps, MissedAll}
-use Rattle.mem_alloc.specs.Stepping.{Course}
+use Rattle.mem_alloc.specs.Kills.{KillsFor}
+use Rattle.mem_alloc.specs.Stepping.{Course, course}
 
 -- The stocks of the group's subtree are drained, and then its units are reclaimed, in at most 16 rounds, as long as its
 -- usage is above the limit. Where it is above it even then, each clean unit that the subtree still keeps was tried, and
@@ -24,9 +26,19 @@ pub record LowersUsage (group limit : ℕ) (way : Course KnownMachine) : Type 0 
   pub keeps : Keeps way.table drained way.after
   pub steps_are : way.steps ≡ drain_stocks_steps drains ++ reclaims.steps
 
--- the group's usage is lowered to the limit where it is above it, and else nothing is done
+-- the group's usage is lowered to the limit; and where it is above the group's limit even then, victims of it are killed,
+-- for nobody that asks for pages
+pub record LowersByKills (group limit : ℕ) (way : Course KnownMachine) : Type 0 where
+  pub lowered : KnownMachine
+  pub lowering : Run
+  pub killing : Run
+  pub lowers : LowersUsage group limit (course way.table way.before lowering lowered)
+  pub kills : KillsFor None group 0 (course way.table lowered killing way.after)
+  pub steps_are : way.steps ≡ lowering ++ killing
+
+-- the group's usage is lowered to the limit where it is above it, also by kills, and else nothing is done
 pub record LowersAbove (group limit : ℕ) (way : Course KnownMachine) : Type 0 where
-  pub above : limit < current_of way.before.ledger group → LowersUsage group limit way
+  pub above : limit < current_of way.before.ledger group → LowersByKills group limit way
   pub within : current_of way.before.ledger group ≤ limit → (way.after ≡ way.before) × (way.steps ≡ [])
 
 -- the group's usage is kept to its limit, if it has one

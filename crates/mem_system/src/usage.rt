@@ -7,6 +7,7 @@ ghost use Rattle.mem_system.specs.Usage.{LowersAbove, LowersUsage};
 
 use cpu_part::{BootName, Tables};
 use group_tree::group::GroupId;
+use mem_alloc::kill_for;
 use mem_machine::Machine;
 use mem_reclaim::make_rounds;
 
@@ -25,7 +26,8 @@ pub(crate) fn lower_usage<N: BootName>(
     make_rounds(machine, tables, group, 0, limit);
 }
 
-// Brings the group's usage down to so many pages where it is above them, as far as that can be.
+// Brings the group's usage down to its limit, which is so many pages, where it is above it: as `lower_usage` does, and
+// where that isn't enough, by kills, until it is at most the limit or no victim is left.
 pub(crate) fn lower_above<N: BootName>(
     machine: &mut Machine<N>,
     tables: &Tables<N>,
@@ -37,5 +39,6 @@ pub(crate) fn lower_above<N: BootName>(
 {
     if limit < machine.current(group) {
         lower_usage(machine, tables, group, limit);
+        kill_for(machine, tables, None, group, 0);
     }
 }

@@ -164,6 +164,43 @@ pub fn reclaim_rows() -> [Row; 7] {
     ]
 }
 
+/// Kills: before a limit, where reclaim makes no room.
+pub fn kill_rows() -> [Row; 5] {
+    [
+        unaudited(
+            "the group that asks is the victim",
+            "replay",
+            "1 mkdir /a\n1 mkdir /a/b\n1 write /a memory.max 4096\n1 alloc /a/b 0\n1 settle\n2 get 0\n1 alloc /a/b 0\n1 read /a memory.events\n1 read /a/b memory.events\n1 read /a memory.current\n",
+            "group 1\ngroup 2\nok\nframe 0\nsettled\nheld\nrefused 18 Killed\nlow 0\nhigh 0\nmax 1\noom 1\noom_kill 1\nlow 0\nhigh 0\nmax 0\noom 0\noom_kill 1\n4096\n",
+        ),
+        unaudited(
+            "a pinned unit of a killed group comes back after its last put",
+            "replay",
+            "1 mkdir /a\n1 mkdir /a/b\n1 write /a memory.max 4096\n1 alloc /a/b 0\n1 settle\n2 get 0\n1 alloc /a/b 0\n2 put 0\n1 read /a memory.current\n2 settle\n1 read /a memory.current\n1 blocks\n",
+            "group 1\ngroup 2\nok\nframe 0\nsettled\nheld\nrefused 18 Killed\nlast\n4096\nsettled\n0\n0:0 2:4 3:8\n",
+        ),
+        unaudited(
+            "a limit that is written kills where nothing clean is left",
+            "replay --batch 1 --high 1 --stock 1",
+            "1 mkdir /a\n1 alloc /a 0\n1 alloc /a 0\n1 settle\n1 dirty 0\n1 dirty 1\n1 write /a memory.max 4096\n1 read /a memory.current\n1 read /a memory.events\n1 alloc /a 0\n",
+            "group 1\nframe 0\nframe 1\nsettled\nok\nok\nok\n0\nlow 0\nhigh 0\nmax 0\noom 1\noom_kill 1\nrefused 18 Killed\n",
+        ),
+        unaudited(
+            "victims are killed until the usage is at most the limit",
+            "replay --cpus 1 --batch 1 --high 1 --stock 1",
+            "1 mkdir /a\n1 mkdir /a/b\n1 mkdir /a/c\n1 alloc /a/b 0\n1 alloc /a/b 0\n1 alloc /a/c 0\n1 settle\n1 dirty 0\n1 dirty 1\n1 dirty 2\n1 write /a memory.max 0\n1 read /a memory.events\n1 read /a memory.current\n1 alloc /a 0\n1 read /a memory.events\n",
+            "group 1\ngroup 2\ngroup 3\nframe 0\nframe 1\nframe 2\nsettled\nok\nok\nok\nok\nlow 0\nhigh 0\nmax 0\noom 1\noom_kill 2\n0\nrefused 15 OverLimit /a\nlow 0\nhigh 0\nmax 1\noom 2\noom_kill 2\n",
+        ),
+        Row {
+            name: "a fresh frame of a killed group is dropped",
+            words: "replay --batch 1 --high 1 --stock 1 --audit",
+            script: "1 mkdir /a\n1 alloc /a 0\n1 settle\n1 dirty 0\n2 alloc /a 0\n1 write /a memory.max 4096\n1 read /a memory.current\n1 owner 1\n2 settle\n1 read /a memory.current\n1 blocks\n",
+            answers: "group 1\nframe 0\nsettled\nok\nframe 1\nok\n4096\ncpu 2\nsettled\n0\n4:0\n",
+            ending: "audit frames 16 free 16 charged 0\naudit puts 1 freezes 0 drops 1 returns 2\n",
+        },
+    ]
+}
+
 /// Processors: their lists, their stocks and their references.
 pub fn processor_rows() -> [Row; 12] {
     [

@@ -1,6 +1,6 @@
 //! Scripts over readers and writers in memory.
 
-use crate::rows::{Row, group_rows, processor_rows, reclaim_rows};
+use crate::rows::{Row, group_rows, kill_rows, processor_rows, reclaim_rows};
 use crate::streams::{PLAIN, broken, in_steps, is_refused, run, whole};
 use crate::visits::visit_all;
 use load_run::command_line::parse_words;
@@ -77,6 +77,22 @@ fn visits_answer_each_row_of_reclaim(rt: HostRuntime) -> Result<(), Fail> {
 #[test]
 fn answers_each_row_of_reclaim(rt: HostRuntime) -> Result<(), Fail> {
     for row in reclaim_rows().iter() {
+        answers(&rt, row)?;
+    }
+    Ok(())
+}
+
+#[test]
+fn visits_answer_each_row_of_kills(rt: HostRuntime) -> Result<(), Fail> {
+    for row in kill_rows().iter() {
+        visits_answer(&rt, row)?;
+    }
+    Ok(())
+}
+
+#[test]
+fn answers_each_row_of_kills(rt: HostRuntime) -> Result<(), Fail> {
+    for row in kill_rows().iter() {
         answers(&rt, row)?;
     }
     Ok(())

@@ -77,7 +77,7 @@ take_in_rounds-requires-clause-fits g c =
     let there = ap (λ l. has_group l.groups c.args.group) part.ledger ∙ c.requires.there in
     let fits = subst (λ l. current_of l 0 + 2 ^ c.args.order < 2 ^ 32) (sym part.ledger) c.requires.fits in
     (none_leaves g.N.BootName.frames c.args.group c.args.order c.drain_list.new.self c.take_block.new.self c.drain_list.new.cpu
-    c.take_block.new.cpu none there fits).fits
+    c.take_block.new.cpu none (ap (λ l. is_killed l c.args.group) part.killed ∙ c.requires.not_killed) there fits).fits
 
 pub take_in_rounds-requires-clause-room : goal.take_in_rounds-requires-clause-room
 take_in_rounds-requires-clause-room g c =
@@ -86,7 +86,7 @@ take_in_rounds-requires-clause-room g c =
     let there = ap (λ l. has_group l.groups c.args.group) part.ledger ∙ c.requires.there in
     let fits = subst (λ l. current_of l 0 + 2 ^ c.args.order < 2 ^ 32) (sym part.ledger) c.requires.fits in
     (none_leaves g.N.BootName.frames c.args.group c.args.order c.drain_list.new.self c.take_block.new.self c.drain_list.new.cpu
-    c.take_block.new.cpu none there fits).room
+    c.take_block.new.cpu none (ap (λ l. is_killed l c.args.group) part.killed ∙ c.requires.not_killed) there fits).room
 
 pub take_in_rounds-requires-clause-none_back : goal.take_in_rounds-requires-clause-none_back
 take_in_rounds-requires-clause-none_back g c =

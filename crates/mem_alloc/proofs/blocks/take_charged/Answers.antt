@@ -7,8 +7,9 @@ use Rattle.mem_machine.specs.Local.{IsLocalRun, local_of}
 use Rattle.mem_machine.specs.Steps.{over_steps}
 use Rattle.cpu_part.specs.Cpus.{KnownCpu}
 use Rattle.mem_alloc.specs.Stepping.{ByStepsOfAny}
-use Rattle.mem_alloc.specs.Room.{RelievesLimit, has_room_for}
-use Rattle.mem_alloc.proofs.Lowering.{Lowers, lowers_both, lowered_visit, relieving_lowers, usages_fall}
+use Rattle.mem_alloc.specs.Room.{HasMadeRoom, IsCause, RelievesLimit, has_room_for}
+use Rattle.mem_alloc.proofs.Lowering.{Lowers, lowers_both, lowered_visit, usages_fall}
+use Rattle.mem_alloc.proofs.Killing.{relieving_lowers}
 use Rattle.mem_alloc.proofs.Making.{so_far_more, so_far_over}
 use Rattle.mem_alloc.proofs.Taking.{is_refused, by_refusal, is_none, by_none, so_far_takes, so_far_no_block, room_still, none_opened, over_charges, over_leaves}
 use Rattle.mem_alloc.proofs.blocks.take_charged.Goals as goal
@@ -45,18 +46,18 @@ pub tries-smaller : goal.tries-smaller
 tries-smaller g c =
     let r = is_refused _ _ c.args.group c.args.order c.in-Err-Over.field-0 c.in-Err-Over.over c.in-Err-Over.field-0-is c.in-Err-Over.ensures.refuses in
     usages_fall g.N.BootName.frames c.tries.machine c.make_room.new.machine c.in-Err-Over.over.group (2 ^ c.args.order)
-    (relieving_lowers g.N.BootName.frames c.in-Err-Over.over.group c.frames-pages.result c.tries.machine c.make_room.new.machine
+    (relieving_lowers g.N.BootName.frames c.args.group c.in-Err-Over.over.group c.frames-pages.result c.tries.machine c.make_room.new.machine
     (subst (λ (y : KnownMachine). ByStepsOfAny g.N.BootName.frames y c.make_room.new.machine
-    (RelievesLimit c.in-Err-Over.over.group c.frames-pages.result)) r.1
+    (RelievesLimit c.args.group c.in-Err-Over.over.group c.frames-pages.result)) r.1
     c.make_room.ensures.clears)) c.make_room.ensures.fits r.0.over
     (subst (λ (n : ℕ). has_room_for c.make_room.new.machine.ledger c.in-Err-Over.over.group n ≡ true) c.frames-pages.ensures.frames
-    c.in_ok-make_room-in-Err-Over.ensures.room)
+    c.in_ok-make_room-in-Err-Over.ensures.room.room)
 
 pub tries-preserved : goal.tries-preserved
 tries-preserved g c =
     let t = g.N.BootName.frames in
     let clears = subst (λ (n : ℕ). ByStepsOfAny g.N.BootName.frames c.take_block.new.self c.make_room.new.machine
-    (RelievesLimit c.in-Err-Over.over.group n)) c.frames-pages.ensures.frames c.make_room.ensures.clears in
+    (RelievesLimit c.args.group c.in-Err-Over.over.group n)) c.frames-pages.ensures.frames c.make_room.ensures.clears in
     let r = is_refused _ _ c.args.group c.args.order c.in-Err-Over.field-0 c.in-Err-Over.over c.in-Err-Over.field-0-is c.in-Err-Over.ensures.refuses in
     let run = subst (λ (z : KnownMachine × KnownCpu). IsLocalRun c.tries.cpu.number (local_of t c.tries.machine c.tries.cpu)
     (over_steps c.args.group (2 ^ c.args.order) c.in-Err-Over.over.group) (local_of t z.0 z.1)) (λ i. (r.1 i, c.in-Err-Over.ensures.cpu i))
@@ -64,7 +65,7 @@ tries-preserved g c =
     c.in-Err-Over.ensures.steps) in (
       so_far_more t c.args.group (2 ^ c.args.order) c.args.cpu.now c.args.machine.now c.tries.machine c.tries.invariant.0 c.take_block.new.self c.tries.machine
           c.make_room.new.machine c.tries.cpu c.in-Err-Over.over.group r.1 c.tries.invariant.1 r.0 refl run clears
-          (subst (λ (n : ℕ). has_room_for c.make_room.new.machine.ledger c.in-Err-Over.over.group n ≡ true) c.frames-pages.ensures.frames
+          (subst (λ (n : ℕ). HasMadeRoom c.args.group n c.in-Err-Over.over.group c.make_room.new.machine) c.frames-pages.ensures.frames
           c.in_ok-make_room-in-Err-Over.ensures.room),
       c.in-Err-Over.ensures.cpu ∙ c.tries.invariant.1,
     )
@@ -73,7 +74,7 @@ pub returns-in_err-make_room-in-Err-Over-clause-charges : goal.returns-in_err-ma
 returns-in_err-make_room-in-Err-Over-clause-charges g c =
     let t = g.N.BootName.frames in
     let clears = subst (λ (n : ℕ). ByStepsOfAny g.N.BootName.frames c.take_block.new.self c.make_room.new.machine
-    (RelievesLimit c.in-Err-Over.over.group n)) c.frames-pages.ensures.frames c.make_room.ensures.clears in
+    (RelievesLimit c.args.group c.in-Err-Over.over.group n)) c.frames-pages.ensures.frames c.make_room.ensures.clears in
     let r = is_refused _ _ c.args.group c.args.order c.in-Err-Over.field-0 c.in-Err-Over.over c.in-Err-Over.field-0-is c.in-Err-Over.ensures.refuses in
     let run = subst (λ (z : KnownMachine × KnownCpu). IsLocalRun c.tries.cpu.number (local_of t c.tries.machine c.tries.cpu)
     (over_steps c.args.group (2 ^ c.args.order) c.in-Err-Over.over.group) (local_of t z.0 z.1)) (λ i. (r.1 i, c.in-Err-Over.ensures.cpu i))
@@ -81,16 +82,16 @@ returns-in_err-make_room-in-Err-Over-clause-charges g c =
     c.in-Err-Over.ensures.steps) in
     let x = c.in_err-make_room-in-Err-Over.field-0.0 in
     let is : IfErr c.from_residual.result (λ e. e ≡ x) = search rules in
-    over_charges t c.args.group c.args.order c.in-Err-Over.over.group c.from_residual.result x c.args.machine.now c.make_room.new.machine c.args.cpu.now
-    c.take_block.new.cpu c.from_residual.ensures.0 is c.in_err-make_room-in-Err-Over.ensures.room.0 (c.in-Err-Over.ensures.cpu ∙ c.tries.invariant.1)
+    over_charges t c.args.group c.args.order c.from_residual.result x c.args.machine.now c.make_room.new.machine c.args.cpu.now
+    c.take_block.new.cpu c.from_residual.ensures.0 is (c.in-Err-Over.ensures.cpu ∙ c.tries.invariant.1)
     (so_far_over t c.args.group (2 ^ c.args.order) c.args.cpu.now c.args.machine.now c.tries.machine c.tries.invariant.0 c.take_block.new.self c.tries.machine
-    c.make_room.new.machine c.tries.cpu c.in-Err-Over.over.group r.1 c.tries.invariant.1 r.0 refl run clears
-    (subst (λ (n : ℕ). has_room_for c.make_room.new.machine.ledger c.in-Err-Over.over.group n ≡ false) c.frames-pages.ensures.frames
-    c.in_err-make_room-in-Err-Over.ensures.room.1))
+    c.make_room.new.machine c.tries.cpu c.in-Err-Over.over.group r.1 c.tries.invariant.1 r.0 refl run clears x
+    (subst (λ (n : ℕ). IsCause c.args.group n c.in-Err-Over.over.group x c.make_room.new.machine) c.frames-pages.ensures.frames
+    c.in_err-make_room-in-Err-Over.ensures.room))
 
 pub returns-in_err-make_room-in-Err-Over-clause-visit : goal.returns-in_err-make_room-in-Err-Over-clause-visit
 returns-in_err-make_room-in-Err-Over-clause-visit g c =
-    lowered_visit g.N.BootName.frames _ _ _ c.take_block.new.cpu (relieving_lowers g.N.BootName.frames c.in-Err-Over.over.group c.frames-pages.result _ _ c.make_room.ensures.clears) refl
+    lowered_visit g.N.BootName.frames _ _ _ c.take_block.new.cpu (relieving_lowers g.N.BootName.frames c.args.group c.in-Err-Over.over.group c.frames-pages.result _ _ c.make_room.ensures.clears) refl
     c.in-Err-Over.ensures.visit
 
 pub returns-in_err-make_room-in-Err-Over-clause-leaves : goal.returns-in_err-make_room-in-Err-Over-clause-leaves
@@ -99,8 +100,10 @@ returns-in_err-make_room-in-Err-Over-clause-leaves g c =
     let r = is_refused _ _ c.args.group c.args.order c.in-Err-Over.field-0 c.in-Err-Over.over c.in-Err-Over.field-0-is c.in-Err-Over.ensures.refuses in
     let x = c.in_err-make_room-in-Err-Over.field-0.0 in
     let is : IfErr c.from_residual.result (λ e. e ≡ x) = search rules in
-    let clears = relieving_lowers t c.in-Err-Over.over.group c.frames-pages.result c.take_block.new.self c.make_room.new.machine c.make_room.ensures.clears in
+    let clears = relieving_lowers t c.args.group c.in-Err-Over.over.group c.frames-pages.result c.take_block.new.self c.make_room.new.machine c.make_room.ensures.clears in
     over_leaves g.N.BootName.frames c.args.group c.args.order c.in-Err-Over.over.group c.from_residual.result x c.args.machine.now c.make_room.new.machine
-    c.from_residual.ensures.0 is c.in_err-make_room-in-Err-Over.ensures.room.0
+    c.from_residual.ensures.0 is
+    (subst (λ (n : ℕ). IsCause c.args.group n c.in-Err-Over.over.group x c.make_room.new.machine) c.frames-pages.ensures.frames
+    c.in_err-make_room-in-Err-Over.ensures.room)
     (lowers_both g.N.BootName.frames c.args.machine.now c.tries.machine c.make_room.new.machine c.tries.invariant.0.lowers
     (subst (λ (y : KnownMachine). Lowers g.N.BootName.frames y c.make_room.new.machine) r.1 clears))

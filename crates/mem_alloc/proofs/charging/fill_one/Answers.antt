@@ -4,9 +4,11 @@ use Rattle.group_tree.specs.Groups.{has_group}
 use Rattle.group_tree.proofs.CallerLemmas.{in_subtree-above}
 use Rattle.mem_machine.specs.Machines.{KnownMachine}
 use Rattle.mem_alloc.specs.Stepping.{ByStepsOfAny}
-use Rattle.mem_alloc.specs.Room.{RelievesLimit}
-use Rattle.mem_alloc.proofs.Lowering.{lowered_visit, relieving_lowers, usages_fall}
-use Rattle.mem_alloc.proofs.Making.{so_far_fills, so_far_more, so_far_over, refused_with, over_for_one}
+use Rattle.mem_alloc.specs.declared.faults.AllocFault.{AllocFault}
+use Rattle.mem_alloc.specs.Room.{IsCause, RelievesLimit}
+use Rattle.mem_alloc.proofs.Lowering.{lowered_visit, usages_fall}
+use Rattle.mem_alloc.proofs.Killing.{relieving_lowers}
+use Rattle.mem_alloc.proofs.Making.{so_far_fills, so_far_more, so_far_over, refused_with, refuses_one}
 use Rattle.mem_alloc.proofs.charging.fill_one.Goals as goal
 
 pub returns-in_default-clause-fills : goal.returns-in_default-clause-fills
@@ -22,9 +24,9 @@ make_room-requires g c =
 pub tries-smaller : goal.tries-smaller
 tries-smaller g c =
     usages_fall g.N.BootName.frames c.tries.machine c.make_room.new.machine c.in-Err.over.group 1
-    (relieving_lowers g.N.BootName.frames c.in-Err.over.group 1 c.tries.machine c.make_room.new.machine
-    (subst (λ (y : KnownMachine). ByStepsOfAny g.N.BootName.frames y c.make_room.new.machine (RelievesLimit c.in-Err.over.group 1)) c.in-Err.ensures.unchanged.0
-    c.make_room.ensures.clears)) c.make_room.ensures.fits c.in-Err.ensures.over.over c.in_ok-make_room.ensures.room
+    (relieving_lowers g.N.BootName.frames c.args.group c.in-Err.over.group 1 c.tries.machine c.make_room.new.machine
+    (subst (λ (y : KnownMachine). ByStepsOfAny g.N.BootName.frames y c.make_room.new.machine (RelievesLimit c.args.group c.in-Err.over.group 1)) c.in-Err.ensures.unchanged.0
+    c.make_room.ensures.clears)) c.make_room.ensures.fits c.in-Err.ensures.over.over c.in_ok-make_room.ensures.room.room
 
 pub tries-preserved : goal.tries-preserved
 tries-preserved g c = (
@@ -38,13 +40,14 @@ pub returns-in_err-make_room-clause-fills : goal.returns-in_err-make_room-clause
 returns-in_err-make_room-clause-fills g c =
     let is : IfErr c.from_residual.result (λ e. e ≡ c.in_err-make_room.field-0.0) = search rules in
     refused_with c.from_residual.result c.in_err-make_room.field-0.0 _ _ c.from_residual.ensures.0 is
-    (λ e same. over_for_one g.N.BootName.frames c.args.group c.in-Err.over.group e c.args.machine.now c.args.cpu.now c.make_room.new.machine
-    c.fill_stock.new.cpu (same ∙ c.in_err-make_room.ensures.room.0) (c.in-Err.ensures.unchanged.1 ∙ c.tries.invariant.1)
+    (λ e same. refuses_one g.N.BootName.frames c.args.group e c.args.machine.now c.args.cpu.now c.make_room.new.machine
+    c.fill_stock.new.cpu (c.in-Err.ensures.unchanged.1 ∙ c.tries.invariant.1)
     (so_far_over g.N.BootName.frames c.args.group 1 c.args.cpu.now c.args.machine.now c.tries.machine c.tries.invariant.0 c.fill_stock.new.self c.tries.machine
     c.make_room.new.machine c.tries.cpu c.in-Err.over.group c.in-Err.ensures.unchanged.0 c.tries.invariant.1 c.in-Err.ensures.over refl
-    c.in-Err.ensures.refused c.make_room.ensures.clears c.in_err-make_room.ensures.room.1))
+    c.in-Err.ensures.refused c.make_room.ensures.clears e
+    (subst (λ (z : AllocFault). IsCause c.args.group 1 c.in-Err.over.group z c.make_room.new.machine) (sym same) c.in_err-make_room.ensures.room)))
 
 pub returns-in_err-make_room-clause-visit : goal.returns-in_err-make_room-clause-visit
 returns-in_err-make_room-clause-visit g c =
-    lowered_visit g.N.BootName.frames _ _ _ c.fill_stock.new.cpu (relieving_lowers g.N.BootName.frames c.in-Err.over.group 1 _ _ c.make_room.ensures.clears) refl
+    lowered_visit g.N.BootName.frames _ _ _ c.fill_stock.new.cpu (relieving_lowers g.N.BootName.frames c.args.group c.in-Err.over.group 1 _ _ c.make_room.ensures.clears) refl
     c.in-Err.ensures.visit

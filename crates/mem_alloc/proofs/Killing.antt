@@ -1,0 +1,220 @@
+-- What kills keep, and kills one after the other. Serves `kill_for`, `make_room`, and those who call them.
+use Rattle.std.proofs.Common.{◌≡◌, ℕ, zero, suc, ◌+◌, ◌<◌, ◌≤◌, Bool, true, false, Option, Some, None, List, [], ◌∷◌, ◌++◌, map, refl, sym, ap, ◌∙◌}
+use Rattle.std.proofs.Common.{subst, inl, inr, arith, cond, length}
+use Rattle.std.specs.Prelude.{set, slice_set}
+use Rattle.std.proofs.lemmas.Bool.{and_parts, cases_Bool, cases_lt, false≢true, not-true}
+use Rattle.std.proofs.lemmas.List.{append_assoc, append-nil, get_or-set_same}
+use Rattle.frame_word.specs.Seats.{KnownTable}
+use Rattle.group_tree.specs.declared.group.Group.{Group}
+use Rattle.group_tree.specs.Groups.{has_group, in_subtree}
+use Rattle.group_charge.specs.declared.account.Account as charge
+use Rattle.group_charge.specs.Charges.{AreCharges, current_of, usage_of, with_event_at, with_oom}
+use Rattle.group_charge.proofs.CallerLemmas.{sum-map_same}
+use Rattle.group_charge.proofs.KeptLemmas.{number_below}
+use Rattle.group_charge.proofs.SumLemmas.{share}
+use Rattle.stock_word.specs.Stock.{Words}
+use Rattle.step_rules.specs.State.{sum_to}
+use Rattle.step_rules.specs.After.{Run}
+use Rattle.mem_machine.specs.Machines.{IsConsistent, KnownMachine, is_killed}
+use Rattle.mem_machine.specs.Local.{MakesForAny, local_of}
+use Rattle.mem_machine.specs.Steps.{note_oom_steps}
+use Rattle.mem_machine.proofs.Reaching.{run_both}
+use Rattle.mem_reclaim.specs.Killing.{IsKilledBy, OnlyDrains, OnlyLetsGo}
+use Rattle.mem_reclaim.specs.Victim.{HasMostFrames, IsVictim}
+use Rattle.mem_reclaim.proofs.Choosing.{chosen_there}
+use Rattle.mem_alloc.specs.Stepping.{ByStepsOfAny, Rests, course}
+use Rattle.mem_alloc.specs.Kills.{IsWanting, KillsEach, KillsFor, KillsOne, KillsVictims, has_room_for, with_oom_noted_at}
+use Rattle.mem_alloc.specs.Room.{KillsForFew, RelievesLimit}
+use Rattle.mem_alloc.proofs.Lowering.{Lowers, lowers_none, lowers_both, same_visit, clears_lower, keeps_lower, sum_less}
+
+-- ---- what is kept
+
+-- who was killed stays killed
+stays_marked : (marks : List Bool) (v j : ℕ) → is_killed marks j ≡ true → is_killed (set marks v true) j ≡ true
+stays_marked [] v j dead = dead
+stays_marked (x ∷ marks) zero zero dead = refl
+stays_marked (x ∷ marks) zero (suc j) dead = dead
+stays_marked (x ∷ marks) (suc v) zero dead = dead
+stays_marked (x ∷ marks) (suc v) (suc j) dead = stays_marked marks v j dead
+
+pub one_lowers : (t : KnownTable) (v : ℕ) (m n : KnownMachine) → n.killed ≡ slice_set m.killed v true → OnlyDrains m n → OnlyLetsGo t m n → Lowers t m n
+one_lowers t v m n marked stocks keeps = record {
+  groups = keeps.groups;
+  killed = λ j dead. ap (λ (k : List Bool). is_killed k j) marked ∙ stays_marked m.killed v j dead;
+  opened = keeps.opened;
+  visit = keeps.visit;
+  falls = keeps.usage;
+  emptied = stocks.drained;
+}
+
+pub each_lowers : (r : Option ℕ) (t : KnownTable) (g pages : ℕ) (victims : List ℕ) (m n : KnownMachine) (steps : Run)
+    → KillsEach r g pages victims (course t m steps n) → Lowers t m n
+each_lowers r t g pages [] m n steps h = subst (λ (x : KnownMachine). Lowers t m x) (sym h.machine) (lowers_none t m)
+each_lowers r t g pages (v ∷ later) m n steps h =
+    lowers_both t m h.0 n (one_lowers t v m h.0 h.3.marked h.3.stocks h.3.keeps) (each_lowers r t g pages later h.0 n h.2 h.4)
+
+usage_noted : (groups : List Group) (xs : List charge.Account) (g m : ℕ) → usage_of groups (map (with_event_at with_oom groups g) xs) m ≡ usage_of groups xs m
+unfolding usage_of
+usage_noted groups xs g m = sum-map_same (share groups m) (with_event_at with_oom groups g) (λ a. refl) xs
+
+pub oom_lowers : (t : KnownTable) (m : KnownMachine) (g : ℕ) → Lowers t m (with_oom_noted_at m g)
+oom_lowers t m g = record {
+  groups = refl;
+  killed = λ v dead. dead;
+  opened = refl;
+  visit = same_visit t m (with_oom_noted_at m g) refl;
+  falls = λ h.
+      let a : current_of (with_oom_noted_at m g).ledger h ≡ current_of m.ledger h = usage_noted m.ledger.groups m.ledger.accounts g h in
+      omega (arith, a);
+  emptied = λ p is. is;
+}
+
+rests_lower : (t : KnownTable) (m n : KnownMachine) (steps : Run) → Rests (course t m steps n) → Lowers t m n
+rests_lower t m n steps h = subst (λ (x : KnownMachine). Lowers t m x) (sym h.machine) (lowers_none t m)
+
+pub kills_lower : (r : Option ℕ) (t : KnownTable) (g pages : ℕ) (m n : KnownMachine) (steps : Run) → KillsFor r g pages (course t m steps n) → Lowers t m n
+kills_lower r t g pages m n steps k = elim (cases_Bool (has_room_for m.ledger g pages)) [
+  | inl room ↦ rests_lower t m n steps (k.room room)
+  | inr over ↦
+      let h = k.over over in
+      lowers_both t m (with_oom_noted_at m g) n (oom_lowers t m g) (each_lowers r t g pages h.victims (with_oom_noted_at m g) n h.killing h.kills)
+]
+
+pub few_lower : (t : KnownTable) (r g pages : ℕ) (m n : KnownMachine) (steps : Run) → KillsForFew r g pages (course t m steps n) → Lowers t m n
+few_lower t r g pages m n steps k = elim (cases_lt 8 pages) [
+  | inl many ↦ rests_lower t m n steps (k.many many)
+  | inr few ↦ kills_lower (Some r) t g pages m n steps (k.few few)
+]
+
+pub relieves_lower : (t : KnownTable) (r g pages : ℕ) (m n : KnownMachine) (steps : Run) → RelievesLimit r g pages (course t m steps n)
+    → Lowers t m n
+relieves_lower t r g pages m n steps h =
+    lowers_both t m h.cleared n (clears_lower t g m h.cleared h.clearing h.clears)
+    (lowers_both t h.cleared h.reclaimed n (keeps_lower t h.cleared h.reclaimed h.reclaims.keeps)
+    (few_lower t r g pages h.reclaimed n h.killing h.kills))
+
+pub relieving_lowers : (t : KnownTable) (r g pages : ℕ) (m n : KnownMachine) → ByStepsOfAny t m n (RelievesLimit r g pages) → Lowers t m n
+relieving_lowers t r g pages m n b = relieves_lower t r g pages m n b.0 b.1
+
+-- ---- the loop of kills
+
+-- how many group numbers aren't marked as killed
+abbrev pub alive_at : List Bool → ℕ → ℕ
+alive_at marks g = cond (is_killed marks g) 0 1
+
+abbrev pub count_alive : KnownMachine → ℕ
+count_alive m = sum_to 64 (alive_at m.killed)
+
+alive_less : (marks : List Bool) (v : ℕ) → v < length marks → is_killed marks v ≡ false → alive_at (slice_set marks v true) v < alive_at marks v
+alive_less marks v inside alive =
+    let now : alive_at (slice_set marks v true) v ≡ 0 = ap (λ (b : Bool). cond b 0 1) (get_or-set_same marks v true false inside) in
+    let was : alive_at marks v ≡ 1 = ap (λ (b : Bool). cond b 0 1) alive in
+    omega (arith, now, was)
+
+alive_falls : (b d : Bool) → (b ≡ true → d ≡ true) → cond {A = ℕ} d 0 1 ≤ cond b 0 1
+alive_falls false false stays = omega arith
+alive_falls false true stays = omega arith
+alive_falls true false stays = absurd (false≢true (stays refl))
+alive_falls true true stays = omega arith
+
+pub victim_below : (m : KnownMachine) → AreCharges m.ledger → (g v : ℕ) → HasMostFrames m g v → v < 64
+victim_below m charges g v most = number_below m.ledger.groups v charges.groups (chosen_there m g v most.chosen)
+
+pub fewer_alive : (t : KnownTable) (w : Words) (m n : KnownMachine) (g v : ℕ) → IsConsistent t w m → AreCharges m.ledger → HasMostFrames m g v
+    → n.killed ≡ slice_set m.killed v true → count_alive n < count_alive m
+fewer_alive t w m n g v whole charges most marked =
+    let low = victim_below m charges g v most in
+    let many = whole.sizes.killed in
+    let inside : v < length m.killed = omega (arith, low, many) in
+    let alive : is_killed m.killed v ≡ false = not-true (is_killed m.killed v) (and_parts (in_subtree m.ledger.groups g v) _ most.chosen).1 in
+    subst (λ (k : List Bool). sum_to 64 (alive_at k) < count_alive m) (sym marked)
+    (sum_less 64 (alive_at (slice_set m.killed v true)) (alive_at m.killed) v low
+    (λ j. alive_falls (is_killed m.killed j) (is_killed (slice_set m.killed v true) j) (stays_marked m.killed v j)) (alive_less m.killed v inside alive))
+
+-- kills, and one more
+kills_more : (r : Option ℕ) (t : KnownTable) (g pages v : ℕ) (victims : List ℕ) (m x n : KnownMachine) (first last : Run)
+    → KillsEach r g pages victims (course t m first x) → KillsOne r g pages v (course t x last n)
+    → KillsEach r g pages (victims ++ v ∷ []) (course t m (first ++ last) n)
+kills_more r t g pages v [] m x n first last each one = (
+  n,
+  last,
+  [],
+  subst (λ (y : KnownMachine). KillsOne r g pages v (course t y last n)) each.machine one,
+  record { machine = refl; steps_are = refl },
+  ap (λ (k : Run). k ++ last) each.steps_are ∙ sym (append-nil last),
+)
+kills_more r t g pages v (u ∷ victims) m x n first last each one = (
+  each.0,
+  each.1,
+  each.2 ++ last,
+  each.3,
+  kills_more r t g pages v victims each.0 x n each.2 last each.4 one,
+  ap (λ (k : Run). k ++ last) each.5 ∙ append_assoc each.1 each.2 last,
+)
+
+-- these were killed so far, and nothing else happened
+pub record KillsSoFar (r : Option ℕ) (t : KnownTable) (g pages : ℕ) (m n : KnownMachine) : Type 0 where
+  pub victims : List ℕ
+  pub killing : Run
+  pub kills : KillsEach r g pages victims (course t m killing n)
+  pub runs : MakesForAny t m killing n
+
+pub so_far_nobody : (r : Option ℕ) (t : KnownTable) (g pages : ℕ) (m : KnownMachine) → KillsSoFar r t g pages m m
+so_far_nobody r t g pages m = record { victims = []; killing = []; kills = record { machine = refl; steps_are = refl }; runs = λ c. refl }
+
+pub so_far_killed : (r : Option ℕ) (t : KnownTable) (w : Words) (g pages v : ℕ) (m x n : KnownMachine) → KillsSoFar r t g pages m x
+    → IsWanting r g pages x → IsConsistent t w x → AreCharges x.ledger → IsVictim x g (Some v) → IsKilledBy t v x n
+    → n.killed ≡ slice_set x.killed v true → OnlyDrains x n → OnlyLetsGo t x n → KillsSoFar r t g pages m n
+so_far_killed r t w g pages v m x n so_far wanting whole charges chosen kills marked stocks keeps = record {
+  victims = so_far.victims ++ v ∷ [];
+  killing = so_far.killing ++ kills.steps;
+  kills = kills_more r t g pages v so_far.victims m x n so_far.killing kills.steps so_far.kills (record {
+    wanting = wanting;
+    chosen = chosen;
+    words = w;
+    consistent = whole;
+    charges = charges;
+    kills = kills;
+    steps_are = refl;
+    marked = marked;
+    stocks = stocks;
+    keeps = keeps;
+  });
+  runs = λ c. run_both c.number so_far.killing kills.steps (local_of t m c) (local_of t x c) (local_of t n c) (so_far.runs c) (kills.runs c);
+}
+
+pub so_far_there : (r : Option ℕ) (t : KnownTable) (g pages : ℕ) (m n : KnownMachine) → KillsSoFar r t g pages m n → has_group m.ledger.groups g ≡ true
+    → has_group n.ledger.groups g ≡ true
+so_far_there r t g pages m n so_far there =
+    let l = each_lowers r t g pages so_far.victims m n so_far.killing so_far.kills in
+    ap (λ (x : List Group). has_group x g) l.groups ∙ there
+
+-- the kills are over
+pub kills_end : (r : Option ℕ) (t : KnownTable) (g pages : ℕ) (m x n : KnownMachine) → has_room_for m.ledger g pages ≡ false
+    → x ≡ with_oom_noted_at m g → MakesForAny t m (note_oom_steps g) x → KillsSoFar r t g pages (with_oom_noted_at m g) n
+    → (IsWanting r g pages n → IsVictim n g None) → ByStepsOfAny t m n (KillsFor r g pages)
+kills_end r t g pages m x n over noted noting so_far ended = (
+  note_oom_steps g ++ so_far.killing,
+  record {
+    room = λ room. absurd (false≢true (sym over ∙ room));
+    over = λ _. record {
+      victims = so_far.victims;
+      killing = so_far.killing;
+      kills = so_far.kills;
+      ended = ended;
+      steps_are = refl;
+    };
+  },
+  λ c.
+      let x : KnownMachine = with_oom_noted_at m g in
+      run_both c.number (note_oom_steps g) so_far.killing (local_of t m c) (local_of t x c) (local_of t n c)
+      (subst (λ (y : KnownMachine). MakesForAny t m (note_oom_steps g) y) noted noting c) (so_far.runs c),
+)
+
+-- there is room
+pub no_kills : (r : Option ℕ) (t : KnownTable) (g pages : ℕ) (m : KnownMachine) → has_room_for m.ledger g pages ≡ true → ByStepsOfAny t m m (KillsFor r g pages)
+no_kills r t g pages m room = (
+  [],
+  record { room = λ _. record { machine = refl; steps_are = refl }; over = λ over. absurd (false≢true (sym over ∙ room)) },
+  λ c. refl,
+)

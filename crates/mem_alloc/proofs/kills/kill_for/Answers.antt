@@ -1,0 +1,65 @@
+use Rattle.std.proofs.Common.{◌≡◌, ℕ, false, true, Option, Some, sym, ap, ◌∙◌, subst}
+use Rattle.std.specs.Prelude.{IfSome, slice_set}
+use Rattle.std.proofs.lemmas.Bool.{false≢true}
+use Rattle.group_charge.specs.Charges.{AreCharges, Ledger}
+use Rattle.mem_machine.specs.Machines.{KnownMachine}
+use Rattle.mem_reclaim.specs.Killing.{IsKilledBy, KillsVictim}
+use Rattle.mem_reclaim.specs.Victim.{HasMostFrames, IsVictim}
+use Rattle.mem_alloc.specs.Kills.{KillsFor, has_room_for, with_oom_noted_at}
+use Rattle.mem_alloc.specs.Stepping.{ByStepsOfAny}
+use Rattle.mem_alloc.proofs.Killing.{fewer_alive, kills_end, so_far_killed, so_far_there}
+use Rattle.mem_alloc.proofs.kills.kill_for.Goals as goal
+
+pub is_wanting-requires : goal.is_wanting-requires
+is_wanting-requires g c =
+    so_far_there c.args.requester g.N.BootName.frames c.args.group c.args.pages (with_oom_noted_at c.args.machine.now c.args.group) c.kills.machine
+    c.kills.invariant c.requires
+
+pub returns-then-not-is_wanting : goal.returns-then-not-is_wanting
+returns-then-not-is_wanting g c =
+    let over : has_room_for c.args.machine.now.ledger c.args.group c.args.pages ≡ false =
+    ap (λ (l : Ledger). has_room_for l c.args.group c.args.pages) (sym c.charges.ensures) ∙ sym c.has_room_at.ensures ∙ c.if-has_room_at.false in
+    kills_end c.args.requester g.N.BootName.frames c.args.group c.args.pages c.args.machine.now c.note_oom.new.self c.kills.machine over
+    c.note_oom.ensures.machine c.note_oom.ensures.steps c.kills.invariant
+    (λ wanting. absurd (false≢true (sym c.if-not-is_wanting.true ∙ c.is_wanting.ensures.1 wanting)))
+
+pub kill-requires : goal.kill-requires
+kill-requires g c =
+    so_far_there c.args.requester g.N.BootName.frames c.args.group c.args.pages (with_oom_noted_at c.args.machine.now c.args.group) c.kills.machine
+    c.kills.invariant c.requires
+
+pub returns-in_default : goal.returns-in_default
+returns-in_default g c =
+    let t = g.N.BootName.frames in
+    let over : has_room_for c.args.machine.now.ledger c.args.group c.args.pages ≡ false =
+    ap (λ (l : Ledger). has_room_for l c.args.group c.args.pages) (sym c.charges.ensures) ∙ sym c.has_room_at.ensures ∙ c.if-has_room_at.false in
+    let none = subst (λ (o : Option ℕ). IsVictim c.kills.machine c.args.group o) c.in_default.is c.kill.ensures.victim in
+    let same : c.kill.new.machine ≡ c.kills.machine =
+    subst (λ (o : Option ℕ). KillsVictim t o c.kills.machine c.kill.new.machine) c.in_default.is c.kill.ensures.kills in
+    subst (λ (y : KnownMachine). ByStepsOfAny t c.args.machine.now y (KillsFor c.args.requester c.args.group c.args.pages)) (sym same)
+    (kills_end c.args.requester t c.args.group c.args.pages c.args.machine.now c.note_oom.new.self c.kills.machine over
+    c.note_oom.ensures.machine c.note_oom.ensures.steps c.kills.invariant (λ wanting. none))
+
+pub kills-smaller : goal.kills-smaller
+kills-smaller g c =
+    let t = g.N.BootName.frames in
+    let charges : AreCharges c.kills.machine.ledger = subst (λ (l : Ledger). AreCharges l) c.charges-charges.ensures c.tree-tree.ensures.legal in
+    let most : HasMostFrames c.kills.machine c.args.group c.in-Some._victim =
+    subst (λ (o : Option ℕ). IsVictim c.kills.machine c.args.group o) c.in-Some.is c.kill.ensures.victim in
+    let marked : c.kill.new.machine.killed ≡ slice_set c.kills.machine.killed c.in-Some._victim true =
+    subst (λ (o : Option ℕ). IfSome o (λ v. c.kill.new.machine.killed ≡ slice_set c.kills.machine.killed v true)) c.in-Some.is c.kill.ensures.marked in
+    fewer_alive t g.N.BootName.stocks c.kills.machine c.kill.new.machine c.args.group c.in-Some._victim c.spots-spots.ensures.consistent charges most marked
+
+pub kills-preserved : goal.kills-preserved
+kills-preserved g c =
+    let t = g.N.BootName.frames in
+    let charges : AreCharges c.kills.machine.ledger = subst (λ (l : Ledger). AreCharges l) c.charges-charges.ensures c.tree-tree.ensures.legal in
+    let most : IsVictim c.kills.machine c.args.group (Some c.in-Some._victim) =
+    subst (λ (o : Option ℕ). IsVictim c.kills.machine c.args.group o) c.in-Some.is c.kill.ensures.victim in
+    let kills : IsKilledBy t c.in-Some._victim c.kills.machine c.kill.new.machine =
+    subst (λ (o : Option ℕ). KillsVictim t o c.kills.machine c.kill.new.machine) c.in-Some.is c.kill.ensures.kills in
+    let marked : c.kill.new.machine.killed ≡ slice_set c.kills.machine.killed c.in-Some._victim true =
+    subst (λ (o : Option ℕ). IfSome o (λ v. c.kill.new.machine.killed ≡ slice_set c.kills.machine.killed v true)) c.in-Some.is c.kill.ensures.marked in
+    so_far_killed c.args.requester t g.N.BootName.stocks c.args.group c.args.pages c.in-Some._victim (with_oom_noted_at c.args.machine.now c.args.group)
+    c.kills.machine c.kill.new.machine c.kills.invariant (c.is_wanting.ensures.0 c.if-not-is_wanting.false) c.spots-spots.ensures.consistent charges most kills
+    marked c.kill.ensures.stocks c.kill.ensures.keeps

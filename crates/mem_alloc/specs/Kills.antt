@@ -1,0 +1,65 @@
+-- Victims that are killed where a limit has no room even after a reclaim.
+use Rattle.std.specs.Prelude.{◌≡◌, ℕ, Bool, true, false, Option, Some, None, List, [], ◌∷◌, ◌++◌, slice_set}
+use Rattle.group_tree.specs.Room.{has_room}
+use Rattle.group_charge.specs.Charges.{AreCharges, Ledger, current_of, with_oom_noted}
+use Rattle.stock_word.specs.Stock.{Words}
+use Rattle.step_rules.specs.After.{Run}
+use Rattle.mem_machine.specs.Machines.{IsConsistent, KnownMachine, is_killed}
+use Rattle.mem_machine.specs.Steps.{note_oom_steps}
+use Rattle.mem_reclaim.specs.Killing.{IsKilledBy, OnlyDrains, OnlyLetsGo}
+use Rattle.mem_reclaim.specs.Victim.{IsVictim}
+use Rattle.mem_alloc.specs.Stepping.{Course, course, Rests}
+
+-- whether the limit of the group has room for so many pages more
+abbrev pub has_room_for : Ledger → ℕ → ℕ → Bool
+has_room_for ledger g pages = has_room ledger.groups (current_of ledger) g pages
+
+-- the machine after it was noted that an allocation was about to fail at the group's limit
+abbrev pub with_oom_noted_at : KnownMachine → ℕ → KnownMachine
+with_oom_noted_at m g = record m { ledger = with_oom_noted m.ledger g }
+
+-- the group that asks for the pages, if one does, isn't killed
+abbrev pub IsAlive : Option ℕ → KnownMachine → Type 0
+IsAlive None m = Unit {0}
+IsAlive (Some requester) m = is_killed m.killed requester ≡ false
+
+-- the limit of the group has no room for so many pages, and the group that asks for them isn't killed
+pub record IsWanting (requester : Option ℕ) (group pages : ℕ) (m : KnownMachine) : Type 0 where
+  pub over : has_room_for m.ledger group pages ≡ false
+  pub alive : IsAlive requester m
+
+-- One kill: the pages are wanted still, and the victim of the group is killed. All of it is what it was found to be: the machine is consistent, and the usage that of its
+-- accounts. What a kill keeps stays
+pub record KillsOne (requester : Option ℕ) (group pages victim : ℕ) (way : Course KnownMachine) : Type 0 where
+  pub wanting : IsWanting requester group pages way.before
+  pub chosen : IsVictim way.before group (Some victim)
+  pub words : Words
+  pub consistent : IsConsistent way.table words way.before
+  pub charges : AreCharges way.before.ledger
+  pub kills : IsKilledBy way.table victim way.before way.after
+  pub steps_are : way.steps ≡ kills.steps
+  pub marked : way.after.killed ≡ slice_set way.before.killed victim true
+  pub stocks : OnlyDrains way.before way.after
+  pub keeps : OnlyLetsGo way.table way.before way.after
+
+-- these victims are killed, one after the other
+abbrev pub KillsEach : Option ℕ → ℕ → ℕ → List ℕ → Course KnownMachine → Type 0
+KillsEach requester g pages [] way = Rests way
+KillsEach requester g pages (victim ∷ later) way =
+    (mid : KnownMachine) × (first rest : Run) × KillsOne requester g pages victim (course way.table way.before first mid)
+    × KillsEach requester g pages later (course way.table mid rest way.after) × (way.steps ≡ first ++ rest)
+
+-- It is noted once as `oom` at the group, and then victims of it are killed, one after the other, until its limit has
+-- room for so many pages, or the group that asks for them is killed, or no victim is left
+pub record KillsVictims (requester : Option ℕ) (group pages : ℕ) (way : Course KnownMachine) : Type 0 where
+  pub victims : List ℕ
+  pub killing : Run
+  pub kills : KillsEach requester group pages victims
+      (course way.table (with_oom_noted_at way.before group) killing way.after)
+  pub ended : IsWanting requester group pages way.after → IsVictim way.after group None
+  pub steps_are : way.steps ≡ note_oom_steps group ++ killing
+
+-- victims of the group are killed where its limit has no room for so many pages; where it has, nothing is done
+pub record KillsFor (requester : Option ℕ) (group pages : ℕ) (way : Course KnownMachine) : Type 0 where
+  pub room : has_room_for way.before.ledger group pages ≡ true → Rests way
+  pub over : has_room_for way.before.ledger group pages ≡ false → KillsVictims requester group pages way

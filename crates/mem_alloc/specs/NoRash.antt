@@ -1,0 +1,78 @@
+-- No group is killed for a limit before everything else was tried. It is read from the steps of a call, alone.
+use Rattle.std.specs.Prelude.{◌≡◌, ◌≢◌, ℕ, ◌+◌, ◌≤◌, ◌==◌, Bool, true, false, IsTrue, Some, None, List, ◌∷◌, ◌++◌}
+use Rattle.std.specs.List.{list_any}
+use Rattle.frame_word.specs.Seats.{KnownTable, misses_of}
+use Rattle.stock_word.specs.Stock.{Words}
+use Rattle.group_tree.specs.declared.group.Group.{Group}
+use Rattle.group_tree.specs.Groups.{in_subtree}
+use Rattle.group_charge.specs.Charges.{AreCharges}
+use Rattle.lru_lists.specs.Queue.{link_at}
+use Rattle.cpu_part.specs.Cpus.{KnownCpu}
+use Rattle.step_rules.specs.declared.step.Action.{Action}
+use Rattle.step_rules.specs.declared.step.Action.TheVariants.{Kill, NoteOom}
+use Rattle.step_rules.specs.declared.step.Answer.{Answer}
+use Rattle.step_rules.specs.declared.step.Step.{Step}
+use Rattle.step_rules.specs.After.{Run}
+use Rattle.mem_machine.specs.Machines.{IsConsistent, KnownMachine, home_of}
+use Rattle.mem_machine.specs.Local.{IsLocalRun, local_of}
+use Rattle.mem_machine.specs.Stocks.{AreDrained}
+use Rattle.mem_reclaim.specs.Moves.{missed_in}
+use Rattle.mem_reclaim.specs.Staying.{MissedAll}
+use Rattle.mem_reclaim.specs.Victim.{IsVictim}
+use Rattle.mem_alloc.specs.Kills.{has_room_for}
+
+-- the step notes at the group that an allocation was about to fail at its limit
+abbrev pub is_oom_note : ℕ → Action → Bool
+is_oom_note g (NoteOom h) = h == g
+is_oom_note g action = false
+
+-- one of the steps does
+abbrev pub has_oom_note : ℕ → Run → Bool
+has_oom_note g steps = list_any (λ e. is_oom_note g e.0.action) steps
+
+-- The machine is the one that these steps of a call left, in what steps alone don't tell: each frame's misses are those
+-- that were noted before the call and among the steps; and whoever is kept was kept when the call began, and is as dirty
+-- as it was
+pub record IsTied (start : KnownMachine) (steps : Run) (now : KnownMachine) : Type 0 where
+  pub misses : (f : ℕ) → misses_of now.seat f ≡ misses_of start.seat f + missed_in f steps
+  pub kept : (f : ℕ) → home_of now.links f ≢ None → home_of start.links f ≢ None
+  pub dirt : (f : ℕ) → home_of now.links f ≢ None → (link_at now.links f).is_dirty ≡ (link_at start.links f).is_dirty
+
+-- which limit a call may kill for, and so many pages: where it charges pages to a group, up to 8, that of the group or one
+-- above, for these
+pub record IsChargedBelow (group pages : ℕ) (groups : List Group) (limited need : ℕ) : Type 0 where
+  pub on_path : in_subtree groups limited group ≡ true
+  pub need_is : need ≡ pages
+  pub few : pages ≤ 8
+
+-- where it writes the limit of a group, that one, for no page
+pub record IsLimitOf (group : ℕ) (groups : List Group) (limited need : ℕ) : Type 0 where
+  pub limited_is : limited ≡ group
+  pub need_is : need ≡ 0
+
+-- The group may be killed after these steps of a call, for the limit of the group `limited`: that has no room for the
+-- pages that are needed. It was noted there as `oom`; no stock of the subtree is held; since the call began a freeze of
+-- each clean unit that the subtree still keeps missed; and the group is the victim. The machine is consistent, its usage
+-- that of its accounts, and it is the one that the steps left
+pub record MayKill (table : KnownTable) (MayAsk : List Group → ℕ → ℕ → Type 0) (start : KnownMachine) (steps : Run)
+    (now : KnownMachine) (victim : ℕ) : Type 0 where
+  pub limited : ℕ
+  pub need : ℕ
+  pub asked : MayAsk now.ledger.groups limited need
+  pub over : has_room_for now.ledger limited need ≡ false
+  pub noted : has_oom_note limited steps ≡ true
+  pub drained : AreDrained limited table.cpus now
+  pub missed : MissedAll limited start now
+  pub chosen : IsVictim now limited (Some victim)
+  pub words : Words
+  pub consistent : IsConsistent table words now
+  pub charges : AreCharges now.ledger
+  pub tied : IsTied start steps now
+
+-- Each kill among the steps of a call comes where the group may be killed: for each split of the list at a kill there is
+-- a machine to which the steps before it lead, and there it may
+abbrev pub NoRashKill : KnownTable → (List Group → ℕ → ℕ → Type 0) → KnownMachine → KnownCpu → Run → Type 0
+NoRashKill t MayAsk start cpu steps =
+    (before rest : Run) (e : Step × Answer) (victim : ℕ) → steps ≡ before ++ e ∷ rest → e.0.action ≡ Kill victim
+    → (now : KnownMachine) × IsLocalRun cpu.number (local_of t start cpu) before (local_of t now cpu)
+    × MayKill t MayAsk start before now victim

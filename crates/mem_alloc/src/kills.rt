@@ -1,0 +1,93 @@
+//! Kills: what is left to do where a limit has no room, and reclaim made none.
+
+ghost use Rattle.std.specs.Prelude.{◌≡◌, ◌↔◌, IsTrue};
+ghost use Rattle.group_tree.specs.Groups.{has_group};
+ghost use Rattle.mem_alloc.specs.Kills.{IsWanting, KillsFor, has_room_for};
+ghost use Rattle.mem_alloc.specs.Room.{KillsForFew};
+ghost use Rattle.mem_alloc.specs.Stepping.{ByStepsOfAny};
+
+use cpu_part::{BootName, Tables};
+use group_charge::charges::Charges;
+use group_tree::group::GroupId;
+use mem_machine::Machine;
+use mem_reclaim::kill;
+
+// For how many pages groups are killed at most: those of an order of 3. Linux kills nobody for more either
+// (`PAGE_ALLOC_COSTLY_ORDER`).
+const MOST_KILLED_FOR: u32 = 8;
+
+// Whether the limit of the group has room for so many pages more.
+pub(crate) fn has_room_at(charges: &Charges, group: GroupId, pages: u32) -> bool
+    requires { IsTrue (has_group charges.now.groups group) }
+    ensures { result ≡ has_room_for charges.now group pages }
+{
+    match charges.max(group) {
+        None => true,
+        Some(limit) => u64::from(charges.current(group)) + u64::from(pages) <= u64::from(limit),
+    }
+}
+
+// Whether a victim of the group is to be killed: its limit has no room for so many pages more, and the group that asks
+// for them, if one does, isn't killed.
+fn is_wanting<N: BootName>(
+    machine: &Machine<N>,
+    requester: &Option<GroupId>,
+    group: GroupId,
+    pages: u32,
+) -> bool
+    requires { IsTrue (has_group machine.now.ledger.groups group) }
+    ensures { IsTrue result ↔ IsWanting requester.now group pages machine.now }
+{
+    match requester {
+        Some(asking) if machine.is_killed(*asking) => false,
+        _ => !has_room_at(machine.charges(), group, pages),
+    }
+}
+
+/// Kills for a limit: where the limit of `group` has no room for so many pages more, that is noted once as `oom` at it,
+/// and then victims of it are killed, one after the other, until it has room, or the group that asks for the pages is
+/// killed, or no victim is left. For `requester` None no group asks, as where a limit is written: with 0 `pages` there is
+/// room then where the usage is at most the limit. Where there is room nothing is done. Modelled on what Linux does at a
+/// limit that it can't keep otherwise (cgroup-v2.rst, memory.max and memory.events).
+pub fn kill_for<N: BootName>(
+    machine: &mut Machine<N>,
+    tables: &Tables<N>,
+    requester: Option<GroupId>,
+    group: GroupId,
+    pages: u32,
+)
+    requires { IsTrue (has_group machine.old.ledger.groups group) }
+    ensures { ByStepsOfAny N.frames machine.old machine.new (KillsFor requester group pages) }
+{
+    if has_room_at(machine.charges(), group, pages) {
+        return;
+    }
+    machine.note_oom(group);
+    'kills: loop {
+        let _spots = machine.spots(); // For the clauses.
+        let charges = machine.charges();
+        let _tree = charges.tree(); // For the clauses.
+        if !is_wanting(machine, &requester, group, pages) {
+            return;
+        }
+        let Some(_victim) = kill(machine, tables, group) else {
+            return;
+        };
+    }
+}
+
+// Kills for a limit as `kill_for` does, where `requester` asks for at most 8 pages; for more, nobody is killed.
+pub(crate) fn kill_for_few<N: BootName>(
+    machine: &mut Machine<N>,
+    tables: &Tables<N>,
+    requester: GroupId,
+    group: GroupId,
+    pages: u32,
+)
+    requires { IsTrue (has_group machine.old.ledger.groups group) }
+    ensures { ByStepsOfAny N.frames machine.old machine.new (KillsForFew requester group pages) }
+{
+    if pages <= MOST_KILLED_FOR {
+        kill_for(machine, tables, Some(requester), group, pages);
+    }
+}
