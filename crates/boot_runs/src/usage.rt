@@ -139,7 +139,7 @@ const ROWS: [Row; 9] = [
         places: b"cccc----",
         current: Some(b"16384\n"),
     },
-    // a usage that stays above the limit is no fault
+    // a dirty unit stays, so that the group is killed, and it comes back
     Row {
         lines: [
             Line::Alloc(1, 0),
@@ -149,8 +149,8 @@ const ROWS: [Row; 9] = [
             Line::Settle,
             Line::Settle,
         ],
-        places: b"--cc----",
-        current: Some(b"8192\n"),
+        places: b"--------",
+        current: Some(b"0\n"),
     },
 ];
 

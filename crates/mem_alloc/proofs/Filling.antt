@@ -229,6 +229,7 @@ module _ (t : KnownTable) (sizes : Config) (g back q : ℕ) (m k x n : KnownMach
           first = drain_steps c.number (stock_group m c.number) back;
           later = here.0;
           drains = drained_own;
+          empties = by_drain;
           charges = here.1;
           steps_are = refl;
         }),
@@ -245,6 +246,7 @@ module _ (t : KnownTable) (sizes : Config) (g back q : ℕ) (m k x n : KnownMach
           first = drain_steps c.number (stock_group m c.number) back;
           later = here.0;
           drains = drained_own;
+          empties = by_drain;
           refuses = here.1;
           steps_are = refl;
         },

@@ -200,6 +200,7 @@ kills_end r t g pages m x n over noted noting so_far ended = (
     over = λ _. record {
       victims = so_far.victims;
       killing = so_far.killing;
+      notes = subst (λ (y : KnownMachine). MakesForAny t m (note_oom_steps g) y) noted noting;
       kills = so_far.kills;
       ended = ended;
       steps_are = refl;

@@ -4,4 +4,6 @@ pub mod Making
 pub mod Filling
 pub mod Rounding
 pub mod Taking
+pub mod NoRash
+pub mod NoRashAllocs
 pub mod CallerLemmas

@@ -28,6 +28,11 @@ use Rattle.mem_alloc.specs.Charging.{FillsAfterRoom, RefusesOne}
 use Rattle.mem_alloc.proofs.Lowering.{Lowers, lowers_none, lowers_both}
 use Rattle.mem_alloc.proofs.Killing.{relieving_lowers}
 
+note_then_drains : (t : KnownTable) (g pages : ℕ) (m x n : KnownMachine) → MakesForAny t m (note_max_steps g) x → (drains : DrainsSubtree t g pages x n)
+    → MakesForAny t m (note_max_steps g ++ drain_stocks_steps drains.drains) n
+note_then_drains t g pages m x n noting drains c =
+    run_both c.number (note_max_steps g) (drain_stocks_steps drains.drains) (local_of t m c) (local_of t x c) (local_of t n c) (noting c) (drains.steps c)
+
 -- the note, and then the drains. Serves `make_room`
 pub clears_by : (t : KnownTable) (g pages : ℕ) (m x n : KnownMachine) → x ≡ with_max_noted_at m g → MakesForAny t m (note_max_steps g) x
     → DrainsSubtree t g pages x n → AreDrained g t.cpus n → ByStepsOfAny t m n (ClearsBelow g)
@@ -38,9 +43,9 @@ clears_by t g pages m x n noted noting drains drained = (
     all = subst (λ (k : KnownMachine). DrainsAllBelow g t.cpus drains.drains k n) noted drains.all;
     drained = drained;
     steps_are = refl;
+    runs = λ c. note_then_drains t g pages m x n noting drains c;
   },
-  λ c. run_both c.number (note_max_steps g) (drain_stocks_steps drains.drains) (local_of t m c) (local_of t x c) (local_of t n c) (noting c)
-      (drains.steps c),
+  λ c. note_then_drains t g pages m x n noting drains c,
 )
 
 -- and then the rounds, and the kills
@@ -84,7 +89,7 @@ no_rounds t g pages m none = (
     rounds = subst (λ (o : Option ℕ). RoundsBefore o g pages (course t m [] m)) (sym none) (refl, refl);
     missed = λ over. absurd (false≢true (sym over ∙ ap (λ (o : Option ℕ). fits_limit o (current_of m.ledger g + pages)) none));
     keeps = keeps_none t m;
-    none_killed = record { quiet = refl; misses = λ f. omega arith };
+    none_killed = record { runs = λ c. refl; quiet = refl; misses = λ f. omega arith };
   },
   λ c. refl,
 )
@@ -103,7 +108,7 @@ rounds_for t g pages limit given m n is leads keeps missed = (
         sym (ap (λ (o : Option ℕ). fits_limit o (current_of n.ledger g + pages)) here) ∙ over in
         missed (let ne = leb-false (current_of n.ledger g + pages) limit full in omega (arith, ne));
     keeps = keeps;
-    none_killed = record { quiet = leads.moves.quiet; misses = leads.moves.misses };
+    none_killed = record { runs = leads.moves.runs; quiet = leads.moves.quiet; misses = leads.moves.misses };
   },
   leads.moves.runs,
 )

@@ -8,7 +8,7 @@ use Rattle.mem_machine.specs.Machines.{KnownMachine}
 use Rattle.mem_machine.specs.Stocks.{Drains, Fills, stock_group}
 use Rattle.mem_machine.specs.Steps.{drain_steps, fill_steps, over_steps}
 use Rattle.mem_machine.specs.Paying.{HoldsPage}
-use Rattle.mem_machine.specs.Local.{Side, side}
+use Rattle.mem_machine.specs.Local.{Makes, Side, side}
 use Rattle.mem_alloc.specs.declared.faults.AllocFault.{AllocFault}
 use Rattle.mem_alloc.specs.Stepping.{Course, course, of_machine}
 use Rattle.mem_alloc.specs.Room.{MakesRoom, IsRefusedFor}
@@ -75,6 +75,7 @@ pub record PaysAnew (sizes : Config) (group : ℕ) (way : Course Side) : Type 0 
   pub first : Run
   pub later : Run
   pub drains : DrainsOwn group way.before first emptied
+  pub empties : Makes way.table way.before first (side emptied way.before.cpu)
   pub charges : ChargesFrame sizes group (course way.table (side emptied way.before.cpu) later way.after)
   pub steps_are : way.steps ≡ first ++ later
 
@@ -88,5 +89,6 @@ pub record RefusesToPay (sizes : Config) (group : ℕ) (cause : AllocFault) (way
   pub first : Run
   pub later : Run
   pub drains : DrainsOwn group way.before first emptied
+  pub empties : Makes way.table way.before first (side emptied way.before.cpu)
   pub refuses : RefusesFrame sizes group cause (course way.table (side emptied way.before.cpu) later way.after)
   pub steps_are : way.steps ≡ first ++ later

@@ -5,6 +5,7 @@ use Rattle.group_charge.specs.Charges.{AreCharges, Ledger, current_of, with_oom_
 use Rattle.stock_word.specs.Stock.{Words}
 use Rattle.step_rules.specs.After.{Run}
 use Rattle.mem_machine.specs.Machines.{IsConsistent, KnownMachine, is_killed}
+use Rattle.mem_machine.specs.Local.{MakesForAny}
 use Rattle.mem_machine.specs.Steps.{note_oom_steps}
 use Rattle.mem_reclaim.specs.Killing.{IsKilledBy, OnlyDrains, OnlyLetsGo}
 use Rattle.mem_reclaim.specs.Victim.{IsVictim}
@@ -54,6 +55,7 @@ KillsEach requester g pages (victim ∷ later) way =
 pub record KillsVictims (requester : Option ℕ) (group pages : ℕ) (way : Course KnownMachine) : Type 0 where
   pub victims : List ℕ
   pub killing : Run
+  pub notes : MakesForAny way.table way.before (note_oom_steps group) (with_oom_noted_at way.before group)
   pub kills : KillsEach requester group pages victims
       (course way.table (with_oom_noted_at way.before group) killing way.after)
   pub ended : IsWanting requester group pages way.after → IsVictim way.after group None

@@ -6,6 +6,7 @@ use Rattle.group_tree.specs.Room.{IsLowestOver}
 use Rattle.group_charge.specs.Charges.{current_of, with_max_noted}
 use Rattle.step_rules.specs.After.{Run}
 use Rattle.mem_machine.specs.Machines.{KnownMachine, is_killed}
+use Rattle.mem_machine.specs.Local.{MakesForAny}
 use Rattle.mem_machine.specs.Steps.{Drain, over_steps, note_max_steps, drain_stocks_steps}
 use Rattle.mem_machine.specs.Stocks.{DrainsAllBelow, AreDrained}
 use Rattle.mem_reclaim.specs.Moves.{has_kill, missed_in}
@@ -21,12 +22,14 @@ pub use Rattle.mem_alloc.specs.Kills.{KillsFor, has_room_for}
 abbrev pub with_max_noted_at : KnownMachine → ℕ → KnownMachine
 with_max_noted_at m g = record m { ledger = with_max_noted m.ledger g }
 
--- it is noted that the group's usage was about to go over its limit, and then the stocks of its subtree are drained
+-- it is noted that the group's usage was about to go over its limit, and then the stocks of its subtree are drained, by
+-- these steps, whoever holds the lock
 pub record ClearsBelow (group : ℕ) (way : Course KnownMachine) : Type 0 where
   pub drains : List Drain
   pub all : DrainsAllBelow group way.table.cpus drains (with_max_noted_at way.before group) way.after
   pub drained : AreDrained group way.table.cpus way.after
   pub steps_are : way.steps ≡ note_max_steps group ++ drain_stocks_steps drains
+  pub runs : MakesForAny way.table way.before way.steps way.after
 
 -- what is reclaimed from the group's subtree before its limit: nothing where it has none, else so many pages as are
 -- missing, in at most 16 rounds
@@ -35,8 +38,10 @@ RoundsBefore None g pages way = (way.after ≡ way.before) × (way.steps ≡ [])
 RoundsBefore (Some limit) g pages way =
     (given : ℕ) × MakesRounds g (pages_missing g pages limit) 16 given way.before way.steps way.after
 
--- no step is a kill, and the misses that were noted of each frame are those among the steps
+-- the steps lead there, whoever holds the lock; none is a kill, and the misses that were noted of each frame are those
+-- among them
 pub record KillsNone (way : Course KnownMachine) : Type 0 where
+  pub runs : MakesForAny way.table way.before way.steps way.after
   pub quiet : has_kill way.steps ≡ false
   pub misses : (f : ℕ) → misses_of way.after.seat f ≡ misses_of way.before.seat f + missed_in f way.steps
 

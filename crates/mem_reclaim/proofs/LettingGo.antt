@@ -359,7 +359,7 @@ pub record AreQuiet (steps : Run) : Type 0 where
 both_false : (a b : Bool) → a ≡ false → b ≡ false → (a || b) ≡ false
 both_false a b x y = rw x y
 
-quiet_both : (one two : Run) → AreQuiet one → AreQuiet two → AreQuiet (one ++ two)
+pub quiet_both : (one two : Run) → AreQuiet one → AreQuiet two → AreQuiet (one ++ two)
 quiet_both one two p q = record {
   quiet = list_any-append (λ (e : Step × Answer). is_kill e.0.action) one two ∙ both_false (has_kill one) (has_kill two) p.quiet q.quiet;
   no_miss = λ f.
@@ -379,12 +379,12 @@ quiet_units [] m steps n all = subst AreQuiet (sym all.1) (record { quiet = refl
 quiet_units (u ∷ rest) m steps n all =
     subst AreQuiet (sym all.5) (quiet_both (release_steps u.number all.1) all.2 (quiet_release u.number all.1) (quiet_units rest all.0 all.2 n all.4))
 
-quiet_drain : (q : ℕ) (o : Option ℕ) (pages : ℕ) → AreQuiet (drain_steps q o pages)
+pub quiet_drain : (q : ℕ) (o : Option ℕ) (pages : ℕ) → AreQuiet (drain_steps q o pages)
 quiet_drain q None pages = record { quiet = refl; no_miss = λ f. refl }
 quiet_drain q (Some g) zero = record { quiet = refl; no_miss = λ f. refl }
 quiet_drain q (Some g) (suc n) = record { quiet = refl; no_miss = λ f. refl }
 
-quiet_drains : (drains : List Drain) → AreQuiet (drain_stocks_steps drains)
+pub quiet_drains : (drains : List Drain) → AreQuiet (drain_stocks_steps drains)
 quiet_drains [] = record { quiet = refl; no_miss = λ f. refl }
 quiet_drains (d ∷ rest) = quiet_both (drain_steps d.cpu d.group d.pages) (drain_stocks_steps rest) (quiet_drain d.cpu d.group d.pages) (quiet_drains rest)
 

@@ -117,6 +117,7 @@ lowered_by t g limit pages given m x n sub none leads missed keeps = (
     drained = x;
     drains_all = sub.all;
     none_held = none;
+    drain_runs = sub.steps;
     given = given;
     reclaims = leads;
     missed = λ over. missed (omega (arith, over));

@@ -3,6 +3,7 @@ use Rattle.std.specs.Prelude.{◌≡◌, ℕ, ◌<◌, ◌≤◌, Option, Some, 
 use Rattle.group_charge.specs.Charges.{current_of}
 use Rattle.step_rules.specs.After.{Run}
 use Rattle.mem_machine.specs.Machines.{KnownMachine}
+use Rattle.mem_machine.specs.Local.{MakesForAny}
 use Rattle.mem_machine.specs.Steps.{Drain, drain_stocks_steps}
 use Rattle.mem_machine.specs.Stocks.{DrainsAllBelow, AreDrained}
 use Rattle.mem_reclaim.specs.Moves.{Leads}
@@ -19,6 +20,7 @@ pub record LowersUsage (group limit : ℕ) (way : Course KnownMachine) : Type 0 
   pub drained : KnownMachine
   pub drains_all : DrainsAllBelow group way.table.cpus drains way.before drained
   pub none_held : AreDrained group way.table.cpus drained
+  pub drain_runs : MakesForAny way.table way.before (drain_stocks_steps drains) drained
   pub given : ℕ
   pub reclaims : Leads way.table given drained way.after
       (λ steps. MakesRounds group (pages_missing group 0 limit) 16 given drained steps way.after)

@@ -1,0 +1,509 @@
+-- No kill comes before everything else was tried. Serves whoever tells the steps of a command.
+use Rattle.std.proofs.Common.{◌≡◌, ◌≢◌, ℕ, zero, suc, ◌+◌, ◌<◌, ◌≤◌, ◌^◌, Bool, true, false, Option, Some, None, List, [], ◌∷◌, ◌++◌, refl, sym, ap, ◌∙◌}
+use Rattle.std.proofs.Common.{subst, inl, inr, arith, cond, eq-eqb, ◌==◌, ◌||◌, ◌⊎◌}
+use Rattle.std.proofs.lemmas.Option.{none-some}
+use Rattle.std.proofs.lemmas.Bool.{cases_Bool, cases_lt, false≢true}
+use Rattle.std.proofs.lemmas.List.{append_assoc, append-nil}
+use Rattle.std.proofs.lemmas.List.Folds.{list_any-append}
+use Rattle.std.proofs.lemmas.List.Sums.{sum_by-append}
+use Rattle.frame_word.specs.Seats.{KnownTable, misses_of}
+use Rattle.stock_word.specs.Stock.{Seated, account_of}
+use Rattle.group_tree.specs.declared.group.Group.{Group}
+use Rattle.group_tree.specs.Groups.{in_subtree}
+use Rattle.group_charge.specs.Charges.{AreCharges}
+use Rattle.lru_lists.specs.declared.record.Link.{Link}
+use Rattle.lru_lists.specs.declared.record.Home.{Home}
+use Rattle.lru_lists.specs.Lists.{owner_of}
+use Rattle.lru_lists.specs.Queue.{link_at}
+use Rattle.cpu_part.specs.Cpus.{KnownCpu}
+use Rattle.step_rules.specs.declared.step.Action.{Action}
+use Rattle.step_rules.specs.declared.step.Action.TheVariants.{Kill}
+use Rattle.step_rules.specs.declared.step.Answer.{Answer}
+use Rattle.step_rules.specs.declared.step.Answer.TheVariants.{Done}
+use Rattle.step_rules.specs.declared.step.Step.{Step}
+use Rattle.step_rules.specs.State.{State}
+use Rattle.step_rules.specs.After.{Run, after}
+use Rattle.mem_machine.specs.Machines.{KnownMachine, home_of}
+use Rattle.mem_machine.specs.Local.{IsLocalRun, MakesForAny, local_of}
+use Rattle.mem_machine.specs.Steps.{Drain, drain_steps, drain_stocks_steps, kill_steps, note_max_steps, note_oom_steps, over_steps}
+use Rattle.mem_machine.specs.Stocks.{AreDrained, Drains, DrainsBelow, DrainsAllBelow, of_subtree, stock_group}
+use Rattle.mem_machine.proofs.Draining.{groups_stay}
+use Rattle.mem_machine.proofs.Reaching.{run_both}
+use Rattle.mem_reclaim.specs.Moves.{has_kill, is_kill, is_miss, missed_in}
+use Rattle.mem_reclaim.specs.Staying.{Keeps, MissedAll}
+use Rattle.mem_reclaim.specs.Killing.{IsKilledBy, OnlyDrains, OnlyLetsGo}
+use Rattle.mem_reclaim.proofs.LettingGo.{AreQuiet, quiet_both, quiet_drain, quiet_drains}
+use Rattle.mem_alloc.specs.Stepping.{Rests, course}
+use Rattle.mem_alloc.specs.Kills.{KillsEach, KillsFor, KillsOne, KillsVictims, has_room_for, with_oom_noted_at}
+use Rattle.mem_alloc.specs.Room.{ClearsBelow, IsRefusedAt, IsRefusedFor, KillsForFew, MakesRoom, ReclaimsFor, RelievesLimit, with_max_noted_at}
+use Rattle.mem_alloc.specs.declared.faults.AllocFault.{AllocFault}
+use Rattle.mem_alloc.specs.NoRash.{IsTied, MayKill, has_oom_note, is_oom_note}
+
+-- ---- where a pair of a list stands
+
+abbrev first_or : Step × Answer → Run → Step × Answer
+first_or d [] = d
+first_or d (x ∷ xs) = x
+
+abbrev rest_of : Run → Run
+rest_of [] = []
+rest_of (x ∷ xs) = xs
+
+abbrev is_some_list : Run → Bool
+is_some_list [] = false
+is_some_list (x ∷ xs) = true
+
+first_same : (x y : Step × Answer) (xs ys : Run) → x ∷ xs ≡ y ∷ ys → x ≡ y
+first_same x y xs ys is = ap (first_or x) is
+
+rest_same : (x y : Step × Answer) (xs ys : Run) → x ∷ xs ≡ y ∷ ys → xs ≡ ys
+rest_same x y xs ys is = ap rest_of is
+
+nothing_stands : (before rest : Run) (e : Step × Answer) → [] ≡ before ++ e ∷ rest → ⊥
+nothing_stands [] rest e is = false≢true (ap is_some_list is)
+nothing_stands (x ∷ before) rest e is = false≢true (ap is_some_list is)
+
+-- a pair of the one list after the other stands in the one or in the other
+stands_in : (one two before rest : Run) (e : Step × Answer) → one ++ two ≡ before ++ e ∷ rest
+    → ((more : Run) × (one ≡ before ++ e ∷ more)) ⊎ ((later : Run) × (before ≡ one ++ later) × (two ≡ later ++ e ∷ rest))
+stands_in [] two before rest e is = inr (before, refl, is)
+stands_in (x ∷ one) two [] rest e is = inl (one, ap (λ (a : Step × Answer). a ∷ one) (first_same x e (one ++ two) rest is))
+stands_in (x ∷ one) two (y ∷ before) rest e is =
+    let head = first_same x y (one ++ two) (before ++ e ∷ rest) is in
+    elim (stands_in one two before rest e (rest_same x y (one ++ two) (before ++ e ∷ rest) is)) [
+      | inl here ↦ inl (here.0, ap (λ (z : (Step × Answer) × Run). z.0 ∷ z.1) (λ i. (head i, here.1 i)))
+      | inr there ↦ inr (
+          there.0,
+          ap (λ (z : (Step × Answer) × Run). z.0 ∷ z.1) (λ i. (sym head i, there.1 i)),
+          there.2,
+        )
+    ]
+
+only_one : (x : Step × Answer) (before rest : Run) (e : Step × Answer) → x ∷ [] ≡ before ++ e ∷ rest → (before ≡ []) × (x ≡ e)
+only_one x [] rest e is = (refl, first_same x e [] rest is)
+only_one x (y ∷ before) rest e is = absurd (nothing_stands before rest e (rest_same x y [] (before ++ e ∷ rest) is))
+
+or_mid : (a b c : Bool) → b ≡ true → (a || (b || c)) ≡ true
+or_mid true b c is = refl
+or_mid false b c is = ap (λ (x : Bool). x || c) is
+
+or_left : (a b : Bool) → a ≡ true → (a || b) ≡ true
+or_left a b is = ap (λ (x : Bool). x || b) is
+
+or_right : (a b : Bool) → b ≡ true → (a || b) ≡ true
+or_right true b is = refl
+or_right false b is = is
+
+kills_there : (before rest : Run) (e : Step × Answer) (v : ℕ) → e.0.action ≡ Kill v → has_kill (before ++ e ∷ rest) ≡ true
+kills_there before rest e v kill =
+    list_any-append (λ (x : Step × Answer). is_kill x.0.action) before (e ∷ rest)
+    ∙ or_mid (has_kill before) (is_kill e.0.action) (has_kill rest) (ap is_kill kill)
+
+abbrev killed_by : Action → ℕ
+killed_by (Kill v) = v
+killed_by action = 0
+
+same_victim : (v u : ℕ) → Kill v ≡ Kill u → v ≡ u
+same_victim v u is = ap killed_by is
+
+-- ---- lists of local steps
+
+pub run_rest : (p : ℕ) (one two : Run) (a b z : State) → IsLocalRun p a one b → IsLocalRun p a (one ++ two) z → IsLocalRun p b two z
+run_rest p [] two a b z first whole = subst (λ (s : State). IsLocalRun p s two z) first whole
+run_rest p (e ∷ one) two a b z first whole = run_rest p one two (after a e.0.seat e.0.action e.1) b z first.1 whole.1
+
+-- a refused grant changes nothing
+pub over_runs : (p g n over : ℕ) (rest : Run) (a z : State) → IsLocalRun p a (over_steps g n over ++ rest) z → IsLocalRun p a (over_steps g n over) a
+over_runs p g n over rest a z whole = (whole.0, refl)
+
+-- ---- what steps leave of the machine
+
+-- the steps lead there; the misses grew by those among them; and no unit came onto a list or changed its dirt
+pub record Passes (t : KnownTable) (c : KnownCpu) (m : KnownMachine) (steps : Run) (n : KnownMachine) : Type 0 where
+  pub runs : IsLocalRun c.number (local_of t m c) steps (local_of t n c)
+  pub tied : IsTied m steps n
+
+pub passes_none : (t : KnownTable) (c : KnownCpu) (m : KnownMachine) → Passes t c m [] m
+passes_none t c m = record {
+  runs = refl;
+  tied = record { misses = λ f. omega arith; kept = λ f is. is; dirt = λ f is. refl };
+}
+
+missed_both : (f : ℕ) (one two : Run) → missed_in f (one ++ two) ≡ missed_in f one + missed_in f two
+missed_both f one two = sum_by-append (λ (e : Step × Answer). cond (is_miss f e.0.action e.1) 1 0) one two
+
+pub passes_both : (t : KnownTable) (c : KnownCpu) (m x n : KnownMachine) (one two : Run) → Passes t c m one x → Passes t c x two n
+    → Passes t c m (one ++ two) n
+passes_both t c m x n one two a b = record {
+  runs = run_both c.number one two (local_of t m c) (local_of t x c) (local_of t n c) a.runs b.runs;
+  tied = record {
+    misses = λ f.
+        let p = a.tied.misses f in
+        let q = b.tied.misses f in
+        let r = missed_both f one two in
+        omega (arith, p, q, r);
+    kept = λ f is. a.tied.kept f (b.tied.kept f is);
+    dirt = λ f is. b.tied.dirt f is ∙ a.tied.dirt f (b.tied.kept f is);
+  };
+}
+
+-- where neither the zone's seat nor the lists changed, and no step is a freeze that missed
+pub passes_same : (t : KnownTable) (c : KnownCpu) (m n : KnownMachine) (steps : Run) → IsLocalRun c.number (local_of t m c) steps (local_of t n c)
+    → n.seat ≡ m.seat → n.links ≡ m.links → AreQuiet steps → Passes t c m steps n
+passes_same t c m n steps runs seat links quiet = record {
+  runs = runs;
+  tied = record {
+    misses = λ f.
+        let p : misses_of n.seat f ≡ misses_of m.seat f = ap (λ s. misses_of s f) seat in
+        let q = quiet.no_miss f in
+        omega (arith, p, q);
+    kept = λ f is none. is (ap (λ (l : List Link). home_of l f) links ∙ none);
+    dirt = λ f is. ap (λ (l : List Link). (link_at l f).is_dirty) links;
+  };
+}
+
+-- ---- drains
+
+-- the zone's seat, the lists and the groups are the same
+pub record SameUnits (m n : KnownMachine) : Type 0 where
+  pub seat : n.seat ≡ m.seat
+  pub links : n.links ≡ m.links
+  pub groups : n.ledger.groups ≡ m.ledger.groups
+
+pub drain_same : (m n : KnownMachine) (q k : ℕ) → Drains m q k n → SameUnits m n
+drain_same m n q k d = record {
+  seat = ap (λ (x : KnownMachine). x.seat) d.machine;
+  links = ap (λ (x : KnownMachine). x.links) d.machine;
+  groups = ap (λ (x : KnownMachine). x.ledger.groups) d.machine ∙ groups_stay m.ledger (stock_group m q) k;
+}
+
+one_same : (g q : ℕ) (m n : KnownMachine) (drains : List Drain) → DrainsBelow g m q drains n → SameUnits m n
+one_same g q m n [] h = record {
+  seat = ap (λ (x : KnownMachine). x.seat) h.1;
+  links = ap (λ (x : KnownMachine). x.links) h.1;
+  groups = ap (λ (x : KnownMachine). x.ledger.groups) h.1;
+}
+one_same g q m n (drain ∷ []) h = drain_same m n q drain.pages h.1.drains
+one_same g q m n (one ∷ two ∷ more) h = absurd h
+
+all_same : (g k : ℕ) (m n : KnownMachine) (drains : List Drain) → DrainsAllBelow g k drains m n → SameUnits m n
+all_same g zero m n drains h = record {
+  seat = ap (λ (x : KnownMachine). x.seat) h.1;
+  links = ap (λ (x : KnownMachine). x.links) h.1;
+  groups = ap (λ (x : KnownMachine). x.ledger.groups) h.1;
+}
+all_same g (suc k) m n drains h =
+    let one = one_same g (suc k) h.2 n h.1 h.5 in
+    let rest = all_same g k m h.2 h.0 h.4 in
+    record { seat = one.seat ∙ rest.seat; links = one.links ∙ rest.links; groups = one.groups ∙ rest.groups }
+
+pub drains_pass : (t : KnownTable) (c : KnownCpu) (g k : ℕ) (m n : KnownMachine) (drains : List Drain) → DrainsAllBelow g k drains m n
+    → IsLocalRun c.number (local_of t m c) (drain_stocks_steps drains) (local_of t n c) → Passes t c m (drain_stocks_steps drains) n
+drains_pass t c g k m n drains all runs =
+    let same = all_same g k m n drains all in
+    passes_same t c m n (drain_stocks_steps drains) runs same.seat same.links (quiet_drains drains)
+
+-- ---- rounds of reclaim
+
+owned : (o was : Option Home) → o ≢ None → owner_of o ≡ owner_of was → was ≢ None
+owned None was kept same none = kept refl
+owned (Some h) was kept same none = none-some h.owner (sym (same ∙ ap owner_of none))
+
+pub keeps_pass : (t : KnownTable) (c : KnownCpu) (m n : KnownMachine) (steps : Run) → MakesForAny t m steps n → Keeps t m n
+    → ((f : ℕ) → misses_of n.seat f ≡ misses_of m.seat f + missed_in f steps) → Passes t c m steps n
+keeps_pass t c m n steps runs keeps misses = record {
+  runs = runs c;
+  tied = record {
+    misses = misses;
+    kept = λ f is. owned (home_of n.links f) (home_of m.links f) is (keeps.owners f is);
+    dirt = keeps.dirt;
+  };
+}
+
+-- ---- no kill too early, in a part of a call's steps
+
+-- each kill among these steps of a call, before which it made others, comes where its group may be killed
+abbrev pub RashFree : KnownTable → (List Group → ℕ → ℕ → Type 0) → KnownMachine → KnownCpu → Run → Run → Type 0
+RashFree t MayAsk start c made steps =
+    (before rest : Run) (e : Step × Answer) (victim : ℕ) → steps ≡ before ++ e ∷ rest → e.0.action ≡ Kill victim
+    → (now : KnownMachine) × IsLocalRun c.number (local_of t start c) (made ++ before) (local_of t now c)
+    × MayKill t MayAsk start (made ++ before) now victim
+
+
+module _ (t : KnownTable) (MayAsk : List Group → ℕ → ℕ → Type 0) (s : KnownMachine) (c : KnownCpu) where
+  pub rash_quiet : (made steps : Run) → has_kill steps ≡ false → RashFree t MayAsk s c made steps
+  rash_quiet made steps quiet before rest e v is kill =
+      absurd (false≢true (sym quiet ∙ ap has_kill is ∙ kills_there before rest e v kill))
+
+  pub rash_both : (made one two : Run) → RashFree t MayAsk s c made one → RashFree t MayAsk s c (made ++ one) two
+      → RashFree t MayAsk s c made (one ++ two)
+  rash_both made one two first last before rest e v is kill = elim (stands_in one two before rest e is) [
+    | inl here ↦ first before here.0 e v here.1 kill
+    | inr there ↦
+        let same : (made ++ one) ++ there.0 ≡ made ++ before =
+        append_assoc made one there.0 ∙ ap (λ (r : Run). made ++ r) (sym there.1) in
+        subst (λ (done : Run). (now : KnownMachine) × IsLocalRun c.number (local_of t s c) done (local_of t now c) × MayKill t MayAsk s done now v) same
+        (last there.0 rest e v there.2 kill)
+  ]
+
+  -- a kill, and then steps without one
+  pub rash_kill : (made later : Run) (m : KnownMachine) (v : ℕ) → IsLocalRun c.number (local_of t s c) made (local_of t m c)
+      → MayKill t MayAsk s made m v → has_kill later ≡ false → RashFree t MayAsk s c made (kill_steps v ++ later)
+  rash_kill made later m v runs may quiet before rest e u is kill = elim (stands_in (kill_steps v) later before rest e is) [
+    | inl here ↦
+        let only = only_one (record { seat = 0; action = Kill v }, Done) before here.0 e here.1 in
+        let who : v ≡ u = same_victim v u (ap (λ (x : Step × Answer). x.0.action) only.1 ∙ kill) in
+        let done : made ≡ made ++ before = sym (append-nil made) ∙ ap (λ (r : Run). made ++ r) (sym only.0) in
+        subst (λ (z : Run × ℕ). (now : KnownMachine) × IsLocalRun c.number (local_of t s c) z.0 (local_of t now c) × MayKill t MayAsk s z.0 now z.1)
+        (λ i. (done i, who i)) (m, runs, may)
+    | inr there ↦ absurd (false≢true (sym quiet ∙ ap has_kill there.2 ∙ kills_there there.0 rest e u kill))
+  ]
+
+  -- what a part of the call's steps leaves, and that no kill among them is too early
+  pub record Tame (made : Run) (m : KnownMachine) (steps : Run) (n : KnownMachine) : Type 0 where
+    pub rash : RashFree t MayAsk s c made steps
+    pub passes : Passes t c m steps n
+    pub groups : n.ledger.groups ≡ m.ledger.groups
+
+  pub tame_quiet : (made : Run) (m : KnownMachine) (steps : Run) (n : KnownMachine) → Passes t c m steps n → n.ledger.groups ≡ m.ledger.groups
+      → has_kill steps ≡ false → Tame made m steps n
+  tame_quiet made m steps n passes groups quiet = record { rash = rash_quiet made steps quiet; passes = passes; groups = groups }
+
+  pub tame_none : (made : Run) (m : KnownMachine) → Tame made m [] m
+  tame_none made m = tame_quiet made m [] m (passes_none t c m) refl refl
+
+  pub tame_both : (made : Run) (m x n : KnownMachine) (one two : Run) → Tame made m one x → Tame (made ++ one) x two n → Tame made m (one ++ two) n
+  tame_both made m x n one two a b = record {
+    rash = rash_both made one two a.rash b.rash;
+    passes = passes_both t c m x n one two a.passes b.passes;
+    groups = b.groups ∙ a.groups;
+  }
+
+  tame_rests : (made : Run) (m : KnownMachine) (steps : Run) (n : KnownMachine) → Rests (course t m steps n) → Tame made m steps n
+  tame_rests made m steps n h =
+      subst (λ (z : Run × KnownMachine). Tame made m z.0 z.1) (λ i. (sym h.steps_are i, sym h.machine i)) (tame_none made m)
+
+  -- ---- kills
+
+  -- what makes the next kill one that may come
+  pub record Ready (limited : ℕ) (made : Run) (m : KnownMachine) : Type 0 where
+    pub since : Passes t c s made m
+    pub noted : has_oom_note limited made ≡ true
+    pub drained : AreDrained limited t.cpus m
+    pub missed : MissedAll limited s m
+
+  noted_more : (g : ℕ) (one two : Run) → has_oom_note g one ≡ true → has_oom_note g (one ++ two) ≡ true
+  noted_more g one two is =
+      list_any-append (λ (e : Step × Answer). is_oom_note g e.0.action) one two ∙ or_left (has_oom_note g one) (has_oom_note g two) is
+
+  noted_last : (g : ℕ) (one two : Run) → has_oom_note g two ≡ true → has_oom_note g (one ++ two) ≡ true
+  noted_last g one two is =
+      list_any-append (λ (e : Step × Answer). is_oom_note g e.0.action) one two ∙ or_right (has_oom_note g one) (has_oom_note g two) is
+
+  is_kept : (o : Option Home) → o ≢ None → (h : Home) × (o ≡ Some h)
+  is_kept None kept = absurd (kept refl)
+  is_kept (Some h) kept = (h, refl)
+
+  -- a kill's steps, of which the first is the kill
+  kill_passes : (v : ℕ) (m n : KnownMachine) (kills : IsKilledBy t v m n) → OnlyLetsGo t m n → Passes t c m kills.steps n
+  kill_passes v m n kills keeps = record {
+    runs = kills.runs c;
+    tied = record {
+      misses = λ f.
+          let p = keeps.misses f in
+          let q = kills.no_miss f in
+          let r : missed_in f kills.steps ≡ missed_in f (kill_steps v) + missed_in f kills.later =
+          ap (missed_in f) kills.front ∙ missed_both f (kill_steps v) kills.later in
+          let z : missed_in f (kill_steps v) ≡ 0 = refl in
+          omega (arith, p, q, r, z);
+      kept = λ f is none.
+          let there = is_kept (home_of n.links f) is in
+          none-some there.0 (sym none ∙ keeps.leaves f there.0 there.1);
+      dirt = keeps.dirt;
+    };
+  }
+
+  still_drained : (g : ℕ) (m n : KnownMachine) → n.ledger.groups ≡ m.ledger.groups → OnlyDrains m n → AreDrained g t.cpus m → AreDrained g t.cpus n
+  still_drained g m n groups stocks drained q low high is =
+      stocks.drained q (drained q low high
+      (ap (λ (z : List Group × Option ℕ). of_subtree g z.0 z.1) (λ i. (sym groups i, sym (stocks.of q) i)) ∙ is))
+
+  still_missed : (g : ℕ) (m n : KnownMachine) → OnlyLetsGo t m n → MissedAll g s m → MissedAll g s n
+  still_missed g m n keeps missed f h inside is clean =
+      let there = keeps.leaves f h is in
+      let kept : home_of n.links f ≢ None = λ none. none-some h (sym none ∙ is) in
+      let p = missed f h (ap (λ (l : List Group). in_subtree l g h.owner) (sym keeps.groups) ∙ inside) there (sym (keeps.dirt f kept) ∙ clean) in
+      let q = keeps.misses f in
+      omega (arith, p, q)
+
+  ready_more : (r : Option ℕ) (g pages v : ℕ) (made : Run) (m : KnownMachine) (steps : Run) (n : KnownMachine) → Ready g made m
+      → (one : KillsOne r g pages v (course t m steps n)) → Ready g (made ++ steps) n
+  ready_more r g pages v made m steps n ready one =
+      let passes = subst (λ (k : Run). Passes t c m k n) (sym one.steps_are) (kill_passes v m n one.kills one.keeps) in
+      record {
+        since = passes_both t c s m n made steps ready.since passes;
+        noted = noted_more g made steps ready.noted;
+        drained = still_drained g m n one.keeps.groups one.stocks ready.drained;
+        missed = still_missed g m n one.keeps ready.missed;
+      }
+
+  may_kill : (r : Option ℕ) (g pages v : ℕ) (made : Run) (m : KnownMachine) (steps : Run) (n : KnownMachine) → MayAsk m.ledger.groups g pages
+      → Ready g made m → KillsOne r g pages v (course t m steps n) → MayKill t MayAsk s made m v
+  may_kill r g pages v made m steps n asked ready one = record {
+    limited = g;
+    need = pages;
+    asked = asked;
+    over = one.wanting.over;
+    noted = ready.noted;
+    drained = ready.drained;
+    missed = ready.missed;
+    chosen = one.chosen;
+    words = one.words;
+    consistent = one.consistent;
+    charges = one.charges;
+    tied = ready.since.tied;
+  }
+
+  tame_one : (r : Option ℕ) (g pages v : ℕ) (made : Run) (m : KnownMachine) (steps : Run) (n : KnownMachine) → MayAsk m.ledger.groups g pages
+      → Ready g made m → KillsOne r g pages v (course t m steps n) → Tame made m steps n
+  tame_one r g pages v made m steps n asked ready one =
+      let may = may_kill r g pages v made m steps n asked ready one in
+      subst (λ (k : Run). Tame made m k n) (sym one.steps_are) (record {
+        rash = subst (λ (k : Run). RashFree t MayAsk s c made k) (sym one.kills.front)
+            (rash_kill made one.kills.later m v ready.since.runs may one.kills.quiet);
+        passes = kill_passes v m n one.kills one.keeps;
+        groups = one.keeps.groups;
+      })
+
+  tame_each : (r : Option ℕ) (g pages : ℕ) (victims : List ℕ) (made : Run) (m : KnownMachine) (steps : Run) (n : KnownMachine)
+      → MayAsk m.ledger.groups g pages → Ready g made m → KillsEach r g pages victims (course t m steps n) → Tame made m steps n
+  tame_each r g pages [] made m steps n asked ready each = tame_rests made m steps n each
+  tame_each r g pages (v ∷ later) made m steps n asked ready each =
+      let x = each.0 in
+      let one = tame_one r g pages v made m each.1 x asked ready each.3 in
+      let still = subst (λ (l : List Group). MayAsk l g pages) (sym each.3.keeps.groups) asked in
+      let rest = tame_each r g pages later (made ++ each.1) x each.2 n still (ready_more r g pages v made m each.1 x ready each.3) each.4 in
+      subst (λ (k : Run). Tame made m k n) (sym each.5) (tame_both made m x n each.1 each.2 one rest)
+
+  -- where everything was tried, and what is noted then is one more `oom`
+  tame_victims : (r : Option ℕ) (g pages : ℕ) (made : Run) (m : KnownMachine) (steps : Run) (n : KnownMachine) → MayAsk m.ledger.groups g pages
+      → Passes t c s made m → AreDrained g t.cpus m → MissedAll g s m → KillsVictims r g pages (course t m steps n) → Tame made m steps n
+  tame_victims r g pages made m steps n asked since drained missed h =
+      let x = with_oom_noted_at m g in
+      let note = passes_same t c m x (note_oom_steps g) (h.notes c) refl refl (record { quiet = refl; no_miss = λ f. refl }) in
+      let ready : Ready g (made ++ note_oom_steps g) x = record {
+        since = passes_both t c s m x made (note_oom_steps g) since note;
+        noted = noted_last g made (note_oom_steps g) (or_left (g == g) false (eq-eqb g g refl));
+        drained = drained;
+        missed = missed;
+      } in
+      subst (λ (k : Run). Tame made m k n) (sym h.steps_are) (tame_both made m x n (note_oom_steps g) h.killing
+      (tame_quiet made m (note_oom_steps g) x note refl refl)
+      (tame_each r g pages h.victims (made ++ note_oom_steps g) x h.killing n asked ready h.kills))
+
+  pub tame_kills : (r : Option ℕ) (g pages : ℕ) (made : Run) (m : KnownMachine) (steps : Run) (n : KnownMachine) → MayAsk m.ledger.groups g pages
+      → Passes t c s made m → AreDrained g t.cpus m → (has_room_for m.ledger g pages ≡ false → MissedAll g s m)
+      → KillsFor r g pages (course t m steps n) → Tame made m steps n
+  tame_kills r g pages made m steps n asked since drained missed h = elim (cases_Bool (has_room_for m.ledger g pages)) [
+    | inl room ↦ tame_rests made m steps n (h.room room)
+    | inr over ↦ tame_victims r g pages made m steps n asked since drained (missed over) (h.over over)
+  ]
+
+  -- ---- a limit without room
+
+  -- after reclaim no stock of the subtree is held, and where there is no room each clean unit was tried
+  pub drained_on : (g : ℕ) (m n : KnownMachine) → n.ledger.groups ≡ m.ledger.groups → n.stock ≡ m.stock → AreDrained g t.cpus m → AreDrained g t.cpus n
+  drained_on g m n groups stock drained q low high is =
+      ap (λ (z : Seated). (account_of z.view q).filled) stock
+      ∙ drained q low high (ap (λ (z : List Group × Seated). of_subtree g z.0 (account_of z.1.view q).group) (λ i. (sym groups i, sym stock i)) ∙ is)
+
+  pub missed_since : (g : ℕ) (made : Run) (m n : KnownMachine) → Passes t c s made m → MissedAll g m n → MissedAll g s n
+  missed_since g made m n since missed f h inside is clean =
+      let p = missed f h inside is clean in
+      let q = since.tied.misses f in
+      omega (arith, p, q)
+
+  clears_tame : (g : ℕ) (made : Run) (m : KnownMachine) (steps : Run) (n : KnownMachine) → ClearsBelow g (course t m steps n) → Tame made m steps n
+  clears_tame g made m steps n h =
+      let same = all_same g t.cpus (with_max_noted_at m g) n h.drains h.all in
+      let quiet = quiet_both (note_max_steps g) (drain_stocks_steps h.drains) (record { quiet = refl; no_miss = λ f. refl }) (quiet_drains h.drains) in
+      let here = subst AreQuiet (sym h.steps_are) quiet in
+      tame_quiet made m steps n (passes_same t c m n steps (h.runs c) same.seat same.links here) same.groups here.quiet
+
+  reclaims_tame : (g pages : ℕ) (made : Run) (m : KnownMachine) (steps : Run) (n : KnownMachine) → ReclaimsFor g pages (course t m steps n)
+      → Tame made m steps n
+  reclaims_tame g pages made m steps n h =
+      tame_quiet made m steps n (keeps_pass t c m n steps h.none_killed.runs h.keeps h.none_killed.misses) h.keeps.groups h.none_killed.quiet
+
+  few_tame : (r g pages : ℕ) (made : Run) (m : KnownMachine) (steps : Run) (n : KnownMachine) → (pages ≤ 8 → MayAsk m.ledger.groups g pages)
+      → Passes t c s made m → AreDrained g t.cpus m → (has_room_for m.ledger g pages ≡ false → MissedAll g s m)
+      → KillsForFew r g pages (course t m steps n) → Tame made m steps n
+  few_tame r g pages made m steps n asked since drained missed h = elim (cases_lt 8 pages) [
+    | inl many ↦ tame_rests made m steps n (h.many many)
+    | inr few ↦ tame_kills (Some r) g pages made m steps n (asked few) since drained missed (h.few few)
+  ]
+
+  relieves_tame : (r g pages : ℕ) (made : Run) (m : KnownMachine) (steps : Run) (n : KnownMachine) → (pages ≤ 8 → MayAsk m.ledger.groups g pages)
+      → Passes t c s made m → RelievesLimit r g pages (course t m steps n) → Tame made m steps n
+  relieves_tame r g pages made m steps n asked since h =
+      let x = h.cleared in
+      let y = h.reclaimed in
+      let one = clears_tame g made m h.clearing x h.clears in
+      let after_one = passes_both t c s m x made h.clearing since one.passes in
+      let two = reclaims_tame g pages (made ++ h.clearing) x h.reclaiming y h.reclaims in
+      let after_two = passes_both t c s x y (made ++ h.clearing) h.reclaiming after_one two.passes in
+      let drained = drained_on g x y h.reclaims.keeps.groups h.reclaims.keeps.stock h.clears.drained in
+      let still = λ (few : pages ≤ 8). subst (λ (l : List Group). MayAsk l g pages) (sym (two.groups ∙ one.groups)) (asked few) in
+      let three = few_tame r g pages ((made ++ h.clearing) ++ h.reclaiming) y h.killing n still after_two drained
+          (λ over. missed_since g (made ++ h.clearing) x y after_one (h.reclaims.missed over)) h.kills in
+      subst (λ (k : Run). Tame made m k n) (sym h.steps_are) (tame_both made m x n h.clearing (h.reclaiming ++ h.killing) one
+      (tame_both (made ++ h.clearing) x y n h.reclaiming h.killing two three))
+
+  -- ---- charges to the group, of so many pages, for which these may be asked
+
+  module _ (g pages : ℕ) (base : List Group) (asks : (over : ℕ) → in_subtree base over g ≡ true → pages ≤ 8 → MayAsk base over pages) where
+    -- where the charge is refused, and the group named has room afterwards or not
+    refused_tame : (over : ℕ) (made : Run) (m : KnownMachine) (steps rest : Run) (n : KnownMachine) (z : State) → m.ledger.groups ≡ base → Passes t c s made m
+        → IsLocalRun c.number (local_of t m c) (steps ++ rest) z → IsRefusedAt g pages over (course t m steps n) → Tame made m steps n
+    refused_tame over made m steps rest n z is since whole h =
+        let first = over_steps g pages over in
+        let grant = over_runs c.number g pages over (h.relieving ++ rest) (local_of t m c) z
+            (subst (λ (k : Run). IsLocalRun c.number (local_of t m c) (k ++ rest) z) h.steps_are whole) in
+        let refused = passes_same t c m m first grant refl refl (record { quiet = refl; no_miss = λ f. refl }) in
+        let here : in_subtree base over g ≡ true = ap (λ (l : List Group). in_subtree l over g) (sym is) ∙ h.lowest.on_path in
+        let asked = λ (few : pages ≤ 8). subst (λ (l : List Group). MayAsk l over pages) (sym is) (asks over here few) in
+        let relieved = relieves_tame g over pages (made ++ first) m h.relieving n asked (passes_both t c s m m made first since refused) h.relieves in
+        subst (λ (k : Run). Tame made m k n) (sym h.steps_are) (tame_both made m m n first h.relieving (tame_quiet made m first m refused refl refl) relieved)
+
+    pub makes_tame : (refused : List ℕ) (made : Run) (m : KnownMachine) (steps rest : Run) (n : KnownMachine) (z : State) → m.ledger.groups ≡ base → Passes t c s made m
+        → IsLocalRun c.number (local_of t m c) (steps ++ rest) z → MakesRoom g pages refused (course t m steps n) → Tame made m steps n
+    makes_tame [] made m steps rest n z is since whole h =
+        subst (λ (y : Run × KnownMachine). Tame made m y.0 y.1) (λ i. (sym h.1 i, sym h.0 i)) (tame_none made m)
+    makes_tame (over ∷ later) made m steps rest n z is since whole h =
+        let x = h.0 in
+        let all : IsLocalRun c.number (local_of t m c) (h.1 ++ (h.2 ++ rest)) z =
+        subst (λ (k : Run). IsLocalRun c.number (local_of t m c) k z) (ap (λ (k : Run). k ++ rest) h.6 ∙ append_assoc h.1 h.2 rest) whole in
+        let one = refused_tame over made m h.1 (h.2 ++ rest) x z is since all h.3 in
+        let on = run_rest c.number h.1 (h.2 ++ rest) (local_of t m c) (local_of t x c) z one.passes.runs all in
+        let two = makes_tame later (made ++ h.1) x h.2 rest n z (one.groups ∙ is) (passes_both t c s m x made h.1 since one.passes) on h.5 in
+        subst (λ (k : Run). Tame made m k n) (sym h.6) (tame_both made m x n h.1 h.2 one two)
+
+    pub refusal_rash : (cause : AllocFault) (made : Run) (m : KnownMachine) (steps : Run) (n : KnownMachine) (z : State) → m.ledger.groups ≡ base → Passes t c s made m
+        → IsLocalRun c.number (local_of t m c) steps z → IsRefusedFor g pages cause (course t m steps n) → RashFree t MayAsk s c made steps
+    refusal_rash cause made m steps n z is since whole h =
+        let x = h.cleared in
+        let all = subst (λ (k : Run). IsLocalRun c.number (local_of t m c) k z) h.steps_are whole in
+        let one = makes_tame h.refused_at made m h.making h.last x z is since all h.makes in
+        let on = run_rest c.number h.making h.last (local_of t m c) (local_of t x c) z one.passes.runs all in
+        let on_all = subst (λ (k : Run). IsLocalRun c.number (local_of t x c) k z) (sym (append-nil h.last)) on in
+        let two = refused_tame h.over (made ++ h.making) x h.last [] n z (one.groups ∙ is) (passes_both t c s m x made h.making since one.passes) on_all h.refused in
+        subst (λ (k : Run). RashFree t MayAsk s c made k) (sym h.steps_are) (rash_both made h.making h.last one.rash two.rash)
+
+    -- the charge is made after room was made for it, and then comes no kill
+    pub after_room_rash : (refused : List ℕ) (made : Run) (m : KnownMachine) (making last rest : Run) (x : KnownMachine) (z : State) → m.ledger.groups ≡ base → Passes t c s made m
+        → IsLocalRun c.number (local_of t m c) ((making ++ last) ++ rest) z → MakesRoom g pages refused (course t m making x) → has_kill last ≡ false
+        → RashFree t MayAsk s c made (making ++ last)
+    after_room_rash refused made m making last rest x z is since whole h quiet =
+        let all = subst (λ (k : Run). IsLocalRun c.number (local_of t m c) k z) (append_assoc making last rest) whole in
+        let one = makes_tame refused made m making (last ++ rest) x z is since all h in
+        rash_both made making last one.rash (rash_quiet (made ++ making) last quiet)

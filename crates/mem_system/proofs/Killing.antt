@@ -1,0 +1,225 @@
+-- No kill of a command comes before everything else was tried. Serves `serve`.
+use Rattle.std.proofs.Common.{◌≡◌, ◌≢◌, ℕ, zero, suc, ◌+◌, ◌≤◌, ◌<◌, ◌^◌, Bool, true, false, Option, Some, None, List, [], ◌∷◌, ◌++◌, refl, sym, ap, ◌∙◌, subst, inl, inr, arith}
+use Rattle.std.specs.Prelude.{Result, Ok, Err, nat_le}
+use Rattle.std.proofs.lemmas.Bool.{cases_eq, cases_lt, leb-false}
+use Rattle.std.proofs.lemmas.List.{append_assoc, append-nil}
+use Rattle.frame_word.specs.Seats.{KnownTable}
+use Rattle.group_tree.specs.declared.group.Group.{Group}
+use Rattle.group_tree.specs.declared.fault.Fault.{Fault}
+use Rattle.group_tree.specs.declared.fault.Fault.TheVariants as fault
+use Rattle.group_tree.specs.Groups.{has_group, in_subtree, limit_of, number_at, with_limit}
+use Rattle.group_tree.specs.Room.{fits_limit}
+use Rattle.group_tree.proofs.CallerLemmas.{limit_of-limited}
+use Rattle.group_charge.specs.Charges.{current_of}
+use Rattle.zone_sizes.specs.declared.config.Config.{Config}
+use Rattle.cpu_part.specs.Cpus.{KnownCpu}
+use Rattle.step_rules.specs.State.{State}
+use Rattle.step_rules.specs.After.{Run}
+use Rattle.mem_machine.specs.declared.releasing.Released.TheVariants as released
+use Rattle.mem_machine.specs.Machines.{KnownMachine}
+use Rattle.mem_machine.specs.Local.{IsLocalRun, Side, local_of, side}
+use Rattle.mem_machine.specs.Releasing.{release_steps}
+use Rattle.mem_machine.specs.Steps.{drain_list_steps, drain_stocks_steps, lend_steps, remove_steps, set_max_steps}
+use Rattle.mem_reclaim.specs.Moves.{has_kill}
+use Rattle.mem_reclaim.specs.Staying.{MissedAll}
+use Rattle.mem_reclaim.proofs.LettingGo.{quiet_drains}
+use Rattle.mem_alloc.specs.declared.faults.AllocFault.{AllocFault}
+use Rattle.mem_alloc.specs.declared.faults.AllocFault.TheVariants.{Over, NoFrames, Killed}
+use Rattle.mem_alloc.specs.Kills.{KillsFor, has_room_for}
+use Rattle.mem_alloc.specs.Stepping.{Course, course, of_machine}
+use Rattle.mem_alloc.specs.NoRash.{IsChargedBelow, NoRashKill}
+use Rattle.mem_alloc.proofs.NoRash.{Passes, RashFree, drained_on, drains_pass, keeps_pass, missed_since, passes_both, passes_same, rash_both, rash_quiet, run_rest, tame_kills}
+use Rattle.mem_alloc.proofs.NoRashAllocs.{back_quiet, block_no_rash, frame_no_rash, no_kill_both}
+use Rattle.mem_system.proofs.Found.{found_there}
+use Rattle.mem_system.proofs.Keeping.{all_same}
+use Rattle.mem_system.specs.declared.command.Cmd.{Cmd}
+use Rattle.mem_system.specs.declared.command.Cmd.TheVariants.{Mkdir, Rmdir, Write, Read, Settle, Owner, Touch, Dirty, Clean, Release, Alloc}
+use Rattle.mem_system.specs.declared.command.Reply.{Reply}
+use Rattle.mem_system.specs.declared.command.Reply.TheVariants as reply
+use Rattle.mem_system.specs.Usage.{LowersUsage, LowersAbove, LowersByKills, KeepsToLimit}
+use Rattle.mem_system.specs.Allocs.{Allocates, AllocatesFor}
+use Rattle.mem_system.specs.Kept.{TouchesFrame, NotesDirt}
+use Rattle.mem_system.specs.Releases.{CutsList, ListsFrame, ReleasesFrame, ReturnsFrames}
+use Rattle.mem_system.specs.Commands.{MakesGroup, MayAskFor, Obeys, Removes, SetsLimit, Writes, with_limit_of}
+
+-- ---- commands that kill nobody
+
+makes_quiet : (path : List ℕ) (said : Reply) (way : Course KnownMachine) → MakesGroup path said way → has_kill way.steps ≡ false
+makes_quiet path (reply.Group n) way h = ap has_kill h.2
+makes_quiet path (reply.Refused fault) way h = ap has_kill h.2
+makes_quiet path other way h = absurd h
+
+lowers_quiet : (g limit : ℕ) (way : Course KnownMachine) → LowersUsage g limit way → has_kill way.steps ≡ false
+lowers_quiet g limit way h =
+    ap has_kill h.steps_are
+    ∙ no_kill_both (drain_stocks_steps h.drains) h.reclaims.steps (quiet_drains h.drains).quiet h.reclaims.moves.quiet
+
+removes_quiet : (path : List ℕ) (said : Reply) (way : Course KnownMachine) → Removes path said way → has_kill way.steps ≡ false
+removes_quiet path reply.Done way h =
+    ap has_kill h.steps_are
+    ∙ no_kill_both h.lowering (remove_steps h.group) (lowers_quiet h.group 0 (course way.table way.before h.lowering h.emptied) h.lowers) refl
+removes_quiet path (reply.Refused fault.Busy) way h = lowers_quiet h.group 0 way h.lowers
+removes_quiet path (reply.Refused other) way h = ap has_kill h.2
+removes_quiet path other way h = absurd h
+
+touches_quiet : (f : ℕ) (said : Reply) (way : Course KnownMachine) → TouchesFrame f said way → has_kill way.steps ≡ false
+touches_quiet f reply.Marked way h = ap has_kill h.1
+touches_quiet f reply.Active way h = ap has_kill h.1
+touches_quiet f (reply.Refused fault.NotKept) way h = ap has_kill h.steps_are
+touches_quiet f other way h = absurd h
+
+notes_quiet : (is_dirty : Bool) (f : ℕ) (said : Reply) (way : Course KnownMachine) → NotesDirt is_dirty f said way → has_kill way.steps ≡ false
+notes_quiet is_dirty f reply.Done way h = ap has_kill h.1
+notes_quiet is_dirty f (reply.Refused fault.NotKept) way h = ap has_kill h.steps_are
+notes_quiet is_dirty f other way h = absurd h
+
+cuts_quiet : (sizes : Config) (way : Course Side) → CutsList sizes way → has_kill way.steps ≡ false
+cuts_quiet sizes way h = ap has_kill h.steps_are ∙ back_quiet way.before.cpu.number h.cut
+
+lists_quiet : (sizes : Config) (f : ℕ) (way : Course Side) → ListsFrame sizes f way → has_kill way.steps ≡ false
+lists_quiet sizes f way h =
+    ap has_kill h.steps_are
+    ∙ no_kill_both h.cutting (lend_steps way.before.cpu.number f) (cuts_quiet sizes (course way.table way.before h.cutting h.mid) h.cuts) refl
+
+returns_quiet : (sizes : Config) (f : ℕ) (way : Course Side) → ReturnsFrames sizes f way → has_kill way.steps ≡ false
+returns_quiet sizes f way h =
+    let listed : has_kill h.listing ≡ false = elim (cases_eq h.returns.unit.order 0) [
+      | inl single ↦ lists_quiet sizes f (course way.table (side h.freed way.before.cpu) h.listing way.after) (h.single single)
+      | inr block ↦ ap has_kill (h.block block).2
+    ] in
+    ap has_kill h.steps_are ∙ no_kill_both (release_steps f released.Returned) h.listing refl listed
+
+releases_quiet : (sizes : Config) (f : ℕ) (said : Reply) (way : Course Side) → ReleasesFrame sizes f said way → has_kill way.steps ≡ false
+releases_quiet sizes f (reply.Left left) way h = ap has_kill h.steps_are
+releases_quiet sizes f reply.Returned way h = returns_quiet sizes f way h
+releases_quiet sizes f (reply.Refused fault.NotKept) way h = ap has_kill h.0.steps_are
+releases_quiet sizes f other way h = absurd h
+
+-- ---- a limit that is written
+
+module _ (t : KnownTable) (MayAsk : List Group → ℕ → ℕ → Type 0) (s : KnownMachine) (c : KnownCpu) where
+  -- where it is brought down by kills, by steps that come after others
+  kills_rash : (g limit : ℕ) (made : Run) (m : KnownMachine) (steps : Run) (n : KnownMachine) → limit_of m.ledger.groups g ≡ Some limit
+      → MayAsk m.ledger.groups g 0 → Passes t c s made m → LowersByKills g limit (course t m steps n) → RashFree t MayAsk s c made steps
+  kills_rash g limit made m steps n is asked since h =
+      let x = h.lowered in
+      let low = h.lowers in
+      let y = low.drained in
+      let first = drain_stocks_steps low.drains in
+      let drains = drains_pass t c g t.cpus m y low.drains low.drains_all (low.drain_runs c) in
+      let after_drains = passes_both t c s m y made first since drains in
+      let rounds = keeps_pass t c y x low.reclaims.steps low.reclaims.moves.runs low.keeps low.reclaims.moves.misses in
+      let lowering = subst (λ (k : Run). Passes t c m k x) (sym low.steps_are) (passes_both t c m y x first low.reclaims.steps drains rounds) in
+      let groups : x.ledger.groups ≡ m.ledger.groups = low.keeps.groups ∙ (all_same g t.cpus m y low.drains low.drains_all).groups in
+      let here : limit_of x.ledger.groups g ≡ Some limit = ap (λ (l : List Group). limit_of l g) groups ∙ is in
+      let missed = λ (over : has_room_for x.ledger g 0 ≡ false).
+          let full : nat_le (current_of x.ledger g + 0) limit ≡ false = sym (ap (λ (o : Option ℕ). fits_limit o (current_of x.ledger g + 0)) here) ∙ over in
+          let more = leb-false (current_of x.ledger g + 0) limit full in
+          missed_since t MayAsk s c g (made ++ first) y x after_drains (low.missed (omega (arith, more))) in
+      let drained = drained_on t MayAsk s c g y x low.keeps.groups low.keeps.stock low.none_held in
+      let still = subst (λ (l : List Group). MayAsk l g 0) (sym groups) asked in
+      let killing = tame_kills t MayAsk s c None g 0 (made ++ h.lowering) x h.killing n still (passes_both t c s m x made h.lowering since lowering) drained
+          missed h.kills in
+      subst (λ (k : Run). RashFree t MayAsk s c made k) (sym h.steps_are) (rash_both t MayAsk s c made h.lowering h.killing
+      (rash_quiet t MayAsk s c made h.lowering (lowers_quiet g limit (course t m h.lowering x) low)) killing.rash)
+
+  lowers_rash : (g limit : ℕ) (made : Run) (m : KnownMachine) (steps : Run) (n : KnownMachine) → limit_of m.ledger.groups g ≡ Some limit
+      → MayAsk m.ledger.groups g 0 → Passes t c s made m → LowersAbove g limit (course t m steps n) → RashFree t MayAsk s c made steps
+  lowers_rash g limit made m steps n is asked since h = elim (cases_lt limit (current_of m.ledger g)) [
+    | inl above ↦ kills_rash g limit made m steps n is asked since (h.above above)
+    | inr within ↦ rash_quiet t MayAsk s c made steps (ap has_kill (h.within within).1)
+  ]
+
+  keeps_rash : (g : ℕ) (of : Option ℕ) (made : Run) (m : KnownMachine) (steps : Run) (n : KnownMachine) → limit_of m.ledger.groups g ≡ of
+      → MayAsk m.ledger.groups g 0 → Passes t c s made m → KeepsToLimit g of (course t m steps n) → RashFree t MayAsk s c made steps
+  keeps_rash g None made m steps n is asked since h = rash_quiet t MayAsk s c made steps (ap has_kill h.1)
+  keeps_rash g (Some limit) made m steps n is asked since h = lowers_rash g limit made m steps n is asked since h
+
+  sets_rash : (g : ℕ) (of : Option ℕ) (steps : Run) (n : KnownMachine) (z : State) → has_group s.ledger.groups g ≡ true
+      → MayAsk (with_limit s.ledger.groups g of) g 0 → IsLocalRun c.number (local_of t s c) steps z
+      → SetsLimit g of (course t s steps n) → RashFree t MayAsk s c [] steps
+  sets_rash g of steps n z there asked whole h =
+      let x = with_limit_of s g of in
+      let first = set_max_steps g of in
+      let all = subst (λ (k : Run). IsLocalRun c.number (local_of t s c) k z) h.steps_are whole in
+      let set = passes_same t c s x first (all.0, refl) refl refl (record { quiet = refl; no_miss = λ f. refl }) in
+      subst (λ (k : Run). RashFree t MayAsk s c [] k) (sym h.steps_are) (rash_both t MayAsk s c [] first h.lowering
+      (rash_quiet t MayAsk s c [] first refl)
+      (keeps_rash g of first x h.lowering n (limit_of-limited s.ledger.groups g of there) asked set h.keeps))
+
+-- ---- all commands
+
+writes_no_rash : (t : KnownTable) (cmd : Cmd) (path name value : List ℕ) (said : Reply) (s : KnownMachine) (c : KnownCpu) (steps : Run) (n : KnownMachine)
+    (z : State) → ((g : ℕ) (now : List Group) → number_at s.ledger.groups path ≡ Some g → MayAskFor cmd s.ledger.groups now g 0)
+    → IsLocalRun c.number (local_of t s c) steps z → Writes path name value said (course t s steps n)
+    → NoRashKill t (MayAskFor cmd s.ledger.groups) s c steps
+writes_no_rash t cmd path name value reply.Done s c steps n z asks whole h =
+    sets_rash t (MayAskFor cmd s.ledger.groups) s c h.group h.limit steps n z (found_there s.ledger.groups path h.group h.file.number)
+    (asks h.group (with_limit s.ledger.groups h.group h.limit) h.file.number) whole h.sets
+writes_no_rash t cmd path name value (reply.Refused fault) s c steps n z asks whole h =
+    rash_quiet t (MayAskFor cmd s.ledger.groups) s c [] steps (ap has_kill h.2)
+writes_no_rash t cmd path name value other s c steps n z asks whole h = absurd h
+
+allocates_for : (t : KnownTable) (cmd : Cmd) (sizes : Config) (path : List ℕ) (order : ℕ) (answer : Result ℕ AllocFault) (s : KnownMachine) (c : KnownCpu)
+    (steps : Run) (n : Side) (z : State)
+    → ((g over : ℕ) (now : List Group) → number_at s.ledger.groups path ≡ Some g → in_subtree now over g ≡ true → 2 ^ order ≤ 8
+    → MayAskFor cmd s.ledger.groups now over (2 ^ order))
+    → IsLocalRun c.number (local_of t s c) steps z → AllocatesFor sizes path order answer (course t (side s c) steps n)
+    → NoRashKill t (MayAskFor cmd s.ledger.groups) s c steps
+allocates_for t cmd sizes path order answer s c steps n z asks whole h = elim (cases_eq order 0) [
+  | inl frame ↦
+      let one : 2 ^ order ≡ 1 = ap (λ (k : ℕ). 2 ^ k) frame in
+      let may = subst (λ (p : ℕ). (over : ℕ) → in_subtree s.ledger.groups over h.group ≡ true → p ≤ 8
+          → MayAskFor cmd s.ledger.groups s.ledger.groups over p) one (λ over below few. asks h.group over s.ledger.groups h.found below few) in
+      frame_no_rash t (MayAskFor cmd s.ledger.groups) s c h.group may sizes answer steps n z whole (h.allocates.frame frame)
+  | inr block ↦
+      block_no_rash t (MayAskFor cmd s.ledger.groups) s c h.group order (λ over below few. asks h.group over s.ledger.groups h.found below few)
+      answer steps n z whole (h.allocates.block block)
+]
+
+allocates_no_rash : (t : KnownTable) (cmd : Cmd) (sizes : Config) (path : List ℕ) (order : ℕ) (said : Reply) (s : KnownMachine) (c : KnownCpu)
+    (steps : Run) (n : Side) (z : State)
+    → ((g over : ℕ) (now : List Group) → number_at s.ledger.groups path ≡ Some g → in_subtree now over g ≡ true → 2 ^ order ≤ 8
+    → MayAskFor cmd s.ledger.groups now over (2 ^ order))
+    → IsLocalRun c.number (local_of t s c) steps z → Allocates sizes path order said (course t (side s c) steps n)
+    → NoRashKill t (MayAskFor cmd s.ledger.groups) s c steps
+allocates_no_rash t cmd sizes path order (reply.Frame f) s c steps n z asks whole h =
+    allocates_for t cmd sizes path order (Ok f) s c steps n z asks whole h
+allocates_no_rash t cmd sizes path order (reply.OverLimit g text) s c steps n z asks whole h =
+    allocates_for t cmd sizes path order (Err (Over g)) s c steps n z asks whole h.0
+allocates_no_rash t cmd sizes path order (reply.Refused fault.NoGroup) s c steps n z asks whole h =
+    rash_quiet t (MayAskFor cmd s.ledger.groups) s c [] steps (ap has_kill h.1.steps_are)
+allocates_no_rash t cmd sizes path order (reply.Refused fault.BadOrder) s c steps n z asks whole h =
+    rash_quiet t (MayAskFor cmd s.ledger.groups) s c [] steps (ap has_kill h.stays.steps_are)
+allocates_no_rash t cmd sizes path order (reply.Refused fault.NoFrames) s c steps n z asks whole h =
+    allocates_for t cmd sizes path order (Err NoFrames) s c steps n z asks whole h
+allocates_no_rash t cmd sizes path order (reply.Refused fault.Killed) s c steps n z asks whole h =
+    allocates_for t cmd sizes path order (Err Killed) s c steps n z asks whole h
+allocates_no_rash t cmd sizes path order other s c steps n z asks whole h = absurd h
+
+pub obeys_no_rash : (t : KnownTable) (sizes : Config) (cmd : Cmd) (said : Reply) (s : KnownMachine) (c : KnownCpu) (steps : Run) (n : Side) (z : State)
+    → Obeys sizes cmd said (course t (side s c) steps n) → IsLocalRun c.number (local_of t s c) steps z
+    → NoRashKill t (MayAskFor cmd s.ledger.groups) s c steps
+obeys_no_rash t sizes (Mkdir path) said s c steps n z h whole =
+    rash_quiet t (MayAskFor (Mkdir path) s.ledger.groups) s c [] steps (makes_quiet path.now said (course t s steps n.machine) h.0)
+obeys_no_rash t sizes (Rmdir path) said s c steps n z h whole =
+    rash_quiet t (MayAskFor (Rmdir path) s.ledger.groups) s c [] steps (removes_quiet path.now said (course t s steps n.machine) h.0)
+obeys_no_rash t sizes (Write path file value) said s c steps n z h whole =
+    writes_no_rash t (Write path file value) path.now file.now value.now said s c steps n.machine z (λ g now found. (found, refl)) whole h.0
+obeys_no_rash t sizes (Read path file) said s c steps n z h whole =
+    rash_quiet t (MayAskFor (Read path file) s.ledger.groups) s c [] steps (ap has_kill h.1.steps_are)
+obeys_no_rash t sizes Settle said s c steps n z h whole =
+    rash_quiet t (MayAskFor Settle s.ledger.groups) s c [] steps (ap has_kill h.1.steps_are)
+obeys_no_rash t sizes (Owner f) said s c steps n z h whole =
+    rash_quiet t (MayAskFor (Owner f) s.ledger.groups) s c [] steps (ap has_kill h.1.steps_are)
+obeys_no_rash t sizes (Touch f) said s c steps n z h whole =
+    rash_quiet t (MayAskFor (Touch f) s.ledger.groups) s c [] steps (touches_quiet f said (course t s steps n.machine) h.0)
+obeys_no_rash t sizes (Dirty f) said s c steps n z h whole =
+    rash_quiet t (MayAskFor (Dirty f) s.ledger.groups) s c [] steps (notes_quiet true f said (course t s steps n.machine) h.0)
+obeys_no_rash t sizes (Clean f) said s c steps n z h whole =
+    rash_quiet t (MayAskFor (Clean f) s.ledger.groups) s c [] steps (notes_quiet false f said (course t s steps n.machine) h.0)
+obeys_no_rash t sizes (Release f) said s c steps n z h whole =
+    rash_quiet t (MayAskFor (Release f) s.ledger.groups) s c [] steps (releases_quiet sizes f said (course t (side s c) steps n) h)
+obeys_no_rash t sizes (Alloc path order) said s c steps n z h whole =
+    allocates_no_rash t (Alloc path order) sizes path.now order said s c steps n z
+    (λ g over now found below few. (g, found, record { on_path = below; need_is = refl; few = few })) whole h
