@@ -14,7 +14,7 @@ use anyhow::{Context, Result};
 use runs::replay_run;
 use std::fs;
 
-const RUNS: [&str; 9] = [
+const RUNS: [&str; 11] = [
     "frames-64.txt",
     "frames-8.txt",
     "frames-43.txt",
@@ -23,6 +23,8 @@ const RUNS: [&str; 9] = [
     "reclaim.txt",
     "reclaim-by-one.txt",
     "reclaim-rounds.txt",
+    "kills.txt",
+    "kills-by-one.txt",
     "frames-65536.txt",
 ];
 

@@ -58,6 +58,8 @@ fn group_action_of(word: &str, a: u32, b: u32, c: u32) -> Option<(u32, Action)> 
             order: Order::of(b)?,
         },
         "note" => Action::NoteMax { group },
+        "oom" => Action::NoteOom { group },
+        "kill" => Action::Kill { group },
         "limit" => Action::SetMax {
             group,
             limit: Some(b),
