@@ -6,4 +6,5 @@ pub mod Rounding
 pub mod Taking
 pub mod NoRash
 pub mod NoRashAllocs
+pub mod Missing
 pub mod CallerLemmas

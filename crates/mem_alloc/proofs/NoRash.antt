@@ -129,7 +129,7 @@ passes_none t c m = record {
   tied = record { misses = λ f. omega arith; kept = λ f is. is; dirt = λ f is. refl };
 }
 
-missed_both : (f : ℕ) (one two : Run) → missed_in f (one ++ two) ≡ missed_in f one + missed_in f two
+pub missed_both : (f : ℕ) (one two : Run) → missed_in f (one ++ two) ≡ missed_in f one + missed_in f two
 missed_both f one two = sum_by-append (λ (e : Step × Answer). cond (is_miss f e.0.action e.1) 1 0) one two
 
 pub passes_both : (t : KnownTable) (c : KnownCpu) (m x n : KnownMachine) (one two : Run) → Passes t c m one x → Passes t c x two n
@@ -186,7 +186,7 @@ one_same g q m n [] h = record {
 one_same g q m n (drain ∷ []) h = drain_same m n q drain.pages h.1.drains
 one_same g q m n (one ∷ two ∷ more) h = absurd h
 
-all_same : (g k : ℕ) (m n : KnownMachine) (drains : List Drain) → DrainsAllBelow g k drains m n → SameUnits m n
+pub all_same : (g k : ℕ) (m n : KnownMachine) (drains : List Drain) → DrainsAllBelow g k drains m n → SameUnits m n
 all_same g zero m n drains h = record {
   seat = ap (λ (x : KnownMachine). x.seat) h.1;
   links = ap (λ (x : KnownMachine). x.links) h.1;

@@ -157,6 +157,7 @@ module _ (t : KnownTable) (want : ℕ) (Fails : Course Side → Type 0) (Succeed
         missed = missed;
         keeps = keeps;
         none_killed = leads.moves.quiet;
+        misses = leads.moves.misses;
         tries = does;
         steps_are = refl;
       }

@@ -1,6 +1,5 @@
 -- What becomes of the machine where a limit has no room for a charge.
 use Rattle.std.specs.Prelude.{◌≡◌, ℕ, ◌+◌, ◌<◌, ◌≤◌, true, false, Option, Some, None, List, [], ◌∷◌, ◌++◌}
-use Rattle.frame_word.specs.Seats.{misses_of}
 use Rattle.group_tree.specs.Groups.{limit_of}
 use Rattle.group_tree.specs.Room.{IsLowestOver}
 use Rattle.group_charge.specs.Charges.{current_of, with_max_noted}
@@ -9,12 +8,12 @@ use Rattle.mem_machine.specs.Machines.{KnownMachine, is_killed}
 use Rattle.mem_machine.specs.Local.{MakesForAny}
 use Rattle.mem_machine.specs.Steps.{Drain, over_steps, note_max_steps, drain_stocks_steps}
 use Rattle.mem_machine.specs.Stocks.{DrainsAllBelow, AreDrained}
-use Rattle.mem_reclaim.specs.Moves.{has_kill, missed_in}
+use Rattle.mem_reclaim.specs.Moves.{has_kill}
 use Rattle.mem_reclaim.specs.Rounds.{MakesRounds, pages_missing}
 use Rattle.mem_reclaim.specs.Staying.{Keeps, MissedAll}
 use Rattle.mem_alloc.specs.declared.faults.AllocFault.{AllocFault}
 use Rattle.mem_alloc.specs.declared.faults.AllocFault.TheVariants.{Over, NoFrames, Killed}
-use Rattle.mem_alloc.specs.Stepping.{Course, course, Rests}
+use Rattle.mem_alloc.specs.Stepping.{CountsMisses, Course, course, Rests}
 -- what is killed, and whether there is room
 pub use Rattle.mem_alloc.specs.Kills.{KillsFor, has_room_for}
 
@@ -38,12 +37,11 @@ RoundsBefore None g pages way = (way.after ≡ way.before) × (way.steps ≡ [])
 RoundsBefore (Some limit) g pages way =
     (given : ℕ) × MakesRounds g (pages_missing g pages limit) 16 given way.before way.steps way.after
 
--- the steps lead there, whoever holds the lock; none is a kill, and the misses that were noted of each frame are those
--- among them
+-- the steps lead there, whoever holds the lock; none is a kill, and the misses noted are those among them
 pub record KillsNone (way : Course KnownMachine) : Type 0 where
   pub runs : MakesForAny way.table way.before way.steps way.after
   pub quiet : has_kill way.steps ≡ false
-  pub misses : (f : ℕ) → misses_of way.after.seat f ≡ misses_of way.before.seat f + missed_in f way.steps
+  pub misses : CountsMisses way
 
 -- Clean units of the group's subtree come back in rounds, until its limit has room for so many pages. Where it has none
 -- still, each clean unit that the subtree still keeps was tried, and missed

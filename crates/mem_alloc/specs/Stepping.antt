@@ -1,9 +1,10 @@
 -- How a call is said by the steps that it is.
-use Rattle.std.specs.Prelude.{◌≡◌, [], Result, MatchResult}
-use Rattle.frame_word.specs.Seats.{KnownTable}
+use Rattle.std.specs.Prelude.{◌≡◌, ℕ, ◌+◌, [], Result, MatchResult}
+use Rattle.frame_word.specs.Seats.{KnownTable, misses_of}
 use Rattle.step_rules.specs.After.{Run}
 use Rattle.mem_machine.specs.Machines.{KnownMachine}
 use Rattle.mem_machine.specs.Local.{Side, Makes, MakesForAny}
+use Rattle.mem_reclaim.specs.Moves.{missed_in}
 
 -- The course of a call at a table: what was there before, its steps with their answers, and what is there after. It is
 -- told of a side, or of the machine alone
@@ -38,6 +39,10 @@ abbrev pub ByAnswer : {T E : Type 0} → KnownTable → Side → Side → Result
     → (E → Course Side → Type 0) → Type 0
 ByAnswer t before after answer Does Refuses =
     MatchResult answer (λ done. BySteps t before after Does) (λ cause. BySteps t before after (Refuses cause))
+
+-- the misses that the zone's seat noted of each frame grew by the freezes of it that missed among the steps
+abbrev pub CountsMisses : Course KnownMachine → Type 0
+CountsMisses way = (f : ℕ) → misses_of way.after.seat f ≡ misses_of way.before.seat f + missed_in f way.steps
 
 -- nothing of the machine changed, without a step
 pub record Rests (way : Course KnownMachine) : Type 0 where

@@ -96,7 +96,7 @@ only_lets_same t m n groups usage seat links = record {
 -- ---- one unit
 
 -- a put is no miss
-misses_put : (seat : KnownSeat) (f g : ℕ) (change : FrameNote → FrameNote) → ((k : FrameNote) → (change k).misses ≡ k.misses)
+pub misses_put : (seat : KnownSeat) (f g : ℕ) (change : FrameNote → FrameNote) → ((k : FrameNote) → (change k).misses ≡ k.misses)
     → misses_of (seat_with seat f change) g ≡ misses_of seat g
 misses_put seat f g change keeps = elim (cases_eq g f) [
   | inl e ↦ subst (λ (x : ℕ). misses_of (seat_with seat f change) x ≡ misses_of seat x) (sym e)

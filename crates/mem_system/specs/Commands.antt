@@ -17,7 +17,7 @@ use Rattle.mem_machine.specs.Local.{Side, side, Makes}
 use Rattle.mem_machine.specs.Settling.{Settles, settle_steps}
 use Rattle.mem_machine.specs.Steps.{open_steps, shut_steps, make_steps, remove_steps, set_max_steps}
 -- how a call is said by its steps
-pub use Rattle.mem_alloc.specs.Stepping.{Course, course, of_machine, OfMachine, BySteps, Stays}
+pub use Rattle.mem_alloc.specs.Stepping.{CountsMisses, Course, course, of_machine, OfMachine, BySteps, Stays}
 -- that nobody is killed too early
 pub use Rattle.mem_alloc.specs.NoRash.{IsChargedBelow, NoRashKill}
 use Rattle.mem_system.specs.declared.command.Cmd.{Cmd}
@@ -175,7 +175,7 @@ MayAskFor (Write path file value) was now limited need = (number_at was path.now
 MayAskFor other was now limited need = ⊥
 
 -- A command under the lock: the caller's visit is opened, its part is settled, the command is obeyed, and the visit
--- is shut. No group is killed meanwhile before everything else was tried
+-- is shut. No group is killed meanwhile before everything else was tried, and the misses noted are those among the steps
 pub record Serves (cmd : Cmd) (reply : Reply) (way : Course Holder) : Type 0 where
   pub settled : Side
   pub settles : Settles (visited (side_of way.before)) settled
@@ -183,6 +183,7 @@ pub record Serves (cmd : Cmd) (reply : Reply) (way : Course Holder) : Type 0 whe
   pub done : KnownMachine
   pub obeys : Obeys way.before.locked.sizes cmd reply (course way.table settled inner (side done way.after.cpu))
   pub no_rash : NoRashKill way.table (MayAskFor cmd settled.machine.ledger.groups) settled.machine settled.cpu inner
+  pub misses : CountsMisses (course way.table settled.machine inner done)
   pub machine : way.after.locked.machine ≡ with_visit_of done way.before.cpu.number 0
   pub sizes : way.after.locked.sizes ≡ way.before.locked.sizes
   pub steps_are : way.steps ≡ open_steps way.before.cpu.number

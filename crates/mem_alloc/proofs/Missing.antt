@@ -1,0 +1,381 @@
+-- The misses that are noted are those among the steps. Serves whoever tells the steps of a command.
+use Rattle.std.proofs.Common.{◌≡◌, ℕ, zero, suc, ◌+◌, ◌<◌, ◌≤◌, ◌^◌, true, false, Option, Some, None, List, [], ◌∷◌, ◌++◌, refl, sym, ap, ◌∙◌, subst, inl, inr, arith}
+use Rattle.std.specs.Prelude.{Result, Ok, Err}
+use Rattle.std.proofs.lemmas.Bool.{cases_Bool, cases_lt}
+use Rattle.frame_word.specs.Seats.{KnownTable, KnownSeat, misses_of}
+use Rattle.frame_word.specs.Views.{collected_from, passed_out_to, unfrozen}
+use Rattle.zone_sizes.specs.declared.config.Config.{Config}
+use Rattle.step_rules.specs.After.{Run}
+use Rattle.mem_machine.specs.Machines.{KnownMachine}
+use Rattle.mem_machine.specs.Local.{Side, side}
+use Rattle.mem_machine.specs.Blocks.{taken_steps, unplaced_steps}
+use Rattle.mem_machine.specs.Lending.{LendsMany, TakesManyBack}
+use Rattle.mem_machine.specs.Stocks.{Drains, DrainsAllBelow, stock_group}
+use Rattle.mem_machine.specs.Steps.{Drain, back_steps, drain_list_steps, drain_steps, drain_stocks_steps, fill_steps, kill_steps, lend_steps, note_max_steps, note_oom_steps, over_steps, refill_steps, take_front_steps}
+use Rattle.mem_reclaim.specs.Moves.{missed_in}
+use Rattle.mem_reclaim.proofs.LettingGo.{AreQuiet, misses_put, quiet_both, quiet_drain, quiet_drains}
+use Rattle.mem_alloc.specs.declared.faults.AllocFault.{AllocFault}
+use Rattle.mem_alloc.specs.declared.faults.AllocFault.TheVariants.{Over, NoFrames, Killed}
+use Rattle.mem_alloc.specs.Stepping.{CountsMisses, Course, Rests, Stays, course, of_machine}
+use Rattle.mem_alloc.specs.Kills.{KillsEach, KillsFor, KillsOne, KillsVictims, has_room_for, with_oom_noted_at}
+use Rattle.mem_alloc.specs.Room.{ClearsBelow, IsRefusedAt, IsRefusedFor, KillsForFew, MakesRoom, RelievesLimit, with_max_noted_at}
+use Rattle.mem_alloc.specs.Charging.{ChargesFrame, DrainsOwn, FillsAfterRoom, PaysForFrame, RefusesFrame, RefusesToPay}
+use Rattle.mem_alloc.specs.Rounds.{FailsInRounds, MakesRound, SucceedsInRounds}
+use Rattle.mem_alloc.specs.Frames.{AllocatesFrame, FillsList, HasNoFrame, LendsBatch, LendsNoFrame}
+use Rattle.mem_alloc.specs.Blocks.{AllocatesBlock, FindsNoBlock, TakesAfterRoom, TakesAgain, TakesInRounds, TakesSecond, TriesAgain, TriesInRounds, TryFindsNone, TryTakes}
+use Rattle.mem_alloc.proofs.NoRash.{all_same, missed_both}
+
+-- ---- one after another
+
+pub counts_both : (t : KnownTable) (m x n : KnownMachine) (one two : Run) → CountsMisses (course t m one x) → CountsMisses (course t x two n)
+    → CountsMisses (course t m (one ++ two) n)
+counts_both t m x n one two a b f =
+    let p = a f in
+    let q = b f in
+    let r = missed_both f one two in
+    omega (arith, p, q, r)
+
+-- by steps of which none is a freeze that missed, where none was noted
+pub counts_none : (t : KnownTable) (m n : KnownMachine) (steps : Run) → AreQuiet steps → ((f : ℕ) → misses_of n.seat f ≡ misses_of m.seat f)
+    → CountsMisses (course t m steps n)
+counts_none t m n steps quiet same f =
+    let p = quiet.no_miss f in
+    let q = same f in
+    omega (arith, p, q)
+
+-- so it is where the zone's seat stays
+pub counts_same : (t : KnownTable) (m n : KnownMachine) (steps : Run) → AreQuiet steps → n.seat ≡ m.seat → CountsMisses (course t m steps n)
+counts_same t m n steps quiet same = counts_none t m n steps quiet (λ f. ap (λ (s : KnownSeat). misses_of s f) same)
+
+-- and where the list of steps is told by another
+pub counts_as : (t : KnownTable) (m n : KnownMachine) (steps told : Run) → steps ≡ told → CountsMisses (course t m told n) → CountsMisses (course t m steps n)
+counts_as t m n steps told is h = subst (λ (k : Run). CountsMisses (course t m k n)) (sym is) h
+
+abbrev pub calm : AreQuiet []
+calm = record { quiet = refl; no_miss = λ f. refl }
+
+pub counts_rest : (t : KnownTable) (m n : KnownMachine) (steps : Run) → n ≡ m → steps ≡ [] → CountsMisses (course t m steps n)
+counts_rest t m n steps same none =
+    counts_as t m n steps [] none (counts_same t m n [] calm (ap (λ (x : KnownMachine). x.seat) same))
+
+-- ---- drains, notes and kills
+
+counts_drain : (t : KnownTable) (q k : ℕ) (m n : KnownMachine) → Drains m q k n → CountsMisses (course t m (drain_steps q (stock_group m q) k) n)
+counts_drain t q k m n d =
+    counts_same t m n (drain_steps q (stock_group m q) k) (quiet_drain q (stock_group m q) k) (ap (λ (x : KnownMachine). x.seat) d.machine)
+
+pub counts_drains : (t : KnownTable) (g k : ℕ) (m n : KnownMachine) (drains : List Drain) → DrainsAllBelow g k drains m n
+    → CountsMisses (course t m (drain_stocks_steps drains) n)
+counts_drains t g k m n drains all = counts_same t m n (drain_stocks_steps drains) (quiet_drains drains) (all_same g k m n drains all).seat
+
+counts_one : (r : Option ℕ) (t : KnownTable) (g pages v : ℕ) (m n : KnownMachine) (steps : Run) → KillsOne r g pages v (course t m steps n)
+    → CountsMisses (course t m steps n)
+counts_one r t g pages v m n steps h =
+    let told = kill_steps v ++ h.kills.later in
+    let quiet : (f : ℕ) → missed_in f told ≡ 0 = λ f.
+        let a = missed_both f (kill_steps v) h.kills.later in
+        let b = h.kills.no_miss f in
+        let z : missed_in f (kill_steps v) ≡ 0 = refl in
+        omega (arith, a, b, z) in
+    counts_as t m n steps told (h.steps_are ∙ h.kills.front) (λ f.
+    let p = quiet f in
+    let q = h.keeps.misses f in
+    omega (arith, p, q))
+
+counts_each : (r : Option ℕ) (t : KnownTable) (g pages : ℕ) (victims : List ℕ) (m n : KnownMachine) (steps : Run)
+    → KillsEach r g pages victims (course t m steps n) → CountsMisses (course t m steps n)
+counts_each r t g pages [] m n steps h = counts_rest t m n steps h.machine h.steps_are
+counts_each r t g pages (v ∷ later) m n steps h =
+    counts_as t m n steps (h.1 ++ h.2) h.5 (counts_both t m h.0 n h.1 h.2 (counts_one r t g pages v m h.0 h.1 h.3) (counts_each r t g pages later h.0 n h.2 h.4))
+
+pub counts_kills : (r : Option ℕ) (t : KnownTable) (g pages : ℕ) (m n : KnownMachine) (steps : Run) → KillsFor r g pages (course t m steps n)
+    → CountsMisses (course t m steps n)
+counts_kills r t g pages m n steps k = elim (cases_Bool (has_room_for m.ledger g pages)) [
+  | inl room ↦ counts_rest t m n steps (k.room room).machine (k.room room).steps_are
+  | inr over ↦
+      let h = k.over over in
+      let x = with_oom_noted_at m g in
+      counts_as t m n steps (note_oom_steps g ++ h.killing) h.steps_are (counts_both t m x n (note_oom_steps g) h.killing
+      (counts_same t m x (note_oom_steps g) (record { quiet = refl; no_miss = λ f. refl }) refl) (counts_each r t g pages h.victims x n h.killing h.kills))
+]
+
+counts_few : (t : KnownTable) (r g pages : ℕ) (m n : KnownMachine) (steps : Run) → KillsForFew r g pages (course t m steps n) → CountsMisses (course t m steps n)
+counts_few t r g pages m n steps k = elim (cases_lt 8 pages) [
+  | inl many ↦ counts_rest t m n steps (k.many many).machine (k.many many).steps_are
+  | inr few ↦ counts_kills (Some r) t g pages m n steps (k.few few)
+]
+
+-- ---- a limit without room
+
+counts_clear : (t : KnownTable) (g : ℕ) (m n : KnownMachine) (steps : Run) → ClearsBelow g (course t m steps n) → CountsMisses (course t m steps n)
+counts_clear t g m n steps h =
+    let x = with_max_noted_at m g in
+    let note = counts_same t m x (note_max_steps g) (record { quiet = refl; no_miss = λ f. refl }) refl in
+    counts_as t m n steps (note_max_steps g ++ drain_stocks_steps h.drains) h.steps_are
+    (counts_both t m x n (note_max_steps g) (drain_stocks_steps h.drains) note (counts_drains t g t.cpus x n h.drains h.all))
+
+counts_relief : (t : KnownTable) (r g pages : ℕ) (m n : KnownMachine) (steps : Run) → RelievesLimit r g pages (course t m steps n)
+    → CountsMisses (course t m steps n)
+counts_relief t r g pages m n steps h =
+    let x = h.cleared in
+    let y = h.reclaimed in
+    counts_as t m n steps (h.clearing ++ (h.reclaiming ++ h.killing)) h.steps_are
+    (counts_both t m x n h.clearing (h.reclaiming ++ h.killing) (counts_clear t g m x h.clearing h.clears)
+    (counts_both t x y n h.reclaiming h.killing h.reclaims.none_killed.misses (counts_few t r g pages y n h.killing h.kills)))
+
+over_counts : (t : KnownTable) (g pages over : ℕ) (m : KnownMachine) → CountsMisses (course t m (over_steps g pages over) m)
+over_counts t g pages over m = counts_same t m m (over_steps g pages over) (record { quiet = refl; no_miss = λ f. refl }) refl
+
+counts_refused : (t : KnownTable) (g pages over : ℕ) (m n : KnownMachine) (steps : Run) → IsRefusedAt g pages over (course t m steps n)
+    → CountsMisses (course t m steps n)
+counts_refused t g pages over m n steps h =
+    counts_as t m n steps (over_steps g pages over ++ h.relieving) h.steps_are
+    (counts_both t m m n (over_steps g pages over) h.relieving (over_counts t g pages over m) (counts_relief t g over pages m n h.relieving h.relieves))
+
+counts_room : (t : KnownTable) (g pages : ℕ) (refused : List ℕ) (m n : KnownMachine) (steps : Run) → MakesRoom g pages refused (course t m steps n)
+    → CountsMisses (course t m steps n)
+counts_room t g pages [] m n steps h = counts_rest t m n steps h.0 h.1
+counts_room t g pages (over ∷ later) m n steps h =
+    counts_as t m n steps (h.1 ++ h.2) h.6 (counts_both t m h.0 n h.1 h.2 (counts_refused t g pages over m h.0 h.1 h.3) (counts_room t g pages later h.0 n h.2 h.5))
+
+counts_refusal : (t : KnownTable) (g pages : ℕ) (cause : AllocFault) (m n : KnownMachine) (steps : Run) → IsRefusedFor g pages cause (course t m steps n)
+    → CountsMisses (course t m steps n)
+counts_refusal t g pages cause m n steps h =
+    counts_as t m n steps (h.making ++ h.last) h.steps_are (counts_both t m h.cleared n h.making h.last
+    (counts_room t g pages h.refused_at m h.cleared h.making h.makes) (counts_refused t g pages h.over h.cleared n h.last h.refused))
+
+-- ---- lists
+
+refill_calm : (p : ℕ) (frames : List ℕ) → AreQuiet (refill_steps p frames)
+refill_calm p [] = calm
+refill_calm p (f ∷ frames) = quiet_both (lend_steps p f) (refill_steps p frames) (record { quiet = refl; no_miss = λ g. refl }) (refill_calm p frames)
+
+pub back_calm : (p : ℕ) (frames : List ℕ) → AreQuiet (drain_list_steps p frames)
+back_calm p [] = calm
+back_calm p (f ∷ frames) = quiet_both (back_steps p f) (drain_list_steps p frames) (record { quiet = refl; no_miss = λ g. refl }) (back_calm p frames)
+
+lent_same : (frames : List ℕ) (m n : Side) → LendsMany frames m n → (g : ℕ) → misses_of n.machine.seat g ≡ misses_of m.machine.seat g
+lent_same [] m n h g = ap (λ (x : KnownMachine). misses_of x.seat g) h.0
+lent_same (f ∷ frames) m n h g =
+    lent_same frames h.0 n h.2 g ∙ ap (λ (x : KnownMachine). misses_of x.seat g) h.1.machine
+    ∙ misses_put m.machine.seat f g (passed_out_to m.cpu.number) (λ k. refl)
+
+pub back_same : (frames : List ℕ) (m n : Side) → TakesManyBack frames m n → (g : ℕ) → misses_of n.machine.seat g ≡ misses_of m.machine.seat g
+back_same [] m n h g = ap (λ (x : KnownMachine). misses_of x.seat g) h.0
+back_same (f ∷ frames) m n h g =
+    back_same frames h.0 n h.2 g ∙ ap (λ (x : KnownMachine). misses_of x.seat g) h.1.machine
+    ∙ misses_put m.machine.seat f g (collected_from m.cpu.number) (λ k. refl)
+
+-- ---- rounds of reclaim
+
+-- the misses are counted in each such course
+abbrev pub AllCounted : (Course Side → Type 0) → Type 0
+AllCounted P = (way : Course Side) → P way → CountsMisses (of_machine way)
+
+counts_stay : AllCounted Stays
+counts_stay way h = counts_rest way.table way.before.machine way.after.machine way.steps h.machine h.steps_are
+
+module _ (want : ℕ) (Fails : Course Side → Type 0) (failing : AllCounted Fails) where
+  round_counts : (given : ℕ) (Tries : Course Side → Type 0) → AllCounted Tries → AllCounted (MakesRound want given Tries)
+  round_counts given Tries trying way h =
+      let m = way.before.machine in
+      let n = way.after.machine in
+      counts_as way.table m n way.steps (h.reclaiming ++ h.trying) h.steps_are (counts_both way.table m h.reclaimed n h.reclaiming h.trying h.misses
+      (trying (course way.table (side h.reclaimed way.before.cpu) h.trying way.after) h.tries))
+
+  fails_count : (rounds : ℕ) → AllCounted (FailsInRounds rounds want Fails)
+  fails_count zero way h = counts_stay way h
+  fails_count (suc more) way h =
+      let m = way.before.machine in
+      let n = way.after.machine in
+      counts_as way.table m n way.steps (h.2 ++ h.3) h.6 (counts_both way.table m h.1.machine n h.2 h.3
+      (round_counts h.0 Fails failing (course way.table way.before h.2 h.1) h.4) (elim h.5 [
+        | inl last ↦ counts_stay (course way.table h.1 h.3 way.after) last.1
+        | inr again ↦ fails_count more (course way.table h.1 h.3 way.after) again.1
+      ]))
+
+  succeeds_count : (rounds : ℕ) (Succeeds : Course Side → Type 0) → AllCounted Succeeds → AllCounted (SucceedsInRounds rounds want Succeeds Fails)
+  succeeds_count zero Succeeds succeeding way h = absurd h
+  succeeds_count (suc more) Succeeds succeeding way (inl h) = round_counts h.0 Succeeds succeeding way h.1
+  succeeds_count (suc more) Succeeds succeeding way (inr h) =
+      let m = way.before.machine in
+      let n = way.after.machine in
+      counts_as way.table m n way.steps (h.2 ++ h.3) h.7 (counts_both way.table m h.1.machine n h.2 h.3
+      (round_counts h.0 Fails failing (course way.table way.before h.2 h.1) h.5) (succeeds_count more Succeeds succeeding (course way.table h.1 h.3 way.after) h.6))
+
+-- ---- a single frame
+
+lends_count : (batch : ℕ) → AllCounted (LendsBatch batch)
+lends_count batch way h =
+    let p = way.before.cpu.number in
+    counts_as way.table way.before.machine way.after.machine way.steps (refill_steps p h.frames) h.steps_are
+    (counts_none way.table way.before.machine way.after.machine (refill_steps p h.frames) (refill_calm p h.frames) (lent_same h.frames way.before way.after h.lends))
+
+lends_none_count : AllCounted LendsNoFrame
+lends_none_count way h = counts_stay way h.stays
+
+fills_count : (sizes : Config) → AllCounted (FillsList sizes)
+fills_count sizes way (inl h) = counts_stay way h.stays
+fills_count sizes way (inr (inl h)) = lends_count sizes.batch way h.lends
+fills_count sizes way (inr (inr h)) = succeeds_count 1 LendsNoFrame lends_none_count 16 (LendsBatch sizes.batch) (lends_count sizes.batch) way h.rounds
+
+no_frame_counts : (cause : AllocFault) → AllCounted (HasNoFrame cause)
+no_frame_counts cause way h =
+    let t = way.table in
+    let m = way.before.machine in
+    let n = way.after.machine in
+    let last = drain_steps way.before.cpu.number (stock_group h.reclaimed way.before.cpu.number) h.back in
+    counts_as t m n way.steps (h.reclaiming ++ last) h.steps_are (counts_both t m h.reclaimed n h.reclaiming last
+    (fails_count 1 LendsNoFrame lends_none_count 16 (course t way.before h.reclaiming (side h.reclaimed way.before.cpu)) h.rounds)
+    (counts_drain t way.before.cpu.number h.back h.reclaimed n h.drains))
+
+fill_counts : (g : ℕ) → AllCounted (FillsAfterRoom g 1)
+fill_counts g way h =
+    let t = way.table in
+    let m = way.before.machine in
+    let n = way.after.machine in
+    let last = fill_steps way.before.cpu.number g 1 in
+    counts_as t m n way.steps (h.making ++ last) h.steps_are (counts_both t m h.cleared n h.making last
+    (counts_room t g 1 h.refused_at m h.cleared h.making h.makes)
+    (counts_same t h.cleared n last (record { quiet = refl; no_miss = λ f. refl }) (ap (λ (x : KnownMachine). x.seat) h.fills.machine)))
+
+charges_count : (sizes : Config) (g : ℕ) → AllCounted (ChargesFrame sizes g)
+charges_count sizes g way (inl h) =
+    let last = fill_steps way.before.cpu.number g sizes.stock in
+    counts_as way.table way.before.machine way.after.machine way.steps last h.steps_are
+    (counts_same way.table way.before.machine way.after.machine last (record { quiet = refl; no_miss = λ f. refl })
+    (ap (λ (x : KnownMachine). x.seat) h.fills.machine))
+charges_count sizes g way (inr h) =
+    let t = way.table in
+    let m = way.before.machine in
+    let first = over_steps g sizes.stock h.over in
+    counts_as t m way.after.machine way.steps (first ++ h.later) h.steps_are (counts_both t m m way.after.machine first h.later
+    (over_counts t g sizes.stock h.over m) (fill_counts g (course t way.before h.later way.after) h.fills))
+
+refuses_count : (sizes : Config) (g : ℕ) (cause : AllocFault) → AllCounted (RefusesFrame sizes g cause)
+refuses_count sizes g cause way h =
+    let t = way.table in
+    let m = way.before.machine in
+    let first = over_steps g sizes.stock h.over in
+    counts_as t m way.after.machine way.steps (first ++ h.later) h.steps_are (counts_both t m m way.after.machine first h.later
+    (over_counts t g sizes.stock h.over m) (counts_refusal t g 1 cause m way.after.machine h.later h.refuses.refuses))
+
+own_counts : (t : KnownTable) (g : ℕ) (before : Side) (steps : Run) (x : KnownMachine) → DrainsOwn g before steps x
+    → CountsMisses (course t before.machine steps x)
+own_counts t g before steps x h =
+    counts_as t before.machine x steps (drain_steps before.cpu.number (stock_group before.machine before.cpu.number) h.back) h.steps_are
+    (counts_drain t before.cpu.number h.back before.machine x h.drains)
+
+pays_count : (sizes : Config) (g : ℕ) → AllCounted (PaysForFrame sizes g)
+pays_count sizes g way (inl h) = counts_rest way.table way.before.machine way.after.machine way.steps h.machine h.steps_are
+pays_count sizes g way (inr h) =
+    counts_as way.table way.before.machine way.after.machine way.steps (h.first ++ h.later) h.steps_are
+    (counts_both way.table way.before.machine h.emptied way.after.machine h.first h.later (own_counts way.table g way.before h.first h.emptied h.drains)
+    (charges_count sizes g (course way.table (side h.emptied way.before.cpu) h.later way.after) h.charges))
+
+pays_not_count : (sizes : Config) (g : ℕ) (cause : AllocFault) → AllCounted (RefusesToPay sizes g cause)
+pays_not_count sizes g cause way h =
+    counts_as way.table way.before.machine way.after.machine way.steps (h.first ++ h.later) h.steps_are
+    (counts_both way.table way.before.machine h.emptied way.after.machine h.first h.later (own_counts way.table g way.before h.first h.emptied h.drains)
+    (refuses_count sizes g cause (course way.table (side h.emptied way.before.cpu) h.later way.after) h.refuses))
+
+pub frame_counts : (sizes : Config) (g : ℕ) (answer : Result ℕ AllocFault) → AllCounted (AllocatesFrame sizes g answer)
+frame_counts sizes g (Ok f) way h =
+    let t = way.table in
+    let m = way.before.machine in
+    let n = way.after.machine in
+    let x = h.paid.machine in
+    let y = h.filled.machine in
+    let last = take_front_steps way.before.cpu.number g in
+    counts_as t m n way.steps (h.paying ++ (h.filling ++ last)) h.steps_are (counts_both t m x n h.paying (h.filling ++ last)
+    (pays_count sizes g (course t way.before h.paying h.paid) h.pays) (counts_both t x y n h.filling last
+    (fills_count sizes (course t h.paid h.filling h.filled) h.fills)
+    (counts_same t y n last (record { quiet = refl; no_miss = λ f. refl }) (ap (λ (k : KnownMachine). k.seat) h.takes.machine))))
+frame_counts sizes g (Err (Over over)) way h = pays_not_count sizes g (Over over) way h.refuses
+frame_counts sizes g (Err NoFrames) way h =
+    counts_as way.table way.before.machine way.after.machine way.steps (h.paying ++ h.draining) h.steps_are
+    (counts_both way.table way.before.machine h.paid.machine way.after.machine h.paying h.draining
+    (pays_count sizes g (course way.table way.before h.paying h.paid) h.pays)
+    (no_frame_counts NoFrames (course way.table h.paid h.draining way.after) h.none))
+frame_counts sizes g (Err Killed) way (inl h) = counts_stay way h.stays
+frame_counts sizes g (Err Killed) way (inr h) = pays_not_count sizes g Killed way h.refuses
+
+-- ---- a block
+
+taken_counts : (t : KnownTable) (g k head : ℕ) (m n : KnownMachine) → ((f : ℕ) → misses_of n.seat f ≡ misses_of m.seat f)
+    → CountsMisses (course t m (taken_steps g k head) n)
+taken_counts t g k head m n same = counts_none t m n (taken_steps g k head) (record { quiet = refl; no_miss = λ f. refl }) same
+
+takes_count : (g k head : ℕ) → AllCounted (TryTakes g k head)
+takes_count g k head way h =
+    let m = way.before.machine in
+    let n = way.after.machine in
+    counts_as way.table m n way.steps (taken_steps g k head) h.steps_are (taken_counts way.table g k head m n
+    (λ f. ap (λ (x : KnownMachine). misses_of x.seat f) h.takes.machine ∙ misses_put m.seat head f (unfrozen 1) (λ x. refl)))
+
+finds_none_counts : (g k : ℕ) → AllCounted (TryFindsNone g k)
+finds_none_counts g k way h =
+    let m = way.before.machine in
+    let n = way.after.machine in
+    counts_as way.table m n way.steps (unplaced_steps g k) h.steps_are
+    (counts_same way.table m n (unplaced_steps g k) (record { quiet = refl; no_miss = λ f. refl }) (ap (λ (x : KnownMachine). x.seat) h.none.machine))
+
+rounds_count : (g k : ℕ) (answer : Result ℕ AllocFault) → AllCounted (TakesInRounds g k answer)
+rounds_count g k (Ok head) way h =
+    succeeds_count (2 ^ k) (TryFindsNone g k) (finds_none_counts g k) 16 (TryTakes g k head) (takes_count g k head) way h
+rounds_count g k (Err NoFrames) way h = fails_count (2 ^ k) (TryFindsNone g k) (finds_none_counts g k) 16 way h
+rounds_count g k (Err (Over over)) way h = absurd h
+rounds_count g k (Err Killed) way h = absurd h
+
+tries_count : (g k : ℕ) (answer : Result ℕ AllocFault) → AllCounted (TriesInRounds g k answer)
+tries_count g k answer way h =
+    counts_as way.table way.before.machine way.after.machine way.steps (h.first ++ h.later) h.steps_are
+    (counts_both way.table way.before.machine h.tried way.after.machine h.first h.later
+    (finds_none_counts g k (course way.table way.before h.first (side h.tried way.before.cpu)) h.none)
+    (rounds_count g k answer (course way.table (side h.tried way.before.cpu) h.later way.after) h.rounds))
+
+second_counts : (g k : ℕ) (answer : Result ℕ AllocFault) → AllCounted (TakesSecond g k answer)
+second_counts g k (Ok head) way (inl h) = takes_count g k head way h
+second_counts g k (Ok head) way (inr h) = tries_count g k (Ok head) way h
+second_counts g k (Err cause) way h = tries_count g k (Err cause) way h
+
+again_counts : (g k : ℕ) (answer : Result ℕ AllocFault) → AllCounted (TakesAgain g k answer)
+again_counts g k answer way h =
+    let first = drain_list_steps way.before.cpu.number way.before.cpu.list in
+    counts_as way.table way.before.machine way.after.machine way.steps (first ++ h.later) h.steps_are
+    (counts_both way.table way.before.machine h.returned way.after.machine first h.later
+    (counts_none way.table way.before.machine h.returned first (back_calm way.before.cpu.number way.before.cpu.list)
+    (back_same way.before.cpu.list way.before (side h.returned way.after.cpu) h.gives))
+    (second_counts g k answer (course way.table (side h.returned way.after.cpu) h.later way.after) h.takes))
+
+none_found_counts : (t : KnownTable) (g k : ℕ) (m n : KnownMachine) (steps : Run) → FindsNoBlock g k (course t m steps n) → CountsMisses (course t m steps n)
+none_found_counts t g k m n steps h =
+    let last = unplaced_steps g k in
+    counts_as t m n steps (h.making ++ last) h.steps_are (counts_both t m h.cleared n h.making last
+    (counts_room t g (2 ^ k) h.refused_at m h.cleared h.making h.makes)
+    (counts_same t h.cleared n last (record { quiet = refl; no_miss = λ f. refl }) (ap (λ (x : KnownMachine). x.seat) h.none.machine)))
+
+once_counts : (t : KnownTable) (g k head : ℕ) (m n : KnownMachine) (steps : Run) → TakesAfterRoom g k head (course t m steps n)
+    → CountsMisses (course t m steps n)
+once_counts t g k head m n steps h =
+    let last = taken_steps g k head in
+    counts_as t m n steps (h.making ++ last) h.steps_are (counts_both t m h.cleared n h.making last
+    (counts_room t g (2 ^ k) h.refused_at m h.cleared h.making h.makes) (taken_counts t g k head h.cleared n
+    (λ f. ap (λ (x : KnownMachine). misses_of x.seat f) h.takes.machine ∙ misses_put h.cleared.seat head f (unfrozen 1) (λ x. refl))))
+
+tries_again_counts : (g k : ℕ) (answer : Result ℕ AllocFault) → AllCounted (TriesAgain g k answer)
+tries_again_counts g k answer way h =
+    counts_as way.table way.before.machine way.after.machine way.steps (h.first ++ h.later) h.steps_are
+    (counts_both way.table way.before.machine h.charged way.after.machine h.first h.later
+    (none_found_counts way.table g k way.before.machine h.charged h.first h.none)
+    (again_counts g k answer (course way.table (side h.charged way.before.cpu) h.later way.after) h.again))
+
+pub block_counts : (g k : ℕ) (answer : Result ℕ AllocFault) → AllCounted (AllocatesBlock g k answer)
+block_counts g k (Ok head) way h = elim h.1 [
+  | inl once ↦ once_counts way.table g k head way.before.machine way.after.machine way.steps once.takes
+  | inr again ↦ tries_again_counts g k (Ok head) way again
+]
+block_counts g k (Err (Over over)) way h = counts_refusal way.table g (2 ^ k) (Over over) way.before.machine way.after.machine way.steps h.refuses
+block_counts g k (Err NoFrames) way h = tries_again_counts g k (Err NoFrames) way h.1
+block_counts g k (Err Killed) way (inl h) = counts_stay way h.stays
+block_counts g k (Err Killed) way (inr h) = counts_refusal way.table g (2 ^ k) Killed way.before.machine way.after.machine way.steps h.refuses
