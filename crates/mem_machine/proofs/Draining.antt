@@ -99,7 +99,7 @@ pub counts_other : (h g : ℕ) → (h ≡ g → ⊥) → count_of h (Some g) ≡
 counts_other h g ne = cond-false (g == h) 1 0 (ne_eqb g h (λ e. ne (sym e)))
 
 -- an account with k pages of its group less
-booked_less : (h g k : ℕ) (a : Account) → a.group ≡ Some g → k ≤ a.book
+pub booked_less : (h g k : ℕ) (a : Account) → a.group ≡ Some g → k ≤ a.book
     → booked h (record a { book = a.book - k; filled = false }) + cond (h == g) k 0 ≡ booked h a
 booked_less h g k a group enough =
     let b : Account = record a { book = a.book - k; filled = false } in

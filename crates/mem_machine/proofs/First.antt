@@ -52,7 +52,7 @@ pub free_all : (n : ℕ) → free_of (replicate n Free) ≡ replicate n true
 free_all zero = refl
 free_all (suc n) = ap (λ (l : List Bool). true ∷ l) (free_all n)
 
-repeated : {X : Type 0} (n i : ℕ) (x : X) → get_or (replicate n x) i x ≡ x
+pub repeated : {X : Type 0} (n i : ℕ) (x : X) → get_or (replicate n x) i x ≡ x
 repeated n i x = elim (cases_lt i n) [ inl inside ↦ get_or-replicate n i x x inside | inr past ↦ beyond n i x past ]
   where
     beyond : {X : Type 0} (n i : ℕ) (x : X) → n ≤ i → get_or (replicate n x) i x ≡ x

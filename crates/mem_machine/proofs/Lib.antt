@@ -29,7 +29,7 @@ pub mod Leaving
 pub mod Releases
 pub mod Evicts
 pub mod OneGroup
-pub mod Frames
+pub mod Booking
 pub mod GivenFrames
 pub mod HandOvers
 pub mod Absorbs

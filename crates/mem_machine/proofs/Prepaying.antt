@@ -65,7 +65,7 @@ module _ (view : StockView) (q g n : ℕ) where
   ]
 
 -- an empty account that is filled
-booked_more : (h g k : ℕ) (a : Account) → a.book ≡ 0 → booked h (record a { book = a.book + k; group = Some g; filled = true }) ≡ booked h a + cond (h == g) k 0
+pub booked_more : (h g k : ℕ) (a : Account) → a.book ≡ 0 → booked h (record a { book = a.book + k; group = Some g; filled = true }) ≡ booked h a + cond (h == g) k 0
 booked_more h g k a empty =
     let b : Account = record a { book = a.book + k; group = Some g; filled = true } in
     let none : booked h a ≡ 0 = ap (λ (x : ℕ). cond (count_of h a.group == 0) 0 x) empty ∙ cond-same (count_of h a.group == 0) 0 in

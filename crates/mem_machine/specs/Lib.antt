@@ -5,6 +5,7 @@ pub mod Local
 pub mod Start
 pub mod Steps
 pub mod Lending
+pub mod Booked
 pub mod Stocks
 pub mod Marks
 pub mod Ageing

@@ -3,29 +3,16 @@
 ghost use Rattle.std.specs.Prelude.{◌≡◌, ◌<◌, [], Some, length};
 ghost use Rattle.lru_lists.specs.declared.record.LruList.TheVariants.{Inactive};
 ghost use Rattle.lru_lists.specs.Lists.{first_entry, entry_after};
-ghost use Rattle.step_rules.specs.State.{one_if};
-ghost use Rattle.mem_machine.specs.Spots.{group_of, count_of};
 ghost use Rattle.mem_machine.specs.Machines.{home_of, frames_charged};
 ghost use Rattle.mem_machine.specs.Ageing.{AgesGroup, RenewsUnit, entries_in};
 ghost use Rattle.mem_machine.specs.Local.{MakesForAny};
 
 use crate::machine::Machine;
-use crate::spot::{Place, Spot};
 use cpu_part::BootName;
 use frame_word::Frame;
 use group_tree::group::GroupId;
 use lru_lists::laws;
 use lru_lists::record::{Entry, LruList};
-
-// Whether the frame with this record is charged to the group itself.
-fn is_charged_to(spot: &Spot, group: GroupId) -> bool
-    ensures { one_if result ≡ count_of group (group_of spot.now) }
-{
-    match spot.place() {
-        Place::Charged(owner) => owner.number() == group.number(),
-        Place::Free | Place::Lent(_) => false,
-    }
-}
 
 impl<N: BootName> Machine<N> {
     /// Moves the oldest active units of a group, as few as leave its active list no longer than the inactive one, to
@@ -79,17 +66,14 @@ impl<N: BootName> Machine<N> {
         self.lists[group.number() as usize].newer(&self.links, head.number())
     }
 
-    /// How many frames are charged to the group itself, those of units that aren't kept any more counted. It walks over
-    /// all frames.
+    /// How many frames are charged to the group itself, those of units that aren't kept any more counted: its pages less
+    /// those that are booked to its stocks.
     pub fn frames_of(&self, group: GroupId) -> u64
         ensures { result ≡ frames_charged self.now.spots group }
     {
-        let mut frames = 0;
-        for spot in &self.spots {
-            if is_charged_to(spot, group) {
-                frames += 1;
-            }
+        if !self.charges.tree().contains(group) {
+            return 0;
         }
-        frames
+        u64::from(self.charges.pages(group) - self.stock.booked(group))
     }
 }

@@ -7,6 +7,7 @@
 
 mod ageing;
 mod blocks;
+mod books;
 mod counts;
 mod evicting;
 mod freed;

@@ -6,6 +6,7 @@ ghost use Rattle.stock_word.specs.Stock.{first_machine};
 ghost use Rattle.stock_word.specs.Calls.{uncounted};
 ghost use Rattle.mem_machine.specs.Machines.{IsConsistent, IsFirst};
 
+use crate::books::Books;
 use crate::counts::Counts;
 use crate::spot::Spot;
 use crate::start::{frame_rooms, group_rooms};
@@ -39,7 +40,7 @@ pub struct Machine<N: BootName> {
     pub(crate) seat: FrameSeat,
     // The zone's seat at the stocks' table: of each processor's stock its group and its book, 0 to 65,535 pages.
     // Between two calls nothing that a processor reported is unabsorbed.
-    pub(crate) stock: StockSeat,
+    pub(crate) stock: Books<N>,
     // Whether each of the 64 group numbers is killed, by the number.
     pub(crate) killed: Vec<bool>,
     // How often units ended and came back, since the boot.
@@ -105,7 +106,7 @@ impl<N: BootName> Machine<N> {
             links,
             lists,
             seat,
-            stock,
+            stock: Books::new(stock),
             killed,
             counts: Counts {
                 last_puts: 0,
@@ -135,6 +136,6 @@ impl<N: BootName> Machine<N> {
             counts: _,
             of: _,
         } = self;
-        (seat, stock)
+        (seat, stock.into_seat())
     }
 }

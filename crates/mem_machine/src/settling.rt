@@ -1,15 +1,11 @@
 //! Settling: what the visited processor paid for is kept, and what it put last comes back.
 
 ghost use Rattle.std.specs.Prelude.{◌≡◌, ◌≢◌, ◌<◌, [], true, Some};
-ghost use Rattle.frame_word.specs.Views.{collected_from};
-ghost use Rattle.frame_word.specs.Seats.{IsZoneSeat, IsOpen, NothingPasses, HasNothingOf, IsLent, seat_with};
-ghost use Rattle.stock_word.specs.Stock.{IsMachine, account_of, group_of};
-ghost use Rattle.cpu_part.specs.Calls.{HandsFresh};
+ghost use Rattle.stock_word.specs.Stock.{group_of};
 ghost use Rattle.mem_machine.specs.Machines.{Visits, is_killed};
 ghost use Rattle.mem_machine.specs.Local.{Makes, MakesBy, side};
 ghost use Rattle.mem_machine.specs.Settling.{KeepsFresh, DropsFresh, SettlesNext, SettlesAllFresh, Settles};
 ghost use Rattle.mem_machine.specs.Settling.{ReturnsNext, ReturnsAllBack, LeavesOthers};
-ghost use Rattle.mem_machine.specs.Settling.{HasUnnotedPage, after_page_absorbed};
 ghost use Rattle.mem_machine.specs.Settling.{MakesFreshSteps, MakesReturnSteps, keep_steps, drop_steps};
 ghost use Rattle.mem_machine.specs.Settling.{all_fresh_steps, all_back_steps, settle_steps};
 
@@ -17,42 +13,11 @@ use crate::freed::free_unit;
 use crate::machine::Machine;
 use crate::spot::Spot;
 use cpu_part::{BootName, Cpu, Tables};
-use frame_word::{Frame, FrameSeat};
+use frame_word::Frame;
 use group_tree::group::GroupId;
 use lru_lists::laws;
 use step_rules::phase::ChargedUnit;
-use stock_word::StockSeat;
 use zone_blocks::order::Order;
-
-// Takes the oldest fresh frame into the zone's hand, and its page off the processor's book.
-fn collect_fresh<N: BootName>(
-    tables: &Tables<N>,
-    cpu: &mut Cpu<N>,
-    seat: &mut FrameSeat,
-    stock: &mut StockSeat,
-) -> Frame
-    requires zone { IsZoneSeat N.frames seat.old }
-    requires machine { (stock.old.table ≡ N.stocks.table) × IsMachine stock.old.view }
-    requires open { IsOpen seat.old cpu.old.number }
-    requires still { NothingPasses N.frames seat.old cpu.old.seat }
-    requires fresh { cpu.old.fresh ≢ [] }
-    ensures cpu { HandsFresh result cpu.old cpu.new }
-    ensures frame { result < N.frames.frames }
-    ensures zone { seat.new ≡ seat_with seat.old result (collected_from cpu.old.number) }
-    ensures machine { stock.new ≡ after_page_absorbed stock.old cpu.old.number }
-    ensures nothing { HasNothingOf seat.old result }
-    ensures lent { IsLent seat.old result cpu.old.number }
-    ensures booked { HasUnnotedPage (account_of stock.old.view cpu.old.number) }
-    ensures group { group_of cpu.old.stock.view.last ≡ (account_of stock.old.view cpu.old.number).group }
-{
-    let number = cpu.number();
-    let Some(frame) = cpu.hand_fresh(tables, seat, stock) else {
-        unreachable!()
-    };
-    cpu.collect(tables, seat, frame);
-    tables.stocks.absorb(stock, number);
-    frame
-}
 
 impl<N: BootName> Machine<N> {
     // Keeps the oldest fresh frame for the group that paid for it.
@@ -66,7 +31,7 @@ impl<N: BootName> Machine<N> {
             (keep_steps cpu.old.number result) (side self.new cpu.new) }
     {
         let _number = cpu.number(); // For the clauses.
-        let frame = collect_fresh(tables, cpu, &mut self.seat, &mut self.stock);
+        let frame = self.stock.collect_fresh(tables, cpu, &mut self.seat, group);
         tables.frames.unfreeze(&mut self.seat, frame, 1);
         let at = frame.number();
         let order = Order::of(0).unwrap();
@@ -92,7 +57,7 @@ impl<N: BootName> Machine<N> {
             (drop_steps cpu.old.number result) (side self.new cpu.new) }
     {
         let _number = cpu.number(); // For the clauses.
-        let frame = collect_fresh(tables, cpu, &mut self.seat, &mut self.stock);
+        let frame = self.stock.collect_fresh(tables, cpu, &mut self.seat, group);
         let order = Order::of(0).unwrap();
         let unit = ChargedUnit { group, order };
         free_unit(

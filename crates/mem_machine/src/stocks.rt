@@ -26,7 +26,7 @@ impl<N: BootName> Machine<N> {
         ensures steps { MakesForAny N.frames self.old (drain_steps q (stock_group self.old q) result) self.new }
     {
         let _tree = self.charges.tree(); // For the clauses.
-        let pages = tables.stocks.drain(&mut self.stock, q);
+        let pages = self.stock.drain(tables, q, group);
         if pages > 0 {
             self.charges.uncharge(GroupId::of(group).unwrap(), pages);
         }
@@ -40,7 +40,7 @@ impl<N: BootName> Machine<N> {
         ensures drains { Drains self.old q result self.new }
         ensures steps { MakesForAny N.frames self.old (drain_steps q (stock_group self.old q) result) self.new }
     {
-        match tables.stocks.group(&mut self.stock, q) {
+        match self.stock.group(tables, q) {
             None => 0,
             Some(group) => self.drain_of(tables, q, group),
         }
@@ -63,7 +63,7 @@ impl<N: BootName> Machine<N> {
         requires there { IsTrue (has_group self.old.ledger.groups group) }
         ensures { DrainsIfChosen N.frames (of_subtree group) q result self.old self.new }
     {
-        match tables.stocks.group(&mut self.stock, q) {
+        match self.stock.group(tables, q) {
             None => 0,
             Some(number) if self.is_below(group, number) => self.drain_of(tables, q, number),
             Some(_) => 0,
@@ -90,7 +90,7 @@ impl<N: BootName> Machine<N> {
         requires processor { (1 ≤ q) × (q ≤ N.frames.cpus) }
         ensures { DrainsIfChosen N.frames (of_group group) q result self.old self.new }
     {
-        match tables.stocks.group(&mut self.stock, q) {
+        match self.stock.group(tables, q) {
             None => 0,
             Some(number) if number == group.number() => self.drain_of(tables, q, number),
             Some(_) => 0,
@@ -139,7 +139,7 @@ impl<N: BootName> Machine<N> {
         let _number = cpu.number(); // For the clauses.
         let _tree = self.charges.tree(); // For the clauses.
         self.charges.try_charge(group, pages)?;
-        cpu.fill(tables, &mut self.stock, group.number(), pages);
+        self.stock.fill(tables, cpu, group.number(), pages);
         Ok(())
     }
 

@@ -5,8 +5,14 @@ use Rattle.group_tree.specs.Room.{IsLowestOver}
 use Rattle.group_charge.specs.declared.charges.Over.{Over}
 use Rattle.group_charge.specs.Charges.{current_of}
 use Rattle.stock_word.specs.Calls.{uncounted}
+use Rattle.mem_machine.proofs.Booking.{room_booked}
 use Rattle.mem_machine.proofs.Prepaying.{filled_all, refused_all}
 use Rattle.mem_machine.proofs.machine.Machine.fill_stock.Goals as goal
+
+pub fill-requires-clause-fits : goal.fill-requires-clause-fits
+fill-requires-clause-fits g c =
+    room_booked g.N.BootName.frames g.N.BootName.stocks _ _ c.self.view_is c.self.invariant.0 c.tree-tree.ensures.legal c.args.group c.args.pages
+    c.requires.there c.requires.fits _ c.number.ensures.value
 
 pub invariant_of-self-2 : goal.invariant_of-self-2
 invariant_of-self-2 g c = (

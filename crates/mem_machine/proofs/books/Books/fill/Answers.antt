@@ -1,0 +1,8 @@
+use Rattle.std.proofs.Common.{refl}
+use Rattle.mem_machine.proofs.Booking.{after_fill}
+use Rattle.mem_machine.proofs.books.Books.fill.Goals as goal
+
+pub invariant_of-self : goal.invariant_of-self
+invariant_of-self g c =
+    after_fill g.N.BootName.frames g.N.BootName.stocks _ _ c.self.invariant c.args.cpu.now.number c.args.group c.args.pages
+    c.number-number.ensures.tied.seats.frame_cpus c.requires.number c.fill.ensures.nothing_booked _ refl _ c.fill.ensures.machine

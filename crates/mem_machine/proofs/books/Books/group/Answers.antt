@@ -1,0 +1,6 @@
+use Rattle.mem_machine.proofs.Booking.{after_group}
+use Rattle.mem_machine.proofs.books.Books.group.Goals as goal
+
+pub invariant_of-self : goal.invariant_of-self
+invariant_of-self g c =
+    after_group g.N.BootName.frames g.N.BootName.stocks _ _ c.self.invariant c.args.q c.requires.processor.1 c.group.result _ c.group.ensures.machine

@@ -1,0 +1,14 @@
+-- The pages that are booked to the stocks of each group, as they are counted.
+use Rattle.std.specs.Prelude.{◌≡◌, ℕ, ◌<◌, List, length}
+use Rattle.std.specs.List.{slice_index_or}
+use Rattle.frame_word.specs.Seats.{KnownTable}
+use Rattle.stock_word.specs.Stock.{Words, Seated}
+use Rattle.group_tree.specs.declared.group.TheConstants.{MAX_GROUPS}
+use Rattle.mem_machine.specs.Machines.{pages_booked}
+
+-- there is a sum for each group number, which is what is booked to the stocks of that group; the two tables have as many
+-- processors
+pub record AreBooked (t : KnownTable) (w : Words) (stock : Seated) (sums : List ℕ) : Type 0 where
+  pub cpus : w.cpus ≡ t.cpus
+  pub size : length sums ≡ MAX_GROUPS
+  pub each : (g : ℕ) → g < MAX_GROUPS → slice_index_or sums g 0 ≡ pages_booked t stock g

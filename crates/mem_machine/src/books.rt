@@ -1,0 +1,181 @@
+//! The zone's seat at the stocks, and how many pages are booked to the stocks of each group.
+
+ghost use Rattle.std.specs.Prelude.{◌≡◌, ◌≢◌, ◌+◌, ◌-◌, ◌^◌, ◌<◌, ◌≤◌, ◌⊎◌, [], false, Some, IfSome, length};
+ghost use Rattle.frame_word.specs.Views.{collected_from};
+ghost use Rattle.frame_word.specs.Seats.{IsZoneSeat, IsOpen, NothingPasses, HasNothingOf, IsLent, seat_with};
+ghost use Rattle.stock_word.specs.Stock.{IsMachine, account_of, drained_of, first_machine, group_of, is_held, pages_of, stocked};
+ghost use Rattle.stock_word.specs.Kinds.{after_fill, draining, filling, with_steps};
+ghost use Rattle.stock_word.specs.Calls.{after_look, steps_of_drain, with_view};
+ghost use Rattle.cpu_part.specs.Calls.{HandsFresh, TakesFront};
+ghost use Rattle.mem_machine.specs.Machines.{pages_booked};
+ghost use Rattle.mem_machine.specs.Settling.{HasUnnotedPage, after_page_absorbed};
+ghost use Rattle.group_tree.specs.declared.group.TheConstants.{MAX_GROUPS};
+
+use cpu_part::{BootName, Cpu, Tables};
+use frame_word::{Frame, FrameSeat};
+use group_tree::group::{GroupId, MAX_GROUPS};
+use std::marker::{Model, PhantomData};
+use stock_word::{Stock, StockSeat};
+
+/// The zone's seat at the stocks. The books of the processors are what the seat is known to be, for proofs alone; their sums by
+/// group are kept beside it. A contract sees the seat.
+#[derive(Drop)]
+pub(crate) struct Books<N: BootName> {
+    seat: StockSeat,
+    // By group number: the pages of the books of the stocks that are of the group, 0 to 2^32 - 1.
+    sums: [u32; MAX_GROUPS],
+    of: PhantomData<N>,
+}
+
+impl<N: BootName> Model for Books<N> {
+    ghost use Rattle.stock_word.specs.Stock.{Seated};
+    ghost use Rattle.mem_machine.specs.Booked.{AreBooked};
+
+    ghost Value = { Seated };
+
+    ghost view = { λ b. b.seat };
+
+    ghost invariant = { λ b. AreBooked N.frames N.stocks b.seat b.sums };
+}
+
+impl<N: BootName> Books<N> {
+    /// The books of a new boot, where nothing is booked.
+    pub(crate) fn new(seat: StockSeat) -> Books<N>
+        requires first { seat.view ≡ first_machine }
+        requires cpus { N.stocks.cpus ≡ N.frames.cpus }
+        ensures { result ≡ seat }
+    {
+        Books {
+            seat,
+            sums: [0; MAX_GROUPS],
+            of: PhantomData,
+        }
+    }
+
+    /// The seat, at its end.
+    pub(crate) fn into_seat(self) -> StockSeat
+        ensures { result ≡ self }
+    {
+        let Books {
+            seat,
+            sums: _,
+            of: _,
+        } = self;
+        seat
+    }
+
+    /// The pages booked to the stocks of the group itself.
+    pub(crate) fn booked(&self, group: GroupId) -> u32
+        ensures { result ≡ pages_booked N.frames self.now group }
+    {
+        self.sums[group.number() as usize]
+    }
+
+    /// The group of processor `q`'s stock, as `StockWords::group` tells it.
+    pub(crate) fn group(&mut self, tables: &Tables<N>, q: u32) -> Option<u32>
+        requires seat { (self.old.table ≡ N.stocks.table) × IsMachine self.old.view }
+        requires processor { (1 ≤ q) × (q ≤ N.frames.cpus) }
+        ensures group { result ≡ (account_of self.old.view q).group }
+        ensures fits { IfSome result (λ g. g < MAX_GROUPS) }
+        ensures machine { self.new ≡ with_view self.old (with_steps 1 (after_look self.old.view q result)) }
+    {
+        tables.stocks.group(&mut self.seat, q)
+    }
+
+    /// Drains the stock of processor `q`, which is of this group, as `StockWords::drain` does.
+    pub(crate) fn drain(&mut self, tables: &Tables<N>, q: u32, group: u32) -> u32
+        requires seat { (self.old.table ≡ N.stocks.table) × IsMachine self.old.view }
+        requires processor { (1 ≤ q) × (q ≤ N.frames.cpus) }
+        requires group { (account_of self.old.view q).group ≡ Some group }
+        requires fits { group < MAX_GROUPS }
+        ensures machine { self.new ≡ with_view self.old
+            (with_steps (steps_of_drain (account_of self.old.view q).group) (draining self.old.view q result)) }
+        ensures booked { result ≤ (account_of self.old.view q).book }
+        ensures drained_before { (account_of self.old.view q).filled ≡ false → result ≡ 0 }
+    {
+        let pages = tables.stocks.drain(&mut self.seat, q);
+        self.sums[group as usize] -= pages;
+        pages
+    }
+
+    /// Fills the processor's stock, as `Cpu::fill` does. The pages booked to the group stay below 2^32.
+    pub(crate) fn fill(&mut self, tables: &Tables<N>, cpu: &mut Cpu<N>, group: u32, pages: u32)
+        requires seat { (self.old.table ≡ N.stocks.table) × IsMachine self.old.view }
+        requires number { group < MAX_GROUPS }
+        requires pages { (0 < pages) × (pages < 65536) }
+        requires fits { pages_booked N.frames self.old group + pages < 2 ^ 32 }
+        requires drained { (account_of self.old.view cpu.old.number).filled ≡ false }
+        requires settled { (cpu.old.fresh ≡ []) × ((account_of self.old.view cpu.old.number).noted ≡ 0) }
+        ensures nothing_booked { (account_of self.old.view cpu.old.number).book ≡ 0 }
+        ensures machine { self.new ≡ with_view self.old (filling self.old.view cpu.old.number group pages) }
+        ensures cpu { cpu.new ≡ record cpu.old { stock = with_view cpu.old.stock (after_fill cpu.old.stock.view group pages) } }
+    {
+        let _number = cpu.number(); // For the clauses.
+        cpu.fill(tables, &mut self.seat, group, pages);
+        self.sums[group as usize] += pages;
+    }
+
+    /// The processor's stock, as `Cpu::look` tells it.
+    pub(crate) fn look(&mut self, tables: &Tables<N>, cpu: &mut Cpu<N>) -> Stock
+        requires seat { (self.old.table ≡ N.stocks.table) × IsMachine self.old.view }
+        ensures balanced { (account_of self.old.view cpu.old.number).book
+            ≡ pages_of result + cpu.old.stock.view.fresh + (account_of self.old.view cpu.old.number).noted }
+        ensures bounded { (account_of self.old.view cpu.old.number).book < 65536 }
+        ensures group { group_of result ≡ (account_of self.old.view cpu.old.number).group }
+        ensures held { is_held result ≡ (account_of self.old.view cpu.old.number).filled }
+        ensures last { (result ≡ cpu.old.stock.view.last) ⊎ (result ≡ drained_of cpu.old.stock.view.last) }
+        ensures machine { self.new ≡ with_view self.old (with_steps 1 self.old.view) }
+        ensures cpu { cpu.new ≡ cpu.old }
+    {
+        cpu.look(tables, &mut self.seat)
+    }
+
+    /// Takes the front of the processor's list, as `Cpu::take_front` does.
+    pub(crate) fn take_front(&mut self, tables: &Tables<N>, cpu: &mut Cpu<N>, group: u32) -> Frame
+        requires seat { (self.old.table ≡ N.stocks.table) × IsMachine self.old.view }
+        requires group { (account_of self.old.view cpu.old.number).group ≡ Some group }
+        requires page { 0 < stocked self.old.view cpu.old.stock.view }
+        requires front { 1 ≤ length cpu.old.list }
+        requires room { length cpu.old.fresh < 32 }
+        ensures machine { self.new ≡ self.old }
+        ensures cpu { TakesFront group (stocked self.old.view cpu.old.stock.view - 1) result cpu.old cpu.new }
+        ensures frame { result < N.frames.frames }
+    {
+        cpu.take_front(tables, &mut self.seat, group)
+    }
+
+    /// Takes the oldest fresh frame of the processor that is visited into the zone's hand, and its page off the processor's
+    /// book, whose stock is of this group.
+    pub(crate) fn collect_fresh(
+        &mut self,
+        tables: &Tables<N>,
+        cpu: &mut Cpu<N>,
+        zone: &mut FrameSeat,
+        group: GroupId,
+    ) -> Frame
+        requires zone { IsZoneSeat N.frames zone.old }
+        requires seat { (self.old.table ≡ N.stocks.table) × IsMachine self.old.view }
+        requires open { IsOpen zone.old cpu.old.number }
+        requires still { NothingPasses N.frames zone.old cpu.old.seat }
+        requires fresh { cpu.old.fresh ≢ [] }
+        requires group { group_of cpu.old.stock.view.last ≡ Some group }
+        ensures cpu { HandsFresh result cpu.old cpu.new }
+        ensures frame { result < N.frames.frames }
+        ensures zone { zone.new ≡ seat_with zone.old result (collected_from cpu.old.number) }
+        ensures machine { self.new ≡ after_page_absorbed self.old cpu.old.number }
+        ensures nothing { HasNothingOf zone.old result }
+        ensures lent { IsLent zone.old result cpu.old.number }
+        ensures booked { HasUnnotedPage (account_of self.old.view cpu.old.number) }
+        ensures group { group_of cpu.old.stock.view.last ≡ (account_of self.old.view cpu.old.number).group }
+    {
+        let number = cpu.number();
+        let Some(frame) = cpu.hand_fresh(tables, zone, &mut self.seat) else {
+            unreachable!()
+        };
+        cpu.collect(tables, zone, frame);
+        let pages = tables.stocks.absorb(&mut self.seat, number);
+        let owner = group.number() as usize;
+        self.sums[owner] -= pages;
+        frame
+    }
+}
