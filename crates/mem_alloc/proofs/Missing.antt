@@ -73,10 +73,10 @@ counts_one : (r : Option ℕ) (t : KnownTable) (g pages v : ℕ) (m n : KnownMac
 counts_one r t g pages v m n steps h =
     let told = kill_steps v ++ h.kills.later in
     let quiet : (f : ℕ) → missed_in f told ≡ 0 = λ f.
-        let a = missed_both f (kill_steps v) h.kills.later in
-        let b = h.kills.no_miss f in
-        let z : missed_in f (kill_steps v) ≡ 0 = refl in
-        omega (arith, a, b, z) in
+    let a = missed_both f (kill_steps v) h.kills.later in
+    let b = h.kills.no_miss f in
+    let z : missed_in f (kill_steps v) ≡ 0 = refl in
+    omega (arith, a, b, z) in
     counts_as t m n steps told (h.steps_are ∙ h.kills.front) (λ f.
     let p = quiet f in
     let q = h.keeps.misses f in

@@ -73,10 +73,10 @@ stands_in (x ∷ one) two (y ∷ before) rest e is =
     elim (stands_in one two before rest e (rest_same x y (one ++ two) (before ++ e ∷ rest) is)) [
       | inl here ↦ inl (here.0, ap (λ (z : (Step × Answer) × Run). z.0 ∷ z.1) (λ i. (head i, here.1 i)))
       | inr there ↦ inr (
-          there.0,
-          ap (λ (z : (Step × Answer) × Run). z.0 ∷ z.1) (λ i. (sym head i, there.1 i)),
-          there.2,
-        )
+        there.0,
+        ap (λ (z : (Step × Answer) × Run). z.0 ∷ z.1) (λ i. (sym head i, there.1 i)),
+        there.2,
+      )
     ]
 
 only_one : (x : Step × Answer) (before rest : Run) (e : Step × Answer) → x ∷ [] ≡ before ++ e ∷ rest → (before ≡ []) × (x ≡ e)
@@ -228,7 +228,6 @@ RashFree t MayAsk start c made steps =
     (before rest : Run) (e : Step × Answer) (victim : ℕ) → steps ≡ before ++ e ∷ rest → e.0.action ≡ Kill victim
     → (now : KnownMachine) × IsLocalRun c.number (local_of t start c) (made ++ before) (local_of t now c)
     × MayKill t MayAsk start (made ++ before) now victim
-
 
 module _ (t : KnownTable) (MayAsk : List Group → ℕ → ℕ → Type 0) (s : KnownMachine) (c : KnownCpu) where
   pub rash_quiet : (made steps : Run) → has_kill steps ≡ false → RashFree t MayAsk s c made steps
@@ -455,7 +454,7 @@ module _ (t : KnownTable) (MayAsk : List Group → ℕ → ℕ → Type 0) (s : 
       let drained = drained_on g x y h.reclaims.keeps.groups h.reclaims.keeps.stock h.clears.drained in
       let still = λ (few : pages ≤ 8). subst (λ (l : List Group). MayAsk l g pages) (sym (two.groups ∙ one.groups)) (asked few) in
       let three = few_tame r g pages ((made ++ h.clearing) ++ h.reclaiming) y h.killing n still after_two drained
-          (λ over. missed_since g (made ++ h.clearing) x y after_one (h.reclaims.missed over)) h.kills in
+      (λ over. missed_since g (made ++ h.clearing) x y after_one (h.reclaims.missed over)) h.kills in
       subst (λ (k : Run). Tame made m k n) (sym h.steps_are) (tame_both made m x n h.clearing (h.reclaiming ++ h.killing) one
       (tame_both (made ++ h.clearing) x y n h.reclaiming h.killing two three))
 
@@ -468,7 +467,7 @@ module _ (t : KnownTable) (MayAsk : List Group → ℕ → ℕ → Type 0) (s : 
     refused_tame over made m steps rest n z is since whole h =
         let first = over_steps g pages over in
         let grant = over_runs c.number g pages over (h.relieving ++ rest) (local_of t m c) z
-            (subst (λ (k : Run). IsLocalRun c.number (local_of t m c) (k ++ rest) z) h.steps_are whole) in
+        (subst (λ (k : Run). IsLocalRun c.number (local_of t m c) (k ++ rest) z) h.steps_are whole) in
         let refused = passes_same t c m m first grant refl refl (record { quiet = refl; no_miss = λ f. refl }) in
         let here : in_subtree base over g ≡ true = ap (λ (l : List Group). in_subtree l over g) (sym is) ∙ h.lowest.on_path in
         let asked = λ (few : pages ≤ 8). subst (λ (l : List Group). MayAsk l over pages) (sym is) (asks over here few) in

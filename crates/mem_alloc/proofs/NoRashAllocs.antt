@@ -182,7 +182,7 @@ module _ (t : KnownTable) (MayAsk : List Group → ℕ → ℕ → Type 0) (s : 
     pays_rash sizes steps rest n z whole (inl h) = rash_quiet t MayAsk s c [] steps (ap has_kill h.steps_are)
     pays_rash sizes steps rest n z whole (inr h) =
         let all = subst (λ (k : Run). IsLocalRun c.number (local_of t s c) k z) (ap (λ (k : Run). k ++ rest) h.steps_are ∙ append_assoc h.first h.later rest)
-            whole in
+        whole in
         let on = run_rest c.number h.first (h.later ++ rest) (local_of t s c) (local_of t h.emptied c) z h.empties all in
         subst (λ (k : Run). RashFree t MayAsk s c [] k) (sym h.steps_are) (rash_both t MayAsk s c [] h.first h.later
         (rash_quiet t MayAsk s c [] h.first (drain_quiet h.emptied h.first h.drains))

@@ -113,13 +113,13 @@ module _ (t : KnownTable) (MayAsk : List Group → ℕ → ℕ → Type 0) (s : 
       let groups : x.ledger.groups ≡ m.ledger.groups = low.keeps.groups ∙ (all_same g t.cpus m y low.drains low.drains_all).groups in
       let here : limit_of x.ledger.groups g ≡ Some limit = ap (λ (l : List Group). limit_of l g) groups ∙ is in
       let missed = λ (over : has_room_for x.ledger g 0 ≡ false).
-          let full : nat_le (current_of x.ledger g + 0) limit ≡ false = sym (ap (λ (o : Option ℕ). fits_limit o (current_of x.ledger g + 0)) here) ∙ over in
-          let more = leb-false (current_of x.ledger g + 0) limit full in
-          missed_since t MayAsk s c g (made ++ first) y x after_drains (low.missed (omega (arith, more))) in
+      let full : nat_le (current_of x.ledger g + 0) limit ≡ false = sym (ap (λ (o : Option ℕ). fits_limit o (current_of x.ledger g + 0)) here) ∙ over in
+      let more = leb-false (current_of x.ledger g + 0) limit full in
+      missed_since t MayAsk s c g (made ++ first) y x after_drains (low.missed (omega (arith, more))) in
       let drained = drained_on t MayAsk s c g y x low.keeps.groups low.keeps.stock low.none_held in
       let still = subst (λ (l : List Group). MayAsk l g 0) (sym groups) asked in
       let killing = tame_kills t MayAsk s c None g 0 (made ++ h.lowering) x h.killing n still (passes_both t c s m x made h.lowering since lowering) drained
-          missed h.kills in
+      missed h.kills in
       subst (λ (k : Run). RashFree t MayAsk s c made k) (sym h.steps_are) (rash_both t MayAsk s c made h.lowering h.killing
       (rash_quiet t MayAsk s c made h.lowering (lowers_quiet g limit (course t m h.lowering x) low)) killing.rash)
 
@@ -170,7 +170,7 @@ allocates_for t cmd sizes path order answer s c steps n z asks whole h = elim (c
   | inl frame ↦
       let one : 2 ^ order ≡ 1 = ap (λ (k : ℕ). 2 ^ k) frame in
       let may = subst (λ (p : ℕ). (over : ℕ) → in_subtree s.ledger.groups over h.group ≡ true → p ≤ 8
-          → MayAskFor cmd s.ledger.groups s.ledger.groups over p) one (λ over below few. asks h.group over s.ledger.groups h.found below few) in
+      → MayAskFor cmd s.ledger.groups s.ledger.groups over p) one (λ over below few. asks h.group over s.ledger.groups h.found below few) in
       frame_no_rash t (MayAskFor cmd s.ledger.groups) s c h.group may sizes answer steps n z whole (h.allocates.frame frame)
   | inr block ↦
       block_no_rash t (MayAskFor cmd s.ledger.groups) s c h.group order (λ over below few. asks h.group over s.ledger.groups h.found below few)

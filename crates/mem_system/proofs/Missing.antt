@@ -112,7 +112,7 @@ lists_counts sizes f way h =
     let p = way.before.cpu.number in
     let cut = drain_list_steps p h.cuts.cut in
     let cuts = counts_as t m x h.cutting cut h.cuts.steps_are
-        (counts_none t m x cut (back_calm p h.cuts.cut) (back_same h.cuts.cut way.before h.mid h.cuts.takes)) in
+    (counts_none t m x cut (back_calm p h.cuts.cut) (back_same h.cuts.cut way.before h.mid h.cuts.takes)) in
     counts_as t m n way.steps (h.cutting ++ lend_steps p f) h.steps_are (counts_both t m x n h.cutting (lend_steps p f) cuts
     (counts_none t x n (lend_steps p f) (record { quiet = refl; no_miss = λ g. refl })
     (λ g. ap (λ (k : KnownMachine). misses_of k.seat g) h.lends.machine ∙ misses_put x.seat f g (passed_out_to h.mid.cpu.number) (λ k. refl))))
@@ -124,7 +124,7 @@ returns_counts sizes f way h =
     let n = way.after.machine in
     let first = release_steps f released.Returned in
     let back = counts_none t m h.freed first (record { quiet = refl; no_miss = λ g. refl })
-        (λ g. ap (λ (k : KnownMachine). misses_of k.seat g) h.returns.machine ∙ misses_put m.seat f g let_go_last (λ k. refl)) in
+    (λ g. ap (λ (k : KnownMachine). misses_of k.seat g) h.returns.machine ∙ misses_put m.seat f g let_go_last (λ k. refl)) in
     let listed : CountsMisses (course t h.freed h.listing n) = elim (cases_eq h.returns.unit.order 0) [
       | inl single ↦ lists_counts sizes f (course t (side h.freed way.before.cpu) h.listing way.after) (h.single single)
       | inr block ↦ counts_rest t h.freed n h.listing (h.block block).0 (h.block block).2
