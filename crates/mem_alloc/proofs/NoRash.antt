@@ -126,11 +126,18 @@ pub record Passes (t : KnownTable) (c : KnownCpu) (m : KnownMachine) (steps : Ru
 pub passes_none : (t : KnownTable) (c : KnownCpu) (m : KnownMachine) → Passes t c m [] m
 passes_none t c m = record {
   runs = refl;
-  tied = record { misses = λ f. omega arith; kept = λ f is. is; dirt = λ f is. refl };
+  tied = record { misses = λ f. omega arith; owners = λ f is. refl; dirt = λ f is. refl };
 }
 
 pub missed_both : (f : ℕ) (one two : Run) → missed_in f (one ++ two) ≡ missed_in f one + missed_in f two
 missed_both f one two = sum_by-append (λ (e : Step × Answer). cond (is_miss f e.0.action e.1) 1 0) one two
+
+owned : (o was : Option Home) → o ≢ None → owner_of o ≡ owner_of was → was ≢ None
+owned None was kept same none = kept refl
+owned (Some h) was kept same none = none-some h.owner (sym (same ∙ ap owner_of none))
+
+was_kept : (m n : KnownMachine) (steps : Run) → IsTied m steps n → (f : ℕ) → home_of n.links f ≢ None → home_of m.links f ≢ None
+was_kept m n steps tied f is = owned (home_of n.links f) (home_of m.links f) is (tied.owners f is)
 
 pub passes_both : (t : KnownTable) (c : KnownCpu) (m x n : KnownMachine) (one two : Run) → Passes t c m one x → Passes t c x two n
     → Passes t c m (one ++ two) n
@@ -142,8 +149,8 @@ passes_both t c m x n one two a b = record {
         let q = b.tied.misses f in
         let r = missed_both f one two in
         omega (arith, p, q, r);
-    kept = λ f is. a.tied.kept f (b.tied.kept f is);
-    dirt = λ f is. b.tied.dirt f is ∙ a.tied.dirt f (b.tied.kept f is);
+    owners = λ f is. b.tied.owners f is ∙ a.tied.owners f (was_kept x n two b.tied f is);
+    dirt = λ f is. b.tied.dirt f is ∙ a.tied.dirt f (was_kept x n two b.tied f is);
   };
 }
 
@@ -157,7 +164,7 @@ passes_same t c m n steps runs seat links quiet = record {
         let p : misses_of n.seat f ≡ misses_of m.seat f = ap (λ s. misses_of s f) seat in
         let q = quiet.no_miss f in
         omega (arith, p, q);
-    kept = λ f is none. is (ap (λ (l : List Link). home_of l f) links ∙ none);
+    owners = λ f is. ap (λ (l : List Link). owner_of (home_of l f)) links;
     dirt = λ f is. ap (λ (l : List Link). (link_at l f).is_dirty) links;
   };
 }
@@ -205,17 +212,13 @@ drains_pass t c g k m n drains all runs =
 
 -- ---- rounds of reclaim
 
-owned : (o was : Option Home) → o ≢ None → owner_of o ≡ owner_of was → was ≢ None
-owned None was kept same none = kept refl
-owned (Some h) was kept same none = none-some h.owner (sym (same ∙ ap owner_of none))
-
 pub keeps_pass : (t : KnownTable) (c : KnownCpu) (m n : KnownMachine) (steps : Run) → MakesForAny t m steps n → Keeps t m n
     → ((f : ℕ) → misses_of n.seat f ≡ misses_of m.seat f + missed_in f steps) → Passes t c m steps n
 keeps_pass t c m n steps runs keeps misses = record {
   runs = runs c;
   tied = record {
     misses = misses;
-    kept = λ f is. owned (home_of n.links f) (home_of m.links f) is (keeps.owners f is);
+    owners = keeps.owners;
     dirt = keeps.dirt;
   };
 }
@@ -315,9 +318,9 @@ module _ (t : KnownTable) (MayAsk : List Group → ℕ → ℕ → Type 0) (s : 
           ap (missed_in f) kills.front ∙ missed_both f (kill_steps v) kills.later in
           let z : missed_in f (kill_steps v) ≡ 0 = refl in
           omega (arith, p, q, r, z);
-      kept = λ f is none.
+      owners = λ f is.
           let there = is_kept (home_of n.links f) is in
-          none-some there.0 (sym none ∙ keeps.leaves f there.0 there.1);
+          ap owner_of (there.1 ∙ sym (keeps.leaves f there.0 there.1));
       dirt = keeps.dirt;
     };
   }

@@ -6,6 +6,7 @@ use Rattle.stock_word.specs.Stock.{Words}
 use Rattle.group_tree.specs.declared.group.Group.{Group}
 use Rattle.group_tree.specs.Groups.{in_subtree}
 use Rattle.group_charge.specs.Charges.{AreCharges}
+use Rattle.lru_lists.specs.Lists.{owner_of}
 use Rattle.lru_lists.specs.Queue.{link_at}
 use Rattle.cpu_part.specs.Cpus.{KnownCpu}
 use Rattle.step_rules.specs.declared.step.Action.{Action}
@@ -31,11 +32,11 @@ abbrev pub has_oom_note : ℕ → Run → Bool
 has_oom_note g steps = list_any (λ e. is_oom_note g e.0.action) steps
 
 -- The machine is the one that these steps of a call left, in what steps alone don't tell: each frame's misses are those
--- that were noted before the call and among the steps; and whoever is kept was kept when the call began, and is as dirty
--- as it was
+-- that were noted before the call and among the steps; and whoever is kept was kept for the same group when the call
+-- began, and is as dirty as it was
 pub record IsTied (start : KnownMachine) (steps : Run) (now : KnownMachine) : Type 0 where
   pub misses : (f : ℕ) → misses_of now.seat f ≡ misses_of start.seat f + missed_in f steps
-  pub kept : (f : ℕ) → home_of now.links f ≢ None → home_of start.links f ≢ None
+  pub owners : (f : ℕ) → home_of now.links f ≢ None → owner_of (home_of now.links f) ≡ owner_of (home_of start.links f)
   pub dirt : (f : ℕ) → home_of now.links f ≢ None → (link_at now.links f).is_dirty ≡ (link_at start.links f).is_dirty
 
 -- which limit a call may kill for, and so many pages: where it charges pages to a group, up to 8, that of the group or one
@@ -45,14 +46,9 @@ pub record IsChargedBelow (group pages : ℕ) (groups : List Group) (limited nee
   pub need_is : need ≡ pages
   pub few : pages ≤ 8
 
--- where it writes the limit of a group, that one, for no page
-pub record IsLimitOf (group : ℕ) (groups : List Group) (limited need : ℕ) : Type 0 where
-  pub limited_is : limited ≡ group
-  pub need_is : need ≡ 0
-
 -- The group may be killed after these steps of a call, for the limit of the group `limited`: that has no room for the
--- pages that are needed. It was noted there as `oom`; no stock of the subtree is held; since the call began a freeze of
--- each clean unit that the subtree still keeps missed; and the group is the victim. The machine is consistent, its usage
+-- pages that are needed. A step notes that there as `oom`; no stock of the subtree is held; since the call began a freeze
+-- of each clean unit that the subtree still keeps missed; and the group is the victim. The machine is consistent, its usage
 -- that of its accounts, and it is the one that the steps left
 pub record MayKill (table : KnownTable) (MayAsk : List Group → ℕ → ℕ → Type 0) (start : KnownMachine) (steps : Run)
     (now : KnownMachine) (victim : ℕ) : Type 0 where

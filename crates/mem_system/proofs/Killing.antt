@@ -1,6 +1,7 @@
 -- No kill of a command comes before everything else was tried. Serves `serve`.
 use Rattle.std.proofs.Common.{◌≡◌, ◌≢◌, ℕ, zero, suc, ◌+◌, ◌≤◌, ◌<◌, ◌^◌, Bool, true, false, Option, Some, None, List, [], ◌∷◌, ◌++◌, refl, sym, ap, ◌∙◌, subst, inl, inr, arith}
 use Rattle.std.specs.Prelude.{Result, Ok, Err, nat_le}
+use Rattle.std.specs.List.{flat_map}
 use Rattle.std.proofs.lemmas.Bool.{cases_eq, cases_lt, leb-false}
 use Rattle.std.proofs.lemmas.List.{append_assoc, append-nil}
 use Rattle.frame_word.specs.Seats.{KnownTable}
@@ -11,6 +12,8 @@ use Rattle.group_tree.specs.Groups.{has_group, in_subtree, limit_of, number_at, 
 use Rattle.group_tree.specs.Room.{fits_limit}
 use Rattle.group_tree.proofs.CallerLemmas.{limit_of-limited}
 use Rattle.group_charge.specs.Charges.{current_of}
+use Rattle.control_files.specs.declared.file.File.TheVariants.{Max}
+use Rattle.control_files.specs.Limit.{ReadsAs}
 use Rattle.zone_sizes.specs.declared.config.Config.{Config}
 use Rattle.cpu_part.specs.Cpus.{KnownCpu}
 use Rattle.step_rules.specs.State.{State}
@@ -19,7 +22,8 @@ use Rattle.mem_machine.specs.declared.releasing.Released.TheVariants as released
 use Rattle.mem_machine.specs.Machines.{KnownMachine}
 use Rattle.mem_machine.specs.Local.{IsLocalRun, Side, local_of, side}
 use Rattle.mem_machine.specs.Releasing.{release_steps}
-use Rattle.mem_machine.specs.Steps.{drain_list_steps, drain_stocks_steps, lend_steps, remove_steps, set_max_steps}
+use Rattle.mem_machine.specs.Settling.{all_back_steps, all_fresh_steps, fresh_steps, is_fresh_killed, return_steps, settle_steps}
+use Rattle.mem_machine.specs.Steps.{drain_list_steps, drain_stocks_steps, lend_steps, open_steps, remove_steps, set_max_steps, shut_steps}
 use Rattle.mem_reclaim.specs.Moves.{has_kill}
 use Rattle.mem_reclaim.specs.Staying.{MissedAll}
 use Rattle.mem_reclaim.proofs.LettingGo.{quiet_drains}
@@ -36,6 +40,7 @@ use Rattle.mem_system.specs.declared.command.Cmd.{Cmd}
 use Rattle.mem_system.specs.declared.command.Cmd.TheVariants.{Mkdir, Rmdir, Write, Read, Settle, Owner, Touch, Dirty, Clean, Release, Alloc}
 use Rattle.mem_system.specs.declared.command.Reply.{Reply}
 use Rattle.mem_system.specs.declared.command.Reply.TheVariants as reply
+use Rattle.mem_system.specs.Files.{IsFileOf}
 use Rattle.mem_system.specs.Usage.{LowersUsage, LowersAbove, LowersByKills, KeepsToLimit}
 use Rattle.mem_system.specs.Allocs.{Allocates, AllocatesFor}
 use Rattle.mem_system.specs.Kept.{TouchesFrame, NotesDirt}
@@ -150,37 +155,38 @@ module _ (t : KnownTable) (MayAsk : List Group → ℕ → ℕ → Type 0) (s : 
 -- ---- all commands
 
 writes_no_rash : (t : KnownTable) (cmd : Cmd) (path name value : List ℕ) (said : Reply) (s : KnownMachine) (c : KnownCpu) (steps : Run) (n : KnownMachine)
-    (z : State) → ((g : ℕ) (now : List Group) → number_at s.ledger.groups path ≡ Some g → MayAskFor cmd s.ledger.groups now g 0)
+    (z : State) → ((g : ℕ) (of : Option ℕ) → IsFileOf s.ledger.groups path name g Max → ReadsAs value of
+    → MayAskFor cmd s.ledger.groups (with_limit s.ledger.groups g of) g 0)
     → IsLocalRun c.number (local_of t s c) steps z → Writes path name value said (course t s steps n)
     → NoRashKill t (MayAskFor cmd s.ledger.groups) s c steps
 writes_no_rash t cmd path name value reply.Done s c steps n z asks whole h =
     sets_rash t (MayAskFor cmd s.ledger.groups) s c h.group h.limit steps n z (found_there s.ledger.groups path h.group h.file.number)
-    (asks h.group (with_limit s.ledger.groups h.group h.limit) h.file.number) whole h.sets
+    (asks h.group h.limit h.file h.reads) whole h.sets
 writes_no_rash t cmd path name value (reply.Refused fault) s c steps n z asks whole h =
     rash_quiet t (MayAskFor cmd s.ledger.groups) s c [] steps (ap has_kill h.2)
 writes_no_rash t cmd path name value other s c steps n z asks whole h = absurd h
 
 allocates_for : (t : KnownTable) (cmd : Cmd) (sizes : Config) (path : List ℕ) (order : ℕ) (answer : Result ℕ AllocFault) (s : KnownMachine) (c : KnownCpu)
     (steps : Run) (n : Side) (z : State)
-    → ((g over : ℕ) (now : List Group) → number_at s.ledger.groups path ≡ Some g → in_subtree now over g ≡ true → 2 ^ order ≤ 8
-    → MayAskFor cmd s.ledger.groups now over (2 ^ order))
+    → ((g over : ℕ) → number_at s.ledger.groups path ≡ Some g → in_subtree s.ledger.groups over g ≡ true → 2 ^ order ≤ 8
+    → MayAskFor cmd s.ledger.groups s.ledger.groups over (2 ^ order))
     → IsLocalRun c.number (local_of t s c) steps z → AllocatesFor sizes path order answer (course t (side s c) steps n)
     → NoRashKill t (MayAskFor cmd s.ledger.groups) s c steps
 allocates_for t cmd sizes path order answer s c steps n z asks whole h = elim (cases_eq order 0) [
   | inl frame ↦
       let one : 2 ^ order ≡ 1 = ap (λ (k : ℕ). 2 ^ k) frame in
       let may = subst (λ (p : ℕ). (over : ℕ) → in_subtree s.ledger.groups over h.group ≡ true → p ≤ 8
-      → MayAskFor cmd s.ledger.groups s.ledger.groups over p) one (λ over below few. asks h.group over s.ledger.groups h.found below few) in
+      → MayAskFor cmd s.ledger.groups s.ledger.groups over p) one (λ over below few. asks h.group over h.found below few) in
       frame_no_rash t (MayAskFor cmd s.ledger.groups) s c h.group may sizes answer steps n z whole (h.allocates.frame frame)
   | inr block ↦
-      block_no_rash t (MayAskFor cmd s.ledger.groups) s c h.group order (λ over below few. asks h.group over s.ledger.groups h.found below few)
+      block_no_rash t (MayAskFor cmd s.ledger.groups) s c h.group order (λ over below few. asks h.group over h.found below few)
       answer steps n z whole (h.allocates.block block)
 ]
 
 allocates_no_rash : (t : KnownTable) (cmd : Cmd) (sizes : Config) (path : List ℕ) (order : ℕ) (said : Reply) (s : KnownMachine) (c : KnownCpu)
     (steps : Run) (n : Side) (z : State)
-    → ((g over : ℕ) (now : List Group) → number_at s.ledger.groups path ≡ Some g → in_subtree now over g ≡ true → 2 ^ order ≤ 8
-    → MayAskFor cmd s.ledger.groups now over (2 ^ order))
+    → ((g over : ℕ) → number_at s.ledger.groups path ≡ Some g → in_subtree s.ledger.groups over g ≡ true → 2 ^ order ≤ 8
+    → MayAskFor cmd s.ledger.groups s.ledger.groups over (2 ^ order))
     → IsLocalRun c.number (local_of t s c) steps z → Allocates sizes path order said (course t (side s c) steps n)
     → NoRashKill t (MayAskFor cmd s.ledger.groups) s c steps
 allocates_no_rash t cmd sizes path order (reply.Frame f) s c steps n z asks whole h =
@@ -205,7 +211,7 @@ obeys_no_rash t sizes (Mkdir path) said s c steps n z h whole =
 obeys_no_rash t sizes (Rmdir path) said s c steps n z h whole =
     rash_quiet t (MayAskFor (Rmdir path) s.ledger.groups) s c [] steps (removes_quiet path.now said (course t s steps n.machine) h.0)
 obeys_no_rash t sizes (Write path file value) said s c steps n z h whole =
-    writes_no_rash t (Write path file value) path.now file.now value.now said s c steps n.machine z (λ g now found. (found, refl)) whole h.0
+    writes_no_rash t (Write path file value) path.now file.now value.now said s c steps n.machine z (λ g of file reads. (of, file, reads, refl, refl)) whole h.0
 obeys_no_rash t sizes (Read path file) said s c steps n z h whole =
     rash_quiet t (MayAskFor (Read path file) s.ledger.groups) s c [] steps (ap has_kill h.1.steps_are)
 obeys_no_rash t sizes Settle said s c steps n z h whole =
@@ -222,4 +228,24 @@ obeys_no_rash t sizes (Release f) said s c steps n z h whole =
     rash_quiet t (MayAskFor (Release f) s.ledger.groups) s c [] steps (releases_quiet sizes f said (course t (side s c) steps n) h)
 obeys_no_rash t sizes (Alloc path order) said s c steps n z h whole =
     allocates_no_rash t (Alloc path order) sizes path.now order said s c steps n z
-    (λ g over now found below few. (g, found, record { on_path = below; need_is = refl; few = few })) whole h
+    (λ g over found below few. (g, found, refl, record { on_path = below; need_is = refl; few = few })) whole h
+
+-- ---- the steps around it
+
+fresh_quiet : (killed : Bool) (p : ℕ) (frames : List ℕ) → has_kill (flat_map (fresh_steps killed p) frames) ≡ false
+fresh_quiet killed p [] = refl
+fresh_quiet true p (f ∷ frames) = no_kill_both (fresh_steps true p f) (flat_map (fresh_steps true p) frames) refl (fresh_quiet true p frames)
+fresh_quiet false p (f ∷ frames) = no_kill_both (fresh_steps false p f) (flat_map (fresh_steps false p) frames) refl (fresh_quiet false p frames)
+
+return_quiet : (p : ℕ) (frames : List ℕ) → has_kill (flat_map (return_steps p) frames) ≡ false
+return_quiet p [] = refl
+return_quiet p (f ∷ frames) = no_kill_both (return_steps p f) (flat_map (return_steps p) frames) refl (return_quiet p frames)
+
+settle_quiet : (now : Side) → has_kill (settle_steps now) ≡ false
+settle_quiet now =
+    no_kill_both (all_fresh_steps now) (all_back_steps now) (fresh_quiet (is_fresh_killed now) now.cpu.number now.cpu.fresh)
+    (return_quiet now.cpu.number now.cpu.back)
+
+pub around_quiet : (p : ℕ) (now : Side) → has_kill (open_steps p ++ (settle_steps now ++ shut_steps p)) ≡ false
+around_quiet p now =
+    no_kill_both (open_steps p) (settle_steps now ++ shut_steps p) refl (no_kill_both (settle_steps now) (shut_steps p) (settle_quiet now) refl)

@@ -14,7 +14,7 @@ use Rattle.mem_machine.proofs.Reaching.{run_both}
 use Rattle.mem_system.specs.declared.command.Cmd.{Cmd}
 use Rattle.mem_system.specs.declared.command.Reply.{Reply}
 use Rattle.mem_system.specs.Boots.{KnownLocked, AllShut}
-use Rattle.mem_system.proofs.Killing.{obeys_no_rash}
+use Rattle.mem_system.proofs.Killing.{around_quiet, obeys_no_rash}
 use Rattle.mem_system.proofs.Missing.{obeys_counts}
 use Rattle.mem_system.specs.Commands.{BySteps, Obeys, Serves, with_visit_of, course, holder, IsServed}
 
@@ -75,6 +75,7 @@ served t cmd l k c d reply entered mid x c1 c2 c3 opened same second third shut 
         done = x;
         obeys = subst (λ (y : KnownCpu). Obeys l.sizes cmd reply (course t (side mid c2) obeyed.0 (side x y))) (sym after) obeyed.1;
         no_rash = obeys_no_rash t l.sizes cmd reply mid c2 obeyed.0 (side x c3) (local_of t x c3) obeyed.1 obeyed.2;
+        only_inner = around_quiet p (side begins c);
         misses = obeys_counts l.sizes cmd reply (course t (side mid c2) obeyed.0 (side x c3)) obeyed.1;
         machine = shut ∙ ap (λ (q : ℕ). with_visit_of x q 0) three;
         sizes = sizes;

@@ -4,7 +4,7 @@ use Rattle.std.specs.Borrow.{Bor}
 use Rattle.frame_word.specs.Seats.{KnownTable, LentIsBorrowed, seat_with_visit}
 use Rattle.stock_word.specs.Stock.{Words}
 use Rattle.group_tree.specs.declared.group.Group.{Group as TreeGroup}
-use Rattle.group_tree.specs.Groups.{make_fault, number_at}
+use Rattle.group_tree.specs.Groups.{make_fault, number_at, with_limit}
 use Rattle.group_tree.specs.declared.fault.Fault.TheVariants.{Busy}
 use Rattle.group_charge.specs.Charges.{current_of, with_group_limit, with_group_removed}
 use Rattle.control_files.specs.declared.file.File.TheVariants.{Max}
@@ -18,6 +18,7 @@ use Rattle.mem_machine.specs.Settling.{Settles, settle_steps}
 use Rattle.mem_machine.specs.Steps.{open_steps, shut_steps, make_steps, remove_steps, set_max_steps}
 -- how a call is said by its steps
 pub use Rattle.mem_alloc.specs.Stepping.{CountsMisses, Course, course, of_machine, OfMachine, BySteps, Stays}
+use Rattle.mem_reclaim.specs.Moves.{has_kill}
 -- that nobody is killed too early
 pub use Rattle.mem_alloc.specs.NoRash.{IsChargedBelow, NoRashKill}
 use Rattle.mem_system.specs.declared.command.Cmd.{Cmd}
@@ -165,17 +166,20 @@ holder locked cpu = record { locked = locked; cpu = cpu }
 abbrev pub side_of : Holder → Side
 side_of held = side held.locked.machine held.cpu
 
--- For which limit a command may have groups killed, and for how many pages more, by the groups that were there before and
--- those there now: an Alloc for that of its group or of one above, for its pages, at most 8; a Write for that of its
--- group, for none; and no other command for any
+-- For which limit a command may have groups killed, and for how many pages more, by the groups with their limits before
+-- and now: an Alloc, which changes none, for that of its group or of one above, for its pages, at most 8; a Write for the
+-- one that it wrote, for none; and no other command for any
 abbrev pub MayAskFor : Cmd → List TreeGroup → List TreeGroup → ℕ → ℕ → Type 0
 MayAskFor (Alloc path order) was now limited need =
-    (group : ℕ) × (number_at was path.now ≡ Some group) × IsChargedBelow group (2 ^ order) now limited need
-MayAskFor (Write path file value) was now limited need = (number_at was path.now ≡ Some limited) × (need ≡ 0)
+    (group : ℕ) × (number_at was path.now ≡ Some group) × (now ≡ was) × IsChargedBelow group (2 ^ order) now limited need
+MayAskFor (Write path file value) was now limited need =
+    (limit : Option ℕ) × IsFileOf was path.now file.now limited Max × ReadsAs value.now limit
+    × (now ≡ with_limit was limited limit) × (need ≡ 0)
 MayAskFor other was now limited need = ⊥
 
 -- A command under the lock: the caller's visit is opened, its part is settled, the command is obeyed, and the visit
--- is shut. No group is killed meanwhile before everything else was tried, and the misses noted are those among the steps
+-- is shut. No group is killed meanwhile before everything else was tried, nor by a step that isn't the command's; and the
+-- misses noted are those among the steps
 pub record Serves (cmd : Cmd) (reply : Reply) (way : Course Holder) : Type 0 where
   pub settled : Side
   pub settles : Settles (visited (side_of way.before)) settled
@@ -183,6 +187,8 @@ pub record Serves (cmd : Cmd) (reply : Reply) (way : Course Holder) : Type 0 whe
   pub done : KnownMachine
   pub obeys : Obeys way.before.locked.sizes cmd reply (course way.table settled inner (side done way.after.cpu))
   pub no_rash : NoRashKill way.table (MayAskFor cmd settled.machine.ledger.groups) settled.machine settled.cpu inner
+  pub only_inner : has_kill (open_steps way.before.cpu.number
+      ++ (settle_steps (visited (side_of way.before)) ++ shut_steps way.before.cpu.number)) ≡ false
   pub misses : CountsMisses (course way.table settled.machine inner done)
   pub machine : way.after.locked.machine ≡ with_visit_of done way.before.cpu.number 0
   pub sizes : way.after.locked.sizes ≡ way.before.locked.sizes
