@@ -1,12 +1,13 @@
-//! A boot that fails for want of memory leaves nothing that keeps the next one from a whole life.
+//! A boot that fails for want of memory leaves nothing that keeps the next one from a whole life, nor do texts that do.
 ghost use Rattle.std.specs.Prelude.{◌≡◌};
 
 use crate::life::{SIZES, ends, nothing_was_charged};
-use cpu_part::BootName;
-use mem_system::{Audit, Boot, boot};
+use cpu_part::{BootName, Cpu};
+use mem_system::{Audit, Boot, System, boot};
 use std::alloc::Global;
 use std::marker::Brand;
 use std::process::Abort;
+use std::sync::Wait;
 use std::test::Fail;
 
 // Starts the boot and shuts it down; None where memory is wanting.
@@ -32,5 +33,52 @@ fn a_second_boot_lives_where_the_first_was_refused(rt: HostRuntime) -> Result<()
         audit = boots_and_ends(&rt, rt.alloc());
     }
     assert!(&rt; audit == Some(nothing_was_charged()));
+    Ok(())
+}
+
+// What `show` and `blocks` tell the first processor under the lock; None where memory is wanting.
+fn tells_both<N: BootName, R: Wait>(
+    rt: &R,
+    alloc: Global,
+    system: &System<N>,
+    cpus: &mut [Cpu<N>],
+) -> Option<(String, String)> {
+    let cpu = cpus.first_mut()?;
+    let frames = system.show(rt, alloc, cpu).ok()?;
+    let blocks = system.blocks(rt, alloc, cpu).ok()?;
+    Some((frames, blocks))
+}
+
+// Starts the boot, has both told, and shuts it down; None where memory is wanting.
+fn starts_and_tells<N: BootName, R: Wait + Abort>(
+    rt: &R,
+    alloc: Global,
+    boot: Boot,
+) -> Option<(String, String)>
+    requires { (boot.frames ≡ N.frames) × (boot.stocks ≡ N.stocks) }
+{
+    let (system, mut cpus) = boot.start::<N>(alloc).ok()?;
+    let told = tells_both(rt, alloc, &system, &mut cpus);
+    assert!(rt; ends(rt, system, cpus) == nothing_was_charged());
+    told
+}
+
+// A boot's whole life with its texts; None where memory is wanting.
+fn boots_and_tells<R: Wait + Abort>(rt: &R, alloc: Global) -> Option<(String, String)> {
+    let boot = boot(alloc, SIZES).ok()?;
+    starts_and_tells::<Brand, _>(rt, alloc, boot)
+}
+
+// `tests/refuse-memory` runs this too.
+#[test]
+fn a_second_boot_tells_where_the_first_was_refused(rt: HostRuntime) -> Result<(), Fail> {
+    let mut told = boots_and_tells(&rt, rt.alloc());
+    if told.is_none() {
+        println!(rt; "the first life was refused")?;
+        told = boots_and_tells(&rt, rt.alloc());
+    }
+    let (frames, blocks) = told.expect(&rt, "texts");
+    assert!(&rt; frames.as_str() == "0-15 free\n");
+    assert!(&rt; blocks.as_str() == "4:0\n");
     Ok(())
 }
