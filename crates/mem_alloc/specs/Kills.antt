@@ -29,8 +29,8 @@ pub record IsWanting (requester : Option ℕ) (group pages : ℕ) (m : KnownMach
   pub over : has_room_for m.ledger group pages ≡ false
   pub alive : IsAlive requester m
 
--- One kill: the pages are wanted still, and the victim of the group is killed. All of it is what it was found to be: the machine is consistent, and the usage that of its
--- accounts. What a kill keeps stays
+-- One kill: the pages are wanted still, and the victim of the group is killed, in a machine that is consistent and whose
+-- usage is that of its accounts. What a kill keeps stays
 pub record KillsOne (requester : Option ℕ) (group pages victim : ℕ) (way : Course KnownMachine) : Type 0 where
   pub wanting : IsWanting requester group pages way.before
   pub chosen : IsVictim way.before group (Some victim)

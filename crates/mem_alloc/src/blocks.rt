@@ -115,15 +115,17 @@ fn take_again<N: BootName>(
 /// Allocates a block of this order for a group that is there, for the processor that is visited and was settled:
 /// 2^`order` pages are charged to the group, and the block is a kept unit of it at once, which goes by its head.
 ///
-/// `Killed`: the group was killed before, and nothing changed. Else a limit that has no room for the pages is noted (`max`) at
-/// its group, the lowest of the path, the stocks of that group's subtree are drained, and where it has no room still,
-/// clean units of the subtree are reclaimed in at most 16 rounds. Where that makes no room, `oom` is noted there for an
-/// order of at most 3, and victims of the subtree are killed until it has. Where none is left, or the order is greater, the
-/// answer is `Over`; where the group itself is killed, it is `Killed`. Where
-/// no block of the order or above is free, the processor's own list goes back to the zone, and the block is tried once
-/// more. Where there is none still, as many pages as it has are reclaimed from the units of all groups, and it is tried
-/// again: in at most 16 such rounds, of which one that gave no page is the last. `NoFrames`: there is none then; the
-/// pages went back, and the peaks and what was reclaimed stand. The zone has at most 65,536 frames and 64 processors.
+/// `Killed`: the group was killed before, and nothing changed. Else a limit that has no room for the pages is noted
+/// (`max`) at its group, the lowest of the path, the stocks of that group's subtree are drained, and where it has no
+/// room still, clean units of the subtree are reclaimed in at most 16 rounds. Where that makes no room, `oom` is noted
+/// there for an order of at most 3, and victims of the subtree are killed until it has. Where none is left, or the
+/// order is greater, the answer is `Over`; where the group itself is killed, it is `Killed`.
+///
+/// Where no block of the order or above is free, the processor's own list goes back to the zone, and the block is tried
+/// once more. Where there is none still, as many pages as it has are reclaimed from the units of all groups, and it is
+/// tried again: in at most 16 such rounds, of which one that gave no page is the last. `NoFrames`: there is none then;
+/// the pages went back, and the peaks and what was reclaimed stand. The zone has at most 65,536 frames and 64
+/// processors.
 pub fn alloc_block<N: BootName>(
     machine: &mut Machine<N>,
     tables: &Tables<N>,

@@ -84,16 +84,17 @@ fn fill_list<N: BootName>(
 /// Allocates one frame for a group that is there, for the processor that is visited and was settled: it is the front of
 /// the processor's list, paid for with a page of its stock, and is fresh then.
 ///
-/// `Killed`: the group was killed before, and nothing changed. Else, where the stock holds no page of the group, it is drained
-/// and filled with `sizes.stock` pages where every limit has room for them, else with one page. A limit that has no
-/// room for that one is noted (`max`) at its group, the lowest of the path, the stocks of that group's subtree are
-/// drained, and where it has no room still, clean units of the subtree are reclaimed in at most 16 rounds. Where that
-/// makes no room, `oom` is noted there, and victims of the subtree are killed until it has. Where none is left, the answer
-/// is `Over`; where the group itself is killed, it is `Killed`. Where the list is empty, up to `sizes.batch` free frames come to it. Where none
-/// is free, a page is reclaimed from the units of all groups, and free frames come to the list then: in at most 16 such
-/// rounds, of which one that gave no page is the last. `NoFrames`: none is free still, and the stock is drained again.
-/// The peaks, the notes, the drained stocks and what was reclaimed stand after a refusal. The zone has at most 65,536
-/// frames and 64 processors.
+/// `Killed`: the group was killed before, and nothing changed. Else, where the stock holds no page of the group, it is
+/// drained and filled with `sizes.stock` pages where every limit has room for them, else with one page. A limit that
+/// has no room for that one is noted (`max`) at its group, the lowest of the path, the stocks of that group's subtree
+/// are drained, and where it has no room still, clean units of the subtree are reclaimed in at most 16 rounds. Where
+/// that makes no room, `oom` is noted there, and victims of the subtree are killed until it has. Where none is left,
+/// the answer is `Over`; where the group itself is killed, it is `Killed`.
+///
+/// Where the list is empty, up to `sizes.batch` free frames come to it. Where none is free, a page is reclaimed from the
+/// units of all groups, and free frames come to the list then: in at most 16 such rounds, of which one that gave no page
+/// is the last. `NoFrames`: none is free still, and the stock is drained again. The peaks, the notes, the drained
+/// stocks, the kills and what was reclaimed stand after a refusal. The zone has at most 65,536 frames and 64 processors.
 pub fn alloc_frame<N: BootName>(
     machine: &mut Machine<N>,
     tables: &Tables<N>,

@@ -17,8 +17,8 @@ use group_tree::group::{GroupId, MAX_GROUPS};
 use std::marker::{Model, PhantomData};
 use stock_word::{Stock, StockSeat};
 
-/// The zone's seat at the stocks. The books of the processors are what the seat is known to be, for proofs alone; their sums by
-/// group are kept beside it. A contract sees the seat.
+/// The zone's seat at the stocks. The books of the processors are what the seat is known to be, for proofs alone; their
+/// sums by group are kept beside it. A contract sees the seat.
 #[derive(Drop)]
 pub(crate) struct Books<N: BootName> {
     seat: StockSeat,
