@@ -146,7 +146,7 @@ counts_refusal t g pages cause m n steps h =
 
 -- ---- lists
 
-refill_calm : (p : ℕ) (frames : List ℕ) → AreQuiet (refill_steps p frames)
+pub refill_calm : (p : ℕ) (frames : List ℕ) → AreQuiet (refill_steps p frames)
 refill_calm p [] = calm
 refill_calm p (f ∷ frames) = quiet_both (lend_steps p f) (refill_steps p frames) (record { quiet = refl; no_miss = λ g. refl }) (refill_calm p frames)
 

@@ -121,7 +121,7 @@ over_runs p g n over rest a z whole = (whole.0, refl)
 -- the steps lead there; the misses grew by those among them; and no unit came onto a list or changed its dirt
 pub record Passes (t : KnownTable) (c : KnownCpu) (m : KnownMachine) (steps : Run) (n : KnownMachine) : Type 0 where
   pub runs : IsLocalRun c.number (local_of t m c) steps (local_of t n c)
-  pub tied : IsTied m steps n
+  pub tied : IsTied (course t m steps n)
 
 pub passes_none : (t : KnownTable) (c : KnownCpu) (m : KnownMachine) → Passes t c m [] m
 passes_none t c m = record {
@@ -136,8 +136,8 @@ owned : (o was : Option Home) → o ≢ None → owner_of o ≡ owner_of was →
 owned None was kept same none = kept refl
 owned (Some h) was kept same none = none-some h.owner (sym (same ∙ ap owner_of none))
 
-was_kept : (m n : KnownMachine) (steps : Run) → IsTied m steps n → (f : ℕ) → home_of n.links f ≢ None → home_of m.links f ≢ None
-was_kept m n steps tied f is = owned (home_of n.links f) (home_of m.links f) is (tied.owners f is)
+was_kept : (t : KnownTable) (m n : KnownMachine) (steps : Run) → IsTied (course t m steps n) → (f : ℕ) → home_of n.links f ≢ None → home_of m.links f ≢ None
+was_kept t m n steps tied f is = owned (home_of n.links f) (home_of m.links f) is (tied.owners f is)
 
 pub passes_both : (t : KnownTable) (c : KnownCpu) (m x n : KnownMachine) (one two : Run) → Passes t c m one x → Passes t c x two n
     → Passes t c m (one ++ two) n
@@ -149,8 +149,8 @@ passes_both t c m x n one two a b = record {
         let q = b.tied.misses f in
         let r = missed_both f one two in
         omega (arith, p, q, r);
-    owners = λ f is. b.tied.owners f is ∙ a.tied.owners f (was_kept x n two b.tied f is);
-    dirt = λ f is. b.tied.dirt f is ∙ a.tied.dirt f (was_kept x n two b.tied f is);
+    owners = λ f is. b.tied.owners f is ∙ a.tied.owners f (was_kept t x n two b.tied f is);
+    dirt = λ f is. b.tied.dirt f is ∙ a.tied.dirt f (was_kept t x n two b.tied f is);
   };
 }
 

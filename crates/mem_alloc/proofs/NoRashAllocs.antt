@@ -16,7 +16,7 @@ use Rattle.mem_machine.specs.Machines.{KnownMachine}
 use Rattle.mem_machine.specs.Local.{IsLocalRun, Side, local_of, side}
 use Rattle.mem_machine.specs.Blocks.{taken_steps, unplaced_steps}
 use Rattle.mem_machine.specs.Stocks.{stock_group}
-use Rattle.mem_machine.specs.Steps.{back_steps, drain_list_steps, drain_steps, fill_steps, lend_steps, over_steps, refill_steps, take_front_steps}
+use Rattle.mem_machine.specs.Steps.{drain_list_steps, drain_steps, fill_steps, over_steps, take_front_steps}
 use Rattle.mem_machine.proofs.Reaching.{run_both}
 use Rattle.mem_reclaim.specs.Moves.{has_kill, is_kill}
 use Rattle.mem_reclaim.proofs.LettingGo.{quiet_drain}
@@ -28,20 +28,13 @@ use Rattle.mem_alloc.specs.Rounds.{FailsInRounds, MakesRound, SucceedsInRounds}
 use Rattle.mem_alloc.specs.Frames.{AllocatesFrame, FillsList, HasNoFrame, LendsBatch, LendsNoFrame}
 use Rattle.mem_alloc.specs.Blocks.{AllocatesBlock, FindsNoBlock, TakesAfterRoom, TakesAgain, TakesInRounds, TakesSecond, TriesAgain, TriesInRounds, TryFindsNone, TryTakes}
 use Rattle.mem_alloc.specs.NoRash.{NoRashKill}
+use Rattle.mem_alloc.proofs.Missing.{back_calm, refill_calm}
 use Rattle.mem_alloc.proofs.NoRash.{Passes, RashFree, after_room_rash, drain_same, over_runs, passes_both, passes_none, passes_same, rash_both, rash_quiet, refusal_rash, run_rest}
 
 -- ---- lists of steps without a kill
 
 pub no_kill_both : (one two : Run) → has_kill one ≡ false → has_kill two ≡ false → has_kill (one ++ two) ≡ false
 no_kill_both one two a b = list_any-append (λ (e : Step × Answer). is_kill e.0.action) one two ∙ ap (λ (x : Bool). x || has_kill two) a ∙ b
-
-refill_quiet : (p : ℕ) (frames : List ℕ) → has_kill (refill_steps p frames) ≡ false
-refill_quiet p [] = refl
-refill_quiet p (f ∷ frames) = no_kill_both (lend_steps p f) (refill_steps p frames) refl (refill_quiet p frames)
-
-pub back_quiet : (p : ℕ) (frames : List ℕ) → has_kill (drain_list_steps p frames) ≡ false
-back_quiet p [] = refl
-back_quiet p (f ∷ frames) = no_kill_both (back_steps p f) (drain_list_steps p frames) refl (back_quiet p frames)
 
 -- no step of such a course is a kill
 abbrev AllQuiet : (Course Side → Type 0) → Type 0
@@ -75,7 +68,7 @@ module _ (want : ℕ) (Fails : Course Side → Type 0) (failing : AllQuiet Fails
 -- ---- a frame of the list
 
 lends_quiet : (batch : ℕ) → AllQuiet (LendsBatch batch)
-lends_quiet batch way h = ap has_kill h.steps_are ∙ refill_quiet way.before.cpu.number h.frames
+lends_quiet batch way h = ap has_kill h.steps_are ∙ (refill_calm way.before.cpu.number h.frames).quiet
 
 lends_none_quiet : AllQuiet LendsNoFrame
 lends_none_quiet way h = ap has_kill h.stays.steps_are
@@ -121,7 +114,7 @@ second_quiet g k (Err cause) way h = tries_quiet g k (Err cause) way h
 again_quiet : (g k : ℕ) (answer : Result ℕ AllocFault) → AllQuiet (TakesAgain g k answer)
 again_quiet g k answer way h =
     ap has_kill h.steps_are ∙ no_kill_both (drain_list_steps way.before.cpu.number way.before.cpu.list) h.later
-    (back_quiet way.before.cpu.number way.before.cpu.list)
+    (back_calm way.before.cpu.number way.before.cpu.list).quiet
     (second_quiet g k answer (course way.table (side h.returned way.after.cpu) h.later way.after) h.takes)
 
 -- ---- the whole of an allocation

@@ -1,7 +1,8 @@
--- No group is killed for a limit before everything else was tried. It is read from the steps of a call, alone.
-use Rattle.std.specs.Prelude.{◌≡◌, ◌≢◌, ℕ, ◌+◌, ◌≤◌, ◌==◌, Bool, true, false, IsTrue, Some, None, List, ◌∷◌, ◌++◌}
+-- No group is killed for a limit before everything else was tried. It is read from the steps of a call, and from the
+-- machine to which they lead.
+use Rattle.std.specs.Prelude.{◌≡◌, ◌≢◌, ℕ, ◌≤◌, ◌==◌, Bool, true, false, IsTrue, Some, None, List, ◌∷◌, ◌++◌}
 use Rattle.std.specs.List.{list_any}
-use Rattle.frame_word.specs.Seats.{KnownTable, misses_of}
+use Rattle.frame_word.specs.Seats.{KnownTable}
 use Rattle.stock_word.specs.Stock.{Words}
 use Rattle.group_tree.specs.declared.group.Group.{Group}
 use Rattle.group_tree.specs.Groups.{in_subtree}
@@ -17,10 +18,10 @@ use Rattle.step_rules.specs.After.{Run}
 use Rattle.mem_machine.specs.Machines.{IsConsistent, KnownMachine, home_of}
 use Rattle.mem_machine.specs.Local.{IsLocalRun, local_of}
 use Rattle.mem_machine.specs.Stocks.{AreDrained}
-use Rattle.mem_reclaim.specs.Moves.{missed_in}
 use Rattle.mem_reclaim.specs.Staying.{MissedAll}
 use Rattle.mem_reclaim.specs.Victim.{IsVictim}
 use Rattle.mem_alloc.specs.Kills.{has_room_for}
+use Rattle.mem_alloc.specs.Stepping.{CountsMisses, Course, course}
 
 -- the step notes at the group that an allocation was about to fail at its limit
 abbrev pub is_oom_note : ℕ → Action → Bool
@@ -34,10 +35,12 @@ has_oom_note g steps = list_any (λ e. is_oom_note g e.0.action) steps
 -- The machine is the one that these steps of a call left, in what steps alone don't tell: each frame's misses are those
 -- that were noted before the call and among the steps; and whoever is kept was kept for the same group when the call
 -- began, and is as dirty as it was
-pub record IsTied (start : KnownMachine) (steps : Run) (now : KnownMachine) : Type 0 where
-  pub misses : (f : ℕ) → misses_of now.seat f ≡ misses_of start.seat f + missed_in f steps
-  pub owners : (f : ℕ) → home_of now.links f ≢ None → owner_of (home_of now.links f) ≡ owner_of (home_of start.links f)
-  pub dirt : (f : ℕ) → home_of now.links f ≢ None → (link_at now.links f).is_dirty ≡ (link_at start.links f).is_dirty
+pub record IsTied (way : Course KnownMachine) : Type 0 where
+  pub misses : CountsMisses way
+  pub owners : (f : ℕ) → home_of way.after.links f ≢ None
+      → owner_of (home_of way.after.links f) ≡ owner_of (home_of way.before.links f)
+  pub dirt : (f : ℕ) → home_of way.after.links f ≢ None
+      → (link_at way.after.links f).is_dirty ≡ (link_at way.before.links f).is_dirty
 
 -- which limit a call may kill for, and so many pages: where it charges pages to a group, up to 8, that of the group or one
 -- above, for these
@@ -63,7 +66,7 @@ pub record MayKill (table : KnownTable) (MayAsk : List Group → ℕ → ℕ →
   pub words : Words
   pub consistent : IsConsistent table words now
   pub charges : AreCharges now.ledger
-  pub tied : IsTied start steps now
+  pub tied : IsTied (course table start steps now)
 
 -- Each kill among the steps of a call comes where the group may be killed: for each split of the list at a kill there is
 -- a machine to which the steps before it lead, and there it may

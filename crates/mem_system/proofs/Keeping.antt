@@ -20,36 +20,11 @@ use Rattle.step_rules.specs.After.{Run}
 use Rattle.mem_alloc.specs.Kills.{KillsFor}
 use Rattle.mem_alloc.specs.Stepping.{ByStepsOfAny, course}
 use Rattle.mem_alloc.proofs.Killing.{kills_lower}
+use Rattle.mem_alloc.proofs.NoRash.{all_same}
 use Rattle.mem_system.specs.Leaves.{IsLeafAt}
 use Rattle.mem_system.specs.Usage.{LowersUsage, LowersAbove, KeepsToLimit}
 use Rattle.mem_system.proofs.Found.{found_there}
 use Rattle.mem_system.specs.Commands.{SetsLimit, with_limit_of}
-
--- ---- drains: the groups and the zone's seat are the same
-
-pub record SameSeat (m n : KnownMachine) : Type 0 where
-  pub groups : n.ledger.groups ≡ m.ledger.groups
-  pub seat : n.seat ≡ m.seat
-
-drain_same : (m n : KnownMachine) (q k : ℕ) → Drains m q k n → SameSeat m n
-drain_same m n q k d = record {
-  groups = ap (λ (x : KnownMachine). x.ledger.groups) d.machine ∙ groups_stay m.ledger (stock_group m q) k;
-  seat = ap (λ (x : KnownMachine). x.seat) d.machine;
-}
-
-one_same : (g q : ℕ) (m n : KnownMachine) (drains : List Drain) → DrainsBelow g m q drains n → SameSeat m n
-one_same g q m n [] h =
-    record { groups = ap (λ (x : KnownMachine). x.ledger.groups) h.1; seat = ap (λ (x : KnownMachine). x.seat) h.1 }
-one_same g q m n (drain ∷ []) h = drain_same m n q drain.pages h.1.drains
-one_same g q m n (one ∷ two ∷ more) h = absurd h
-
-pub all_same : (g k : ℕ) (m n : KnownMachine) (drains : List Drain) → DrainsAllBelow g k drains m n → SameSeat m n
-all_same g zero m n drains h =
-    record { groups = ap (λ (x : KnownMachine). x.ledger.groups) h.1; seat = ap (λ (x : KnownMachine). x.seat) h.1 }
-all_same g (suc k) m n drains h =
-    let one = one_same g (suc k) h.2 n h.1 h.5 in
-    let rest = all_same g k m h.2 h.0 h.4 in
-    record { groups = one.groups ∙ rest.groups; seat = one.seat ∙ rest.seat }
 
 -- ---- a visit
 

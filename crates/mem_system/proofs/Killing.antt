@@ -32,10 +32,10 @@ use Rattle.mem_alloc.specs.declared.faults.AllocFault.TheVariants.{Over, NoFrame
 use Rattle.mem_alloc.specs.Kills.{KillsFor, has_room_for}
 use Rattle.mem_alloc.specs.Stepping.{Course, course, of_machine}
 use Rattle.mem_alloc.specs.NoRash.{IsChargedBelow, NoRashKill}
-use Rattle.mem_alloc.proofs.NoRash.{Passes, RashFree, drained_on, drains_pass, keeps_pass, missed_since, passes_both, passes_same, rash_both, rash_quiet, run_rest, tame_kills}
-use Rattle.mem_alloc.proofs.NoRashAllocs.{back_quiet, block_no_rash, frame_no_rash, no_kill_both}
+use Rattle.mem_alloc.proofs.NoRash.{Passes, all_same, RashFree, drained_on, drains_pass, keeps_pass, missed_since, passes_both, passes_same, rash_both, rash_quiet, run_rest, tame_kills}
+use Rattle.mem_alloc.proofs.Missing.{back_calm}
+use Rattle.mem_alloc.proofs.NoRashAllocs.{block_no_rash, frame_no_rash, no_kill_both}
 use Rattle.mem_system.proofs.Found.{found_there}
-use Rattle.mem_system.proofs.Keeping.{all_same}
 use Rattle.mem_system.specs.declared.command.Cmd.{Cmd}
 use Rattle.mem_system.specs.declared.command.Cmd.TheVariants.{Mkdir, Rmdir, Write, Read, Settle, Owner, Touch, Dirty, Clean, Release, Alloc}
 use Rattle.mem_system.specs.declared.command.Reply.{Reply}
@@ -79,7 +79,7 @@ notes_quiet is_dirty f (reply.Refused fault.NotKept) way h = ap has_kill h.steps
 notes_quiet is_dirty f other way h = absurd h
 
 cuts_quiet : (sizes : Config) (way : Course Side) → CutsList sizes way → has_kill way.steps ≡ false
-cuts_quiet sizes way h = ap has_kill h.steps_are ∙ back_quiet way.before.cpu.number h.cut
+cuts_quiet sizes way h = ap has_kill h.steps_are ∙ (back_calm way.before.cpu.number h.cut).quiet
 
 lists_quiet : (sizes : Config) (f : ℕ) (way : Course Side) → ListsFrame sizes f way → has_kill way.steps ≡ false
 lists_quiet sizes f way h =

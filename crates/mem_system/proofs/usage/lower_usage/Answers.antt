@@ -1,7 +1,8 @@
 use Rattle.std.proofs.Common.{List, ap, ◌∙◌}
 use Rattle.group_tree.specs.declared.group.Group.{Group}
 use Rattle.group_tree.specs.Groups.{has_group}
-use Rattle.mem_system.proofs.Keeping.{all_same, lowered_by}
+use Rattle.mem_alloc.proofs.NoRash.{all_same}
+use Rattle.mem_system.proofs.Keeping.{lowered_by}
 use Rattle.mem_system.proofs.usage.lower_usage.Goals as goal
 
 pub make_rounds-requires : goal.make_rounds-requires
