@@ -1,11 +1,11 @@
 -- How far a script was read.
-use Rattle.std.proofs.Common.{◌≡◌, ℕ, ◌+◌, ◌-◌, ◌<◌, ◌≤◌, List, [], ◌∷◌, ◌++◌, length, Bool, true, false, not, cond, ◌||◌, ap₂, take, Option, Some, None}
+use Rattle.std.proofs.Common.{◌≡◌, ℕ, ◌+◌, ◌-◌, ◌<◌, ◌≤◌, List, [], ◌∷◌, ◌++◌, length, Bool, true, false, not, cond, filter, ◌||◌, ap₂, take, Option, Some, None}
 use Rattle.std.proofs.Common.{MatchOption, IfSome, ◌==◌, drop, get_or, slice_get, refl, sym, ap, subst, ◌∙◌, arith, inl, inr, zero-add}
 use Rattle.std.specs.List.{AllZip, enumerate_from}
 use Rattle.std.proofs.lemmas.Bool.{cases_lt}
 use Rattle.std.proofs.Math.Bool.{or-false}
 use Rattle.std.proofs.lemmas.List.Folds.{list_any-append}
-use Rattle.std.proofs.lemmas.List.{append-nil, take-append-drop, take_all, take_more}
+use Rattle.std.proofs.lemmas.List.{append-nil, length-take-le, take-append-drop, take_all, take_more}
 use Rattle.std.proofs.lemmas.List.Sums.{sum_by-append}
 use Rattle.std.proofs.lemmas.List.Elements.{filter-append}
 use Rattle.std.proofs.lemmas.List.Splits.{length-slice_split}
@@ -38,8 +38,27 @@ zip_push R [] (b ∷ ys) x y all r = absurd all
 zip_push R (a ∷ xs) [] x y all r = absurd all
 zip_push R (a ∷ xs) (b ∷ ys) x y all r = (all.0, zip_push R xs ys x y all.1 r)
 
-asking_push : (texts : List (List ℕ)) (text : List ℕ) → asking_texts (texts ++ text ∷ []) ≡ asking_texts texts ++ cond (not (is_skipped text)) (text ∷ []) []
-asking_push texts text = filter-append (λ t. not (is_skipped t)) texts (text ∷ [])
+-- one text more has the next number
+numbered_push : (n : ℕ) (texts : List (List ℕ)) (text : List ℕ) → enumerate_from n (texts ++ text ∷ []) ≡ enumerate_from n texts ++ (n + length texts, text) ∷ []
+numbered_push n [] text = let e : n ≡ n + 0 = omega arith in ap (λ (m : ℕ). (m, text) ∷ []) e
+numbered_push n (t ∷ texts) text =
+    let e : n + 1 + length texts ≡ n + length (t ∷ texts) = omega arith in
+    ap (λ (rest : List (ℕ × List ℕ)). (n, t) ∷ rest)
+    (numbered_push (n + 1) texts text ∙ ap (λ (m : ℕ). enumerate_from (n + 1) texts ++ (m, text) ∷ []) e)
+
+asking_push : (texts : List (List ℕ)) (text : List ℕ)
+    → asking_texts (texts ++ text ∷ []) ≡ asking_texts texts ++ cond (not (is_skipped text)) ((1 + length texts, text) ∷ []) []
+asking_push texts text =
+    ap (filter (λ (t : ℕ × List ℕ). not (is_skipped t.1))) (numbered_push 1 texts text)
+    ∙ filter-append (λ t. not (is_skipped t.1)) (enumerate_from 1 texts) ((1 + length texts, text) ∷ [])
+
+-- as many texts as the lines that were read
+count_read : (script : List ℕ) (count index : ℕ) (text : List ℕ) → IsNext script count index text
+    → length (take count (texts_of script)) ≡ count
+count_read script count index text next =
+    let at = next.index_is in
+    let inside = next.inside in
+    length-take-le count (texts_of script) (omega arith)
 
 -- the texts up to and with the next
 next_text : (script : List ℕ) (count index : ℕ) (text : List ℕ) → IsNext script count index text
@@ -80,7 +99,7 @@ passes_over sizes script count went now lines index text so_far next good skippe
     let same : asking_texts (take (count + 1) (texts_of script)) ≡ asking_texts (take count (texts_of script)) ++ [] = asked ∙ rw skipped refl in
     record {
       good = more_good sizes script count so_far.good (rw (← next.index_is) good);
-      says = let P : List (List ℕ) → Type 0 = λ texts. AllZip (λ t l. IsLineText sizes l t) texts lines in
+      says = let P : List (ℕ × List ℕ) → Type 0 = λ texts. AllZip (λ t l. IsLineText sizes t.0 l t.1) texts lines in
           subst P (sym (same ∙ append-nil (asking_texts (take count (texts_of script))))) so_far.says;
       went_is = next_go script count index text went now next so_far.went_is is;
     }
@@ -88,13 +107,17 @@ passes_over sizes script count went now lines index text so_far next good skippe
 -- a line that asks for something
 pub takes_line : (sizes : Config) (script : List ℕ) (count : ℕ) (went now : Bool) (lines : List Line) (index : ℕ) (text : List ℕ) (line : Line)
     → IsReadTo sizes script count went lines → IsNext script count index text → IsGoodLine sizes script (index + 1)
-    → is_skipped text ≡ false → IsLineText sizes line text → now ≡ (went || is_go text) → IsReadTo sizes script (count + 1) now (lines ++ line ∷ [])
+    → is_skipped text ≡ false → IsLineText sizes (index + 1) line text → now ≡ (went || is_go text) → IsReadTo sizes script (count + 1) now (lines ++ line ∷ [])
 takes_line sizes script count went now lines index text line so_far next good asks is now_is =
+    let at = next.index_is in
+    let read = count_read script count index text next in
+    let number : 1 + length (take count (texts_of script)) ≡ index + 1 = omega arith in
     let asked = ap asking_texts (next_text script count index text next) ∙ asking_push (take count (texts_of script)) text in
-    let same : asking_texts (take (count + 1) (texts_of script)) ≡ asking_texts (take count (texts_of script)) ++ text ∷ [] = asked ∙ rw asks refl in
+    let same : asking_texts (take (count + 1) (texts_of script)) ≡ asking_texts (take count (texts_of script)) ++ (index + 1, text) ∷ []
+    = asked ∙ rw asks (ap (λ (m : ℕ). asking_texts (take count (texts_of script)) ++ (m, text) ∷ []) number) in
     record {
       good = more_good sizes script count so_far.good (rw (← next.index_is) good);
-      says = rw same (zip_push (λ t l. IsLineText sizes l t) _ lines text line so_far.says is);
+      says = rw same (zip_push (λ t l. IsLineText sizes t.0 l t.1) _ lines (index + 1, text) line so_far.says is);
       went_is = next_go script count index text went now next so_far.went_is now_is;
     }
 
@@ -119,7 +142,7 @@ IsOnce script count text = is_go text ≡ true → has_go (take count (texts_of 
 -- what makes a line good
 pub is_good : (sizes : Config) (script : List ℕ) (count index : ℕ) (text : List ℕ) (over : Option ℕ)
     → IsNext script count index text → length text ≤ 1024 → IsOver script over
-    → IfSome over (λ first. index + 1 < first) → (is_skipped text ≡ false → (line : Line) × IsLineText sizes line text)
+    → IfSome over (λ first. index + 1 < first) → (is_skipped text ≡ false → (line : Line) × IsLineText sizes (index + 1) line text)
     → IsOnce script count text → IsGoodLine sizes script (index + 1)
 is_good sizes script count index text None next short is_over near says once = record {
   text = text;
@@ -159,12 +182,12 @@ not_far sizes script index (Some first) is_over far good =
     let within = good.within is_over.0 in let last = is_over.1 in far (omega arith)
 
 pub not_said : (sizes : Config) (script : List ℕ) (count index : ℕ) (text : List ℕ) → IsNext script count index text
-    → is_skipped text ≡ false → ((line : Line) → ¬ IsLineText sizes line text) → ¬ IsGoodLine sizes script (index + 1)
+    → is_skipped text ≡ false → ((line : Line) → ¬ IsLineText sizes (index + 1) line text) → ¬ IsGoodLine sizes script (index + 1)
 not_said sizes script count index text next asks none good =
     let same = same_text_at sizes script count index text next good in
     let asked : is_skipped good.text ≡ false = rw same asks in
     let said = good.says asked in
-    let P : List ℕ → Type 0 = λ t. IsLineText sizes said.0 t in
+    let P : List ℕ → Type 0 = λ t. IsLineText sizes (index + 1) said.0 t in
     none said.0 (subst P same said.1)
 
 -- a second `go` isn't good

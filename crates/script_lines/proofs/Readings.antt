@@ -2,7 +2,9 @@
 use Rattle.std.proofs.Common.{◌≡◌, ◌≢◌, ℕ, List, ◌∷◌, ◌++◌, Option, None, Some, MatchOption, subst, sym, ap, ◌∙◌, codes, refl, Bool, true, false}
 use Rattle.zone_sizes.specs.declared.config.Config.{Config}
 use Rattle.script_lines.specs.Script.{HasArguments, IsAllocText, IsCommandText, IsCut, IsPathText}
-use Rattle.script_lines.specs.Script.{IsReadText, IsRequestText, IsWriteText, WritesNumber}
+use Rattle.script_lines.specs.Script.{IsLineText, IsReadText, IsRequestText, IsWriteText, WritesNumber, is_go}
+use Rattle.script_lines.specs.declared.line.Line.{Line}
+use Rattle.script_lines.specs.declared.line.Line.TheVariants.{Go, At}
 use Rattle.script_lines.specs.declared.line.Command.{Command}
 use Rattle.script_lines.specs.declared.line.Command.TheVariants.{Settle}
 use Rattle.script_lines.specs.declared.line.Command.TheVariants.{Blocks, Show}
@@ -15,6 +17,12 @@ use Rattle.script_lines.proofs.Cuts.{NoSpace, cut_once, digits_no_space, no_cut,
 -- what a `None` says
 pub on_none : {T : Type 0} (r : Option T) (P : Type 0) (Q : T → Type 0) → r ≡ None → P → MatchOption r P Q
 on_none {T} r P Q is_none p = let F : Option T → Type 0 = λ o. MatchOption o P Q in subst F (sym is_none) p
+
+-- a text that is neither `go` nor a request is no line
+pub not_asked : (sizes : Config) (n : ℕ) (text : List ℕ) → is_go text ≡ false
+    → ((processor : ℕ) (command : Command) → ¬ IsRequestText sizes processor command text) → (line : Line) → ¬ IsLineText sizes n line text
+not_asked sizes n text goes none Go is = let now : is_go (codes "go") ≡ false = rw is at goes in cc
+not_asked sizes n text goes none (At number processor command) is = none processor command is.1
 
 -- the arguments of `alloc` have a space
 pub alloc_has_space : (text : List ℕ) → NoSpace text → (path : List ℕ) (order : ℕ) → ¬ IsAllocText path order text

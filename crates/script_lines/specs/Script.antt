@@ -1,7 +1,7 @@
 -- The form of a script: lines that each end with a line feed, which the last may lack.
 use Rattle.std.specs.Prelude.{◌≡◌, ◌≢◌, ℕ, Bool, true, false, not, ◌==◌, ◌-◌, ◌<◌, ◌≤◌, List, [], ◌∷◌, ◌++◌, All, codes, nat_eq}
 use Rattle.std.specs.Prelude.{count_by, filter, length, slice_get, take, Some, ⊤}
-use Rattle.std.specs.List.{AllZip, list_any, slice_split}
+use Rattle.std.specs.List.{AllZip, enumerate_from, list_any, slice_split}
 use Rattle.std.specs.Cmp.Lexicographic.{pointwise}
 use Rattle.zone_sizes.specs.declared.config.Config.{Config}
 use Rattle.script_lines.specs.declared.line.Line.{Line}
@@ -36,23 +36,23 @@ pub record IsRequestText (sizes : Config) (processor : ℕ) (command : Command) 
 abbrev pub is_go : List ℕ → Bool
 is_go text = pointwise nat_eq text (codes "go")
 
--- `P COMMAND`, or `go`
-abbrev pub IsLineText : Config → Line → List ℕ → Type 0
-IsLineText sizes Go text = text ≡ codes "go"
-IsLineText sizes (At processor command) text = IsRequestText sizes processor command text
+-- the n-th line is `go`, or `P COMMAND` and has its number
+abbrev pub IsLineText : Config → ℕ → Line → List ℕ → Type 0
+IsLineText sizes n Go text = text ≡ codes "go"
+IsLineText sizes n (At number processor command) text = (number ≡ n) × IsRequestText sizes processor command text
 
 -- an empty text, or a comment
 abbrev pub is_skipped : List ℕ → Bool
 is_skipped [] = true
 is_skipped (b ∷ bs) = b == 35
 
--- the texts that ask for something
-abbrev pub asking_texts : List (List ℕ) → List (List ℕ)
-asking_texts texts = filter (λ text. not (is_skipped text)) texts
+-- the texts that ask for something, each behind its number among all, from 1
+abbrev pub asking_texts : List (List ℕ) → List (ℕ × List ℕ)
+asking_texts texts = filter (λ t. not (is_skipped t.1)) (enumerate_from 1 texts)
 
 -- the lines are what the asking texts say, in order
 abbrev pub AreLines : Config → List (List ℕ) → List Line → Type 0
-AreLines sizes texts lines = AllZip (λ text line. IsLineText sizes line text) (asking_texts texts) lines
+AreLines sizes texts lines = AllZip (λ t line. IsLineText sizes t.0 line t.1) (asking_texts texts) lines
 
 -- whether one of the texts is `go`
 abbrev pub has_go : List (List ℕ) → Bool
@@ -68,7 +68,7 @@ pub record IsGoodLine (sizes : Config) (script : List ℕ) (n : ℕ) : Type 0 wh
   pub is_text : slice_get (texts_of script) (n - 1) ≡ Some text
   pub short : length text ≤ 1024
   pub within : 1048576 < length script → n ≤ ended_lines (take 1048576 script)
-  pub says : is_skipped text ≡ false → (line : Line) × IsLineText sizes line text
+  pub says : is_skipped text ≡ false → (line : Line) × IsLineText sizes n line text
   pub once : is_go text ≡ true → has_go (take (n - 1) (texts_of script)) ≡ false
 
 -- a script of at most 1,048,576 bytes, in which every line is good, and its lines

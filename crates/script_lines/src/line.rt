@@ -5,8 +5,10 @@
 pub enum Line<'a> {
     /// From here on each processor may run its own lines beside the others.
     Go,
-    /// What is done at a processor, which goes by its number, from 1.
+    /// What is done at a processor, which goes by its number, from 1. The line has a number too: its place among all
+    /// lines of the script's text, from 1, in which empty lines and comments count.
     At {
+        number: usize,
         processor: u32,
         command: Command<'a>,
     },

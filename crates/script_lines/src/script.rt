@@ -25,7 +25,7 @@ pub const MOST_INPUT: usize = 1_048_576;
 /// The most bytes that a line has, its line feed not counted.
 const MOST_LINE: usize = 1_024;
 
-/// The lines of a script in their order, without the empty ones and those that begin with `#`.
+/// The lines of a script in their order, without the empty ones and those that begin with `#`, each with its number.
 ///
 /// Each line ends with a line feed, which the last may lack, and is `go` or `P COMMAND`, with a single space
 /// between words and none at either end, but for the value of `write`, which is all that follows the space
@@ -71,7 +71,7 @@ fn parse_lines<'a>(
         if is_skipped(text) {
             continue;
         }
-        match parse_line(names, text, sizes) {
+        match parse_line(names, number, text, sizes) {
             Some(line) => lines.push(line)?,
             None => return Err(ScriptFault::BadLine(number)),
         }
@@ -122,16 +122,21 @@ fn is_go(text: &[u8]) -> bool
     text == b"go".as_slice()
 }
 
-fn parse_line<'a>(names: &Names, text: &'a [u8], sizes: &Config) -> Option<Line<'a>>
+// The line of this number, from 1, which has this text.
+fn parse_line<'a>(names: &Names, number: usize, text: &'a [u8], sizes: &Config) -> Option<Line<'a>>
     requires { IsNames names.now }
-    ensures { MatchOption result ((line : Line) → ¬ IsLineText sizes.now line text.entry.now)
-        (λ line. IsLineText sizes.now line text.entry.now) }
+    ensures { MatchOption result ((line : Line) → ¬ IsLineText sizes.now number line text.entry.now)
+        (λ line. IsLineText sizes.now number line text.entry.now) }
 {
     if is_go(text) {
         return Some(Line::Go);
     }
     let (processor, command) = parse_request(names, text, sizes)?;
-    Some(Line::At { processor, command })
+    Some(Line::At {
+        number,
+        processor,
+        command,
+    })
 }
 
 // The processor and the command.

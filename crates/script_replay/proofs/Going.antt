@@ -49,7 +49,7 @@ tied_still t w cpus k c d is_part tied none all j e at = elim (cases_eq j k) [
 
 -- a command that was served at its part
 pub part_goes : (t : KnownTable) (w : Words) (before after : KnownLocked) (cpus : List KnownCpu) (line : Line) (processor : ℕ) (command : Command) (c d : KnownCpu)
-    {U E : Type 0} (r : Result U E) (old new : List ℕ) → line ≡ At processor command → LineIsThere t.frames (length cpus) line →
+    {number : ℕ} {U E : Type 0} (r : Result U E) (old new : List ℕ) → line ≡ At number processor command → LineIsThere t.frames (length cpus) line →
     slice_get cpus (processor - 1) ≡ Some c →
     (said : List ℕ) × AnswersText t command (holder before c) said (holder after d) × IfOk r (λ _. new ≡ old ++ said) →
     IsQuiet t w after → IsConsistent t w after.machine → AreCharges after.machine.ledger → IsTied t w d → (d.stock.view.last ≡ stock_is.NoGroup → d.fresh ≡ []) →
@@ -74,14 +74,14 @@ part_goes t w before after cpus line processor command c d r old new is there is
 
 -- the same, of the part that was read
 pub part_read : (t : KnownTable) (w : Words) (before after : KnownLocked) (cpus : List KnownCpu) (line : Line) (processor : ℕ) (command : Command) (c d : KnownCpu)
-    {U E : Type 0} (r : Result U E) (old new : List ℕ) → line ≡ At processor command → LineIsThere t.frames (length cpus) line →
+    {number : ℕ} {U E : Type 0} (r : Result U E) (old new : List ℕ) → line ≡ At number processor command → LineIsThere t.frames (length cpus) line →
     c ≡ get_or cpus (processor - 1) c →
     (said : List ℕ) × AnswersText t command (holder before c) said (holder after d) × IfOk r (λ _. new ≡ old ++ said) →
     IsQuiet t w after → IsConsistent t w after.machine → AreCharges after.machine.ledger → IsTied t w d → (d.stock.view.last ≡ stock_is.NoGroup → d.fresh ≡ []) →
     (text : List ℕ) × GoesWell t w (record { locked = before; cpus = cpus }) line text
     (record { locked = after; cpus = slice_set cpus (processor - 1) d }) × IfOk r (λ _. new ≡ old ++ text)
-part_read t w before after cpus line processor command c d r old new is there read answered quiet good charges tied none =
-    let named : LineIsThere t.frames (length cpus) (At processor command) = subst (LineIsThere t.frames (length cpus)) is there in
+part_read t w before after cpus line processor command c d {number = number} r old new is there read answered quiet good charges tied none =
+    let named : LineIsThere t.frames (length cpus) (At number processor command) = subst (LineIsThere t.frames (length cpus)) is there in
     let low = named.low in
     let high = named.high in
     part_goes t w before after cpus line processor command c d r old new is there
@@ -131,9 +131,9 @@ line_follows : (t : KnownTable) (w : Words) (run : Run) (s e : Standing) (line :
 line_follows t w run s e Go text shows tied goes decided =
     subst (λ (r : Run). ShowsAll t r e.locked.machine e.cpus) (sym (append-nil run))
     (subst (λ (x : Standing). ShowsAll t run x.locked.machine x.cpus) (sym goes.serves.1) shows)
-line_follows t w run s e (At processor command) text shows tied goes decided =
+line_follows t w run s e (At number processor command) text shows tied goes decided =
     let is : AtPart processor (λ one other. AnswersText t command one text other) s e = goes.serves in
-    subst (λ (cpus : List KnownCpu). ShowsAll t (run ++ line_steps t s (At processor command) text e goes.serves) e.locked.machine cpus) (sym is.cpus)
+    subst (λ (cpus : List KnownCpu). ShowsAll t (run ++ line_steps t s (At number processor command) text e goes.serves) e.locked.machine cpus) (sym is.cpus)
     (work_follows t w run s.locked s.cpus (processor - 1) is.part shows is.is_part tied (work_of command) text (holder e.locked is.left)
     (work_in_range t.frames command goes.there.names) is.answers goes.stands.quiet.shut decided)
 

@@ -29,16 +29,16 @@ work_in_range frames (Alloc path zero) named = tt
 work_in_range frames (Alloc path (suc order)) named = tt
 work_in_range frames command named = named
 
-line_there : (sizes : Config) (line : Line) (text : List ℕ) → IsLineText sizes line text → LineIsThere sizes.frames sizes.cpus line
-line_there sizes Go text is = tt
-line_there sizes (At processor command) text is =
-    record { low = is.low; high = is.high; names = named_in_range sizes command is.rest is.command_text }
+line_there : (sizes : Config) (n : ℕ) (line : Line) (text : List ℕ) → IsLineText sizes n line text → LineIsThere sizes.frames sizes.cpus line
+line_there sizes n Go text is = tt
+line_there sizes n (At number processor command) text is =
+    record { low = is.1.low; high = is.1.high; names = named_in_range sizes command is.1.rest is.1.command_text }
 
-lines_there : (sizes : Config) (texts : List (List ℕ)) (lines : List Line) → AllZip (λ text line. IsLineText sizes line text) texts lines
+lines_there : (sizes : Config) (texts : List (ℕ × List ℕ)) (lines : List Line) → AllZip (λ t line. IsLineText sizes t.0 line t.1) texts lines
     → All (LineIsThere sizes.frames sizes.cpus) lines
 lines_there sizes texts [] zip k d h = absurd (omega arith)
 lines_there sizes [] (line ∷ lines) zip k d h = absurd zip
-lines_there sizes (text ∷ texts) (line ∷ lines) zip zero d h = line_there sizes line text zip.0
+lines_there sizes (text ∷ texts) (line ∷ lines) zip zero d h = line_there sizes text.0 line text.1 zip.0
 lines_there sizes (text ∷ texts) (line ∷ lines) zip (suc k) d h = lines_there sizes texts lines zip.1 k d (omega arith)
 
 -- so it is with all lines of a script

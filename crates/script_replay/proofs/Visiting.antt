@@ -48,12 +48,12 @@ said_as is said before after r so text = (said, so, text)
 
 -- a command that was answered at the part that was read
 pub part_visited : (t : KnownTable) (w : Words) (cpus : List KnownCpu) (line : Line) (processor : ℕ) (command : Command) (c d : KnownCpu)
-    {U E : Type 0} (r : Result U E) (old new : List ℕ) → line ≡ At processor command → LineIsThere t.frames (length cpus) line →
+    {number : ℕ} {U E : Type 0} (r : Result U E) (old new : List ℕ) → line ≡ At number processor command → LineIsThere t.frames (length cpus) line →
     c ≡ get_or cpus (processor - 1) c →
     (said : List ℕ) × VisitsText t w command c said d × IfOk r (λ _. new ≡ old ++ said) →
     (text : List ℕ) × VisitsLine t w cpus line text (slice_set cpus (processor - 1) d) × IfOk r (λ _. new ≡ old ++ text)
-part_visited t w cpus line processor command c d r old new is there read answered =
-    let named : LineIsThere t.frames (length cpus) (At processor command) = subst (LineIsThere t.frames (length cpus)) is there in
+part_visited t w cpus line processor command c d {number = number} r old new is there read answered =
+    let named : LineIsThere t.frames (length cpus) (At number processor command) = subst (LineIsThere t.frames (length cpus)) is there in
     let low = named.low in
     let high = named.high in (
       answered.0,

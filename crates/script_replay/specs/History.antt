@@ -101,16 +101,16 @@ work_steps t work before text after is = answer_steps t work before is.0 after i
 abbrev pub line_steps : (t : KnownTable) (before : Standing) (line : Line) (text : List ℕ) (after : Standing)
     → ServesLine t before line text after → Run
 line_steps t before Go text after is = []
-line_steps t before (At processor command) text after is =
+line_steps t before (At number processor command) text after is =
     work_steps t (work_of command) (holder before.locked is.part) text (holder after.locked is.left) is.answers
 
 -- each answer of a Get, a Put, a Freeze, a drain, a Consume and a Credit among them is what all parts together decide
 abbrev pub LineIsDecided : (t : KnownTable) (before : Standing) (line : Line) (text : List ℕ) (after : Standing)
     → ServesLine t before line text after → Type 0
 LineIsDecided t before Go text after is = Unit {0}
-LineIsDecided t before (At processor command) text after is =
+LineIsDecided t before (At number processor command) text after is =
     AreDecided t before.cpus (side_of (holder before.locked is.part))
-    (line_steps t before (At processor command) text after is)
+    (line_steps t before (At number processor command) text after is)
 
 -- ---- the history
 -- the run is legal, and the promise holds after it of what stands then

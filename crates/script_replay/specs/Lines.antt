@@ -28,7 +28,7 @@ pub record AtPart (processor : ℕ) (goes : Holder → Holder → Type 0) (befor
 -- a line is answered this text; `go` is answered nothing, and does nothing
 abbrev pub ServesLine : KnownTable → Standing → Line → List ℕ → Standing → Type 0
 ServesLine t before Go text after = (text ≡ []) × (after ≡ before)
-ServesLine t before (At processor command) text after =
+ServesLine t before (At number processor command) text after =
     AtPart processor (λ one other. AnswersText t command one text other) before after
 
 -- the lines are served one after the other, and their texts stand one after the other

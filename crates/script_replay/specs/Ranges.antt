@@ -32,4 +32,4 @@ pub record IsThere (frames cpus processor : ℕ) (command : Command) : Type 0 wh
 -- so it is with all that a line names
 abbrev pub LineIsThere : ℕ → ℕ → Line → Type 0
 LineIsThere frames cpus Go = Unit {0}
-LineIsThere frames cpus (At processor command) = IsThere frames cpus processor command
+LineIsThere frames cpus (At number processor command) = IsThere frames cpus processor command

@@ -97,7 +97,7 @@ pub record VisitsPart (t : KnownTable) (w : Words) (before : List KnownCpu) (pro
 -- so it is with a line; `go` is answered nothing, and does nothing
 abbrev pub VisitsLine : KnownTable → Words → List KnownCpu → Line → List ℕ → List KnownCpu → Type 0
 VisitsLine t w before Go text after = (text ≡ []) × (after ≡ before)
-VisitsLine t w before (At processor command) text after = VisitsPart t w before processor command text after
+VisitsLine t w before (At number processor command) text after = VisitsPart t w before processor command text after
 
 -- the lines are answered one after the other, and their texts stand one after the other
 abbrev pub VisitsAll : KnownTable → Words → List KnownCpu → List Line → List ℕ → List KnownCpu → Type 0

@@ -67,7 +67,11 @@ fn serve_line<N: BootName>(
             see_well(locked);
             Ok(())
         }
-        Line::At { processor, command } => {
+        Line::At {
+            processor,
+            command,
+            ..
+        } => {
             let at = (*processor - 1) as usize;
             serve_part(locked, tables, &mut cpus[at], command, answers)
         }

@@ -19,15 +19,15 @@ use script_lines::line::Command;
 use std::alloc::{AllocError, Global};
 use std::sync::Wait;
 
-/// Serves the command of a line at this processor, between the gate's `before` and `after`, which are told the place of
-/// the line among the lines, and adds what it is answered. Where it is served by a visit, the visit calls the gate's
+/// Serves the command of a line at this processor, between the gate's `before` and `after`, which are told the line's
+/// number, and adds what it is answered. Where it is served by a visit, the visit calls the gate's
 /// `inside`. `AllocError` comes where memory is wanting: the command was served then, and `after` isn't called.
 pub fn visit_line<N: BootName, R: Wait, G: Gate>(
     rt: &R,
     alloc: Global,
     system: &System<N>,
     cpu: &mut Cpu<N>,
-    place: usize,
+    line: usize,
     command: &Command<'_>,
     gate: &G,
     text: &mut String,
@@ -37,9 +37,9 @@ pub fn visit_line<N: BootName, R: Wait, G: Gate>(
         (string_bytes text.old) (string_bytes text.new) }
 {
     let number = cpu.number();
-    gate.before(number, place);
+    gate.before(number, line);
     visit_text(rt, alloc, system, cpu, command, gate, text)?;
-    gate.after(number, place);
+    gate.after(number, line);
     Ok(())
 }
 

@@ -54,7 +54,11 @@ fn serve_line<N: BootName, R: Wait>(
 {
     match line {
         Line::Go => Ok(()),
-        Line::At { processor, command } => {
+        Line::At {
+            processor,
+            command,
+            ..
+        } => {
             let at = (*processor - 1) as usize;
             visit_text(rt, alloc, system, &mut cpus[at], command, &NoGate, answers)
         }

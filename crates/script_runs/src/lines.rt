@@ -28,11 +28,17 @@ fn bad_line(rt: &(impl Abort + AllocGlobal), script: &[u8]) -> usize {
 fn reads(rt: &(impl Abort + AllocGlobal), script: &[u8], command: Command<'_>) {
     match parse_script(rt.alloc(), script, &SIZES) {
         Ok(lines) => {
-            let line = Line::At {
-                processor: 1,
-                command,
+            let Some(
+                Line::At {
+                    number: _,
+                    processor: 1,
+                    command: found,
+                },
+            ) = lines.first()
+            else {
+                panic!(rt; "no line of the first processor");
             };
-            assert_eq!(rt; lines.first(), Some(&line), "{script:?}");
+            assert_eq!(rt; *found, command, "{script:?}");
         }
         Err(_) => panic!(rt; "a bad script"),
     }
@@ -63,10 +69,16 @@ fn reads_each_command(rt: HostRuntime) -> Result<(), Fail> {
     reads(&rt, b"1 owner 5", Command::Owner { frame: 5 });
     reads(&rt, b"1 blocks", Command::Blocks);
     reads(&rt, b"1 show", Command::Show);
-    let script = b"1 show\ngo\n1 show";
+    let script = b"# a comment\n\n1 show\ngo\n1 show";
     let lines = parse_script(rt.alloc(), script.as_slice(), &SIZES)?;
     assert_eq!(rt; lines.len(), 3);
     assert!(rt; lines[1] == Line::Go);
+    let last = Line::At {
+        number: 5,
+        processor: 1,
+        command: Command::Show,
+    };
+    assert!(rt; lines[2] == last);
     Ok(())
 }
 

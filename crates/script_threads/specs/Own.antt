@@ -11,12 +11,12 @@ use Rattle.script_replay.specs.Visits.{VisitsText}
 -- a frame that the line's command names is one of so many, and the number of a group is below 64
 abbrev pub LineNames : ℕ → Line → Type 0
 LineNames frames Go = Unit {0}
-LineNames frames (At processor command) = NamesInRange frames command
+LineNames frames (At number processor command) = NamesInRange frames command
 
 -- a line of processor p is answered this text at its part; any other is left out
 abbrev pub ServesOwnLine : KnownTable → Words → ℕ → KnownCpu → Line → List ℕ → KnownCpu → Type 0
 ServesOwnLine t w p c Go text d = (text ≡ []) × (d ≡ c)
-ServesOwnLine t w p c (At q command) text d =
+ServesOwnLine t w p c (At number q command) text d =
     MatchBool (q == p) (VisitsText t w command c text d) ((text ≡ []) × (d ≡ c))
 
 -- the lines of processor p are answered one after the other, and their texts stand one after the other

@@ -12,7 +12,7 @@ use Rattle.script_threads.specs.Each.{TellsEach, workers_from}
 abbrev pub go_or : ℕ → ℕ → List Line → ℕ
 go_or last place [] = last
 go_or last place (Go ∷ lines) = place
-go_or last place (At processor command ∷ lines) = go_or last (place + 1) lines
+go_or last place (At number processor command ∷ lines) = go_or last (place + 1) lines
 
 -- how many lines stand before `go`; none where it isn't there
 abbrev pub lines_before_go : List Line → ℕ

@@ -18,8 +18,8 @@ use std::thread::{Scope, Threads};
 
 /// Serves the lines by a thread for each processor, each of which serves the lines of its own processor in their
 /// order. All are started before any is joined. Gives the answers by processor, those of each behind a line `cpu P`,
-/// which a processor without lines has too. The gate stands around each line, and is told its place among the lines,
-/// from 0; each visit of a command calls its `inside`. `AllocError` comes where memory is wanting, or a thread can't
+/// which a processor without lines has too. The gate stands around each line, and is told its number in the script;
+/// each visit of a command calls its `inside`. `AllocError` comes where memory is wanting, or a thread can't
 /// be made: those that were started have come to their ends then.
 pub fn run_each<N: BootName + Send + Sync, R: Threads + Wait + Sync, G: Gate + Sync>(
     rt: &R,

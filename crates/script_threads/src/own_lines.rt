@@ -13,7 +13,7 @@ use std::alloc::{AllocError, Global};
 use std::sync::Wait;
 
 // Serves the lines of the processor of this number, whose part this is, and gives their answers. The gate is told the
-// place of each of them among all lines.
+// number of each of them in the script.
 pub(crate) fn serve_own<N: BootName, R: Wait, G: Gate>(
     rt: &R,
     alloc: Global,
@@ -27,10 +27,8 @@ pub(crate) fn serve_own<N: BootName, R: Wait, G: Gate>(
     ensures { IfOk result (λ text. ServesOwn N.frames N.stocks number cpu.old lines.now (string_bytes text) cpu.new) }
 {
     let mut text = String::new(alloc);
-    let mut place = 0;
     for line in lines {
-        serve_own_line(rt, alloc, system, cpu, number, place, line, gate, &mut text)?;
-        place += 1;
+        serve_own_line(rt, alloc, system, cpu, number, line, gate, &mut text)?;
     }
     Ok(text)
 }
@@ -42,7 +40,6 @@ fn serve_own_line<N: BootName, R: Wait, G: Gate>(
     system: &System<N>,
     cpu: &mut Cpu<N>,
     number: u32,
-    place: usize,
     line: &Line<'_>,
     gate: &G,
     text: &mut String,
@@ -53,11 +50,15 @@ fn serve_own_line<N: BootName, R: Wait, G: Gate>(
 {
     match line {
         Line::Go => Ok(()),
-        Line::At { processor, command } => {
+        Line::At {
+            number: line,
+            processor,
+            command,
+        } => {
             if *processor != number {
                 return Ok(());
             }
-            visit_line(rt, alloc, system, cpu, place, command, gate, text)
+            visit_line(rt, alloc, system, cpu, *line, command, gate, text)
         }
     }
 }

@@ -43,6 +43,7 @@ pub fn ask<N: BootName, R: Wait>(
         "a name out of its range"
     );
     let line = Line::At {
+        number: 1,
         processor: 1,
         command: *command,
     };

@@ -98,7 +98,14 @@ fn take_turn<N: BootName, R: Wait>(
     turn: &Turn<'_>,
 ) -> Result<()> {
     let lines = parse_script(alloc, turn.line.as_bytes(), &side.sizes)?;
-    let Some(Line::At { processor, command }) = lines.first() else {
+    let Some(
+        Line::At {
+            processor,
+            command,
+            ..
+        },
+    ) = lines.first()
+    else {
         bail!("no line");
     };
     let at = (*processor as usize).saturating_sub(1);

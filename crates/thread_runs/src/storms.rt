@@ -157,7 +157,11 @@ fn read_pins(lines: &[Line<'_>], told: &str) -> PinCounts {
 fn next_of<'a>(lines: &mut Iter<'a, Line<'a>>, cpu: u32) -> Option<&'a Command<'a>> {
     for line in lines {
         match line {
-            Line::At { processor, command } if *processor == cpu => return Some(command),
+            Line::At {
+                processor,
+                command,
+                ..
+            } if *processor == cpu => return Some(command),
             _ => (),
         }
     }
