@@ -5,6 +5,7 @@ ghost use Rattle.stock_word.specs.Stock.{first_machine, first_processor};
 
 use crate::costs::Pace;
 use crate::machine::{Visited, tell_blocks, tell_settling, tell_visits};
+use crate::victims::tell_victim;
 use anyhow::{Context, Result};
 use cpu_part::{BootName, Cpu, Tables};
 use frame_word::{FrameSeat, FrameWords};
@@ -101,8 +102,16 @@ fn end<N: BootName, R: Wait>(rt: &R, mut visited: Visited<N>) {
     unreachable!()
 }
 
-// Measures all calls.
-fn tell_all<N: BootName, R: Print + Clock + Alloc<A = Global>>(
+// What is measured on a machine.
+#[derive(Clone, Copy)]
+enum Part {
+    Calls,
+    // Who is killed, where groups are so deep.
+    Victim { name: &'static str, depth: usize },
+}
+
+// Measures the calls of a machine.
+fn tell_calls<N: BootName, R: Print + Clock + Alloc<A = Global>>(
     rt: &R,
     pace: Pace,
     visited: &mut Visited<N>,
@@ -113,11 +122,25 @@ fn tell_all<N: BootName, R: Print + Clock + Alloc<A = Global>>(
     tell_settling(rt, pace, visited)
 }
 
-// Makes the machine and its processor's part, measures, and ends the part.
+// Measures this part.
+fn tell_part<N: BootName, R: Print + Clock + Alloc<A = Global>>(
+    rt: &R,
+    pace: Pace,
+    visited: &mut Visited<N>,
+    part: Part,
+) -> Result<()> {
+    match part {
+        Part::Calls => tell_calls(rt, pace, visited),
+        Part::Victim { name, depth } => tell_victim(rt, pace, visited, name, depth),
+    }
+}
+
+// Makes the machine and its processor's part, measures, and ends the processor's part.
 fn live<N: BootName, R: Wait + Print + Clock + Alloc<A = Global>>(
     rt: &R,
     pace: Pace,
     parts: Parts,
+    part: Part,
 ) -> Result<()>
     requires { (parts.frames ≡ N.frames) × (parts.stocks ≡ N.stocks) }
 {
@@ -134,7 +157,7 @@ fn live<N: BootName, R: Wait + Print + Clock + Alloc<A = Global>>(
     let group = machine.make(b"/a")?;
     let cpu = Cpu::<N>::new(rt.alloc(), seat, payer)?;
     let mut visited = Visited::new(rt.alloc(), tables, machine, cpu, group);
-    let told = tell_all(rt, pace, &mut visited);
+    let told = tell_part(rt, pace, &mut visited, part);
     end(rt, visited);
     told
 }
@@ -142,5 +165,32 @@ fn live<N: BootName, R: Wait + Print + Clock + Alloc<A = Global>>(
 /// Measures the machine's calls.
 pub fn tell_machine<R: Wait + Print + Clock + Alloc<A = Global>>(rt: &R, pace: Pace) -> Result<()> {
     let parts = Parts::new(rt.alloc(), 1_024)?;
-    live::<Brand, R>(rt, pace, parts)
+    live::<Brand, R>(rt, pace, parts, Part::Calls)
+}
+
+// Measures who is killed for the root, among 64 groups of which all but a chain are so deep.
+fn tell_depth<R: Wait + Print + Clock + Alloc<A = Global>>(
+    rt: &R,
+    pace: Pace,
+    name: &'static str,
+    depth: usize,
+) -> Result<()> {
+    let parts = Parts::new(rt.alloc(), 1_024)?;
+    live::<Brand, R>(rt, pace, parts, Part::Victim { name, depth })
+}
+
+/// Measures who is killed at a limit.
+pub fn tell_victims<R: Wait + Print + Clock + Alloc<A = Global>>(rt: &R, pace: Pace) -> Result<()> {
+    tell_depth(
+        rt,
+        pace,
+        "victim of the root, among 64 groups of depth 2",
+        2,
+    )?;
+    tell_depth(
+        rt,
+        pace,
+        "victim of the root, among 64 groups of depth 8",
+        8,
+    )
 }

@@ -82,8 +82,13 @@ impl<N: BootName> Visited<N> {
         self.machine.drain_list(&self.tables, &mut self.cpu, frames) == frames
     }
 
-    // Takes a block for the group, and tells its first frame.
-    fn take(&mut self) -> Option<u32> {
+    /// Makes the group of the path.
+    pub fn make(&mut self, path: &[u8]) -> Option<GroupId> {
+        self.machine.make(path).ok()
+    }
+
+    /// Takes a block for the group, and tells its first frame.
+    pub fn take(&mut self) -> Option<u32> {
         if self.cpu.back_len() > 0 || !may_charge(&self.machine, self.group, self.order.frames()) {
             return None;
         }

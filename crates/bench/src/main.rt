@@ -15,6 +15,7 @@ mod references;
 mod script;
 mod system;
 mod tables;
+mod victims;
 mod zone;
 
 use crate::costs::Pace;

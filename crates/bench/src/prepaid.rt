@@ -1,12 +1,12 @@
-//! Pages that are prepaid: a pair of `consume` and `credit` on a stock's word, and pairs of `alloc_fast` and `drop_fresh` of
-//! processors, each in a thread of its own.
+//! Pages that are prepaid: a pair of `consume` and `credit` on a stock's word, and rounds of `alloc_fast` and `drop_fresh` of
+//! processors, each in a thread of its own, with visits between them or none.
 ghost use Rattle.std.specs.Prelude.{◌≡◌, ◌<◌};
 ghost use Rattle.stock_word.specs.Stock.{IsProcessor};
 
 use crate::costs::{Pace, Row, Subject, tell_rows};
 use crate::system::{alloc, settle};
 use anyhow::{Context, Result, ensure};
-use cpu_part::{BootName, Cpu, Fast, Tables};
+use cpu_part::{BootName, Cpu, Fast};
 use group_tree::group::GroupId;
 use mem_system::System;
 use std::alloc::Global;
@@ -48,45 +48,83 @@ pub fn tell_words<R: Print + Clock + Alloc<A = Global>>(rt: &R, pace: Pace) -> R
     tell_rows(rt, pace, 10, &mut [row], &mut payer)
 }
 
-// Takes the front of the list and drops it so many times, if that goes.
-fn pairs<N: BootName>(tables: &Tables<N>, cpu: &mut Cpu<N>, group: GroupId, count: u32) {
-    for _ in 0..count {
-        if let Fast::Got(frame) = cpu.alloc_fast(tables, group.number()) {
-            let _ = cpu.drop_fresh(tables, frame);
+// So many rounds of taking the front of the list and dropping it; after every so many of them a visit, where that isn't 0.
+#[derive(Clone, Copy)]
+struct Rounds {
+    name: &'static str,
+    count: u32,
+    visit_every: u32,
+}
+
+const ROUNDS: [Rounds; 3] = [
+    Rounds {
+        name: "alloc_fast and drop_fresh",
+        count: 1_000_000,
+        visit_every: 0,
+    },
+    Rounds {
+        name: "the same, with a visit at every 64th",
+        count: 1_000_000,
+        visit_every: 64,
+    },
+    Rounds {
+        name: "the same, with a visit at each",
+        count: 100_000,
+        visit_every: 1,
+    },
+];
+
+// Goes through so many rounds, where the frame can be taken.
+fn go_through<N: BootName, R: Wait>(
+    rt: &R,
+    system: &System<N>,
+    cpu: &mut Cpu<N>,
+    group: GroupId,
+    count: u32,
+    visit_every: u32,
+) {
+    for number in 0..count {
+        if let Fast::Got(frame) = cpu.alloc_fast(system.tables(), group.number()) {
+            let _ = cpu.drop_fresh(system.tables(), frame);
+        }
+        if number.checked_rem(visit_every) == Some(0) {
+            settle(rt, system, cpu, 1);
         }
     }
 }
 
-// The time of so many pairs of these processors, side by side.
-fn time_pairs<N: BootName + Send + Sync, R: Threads + Clock + Sync>(
+// The time of so many rounds of these processors, side by side.
+fn time_rounds<N: BootName + Send + Sync, R: Threads + Wait + Clock + Sync>(
     rt: &R,
-    tables: &Tables<N>,
+    system: &System<N>,
     cpus: &mut [Cpu<N>],
     group: GroupId,
     count: u32,
+    visit_every: u32,
 ) -> Result<Duration> {
     let start = Instant::now(rt)?;
     thread::for_each_mut(
         rt,
         cpus,
         4,
-        &|_, cpu: &mut Cpu<N>| pairs(tables, cpu, group, count),
+        &|_, cpu: &mut Cpu<N>| go_through(rt, system, cpu, group, count, visit_every),
     );
     Ok(start.elapsed(rt)?)
 }
 
-// Measures the pairs of so many processors.
-fn tell_pairs<N: BootName + Send + Sync, R: Threads + Print + Clock + Sync>(
+// Measures the rounds of so many processors.
+fn tell_rounds<N: BootName + Send + Sync, R: Threads + Wait + Print + Clock + Sync>(
     rt: &R,
     pace: Pace,
-    tables: &Tables<N>,
+    system: &System<N>,
     cpus: &mut [Cpu<N>],
     group: GroupId,
+    rounds: Rounds,
 ) -> Result<()> {
-    let count = pace.choose(1_000_000, 2);
-    let mut row = Row::new("alloc_fast and drop_fresh", 0, 1_000_000, 1);
+    let count = pace.choose(rounds.count, 2);
+    let mut row = Row::new(rounds.name, 0, rounds.count, 1);
     for _ in 0..pace.choose(10, 1) {
-        row.note(time_pairs(rt, tables, cpus, group, count)?);
+        row.note(time_rounds(rt, system, cpus, group, count, rounds.visit_every)?);
     }
     row.tell(rt, pace)
 }
@@ -100,7 +138,7 @@ fn supply<N: BootName, R: Wait>(rt: &R, system: &System<N>, cpus: &mut [Cpu<N>])
     Ok(())
 }
 
-/// Measures the pairs of one, two and four processors. Each has a frame on its list, and a page of the group in its stock.
+/// Measures the rounds of one, two and four processors. Each has a frame on its list, and a page of the group in its stock.
 pub fn tell_threads<N: BootName + Send + Sync, R: Threads + Wait + Print + Clock + Sync>(
     rt: &R,
     pace: Pace,
@@ -109,13 +147,15 @@ pub fn tell_threads<N: BootName + Send + Sync, R: Threads + Wait + Print + Clock
     group: GroupId,
 ) -> Result<()> {
     supply(rt, system, cpus)?;
-    for threads in [1, 2, 4] {
-        let part = cpus.get_mut(..threads).context("too few processors")?;
-        tell_pairs(rt, pace, system.tables(), part, group)?;
-        println!(rt; "  threads: {threads}")?;
+    for rounds in ROUNDS {
+        for threads in [1, 2, 4] {
+            let part = cpus.get_mut(..threads).context("too few processors")?;
+            tell_rounds(rt, pace, system, part, group, rounds)?;
+            println!(rt; "  threads: {threads}")?;
+        }
     }
     for cpu in cpus.iter() {
-        let drops = u64::from(pace.choose(10_000_000, 2));
+        let drops = u64::from(pace.choose(21_000_000, 6));
         ensure!(cpu.drops() >= drops, "a frame was not listed again");
     }
     Ok(())
