@@ -17,6 +17,7 @@ use Rattle.step_rules.specs.State.{State, at_boot, with_at, sum_to, is_cpu, live
 use Rattle.step_rules.specs.Legal.{Allows, IsMade, get_answer}
 use Rattle.step_rules.specs.After.{after, placed_phase, with_block, unit_size, without_unit}
 use Rattle.step_rules.specs.Live.{AllLiveAreReferred}
+use Rattle.step_rules.proofs.LegalTests.{get_tests, put_tests, unfreeze_tests}
 use Rattle.step_rules.proofs.Basics.{at_same, at_other, at_each}
 use Rattle.step_rules.proofs.Sums.{sum_same, sum_none, sum_change}
 use Rattle.step_rules.proofs.Sound.{IsSound}
@@ -126,7 +127,7 @@ referred_made : (f : ℕ) (s : State) (seat : ℕ) (action : Action) (answer : A
 referred_made f s seat action Illegal sound holds made = absurd (no_illegal s seat action made.answered)
 referred_made f s seat (Get g) Held sound holds made = λ live.
     let legal = made.legal in
-    let cpu : is_cpu s.zone seat ≡ true = grind arith in
+    let cpu : is_cpu s.zone seat ≡ true = (get_tests s seat g legal).0 in
     let there : seat ≤ s.zone.cpus = leb-true seat s.zone.cpus (and_parts (nat_le 1 seat) (nat_le seat s.zone.cpus) cpu).1 in
     let old = holds live in
     let old_low = old.0 in
@@ -143,7 +144,7 @@ referred_made f s seat (Get g) Held sound holds made = λ live.
     ]
 referred_made f s seat (Put g) (Left n) sound holds made = λ live.
     let legal = made.legal in
-    let some : nat_le 1 (s.references seat g) ≡ true = grind arith in
+    let some : nat_le 1 (s.references seat g) ≡ true = (put_tests s seat g legal).2 in
     let one : 1 ≤ s.references seat g = leb-true 1 (s.references seat g) some in
     let there = seat_there s seat g sound one in
     let old = holds live in
@@ -175,9 +176,9 @@ referred_made f s seat (Freeze g n) Done sound holds made = λ live.
     (omega arith, omega arith)
 referred_made f s seat (Unfreeze g n) Done sound holds made = λ live.
     let legal = made.legal in
-    let hand : is_head_in_hand (s.phases g) ≡ true = grind arith in
-    let one : nat_le 1 n ≡ true = grind arith in
-    let most : nat_le n 255 ≡ true = grind arith in
+    let hand : is_head_in_hand (s.phases g) ≡ true = (unfreeze_tests s seat g n legal).2 in
+    let one : nat_le 1 n ≡ true = (unfreeze_tests s seat g n legal).3 in
+    let most : nat_le n 255 ≡ true = (unfreeze_tests s seat g n legal).4 in
     let low : 1 ≤ n = leb-true 1 n one in
     let high : n ≤ 255 = leb-true n 255 most in
     elim (cases_eq f g) [
