@@ -17,6 +17,8 @@ use Rattle.step_rules.specs.Usage.{usage_of}
 use Rattle.step_rules.specs.Legal.{is_legal, is_of_group, IsAnswer, IsCounted, IsMade, Allows}
 use Rattle.step_rules.specs.After.{state_of}
 use Rattle.step_rules.specs.Answers.{IsPlacing, AnswersAreDetermined, OnlySeatsAct}
+use Rattle.step_rules.proofs.LegalTests.{consume_tests, credit_tests, get_tests, lock_tests, pass_back_tests, put_tests}
+use Rattle.step_rules.proofs.LegalTests.{report_tests, take_in_tests, unlock_tests}
 use Rattle.step_rules.proofs.Runs.{allowed}
 use Rattle.step_rules.proofs.Keeping.{keepers_are_there}
 use Rattle.step_rules.proofs.Freeing.{zone_of_run}
@@ -227,15 +229,15 @@ answers_are_determined zone run legal seat action a b x y =
 
 -- ---- who makes a step
 acts : (s : State) (seat : ℕ) (action : Action) → is_legal s seat action ≡ true → (is_cpu s.zone seat || may_zone_act s.hold seat) ≡ true
-acts s seat Lock legal = let cpu : is_cpu s.zone seat ≡ true = grind arith in or_left _ _ cpu
-acts s seat Unlock legal = let cpu : is_cpu s.zone seat ≡ true = grind arith in or_left _ _ cpu
-acts s seat (Get f) legal = let cpu : is_cpu s.zone seat ≡ true = grind arith in or_left _ _ cpu
-acts s seat (TakeIn f) legal = let cpu : is_cpu s.zone seat ≡ true = grind arith in or_left _ _ cpu
-acts s seat (PassBack f) legal = let cpu : is_cpu s.zone seat ≡ true = grind arith in or_left _ _ cpu
-acts s seat (Consume g) legal = let cpu : is_cpu s.zone seat ≡ true = grind arith in or_left _ _ cpu
-acts s seat (Credit f) legal = let cpu : is_cpu s.zone seat ≡ true = grind arith in or_left _ _ cpu
-acts s seat (Report n) legal = let cpu : is_cpu s.zone seat ≡ true = grind arith in or_left _ _ cpu
-acts s seat (Put f) legal = let either : (is_cpu s.zone seat || may_zone_act s.hold seat) ≡ true = grind arith in either
+acts s seat Lock legal = let cpu : is_cpu s.zone seat ≡ true = (lock_tests s seat legal).0 in or_left _ _ cpu
+acts s seat Unlock legal = let cpu : is_cpu s.zone seat ≡ true = (unlock_tests s seat legal).0 in or_left _ _ cpu
+acts s seat (Get f) legal = let cpu : is_cpu s.zone seat ≡ true = (get_tests s seat f legal).0 in or_left _ _ cpu
+acts s seat (TakeIn f) legal = let cpu : is_cpu s.zone seat ≡ true = (take_in_tests s seat f legal).0 in or_left _ _ cpu
+acts s seat (PassBack f) legal = let cpu : is_cpu s.zone seat ≡ true = (pass_back_tests s seat f legal).0 in or_left _ _ cpu
+acts s seat (Consume g) legal = let cpu : is_cpu s.zone seat ≡ true = (consume_tests s seat g legal).0 in or_left _ _ cpu
+acts s seat (Credit f) legal = let cpu : is_cpu s.zone seat ≡ true = (credit_tests s seat f legal).0 in or_left _ _ cpu
+acts s seat (Report n) legal = let cpu : is_cpu s.zone seat ≡ true = (report_tests s seat n legal).0 in or_left _ _ cpu
+acts s seat (Put f) legal = let either : (is_cpu s.zone seat || may_zone_act s.hold seat) ≡ true = (put_tests s seat f legal).0 in either
 acts s seat action legal = let zone : may_zone_act s.hold seat ≡ true = grind arith in or_right _ _ zone
 
 pub only_seats_act : OnlySeatsAct

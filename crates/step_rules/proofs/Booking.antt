@@ -14,6 +14,7 @@ use Rattle.step_rules.specs.Legal.{Allows, IsMade, may_pass_back}
 use Rattle.step_rules.specs.After.{Run, after, state_of, IsLegalRun, without_frame, with_report, absorbed, paid, credited, filled, drained}
 use Rattle.step_rules.specs.Units.{units_of, fresh_group}
 use Rattle.step_rules.specs.Booked.{unreported_in, reported_in, absorbed_in, AllPartsAreBooked}
+use Rattle.step_rules.proofs.LegalTests.{pass_back_tests, report_tests}
 use Rattle.step_rules.proofs.PhaseLemmas.{listed_is, fresh_is, back_is}
 use Rattle.step_rules.proofs.Runs.{after_illegal, allowed, sound_run}
 use Rattle.step_rules.proofs.LocalLaws.{no_illegal}
@@ -75,7 +76,7 @@ unreported_made p zone run seat (TakeIn f) Done legal made = stayed unreported (
 unreported_made p zone run seat (PassBack f) Done legal made =
     let s = state_of zone run in
     let ok = made.legal in
-    let may : may_pass_back s seat f ≡ true = grind arith in
+    let may : may_pass_back s seat f ≡ true = (pass_back_tests (state_of zone run) seat f ok).3 in
     let same : is_some ((units_of run).fresh_for f) ≡ has_as FreshFrame seat (s.phases f) =
     ap is_some (sym (units_are_told zone run legal f).fresh) ∙ sent_fresh seat (front_of (s.parts seat).list) f (s.phases f) may in
     ap (λ b. unreported (s.parts p) + (if seat == p then one_if b else 0)) same
@@ -86,7 +87,7 @@ unreported_made p zone run seat (Credit f) Back legal made =
 unreported_made p zone run seat (Report n) Done legal made =
     let s = state_of zone run in
     let ok = made.legal in
-    let some : nat_le n (s.parts seat).unreported ≡ true = grind arith in
+    let some : nat_le n (s.parts seat).unreported ≡ true = (report_tests (state_of zone run) seat n ok).2 in
     let few : n ≤ (s.parts seat).unreported = leb-true n (s.parts seat).unreported some in
     lost unreported s.parts seat p (with_report (s.parts seat) n) n (omega arith)
 unreported_made p zone run seat (Absorb q) (Pages n) legal made = stayed unreported (state_of zone run).parts q p (absorbed ((state_of zone run).parts q) n) refl

@@ -26,6 +26,8 @@ use Rattle.step_rules.specs.After.{Run, IsLegalRun, after, state_of, is_within, 
 use Rattle.step_rules.specs.After.{with_report, absorbed, paid, credited, consumed, filled, drained}
 use Rattle.step_rules.specs.Units.{units_of}
 use Rattle.step_rules.specs.Charges.{groups_after, groups_of, charged_in, unit_pages, charged_out, charged_below}
+use Rattle.step_rules.proofs.LegalTests.{consume_tests, credit_tests, drain_stock_tests, fill_tests, grant_tests, pass_out_tests}
+use Rattle.step_rules.proofs.LegalTests.{place_block_tests, return_tests, take_in_tests, ungrant_tests}
 use Rattle.step_rules.proofs.Basics.{at_itself}
 use Rattle.step_rules.proofs.Sums.{sum_same, sum_none, sum_both}
 use Rattle.step_rules.proofs.Sound.{IsSound, PhasePaid, groups_in}
@@ -242,10 +244,10 @@ module _ (groups : List Group) (m : ℕ) where
   moves_exactly s run seat (Unfreeze f n) Done sound h told legal ok counted =
       let a = frames_stay groups s.phases s.zone.frames m f (at_stage Live (s.phases f)) (same_keeper Live (s.phases f)) in omega arith
   moves_exactly s run seat (PassOut f p) Done sound h told legal ok counted =
-      let free : is_free (s.phases f) ≡ true = grind arith in
+      let free : is_free (s.phases f) ≡ true = (pass_out_tests s seat f p legal).3 in
       let a = frames_stay groups s.phases s.zone.frames m f (Lent p PassingOut) (sym (ap keeper_of (free_is (s.phases f) free))) in omega arith
   moves_exactly s run seat (TakeIn f) Done sound h told legal ok counted =
-      let passes : passes_out seat (s.phases f) ≡ true = grind arith in
+      let passes : passes_out seat (s.phases f) ≡ true = (take_in_tests s seat f legal).2 in
       let part : Part = record (s.parts seat) { list = with_last (s.parts seat).list f } in
       let a = frames_stay groups s.phases s.zone.frames m f (Lent seat OnList) (sym (ap keeper_of (out_is seat (s.phases f) passes))) in
       let b = prepaid_stays groups s.parts s.zone.cpus m seat part refl in
@@ -257,8 +259,8 @@ module _ (groups : List Group) (m : ℕ) where
   moves_exactly s run seat (Collect f p) Done sound h told legal ok counted =
       let a = frames_stay groups s.phases s.zone.frames m f (collected (s.phases f)) (got_keeper (s.phases f)) in omega arith
   moves_exactly s run seat (Consume g) Took sound h told legal ok counted =
-      let cpu : is_cpu s.zone seat ≡ true = grind arith in
-      let some : nat_le 1 (length (s.parts seat).list) ≡ true = grind arith in
+      let cpu : is_cpu s.zone seat ≡ true = (consume_tests s seat g legal).0 in
+      let some : nat_le 1 (length (s.parts seat).list) ≡ true = (consume_tests s seat g legal).1 in
       let f = front_of (s.parts seat).list in
       let listed = listed_is seat (s.phases f) (front_listed s seat sound (leb-true 1 (length (s.parts seat).list) some)) in
       let below = in_zone s f sound (ap is_free listed) in
@@ -274,9 +276,9 @@ module _ (groups : List Group) (m : ℕ) where
       one_paid true n some = omega arith
       one_paid false n some = refl
   moves_exactly s run seat (Credit f) Back sound h told legal ok counted =
-      let cpu : is_cpu s.zone seat ≡ true = grind arith in
-      let frame : is_frame s.zone f ≡ true = grind arith in
-      let fresh : has_as FreshFrame seat (s.phases f) ≡ true = grind arith in
+      let cpu : is_cpu s.zone seat ≡ true = (credit_tests s seat f legal).0 in
+      let frame : is_frame s.zone f ≡ true = (credit_tests s seat f legal).1 in
+      let fresh : has_as FreshFrame seat (s.phases f) ≡ true = (credit_tests s seat f legal).2 in
       let is = fresh_is seat (s.phases f) fresh in
       let paid : PhasePaid s.zone.cpus (groups_in s.parts) (Head is.0 (FreshAt seat)) =
       subst (PhasePaid s.zone.cpus (groups_in s.parts)) is.1 (sound.frames f).paid in
@@ -298,10 +300,10 @@ module _ (groups : List Group) (m : ℕ) where
       let b = prepaid_stays groups s.parts s.zone.cpus m p (absorbed (s.parts p) n) refl in
       λ i. frames_kept groups s.phases s.zone.frames m + sym b i + pages_pending groups s.pending m + 0
   moves_exactly s run seat (Fill p g n) Done sound h told legal ok counted =
-      let visit : visits p s.hold ≡ true = grind arith in
-      let there : has_group s.groups g ≡ true = grind arith in
-      let may : may_fill (s.parts p) g ≡ true = grind arith in
-      let some : nat_le n (s.pending g) ≡ true = grind arith in
+      let visit : visits p s.hold ≡ true = (fill_tests s seat p g n legal).1 in
+      let there : has_group s.groups g ≡ true = (fill_tests s seat p g n legal).2 in
+      let may : may_fill (s.parts p) g ≡ true = (fill_tests s seat p g n legal).3 in
+      let some : nat_le n (s.pending g) ≡ true = (fill_tests s seat p g n legal).4 in
       let enough = leb-true n (s.pending g) some in
       let empty = equal_test (s.parts p).stock.pages 0 (and_parts ((s.parts p).stock.pages == 0) _ may).0 in
       let cpu : is_cpu s.zone p ≡ true = h.holder p (or_right _ _ visit) in
@@ -311,24 +313,24 @@ module _ (groups : List Group) (m : ℕ) where
       let d = pends_less groups m g (s.pending g) n enough in
       omega arith
   moves_exactly s run seat (DrainStock p) (Pages n) sound h told legal ok counted =
-      let cpu : is_cpu s.zone p ≡ true = grind arith in
+      let cpu : is_cpu s.zone p ≡ true = (drain_stock_tests s seat p legal).1 in
       let b = prepaid_moves groups s.parts s.zone.cpus m p (drained (s.parts p) n) (cpu_low s.zone p cpu) in
       let c = drain_moves groups m s p n h counted (s.parts p).stock.group refl in
       omega arith
   moves_exactly s run seat (Grant g n) Granted sound h told legal ok counted =
-      let there : has_group s.groups g ≡ true = grind arith in
+      let there : has_group s.groups g ≡ true = (grant_tests s seat g n legal).1 in
       let a = pending_moves groups s.pending m g (s.pending g + n) (number_low s.groups g h.tree there) in
       let b = pends_split groups m g (s.pending g) n in
       omega arith
   moves_exactly s run seat (Ungrant g n) Done sound h told legal ok counted =
-      let there : has_group s.groups g ≡ true = grind arith in
-      let some : nat_le n (s.pending g) ≡ true = grind arith in
+      let there : has_group s.groups g ≡ true = (ungrant_tests s seat g n legal).1 in
+      let some : nat_le n (s.pending g) ≡ true = (ungrant_tests s seat g n legal).2 in
       let c = pending_moves groups s.pending m g (s.pending g - n) (number_low s.groups g h.tree there) in
       let d = pends_less groups m g (s.pending g) n (leb-true n (s.pending g) some) in
       omega arith
   moves_exactly s run seat (PlaceBlock g k) (Placed b) sound h told legal ok counted =
-      let there : has_group s.groups g ≡ true = grind arith in
-      let some : nat_le (2 ^ k) (s.pending g) ≡ true = grind arith in
+      let there : has_group s.groups g ≡ true = (place_block_tests s seat g k legal).1 in
+      let some : nat_le (2 ^ k) (s.pending g) ≡ true = (place_block_tests s seat g k legal).2 in
       let one = pow_pos b.order in
       let free = block_free s.zone s.phases b ok.1 in
       let end = (free (b.at + 2 ^ b.order - 1) (omega arith) (omega arith)).0 in
@@ -346,7 +348,7 @@ module _ (groups : List Group) (m : ℕ) where
       let d = pends_less groups m g (s.pending g) (2 ^ k) (leb-true (2 ^ k) (s.pending g) some) in
       omega arith
   moves_exactly s run seat (Return f) Done sound h told legal ok counted =
-      let may : may_return s.killed (s.phases f) ≡ true = grind arith in
+      let may : may_return s.killed (s.phases f) ≡ true = (return_tests s seat f legal).2 in
       let a = any_unit_goes groups m s f sound (returning_is s.killed (s.phases f) may) in
       let b : unit_pages (in_subtree groups m) (unit_of (s.phases f)) ≡ unit_pages (in_subtree groups m) ((units_of run).unit f) =
       ap (unit_pages (in_subtree groups m)) (told f) in

@@ -14,6 +14,7 @@ use Rattle.step_rules.specs.Legal.{is_legal, IsAnswer, IsCounted, Allows, may_fi
 use Rattle.step_rules.specs.After.{Run, after, state_of, IsLegalRun, with_back, paid, credited, filled, drained}
 use Rattle.step_rules.specs.Counts.{count_at, references_in, references_out, stock_in, stock_out, book_in, book_out, counted_over}
 use Rattle.step_rules.specs.Counts.{ReferencesAreCounted, StocksAreCounted, BooksAreCounted}
+use Rattle.step_rules.proofs.LegalTests.{fill_tests, freeze_tests, put_tests}
 use Rattle.step_rules.proofs.Basics.{at_same, at_other}
 use Rattle.step_rules.proofs.Sound.{IsSound}
 use Rattle.step_rules.proofs.PhaseLemmas.{equal_test}
@@ -139,13 +140,13 @@ references_made k m s seat action Illegal legal =
 references_made k m s seat (Get f) Held legal = given s.references seat f 1 k m
 references_made k m s seat (Unfreeze f n) Done legal = given s.references 0 f n k m
 references_made k m s seat (Put f) (Left n) legal =
-    let some : nat_le 1 (s.references seat f) ≡ true = grind arith in
+    let some : nat_le 1 (s.references seat f) ≡ true = (put_tests s seat f legal).2 in
     taken s.references seat f 1 k m (leb-true 1 (s.references seat f) some)
 references_made k m s seat (Put f) Last legal =
-    let some : nat_le 1 (s.references seat f) ≡ true = grind arith in
+    let some : nat_le 1 (s.references seat f) ≡ true = (put_tests s seat f legal).2 in
     taken s.references seat f 1 k m (leb-true 1 (s.references seat f) some)
 references_made k m s seat (Freeze f n) Done legal =
-    let some : nat_le n (s.references 0 f) ≡ true = grind arith in
+    let some : nat_le n (s.references 0 f) ≡ true = (freeze_tests s seat f n legal).3 in
     taken s.references 0 f n k m (leb-true n (s.references 0 f) some)
 references_made k m s seat Lock answer legal = refl
 references_made k m s seat action answer legal = refl
@@ -226,7 +227,7 @@ stock_made p s seat (Credit f) Back legal ok count = gained pages_in s.parts sea
 stock_made p s seat (Report n) Done legal ok count = stayed pages_in s.parts seat p _ refl
 stock_made p s seat (Absorb q) (Pages n) legal ok count = stayed pages_in s.parts q p _ refl
 stock_made p s seat (Fill q g n) Done legal ok count =
-    let may : may_fill (s.parts q) g ≡ true = grind arith in
+    let may : may_fill (s.parts q) g ≡ true = (fill_tests s seat q g n legal).3 in
     let none : (s.parts q).stock.pages ≡ 0 =
     equal_test (s.parts q).stock.pages 0 (and_parts ((s.parts q).stock.pages == 0)
     ((s.parts q).book == 0 || is_of_group (s.parts q).stock.group g) may).0 in

@@ -10,6 +10,7 @@ use Rattle.step_rules.specs.declared.step.Answer.TheVariants.{Illegal, Done, Hel
 use Rattle.step_rules.specs.State.{Zone, Part, State, at_boot, with_at, sum_to, front_of, is_cpu, is_frame, pins_of}
 use Rattle.step_rules.specs.Legal.{IsMade}
 use Rattle.step_rules.specs.After.{Run, IsLegalRun, after, state_of, with_listed, with_report, absorbed, paid, credited, filled, drained, without_frame, with_back}
+use Rattle.step_rules.proofs.LegalTests.{consume_tests, get_tests, put_tests}
 use Rattle.step_rules.proofs.Basics.{at_same, at_other, at_each}
 use Rattle.step_rules.proofs.Sums.{sum_change, sum_none}
 use Rattle.step_rules.proofs.Lists.{length_last, length_without}
@@ -40,7 +41,7 @@ fresh_made s x seat (PassBack f) Done sound few made =
     (let a = length_without f (s.parts seat).fresh in let b = few seat in omega arith)
 fresh_made s x seat (Consume g) Took sound few made =
     let legal = made.legal in
-    let low : nat_lt (length (s.parts seat).fresh) 32 ≡ true = grind arith in
+    let low : nat_lt (length (s.parts seat).fresh) 32 ≡ true = (consume_tests s seat g legal).2 in
     one_few s.parts seat (paid (s.parts seat)) few
     (let a = length_last (front_of (s.parts seat).list) (s.parts seat).fresh in
     let b = ltb-true (length (s.parts seat).fresh) 32 low in omega arith)
@@ -126,13 +127,13 @@ pins_made : (s : State) (x : ℕ) (seat : ℕ) (action : Action) (answer : Answe
 pins_made s x seat action Illegal sound few made = absurd (no_illegal s seat action made.answered)
 pins_made s x seat (Get f) Held sound few made =
     let legal = made.legal in
-    let frame : is_frame s.zone f ≡ true = grind arith in
-    let low : nat_lt (pins_of s seat + length (s.parts seat).back) 256 ≡ true = grind arith in
+    let frame : is_frame s.zone f ≡ true = (get_tests s seat f legal).1 in
+    let low : nat_lt (pins_of s seat + length (s.parts seat).back) 256 ≡ true = (get_tests s seat f legal).2 in
     more_few s seat f (s.references seat f + 1) few (below_frames s.zone f frame)
     (let a = ltb-true (pins_of s seat + length (s.parts seat).back) 256 low in omega arith)
 pins_made s x seat (Put f) (Left n) sound few made = λ p cpu.
     let legal = made.legal in
-    let frame : is_frame s.zone f ≡ true = grind arith in
+    let frame : is_frame s.zone f ≡ true = (put_tests s seat f legal).1 in
     elim (cases_eq p seat) [
       | inl e ↦
           let own = few seat (ap (is_cpu s.zone) (sym e) ∙ cpu) in
@@ -144,8 +145,8 @@ pins_made s x seat (Put f) (Left n) sound few made = λ p cpu.
     ]
 pins_made s x seat (Put f) Last sound few made = λ p cpu.
     let legal = made.legal in
-    let frame : is_frame s.zone f ≡ true = grind arith in
-    let some_test : nat_le 1 (s.references seat f) ≡ true = grind arith in
+    let frame : is_frame s.zone f ≡ true = (put_tests s seat f legal).1 in
+    let some_test : nat_le 1 (s.references seat f) ≡ true = (put_tests s seat f legal).2 in
     let some = leb-true 1 (s.references seat f) some_test in
     last p cpu (below_frames s.zone f frame) some
   where

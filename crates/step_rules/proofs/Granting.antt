@@ -14,6 +14,7 @@ use Rattle.step_rules.specs.Usage.{pages_pending, usage_of}
 use Rattle.step_rules.specs.Legal.{is_legal, Allows, is_of_group}
 use Rattle.step_rules.specs.After.{after, state_of, with_more}
 use Rattle.step_rules.specs.Grants.{NoGrantPassesALimit, pending_in, pending_out, PendingIsCounted}
+use Rattle.step_rules.proofs.LegalTests.{fill_tests, place_block_tests, ungrant_tests}
 use Rattle.step_rules.proofs.Basics.{at_same, at_other}
 use Rattle.step_rules.proofs.Sound.{IsSound}
 use Rattle.step_rules.proofs.Runs.{allowed}
@@ -94,13 +95,13 @@ pending_made g s seat action Illegal legal = pending_unchanged g s seat action
 pending_made g s seat (Grant h n) Granted legal = more s.pending h g n
 pending_made g s seat (DrainStock p) (Pages n) legal = drained_more s.pending (s.parts p).stock.group g n
 pending_made g s seat (Ungrant h n) Done legal =
-    let some : nat_le n (s.pending h) ≡ true = grind arith in
+    let some : nat_le n (s.pending h) ≡ true = (ungrant_tests s seat h n legal).2 in
     less s.pending h g n (leb-true n (s.pending h) some)
 pending_made g s seat (Fill p h n) Done legal =
-    let some : nat_le n (s.pending h) ≡ true = grind arith in
+    let some : nat_le n (s.pending h) ≡ true = (fill_tests s seat p h n legal).4 in
     less s.pending h g n (leb-true n (s.pending h) some)
 pending_made g s seat (PlaceBlock h k) (Placed b) legal =
-    let some : nat_le (2 ^ k) (s.pending h) ≡ true = grind arith in
+    let some : nat_le (2 ^ k) (s.pending h) ≡ true = (place_block_tests s seat h k legal).2 in
     less s.pending h g (2 ^ k) (leb-true (2 ^ k) (s.pending h) some)
 pending_made g s seat Lock answer legal = refl
 pending_made g s seat action answer legal = refl

@@ -19,6 +19,7 @@ use Rattle.step_rules.specs.Phases.{FreshFrame, is_free, has_as, passes_out, uni
 use Rattle.step_rules.specs.State.{Zone, State, with_at, front_of}
 use Rattle.step_rules.specs.Legal.{IsMade}
 use Rattle.step_rules.specs.After.{Run, IsLegalRun, after, state_of, is_within, placed_phase, with_block, unit_size, without_unit, consumed}
+use Rattle.step_rules.proofs.LegalTests.{consume_tests, credit_tests, pass_out_tests, return_tests, take_in_tests}
 use Rattle.step_rules.proofs.Basics.{at_same, at_other}
 use Rattle.step_rules.proofs.Sound.{IsSound, PhasePaid, groups_in}
 use Rattle.step_rules.proofs.PhaseLemmas.{free_is, out_is, listed_is, fresh_is, none_some, returning_is, Returns, AsEnded, AsDrop}
@@ -184,7 +185,7 @@ heads_made s x seat (Freeze f n) Done sound heads made = heads_staged s.phases f
 heads_made s x seat (Unfreeze f n) Done sound heads made = heads_staged s.phases f Live heads
 heads_made s x seat (PassOut f p) Done sound heads made =
     let legal = made.legal in
-    let free : is_free (s.phases f) ≡ true = grind arith in
+    let free : is_free (s.phases f) ≡ true = (pass_out_tests s seat f p legal).3 in
     heads_at s.phases f (Lent p PassingOut) (λ g e. absurd (no_lent p g e))
     (λ u e. absurd (none_some u (sym (ap unit_of (free_is (s.phases f) free)) ∙ e))) heads
   where
@@ -192,7 +193,7 @@ heads_made s x seat (PassOut f p) Done sound heads made =
     no_lent p g z = cc
 heads_made s x seat (TakeIn f) Done sound heads made =
     let legal = made.legal in
-    let passes : passes_out seat (s.phases f) ≡ true = grind arith in
+    let passes : passes_out seat (s.phases f) ≡ true = (take_in_tests s seat f legal).2 in
     heads_at s.phases f (Lent seat OnList) (λ g e. absurd (no_lent g e))
     (λ u e. absurd (none_some u (sym (ap unit_of (out_is seat (s.phases f) passes)) ∙ e))) heads
   where
@@ -204,7 +205,7 @@ heads_made s x seat (Collect f p) Done sound heads made =
     heads_at s.phases f (collected (s.phases f)) (λ g. got_tail (s.phases f) g) (λ u e. inr (got_unit (s.phases f) ∙ e)) heads
 heads_made s x seat (Consume g) Took sound heads made =
     let legal = made.legal in
-    let some : nat_le 1 (length (s.parts seat).list) ≡ true = grind arith in
+    let some : nat_le 1 (length (s.parts seat).list) ≡ true = (consume_tests s seat g legal).1 in
     let f = front_of (s.parts seat).list in
     let listed = listed_is seat (s.phases f) (front_listed s seat sound (leb-true 1 (length (s.parts seat).list) some)) in
     heads_at s.phases f (consumed seat g) (λ h e. absurd (no_head h e)) (λ u e. absurd (none_some u (sym (ap unit_of listed) ∙ e))) heads
@@ -213,7 +214,7 @@ heads_made s x seat (Consume g) Took sound heads made =
     no_head h z = cc
 heads_made s x seat (Credit f) Back sound heads made =
     let legal = made.legal in
-    let fresh : has_as FreshFrame seat (s.phases f) ≡ true = grind arith in
+    let fresh : has_as FreshFrame seat (s.phases f) ≡ true = (credit_tests s seat f legal).2 in
     let is = fresh_is seat (s.phases f) fresh in
     let paid : PhasePaid s.zone.cpus (groups_in s.parts) (Head is.0 (FreshAt seat)) =
     subst (PhasePaid s.zone.cpus (groups_in s.parts)) is.1 (sound.frames f).paid in
@@ -226,7 +227,7 @@ heads_made s x seat (PlaceBlock g k) (Placed b) sound heads made =
     heads_placed s g b (λ m low high. (block_free s.zone s.phases b made.answered.1 m low high).1) heads
 heads_made s x seat (Return f) Done sound heads made =
     let legal = made.legal in
-    let may : may_return s.killed (s.phases f) ≡ true = grind arith in
+    let may : may_return s.killed (s.phases f) ≡ true = (return_tests s seat f legal).2 in
     any_returned s f sound (returning_is s.killed (s.phases f) may) heads
 heads_made s x seat Lock answer sound heads made = heads
 heads_made s x seat action answer sound heads made = heads

@@ -27,6 +27,9 @@ use Rattle.step_rules.specs.Usage.{is_below, frames_kept, stock_below, pages_pre
 use Rattle.step_rules.specs.Legal.{is_legal, IsAnswer, IsCounted, is_removable}
 use Rattle.step_rules.specs.After.{after, is_within, unit_size, with_more, with_back}
 use Rattle.step_rules.specs.Cover.{holds_lock}
+use Rattle.step_rules.proofs.LegalTests.{absorb_tests, credit_tests, fill_tests, grant_tests, lock_tests, make_tests}
+use Rattle.step_rules.proofs.LegalTests.{open_visit_tests, pass_back_tests, place_block_tests, removable_tests, remove_tests, report_tests}
+use Rattle.step_rules.proofs.LegalTests.{shut_visit_tests, ungrant_tests, unlock_tests}
 use Rattle.step_rules.proofs.Basics.{at_each}
 use Rattle.step_rules.proofs.Sums.{sum_part}
 use Rattle.step_rules.proofs.Sound.{IsSound, PhasePaid, groups_in}
@@ -289,20 +292,20 @@ pub homes_step : (s : State) (seat : ℕ) (action : Action) (answer : Answer) �
     IsAnswer s seat action answer → IsCounted s action answer → IsHomed (after s seat action answer)
 homes_step s seat action Illegal sound h legal ok counted = subst IsHomed (sym (after_illegal s seat action)) h
 homes_step s seat Lock Done sound h legal ok counted =
-    let cpu : is_cpu s.zone seat ≡ true = grind arith in
-    let free : is_unheld s.hold ≡ true = grind arith in
+    let cpu : is_cpu s.zone seat ≡ true = (lock_tests s seat legal).0 in
+    let free : is_unheld s.hold ≡ true = (lock_tests s seat legal).1 in
     homes_hold h (HeldBy seat) (λ q e. subst (λ k. is_cpu s.zone k ≡ true) (held_is seat q e) cpu) (λ q e. h.quiet q (unheld_rests s.hold q free))
 homes_step s seat Unlock Done sound h legal ok counted =
-    let held : is_held_by seat s.hold ≡ true = grind arith in
+    let held : is_held_by seat s.hold ≡ true = (unlock_tests s seat legal).1 in
     homes_hold h Unheld (λ q e. absurd (false≢true e)) (λ q e. h.quiet q (held_rests seat s.hold q held))
 homes_step s seat (OpenVisit p) Done sound h legal ok counted =
-    let held : is_held_by p s.hold ≡ true = grind arith in
+    let held : is_held_by p s.hold ≡ true = (open_visit_tests s seat p legal).1 in
     homes_hold h (Visiting p) (λ q e. subst (λ k. is_cpu s.zone k ≡ true) (visit_is p q e) (h.holder p (or_left _ _ held)))
     (λ q e. h.quiet q (held_rests p s.hold q held))
 homes_step s seat (ShutVisit p) Done sound h legal ok counted =
-    let visit : visits p s.hold ≡ true = grind arith in
-    let none : ((s.parts p).unreported == 0) ≡ true = grind arith in
-    let gone : ((s.parts p).reported == 0) ≡ true = grind arith in
+    let visit : visits p s.hold ≡ true = (shut_visit_tests s seat p legal).1 in
+    let none : ((s.parts p).unreported == 0) ≡ true = (shut_visit_tests s seat p legal).3 in
+    let gone : ((s.parts p).reported == 0) ≡ true = (shut_visit_tests s seat p legal).4 in
     let a = equal_test (s.parts p).unreported 0 none in
     let b = equal_test (s.parts p).reported 0 gone in
     homes_hold h (HeldBy p) (λ q e. subst (λ k. is_cpu s.zone k ≡ true) (held_is p q e) (h.holder p (or_right _ _ visit)))
@@ -319,7 +322,7 @@ homes_step s seat (Unfreeze f n) Done sound h legal ok counted = homes_same h f 
 homes_step s seat (PassOut f p) Done sound h legal ok counted = homes_phase h f _ refl
 homes_step s seat (TakeIn f) Done sound h legal ok counted = homes_part (homes_phase h f _ refl) seat _ (h.stocks seat) (h.beyond seat) (h.quiet seat)
 homes_step s seat (PassBack f) Done sound h legal ok counted =
-    let visit : visits seat s.hold ≡ true = grind arith in
+    let visit : visits seat s.hold ≡ true = (pass_back_tests s seat f legal).2 in
     homes_part (homes_same h f _ (sent_keeper (s.phases f))) seat _ (h.stocks seat) (h.beyond seat) (at_visit (visits seat s.hold) visit)
 homes_step s seat (Collect f p) Done sound h legal ok counted = homes_phase h f _ (got_home (s.phases f) (h.frames f))
   where
@@ -333,8 +336,8 @@ homes_step s seat (Consume g) Took sound h legal ok counted =
     homes_part (homes_phase h (front_of (s.parts seat).list) _ there) seat _ (λ some. h.stocks seat ok.2)
     (λ other. let a = h.beyond seat other in omega arith) (h.quiet seat)
 homes_step s seat (Credit f) Back sound h legal ok counted =
-    let cpu : is_cpu s.zone seat ≡ true = grind arith in
-    let fresh : has_as FreshFrame seat (s.phases f) ≡ true = grind arith in
+    let cpu : is_cpu s.zone seat ≡ true = (credit_tests s seat f legal).0 in
+    let fresh : has_as FreshFrame seat (s.phases f) ≡ true = (credit_tests s seat f legal).2 in
     let is = fresh_is seat (s.phases f) fresh in
     let paid : PhasePaid s.zone.cpus (groups_in s.parts) (Head is.0 (FreshAt seat)) =
     subst (PhasePaid s.zone.cpus (groups_in s.parts)) is.1 (sound.frames f).paid in
@@ -342,27 +345,27 @@ homes_step s seat (Credit f) Back sound h legal ok counted =
     homes_part (homes_phase h f _ refl) seat _ (λ some. ap (some_there s.groups) paid.group ∙ there) (λ other. absurd (true≢false (sym cpu ∙ other)))
     (h.quiet seat)
 homes_step s seat (Report n) Done sound h legal ok counted =
-    let visit : visits seat s.hold ≡ true = grind arith in
+    let visit : visits seat s.hold ≡ true = (report_tests s seat n legal).1 in
     homes_part h seat _ (h.stocks seat) (h.beyond seat) (at_visit (visits seat s.hold) visit)
 homes_step s seat (Absorb p) (Pages n) sound h legal ok counted =
-    let visit : visits p s.hold ≡ true = grind arith in
+    let visit : visits p s.hold ≡ true = (absorb_tests s seat p legal).1 in
     homes_part h p _ (h.stocks p) (h.beyond p) (at_visit (visits p s.hold) visit)
 homes_step s seat (Fill p g n) Done sound h legal ok counted =
-    let visit : visits p s.hold ≡ true = grind arith in
-    let there : has_group s.groups g ≡ true = grind arith in
+    let visit : visits p s.hold ≡ true = (fill_tests s seat p g n legal).1 in
+    let there : has_group s.groups g ≡ true = (fill_tests s seat p g n legal).2 in
     homes_part (homes_pending h _ (pages_at h g (s.pending g - n) (λ gone. absurd (true≢false (sym there ∙ gone))))) p _ (λ some. there)
     (λ other. absurd (true≢false (sym (h.holder p (or_right _ _ visit)) ∙ other))) (h.quiet p)
 homes_step s seat (DrainStock p) (Pages n) sound h legal ok counted =
     homes_part (homes_pending h _ (pages_drained h (s.parts p).stock.group n (λ some. h.stocks p (omega arith)))) p _
     (λ some. h.stocks p (omega arith)) (λ other. let a = h.beyond p other in omega arith) (h.quiet p)
 homes_step s seat (Grant g n) Granted sound h legal ok counted =
-    let there : has_group s.groups g ≡ true = grind arith in
+    let there : has_group s.groups g ≡ true = (grant_tests s seat g n legal).1 in
     homes_pending h _ (pages_at h g (s.pending g + n) (λ gone. absurd (true≢false (sym there ∙ gone))))
 homes_step s seat (Ungrant g n) Done sound h legal ok counted =
-    let there : has_group s.groups g ≡ true = grind arith in
+    let there : has_group s.groups g ≡ true = (ungrant_tests s seat g n legal).1 in
     homes_pending h _ (pages_at h g (s.pending g - n) (λ gone. absurd (true≢false (sym there ∙ gone))))
 homes_step s seat (PlaceBlock g k) (Placed b) sound h legal ok counted =
-    let there : has_group s.groups g ≡ true = grind arith in
+    let there : has_group s.groups g ≡ true = (place_block_tests s seat g k legal).1 in
     homes_phases (homes_pending h _ (pages_at h g (s.pending g - 2 ^ k) (λ gone. absurd (true≢false (sym there ∙ gone))))) _
     (λ f. placed_home f (is_within b.at (2 ^ b.order) f) (f == b.at) there)
   where
@@ -379,16 +382,16 @@ homes_step s seat (Return f) Done sound h legal ok counted = homes_phases h _ (�
 homes_step s seat (SetMax g limit) Done sound h legal ok counted =
     more_keeps s.groups (with_limit s.groups g limit) h (AreGroups-limited s.groups g limit h.tree) (λ k there. has_group-limited s.groups g k limit ∙ there)
 homes_step s seat (Make path) (Number n) sound h legal ok counted =
-    let none : is_none (make_fault s.groups path) ≡ true = grind arith in
+    let none : is_none (make_fault s.groups path) ≡ true = (make_tests s seat path legal).1 in
     let can = making s path h none in
     more_keeps s.groups (with_group s.groups n path) h (AreGroups-with s.groups n path h.tree can (new_low s.groups path n can ok) ok.free)
     (λ k there. has_group-with_kept s.groups n k path ok.free there)
 homes_step s seat (Remove g) Done sound h legal ok counted =
-    let may : is_removable s g ≡ true = grind arith in
-    let there : has_group s.groups g ≡ true = grind arith in
-    let inner : not (g == 0) ≡ true = grind arith in
-    let leaf : not (has_child s.groups g) ≡ true = grind arith in
-    let none : (usage_of s g == 0) ≡ true = grind arith in
+    let may : is_removable s g ≡ true = (remove_tests s seat g legal).1 in
+    let there : has_group s.groups g ≡ true = (removable_tests s g may).0 in
+    let inner : not (g == 0) ≡ true = (removable_tests s g may).1 in
+    let leaf : not (has_child s.groups g) ≡ true = (removable_tests s g may).2 in
+    let none : (usage_of s g == 0) ≡ true = (removable_tests s g may).3 in
     gone_keeps s.groups g h there (equal_test (usage_of s g) 0 none) (not_true (has_child s.groups g) leaf)
     (λ e. true≢false (sym inner ∙ ap not (eq-eqb g 0 e)))
     (λ f past. free_is (s.phases f) ((sound.frames f).inside past))

@@ -1,6 +1,6 @@
 -- Who a frame is lent to is one of the processors. Serves `frames_are_lent_to_processors`, `frames_pass_in_visits`,
 -- `beginnings_are_legal`.
-use Rattle.std.proofs.Common.{◌≡◌, ℕ, ◌^◌, ◌==◌, Bool, true, false, Some, None, refl, sym, ◌∙◌, ap, subst, arith, inl, inr, cond}
+use Rattle.std.proofs.Common.{◌≡◌, ℕ, ◌^◌, ◌==◌, Bool, true, false, Some, None, refl, sym, ◌∙◌, ap, subst, inl, inr, cond}
 use Rattle.std.proofs.lemmas.Bool.{or_right, or_cases}
 use Rattle.zone_blocks.specs.declared.block.Block.{Block}
 use Rattle.step_rules.specs.declared.phase.Stage.{Stage}
@@ -17,6 +17,7 @@ use Rattle.step_rules.specs.State.{Zone, State, at_boot, with_at, is_cpu, is_hel
 use Rattle.step_rules.specs.Legal.{Allows, IsMade}
 use Rattle.step_rules.specs.After.{after, state_of, placed_phase, with_block, unit_size, without_unit}
 use Rattle.step_rules.specs.Lent.{lent_to, FramesAreLentToProcessors, FramesPassInVisits, BeginningsAreLegal}
+use Rattle.step_rules.proofs.LegalTests.{credit_tests, pass_out_tests, take_in_tests}
 use Rattle.step_rules.proofs.Basics.{at_each}
 use Rattle.step_rules.proofs.Sound.{IsSound}
 use Rattle.step_rules.proofs.PhaseLemmas.{none_some}
@@ -82,19 +83,19 @@ lent_made s seat (Freeze g n) Done homed lent made = lent_same s.zone s.phases g
 lent_made s seat (Unfreeze g n) Done homed lent made = lent_same s.zone s.phases g _ lent (staged Live (s.phases g))
 lent_made s seat (PassOut g p) Done homed lent made =
     let legal = made.legal in
-    let visit : visits p s.hold ≡ true = grind arith in
+    let visit : visits p s.hold ≡ true = (pass_out_tests s seat g p legal).2 in
     let cpu : is_cpu s.zone p ≡ true = homed.holder p (or_right (is_held_by p s.hold) (visits p s.hold) visit) in
     lent_at s.zone s.phases g _ lent (λ q e. subst (λ (k : ℕ). is_cpu s.zone k ≡ true) (same_cpu p q e) cpu)
 lent_made s seat (TakeIn g) Done homed lent made =
     let legal = made.legal in
-    let cpu : is_cpu s.zone seat ≡ true = grind arith in
+    let cpu : is_cpu s.zone seat ≡ true = (take_in_tests s seat g legal).0 in
     lent_at s.zone s.phases g _ lent (λ q e. subst (λ (k : ℕ). is_cpu s.zone k ≡ true) (same_cpu seat q e) cpu)
 lent_made s seat (PassBack g) Done homed lent made = lent_same s.zone s.phases g _ lent (sent (s.phases g))
 lent_made s seat (Collect g p) Done homed lent made = lent_none s.zone s.phases g _ lent (got (s.phases g))
 lent_made s seat (Consume g) Took homed lent made = lent_none s.zone s.phases _ _ lent refl
 lent_made s seat (Credit g) Back homed lent made =
     let legal = made.legal in
-    let cpu : is_cpu s.zone seat ≡ true = grind arith in
+    let cpu : is_cpu s.zone seat ≡ true = (credit_tests s seat g legal).0 in
     lent_at s.zone s.phases g _ lent (λ q e. subst (λ (k : ℕ). is_cpu s.zone k ≡ true) (same_cpu seat q e) cpu)
 lent_made s seat (PlaceBlock g k) (Placed b) homed lent made = λ f p e. elim (within_cases b.at (2 ^ b.order) f) [
   | inl within ↦ absurd (never (with_block s.phases g b f) (ap lent_to (in_block s.phases g b f within.0) ∙ placed g b f) p e)

@@ -1,4 +1,5 @@
 pub mod Basics
+pub mod LegalTests
 pub mod Sums
 pub mod Lists
 pub mod Sound

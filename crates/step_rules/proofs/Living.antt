@@ -12,11 +12,12 @@ use Rattle.step_rules.specs.declared.step.Action.TheVariants.{Lock, Get, Put, Fr
 use Rattle.step_rules.specs.declared.step.Action.TheVariants.{PlaceBlock, Return}
 use Rattle.step_rules.specs.declared.step.Answer.{Answer}
 use Rattle.step_rules.specs.declared.step.Answer.TheVariants.{Illegal, Done, Held, Left, Last, Took, Back, Placed}
-use Rattle.step_rules.specs.Phases.{is_live, is_head_in_hand, at_stage, stage_after_last, passed_back, collected, unit_of}
+use Rattle.step_rules.specs.Phases.{is_live, at_stage, stage_after_last, passed_back, collected, unit_of}
 use Rattle.step_rules.specs.State.{State, at_boot, with_at, sum_to, is_cpu, live_references}
 use Rattle.step_rules.specs.Legal.{Allows, IsMade, get_answer}
 use Rattle.step_rules.specs.After.{after, placed_phase, with_block, unit_size, without_unit}
 use Rattle.step_rules.specs.Live.{AllLiveAreReferred}
+use Rattle.step_rules.proofs.LegalTests.{get_tests, put_tests, unfreeze_tests}
 use Rattle.step_rules.proofs.Basics.{at_same, at_other, at_each}
 use Rattle.step_rules.proofs.Sums.{sum_same, sum_none, sum_change}
 use Rattle.step_rules.proofs.Sound.{IsSound}
@@ -121,78 +122,68 @@ held_range n h =
     let both = and_parts (nat_le 1 n) (nat_le n 254) (held_case (nat_le 1 n && nat_le n 254) (n == 255) h) in
     (leb-true 1 n both.0, leb-true n 254 both.1)
 
+-- how many references there are after a step
+more_by_one : (t r l : ℕ) → t + r ≡ l + (r + 1) → 1 ≤ l → l ≤ 254 → (1 ≤ t) × (t ≤ 255)
+more_by_one t r l e low high = (omega arith, omega arith)
+
+less_by_one : (t r l n : ℕ) → t + r ≡ l + (r - 1) → 1 ≤ r → l ≡ n + 1 → 1 ≤ n → l ≤ 255 → (1 ≤ t) × (t ≤ 255)
+less_by_one t r l n e one all left top = (omega arith, omega arith)
+
+first_given : (t r l n : ℕ) → t + r ≡ l + (r + n) → l ≡ 0 → 1 ≤ n → n ≤ 255 → (1 ≤ t) × (t ≤ 255)
+first_given t r l n e none low high = (omega arith, omega arith)
+
+as_many : (t l : ℕ) → t ≡ l → (1 ≤ l) × (l ≤ 255) → (1 ≤ t) × (t ≤ 255)
+as_many t l e range = subst (λ (m : ℕ). (1 ≤ m) × (m ≤ 255)) (sym e) range
+
+zero_low : (n : ℕ) → 0 ≤ n
+zero_low n = omega arith
+
 referred_made : (f : ℕ) (s : State) (seat : ℕ) (action : Action) (answer : Answer) → IsSound s → IsReferred f s → IsMade s seat action answer →
     IsReferred f (after s seat action answer)
 referred_made f s seat action Illegal sound holds made = absurd (no_illegal s seat action made.answered)
 referred_made f s seat (Get g) Held sound holds made = λ live.
-    let legal = made.legal in
-    let cpu : is_cpu s.zone seat ≡ true = grind arith in
+    let cpu : is_cpu s.zone seat ≡ true = (get_tests s seat g made.legal).0 in
     let there : seat ≤ s.zone.cpus = leb-true seat s.zone.cpus (and_parts (nat_le 1 seat) (nat_le seat s.zone.cpus) cpu).1 in
-    let old = holds live in
-    let old_low = old.0 in
-    let old_high = old.1 in
+    let later = after s seat (Get g) Held in
     elim (cases_eq f g) [
       | inl same ↦
           let range = held_range (live_references s g) made.counted in
-          let low = range.0 in
-          let high = range.1 in
-          let sums = sum_changed s seat g (s.references seat g + 1) there in
           subst (λ (m : ℕ). (1 ≤ live_references (after s seat (Get g) Held) m) × (live_references (after s seat (Get g) Held) m ≤ 255)) (sym same)
-          (omega arith, omega arith)
-      | inr ne ↦ let e = sum_others s seat g (s.references seat g + 1) f ne in (omega arith, omega arith)
+          (more_by_one (live_references later g) (s.references seat g) (live_references s g) (sum_changed s seat g (s.references seat g + 1) there)
+          range.0 range.1)
+      | inr ne ↦ as_many (live_references later f) (live_references s f) (sum_others s seat g (s.references seat g + 1) f ne) (holds live)
     ]
 referred_made f s seat (Put g) (Left n) sound holds made = λ live.
-    let legal = made.legal in
-    let some : nat_le 1 (s.references seat g) ≡ true = grind arith in
+    let some : nat_le 1 (s.references seat g) ≡ true = (put_tests s seat g made.legal).2 in
     let one : 1 ≤ s.references seat g = leb-true 1 (s.references seat g) some in
     let there = seat_there s seat g sound one in
-    let old = holds live in
-    let old_low = old.0 in
-    let old_high = old.1 in
+    let later = after s seat (Put g) (Left n) in
     elim (cases_eq f g) [
       | inl same ↦
-          let all : live_references s g ≡ n + 1 = made.counted.0 in
-          let left : 1 ≤ n = made.counted.1 in
-          let top : live_references s g ≤ 255 = subst (λ (m : ℕ). live_references s m ≤ 255) same old_high in
-          let sums = sum_changed s seat g (s.references seat g - 1) there in
+          let top : live_references s g ≤ 255 = subst (λ (m : ℕ). live_references s m ≤ 255) same (holds live).1 in
           subst (λ (m : ℕ). (1 ≤ live_references (after s seat (Put g) (Left n)) m) × (live_references (after s seat (Put g) (Left n)) m ≤ 255)) (sym same)
-          (omega arith, omega arith)
-      | inr ne ↦ let e = sum_others s seat g (s.references seat g - 1) f ne in (omega arith, omega arith)
+          (less_by_one (live_references later g) (s.references seat g) (live_references s g) n (sum_changed s seat g (s.references seat g - 1) there)
+          one made.counted.0 made.counted.1 top)
+      | inr ne ↦ as_many (live_references later f) (live_references s f) (sum_others s seat g (s.references seat g - 1) f ne) (holds live)
     ]
 referred_made f s seat (Put g) Last sound holds made = λ live.
     let off = live_off s.phases g (at_stage (stage_after_last seat) (s.phases g)) f (last_dead seat (s.phases g)) live in
-    let old = holds off.1 in
-    let old_low = old.0 in
-    let old_high = old.1 in
-    let e = sum_others s seat g (s.references seat g - 1) f off.0 in
-    (omega arith, omega arith)
+    as_many (live_references (after s seat (Put g) Last) f) (live_references s f) (sum_others s seat g (s.references seat g - 1) f off.0) (holds off.1)
 referred_made f s seat (Freeze g n) Done sound holds made = λ live.
     let off = live_off s.phases g (at_stage Ended (s.phases g)) f (frozen_dead (s.phases g)) live in
-    let old = holds off.1 in
-    let old_low = old.0 in
-    let old_high = old.1 in
-    let e = sum_others s 0 g (s.references 0 g - n) f off.0 in
-    (omega arith, omega arith)
+    as_many (live_references (after s seat (Freeze g n) Done) f) (live_references s f) (sum_others s 0 g (s.references 0 g - n) f off.0) (holds off.1)
 referred_made f s seat (Unfreeze g n) Done sound holds made = λ live.
-    let legal = made.legal in
-    let hand : is_head_in_hand (s.phases g) ≡ true = grind arith in
-    let one : nat_le 1 n ≡ true = grind arith in
-    let most : nat_le n 255 ≡ true = grind arith in
-    let low : 1 ≤ n = leb-true 1 n one in
-    let high : n ≤ 255 = leb-true n 255 most in
+    let tests = unfreeze_tests s seat g n made.legal in
+    let later = after s seat (Unfreeze g n) Done in
     elim (cases_eq f g) [
       | inl same ↦
-          let dead = hand_dead (s.phases g) (in_hand (s.phases g) hand) in
+          let dead = hand_dead (s.phases g) (in_hand (s.phases g) tests.2) in
           let none : live_references s g ≡ 0 = sum_none (s.zone.cpus + 1) (λ k. s.references k g) (λ k below. (sound.frames g).unreferred dead k) in
-          let sums = sum_changed s 0 g (s.references 0 g + n) (omega arith) in
           subst (λ (m : ℕ). (1 ≤ live_references (after s seat (Unfreeze g n) Done) m) × (live_references (after s seat (Unfreeze g n) Done) m ≤ 255)) (sym same)
-          (omega arith, omega arith)
-      | inr ne ↦
-          let old = holds (sym (ap is_live (at_other s.phases g (at_stage Live (s.phases g)) f ne)) ∙ live) in
-          let old_low = old.0 in
-          let old_high = old.1 in
-          let e = sum_others s 0 g (s.references 0 g + n) f ne in
-          (omega arith, omega arith)
+          (first_given (live_references later g) (s.references 0 g) (live_references s g) n (sum_changed s 0 g (s.references 0 g + n) (zero_low s.zone.cpus))
+          none (leb-true 1 n tests.3) (leb-true n 255 tests.4))
+      | inr ne ↦ as_many (live_references later f) (live_references s f) (sum_others s 0 g (s.references 0 g + n) f ne)
+          (holds (sym (ap is_live (at_other s.phases g (at_stage Live (s.phases g)) f ne)) ∙ live))
     ]
 referred_made f s seat (PassOut g p) Done sound holds made = λ live. holds (live_at s.phases g _ f (λ e. absurd (false≢true e)) live)
 referred_made f s seat (TakeIn g) Done sound holds made = λ live. holds (live_at s.phases g _ f (λ e. absurd (false≢true e)) live)

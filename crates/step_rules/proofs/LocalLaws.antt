@@ -1,5 +1,5 @@
 -- What a processor sees while it holds the lock goes on by its own steps, and by no other's.
-use Rattle.std.proofs.Common.{◌≡◌, ℕ, Bool, true, false, refl, sym, ◌∙◌, ap, subst, arith, inl, inr, eq-eqb}
+use Rattle.std.proofs.Common.{◌≡◌, ℕ, Bool, true, false, refl, sym, ◌∙◌, ap, subst, inl, inr, eq-eqb}
 use Rattle.std.specs.Prelude.{◌||◌, ◌==◌}
 use Rattle.std.proofs.lemmas.Bool.{false≢true, true≢false, or_left}
 use Rattle.step_rules.specs.declared.phase.Hold.{Hold}
@@ -13,6 +13,7 @@ use Rattle.step_rules.specs.Legal.{is_legal, IsAnswer, IsMade, Allows}
 use Rattle.step_rules.specs.After.{after, state_of}
 use Rattle.step_rules.specs.Cover.{hide, holds_lock}
 use Rattle.step_rules.specs.Laws.{is_of_lock, OwnStepIsLegal, OtherStepIsHidden}
+use Rattle.step_rules.proofs.LegalTests.{open_visit_tests, shut_visit_tests}
 use Rattle.step_rules.proofs.PhaseLemmas.{equal_test}
 use Rattle.step_rules.proofs.Runs.{after_illegal, allowed, sound_run, state_more, legal_more}
 use Rattle.step_rules.proofs.Own.{own_legal, own_answer, own_after, only_visit}
@@ -45,10 +46,10 @@ own_holds s p seat action Illegal inside holds legal = ap (λ (t : State). holds
 own_holds s p seat Lock answer inside holds legal = absurd (true≢false inside)
 own_holds s p seat Unlock answer inside holds legal = absurd (true≢false inside)
 own_holds s p seat (OpenVisit q) Done inside holds legal =
-    let held : is_held_by q s.hold ≡ true = grind arith in
+    let held : is_held_by q s.hold ≡ true = (open_visit_tests s seat q legal).1 in
     held_own p q s.hold holds held
 own_holds s p seat (ShutVisit q) Done inside holds legal =
-    let visit : visits q s.hold ≡ true = grind arith in
+    let visit : visits q s.hold ≡ true = (shut_visit_tests s seat q legal).1 in
     visit_own p q s.hold holds visit
 own_holds s p seat action answer inside holds legal = holds
 

@@ -25,6 +25,8 @@ use Rattle.step_rules.specs.declared.step.Answer.TheVariants.{Illegal, Done, Las
 use Rattle.step_rules.specs.Phases.{FreshFrame, keeper_of, unit_of, has_as, is_free, passes_out, at_stage, passed_back, collected, stage_after_last}
 use Rattle.step_rules.specs.Legal.{is_legal, IsAnswer, IsCounted}
 use Rattle.step_rules.specs.Peaks.{UsageMoves}
+use Rattle.step_rules.proofs.LegalTests.{consume_tests, credit_tests, drain_stock_tests, fill_tests, grant_tests, make_tests}
+use Rattle.step_rules.proofs.LegalTests.{pass_out_tests, place_block_tests, take_in_tests, ungrant_tests}
 use Rattle.step_rules.proofs.Sound.{IsSound, PhasePaid, groups_in}
 use Rattle.step_rules.proofs.PhaseLemmas.{fresh_is, free_is, out_is, listed_is}
 use Rattle.step_rules.proofs.Passing.{front_listed, in_zone}
@@ -318,10 +320,10 @@ usage_step s seat (Freeze f n) Done sound h legal ok counted = λ m.
 usage_step s seat (Unfreeze f n) Done sound h legal ok counted = λ m.
     let a = frames_stay s.groups s.phases s.zone.frames m f (at_stage Live (s.phases f)) (same_keeper Live (s.phases f)) in omega arith
 usage_step s seat (PassOut f p) Done sound h legal ok counted = λ m.
-    let free : is_free (s.phases f) ≡ true = grind arith in
+    let free : is_free (s.phases f) ≡ true = (pass_out_tests s seat f p legal).3 in
     let a = frames_stay s.groups s.phases s.zone.frames m f (Lent p PassingOut) (sym (ap keeper_of (free_is (s.phases f) free))) in omega arith
 usage_step s seat (TakeIn f) Done sound h legal ok counted = λ m.
-    let passes : passes_out seat (s.phases f) ≡ true = grind arith in
+    let passes : passes_out seat (s.phases f) ≡ true = (take_in_tests s seat f legal).2 in
     let part : Part = record (s.parts seat) { list = with_last (s.parts seat).list f } in
     let a = frames_stay s.groups s.phases s.zone.frames m f (Lent seat OnList) (sym (ap keeper_of (out_is seat (s.phases f) passes))) in
     let b = prepaid_stays s.groups s.parts s.zone.cpus m seat part refl in
@@ -333,8 +335,8 @@ usage_step s seat (PassBack f) Done sound h legal ok counted = λ m.
 usage_step s seat (Collect f p) Done sound h legal ok counted = λ m.
     let a = frames_stay s.groups s.phases s.zone.frames m f (collected (s.phases f)) (got_keeper (s.phases f)) in omega arith
 usage_step s seat (Consume g) Took sound h legal ok counted = λ m.
-    let cpu : is_cpu s.zone seat ≡ true = grind arith in
-    let some : nat_le 1 (length (s.parts seat).list) ≡ true = grind arith in
+    let cpu : is_cpu s.zone seat ≡ true = (consume_tests s seat g legal).0 in
+    let some : nat_le 1 (length (s.parts seat).list) ≡ true = (consume_tests s seat g legal).1 in
     let f = front_of (s.parts seat).list in
     let listed = listed_is seat (s.phases f) (front_listed s seat sound (leb-true 1 (length (s.parts seat).list) some)) in
     let below = in_zone s f sound (ap is_free listed) in
@@ -350,9 +352,9 @@ usage_step s seat (Consume g) Took sound h legal ok counted = λ m.
     one_paid true n some = omega arith
     one_paid false n some = refl
 usage_step s seat (Credit f) Back sound h legal ok counted = λ m.
-    let cpu : is_cpu s.zone seat ≡ true = grind arith in
-    let frame : is_frame s.zone f ≡ true = grind arith in
-    let fresh : has_as FreshFrame seat (s.phases f) ≡ true = grind arith in
+    let cpu : is_cpu s.zone seat ≡ true = (credit_tests s seat f legal).0 in
+    let frame : is_frame s.zone f ≡ true = (credit_tests s seat f legal).1 in
+    let fresh : has_as FreshFrame seat (s.phases f) ≡ true = (credit_tests s seat f legal).2 in
     let is = fresh_is seat (s.phases f) fresh in
     let paid : PhasePaid s.zone.cpus (groups_in s.parts) (Head is.0 (FreshAt seat)) =
     subst (PhasePaid s.zone.cpus (groups_in s.parts)) is.1 (sound.frames f).paid in
@@ -374,9 +376,9 @@ usage_step s seat (Absorb p) (Pages n) sound h legal ok counted = λ m.
     let part : Part = record (s.parts p) { book = (s.parts p).book - n; reported = (s.parts p).reported - n } in
     let b = prepaid_stays s.groups s.parts s.zone.cpus m p part refl in omega arith
 usage_step s seat (Fill p g n) Done sound h legal ok counted = λ m.
-    let visit : visits p s.hold ≡ true = grind arith in
-    let there : has_group s.groups g ≡ true = grind arith in
-    let some : nat_le n (s.pending g) ≡ true = grind arith in
+    let visit : visits p s.hold ≡ true = (fill_tests s seat p g n legal).1 in
+    let there : has_group s.groups g ≡ true = (fill_tests s seat p g n legal).2 in
+    let some : nat_le n (s.pending g) ≡ true = (fill_tests s seat p g n legal).4 in
     let enough = leb-true n (s.pending g) some in
     let cpu : is_cpu s.zone p ≡ true = h.holder p (or_right _ _ visit) in
     let b = prepaid_moves s.groups s.parts s.zone.cpus m p (filled (s.parts p) g n) (cpu_low s.zone p cpu) in
@@ -384,7 +386,7 @@ usage_step s seat (Fill p g n) Done sound h legal ok counted = λ m.
     let d = pends_less s.groups m g (s.pending g) n enough in
     omega arith
 usage_step s seat (DrainStock p) (Pages n) sound h legal ok counted = λ m.
-    let cpu : is_cpu s.zone p ≡ true = grind arith in
+    let cpu : is_cpu s.zone p ≡ true = (drain_stock_tests s seat p legal).1 in
     let b = prepaid_moves s.groups s.parts s.zone.cpus m p (drained (s.parts p) n) (cpu_low s.zone p cpu) in
     let c = to_pending m (s.parts p).stock.group refl in
     omega arith
@@ -407,7 +409,7 @@ usage_step s seat (DrainStock p) (Pages n) sound h legal ok counted = λ m.
         let f = pends_less s.groups m k (s.parts p).stock.pages n (omega arith) in
         omega arith
 usage_step s seat (Grant g n) Granted sound h legal ok counted = λ m.
-    let there : has_group s.groups g ≡ true = grind arith in
+    let there : has_group s.groups g ≡ true = (grant_tests s seat g n legal).1 in
     let a = pending_moves s.groups s.pending m g (s.pending g + n) (number_low s.groups g h.tree there) in
     let b = pends_split s.groups m g (s.pending g) n in
     granted (in_subtree s.groups m g) (frames_kept s.groups s.phases s.zone.frames m + pages_prepaid s.groups s.parts s.zone.cpus m)
@@ -418,14 +420,14 @@ usage_step s seat (Grant g n) Granted sound h legal ok counted = λ m.
     granted true x y z e = omega arith
     granted false x y z e = omega arith
 usage_step s seat (Ungrant g n) Done sound h legal ok counted = λ m.
-    let there : has_group s.groups g ≡ true = grind arith in
-    let some : nat_le n (s.pending g) ≡ true = grind arith in
+    let there : has_group s.groups g ≡ true = (ungrant_tests s seat g n legal).1 in
+    let some : nat_le n (s.pending g) ≡ true = (ungrant_tests s seat g n legal).2 in
     let c = pending_moves s.groups s.pending m g (s.pending g - n) (number_low s.groups g h.tree there) in
     let d = pends_less s.groups m g (s.pending g) n (leb-true n (s.pending g) some) in
     omega arith
 usage_step s seat (PlaceBlock g k) (Placed b) sound h legal ok counted = λ m.
-    let there : has_group s.groups g ≡ true = grind arith in
-    let some : nat_le (2 ^ k) (s.pending g) ≡ true = grind arith in
+    let there : has_group s.groups g ≡ true = (place_block_tests s seat g k legal).1 in
+    let some : nat_le (2 ^ k) (s.pending g) ≡ true = (place_block_tests s seat g k legal).2 in
     let a = block_adds s.groups s.phases s.zone.frames m g b in
     let size : pends_one s.groups m g (2 ^ b.order) ≡ pends_one s.groups m g (2 ^ k) = ap (λ x. pends_one s.groups m g (2 ^ x)) ok.0 in
     let c = pending_moves s.groups s.pending m g (s.pending g - 2 ^ k) (number_low s.groups g h.tree there) in
@@ -436,7 +438,7 @@ usage_step s seat (SetMax g limit) Done sound h legal ok counted = λ m.
     usage_falls s.zone s.hold s.groups (with_limit s.groups g limit) s.phases s.parts s.pending m h
     (λ k there is. sym (in_subtree-limited s.groups g m k limit) ∙ is)
 usage_step s seat (Make path) (Number n) sound h legal ok counted = λ m.
-    let none : is_none (make_fault s.groups path) ≡ true = grind arith in
+    let none : is_none (make_fault s.groups path) ≡ true = (make_tests s seat path legal).1 in
     usage_falls s.zone s.hold s.groups (with_group s.groups n path) s.phases s.parts s.pending m h
     (made_stays s.groups path n m h.tree (making s path h none) ok.free)
 usage_step s seat (Remove g) Done sound h legal ok counted = λ m.

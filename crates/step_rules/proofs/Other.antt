@@ -19,6 +19,11 @@ use Rattle.step_rules.specs.State.{State, with_at, one_if, is_unheld, is_held_by
 use Rattle.step_rules.specs.Legal.{is_legal, IsAnswer}
 use Rattle.step_rules.specs.After.{after, after_last, paid, credited, with_back, consumed}
 use Rattle.step_rules.specs.Cover.{hide, hide_phase, hide_part, hide_parts, holds_lock}
+use Rattle.step_rules.proofs.LegalTests.{absorb_tests, collect_tests, consume_tests, credit_tests, drain_stock_tests, fill_tests}
+use Rattle.step_rules.proofs.LegalTests.{freeze_tests, grant_tests, kill_tests, lock_tests, make_tests, open_visit_tests}
+use Rattle.step_rules.proofs.LegalTests.{pass_back_tests, pass_out_tests, place_block_tests, put_tests, remove_tests, report_tests}
+use Rattle.step_rules.proofs.LegalTests.{return_tests, set_max_tests, shut_visit_tests, take_in_tests, unfreeze_tests, ungrant_tests}
+use Rattle.step_rules.proofs.LegalTests.{unlock_tests}
 use Rattle.step_rules.proofs.Basics.{at_each, same_state}
 use Rattle.step_rules.proofs.Lists.{times, length_last, length_without}
 use Rattle.step_rules.proofs.Sound.{IsSound}
@@ -92,59 +97,59 @@ credit_hidden s p q f sound other has =
 pub other_after : (s : State) (p q : ℕ) (action : Action) (answer : Answer) → IsSound s → (q ≡ 0 → ⊥) → (q ≡ p → ⊥) → holds_lock p s.hold ≡ true →
     is_legal s q action ≡ true → IsAnswer s q action answer → hide p (after s q action answer) ≡ hide p s
 other_after s p q Lock Done sound ne other holds legal ok =
-    let free : is_unheld s.hold ≡ true = grind arith in
+    let free : is_unheld s.hold ≡ true = (lock_tests s q legal).1 in
     absurd (not_unheld p s.hold holds free)
 other_after s p q Unlock Done sound ne other holds legal ok =
-    let held : is_held_by q s.hold ≡ true = grind arith in
+    let held : is_held_by q s.hold ≡ true = (unlock_tests s q legal).1 in
     absurd (not_held p q s.hold other holds held)
 other_after s p q (OpenVisit r) Done sound ne other holds legal ok =
-    absurd (let may : may_zone_act s.hold q ≡ true = grind arith in not_zone s.hold q true ne may)
+    absurd (let may : may_zone_act s.hold q ≡ true = (open_visit_tests s q r legal).0 in not_zone s.hold q true ne may)
 other_after s p q (ShutVisit r) Done sound ne other holds legal ok =
-    absurd (let may : may_zone_act s.hold q ≡ true = grind arith in not_zone s.hold q true ne may)
+    absurd (let may : may_zone_act s.hold q ≡ true = (shut_visit_tests s q r legal).0 in not_zone s.hold q true ne may)
 other_after s p q (Get f) Held sound ne other holds legal ok = same_state s refl (other_referred p s.references q f (s.references q f + 1) ne other) refl
 other_after s p q (Put f) (Left n) sound ne other holds legal ok = same_state s refl (other_referred p s.references q f (s.references q f - 1) ne other) refl
 other_after s p q (Put f) Last sound ne other holds legal ok =
-    let some : nat_le 1 (s.references q f) ≡ true = grind arith in
+    let some : nat_le 1 (s.references q f) ≡ true = (put_tests s q f legal).2 in
     last_hidden s p q f sound ne other (leb-true 1 (s.references q f) some)
 other_after s p q (Freeze f n) Done sound ne other holds legal ok =
-    absurd (let may : may_zone_act s.hold q ≡ true = grind arith in not_zone s.hold q true ne may)
+    absurd (let may : may_zone_act s.hold q ≡ true = (freeze_tests s q f n legal).0 in not_zone s.hold q true ne may)
 other_after s p q (Unfreeze f n) Done sound ne other holds legal ok =
-    absurd (let may : may_zone_act s.hold q ≡ true = grind arith in not_zone s.hold q true ne may)
+    absurd (let may : may_zone_act s.hold q ≡ true = (unfreeze_tests s q f n legal).0 in not_zone s.hold q true ne may)
 other_after s p q (PassOut f r) Done sound ne other holds legal ok =
-    absurd (let may : may_zone_act s.hold q ≡ true = grind arith in not_zone s.hold q true ne may)
+    absurd (let may : may_zone_act s.hold q ≡ true = (pass_out_tests s q f r legal).0 in not_zone s.hold q true ne may)
 other_after s p q (TakeIn f) Done sound ne other holds legal ok =
-    let passes : passes_out q (s.phases f) ≡ true = grind arith in
+    let passes : passes_out q (s.phases f) ≡ true = (take_in_tests s q f legal).2 in
     let visit : s.hold ≡ Visiting q = (sound.frames f).out q passes in
     absurd (other (only_visit p q s.hold holds (ap (visits q) visit ∙ eq-eqb q q refl)))
 other_after s p q (PassBack f) Done sound ne other holds legal ok =
-    absurd (let visit : visits q s.hold ≡ true = grind arith in other (only_visit p q s.hold holds visit))
+    absurd (let visit : visits q s.hold ≡ true = (pass_back_tests s q f legal).2 in other (only_visit p q s.hold holds visit))
 other_after s p q (Collect f r) Done sound ne other holds legal ok =
-    absurd (let may : may_zone_act s.hold q ≡ true = grind arith in not_zone s.hold q true ne may)
+    absurd (let may : may_zone_act s.hold q ≡ true = (collect_tests s q f r legal).0 in not_zone s.hold q true ne may)
 other_after s p q (Consume g) Took sound ne other holds legal ok =
-    let some : nat_le 1 (length (s.parts q).list) ≡ true = grind arith in
+    let some : nat_le 1 (length (s.parts q).list) ≡ true = (consume_tests s q g legal).1 in
     consume_hidden s p q g sound other (leb-true 1 (length (s.parts q).list) some) ok.2
 other_after s p q (Credit f) Back sound ne other holds legal ok =
-    let fresh : has_as FreshFrame q (s.phases f) ≡ true = grind arith in
+    let fresh : has_as FreshFrame q (s.phases f) ≡ true = (credit_tests s q f legal).2 in
     credit_hidden s p q f sound other fresh
 other_after s p q (Report n) Done sound ne other holds legal ok =
-    absurd (let visit : visits q s.hold ≡ true = grind arith in other (only_visit p q s.hold holds visit))
+    absurd (let visit : visits q s.hold ≡ true = (report_tests s q n legal).1 in other (only_visit p q s.hold holds visit))
 other_after s p q (Absorb r) (Pages n) sound ne other holds legal ok =
-    absurd (let may : may_zone_act s.hold q ≡ true = grind arith in not_zone s.hold q true ne may)
+    absurd (let may : may_zone_act s.hold q ≡ true = (absorb_tests s q r legal).0 in not_zone s.hold q true ne may)
 other_after s p q (Fill r g n) Done sound ne other holds legal ok =
-    absurd (let may : may_zone_act s.hold q ≡ true = grind arith in not_zone s.hold q true ne may)
+    absurd (let may : may_zone_act s.hold q ≡ true = (fill_tests s q r g n legal).0 in not_zone s.hold q true ne may)
 other_after s p q (DrainStock r) (Pages n) sound ne other holds legal ok =
-    absurd (let may : may_zone_act s.hold q ≡ true = grind arith in not_zone s.hold q true ne may)
+    absurd (let may : may_zone_act s.hold q ≡ true = (drain_stock_tests s q r legal).0 in not_zone s.hold q true ne may)
 other_after s p q (Grant g n) Granted sound ne other holds legal ok =
-    absurd (let may : may_zone_act s.hold q ≡ true = grind arith in not_zone s.hold q true ne may)
+    absurd (let may : may_zone_act s.hold q ≡ true = (grant_tests s q g n legal).0 in not_zone s.hold q true ne may)
 other_after s p q (Ungrant g n) Done sound ne other holds legal ok =
-    absurd (let may : may_zone_act s.hold q ≡ true = grind arith in not_zone s.hold q true ne may)
+    absurd (let may : may_zone_act s.hold q ≡ true = (ungrant_tests s q g n legal).0 in not_zone s.hold q true ne may)
 other_after s p q (PlaceBlock g k) (Placed b) sound ne other holds legal ok =
-    absurd (let may : may_zone_act s.hold q ≡ true = grind arith in not_zone s.hold q true ne may)
-other_after s p q (Return f) Done sound ne other holds legal ok = absurd (let may : may_zone_act s.hold q ≡ true = grind arith in not_zone s.hold q true ne may)
+    absurd (let may : may_zone_act s.hold q ≡ true = (place_block_tests s q g k legal).0 in not_zone s.hold q true ne may)
+other_after s p q (Return f) Done sound ne other holds legal ok = absurd (let may : may_zone_act s.hold q ≡ true = (return_tests s q f legal).0 in not_zone s.hold q true ne may)
 other_after s p q (SetMax g limit) Done sound ne other holds legal ok =
-    absurd (let may : may_zone_act s.hold q ≡ true = grind arith in not_zone s.hold q true ne may)
+    absurd (let may : may_zone_act s.hold q ≡ true = (set_max_tests s q g limit legal).0 in not_zone s.hold q true ne may)
 other_after s p q (Make path) (Number n) sound ne other holds legal ok =
-    absurd (let may : may_zone_act s.hold q ≡ true = grind arith in not_zone s.hold q true ne may)
-other_after s p q (Remove g) Done sound ne other holds legal ok = absurd (let may : may_zone_act s.hold q ≡ true = grind arith in not_zone s.hold q true ne may)
-other_after s p q (Kill g) Done sound ne other holds legal ok = absurd (let may : may_zone_act s.hold q ≡ true = grind arith in not_zone s.hold q true ne may)
+    absurd (let may : may_zone_act s.hold q ≡ true = (make_tests s q path legal).0 in not_zone s.hold q true ne may)
+other_after s p q (Remove g) Done sound ne other holds legal ok = absurd (let may : may_zone_act s.hold q ≡ true = (remove_tests s q g legal).0 in not_zone s.hold q true ne may)
+other_after s p q (Kill g) Done sound ne other holds legal ok = absurd (let may : may_zone_act s.hold q ≡ true = (kill_tests s q g legal).0 in not_zone s.hold q true ne may)
 other_after s p q action answer sound ne other holds legal ok = refl

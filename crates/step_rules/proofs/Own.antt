@@ -30,6 +30,8 @@ use Rattle.step_rules.specs.Legal.{is_legal, IsAnswer, IsCounted, nothing_passes
 use Rattle.step_rules.specs.After.{after, after_last, with_phase, with_part, with_more, without_frame, paid, credited, filled, drained, with_back, consumed}
 use Rattle.step_rules.specs.Cover.{hide, hide_phase, hide_part, hide_parts, hide_references, holds_lock}
 use Rattle.step_rules.specs.Laws.{is_of_lock}
+use Rattle.step_rules.proofs.LegalTests.{collect_tests, consume_tests, credit_tests, fill_tests, freeze_tests, pass_back_tests}
+use Rattle.step_rules.proofs.LegalTests.{put_tests, report_tests, return_tests, take_in_tests, unfreeze_tests}
 use Rattle.step_rules.proofs.Basics.{at_through, same_state}
 use Rattle.step_rules.proofs.Sums.{all_same}
 use Rattle.step_rules.proofs.Sound.{IsSound}
@@ -182,24 +184,24 @@ cpu_seat s p seat rest own legal = cpu_own s.zone p seat own (and_parts (is_cpu 
 pub own_answer : (s : State) (p seat : ℕ) (action : Action) (answer : Answer) → IsSound s → IsOwn p seat → is_legal s seat action ≡ true →
     IsAnswer (hide p s) seat action answer → IsAnswer s seat action answer
 own_answer s p seat (Consume g) Took sound own legal ok =
-    let cpu : is_cpu s.zone seat ≡ true = grind arith in
+    let cpu : is_cpu s.zone seat ≡ true = (consume_tests s seat g legal).0 in
     subst (λ (part : Part). (part.stock.group ≡ Some g) × (part.stock.is_drained ≡ false) × (1 ≤ part.stock.pages))
     (own_part p s.parts seat (cpu_own s.zone p seat own cpu)) ok
 own_answer s p seat (Consume g) Empty sound own legal ok =
-    let cpu : is_cpu s.zone seat ≡ true = grind arith in
+    let cpu : is_cpu s.zone seat ≡ true = (consume_tests s seat g legal).0 in
     subst (λ (part : Part). (part.stock.group ≡ Some g) × (part.stock.is_drained ≡ false) × (part.stock.pages ≡ 0))
     (own_part p s.parts seat (cpu_own s.zone p seat own cpu)) ok
 own_answer s p seat (Consume g) Drained sound own legal ok =
-    let cpu : is_cpu s.zone seat ≡ true = grind arith in
+    let cpu : is_cpu s.zone seat ≡ true = (consume_tests s seat g legal).0 in
     subst (λ (part : Part). (part.stock.group ≡ Some g) × (part.stock.is_drained ≡ true)) (own_part p s.parts seat (cpu_own s.zone p seat own cpu)) ok
 own_answer s p seat (Consume g) OtherGroup sound own legal ok =
-    let cpu : is_cpu s.zone seat ≡ true = grind arith in
+    let cpu : is_cpu s.zone seat ≡ true = (consume_tests s seat g legal).0 in
     subst (λ (part : Part). part.stock.group ≡ Some g → ⊥) (own_part p s.parts seat (cpu_own s.zone p seat own cpu)) ok
 own_answer s p seat (Credit f) Back sound own legal ok =
-    let cpu : is_cpu s.zone seat ≡ true = grind arith in
+    let cpu : is_cpu s.zone seat ≡ true = (credit_tests s seat f legal).0 in
     subst (λ (part : Part). part.stock.is_drained ≡ false) (own_part p s.parts seat (cpu_own s.zone p seat own cpu)) ok
 own_answer s p seat (Credit f) Drained sound own legal ok =
-    let cpu : is_cpu s.zone seat ≡ true = grind arith in
+    let cpu : is_cpu s.zone seat ≡ true = (credit_tests s seat f legal).0 in
     subst (λ (part : Part). part.stock.is_drained ≡ true) (own_part p s.parts seat (cpu_own s.zone p seat own cpu)) ok
 own_answer s p seat (Absorb q) (Pages n) sound own legal ok = ok ∙ part_seen (λ part. part.reported) (λ part. refl) p s.parts q
 own_answer s p seat (Grant g n) Granted sound own legal ok = subst (λ (usage : ℕ → ℕ). PathHasRoom s.groups usage g n) (usages_seen s p sound) ok
@@ -263,29 +265,29 @@ own_after s p seat (ShutVisit q) Done sound own inside holds legal ok counted = 
 own_after s p seat (Get f) Held sound own inside holds legal ok counted = same_state s refl (referred_seen s p seat f (λ n. n + 1) own) refl
 own_after s p seat (Put f) (Left n) sound own inside holds legal ok counted = same_state s refl (referred_seen s p seat f (λ n. n - 1) own) refl
 own_after s p seat (Put f) Last sound own inside holds legal ok counted =
-    let some : nat_le 1 (s.references seat f) ≡ true = grind arith in
+    let some : nat_le 1 (s.references seat f) ≡ true = (put_tests s seat f legal).2 in
     last_seen s p seat f sound own (leb-true 1 (s.references seat f) some)
 own_after s p seat (Freeze f n) Done sound own inside holds legal ok counted =
-    let one : nat_le 1 n ≡ true = grind arith in
-    let some : nat_le n (s.references 0 f) ≡ true = grind arith in
+    let one : nat_le 1 n ≡ true = (freeze_tests s seat f n legal).2 in
+    let some : nat_le n (s.references 0 f) ≡ true = (freeze_tests s seat f n legal).3 in
     let low : 1 ≤ n = leb-true 1 n one in
     let high : n ≤ s.references 0 f = leb-true n (s.references 0 f) some in
     let is = live_is (s.phases f) (live_from_one s 0 f sound (omega arith)) in
     same_state s (gone_on p s.phases f (at_stage Ended) (ended_goes p (s.phases f) is.0 is.1)) (referred_seen s p 0 f (λ k. k - n) (inl refl)) refl
 own_after s p seat (Unfreeze f n) Done sound own inside holds legal ok counted =
-    let hand : is_head_in_hand (s.phases f) ≡ true = grind arith in
+    let hand : is_head_in_hand (s.phases f) ≡ true = (unfreeze_tests s seat f n legal).2 in
     same_state s (gone_on p s.phases f (at_stage Live) (woken_goes p (s.phases f) (in_hand (s.phases f) hand)))
     (referred_seen s p 0 f (λ k. k + n) (inl refl)) refl
 own_after s p seat (PassOut f q) Done sound own inside holds legal ok counted =
     same_state s (at_through (hide_phase p) s.phases f (Lent q PassingOut)) refl refl
 own_after s p seat (TakeIn f) Done sound own inside holds legal ok counted =
-    let cpu : is_cpu s.zone seat ≡ true = grind arith in
+    let cpu : is_cpu s.zone seat ≡ true = (take_in_tests s seat f legal).0 in
     same_state s (at_through (hide_phase p) s.phases f (Lent seat OnList)) refl
     (own_changed p s.parts seat (λ part. record part { list = with_last part.list f }) (cpu_own s.zone p seat own cpu))
 own_after s p seat (PassBack f) Done sound own inside holds legal ok counted =
-    let cpu : is_cpu s.zone seat ≡ true = grind arith in
+    let cpu : is_cpu s.zone seat ≡ true = (pass_back_tests s seat f legal).0 in
     let e : seat ≡ p = cpu_own s.zone p seat own cpu in
-    let may : may_pass_back s seat f ≡ true = grind arith in
+    let may : may_pass_back s seat f ≡ true = (pass_back_tests s seat f legal).3 in
     let mine : (kind : Kind) → has_as kind seat (s.phases f) ≡ true → has_as kind p (s.phases f) ≡ true =
     λ kind. subst (λ (r : ℕ). has_as kind r (s.phases f) ≡ true) e in
     sent_seen s p seat f e (elim (or_cases (has_as ListFrame seat (s.phases f) && front_of (s.parts seat).list == f || has_as FreshFrame seat (s.phases f))
@@ -297,10 +299,10 @@ own_after s p seat (PassBack f) Done sound own inside holds legal ok counted =
       | inr back ↦ back_goes p (s.phases f) (mine kinds.BackFrame back)
     ])
 own_after s p seat (Collect f q) Done sound own inside holds legal ok counted =
-    let passes : passes_back q (s.phases f) ≡ true = grind arith in
+    let passes : passes_back q (s.phases f) ≡ true = (collect_tests s seat f q legal).3 in
     same_state s (gone_on p s.phases f collected (collected_goes p q (s.phases f) (came_back q (s.phases f) passes))) refl refl
 own_after s p seat (Consume g) Took sound own inside holds legal ok counted =
-    let cpu : is_cpu s.zone seat ≡ true = grind arith in
+    let cpu : is_cpu s.zone seat ≡ true = (consume_tests s seat g legal).0 in
     let e : seat ≡ p = cpu_own s.zone p seat own cpu in
     let front : front_of (s.parts seat).list ≡ front_of (hide_parts p s.parts seat).list =
     ap (λ (part : Part). front_of part.list) (sym (own_part p s.parts seat e)) in
@@ -310,17 +312,17 @@ own_after s p seat (Consume g) Took sound own inside holds legal ok counted =
     ∙ (λ i. with_at (λ m. hide_phase p (s.phases m)) (front i) (fresh i)))
     refl (own_changed p s.parts seat paid e)
 own_after s p seat (Credit f) Back sound own inside holds legal ok counted =
-    let cpu : is_cpu s.zone seat ≡ true = grind arith in
+    let cpu : is_cpu s.zone seat ≡ true = (credit_tests s seat f legal).0 in
     same_state s (at_through (hide_phase p) s.phases f (Lent seat OnList)) refl
     (own_changed p s.parts seat (λ part. credited part f) (cpu_own s.zone p seat own cpu))
 own_after s p seat (Report n) Done sound own inside holds legal ok counted =
-    let cpu : is_cpu s.zone seat ≡ true = grind arith in
+    let cpu : is_cpu s.zone seat ≡ true = (report_tests s seat n legal).0 in
     same_state s refl refl (own_changed p s.parts seat (λ part. record part { unreported = part.unreported - n; reported = part.reported + n })
     (cpu_own s.zone p seat own cpu))
 own_after s p seat (Absorb q) (Pages n) sound own inside holds legal ok counted =
     same_state s refl refl (any_changed p s.parts q (λ part. record part { book = part.book - n; reported = part.reported - n }) refl)
 own_after s p seat (Fill q g n) Done sound own inside holds legal ok counted =
-    let visit : visits q s.hold ≡ true = grind arith in
+    let visit : visits q s.hold ≡ true = (fill_tests s seat q g n legal).1 in
     same_state (record s { pending = with_at s.pending g (s.pending g - n) }) refl refl
     (own_changed p s.parts q (λ part. filled part g n) (only_visit p q s.hold holds visit))
 own_after s p seat (DrainStock q) (Pages n) sound own inside holds legal ok counted =
@@ -336,7 +338,7 @@ own_after s p seat (Ungrant g n) Done sound own inside holds legal ok counted = 
 own_after s p seat (PlaceBlock g k) (Placed b) sound own inside holds legal ok counted =
     same_state (record s { pending = with_at s.pending g (s.pending g - 2 ^ k) }) (block_seen p s.phases g b) refl refl
 own_after s p seat (Return f) Done sound own inside holds legal ok counted =
-    let may : may_return s.killed (s.phases f) ≡ true = grind arith in
+    let may : may_return s.killed (s.phases f) ≡ true = (return_tests s seat f legal).2 in
     same_state s (unit_seen p s.killed s.phases f (returning_is s.killed (s.phases f) may)) refl refl
 own_after s p seat (SetMax g limit) Done sound own inside holds legal ok counted = refl
 own_after s p seat (Make path) (Number n) sound own inside holds legal ok counted = refl

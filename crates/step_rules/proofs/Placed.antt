@@ -23,6 +23,7 @@ use Rattle.step_rules.specs.Legal.{is_legal, IsAnswer, IsMade}
 use Rattle.step_rules.specs.After.{after, state_of, is_within, placed_phase, with_block, unit_size, without_unit, consumed}
 use Rattle.step_rules.specs.Units.{Units, no_units, units_after}
 use Rattle.step_rules.specs.Places.{Places, is_same_frame_place, places_at_boot, moved, returned, credited_place, places_after, place_in, EveryFrameHasOnePlace}
+use Rattle.step_rules.proofs.LegalTests.{collect_tests, consume_tests, credit_tests, pass_out_tests, return_tests, take_in_tests}
 use Rattle.step_rules.proofs.Basics.{at_same, at_other, at_each}
 use Rattle.step_rules.proofs.Sound.{IsSound}
 use Rattle.step_rules.proofs.PhaseLemmas.{free_is, out_is, listed_is, fresh_is, came_back, CameBack, FromList, FromFresh, FromBack}
@@ -167,7 +168,7 @@ moves_same : (s : State) (u : Units) (places : Places) (seat : ℕ) (action : Ac
     moves_in s places seat action answer ≡ places_after u places seat action answer
 moves_same s u places seat (Consume g) Took has made =
     let legal = made.legal in
-    let cpu : is_cpu s.zone seat ≡ true = grind arith in
+    let cpu : is_cpu s.zone seat ≡ true = (consume_tests s seat g legal).0 in
     ap (λ (f : ℕ). moved places f 1 (Listed seat) (Charged g)) (sym (front_told s u has seat cpu))
 moves_same s u places seat (Credit f) Back has made =
     ap (λ (m : Option ChargedUnit × Option ℕ). credited_place places seat f m.0) (has.marked f)
@@ -194,26 +195,26 @@ places_made s places seat (Freeze f n) Done sound told legal ok =
 places_made s places seat (Unfreeze f n) Done sound told legal ok =
     stays_told s.zone s.phases places f (at_stage Live (s.phases f)) told (staged Live (s.phases f))
 places_made s places seat (PassOut f p) Done sound told legal ok =
-    let frame : is_frame s.zone f ≡ true = grind arith in
-    let free : is_free (s.phases f) ≡ true = grind arith in
+    let frame : is_frame s.zone f ≡ true = (pass_out_tests s seat f p legal).1 in
+    let free : is_free (s.phases f) ≡ true = (pass_out_tests s seat f p legal).3 in
     one_told s.zone s.phases places f (Lent p PassingOut) Free (Listed p) told frame (ap place_in (free_is (s.phases f) free)) refl
 places_made s places seat (TakeIn f) Done sound told legal ok =
-    let passes : passes_out seat (s.phases f) ≡ true = grind arith in
+    let passes : passes_out seat (s.phases f) ≡ true = (take_in_tests s seat f legal).2 in
     stays_told s.zone s.phases places f (Lent seat OnList) told (sym (ap place_in (out_is seat (s.phases f) passes)))
 places_made s places seat (PassBack f) Done sound told legal ok = stays_told s.zone s.phases places f (passed_back (s.phases f)) told (sent (s.phases f))
 places_made s places seat (Collect f p) Done sound told legal ok =
-    let frame : is_frame s.zone f ≡ true = grind arith in
-    let passes : passes_back p (s.phases f) ≡ true = grind arith in
+    let frame : is_frame s.zone f ≡ true = (collect_tests s seat f p legal).1 in
+    let passes : passes_back p (s.phases f) ≡ true = (collect_tests s seat f p legal).3 in
     collects_told s.zone s.phases places f p told frame (came_back p (s.phases f) passes)
 places_made s places seat (Consume g) Took sound told legal ok =
-    let some : nat_le 1 (length (s.parts seat).list) ≡ true = grind arith in
+    let some : nat_le 1 (length (s.parts seat).list) ≡ true = (consume_tests s seat g legal).1 in
     let f = front_of (s.parts seat).list in
     let was : s.phases f ≡ Lent seat OnList = listed_is seat (s.phases f) (front_listed s seat sound (leb-true 1 (length (s.parts seat).list) some)) in
     one_told s.zone s.phases places f (consumed seat g) (Listed seat) (Charged g) told (lt-ltb f s.zone.frames (in_zone s f sound (ap is_free was)))
     (ap place_in was) refl
 places_made s places seat (Credit f) Back sound told legal ok =
-    let frame : is_frame s.zone f ≡ true = grind arith in
-    let fresh : has_as FreshFrame seat (s.phases f) ≡ true = grind arith in
+    let frame : is_frame s.zone f ≡ true = (credit_tests s seat f legal).1 in
+    let fresh : has_as FreshFrame seat (s.phases f) ≡ true = (credit_tests s seat f legal).2 in
     let is = fresh_is seat (s.phases f) fresh in
     subst (λ (o : Option ChargedUnit). AreTold s.zone (with_at s.phases f (Lent seat OnList)) (credited_place places seat f o)) (sym (ap unit_of is.1))
     (one_told s.zone s.phases places f (Lent seat OnList) (Charged (is.0).group) (Listed seat) told frame (ap place_in is.1) refl)
@@ -224,7 +225,7 @@ places_made s places seat (PlaceBlock g k) (Placed b) sound told legal ok =
     (lt-ltb x s.zone.frames known.0, ap place_in (free_is (s.phases x) known.1), ap place_in (in_block s.phases g b x within) ∙ placed_place g b x))
     (λ x off. ap place_in (off_block s.phases g b x off))
 places_made s places seat (Return f) Done sound told legal ok =
-    let may : may_return s.killed (s.phases f) ≡ true = grind arith in
+    let may : may_return s.killed (s.phases f) ≡ true = (return_tests s seat f legal).2 in
     any_return_told s places f sound told (returning_is s.killed (s.phases f) may)
 places_made s places seat Lock answer sound told legal ok = told
 places_made s places seat action answer sound told legal ok = told

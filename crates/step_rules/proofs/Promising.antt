@@ -37,6 +37,7 @@ use Rattle.step_rules.specs.Keepers.{StockIsKept}
 use Rattle.step_rules.specs.Lent.{lent_to}
 use Rattle.step_rules.specs.Promise.{Shown, IsShown, Has, HasOnce, IsInUnit, IsInOnePlace, IsPrepaid, kept_below, prepaid_below, KeepsLimits}
 use Rattle.step_rules.specs.Promise.{HasNoReference, IsUnused, ComesBackOnce, ThePromiseIsKept}
+use Rattle.step_rules.proofs.LegalTests.{consume_tests, credit_tests, grant_tests, return_tests, unfreeze_tests}
 use Rattle.step_rules.proofs.Lists.{one_if_true}
 use Rattle.step_rules.proofs.PhaseLemmas.{free_is, live_is, listed_is, fresh_is, held_live, none_some, returning_is, Returns, AsEnded, AsDrop}
 use Rattle.step_rules.proofs.PhaseLemmas.{in_hand, InHand as Hand, WasCollected, WasBare, WasEnded}
@@ -274,8 +275,7 @@ limits_kept zone run legal seat (Grant g n) Granted ok = (
   where
     alive : was_killed run g ≡ false
     alive =
-        let legal_here = ok.legal in
-        let not_killed : not ((state_of zone run).killed g) ≡ true = grind arith in
+        let not_killed : not ((state_of zone run).killed g) ≡ true = (grant_tests (state_of zone run) seat g n ok.legal).2 in
         sym (groups_are_told zone run legal g).killed ∙ not_true ((state_of zone run).killed g) not_killed
       where
         not_true : (b : Bool) → not b ≡ true → b ≡ false
@@ -292,8 +292,7 @@ returns_kept zone run legal seat (Get f) Held ok =
 returns_kept zone run legal seat (Put f) Last ok = let back = every_frame_returns_once zone run legal f in back.gone ∙ back.none_open_at_put seat ok
 returns_kept zone run legal seat (Freeze f n) Done ok = let back = every_frame_returns_once zone run legal f in back.gone ∙ back.none_open_at_freeze seat n ok
 returns_kept zone run legal seat (Unfreeze f n) Done ok =
-    let legal_here = ok.legal in
-    let hand : is_head_in_hand ((state_of zone run).phases f) ≡ true = grind arith in
+    let hand : is_head_in_hand ((state_of zone run).phases f) ≡ true = (unfreeze_tests (state_of zone run) seat f n ok.legal).2 in
     by_hand (in_hand ((state_of zone run).phases f) hand)
   where
     by_hand : Hand ((state_of zone run).phases f) → ComesBackOnce run seat (Unfreeze f n) Done
@@ -302,8 +301,7 @@ returns_kept zone run legal seat (Unfreeze f n) Done ok =
     by_hand (WasEnded u was) = (unit_told zone run legal f u was, no_reference zone run legal f (ap is_live was))
 returns_kept zone run legal seat (Return f) Done ok =
     let s = state_of zone run in
-    let may_be = ok.legal in
-    let may : may_return s.killed (s.phases f) ≡ true = grind arith in
+    let may : may_return s.killed (s.phases f) ≡ true = (return_tests (state_of zone run) seat f ok.legal).2 in
     came_back (every_frame_returns_once zone run legal f) (ok.legal) (returning_is s.killed (s.phases f) may)
   where
     came_back : ReturnsOnce zone run f → is_legal (state_of zone run) seat (Return f) ≡ true →
@@ -320,9 +318,8 @@ returns_kept zone run legal seat (Return f) Done ok =
     )
 returns_kept zone run legal seat (Credit f) Back ok =
     let s = state_of zone run in
-    let may = ok.legal in
-    let cpu : is_cpu s.zone seat ≡ true = grind arith in
-    let fresh : has_as FreshFrame seat (s.phases f) ≡ true = grind arith in
+    let cpu : is_cpu s.zone seat ≡ true = (credit_tests (state_of zone run) seat f ok.legal).0 in
+    let fresh : has_as FreshFrame seat (s.phases f) ≡ true = (credit_tests (state_of zone run) seat f ok.legal).2 in
     let is = fresh_is seat (s.phases f) fresh in (
       ap (λ (h : InHand). times_in f h.fresh) ((units_are_told zone run legal f).hands seat)
           ∙ ap (times_in f) (sym (parts_are_told zone run legal seat (is_of_zone zone run legal seat cpu)).fresh)
@@ -331,9 +328,8 @@ returns_kept zone run legal seat (Credit f) Back ok =
     )
 returns_kept zone run legal seat (Consume g) Took ok =
     let s = state_of zone run in
-    let may = ok.legal in
-    let cpu : is_cpu s.zone seat ≡ true = grind arith in
-    let some_test : nat_le 1 (length (s.parts seat).list) ≡ true = grind arith in
+    let cpu : is_cpu s.zone seat ≡ true = (consume_tests (state_of zone run) seat g ok.legal).0 in
+    let some_test : nat_le 1 (length (s.parts seat).list) ≡ true = (consume_tests (state_of zone run) seat g ok.legal).1 in
     let some = leb-true 1 (length (s.parts seat).list) some_test in
     let listed = listed_is seat (s.phases (front_of (s.parts seat).list)) (front_listed s seat (sound_run zone run legal) some) in
     let same = same_hand zone run legal seat (is_of_zone zone run legal seat cpu) in (

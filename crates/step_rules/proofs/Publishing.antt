@@ -18,6 +18,7 @@ use Rattle.step_rules.specs.Legal.{IsMade}
 use Rattle.step_rules.specs.After.{after, state_of, unit_size, without_unit}
 use Rattle.step_rules.specs.Returns.{is_open}
 use Rattle.step_rules.specs.Kept.{published_after, AllPublishedIsKept}
+use Rattle.step_rules.proofs.LegalTests.{consume_tests, credit_tests, pass_out_tests, publish_tests, return_tests, take_in_tests}
 use Rattle.step_rules.proofs.Basics.{at_each}
 use Rattle.step_rules.proofs.Sound.{IsSound}
 use Rattle.step_rules.proofs.PhaseLemmas.{Returns, AsEnded, AsDrop, free_is, out_is, listed_is, fresh_is, returning_is}
@@ -113,23 +114,23 @@ kept_made f s x seat (Freeze g n) Done sound kept made = λ e. used_at s.phases 
 kept_made f s x seat (Unfreeze g n) Done sound kept made = λ e. used_at s.phases g _ f (used_woken (s.phases g)) (kept e)
 kept_made f s x seat (PassOut g p) Done sound kept made = λ e.
     let legal = made.legal in
-    let free : is_free (s.phases g) ≡ true = grind arith in
+    let free : is_free (s.phases g) ≡ true = (pass_out_tests s seat g p legal).3 in
     used_at s.phases g _ f (λ used. absurd (never (s.phases g) InZone (free_is (s.phases g) free) refl used)) (kept e)
 kept_made f s x seat (TakeIn g) Done sound kept made = λ e.
     let legal = made.legal in
-    let passes : passes_out seat (s.phases g) ≡ true = grind arith in
+    let passes : passes_out seat (s.phases g) ≡ true = (take_in_tests s seat g legal).2 in
     used_at s.phases g _ f (λ used. absurd (never (s.phases g) _ (out_is seat (s.phases g) passes) refl used)) (kept e)
 kept_made f s x seat (PassBack g) Done sound kept made = λ e. used_at s.phases g _ f (used_sent (s.phases g)) (kept e)
 kept_made f s x seat (Collect g p) Done sound kept made = λ e. used_at s.phases g _ f (used_got (s.phases g)) (kept e)
 kept_made f s x seat (Consume g) Took sound kept made = λ e.
     let legal = made.legal in
-    let some : nat_le 1 (length (s.parts seat).list) ≡ true = grind arith in
+    let some : nat_le 1 (length (s.parts seat).list) ≡ true = (consume_tests s seat g legal).1 in
     let m = front_of (s.parts seat).list in
     let listed = listed_is seat (s.phases m) (front_listed s seat sound (leb-true 1 (length (s.parts seat).list) some)) in
     used_at s.phases m _ f (λ used. absurd (never (s.phases m) _ listed refl used)) (kept e)
 kept_made f s x seat (Credit g) Back sound kept made = λ e.
     let legal = made.legal in
-    let fresh : has_as FreshFrame seat (s.phases g) ≡ true = grind arith in
+    let fresh : has_as FreshFrame seat (s.phases g) ≡ true = (credit_tests s seat g legal).2 in
     used_at s.phases g _ f (λ used. absurd (never (s.phases g) _ (fresh_is seat (s.phases g) fresh).1 refl used)) (kept e)
 kept_made f s x seat (PlaceBlock g k) (Placed b) sound kept made = λ e. elim (within_cases b.at (2 ^ b.order) f) [
   | inl within ↦ absurd (never (s.phases f) InZone (free_is (s.phases f) (block_free s.zone s.phases b made.answered.1 f within.1 within.2).1) refl (kept e))
@@ -137,7 +138,7 @@ kept_made f s x seat (PlaceBlock g k) (Placed b) sound kept made = λ e. elim (w
 ]
 kept_made f s x seat (Publish g) Done sound kept made =
     let legal = made.legal in
-    let some : nat_le 1 (s.references 0 g) ≡ true = grind arith in
+    let some : nat_le 1 (s.references 0 g) ≡ true = (publish_tests s seat g legal).3 in
     let live = live_from_one s 0 g sound (leb-true 1 (s.references 0 g) some) in
     elim (cases_eq f g) [
       | inl same ↦ λ e. ap (λ (m : ℕ). is_used (s.phases m)) same ∙ or_left (is_live (s.phases g)) (is_open (s.phases g)) live
@@ -145,7 +146,7 @@ kept_made f s x seat (Publish g) Done sound kept made =
     ]
 kept_made f s x seat (Return g) Done sound kept made =
     let legal = made.legal in
-    let may : may_return s.killed (s.phases g) ≡ true = grind arith in
+    let may : may_return s.killed (s.phases g) ≡ true = (return_tests s seat g legal).2 in
     let unit = unit_is s.killed (s.phases g) (returning_is s.killed (s.phases g) may) in
     elim (cases_eq f g) [
       | inl same ↦ λ e. absurd (false≢true (sym (ap (λ c. if c then false else x) (eq-eqb f g same)) ∙ e))

@@ -27,6 +27,8 @@ use Rattle.step_rules.specs.Folds.{was_killed}
 use Rattle.step_rules.specs.Units.{units_of, fresh_group}
 use Rattle.step_rules.specs.Returns.{is_open, is_drop_stage, is_drop_phase, is_drop, is_killed_group, gone_after, is_gone, uses_ended, uses_closed, counted_beside}
 use Rattle.step_rules.specs.Returns.{counted_along, EveryFrameReturnsOnce}
+use Rattle.step_rules.proofs.LegalTests.{collect_tests, consume_tests, credit_tests, freeze_tests, pass_out_tests, put_tests}
+use Rattle.step_rules.proofs.LegalTests.{return_tests, take_in_tests, unfreeze_tests}
 use Rattle.step_rules.proofs.Basics.{at_same, at_other}
 use Rattle.step_rules.proofs.Sound.{IsSound}
 use Rattle.step_rules.proofs.PhaseLemmas.{live_is, free_is, out_is, listed_is, fresh_is, in_hand, InHand, WasCollected, WasBare, WasEnded}
@@ -229,40 +231,40 @@ pub uses_made : (m : ℕ) (s : State) (seat : ℕ) (action : Action) (answer : A
     opens (s.phases m) + ended_in m s seat action answer ≡ opens ((after s seat action answer).phases m) + closed_in m s seat action answer
 uses_made m s seat action Illegal sound legal ok = uses_unchanged m s seat action
 uses_made m s seat (Put f) Last sound legal ok =
-    let some : nat_le 1 (s.references seat f) ≡ true = grind arith in
+    let some : nat_le 1 (s.references seat f) ≡ true = (put_tests s seat f legal).2 in
     let is = live_is (s.phases f) (live_from_one s seat f sound (leb-true 1 (s.references seat f) some)) in
     opened s.phases f m (at_stage (stage_after_last seat) (s.phases f)) (ap opens is.1)
     (ap (λ x. opens (at_stage (stage_after_last seat) x)) is.1 ∙ last_opens seat is.0)
 uses_made m s seat (Freeze f n) Done sound legal ok =
-    let one : nat_le 1 n ≡ true = grind arith in
-    let some : nat_le n (s.references 0 f) ≡ true = grind arith in
+    let one : nat_le 1 n ≡ true = (freeze_tests s seat f n legal).2 in
+    let some : nat_le n (s.references 0 f) ≡ true = (freeze_tests s seat f n legal).3 in
     let low : 1 ≤ n = leb-true 1 n one in
     let high : n ≤ s.references 0 f = leb-true n (s.references 0 f) some in
     let is = live_is (s.phases f) (live_from_one s 0 f sound (omega arith)) in
     opened s.phases f m (at_stage Ended (s.phases f)) (ap opens is.1) (ap (λ x. opens (at_stage Ended x)) is.1)
 uses_made m s seat (Unfreeze f n) Done sound legal ok =
-    let hand : is_head_in_hand (s.phases f) ≡ true = grind arith in
+    let hand : is_head_in_hand (s.phases f) ≡ true = (unfreeze_tests s seat f n legal).2 in
     undone s.phases f m (at_stage Live (s.phases f)) (woken_opens (s.phases f) (in_hand (s.phases f) hand))
 uses_made m s seat (PassOut f p) Done sound legal ok =
-    let free : is_free (s.phases f) ≡ true = grind arith in
+    let free : is_free (s.phases f) ≡ true = (pass_out_tests s seat f p legal).3 in
     stays s.phases f m (Lent p PassingOut) (ap opens (free_is (s.phases f) free))
 uses_made m s seat (TakeIn f) Done sound legal ok =
-    let passes : passes_out seat (s.phases f) ≡ true = grind arith in
+    let passes : passes_out seat (s.phases f) ≡ true = (take_in_tests s seat f legal).2 in
     stays s.phases f m (Lent seat OnList) (ap opens (out_is seat (s.phases f) passes))
 uses_made m s seat (PassBack f) Done sound legal ok = stays s.phases f m (passed_back (s.phases f)) (sent_opens (s.phases f))
 uses_made m s seat (Collect f p) Done sound legal ok =
-    let passes : passes_back p (s.phases f) ≡ true = grind arith in
+    let passes : passes_back p (s.phases f) ≡ true = (collect_tests s seat f p legal).3 in
     stays s.phases f m (collected (s.phases f)) (got_opens p (s.phases f) (came_back p (s.phases f) passes))
 uses_made m s seat (Consume g) Took sound legal ok =
-    let some : nat_le 1 (length (s.parts seat).list) ≡ true = grind arith in
+    let some : nat_le 1 (length (s.parts seat).list) ≡ true = (consume_tests s seat g legal).1 in
     let f = front_of (s.parts seat).list in
     stays s.phases f m (consumed seat g) (ap opens (listed_is seat (s.phases f) (front_listed s seat sound (leb-true 1 (length (s.parts seat).list) some))))
 uses_made m s seat (Credit f) Back sound legal ok =
-    let fresh : has_as FreshFrame seat (s.phases f) ≡ true = grind arith in
+    let fresh : has_as FreshFrame seat (s.phases f) ≡ true = (credit_tests s seat f legal).2 in
     phase_changes s.phases f m (Lent seat OnList) 1 1 (ap (λ n. n + 1) (ap opens (fresh_is seat (s.phases f) fresh).1))
 uses_made m s seat (PlaceBlock g k) (Placed b) sound legal ok = block_stays s g b m (λ x low high. (block_free s.zone s.phases b ok.1 x low high).1)
 uses_made m s seat (Return f) Done sound legal ok =
-    let may : may_return s.killed (s.phases f) ≡ true = grind arith in
+    let may : may_return s.killed (s.phases f) ≡ true = (return_tests s seat f legal).2 in
     any_unit_closes s f m sound (returning_is s.killed (s.phases f) may)
 uses_made m s seat Lock answer sound legal ok = refl
 uses_made m s seat action answer sound legal ok = refl
@@ -441,7 +443,7 @@ ends_same : (f : ℕ) (zone : Zone) (run : Run) (seat : ℕ) (action : Action) (
     uses_ended f run seat action answer ≡ ended_in f (state_of zone run) seat action answer
 ends_same f zone run seat (Return g) Done legal made =
     let ok = made.legal in
-    let may : may_return (state_of zone run).killed ((state_of zone run).phases g) ≡ true = grind arith in
+    let may : may_return (state_of zone run).killed ((state_of zone run).phases g) ≡ true = (return_tests (state_of zone run) seat g ok).2 in
     ap (λ b. if g == f then one_if b else 0) (drop_is_told zone run legal g may)
 ends_same f zone run seat Lock answer legal made = refl
 ends_same f zone run seat action answer legal made = refl
@@ -486,13 +488,13 @@ every_frame_returns_once zone run legal f =
       drop = λ seat ok. drop_is_told zone run legal f (grind arith);
       none_open_at_put = λ seat made.
           let ok = made.legal in
-          let some : nat_le 1 (s.references seat f) ≡ true = grind arith in
+          let some : nat_le 1 (s.references seat f) ≡ true = (put_tests s seat f ok).2 in
           let is = live_is (s.phases f) (live_from_one s seat f sound (leb-true 1 (s.references seat f) some)) in
           ap is_open is.1;
       none_open_at_freeze = λ seat n made.
           let ok = made.legal in
-          let one : nat_le 1 n ≡ true = grind arith in
-          let some : nat_le n (s.references 0 f) ≡ true = grind arith in
+          let one : nat_le 1 n ≡ true = (freeze_tests s seat f n ok).2 in
+          let some : nat_le n (s.references 0 f) ≡ true = (freeze_tests s seat f n ok).3 in
           let low : 1 ≤ n = leb-true 1 n one in
           let high : n ≤ s.references 0 f = leb-true n (s.references 0 f) some in
           let is = live_is (s.phases f) (live_from_one s 0 f sound (omega arith)) in

@@ -21,6 +21,7 @@ use Rattle.step_rules.specs.Legal.{is_legal, Allows, is_settled}
 use Rattle.step_rules.specs.Places.{is_same_frame_place, place_in}
 use Rattle.step_rules.specs.After.{after, state_of}
 use Rattle.step_rules.specs.Returns.{times_in, IsAllPlaced, NothingPendsWhileTheLockIsFree}
+use Rattle.step_rules.proofs.LegalTests.{drain_stock_tests, fill_tests, grant_tests, place_block_tests, ungrant_tests}
 use Rattle.step_rules.proofs.Sums.{sum_none, all_each}
 use Rattle.step_rules.proofs.Lists.{times}
 use Rattle.step_rules.proofs.Sound.{IsSound}
@@ -42,12 +43,12 @@ quit_made s seat Lock Done quit legal = λ free. absurd (false≢true free)
 quit_made s seat Unlock Done quit legal = λ free. grind arith
 quit_made s seat (OpenVisit p) Done quit legal = λ free. absurd (false≢true free)
 quit_made s seat (ShutVisit p) Done quit legal = λ free. absurd (false≢true free)
-quit_made s seat (Fill p g n) Done quit legal = λ free. absurd (let may : may_zone_act s.hold seat ≡ true = grind arith in not_free s.hold seat may free)
-quit_made s seat (DrainStock p) (Pages n) quit legal = λ free. absurd (let may : may_zone_act s.hold seat ≡ true = grind arith in not_free s.hold seat may free)
-quit_made s seat (Grant g n) Granted quit legal = λ free. absurd (let may : may_zone_act s.hold seat ≡ true = grind arith in not_free s.hold seat may free)
-quit_made s seat (Ungrant g n) Done quit legal = λ free. absurd (let may : may_zone_act s.hold seat ≡ true = grind arith in not_free s.hold seat may free)
+quit_made s seat (Fill p g n) Done quit legal = λ free. absurd (let may : may_zone_act s.hold seat ≡ true = (fill_tests s seat p g n legal).0 in not_free s.hold seat may free)
+quit_made s seat (DrainStock p) (Pages n) quit legal = λ free. absurd (let may : may_zone_act s.hold seat ≡ true = (drain_stock_tests s seat p legal).0 in not_free s.hold seat may free)
+quit_made s seat (Grant g n) Granted quit legal = λ free. absurd (let may : may_zone_act s.hold seat ≡ true = (grant_tests s seat g n legal).0 in not_free s.hold seat may free)
+quit_made s seat (Ungrant g n) Done quit legal = λ free. absurd (let may : may_zone_act s.hold seat ≡ true = (ungrant_tests s seat g n legal).0 in not_free s.hold seat may free)
 quit_made s seat (PlaceBlock g k) (Placed b) quit legal =
-    λ free. absurd (let may : may_zone_act s.hold seat ≡ true = grind arith in not_free s.hold seat may free)
+    λ free. absurd (let may : may_zone_act s.hold seat ≡ true = (place_block_tests s seat g k legal).0 in not_free s.hold seat may free)
 quit_made s seat Lock answer quit legal = quit
 quit_made s seat action answer quit legal = quit
 

@@ -20,6 +20,7 @@ use Rattle.step_rules.specs.Legal.{IsMade, Allows}
 use Rattle.step_rules.specs.After.{Run, after, state_of, with_back, without_frame, paid, credited, filled, drained, IsLegalRun}
 use Rattle.step_rules.specs.Folds.{limit_after, killed_after, AllGroupsAreTold, holder_after, open_after, hold_of, TheLockIsTold, InHand}
 use Rattle.step_rules.specs.Folds.{hand_after, LastFill, fill_after, last_fill, AllPartsAreTold}
+use Rattle.step_rules.proofs.LegalTests.{lock_tests, open_visit_tests, shut_visit_tests, unlock_tests}
 use Rattle.step_rules.proofs.Sound.{IsSound}
 use Rattle.step_rules.proofs.PhaseLemmas.{equal_test, none_some}
 use Rattle.step_rules.proofs.SoundSteps.{cpu_range}
@@ -136,21 +137,21 @@ hold_made : (s : State) (x : Option ℕ × Bool) (seat : ℕ) (action : Action) 
 hold_made s x seat action Illegal holds made = absurd (no_illegal s seat action made.answered)
 hold_made s x seat Lock Done holds made =
     let legal = made.legal in
-    let free : is_unheld s.hold ≡ true = grind arith in
+    let free : is_unheld s.hold ≡ true = (lock_tests s seat legal).1 in
     let none = unheld_none x.0 x.1 (ap is_unheld (sym holds.0) ∙ free) in
     (ap (hold_of (Some seat)) (sym (holds.1 none)), λ e. absurd (none_some seat (sym e)))
 hold_made s x seat Unlock Done holds made =
     let legal = made.legal in
-    let held : is_held_by seat s.hold ≡ true = grind arith in
+    let held : is_held_by seat s.hold ≡ true = (unlock_tests s seat legal).1 in
     (refl, λ e. (held_shut seat x.0 x.1 (ap (is_held_by seat) (sym holds.0) ∙ held)).1)
 hold_made s x seat (OpenVisit p) Done holds made =
     let legal = made.legal in
-    let held : is_held_by p s.hold ≡ true = grind arith in
+    let held : is_held_by p s.hold ≡ true = (open_visit_tests s seat p legal).1 in
     let is = (held_shut p x.0 x.1 (ap (is_held_by p) (sym holds.0) ∙ held)).0 in
     (ap (λ o. hold_of o true) (sym is), λ e. absurd (none_some p (sym e ∙ is)))
 hold_made s x seat (ShutVisit p) Done holds made =
     let legal = made.legal in
-    let visit : visits p s.hold ≡ true = grind arith in
+    let visit : visits p s.hold ≡ true = (shut_visit_tests s seat p legal).1 in
     let is = visit_some p x.0 x.1 (ap (visits p) (sym holds.0) ∙ visit) in
     (ap (λ o. hold_of o false) (sym is), λ e. refl)
 hold_made s x seat Lock answer holds made = holds

@@ -23,6 +23,8 @@ use Rattle.step_rules.specs.Legal.{IsMade}
 use Rattle.step_rules.specs.After.{Run, IsLegalRun, after, state_of, placed_phase, with_block, unit_size, without_unit, consumed}
 use Rattle.step_rules.specs.Folds.{InHand, hand_after}
 use Rattle.step_rules.specs.Units.{Units, unit_after, fresh_after, units_after, no_units, units_of, fresh_group, AllUnitsAreTold}
+use Rattle.step_rules.proofs.LegalTests.{collect_tests, consume_tests, freeze_tests, pass_out_tests, put_tests, return_tests}
+use Rattle.step_rules.proofs.LegalTests.{take_in_tests, unfreeze_tests}
 use Rattle.step_rules.proofs.Basics.{at_same, at_other, at_each}
 use Rattle.step_rules.proofs.Sound.{IsSound}
 use Rattle.step_rules.proofs.SoundSteps.{cpu_range}
@@ -139,21 +141,21 @@ marks_made : (f front : ℕ) (s : State) (x : Marks) (seat : ℕ) (action : Acti
 marks_made f front s x seat action Illegal sound holds at made = absurd (no_illegal s seat action made.answered)
 marks_made f front s x seat (Put g) Last sound holds at made =
     let legal = made.legal in
-    let some : nat_le 1 (s.references seat g) ≡ true = grind arith in
+    let some : nat_le 1 (s.references seat g) ≡ true = (put_tests s seat g legal).2 in
     let is = live_is (s.phases g) (live_from_one s seat g sound (leb-true 1 (s.references seat g) some)) in
     same_at s.phases g (at_stage (stage_after_last seat) (s.phases g)) f x
     (ap (λ y. marks (at_stage (stage_after_last seat) y)) is.1 ∙ last_marks seat is.0 ∙ sym (ap marks is.1)) holds
 marks_made f front s x seat (Freeze g n) Done sound holds at made =
     let legal = made.legal in
-    let one : nat_le 1 n ≡ true = grind arith in
-    let some : nat_le n (s.references 0 g) ≡ true = grind arith in
+    let one : nat_le 1 n ≡ true = (freeze_tests s seat g n legal).2 in
+    let some : nat_le n (s.references 0 g) ≡ true = (freeze_tests s seat g n legal).3 in
     let low : 1 ≤ n = leb-true 1 n one in
     let high : n ≤ s.references 0 g = leb-true n (s.references 0 g) some in
     let is = live_is (s.phases g) (live_from_one s 0 g sound (omega arith)) in
     same_at s.phases g (at_stage Ended (s.phases g)) f x (ap (λ y. marks (at_stage Ended y)) is.1 ∙ sym (ap marks is.1)) holds
 marks_made f front s x seat (Unfreeze g n) Done sound holds at made =
     let legal = made.legal in
-    let hand : is_head_in_hand (s.phases g) ≡ true = grind arith in
+    let hand : is_head_in_hand (s.phases g) ≡ true = (unfreeze_tests s seat g n legal).2 in
     let y = at_stage Live (s.phases g) in
     elim (cases_eq g f) [
       | inl same ↦
@@ -163,20 +165,20 @@ marks_made f front s x seat (Unfreeze g n) Done sound holds at made =
     ]
 marks_made f front s x seat (PassOut g p) Done sound holds at made =
     let legal = made.legal in
-    let free : is_free (s.phases g) ≡ true = grind arith in
+    let free : is_free (s.phases g) ≡ true = (pass_out_tests s seat g p legal).3 in
     same_at s.phases g (Lent p PassingOut) f x (sym (no_marks (s.phases g) free)) holds
 marks_made f front s x seat (TakeIn g) Done sound holds at made =
     let legal = made.legal in
-    let passes : passes_out seat (s.phases g) ≡ true = grind arith in
+    let passes : passes_out seat (s.phases g) ≡ true = (take_in_tests s seat g legal).2 in
     same_at s.phases g (Lent seat OnList) f x (sym (ap marks (out_is seat (s.phases g) passes))) holds
 marks_made f front s x seat (PassBack g) Done sound holds at made = same_at s.phases g (passed_back (s.phases g)) f x (sent_marks (s.phases g)) holds
 marks_made f front s x seat (Collect g p) Done sound holds at made =
     let legal = made.legal in
-    let passes : passes_back p (s.phases g) ≡ true = grind arith in
+    let passes : passes_back p (s.phases g) ≡ true = (collect_tests s seat g p legal).3 in
     same_at s.phases g (collected (s.phases g)) f x (got_marks p (s.phases g) (came_back p (s.phases g) passes)) holds
 marks_made f front s x seat (Consume g) Took sound holds at made =
     let legal = made.legal in
-    let cpu : is_cpu s.zone seat ≡ true = grind arith in
+    let cpu : is_cpu s.zone seat ≡ true = (consume_tests s seat g legal).0 in
     let m = front_of (s.parts seat).list in
     let is : front ≡ m = at cpu in
     let y = consumed seat g in
@@ -194,7 +196,7 @@ marks_made f front s x seat (PlaceBlock g k) (Placed b) sound holds at made =
     block_marks s g k b f x made.answered.0 (λ m low high. (block_free s.zone s.phases b made.answered.1 m low high).1) holds
 marks_made f front s x seat (Return g) Done sound holds at made =
     let legal = made.legal in
-    let may : may_return s.killed (s.phases g) ≡ true = grind arith in
+    let may : may_return s.killed (s.phases g) ≡ true = (return_tests s seat g legal).2 in
     any_unit_marks s g f x sound (returning_is s.killed (s.phases g) may) holds
 marks_made f front s x seat Lock answer sound holds at made = holds
 marks_made f front s x seat action answer sound holds at made = holds
