@@ -219,3 +219,16 @@ no_kills r t g pages m room = (
   record { room = λ _. record { machine = refl; steps_are = refl }; over = λ over. absurd (false≢true (sym over ∙ room)) },
   λ c. refl,
 )
+
+-- ---- kills for a few pages alone
+
+pub few_kills : (t : KnownTable) (r g pages : ℕ) (m n : KnownMachine) → pages ≤ 8 → ByStepsOfAny t m n (KillsFor (Some r) g pages)
+    → ByStepsOfAny t m n (KillsForFew r g pages)
+few_kills t r g pages m n few kills = (kills.0, record { few = λ _. kills.1; many = λ many. absurd (omega (arith, few, many)) }, kills.2)
+
+pub many_rest : (t : KnownTable) (r g pages : ℕ) (m : KnownMachine) → 8 < pages → ByStepsOfAny t m m (KillsForFew r g pages)
+many_rest t r g pages m many = (
+  [],
+  record { few = λ few. absurd (omega (arith, few, many)); many = λ _. record { machine = refl; steps_are = refl } },
+  λ c. refl,
+)

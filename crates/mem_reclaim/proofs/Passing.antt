@@ -1,8 +1,8 @@
 -- Passes over a group and over the groups of a subtree. Serves all of `passes` and `reclaim`.
 use Rattle.std.proofs.Common.{◌≡◌, ℕ, suc, ◌+◌, ◌-◌, ◌^◌, ◌<◌, ◌≤◌, Bool, true, false, List, [], ◌∷◌}
-use Rattle.std.proofs.Common.{refl, sym, ap, ◌∙◌, subst, inl, inr, arith}
+use Rattle.std.proofs.Common.{refl, sym, ap, ◌∙◌, subst, inl, inr, arith, nat_lt}
 use Rattle.std.specs.List.{range_with_len}
-use Rattle.std.proofs.lemmas.Bool.{cases_eq}
+use Rattle.std.proofs.lemmas.Bool.{cases_eq, ltb-true}
 use Rattle.frame_word.specs.Seats.{KnownTable}
 use Rattle.stock_word.specs.Stock.{Words}
 use Rattle.group_tree.specs.declared.group.Group.{Group}
@@ -172,3 +172,10 @@ pass_done t w first g want m k given now ok s all = record {
 pub all_missed : (t : KnownTable) (g : ℕ) (m k n : KnownMachine) → Keeps t m k → MissedAll g k n → MissedAll g m n
 all_missed t g m k n first missed f h inside =
     missed_still t m k n n first (keeps_none t n) (λ x y home. home) f h (missed f h inside)
+
+-- the second pass, after a first one that gave some, ended without enough pages
+pub missed_then : (t : KnownTable) (g want some more : ℕ) (m k n : KnownMachine) → Keeps t m k → (more < want - some → MissedAll g k n)
+    → nat_lt (some + more) want ≡ true → MissedAll g m n
+missed_then t g want some more m k n first missed less =
+    let short = ltb-true (some + more) want less in
+    all_missed t g m k n first (missed (omega (arith, short)))

@@ -7,8 +7,15 @@ use Rattle.mem_reclaim.specs.Killing.{IsKilledBy, KillsVictim}
 use Rattle.mem_reclaim.specs.Victim.{HasMostFrames, IsVictim}
 use Rattle.mem_alloc.specs.Kills.{KillsFor, has_room_for, with_oom_noted_at}
 use Rattle.mem_alloc.specs.Stepping.{ByStepsOfAny}
-use Rattle.mem_alloc.proofs.Killing.{fewer_alive, kills_end, so_far_killed, so_far_there}
+use Rattle.mem_alloc.proofs.Killing.{KillsSoFar, fewer_alive, kills_end, so_far_killed, so_far_nobody, so_far_there}
 use Rattle.mem_alloc.proofs.kills.kill_for.Goals as goal
+
+pub kills-init : goal.kills-init
+kills-init g c =
+    let t = g.N.BootName.frames in
+    subst (λ (y : KnownMachine). KillsSoFar c.args.requester t c.args.group c.args.pages (with_oom_noted_at c.args.machine.now c.args.group) y)
+    (sym c.note_oom.ensures.machine)
+    (so_far_nobody c.args.requester t c.args.group c.args.pages (with_oom_noted_at c.args.machine.now c.args.group))
 
 pub is_wanting-requires : goal.is_wanting-requires
 is_wanting-requires g c =

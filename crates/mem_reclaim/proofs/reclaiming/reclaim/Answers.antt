@@ -1,7 +1,8 @@
-use Rattle.std.proofs.Common.{rules, false, true, arith}
+use Rattle.std.proofs.Common.{rules, false, true, refl, arith}
 use Rattle.mem_reclaim.specs.Passes.{MakesPass}
 use Rattle.mem_reclaim.proofs.Wanting.{first_enough, both_done}
 use Rattle.mem_reclaim.proofs.Keeping.{keeps_both}
+use Rattle.mem_reclaim.proofs.Passing.{missed_then}
 use Rattle.mem_reclaim.proofs.reclaiming.reclaim.Goals as goal
 
 pub returns-then-want-first-clause-reclaims : goal.returns-then-want-first-clause-reclaims
@@ -21,10 +22,12 @@ pub returns-clause-keeps : goal.returns-clause-keeps
 returns-clause-keeps g c = keeps_both g.N.BootName.frames c.args.machine.now c.make_pass-first.new.machine c.make_pass.new.machine c.make_pass-first.ensures.keeps c.make_pass.ensures.keeps
 
 pub returns-clause-missed : goal.returns-clause-missed
-returns-clause-missed g c = search rules
+returns-clause-missed g c less =
+    missed_then g.N.BootName.frames c.args.group c.args.want c.make_pass-first.result c.make_pass.result c.args.machine.now c.make_pass-first.new.machine
+    c.make_pass.new.machine c.make_pass-first.ensures.keeps (c.make_pass.ensures.missed refl) less
 
 pub returns-clause-tried_all : goal.returns-clause-tried_all
-returns-clause-tried_all g c = search rules
+returns-clause-tried_all g c = refl
 
 pub returns-then-want-eq0-clause-reclaims : goal.returns-then-want-eq0-clause-reclaims
 returns-then-want-eq0-clause-reclaims g c = search rules
