@@ -27,27 +27,9 @@ fn reclaim_for<N: BootName>(
     }
 }
 
-// What is done where the group has no room for so many pages, which `requester` asks for: that is noted at it as `max`,
-// and the stocks of its subtree are drained. Where it has no room still, units of its subtree are reclaimed in rounds, and
-// then victims of it are killed for up to 8 pages.
-fn relieve_limit<N: BootName>(
-    machine: &mut Machine<N>,
-    tables: &Tables<N>,
-    requester: GroupId,
-    group: GroupId,
-    pages: u32,
-)
-    requires { IsTrue (has_group machine.old.ledger.groups group) }
-    ensures { ByStepsOfAny N.frames machine.old machine.new (RelievesLimit requester group pages) }
-{
-    machine.note_max(group);
-    machine.drain_stocks(tables, group);
-    reclaim_for(machine, tables, group, pages);
-    kill_for_few(machine, tables, requester, group, pages);
-}
-
-// The group had no room for so many pages, which `requester` asks for: its limit is relieved. Where that doesn't make
-// room, or kills the group that asks, the charge is refused.
+// The group had no room for so many pages, which `requester` asks for: notes that at it, and drains the stocks of its
+// subtree. Where it has no room still, units of its subtree are reclaimed in rounds, and then victims of it are killed for
+// up to 8 pages. Where that doesn't make room, or kills the group that asks, the charge is refused.
 pub(crate) fn make_room<N: BootName>(
     machine: &mut Machine<N>,
     tables: &Tables<N>,
@@ -62,7 +44,10 @@ pub(crate) fn make_room<N: BootName>(
     ensures fits { group < 64 }
 {
     let _number = group.number(); // For the clauses.
-    relieve_limit(machine, tables, requester, group, pages);
+    machine.note_max(group);
+    machine.drain_stocks(tables, group);
+    reclaim_for(machine, tables, group, pages);
+    kill_for_few(machine, tables, requester, group, pages);
     if machine.is_killed(requester) {
         return Err(AllocFault::Killed);
     }
