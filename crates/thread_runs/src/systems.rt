@@ -79,6 +79,26 @@ fn run_and_replay<N: BootName + Send + Sync, R: Threads + Wait + Sync, G: Gate +
     Ok((threads, last))
 }
 
+// Runs the lines so, and then puts all pins, also where memory or a thread was wanting. It tells how many each of the first
+// four processors had.
+fn run_and_put<N: BootName + Send + Sync, R: Threads + Wait + Sync, G: Gate + Sync>(
+    rt: &R,
+    alloc: Global,
+    system: &System<N>,
+    cpus: &mut [Cpu<N>],
+    lines: &[Line<'_>],
+    last: &[Line<'_>],
+    gate: &G,
+) -> (Result<(Vec<u8>, Vec<u8>), AllocError>, [u64; 4])
+    requires count { length cpus.old < 2 ^ 31 }
+    requires lines { All (LineIsThere N.frames.frames (length cpus.old)) lines.now }
+    requires last { All (LineIsThere N.frames.frames (length cpus.old)) last.now }
+{
+    let told = run_and_replay(rt, alloc, system, cpus, lines, last, gate);
+    let pins = put_pins(system.tables(), cpus);
+    (told, pins)
+}
+
 /// Shuts the system down, which no processor has a pin in.
 pub fn shut<N: BootName>(rt: &impl Abort, system: System<N>, cpus: Vec<Cpu<N>>) -> Audit
     requires { length cpus.items ≡ N.frames.cpus }
@@ -106,8 +126,7 @@ pub fn live<N: BootName + Send + Sync, R: Threads + Wait + Abort + Sync, G: Gate
     requires last { All (LineIsThere boot.sizes.frames boot.sizes.cpus) last.now }
 {
     let (system, mut cpus) = boot.start::<N>(alloc)?;
-    let told = run_and_replay(rt, alloc, &system, &mut cpus, lines, last, gate);
-    let pins = put_pins(system.tables(), &mut cpus);
+    let (told, pins) = run_and_put(rt, alloc, &system, &mut cpus, lines, last, gate);
     let audit = shut(rt, system, cpus);
     let (threads, last) = told?;
     Ok(Told {
