@@ -12,8 +12,6 @@ mod rounds;
 #[cfg(test)]
 mod scripts;
 #[cfg(test)]
-mod second;
-#[cfg(test)]
 mod storms;
 #[cfg(test)]
 mod systems;
