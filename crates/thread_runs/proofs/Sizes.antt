@@ -1,5 +1,8 @@
 -- The sizes of a boot under its name. Serves `live`.
-use Rattle.std.proofs.Common.{◌≡◌, ℕ, List, All, length, sym, ◌∙◌, subst}
+use Rattle.std.proofs.Common.{◌≡◌, ℕ, List, All, length, sym, ◌∙◌, subst, ap, Some, Result, Ok, Err, IfOk}
+use Rattle.std.proofs.lemmas.Bool.{false≢true}
+use Rattle.std.specs.Prelude.{is_some}
+use Rattle.std.specs.Result.{result_ok}
 use Rattle.frame_word.specs.Seats.{KnownTable}
 use Rattle.stock_word.specs.Stock.{Words}
 use Rattle.zone_sizes.specs.declared.config.Config.{Config}
@@ -34,3 +37,8 @@ pub script_of_boot : (sizes booted : Config) (bytes : List ℕ) (parsed lines : 
 script_of_boot sizes booted bytes parsed lines same is_parsed is =
     let there = script_there sizes bytes parsed is in
     subst (λ (b : Config × List Line). All (LineIsThere b.0.frames b.0.cpus) b.1) (λ i. (sym same i, sym is_parsed i)) there
+
+-- what holds of a good result holds of what was kept of it
+pub kept_ok : {T E : Type 0} (r : Result T E) (x : T) (P : T → Type 0) → Some x ≡ result_ok r → IfOk r P → P x
+kept_ok (Ok y) x P same ok = let is : x ≡ y = cc in subst P (sym is) ok
+kept_ok (Err e) x P same ok = absurd (false≢true (sym (ap is_some same)))

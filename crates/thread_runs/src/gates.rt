@@ -1,4 +1,5 @@
-//! A gate that holds a processor inside its visit while another is answered its lines.
+//! Gates that bring two processors into an order: one is held inside its visit while another is answered its lines; or
+//! they take turns, line by line.
 
 use mem_system::Gate;
 use std::sync::atomic::{AtomicBool, AtomicU64, Ordering};
@@ -64,5 +65,48 @@ impl Gate for Held {
         if cpu == 2 {
             self.answers.fetch_add(1, Ordering::SeqCst);
         }
+    }
+}
+
+/// A processor comes to a line when that line's turn has come.
+#[derive(Drop)]
+pub struct Turns {
+    order: [usize; 7],
+    made: AtomicU64,
+    is_late: AtomicBool,
+}
+
+impl Turns {
+    /// The turns are those of the lines with these numbers, in this order.
+    pub fn of(order: [usize; 7]) -> Turns {
+        Turns {
+            order,
+            made: AtomicU64::new(0),
+            is_late: AtomicBool::new(false),
+        }
+    }
+
+    /// Whether a wait came to its last turn.
+    pub fn is_late(&self) -> bool {
+        self.is_late.load(Ordering::SeqCst)
+    }
+}
+
+impl Gate for Turns {
+    fn before(&self, _cpu: u32, line: usize) {
+        for _ in 0..TURNS {
+            let made = self.made.load(Ordering::SeqCst);
+            if self.order.get(made as usize) == Some(&line) {
+                return;
+            }
+            thread::yield_now();
+        }
+        self.is_late.store(true, Ordering::SeqCst);
+    }
+
+    fn inside(&self, _cpu: u32) {}
+
+    fn after(&self, _cpu: u32, _line: usize) {
+        self.made.fetch_add(1, Ordering::SeqCst);
     }
 }

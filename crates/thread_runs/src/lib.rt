@@ -12,6 +12,8 @@ mod rounds;
 #[cfg(test)]
 mod scripts;
 #[cfg(test)]
+mod second;
+#[cfg(test)]
 mod storms;
 #[cfg(test)]
 mod systems;

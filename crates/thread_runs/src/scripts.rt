@@ -1,6 +1,6 @@
 //! Scripts whose lines run in a thread for each processor.
 
-use crate::gates::Held;
+use crate::gates::{Held, Turns};
 use crate::systems::{SIZES, Told, live};
 use mem_system::{Audit, Gate, NoGate, boot};
 use script_lines::script::parse_script;
@@ -47,6 +47,26 @@ fn a_processor_goes_on_while_another_is_inside(rt: HostRuntime) -> Result<(), Fa
         returns: 1,
     };
     assert!(rt; told.audit == audit);
+    Ok(())
+}
+
+#[test]
+fn a_pin_of_another_thread_outlives_a_kill(rt: HostRuntime) -> Result<(), Fail> {
+    let gate = Turns::of([12, 8, 13, 9, 10, 14, 11]);
+    let early =
+        "1 mkdir /a\n1 mkdir /a/b\n1 write /a memory.max 4096\n1 alloc /a/b 0\n1 settle\n# lines 8 to 14\ngo\n";
+    let first =
+        "1 alloc /a/b 0\n1 read /a memory.current\n1 read /a memory.events\n1 read /a memory.current\n";
+    let script = format!(in rt.alloc(); "{early}{first}2 get 0\n2 put 0\n2 settle\n")?;
+    let told = told(&rt, script.as_str(), "1 blocks\n", &gate)?;
+    let early = "group 1\ngroup 2\nok\nframe 0\nsettled\n";
+    let events = "low 0\nhigh 0\nmax 1\noom 1\noom_kill 1\n";
+    let later = format!(in rt.alloc();
+        "{early}cpu 1\nrefused 18 Killed\n4096\n{events}0\ncpu 2\nheld\nlast\nsettled\n"
+    )?;
+    assert!(rt; !gate.is_late());
+    assert!(rt; told.threads.as_slice() == later.as_bytes());
+    assert!(rt; told.last.as_slice() == "0:0 2:4 3:8\n".as_bytes());
     Ok(())
 }
 

@@ -60,7 +60,7 @@ fn put_pins<N: BootName>(tables: &Tables<N>, cpus: &mut [Cpu<N>]) -> [u64; 4] {
     pins
 }
 
-// Runs the lines by threads, and then the last ones by visits; then all pins are put, whose numbers it tells.
+// Runs the lines by threads, and then the last ones by visits.
 fn run_and_replay<N: BootName + Send + Sync, R: Threads + Wait + Sync, G: Gate + Sync>(
     rt: &R,
     alloc: Global,
@@ -69,15 +69,34 @@ fn run_and_replay<N: BootName + Send + Sync, R: Threads + Wait + Sync, G: Gate +
     lines: &[Line<'_>],
     last: &[Line<'_>],
     gate: &G,
-) -> Result<(Vec<u8>, Vec<u8>, [u64; 4]), AllocError>
+) -> Result<(Vec<u8>, Vec<u8>), AllocError>
     requires count { length cpus.old < 2 ^ 31 }
     requires lines { All (LineIsThere N.frames.frames (length cpus.old)) lines.now }
     requires last { All (LineIsThere N.frames.frames (length cpus.old)) last.now }
 {
     let threads = run_lines(rt, alloc, system, cpus, lines, gate)?;
     let last = replay_by_visits(rt, alloc, system, cpus, last)?;
+    Ok((threads, last))
+}
+
+// Runs the lines so, and then puts all pins, also where memory or a thread was wanting. It tells how many each of the first
+// four processors had.
+fn run_and_put<N: BootName + Send + Sync, R: Threads + Wait + Sync, G: Gate + Sync>(
+    rt: &R,
+    alloc: Global,
+    system: &System<N>,
+    cpus: &mut [Cpu<N>],
+    lines: &[Line<'_>],
+    last: &[Line<'_>],
+    gate: &G,
+) -> (Result<(Vec<u8>, Vec<u8>), AllocError>, [u64; 4])
+    requires count { length cpus.old < 2 ^ 31 }
+    requires lines { All (LineIsThere N.frames.frames (length cpus.old)) lines.now }
+    requires last { All (LineIsThere N.frames.frames (length cpus.old)) last.now }
+{
+    let told = run_and_replay(rt, alloc, system, cpus, lines, last, gate);
     let pins = put_pins(system.tables(), cpus);
-    Ok((threads, last, pins))
+    (told, pins)
 }
 
 /// Shuts the system down, which no processor has a pin in.
@@ -91,7 +110,7 @@ pub fn shut<N: BootName>(rt: &impl Abort, system: System<N>, cpus: Vec<Cpu<N>>) 
 }
 
 /// Starts the boot under a name of its tables, runs the lines by threads and then the last ones by visits, puts the pins
-/// that are left, and shuts the system down.
+/// that are left, also where memory or a thread was wanting, and shuts the system down.
 pub fn live<N: BootName + Send + Sync, R: Threads + Wait + Abort + Sync, G: Gate + Sync>(
     rt: &R,
     alloc: Global,
@@ -107,9 +126,9 @@ pub fn live<N: BootName + Send + Sync, R: Threads + Wait + Abort + Sync, G: Gate
     requires last { All (LineIsThere boot.sizes.frames boot.sizes.cpus) last.now }
 {
     let (system, mut cpus) = boot.start::<N>(alloc)?;
-    let told = run_and_replay(rt, alloc, &system, &mut cpus, lines, last, gate);
+    let (told, pins) = run_and_put(rt, alloc, &system, &mut cpus, lines, last, gate);
     let audit = shut(rt, system, cpus);
-    let (threads, last, pins) = told?;
+    let (threads, last) = told?;
     Ok(Told {
         threads,
         last,
