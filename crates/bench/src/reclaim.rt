@@ -1,4 +1,4 @@
-//! What reclaim costs: a write of memory.max that takes back what a group keeps, and an alloc at a limit.
+//! What reclaim and kills cost: a write of memory.max, or rmdir, that takes back what a group keeps, and an alloc at a limit.
 ghost use Rattle.std.specs.Prelude.{◌≡◌, ◌<◌};
 
 use crate::costs::{Pace, Row, Subject, tell_rows};
@@ -7,6 +7,7 @@ use crate::system::{SHALLOW, alloc, end, make, settle, visit};
 use anyhow::{Context, Result, bail, ensure};
 use cpu_part::{BootName, Cpu};
 use frame_word::{Frame, Get};
+use group_tree::fault::Fault;
 use mem_system::{Boot, Cmd, Reply, System, boot};
 use std::alloc::Global;
 use std::marker::Brand;
@@ -30,54 +31,77 @@ enum Units {
     Marked,
 }
 
-// Units of one frame that a group keeps, so many, the memory.max that is written, and how often each is looked at then.
+// What takes back units of a group.
+#[derive(Clone, Copy)]
+enum Taking {
+    // A write of its memory.max, which kills the group where units are left above that.
+    Limit(&'static [u8]),
+    // Its rmdir, which is refused where units are left.
+    Rmdir,
+}
+
+// Units of one frame that a group keeps, so many, what takes them back, and how many parts of the cost each has.
 #[derive(Clone, Copy)]
 struct Kept {
     name: &'static str,
     units: Units,
     count: u32,
-    limit: &'static [u8],
-    looks: u32,
+    taking: Taking,
+    parts: u32,
 }
 
 // The bytes of all 4,096 frames but one.
 const ALL_BUT_ONE: &[u8] = b"16773120";
 
-const ALL_KEPT: [Kept; 5] = [
+const ALL_KEPT: [Kept; 7] = [
     Kept {
         name: "a unit tried and given back, of 4,096",
         units: Units::Clean,
         count: 4_096,
-        limit: b"0",
-        looks: 1,
+        taking: Taking::Limit(b"0"),
+        parts: 1,
     },
     Kept {
         name: "a unit tried and given back, of 65,536",
         units: Units::Clean,
         count: 65_536,
-        limit: b"0",
-        looks: 1,
+        taking: Taking::Limit(b"0"),
+        parts: 1,
     },
     Kept {
         name: "a dirty unit passed over, twice each of 4,096",
         units: Units::Dirty,
         count: 4_096,
-        limit: b"0",
-        looks: 2,
+        taking: Taking::Rmdir,
+        parts: 2,
     },
     Kept {
         name: "a unit tried and missed, twice each of 256",
         units: Units::Pinned,
         count: 256,
-        limit: b"0",
-        looks: 2,
+        taking: Taking::Rmdir,
+        parts: 2,
+    },
+    Kept {
+        name: "a dirty unit killed, after it was passed over twice, of 4,096",
+        units: Units::Dirty,
+        count: 4_096,
+        taking: Taking::Limit(b"0"),
+        parts: 1,
+    },
+    Kept {
+        name: "a pinned unit killed, after it was missed twice, of 256",
+        units: Units::Pinned,
+        count: 256,
+        taking: Taking::Limit(b"0"),
+        parts: 1,
     },
     Kept {
         name: "a marked unit moved, where one page is wanted of 4,096",
         units: Units::Marked,
         count: 4_096,
-        limit: ALL_BUT_ONE,
-        looks: 1,
+        taking: Taking::Limit(ALL_BUT_ONE),
+        parts: 1,
     },
 ];
 
@@ -163,7 +187,24 @@ fn limit<N: BootName, R: Wait>(
     )
 }
 
-// Keeps all frames, and times the write of memory.max.
+// Takes units of the group of depth 1 back. Whether that went as it should.
+fn take_back<N: BootName, R: Wait>(
+    rt: &R,
+    system: &System<N>,
+    cpu: &mut Cpu<N>,
+    taking: Taking,
+) -> bool {
+    let path = SHALLOW;
+    match taking {
+        Taking::Limit(value) => limit(rt, system, cpu, path, value),
+        Taking::Rmdir => matches!(
+            visit(rt, system, cpu, &Cmd::Rmdir { path }),
+            Reply::Refused(Fault::Busy)
+        ),
+    }
+}
+
+// Keeps all frames, and times what takes them back.
 fn time_units<N: BootName, R: Wait + Clock>(
     rt: &R,
     system: &System<N>,
@@ -174,9 +215,9 @@ fn time_units<N: BootName, R: Wait + Clock>(
     keep(rt, system, cpu, kept.count)?;
     prepare_all(rt, system, cpu, kept)?;
     let since = Instant::now(rt)?;
-    let is_written = limit(rt, system, cpu, SHALLOW, kept.limit);
+    let is_done = take_back(rt, system, cpu, kept.taking);
     let time = since.elapsed(rt)?;
-    ensure!(is_written, "memory.max was not written");
+    ensure!(is_done, "units were not taken back");
     Ok(time)
 }
 
@@ -222,7 +263,7 @@ fn tell_kept<R: Wait + Print + Clock + Alloc<A = Global>>(
     kept: Kept,
 ) -> Result<()> {
     let count = pace.choose(kept.count, 64);
-    let mut row = Row::new(kept.name, 0, count, kept.looks);
+    let mut row = Row::new(kept.name, 0, count, kept.parts);
     for _ in 0..pace.choose(10, 1) {
         row.note(time_kept(rt, Kept { count, ..kept })?);
     }
@@ -303,7 +344,7 @@ fn live<N: BootName, R: Wait + Print + Clock + Alloc<A = Global>>(
     told
 }
 
-/// Measures what reclaim costs.
+/// Measures what reclaim and kills cost.
 pub fn tell_reclaim<R: Wait + Print + Clock + Alloc<A = Global>>(rt: &R, pace: Pace) -> Result<()> {
     for kept in ALL_KEPT {
         tell_kept(rt, pace, kept)?;
