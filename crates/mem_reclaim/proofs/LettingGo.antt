@@ -27,7 +27,7 @@ use Rattle.mem_machine.specs.Local.{MakesForAny, local_of}
 use Rattle.mem_machine.specs.Ageing.{entries_in}
 use Rattle.mem_machine.specs.Releasing.{LeavesList, Releases, release_steps}
 use Rattle.mem_machine.specs.Steps.{Drain, drain_stocks_steps, kill_steps, drain_steps}
-use Rattle.mem_machine.specs.Stocks.{AreOwnDrained, Drains, DrainsIf, DrainsAllIf, DrainsGroup, of_group, stock_group, uncharged}
+use Rattle.mem_machine.specs.Stocks.{AreOwnDrained, DrainsNoted, DrainsIf, DrainsAllIf, DrainsGroup, of_group, stock_group, uncharged}
 use Rattle.mem_machine.proofs.Reaching.{run_both}
 use Rattle.mem_machine.proofs.Draining.{drained_at, groups_stay}
 use Rattle.std.proofs.lemmas.List.Folds.{list_any-append}
@@ -42,7 +42,7 @@ use Rattle.mem_machine.proofs.DrainingAll.{below_else, below_group}
 use Rattle.mem_machine.proofs.Prepaying.{current_falls}
 use Rattle.mem_reclaim.specs.Moves.{has_kill, is_kill, is_miss, missed_in}
 use Rattle.mem_reclaim.specs.Staying.{OnlyLeave}
-use Rattle.mem_reclaim.specs.Killing.{IsKilledBy, KeepsNone, KeepsStocks, LetsGoAll, LetsGoBySteps, OnlyDrains, OnlyLetsGo, with_killed}
+use Rattle.mem_reclaim.specs.Killing.{KillsBySteps, KeepsNone, KeepsStocks, LetsGoAll, LetsGoBySteps, OnlyDrains, OnlyLetsGo, with_killed}
 use Rattle.mem_reclaim.proofs.Listing.{has_unit, listed_is, home_inside, has_mid}
 
 -- ---- what stays
@@ -302,7 +302,7 @@ filled_after : (test : List Group → Option ℕ → Bool) (q : ℕ) (m n : Know
 filled_after test q m n [] h is =
     ap (λ (x : KnownMachine). (account_of x.stock.view q).filled) h.1 ∙ looked_filled m.stock.view q (stock_group m q) is
 filled_after test q m n (drain ∷ []) h is =
-    ap (λ (x : KnownMachine). (account_of x.stock.view q).filled) h.1.drains.machine ∙ ap (λ (a : Account). a.filled) (drained_at m.stock.view q drain.pages)
+    ap (λ (x : KnownMachine). (account_of x.stock.view q).filled) h.1.drains.drains.machine ∙ ap (λ (a : Account). a.filled) (drained_at m.stock.view q drain.pages)
 filled_after test q m n (one ∷ two ∷ more) h is = absurd h
 
 one_drains : (test : List Group → Option ℕ → Bool) (q : ℕ) (m n : KnownMachine) (drains : List Drain) → DrainsIf test m q drains n → OnlyDrains m n
@@ -319,14 +319,14 @@ one_drains test q m n drains h = record {
   ];
 }
 
-drain_leaves : (m n : KnownMachine) (q pages : ℕ) → Drains m q pages n → OnlyDrains m n → LeavesUnits m n
+drain_leaves : (m n : KnownMachine) (q pages : ℕ) → DrainsNoted m q pages n → OnlyDrains m n → LeavesUnits m n
 drain_leaves m n q pages d stocks = record {
-  groups = ap (λ (x : KnownMachine). x.ledger.groups) d.machine ∙ groups_stay m.ledger (stock_group m q) pages;
-  seat = ap (λ (x : KnownMachine). x.seat) d.machine;
-  links = ap (λ (x : KnownMachine). x.links) d.machine;
-  killed = ap (λ (x : KnownMachine). x.killed) d.machine;
+  groups = ap (λ (x : KnownMachine). x.ledger.groups) d.drains.machine ∙ groups_stay m.ledger (stock_group m q) pages;
+  seat = ap (λ (x : KnownMachine). x.seat) d.drains.machine;
+  links = ap (λ (x : KnownMachine). x.links) d.drains.machine;
+  killed = ap (λ (x : KnownMachine). x.killed) d.drains.machine;
   usage = λ g.
-      let e : current_of n.ledger g ≡ current_of (uncharged m.ledger (stock_group m q) pages) g = ap (λ (x : KnownMachine). current_of x.ledger g) d.machine in
+      let e : current_of n.ledger g ≡ current_of (uncharged m.ledger (stock_group m q) pages) g = ap (λ (x : KnownMachine). current_of x.ledger g) d.drains.machine in
       let low = current_falls m.ledger (stock_group m q) pages g in
       omega (arith, e, low);
   stocks = stocks;
@@ -392,7 +392,7 @@ quiet_drains (d ∷ rest) = quiet_both (drain_steps d.cpu d.group d.pages) (drai
 
 -- what the parts of a kill leave, one after the other
 pub record AllKilled (t : KnownTable) (v : ℕ) (m n : KnownMachine) : Type 0 where
-  pub kills : IsKilledBy t v m n
+  pub kills : KillsBySteps t v m n
   pub marked : n.killed ≡ slice_set m.killed v true
   pub drained : AreOwnDrained v t.cpus n
   pub none_kept : KeepsNone v n
