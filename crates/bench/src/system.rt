@@ -10,7 +10,7 @@ use anyhow::{Context, Result, bail};
 use cpu_part::{BootName, Cpu};
 use frame_word::Frame;
 use group_tree::group::GroupId;
-use mem_system::{Boot, Cmd, Held, Reply, System, boot};
+use mem_system::{Boot, Cmd, Held, NoGate, Reply, System, boot};
 use std::alloc::Global;
 use std::marker::Brand;
 use std::sync::Wait;
@@ -51,8 +51,8 @@ const PATHS: [&[u8]; 8] = [
     b"/d/d/d/d/d/d/d/d",
 ];
 
-/// Serves the command by a visit. What `System::visit` says of it is left out: for callers that want the reply alone its
-/// clauses are minutes of a check.
+/// Serves the command by a visit, and hands its reply on. What `System::visit` says of it is left out: for callers that want
+/// the reply alone its clauses are minutes of a check.
 pub fn visit<N: BootName, R: Wait>(
     rt: &R,
     system: &System<N>,
@@ -62,6 +62,24 @@ pub fn visit<N: BootName, R: Wait>(
     requires { IsOfZone N.frames cmd.now }
 {
     system.visit(rt, cpu, cmd)
+}
+
+// Serves the command by a visit, which writes its reply into this one.
+fn visit_into<N: BootName, R: Wait>(
+    rt: &R,
+    system: &System<N>,
+    cpu: &mut Cpu<N>,
+    cmd: &Cmd<'_>,
+    reply: &mut Reply,
+)
+    requires { IsOfZone N.frames cmd.now }
+{
+    system.visit_into(rt, cpu, cmd, &NoGate, reply);
+}
+
+// Settles by a visit, whose reply is looked at and goes no further.
+fn settle_once<N: BootName, R: Wait>(rt: &R, system: &System<N>, cpu: &mut Cpu<N>) -> bool {
+    matches!(system.visit(rt, cpu, &Cmd::Settle), Reply::Done)
 }
 
 /// Makes the group of the path.
@@ -103,18 +121,18 @@ fn alloc_and_release<N: BootName, R: Wait>(
     system: &System<N>,
     cpu: &mut Cpu<N>,
     path: &[u8],
+    reply: &mut Reply,
 ) -> bool {
-    let Reply::Frame(number) = visit(rt, system, cpu, &Cmd::Alloc { path, order: 0 }) else {
+    visit_into(rt, system, cpu, &Cmd::Alloc { path, order: 0 }, reply);
+    let Reply::Frame(number) = *reply else {
         return false;
     };
     let Some(frame) = system.tables().frames.frame(number) else {
         return false;
     };
     let frame = frame.number();
-    matches!(
-        visit(rt, system, cpu, &Cmd::Release { frame }),
-        Reply::Returned
-    )
+    visit_into(rt, system, cpu, &Cmd::Release { frame }, reply);
+    matches!(reply, Reply::Returned)
 }
 
 // Does so, so many times.
@@ -126,14 +144,47 @@ fn alloc_and_release_all<N: BootName, R: Wait>(
     count: u32,
 ) -> bool {
     let mut all = true;
+    let mut reply = Reply::Done;
     for _ in 0..count {
-        all &= alloc_and_release(rt, system, cpu, path);
+        all &= alloc_and_release(rt, system, cpu, path, &mut reply);
     }
     all
 }
 
 /// Settles so many times.
 pub fn settle<N: BootName, R: Wait>(
+    rt: &R,
+    system: &System<N>,
+    cpu: &mut Cpu<N>,
+    count: u32,
+) -> bool {
+    for _ in 0..count {
+        if !settle_once(rt, system, cpu) {
+            return false;
+        }
+    }
+    true
+}
+
+// Settles so many times, each reply written into the one before.
+fn settle_into<N: BootName, R: Wait>(
+    rt: &R,
+    system: &System<N>,
+    cpu: &mut Cpu<N>,
+    count: u32,
+) -> bool {
+    let mut reply = Reply::Free;
+    for _ in 0..count {
+        visit_into(rt, system, cpu, &Cmd::Settle, &mut reply);
+        let Reply::Done = reply else {
+            return false;
+        };
+    }
+    true
+}
+
+// Settles so many times, each reply handed on.
+fn settle_by_value<N: BootName, R: Wait>(
     rt: &R,
     system: &System<N>,
     cpu: &mut Cpu<N>,
@@ -161,7 +212,9 @@ impl<'a, N: BootName, R: Wait> Subject<R> for Visits<'a, N> {
     fn call(&mut self, rt: &R, number: u32) -> bool {
         match number {
             0 => settle(rt, self.system, self.cpu, self.together),
-            1 => alloc_and_release_all(rt, self.system, self.cpu, SHALLOW, self.together),
+            1 => settle_into(rt, self.system, self.cpu, self.together),
+            2 => settle_by_value(rt, self.system, self.cpu, self.together),
+            3 => alloc_and_release_all(rt, self.system, self.cpu, SHALLOW, self.together),
             _ => alloc_and_release_all(rt, self.system, self.cpu, PATHS[7], self.together),
         }
     }
@@ -176,8 +229,10 @@ fn tell_visits<N: BootName, R: Wait + Print + Clock>(
 ) -> Result<()> {
     let mut rows = [
         Row::new("settle, with nothing to settle", 0, 1, 100_000),
-        Row::new("alloc of order 0 and release, at depth 1", 1, 1, 100_000),
-        Row::new("alloc of order 0 and release, at depth 8", 2, 1, 100_000),
+        Row::new("  its reply written in place", 1, 1, 100_000),
+        Row::new("  its reply handed on", 2, 1, 100_000),
+        Row::new("alloc of order 0 and release, at depth 1", 3, 1, 100_000),
+        Row::new("alloc of order 0 and release, at depth 8", 4, 1, 100_000),
     ];
     let together = pace.choose(100_000, 2);
     let mut visits = Visits {

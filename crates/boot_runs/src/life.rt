@@ -106,11 +106,20 @@ fn takes_out<N: BootName, R: Wait + Abort>(rt: &R, system: &System<N>, cpu: &mut
     assert!(rt; system.visit(rt, cpu, &Cmd::Dirty { frame }) == refused);
     assert!(rt; system.visit(rt, cpu, &Cmd::Clean { frame }) == refused);
     assert!(rt; system.visit(rt, cpu, &Cmd::Release { frame }) == refused);
+}
+
+// Processor 2 is visited by a gate that it passes, and is answered in place of an older reply.
+fn passes_the_gate<N: BootName, R: Wait + Abort>(rt: &R, system: &System<N>, cpu: &mut Cpu<N>) {
     let gate = Counter {
         inside: AtomicU32::new(0),
     };
     assert!(rt; system.visit_with(rt, cpu, &Cmd::Settle, &gate) == Reply::Done);
     assert!(rt; gate.inside.load(Ordering::SeqCst) == 2);
+    let mut reply = Reply::Free;
+    let path: &[u8] = b"/a";
+    system.visit_into(rt, cpu, &Cmd::Rmdir { path }, &gate, &mut reply);
+    assert!(rt; reply == Reply::Refused(Fault::NoGroup));
+    assert!(rt; gate.inside.load(Ordering::SeqCst) == 4);
 }
 
 /// Shuts the system down, which no processor has a pin in.
@@ -150,6 +159,7 @@ fn lives<N: BootName, R: Wait + Abort>(rt: &R, alloc: Global, boot: Boot)
             tells(rt, alloc, &system, cpu);
         } else {
             takes_out(rt, &system, cpu);
+            passes_the_gate(rt, &system, cpu);
         }
     }
     assert!(rt; ends(rt, system, cpus) == nothing_was_charged());

@@ -41,34 +41,35 @@ pub enum Outcome {
     Refused(Fault),
 }
 
-// The reply of the outcome: the path of a group that it names, and the text of a file.
+// Makes the reply that of the outcome: with the path of a group that it names, and the text of a file. It is written in
+// its place, since a reply has room for a path, and to hand it on by value clears and copies that room.
 #[inline(always)]
-pub(crate) fn tell(charges: &Charges, outcome: Outcome) -> Reply
+pub(crate) fn tell(charges: &Charges, outcome: Outcome, reply: &mut Reply)
     requires { HasItsGroups charges.now outcome }
-    ensures { result ≡ reply_of charges.now outcome }
+    ensures { reply.new ≡ reply_of charges.now outcome }
 {
     match outcome {
-        Outcome::Group(group) => Reply::Group(group),
-        Outcome::Frame(frame) => Reply::Frame(frame),
-        Outcome::Done => Reply::Done,
+        Outcome::Group(group) => *reply = Reply::Group(group),
+        Outcome::Frame(frame) => *reply = Reply::Frame(frame),
+        Outcome::Done => *reply = Reply::Done,
         Outcome::Text(group, file) => match file_text(charges, group, file) {
-            Ok(text) => Reply::Text(text),
-            Err(fault) => Reply::Refused(fault),
+            Ok(text) => *reply = Reply::Text(text),
+            Err(fault) => *reply = Reply::Refused(fault),
         },
-        Outcome::Free => Reply::Free,
-        Outcome::Lent(cpu) => Reply::Lent(cpu),
+        Outcome::Free => *reply = Reply::Free,
+        Outcome::Lent(cpu) => *reply = Reply::Lent(cpu),
         Outcome::Charged(group) => {
             let path = *charges.tree().path_of(group);
-            Reply::Charged { group, path }
+            *reply = Reply::Charged { group, path };
         }
-        Outcome::Marked => Reply::Marked,
-        Outcome::Active => Reply::Active,
-        Outcome::Left(left) => Reply::Left(left),
-        Outcome::Returned => Reply::Returned,
+        Outcome::Marked => *reply = Reply::Marked,
+        Outcome::Active => *reply = Reply::Active,
+        Outcome::Left(left) => *reply = Reply::Left(left),
+        Outcome::Returned => *reply = Reply::Returned,
         Outcome::OverLimit(group) => {
             let path = *charges.tree().path_of(group);
-            Reply::OverLimit { group, path }
+            *reply = Reply::OverLimit { group, path };
         }
-        Outcome::Refused(fault) => Reply::Refused(fault),
+        Outcome::Refused(fault) => *reply = Reply::Refused(fault),
     }
 }

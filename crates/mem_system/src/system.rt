@@ -10,7 +10,7 @@ use crate::boots::Boot;
 use crate::command::{Cmd, Reply};
 use crate::gates::{Gate, NoGate};
 use crate::lock::Locked;
-use crate::visits::serve;
+use crate::visits::serve_into;
 use cpu_part::{BootName, Cpu, Tables};
 use group_tree::group::GroupId;
 use std::alloc::{AllocError, Global};
@@ -109,10 +109,31 @@ impl<N: BootName> System<N> {
         ensures served { IsVisited N.frames N.stocks cmd.now cpu.old result cpu.new }
         ensures settled { IsSettledAfter cmd.now result cpu.new }
     {
+        let mut reply = Reply::Done;
+        self.visit_into(rt, cpu, cmd, gate, &mut reply);
+        reply
+    }
+
+    /// Serves one command of the processor as `visit_with` does, and writes its reply into this one, whatever that was.
+    /// A reply has room for a path, so a function that hands one on by value clears and copies that room each time:
+    /// whoever makes many visits keeps one reply for all.
+    #[inline(always)]
+    pub fn visit_into<R: Wait, G: Gate>(
+        &self,
+        rt: &R,
+        cpu: &mut Cpu<N>,
+        cmd: &Cmd<'_>,
+        gate: &G,
+        reply: &mut Reply,
+    )
+        requires { IsOfZone N.frames cmd.now }
+        ensures served { IsVisited N.frames N.stocks cmd.now cpu.old reply.new cpu.new }
+        ensures settled { IsSettledAfter cmd.now reply.new cpu.new }
+    {
         let mut guard = self.locked.lock(rt);
         gate.inside(cpu.number());
         let locked = &mut *guard;
         locked.see_quiet();
-        serve(locked, &self.tables, cpu, cmd)
+        serve_into(locked, &self.tables, cpu, cmd, reply);
     }
 }

@@ -37,6 +37,26 @@ pub fn carry_out<N: BootName>(
     outcome
 }
 
+// Serves one command of the processor as `serve` does, and writes its reply into this one, whatever that was.
+#[inline(always)]
+pub(crate) fn serve_into<N: BootName>(
+    locked: &mut Locked<N>,
+    tables: &Tables<N>,
+    cpu: &mut Cpu<N>,
+    cmd: &Cmd<'_>,
+    reply: &mut Reply,
+)
+    requires { IsOfZone N.frames cmd.now }
+    ensures served { IsServed N.frames cmd.now (holder locked.old cpu.old) reply.new (holder locked.new cpu.new) }
+    ensures settled { IsSettledAfter cmd.now reply.new cpu.new }
+    ensures at_most_high { ListAndFreshStayWithin locked.old.sizes cpu.old cpu.new }
+    ensures still { NothingPasses N.frames locked.new.machine.seat cpu.new.seat }
+    ensures lent { LentIsBorrowed N.frames locked.new.machine.seat cpu.new.seat }
+{
+    let outcome = carry_out(locked, tables, cpu, cmd);
+    tell(locked.charges(), outcome, reply);
+}
+
 /// Serves one command of the processor, which holds the lock, as `carry_out` does, and gives its reply with its
 /// texts. A frame that the command names is one of the zone's.
 #[inline(always)]
@@ -53,6 +73,7 @@ pub fn serve<N: BootName>(
     ensures still { NothingPasses N.frames locked.new.machine.seat cpu.new.seat }
     ensures lent { LentIsBorrowed N.frames locked.new.machine.seat cpu.new.seat }
 {
-    let outcome = carry_out(locked, tables, cpu, cmd);
-    tell(locked.charges(), outcome)
+    let mut reply = Reply::Done;
+    serve_into(locked, tables, cpu, cmd, &mut reply);
+    reply
 }

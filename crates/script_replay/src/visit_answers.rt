@@ -13,7 +13,7 @@ use crate::unlocked_calls::{get, put, try_list};
 use crate::work::{Work, work_of};
 use cpu_part::{BootName, Cpu, Fast};
 use group_tree::fault::Fault;
-use mem_system::{Cmd, Gate, System};
+use mem_system::{Cmd, Gate, Reply, System};
 use reply_texts::{write_fast, write_listed, write_refusal, write_reply, write_settled};
 use script_lines::line::Command;
 use std::alloc::{AllocError, Global};
@@ -103,7 +103,8 @@ fn visited<N: BootName, R: Wait, G: Gate>(
     ensures { AddsAnswer result (RepliesVisited N.frames N.stocks cmd.now) cpu.old cpu.new
         (string_bytes text.old) (string_bytes text.new) }
 {
-    let reply = system.visit_with(rt, cpu, cmd, gate);
+    let mut reply = Reply::Done;
+    system.visit_into(rt, cpu, cmd, gate, &mut reply);
     write_reply(&reply, text)
 }
 

@@ -10,7 +10,7 @@ ghost use Rattle.script_replay.specs.Visits.{VisitsAll, VisitsLine};
 
 use crate::visit_answers::visit_text;
 use cpu_part::{BootName, Cpu};
-use mem_system::{Cmd, NoGate, System};
+use mem_system::{Cmd, NoGate, Reply, System};
 use reply_texts::write_reply;
 use script_lines::line::Line;
 use std::alloc::{AllocError, Global};
@@ -77,5 +77,7 @@ pub fn visit_command<N: BootName, R: Wait>(
 ) -> Result<(), AllocError>
     requires { IsOfZone N.frames cmd.now }
 {
-    write_reply(&system.visit(rt, cpu, cmd), text)
+    let mut reply = Reply::Done;
+    system.visit_into(rt, cpu, cmd, &NoGate, &mut reply);
+    write_reply(&reply, text)
 }

@@ -1,16 +1,8 @@
-use Rattle.std.proofs.Common.{◌≡◌, ap, ◌∙◌}
-use Rattle.group_charge.specs.Charges.{Ledger}
-use Rattle.mem_system.specs.Outcomes.{reply_of}
+use Rattle.std.proofs.Common.{rules}
 use Rattle.mem_system.proofs.visits.serve.Goals as goal
 
-pub returns : goal.returns
-returns g c =
-    let told : c.tell.result ≡ reply_of c.carry_out-outcome.new.locked.machine.ledger c.carry_out-outcome.result
-    = c.tell.ensures ∙ ap (λ (l : Ledger). reply_of l c.carry_out-outcome.result) c.charges.ensures in
-    rw told record {
-      served = c.carry_out-outcome.ensures.served;
-      settled = c.carry_out-outcome.ensures.settled;
-      at_most_high = c.carry_out-outcome.ensures.at_most_high;
-      still = c.carry_out-outcome.ensures.still;
-      lent = c.carry_out-outcome.ensures.lent;
-    }
+pub returns-clause-served : goal.returns-clause-served
+returns-clause-served g c = search rules
+
+pub returns-clause-settled : goal.returns-clause-settled
+returns-clause-settled g c = search rules

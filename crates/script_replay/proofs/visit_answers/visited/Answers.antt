@@ -6,6 +6,6 @@ use Rattle.script_replay.proofs.visit_answers.visited.Goals as goal
 
 pub returns : goal.returns
 returns g c =
-    told (λ (said : Answer). RepliesVisited g.N.BootName.frames g.N.BootName.stocks c.args.cmd.now c.args.cpu.now said c.visit_with-reply.new.cpu)
-    (Served c.visit_with-reply.result) (string_bytes c.args.text.now) (string_bytes c.write_reply.new.text) c.write_reply.result
-    c.visit_with-reply.ensures.served c.write_reply.ensures
+    told (λ (said : Answer). RepliesVisited g.N.BootName.frames g.N.BootName.stocks c.args.cmd.now c.args.cpu.now said c.visit_into.new.cpu)
+    (Served c.visit_into.new.reply) (string_bytes c.args.text.now) (string_bytes c.write_reply.new.text) c.write_reply.result
+    c.visit_into.ensures.served c.write_reply.ensures

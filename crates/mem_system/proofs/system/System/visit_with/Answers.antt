@@ -1,7 +1,8 @@
+use Rattle.std.proofs.Common.{rules}
 use Rattle.mem_system.proofs.system.System.visit_with.Goals as goal
 
-pub returns : goal.returns
-returns g c = record {
-  served = (c.deref_mut-locked.result.now, c.serve.new.locked, c.see_quiet.ensures.quiet, c.serve.ensures.served, c.serve.ensures.lent);
-  settled = c.serve.ensures.settled;
-}
+pub returns-clause-served : goal.returns-clause-served
+returns-clause-served g c = search rules
+
+pub returns-clause-settled : goal.returns-clause-settled
+returns-clause-settled g c = search rules
