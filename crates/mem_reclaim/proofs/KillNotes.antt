@@ -7,6 +7,7 @@ use Rattle.mem_machine.specs.Local.{MakesForAny}
 use Rattle.mem_reclaim.specs.declared.noting.Having.{Having}
 use Rattle.mem_reclaim.specs.Killing.{IsKilledBy, KillsBySteps, OnlyDrains, OnlyLetsGo, having_of, killed_note}
 use Rattle.mem_reclaim.specs.KillNotes.{NotesVictim}
+use Rattle.mem_reclaim.specs.Moves.{Rises, returned_in}
 use Rattle.mem_reclaim.specs.Victim.{victim_note}
 
 -- notes change nothing that a kill keeps
@@ -52,6 +53,7 @@ killed_noted t g v m a b n told had had_is kills_a keeps_a stocks_a noted_had =
         front = kills.front;
         quiet = kills.quiet;
         no_miss = kills.no_miss;
+        returned = subst (λ (x : KnownMachine). Rises m.counts.last_puts (returned_in kills.later) x.counts.last_puts) (sym noted) kills.returned;
       };
       keeps = subst (λ (x : KnownMachine). OnlyLetsGo t m x) (sym noted) (only_lets_noted t m b note last keeps);
       stocks = subst (λ (x : KnownMachine). OnlyDrains m x) (sym noted) (record { of = stocks.of; drained = stocks.drained });

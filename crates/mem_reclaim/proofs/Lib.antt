@@ -9,3 +9,4 @@ pub mod Rounding
 pub mod Choosing
 pub mod LettingGo
 pub mod KillNotes
+pub mod Rising

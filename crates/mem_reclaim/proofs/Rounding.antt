@@ -47,8 +47,21 @@ round_noted t g number want m given x n leads keeps noted =
     subst (λ (y : KnownMachine). RoundGives t g number want m given y) (sym noted) (record {
       makes = record {
         steps = leads.steps;
-        does = record { reclaimed = x; reclaims = leads.does; noted = refl };
-        moves = record { runs = leads.moves.runs; pages = leads.moves.pages; quiet = leads.moves.quiet; misses = leads.moves.misses };
+        does = record {
+          reclaimed = x;
+          reclaims = leads.does;
+          noted = refl;
+          returned = leads.moves.returned;
+          missed = leads.moves.missed;
+        };
+        moves = record {
+          runs = leads.moves.runs;
+          pages = leads.moves.pages;
+          quiet = leads.moves.quiet;
+          misses = leads.moves.misses;
+          returned = leads.moves.returned;
+          missed = leads.moves.missed;
+        };
       };
       keeps = keeps_noted t m x note keeps;
     })

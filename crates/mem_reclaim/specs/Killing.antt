@@ -15,7 +15,7 @@ use Rattle.mem_machine.specs.Local.{MakesForAny}
 use Rattle.mem_machine.specs.Releasing.{Releases, release_steps}
 use Rattle.mem_machine.specs.Steps.{Drain, drain_stocks_steps, kill_steps}
 use Rattle.mem_machine.specs.Stocks.{DrainsAllIf, IsDrained, of_group, stock_group}
-use Rattle.mem_reclaim.specs.Moves.{has_kill, missed_in}
+use Rattle.mem_reclaim.specs.Moves.{Rises, has_kill, missed_in, returned_in}
 use Rattle.mem_reclaim.specs.declared.noting.Having.{Having}
 use Rattle.mem_reclaim.specs.Staying.{OnlyLeave}
 use Rattle.mem_reclaim.specs.Victim.{IsNext, own_frames, victim_note}
@@ -52,7 +52,7 @@ pub record KillsGroup (table : KnownTable) (v : ℕ) (before : KnownMachine) (st
   pub steps_are : steps ≡ kill_steps v ++ (drain_stocks_steps drains ++ (first ++ last))
 
 -- so it is by some steps, whoever holds the lock: first the kill, which is the only one among them, and none is a freeze that
--- missed
+-- missed. The last puts that the machine counts grew by the units that they return
 pub record KillsBySteps (table : KnownTable) (v : ℕ) (before after : KnownMachine) : Type 0 where
   pub steps : Run
   pub kills : KillsGroup table v before steps after
@@ -61,6 +61,7 @@ pub record KillsBySteps (table : KnownTable) (v : ℕ) (before after : KnownMach
   pub front : steps ≡ kill_steps v ++ later
   pub quiet : has_kill later ≡ false
   pub no_miss : (f : ℕ) → missed_in f later ≡ 0
+  pub returned : Rises before.counts.last_puts (returned_in later) after.counts.last_puts
 
 -- how many kept units the group has
 abbrev pub kept_units : KnownMachine → ℕ → ℕ
@@ -78,7 +79,8 @@ killed_note limited v had after =
     (had.units - (after.counts.last_puts - had.last_puts)) (own_frames after v) (current_of after.ledger limited)
 
 -- Group v is killed for group `limited`: it is noted who is the victim and why; it is killed; and what became of its
--- units is noted. Of these steps the kill is the first, and the only one; and none is a freeze that missed
+-- units is noted. Of these steps the kill is the first, and the only one; none is a freeze that missed; and the last puts
+-- that the machine counts grew by the units that they return
 pub record IsKilledBy (table : KnownTable) (limited v : ℕ) (before after : KnownMachine) : Type 0 where
   pub next : ℕ
   pub follows : IsNext before limited v next
@@ -91,6 +93,7 @@ pub record IsKilledBy (table : KnownTable) (limited v : ℕ) (before after : Kno
   pub front : steps ≡ kill_steps v ++ later
   pub quiet : has_kill later ≡ false
   pub no_miss : (f : ℕ) → missed_in f later ≡ 0
+  pub returned : Rises before.counts.last_puts (returned_in later) after.counts.last_puts
 
 -- the victim for the group, if there is one, is killed; else nothing changed
 abbrev pub KillsVictim : KnownTable → ℕ → Option ℕ → KnownMachine → KnownMachine → Type 0

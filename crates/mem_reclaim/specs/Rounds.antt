@@ -5,6 +5,7 @@ use Rattle.step_rules.specs.After.{Run}
 use Rattle.kill_notes.specs.declared.note.Note.{Note}
 use Rattle.kill_notes.specs.declared.note.Note.TheVariants.{Round}
 use Rattle.mem_machine.specs.Machines.{KnownMachine, with_note}
+use Rattle.mem_reclaim.specs.Moves.{Rises, all_missed_in, returned_in}
 use Rattle.mem_reclaim.specs.Wanted.{Rests}
 use Rattle.mem_reclaim.specs.Passes.{Reclaims}
 
@@ -19,11 +20,14 @@ round_note group number pages before after =
     Round number (after.counts.freezes - before.counts.freezes) (after.counts.misses - before.counts.misses) pages
     (current_of after.ledger group)
 
--- one round, of this number, and then it is noted
+-- One round, of this number, and then it is noted. The counts whose difference the note tells grew by the units that the
+-- round's steps return, and by the freezes among them that missed
 pub record MakesOneRound (group number want given : ℕ) (before : KnownMachine) (steps : Run) (after : KnownMachine) : Type 0 where
   pub reclaimed : KnownMachine
   pub reclaims : Reclaims group want given before steps reclaimed
   pub noted : after ≡ with_note reclaimed (round_note group number given before reclaimed)
+  pub returned : Rises before.counts.freezes (returned_in steps) reclaimed.counts.freezes
+  pub missed : Rises before.counts.misses (all_missed_in steps) reclaimed.counts.misses
 
 -- Rounds of reclaim from the group's subtree, at most so many of 16, where `missing` tells how many pages are missing. Each
 -- round wants the pages that are missing when it begins. They end as soon as none is missing, and after a round that

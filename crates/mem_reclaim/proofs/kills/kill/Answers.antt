@@ -1,8 +1,6 @@
-use Rattle.std.proofs.Common.{◌≡◌, ℕ, true, ap, sym, ◌∙◌, subst}
-use Rattle.std.specs.Prelude.{slice_set}
-use Rattle.group_tree.specs.declared.group.Group.{Group}
+use Rattle.std.proofs.Common.{ap, ◌∙◌}
 use Rattle.group_tree.specs.Groups.{has_group}
-use Rattle.mem_machine.specs.Machines.{KnownMachine, is_killed}
+use Rattle.mem_machine.specs.Machines.{KnownMachine}
 use Rattle.mem_reclaim.proofs.Choosing.{chosen_there}
 use Rattle.mem_reclaim.proofs.kills.kill.Goals as goal
 

@@ -1,7 +1,6 @@
-use Rattle.std.proofs.Common.{◌≡◌, ◌+◌, ◌≤◌, ℕ, Bool, true, false, sym, ap, ◌∙◌, subst, arith, rules}
-use Rattle.step_rules.specs.State.{one_if}
-use Rattle.mem_reclaim.specs.Victim.{candidates, is_candidate}
-use Rattle.mem_reclaim.proofs.Choosing.{CountedTo, counted_none, counted_more, counted_all}
+use Rattle.std.proofs.Common.{◌≡◌, ◌+◌, ℕ, true, false, sym, ap, ◌∙◌, subst, rules}
+use Rattle.mem_reclaim.specs.Victim.{is_candidate}
+use Rattle.mem_reclaim.proofs.Choosing.{CountedTo, counted_none, counted_more}
 use Rattle.mem_reclaim.proofs.victims.candidates.Goals as goal
 use Rattle.mem_reclaim.proofs.victims.candidates.Goals.{then-is_candidate, else-is_candidate}
 
