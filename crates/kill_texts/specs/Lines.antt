@@ -58,7 +58,8 @@ abbrev pub victim_text : List Group → Candidate → ℕ → Candidate → List
 victim_text groups victim candidates next =
     codes "# victim " ++ candidate_text groups victim ++ others_text groups candidates next ++ codes "\n"
 
--- a group that was killed: what came back, what stays charged since it is pinned, and the usage under the limit
+-- a group that was killed: what came back, how many of its units are pinned, what stays charged to the group itself, and the
+-- usage under the limit
 abbrev pub killed_text : List Group → ℕ → ℕ → ℕ → ℕ → ℕ → ℕ → List ℕ
 killed_text groups g returned pages pinned left usage = codes "# killed " ++ group_text groups g ++ codes " returned " ++ decimal returned
     ++ codes " bytes " ++ bytes_text pages ++ codes " pinned " ++ decimal pinned ++ ending_text left usage

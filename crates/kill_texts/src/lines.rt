@@ -126,7 +126,7 @@ fn write_victim(
     text.push_str("\n")
 }
 
-// What came back of a group that was killed, and what stays charged.
+// What came back of a group that was killed, how many of its units are pinned, and what stays charged to it.
 fn write_killed(
     tree: &Tree,
     group: GroupId,
