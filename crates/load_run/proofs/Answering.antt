@@ -1,5 +1,5 @@
 -- What a script is answered, from what was read of it.
-use Rattle.std.proofs.Common.{◌≡◌, ℕ, zero, suc, ◌+◌, refl, List, length, take, Option, None}
+use Rattle.std.proofs.Common.{◌≡◌, ℕ, Bool, zero, suc, ◌+◌, refl, List, length, take, Option, None}
 use Rattle.std.proofs.Common.{Some, IfSome, Result, Ok, Err, IfOk, IfErr, MatchResult, arith, ap, ◌∙◌, sym, subst}
 use Rattle.std.proofs.lemmas.List.{length-take, take_all}
 use Rattle.std.specs.Io.KnownBytes.{Appends}
@@ -28,7 +28,7 @@ replayed asked (Some bytes) before after text is written = record { text = text;
 -- what was read of an input is all of it, where it is a script, and is answered by what its lines are
 pub answered : (asked : Option Settings) (input : Option (List ℕ)) (script : List ℕ) (settings : Settings) (lines : List Line) (text : List ℕ)
     → asked ≡ Some settings → IfSome input (λ bytes. script ≡ take 1048577 bytes) → IsScript settings.sizes script lines → IsValidConfig settings.sizes
-    → AreAnswers settings.sizes settings.is_audited lines text → IfSome input (λ bytes. IsAnswered asked bytes text)
+    → AreAnswers settings.sizes settings.is_explained settings.is_audited lines text → IfSome input (λ bytes. IsAnswered asked bytes text)
 answered asked None script settings lines text is_asked read is valid answers = tt
 answered asked (Some bytes) script settings lines text is_asked read is valid answers =
     let fits = is.fits in
@@ -56,15 +56,15 @@ joined (Ok x) P Q R follows p q = follows x p q
 joined (Err e) P Q R follows p q = tt
 
 -- lines were replayed, all of them, or up to one for whose text memory was wanting
-pub replays_or_stops : {V E : Type 0} (t : KnownTable) (w : Words) (s first e : Standing) (lines : List Line) (r : Result V E) (items : V → List ℕ)
-    → s ≡ first → IfOk r (λ v. ServesAll t s lines (items v) e)
-    → ((run : Run) → ShowsAll t run s.locked.machine s.cpus → AreTied t w s.cpus → IfOk r (λ v. TellsHistory t (Unit {0}) run s lines (items v) e))
-    → IfErr r (λ _. StopsAt lines (λ served text. Replays t w s served text e))
-    → MatchResult r (λ v. Replays t w first lines (items v) e) (λ _. StopsAt lines (λ served text. Replays t w first served text e))
-replays_or_stops t w s first e lines (Ok v) items same served history stops =
-    subst (λ (x : Standing). Replays t w x lines (items v) e) same (record { served = served; history = history })
-replays_or_stops t w s first e lines (Err x) items same served history stops =
-    subst (λ (y : Standing). StopsAt lines (λ part text. Replays t w y part text e)) same stops
+pub replays_or_stops : {V E : Type 0} (t : KnownTable) (w : Words) (explains : Bool) (s first e : Standing) (lines : List Line) (r : Result V E) (items : V → List ℕ)
+    → s ≡ first → IfOk r (λ v. ServesAll t explains s lines (items v) e)
+    → ((run : Run) → ShowsAll t run s.locked.machine s.cpus → AreTied t w s.cpus → IfOk r (λ v. TellsHistory t explains (Unit {0}) run s lines (items v) e))
+    → IfErr r (λ _. StopsAt lines (λ served text. Replays t w explains s served text e))
+    → MatchResult r (λ v. Replays t w explains first lines (items v) e) (λ _. StopsAt lines (λ served text. Replays t w explains first served text e))
+replays_or_stops t w explains s first e lines (Ok v) items same served history stops =
+    subst (λ (x : Standing). Replays t w explains x lines (items v) e) same (record { served = served; history = history })
+replays_or_stops t w explains s first e lines (Err x) items same served history stops =
+    subst (λ (y : Standing). StopsAt lines (λ part text. Replays t w explains y part text e)) same stops
 
 -- what was found, where there is one
 pub at_ok : {V E : Type 0} (r : Result V E) (v : V) (P : V → Type 0) (Q : E → Type 0) → r ≡ Ok v → MatchResult r P Q → P v

@@ -26,9 +26,10 @@ pub record StandsAtFirst (sizes : Config) (table : KnownTable) (stock_table : Wo
   pub sizes_are : first.locked.sizes ≡ sizes
   pub cpus : first.cpus ≡ first_cpus table stock_table 1 sizes.cpus
 
--- what a boot with these sizes answers to the lines, one after the other, and then tells of its end. All steps of the
--- lines together are one run from the boot on, which tells of each line that the promise is kept after it
-pub record AreAnswers (sizes : Config) (is_audited : Bool) (lines : List Line) (text : List ℕ) : Type 0 where
+-- what a boot with these sizes answers to the lines, one after the other, with why groups were killed or without, and then
+-- tells of its end. All steps of the lines together are one run from the boot on, which tells of each line that the promise
+-- is kept after it
+pub record AreAnswers (sizes : Config) (is_explained is_audited : Bool) (lines : List Line) (text : List ℕ) : Type 0 where
   pub frames : KnownTable
   pub stocks : Words
   pub start : Standing
@@ -36,20 +37,20 @@ pub record AreAnswers (sizes : Config) (is_audited : Bool) (lines : List Line) (
   pub answers : List ℕ
   pub ending : List ℕ
   pub first : StandsAtFirst sizes frames stocks start
-  pub served : ServesAll frames start lines answers end
-  pub history : TellsHistory frames (Unit {0}) [] start lines answers end
+  pub served : ServesAll frames is_explained start lines answers end
+  pub history : TellsHistory frames is_explained (Unit {0}) [] start lines answers end
   pub ends : TellsEnd frames stocks is_audited end ending
   pub text_is : text ≡ answers ++ ending
 
 -- these settings are asked for, their sizes may be, and the input is a script for them: the text is what a boot of
--- these sizes answers to it, and tells of its end where they say so
+-- these sizes answers to it, and tells of kills and of its end where they say so
 pub record IsAnswered (asked : Option Settings) (input text : List ℕ) : Type 0 where
   pub settings : Settings
   pub is_asked : asked ≡ Some settings
   pub valid : IsValidConfig settings.sizes
   pub lines : List Line
   pub script : IsScript settings.sizes input lines
-  pub answers : AreAnswers settings.sizes settings.is_audited lines text
+  pub answers : AreAnswers settings.sizes settings.is_explained settings.is_audited lines text
 
 -- and a writer that held the bytes `before`, where they are known, was given all of its answers
 pub record IsReplayed (asked : Option Settings) (input : List ℕ) (before after : Option (List ℕ)) : Type 0 where

@@ -1,5 +1,5 @@
 -- What the words of a command line ask for: what clap finds in them by the options of the program.
-use Rattle.std.specs.Prelude.{◌≡◌, ℕ, Bool, true, false, List, [], ◌∷◌, Option, Some, None, Result, Ok, Err, ⊤, pos}
+use Rattle.std.specs.Prelude.{◌≡◌, ℕ, Bool, true, false, List, [], ◌∷◌, ◌++◌, Option, Some, None, Result, Ok, Err, ⊤, pos}
 use Rattle.std.specs.Prelude.{codes, if◌then◌else◌, nat_lt, option_and_then, ◌||◌}
 use Rattle.std.specs.Option.{option_map_or}
 use Rattle.std.specs.Str.{bytes_eq}
@@ -31,7 +31,7 @@ flag_rule name = record (new_rule name) {
   action = Some SetTrue;
 }
 
--- the options of a subcommand
+-- the options that both subcommands have
 abbrev pub task_rules : List Rule
 task_rules =
     size_rule (codes "frames") 65536 (codes "16")
@@ -42,9 +42,13 @@ task_rules =
     ∷ flag_rule (codes "audit")
     ∷ []
 
--- the subcommand of this name
+-- the subcommand of this name, with these options
 abbrev pub task_shape : List ℕ → Shape
 task_shape name = record (new_shape name) { rules = task_rules }
+
+-- `replay`, which has an option more
+abbrev pub replay_shape : Shape
+replay_shape = record (task_shape (codes "replay")) { rules = task_rules ++ flag_rule (codes "explain") ∷ [] }
 
 -- the program: it wants one of its two subcommands, and its own name is not among the words
 abbrev pub program : App
@@ -54,7 +58,7 @@ program = record {
     subcommand_required = true;
     is_leaf = false;
   };
-  subs = task_shape (codes "replay") ∷ task_shape (codes "run") ∷ [];
+  subs = replay_shape ∷ task_shape (codes "run") ∷ [];
 }
 
 -- the number that a text writes, in decimal digits, perhaps behind a plus, where it is from 1 to `most`
@@ -88,11 +92,15 @@ sizes_in found = do
   stock ← size_in (codes "stock") 64 found
   Some (record { frames = frames; cpus = cpus; batch = batch; high = high; stock = stock })
 
--- the sizes, and whether `--audit` is given
+-- the sizes, and whether `--explain` and `--audit` are given
 abbrev pub settings_in : List Row → Option Settings
 settings_in found = do
   sizes ← sizes_in found
-  Some (record { sizes = sizes; is_audited = is_given (codes "audit") found })
+  Some (record {
+    sizes = sizes;
+    is_explained = is_given (codes "explain") found;
+    is_audited = is_given (codes "audit") found;
+  })
 
 -- what stands in the words of the subcommand that is asked, where it is this one
 abbrev pub settings_under : List ℕ → List ℕ → List Row → Option Settings

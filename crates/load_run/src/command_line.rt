@@ -6,8 +6,8 @@ ghost use Rattle.clap.specs.declared.builder.command.Command.TheViews.{out-Comma
 ghost use Rattle.clap.specs.declared.builder.value_parser.ValueParser.TheVariants.{Signed};
 ghost use Rattle.load_run.specs.Fault.{IsNoMemory};
 ghost use Rattle.load_run.specs.Settings.{HasSizesInRange};
-ghost use Rattle.load_run.specs.Words.{TellsSettings, flag_rule, program, run_settings_of, settings_for, settings_of};
-ghost use Rattle.load_run.specs.Words.{size_rule, task_shape};
+ghost use Rattle.load_run.specs.Words.{TellsSettings, flag_rule, program, replay_shape, run_settings_of, settings_for};
+ghost use Rattle.load_run.specs.Words.{settings_of, size_rule, task_shape};
 
 use crate::fault::WordsFault;
 use crate::settings::{
@@ -38,7 +38,7 @@ pub fn words<R: Env + AllocGlobal>(rt: &R) -> Result<Vec<String>, WordsFault> {
 
 /// Reads the words that follow the program's name: `replay`, and then any of `--frames`, `--cpus`, `--batch`,
 /// `--high` and `--stock`, each at most once, with a whole number in its own range: frames 1 to 65,536,
-/// processors 1 to 16, batch 1 to 64, high 1 to 256, stock 1 to 64; and `--audit`, at most once.
+/// processors 1 to 16, batch 1 to 64, high 1 to 256, stock 1 to 64; and `--audit` and `--explain`, at most once.
 /// `Config::is_valid` asks more: high is at least batch. A size that is left out is 16, 2, 4, 8, 4 in turn.
 /// Anything else is a fault of the words, a request for help too.
 pub fn parse_words<S: AsStr>(alloc: Global, words: &[S]) -> Result<Settings, WordsFault>
@@ -48,7 +48,8 @@ pub fn parse_words<S: AsStr>(alloc: Global, words: &[S]) -> Result<Settings, Wor
     parse_task(alloc, "replay", words)
 }
 
-/// Reads the words that follow the program's name as `parse_words` does, where `run` stands in place of `replay`.
+/// Reads the words that follow the program's name as `parse_words` does, where `run` stands in place of `replay`. It has
+/// no `--explain`: that is a fault of the words here.
 pub fn parse_run_words<S: AsStr>(alloc: Global, words: &[S]) -> Result<Settings, WordsFault>
     ensures asked { TellsSettings (run_settings_of (map S.text words.now)) result }
     ensures in_range { IfOk result (λ o. HasSizesInRange o.sizes) }
@@ -103,16 +104,21 @@ fn memcg<'a>(alloc: Global) -> Result<Command<'a>, AllocError>
         .no_binary_name(true)
         .about("Charges page frames to the groups of a tree")
         .subcommand_required(true)
-        .subcommand(task(
-            alloc,
-            "replay",
-            "Runs the lines of a script, one after the other",
-        )?)?
+        .subcommand(replay_task(alloc)?)?
         .subcommand(task(
             alloc,
             "run",
             "Runs the lines before `go` so, and those behind it by a thread for each processor",
         )?)
+}
+
+// `replay`, which has an option more.
+fn replay_task<'a>(alloc: Global) -> Result<Command<'a>, AllocError>
+    ensures shape { IfOk result (λ command. (app_of command).top ≡ replay_shape) }
+    ensures local { IfOk result (λ command. (fields_of command).has_globals ≡ false) }
+{
+    let about = "Runs the lines of a script, one after the other";
+    task(alloc, "replay", about)?.arg(explain_option(alloc))
 }
 
 // A subcommand, with its options.
@@ -162,6 +168,17 @@ fn audit_option<'a>(alloc: Global) -> Arg<'a>
     Arg::new(alloc, "audit")
         .long("audit")
         .help("Tells at the end which pins were held, and what was counted")
+        .action(ArgAction::SetTrue)
+}
+
+// Whether it is told why groups were killed.
+fn explain_option<'a>(alloc: Global) -> Arg<'a>
+    ensures rule { rule_of result ≡ flag_rule (codes "explain") }
+    ensures local { result.global ≡ false }
+{
+    Arg::new(alloc, "explain")
+        .long("explain")
+        .help("Tells behind an answer why groups were killed for it")
         .action(ArgAction::SetTrue)
 }
 

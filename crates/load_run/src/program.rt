@@ -114,15 +114,19 @@ fn answers_of(
     lines: &[Line<'_>],
 ) -> Result<Vec<u8>, ProgramFault>
     requires { All (LineIsThere settings.now.sizes.frames settings.now.sizes.cpus) lines.now }
-    ensures answers { IfOk result (λ text. AreAnswers settings.now.sizes settings.now.is_audited lines.now text.items) }
+    ensures answers { IfOk result (λ text.
+        AreAnswers settings.now.sizes settings.now.is_explained settings.now.is_audited lines.now text.items) }
     ensures valid { IfOk result (λ _. IsValidConfig settings.now.sizes) }
     ensures fault { IfErr result (IsBootFault settings.now.sizes) }
 {
     match boot(alloc, settings.sizes) {
-        Ok(boot) => match run::<Brand>(alloc, boot, lines, settings.is_audited) {
-            Ok(answers) => Ok(answers),
-            Err(error) => Err(ProgramFault::NoMemory(error)),
-        },
+        Ok(boot) => {
+            let is_explained = settings.is_explained;
+            match run::<Brand>(alloc, boot, lines, is_explained, settings.is_audited) {
+                Ok(answers) => Ok(answers),
+                Err(error) => Err(ProgramFault::NoMemory(error)),
+            }
+        }
         Err(BootFault::BadConfig) => Err(ProgramFault::BadConfig),
         Err(BootFault::NoMemory) => Err(ProgramFault::NoMemory(AllocError)),
     }

@@ -16,20 +16,21 @@ use script_replay::replay;
 use std::alloc::{AllocError, Global};
 
 /// Replays the lines on a boot under a name of its tables, and ends it; what they are answered, and what is told of
-/// the end where that is asked for. `AllocError` comes where memory is wanting: the boot has ended then too.
+/// kills and of the end where that is asked for. `AllocError` comes where memory is wanting: the boot has ended then too.
 pub fn run<N: BootName>(
     alloc: Global,
     boot: Boot,
     lines: &[Line<'_>],
+    is_explained: bool,
     is_audited: bool,
 ) -> Result<Vec<u8>, AllocError>
     requires names { (boot.frames ≡ N.frames) × (boot.stocks ≡ N.stocks) }
     requires sized { IsSizedAs boot.sizes boot.frames boot.stocks }
     requires lines { All (LineIsThere boot.sizes.frames boot.sizes.cpus) lines.now }
-    ensures { IfOk result (λ text. AreAnswers boot.sizes is_audited lines.now text.items) }
+    ensures { IfOk result (λ text. AreAnswers boot.sizes is_explained is_audited lines.now text.items) }
 {
     let (tables, locked, cpus) = boot.part::<N>(alloc)?;
-    let (answers, ended) = replay_and_end(alloc, tables, locked, cpus, lines);
+    let (answers, ended) = replay_and_end(alloc, tables, locked, cpus, lines, is_explained);
     tell_end(alloc, answers?, ended, is_audited)
 }
 
@@ -40,16 +41,17 @@ fn replay_and_end<N: BootName>(
     mut locked: Locked<N>,
     mut cpus: Vec<Cpu<N>>,
     lines: &[Line<'_>],
+    is_explained: bool,
 ) -> (Result<Vec<u8>, AllocError>, Ended)
     requires count { length cpus.items ≡ N.frames.cpus }
     requires lines { All (LineIsThere N.frames.frames N.frames.cpus) lines.now }
     ensures { EndsAfter N.frames N.stocks (λ end. MatchResult result.0
-        (λ answers. Replays N.frames N.stocks (standing locked cpus.items) lines.now answers.items end)
+        (λ answers. Replays N.frames N.stocks is_explained (standing locked cpus.items) lines.now answers.items end)
         (λ _. StopsAt lines.now (λ served text.
-        Replays N.frames N.stocks (standing locked cpus.items) served text end)))
+        Replays N.frames N.stocks is_explained (standing locked cpus.items) served text end)))
         result.1.held result.1.audit }
 {
-    let answers = replay(alloc, &mut locked, &tables, &mut cpus, lines);
+    let answers = replay(alloc, &mut locked, &tables, &mut cpus, lines, is_explained);
     let ended = finish(tables, locked, cpus);
     (answers, ended)
 }

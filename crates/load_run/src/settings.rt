@@ -24,6 +24,8 @@ pub(crate) const MOST_STOCK: u32 = 64;
 pub struct Settings {
     /// The sizes to boot with.
     pub sizes: Config,
+    /// Whether it is told why groups were killed: only `replay` tells that.
+    pub is_explained: bool,
     /// Whether the end is told: the pins that are still held, and what was counted.
     pub is_audited: bool,
 }
@@ -35,8 +37,13 @@ pub(crate) fn read_settings(found: &ArgMatches<'_>, task: &str) -> Option<Settin
 {
     let options = found.subcommand_matches(task)?;
     let sizes = sizes(options)?;
+    let is_explained = is_set(options, "explain");
     let is_audited = is_set(options, "audit");
-    Some(Settings { sizes, is_audited })
+    Some(Settings {
+        sizes,
+        is_explained,
+        is_audited,
+    })
 }
 
 // The five sizes.

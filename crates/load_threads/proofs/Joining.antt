@@ -1,5 +1,5 @@
 -- The answers of the early lines and those of the later, joined. Serves `run_by_threads`.
-use Rattle.std.proofs.Common.{◌≡◌, ◌∙◌, ℕ, Bool, List, [], ◌++◌, All, Result, Ok, IfOk, length, take, drop, refl, sym, subst}
+use Rattle.std.proofs.Common.{◌≡◌, ◌∙◌, ℕ, Bool, false, List, [], ◌++◌, All, Result, Ok, IfOk, length, take, drop, refl, sym, subst}
 use Rattle.std.proofs.lemmas.List.Elements.{All-take, All-drop}
 use Rattle.frame_word.specs.Seats.{KnownTable}
 use Rattle.stock_word.specs.Stock.{Words}
@@ -43,7 +43,7 @@ later_there sizes t w n lines later sized is all =
 pub are_answers : (sizes : Config) (is_audited : Bool) (t : KnownTable) (w : Words) (lines first_lines other_lines : List Line)
     (start at_go : Standing) (early later text : List ℕ) (held : ℕ) (audit : Audit) → StandsAtFirst sizes t w start
     → first_lines ≡ take (lines_before_go lines) lines → other_lines ≡ drop (lines_before_go lines) lines
-    → ServesAll t start first_lines early at_go → TellsHistory t (Unit {0}) [] start first_lines early at_go
+    → ServesAll t false start first_lines early at_go → TellsHistory t false (Unit {0}) [] start first_lines early at_go
     → TellsEach t w (workers_from 1 at_go.cpus other_lines) later
     → EndsAfter t w (λ end. IsQuiet t w end.locked × (length end.cpus ≡ t.cpus)) held audit
     → text ≡ (early ++ later) ++ end_text is_audited held audit → AreThreadAnswers sizes is_audited lines text
@@ -58,8 +58,8 @@ are_answers sizes is_audited t w lines first_lines other_lines start at_go early
       later = later;
       ending = end_text is_audited held audit;
       first = first;
-      served = subst (λ (l : List Line). ServesAll t start l early at_go) is_first served;
-      history = subst (λ (l : List Line). TellsHistory t (Unit {0}) [] start l early at_go) is_first history;
+      served = subst (λ (l : List Line). ServesAll t false start l early at_go) is_first served;
+      history = subst (λ (l : List Line). TellsHistory t false (Unit {0}) [] start l early at_go) is_first history;
       tells = subst (λ (l : List Line). TellsEach t w (workers_from 1 at_go.cpus l) later) is_other tells;
       quiet = ended.is_before.0;
       count = ended.is_before.1;

@@ -1,5 +1,5 @@
 -- What a script is answered, the lines from `go` on by a thread for each processor.
-use Rattle.std.specs.Prelude.{◌≡◌, ℕ, Bool, Option, Some, List, [], ◌++◌, length, take, drop}
+use Rattle.std.specs.Prelude.{◌≡◌, ℕ, Bool, false, Option, Some, List, [], ◌++◌, length, take, drop}
 use Rattle.std.specs.Io.KnownBytes.{Appends}
 use Rattle.frame_word.specs.Seats.{KnownTable}
 use Rattle.stock_word.specs.Stock.{Words}
@@ -31,8 +31,8 @@ pub record AreThreadAnswers (sizes : Config) (is_audited : Bool) (lines : List L
   pub later : List ℕ
   pub ending : List ℕ
   pub first : StandsAtFirst sizes frames stocks start
-  pub served : ServesAll frames start (take (lines_before_go lines) lines) early at_go
-  pub history : TellsHistory frames (Unit {0}) [] start (take (lines_before_go lines) lines) early at_go
+  pub served : ServesAll frames false start (take (lines_before_go lines) lines) early at_go
+  pub history : TellsHistory frames false (Unit {0}) [] start (take (lines_before_go lines) lines) early at_go
   pub tells : TellsEach frames stocks (workers_from 1 at_go.cpus (drop (lines_before_go lines) lines)) later
   pub quiet : IsQuiet frames stocks end.locked
   pub count : length end.cpus ≡ frames.cpus

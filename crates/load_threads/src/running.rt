@@ -38,7 +38,7 @@ pub fn run_by_threads<N: BootName + Send + Sync, R: Threads + Wait + Sync>(
 {
     let (early, later) = lines.split_at(before_go(lines));
     let (tables, mut locked, mut cpus) = boot.part::<N>(alloc)?;
-    let first = replay(alloc, &mut locked, &tables, &mut cpus, early);
+    let first = replay(alloc, &mut locked, &tables, &mut cpus, early, false);
     let (told, ended) = serve_and_end(rt, alloc, tables, locked, cpus, later, first.is_ok());
     let mut answers = first?;
     answers.extend_from_slice(&told?)?;

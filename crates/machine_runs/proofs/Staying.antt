@@ -78,7 +78,7 @@ drain_list_stays t frames m c n d takes visit =
 
 below_seat : (g : ℕ) (m : KnownMachine) (q : ℕ) (drains : List Drain) (n : KnownMachine) → DrainsBelow g m q drains n → n.seat ≡ m.seat
 below_seat g m q [] n d = ap (λ (k : KnownMachine). k.seat) d.1
-below_seat g m q (e ∷ []) n d = ap (λ (k : KnownMachine). k.seat) d.1.drains.machine
+below_seat g m q (e ∷ []) n d = ap (λ (k : KnownMachine). k.seat) d.1.drains.drains.machine
 below_seat g m q (e ∷ f ∷ more) n d = absurd d
 
 pub all_below_seat : (g k : ℕ) (drains : List Drain) (m n : KnownMachine) → DrainsAllBelow g k drains m n → n.seat ≡ m.seat

@@ -78,6 +78,7 @@ impl Account {
             freezes: 0,
             drops: 0,
             returns: 0,
+            misses: 0,
         };
         Account {
             size: frames,

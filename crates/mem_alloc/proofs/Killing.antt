@@ -8,7 +8,7 @@ use Rattle.frame_word.specs.Seats.{KnownTable}
 use Rattle.group_tree.specs.declared.group.Group.{Group}
 use Rattle.group_tree.specs.Groups.{has_group, in_subtree}
 use Rattle.group_charge.specs.declared.account.Account as charge
-use Rattle.group_charge.specs.Charges.{AreCharges, current_of, usage_of, with_event_at, with_oom}
+use Rattle.group_charge.specs.Charges.{AreCharges, current_of, usage_of, with_event_at, with_oom, with_oom_noted}
 use Rattle.group_charge.proofs.CallerLemmas.{sum-map_same}
 use Rattle.group_charge.proofs.KeptLemmas.{number_below}
 use Rattle.group_charge.proofs.SumLemmas.{share}
@@ -89,7 +89,7 @@ few_lower t r g pages m n steps k = elim (cases_lt 8 pages) [
 pub relieves_lower : (t : KnownTable) (r g pages : ℕ) (m n : KnownMachine) (steps : Run) → RelievesLimit r g pages (course t m steps n)
     → Lowers t m n
 relieves_lower t r g pages m n steps h =
-    lowers_both t m h.cleared n (clears_lower t g m h.cleared h.clearing h.clears)
+    lowers_both t m h.cleared n (clears_lower t g pages m h.cleared h.clearing h.clears)
     (lowers_both t h.cleared h.reclaimed n (keeps_lower t h.cleared h.reclaimed h.reclaims.keeps)
     (few_lower t r g pages h.reclaimed n h.killing h.kills))
 
@@ -163,7 +163,7 @@ pub so_far_nobody : (r : Option ℕ) (t : KnownTable) (g pages : ℕ) (m : Known
 so_far_nobody r t g pages m = record { victims = []; killing = []; kills = record { machine = refl; steps_are = refl }; runs = λ c. refl }
 
 pub so_far_killed : (r : Option ℕ) (t : KnownTable) (w : Words) (g pages v : ℕ) (m x n : KnownMachine) → KillsSoFar r t g pages m x
-    → IsWanting r g pages x → IsConsistent t w x → AreCharges x.ledger → IsVictim x g (Some v) → IsKilledBy t v x n
+    → IsWanting r g pages x → IsConsistent t w x → AreCharges x.ledger → IsVictim x g (Some v) → IsKilledBy t g v x n
     → n.killed ≡ slice_set x.killed v true → OnlyDrains x n → OnlyLetsGo t x n → KillsSoFar r t g pages m n
 so_far_killed r t w g pages v m x n so_far wanting whole charges chosen kills marked stocks keeps = record {
   victims = so_far.victims ++ v ∷ [];
@@ -191,7 +191,7 @@ so_far_there r t g pages m n so_far there =
 
 -- the kills are over
 pub kills_end : (r : Option ℕ) (t : KnownTable) (g pages : ℕ) (m x n : KnownMachine) → has_room_for m.ledger g pages ≡ false
-    → x ≡ with_oom_noted_at m g → MakesForAny t m (note_oom_steps g) x → KillsSoFar r t g pages (with_oom_noted_at m g) n
+    → x ≡ record m { ledger = with_oom_noted m.ledger g } → MakesForAny t m (note_oom_steps g) x → KillsSoFar r t g pages (with_oom_noted_at m g) n
     → (IsWanting r g pages n → IsVictim n g None) → ByStepsOfAny t m n (KillsFor r g pages)
 kills_end r t g pages m x n over noted noting so_far ended = (
   note_oom_steps g ++ so_far.killing,

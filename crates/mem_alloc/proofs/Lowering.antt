@@ -107,7 +107,16 @@ look_lowers t m n q (Some g) is = record {
 
 below_lowers : (t : KnownTable) (g q : ℕ) (m n : KnownMachine) (drains : List Drain) → DrainsBelow g m q drains n → Lowers t m n
 below_lowers t g q m n [] h = look_lowers t m n q (stock_group m q) h.1
-below_lowers t g q m n (drain ∷ []) h = drain_lowers t m n q drain.pages h.1.drains
+below_lowers t g q m n (drain ∷ []) h =
+    let l = drain_lowers t m (record n { notes = m.notes }) q drain.pages h.1.drains.drains in
+    record {
+      groups = l.groups;
+      killed = l.killed;
+      opened = l.opened;
+      visit = same_visit t m n (ap (λ (y : KnownMachine). y.seat) h.1.drains.drains.machine);
+      falls = l.falls;
+      emptied = l.emptied;
+    }
 below_lowers t g q m n (one ∷ two ∷ more) h = absurd h
 
 pub all_lower : (t : KnownTable) (g k : ℕ) (m n : KnownMachine) (drains : List Drain) → DrainsAllBelow g k drains m n → Lowers t m n
@@ -118,21 +127,21 @@ usage_noted : (groups : List Group) (xs : List charge.Account) (g m : ℕ) → u
 unfolding usage_of
 usage_noted groups xs g m = sum-map_same (share groups m) (noted groups g) (λ a. refl) xs
 
-pub note_lowers : (t : KnownTable) (m : KnownMachine) (g : ℕ) → Lowers t m (with_max_noted_at m g)
-note_lowers t m g = record {
+pub note_lowers : (t : KnownTable) (m : KnownMachine) (g pages : ℕ) → Lowers t m (with_max_noted_at m g pages)
+note_lowers t m g pages = record {
   groups = refl;
   killed = λ v dead. dead;
   opened = refl;
-  visit = same_visit t m (with_max_noted_at m g) refl;
+  visit = same_visit t m (with_max_noted_at m g pages) refl;
   falls = λ h.
-      let a : current_of (with_max_noted_at m g).ledger h ≡ current_of m.ledger h = usage_noted m.ledger.groups m.ledger.accounts g h in
+      let a : current_of (with_max_noted_at m g pages).ledger h ≡ current_of m.ledger h = usage_noted m.ledger.groups m.ledger.accounts g h in
       omega (arith, a);
   emptied = λ p is. is;
 }
 
-pub clears_lower : (t : KnownTable) (g : ℕ) (m n : KnownMachine) (steps : Run) → ClearsBelow g (course t m steps n) → Lowers t m n
-clears_lower t g m n steps c =
-    lowers_both t m (with_max_noted_at m g) n (note_lowers t m g) (all_lower t g t.cpus (with_max_noted_at m g) n c.drains c.all)
+pub clears_lower : (t : KnownTable) (g pages : ℕ) (m n : KnownMachine) (steps : Run) → ClearsBelow g pages (course t m steps n) → Lowers t m n
+clears_lower t g pages m n steps c =
+    lowers_both t m (with_max_noted_at m g pages) n (note_lowers t m g pages) (all_lower t g t.cpus (with_max_noted_at m g pages) n c.drains c.all)
 
 -- reclaim keeps it too
 pub keeps_lower : (t : KnownTable) (m n : KnownMachine) → Keeps t m n → Lowers t m n

@@ -7,7 +7,7 @@ use Rattle.frame_word.specs.Seats.{KnownTable}
 use Rattle.group_tree.specs.declared.group.Group.{Group}
 use Rattle.group_tree.specs.Groups.{limit_of}
 use Rattle.group_tree.specs.Room.{IsLowestOver, fits_limit}
-use Rattle.group_charge.specs.Charges.{current_of}
+use Rattle.group_charge.specs.Charges.{current_of, with_max_noted}
 use Rattle.cpu_part.specs.Cpus.{KnownCpu}
 use Rattle.step_rules.specs.After.{Run}
 use Rattle.mem_machine.specs.Machines.{KnownMachine, is_killed}
@@ -22,7 +22,7 @@ use Rattle.mem_reclaim.specs.Staying.{Keeps, MissedAll}
 use Rattle.mem_reclaim.proofs.Keeping.{keeps_none}
 use Rattle.mem_alloc.specs.Kills.{KillsFor, has_room_for}
 use Rattle.mem_alloc.specs.Room.{ClearsBelow, HasMadeRoom, IsCause, IsRefusedAt, IsRefusedFor, KillsForFew, MakesRoom, ReclaimsFor, RelievesLimit, RoundsBefore}
-use Rattle.mem_alloc.specs.Room.{with_max_noted_at}
+use Rattle.mem_alloc.specs.Room.{with_limit_noted, with_max_noted_at}
 use Rattle.mem_alloc.specs.declared.faults.AllocFault.{AllocFault}
 use Rattle.mem_alloc.specs.Charging.{FillsAfterRoom, RefusesOne}
 use Rattle.mem_alloc.proofs.Lowering.{Lowers, lowers_none, lowers_both}
@@ -33,23 +33,25 @@ note_then_drains : (t : KnownTable) (g pages : ℕ) (m x n : KnownMachine) → M
 note_then_drains t g pages m x n noting drains c =
     run_both c.number (note_max_steps g) (drain_stocks_steps drains.drains) (local_of t m c) (local_of t x c) (local_of t n c) (noting c) (drains.steps c)
 
--- the note, and then the drains. Serves `make_room`
-pub clears_by : (t : KnownTable) (g pages : ℕ) (m x n : KnownMachine) → x ≡ with_max_noted_at m g → MakesForAny t m (note_max_steps g) x
-    → DrainsSubtree t g pages x n → AreDrained g t.cpus n → ByStepsOfAny t m n (ClearsBelow g)
-clears_by t g pages m x n noted noting drains drained = (
-  note_max_steps g ++ drain_stocks_steps drains.drains,
-  record {
-    drains = drains.drains;
-    all = subst (λ (k : KnownMachine). DrainsAllBelow g t.cpus drains.drains k n) noted drains.all;
-    drained = drained;
-    steps_are = refl;
-    runs = λ c. note_then_drains t g pages m x n noting drains c;
-  },
-  λ c. note_then_drains t g pages m x n noting drains c,
-)
+-- the notes, and then the drains. Serves `make_room`
+pub clears_by : (t : KnownTable) (g pages back : ℕ) (m y x n : KnownMachine) → y ≡ with_limit_noted m g pages → x ≡ record y { ledger = with_max_noted y.ledger g }
+    → MakesForAny t y (note_max_steps g) x → DrainsSubtree t g back x n → AreDrained g t.cpus n → ByStepsOfAny t m n (ClearsBelow g pages)
+clears_by t g pages back m y x n told noted noting_y drains drained =
+    let both : x ≡ with_max_noted_at m g pages = noted ∙ ap (λ (k : KnownMachine). record k { ledger = with_max_noted k.ledger g }) told in
+    let noting : MakesForAny t m (note_max_steps g) x = subst (λ (k : KnownMachine). MakesForAny t k (note_max_steps g) x) told noting_y in (
+      note_max_steps g ++ drain_stocks_steps drains.drains,
+      record {
+        drains = drains.drains;
+        all = subst (λ (k : KnownMachine). DrainsAllBelow g t.cpus drains.drains k n) both drains.all;
+        drained = drained;
+        steps_are = refl;
+        runs = λ c. note_then_drains t g back m x n noting drains c;
+      },
+      λ c. note_then_drains t g back m x n noting drains c,
+    )
 
 -- and then the rounds, and the kills
-pub relieves_by : (t : KnownTable) (r g pages : ℕ) (m x y n : KnownMachine) → ByStepsOfAny t m x (ClearsBelow g) → ByStepsOfAny t x y (ReclaimsFor g pages)
+pub relieves_by : (t : KnownTable) (r g pages : ℕ) (m x y n : KnownMachine) → ByStepsOfAny t m x (ClearsBelow g pages) → ByStepsOfAny t x y (ReclaimsFor g pages)
     → ByStepsOfAny t y n (KillsForFew r g pages) → ByStepsOfAny t m n (RelievesLimit r g pages)
 relieves_by t r g pages m x y n first next last = (
   first.0 ++ (next.0 ++ last.0),

@@ -107,9 +107,9 @@ counts_few t r g pages m n steps k = elim (cases_lt 8 pages) [
 
 -- ---- a limit without room
 
-counts_clear : (t : KnownTable) (g : ℕ) (m n : KnownMachine) (steps : Run) → ClearsBelow g (course t m steps n) → CountsMisses (course t m steps n)
-counts_clear t g m n steps h =
-    let x = with_max_noted_at m g in
+counts_clear : (t : KnownTable) (g pages : ℕ) (m n : KnownMachine) (steps : Run) → ClearsBelow g pages (course t m steps n) → CountsMisses (course t m steps n)
+counts_clear t g pages m n steps h =
+    let x = with_max_noted_at m g pages in
     let note = counts_same t m x (note_max_steps g) (record { quiet = refl; no_miss = λ f. refl }) refl in
     counts_as t m n steps (note_max_steps g ++ drain_stocks_steps h.drains) h.steps_are
     (counts_both t m x n (note_max_steps g) (drain_stocks_steps h.drains) note (counts_drains t g t.cpus x n h.drains h.all))
@@ -120,7 +120,7 @@ counts_relief t r g pages m n steps h =
     let x = h.cleared in
     let y = h.reclaimed in
     counts_as t m n steps (h.clearing ++ (h.reclaiming ++ h.killing)) h.steps_are
-    (counts_both t m x n h.clearing (h.reclaiming ++ h.killing) (counts_clear t g m x h.clearing h.clears)
+    (counts_both t m x n h.clearing (h.reclaiming ++ h.killing) (counts_clear t g pages m x h.clearing h.clears)
     (counts_both t x y n h.reclaiming h.killing h.reclaims.none_killed.misses (counts_few t r g pages y n h.killing h.kills)))
 
 over_counts : (t : KnownTable) (g pages over : ℕ) (m : KnownMachine) → CountsMisses (course t m (over_steps g pages over) m)

@@ -190,7 +190,9 @@ one_same g q m n [] h = record {
   links = ap (λ (x : KnownMachine). x.links) h.1;
   groups = ap (λ (x : KnownMachine). x.ledger.groups) h.1;
 }
-one_same g q m n (drain ∷ []) h = drain_same m n q drain.pages h.1.drains
+one_same g q m n (drain ∷ []) h =
+    let same = drain_same m (record n { notes = m.notes }) q drain.pages h.1.drains.drains in
+    record { seat = same.seat; links = same.links; groups = same.groups }
 one_same g q m n (one ∷ two ∷ more) h = absurd h
 
 pub all_same : (g k : ℕ) (m n : KnownMachine) (drains : List Drain) → DrainsAllBelow g k drains m n → SameUnits m n
@@ -307,8 +309,8 @@ module _ (t : KnownTable) (MayAsk : List Group → ℕ → ℕ → Type 0) (s : 
   is_kept (Some h) kept = (h, refl)
 
   -- a kill's steps, of which the first is the kill
-  kill_passes : (v : ℕ) (m n : KnownMachine) (kills : IsKilledBy t v m n) → OnlyLetsGo t m n → Passes t c m kills.steps n
-  kill_passes v m n kills keeps = record {
+  kill_passes : (g v : ℕ) (m n : KnownMachine) (kills : IsKilledBy t g v m n) → OnlyLetsGo t m n → Passes t c m kills.steps n
+  kill_passes g v m n kills keeps = record {
     runs = kills.runs c;
     tied = record {
       misses = λ f.
@@ -341,7 +343,7 @@ module _ (t : KnownTable) (MayAsk : List Group → ℕ → ℕ → Type 0) (s : 
   ready_more : (r : Option ℕ) (g pages v : ℕ) (made : Run) (m : KnownMachine) (steps : Run) (n : KnownMachine) → Ready g made m
       → (one : KillsOne r g pages v (course t m steps n)) → Ready g (made ++ steps) n
   ready_more r g pages v made m steps n ready one =
-      let passes = subst (λ (k : Run). Passes t c m k n) (sym one.steps_are) (kill_passes v m n one.kills one.keeps) in
+      let passes = subst (λ (k : Run). Passes t c m k n) (sym one.steps_are) (kill_passes g v m n one.kills one.keeps) in
       record {
         since = passes_both t c s m n made steps ready.since passes;
         noted = noted_more g made steps ready.noted;
@@ -373,7 +375,7 @@ module _ (t : KnownTable) (MayAsk : List Group → ℕ → ℕ → Type 0) (s : 
       subst (λ (k : Run). Tame made m k n) (sym one.steps_are) (record {
         rash = subst (λ (k : Run). RashFree t MayAsk s c made k) (sym one.kills.front)
             (rash_kill made one.kills.later m v ready.since.runs may one.kills.quiet);
-        passes = kill_passes v m n one.kills one.keeps;
+        passes = kill_passes g v m n one.kills one.keeps;
         groups = one.keeps.groups;
       })
 
@@ -425,9 +427,9 @@ module _ (t : KnownTable) (MayAsk : List Group → ℕ → ℕ → Type 0) (s : 
       let q = since.tied.misses f in
       omega (arith, p, q)
 
-  clears_tame : (g : ℕ) (made : Run) (m : KnownMachine) (steps : Run) (n : KnownMachine) → ClearsBelow g (course t m steps n) → Tame made m steps n
-  clears_tame g made m steps n h =
-      let same = all_same g t.cpus (with_max_noted_at m g) n h.drains h.all in
+  clears_tame : (g pages : ℕ) (made : Run) (m : KnownMachine) (steps : Run) (n : KnownMachine) → ClearsBelow g pages (course t m steps n) → Tame made m steps n
+  clears_tame g pages made m steps n h =
+      let same = all_same g t.cpus (with_max_noted_at m g pages) n h.drains h.all in
       let quiet = quiet_both (note_max_steps g) (drain_stocks_steps h.drains) (record { quiet = refl; no_miss = λ f. refl }) (quiet_drains h.drains) in
       let here = subst AreQuiet (sym h.steps_are) quiet in
       tame_quiet made m steps n (passes_same t c m n steps (h.runs c) same.seat same.links here) same.groups here.quiet
@@ -450,7 +452,7 @@ module _ (t : KnownTable) (MayAsk : List Group → ℕ → ℕ → Type 0) (s : 
   relieves_tame r g pages made m steps n asked since h =
       let x = h.cleared in
       let y = h.reclaimed in
-      let one = clears_tame g made m h.clearing x h.clears in
+      let one = clears_tame g pages made m h.clearing x h.clears in
       let after_one = passes_both t c s m x made h.clearing since one.passes in
       let two = reclaims_tame g pages (made ++ h.clearing) x h.reclaiming y h.reclaims in
       let after_two = passes_both t c s x y (made ++ h.clearing) h.reclaiming after_one two.passes in

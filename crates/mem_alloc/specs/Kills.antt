@@ -4,6 +4,8 @@ use Rattle.group_tree.specs.Room.{has_room}
 use Rattle.group_charge.specs.Charges.{AreCharges, Ledger, current_of, with_oom_noted}
 use Rattle.stock_word.specs.Stock.{Words}
 use Rattle.step_rules.specs.After.{Run}
+use Rattle.kill_notes.specs.declared.note.Note.TheVariants.{Oom}
+use Rattle.kill_notes.specs.Notes.{noted}
 use Rattle.mem_machine.specs.Machines.{IsConsistent, KnownMachine, is_killed}
 use Rattle.mem_machine.specs.Local.{MakesForAny}
 use Rattle.mem_machine.specs.Steps.{note_oom_steps}
@@ -15,9 +17,10 @@ use Rattle.mem_alloc.specs.Stepping.{Course, course, Rests}
 abbrev pub has_room_for : Ledger → ℕ → ℕ → Bool
 has_room_for ledger g pages = has_room ledger.groups (current_of ledger) g pages
 
--- the machine after it was noted that an allocation was about to fail at the group's limit
+-- the machine after it was noted that an allocation was about to fail at the group's limit: as an event, and for whoever
+-- reads the notes
 abbrev pub with_oom_noted_at : KnownMachine → ℕ → KnownMachine
-with_oom_noted_at m g = record m { ledger = with_oom_noted m.ledger g }
+with_oom_noted_at m g = record m { ledger = with_oom_noted m.ledger g; notes = noted m.notes (Oom g) }
 
 -- the group that asks for the pages, if one does, isn't killed
 abbrev pub IsAlive : Option ℕ → KnownMachine → Type 0
@@ -37,7 +40,7 @@ pub record KillsOne (requester : Option ℕ) (group pages victim : ℕ) (way : C
   pub words : Words
   pub consistent : IsConsistent way.table words way.before
   pub charges : AreCharges way.before.ledger
-  pub kills : IsKilledBy way.table victim way.before way.after
+  pub kills : IsKilledBy way.table group victim way.before way.after
   pub steps_are : way.steps ≡ kills.steps
   pub marked : way.after.killed ≡ slice_set way.before.killed victim true
   pub stocks : OnlyDrains way.before way.after

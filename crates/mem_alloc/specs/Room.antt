@@ -2,7 +2,10 @@
 use Rattle.std.specs.Prelude.{◌≡◌, ℕ, ◌+◌, ◌<◌, ◌≤◌, true, false, Option, Some, None, List, [], ◌∷◌, ◌++◌}
 use Rattle.group_tree.specs.Groups.{limit_of}
 use Rattle.group_tree.specs.Room.{IsLowestOver}
-use Rattle.group_charge.specs.Charges.{current_of, with_max_noted}
+use Rattle.group_charge.specs.Charges.{Ledger, current_of, with_max_noted}
+use Rattle.kill_notes.specs.declared.note.Note.{Note}
+use Rattle.kill_notes.specs.declared.note.Note.TheVariants.{Limit}
+use Rattle.kill_notes.specs.Notes.{noted}
 use Rattle.step_rules.specs.After.{Run}
 use Rattle.mem_machine.specs.Machines.{KnownMachine, is_killed}
 use Rattle.mem_machine.specs.Local.{MakesForAny}
@@ -17,15 +20,28 @@ use Rattle.mem_alloc.specs.Stepping.{CountsMisses, Course, course, Rests}
 -- what is killed, and whether there is room
 pub use Rattle.mem_alloc.specs.Kills.{KillsFor, has_room_for}
 
--- the machine after it was noted that the group's usage was about to go over its limit
-abbrev pub with_max_noted_at : KnownMachine → ℕ → KnownMachine
-with_max_noted_at m g = record m { ledger = with_max_noted m.ledger g }
+-- the notes with one more, of the group's limit, if it has one: that it has no room for so many pages more
+abbrev pub limit_notes : Option ℕ → Ledger → ℕ → ℕ → List Note → List Note
+limit_notes None ledger g need notes = notes
+limit_notes (Some max) ledger g need notes = noted notes (Limit g max (current_of ledger g) need)
 
--- it is noted that the group's usage was about to go over its limit, and then the stocks of its subtree are drained, by
--- these steps, whoever holds the lock
-pub record ClearsBelow (group : ℕ) (way : Course KnownMachine) : Type 0 where
+-- the machine after that was noted
+abbrev pub with_limit_noted : KnownMachine → ℕ → ℕ → KnownMachine
+with_limit_noted m g need = record m { notes = limit_notes (limit_of m.ledger.groups g) m.ledger g need m.notes }
+
+-- the machine after it was noted that so many pages more were about to take the group's usage over its limit: for whoever
+-- reads the notes, and as an event
+abbrev pub with_max_noted_at : KnownMachine → ℕ → ℕ → KnownMachine
+with_max_noted_at m g pages = record m {
+  ledger = with_max_noted m.ledger g;
+  notes = limit_notes (limit_of m.ledger.groups g) m.ledger g pages m.notes;
+}
+
+-- it is noted that so many pages were about to take the group's usage over its limit, and then the stocks of its subtree
+-- are drained, by these steps, whoever holds the lock
+pub record ClearsBelow (group pages : ℕ) (way : Course KnownMachine) : Type 0 where
   pub drains : List Drain
-  pub all : DrainsAllBelow group way.table.cpus drains (with_max_noted_at way.before group) way.after
+  pub all : DrainsAllBelow group way.table.cpus drains (with_max_noted_at way.before group pages) way.after
   pub drained : AreDrained group way.table.cpus way.after
   pub steps_are : way.steps ≡ note_max_steps group ++ drain_stocks_steps drains
   pub runs : MakesForAny way.table way.before way.steps way.after
@@ -65,7 +81,7 @@ pub record RelievesLimit (requester group pages : ℕ) (way : Course KnownMachin
   pub clearing : Run
   pub reclaiming : Run
   pub killing : Run
-  pub clears : ClearsBelow group (course way.table way.before clearing cleared)
+  pub clears : ClearsBelow group pages (course way.table way.before clearing cleared)
   pub reclaims : ReclaimsFor group pages (course way.table cleared reclaiming reclaimed)
   pub kills : KillsForFew requester group pages (course way.table reclaimed killing way.after)
   pub steps_are : way.steps ≡ clearing ++ (reclaiming ++ killing)

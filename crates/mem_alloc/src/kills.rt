@@ -9,6 +9,7 @@ ghost use Rattle.mem_alloc.specs.Stepping.{ByStepsOfAny};
 use cpu_part::{BootName, Tables};
 use group_charge::charges::Charges;
 use group_tree::group::GroupId;
+use kill_notes::note::Note;
 use mem_machine::Machine;
 use mem_reclaim::kill;
 
@@ -63,6 +64,7 @@ pub fn kill_for<N: BootName>(
         return;
     }
     machine.note_oom(group);
+    machine.note(Note::Oom { group });
     'kills: loop {
         let _spots = machine.spots(); // For the clauses.
         let charges = machine.charges();

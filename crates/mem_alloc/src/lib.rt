@@ -17,3 +17,4 @@ pub use blocks::alloc_block;
 pub use faults::AllocFault;
 pub use frames::alloc_frame;
 pub use kills::kill_for;
+pub use room::note_limit;

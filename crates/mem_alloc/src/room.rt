@@ -1,14 +1,15 @@
 //! What is done where a limit has no room for a charge.
 
-ghost use Rattle.std.specs.Prelude.{◌<◌, IsTrue, MatchResult};
+ghost use Rattle.std.specs.Prelude.{◌≡◌, ◌<◌, IsTrue, MatchResult};
 ghost use Rattle.group_tree.specs.Groups.{has_group};
 ghost use Rattle.mem_alloc.specs.Stepping.{ByStepsOfAny};
-ghost use Rattle.mem_alloc.specs.Room.{HasMadeRoom, IsCause, ReclaimsFor, RelievesLimit};
+ghost use Rattle.mem_alloc.specs.Room.{HasMadeRoom, IsCause, ReclaimsFor, RelievesLimit, with_limit_noted};
 
 use crate::faults::AllocFault;
 use crate::kills::{has_room_at, kill_for_few};
 use cpu_part::{BootName, Tables};
 use group_tree::group::GroupId;
+use kill_notes::note::Note;
 use mem_machine::Machine;
 use mem_reclaim::make_rounds;
 
@@ -24,6 +25,23 @@ fn reclaim_for<N: BootName>(
 {
     if let Some(limit) = machine.charges().max(group) {
         make_rounds(machine, tables, group, pages, limit);
+    }
+}
+
+/// Notes for whoever reads the notes that the limit of the group, if it has one, has no room for `need` pages more; 0 where
+/// the limit was written. Nothing else changes.
+pub fn note_limit<N: BootName>(machine: &mut Machine<N>, group: GroupId, need: u32)
+    requires { IsTrue (has_group machine.old.ledger.groups group) }
+    ensures { machine.new ≡ with_limit_noted machine.old group need }
+{
+    if let Some(max) = machine.charges().max(group) {
+        let usage = machine.current(group);
+        machine.note(Note::Limit {
+            group,
+            max,
+            usage,
+            need,
+        });
     }
 }
 
@@ -44,6 +62,7 @@ pub(crate) fn make_room<N: BootName>(
     ensures fits { group < 64 }
 {
     let _number = group.number(); // For the clauses.
+    note_limit(machine, group, pages);
     machine.note_max(group);
     machine.drain_stocks(tables, group);
     reclaim_for(machine, tables, group, pages);

@@ -22,7 +22,7 @@ use Rattle.step_rules.specs.State.{Part}
 use Rattle.step_rules.specs.After.{Run}
 use Rattle.mem_machine.specs.Local.{local_of, part_with, IsLocalRun}
 use Rattle.mem_machine.specs.Steps.{Drain, drain_steps, drain_stocks_steps, pages_drained}
-use Rattle.mem_machine.specs.Stocks.{stock_group, Drains, DrainsIf, DrainsAllIf, DrainsIfChosen, DrainsChosen, AreDrainedIf}
+use Rattle.mem_machine.specs.Stocks.{stock_group, DrainsNoted, DrainsIf, DrainsAllIf, DrainsIfChosen, DrainsChosen, AreDrainedIf}
 use Rattle.mem_machine.proofs.Reaching.{run_both}
 use Rattle.mem_machine.proofs.GroupSteps.{stayed_runs}
 use Rattle.mem_machine.proofs.Draining.{drained_at, drained_else, groups_stay, looked_now}
@@ -40,30 +40,30 @@ look_group view q (Some g) = refl
 module _ (test : List Group → Option ℕ → Bool) (q : ℕ) (x n : KnownMachine) where
   pub below_groups : (drains : List Drain) → DrainsIf test x q drains n → n.ledger.groups ≡ x.ledger.groups
   below_groups [] d = ap (λ (y : KnownMachine). y.ledger.groups) d.1
-  below_groups (e ∷ []) d = ap (λ (y : KnownMachine). y.ledger.groups) d.1.drains.machine ∙ groups_stay x.ledger (stock_group x q) e.pages
+  below_groups (e ∷ []) d = ap (λ (y : KnownMachine). y.ledger.groups) d.1.drains.drains.machine ∙ groups_stay x.ledger (stock_group x q) e.pages
   below_groups (e ∷ f ∷ more) d = absurd d
 
   pub below_else : (drains : List Drain) → DrainsIf test x q drains n → (p : ℕ) → (p ≡ q → ⊥) → account_of n.stock.view p ≡ account_of x.stock.view p
   below_else [] d p ne = ap (λ (y : KnownMachine). account_of y.stock.view p) d.1 ∙ look_else x.stock.view q p (stock_group x q) ne
-  below_else (e ∷ []) d p ne = ap (λ (y : KnownMachine). account_of y.stock.view p) d.1.drains.machine ∙ drained_else x.stock.view q e.pages p ne
+  below_else (e ∷ []) d p ne = ap (λ (y : KnownMachine). account_of y.stock.view p) d.1.drains.drains.machine ∙ drained_else x.stock.view q e.pages p ne
   below_else (e ∷ f ∷ more) d p ne = absurd d
 
   pub below_group : (drains : List Drain) → DrainsIf test x q drains n → stock_group n q ≡ stock_group x q
   below_group [] d = ap (λ (y : KnownMachine). stock_group y q) d.1 ∙ look_group x.stock.view q (stock_group x q)
-  below_group (e ∷ []) d = ap (λ (y : KnownMachine). stock_group y q) d.1.drains.machine ∙ ap (λ (a : Account). a.group) (drained_at x.stock.view q e.pages)
+  below_group (e ∷ []) d = ap (λ (y : KnownMachine). stock_group y q) d.1.drains.drains.machine ∙ ap (λ (a : Account). a.group) (drained_at x.stock.view q e.pages)
   below_group (e ∷ f ∷ more) d = absurd d
 
   pub below_filled : (drains : List Drain) → DrainsIf test x q drains n → test x.ledger.groups (stock_group x q) ≡ true
       → (account_of n.stock.view q).filled ≡ false
   below_filled [] d below = absurd (false≢true (sym d.0 ∙ below))
-  below_filled (e ∷ []) d below = ap (λ (y : KnownMachine). (account_of y.stock.view q).filled) d.1.drains.machine
+  below_filled (e ∷ []) d below = ap (λ (y : KnownMachine). (account_of y.stock.view q).filled) d.1.drains.drains.machine
       ∙ ap (λ (a : Account). a.filled) (drained_at x.stock.view q e.pages)
   below_filled (e ∷ f ∷ more) d below = absurd d
 
 -- ---- one processor's stock
 
 -- it is of the subtree, and is drained
-pub drained_one : (t : KnownTable) (test : List Group → Option ℕ → Bool) (q pages : ℕ) (m n : KnownMachine) → test m.ledger.groups (stock_group m q) ≡ true → Drains m q pages n
+pub drained_one : (t : KnownTable) (test : List Group → Option ℕ → Bool) (q pages : ℕ) (m n : KnownMachine) → test m.ledger.groups (stock_group m q) ≡ true → DrainsNoted m q pages n
     → ((c : KnownCpu) → IsLocalRun c.number (local_of t m c) (drain_steps q (stock_group m q) pages) (local_of t n c)) → DrainsIfChosen t test q pages m n
 drained_one t test q pages m n below drains steps = record {
   drains = record { cpu = q; group = stock_group m q; pages = pages } ∷ [];
@@ -118,7 +118,7 @@ module _ (t : KnownTable) (m : KnownMachine) (q : ℕ) (none : stock_group m q �
 
 -- the stock of a group that the test chooses, of the machine as it was seen before the look
 pub looked_own : (t : KnownTable) (m now : KnownMachine) → m ≡ now → (stock : Seated) → stock ≡ m.stock → (test : List Group → Option ℕ → Bool)
-    → (q h pages : ℕ) (n : KnownMachine) → Some h ≡ stock_group m q → test m.ledger.groups (Some h) ≡ true → Drains (record m { stock = stock }) q pages n
+    → (q h pages : ℕ) (n : KnownMachine) → Some h ≡ stock_group m q → test m.ledger.groups (Some h) ≡ true → DrainsNoted (record m { stock = stock }) q pages n
     → ((c : KnownCpu) → IsLocalRun c.number (local_of t (record m { stock = stock }) c) (drain_steps q (stock_group (record m { stock = stock }) q) pages)
     (local_of t n c)) → DrainsIfChosen t test q pages now n
 looked_own t m now same stock is test q h pages n of chosen drains steps =

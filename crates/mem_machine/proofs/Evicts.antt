@@ -27,7 +27,7 @@ use Rattle.mem_machine.specs.Spots.{spot_at, free_of, head_group_of, some_cpu}
 use Rattle.mem_machine.specs.Machines.{KnownMachine, FitsSpot, IsConsistent, Visits, home_of}
 use Rattle.mem_machine.specs.Local.{MakesForAny, local_of, references_of, side}
 use Rattle.mem_machine.specs.Freeing.{FreesFrames}
-use Rattle.mem_machine.specs.Counts.{with_freeze}
+use Rattle.mem_machine.specs.Counts.{with_freeze, with_miss}
 use Rattle.mem_machine.specs.Releasing.{LeavesList}
 use Rattle.mem_machine.specs.Evicting.{MissesUnit, EvictsUnit, evict_steps}
 use Rattle.mem_machine.proofs.Balances.{balanced_freeze}
@@ -74,11 +74,12 @@ missed_fits t w m ok f word g within =
     }
 
 pub missed_all : (t : KnownTable) (w : Words) (m now : KnownMachine) → m ≡ now → IsConsistent t w m → (f : ℕ) → f < t.frames → home_of now.links f ≢ None
-    → (seat : KnownSeat) → FreezeAnswers m.seat f 1 false seat → AllMissed t w now f (record m { seat = seat })
-missed_all t w m now same ok f inside kept seat answered =
+    → (seat : KnownSeat) → FreezeAnswers m.seat f 1 false seat → (counts : Counts) → counts ≡ with_miss m.counts
+    → AllMissed t w now f (record m { seat = seat; counts = counts })
+missed_all t w m now same ok f inside kept seat answered counts counted =
     let word : ℕ = answered.0 in
     let held = kept_held t w m now same ok f inside kept in
-    let n : KnownMachine = record m { seat = seat_with m.seat f (missed word) } in
+    let n : KnownMachine = record m { seat = seat_with m.seat f (missed word); counts = with_miss m.counts } in
     let all : AllMissed t w m f n = record {
       consistent = record {
         sizes = let s = ok.sizes in record { spots = s.spots; links = s.links; lists = s.lists; killed = s.killed; cpus = s.cpus };
@@ -100,7 +101,8 @@ missed_all t w m now same ok f inside kept seat answered =
             λ i. record s { references = λ q x. references_stay m.seat c f word q x i },
           );
     } in
-    subst (λ (x : KnownMachine × KnownSeat). AllMissed t w x.0 f (record m { seat = x.1 })) (λ j. (same j, sym answered.2 j)) all
+    subst (λ (x : KnownMachine × KnownSeat × Counts). AllMissed t w x.0 f (record m { seat = x.1; counts = x.2 }))
+    (λ j. (same j, sym answered.2 j, sym counted j)) all
 
 -- ---- a freeze
 

@@ -151,8 +151,9 @@ starts t w m free frames first sized links empty all areas cpus =
 
 pub first_is : (t : KnownTable) (w : Words) (m : KnownMachine) (frames : ℕ) → frames ≡ t.frames → m.spots ≡ replicate frames Free
     → m.ledger ≡ initial_ledger → AreNowhere m.links → m.seat ≡ record { table = t.table; view = first_zone_view t.frames }
-    → m.stock ≡ record { table = w.table; view = first_machine } → m.killed ≡ replicate 64 false → m.counts ≡ no_counts → IsFirst t w m
-first_is t w m frames sized spots ledger nowhere seat stock killed counts = record {
+    → m.stock ≡ record { table = w.table; view = first_machine } → m.killed ≡ replicate 64 false → m.counts ≡ no_counts
+    → m.notes ≡ [] → IsFirst t w m
+first_is t w m frames sized spots ledger nowhere seat stock killed counts notes = record {
   spots = spots ∙ ap (λ (n : ℕ). replicate n Free) sized;
   ledger = ledger;
   nowhere = nowhere;
@@ -160,4 +161,5 @@ first_is t w m frames sized spots ledger nowhere seat stock killed counts = reco
   stock = stock;
   killed = killed;
   counts = counts;
+  notes = notes;
 }

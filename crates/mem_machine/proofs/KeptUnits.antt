@@ -193,6 +193,7 @@ pub unit_kept : (t : KnownTable) (w : Words) (m : KnownMachine) → IsConsistent
       stock = stock;
       killed = m.killed;
       counts = counts;
+      notes = m.notes;
     })
 unit_kept t w m ok g fits b block spots placed first rest any lru read links new added others all change used blocks ledger stock counts joins balances =
     let uncharged : (f : ℕ) → b.at ≤ f → f < b.at + 2 ^ b.order → group_of (spot_at m.spots f) ≡ None =

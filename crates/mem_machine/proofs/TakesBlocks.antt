@@ -191,6 +191,7 @@ taken_machine m g b blocks spots links new = record {
   stock = m.stock;
   killed = m.killed;
   counts = m.counts;
+  notes = m.notes;
 }
 
 taken_here : (t : KnownTable) (w : Words) (m : KnownMachine) (c : KnownCpu) → IsConsistent t w m → (g : ℕ) → g < 64 → (b : Block)

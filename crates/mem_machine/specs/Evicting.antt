@@ -11,16 +11,20 @@ use Rattle.step_rules.specs.After.{Run}
 use Rattle.mem_machine.specs.declared.spot.Spot.TheVariants.{Head}
 use Rattle.mem_machine.specs.Spots.{spot_at, free_of}
 use Rattle.mem_machine.specs.Machines.{KnownMachine}
-use Rattle.mem_machine.specs.Counts.{with_freeze}
+use Rattle.mem_machine.specs.Counts.{with_freeze, with_miss}
 use Rattle.mem_machine.specs.Freeing.{FreesFrames}
 use Rattle.mem_machine.specs.Releasing.{LeavesList}
 use Rattle.mem_machine.specs.Steps.{zone_makes}
 
--- someone else has a reference: the zone's seat noted one miss more on the frame, and nothing else changed
+-- someone else has a reference: the zone's seat noted one miss more on the frame, which is counted, and nothing else
+-- changed
 pub record MissesUnit (before : KnownMachine) (frame : ℕ) (after : KnownMachine) : Type 0 where
   pub word : ℕ
   pub others : word ≢ 1
-  pub machine : after ≡ record before { seat = seat_with before.seat frame (missed word) }
+  pub machine : after ≡ record before {
+    seat = seat_with before.seat frame (missed word);
+    counts = with_miss before.counts;
+  }
 
 -- the unit was frozen and came back: it is off its list, its frames are free, and its pages, so many, off the charge of
 -- its group, whose list it stood on; nothing else changed

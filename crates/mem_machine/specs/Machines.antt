@@ -1,6 +1,6 @@
 -- What a contract sees of the machine, and what always holds of it.
 use Rattle.std.specs.Prelude.{◌≡◌, ◌≢◌, ℕ, ◌+◌, ◌<◌, ◌≤◌, ◌==◌, Bool, false, Option, Some, None, is_some, IfSome}
-use Rattle.std.specs.Prelude.{List, length, replicate, slice_set, if◌then◌else◌}
+use Rattle.std.specs.Prelude.{List, [], length, replicate, slice_set, if◌then◌else◌}
 use Rattle.std.specs.List.{slice_index_or}
 use Rattle.zone_blocks.specs.declared.block.Block.{Block}
 use Rattle.zone_blocks.specs.Areas.{AreMaximalBlocks}
@@ -28,6 +28,8 @@ use Rattle.cpu_part.specs.Cpus.{KnownCpu}
 use Rattle.mem_machine.specs.declared.spot.Spot.{Spot}
 use Rattle.mem_machine.specs.declared.spot.Spot.TheVariants.{Free}
 use Rattle.mem_machine.specs.declared.counts.Counts.{Counts}
+use Rattle.kill_notes.specs.declared.note.Note.{Note}
+use Rattle.kill_notes.specs.Notes.{noted}
 -- each unit that came back was put last, frozen or dropped
 pub use Rattle.mem_machine.specs.Counts.{BalancesCounts}
 use Rattle.mem_machine.specs.Counts.{no_counts}
@@ -36,7 +38,7 @@ use Rattle.mem_machine.specs.Spots.{group_of, head_group_of, count_of}
 
 -- The machine: the free areas, a record for each frame, the groups and their charges, the records through which the
 -- units' lists are linked and two lists for each group number, the zone's seats at the two tables, which group numbers
--- are killed, and how often units ended and came back
+-- are killed, how often units ended and came back, and what was noted since the last visit began
 pub record KnownMachine : Type 0 where
   pub blocks : List Block
   pub spots : List Spot
@@ -47,6 +49,11 @@ pub record KnownMachine : Type 0 where
   pub stock : Seated
   pub killed : List Bool
   pub counts : Counts
+  pub notes : List Note
+
+-- the machine with one note more
+abbrev pub with_note : KnownMachine → Note → KnownMachine
+with_note m note = record m { notes = noted m.notes note }
 
 -- an empty list
 abbrev pub no_queue : Queue
@@ -182,7 +189,7 @@ pub record IsSeated (table : KnownTable) (cpu : KnownCpu) : Type 0 where
   pub some_number : 1 ≤ cpu.number
   pub cpus : cpu.number ≤ table.cpus
 
--- no frame is lent or charged, there is the root alone, no group is killed and nothing came back yet
+-- no frame is lent or charged, there is the root alone, no group is killed, and nothing came back or was noted yet
 pub record IsFirst (table : KnownTable) (words : Words) (machine : KnownMachine) : Type 0 where
   pub spots : machine.spots ≡ replicate table.frames Free
   pub ledger : machine.ledger ≡ initial_ledger
@@ -191,3 +198,4 @@ pub record IsFirst (table : KnownTable) (words : Words) (machine : KnownMachine)
   pub stock : machine.stock ≡ record { table = words.table; view = first_machine }
   pub killed : machine.killed ≡ replicate MAX_GROUPS false
   pub counts : machine.counts ≡ no_counts
+  pub notes : machine.notes ≡ []

@@ -9,6 +9,8 @@ use Rattle.group_tree.specs.Room.{PathHasRoom}
 use Rattle.group_charge.specs.declared.charges.Over.{Over}
 use Rattle.group_charge.specs.Charges.{Ledger, current_of, with_charge, with_uncharge}
 use Rattle.group_tree.specs.declared.group.Group.{Group}
+use Rattle.kill_notes.specs.declared.note.Note.TheVariants.{Stock}
+use Rattle.kill_notes.specs.Notes.{noted}
 use Rattle.step_rules.specs.Usage.{is_below}
 use Rattle.step_rules.specs.Legal.{is_of_group}
 use Rattle.step_rules.specs.After.{Run}
@@ -47,11 +49,16 @@ pub record Drains (before : KnownMachine) (processor pages : ℕ) (after : Known
   pub booked : pages ≤ (account_of before.stock.view processor).book
   pub drained_before : IsDrained before processor → pages ≡ 0
 
+-- the stock of the processor is drained, and that is noted
+pub record DrainsNoted (before : KnownMachine) (processor pages : ℕ) (after : KnownMachine) : Type 0 where
+  pub drains : Drains before processor pages (record after { notes = before.notes })
+  pub noted : after.notes ≡ noted before.notes (Stock processor pages)
+
 -- the stock of the processor is drained, and this is the drain
 pub record DrainsOne (before : KnownMachine) (processor : ℕ) (drain : Drain) (after : KnownMachine) : Type 0 where
   pub cpu : drain.cpu ≡ processor
   pub group : drain.group ≡ stock_group before processor
-  pub drains : Drains before processor drain.pages after
+  pub drains : DrainsNoted before processor drain.pages after
 
 -- the stock is of a group of g's subtree
 abbrev pub of_subtree : ℕ → List Group → Option ℕ → Bool

@@ -1,10 +1,10 @@
-//! How often units ended and came back.
+//! How often units ended and came back, or were tried in vain.
 
 ghost use Rattle.std.specs.Prelude.{◌≡◌};
-ghost use Rattle.mem_machine.specs.Counts.{with_last_put, with_freeze, with_drop};
+ghost use Rattle.mem_machine.specs.Counts.{with_last_put, with_freeze, with_drop, with_miss};
 
-/// How often units ended and came back, since the boot. A count stays at 2^64 - 1. The returns are the last puts,
-/// freezes and drops together, or 2^64 - 1 where that is less.
+/// How often units ended and came back, or were tried in vain, since the boot. A count stays at 2^64 - 1. The returns
+/// are the last puts, freezes and drops together, or 2^64 - 1 where that is less.
 #[derive(Clone, Copy, Debug, PartialEq, Eq)]
 pub struct Counts {
     /// The last puts: of the zone itself, and of processors as they were settled.
@@ -15,6 +15,8 @@ pub struct Counts {
     pub drops: u64,
     /// The units that came back.
     pub returns: u64,
+    /// The freezes that missed: someone else had a reference.
+    pub misses: u64,
 }
 
 impl Counts {
@@ -47,6 +49,16 @@ impl Counts {
         Counts {
             drops: self.drops.saturating_add(1),
             returns: self.returns.saturating_add(1),
+            ..self
+        }
+    }
+
+    // One freeze more that missed.
+    pub(crate) fn with_miss(self) -> Counts
+        ensures { result ≡ with_miss self }
+    {
+        Counts {
+            misses: self.misses.saturating_add(1),
             ..self
         }
     }

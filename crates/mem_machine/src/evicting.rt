@@ -25,6 +25,7 @@ impl<N: BootName> Machine<N> {
         ensures steps { MakesForAny N.frames self.old (evict_steps head result) self.new }
     {
         if !tables.frames.freeze(&mut self.seat, head, 1) {
+            self.counts = self.counts.with_miss();
             return None;
         }
         let at = head.number();

@@ -16,6 +16,7 @@ pub mod laws;
 mod lending;
 mod machine;
 mod marks;
+mod noting;
 mod paying;
 mod places;
 mod readers;

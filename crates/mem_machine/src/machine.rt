@@ -13,6 +13,7 @@ use crate::start::{frame_rooms, group_rooms};
 use cpu_part::{BootName, Tables};
 use frame_word::FrameSeat;
 use group_charge::charges::Charges;
+use kill_notes::notes::Notes;
 use lru_lists::links::Links;
 use lru_lists::lru::Lru;
 use std::alloc::{AllocError, Global};
@@ -43,8 +44,10 @@ pub struct Machine<N: BootName> {
     pub(crate) stock: Books<N>,
     // Whether each of the 64 group numbers is killed, by the number.
     pub(crate) killed: Vec<bool>,
-    // How often units ended and came back, since the boot.
+    // How often units ended and came back, or were tried in vain, since the boot.
     pub(crate) counts: Counts,
+    // What was noted since the last visit began: the limits without room, what was tried there, and who was killed.
+    pub(crate) notes: Notes,
     // The boot whose tables these are.
     pub(crate) of: PhantomData<N>,
 }
@@ -67,6 +70,7 @@ impl<N: BootName> Model for Machine<N> {
       stock = uncounted m.stock;
       killed = m.killed.items;
       counts = m.counts;
+      notes = m.notes;
     } };
 
     ghost invariant = { λ m. IsConsistent N.frames N.stocks (record {
@@ -79,6 +83,7 @@ impl<N: BootName> Model for Machine<N> {
       stock = uncounted m.stock;
       killed = m.killed.items;
       counts = m.counts;
+      notes = m.notes;
     }) × (m.zone.free ≡ free_of m.spots.items) };
 }
 
@@ -99,6 +104,7 @@ impl<N: BootName> Machine<N> {
     {
         let (zone, spots, links) = frame_rooms(alloc, tables.frames.frames())?;
         let (charges, lists, killed) = group_rooms(alloc)?;
+        let notes = Notes::new(alloc)?;
         Ok(Machine {
             zone,
             spots,
@@ -113,7 +119,9 @@ impl<N: BootName> Machine<N> {
                 freezes: 0,
                 drops: 0,
                 returns: 0,
+                misses: 0,
             },
+            notes,
             of: PhantomData,
         })
     }
@@ -134,6 +142,7 @@ impl<N: BootName> Machine<N> {
             stock,
             killed: _,
             counts: _,
+            notes: _,
             of: _,
         } = self;
         (seat, stock.into_seat())

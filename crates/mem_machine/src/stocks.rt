@@ -5,7 +5,7 @@ ghost use Rattle.group_tree.specs.declared.group.TheConstants.{MAX_GROUPS};
 ghost use Rattle.group_tree.specs.Groups.{has_group, in_subtree};
 ghost use Rattle.mem_machine.specs.Machines.{LacksRoom, Visits, is_killed};
 ghost use Rattle.mem_machine.specs.Stocks.{IsDrained, AreDrained, AreOwnDrained, FitsStock, of_group, of_subtree, stock_group};
-ghost use Rattle.mem_machine.specs.Stocks.{Drains, DrainsGroup, DrainsIfChosen, DrainsSubtree, Fills, Prepays, IsOver};
+ghost use Rattle.mem_machine.specs.Stocks.{Drains, DrainsGroup, DrainsIfChosen, DrainsNoted, DrainsSubtree, Fills, Prepays, IsOver};
 ghost use Rattle.mem_machine.specs.Stocks.{RefusesGrant, RefusesPrepay, own_fill_steps, prepay_steps};
 ghost use Rattle.mem_machine.specs.Paying.{HasRoomFor};
 ghost use Rattle.mem_machine.specs.Local.{MakesBy, MakesForAny, side};
@@ -15,6 +15,7 @@ use crate::machine::Machine;
 use cpu_part::{BootName, Cpu, Tables};
 use group_charge::charges::Over;
 use group_tree::group::GroupId;
+use kill_notes::note::Note;
 
 impl<N: BootName> Machine<N> {
     // Drains the stock of processor q, which is of this group, and tells how many pages were in it.
@@ -30,6 +31,19 @@ impl<N: BootName> Machine<N> {
         if pages > 0 {
             self.charges.uncharge(GroupId::of(group).unwrap(), pages);
         }
+        pages
+    }
+
+    // Drains the stock of processor q, which is of this group, notes that, and tells how many pages were in it.
+    fn drain_noted(&mut self, tables: &Tables<N>, q: u32, group: u32) -> u32
+        requires processor { (1 ≤ q) × (q ≤ N.frames.cpus) }
+        requires group { stock_group self.old q ≡ Some group }
+        requires fits { group < MAX_GROUPS }
+        ensures drains { DrainsNoted self.old q result self.new }
+        ensures steps { MakesForAny N.frames self.old (drain_steps q (stock_group self.old q) result) self.new }
+    {
+        let pages = self.drain_of(tables, q, group);
+        self.notes.note(Note::Stock { cpu: q, pages });
         pages
     }
 
@@ -57,7 +71,8 @@ impl<N: BootName> Machine<N> {
         tree.contains(below) && tree.in_subtree(group, below)
     }
 
-    // Drains the stock of processor q where it is of the subtree of the group, and tells how many pages came from it.
+    // Drains the stock of processor q where it is of the subtree of the group, notes that, and tells how many pages came
+    // from it.
     fn drain_below(&mut self, tables: &Tables<N>, q: u32, group: GroupId) -> u32
         requires processor { (1 ≤ q) × (q ≤ N.frames.cpus) }
         requires there { IsTrue (has_group self.old.ledger.groups group) }
@@ -65,14 +80,14 @@ impl<N: BootName> Machine<N> {
     {
         match self.stock.group(tables, q) {
             None => 0,
-            Some(number) if self.is_below(group, number) => self.drain_of(tables, q, number),
+            Some(number) if self.is_below(group, number) => self.drain_noted(tables, q, number),
             Some(_) => 0,
         }
     }
 
     /// Drains the stocks of all groups of the subtree of `group`, also where one has no page, and tells how many pages
-    /// were in them. They come off the books and off the charges of their groups. It looks at each processor's stock
-    /// once.
+    /// were in them. They come off the books and off the charges of their groups, and each drain is noted. It looks at
+    /// each processor's stock once.
     pub fn drain_stocks(&mut self, tables: &Tables<N>, group: GroupId) -> u64
         requires there { IsTrue (has_group self.old.ledger.groups group) }
         ensures drains { DrainsSubtree N.frames group result self.old self.new }
@@ -85,20 +100,21 @@ impl<N: BootName> Machine<N> {
         pages
     }
 
-    // Drains the stock of processor q where it is of the group itself, and tells how many pages came from it.
+    // Drains the stock of processor q where it is of the group itself, notes that, and tells how many pages came from
+    // it.
     fn drain_own(&mut self, tables: &Tables<N>, q: u32, group: GroupId) -> u32
         requires processor { (1 ≤ q) × (q ≤ N.frames.cpus) }
         ensures { DrainsIfChosen N.frames (of_group group) q result self.old self.new }
     {
         match self.stock.group(tables, q) {
             None => 0,
-            Some(number) if number == group.number() => self.drain_of(tables, q, number),
+            Some(number) if number == group.number() => self.drain_noted(tables, q, number),
             Some(_) => 0,
         }
     }
 
     /// Drains the stocks of the group itself, also where one has no page, and tells how many pages were in them. They come
-    /// off the books and off the charge of the group. It looks at each processor's stock once.
+    /// off the books and off the charge of the group, and each drain is noted. It looks at each processor's stock once.
     pub fn drain_own_stocks(&mut self, tables: &Tables<N>, group: GroupId) -> u64
         ensures drains { DrainsGroup N.frames group result self.old self.new }
         ensures drained { AreOwnDrained group N.frames.cpus self.new }

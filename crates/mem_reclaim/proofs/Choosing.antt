@@ -1,44 +1,86 @@
--- The victim among the group numbers below some number. Serves `victim`.
-use Rattle.std.proofs.Common.{◌≡◌, ℕ, ◌<◌, ◌≤◌, true, Option, Some, None, IsTrue, ◌∙◌, arith}
+-- Who has the most frames among the group numbers below some number, and how many may be killed. Serves `most_charged`,
+-- `victim`, `next_after`, `candidates`.
+use Rattle.std.proofs.Common.{◌≡◌, ℕ, suc, ◌+◌, ◌<◌, ◌≤◌, Bool, true, false, Option, Some, None, IsTrue, refl, ap, ◌∙◌, subst, arith}
 use Rattle.std.proofs.lemmas.Bool.{and_parts}
+use Rattle.std.specs.Prelude.{not}
 use Rattle.group_tree.specs.Groups.{AreGroups, has_group, in_subtree}
 use Rattle.group_tree.proofs.CallerLemmas.{in_subtree-below}
 use Rattle.group_charge.proofs.KeptLemmas.{number_below}
+use Rattle.step_rules.specs.State.{one_if, sum_to}
 use Rattle.mem_machine.specs.Machines.{KnownMachine}
-use Rattle.mem_reclaim.specs.Victim.{IsVictim, may_be_killed, own_frames}
+use Rattle.mem_reclaim.specs.Victim.{IsMost, is_candidate, is_it, may_be_chosen, may_be_killed, own_frames}
 
--- v is the victim among the numbers below k, with so many frames
-pub record BestSoFar (m : KnownMachine) (g k v frames : ℕ) : Type 0 where
-  pub chosen : may_be_killed m g v ≡ true
+-- v has the most frames of those below k that the test chooses, and has so many
+pub record BestSoFar (m : KnownMachine) (test : ℕ → Bool) (k v frames : ℕ) : Type 0 where
+  pub chosen : test v ≡ true
   pub own : own_frames m v ≡ frames
   pub some : 1 ≤ frames
   pub before : v < k
-  pub most : (j : ℕ) → j < k → may_be_killed m g j ≡ true → own_frames m j ≤ frames
-  pub least : (j : ℕ) → j < k → may_be_killed m g j ≡ true → own_frames m j ≡ frames → v ≤ j
+  pub most : (j : ℕ) → j < k → test j ≡ true → own_frames m j ≤ frames
+  pub least : (j : ℕ) → j < k → test j ≡ true → own_frames m j ≡ frames → v ≤ j
 
--- so far, none has a frame, or there is a victim
-abbrev pub BestBelow : KnownMachine → ℕ → ℕ → Option ℕ → ℕ → Type 0
-BestBelow m g k None frames = (frames ≡ 0) × ((j : ℕ) → j < k → may_be_killed m g j ≡ true → own_frames m j ≡ 0)
-BestBelow m g k (Some v) frames = BestSoFar m g k v frames
+-- so far, none has a frame, or there is one with the most
+abbrev pub BestBelow : KnownMachine → (ℕ → Bool) → ℕ → Option ℕ → ℕ → Type 0
+BestBelow m test k None frames = (frames ≡ 0) × ((j : ℕ) → j < k → test j ≡ true → own_frames m j ≡ 0)
+BestBelow m test k (Some v) frames = BestSoFar m test k v frames
 
 -- who may be killed is there
 pub chosen_there : (m : KnownMachine) (g k : ℕ) → may_be_killed m g k ≡ true → IsTrue (has_group m.ledger.groups k)
 chosen_there m g k chosen = in_subtree-below m.ledger.groups g k (and_parts (in_subtree m.ledger.groups g k) _ chosen).0
 
 -- who may be killed has a group's number
-chosen_below : (m : KnownMachine) → AreGroups m.ledger.groups → (g k : ℕ) → may_be_killed m g k ≡ true → k < 64
-chosen_below m facts g k chosen = number_below m.ledger.groups k facts (chosen_there m g k chosen)
+chosen_below : (m : KnownMachine) → AreGroups m.ledger.groups → (g : ℕ) (but : Option ℕ) (k : ℕ) → may_be_chosen m g but k ≡ true → k < 64
+chosen_below m facts g but k chosen =
+    number_below m.ledger.groups k facts (chosen_there m g k (and_parts (not (is_it but k)) (may_be_killed m g k) chosen).1)
 
 -- all numbers were looked at
-pub best_end : (m : KnownMachine) → AreGroups m.ledger.groups → (g k : ℕ) (best : Option ℕ) (frames : ℕ) → BestBelow m g k best frames → 64 ≤ k → IsVictim m g best
-best_end m facts g k None frames b all = λ j chosen. let low = chosen_below m facts g j chosen in b.1 j (omega (arith, low, all)) chosen
-best_end m facts g k (Some v) frames b all = record {
+pub best_end : (m : KnownMachine) → AreGroups m.ledger.groups → (g : ℕ) (but : Option ℕ) (k : ℕ) (best : Option ℕ) (frames : ℕ)
+    → BestBelow m (may_be_chosen m g but) k best frames → 64 ≤ k → IsMost m (may_be_chosen m g but) best
+best_end m facts g but k None frames b all = λ j chosen. let low = chosen_below m facts g but j chosen in b.1 j (omega (arith, low, all)) chosen
+best_end m facts g but k (Some v) frames b all = record {
   chosen = b.chosen;
   some = let x = b.some in let y = b.own in omega (arith, x, y);
   most = λ j chosen.
-      let low = chosen_below m facts g j chosen in
+      let low = chosen_below m facts g but j chosen in
       let x = b.most j (omega (arith, low, all)) chosen in
       let y = b.own in
       omega (arith, x, y);
-  least = λ j chosen same. let low = chosen_below m facts g j chosen in b.least j (omega (arith, low, all)) chosen (same ∙ b.own);
+  least = λ j chosen same. let low = chosen_below m facts g but j chosen in b.least j (omega (arith, low, all)) chosen (same ∙ b.own);
 }
+
+-- ---- how many may be killed
+
+-- so many of the numbers below k are candidates
+pub record CountedTo (m : KnownMachine) (g k count : ℕ) : Type 0 where
+  pub sum : count ≡ sum_to k (λ j. one_if (is_candidate m g j))
+  pub few : count ≤ k
+
+pub counted_none : (m : KnownMachine) (g : ℕ) → CountedTo m g 0 0
+unfolding sum_to
+counted_none m g = record { sum = refl; few = omega arith }
+
+sum_next : (n : ℕ) (h : ℕ → ℕ) → sum_to (suc n) h ≡ sum_to n h + h n
+unfolding sum_to
+sum_next n h = refl
+
+at_most_one : (b : Bool) → one_if b ≤ 1
+at_most_one true = omega arith
+at_most_one false = omega arith
+
+-- one number more was looked at
+pub counted_more : (m : KnownMachine) (g k count : ℕ) (is : Bool) → CountedTo m g k count → is ≡ is_candidate m g k → CountedTo m g (k + 1) (count + one_if is)
+counted_more m g k count is so told =
+    let next : suc k ≡ k + 1 = omega arith in
+    let one = sum_next k (λ j. one_if (is_candidate m g j)) in
+    let same : one_if is ≡ one_if (is_candidate m g k) = ap one_if told in
+    let few = at_most_one is in
+    let sum = so.sum in
+    let low = so.few in
+    subst (λ (x : ℕ). CountedTo m g x (count + one_if is)) next (record {
+      sum = omega (arith, sum, one, same);
+      few = omega (arith, few, low);
+    })
+
+-- all were counted
+pub counted_all : (m : KnownMachine) (g k count : ℕ) → CountedTo m g k count → k ≡ 64 → count ≡ sum_to 64 (λ j. one_if (is_candidate m g j))
+counted_all m g k count so all = so.sum ∙ ap (λ (x : ℕ). sum_to x (λ j. one_if (is_candidate m g j))) all

@@ -27,7 +27,7 @@ use Rattle.mem_machine.specs.Local.{MakesForAny, local_of}
 use Rattle.mem_machine.specs.Ageing.{entries_in}
 use Rattle.mem_machine.specs.Releasing.{LeavesList, Releases, release_steps}
 use Rattle.mem_machine.specs.Steps.{Drain, drain_stocks_steps, kill_steps, drain_steps}
-use Rattle.mem_machine.specs.Stocks.{AreOwnDrained, Drains, DrainsIf, DrainsAllIf, DrainsGroup, of_group, stock_group, uncharged}
+use Rattle.mem_machine.specs.Stocks.{AreOwnDrained, DrainsNoted, DrainsIf, DrainsAllIf, DrainsGroup, of_group, stock_group, uncharged}
 use Rattle.mem_machine.proofs.Reaching.{run_both}
 use Rattle.mem_machine.proofs.Draining.{drained_at, groups_stay}
 use Rattle.std.proofs.lemmas.List.Folds.{list_any-append}
@@ -40,10 +40,12 @@ use Rattle.step_rules.specs.declared.step.Step.{Step}
 use Rattle.step_rules.specs.declared.step.Answer.{Answer}
 use Rattle.mem_machine.proofs.DrainingAll.{below_else, below_group}
 use Rattle.mem_machine.proofs.Prepaying.{current_falls}
-use Rattle.mem_reclaim.specs.Moves.{has_kill, is_kill, is_miss, missed_in}
+use Rattle.mem_machine.specs.declared.counts.Counts.{Counts}
+use Rattle.mem_reclaim.specs.Moves.{Rises, has_kill, is_kill, is_miss, missed_in, returned_in}
 use Rattle.mem_reclaim.specs.Staying.{OnlyLeave}
-use Rattle.mem_reclaim.specs.Killing.{IsKilledBy, KeepsNone, KeepsStocks, LetsGoAll, LetsGoBySteps, OnlyDrains, OnlyLetsGo, with_killed}
+use Rattle.mem_reclaim.specs.Killing.{KillsBySteps, KeepsNone, KeepsStocks, LetsGoAll, LetsGoBySteps, OnlyDrains, OnlyLetsGo, with_killed}
 use Rattle.mem_reclaim.proofs.Listing.{has_unit, listed_is, home_inside, has_mid}
+use Rattle.mem_reclaim.proofs.Rising.{drains_return_none, returned_both, rises_both, units_rise}
 
 -- ---- what stays
 
@@ -269,6 +271,7 @@ pub record LeavesUnits (before after : KnownMachine) : Type 0 where
   pub seat : after.seat ≡ before.seat
   pub links : after.links ≡ before.links
   pub killed : after.killed ≡ before.killed
+  pub counts : after.counts ≡ before.counts
   pub usage : (g : ℕ) → current_of after.ledger g ≤ current_of before.ledger g
   pub stocks : OnlyDrains before after
 
@@ -278,6 +281,7 @@ leaves_units_none m = record {
   seat = refl;
   links = refl;
   killed = refl;
+  counts = refl;
   usage = λ g. omega arith;
   stocks = record { of = λ p. refl; drained = λ p is. is };
 }
@@ -288,6 +292,7 @@ leaves_units_both a b c p q = record {
   seat = q.seat ∙ p.seat;
   links = q.links ∙ p.links;
   killed = q.killed ∙ p.killed;
+  counts = q.counts ∙ p.counts;
   usage = λ g. let x = p.usage g in let y = q.usage g in omega (arith, x, y);
   stocks = record { of = λ x. q.stocks.of x ∙ p.stocks.of x; drained = λ x is. q.stocks.drained x (p.stocks.drained x is) };
 }
@@ -302,7 +307,7 @@ filled_after : (test : List Group → Option ℕ → Bool) (q : ℕ) (m n : Know
 filled_after test q m n [] h is =
     ap (λ (x : KnownMachine). (account_of x.stock.view q).filled) h.1 ∙ looked_filled m.stock.view q (stock_group m q) is
 filled_after test q m n (drain ∷ []) h is =
-    ap (λ (x : KnownMachine). (account_of x.stock.view q).filled) h.1.drains.machine ∙ ap (λ (a : Account). a.filled) (drained_at m.stock.view q drain.pages)
+    ap (λ (x : KnownMachine). (account_of x.stock.view q).filled) h.1.drains.drains.machine ∙ ap (λ (a : Account). a.filled) (drained_at m.stock.view q drain.pages)
 filled_after test q m n (one ∷ two ∷ more) h is = absurd h
 
 one_drains : (test : List Group → Option ℕ → Bool) (q : ℕ) (m n : KnownMachine) (drains : List Drain) → DrainsIf test m q drains n → OnlyDrains m n
@@ -319,14 +324,15 @@ one_drains test q m n drains h = record {
   ];
 }
 
-drain_leaves : (m n : KnownMachine) (q pages : ℕ) → Drains m q pages n → OnlyDrains m n → LeavesUnits m n
+drain_leaves : (m n : KnownMachine) (q pages : ℕ) → DrainsNoted m q pages n → OnlyDrains m n → LeavesUnits m n
 drain_leaves m n q pages d stocks = record {
-  groups = ap (λ (x : KnownMachine). x.ledger.groups) d.machine ∙ groups_stay m.ledger (stock_group m q) pages;
-  seat = ap (λ (x : KnownMachine). x.seat) d.machine;
-  links = ap (λ (x : KnownMachine). x.links) d.machine;
-  killed = ap (λ (x : KnownMachine). x.killed) d.machine;
+  groups = ap (λ (x : KnownMachine). x.ledger.groups) d.drains.machine ∙ groups_stay m.ledger (stock_group m q) pages;
+  seat = ap (λ (x : KnownMachine). x.seat) d.drains.machine;
+  links = ap (λ (x : KnownMachine). x.links) d.drains.machine;
+  killed = ap (λ (x : KnownMachine). x.killed) d.drains.machine;
+  counts = ap (λ (x : KnownMachine). x.counts) d.drains.machine;
   usage = λ g.
-      let e : current_of n.ledger g ≡ current_of (uncharged m.ledger (stock_group m q) pages) g = ap (λ (x : KnownMachine). current_of x.ledger g) d.machine in
+      let e : current_of n.ledger g ≡ current_of (uncharged m.ledger (stock_group m q) pages) g = ap (λ (x : KnownMachine). current_of x.ledger g) d.drains.machine in
       let low = current_falls m.ledger (stock_group m q) pages g in
       omega (arith, e, low);
   stocks = stocks;
@@ -338,6 +344,7 @@ one_leaves test q m n [] h = record {
   seat = ap (λ (x : KnownMachine). x.seat) h.1;
   links = ap (λ (x : KnownMachine). x.links) h.1;
   killed = ap (λ (x : KnownMachine). x.killed) h.1;
+  counts = ap (λ (x : KnownMachine). x.counts) h.1;
   usage = λ g. let e = ap (λ (x : KnownMachine). current_of x.ledger g) h.1 in omega (arith, e);
   stocks = one_drains test q m n [] h;
 }
@@ -390,9 +397,24 @@ quiet_drains (d ∷ rest) = quiet_both (drain_steps d.cpu d.group d.pages) (drai
 
 -- ---- a group is killed
 
+-- the last puts that are counted grew by the units that the steps of a kill return: drains return none
+last_puts_rise : (v : ℕ) (m a d b n : KnownMachine) → a ≡ with_killed m v → d.counts ≡ a.counts → (drains : List Drain) (first last : Run)
+    → Rises d.counts.last_puts (returned_in first) b.counts.last_puts → Rises b.counts.last_puts (returned_in last) n.counts.last_puts
+    → Rises m.counts.last_puts (returned_in (drain_stocks_steps drains ++ (first ++ last))) n.counts.last_puts
+last_puts_rise v m a d b n is drained drains first last one two =
+    let at_drain : d.counts.last_puts ≡ m.counts.last_puts =
+    ap (λ (k : Counts). k.last_puts) drained ∙ ap (λ (x : KnownMachine). x.counts.last_puts) is in
+    let both = rises_both d.counts.last_puts b.counts.last_puts n.counts.last_puts (returned_in first) (returned_in last) one two in
+    let none = drains_return_none drains in
+    let rest = returned_both first last in
+    let all = returned_both (drain_stocks_steps drains) (first ++ last) in
+    let e : returned_in first + returned_in last ≡ returned_in (drain_stocks_steps drains ++ (first ++ last)) = omega (arith, none, rest, all) in
+    subst (λ (k : ℕ). Rises m.counts.last_puts k n.counts.last_puts) e
+    (subst (λ (k : ℕ). Rises k (returned_in first + returned_in last) n.counts.last_puts) at_drain both)
+
 -- what the parts of a kill leave, one after the other
 pub record AllKilled (t : KnownTable) (v : ℕ) (m n : KnownMachine) : Type 0 where
-  pub kills : IsKilledBy t v m n
+  pub kills : KillsBySteps t v m n
   pub marked : n.killed ≡ slice_set m.killed v true
   pub drained : AreOwnDrained v t.cpus n
   pub none_kept : KeepsNone v n
@@ -450,6 +472,8 @@ all_killed t w v fits m a d b n is usage killed pages drains drained first first
         front = refl;
         quiet = quiet.quiet;
         no_miss = quiet.no_miss;
+        returned = last_puts_rise v m a d b n is unit.counts drains.drains first.steps last.steps
+            (units_rise (entries_in d v Inactive) d first.steps b first.lets_go) (units_rise (entries_in b v Active) b last.steps n last.lets_go);
       };
       marked = last_stocks.killed ∙ first_stocks.killed ∙ unit.killed ∙ ap (λ (x : KnownMachine). x.killed) is;
       drained = λ q some few of.

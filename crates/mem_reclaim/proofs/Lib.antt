@@ -8,3 +8,5 @@ pub mod Passing
 pub mod Rounding
 pub mod Choosing
 pub mod LettingGo
+pub mod KillNotes
+pub mod Rising

@@ -28,7 +28,9 @@ use Rattle.mem_machine.specs.Local.{IsLocalRun, MakesForAny, local_of, phase_of}
 use Rattle.mem_machine.specs.Evicting.{MissesUnit, EvictsUnit, Evicts, evict_steps}
 use Rattle.mem_machine.specs.Steps.{zone_makes}
 use Rattle.mem_machine.proofs.Reaching.{run_both}
-use Rattle.mem_reclaim.specs.Moves.{Moves, pages_back, pages_returned, is_miss, missed_in, is_kill, has_kill}
+use Rattle.mem_machine.specs.declared.counts.Counts.{Counts}
+use Rattle.mem_reclaim.specs.Moves.{Moves, Rises, all_missed_in, pages_back, pages_returned, returned_in, is_miss, missed_in, is_kill, has_kill}
+use Rattle.mem_reclaim.proofs.Rising.{missed_both, returned_both, rises_both, rises_none, rises_one}
 
 -- ---- one list of steps after another
 
@@ -47,16 +49,18 @@ pages_both p (e ∷ rest) two a b run =
 both_false : (a b : Bool) → a ≡ false → b ≡ false → (a || b) ≡ false
 both_false a b x y = rw x y
 
-pub moves_none : (t : KnownTable) (m n : KnownMachine) → MakesForAny t m [] n → n.seat ≡ m.seat → Moves t m 0 [] n
-moves_none t m n runs seat = record {
+pub moves_none : (t : KnownTable) (m n : KnownMachine) → MakesForAny t m [] n → n.seat ≡ m.seat → n.counts ≡ m.counts → Moves t m 0 [] n
+moves_none t m n runs seat counts = record {
   runs = runs;
   pages = λ c. refl;
   quiet = refl;
   misses = λ f. let e = ap (λ (s : KnownSeat). misses_of s f) seat in omega (arith, e);
+  returned = rises_none m.counts.freezes n.counts.freezes (ap (λ (k : Counts). k.freezes) counts);
+  missed = rises_none m.counts.misses n.counts.misses (ap (λ (k : Counts). k.misses) counts);
 }
 
 pub moves_rest : (t : KnownTable) (m : KnownMachine) → Moves t m 0 [] m
-moves_rest t m = moves_none t m m (λ c. refl) refl
+moves_rest t m = moves_none t m m (λ c. refl) refl refl
 
 pub moves_both : (t : KnownTable) (a b c : KnownMachine) (some more : ℕ) (one two : Run) → Moves t a some one b → Moves t b more two c
     → Moves t a (some + more) (one ++ two) c
@@ -72,6 +76,12 @@ moves_both t a b c some more one two first second = record {
       let z : missed_in f (one ++ two) ≡ missed_in f one + missed_in f two =
       sum_by-append (λ (e : Step × Answer). cond (is_miss f e.0.action e.1) 1 0) one two in
       omega (arith, x, y, z);
+  returned =
+      subst (λ (k : ℕ). Rises a.counts.freezes k c.counts.freezes) (sym (returned_both one two))
+      (rises_both a.counts.freezes b.counts.freezes c.counts.freezes (returned_in one) (returned_in two) first.returned second.returned);
+  missed =
+      subst (λ (k : ℕ). Rises a.counts.misses k c.counts.misses) (sym (missed_both one two))
+      (rises_both a.counts.misses b.counts.misses c.counts.misses (all_missed_in one) (all_missed_in two) first.missed second.missed);
 }
 
 -- ---- one try
@@ -124,6 +134,8 @@ moves_try t m n f None is runs = record {
   pages = λ c. refl;
   quiet = refl;
   misses = λ g. let a = misses_rose m n f is g in let b = missed_here f g in omega (arith, a, b);
+  returned = rises_none m.counts.freezes n.counts.freezes (ap (λ (x : KnownMachine). x.counts.freezes) is.machine);
+  missed = rises_one m.counts.misses n.counts.misses (ap (λ (x : KnownMachine). x.counts.misses) is.machine);
 }
 moves_try t m n f (Some pages) is runs = record {
   runs = runs;
@@ -134,4 +146,6 @@ moves_try t m n f (Some pages) is runs = record {
       omega (arith, size, given);
   quiet = refl;
   misses = λ g. let a = misses_stay m n f pages is g in omega (arith, a);
+  returned = rises_one m.counts.freezes n.counts.freezes (ap (λ (x : KnownMachine). x.counts.freezes) is.machine);
+  missed = rises_none m.counts.misses n.counts.misses (ap (λ (x : KnownMachine). x.counts.misses) is.machine);
 }

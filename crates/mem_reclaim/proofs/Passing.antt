@@ -36,7 +36,8 @@ aged_leads t m aged n g want given ages runs scans =
       steps = scans.steps;
       does = record { aged = aged; ages = ages; scans = scans.does };
       moves = subst (λ (x : ℕ). Moves t m x scans.steps n) e
-          (moves_both t m aged n 0 given [] scans.steps (moves_none t m aged runs (ap (λ (x : KnownMachine). x.seat) ages.machine)) scans.moves);
+          (moves_both t m aged n 0 given [] scans.steps
+          (moves_none t m aged runs (ap (λ (x : KnownMachine). x.seat) ages.machine) (ap (λ (x : KnownMachine). x.counts) ages.machine)) scans.moves);
     }
 
 pub aged_keeps : (t : KnownTable) (m aged : KnownMachine) (g : ℕ) → AgesGroup m g aged → Keeps t m aged

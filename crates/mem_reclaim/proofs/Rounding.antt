@@ -1,4 +1,4 @@
--- Rounds of reclaim, as far as they were made. Serves `make_rounds`.
+-- Rounds of reclaim, as far as they were made. Serves `make_round` and `make_rounds`.
 use Rattle.std.proofs.Common.{◌≡◌, ◌≢◌, ◌⊎◌, ℕ, suc, ◌+◌, ◌-◌, ◌*◌, ◌^◌, ◌<◌, ◌≤◌, Bool, true, [], ◌++◌, refl, sym, ◌∙◌, subst, inl, inr, arith}
 use Rattle.std.specs.Prelude.{nat_lt}
 use Rattle.std.proofs.lemmas.Bool.{lt-ltb}
@@ -6,16 +6,65 @@ use Rattle.std.proofs.lemmas.List.{append_assoc, append-nil}
 use Rattle.frame_word.specs.Seats.{KnownTable}
 use Rattle.group_charge.specs.Charges.{current_of}
 use Rattle.step_rules.specs.After.{Run}
-use Rattle.mem_machine.specs.Machines.{KnownMachine}
+use Rattle.kill_notes.specs.declared.note.Note.{Note}
+use Rattle.mem_machine.specs.Machines.{KnownMachine, with_note}
 use Rattle.mem_reclaim.specs.Wanted.{Rests}
 use Rattle.mem_reclaim.specs.Moves.{Moves, Leads}
 use Rattle.mem_reclaim.specs.Passes.{Reclaims}
-use Rattle.mem_reclaim.specs.Rounds.{MakesRounds, pages_missing}
+use Rattle.mem_reclaim.specs.Rounds.{MakesOneRound, MakesRounds, pages_missing, round_note}
 use Rattle.mem_reclaim.specs.Staying.{Keeps, MissedAll}
 use Rattle.mem_reclaim.proofs.Wanting.{rested}
 use Rattle.mem_reclaim.proofs.Moving.{moves_rest, moves_both}
 use Rattle.mem_reclaim.proofs.Keeping.{keeps_none, keeps_both}
 use Rattle.mem_reclaim.proofs.Passing.{all_missed}
+
+-- a note changes nothing that is kept
+pub keeps_noted : (t : KnownTable) (m n : KnownMachine) (note : Note) → Keeps t m n → Keeps t m (with_note n note)
+keeps_noted t m n note k = record {
+  stock = k.stock;
+  killed = k.killed;
+  groups = k.groups;
+  opened = k.opened;
+  usage = k.usage;
+  visit = λ c v. let x = k.visit c v in record { is_open = x.is_open; still = x.still; lent = x.lent };
+  dirty = λ f is. let x = k.dirty f is in record { kept = x.kept; dirty = x.dirty };
+  owners = k.owners;
+  dirt = k.dirt;
+  misses = k.misses;
+}
+
+-- what one round left
+pub record RoundGives (t : KnownTable) (g number want : ℕ) (m : KnownMachine) (given : ℕ) (now : KnownMachine) : Type 0 where
+  pub makes : Leads t given m now (λ steps. MakesOneRound g number want given m steps now)
+  pub keeps : Keeps t m now
+
+-- a reclaim, and then its note
+pub round_noted : (t : KnownTable) (g number want : ℕ) (m : KnownMachine) (given : ℕ) (x n : KnownMachine)
+    → Leads t given m x (λ steps. Reclaims g want given m steps x) → Keeps t m x
+    → n ≡ with_note x (round_note g number given m x) → RoundGives t g number want m given n
+round_noted t g number want m given x n leads keeps noted =
+    let note = round_note g number given m x in
+    subst (λ (y : KnownMachine). RoundGives t g number want m given y) (sym noted) (record {
+      makes = record {
+        steps = leads.steps;
+        does = record {
+          reclaimed = x;
+          reclaims = leads.does;
+          noted = refl;
+          returned = leads.moves.returned;
+          missed = leads.moves.missed;
+        };
+        moves = record {
+          runs = leads.moves.runs;
+          pages = leads.moves.pages;
+          quiet = leads.moves.quiet;
+          misses = leads.moves.misses;
+          returned = leads.moves.returned;
+          missed = leads.moves.missed;
+        };
+      };
+      keeps = keeps_noted t m x note keeps;
+    })
 
 -- what rounds left: pages of the group's subtree, and where too few came back, no unit that wasn't tried
 pub record RoundsGive (t : KnownTable) (g need limit : ℕ) (m : KnownMachine) (given : ℕ) (now : KnownMachine) : Type 0 where
@@ -88,11 +137,13 @@ module _ (t : KnownTable) (g need limit : ℕ) (m : KnownMachine) where
 
       -- one round more
       module _ (want some : ℕ) (then : KnownMachine) (tried_all : Bool) (wants : want ≡ pages_missing g need limit now.ledger) (wanted : want ≢ 0)
-          (leads : Leads t some now then (λ steps. Reclaims g want some now steps then)) (tells : tried_all ≡ nat_lt some want)
+          (leads : Leads t some now then (λ steps. MakesOneRound g (made + 1) want some now steps then)) (tells : tried_all ≡ nat_lt some want)
           (missed : tried_all ≡ true → MissedAll g now then) (usage : current_of then.ledger g + some ≡ current_of now.ledger g)
           (keeps : Keeps t now then) where
-        does : Reclaims g (pages_missing g need limit now.ledger) some now leads.steps then
-        does = subst (λ (w : ℕ). Reclaims g w some now leads.steps then) wants leads.does
+        does : MakesOneRound g (16 - (16 - (made + 1))) (pages_missing g need limit now.ledger) some now leads.steps then
+        does =
+            let number : made + 1 ≡ 16 - (16 - (made + 1)) = omega (arith, left) in
+            subst (λ (w : ℕ × ℕ). MakesOneRound g w.0 w.1 some now leads.steps then) (λ i. (number i, wants i)) leads.does
 
         keeps_on : Keeps t m then
         keeps_on = keeps_both t m now then so.keeps keeps

@@ -1,5 +1,5 @@
 -- A group is killed, and its kept units leave.
-use Rattle.std.specs.Prelude.{◌≡◌, ◌≢◌, ℕ, ◌≤◌, true, false, Option, Some, None, slice_set, List, [], ◌∷◌, ◌++◌}
+use Rattle.std.specs.Prelude.{◌≡◌, ◌≢◌, ℕ, ◌+◌, ◌-◌, ◌≤◌, true, false, Option, Some, None, slice_set, List, [], ◌∷◌, ◌++◌, length}
 use Rattle.frame_word.specs.Seats.{KnownTable, misses_of}
 use Rattle.group_charge.specs.Charges.{current_of, with_kill_noted}
 use Rattle.lru_lists.specs.declared.record.Entry.{Entry}
@@ -8,13 +8,17 @@ use Rattle.lru_lists.specs.Queue.{link_at}
 use Rattle.cpu_part.specs.Cpus.{KnownCpu}
 use Rattle.step_rules.specs.After.{Run}
 use Rattle.mem_machine.specs.declared.releasing.Released.{Released}
-use Rattle.mem_machine.specs.Machines.{KnownMachine, Visits, active_in, home_of, inactive_in, side}
+use Rattle.kill_notes.specs.declared.note.Note.{Note}
+use Rattle.kill_notes.specs.declared.note.Note.TheVariants.{Killed}
+use Rattle.mem_machine.specs.Machines.{KnownMachine, Visits, active_in, home_of, inactive_in, side, with_note}
 use Rattle.mem_machine.specs.Local.{MakesForAny}
 use Rattle.mem_machine.specs.Releasing.{Releases, release_steps}
 use Rattle.mem_machine.specs.Steps.{Drain, drain_stocks_steps, kill_steps}
 use Rattle.mem_machine.specs.Stocks.{DrainsAllIf, IsDrained, of_group, stock_group}
-use Rattle.mem_reclaim.specs.Moves.{has_kill, missed_in}
+use Rattle.mem_reclaim.specs.Moves.{Rises, has_kill, missed_in, returned_in}
+use Rattle.mem_reclaim.specs.declared.noting.Having.{Having}
 use Rattle.mem_reclaim.specs.Staying.{OnlyLeave}
+use Rattle.mem_reclaim.specs.Victim.{IsNext, own_frames, victim_note}
 
 -- The units leave their lists in this order, and the zone's reference on each is put: one without another reference comes
 -- back, its frames are free and its pages uncharged; any other stays charged, kept by no one
@@ -48,8 +52,8 @@ pub record KillsGroup (table : KnownTable) (v : ℕ) (before : KnownMachine) (st
   pub steps_are : steps ≡ kill_steps v ++ (drain_stocks_steps drains ++ (first ++ last))
 
 -- so it is by some steps, whoever holds the lock: first the kill, which is the only one among them, and none is a freeze that
--- missed
-pub record IsKilledBy (table : KnownTable) (v : ℕ) (before after : KnownMachine) : Type 0 where
+-- missed. The last puts that the machine counts grew by the units that they return
+pub record KillsBySteps (table : KnownTable) (v : ℕ) (before after : KnownMachine) : Type 0 where
   pub steps : Run
   pub kills : KillsGroup table v before steps after
   pub runs : MakesForAny table before steps after
@@ -57,11 +61,44 @@ pub record IsKilledBy (table : KnownTable) (v : ℕ) (before after : KnownMachin
   pub front : steps ≡ kill_steps v ++ later
   pub quiet : has_kill later ≡ false
   pub no_miss : (f : ℕ) → missed_in f later ≡ 0
+  pub returned : Rises before.counts.last_puts (returned_in later) after.counts.last_puts
 
--- the victim, if there is one, is killed; else nothing changed
-abbrev pub KillsVictim : KnownTable → Option ℕ → KnownMachine → KnownMachine → Type 0
-KillsVictim t None before after = after ≡ before
-KillsVictim t (Some v) before after = IsKilledBy t v before after
+-- how many kept units the group has
+abbrev pub kept_units : KnownMachine → ℕ → ℕ
+kept_units m v = length (inactive_in m v) + length (active_in m v)
+
+-- what it has before it is killed: how often a unit was put last so far, its frames, and its kept units
+abbrev pub having_of : KnownMachine → ℕ → Having
+having_of m v = record { last_puts = m.counts.last_puts; frames = own_frames m v; units = kept_units m v }
+
+-- what is noted of group v that is killed for group `limited`, by what it had before: of its kept units those that came
+-- back were put last, and the others are pinned; its frames either came back or stay charged to it
+abbrev pub killed_note : ℕ → ℕ → Having → KnownMachine → Note
+killed_note limited v had after =
+    Killed v (after.counts.last_puts - had.last_puts) (had.frames - own_frames after v)
+    (had.units - (after.counts.last_puts - had.last_puts)) (own_frames after v) (current_of after.ledger limited)
+
+-- Group v is killed for group `limited`: it is noted who is the victim and why; it is killed; and what became of its
+-- units is noted. Of these steps the kill is the first, and the only one; none is a freeze that missed; and the last puts
+-- that the machine counts grew by the units that they return
+pub record IsKilledBy (table : KnownTable) (limited v : ℕ) (before after : KnownMachine) : Type 0 where
+  pub next : ℕ
+  pub follows : IsNext before limited v next
+  pub killed : KnownMachine
+  pub steps : Run
+  pub kills : KillsGroup table v (with_note before (victim_note before limited v next)) steps killed
+  pub noted : after ≡ with_note killed (killed_note limited v (having_of before v) killed)
+  pub runs : MakesForAny table before steps after
+  pub later : Run
+  pub front : steps ≡ kill_steps v ++ later
+  pub quiet : has_kill later ≡ false
+  pub no_miss : (f : ℕ) → missed_in f later ≡ 0
+  pub returned : Rises before.counts.last_puts (returned_in later) after.counts.last_puts
+
+-- the victim for the group, if there is one, is killed; else nothing changed
+abbrev pub KillsVictim : KnownTable → ℕ → Option ℕ → KnownMachine → KnownMachine → Type 0
+KillsVictim t limited None before after = after ≡ before
+KillsVictim t limited (Some v) before after = IsKilledBy t limited v before after
 
 -- Groups with their limits and every visit stay, and no visit is opened or shut. No usage rises. Who is kept was kept on the same list, and is
 -- as dirty as it was. No unit is frozen, so no miss is noted

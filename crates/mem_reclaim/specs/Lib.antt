@@ -6,3 +6,4 @@ pub mod Rounds
 pub mod Staying
 pub mod Victim
 pub mod Killing
+pub mod KillNotes

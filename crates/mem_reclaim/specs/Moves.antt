@@ -1,7 +1,8 @@
 -- What a list of steps of reclaim does, whoever holds the lock.
-use Rattle.std.specs.Prelude.{◌≡◌, ℕ, ◌+◌, ◌==◌, Bool, true, false, [], ◌∷◌}
+use Rattle.std.specs.Prelude.{◌≡◌, ℕ, ◌+◌, ◌≤◌, ◌==◌, ◌⊎◌, Bool, true, false, [], ◌∷◌}
 use Rattle.std.specs.List.{list_any, count_by}
 use Rattle.frame_word.specs.Seats.{KnownTable, misses_of}
+use Rattle.group_tree.specs.Room.{max_count}
 use Rattle.cpu_part.specs.Cpus.{KnownCpu}
 use Rattle.step_rules.specs.declared.step.Action.{Action}
 use Rattle.step_rules.specs.declared.step.Action.TheVariants.{Freeze, Return, Kill}
@@ -32,6 +33,28 @@ is_miss f action answer = false
 abbrev pub missed_in : ℕ → Run → ℕ
 missed_in f steps = count_by (λ e. is_miss f e.0.action e.1) steps
 
+-- the pair is a freeze that missed, of whichever frame
+abbrev pub is_any_miss : Action → Answer → Bool
+is_any_miss (Freeze f n) Missed = true
+is_any_miss action answer = false
+
+-- how many of the steps are freezes that missed
+abbrev pub all_missed_in : Run → ℕ
+all_missed_in steps = count_by (λ e. is_any_miss e.0.action e.1) steps
+
+-- the pair is the return of a unit
+abbrev pub is_return : Action → Answer → Bool
+is_return (Return f) Done = true
+is_return action answer = false
+
+-- how many units these steps return
+abbrev pub returned_in : Run → ℕ
+returned_in steps = count_by (λ e. is_return e.0.action e.1) steps
+
+-- a count rose by so many, or is at its greatest
+abbrev pub Rises : ℕ → ℕ → ℕ → Type 0
+Rises before more after = (after ≡ before + more) ⊎ (max_count ≤ after)
+
 -- a group is killed
 abbrev pub is_kill : Action → Bool
 is_kill (Kill g) = true
@@ -42,12 +65,15 @@ abbrev pub has_kill : Run → Bool
 has_kill steps = list_any (λ e. is_kill e.0.action) steps
 
 -- Whoever holds the lock, these steps lead from one machine to the other; so many pages come back by them; none of them is a kill;
--- and the misses that the zone's seat noted of each frame grew by those among them
+-- the misses that the zone's seat noted of each frame grew by those among them; and the freezes and the misses that the
+-- machine counts, by the units that they return and by all misses among them
 pub record Moves (table : KnownTable) (before : KnownMachine) (given : ℕ) (steps : Run) (after : KnownMachine) : Type 0 where
   pub runs : MakesForAny table before steps after
   pub pages : (cpu : KnownCpu) → pages_returned (local_of table before cpu) steps ≡ given
   pub quiet : has_kill steps ≡ false
   pub misses : (f : ℕ) → misses_of after.seat f ≡ misses_of before.seat f + missed_in f steps
+  pub returned : Rises before.counts.freezes (returned_in steps) after.counts.freezes
+  pub missed : Rises before.counts.misses (all_missed_in steps) after.counts.misses
 
 -- some list of steps does this
 pub record Leads (table : KnownTable) (given : ℕ) (before after : KnownMachine) (Does : Run → Type 0) : Type 0 where

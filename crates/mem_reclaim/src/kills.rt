@@ -7,8 +7,9 @@ ghost use Rattle.mem_machine.specs.Machines.{is_killed};
 ghost use Rattle.mem_machine.specs.Ageing.{entries_in};
 ghost use Rattle.mem_machine.specs.Stocks.{AreOwnDrained};
 ghost use Rattle.mem_reclaim.specs.Victim.{IsVictim};
-ghost use Rattle.mem_reclaim.specs.Killing.{IsKilledBy, KeepsNone, KeepsStocks, KillsVictim, LetsGoBySteps, OnlyDrains, OnlyLetsGo};
+ghost use Rattle.mem_reclaim.specs.Killing.{KeepsNone, KeepsStocks, KillsBySteps, KillsVictim, LetsGoBySteps, OnlyDrains, OnlyLetsGo};
 
+use crate::noting::{had_by, note_killed, note_victim};
 use crate::victims::victim;
 use cpu_part::{BootName, Tables};
 use group_tree::group::GroupId;
@@ -43,7 +44,7 @@ fn let_go_all<N: BootName>(
 fn kill_group<N: BootName>(machine: &mut Machine<N>, tables: &Tables<N>, group: GroupId)
     requires there { IsTrue (has_group machine.old.ledger.groups group) }
     requires alive { is_killed machine.old.killed group ≡ false }
-    ensures kills { IsKilledBy N.frames group machine.old machine.new }
+    ensures kills { KillsBySteps N.frames group machine.old machine.new }
     ensures marked { machine.new.killed ≡ slice_set machine.old.killed group true }
     ensures drained { AreOwnDrained group N.frames.cpus machine.new }
     ensures stocks { OnlyDrains machine.old machine.new }
@@ -61,7 +62,8 @@ fn kill_group<N: BootName>(machine: &mut Machine<N>, tables: &Tables<N>, group: 
 /// Kills the victim of a group, and tells who that was; None where there is none, and nothing has changed. Nothing can be
 /// charged to the victim any more, until it is removed; that is noted as `oom_kill`. Its stocks are drained. Its kept units,
 /// dirty ones too, leave their lists and lose the zone's reference, the inactive ones first, oldest first: those without a pin
-/// are uncharged and free, the others stay charged and kept by no one until their last put is settled.
+/// are uncharged and free, the others stay charged and kept by no one until their last put is settled. Why it is the victim
+/// is noted before, and what became of its units after.
 pub fn kill<N: BootName>(
     machine: &mut Machine<N>,
     tables: &Tables<N>,
@@ -69,7 +71,7 @@ pub fn kill<N: BootName>(
 ) -> Option<GroupId>
     requires { IsTrue (has_group machine.old.ledger.groups group) }
     ensures victim { IsVictim machine.old group result }
-    ensures kills { KillsVictim N.frames result machine.old machine.new }
+    ensures kills { KillsVictim N.frames group result machine.old machine.new }
     ensures marked { IfSome result (λ v. machine.new.killed ≡ slice_set machine.old.killed v true) }
     ensures drained { IfSome result (λ v. AreOwnDrained v N.frames.cpus machine.new) }
     ensures stocks { OnlyDrains machine.old machine.new }
@@ -77,6 +79,9 @@ pub fn kill<N: BootName>(
     ensures keeps { OnlyLetsGo N.frames machine.old machine.new }
 {
     let victim = victim(machine, group)?;
+    note_victim(machine, group, victim);
+    let had = had_by(machine, victim);
     kill_group(machine, tables, victim);
+    note_killed(machine, group, victim, had);
     Some(victim)
 }

@@ -8,6 +8,7 @@
 
 mod kills;
 mod meet;
+mod noting;
 mod passes;
 mod reclaiming;
 mod rounds;

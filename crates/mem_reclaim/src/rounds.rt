@@ -1,16 +1,17 @@
 //! Rounds of reclaim before a limit.
 
-ghost use Rattle.std.specs.Prelude.{◌≡◌, ◌<◌, ◌+◌, ◌^◌, IsTrue};
+ghost use Rattle.std.specs.Prelude.{◌≡◌, ◌<◌, ◌+◌, ◌^◌, IsTrue, nat_lt};
 ghost use Rattle.group_tree.specs.Groups.{has_group};
 ghost use Rattle.group_charge.specs.Charges.{current_of};
 ghost use Rattle.mem_reclaim.specs.Moves.{Leads};
-ghost use Rattle.mem_reclaim.specs.Rounds.{MakesRounds, pages_missing};
+ghost use Rattle.mem_reclaim.specs.Rounds.{MakesOneRound, MakesRounds, pages_missing};
 ghost use Rattle.mem_reclaim.specs.Staying.{Keeps, MissedAll};
 
-use crate::reclaiming::reclaim;
+use crate::reclaiming::{Reclaimed, reclaim};
 use cpu_part::{BootName, Tables};
 use group_charge::charges::Charges;
 use group_tree::group::GroupId;
+use kill_notes::note::Note;
 use mem_machine::Machine;
 
 /// How many rounds of reclaim are made before a limit at most. Linux makes as many (`MAX_RECLAIM_RETRIES`), but counts
@@ -27,9 +28,40 @@ fn missing(charges: &Charges, group: GroupId, need: u32, limit: u32) -> u64
     (u64::from(charges.current(group)) + u64::from(need)).saturating_sub(u64::from(limit))
 }
 
+// Makes the round of this number, from 1, for a limit of the group: so many pages are wanted. It is noted, with what it tried.
+fn make_round<N: BootName>(
+    machine: &mut Machine<N>,
+    tables: &Tables<N>,
+    group: GroupId,
+    number: u32,
+    want: u64,
+) -> Reclaimed
+    requires there { IsTrue (has_group machine.old.ledger.groups group) }
+    requires fits { want < 2 ^ 40 }
+    ensures makes { Leads N.frames result.pages machine.old machine.new
+        (λ steps. MakesOneRound group number want result.pages machine.old steps machine.new) }
+    ensures tried_all { result.tried_all ≡ nat_lt result.pages want }
+    ensures missed { IsTrue result.tried_all → MissedAll group machine.old machine.new }
+    ensures usage { current_of machine.new.ledger group + result.pages ≡ current_of machine.old.ledger group }
+    ensures keeps { Keeps N.frames machine.old machine.new }
+{
+    let before = machine.counts();
+    let reclaimed = reclaim(machine, tables, group, want);
+    let after = machine.counts();
+    let usage = machine.current(group);
+    machine.note(Note::Round {
+        number,
+        returned: after.freezes.saturating_sub(before.freezes),
+        missed: after.misses.saturating_sub(before.misses),
+        pages: reclaimed.pages,
+        usage,
+    });
+    reclaimed
+}
+
 /// Reclaims from the subtree of `group`, until its usage with `need` pages more is at most `limit`: in at most 16
-/// rounds, each of which wants the pages that are missing then. A round that gave none is the last. It tells how many
-/// pages came back. Where that wasn't enough, each clean unit that the subtree still keeps was tried, and missed.
+/// rounds, each of which wants the pages that are missing then, and is noted. A round that gave none is the last. It tells
+/// how many pages came back. Where that wasn't enough, each clean unit that the subtree still keeps was tried, and missed.
 pub fn make_rounds<N: BootName>(
     machine: &mut Machine<N>,
     tables: &Tables<N>,
@@ -45,12 +77,12 @@ pub fn make_rounds<N: BootName>(
     ensures keeps { Keeps N.frames machine.old machine.new }
 {
     let mut given = 0;
-    for _round in 0..MAX_ROUNDS {
+    for round in 0..MAX_ROUNDS {
         let want = missing(machine.charges(), group, need, limit);
         if want == 0 {
             return given;
         }
-        let pages = reclaim(machine, tables, group, want).pages;
+        let pages = make_round(machine, tables, group, round + 1, want).pages;
         given += pages;
         if pages == 0 {
             return given;

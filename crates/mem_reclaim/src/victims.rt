@@ -3,7 +3,7 @@
 
 ghost use Rattle.std.specs.Prelude.{◌≡◌, IsTrue};
 ghost use Rattle.group_tree.specs.Groups.{has_group};
-ghost use Rattle.mem_reclaim.specs.Victim.{IsVictim, may_be_killed};
+ghost use Rattle.mem_reclaim.specs.Victim.{IsMost, IsNext, IsVictim, candidates, is_candidate, is_it, may_be_chosen, may_be_killed};
 
 use crate::passes::is_below;
 use cpu_part::BootName;
@@ -18,12 +18,38 @@ fn may_be_killed<N: BootName>(machine: &Machine<N>, group: GroupId, other: Group
     is_below(machine.charges(), group, other) && !machine.is_killed(other)
 }
 
-/// Who is killed for a group: among the groups of its subtree that aren't killed, the one with the most frames charged to
-/// itself, the least number among equals; None where none of them has a frame. Frames that are fresh at a processor don't
-/// count.
-pub fn victim<N: BootName>(machine: &Machine<N>, group: GroupId) -> Option<GroupId>
+// Whether the group is this one, if there is one.
+fn is_it(but: &Option<GroupId>, other: GroupId) -> bool
+    ensures { result ≡ is_it but.now other }
+{
+    match but {
+        Some(group) => group.number() == other.number(),
+        None => false,
+    }
+}
+
+// Whether the other group may be killed for the group, and isn't `but`.
+fn may_be_chosen<N: BootName>(
+    machine: &Machine<N>,
+    group: GroupId,
+    but: &Option<GroupId>,
+    other: GroupId,
+) -> bool
     requires { IsTrue (has_group machine.now.ledger.groups group) }
-    ensures { IsVictim machine.now group result }
+    ensures { result ≡ may_be_chosen machine.now group but.now other }
+{
+    !is_it(but, other) && may_be_killed(machine, group, other)
+}
+
+// Among the groups that may be killed for a group, without `but`, the one with the most frames charged to itself, the least
+// number among equals; None where none of them has a frame.
+fn most_charged<N: BootName>(
+    machine: &Machine<N>,
+    group: GroupId,
+    but: &Option<GroupId>,
+) -> Option<GroupId>
+    requires { IsTrue (has_group machine.now.ledger.groups group) }
+    ensures { IsMost machine.now (may_be_chosen machine.now group but.now) result }
 {
     let _tree = machine.charges().tree(); // For the clauses.
     let mut best = None;
@@ -32,7 +58,7 @@ pub fn victim<N: BootName>(machine: &Machine<N>, group: GroupId) -> Option<Group
         let Some(turn) = GroupId::of(number) else {
             unreachable!()
         };
-        if !may_be_killed(machine, group, turn) {
+        if !may_be_chosen(machine, group, but, turn) {
             continue;
         }
         let frames = machine.frames_of(turn);
@@ -42,4 +68,54 @@ pub fn victim<N: BootName>(machine: &Machine<N>, group: GroupId) -> Option<Group
         }
     }
     best
+}
+
+/// Who is killed for a group: among the groups of its subtree that aren't killed, the one with the most frames charged to
+/// itself, the least number among equals; None where none of them has a frame. Frames that are fresh at a processor don't
+/// count.
+pub fn victim<N: BootName>(machine: &Machine<N>, group: GroupId) -> Option<GroupId>
+    requires { IsTrue (has_group machine.now.ledger.groups group) }
+    ensures { IsVictim machine.now group result }
+{
+    most_charged(machine, group, &None)
+}
+
+/// Who would be the victim if that group weren't there; the victim once more where nobody would.
+pub(crate) fn next_after<N: BootName>(
+    machine: &Machine<N>,
+    group: GroupId,
+    victim: GroupId,
+) -> GroupId
+    requires { IsTrue (has_group machine.now.ledger.groups group) }
+    ensures { IsNext machine.now group victim result }
+{
+    match most_charged(machine, group, &Some(victim)) {
+        Some(next) => next,
+        None => victim,
+    }
+}
+
+// Whether the other group may be killed for the group, and has a frame of its own.
+fn is_candidate<N: BootName>(machine: &Machine<N>, group: GroupId, other: GroupId) -> bool
+    requires { IsTrue (has_group machine.now.ledger.groups group) }
+    ensures { result ≡ is_candidate machine.now group other }
+{
+    may_be_killed(machine, group, other) && machine.frames_of(other) >= 1
+}
+
+/// How many groups may be killed for a group and have a frame of their own.
+pub(crate) fn candidates<N: BootName>(machine: &Machine<N>, group: GroupId) -> u32
+    requires { IsTrue (has_group machine.now.ledger.groups group) }
+    ensures { result ≡ candidates machine.now group }
+{
+    let mut count = 0;
+    for number in 0..MAX_GROUPS as u32 {
+        let Some(turn) = GroupId::of(number) else {
+            unreachable!()
+        };
+        if is_candidate(machine, group, turn) {
+            count += 1;
+        }
+    }
+    count
 }

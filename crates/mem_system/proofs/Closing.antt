@@ -24,7 +24,6 @@ use Rattle.mem_machine.proofs.NoneLent.{lent_noted, each_is_placed}
 use Rattle.mem_system.specs.declared.audit.Audit.{Audit}
 use Rattle.mem_system.specs.Boots.{KnownLocked, IsQuiet, AllShut}
 use Rattle.mem_system.specs.Ends.{Happens, InTurn, Rests, Empties, IsSpent, Tells, IsClosed, HasNoPage, Ends, frame_seat_of, stock_seat_of, drops_of, pins_of}
-use Rattle.mem_system.specs.Commands.{Serves}
 
 -- as many processors are visited as there are
 pub turn_long : (t : KnownTable) (P : Happens) (m : KnownMachine) (cpus : List KnownCpu) (n : KnownMachine) (after : List KnownCpu) → InTurn t P m cpus n after

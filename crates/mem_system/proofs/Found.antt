@@ -9,7 +9,6 @@ use Rattle.control_files.specs.declared.file.File.{File}
 use Rattle.control_files.specs.declared.file.File.TheVariants.{Max}
 use Rattle.control_files.specs.Limit.{IsNoLimitText, IsTooGreat}
 use Rattle.mem_system.specs.Files.{RefusesValue}
-use Rattle.mem_system.specs.Commands.{Serves}
 
 -- the group of a path is there
 pub found_there : (groups : List Group) (path : List ℕ) (n : ℕ) → number_at groups path ≡ Some n → has_group groups n ≡ true

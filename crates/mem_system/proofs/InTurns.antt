@@ -9,7 +9,7 @@ use Rattle.stock_word.specs.Stock.{Words}
 use Rattle.cpu_part.specs.Cpus.{KnownCpu}
 use Rattle.mem_machine.specs.Machines.{KnownMachine}
 use Rattle.mem_system.specs.Boots.{AllShut}
-use Rattle.mem_system.specs.Commands.{BySteps, Serves}
+use Rattle.mem_system.specs.Commands.{BySteps}
 use Rattle.mem_system.specs.Ends.{Happens, InTurn, IsSpent, LeavesAlone, pins_of}
 use Rattle.mem_machine.specs.Local.{side}
 

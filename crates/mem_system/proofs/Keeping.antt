@@ -1,5 +1,5 @@
 -- Serves the commands that lower a usage: the groups and the visits stay as they are.
-use Rattle.std.proofs.Common.{◌≡◌, ℕ, zero, suc, ◌+◌, ◌<◌, ◌≤◌, ◌∷◌, ◌++◌, [], List, Option, Some, None, true, false}
+use Rattle.std.proofs.Common.{◌≡◌, ℕ, ◌+◌, ◌<◌, ◌≤◌, ◌++◌, [], List, Option, Some, None, true, false}
 use Rattle.std.proofs.Common.{refl, sym, ap, ◌∙◌, subst, inl, inr, arith}
 use Rattle.std.proofs.lemmas.Bool.{cases_lt}
 use Rattle.frame_word.specs.Seats.{KnownTable, KnownSeat, IsOpen, NothingPasses, LentIsBorrowed}
@@ -8,10 +8,9 @@ use Rattle.group_tree.specs.Groups.{has_group, has_child}
 use Rattle.group_charge.specs.Charges.{current_of}
 use Rattle.cpu_part.specs.Cpus.{KnownCpu}
 use Rattle.mem_machine.specs.Machines.{KnownMachine, Visits, KeepsVisit}
-use Rattle.mem_machine.specs.Steps.{Drain, drain_stocks_steps, set_max_steps}
-use Rattle.mem_machine.specs.Stocks.{Drains, DrainsBelow, DrainsAllBelow, DrainsSubtree, AreDrained, stock_group}
+use Rattle.mem_machine.specs.Steps.{drain_stocks_steps, set_max_steps}
+use Rattle.mem_machine.specs.Stocks.{DrainsSubtree, AreDrained}
 use Rattle.mem_machine.specs.Local.{MakesForAny, side, local_of}
-use Rattle.mem_machine.proofs.Draining.{groups_stay}
 use Rattle.mem_machine.proofs.Reaching.{run_both}
 use Rattle.mem_reclaim.specs.Moves.{Leads}
 use Rattle.mem_reclaim.specs.Rounds.{MakesRounds, pages_missing}
@@ -22,6 +21,7 @@ use Rattle.mem_alloc.specs.Stepping.{ByStepsOfAny, course}
 use Rattle.mem_alloc.proofs.Killing.{kills_lower}
 use Rattle.mem_alloc.proofs.NoRash.{all_same}
 use Rattle.mem_system.specs.Leaves.{IsLeafAt}
+use Rattle.mem_alloc.specs.Room.{with_limit_noted}
 use Rattle.mem_system.specs.Usage.{LowersUsage, LowersAbove, KeepsToLimit}
 use Rattle.mem_system.proofs.Found.{found_there}
 use Rattle.mem_system.specs.Commands.{SetsLimit, with_limit_of}
@@ -74,7 +74,8 @@ above_visit t g limit m n c b v = elim (cases_lt limit (current_of m.ledger g)) 
   | inl over ↦
       let h = b.1.above over in
       let x = h.lowered in
-      let first = usage_visit t g limit m x c h.lowering h.lowers v in
+      let told : Visits t (side (with_limit_noted m g 0) c) = record { is_open = v.is_open; still = v.still; lent = v.lent } in
+      let first = usage_visit t g limit (with_limit_noted m g 0) x c h.lowering h.lowers told in
       let kills = kills_lower None t g 0 x n h.killing h.kills in
       record { visit = kills.visit c first.visit; opened = kills.opened ∙ first.opened; number = refl; back = refl }
   | inr within ↦ visit_keeps t m n c (ap (λ (k : KnownMachine). k.seat) (b.1.within (omega (arith, within))).0) v
@@ -106,17 +107,18 @@ lowered_by t g limit pages given m x n sub none leads missed keeps = (
 -- ---- a limit that is set
 
 -- the usage is above it
-pub lowered_above : (t : KnownTable) (g limit : ℕ) (m x n : KnownMachine) → limit < current_of m.ledger g
-    → ByStepsOfAny t m x (LowersUsage g limit) → ByStepsOfAny t x n (KillsFor None g 0)
+pub lowered_above : (t : KnownTable) (g limit : ℕ) (m y x n : KnownMachine) → limit < current_of m.ledger g → y ≡ with_limit_noted m g 0
+    → ByStepsOfAny t y x (LowersUsage g limit) → ByStepsOfAny t x n (KillsFor None g 0)
     → ByStepsOfAny t m n (LowersAbove g limit)
-lowered_above t g limit m x n over b k = (
-  b.0 ++ k.0,
-  record {
-    above = λ more. record { lowered = x; lowering = b.0; killing = k.0; lowers = b.1; kills = k.1; steps_are = refl };
-    within = λ (less : current_of m.ledger g ≤ limit). absurd (omega (arith, over, less));
-  },
-  λ c. run_both c.number b.0 k.0 (local_of t m c) (local_of t x c) (local_of t n c) (b.2 c) (k.2 c),
-)
+lowered_above t g limit m y x n over told of_y k =
+    let b = subst (λ (z : KnownMachine). ByStepsOfAny t z x (LowersUsage g limit)) told of_y in (
+      b.0 ++ k.0,
+      record {
+        above = λ more. record { lowered = x; lowering = b.0; killing = k.0; lowers = b.1; kills = k.1; steps_are = refl };
+        within = λ (less : current_of m.ledger g ≤ limit). absurd (omega (arith, over, less));
+      },
+      λ c. run_both c.number b.0 k.0 (local_of t m c) (local_of t x c) (local_of t n c) (b.2 c) (k.2 c),
+    )
 
 -- the usage is within it
 pub lowered_none : (t : KnownTable) (g limit : ℕ) (m : KnownMachine) → current_of m.ledger g ≤ limit

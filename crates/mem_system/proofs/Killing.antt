@@ -1,12 +1,10 @@
 -- No kill of a command comes before everything else was tried. Serves `serve`.
-use Rattle.std.proofs.Common.{◌≡◌, ◌≢◌, ℕ, zero, suc, ◌+◌, ◌≤◌, ◌<◌, ◌^◌, Bool, true, false, Option, Some, None, List, [], ◌∷◌, ◌++◌, refl, sym, ap, ◌∙◌, subst, inl, inr, arith}
+use Rattle.std.proofs.Common.{◌≡◌, ℕ, ◌+◌, ◌≤◌, ◌^◌, Bool, true, false, Option, Some, None, List, [], ◌∷◌, ◌++◌, refl, sym, ap, ◌∙◌, subst, inl, inr, arith}
 use Rattle.std.specs.Prelude.{Result, Ok, Err, nat_le}
 use Rattle.std.specs.List.{flat_map}
 use Rattle.std.proofs.lemmas.Bool.{cases_eq, cases_lt, leb-false}
-use Rattle.std.proofs.lemmas.List.{append_assoc, append-nil}
 use Rattle.frame_word.specs.Seats.{KnownTable}
 use Rattle.group_tree.specs.declared.group.Group.{Group}
-use Rattle.group_tree.specs.declared.fault.Fault.{Fault}
 use Rattle.group_tree.specs.declared.fault.Fault.TheVariants as fault
 use Rattle.group_tree.specs.Groups.{has_group, in_subtree, limit_of, number_at, with_limit}
 use Rattle.group_tree.specs.Room.{fits_limit}
@@ -23,16 +21,15 @@ use Rattle.mem_machine.specs.Machines.{KnownMachine}
 use Rattle.mem_machine.specs.Local.{IsLocalRun, Side, local_of, side}
 use Rattle.mem_machine.specs.Releasing.{release_steps}
 use Rattle.mem_machine.specs.Settling.{all_back_steps, all_fresh_steps, fresh_steps, is_fresh_killed, return_steps, settle_steps}
-use Rattle.mem_machine.specs.Steps.{drain_list_steps, drain_stocks_steps, lend_steps, open_steps, remove_steps, set_max_steps, shut_steps}
+use Rattle.mem_machine.specs.Steps.{drain_stocks_steps, lend_steps, open_steps, remove_steps, set_max_steps, shut_steps}
 use Rattle.mem_reclaim.specs.Moves.{has_kill}
-use Rattle.mem_reclaim.specs.Staying.{MissedAll}
 use Rattle.mem_reclaim.proofs.LettingGo.{quiet_drains}
 use Rattle.mem_alloc.specs.declared.faults.AllocFault.{AllocFault}
 use Rattle.mem_alloc.specs.declared.faults.AllocFault.TheVariants.{Over, NoFrames, Killed}
-use Rattle.mem_alloc.specs.Kills.{KillsFor, has_room_for}
-use Rattle.mem_alloc.specs.Stepping.{Course, course, of_machine}
-use Rattle.mem_alloc.specs.NoRash.{IsChargedBelow, NoRashKill}
-use Rattle.mem_alloc.proofs.NoRash.{Passes, all_same, RashFree, drained_on, drains_pass, keeps_pass, missed_since, passes_both, passes_same, rash_both, rash_quiet, run_rest, tame_kills}
+use Rattle.mem_alloc.specs.Kills.{has_room_for}
+use Rattle.mem_alloc.specs.Stepping.{Course, course}
+use Rattle.mem_alloc.specs.NoRash.{NoRashKill}
+use Rattle.mem_alloc.proofs.NoRash.{Passes, all_same, RashFree, drained_on, drains_pass, keeps_pass, missed_since, passes_both, passes_same, rash_both, rash_quiet, tame_kills}
 use Rattle.mem_alloc.proofs.Missing.{back_calm}
 use Rattle.mem_alloc.proofs.NoRashAllocs.{block_no_rash, frame_no_rash, no_kill_both}
 use Rattle.mem_system.proofs.Found.{found_there}
@@ -41,6 +38,7 @@ use Rattle.mem_system.specs.declared.command.Cmd.TheVariants.{Mkdir, Rmdir, Writ
 use Rattle.mem_system.specs.declared.command.Reply.{Reply}
 use Rattle.mem_system.specs.declared.command.Reply.TheVariants as reply
 use Rattle.mem_system.specs.Files.{IsFileOf}
+use Rattle.mem_alloc.specs.Room.{with_limit_noted}
 use Rattle.mem_system.specs.Usage.{LowersUsage, LowersAbove, LowersByKills, KeepsToLimit}
 use Rattle.mem_system.specs.Allocs.{Allocates, AllocatesFor}
 use Rattle.mem_system.specs.Kept.{TouchesFrame, NotesDirt}
@@ -103,6 +101,13 @@ releases_quiet sizes f other way h = absurd h
 -- ---- a limit that is written
 
 module _ (t : KnownTable) (MayAsk : List Group → ℕ → ℕ → Type 0) (s : KnownMachine) (c : KnownCpu) where
+  -- a note before the steps changes nothing of what they pass on
+  passes_told : (g : ℕ) (m n : KnownMachine) (steps : Run) → Passes t c (with_limit_noted m g 0) steps n → Passes t c m steps n
+  passes_told g m n steps p = record {
+    runs = p.runs;
+    tied = record { misses = p.tied.misses; owners = p.tied.owners; dirt = p.tied.dirt };
+  }
+
   -- where it is brought down by kills, by steps that come after others
   kills_rash : (g limit : ℕ) (made : Run) (m : KnownMachine) (steps : Run) (n : KnownMachine) → limit_of m.ledger.groups g ≡ Some limit
       → MayAsk m.ledger.groups g 0 → Passes t c s made m → LowersByKills g limit (course t m steps n) → RashFree t MayAsk s c made steps
@@ -111,11 +116,12 @@ module _ (t : KnownTable) (MayAsk : List Group → ℕ → ℕ → Type 0) (s : 
       let low = h.lowers in
       let y = low.drained in
       let first = drain_stocks_steps low.drains in
-      let drains = drains_pass t c g t.cpus m y low.drains low.drains_all (low.drain_runs c) in
+      let told = with_limit_noted m g 0 in
+      let drains = passes_told g m y first (drains_pass t c g t.cpus told y low.drains low.drains_all (low.drain_runs c)) in
       let after_drains = passes_both t c s m y made first since drains in
       let rounds = keeps_pass t c y x low.reclaims.steps low.reclaims.moves.runs low.keeps low.reclaims.moves.misses in
       let lowering = subst (λ (k : Run). Passes t c m k x) (sym low.steps_are) (passes_both t c m y x first low.reclaims.steps drains rounds) in
-      let groups : x.ledger.groups ≡ m.ledger.groups = low.keeps.groups ∙ (all_same g t.cpus m y low.drains low.drains_all).groups in
+      let groups : x.ledger.groups ≡ m.ledger.groups = low.keeps.groups ∙ (all_same g t.cpus told y low.drains low.drains_all).groups in
       let here : limit_of x.ledger.groups g ≡ Some limit = ap (λ (l : List Group). limit_of l g) groups ∙ is in
       let missed = λ (over : has_room_for x.ledger g 0 ≡ false).
       let full : nat_le (current_of x.ledger g + 0) limit ≡ false = sym (ap (λ (o : Option ℕ). fits_limit o (current_of x.ledger g + 0)) here) ∙ over in
@@ -126,7 +132,7 @@ module _ (t : KnownTable) (MayAsk : List Group → ℕ → ℕ → Type 0) (s : 
       let killing = tame_kills t MayAsk s c None g 0 (made ++ h.lowering) x h.killing n still (passes_both t c s m x made h.lowering since lowering) drained
       missed h.kills in
       subst (λ (k : Run). RashFree t MayAsk s c made k) (sym h.steps_are) (rash_both t MayAsk s c made h.lowering h.killing
-      (rash_quiet t MayAsk s c made h.lowering (lowers_quiet g limit (course t m h.lowering x) low)) killing.rash)
+      (rash_quiet t MayAsk s c made h.lowering (lowers_quiet g limit (course t told h.lowering x) low)) killing.rash)
 
   lowers_rash : (g limit : ℕ) (made : Run) (m : KnownMachine) (steps : Run) (n : KnownMachine) → limit_of m.ledger.groups g ≡ Some limit
       → MayAsk m.ledger.groups g 0 → Passes t c s made m → LowersAbove g limit (course t m steps n) → RashFree t MayAsk s c made steps

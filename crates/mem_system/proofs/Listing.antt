@@ -15,7 +15,7 @@ use Rattle.mem_machine.specs.Lending.{TakesManyBack}
 use Rattle.mem_machine.specs.Local.{IsLocalRun, local_of, side}
 use Rattle.mem_machine.specs.Releasing.{ReturnsUnit, release_steps}
 use Rattle.mem_machine.proofs.Reaching.{run_both}
-use Rattle.mem_system.specs.Commands.{BySteps, Serves}
+use Rattle.mem_system.specs.Commands.{BySteps}
 use Rattle.mem_system.specs.Releases.{ListsFrame, ReturnsFrames}
 
 -- another frame that is free now leaves a free one free

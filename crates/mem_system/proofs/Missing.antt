@@ -1,13 +1,12 @@
 -- The misses that a command notes are those among its steps. Serves `serve`.
-use Rattle.std.proofs.Common.{◌≡◌, ℕ, ◌+◌, ◌<◌, ◌≤◌, Bool, true, false, Option, Some, None, List, [], ◌∷◌, ◌++◌, refl, sym, ap, ◌∙◌, subst, inl, inr}
+use Rattle.std.proofs.Common.{◌≡◌, ℕ, Bool, true, false, Option, Some, None, List, [], ◌++◌, refl, ap, ◌∙◌, inl, inr}
 use Rattle.std.specs.Prelude.{Result, Ok, Err}
 use Rattle.std.proofs.lemmas.Bool.{cases_eq, cases_lt}
-use Rattle.frame_word.specs.Seats.{KnownTable, misses_of}
+use Rattle.frame_word.specs.Seats.{misses_of}
 use Rattle.frame_word.specs.Views.{let_go, let_go_last, passed_out_to}
 use Rattle.group_tree.specs.declared.fault.Fault.TheVariants as fault
 use Rattle.group_charge.specs.Charges.{current_of}
 use Rattle.zone_sizes.specs.declared.config.Config.{Config}
-use Rattle.step_rules.specs.After.{Run}
 use Rattle.mem_machine.specs.declared.releasing.Released.TheVariants as released
 use Rattle.mem_machine.specs.Machines.{KnownMachine}
 use Rattle.mem_machine.specs.Local.{Side, side}
@@ -22,10 +21,11 @@ use Rattle.mem_system.specs.declared.command.Cmd.{Cmd}
 use Rattle.mem_system.specs.declared.command.Cmd.TheVariants.{Mkdir, Rmdir, Write, Read, Settle, Owner, Touch, Dirty, Clean, Release, Alloc}
 use Rattle.mem_system.specs.declared.command.Reply.{Reply}
 use Rattle.mem_system.specs.declared.command.Reply.TheVariants as reply
+use Rattle.mem_alloc.specs.Room.{with_limit_noted}
 use Rattle.mem_system.specs.Usage.{KeepsToLimit, LowersAbove, LowersUsage}
 use Rattle.mem_system.specs.Allocs.{Allocates, AllocatesFor}
 use Rattle.mem_system.specs.Kept.{HeadsNoUnit, NotesDirt, TouchesFrame}
-use Rattle.mem_system.specs.Releases.{CutsList, ListsFrame, ReleasesFrame, ReturnsFrames}
+use Rattle.mem_system.specs.Releases.{ListsFrame, ReleasesFrame, ReturnsFrames}
 use Rattle.mem_system.specs.Commands.{MakesGroup, Obeys, Removes, SetsLimit, Writes, with_limit_of}
 
 makes_counts : (path : List ℕ) (said : Reply) (way : Course KnownMachine) → MakesGroup path said way → CountsMisses way
@@ -61,7 +61,7 @@ above_counts g limit way h = elim (cases_lt limit (current_of way.before.ledger 
       let b = h.above over in
       let t = way.table in
       counts_as t way.before way.after way.steps (b.lowering ++ b.killing) b.steps_are (counts_both t way.before b.lowered way.after b.lowering b.killing
-      (lowers_counts g limit (course t way.before b.lowering b.lowered) b.lowers) (counts_kills None t g 0 b.lowered way.after b.killing b.kills))
+      (lowers_counts g limit (course t (with_limit_noted way.before g 0) b.lowering b.lowered) b.lowers) (counts_kills None t g 0 b.lowered way.after b.killing b.kills))
   | inr within ↦ counts_rest way.table way.before way.after way.steps (h.within within).0 (h.within within).1
 ]
 

@@ -5,7 +5,6 @@ use Rattle.frame_word.specs.Seats.{KnownTable, KnownSeat, number_of, IsCpuSeat, 
 use Rattle.stock_word.specs.Stock.{Words, Seated, IsProcessor, first_processor, first_seats}
 use Rattle.cpu_part.specs.Cpus.{KnownCpu, IsIdle}
 use Rattle.mem_system.specs.Boots.{part_at_first, first_cpus}
-use Rattle.mem_system.specs.Commands.{Serves}
 
 -- the seats that are left after i processors were dealt
 pub frame_seats_left : (id : TableId) (i n : ℕ) → i < n

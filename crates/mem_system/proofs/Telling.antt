@@ -4,7 +4,6 @@ use Rattle.group_tree.specs.declared.group.Group.{Group}
 use Rattle.group_tree.specs.Groups.{has_group, path_of}
 use Rattle.group_tree.proofs.CallerLemmas.{path_of-there}
 use Rattle.mem_system.specs.Outcomes.{path_or_empty}
-use Rattle.mem_system.specs.Commands.{Serves}
 
 pub path_told : (groups : List Group) (g : ℕ) → IsTrue (has_group groups g) → path_of groups g ≡ Some (path_or_empty (path_of groups g))
 path_told groups g there = let w = path_of-there groups g there in w.1 ∙ sym (ap (λ path. Some (path_or_empty path)) w.1)

@@ -21,7 +21,7 @@ use Rattle.mem_machine.specs.Steps.{open_steps, shut_steps, drain_list_steps, dr
 use Rattle.mem_machine.proofs.Reaching.{run_both}
 use Rattle.mem_machine.proofs.Draining.{drained_at, drained_else}
 use Rattle.mem_machine.proofs.NoneLent.{past_free}
-use Rattle.mem_system.specs.Commands.{BySteps, with_visit_of, Serves}
+use Rattle.mem_system.specs.Commands.{BySteps, with_visit_of}
 use Rattle.mem_system.specs.Ends.{Rests, Empties, LeavesAlone}
 use Rattle.mem_system.proofs.Listing.{left_over}
 

@@ -16,7 +16,7 @@ use Rattle.mem_system.specs.declared.command.Reply.{Reply}
 use Rattle.mem_system.specs.Boots.{KnownLocked, AllShut}
 use Rattle.mem_system.proofs.Killing.{around_quiet, obeys_no_rash}
 use Rattle.mem_system.proofs.Missing.{obeys_counts}
-use Rattle.mem_system.specs.Commands.{BySteps, Obeys, Serves, with_visit_of, course, holder, IsServed}
+use Rattle.mem_system.specs.Commands.{BySteps, Obeys, with_visit_of, course, holder, IsServed}
 
 pub all_shut : (m x n : KnownMachine) (p : ℕ) → AllShut m → x.seat.view.opened ≡ put_at 0 m.seat.view.opened p 1 → n ≡ with_visit_of x p 0 → AllShut n
 all_shut m x n p shut opened is q =
@@ -47,7 +47,7 @@ settled_opened m n c d s = returned_all c.back s.mid.machine n s.mid.cpu d s.bac
 
 -- the whole command, from its four parts
 pub served : (t : KnownTable) (cmd : Cmd) (l k : KnownLocked) (c d : KnownCpu) (reply : Reply) (entered mid x : KnownMachine) (c1 c2 c3 : KnownCpu)
-    → entered ≡ with_visit_of l.machine c.number 1 → c1 ≡ c → c2.number ≡ c1.number → c3.number ≡ c2.number
+    → entered ≡ with_visit_of (record l.machine { notes = [] }) c.number 1 → c1 ≡ c → c2.number ≡ c1.number → c3.number ≡ c2.number
     → k.machine ≡ with_visit_of x c3.number 0 → d ≡ c3 → k.sizes ≡ l.sizes
     → IsLocalRun c.number (local_of t l.machine c) (open_steps c.number) (local_of t entered c1)
     → Settles (side entered c1) (side mid c2) → IsLocalRun c1.number (local_of t entered c1) (settle_steps (side entered c1)) (local_of t mid c2)
@@ -56,7 +56,7 @@ pub served : (t : KnownTable) (cmd : Cmd) (l k : KnownLocked) (c d : KnownCpu) (
     → IsServed t cmd (holder l c) reply (holder k d)
 served t cmd l k c d reply entered mid x c1 c2 c3 opened same second third shut after sizes first settles rests obeyed last =
     let p = c.number in
-    let begins = with_visit_of l.machine p 1 in
+    let begins = with_visit_of (record l.machine { notes = [] }) p 1 in
     let two : c2.number ≡ p = second ∙ ap (λ (y : KnownCpu). y.number) same in
     let three : c3.number ≡ p = third ∙ two in
     let before : KnownMachine × KnownCpu → Type 0 = λ (y : KnownMachine × KnownCpu). IsLocalRun p (local_of t l.machine c) (open_steps p) (local_of t y.0 y.1) in

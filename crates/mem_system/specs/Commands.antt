@@ -153,6 +153,10 @@ with_visit_of m p state = record m { seat = seat_with_visit m.seat p state }
 abbrev pub visited : Side → Side
 visited before = side (with_visit_of before.machine before.cpu.number 1) before.cpu
 
+-- the side once what was noted before is forgotten, and the processor's visit is open
+abbrev pub begun : Side → Side
+begun before = visited (side (record before.machine { notes = [] }) before.cpu)
+
 -- what lies behind the lock, and the part of the processor that holds it
 pub record Holder : Type 0 where
   pub locked : KnownLocked
@@ -177,12 +181,12 @@ MayAskFor (Write path file value) was now limited need =
     × (now ≡ with_limit was limited limit) × (need ≡ 0)
 MayAskFor other was now limited need = ⊥
 
--- A command under the lock: the caller's visit is opened, its part is settled, the command is obeyed, and the visit
--- is shut. No group is killed meanwhile before everything else was tried, nor by a step that isn't the command's; and the
+-- A command under the lock: what was noted before is forgotten, the caller's visit is opened, its part is settled, the
+-- command is obeyed, and the visit is shut. No group is killed meanwhile before everything else was tried, nor by a step that isn't the command's; and the
 -- misses noted are those among the steps
 pub record Serves (cmd : Cmd) (reply : Reply) (way : Course Holder) : Type 0 where
   pub settled : Side
-  pub settles : Settles (visited (side_of way.before)) settled
+  pub settles : Settles (begun (side_of way.before)) settled
   pub inner : Run
   pub done : KnownMachine
   pub obeys : Obeys way.before.locked.sizes cmd reply (course way.table settled inner (side done way.after.cpu))

@@ -9,6 +9,7 @@ use Rattle.mem_machine.specs.Stocks.{DrainsAllBelow, AreDrained}
 use Rattle.mem_reclaim.specs.Moves.{Leads}
 use Rattle.mem_reclaim.specs.Rounds.{MakesRounds, pages_missing}
 use Rattle.mem_reclaim.specs.Staying.{Keeps, MissedAll}
+use Rattle.mem_alloc.specs.Room.{with_limit_noted}
 use Rattle.mem_alloc.specs.Kills.{KillsFor}
 use Rattle.mem_alloc.specs.Stepping.{Course, course}
 
@@ -28,13 +29,13 @@ pub record LowersUsage (group limit : ℕ) (way : Course KnownMachine) : Type 0 
   pub keeps : Keeps way.table drained way.after
   pub steps_are : way.steps ≡ drain_stocks_steps drains ++ reclaims.steps
 
--- the group's usage is lowered to the limit; and where it is above the group's limit even then, victims of it are killed,
--- for nobody that asks for pages
+-- it is noted that the limit has no room; the group's usage is lowered to it; and where it is above the group's limit even
+-- then, victims of it are killed, for nobody that asks for pages
 pub record LowersByKills (group limit : ℕ) (way : Course KnownMachine) : Type 0 where
   pub lowered : KnownMachine
   pub lowering : Run
   pub killing : Run
-  pub lowers : LowersUsage group limit (course way.table way.before lowering lowered)
+  pub lowers : LowersUsage group limit (course way.table (with_limit_noted way.before group 0) lowering lowered)
   pub kills : KillsFor None group 0 (course way.table lowered killing way.after)
   pub steps_are : way.steps ≡ lowering ++ killing
 

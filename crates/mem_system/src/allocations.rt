@@ -113,6 +113,7 @@ pub fn carry_out_frame<N: BootName>(
     ensures still { NothingPasses N.frames locked.new.machine.seat cpu.new.seat }
     ensures lent { LentIsBorrowed N.frames locked.new.machine.seat cpu.new.seat }
 {
+    locked.machine.forget_notes();
     locked.machine.open(tables, cpu);
     locked.machine.settle(tables, cpu);
     let answer = alloc_frame(&mut locked.machine, tables, cpu, locked.sizes, group);

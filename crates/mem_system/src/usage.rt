@@ -7,7 +7,7 @@ ghost use Rattle.mem_system.specs.Usage.{LowersAbove, LowersUsage};
 
 use cpu_part::{BootName, Tables};
 use group_tree::group::GroupId;
-use mem_alloc::kill_for;
+use mem_alloc::{kill_for, note_limit};
 use mem_machine::Machine;
 use mem_reclaim::make_rounds;
 
@@ -26,8 +26,8 @@ pub(crate) fn lower_usage<N: BootName>(
     make_rounds(machine, tables, group, 0, limit);
 }
 
-// Brings the group's usage down to its limit, which is so many pages, where it is above it: as `lower_usage` does, and
-// where that isn't enough, by kills, until it is at most the limit or no victim is left.
+// Brings the group's usage down to its limit, which is so many pages, where it is above it, which is noted: as
+// `lower_usage` does, and where that isn't enough, by kills, until it is at most the limit or no victim is left.
 pub(crate) fn lower_above<N: BootName>(
     machine: &mut Machine<N>,
     tables: &Tables<N>,
@@ -38,6 +38,7 @@ pub(crate) fn lower_above<N: BootName>(
     ensures { ByStepsOfAny N.frames machine.old machine.new (LowersAbove group limit) }
 {
     if limit < machine.current(group) {
+        note_limit(machine, group, 0);
         lower_usage(machine, tables, group, limit);
         kill_for(machine, tables, None, group, 0);
     }

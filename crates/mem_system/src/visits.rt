@@ -10,9 +10,10 @@ use crate::lock::Locked;
 use crate::outcome::{Outcome, tell};
 use cpu_part::{BootName, Cpu, Tables};
 
-/// Serves one command of the processor, which holds the lock: its visit is opened, its fresh and back frames are
-/// settled, the command is obeyed, and the visit is shut. A frame that the command names is one of the zone's. Its
-/// answer is told without texts: `reply_of` the charges as they are then is the reply that `serve` gives.
+/// Serves one command of the processor, which holds the lock: what was noted before is forgotten, its visit is opened,
+/// its fresh and back frames are settled, the command is obeyed, and the visit is shut. What is noted then are the limits
+/// without room that it met, what was tried there, and who was killed. A frame that the command names is one of the
+/// zone's. Its answer is told without texts: `reply_of` the charges as they are then is the reply that `serve` gives.
 #[inline(always)]
 pub fn carry_out<N: BootName>(
     locked: &mut Locked<N>,
@@ -28,6 +29,7 @@ pub fn carry_out<N: BootName>(
     ensures still { NothingPasses N.frames locked.new.machine.seat cpu.new.seat }
     ensures lent { LentIsBorrowed N.frames locked.new.machine.seat cpu.new.seat }
 {
+    locked.machine.forget_notes();
     locked.machine.open(tables, cpu);
     locked.machine.settle(tables, cpu);
     let outcome = obey(&mut locked.machine, tables, cpu, locked.sizes, cmd);

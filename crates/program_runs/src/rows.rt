@@ -201,6 +201,49 @@ pub fn kill_rows() -> [Row; 5] {
     ]
 }
 
+/// Kills, and why they came: of these rows those of `kill_rows`, told with `--explain`, and one more.
+pub fn explained_rows() -> [Row; 6] {
+    [
+        unaudited(
+            "the group that asks is the victim, explained",
+            "replay --explain",
+            "1 mkdir /a\n1 mkdir /a/b\n1 write /a memory.max 4096\n1 alloc /a/b 0\n1 settle\n2 get 0\n1 alloc /a/b 0\n1 read /a memory.events\n1 read /a/b memory.events\n1 read /a memory.current\n",
+            "group 1\ngroup 2\nok\nframe 0\nsettled\nheld\nrefused 18 Killed\n# limit /a 4096 usage 4096 need 4096\n# stock 1 bytes 0 usage 4096\n# round 1 tried 2 missed 2 returned 0 bytes 0 usage 4096\n# oom /a\n# victim /a/b frames 1 of 1 candidates\n# killed /a/b returned 0 bytes 0 pinned 1 bytes 4096 usage 4096\nlow 0\nhigh 0\nmax 1\noom 1\noom_kill 1\nlow 0\nhigh 0\nmax 0\noom 0\noom_kill 1\n4096\n",
+        ),
+        unaudited(
+            "a pinned unit of a killed group comes back after its last put, explained",
+            "replay --explain",
+            "1 mkdir /a\n1 mkdir /a/b\n1 write /a memory.max 4096\n1 alloc /a/b 0\n1 settle\n2 get 0\n1 alloc /a/b 0\n2 put 0\n1 read /a memory.current\n2 settle\n1 read /a memory.current\n1 blocks\n",
+            "group 1\ngroup 2\nok\nframe 0\nsettled\nheld\nrefused 18 Killed\n# limit /a 4096 usage 4096 need 4096\n# stock 1 bytes 0 usage 4096\n# round 1 tried 2 missed 2 returned 0 bytes 0 usage 4096\n# oom /a\n# victim /a/b frames 1 of 1 candidates\n# killed /a/b returned 0 bytes 0 pinned 1 bytes 4096 usage 4096\nlast\n4096\nsettled\n0\n0:0 2:4 3:8\n",
+        ),
+        unaudited(
+            "a limit that is written kills where nothing clean is left, explained",
+            "replay --batch 1 --high 1 --stock 1 --explain",
+            "1 mkdir /a\n1 alloc /a 0\n1 alloc /a 0\n1 settle\n1 dirty 0\n1 dirty 1\n1 write /a memory.max 4096\n1 read /a memory.current\n1 read /a memory.events\n1 alloc /a 0\n",
+            "group 1\nframe 0\nframe 1\nsettled\nok\nok\nok\n# limit /a 4096 usage 8192 need 0\n# stock 1 bytes 0 usage 8192\n# round 1 tried 0 missed 0 returned 0 bytes 0 usage 8192\n# oom /a\n# victim /a frames 2 of 1 candidates\n# killed /a returned 2 bytes 8192 pinned 0 bytes 0 usage 0\n0\nlow 0\nhigh 0\nmax 0\noom 1\noom_kill 1\nrefused 18 Killed\n",
+        ),
+        unaudited(
+            "victims are killed until the usage is at most the limit, explained",
+            "replay --cpus 1 --batch 1 --high 1 --stock 1 --explain",
+            "1 mkdir /a\n1 mkdir /a/b\n1 mkdir /a/c\n1 alloc /a/b 0\n1 alloc /a/b 0\n1 alloc /a/c 0\n1 settle\n1 dirty 0\n1 dirty 1\n1 dirty 2\n1 write /a memory.max 0\n1 read /a memory.events\n1 read /a memory.current\n1 alloc /a 0\n1 read /a memory.events\n",
+            "group 1\ngroup 2\ngroup 3\nframe 0\nframe 1\nframe 2\nsettled\nok\nok\nok\nok\n# limit /a 0 usage 12288 need 0\n# stock 1 bytes 0 usage 12288\n# round 1 tried 0 missed 0 returned 0 bytes 0 usage 12288\n# oom /a\n# victim /a/b frames 2 of 2 candidates, next /a/c frames 1\n# killed /a/b returned 2 bytes 8192 pinned 0 bytes 0 usage 4096\n# victim /a/c frames 1 of 1 candidates\n# killed /a/c returned 1 bytes 4096 pinned 0 bytes 0 usage 0\nlow 0\nhigh 0\nmax 0\noom 1\noom_kill 2\n0\nrefused 15 OverLimit /a\nlow 0\nhigh 0\nmax 1\noom 2\noom_kill 2\n",
+        ),
+        Row {
+            name: "a fresh frame of a killed group is dropped, explained",
+            words: "replay --batch 1 --high 1 --stock 1 --audit --explain",
+            script: "1 mkdir /a\n1 alloc /a 0\n1 settle\n1 dirty 0\n2 alloc /a 0\n1 write /a memory.max 4096\n1 read /a memory.current\n1 owner 1\n2 settle\n1 read /a memory.current\n1 blocks\n",
+            answers: "group 1\nframe 0\nsettled\nok\nframe 1\nok\n# limit /a 4096 usage 8192 need 0\n# stock 1 bytes 0 usage 8192\n# stock 2 bytes 0 usage 8192\n# round 1 tried 0 missed 0 returned 0 bytes 0 usage 8192\n# oom /a\n# victim /a frames 1 of 1 candidates\n# killed /a returned 1 bytes 4096 pinned 0 bytes 0 usage 4096\n4096\ncpu 2\nsettled\n0\n4:0\n",
+            ending: "audit frames 16 free 16 charged 0\naudit puts 1 freezes 0 drops 1 returns 2\n",
+        },
+        unaudited(
+            "stocks are drained and a unit comes back before a kill",
+            "replay --explain",
+            "1 mkdir /a\n1 mkdir /a/b\n1 alloc /a/b 0\n2 alloc /a 0\n1 settle\n2 settle\n1 dirty 0\n1 write /a memory.max 0\n",
+            "group 1\ngroup 2\nframe 0\nframe 4\nsettled\nsettled\nok\nok\n# limit /a 0 usage 32768 need 0\n# stock 1 bytes 12288 usage 20480\n# stock 2 bytes 12288 usage 8192\n# round 1 tried 1 missed 0 returned 1 bytes 4096 usage 4096\n# round 2 tried 0 missed 0 returned 0 bytes 0 usage 4096\n# oom /a\n# victim /a/b frames 1 of 1 candidates\n# killed /a/b returned 1 bytes 4096 pinned 0 bytes 0 usage 0\n",
+        ),
+    ]
+}
+
 /// Processors: their lists, their stocks and their references.
 pub fn processor_rows() -> [Row; 12] {
     [

@@ -1,6 +1,6 @@
 //! Scripts over readers and writers in memory.
 
-use crate::rows::{Row, group_rows, kill_rows, processor_rows, reclaim_rows};
+use crate::rows::{Row, explained_rows, group_rows, kill_rows, processor_rows, reclaim_rows};
 use crate::streams::{PLAIN, broken, in_steps, is_refused, run, whole};
 use crate::visits::visit_all;
 use load_run::command_line::parse_words;
@@ -93,6 +93,14 @@ fn visits_answer_each_row_of_kills(rt: HostRuntime) -> Result<(), Fail> {
 #[test]
 fn answers_each_row_of_kills(rt: HostRuntime) -> Result<(), Fail> {
     for row in kill_rows().iter() {
+        answers(&rt, row)?;
+    }
+    Ok(())
+}
+
+#[test]
+fn explains_each_row_of_kills(rt: HostRuntime) -> Result<(), Fail> {
+    for row in explained_rows().iter() {
         answers(&rt, row)?;
     }
     Ok(())

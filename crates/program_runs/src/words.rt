@@ -1,6 +1,6 @@
 //! The words of the command line.
 
-use load_run::command_line::parse_words;
+use load_run::command_line::{parse_run_words, parse_words};
 use load_run::fault::WordsFault;
 use load_run::settings::Settings;
 use std::test::Fail;
@@ -16,7 +16,7 @@ fn has_defaults(rt: HostRuntime) -> Result<(), Fail> {
         high: 8,
         stock: 4,
     };
-    assert!(rt; found.sizes == defaults && !found.is_audited);
+    assert!(rt; found.sizes == defaults && !found.is_audited && !found.is_explained);
     Ok(())
 }
 
@@ -34,6 +34,7 @@ fn takes_the_greatest_values(rt: HostRuntime) -> Result<(), Fail> {
         "--stock",
         "64",
         "--audit",
+        "--explain",
     ];
     let found = parse_words(rt.alloc(), &words)?;
     let greatest = Config {
@@ -43,7 +44,7 @@ fn takes_the_greatest_values(rt: HostRuntime) -> Result<(), Fail> {
         high: 256,
         stock: 64,
     };
-    assert!(rt; found.sizes == greatest && found.is_audited);
+    assert!(rt; found.sizes == greatest && found.is_audited && found.is_explained);
     Ok(())
 }
 
@@ -70,6 +71,7 @@ fn reads_both_spellings_in_any_order(rt: HostRuntime) -> Result<(), Fail> {
             high: 12,
             stock: 7,
         },
+        is_explained: false,
         is_audited: true,
     };
     assert!(rt; parse_words(rt.alloc(), &attached)? == wanted);
@@ -108,6 +110,21 @@ fn told<R: AllocGlobal>(rt: &R, words: &[&str]) -> Result<String, Fail> {
         Err(WordsFault::BadWords(text)) => Ok(text),
         Err(WordsFault::NoMemory(error)) => Err(error)?,
     }
+}
+
+#[test]
+fn run_explains_nothing(rt: HostRuntime) -> Result<(), Fail> {
+    let found = parse_run_words(rt.alloc(), &["run", "--audit"])?;
+    assert!(rt; found.is_audited && !found.is_explained);
+    match parse_run_words(rt.alloc(), &["run", "--explain"]) {
+        Err(WordsFault::BadWords(text)) => assert!(rt;
+            text.as_str()
+                .starts_with("error: unexpected argument '--explain' found\n"),
+            "{text}"
+        ),
+        Ok(_) | Err(WordsFault::NoMemory(_)) => assert!(rt; false),
+    }
+    Ok(())
 }
 
 #[test]

@@ -9,6 +9,7 @@ use crate::small::{
 use cpu_part::{BootName, Cpu, Tables};
 use frame_word::Get;
 use group_tree::group::GroupId;
+use kill_notes::note::{Candidate, Note};
 use mem_machine::Machine;
 use mem_reclaim::Reclaimed;
 use std::alloc::Global;
@@ -28,6 +29,12 @@ enum Row {
     RoundsEnd,
     MostFrames,
     PinOutlivesAKill,
+}
+
+// What was noted, which is forgotten then.
+fn noted<N: BootName>(rt: &impl Abort, machine: &mut Machine<N>, notes: &[Note]) {
+    holds(rt, machine.notes() == notes, "notes");
+    machine.forget_notes();
 }
 
 // So many pages, and whether all was tried.
@@ -194,6 +201,21 @@ fn rounds_end<N: BootName>(
     holds(rt, cpu.get(tables, pinned) == Ok(Get::Held), "a pin");
     let given = rounds_from(rt, tables, machine, root, 0, 0);
     holds(rt, given == 1, "one of two pages");
+    let first = Note::Round {
+        number: 1,
+        returned: 1,
+        missed: 2,
+        pages: 1,
+        usage: 1,
+    };
+    let second = Note::Round {
+        number: 2,
+        returned: 0,
+        missed: 2,
+        pages: 0,
+        usage: 1,
+    };
+    noted(rt, machine, &[first, second]);
     holds(rt, is_kept(rt, tables, machine, 0), "the pinned unit stays");
     holds(rt, !is_kept(rt, tables, machine, 1), "the other went");
     assert!(rt; cpu.holds(pinned));
@@ -221,6 +243,26 @@ fn most_frames<N: BootName>(
     machine.set_dirty(dirty, true);
     let killed = kill_for(rt, tables, machine, above);
     holds(rt, killed == two.number(), "the group with two frames");
+    let victim = Note::Victim {
+        victim: Candidate {
+            group: two,
+            frames: 2,
+        },
+        candidates: 2,
+        next: Candidate {
+            group: one,
+            frames: 1,
+        },
+    };
+    let gone = Note::Killed {
+        group: two,
+        returned: 1,
+        pages: 2,
+        pinned: 0,
+        left: 0,
+        usage: 1,
+    };
+    noted(rt, machine, &[victim, gone]);
     holds(rt, !is_kept(rt, tables, machine, 2), "its unit went");
     holds(rt, is_kept(rt, tables, machine, 0), "the other stays");
     let told = usage_and_kills(rt, machine, above);
@@ -250,6 +292,20 @@ fn pin_outlives_a_kill<N: BootName>(
     holds(rt, cpu.get(tables, pinned) == Ok(Get::Held), "a pin");
     let killed = kill_for(rt, tables, machine, root);
     holds(rt, killed == group.number(), "the one group with a frame");
+    let victim = Note::Victim {
+        victim: Candidate { group, frames: 1 },
+        candidates: 1,
+        next: Candidate { group, frames: 1 },
+    };
+    let pinned_past = Note::Killed {
+        group,
+        returned: 0,
+        pages: 0,
+        pinned: 1,
+        left: 1,
+        usage: 1,
+    };
+    noted(rt, machine, &[victim, pinned_past]);
     holds(rt, !is_kept(rt, tables, machine, 0), "it isn't kept");
     let told = usage_and_kills(rt, machine, group);
     holds(rt, told == (1, 1), "it is charged still");

@@ -1,5 +1,5 @@
 -- What is tried without the lock, and then served under it.
-use Rattle.std.proofs.Common.{ℕ, List, inr}
+use Rattle.std.proofs.Common.{◌≡◌, ℕ, Bool, List, inr, refl}
 use Rattle.std.specs.Borrow.{Bor}
 use Rattle.frame_word.specs.Seats.{KnownTable}
 use Rattle.cpu_part.specs.Cpus.{KnownCpu}
@@ -7,6 +7,7 @@ use Rattle.mem_system.specs.declared.command.Cmd.TheVariants as cmd
 use Rattle.mem_system.specs.Boots.{KnownLocked}
 use Rattle.reply_texts.specs.Answer.{Answer, Served}
 use Rattle.script_replay.specs.Answers.{AnswersFrame, AnswersRelease, CanNotList, GetsNoneFast, RepliesServed}
+use Rattle.script_replay.specs.Answers.{frame_kills, kills_text, release_kills}
 use Rattle.mem_system.specs.Commands.{holder}
 
 -- where there is no frame for the group, the command is served
@@ -20,3 +21,16 @@ pub released_after : (t : KnownTable) (f : ℕ) (l : KnownLocked) (c seen : Know
     → CanNotList f c seen → RepliesServed t (cmd.Release f) (holder l seen) said (holder k d) → AnswersRelease t f (holder l c) said (holder k d)
 released_after t f l c seen (Served reply) k d can_not served = (seen, can_not, served)
 released_after t f l c seen said k d can_not served = absurd served
+
+-- of its kills the same is told
+pub served_kills : (explains : Bool) (t : KnownTable) (path : Bor (List ℕ)) (l : KnownLocked) (c seen : KnownCpu) (said : Answer) (k : KnownLocked) (d : KnownCpu)
+    (none : GetsNoneFast path.now (holder l c) seen) (served : RepliesServed t (cmd.Alloc path 0) (holder l seen) said (holder k d))
+    → kills_text explains k.machine ≡ frame_kills explains t path (holder l c) said (holder k d) (served_after t path l c seen said k d none served)
+unfolding served_after
+served_kills explains t path l c seen (Served reply) k d none served = refl
+served_kills explains t path l c seen said k d none served = absurd served
+
+pub released_kills : (explains : Bool) (t : KnownTable) (f : ℕ) (l : KnownLocked) (seen : KnownCpu) (said : Answer) (k : KnownLocked) (d : KnownCpu)
+    → RepliesServed t (cmd.Release f) (holder l seen) said (holder k d) → kills_text explains k.machine ≡ release_kills explains said (holder k d)
+released_kills explains t f l seen (Served reply) k d served = refl
+released_kills explains t f l seen said k d served = absurd served

@@ -1,5 +1,6 @@
 -- What a command is answered at a processor, and what it does there and behind the lock.
-use Rattle.std.specs.Prelude.{◌≡◌, ◌≢◌, ◌⊎◌, ℕ, ◌+◌, ◌<◌, ◌≤◌, List, ◌++◌, Some, None, Result, IfOk, length}
+use Rattle.std.specs.Prelude.{◌≡◌, ◌≢◌, ◌⊎◌, ℕ, ◌+◌, ◌<◌, ◌≤◌, Bool, true, false, List, [], ◌++◌, Some, None, Result, IfOk, length}
+use Rattle.std.proofs.Common.{inl, inr}
 use Rattle.std.specs.Borrow.{Bor}
 use Rattle.frame_word.specs.Seats.{KnownTable}
 use Rattle.group_tree.specs.Groups.{number_at}
@@ -9,8 +10,10 @@ use Rattle.cpu_part.specs.declared.answers.Fast.TheVariants.{Got}
 use Rattle.cpu_part.specs.declared.answers.Dropped.TheVariants as dropped
 use Rattle.cpu_part.specs.Cpus.{KnownCpu, times}
 use Rattle.cpu_part.specs.Calls.{FastAnswers, DropAnswers, PinAnswers, UnpinAnswers}
+use Rattle.kill_texts.specs.Explanation.{explanation_text}
 use Rattle.machine_texts.specs.Blocks.{blocks_text}
 use Rattle.machine_texts.specs.Show.{show_text}
+use Rattle.mem_machine.specs.Machines.{KnownMachine}
 use Rattle.mem_system.specs.declared.command.Cmd.{Cmd}
 use Rattle.mem_system.specs.declared.command.Cmd.TheVariants as cmd
 use Rattle.mem_system.specs.declared.command.Reply.{Reply}
@@ -125,12 +128,42 @@ Answers t Settle before answer after = AnswersSettle t before answer after
 Answers t Blocks before answer after = ⊥
 Answers t Show before answer after = ⊥
 
--- the same as text: `blocks` and `show` settle the processor, and tell of the machine as it is then
-abbrev pub AnswersWork : KnownTable → Work → Holder → List ℕ → Holder → Type 0
-AnswersWork t Blocks before text after = SettlesCaller t before after × (text ≡ blocks_text after.locked.machine.blocks)
-AnswersWork t Show before text after = SettlesCaller t before after × (text ≡ show_text after.locked.machine)
-AnswersWork t work before text after = (said : Answer) × Answers t work before said after × (text ≡ answer_text said)
+-- the explanation of the kills of a command that was served under the lock, where that is asked for: of the groups and
+-- the notes as the command left them
+abbrev pub kills_text : Bool → KnownMachine → List ℕ
+kills_text true m = explanation_text m.ledger.groups m.notes
+kills_text false m = []
+
+-- so it is with an Alloc of a single frame, where it wasn't refused before the lock
+abbrev pub frame_kills : Bool → (t : KnownTable) (path : Bor (List ℕ)) (before : Holder) (said : Answer) (after : Holder)
+    → AnswersFrame t path before said after → List ℕ
+frame_kills explains t path before (answer.Served reply) after (inl none) = []
+frame_kills explains t path before (answer.Served reply) after (inr served) = kills_text explains after.locked.machine
+frame_kills explains t path before said after is = []
+
+-- so it is with a Release, where the frame wasn't listed again without the lock
+abbrev pub release_kills : Bool → Answer → Holder → List ℕ
+release_kills explains (answer.Served reply) after = kills_text explains after.locked.machine
+release_kills explains said after = []
+
+-- what is told of kills behind the answer, where this was done and answered so
+abbrev pub work_kills : Bool → (t : KnownTable) (work : Work) (before : Holder) (said : Answer) (after : Holder)
+    → Answers t work before said after → List ℕ
+work_kills explains t (Visit command) before said after is = kills_text explains after.locked.machine
+work_kills explains t (Frame path) before said after is = frame_kills explains t path before said after is
+work_kills explains t (Release frame) before said after is = release_kills explains said after
+work_kills explains t work before said after is = []
+
+-- The same as text: the answer's, and behind it what is told of kills. `blocks` and `show` settle the processor, and tell
+-- of the machine as it is then
+abbrev pub AnswersWork : KnownTable → Bool → Work → Holder → List ℕ → Holder → Type 0
+AnswersWork t explains Blocks before text after =
+    SettlesCaller t before after × (text ≡ blocks_text after.locked.machine.blocks)
+AnswersWork t explains Show before text after = SettlesCaller t before after × (text ≡ show_text after.locked.machine)
+AnswersWork t explains work before text after =
+    (said : Answer) × (is : Answers t work before said after)
+    × (text ≡ answer_text said ++ work_kills explains t work before said after is)
 
 -- what a command is answered, as text
-abbrev pub AnswersText : KnownTable → Command → Holder → List ℕ → Holder → Type 0
-AnswersText t command before text after = AnswersWork t (work_of command) before text after
+abbrev pub AnswersText : KnownTable → Bool → Command → Holder → List ℕ → Holder → Type 0
+AnswersText t explains command before text after = AnswersWork t explains (work_of command) before text after

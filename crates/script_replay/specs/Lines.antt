@@ -1,5 +1,5 @@
 -- What lines are answered, one after the other.
-use Rattle.std.specs.Prelude.{◌≡◌, ℕ, ◌-◌, ◌≤◌, List, [], ◌∷◌, ◌++◌, Some, length, slice_get, slice_set, take}
+use Rattle.std.specs.Prelude.{◌≡◌, ℕ, Bool, ◌-◌, ◌≤◌, List, [], ◌∷◌, ◌++◌, Some, length, slice_get, slice_set, take}
 use Rattle.frame_word.specs.Seats.{KnownTable}
 use Rattle.cpu_part.specs.Cpus.{KnownCpu}
 use Rattle.mem_system.specs.Boots.{KnownLocked}
@@ -25,18 +25,18 @@ pub record AtPart (processor : ℕ) (goes : Holder → Holder → Type 0) (befor
   pub answers : goes (holder before.locked part) (holder after.locked left)
   pub cpus : after.cpus ≡ slice_set before.cpus (processor - 1) left
 
--- a line is answered this text; `go` is answered nothing, and does nothing
-abbrev pub ServesLine : KnownTable → Standing → Line → List ℕ → Standing → Type 0
-ServesLine t before Go text after = (text ≡ []) × (after ≡ before)
-ServesLine t before (At number processor command) text after =
-    AtPart processor (λ one other. AnswersText t command one text other) before after
+-- a line is answered this text, in which kills are explained or not; `go` is answered nothing, and does nothing
+abbrev pub ServesLine : KnownTable → Bool → Standing → Line → List ℕ → Standing → Type 0
+ServesLine t explains before Go text after = (text ≡ []) × (after ≡ before)
+ServesLine t explains before (At number processor command) text after =
+    AtPart processor (λ one other. AnswersText t explains command one text other) before after
 
 -- the lines are served one after the other, and their texts stand one after the other
-abbrev pub ServesAll : KnownTable → Standing → List Line → List ℕ → Standing → Type 0
-ServesAll t s [] text e = (text ≡ []) × (e ≡ s)
-ServesAll t s (line ∷ lines) text e =
+abbrev pub ServesAll : KnownTable → Bool → Standing → List Line → List ℕ → Standing → Type 0
+ServesAll t explains s [] text e = (text ≡ []) × (e ≡ s)
+ServesAll t explains s (line ∷ lines) text e =
     (first : List ℕ) × (rest : List ℕ) × (mid : Standing)
-    × ServesLine t s line first mid × ServesAll t mid lines rest e × (text ≡ first ++ rest)
+    × ServesLine t explains s line first mid × ServesAll t explains mid lines rest e × (text ≡ first ++ rest)
 
 -- Memory was wanting for the text of the line of this number. This is so of the lines up to it, itself among them, and of
 -- their texts, its own too, which nobody gets: they were served, once each, and no line after them

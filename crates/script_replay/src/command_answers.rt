@@ -1,13 +1,13 @@
 //! One command, answered at a processor by value of what lies behind the lock.
 
 ghost use Rattle.std.specs.Borrow.{Bor};
-ghost use Rattle.std.specs.Prelude.{◌≡◌, ◌<◌, IsTrue, List, Some, ℕ};
+ghost use Rattle.std.specs.Prelude.{◌≡◌, ◌<◌, ◌++◌, IfOk, IsTrue, List, Some, ℕ};
 ghost use Rattle.group_tree.specs.Groups.{has_group, number_at};
 ghost use Rattle.mem_system.specs.declared.command.Cmd.TheVariants.{Alloc};
 ghost use Rattle.std.specs.String.{string_bytes};
 ghost use Rattle.mem_system.specs.Commands.{IsOfZone, holder};
-ghost use Rattle.script_replay.specs.Answers.{AddsAnswer, AddsText, AnswersFrame, AnswersRelease, AnswersText};
-ghost use Rattle.script_replay.specs.Answers.{AnswersWork, RepliesServed};
+ghost use Rattle.script_replay.specs.declared.work.Work.TheVariants.{Frame, Release, Visit};
+ghost use Rattle.script_replay.specs.Answers.{AddsText, AnswersText, AnswersWork, kills_text};
 ghost use Rattle.script_replay.specs.Ranges.{NamesInRange, WorkInRange};
 
 use crate::unlocked_calls::{get, put, try_list};
@@ -15,27 +15,30 @@ use crate::work::{Work, work_of};
 use cpu_part::{BootName, Cpu, Fast, Tables};
 use group_tree::fault::Fault;
 use group_tree::group::GroupId;
+use kill_texts::write_explanation;
 use machine_texts::{write_blocks, write_show};
 use mem_system::{Cmd, Locked, carry_out, carry_out_frame, settle};
 use reply_texts::{write_fast, write_listed, write_outcome, write_refusal, write_settled};
 use script_lines::line::Command;
 use std::alloc::AllocError;
 
-// Serves a command and adds what it is answered. Where memory is wanting the command was served all the same.
+// Serves a command and adds what it is answered, and behind that where `explains` says so why groups were killed for
+// it. Where memory is wanting the command was served all the same.
 #[tactic(auto, using(crate::proofs::InRange::work_in_range))]
 pub(crate) fn answer_text<N: BootName>(
     locked: &mut Locked<N>,
     tables: &Tables<N>,
     cpu: &mut Cpu<N>,
     command: &Command<'_>,
+    explains: bool,
     text: &mut String,
 ) -> Result<(), AllocError>
     requires { NamesInRange N.frames.frames command.now }
-    ensures { AddsText result (AnswersText N.frames command.now) (holder locked.old cpu.old) (holder locked.new cpu.new)
+    ensures { AddsText result (AnswersText N.frames explains command.now) (holder locked.old cpu.old) (holder locked.new cpu.new)
         (string_bytes text.old) (string_bytes text.new) }
 {
     let work = work_of(command);
-    answer_work(locked, tables, cpu, &work, text)
+    answer_work(locked, tables, cpu, &work, explains, text)
 }
 
 // Does what is asked and adds what it is answered. Each text is written where the answer is made, and that of a
@@ -45,17 +48,18 @@ fn answer_work<N: BootName>(
     tables: &Tables<N>,
     cpu: &mut Cpu<N>,
     work: &Work<'_>,
+    explains: bool,
     text: &mut String,
 ) -> Result<(), AllocError>
     requires { WorkInRange N.frames.frames work.now }
-    ensures { AddsText result (AnswersWork N.frames work.now) (holder locked.old cpu.old) (holder locked.new cpu.new)
+    ensures { AddsText result (AnswersWork N.frames explains work.now) (holder locked.old cpu.old) (holder locked.new cpu.new)
         (string_bytes text.old) (string_bytes text.new) }
 {
     match *work {
-        Work::Visit(cmd) => serve_command(locked, tables, cpu, &cmd, text),
-        Work::Frame { path } => alloc_frame(locked, tables, cpu, path, text),
+        Work::Visit(cmd) => serve_command(locked, tables, cpu, &cmd, explains, text),
+        Work::Frame { path } => alloc_frame(locked, tables, cpu, path, explains, text),
         Work::Fast { group } => write_fast(&cpu.alloc_fast(tables, group), text),
-        Work::Release { frame } => release(locked, tables, cpu, frame, text),
+        Work::Release { frame } => release(locked, tables, cpu, frame, explains, text),
         Work::Get { frame } => get(tables, cpu, frame, text),
         Work::Put { frame } => put(tables, cpu, frame, text),
         Work::Settle => {
@@ -73,37 +77,57 @@ fn answer_work<N: BootName>(
     }
 }
 
-// Serves the command under the lock, and adds its reply.
+// Serves the command under the lock, and adds its reply, and what is told of its kills.
 fn serve_command<N: BootName>(
     locked: &mut Locked<N>,
     tables: &Tables<N>,
     cpu: &mut Cpu<N>,
     cmd: &Cmd<'_>,
+    explains: bool,
     text: &mut String,
 ) -> Result<(), AllocError>
     requires { IsOfZone N.frames cmd.now }
-    ensures { AddsAnswer result (RepliesServed N.frames cmd.now) (holder locked.old cpu.old) (holder locked.new cpu.new)
+    ensures { AddsText result (AnswersWork N.frames explains (Visit cmd.now)) (holder locked.old cpu.old) (holder locked.new cpu.new)
         (string_bytes text.old) (string_bytes text.new) }
 {
     let outcome = carry_out(locked, tables, cpu, cmd);
-    write_outcome(locked.charges(), &outcome, text)
+    write_outcome(locked.charges(), &outcome, text)?;
+    explain(locked, explains, text)
 }
 
-// Serves an Alloc of a single frame for this group under the lock, and adds its reply: its path isn't sought again.
+// Serves an Alloc of a single frame for this group under the lock, and adds its reply, and what is told of its kills: its
+// path isn't sought again.
 fn serve_frame<N: BootName>(
     locked: &mut Locked<N>,
     tables: &Tables<N>,
     cpu: &mut Cpu<N>,
     group: GroupId,
+    explains: bool,
     text: &mut String,
 ) -> Result<(), AllocError>
     requires there { IsTrue (has_group locked.old.machine.ledger.groups group) }
     ensures { (path : Bor (List ℕ)) → number_at locked.old.machine.ledger.groups path.now ≡ Some group
-        → AddsAnswer result (RepliesServed N.frames (Alloc path 0))
+        → AddsText result (AnswersWork N.frames explains (Visit (Alloc path 0)))
         (holder locked.old cpu.old) (holder locked.new cpu.new) (string_bytes text.old) (string_bytes text.new) }
 {
     let outcome = carry_out_frame(locked, tables, cpu, group);
-    write_outcome(locked.charges(), &outcome, text)
+    write_outcome(locked.charges(), &outcome, text)?;
+    explain(locked, explains, text)
+}
+
+// Adds why groups were killed for the command that was served last, where that is asked for.
+fn explain<N: BootName>(
+    locked: &Locked<N>,
+    explains: bool,
+    text: &mut String,
+) -> Result<(), AllocError>
+    ensures { IfOk result (λ _. string_bytes text.new ≡ string_bytes text.old ++ kills_text explains locked.now.machine) }
+{
+    if !explains {
+        return Ok(());
+    }
+    let machine = locked.machine();
+    write_explanation(machine.charges().tree(), machine.notes(), text)
 }
 
 // Takes a frame, without the lock where it can be.
@@ -112,9 +136,10 @@ fn alloc_frame<N: BootName>(
     tables: &Tables<N>,
     cpu: &mut Cpu<N>,
     path: &[u8],
+    explains: bool,
     text: &mut String,
 ) -> Result<(), AllocError>
-    ensures { AddsAnswer result (AnswersFrame N.frames path.entry)
+    ensures { AddsText result (AnswersWork N.frames explains (Frame path.entry))
         (holder locked.old cpu.old) (holder locked.new cpu.new) (string_bytes text.old) (string_bytes text.new) }
 {
     let Some(group) = locked.find(path) else {
@@ -122,7 +147,7 @@ fn alloc_frame<N: BootName>(
     };
     match cpu.alloc_fast(tables, group.number()) {
         Fast::Got(frame) => write_fast(&Fast::Got(frame), text),
-        _ => serve_frame(locked, tables, cpu, group, text),
+        _ => serve_frame(locked, tables, cpu, group, explains, text),
     }
 }
 
@@ -132,14 +157,22 @@ fn release<N: BootName>(
     tables: &Tables<N>,
     cpu: &mut Cpu<N>,
     number: u32,
+    explains: bool,
     text: &mut String,
 ) -> Result<(), AllocError>
     requires { number < N.frames.frames }
-    ensures { AddsAnswer result (AnswersRelease N.frames number) (holder locked.old cpu.old) (holder locked.new cpu.new)
+    ensures { AddsText result (AnswersWork N.frames explains (Release number)) (holder locked.old cpu.old) (holder locked.new cpu.new)
         (string_bytes text.old) (string_bytes text.new) }
 {
     if try_list(tables, cpu, number) {
         return write_listed(text);
     }
-    serve_command(locked, tables, cpu, &Cmd::Release { frame: number }, text)
+    serve_command(
+        locked,
+        tables,
+        cpu,
+        &Cmd::Release { frame: number },
+        explains,
+        text,
+    )
 }

@@ -1,8 +1,10 @@
-//! The texts that the program reads and writes, as tests: limits and files of a group, and scripts. Nothing but tests
+//! The texts that the program reads and writes, as tests: limits and files of a group, why groups were killed, and scripts. Nothing but tests
 //! stands here.
 #![tactic(auto)]
 
 #[cfg(test)]
 mod files;
+#[cfg(test)]
+mod kills;
 #[cfg(test)]
 mod lines;

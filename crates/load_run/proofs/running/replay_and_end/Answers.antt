@@ -30,7 +30,7 @@ returns g c =
     let audit = c.finish-ended.result.audit in
     record {
       before = standing c.replay-answers.new.locked c.replay-answers.new.cpus;
-      is_before = replays_or_stops t w (standing c.args.locked c.deref_mut.result.now) (standing c.args.locked c.args.cpus.items)
+      is_before = replays_or_stops t w c.args.is_explained (standing c.args.locked c.deref_mut.result.now) (standing c.args.locked c.args.cpus.items)
           (standing c.replay-answers.new.locked c.replay-answers.new.cpus) c.args.lines.now c.replay-answers.result (λ v. v.items)
           (ap (standing c.args.locked) first) c.replay-answers.ensures.answers c.replay-answers.ensures.history c.replay-answers.ensures.stopped;
       ends = subst (λ (cpus : List KnownCpu). EndsHeld t w (standing c.replay-answers.new.locked cpus) held audit) same c.finish-ended.ensures;

@@ -1,6 +1,6 @@
 -- Serves the contract of `run_by_threads`: what stands goes from the boot to the lines before `go`, from these to the threads, and
 -- ends.
-use Rattle.std.proofs.Common.{◌≡◌, ◌∙◌, ◌≤◌, ℕ, List, [], ◌++◌, length, ap, subst, sym, take, drop}
+use Rattle.std.proofs.Common.{◌≡◌, ◌∙◌, ◌≤◌, ℕ, false, List, [], ◌++◌, length, ap, subst, sym, take, drop}
 use Rattle.cpu_part.specs.Cpus.{KnownCpu}
 use Rattle.mem_system.proofs.Closing.{written_back}
 use Rattle.script_replay.specs.History.{TellsHistory}
@@ -57,11 +57,11 @@ returns g c =
     let later = c.in_ok-told.field-0.items in
     let held = c.serve_and_end-told.result.1.held in
     let audit = c.serve_and_end-told.result.1.audit in
-    let served : ServesAll t start c.split_at.result.0.now early at_go =
-    ok_at c.replay-first.result c.in_ok-answers.answers (λ v. ServesAll t start c.split_at.result.0.now v.items at_go) c.in_ok-answers.was
+    let served : ServesAll t false start c.split_at.result.0.now early at_go =
+    ok_at c.replay-first.result c.in_ok-answers.answers (λ v. ServesAll t false start c.split_at.result.0.now v.items at_go) c.in_ok-answers.was
     c.replay-first.ensures.answers in
-    let history : TellsHistory t (Unit {0}) [] start c.split_at.result.0.now early at_go =
-    ok_at c.replay-first.result c.in_ok-answers.answers (λ v. TellsHistory t (Unit {0}) [] start c.split_at.result.0.now v.items at_go) c.in_ok-answers.was
+    let history : TellsHistory t false (Unit {0}) [] start c.split_at.result.0.now early at_go =
+    ok_at c.replay-first.result c.in_ok-answers.answers (λ v. TellsHistory t false (Unit {0}) [] start c.split_at.result.0.now v.items at_go) c.in_ok-answers.was
     (c.replay-first.ensures.history [] (boot_shown sizes t w c.in_ok-tables.locked.machine c.deref_mut.result.now sized c.in_ok-tables.ensures.machine firsts)
     (parts_tied sizes t w c.in_ok-tables.locked.machine c.deref_mut.result.now sized c.in_ok-tables.ensures.machine firsts)) in
     let tells : TellsEach t w (workers_from 1 at_go.cpus c.split_at.result.1.now) later =

@@ -2,7 +2,8 @@ use Rattle.std.proofs.Common.{◌≡◌, ℕ, false, true, Option, Some, sym, ap
 use Rattle.std.specs.Prelude.{IfSome, slice_set}
 use Rattle.std.proofs.lemmas.Bool.{false≢true}
 use Rattle.group_charge.specs.Charges.{AreCharges, Ledger}
-use Rattle.mem_machine.specs.Machines.{KnownMachine}
+use Rattle.kill_notes.specs.declared.note.Note.TheVariants.{Oom}
+use Rattle.mem_machine.specs.Machines.{KnownMachine, with_note}
 use Rattle.mem_reclaim.specs.Killing.{IsKilledBy, KillsVictim}
 use Rattle.mem_reclaim.specs.Victim.{HasMostFrames, IsVictim}
 use Rattle.mem_alloc.specs.Kills.{KillsFor, has_room_for, with_oom_noted_at}
@@ -14,7 +15,7 @@ pub kills-init : goal.kills-init
 kills-init g c =
     let t = g.N.BootName.frames in
     subst (λ (y : KnownMachine). KillsSoFar c.args.requester t c.args.group c.args.pages (with_oom_noted_at c.args.machine.now c.args.group) y)
-    (sym c.note_oom.ensures.machine)
+    (sym (c.note.ensures ∙ ap (λ (x : KnownMachine). with_note x (Oom c.args.group)) c.note_oom.ensures.machine))
     (so_far_nobody c.args.requester t c.args.group c.args.pages (with_oom_noted_at c.args.machine.now c.args.group))
 
 pub is_wanting-requires : goal.is_wanting-requires
@@ -42,7 +43,7 @@ returns-in_default g c =
     ap (λ (l : Ledger). has_room_for l c.args.group c.args.pages) (sym c.charges.ensures) ∙ sym c.has_room_at.ensures ∙ c.if-has_room_at.false in
     let none = subst (λ (o : Option ℕ). IsVictim c.kills.machine c.args.group o) c.in_default.is c.kill.ensures.victim in
     let same : c.kill.new.machine ≡ c.kills.machine =
-    subst (λ (o : Option ℕ). KillsVictim t o c.kills.machine c.kill.new.machine) c.in_default.is c.kill.ensures.kills in
+    subst (λ (o : Option ℕ). KillsVictim t c.args.group o c.kills.machine c.kill.new.machine) c.in_default.is c.kill.ensures.kills in
     subst (λ (y : KnownMachine). ByStepsOfAny t c.args.machine.now y (KillsFor c.args.requester c.args.group c.args.pages)) (sym same)
     (kills_end c.args.requester t c.args.group c.args.pages c.args.machine.now c.note_oom.new.self c.kills.machine over
     c.note_oom.ensures.machine c.note_oom.ensures.steps c.kills.invariant (λ wanting. none))
@@ -63,8 +64,8 @@ kills-preserved g c =
     let charges : AreCharges c.kills.machine.ledger = subst (λ (l : Ledger). AreCharges l) c.charges-charges.ensures c.tree-tree.ensures.legal in
     let most : IsVictim c.kills.machine c.args.group (Some c.in-Some._victim) =
     subst (λ (o : Option ℕ). IsVictim c.kills.machine c.args.group o) c.in-Some.is c.kill.ensures.victim in
-    let kills : IsKilledBy t c.in-Some._victim c.kills.machine c.kill.new.machine =
-    subst (λ (o : Option ℕ). KillsVictim t o c.kills.machine c.kill.new.machine) c.in-Some.is c.kill.ensures.kills in
+    let kills : IsKilledBy t c.args.group c.in-Some._victim c.kills.machine c.kill.new.machine =
+    subst (λ (o : Option ℕ). KillsVictim t c.args.group o c.kills.machine c.kill.new.machine) c.in-Some.is c.kill.ensures.kills in
     let marked : c.kill.new.machine.killed ≡ slice_set c.kills.machine.killed c.in-Some._victim true =
     subst (λ (o : Option ℕ). IfSome o (λ v. c.kill.new.machine.killed ≡ slice_set c.kills.machine.killed v true)) c.in-Some.is c.kill.ensures.marked in
     so_far_killed c.args.requester t g.N.BootName.stocks c.args.group c.args.pages c.in-Some._victim (with_oom_noted_at c.args.machine.now c.args.group)

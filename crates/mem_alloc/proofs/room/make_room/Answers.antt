@@ -1,7 +1,7 @@
 use Rattle.std.proofs.Common.{◌≡◌, true, List, refl, sym, ap, ◌∙◌, subst}
 use Rattle.group_tree.specs.declared.group.Group.{Group}
 use Rattle.group_tree.specs.Groups.{has_group}
-use Rattle.group_charge.specs.Charges.{Ledger}
+use Rattle.group_charge.specs.Charges.{Ledger, with_max_noted}
 use Rattle.mem_machine.specs.Machines.{KnownMachine}
 use Rattle.mem_alloc.specs.Kills.{has_room_for}
 use Rattle.mem_alloc.proofs.Lowering.{Lowers, lowers_both, note_lowers, all_lower, lowered_there}
@@ -13,8 +13,9 @@ pub reclaim_for-requires : goal.reclaim_for-requires
 reclaim_for-requires g c =
     let sub = c.drain_stocks.ensures.drains in
     let noted : Lowers g.N.BootName.frames c.args.machine.now c.note_max.new.self =
-    subst (λ (y : KnownMachine). Lowers g.N.BootName.frames c.args.machine.now y) (sym c.note_max.ensures.machine)
-    (note_lowers g.N.BootName.frames c.args.machine.now c.args.group) in
+    subst (λ (y : KnownMachine). Lowers g.N.BootName.frames c.args.machine.now y)
+    (sym (c.note_max.ensures.machine ∙ ap (λ (y : KnownMachine). record y { ledger = with_max_noted y.ledger c.args.group }) c.note_limit.ensures))
+    (note_lowers g.N.BootName.frames c.args.machine.now c.args.group c.args.pages) in
     let lowers = lowers_both g.N.BootName.frames _ _ _ noted (all_lower g.N.BootName.frames c.args.group g.N.BootName.frames.cpus _ _ sub.drains sub.all) in
     lowered_there g.N.BootName.frames _ _ c.args.group lowers c.requires
 
@@ -22,8 +23,9 @@ pub kill_for_few-requires : goal.kill_for_few-requires
 kill_for_few-requires g c =
     let sub = c.drain_stocks.ensures.drains in
     let noted : Lowers g.N.BootName.frames c.args.machine.now c.note_max.new.self =
-    subst (λ (y : KnownMachine). Lowers g.N.BootName.frames c.args.machine.now y) (sym c.note_max.ensures.machine)
-    (note_lowers g.N.BootName.frames c.args.machine.now c.args.group) in
+    subst (λ (y : KnownMachine). Lowers g.N.BootName.frames c.args.machine.now y)
+    (sym (c.note_max.ensures.machine ∙ ap (λ (y : KnownMachine). record y { ledger = with_max_noted y.ledger c.args.group }) c.note_limit.ensures))
+    (note_lowers g.N.BootName.frames c.args.machine.now c.args.group c.args.pages) in
     let lowers = lowers_both g.N.BootName.frames _ _ _ noted (all_lower g.N.BootName.frames c.args.group g.N.BootName.frames.cpus _ _ sub.drains sub.all) in
     ap (λ (x : List Group). has_group x c.args.group) c.reclaim_for.ensures.reclaims.1.keeps.groups
     ∙ lowered_there g.N.BootName.frames _ _ c.args.group lowers c.requires
@@ -32,8 +34,9 @@ pub has_room_at-requires : goal.has_room_at-requires
 has_room_at-requires g c =
     let sub = c.drain_stocks.ensures.drains in
     let noted : Lowers g.N.BootName.frames c.args.machine.now c.note_max.new.self =
-    subst (λ (y : KnownMachine). Lowers g.N.BootName.frames c.args.machine.now y) (sym c.note_max.ensures.machine)
-    (note_lowers g.N.BootName.frames c.args.machine.now c.args.group) in
+    subst (λ (y : KnownMachine). Lowers g.N.BootName.frames c.args.machine.now y)
+    (sym (c.note_max.ensures.machine ∙ ap (λ (y : KnownMachine). record y { ledger = with_max_noted y.ledger c.args.group }) c.note_limit.ensures))
+    (note_lowers g.N.BootName.frames c.args.machine.now c.args.group c.args.pages) in
     let lowers = lowers_both g.N.BootName.frames _ _ _ noted (all_lower g.N.BootName.frames c.args.group g.N.BootName.frames.cpus _ _ sub.drains sub.all) in
     let there : has_group c.reclaim_for.new.machine.ledger.groups c.args.group ≡ true =
     ap (λ (x : List Group). has_group x c.args.group) c.reclaim_for.ensures.reclaims.1.keeps.groups
@@ -47,24 +50,24 @@ pub returns-then-is_killed-clause-clears : goal.returns-then-is_killed-clause-cl
 returns-then-is_killed-clause-clears g c =
     relieves_by g.N.BootName.frames c.args.requester c.args.group c.args.pages c.args.machine.now c.drain_stocks.new.self c.reclaim_for.new.machine
     c.kill_for_few.new.machine
-    (clears_by g.N.BootName.frames c.args.group c.drain_stocks.result c.args.machine.now c.note_max.new.self c.drain_stocks.new.self
-    c.note_max.ensures.machine c.note_max.ensures.steps c.drain_stocks.ensures.drains c.drain_stocks.ensures.drained)
+    (clears_by g.N.BootName.frames c.args.group c.args.pages c.drain_stocks.result c.args.machine.now c.note_limit.new.machine c.note_max.new.self
+    c.drain_stocks.new.self c.note_limit.ensures c.note_max.ensures.machine c.note_max.ensures.steps c.drain_stocks.ensures.drains c.drain_stocks.ensures.drained)
     c.reclaim_for.ensures.reclaims c.kill_for_few.ensures
 
 pub returns-then-has_room_at-clause-clears : goal.returns-then-has_room_at-clause-clears
 returns-then-has_room_at-clause-clears g c =
     relieves_by g.N.BootName.frames c.args.requester c.args.group c.args.pages c.args.machine.now c.drain_stocks.new.self c.reclaim_for.new.machine
     c.kill_for_few.new.machine
-    (clears_by g.N.BootName.frames c.args.group c.drain_stocks.result c.args.machine.now c.note_max.new.self c.drain_stocks.new.self
-    c.note_max.ensures.machine c.note_max.ensures.steps c.drain_stocks.ensures.drains c.drain_stocks.ensures.drained)
+    (clears_by g.N.BootName.frames c.args.group c.args.pages c.drain_stocks.result c.args.machine.now c.note_limit.new.machine c.note_max.new.self
+    c.drain_stocks.new.self c.note_limit.ensures c.note_max.ensures.machine c.note_max.ensures.steps c.drain_stocks.ensures.drains c.drain_stocks.ensures.drained)
     c.reclaim_for.ensures.reclaims c.kill_for_few.ensures
 
 pub returns-else-has_room_at-clause-clears : goal.returns-else-has_room_at-clause-clears
 returns-else-has_room_at-clause-clears g c =
     relieves_by g.N.BootName.frames c.args.requester c.args.group c.args.pages c.args.machine.now c.drain_stocks.new.self c.reclaim_for.new.machine
     c.kill_for_few.new.machine
-    (clears_by g.N.BootName.frames c.args.group c.drain_stocks.result c.args.machine.now c.note_max.new.self c.drain_stocks.new.self
-    c.note_max.ensures.machine c.note_max.ensures.steps c.drain_stocks.ensures.drains c.drain_stocks.ensures.drained)
+    (clears_by g.N.BootName.frames c.args.group c.args.pages c.drain_stocks.result c.args.machine.now c.note_limit.new.machine c.note_max.new.self
+    c.drain_stocks.new.self c.note_limit.ensures c.note_max.ensures.machine c.note_max.ensures.steps c.drain_stocks.ensures.drains c.drain_stocks.ensures.drained)
     c.reclaim_for.ensures.reclaims c.kill_for_few.ensures
 
 pub returns-then-is_killed-clause-room : goal.returns-then-is_killed-clause-room

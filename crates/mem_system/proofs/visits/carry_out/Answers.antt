@@ -2,6 +2,8 @@ use Rattle.std.proofs.Common.{◌≡◌, ℕ, ◌+◌, ◌≤◌, List, length, 
 use Rattle.group_charge.specs.Charges.{Ledger}
 use Rattle.cpu_part.specs.Cpus.{KnownCpu}
 use Rattle.mem_machine.specs.Machines.{KnownMachine}
+use Rattle.mem_machine.specs.Local.{IsLocalRun, local_of}
+use Rattle.mem_machine.specs.Steps.{open_steps}
 use Rattle.mem_system.specs.Boots.{KnownLocked}
 use Rattle.mem_system.specs.Outcomes.{HasItsGroups, reply_of}
 use Rattle.mem_system.specs.Commands.{FreshAfter, with_visit_of, holder, IsServed}
@@ -14,7 +16,7 @@ invariant_of-locked g c =
     let x = c.obey-outcome.new.machine in
     let numbered = c.obey-outcome.ensures.stays.number ∙ c.settle.ensures.others.number ∙ ap (λ (y : KnownCpu). y.number) c.open.ensures.cpu in
     let opened = c.obey-outcome.ensures.stays.opened ∙ settled_opened _ _ _ _ c.settle.ensures.settles
-    ∙ ap (λ (k : KnownMachine). k.seat.view.opened) c.open.ensures.machine in (
+    ∙ ap (λ (k : KnownMachine). k.seat.view.opened) (c.open.ensures.machine ∙ ap (λ (y : KnownMachine). with_visit_of y c.args.cpu.now.number 1) c.forget_notes.ensures) in (
       record {
         shut = all_shut c.locked.inside.machine x c.shut.new.self c.args.cpu.now.number quiet.shut opened
             (c.shut.ensures.machine ∙ ap (λ (q : ℕ). with_visit_of x q 0) numbered);
@@ -38,8 +40,11 @@ returns g c =
       served = subst (λ (l : KnownLocked). IsServed t c.args.cmd.now (holder l c.args.cpu.now) reply (holder k c.shut.new.cpu)) c.locked.view_is
           (served t c.args.cmd.now (record { machine = c.locked.inside.machine; sizes = c.locked.inside.sizes }) k c.args.cpu.now c.shut.new.cpu
           reply c.open.new.self c.settle.new.self c.obey-outcome.new.machine c.open.new.cpu c.settle.new.cpu c.obey-outcome.new.cpu
-          c.open.ensures.machine c.open.ensures.cpu c.settle.ensures.others.number c.obey-outcome.ensures.stays.number
-          c.shut.ensures.machine c.shut.ensures.cpu refl c.open.ensures.steps c.settle.ensures.settles c.settle.ensures.steps
+          (c.open.ensures.machine ∙ ap (λ (y : KnownMachine). with_visit_of y c.args.cpu.now.number 1) c.forget_notes.ensures)
+          c.open.ensures.cpu c.settle.ensures.others.number c.obey-outcome.ensures.stays.number
+          c.shut.ensures.machine c.shut.ensures.cpu refl
+          (subst (λ (y : KnownMachine). IsLocalRun c.args.cpu.now.number (local_of t y c.args.cpu.now) (open_steps c.args.cpu.now.number)
+          (local_of t c.open.new.self c.open.new.cpu)) c.forget_notes.ensures c.open.ensures.steps) c.settle.ensures.settles c.settle.ensures.steps
           c.obey-outcome.ensures.obeyed c.shut.ensures.steps);
       settled = (
         subst (λ (y : KnownCpu). FreshAfter c.args.cmd.now reply y.fresh) (sym same) c.obey-outcome.ensures.fresh,

@@ -7,41 +7,56 @@ use Rattle.mem_system.specs.declared.command.Cmd.TheVariants as cmd
 use Rattle.mem_system.specs.declared.command.Reply.TheVariants.{Refused}
 use Rattle.reply_texts.specs.Answer.{Answer, Served}
 use Rattle.reply_texts.specs.Answer as answer
-use Rattle.script_replay.specs.Answers.{AnswersFrame, RepliesServed}
+use Rattle.script_replay.specs.Answers.{AnswersFrame, GetsNoneFast, RepliesServed, frame_kills, kills_text}
 use Rattle.mem_system.proofs.Found.{found_there}
-use Rattle.script_replay.proofs.Fronts.{served_after}
-use Rattle.script_replay.proofs.Telling.{told, told_as}
+use Rattle.script_replay.proofs.Fronts.{served_after, served_kills}
+use Rattle.script_replay.proofs.Telling.{kills_as, told_alone}
 use Rattle.mem_system.specs.Commands.{holder}
 use Rattle.script_replay.proofs.command_answers.alloc_frame.Goals as goal
 
 pub returns-in_default : goal.returns-in_default
-returns-in_default g c = told (λ (said : Answer). AnswersFrame g.N.BootName.frames c.args.path (holder c.args.locked.now c.args.cpu.now) said (holder c.args.locked.now c.args.cpu.now)) (Served (Refused NoGroup)) (string_bytes c.args.text.now)
+returns-in_default g c =
+    let same = holder c.args.locked.now c.args.cpu.now in
+    told_alone (λ (said : Answer). AnswersFrame g.N.BootName.frames c.args.path same said same)
+    (λ said so. frame_kills c.args.explains g.N.BootName.frames c.args.path same said same so) (Served (Refused NoGroup)) (string_bytes c.args.text.now)
     (string_bytes c.write_refusal.new.text) c.write_refusal.result (inl (sym c.in_default.ensures.found, refl, refl, refl))
-    c.write_refusal.ensures
+    refl c.write_refusal.ensures
 
 pub serve_frame-requires : goal.serve_frame-requires
 serve_frame-requires g c = record { there = found_there _ _ _ (sym c.in-Some.ensures.found) }
 
 pub returns-in-Got : goal.returns-in-Got
-returns-in-Got g c = told (λ (said : Answer). AnswersFrame g.N.BootName.frames c.args.path (holder c.args.locked.now c.args.cpu.now) said (holder c.args.locked.now c.alloc_fast.new.self)) (answer.Fast (Got c.in-Got.frame)) (string_bytes c.args.text.now)
+returns-in-Got g c =
+    let before = holder c.args.locked.now c.args.cpu.now in
+    let after = holder c.args.locked.now c.alloc_fast.new.self in
+    told_alone (λ (said : Answer). AnswersFrame g.N.BootName.frames c.args.path before said after)
+    (λ said so. frame_kills c.args.explains g.N.BootName.frames c.args.path before said after so) (answer.Fast (Got c.in-Got.frame)) (string_bytes c.args.text.now)
     (string_bytes c.write_fast.new.text) c.write_fast.result (
       c.in-Some.group,
       sym c.in-Some.ensures.found,
       subst (λ (group : ℕ). FastAnswers group (Got c.in-Got.frame) c.args.cpu.now c.alloc_fast.new.self) c.number.ensures.value c.in-Got.ensures.answer,
       refl,
-    ) c.write_fast.ensures
+    ) refl c.write_fast.ensures
 
 pub returns-in_default-alloc_fast : goal.returns-in_default-alloc_fast
-returns-in_default-alloc_fast g c = told_as
-    (λ (said : Answer). RepliesServed g.N.BootName.frames (cmd.Alloc c.args.path 0) (holder c.args.locked.now c.alloc_fast.new.self) said
-    (holder c.serve_frame.new.locked c.serve_frame.new.cpu))
-    (λ (said : Answer). AnswersFrame g.N.BootName.frames c.args.path (holder c.args.locked.now c.args.cpu.now) said (holder c.serve_frame.new.locked c.serve_frame.new.cpu))
-    (string_bytes c.args.text.now) (string_bytes c.serve_frame.new.text) c.serve_frame.result
-    (λ said so. served_after g.N.BootName.frames c.args.path c.args.locked.now c.args.cpu.now c.alloc_fast.new.self said c.serve_frame.new.locked
-    c.serve_frame.new.cpu (record {
+returns-in_default-alloc_fast g c =
+    let t = g.N.BootName.frames in
+    let path = c.args.path in
+    let l = c.args.locked.now in
+    let seen = c.alloc_fast.new.self in
+    let after = c.serve_frame.new in
+    let none : GetsNoneFast path.now (holder l c.args.cpu.now) seen = record {
       group = c.in-Some.group;
       found = sym c.in-Some.ensures.found;
       fast = c.alloc_fast.result;
       answers = subst (λ (g : ℕ). FastAnswers g c.alloc_fast.result c.args.cpu.now c.alloc_fast.new.self) c.number.ensures.value c.alloc_fast.ensures.answer;
       none = c.in_default-alloc_fast.not-Got;
-    }) so) (c.serve_frame.ensures c.args.path (sym c.in-Some.ensures.found))
+    } in
+    kills_as (λ (said : Answer). RepliesServed t (cmd.Alloc path 0) (holder l seen) said (holder after.locked after.cpu))
+    (λ (said : Answer). AnswersFrame t path (holder l c.args.cpu.now) said (holder after.locked after.cpu))
+    (λ said so. kills_text c.args.explains after.locked.machine)
+    (λ said so. frame_kills c.args.explains t path (holder l c.args.cpu.now) said (holder after.locked after.cpu) so)
+    (string_bytes c.args.text.now) (string_bytes after.text) c.serve_frame.result
+    (λ said so. served_after t path l c.args.cpu.now seen said after.locked after.cpu none so)
+    (λ said so. served_kills c.args.explains t path l c.args.cpu.now seen said after.locked after.cpu none so)
+    (c.serve_frame.ensures path (sym c.in-Some.ensures.found))

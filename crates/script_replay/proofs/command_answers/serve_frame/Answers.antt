@@ -1,20 +1,30 @@
-use Rattle.std.proofs.Common.{◌≡◌, ◌++◌, IfOk, subst}
+use Rattle.std.proofs.Common.{◌++◌, ap, rules, ◌∙◌}
 use Rattle.std.specs.String.{string_bytes}
 use Rattle.group_charge.specs.Charges.{Ledger}
 use Rattle.mem_system.specs.Outcomes.{reply_of}
 use Rattle.mem_system.specs.Commands.{holder}
 use Rattle.reply_texts.specs.Answer.{Answer, Served}
 use Rattle.reply_texts.specs.Replies.{reply_text}
-use Rattle.script_replay.specs.Answers.{RepliesServed}
+use Rattle.script_replay.specs.Answers.{RepliesServed, kills_text}
 use Rattle.mem_system.specs.declared.command.Cmd.TheVariants.{Alloc}
-use Rattle.script_replay.proofs.Telling.{told}
+use Rattle.script_replay.proofs.Telling.{behind, told_kills}
 use Rattle.script_replay.proofs.command_answers.serve_frame.Goals as goal
+
+pub returns-in_err-write_outcome : goal.returns-in_err-write_outcome
+returns-in_err-write_outcome g c path at =
+    let after = c.carry_out_frame-outcome.new in
+    told_kills (λ (said : Answer). RepliesServed g.N.BootName.frames (Alloc path 0) (holder c.args.locked.now c.args.cpu.now) said (holder after.locked after.cpu))
+    (λ said so. kills_text c.args.explains after.locked.machine) (Served (reply_of after.locked.machine.ledger c.carry_out_frame-outcome.result))
+    (string_bytes c.args.text.now) (string_bytes c.write_outcome.new.text) _ (c.carry_out_frame-outcome.ensures.served path at) (search rules)
 
 pub returns : goal.returns
 returns g c path at =
+    let after = c.carry_out_frame-outcome.new in
     let outcome = c.carry_out_frame-outcome.result in
-    told (λ (said : Answer). RepliesServed g.N.BootName.frames (Alloc path 0) (holder c.args.locked.now c.args.cpu.now) said
-    (holder c.carry_out_frame-outcome.new.locked c.carry_out_frame-outcome.new.cpu)) (Served (reply_of c.carry_out_frame-outcome.new.locked.machine.ledger outcome))
-    (string_bytes c.args.text.now) (string_bytes c.write_outcome.new.text) c.write_outcome.result (c.carry_out_frame-outcome.ensures.served path at)
-    (subst (λ (l : Ledger). IfOk c.write_outcome.result (λ _. string_bytes c.write_outcome.new.text
-    ≡ string_bytes c.args.text.now ++ reply_text (reply_of l outcome))) c.charges.ensures c.write_outcome.ensures)
+    told_kills (λ (said : Answer). RepliesServed g.N.BootName.frames (Alloc path 0) (holder c.args.locked.now c.args.cpu.now) said (holder after.locked after.cpu))
+    (λ said so. kills_text c.args.explains after.locked.machine) (Served (reply_of after.locked.machine.ledger outcome))
+    (string_bytes c.args.text.now) (string_bytes c.explain.new.text) c.explain.result (c.carry_out_frame-outcome.ensures.served path at)
+    (behind c.explain.result (string_bytes c.args.text.now) (string_bytes c.write_outcome.new.text) (string_bytes c.explain.new.text)
+    (reply_text (reply_of after.locked.machine.ledger outcome)) (kills_text c.args.explains after.locked.machine)
+    (c.in_ok-write_outcome.ensures ∙ ap (λ (l : Ledger). string_bytes c.args.text.now ++ reply_text (reply_of l outcome)) c.charges.ensures)
+    c.explain.ensures)

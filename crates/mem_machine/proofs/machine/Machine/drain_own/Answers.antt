@@ -20,4 +20,4 @@ returns-in-None g c =
 pub returns-in-Some : goal.returns-in-Some
 returns-in-Some g c =
     looked_own g.N.BootName.frames _ _ c.self.view_is _ (ap uncounted c.in-Some.ensures.machine) (of_group c.args.group) c.args.q c.in-Some.number
-    c.drain_of.result _ c.in-Some.ensures.group (eq-eqb _ _ (c.if-number.true ∙ c.number.ensures.value)) c.drain_of.ensures.drains c.drain_of.ensures.steps
+    c.drain_noted.result _ c.in-Some.ensures.group (eq-eqb _ _ (c.if-number.true ∙ c.number.ensures.value)) c.drain_noted.ensures.drains c.drain_noted.ensures.steps

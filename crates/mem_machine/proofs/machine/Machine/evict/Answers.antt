@@ -6,24 +6,24 @@ use Rattle.mem_machine.proofs.machine.Machine.evict.Goals as goal
 pub invariant_of-self : goal.invariant_of-self
 invariant_of-self g c = (
   (missed_all g.N.BootName.frames g.N.BootName.stocks _ _ c.self.view_is c.self.invariant.0 c.args.head c.requires.frame c.requires.kept _
-      c.if-not-freeze.ensures.answer).consistent,
+      c.if-not-freeze.ensures.answer _ c.with_miss-self-inside.ensures).consistent,
   c.self.invariant.1,
 )
 
 pub returns-then-not-freeze-clause-evicts : goal.returns-then-not-freeze-clause-evicts
 returns-then-not-freeze-clause-evicts g c =
     (missed_all g.N.BootName.frames g.N.BootName.stocks _ _ c.self.view_is c.self.invariant.0 c.args.head c.requires.frame c.requires.kept _
-    c.if-not-freeze.ensures.answer).misses
+    c.if-not-freeze.ensures.answer _ c.with_miss-self-inside.ensures).misses
 
 pub returns-then-not-freeze-clause-visit : goal.returns-then-not-freeze-clause-visit
 returns-then-not-freeze-clause-visit g c =
     (missed_all g.N.BootName.frames g.N.BootName.stocks _ _ c.self.view_is c.self.invariant.0 c.args.head c.requires.frame c.requires.kept _
-    c.if-not-freeze.ensures.answer).visit
+    c.if-not-freeze.ensures.answer _ c.with_miss-self-inside.ensures).visit
 
 pub returns-then-not-freeze-clause-steps : goal.returns-then-not-freeze-clause-steps
 returns-then-not-freeze-clause-steps g c =
     (missed_all g.N.BootName.frames g.N.BootName.stocks _ _ c.self.view_is c.self.invariant.0 c.args.head c.requires.frame c.requires.kept _
-    c.if-not-freeze.ensures.answer).steps
+    c.if-not-freeze.ensures.answer _ c.with_miss-self-inside.ensures).steps
 
 pub free_unit-requires-clause-in_use : goal.free_unit-requires-clause-in_use
 free_unit-requires-clause-in_use g c =

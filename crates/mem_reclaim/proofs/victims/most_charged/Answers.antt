@@ -1,12 +1,12 @@
 use Rattle.group_charge.specs.Charges.{AreCharges, Ledger}
 use Rattle.std.proofs.Common.{rules, subst}
 use Rattle.mem_reclaim.proofs.Choosing.{best_end}
-use Rattle.mem_reclaim.proofs.victims.victim.Goals as goal
+use Rattle.mem_reclaim.proofs.victims.most_charged.Goals as goal
 
 pub returns : goal.returns
 returns g c =
     let charges : AreCharges c.args.machine.now.ledger = subst (λ (l : Ledger). AreCharges l) c.charges.ensures c.tree-tree.ensures.legal in
-    best_end c.args.machine.now charges.groups c.args.group c.loop-number.number c.loop-number.best c.loop-number.most c.loop-number.invariant
+    best_end c.args.machine.now charges.groups c.args.group c.args.but.now c.loop-number.number c.loop-number.best c.loop-number.most c.loop-number.invariant
     c.loop-number-test.false
 
 pub loop-number-preserved : goal.loop-number-preserved

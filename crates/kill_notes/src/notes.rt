@@ -1,0 +1,65 @@
+//! The notes of a visit.
+
+ghost use Rattle.std.specs.Prelude.{◌≡◌, [], IfOk};
+ghost use Rattle.kill_notes.specs.Notes.{noted};
+
+use crate::note::Note;
+use std::alloc::{AllocError, Global};
+use std::marker::Model;
+
+/// How many notes are kept at most. One command makes fewer: for each of 8 limits one, a stock and a round of each of 16
+/// and an `oom`, and for each of 63 groups that are killed two, and the 16 stocks that are drained then.
+pub const MOST_NOTES: usize = 2_048;
+
+/// The notes of a visit, the first 2,048 of them, the oldest first.
+#[derive(Drop)]
+pub struct Notes {
+    // Room for all of them is reserved.
+    notes: Vec<Note>,
+}
+
+impl Model for Notes {
+    ghost use Rattle.std.specs.Prelude.{List, ◌≤◌, vec_capacity};
+    ghost use Rattle.kill_notes.specs.declared.note.Note.{Note};
+    ghost use Rattle.kill_notes.specs.declared.notes.TheConstants.{MOST_NOTES};
+
+    ghost Value = { List Note };
+
+    ghost view = { λ n. n.notes.items };
+
+    ghost invariant = { λ n. MOST_NOTES ≤ vec_capacity n.notes };
+}
+
+impl Notes {
+    /// No notes. The room of all is reserved here: no other call takes memory. `AllocError` comes where memory is
+    /// wanting.
+    pub fn new(alloc: Global) -> Result<Notes, AllocError>
+        ensures { IfOk result (λ notes. notes ≡ []) }
+    {
+        let notes = Vec::with_capacity(alloc, MOST_NOTES)?;
+        Ok(Notes { notes })
+    }
+
+    /// One note more, unless there are 2,048.
+    pub fn note(&mut self, note: Note)
+        ensures { self.new ≡ noted self.old note }
+    {
+        if self.notes.len() < MOST_NOTES {
+            self.notes.push_reserved(note);
+        }
+    }
+
+    /// Forgets all notes.
+    pub fn clear(&mut self)
+        ensures { self.new ≡ [] }
+    {
+        self.notes.clear();
+    }
+
+    /// The notes, the oldest first.
+    pub fn as_slice(&self) -> &[Note]
+        ensures { result.now ≡ self.now }
+    {
+        self.notes.as_slice()
+    }
+}

@@ -1,0 +1,148 @@
+//! The line of each note.
+
+ghost use Rattle.std.specs.Prelude.{◌≡◌, ◌++◌, IfOk};
+ghost use Rattle.std.specs.String.{string_bytes};
+ghost use Rattle.kill_texts.specs.Lines.{killed_text, limit_text, line_text, oom_text, round_text, stock_text, victim_text};
+
+use crate::parts::{push_bytes, push_candidate, push_count, push_ending, push_group, push_others};
+use group_tree::group::GroupId;
+use group_tree::tree::Tree;
+use kill_notes::note::{Candidate, Note};
+use std::alloc::AllocError;
+
+// The line of a note. The usage is that under the limit whose stocks are drained; None where no stock has a line.
+pub(crate) fn write_line(
+    tree: &Tree,
+    usage: Option<u32>,
+    note: &Note,
+    text: &mut String,
+) -> Result<(), AllocError>
+    ensures { IfOk result (λ _. string_bytes text.new ≡ string_bytes text.old ++ line_text tree.now usage note.now) }
+{
+    match *note {
+        Note::Limit {
+            group,
+            max,
+            usage,
+            need,
+        } => write_limit(tree, group, max, usage, need, text),
+        Note::Stock { cpu, pages } => write_stock(usage, cpu, pages, text),
+        Note::Round {
+            number,
+            returned,
+            missed,
+            pages,
+            usage,
+        } => write_round(number, returned, missed, pages, usage, text),
+        Note::Oom { group } => write_oom(tree, group, text),
+        Note::Victim {
+            victim,
+            candidates,
+            next,
+        } => write_victim(tree, victim, candidates, next, text),
+        Note::Killed {
+            group,
+            returned,
+            pages,
+            pinned,
+            left,
+            usage,
+        } => write_killed(tree, group, returned, pages, pinned, left, usage, text),
+    }
+}
+
+// A limit that had no room, what was charged under it, and what was asked for.
+fn write_limit(
+    tree: &Tree,
+    group: GroupId,
+    max: u32,
+    usage: u32,
+    need: u32,
+    text: &mut String,
+) -> Result<(), AllocError>
+    ensures { IfOk result (λ _. string_bytes text.new ≡ string_bytes text.old ++ limit_text tree.now group max usage need) }
+{
+    push_group("# limit ", tree, group, text)?;
+    push_bytes(" ", u64::from(max), text)?;
+    push_bytes(" usage ", u64::from(usage), text)?;
+    push_bytes(" need ", u64::from(need), text)?;
+    text.push_str("\n")
+}
+
+// A stock that was drained under a limit, where so many pages were charged before.
+fn write_stock(
+    usage: Option<u32>,
+    cpu: u32,
+    pages: u32,
+    text: &mut String,
+) -> Result<(), AllocError>
+    ensures { IfOk result (λ _. string_bytes text.new ≡ string_bytes text.old ++ stock_text usage cpu pages) }
+{
+    let Some(usage) = usage else {
+        return Ok(());
+    };
+    push_count("# stock ", u128::from(cpu), text)?;
+    push_ending(u64::from(pages), usage.saturating_sub(pages), text)
+}
+
+// A round of reclaim.
+fn write_round(
+    number: u32,
+    returned: u64,
+    missed: u64,
+    pages: u64,
+    usage: u32,
+    text: &mut String,
+) -> Result<(), AllocError>
+    ensures { IfOk result (λ _. string_bytes text.new ≡ string_bytes text.old ++ round_text number returned missed pages usage) }
+{
+    push_count("# round ", u128::from(number), text)?;
+    push_count(" tried ", u128::from(returned) + u128::from(missed), text)?;
+    push_count(" missed ", u128::from(missed), text)?;
+    push_count(" returned ", u128::from(returned), text)?;
+    push_ending(pages, usage, text)
+}
+
+// A limit that couldn't be kept.
+fn write_oom(tree: &Tree, group: GroupId, text: &mut String) -> Result<(), AllocError>
+    ensures { IfOk result (λ _. string_bytes text.new ≡ string_bytes text.old ++ oom_text tree.now group) }
+{
+    push_group("# oom ", tree, group, text)?;
+    text.push_str("\n")
+}
+
+// The group that is killed, and the next one, where there is one.
+fn write_victim(
+    tree: &Tree,
+    victim: Candidate,
+    candidates: u32,
+    next: Candidate,
+    text: &mut String,
+) -> Result<(), AllocError>
+    ensures { IfOk result (λ _. string_bytes text.new ≡ string_bytes text.old ++ victim_text tree.now victim candidates next) }
+{
+    push_candidate("# victim ", tree, victim, text)?;
+    push_others(tree, candidates, next, text)?;
+    text.push_str("\n")
+}
+
+// What came back of a group that was killed, how many of its units are pinned, and what stays charged to it.
+fn write_killed(
+    tree: &Tree,
+    group: GroupId,
+    returned: u64,
+    pages: u64,
+    pinned: u64,
+    left: u64,
+    usage: u32,
+    text: &mut String,
+) -> Result<(), AllocError>
+    ensures { IfOk result (λ _. string_bytes text.new
+        ≡ string_bytes text.old ++ killed_text tree.now group returned pages pinned left usage) }
+{
+    push_group("# killed ", tree, group, text)?;
+    push_count(" returned ", u128::from(returned), text)?;
+    push_bytes(" bytes ", pages, text)?;
+    push_count(" pinned ", u128::from(pinned), text)?;
+    push_ending(left, usage, text)
+}

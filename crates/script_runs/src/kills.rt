@@ -1,0 +1,117 @@
+//! Why groups were killed, as text.
+
+use group_tree::group::GroupId;
+use group_tree::tree::Tree;
+use kill_notes::note::{Candidate, Note};
+use kill_texts::write_explanation;
+use std::process::Abort;
+use std::test::Fail;
+
+// The notes are explained so, where there are the groups `/a` and `/a/b`, which have the numbers 1 and 2.
+fn explains<R: AllocGlobal + Abort>(rt: &R, notes: &[Note], expected: &str) -> Result<(), Fail> {
+    let alloc = rt.alloc();
+    let mut tree = Tree::new(alloc)?;
+    let _one = tree.make(b"/a").expect(rt, "a group");
+    let _two = tree.make(b"/a/b").expect(rt, "a group");
+    let mut text = String::from_str(alloc, "ok\n")?;
+    write_explanation(&tree, notes, &mut text)?;
+    let mut whole = String::from_str(alloc, "ok\n")?;
+    whole.push_str(expected)?;
+    assert!(rt; text.as_bytes() == whole.as_bytes(), "{text}");
+    Ok(())
+}
+
+fn group(rt: &impl Abort, number: u32) -> GroupId {
+    GroupId::of(number).expect(rt, "a number of a group")
+}
+
+fn candidate(rt: &impl Abort, number: u32, frames: u64) -> Candidate {
+    Candidate {
+        group: group(rt, number),
+        frames,
+    }
+}
+
+fn limit(rt: &impl Abort) -> Note {
+    Note::Limit {
+        group: group(rt, 1),
+        max: 8,
+        usage: 8,
+        need: 1,
+    }
+}
+
+fn killed(rt: &impl Abort) -> Note {
+    Note::Killed {
+        group: group(rt, 2),
+        returned: 2,
+        pages: 2,
+        pinned: 1,
+        left: 1,
+        usage: 3,
+    }
+}
+
+#[test]
+fn tells_a_line_of_each_kind(rt: HostRuntime) -> Result<(), Fail> {
+    let notes = [
+        limit(&rt),
+        Note::Stock { cpu: 2, pages: 3 },
+        Note::Stock { cpu: 16, pages: 0 },
+        Note::Round {
+            number: 1,
+            returned: 1,
+            missed: 4,
+            pages: 2,
+            usage: 3,
+        },
+        Note::Oom {
+            group: group(&rt, 1),
+        },
+        Note::Victim {
+            victim: candidate(&rt, 2, 3),
+            candidates: 2,
+            next: candidate(&rt, 1, 1),
+        },
+        Note::Stock { cpu: 1, pages: 1 },
+        killed(&rt),
+    ];
+    let expected = "# limit /a 32768 usage 32768 need 4096\n# stock 2 bytes 12288 usage 20480\n# stock 16 bytes 0 usage 20480\n# round 1 tried 5 missed 4 returned 1 bytes 8192 usage 12288\n# oom /a\n# victim /a/b frames 3 of 2 candidates, next /a frames 1\n# killed /a/b returned 2 bytes 8192 pinned 1 bytes 4096 usage 12288\n";
+    explains(&rt, &notes, expected)
+}
+
+#[test]
+fn tells_nothing_where_nobody_was_killed(rt: HostRuntime) -> Result<(), Fail> {
+    explains(&rt, &[], "")?;
+    let notes = [
+        limit(&rt),
+        Note::Oom {
+            group: group(&rt, 1),
+        },
+    ];
+    explains(&rt, &notes, "")
+}
+
+// A stock that was drained before a limit was found without room has no line, and a single victim no next one; a group
+// that isn't there has its number, and no size is too great.
+#[test]
+fn tells_what_is_rare(rt: HostRuntime) -> Result<(), Fail> {
+    let notes = [
+        Note::Stock { cpu: 1, pages: 2 },
+        Note::Victim {
+            victim: candidate(&rt, 63, u64::MAX),
+            candidates: 1,
+            next: candidate(&rt, 63, u64::MAX),
+        },
+        Note::Killed {
+            group: group(&rt, 0),
+            returned: u64::MAX,
+            pages: u64::MAX,
+            pinned: 0,
+            left: 0,
+            usage: u32::MAX,
+        },
+    ];
+    let expected = "# victim 63 frames 18446744073709551615 of 1 candidates\n# killed / returned 18446744073709551615 bytes 75557863725914323415040 pinned 0 bytes 0 usage 17592186040320\n";
+    explains(&rt, &notes, expected)
+}
