@@ -76,7 +76,8 @@ fn tells_a_line_of_each_kind(rt: HostRuntime) -> Result<(), Fail> {
         Note::Stock { cpu: 1, pages: 1 },
         killed(&rt),
     ];
-    let expected = "# limit /a 32768 usage 32768 need 4096\n# stock 2 bytes 12288 usage 20480\n# stock 16 bytes 0 usage 20480\n# round 1 tried 5 missed 4 returned 1 bytes 8192 usage 12288\n# oom /a\n# victim /a/b frames 3 of 2 candidates, next /a frames 1\n# killed /a/b returned 2 bytes 8192 pinned 1 bytes 4096 usage 12288\n";
+    let expected =
+        "# limit /a 32768 usage 32768 need 4096\n# stock 2 bytes 12288 usage 20480\n# stock 16 bytes 0 usage 20480\n# round 1 tried 5 missed 4 returned 1 bytes 8192 usage 12288\n# oom /a\n# victim /a/b frames 3 of 2 candidates, next /a frames 1\n# killed /a/b returned 2 bytes 8192 pinned 1 bytes 4096 usage 12288\n";
     explains(&rt, &notes, expected)
 }
 
@@ -112,6 +113,7 @@ fn tells_what_is_rare(rt: HostRuntime) -> Result<(), Fail> {
             usage: u32::MAX,
         },
     ];
-    let expected = "# victim 63 frames 18446744073709551615 of 1 candidates\n# killed / returned 18446744073709551615 bytes 75557863725914323415040 pinned 0 bytes 0 usage 17592186040320\n";
+    let expected =
+        "# victim 63 frames 18446744073709551615 of 1 candidates\n# killed / returned 18446744073709551615 bytes 75557863725914323415040 pinned 0 bytes 0 usage 17592186040320\n";
     explains(&rt, &notes, expected)
 }
