@@ -32,7 +32,9 @@ enum Row {
 }
 
 // What was noted, which is forgotten then.
-fn noted<N: BootName>(rt: &impl Abort, machine: &mut Machine<N>, notes: &[Note]) {
+fn noted<N: BootName>(rt: &impl Abort, machine: &mut Machine<N>, notes: &[Note])
+    ensures { machine.new.seat.view.opened ≡ machine.old.seat.view.opened }
+{
     holds(rt, machine.notes() == notes, "notes");
     machine.forget_notes();
 }
