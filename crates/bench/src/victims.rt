@@ -18,11 +18,13 @@ fn root_victim<N: BootName>(machine: &Machine<N>) -> Option<GroupId> {
 // A machine with 64 groups, each with a frame but the root and one other.
 #[derive(Drop)]
 struct Sought<'a, N: BootName> {
-    machine: &'a Machine<N>,
+    machine: &'a mut Machine<N>,
 }
 
 impl<'a, N: BootName, R> Subject<R> for Sought<'a, N> {
     fn call(&mut self, _rt: &R, _number: u32) -> bool {
+        // A change, so that the compiler can't seek once for all calls.
+        self.machine.forget_notes();
         root_victim(self.machine).is_some()
     }
 }
@@ -62,7 +64,7 @@ pub fn tell_victim<N: BootName, R: Print + Clock>(
     depth: usize,
 ) -> Result<()> {
     ensure!(grow_all(visited, depth), "a group was not made");
-    let machine = &visited.machine;
+    let machine = &mut visited.machine;
     let mut sought = Sought { machine };
     tell_rows(
         rt,
