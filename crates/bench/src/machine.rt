@@ -63,8 +63,8 @@ impl<N: BootName> Visited<N> {
         true
     }
 
-    // Settles the processor.
-    fn settle(&mut self) -> bool {
+    /// Settles the processor.
+    pub fn settle(&mut self) -> bool {
         self.machine.settle(&self.tables, &mut self.cpu);
         true
     }

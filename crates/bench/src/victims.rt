@@ -15,17 +15,20 @@ fn root_victim<N: BootName>(machine: &Machine<N>) -> Option<GroupId> {
     victim(machine, GroupId::root())
 }
 
+// Seeks it, behind a settle that finds nothing: so the compiler can't seek once for all calls.
+fn seek<N: BootName>(visited: &mut Visited<N>) -> bool {
+    visited.settle() && root_victim(&visited.machine).is_some()
+}
+
 // A machine with 64 groups, each with a frame but the root and one other.
 #[derive(Drop)]
 struct Sought<'a, N: BootName> {
-    machine: &'a mut Machine<N>,
+    visited: &'a mut Visited<N>,
 }
 
 impl<'a, N: BootName, R> Subject<R> for Sought<'a, N> {
     fn call(&mut self, _rt: &R, _number: u32) -> bool {
-        // A change, so that the compiler can't seek once for all calls.
-        self.machine.forget_notes();
-        root_victim(self.machine).is_some()
+        seek(self.visited)
     }
 }
 
@@ -64,8 +67,7 @@ pub fn tell_victim<N: BootName, R: Print + Clock>(
     depth: usize,
 ) -> Result<()> {
     ensure!(grow_all(visited, depth), "a group was not made");
-    let machine = &mut visited.machine;
-    let mut sought = Sought { machine };
+    let mut sought = Sought { visited };
     tell_rows(
         rt,
         pace,
