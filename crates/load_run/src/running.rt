@@ -29,7 +29,7 @@ pub fn run<N: BootName>(
     requires lines { All (LineIsThere boot.sizes.frames boot.sizes.cpus) lines.now }
     ensures { IfOk result (λ text. AreAnswers boot.sizes is_explained is_audited lines.now text.items) }
 {
-    let (tables, locked, cpus) = boot.part::<N>(alloc)?;
+    let (tables, locked, cpus) = boot.into_parts::<N>(alloc)?;
     let (answers, ended) = replay_and_end(alloc, tables, locked, cpus, lines, is_explained);
     tell_end(alloc, answers?, ended, is_audited)
 }

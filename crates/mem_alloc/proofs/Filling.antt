@@ -100,14 +100,14 @@ pub pays_keep : (t : KnownTable) (sizes : Config) (g : ℕ) (m n : KnownMachine)
 pays_keep t sizes g m n c d steps (inl h) =
     lowers_keep t m n c d (subst (λ (x : KnownMachine). Lowers t m x) (sym h.machine) (lowers_none t m)) h.cpu
 pays_keep t sizes g m n c d steps (inr h) =
-    keeps_both m h.emptied n c c d (lowers_keep t m h.emptied c c (drain_lowers t m h.emptied c.number h.drains.back h.drains.drains) refl)
+    keeps_both m h.emptied n c c d (lowers_keep t m h.emptied c c (drain_lowers t m h.emptied c.number h.drains.drained h.drains.drains) refl)
     (charges_keep t sizes g h.emptied n c d h.later h.charges)
 
 pub refuses_keep : (t : KnownTable) (sizes : Config) (g : ℕ) (cause : AllocFault) (m n : KnownMachine) (c d : KnownCpu) (steps : Run)
     → RefusesToPay sizes g cause (course t (side m c) steps (side n d)) → KeepsPart m c n d
 refuses_keep t sizes g cause m n c d steps h =
     let over = h.refuses.refuses in
-    keeps_both m h.emptied n c c d (lowers_keep t m h.emptied c c (drain_lowers t m h.emptied c.number h.drains.back h.drains.drains) refl)
+    keeps_both m h.emptied n c c d (lowers_keep t m h.emptied c c (drain_lowers t m h.emptied c.number h.drains.drained h.drains.drains) refl)
     (lowers_keep t h.emptied n c d (over_lowers t g 1 cause h.emptied n h.refuses.later over.refuses) over.cpu)
 
 -- ---- the stock holds a page
@@ -204,53 +204,53 @@ module _ (t : KnownTable) (sizes : Config) (g over : ℕ) (m x n : KnownMachine)
       )
 
 -- the own stock is drained first
-module _ (t : KnownTable) (sizes : Config) (g back q : ℕ) (m k x n : KnownMachine) (c e d : KnownCpu) (same : k ≡ m) (mine : e ≡ c) (named : q ≡ e.number)
-    (lacks : ¬ HoldsPage (side m c) g) (drains : Drains k q back x) (draining : (h : KnownCpu) → IsLocalRun h.number (local_of t k h)
-    (drain_steps q (stock_group k q) back) (local_of t x h)) where
+module _ (t : KnownTable) (sizes : Config) (g pages q : ℕ) (m k x n : KnownMachine) (c e d : KnownCpu) (same : k ≡ m) (mine : e ≡ c) (named : q ≡ e.number)
+    (lacks : ¬ HoldsPage (side m c) g) (drains : Drains k q pages x) (draining : (h : KnownCpu) → IsLocalRun h.number (local_of t k h)
+    (drain_steps q (stock_group k q) pages) (local_of t x h)) where
   number_is : q ≡ c.number
   number_is = named ∙ ap (λ (h : KnownCpu). h.number) mine
 
-  drained : Drains m c.number back x
-  drained = subst (λ (z : KnownMachine × ℕ). Drains z.0 z.1 back x) (λ i. (same i, number_is i)) drains
+  drained : Drains m c.number pages x
+  drained = subst (λ (z : KnownMachine × ℕ). Drains z.0 z.1 pages x) (λ i. (same i, number_is i)) drains
 
-  drained_own : DrainsOwn g (side m c) (drain_steps c.number (stock_group m c.number) back) x
-  drained_own = record { lacks = lacks; back = back; drains = drained; steps_are = refl }
+  drained_own : DrainsOwn g (side m c) (drain_steps c.number (stock_group m c.number) pages) x
+  drained_own = record { lacks = lacks; drained = pages; drains = drained; steps_are = refl }
 
-  by_drain : IsLocalRun c.number (local_of t m c) (drain_steps c.number (stock_group m c.number) back) (local_of t x c)
-  by_drain = subst (λ (z : KnownMachine × ℕ). IsLocalRun c.number (local_of t z.0 c) (drain_steps z.1 (stock_group z.0 z.1) back) (local_of t x c))
+  by_drain : IsLocalRun c.number (local_of t m c) (drain_steps c.number (stock_group m c.number) pages) (local_of t x c)
+  by_drain = subst (λ (z : KnownMachine × ℕ). IsLocalRun c.number (local_of t z.0 c) (drain_steps z.1 (stock_group z.0 z.1) pages) (local_of t x c))
       (λ i. (same i, number_is i)) (draining c)
 
   pub pays_anew : BySteps t (side x e) (side n d) (ChargesFrame sizes g) → BySteps t (side m c) (side n d) (PaysForFrame sizes g)
   pays_anew b =
       let here = subst (λ (z : KnownCpu). BySteps t (side x z) (side n d) (ChargesFrame sizes g)) mine b in (
-        drain_steps c.number (stock_group m c.number) back ++ here.0,
+        drain_steps c.number (stock_group m c.number) pages ++ here.0,
         inr (record {
           emptied = x;
-          first = drain_steps c.number (stock_group m c.number) back;
+          first = drain_steps c.number (stock_group m c.number) pages;
           later = here.0;
           drains = drained_own;
           empties = by_drain;
           charges = here.1;
           steps_are = refl;
         }),
-        run_both c.number (drain_steps c.number (stock_group m c.number) back) here.0 (local_of t m c) (local_of t x c) (local_of t n d) by_drain here.2,
+        run_both c.number (drain_steps c.number (stock_group m c.number) pages) here.0 (local_of t m c) (local_of t x c) (local_of t n d) by_drain here.2,
       )
 
   pub refuses_anew : (cause : AllocFault) → BySteps t (side x e) (side n d) (RefusesFrame sizes g cause)
       → BySteps t (side m c) (side n d) (RefusesToPay sizes g cause)
   refuses_anew cause b =
       let here = subst (λ (z : KnownCpu). BySteps t (side x z) (side n d) (RefusesFrame sizes g cause)) mine b in (
-        drain_steps c.number (stock_group m c.number) back ++ here.0,
+        drain_steps c.number (stock_group m c.number) pages ++ here.0,
         record {
           emptied = x;
-          first = drain_steps c.number (stock_group m c.number) back;
+          first = drain_steps c.number (stock_group m c.number) pages;
           later = here.0;
           drains = drained_own;
           empties = by_drain;
           refuses = here.1;
           steps_are = refl;
         },
-        run_both c.number (drain_steps c.number (stock_group m c.number) back) here.0 (local_of t m c) (local_of t x c) (local_of t n d) by_drain here.2,
+        run_both c.number (drain_steps c.number (stock_group m c.number) pages) here.0 (local_of t m c) (local_of t x c) (local_of t n d) by_drain here.2,
       )
 
 -- ---- the list
@@ -316,18 +316,18 @@ module _ (t : KnownTable) (sizes : Config) (m k x n : KnownMachine) (c e y : Kno
   from_first : (P : KnownMachine → KnownCpu → Type 0) → P k e → P m c
   from_first P p = subst (λ (z : KnownMachine × KnownCpu). P z.0 z.1) (λ i. (first.1.stays.machine i, first.1.stays.cpu i)) p
 
-  pub no_frame : (back q : ℕ) → BySteps t (side k e) (side x y) (RefillsInRounds sizes.batch false) → q ≡ y.number → Drains x q back n
-      → ((h : KnownCpu) → IsLocalRun h.number (local_of t x h) (drain_steps q (stock_group x q) back) (local_of t n h))
+  pub no_frame : (pages q : ℕ) → BySteps t (side k e) (side x y) (RefillsInRounds sizes.batch false) → q ≡ y.number → Drains x q pages n
+      → ((h : KnownCpu) → IsLocalRun h.number (local_of t x h) (drain_steps q (stock_group x q) pages) (local_of t n h))
       → BySteps t (side m c) (side n y) (HasNoFrame NoFrames)
-  no_frame back q rounds named drains steps =
+  no_frame pages q rounds named drains steps =
       let there = from_first (λ u v. BySteps t (side u v) (side x y) (RefillsInRounds sizes.batch false)) rounds in
       let cpu : y ≡ c = (fails_spare t 1 LendsNoFrame (no_frame_spares t) 16 m x c y there.0 there.1).cpu in
       let here = subst (λ (z : KnownCpu). BySteps t (side m c) (side x z) (RefillsInRounds sizes.batch false)) cpu there in
       let number : q ≡ c.number = named ∙ ap (λ (h : KnownCpu). h.number) cpu in
-      let last : IsLocalRun c.number (local_of t x c) (drain_steps c.number (stock_group x c.number) back) (local_of t n c) =
-      subst (λ (p : ℕ). IsLocalRun c.number (local_of t x c) (drain_steps p (stock_group x p) back) (local_of t n c)) number (steps c) in
+      let last : IsLocalRun c.number (local_of t x c) (drain_steps c.number (stock_group x c.number) pages) (local_of t n c) =
+      subst (λ (p : ℕ). IsLocalRun c.number (local_of t x c) (drain_steps p (stock_group x p) pages) (local_of t n c)) number (steps c) in
       subst (λ (z : KnownCpu). BySteps t (side m c) (side n z) (HasNoFrame NoFrames)) (sym cpu) (
-        here.0 ++ drain_steps c.number (stock_group x c.number) back,
+        here.0 ++ drain_steps c.number (stock_group x c.number) pages,
         record {
           named = refl;
           empty = empty;
@@ -336,12 +336,12 @@ module _ (t : KnownTable) (sizes : Config) (m k x n : KnownMachine) (c e y : Kno
           reclaiming = here.0;
           rounds = here.1;
           none_still = none_after t 16 m x c c here.0 first.1.none here.1;
-          back = back;
-          drains = subst (λ (p : ℕ). Drains x p back n) number drains;
+          drained = pages;
+          drains = subst (λ (p : ℕ). Drains x p pages n) number drains;
           cpu = refl;
           steps_are = refl;
         },
-        run_both c.number here.0 (drain_steps c.number (stock_group x c.number) back) (local_of t m c) (local_of t x c) (local_of t n c) here.2 last,
+        run_both c.number here.0 (drain_steps c.number (stock_group x c.number) pages) (local_of t m c) (local_of t x c) (local_of t n c) here.2 last,
       )
 
   -- or free frames come to the list after rounds
@@ -357,7 +357,7 @@ pub no_frame_keeps : (t : KnownTable) (cause : AllocFault) (m n : KnownMachine) 
     → HasNoFrame cause (course t (side m c) steps (side n d)) → KeepsPart m c n d
 no_frame_keeps t cause m n c d steps h =
     let rounds = fails_spare t 1 LendsNoFrame (no_frame_spares t) 16 m h.reclaimed c c h.reclaiming h.rounds in
-    lowers_keep t m n c d (lowers_both t m h.reclaimed n rounds.lowers (drain_lowers t h.reclaimed n c.number h.back h.drains)) h.cpu
+    lowers_keep t m n c d (lowers_both t m h.reclaimed n rounds.lowers (drain_lowers t h.reclaimed n c.number h.drained h.drains)) h.cpu
 
 -- a reclaim leaves the stock's page
 spared_page : (t : KnownTable) (g : ℕ) (m n : KnownMachine) (c d : KnownCpu) → Spares t m c n d → HoldsPage (side m c) g → HoldsPage (side n d) g
@@ -447,9 +447,9 @@ module _ (t : KnownTable) (sizes : Config) (g : ℕ) (m : KnownMachine) (c : Kno
   -- a charge is refused for good
   refused_for : (x : AllocFault) (n : KnownMachine) (d : KnownCpu) → BySteps t (side m c) (side n d) (RefusesToPay sizes g x)
       → BySteps t (side m c) (side n d) (AllocatesFrame sizes g (Err x))
-  refused_for (Over over) n d b = (b.0, record { not_killed = alive; refuses = b.1 }, b.2)
+  refused_for (Over over) n d b = (b.0, record { alive = alive; refuses = b.1 }, b.2)
   refused_for NoFrames n d b = absurd b.1.refuses.refuses.refuses.is_cause
-  refused_for Killed n d b = (b.0, inr (record { not_killed = alive; refuses = b.1 }), b.2)
+  refused_for Killed n d b = (b.0, inr (record { alive = alive; refuses = b.1 }), b.2)
 
   pub not_paid : (r : Result ℕ AllocFault) (x : AllocFault) (n : KnownMachine) (d : KnownCpu) → IsErr r → IfErr r (λ e. e ≡ x)
       → BySteps t (side m c) (side n d) (RefusesToPay sizes g x) → BySteps t (side m c) (side n d) (AllocatesFrame sizes g r)
@@ -464,7 +464,7 @@ module _ (t : KnownTable) (sizes : Config) (g : ℕ) (m : KnownMachine) (c : Kno
         → BySteps t (side m c) (side n d) (AllocatesFrame sizes g (Err NoFrames))
     none_found n d b = (
       pays.0 ++ b.0,
-      record { paid = side k y; paying = pays.0; draining = b.0; not_killed = alive; pays = pays.1; none = b.1; steps_are = refl },
+      record { paid = side k y; paying = pays.0; draining = b.0; alive = alive; pays = pays.1; none = b.1; steps_are = refl },
       run_both c.number pays.0 b.0 (local_of t m c) (local_of t k y) (local_of t n d) pays.2
           (subst (λ (p : ℕ). IsLocalRun p (local_of t k y) b.0 (local_of t n d)) number b.2),
     )
@@ -491,7 +491,7 @@ module _ (t : KnownTable) (sizes : Config) (g : ℕ) (m : KnownMachine) (c : Kno
             filled = side l z;
             paying = pays.0;
             filling = fills.0;
-            not_killed = alive;
+            alive = alive;
             pays = pays.1;
             fills = fills.1;
             takes = takes;

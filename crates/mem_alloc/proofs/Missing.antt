@@ -224,10 +224,10 @@ no_frame_counts cause way h =
     let t = way.table in
     let m = way.before.machine in
     let n = way.after.machine in
-    let last = drain_steps way.before.cpu.number (stock_group h.reclaimed way.before.cpu.number) h.back in
+    let last = drain_steps way.before.cpu.number (stock_group h.reclaimed way.before.cpu.number) h.drained in
     counts_as t m n way.steps (h.reclaiming ++ last) h.steps_are (counts_both t m h.reclaimed n h.reclaiming last
     (fails_count 1 LendsNoFrame lends_none_count 16 (course t way.before h.reclaiming (side h.reclaimed way.before.cpu)) h.rounds)
-    (counts_drain t way.before.cpu.number h.back h.reclaimed n h.drains))
+    (counts_drain t way.before.cpu.number h.drained h.reclaimed n h.drains))
 
 fill_counts : (g : ℕ) → AllCounted (FillsAfterRoom g 1)
 fill_counts g way h =
@@ -263,8 +263,8 @@ refuses_count sizes g cause way h =
 own_counts : (t : KnownTable) (g : ℕ) (before : Side) (steps : Run) (x : KnownMachine) → DrainsOwn g before steps x
     → CountsMisses (course t before.machine steps x)
 own_counts t g before steps x h =
-    counts_as t before.machine x steps (drain_steps before.cpu.number (stock_group before.machine before.cpu.number) h.back) h.steps_are
-    (counts_drain t before.cpu.number h.back before.machine x h.drains)
+    counts_as t before.machine x steps (drain_steps before.cpu.number (stock_group before.machine before.cpu.number) h.drained) h.steps_are
+    (counts_drain t before.cpu.number h.drained before.machine x h.drains)
 
 pays_count : (sizes : Config) (g : ℕ) → AllCounted (PaysForFrame sizes g)
 pays_count sizes g way (inl h) = counts_rest way.table way.before.machine way.after.machine way.steps h.machine h.steps_are

@@ -80,10 +80,10 @@ fills_quiet sizes way (inr (inr h)) = succeeds_quiet 1 LendsNoFrame lends_none_q
 
 no_frame_quiet : (cause : AllocFault) → AllQuiet (HasNoFrame cause)
 no_frame_quiet cause way h =
-    let last = drain_steps way.before.cpu.number (stock_group h.reclaimed way.before.cpu.number) h.back in
+    let last = drain_steps way.before.cpu.number (stock_group h.reclaimed way.before.cpu.number) h.drained in
     ap has_kill h.steps_are ∙ no_kill_both h.reclaiming last
     (fails_quiet 1 LendsNoFrame lends_none_quiet 16 (course way.table way.before h.reclaiming (side h.reclaimed way.before.cpu)) h.rounds)
-    (quiet_drain way.before.cpu.number (stock_group h.reclaimed way.before.cpu.number) h.back).quiet
+    (quiet_drain way.before.cpu.number (stock_group h.reclaimed way.before.cpu.number) h.drained).quiet
 
 -- ---- a block
 
@@ -162,13 +162,13 @@ module _ (t : KnownTable) (MayAsk : List Group → ℕ → ℕ → Type 0) (s : 
     drain_passes : (x : KnownMachine) (steps : Run) → DrainsOwn g (side s c) steps x → IsLocalRun c.number (local_of t s c) steps (local_of t x c)
         → Passes t c s steps x
     drain_passes x steps h runs =
-        let same = drain_same s x c.number h.back h.drains in
+        let same = drain_same s x c.number h.drained h.drains in
         subst (λ (k : Run). IsLocalRun c.number (local_of t s c) k (local_of t x c) → Passes t c s k x) (sym h.steps_are)
-        (λ r. passes_same t c s x (drain_steps c.number (stock_group s c.number) h.back) r same.seat same.links
-        (quiet_drain c.number (stock_group s c.number) h.back)) runs
+        (λ r. passes_same t c s x (drain_steps c.number (stock_group s c.number) h.drained) r same.seat same.links
+        (quiet_drain c.number (stock_group s c.number) h.drained)) runs
 
     drain_quiet : (x : KnownMachine) (steps : Run) → DrainsOwn g (side s c) steps x → has_kill steps ≡ false
-    drain_quiet x steps h = ap has_kill h.steps_are ∙ (quiet_drain c.number (stock_group s c.number) h.back).quiet
+    drain_quiet x steps h = ap has_kill h.steps_are ∙ (quiet_drain c.number (stock_group s c.number) h.drained).quiet
 
     pays_rash : (sizes : Config) (steps rest : Run) (n : Side) (z : State) → IsLocalRun c.number (local_of t s c) (steps ++ rest) z
         → PaysForFrame sizes g (course t (side s c) steps n) → RashFree t MayAsk s c [] steps
@@ -179,7 +179,7 @@ module _ (t : KnownTable) (MayAsk : List Group → ℕ → ℕ → Type 0) (s : 
         let on = run_rest c.number h.first (h.later ++ rest) (local_of t s c) (local_of t h.emptied c) z h.empties all in
         subst (λ (k : Run). RashFree t MayAsk s c [] k) (sym h.steps_are) (rash_both t MayAsk s c [] h.first h.later
         (rash_quiet t MayAsk s c [] h.first (drain_quiet h.emptied h.first h.drains))
-        (charges_rash sizes h.first h.emptied h.later rest n z (drain_same s h.emptied c.number h.drains.back h.drains.drains).groups (drain_passes h.emptied h.first h.drains h.empties) on h.charges))
+        (charges_rash sizes h.first h.emptied h.later rest n z (drain_same s h.emptied c.number h.drains.drained h.drains.drains).groups (drain_passes h.emptied h.first h.drains h.empties) on h.charges))
 
     pays_not_rash : (sizes : Config) (cause : AllocFault) (steps : Run) (n : Side) (z : State) → IsLocalRun c.number (local_of t s c) steps z
         → RefusesToPay sizes g cause (course t (side s c) steps n) → RashFree t MayAsk s c [] steps
@@ -188,7 +188,7 @@ module _ (t : KnownTable) (MayAsk : List Group → ℕ → ℕ → Type 0) (s : 
         let on = run_rest c.number h.first h.later (local_of t s c) (local_of t h.emptied c) z h.empties all in
         subst (λ (k : Run). RashFree t MayAsk s c [] k) (sym h.steps_are) (rash_both t MayAsk s c [] h.first h.later
         (rash_quiet t MayAsk s c [] h.first (drain_quiet h.emptied h.first h.drains))
-        (refuses_rash sizes cause h.first h.emptied h.later n z (drain_same s h.emptied c.number h.drains.back h.drains.drains).groups (drain_passes h.emptied h.first h.drains h.empties) on h.refuses))
+        (refuses_rash sizes cause h.first h.emptied h.later n z (drain_same s h.emptied c.number h.drains.drained h.drains.drains).groups (drain_passes h.emptied h.first h.drains h.empties) on h.refuses))
 
     pub frame_no_rash : (sizes : Config) (answer : Result ℕ AllocFault) (steps : Run) (n : Side) (z : State) → IsLocalRun c.number (local_of t s c) steps z
         → AllocatesFrame sizes g answer (course t (side s c) steps n) → NoRashKill t MayAsk s c steps

@@ -85,7 +85,7 @@ module _ (t : KnownTable) (g k : ℕ) (c : KnownCpu) (m x : KnownMachine) (so_fa
       let back : current_of n.ledger 0 ≡ current_of x.ledger 0 = ap (λ l. current_of l 0) ledger ∙ usage_back x.ledger g (2 ^ k) 0 in
       record {
         there = ap (λ (l : List Group). has_group l g) groups ∙ there;
-        not_killed = ap (λ (z : KnownMachine). is_killed z.killed g) none.machine ∙ so_far.alive;
+        alive = ap (λ (z : KnownMachine). is_killed z.killed g) none.machine ∙ so_far.alive;
         fits = omega (arith, here, back);
         room = subst (λ l. PathHasRoom l.groups (current_of l) g (2 ^ k)) (sym ledger) (room_back x.ledger g (2 ^ k) none.room);
       }

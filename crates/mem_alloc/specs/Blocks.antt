@@ -46,7 +46,7 @@ ChargesBlock g k (Err Killed) way = IsRefusedFor g (2 ^ k) Killed way
 -- what a call for which no block is free leaves: the group, which isn't killed, and room for the block
 pub record HasRoomStill (group order : ℕ) (before after : KnownMachine) : Type 0 where
   pub there : IsTrue (has_group after.ledger.groups group)
-  pub not_killed : is_killed after.killed group ≡ false
+  pub alive : is_killed after.killed group ≡ false
   pub fits : HasRoomFor after (2 ^ order)
   pub room : PathHasRoom after.ledger.groups (current_of after.ledger) group (2 ^ order)
 
@@ -112,7 +112,7 @@ pub record TriesAgain (group order : ℕ) (answer : Result ℕ AllocFault) (way 
 
 -- the charge of the block is refused for good, for this cause, and the processor's part stays
 pub record IsNotCharged (group order : ℕ) (cause : AllocFault) (way : Course Side) : Type 0 where
-  pub not_killed : is_killed way.before.machine.killed group ≡ false
+  pub alive : is_killed way.before.machine.killed group ≡ false
   pub refuses : IsRefusedFor group (2 ^ order) cause (of_machine way)
   pub cpu : way.after.cpu ≡ way.before.cpu
 

@@ -55,12 +55,12 @@ pub record RefusesFrame (sizes : Config) (group : ℕ) (cause : AllocFault) (way
   pub refuses : RefusesOne group cause (course way.table way.before later way.after)
   pub steps_are : way.steps ≡ over_steps group sizes.stock over ++ later
 
--- the processor's stock holds no page of the group: it is drained, of `back` pages, which go back to their group
+-- the processor's stock holds no page of the group: it is drained, of `drained` pages, which go back to their group
 pub record DrainsOwn (group : ℕ) (before : Side) (steps : Run) (emptied : KnownMachine) : Type 0 where
   pub lacks : ¬ HoldsPage before group
-  pub back : ℕ
-  pub drains : Drains before.machine before.cpu.number back emptied
-  pub steps_are : steps ≡ drain_steps before.cpu.number (stock_group before.machine before.cpu.number) back
+  pub drained : ℕ
+  pub drains : Drains before.machine before.cpu.number drained emptied
+  pub steps_are : steps ≡ drain_steps before.cpu.number (stock_group before.machine before.cpu.number) drained
 
 -- the stock holds a page of the group, and nothing changed
 pub record HasPage (group : ℕ) (way : Course Side) : Type 0 where

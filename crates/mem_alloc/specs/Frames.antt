@@ -56,7 +56,7 @@ abbrev pub FillsList : Config → Course Side → Type 0
 FillsList sizes way = HasFront way ⊎ (RefillsList sizes way ⊎ ReclaimsForList sizes way)
 
 -- the list is empty and no frame is free, nor is one after any round of reclaim: then the processor's stock is drained,
--- of `back` pages, which go back to its group
+-- of `drained` pages, which go back to its group
 pub record HasNoFrame (cause : AllocFault) (way : Course Side) : Type 0 where
   pub named : cause ≡ NoFrames
   pub empty : way.before.cpu.list ≡ []
@@ -66,11 +66,11 @@ pub record HasNoFrame (cause : AllocFault) (way : Course Side) : Type 0 where
   pub rounds : FailsInRounds 16 1 LendsNoFrame
       (course way.table way.before reclaiming (side reclaimed way.before.cpu))
   pub none_still : HasNoneFrom reclaimed.blocks 0
-  pub back : ℕ
-  pub drains : Drains reclaimed way.before.cpu.number back way.after.machine
+  pub drained : ℕ
+  pub drains : Drains reclaimed way.before.cpu.number drained way.after.machine
   pub cpu : way.after.cpu ≡ way.before.cpu
   pub steps_are : way.steps
-      ≡ reclaiming ++ drain_steps way.before.cpu.number (stock_group reclaimed way.before.cpu.number) back
+      ≡ reclaiming ++ drain_steps way.before.cpu.number (stock_group reclaimed way.before.cpu.number) drained
 
 -- a page of the group is in the processor's stock, a frame on its list, and the front of the list is paid for with the
 -- page
@@ -79,7 +79,7 @@ pub record GetsFrame (sizes : Config) (group frame : ℕ) (way : Course Side) : 
   pub filled : Side
   pub paying : Run
   pub filling : Run
-  pub not_killed : is_killed way.before.machine.killed group ≡ false
+  pub alive : is_killed way.before.machine.killed group ≡ false
   pub pays : PaysForFrame sizes group (course way.table way.before paying paid)
   pub fills : FillsList sizes (course way.table paid filling filled)
   pub takes : PaysForFront group frame filled way.after
@@ -87,7 +87,7 @@ pub record GetsFrame (sizes : Config) (group frame : ℕ) (way : Course Side) : 
 
 -- a charge to the group is refused for good
 pub record IsNotPaid (sizes : Config) (group : ℕ) (cause : AllocFault) (way : Course Side) : Type 0 where
-  pub not_killed : is_killed way.before.machine.killed group ≡ false
+  pub alive : is_killed way.before.machine.killed group ≡ false
   pub refuses : RefusesToPay sizes group cause way
 
 -- a page of the group is in the processor's stock, but no frame is free, also after rounds of reclaim
@@ -95,7 +95,7 @@ pub record FindsNoFrame (sizes : Config) (group : ℕ) (way : Course Side) : Typ
   pub paid : Side
   pub paying : Run
   pub draining : Run
-  pub not_killed : is_killed way.before.machine.killed group ≡ false
+  pub alive : is_killed way.before.machine.killed group ≡ false
   pub pays : PaysForFrame sizes group (course way.table way.before paying paid)
   pub none : HasNoFrame NoFrames (course way.table paid draining way.after)
   pub steps_are : way.steps ≡ paying ++ draining

@@ -2,6 +2,7 @@
 use Rattle.std.specs.Prelude.{◌≡◌, ℕ, ◌+◌, [], Result, MatchResult}
 use Rattle.frame_word.specs.Seats.{KnownTable, misses_of}
 use Rattle.step_rules.specs.After.{Run}
+use Rattle.cpu_part.specs.Cpus.{KnownCpu}
 use Rattle.mem_machine.specs.Machines.{KnownMachine}
 use Rattle.mem_machine.specs.Local.{Side, Makes, MakesForAny}
 use Rattle.mem_reclaim.specs.Moves.{missed_in}
@@ -54,3 +55,7 @@ pub record Stays (way : Course Side) : Type 0 where
   pub machine : way.after.machine ≡ way.before.machine
   pub cpu : way.after.cpu ≡ way.before.cpu
   pub steps_are : way.steps ≡ []
+
+-- a processor with nothing to settle: none of its frames is fresh or back
+abbrev pub IsSettled : KnownCpu → Type 0
+IsSettled c = (c.fresh ≡ []) × (c.back ≡ [])

@@ -6,7 +6,7 @@ ghost use Rattle.group_tree.specs.Room.{PathHasRoom};
 ghost use Rattle.group_charge.specs.Charges.{current_of};
 ghost use Rattle.mem_machine.specs.Machines.{KeepsVisit, Visits, is_killed};
 ghost use Rattle.mem_machine.specs.Paying.{HasRoomFor, IsOfSize};
-ghost use Rattle.mem_alloc.specs.Stepping.{BySteps, OfMachine};
+ghost use Rattle.mem_alloc.specs.Stepping.{BySteps, IsSettled, OfMachine};
 ghost use Rattle.mem_alloc.specs.Blocks.{AllocatesBlock, ChargesBlock, TakesAgain, TakesInRounds, LeavesRoom};
 ghost use Rattle.mem_machine.specs.Local.{side};
 
@@ -30,7 +30,7 @@ fn take_charged<N: BootName>(
 ) -> Result<Frame, AllocFault>
     requires visit { Visits N.frames (side machine.old cpu.old) }
     requires there { IsTrue (has_group machine.old.ledger.groups group) }
-    requires not_killed { is_killed machine.old.killed group ≡ false }
+    requires alive { is_killed machine.old.killed group ≡ false }
     requires fits { HasRoomFor machine.old (2 ^ order) }
     requires none_back { cpu.old.back ≡ [] }
     ensures charges { BySteps N.frames (side machine.old cpu.old) (side machine.new cpu.new)
@@ -60,7 +60,7 @@ fn take_in_rounds<N: BootName>(
 ) -> Result<Frame, AllocFault>
     requires visit { Visits N.frames (side machine.old cpu.old) }
     requires there { IsTrue (has_group machine.old.ledger.groups group) }
-    requires not_killed { is_killed machine.old.killed group ≡ false }
+    requires alive { is_killed machine.old.killed group ≡ false }
     requires fits { HasRoomFor machine.old (2 ^ order) }
     requires room { PathHasRoom machine.old.ledger.groups (current_of machine.old.ledger) group (2 ^ order) }
     requires none_back { cpu.old.back ≡ [] }
@@ -93,10 +93,10 @@ fn take_again<N: BootName>(
 ) -> Result<Frame, AllocFault>
     requires visit { Visits N.frames (side machine.old cpu.old) }
     requires there { IsTrue (has_group machine.old.ledger.groups group) }
-    requires not_killed { is_killed machine.old.killed group ≡ false }
+    requires alive { is_killed machine.old.killed group ≡ false }
     requires fits { HasRoomFor machine.old (2 ^ order) }
     requires room { PathHasRoom machine.old.ledger.groups (current_of machine.old.ledger) group (2 ^ order) }
-    requires settled { (cpu.old.fresh ≡ []) × (cpu.old.back ≡ []) }
+    requires settled { IsSettled cpu.old }
     ensures takes { BySteps N.frames (side machine.old cpu.old) (side machine.new cpu.new)
         (TakesAgain group order result) }
     ensures stays { KeepsVisit N.frames (side machine.old cpu.old) (side machine.new cpu.new) }
@@ -136,7 +136,7 @@ pub fn alloc_block<N: BootName>(
     requires visit { Visits N.frames (side machine.old cpu.old) }
     requires size { IsOfSize N.frames }
     requires there { IsTrue (has_group machine.old.ledger.groups group) }
-    requires settled { (cpu.old.fresh ≡ []) × (cpu.old.back ≡ []) }
+    requires settled { IsSettled cpu.old }
     ensures allocates { BySteps N.frames (side machine.old cpu.old) (side machine.new cpu.new)
         (AllocatesBlock group order result) }
     ensures stays { KeepsVisit N.frames (side machine.old cpu.old) (side machine.new cpu.new) }

@@ -46,7 +46,7 @@ fn fill_one<N: BootName>(
 ) -> Result<(), AllocFault>
     requires visit { Visits N.frames (side machine.old cpu.old) }
     requires there { IsTrue (has_group machine.old.ledger.groups group) }
-    requires not_killed { is_killed machine.old.killed group ≡ false }
+    requires alive { is_killed machine.old.killed group ≡ false }
     requires fits { HasRoomFor machine.old 1 }
     requires none_fresh { cpu.old.fresh ≡ [] }
     requires drained { (account_of machine.old.stock.view cpu.old.number).filled ≡ false }
@@ -75,7 +75,7 @@ fn charge_frame<N: BootName>(
     requires size { IsOfSize N.frames }
     requires sizes { IsValidConfig sizes }
     requires there { IsTrue (has_group machine.old.ledger.groups group) }
-    requires not_killed { is_killed machine.old.killed group ≡ false }
+    requires alive { is_killed machine.old.killed group ≡ false }
     requires none_fresh { cpu.old.fresh ≡ [] }
     requires drained { (account_of machine.old.stock.view cpu.old.number).filled ≡ false }
     ensures charges { ByAnswer N.frames (side machine.old cpu.old) (side machine.new cpu.new) result
@@ -101,7 +101,7 @@ pub(crate) fn pay_for_frame<N: BootName>(
     requires size { IsOfSize N.frames }
     requires sizes { IsValidConfig sizes }
     requires there { IsTrue (has_group machine.old.ledger.groups group) }
-    requires not_killed { is_killed machine.old.killed group ≡ false }
+    requires alive { is_killed machine.old.killed group ≡ false }
     requires none_fresh { cpu.old.fresh ≡ [] }
     ensures pays { ByAnswer N.frames (side machine.old cpu.old) (side machine.new cpu.new) result
         (PaysForFrame sizes group) (RefusesToPay sizes group) }

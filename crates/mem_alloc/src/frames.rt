@@ -6,7 +6,7 @@ ghost use Rattle.zone_sizes.specs.Config.{IsValidConfig};
 ghost use Rattle.group_tree.specs.Groups.{has_group};
 ghost use Rattle.mem_machine.specs.Machines.{KeepsVisit, Visits};
 ghost use Rattle.mem_machine.specs.Paying.{HoldsPage, IsOfSize};
-ghost use Rattle.mem_alloc.specs.Stepping.{ByAnswer, BySteps};
+ghost use Rattle.mem_alloc.specs.Stepping.{ByAnswer, BySteps, IsSettled};
 ghost use Rattle.mem_machine.specs.Lending.{HasListRoom};
 ghost use Rattle.mem_alloc.specs.Frames.{FillsList, HasNoFrame, RefillsInRounds, AllocatesFrame};
 ghost use Rattle.mem_machine.specs.Local.{side};
@@ -106,7 +106,7 @@ pub fn alloc_frame<N: BootName>(
     requires size { IsOfSize N.frames }
     requires sizes { IsValidConfig sizes }
     requires there { IsTrue (has_group machine.old.ledger.groups group) }
-    requires settled { (cpu.old.fresh ≡ []) × (cpu.old.back ≡ []) }
+    requires settled { IsSettled cpu.old }
     ensures allocates { BySteps N.frames (side machine.old cpu.old) (side machine.new cpu.new)
         (AllocatesFrame sizes group result) }
     ensures stays { KeepsVisit N.frames (side machine.old cpu.old) (side machine.new cpu.new) }

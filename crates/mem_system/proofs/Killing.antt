@@ -49,7 +49,7 @@ use Rattle.mem_system.specs.Commands.{MakesGroup, MayAskFor, Obeys, Removes, Set
 
 makes_quiet : (path : List ℕ) (said : Reply) (way : Course KnownMachine) → MakesGroup path said way → has_kill way.steps ≡ false
 makes_quiet path (reply.Group n) way h = ap has_kill h.2
-makes_quiet path (reply.Refused fault) way h = ap has_kill h.2
+makes_quiet path (reply.Refused fault) way h = ap has_kill h.1.1
 makes_quiet path other way h = absurd h
 
 lowers_quiet : (g limit : ℕ) (way : Course KnownMachine) → LowersUsage g limit way → has_kill way.steps ≡ false
@@ -62,7 +62,7 @@ removes_quiet path reply.Done way h =
     ap has_kill h.steps_are
     ∙ no_kill_both h.lowering (remove_steps h.group) (lowers_quiet h.group 0 (course way.table way.before h.lowering h.emptied) h.lowers) refl
 removes_quiet path (reply.Refused fault.Busy) way h = lowers_quiet h.group 0 way h.lowers
-removes_quiet path (reply.Refused other) way h = ap has_kill h.2
+removes_quiet path (reply.Refused other) way h = ap has_kill h.1.1
 removes_quiet path other way h = absurd h
 
 touches_quiet : (f : ℕ) (said : Reply) (way : Course KnownMachine) → TouchesFrame f said way → has_kill way.steps ≡ false
@@ -71,7 +71,7 @@ touches_quiet f reply.Active way h = ap has_kill h.1
 touches_quiet f (reply.Refused fault.NotKept) way h = ap has_kill h.steps_are
 touches_quiet f other way h = absurd h
 
-notes_quiet : (is_dirty : Bool) (f : ℕ) (said : Reply) (way : Course KnownMachine) → NotesDirt is_dirty f said way → has_kill way.steps ≡ false
+notes_quiet : (is_dirty : Bool) (f : ℕ) (said : Reply) (way : Course KnownMachine) → NotesDirt f is_dirty said way → has_kill way.steps ≡ false
 notes_quiet is_dirty f reply.Done way h = ap has_kill h.1
 notes_quiet is_dirty f (reply.Refused fault.NotKept) way h = ap has_kill h.steps_are
 notes_quiet is_dirty f other way h = absurd h
@@ -169,7 +169,7 @@ writes_no_rash t cmd path name value reply.Done s c steps n z asks whole h =
     sets_rash t (MayAskFor cmd s.ledger.groups) s c h.group h.limit steps n z (found_there s.ledger.groups path h.group h.file.number)
     (asks h.group h.limit h.file h.reads) whole h.sets
 writes_no_rash t cmd path name value (reply.Refused fault) s c steps n z asks whole h =
-    rash_quiet t (MayAskFor cmd s.ledger.groups) s c [] steps (ap has_kill h.2)
+    rash_quiet t (MayAskFor cmd s.ledger.groups) s c [] steps (ap has_kill h.1.1)
 writes_no_rash t cmd path name value other s c steps n z asks whole h = absurd h
 
 allocates_for : (t : KnownTable) (cmd : Cmd) (sizes : Config) (path : List ℕ) (order : ℕ) (answer : Result ℕ AllocFault) (s : KnownMachine) (c : KnownCpu)

@@ -33,7 +33,7 @@ makes_counts path (reply.Group n) way h =
     counts_as way.table way.before way.after way.steps (make_steps path n) h.2
     (counts_same way.table way.before way.after (make_steps path n) (record { quiet = refl; no_miss = λ f. refl })
     (ap (λ (x : KnownMachine). x.seat) h.1.machine))
-makes_counts path (reply.Refused fault) way h = counts_rest way.table way.before way.after way.steps h.1 h.2
+makes_counts path (reply.Refused fault) way h = counts_rest way.table way.before way.after way.steps h.1.0 h.1.1
 makes_counts path other way h = absurd h
 
 lowers_counts : (g limit : ℕ) (way : Course KnownMachine) → LowersUsage g limit way → CountsMisses way
@@ -52,7 +52,7 @@ removes_counts path reply.Done way h =
     (counts_same t h.emptied way.after (remove_steps h.group) (record { quiet = refl; no_miss = λ f. refl })
     (ap (λ (x : KnownMachine). x.seat) h.machine)))
 removes_counts path (reply.Refused fault.Busy) way h = lowers_counts h.group 0 way h.lowers
-removes_counts path (reply.Refused other) way h = counts_rest way.table way.before way.after way.steps h.1 h.2
+removes_counts path (reply.Refused other) way h = counts_rest way.table way.before way.after way.steps h.1.0 h.1.1
 removes_counts path other way h = absurd h
 
 above_counts : (g limit : ℕ) (way : Course KnownMachine) → LowersAbove g limit way → CountsMisses way
@@ -80,7 +80,7 @@ sets_counts g of way h =
 
 writes_counts : (path name value : List ℕ) (said : Reply) (way : Course KnownMachine) → Writes path name value said way → CountsMisses way
 writes_counts path name value reply.Done way h = sets_counts h.group h.limit way h.sets
-writes_counts path name value (reply.Refused fault) way h = counts_rest way.table way.before way.after way.steps h.1 h.2
+writes_counts path name value (reply.Refused fault) way h = counts_rest way.table way.before way.after way.steps h.1.0 h.1.1
 writes_counts path name value other way h = absurd h
 
 heads_none : (f : ℕ) (way : Course KnownMachine) → HeadsNoUnit f way → CountsMisses way
@@ -98,7 +98,7 @@ touches_counts f reply.Active way h = seat_stays way (ap (λ (x : KnownMachine).
 touches_counts f (reply.Refused fault.NotKept) way h = heads_none f way h
 touches_counts f other way h = absurd h
 
-notes_counts : (is_dirty : Bool) (f : ℕ) (said : Reply) (way : Course KnownMachine) → NotesDirt is_dirty f said way → CountsMisses way
+notes_counts : (is_dirty : Bool) (f : ℕ) (said : Reply) (way : Course KnownMachine) → NotesDirt f is_dirty said way → CountsMisses way
 notes_counts is_dirty f reply.Done way h = seat_stays way (ap (λ (x : KnownMachine). x.seat) h.0.machine) h.1
 notes_counts is_dirty f (reply.Refused fault.NotKept) way h = heads_none f way h
 notes_counts is_dirty f other way h = absurd h

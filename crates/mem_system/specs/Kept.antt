@@ -23,7 +23,7 @@ TouchesFrame f (Refused NotKept) way = HeadsNoUnit f way
 TouchesFrame f other way = ⊥
 
 -- Dirty and Clean: the unit is noted as dirty, or as not dirty; or there is none
-abbrev pub NotesDirt : Bool → ℕ → Reply → Course KnownMachine → Type 0
-NotesDirt is_dirty f Done way = Dirties way.before f is_dirty way.after × (way.steps ≡ [])
-NotesDirt is_dirty f (Refused NotKept) way = HeadsNoUnit f way
-NotesDirt is_dirty f other way = ⊥
+abbrev pub NotesDirt : (frame : ℕ) (is_dirty : Bool) → Reply → Course KnownMachine → Type 0
+NotesDirt f is_dirty Done way = Dirties way.before f is_dirty way.after × (way.steps ≡ [])
+NotesDirt f is_dirty (Refused NotKept) way = HeadsNoUnit f way
+NotesDirt f is_dirty other way = ⊥

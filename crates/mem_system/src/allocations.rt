@@ -8,7 +8,7 @@ ghost use Rattle.mem_alloc.specs.declared.faults.AllocFault.TheVariants as cause
 ghost use Rattle.mem_system.specs.Boots.{IsSizedAs};
 ghost use Rattle.mem_system.specs.Allocs.{Allocates, AllocatesAs, FreshOf, HasFreshFor, outcome_of};
 ghost use Rattle.mem_system.specs.Outcomes.{HasItsGroups, reply_of};
-ghost use Rattle.mem_system.specs.Commands.{BySteps, IsCarriedOutFor, ListAndFreshStayWithin, holder};
+ghost use Rattle.mem_system.specs.Commands.{BySteps, IsCarriedOutFor, IsSettled, ListAndFreshStayWithin, holder};
 ghost use Rattle.frame_word.specs.Seats.{LentIsBorrowed, NothingPasses};
 ghost use Rattle.mem_machine.specs.Local.{side};
 
@@ -50,7 +50,7 @@ fn allocate_as<N: BootName>(
     requires sizes { IsValidConfig sizes }
     requires sized { IsSizedAs sizes N.frames N.stocks }
     requires there { IsTrue (has_group machine.old.ledger.groups group) }
-    requires settled { (cpu.old.fresh ≡ []) × (cpu.old.back ≡ []) }
+    requires settled { IsSettled cpu.old }
     ensures allocates { BySteps N.frames (side machine.old cpu.old) (side machine.new cpu.new)
         (AllocatesAs sizes group order result) }
     ensures stays { KeepsVisit N.frames (side machine.old cpu.old) (side machine.new cpu.new) }
@@ -77,7 +77,7 @@ pub(crate) fn allocate<N: BootName>(
     requires visit { Visits N.frames (side machine.old cpu.old) }
     requires sizes { IsValidConfig sizes }
     requires sized { IsSizedAs sizes N.frames N.stocks }
-    requires settled { (cpu.old.fresh ≡ []) × (cpu.old.back ≡ []) }
+    requires settled { IsSettled cpu.old }
     ensures allocates { BySteps N.frames (side machine.old cpu.old) (side machine.new cpu.new)
         (Allocates sizes path.now order (reply_of machine.new.ledger result)) }
     ensures groups { HasItsGroups machine.new.ledger result }

@@ -98,8 +98,11 @@ pub fn end<N: BootName>(
 ) -> Result<Audit, Pinned<N>>
     requires { length cpus.items ≡ N.frames.cpus }
     ensures ends { IfOk result (λ a. Ends N.frames N.stocks locked cpus.items a) }
-    ensures pinned { IfErr result (λ p. (p.pins ≡ pins_of cpus.items) × (1 ≤ p.pins)) }
-    ensures same { IfErr result (λ p. (p.tables ≡ tables) × (p.locked ≡ locked) × (p.cpus.items ≡ cpus.items)) }
+    ensures pins { IfErr result (λ p. p.pins ≡ pins_of cpus.items) }
+    ensures some_pin { IfErr result (λ p. 1 ≤ p.pins) }
+    ensures tables { IfErr result (λ p. p.tables ≡ tables) }
+    ensures locked { IfErr result (λ p. p.locked ≡ locked) }
+    ensures cpus { IfErr result (λ p. p.cpus.items ≡ cpus.items) }
 {
     let _few = tables.frames.cpus(); // For the clauses.
     let pins = count_pins(&cpus);

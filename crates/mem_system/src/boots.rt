@@ -43,7 +43,7 @@ impl Boot {
     /// Makes what the boot consists of, under a name of its tables: the tables, what lies behind the lock, and a part
     /// for each processor, in order. All room that later calls need is reserved here. `AllocError` comes where memory
     /// is wanting; nothing stays then.
-    pub fn part<N: BootName>(
+    pub fn into_parts<N: BootName>(
         self,
         alloc: Global,
     ) -> Result<(Tables<N>, Locked<N>, Vec<Cpu<N>>), AllocError>

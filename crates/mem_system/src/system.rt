@@ -25,15 +25,15 @@ pub struct System<N: BootName> {
 
 impl Boot {
     /// Starts the boot under a name of its tables: the system, and a part for each processor, in order. `AllocError`
-    /// comes where memory is wanting; nothing stays then. A clause can't look through the lock: `part` says what lies
-    /// behind it.
+    /// comes where memory is wanting; nothing stays then. A clause can't look through the lock: `Boot::into_parts` says
+    /// what lies behind it.
     pub fn start<N: BootName>(self, alloc: Global) -> Result<(System<N>, Vec<Cpu<N>>), AllocError>
         requires frames { self.frames ≡ N.frames }
         requires stocks { self.stocks ≡ N.stocks }
         ensures cpus { IfOk result (λ r. r.1.items ≡ first_cpus N.frames N.stocks 1 self.sizes.cpus) }
         ensures count { IfOk result (λ r. length r.1.items ≡ N.frames.cpus) }
     {
-        let (tables, locked, cpus) = self.part(alloc)?;
+        let (tables, locked, cpus) = self.into_parts(alloc)?;
         Ok((System::of(tables, locked), cpus))
     }
 }

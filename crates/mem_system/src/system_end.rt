@@ -28,7 +28,9 @@ impl<N: BootName> System<N> {
         ensures frames { IfOk result (λ a. a.frames ≡ N.frames.frames) }
         ensures adds_up { IfOk result (λ a. AddsUp a) }
         ensures no_pin { IfOk result (λ a. pins_of cpus.items ≡ 0) }
-        ensures held { IfErr result (λ h. (h.pins ≡ pins_of cpus.items) × (1 ≤ h.pins) × (h.cpus.items ≡ cpus.items)) }
+        ensures pins { IfErr result (λ h. h.pins ≡ pins_of cpus.items) }
+        ensures some_pin { IfErr result (λ h. 1 ≤ h.pins) }
+        ensures cpus { IfErr result (λ h. h.cpus.items ≡ cpus.items) }
     {
         let System { tables, locked } = self;
         match end(tables, locked.into_inner(), cpus) {

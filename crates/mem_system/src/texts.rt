@@ -1,12 +1,12 @@
 //! The texts that a processor is told of the machine, settled as for any command.
 
-ghost use Rattle.std.specs.Prelude.{◌≡◌, [], IfOk};
+ghost use Rattle.std.specs.Prelude.{◌≡◌, IfOk};
 ghost use Rattle.std.specs.String.{string_bytes};
 ghost use Rattle.frame_word.specs.Seats.{NothingPasses};
 ghost use Rattle.machine_texts.specs.Blocks.{blocks_text};
 ghost use Rattle.machine_texts.specs.Show.{show_text};
 ghost use Rattle.mem_system.specs.Shown.{SettlesCaller, TellsOf};
-ghost use Rattle.mem_system.specs.Commands.{ListStaysWithin, holder};
+ghost use Rattle.mem_system.specs.Commands.{IsSettled, ListStaysWithin, holder};
 
 use crate::command::Cmd;
 use crate::lock::Locked;
@@ -20,7 +20,7 @@ use std::sync::Wait;
 /// Serves `Settle`: the processor is settled, and nothing else.
 pub fn settle<N: BootName>(locked: &mut Locked<N>, tables: &Tables<N>, cpu: &mut Cpu<N>)
     ensures served { SettlesCaller N.frames (holder locked.old cpu.old) (holder locked.new cpu.new) }
-    ensures settled { (cpu.new.fresh ≡ []) × (cpu.new.back ≡ []) }
+    ensures settled { IsSettled cpu.new }
     ensures at_most_high { ListStaysWithin locked.old.sizes cpu.old cpu.new }
     ensures still { NothingPasses N.frames locked.new.machine.seat cpu.new.seat }
 {
@@ -38,7 +38,7 @@ pub fn show<N: BootName>(
 ) -> Result<String, AllocError>
     ensures served { SettlesCaller N.frames (holder locked.old cpu.old) (holder locked.new cpu.new) }
     ensures text { IfOk result (λ text. string_bytes text ≡ show_text locked.new.machine) }
-    ensures settled { (cpu.new.fresh ≡ []) × (cpu.new.back ≡ []) }
+    ensures settled { IsSettled cpu.new }
     ensures at_most_high { ListStaysWithin locked.old.sizes cpu.old cpu.new }
     ensures still { NothingPasses N.frames locked.new.machine.seat cpu.new.seat }
 {
@@ -58,7 +58,7 @@ pub fn blocks<N: BootName>(
 ) -> Result<String, AllocError>
     ensures served { SettlesCaller N.frames (holder locked.old cpu.old) (holder locked.new cpu.new) }
     ensures text { IfOk result (λ text. string_bytes text ≡ blocks_text locked.new.machine.blocks) }
-    ensures settled { (cpu.new.fresh ≡ []) × (cpu.new.back ≡ []) }
+    ensures settled { IsSettled cpu.new }
     ensures at_most_high { ListStaysWithin locked.old.sizes cpu.old cpu.new }
     ensures still { NothingPasses N.frames locked.new.machine.seat cpu.new.seat }
 {
@@ -80,7 +80,7 @@ impl<N: BootName> System<N> {
     ) -> Result<String, AllocError>
         ensures told { TellsOf N.frames N.stocks cpu.old cpu.new
             (λ m. IfOk result (λ text. string_bytes text ≡ show_text m)) }
-        ensures settled { (cpu.new.fresh ≡ []) × (cpu.new.back ≡ []) }
+        ensures settled { IsSettled cpu.new }
     {
         let mut guard = self.locked.lock(rt);
         let locked = &mut *guard;
@@ -99,7 +99,7 @@ impl<N: BootName> System<N> {
     ) -> Result<String, AllocError>
         ensures told { TellsOf N.frames N.stocks cpu.old cpu.new
             (λ m. IfOk result (λ text. string_bytes text ≡ blocks_text m.blocks)) }
-        ensures settled { (cpu.new.fresh ≡ []) × (cpu.new.back ≡ []) }
+        ensures settled { IsSettled cpu.new }
     {
         let mut guard = self.locked.lock(rt);
         let locked = &mut *guard;

@@ -62,7 +62,7 @@ pub(crate) fn note_dirt<N: BootName>(
 ) -> Outcome
     requires { frame < N.frames.frames }
     ensures noted { (c : KnownCpu) → BySteps N.frames (side machine.old c) (side machine.new c)
-        (OfMachine (NotesDirt is_dirty frame (reply_of machine.new.ledger result))) }
+        (OfMachine (NotesDirt frame is_dirty (reply_of machine.new.ledger result))) }
     ensures groups { HasItsGroups machine.new.ledger result }
     ensures seat { machine.new.seat ≡ machine.old.seat }
 {

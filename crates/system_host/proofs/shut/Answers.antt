@@ -19,7 +19,6 @@ unreachable-requires g c =
     let first = c.deref_mut-cpu-items.ensures.value in
     let long = c.loop-cpu.auto.cpu-items ∙ ap length first in
     let same = written_back c.args.cpus.len c.loop-cpu.cpu-items c.args.cpus.items long (sym c.deref_mut-cpu-items.ensures.len ∙ ap length first) in
-    let held = c.in-Err.ensures.held in
-    let none : c.in-Err.field-0.pins ≡ 0 = held.0 ∙ ap pins_of same ∙ none_at_end _ _ c.loop-cpu.invariant.1 past in
-    let some = held.1 in
+    let none : c.in-Err.field-0.pins ≡ 0 = c.in-Err.ensures.pins ∙ ap pins_of same ∙ none_at_end _ _ c.loop-cpu.invariant.1 past in
+    let some = c.in-Err.ensures.some_pin in
     omega (arith, none, some)

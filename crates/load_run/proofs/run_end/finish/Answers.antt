@@ -9,7 +9,6 @@ unreachable-requires g c =
     let first = c.deref_mut.ensures.value in
     let long = zip_long _ _ c.put_all.ensures ∙ ap length first in
     let same = written_back c.in-Err.pinned.cpus.len c.put_all.new.cpus c.in-Err.pinned.cpus.items long (sym c.deref_mut.ensures.len ∙ ap length first) in
-    let pinned = c.in-Err-end.ensures.pinned in
-    let none : c.in-Err-end.field-0.pins ≡ 0 = pinned.0 ∙ ap pins_of same ∙ none_pinned _ _ c.put_all.ensures in
-    let some = pinned.1 in
+    let none : c.in-Err-end.field-0.pins ≡ 0 = c.in-Err-end.ensures.pins ∙ ap pins_of same ∙ none_pinned _ _ c.put_all.ensures in
+    let some = c.in-Err-end.ensures.some_pin in
     omega arith

@@ -14,7 +14,7 @@ take_block-requires-clause-there g c =
 
 pub take_block-requires-clause-alive : goal.take_block-requires-clause-alive
 take_block-requires-clause-alive g c =
-    ap (λ l. is_killed l c.args.group) (back_part _ _ _ _ _ c.drain_list.ensures.takes).killed ∙ c.requires.not_killed
+    ap (λ l. is_killed l c.args.group) (back_part _ _ _ _ _ c.drain_list.ensures.takes).killed ∙ c.requires.alive
 
 pub take_block-requires-clause-fits : goal.take_block-requires-clause-fits
 take_block-requires-clause-fits g c =
@@ -64,11 +64,11 @@ take_in_rounds-requires-clause-there g c =
     ap (λ (y : KnownMachine). has_group y.ledger.groups c.args.group) none.machine ∙ ap (λ l. has_group l.groups c.args.group) part.ledger
     ∙ c.requires.there
 
-pub take_in_rounds-requires-clause-not_killed : goal.take_in_rounds-requires-clause-not_killed
-take_in_rounds-requires-clause-not_killed g c =
+pub take_in_rounds-requires-clause-alive : goal.take_in_rounds-requires-clause-alive
+take_in_rounds-requires-clause-alive g c =
     let none = is_none _ _ c.args.group c.args.order c.in-Err-NoBlock.field-0 c.in-Err-NoBlock.field-0-is c.in-Err-NoBlock.ensures.refuses in
     let part = back_part _ _ _ _ _ c.drain_list.ensures.takes in
-    ap (λ (y : KnownMachine). is_killed y.killed c.args.group) none.machine ∙ ap (λ l. is_killed l c.args.group) part.killed ∙ c.requires.not_killed
+    ap (λ (y : KnownMachine). is_killed y.killed c.args.group) none.machine ∙ ap (λ l. is_killed l c.args.group) part.killed ∙ c.requires.alive
 
 pub take_in_rounds-requires-clause-fits : goal.take_in_rounds-requires-clause-fits
 take_in_rounds-requires-clause-fits g c =
@@ -77,7 +77,7 @@ take_in_rounds-requires-clause-fits g c =
     let there = ap (λ l. has_group l.groups c.args.group) part.ledger ∙ c.requires.there in
     let fits = subst (λ l. current_of l 0 + 2 ^ c.args.order < 2 ^ 32) (sym part.ledger) c.requires.fits in
     (none_leaves g.N.BootName.frames c.args.group c.args.order c.drain_list.new.self c.take_block.new.self c.drain_list.new.cpu
-    c.take_block.new.cpu none (ap (λ l. is_killed l c.args.group) part.killed ∙ c.requires.not_killed) there fits).fits
+    c.take_block.new.cpu none (ap (λ l. is_killed l c.args.group) part.killed ∙ c.requires.alive) there fits).fits
 
 pub take_in_rounds-requires-clause-room : goal.take_in_rounds-requires-clause-room
 take_in_rounds-requires-clause-room g c =
@@ -86,7 +86,7 @@ take_in_rounds-requires-clause-room g c =
     let there = ap (λ l. has_group l.groups c.args.group) part.ledger ∙ c.requires.there in
     let fits = subst (λ l. current_of l 0 + 2 ^ c.args.order < 2 ^ 32) (sym part.ledger) c.requires.fits in
     (none_leaves g.N.BootName.frames c.args.group c.args.order c.drain_list.new.self c.take_block.new.self c.drain_list.new.cpu
-    c.take_block.new.cpu none (ap (λ l. is_killed l c.args.group) part.killed ∙ c.requires.not_killed) there fits).room
+    c.take_block.new.cpu none (ap (λ l. is_killed l c.args.group) part.killed ∙ c.requires.alive) there fits).room
 
 pub take_in_rounds-requires-clause-none_back : goal.take_in_rounds-requires-clause-none_back
 take_in_rounds-requires-clause-none_back g c =

@@ -2,7 +2,7 @@ use Rattle.std.proofs.Common.{length, sym, ap, ◌∙◌}
 use Rattle.frame_word.specs.Seats.{KnownTable}
 use Rattle.mem_system.specs.Boots.{KnownBoot}
 use Rattle.mem_system.proofs.Parts.{cpus_long}
-use Rattle.mem_system.proofs.boots.Boot.part.Goals as goal
+use Rattle.mem_system.proofs.boots.Boot.into_parts.Goals as goal
 
 pub returns-clause-count : goal.returns-clause-count
 returns-clause-count g c =
