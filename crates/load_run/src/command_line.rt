@@ -21,6 +21,28 @@ use std::convert::AsStr;
 use std::rt::Env;
 use std::{env, io};
 
+// What the help says of the program, of its subcommands, and of their options.
+const MEMCG_HELP: &str = "Charges page frames to the groups of a tree";
+
+const REPLAY_HELP: &str = "Runs the lines of a script, one after the other";
+
+const RUN_HELP: &str =
+    "Runs the lines before `go` so, and those behind it by a thread for each processor";
+
+const FRAMES_HELP: &str = "Frames of the zone, 1 to 65536";
+
+const CPUS_HELP: &str = "Processors, 1 to 16";
+
+const BATCH_HELP: &str = "Frames by which a processor's list is refilled, 1 to 64";
+
+const HIGH_HELP: &str = "Frames at which a processor's list gives back, batch to 256";
+
+const STOCK_HELP: &str = "Pages that a processor prepays, 1 to 64";
+
+const AUDIT_HELP: &str = "Tells at the end which pins were held, and what was counted";
+
+const EXPLAIN_HELP: &str = "Tells behind an answer why groups were killed for it";
+
 /// The words of the command line that follow the program's name. A word that isn't UTF-8 is a fault of the
 /// words. It has no contract: no clause has a name for the words that a process was started with.
 pub fn words<R: Env + AllocGlobal>(rt: &R) -> Result<Vec<String>, WordsFault> {
@@ -102,14 +124,10 @@ fn memcg<'a>(alloc: Global) -> Result<Command<'a>, AllocError>
     Command::new(alloc, "memcg")
         .bin_name("memcg")?
         .no_binary_name(true)
-        .about("Charges page frames to the groups of a tree")
+        .about(MEMCG_HELP)
         .subcommand_required(true)
         .subcommand(replay_task(alloc)?)?
-        .subcommand(task(
-            alloc,
-            "run",
-            "Runs the lines before `go` so, and those behind it by a thread for each processor",
-        )?)
+        .subcommand(task(alloc, "run", RUN_HELP)?)
 }
 
 // `replay`, which has an option more.
@@ -117,8 +135,7 @@ fn replay_task<'a>(alloc: Global) -> Result<Command<'a>, AllocError>
     ensures shape { IfOk result (λ command. (app_of command).top ≡ replay_shape) }
     ensures local { IfOk result (λ command. (fields_of command).has_globals ≡ false) }
 {
-    let about = "Runs the lines of a script, one after the other";
-    task(alloc, "replay", about)?.arg(explain_option(alloc))
+    task(alloc, "replay", REPLAY_HELP)?.arg(explain_option(alloc))
 }
 
 // A subcommand, with its options.
@@ -128,35 +145,11 @@ fn task<'a>(alloc: Global, name: &'a str, about: &'a str) -> Result<Command<'a>,
 {
     Command::new(alloc, name)
         .about(about)
-        .arg(size_option(
-            alloc,
-            "frames",
-            "Frames of the zone, 1 to 65536",
-            MOST_FRAMES,
-            "16",
-        ))?
-        .arg(size_option(alloc, "cpus", "Processors, 1 to 16", MOST_CPUS, "2"))?
-        .arg(size_option(
-            alloc,
-            "batch",
-            "Frames by which a processor's list is refilled, 1 to 64",
-            MOST_BATCH,
-            "4",
-        ))?
-        .arg(size_option(
-            alloc,
-            "high",
-            "Frames at which a processor's list gives back, batch to 256",
-            MOST_HIGH,
-            "8",
-        ))?
-        .arg(size_option(
-            alloc,
-            "stock",
-            "Pages that a processor prepays, 1 to 64",
-            MOST_STOCK,
-            "4",
-        ))?
+        .arg(size_option(alloc, "frames", FRAMES_HELP, MOST_FRAMES, "16"))?
+        .arg(size_option(alloc, "cpus", CPUS_HELP, MOST_CPUS, "2"))?
+        .arg(size_option(alloc, "batch", BATCH_HELP, MOST_BATCH, "4"))?
+        .arg(size_option(alloc, "high", HIGH_HELP, MOST_HIGH, "8"))?
+        .arg(size_option(alloc, "stock", STOCK_HELP, MOST_STOCK, "4"))?
         .arg(audit_option(alloc))
 }
 
@@ -167,7 +160,7 @@ fn audit_option<'a>(alloc: Global) -> Arg<'a>
 {
     Arg::new(alloc, "audit")
         .long("audit")
-        .help("Tells at the end which pins were held, and what was counted")
+        .help(AUDIT_HELP)
         .action(ArgAction::SetTrue)
 }
 
@@ -178,7 +171,7 @@ fn explain_option<'a>(alloc: Global) -> Arg<'a>
 {
     Arg::new(alloc, "explain")
         .long("explain")
-        .help("Tells behind an answer why groups were killed for it")
+        .help(EXPLAIN_HELP)
         .action(ArgAction::SetTrue)
 }
 
