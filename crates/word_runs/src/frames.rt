@@ -115,7 +115,7 @@ fn frame_3_goes_to_processor_2_and_back(rt: HostRuntime) {
 }
 
 // Gets the frame a thousand times, puts it where it was held, and tells whether a put was the last.
-fn rounds(words: &FrameWords, seat: &mut FrameSeat, frame: Frame) -> bool
+fn any_put_was_last(words: &FrameWords, seat: &mut FrameSeat, frame: Frame) -> bool
     requires table { seat.old.table ≡ words.now.table }
     requires frame { frame < words.now.frames }
     ensures { seat.new.table ≡ seat.old.table }
@@ -144,8 +144,8 @@ fn beside<R: Threads + Sync>(
 {
     join(
         rt,
-        || rounds(words, one, frame),
-        || rounds(words, other, frame),
+        || any_put_was_last(words, one, frame),
+        || any_put_was_last(words, other, frame),
     )
 }
 

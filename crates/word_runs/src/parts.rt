@@ -386,7 +386,7 @@ fn pins_are_full_at_256(rt: HostRuntime) {
 }
 
 // Processor 1 takes and drops a page of group 1 so many times, and tells how often the page came back.
-fn rounds<N: BootName>(tables: &Tables<N>, cpu: &mut Cpu<N>) -> u64 {
+fn pages_put_back<N: BootName>(tables: &Tables<N>, cpu: &mut Cpu<N>) -> u64 {
     let mut listed = 0;
     for _ in 0..1000u64 {
         if let Fast::Got(frame) = cpu.alloc_fast(tables, 1) {
@@ -425,7 +425,7 @@ fn beside<N: BootName + Send + Sync, R: Threads + Sync>(
 {
     join(
         rt,
-        || rounds(tables, first),
+        || pages_put_back(tables, first),
         || visits(tables, second, frame),
     )
 }
