@@ -2,16 +2,16 @@
 ghost use Rattle.std.specs.Prelude.{◌≡◌, ◌+◌, ◌<◌, ◌≤◌, ◌⊎◌, [], ◌∷◌, ◌++◌, length, IfSome, MatchOption};
 ghost use Rattle.frame_word.specs.Views.{took_in, collected_from};
 ghost use Rattle.frame_word.specs.Seats.{HandsAreApart, HasNothingOf, IsLent, IsLentToNone};
-ghost use Rattle.frame_word.specs.Seats.{IsOpen, IsShut, IsZoneSeat, LentIsBorrowed, NothingPasses, Passes, seat_with, seat_with_visit};
-ghost use Rattle.stock_word.specs.Stock.{IsMachine, account_of, group_of};
-ghost use Rattle.stock_word.specs.Kinds.{noting};
+ghost use Rattle.frame_word.specs.Seats.{IsInNoHand, IsOpen, IsShut, IsZoneSeat, LentIsBorrowed, NothingPasses, Passes, seat_with, seat_with_visit};
+ghost use Rattle.stock_word.specs.Stock.{IsMachine, IsProcessor, account_for, account_of, group_of};
+ghost use Rattle.stock_word.specs.Kinds.{noting, after_report};
 ghost use Rattle.stock_word.specs.Calls.{with_view};
 ghost use Rattle.cpu_part.specs.Calls.{HandsFront, HandsFresh, HandsBack};
 
 use crate::boot_name::{BootName, Tables};
 use crate::cpu::Cpu;
 use frame_word::{Frame, FrameSeat};
-use stock_word::StockSeat;
+use stock_word::{StockSeat, StockWords};
 
 impl<N: BootName> Cpu<N> {
     /// Opens this processor's visit, which isn't open. Nothing passes for it yet, and what is lent
@@ -99,7 +99,7 @@ impl<N: BootName> Cpu<N> {
         }
         let frame = self.fresh.remove(0);
         tables.frames.pass_back(zone, &mut self.seat, frame);
-        tables.stocks.report(machine, &mut self.stock, 1);
+        report_passed(&tables.stocks, machine, &mut self.stock, &self.seat, frame);
         Some(frame)
     }
 
@@ -130,4 +130,26 @@ impl<N: BootName> Cpu<N> {
     {
         tables.frames.collect(zone, &mut self.seat, frame);
     }
+}
+
+// Reports the page of a fresh frame that has left the processor's hand. Until then the page is the frame's, so the two atomic
+// steps come in this order; what is asked of the seat and the frame says so, and nothing else reads them.
+fn report_passed(
+    stocks: &StockWords,
+    machine: &mut StockSeat,
+    stock: &mut StockSeat,
+    _seat: &FrameSeat,
+    _frame: Frame,
+)
+    requires passed { IsInNoHand _seat.now _frame }
+    requires tables { (machine.old.table ≡ stocks.now.table) × (stock.old.table ≡ stocks.now.table) }
+    requires machine { IsMachine machine.old.view }
+    requires processor { IsProcessor stocks.now stock.old.view }
+    requires fresh { 1 ≤ stock.old.view.fresh }
+    ensures booked { stock.old.view.fresh + (account_for machine.old.view stock.old.view).noted ≤ (account_for machine.old.view stock.old.view).book }
+    ensures group { group_of stock.old.view.last ≡ (account_for machine.old.view stock.old.view).group }
+    ensures machine { machine.new ≡ with_view machine.old (noting machine.old.view stock.old.view.number 1) }
+    ensures processor { stock.new ≡ with_view stock.old (after_report stock.old.view 1) }
+{
+    stocks.report(machine, stock, 1);
 }

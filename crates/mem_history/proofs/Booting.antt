@@ -1,4 +1,5 @@
--- A new boot shows the run of no step. Serves `a_boot_is_shown`.
+-- A new boot shows the run of no step, and to the first that takes the lock the run of that. Serves `a_boot_is_shown` and
+-- `the_first_holder_is_shown`.
 use Rattle.std.proofs.Common.{◌≡◌, ℕ, ◌==◌, Bool, true, false, cond, List, [], refl, sym, ◌∙◌, ap, subst, zero, suc, get_or, replicate}
 use Rattle.frame_word.specs.Views.{blank}
 use Rattle.frame_word.specs.Seats.{KnownTable, KnownSeat, holds, first_cpu_view}
@@ -14,7 +15,8 @@ use Rattle.mem_machine.specs.Machines.{KnownMachine, IsFirst, is_killed}
 use Rattle.mem_machine.specs.Local.{local_of, hold_of, phase_of, part_of, part_with, references_of}
 use Rattle.mem_machine.specs.Interleaving.{zone_of}
 use Rattle.mem_history.specs.Whole.{seen_by, IsSeenAt}
-use Rattle.mem_history.specs.Kept.{ABootIsShown}
+use Rattle.mem_history.specs.Kept.{ABootIsShown, TheFirstHolderIsShown}
+use Rattle.mem_history.proofs.Wholes.{the_holder_is_shown}
 
 -- a list of one value has it everywhere
 repeated : {X : Type 0} (n i : ℕ) (x : X) → get_or (replicate n x) i x ≡ x
@@ -72,3 +74,6 @@ a_boot_is_shown t w m cpus boot = record {
     sees = boot_seen t w m boot.machine k;
   });
 }
+
+pub the_first_holder_is_shown : TheFirstHolderIsShown
+the_first_holder_is_shown t w m cpus k c boot is_part = the_holder_is_shown t [] m cpus k c (a_boot_is_shown t w m cpus boot) is_part

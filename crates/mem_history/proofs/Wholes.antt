@@ -39,7 +39,7 @@ use Rattle.mem_machine.specs.Local.{local_of, phase_of, fresh_group, hold_of}
 use Rattle.mem_machine.specs.Interleaving.{zone_of}
 use Rattle.mem_machine.specs.Steps.{cpu_makes}
 use Rattle.mem_machine.proofs.Holds.{hold_shut}
-use Rattle.mem_history.specs.Whole.{IsSeenAt, ShowsAll, IsDecided, seen_together, under_lock, LinesFollow}
+use Rattle.mem_history.specs.Whole.{IsSeenAt, ShowsAll, IsDecided, seen_together, under_lock, LinesFollow, TheHolderIsShown}
 use Rattle.mem_history.proofs.Staying.{Stays, run_on}
 use Rattle.mem_history.proofs.Others.{has_own, own_stays, others_see}
 use Rattle.mem_history.proofs.Together.{HasPart, counts}
@@ -155,6 +155,9 @@ module _ (t : KnownTable) (run : Run) (m : KnownMachine) (cpus : List KnownCpu) 
         sees = others_see t n d e s sound (own_stays e c.number whole s some far whole_sound sound stays (has_own t m e whole some was.sees))
             some (λ z. far (z ∙ named)) (held j e in_list) hold sees;
       }
+
+pub the_holder_is_shown : TheHolderIsShown
+the_holder_is_shown t run m cpus k c shows is_part = takes t run m cpus k c shows is_part
 
 only_holder : (p q : ℕ) (b : Bool) → holds_lock p (cond b (Visiting q) (HeldBy q)) ≡ true → q ≡ p
 only_holder p q true holds = equal_test q p holds

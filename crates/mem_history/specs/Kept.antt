@@ -1,10 +1,12 @@
 -- Where the whole begins, and what holds wherever a run shows it.
-use Rattle.std.specs.Prelude.{◌≡◌, ℕ, ◌+◌, ◌≤◌, nat_le, zero, suc, Option, Some, None, List, [], length, slice_get, if◌then◌else◌}
+use Rattle.std.specs.Prelude.{◌≡◌, ℕ, ◌+◌, ◌≤◌, nat_le, zero, suc, Option, Some, None, List, [], ◌∷◌, length, slice_get, if◌then◌else◌}
 use Rattle.std.specs.Option.{option_map_or}
 use Rattle.frame_word.specs.Seats.{KnownTable, first_cpu_view}
 use Rattle.stock_word.specs.Stock.{Words, account_of, first_processor, group_of}
 use Rattle.group_charge.specs.Charges.{AreCharges, current_of}
 use Rattle.cpu_part.specs.Cpus.{KnownCpu, IsTied, first_cpu, times}
+use Rattle.step_rules.specs.declared.step.Action.TheVariants.{Lock}
+use Rattle.step_rules.specs.declared.step.Answer.TheVariants.{Done}
 use Rattle.step_rules.specs.State.{Stock}
 use Rattle.step_rules.specs.Usage.{frames_kept, pages_prepaid}
 use Rattle.step_rules.specs.After.{Run, state_of}
@@ -12,9 +14,10 @@ use Rattle.step_rules.specs.Promise.{Shown, Promise}
 use Rattle.mem_machine.specs.declared.spot.Spot.{Spot}
 use Rattle.mem_machine.specs.declared.spot.Spot.TheVariants.{Free, Lent, Head, Tail}
 use Rattle.mem_machine.specs.Spots.{spot_at}
-use Rattle.mem_machine.specs.Machines.{KnownMachine, IsConsistent, IsFirst}
+use Rattle.mem_machine.specs.Machines.{KnownMachine, IsConsistent, IsFirst, side}
 use Rattle.mem_machine.specs.Local.{part_with}
-use Rattle.mem_machine.specs.Interleaving.{zone_of}
+use Rattle.mem_machine.specs.Interleaving.{zone_of, Shows}
+use Rattle.mem_machine.specs.Steps.{cpu_makes}
 use Rattle.mem_history.specs.Whole.{ShowsAll}
 
 -- ---- a new boot
@@ -28,6 +31,11 @@ pub record IsNewBoot (t : KnownTable) (w : Words) (m : KnownMachine) (cpus : Lis
 -- a new boot shows the run of no step
 abbrev pub ABootIsShown : Type 0
 ABootIsShown = (t : KnownTable) (w : Words) (m : KnownMachine) (cpus : List KnownCpu) → IsNewBoot t w m cpus → ShowsAll t [] m cpus
+
+-- so the run of one Lock shows the first processor that takes it the machine of the new boot
+abbrev pub TheFirstHolderIsShown : Type 0
+TheFirstHolderIsShown = (t : KnownTable) (w : Words) (m : KnownMachine) (cpus : List KnownCpu) (k : ℕ) (c : KnownCpu) → IsNewBoot t w m cpus →
+    slice_get cpus k ≡ Some c → Shows t (cpu_makes c.number Lock Done ∷ []) (side m c)
 
 -- ---- what always holds of the parts
 -- of each part, by its type: its lists and pins are what its seats know, and one that never saw a stock has no fresh frame

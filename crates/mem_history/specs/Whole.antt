@@ -14,9 +14,9 @@ use Rattle.step_rules.specs.Legal.{IsAnswer, IsCounted}
 use Rattle.step_rules.specs.After.{Run, after, state_of, IsLegalRun}
 use Rattle.step_rules.specs.Cover.{hide}
 use Rattle.step_rules.specs.Reaches.{is_own}
-use Rattle.mem_machine.specs.Machines.{KnownMachine, Side}
+use Rattle.mem_machine.specs.Machines.{KnownMachine, Side, side}
 use Rattle.mem_machine.specs.Local.{local_of, Makes}
-use Rattle.mem_machine.specs.Interleaving.{zone_of}
+use Rattle.mem_machine.specs.Interleaving.{zone_of, Shows}
 use Rattle.mem_machine.specs.Steps.{cpu_makes}
 
 -- what processor p would see if it took the lock now, which is free
@@ -35,6 +35,12 @@ pub record ShowsAll (t : KnownTable) (run : Run) (m : KnownMachine) (cpus : List
   pub free : is_unheld (state_of (zone_of t) run).hold ≡ true
   pub count : length cpus ≡ t.cpus
   pub each : (k : ℕ) (c : KnownCpu) → slice_get cpus k ≡ Some c → IsSeenAt t m (state_of (zone_of t) run) k c
+
+-- where a run shows the whole, a processor that takes the lock next is shown the machine and its part, from which its calls
+-- then lead on
+abbrev pub TheHolderIsShown : Type 0
+TheHolderIsShown = (t : KnownTable) (run : Run) (m : KnownMachine) (cpus : List KnownCpu) (k : ℕ) (c : KnownCpu) → ShowsAll t run m cpus →
+    slice_get cpus k ≡ Some c → Shows t (run ++ cpu_makes c.number Lock Done ∷ []) (side m c)
 
 -- ---- what all parts decide together
 -- the references of processor q on the frame, and the number of its fresh frames, by its part

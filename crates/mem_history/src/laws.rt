@@ -1,12 +1,23 @@
 //! Laws: what each function ensures holds of every run, machine and parts.
 
-ghost use Rattle.mem_history.specs.Whole.{LinesFollow, FastLinesFollow};
-ghost use Rattle.mem_history.specs.Kept.{ABootIsShown, CurrentIsKept, TheWholeIsPromised};
+ghost use Rattle.mem_history.specs.Whole.{LinesFollow, FastLinesFollow, TheHolderIsShown};
+ghost use Rattle.mem_history.specs.Kept.{ABootIsShown, CurrentIsKept, TheFirstHolderIsShown, TheWholeIsPromised};
 ghost use Rattle.mem_history.specs.Leading.{FastCallsLead};
 
 /// A new boot shows the run of no step.
 pub fn a_boot_is_shown()
     ensures { ABootIsShown }
+{}
+
+/// Where a run shows the machine and all parts, the run that goes on with a processor's Lock shows that processor the machine
+/// and its part: what `calls_interleave` of `mem_machine` begins with.
+pub fn the_holder_is_shown()
+    ensures { TheHolderIsShown }
+{}
+
+/// So `calls_interleave` can begin: after a new boot the run of one Lock shows the processor that takes it the machine.
+pub fn the_first_holder_is_shown()
+    ensures { TheFirstHolderIsShown }
 {}
 
 /// Where a run shows the machine and all parts, a line that is served under the lock carries it on: the run goes on with

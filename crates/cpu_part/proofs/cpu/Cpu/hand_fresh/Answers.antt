@@ -1,4 +1,7 @@
-use Rattle.std.proofs.Common.{◌<◌, length, rules, inl, inr}
+use Rattle.std.proofs.Common.{◌<◌, length, rules, inl, inr, sym, ap, subst}
+use Rattle.frame_word.specs.Seats.{KnownSeat, IsInNoHand}
+use Rattle.frame_word.specs.Views.{in_hands, gave_back}
+use Rattle.frame_word.proofs.Notes.{note_here}
 use Rattle.cpu_part.proofs.Counts.{front_removed}
 use Rattle.cpu_part.proofs.Tied.{tied_fresh_handed, front_inside}
 use Rattle.cpu_part.proofs.cpu.Cpu.hand_fresh.Goals as goal
@@ -11,13 +14,18 @@ pass_back-requires-clause-frame g c =
     let inside = front_inside _ _ _ c.self.invariant.0 c.remove-frame.result c.remove-frame.new.self.items (inr (inl front)) in
     search rules
 
+pub report_passed-requires-clause-passed : goal.report_passed-requires-clause-passed
+report_passed-requires-clause-passed g c =
+    let f = c.remove-frame.result in
+    subst (λ (s : KnownSeat). IsInNoHand s f) (sym c.pass_back.ensures.cpu) (ap in_hands (note_here c.self.inside.seat.view f gave_back))
+
 pub invariant_of-self : goal.invariant_of-self
 invariant_of-self g c =
     let some : 0 < length c.self.inside.fresh.items = search rules in
     let front = front_removed c.remove-frame.result c.self.inside.fresh.items c.remove-frame.new.self.items some c.remove-frame.ensures.value
     c.remove-frame.ensures.items in (
-      tied_fresh_handed _ _ _ c.self.invariant.0 c.remove-frame.result c.pass_back.new.cpu c.report.new.seat c.remove-frame.new.self.items
-          c.pass_back.ensures.cpu c.report.ensures.processor front,
+      tied_fresh_handed _ _ _ c.self.invariant.0 c.remove-frame.result c.pass_back.new.cpu c.report_passed.new.stock c.remove-frame.new.self.items
+          c.pass_back.ensures.cpu c.report_passed.ensures.processor front,
       search rules,
     )
 
