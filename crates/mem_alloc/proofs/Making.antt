@@ -117,7 +117,7 @@ rounds_for t g pages limit given m n is leads keeps missed = (
 
 -- tries that were refused, and then one more
 room_more : (t : KnownTable) (g pages over : ℕ) (before : List ℕ) (m x n : KnownMachine) (making last : Run) → MakesRoom g pages before (course t m making x)
-    → IsRefusedAt g pages over (course t x last n) → HasMadeRoom g pages over n → MakesRoom g pages (before ++ over ∷ []) (course t m (making ++ last) n)
+    → IsRefusedAt g pages over (course t x last n) → HasMadeRoom g over pages n → MakesRoom g pages (before ++ over ∷ []) (course t m (making ++ last) n)
 room_more t g pages over [] m x n making last makes refused room = (
   n,
   last,
@@ -183,7 +183,7 @@ module _ (t : KnownTable) (g pages : ℕ) (c : KnownCpu) (m x : KnownMachine) (s
         (its.2 c))
 
     -- and its group has room now
-    pub so_far_more : HasMadeRoom g pages over n → RoomSoFar t g pages c m n
+    pub so_far_more : HasMadeRoom g over pages n → RoomSoFar t g pages c m n
     so_far_more room = record {
       refused_at = so_far.refused_at ++ over ∷ [];
       making = so_far.making ++ (over_steps g pages over ++ its.0);
@@ -195,7 +195,7 @@ module _ (t : KnownTable) (g pages : ℕ) (c : KnownCpu) (m x : KnownMachine) (s
     }
 
     -- or it is refused for good
-    pub so_far_over : (cause : AllocFault) → IsCause g pages over cause n → BySteps t (side m c) (side n c) (OfMachine (IsRefusedFor g pages cause))
+    pub so_far_over : (cause : AllocFault) → IsCause g over pages cause n → BySteps t (side m c) (side n c) (OfMachine (IsRefusedFor g pages cause))
     so_far_over cause is = (
       so_far.making ++ (over_steps g pages over ++ its.0),
       record {

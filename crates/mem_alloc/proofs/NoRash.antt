@@ -37,7 +37,7 @@ use Rattle.mem_alloc.specs.Stepping.{Rests, course}
 use Rattle.mem_alloc.specs.Kills.{KillsEach, KillsFor, KillsOne, KillsVictims, has_room_for, with_oom_noted_at}
 use Rattle.mem_alloc.specs.Room.{ClearsBelow, IsRefusedAt, IsRefusedFor, KillsForFew, MakesRoom, ReclaimsFor, RelievesLimit, with_max_noted_at}
 use Rattle.mem_alloc.specs.declared.faults.AllocFault.{AllocFault}
-use Rattle.mem_alloc.specs.NoRash.{IsTied, MayKill, has_oom_note, is_oom_note}
+use Rattle.mem_alloc.specs.NoRash.{IsLeftBySteps, MayKill, has_oom_note, is_oom_note}
 
 -- ---- where a pair of a list stands
 
@@ -121,7 +121,7 @@ over_runs p g n over rest a z whole = (whole.0, refl)
 -- the steps lead there; the misses grew by those among them; and no unit came onto a list or changed its dirt
 pub record Passes (t : KnownTable) (c : KnownCpu) (m : KnownMachine) (steps : Run) (n : KnownMachine) : Type 0 where
   pub runs : IsLocalRun c.number (local_of t m c) steps (local_of t n c)
-  pub tied : IsTied (course t m steps n)
+  pub tied : IsLeftBySteps (course t m steps n)
 
 pub passes_none : (t : KnownTable) (c : KnownCpu) (m : KnownMachine) → Passes t c m [] m
 passes_none t c m = record {
@@ -136,7 +136,7 @@ owned : (o was : Option Home) → o ≢ None → owner_of o ≡ owner_of was →
 owned None was kept same none = kept refl
 owned (Some h) was kept same none = none-some h.owner (sym (same ∙ ap owner_of none))
 
-was_kept : (t : KnownTable) (m n : KnownMachine) (steps : Run) → IsTied (course t m steps n) → (f : ℕ) → home_of n.links f ≢ None → home_of m.links f ≢ None
+was_kept : (t : KnownTable) (m n : KnownMachine) (steps : Run) → IsLeftBySteps (course t m steps n) → (f : ℕ) → home_of n.links f ≢ None → home_of m.links f ≢ None
 was_kept t m n steps tied f is = owned (home_of n.links f) (home_of m.links f) is (tied.owners f is)
 
 pub passes_both : (t : KnownTable) (c : KnownCpu) (m x n : KnownMachine) (one two : Run) → Passes t c m one x → Passes t c x two n

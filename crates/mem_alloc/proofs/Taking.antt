@@ -115,11 +115,11 @@ over_charges t g k (Err e) x m n c d not is cpu b =
     )
 
 pub over_leaves : (t : KnownTable) (g k over : ℕ) (r : Result ℕ AllocFault) (x : AllocFault) (m n : KnownMachine) → IsErr r → IfErr r (λ e. e ≡ x)
-    → IsCause g (2 ^ k) over x n → Lowers t m n → LeavesRoom g k r m n
+    → IsCause g over (2 ^ k) x n → Lowers t m n → LeavesRoom g k r m n
 over_leaves t g k over (Ok h) x m n not is why l = absurd (false≢true not)
 over_leaves t g k over (Err e) x m n not is why l = record {
   opened = l.opened;
-  still = λ none. let same : e ≡ NoFrames = cc in absurd (subst (λ (z : AllocFault). IsCause g (2 ^ k) over z n) (sym is ∙ same) why);
+  still = λ none. let same : e ≡ NoFrames = cc in absurd (subst (λ (z : AllocFault). IsCause g over (2 ^ k) z n) (sym is ∙ same) why);
 }
 
 -- ---- the list given back

@@ -35,7 +35,7 @@ has_oom_note g steps = list_any (λ e. is_oom_note g e.0.action) steps
 -- The machine is the one that these steps of a call left, in what steps alone don't tell: each frame's misses are those
 -- that were noted before the call and among the steps; and whoever is kept was kept for the same group when the call
 -- began, and is as dirty as it was
-pub record IsTied (way : Course KnownMachine) : Type 0 where
+pub record IsLeftBySteps (way : Course KnownMachine) : Type 0 where
   pub misses : CountsMisses way
   pub owners : (f : ℕ) → home_of way.after.links f ≢ None
       → owner_of (home_of way.after.links f) ≡ owner_of (home_of way.before.links f)
@@ -66,7 +66,7 @@ pub record MayKill (table : KnownTable) (MayAsk : List Group → ℕ → ℕ →
   pub words : Words
   pub consistent : IsConsistent table words now
   pub charges : AreCharges now.ledger
-  pub tied : IsTied (course table start steps now)
+  pub tied : IsLeftBySteps (course table start steps now)
 
 -- Each kill among the steps of a call comes where the group may be killed: for each split of the list at a kill there is
 -- a machine to which the steps before it lead, and there it may

@@ -94,30 +94,30 @@ pub record IsRefusedAt (group pages over : ℕ) (way : Course KnownMachine) : Ty
   pub relieves : RelievesLimit group over pages (course way.table way.before relieving way.after)
   pub steps_are : way.steps ≡ over_steps group pages over ++ relieving
 
--- the limit of group `over` has room for so many pages, and the group that asks for them isn't killed
-pub record HasMadeRoom (group pages over : ℕ) (after : KnownMachine) : Type 0 where
-  pub room : has_room_for after.ledger over pages ≡ true
-  pub alive : is_killed after.killed group ≡ false
+-- the group's limit has room for so many pages, and the requester, the group that asks for them, isn't killed
+pub record HasMadeRoom (requester group pages : ℕ) (after : KnownMachine) : Type 0 where
+  pub room : has_room_for after.ledger group pages ≡ true
+  pub alive : is_killed after.killed requester ≡ false
 
 -- it is refused at each of these groups, one after the other, and each has room for the pages then
 abbrev pub MakesRoom : ℕ → ℕ → List ℕ → Course KnownMachine → Type 0
 MakesRoom g pages [] way = (way.after ≡ way.before) × (way.steps ≡ [])
 MakesRoom g pages (over ∷ later) way =
     (mid : KnownMachine) × (first rest : Run) × IsRefusedAt g pages over (course way.table way.before first mid)
-    × HasMadeRoom g pages over mid × MakesRoom g pages later (course way.table mid rest way.after)
+    × HasMadeRoom g over pages mid × MakesRoom g pages later (course way.table mid rest way.after)
     × (way.steps ≡ first ++ rest)
 
--- group `over` has no room for the pages still, and the group that asks for them isn't killed
-pub record IsStillOver (group pages over : ℕ) (after : KnownMachine) : Type 0 where
-  pub still : has_room_for after.ledger over pages ≡ false
-  pub alive : is_killed after.killed group ≡ false
+-- the group's limit has no room for the pages still, and the requester isn't killed
+pub record IsStillOver (requester group pages : ℕ) (after : KnownMachine) : Type 0 where
+  pub still : has_room_for after.ledger group pages ≡ false
+  pub alive : is_killed after.killed requester ≡ false
 
--- why a charge is refused for good after it was refused at group `over`: that has no room for the pages still; or the
--- group that asks for them was killed
+-- why a requester's charge is refused for good after it was refused at the group: that has no room for the pages still; or
+-- the requester was killed
 abbrev pub IsCause : ℕ → ℕ → ℕ → AllocFault → KnownMachine → Type 0
-IsCause g pages over (Over named) after = (named ≡ over) × IsStillOver g pages over after
-IsCause g pages over Killed after = is_killed after.killed g ≡ true
-IsCause g pages over NoFrames after = ⊥
+IsCause requester group pages (Over named) after = (named ≡ group) × IsStillOver requester group pages after
+IsCause requester group pages Killed after = is_killed after.killed requester ≡ true
+IsCause requester group pages NoFrames after = ⊥
 
 -- It is refused for good at group `over`, for this cause, after it was noted there, the stocks of its subtree were
 -- drained, units of it were reclaimed and victims of it killed. The groups `refused_at` refused it before, and have room
@@ -130,5 +130,5 @@ pub record IsRefusedFor (group pages : ℕ) (cause : AllocFault) (way : Course K
   pub last : Run
   pub makes : MakesRoom group pages refused_at (course way.table way.before making cleared)
   pub refused : IsRefusedAt group pages over (course way.table cleared last way.after)
-  pub is_cause : IsCause group pages over cause way.after
+  pub is_cause : IsCause group over pages cause way.after
   pub steps_are : way.steps ≡ making ++ last

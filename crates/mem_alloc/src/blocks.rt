@@ -115,11 +115,8 @@ fn take_again<N: BootName>(
 /// Allocates a block of this order for a group that is there, for the processor that is visited and was settled:
 /// 2^`order` pages are charged to the group, and the block is a kept unit of it at once, which goes by its head.
 ///
-/// `Killed`: the group was killed before, and nothing changed. Else a limit that has no room for the pages is noted
-/// (`max`) at its group, the lowest of the path, the stocks of that group's subtree are drained, and where it has no
-/// room still, clean units of the subtree are reclaimed in at most 16 rounds. Where that makes no room, `oom` is noted
-/// there for an order of at most 3, and victims of the subtree are killed until it has. Where none is left, or the
-/// order is greater, the answer is `Over`; where the group itself is killed, it is `Killed`.
+/// `Killed`: the group was killed before, and nothing changed. Else, where a limit has no room for the pages, room is
+/// made as `make_room` of `room` says, and `Over` and `Killed` are its refusals.
 ///
 /// Where no block of the order or above is free, the processor's own list goes back to the zone, and the block is tried
 /// once more. Where there is none still, as many pages as it has are reclaimed from the units of all groups, and it is

@@ -85,11 +85,8 @@ fn fill_list<N: BootName>(
 /// the processor's list, paid for with a page of its stock, and is fresh then.
 ///
 /// `Killed`: the group was killed before, and nothing changed. Else, where the stock holds no page of the group, it is
-/// drained and filled with `sizes.stock` pages where every limit has room for them, else with one page. A limit that
-/// has no room for that one is noted (`max`) at its group, the lowest of the path, the stocks of that group's subtree
-/// are drained, and where it has no room still, clean units of the subtree are reclaimed in at most 16 rounds. Where
-/// that makes no room, `oom` is noted there, and victims of the subtree are killed until it has. Where none is left,
-/// the answer is `Over`; where the group itself is killed, it is `Killed`.
+/// drained and filled with `sizes.stock` pages where every limit has room for them, else with one page. Where a limit
+/// has no room for that one, room is made as `make_room` of `room` says, and `Over` and `Killed` are its refusals.
 ///
 /// Where the list is empty, up to `sizes.batch` free frames come to it. Where none is free, a page is reclaimed from the
 /// units of all groups, and free frames come to the list then: in at most 16 such rounds, of which one that gave no page

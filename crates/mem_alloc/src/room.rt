@@ -45,9 +45,11 @@ pub fn note_limit<N: BootName>(machine: &mut Machine<N>, group: GroupId, need: u
     }
 }
 
-// The group had no room for so many pages, which `requester` asks for: notes that at it, and drains the stocks of its
-// subtree. Where it has no room still, units of its subtree are reclaimed in rounds, and then victims of it are killed for
-// up to 8 pages. Where that doesn't make room, or kills the group that asks, the charge is refused.
+// The limit of the group, the lowest on the path of `requester`, has no room for so many pages, which that asks for: it is
+// noted there (`max`), and the stocks of its subtree are drained. Where it has no room still, clean units of the subtree are
+// reclaimed in at most 16 rounds. Where that makes no room either, for up to 8 pages, an order of at most 3, `oom` is noted
+// there, and victims of the subtree are killed until it has. Where none is left, or for more pages, the charge is refused as
+// `Over`; where the requester itself was killed, as `Killed`. What was done stands after a refusal.
 pub(crate) fn make_room<N: BootName>(
     machine: &mut Machine<N>,
     tables: &Tables<N>,
@@ -57,8 +59,8 @@ pub(crate) fn make_room<N: BootName>(
 ) -> Result<(), AllocFault>
     requires { IsTrue (has_group machine.old.ledger.groups group) }
     ensures clears { ByStepsOfAny N.frames machine.old machine.new (RelievesLimit requester group pages) }
-    ensures room { MatchResult result (λ done. HasMadeRoom requester pages group machine.new)
-        (λ cause. IsCause requester pages group cause machine.new) }
+    ensures room { MatchResult result (λ done. HasMadeRoom requester group pages machine.new)
+        (λ cause. IsCause requester group pages cause machine.new) }
     ensures fits { group < 64 }
 {
     let _number = group.number(); // For the clauses.

@@ -1,5 +1,5 @@
 -- The stocks of a subtree, or of a group, are drained, one processor after the other. Serves `drain_below`, `drain_own` and the
--- loops of `drain_stocks` and `drain_own_stocks`.
+-- loops of `drain_stocks` and `drain_group_stocks`.
 use Rattle.std.proofs.Common.{◌≡◌, ℕ, ◌+◌, ◌-◌, ◌*◌, ◌≤◌, ◌==◌, ◌&&◌, Bool, true, false, cond, Option, Some, None, List, [], ◌∷◌, ◌++◌, length, suc, refl}
 use Rattle.std.proofs.Common.{sym, ap, ◌∙◌, subst, inl, inr, arith}
 use Rattle.std.specs.Prelude.{not, is_some}

@@ -38,7 +38,7 @@ use Rattle.mem_machine.specs.Spots.{group_of, head_group_of, count_of}
 
 -- The machine: the free areas, a record for each frame, the groups and their charges, the records through which the
 -- units' lists are linked and two lists for each group number, the zone's seats at the two tables, which group numbers
--- are killed, how often units ended and came back, and what was noted since the last visit began
+-- are killed, how often units ended and came back, and what was noted since `forget_notes` was called last
 pub record KnownMachine : Type 0 where
   pub blocks : List Block
   pub spots : List Spot

@@ -2,7 +2,7 @@
 //! their lists of kept units, and the zone's own seats at the two tables. Each call is a list of steps of the core.
 //!
 //! A line that ends in 'For the clauses' calls a reader for what its contract tells, and changes nothing: what always
-//! holds of a type's values is known only where one of its calls says it.
+//! holds of a type's values is known only where one of its calls says it. So does a call of `laws::..`.
 #![tactic(auto)]
 
 mod ageing;

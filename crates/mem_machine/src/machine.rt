@@ -46,7 +46,7 @@ pub struct Machine<N: BootName> {
     pub(crate) killed: Vec<bool>,
     // How often units ended and came back, or were tried in vain, since the boot.
     pub(crate) counts: Counts,
-    // What was noted since the last visit began: the limits without room, what was tried there, and who was killed.
+    // What was noted since `forget_notes` was called last: the limits without room, what was tried there, and who was killed.
     pub(crate) notes: Notes,
     // The boot whose tables these are.
     pub(crate) of: PhantomData<N>,

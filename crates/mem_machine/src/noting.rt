@@ -1,4 +1,4 @@
-//! What is noted of a visit.
+//! Notes of what was tried at limits, for whoever explains it.
 
 ghost use Rattle.std.specs.Prelude.{◌≡◌, []};
 ghost use Rattle.mem_machine.specs.Machines.{with_note};

@@ -115,7 +115,7 @@ impl<N: BootName> Machine<N> {
 
     /// Drains the stocks of the group itself, also where one has no page, and tells how many pages were in them. They come
     /// off the books and off the charge of the group, and each drain is noted. It looks at each processor's stock once.
-    pub fn drain_own_stocks(&mut self, tables: &Tables<N>, group: GroupId) -> u64
+    pub fn drain_group_stocks(&mut self, tables: &Tables<N>, group: GroupId) -> u64
         ensures drains { DrainsGroup N.frames group result self.old self.new }
         ensures drained { AreOwnDrained group N.frames.cpus self.new }
     {

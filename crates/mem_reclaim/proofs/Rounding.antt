@@ -8,7 +8,7 @@ use Rattle.group_charge.specs.Charges.{current_of}
 use Rattle.step_rules.specs.After.{Run}
 use Rattle.kill_notes.specs.declared.note.Note.{Note}
 use Rattle.mem_machine.specs.Machines.{KnownMachine, with_note}
-use Rattle.mem_reclaim.specs.Wanted.{Rests}
+use Rattle.mem_reclaim.specs.Wanted.{GivesNothing}
 use Rattle.mem_reclaim.specs.Moves.{Moves, Leads}
 use Rattle.mem_reclaim.specs.Passes.{Reclaims}
 use Rattle.mem_reclaim.specs.Rounds.{MakesOneRound, MakesRounds, pages_missing, round_note}
@@ -163,7 +163,7 @@ module _ (t : KnownTable) (g need limit : ℕ) (m : KnownMachine) where
 
         -- the round and what comes after it make up what was left
         goes_on : (more : ℕ) (rest : Run) (n : KnownMachine)
-            → ((some ≡ 0) × Rests more then rest n) ⊎ ((1 ≤ some) × MakesRounds g (pages_missing g need limit) (16 - (made + 1)) more then rest n)
+            → ((some ≡ 0) × GivesNothing more then rest n) ⊎ ((1 ≤ some) × MakesRounds g (pages_missing g need limit) (16 - (made + 1)) more then rest n)
             → MakesRounds g (pages_missing g need limit) 16 (given + some + more) m (so.steps ++ (leads.steps ++ rest)) n
         goes_on more rest n h =
             let d : given + (some + more) ≡ given + some + more = omega arith in

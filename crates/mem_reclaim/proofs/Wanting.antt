@@ -4,11 +4,11 @@ use Rattle.std.proofs.lemmas.List.{append_assoc, append-nil}
 use Rattle.frame_word.specs.Seats.{KnownTable}
 use Rattle.step_rules.specs.After.{Run}
 use Rattle.mem_machine.specs.Machines.{KnownMachine}
-use Rattle.mem_reclaim.specs.Wanted.{Rests, WhileWanted}
+use Rattle.mem_reclaim.specs.Wanted.{GivesNothing, WhileWanted}
 use Rattle.mem_reclaim.specs.Moves.{Moves, Leads}
 use Rattle.mem_reclaim.proofs.Moving.{moves_rest, moves_both}
 
-pub rested : (m : KnownMachine) → Rests 0 m [] m
+pub rested : (m : KnownMachine) → GivesNothing 0 m [] m
 rested m = record { no_page = refl; machine = refl; no_step = refl }
 
 -- what was done, so that whatever is done with the things that are left makes up the whole

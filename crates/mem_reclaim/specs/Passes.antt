@@ -6,7 +6,7 @@ use Rattle.lru_lists.specs.declared.record.LruList.TheVariants.{Inactive, Active
 use Rattle.step_rules.specs.After.{Run}
 use Rattle.mem_machine.specs.Machines.{KnownMachine}
 use Rattle.mem_machine.specs.Ageing.{AgesGroup}
-use Rattle.mem_reclaim.specs.Wanted.{Rests, WhileWanted}
+use Rattle.mem_reclaim.specs.Wanted.{GivesNothing, WhileWanted}
 use Rattle.mem_reclaim.specs.Units.{ScansList}
 
 -- the first pass over a group: its lists are aged, and then its inactive units are met; marked ones are spared
@@ -24,7 +24,7 @@ PassesGroup false g want given before steps after = WhileWanted (ScansList false
 abbrev pub TakesTurn : Bool → ℕ → ℕ → ℕ → ℕ → KnownMachine → Run → KnownMachine → Type 0
 TakesTurn first g k want given before steps after =
     ((in_subtree before.ledger.groups g k ≡ true) × PassesGroup first k want given before steps after)
-    ⊎ ((in_subtree before.ledger.groups g k ≡ false) × Rests given before steps after)
+    ⊎ ((in_subtree before.ledger.groups g k ≡ false) × GivesNothing given before steps after)
 
 -- one pass over the groups of the subtree
 abbrev pub MakesPass : ℕ → Bool → ℕ → ℕ → KnownMachine → Run → KnownMachine → Type 0

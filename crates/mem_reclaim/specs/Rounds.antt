@@ -6,7 +6,7 @@ use Rattle.kill_notes.specs.declared.note.Note.{Note}
 use Rattle.kill_notes.specs.declared.note.Note.TheVariants.{Round}
 use Rattle.mem_machine.specs.Machines.{KnownMachine, with_note}
 use Rattle.mem_reclaim.specs.Moves.{Rises, all_missed_in, returned_in}
-use Rattle.mem_reclaim.specs.Wanted.{Rests}
+use Rattle.mem_reclaim.specs.Wanted.{GivesNothing}
 use Rattle.mem_reclaim.specs.Passes.{Reclaims}
 
 -- how many pages must come back from the group's subtree, so that with `need` pages more its usage is at most the limit
@@ -33,11 +33,11 @@ pub record MakesOneRound (group number want given : ℕ) (before : KnownMachine)
 -- round wants the pages that are missing when it begins. They end as soon as none is missing, and after a round that
 -- gave none
 abbrev pub MakesRounds : ℕ → (Ledger → ℕ) → ℕ → ℕ → KnownMachine → Run → KnownMachine → Type 0
-MakesRounds group missing zero given before steps after = Rests given before steps after
+MakesRounds group missing zero given before steps after = GivesNothing given before steps after
 MakesRounds group missing (suc more_rounds) given before steps after =
-    ((missing before.ledger ≡ 0) × Rests given before steps after)
+    ((missing before.ledger ≡ 0) × GivesNothing given before steps after)
     ⊎ ((1 ≤ missing before.ledger) × (between : KnownMachine) × (first rest : Run) × (some more : ℕ)
     × MakesOneRound group (16 - more_rounds) (missing before.ledger) some before first between
-    × (((some ≡ 0) × Rests more between rest after)
+    × (((some ≡ 0) × GivesNothing more between rest after)
     ⊎ ((1 ≤ some) × MakesRounds group missing more_rounds more between rest after))
     × (given ≡ some + more) × (steps ≡ first ++ rest))

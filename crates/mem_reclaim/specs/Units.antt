@@ -6,7 +6,7 @@ use Rattle.step_rules.specs.After.{Run}
 use Rattle.mem_machine.specs.Machines.{KnownMachine}
 use Rattle.mem_machine.specs.Ageing.{RenewsUnit, entries_in}
 use Rattle.mem_machine.specs.Evicting.{Evicts, evict_steps}
-use Rattle.mem_reclaim.specs.Wanted.{Rests, WhileWanted}
+use Rattle.mem_reclaim.specs.Wanted.{GivesNothing, WhileWanted}
 
 -- the unit gets its second chance: it is at the newest end of the group's inactive list, unmarked
 pub record SparesUnit (group frame given : ℕ) (before : KnownMachine) (steps : Run) (after : KnownMachine) : Type 0 where
@@ -23,7 +23,7 @@ pub record TriesUnit (frame given : ℕ) (before : KnownMachine) (steps : Run) (
 
 -- what is done with a unit, by whether it is dirty and whether it is spared: a dirty one is left alone, spared or not
 abbrev pub MeetsAs : Bool → Bool → ℕ → ℕ → ℕ → KnownMachine → Run → KnownMachine → Type 0
-MeetsAs true spared g f given before steps after = Rests given before steps after
+MeetsAs true spared g f given before steps after = GivesNothing given before steps after
 MeetsAs false true g f given before steps after = SparesUnit g f given before steps after
 MeetsAs false false g f given before steps after = TriesUnit f given before steps after
 

@@ -52,7 +52,7 @@ fn kill_group<N: BootName>(machine: &mut Machine<N>, tables: &Tables<N>, group: 
     ensures keeps { OnlyLetsGo N.frames machine.old machine.new }
 {
     machine.mark_killed(group);
-    machine.drain_own_stocks(tables, group);
+    machine.drain_group_stocks(tables, group);
     let_go_all(machine, tables, group, LruList::Inactive);
     let _records = machine.spots(); // For the clauses.
     let_go_all(machine, tables, group, LruList::Active);

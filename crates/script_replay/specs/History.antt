@@ -114,7 +114,7 @@ LineIsDecided t explains before (At number processor command) text after is =
 
 -- ---- the history
 -- the run is legal, and the promise holds after it of what stands then
-pub record Keeps (t : KnownTable) (run : Run) (now : Standing) : Type 0 where
+pub record HoldsPromise (t : KnownTable) (run : Run) (now : Standing) : Type 0 where
   pub legal : IsLegalRun (zone_of t) run
   pub promise : Promise (zone_of t) run (shown_of now.locked.machine now.cpus)
 
@@ -126,7 +126,7 @@ TellsHistory t explains decided run s [] text e = (text ≡ []) × (e ≡ s)
 TellsHistory t explains decided run s (line ∷ lines) text e =
     (first : List ℕ) × (rest : List ℕ) × (mid : Standing) × (serves : ServesLine t explains s line first mid)
     × (decided → LineIsDecided t explains s line first mid serves
-    → Keeps t (run ++ line_steps t explains s line first mid serves) mid)
+    → HoldsPromise t (run ++ line_steps t explains s line first mid serves) mid)
     × TellsHistory t explains (decided × LineIsDecided t explains s line first mid serves)
     (run ++ line_steps t explains s line first mid serves) mid lines rest e
     × (text ≡ first ++ rest)

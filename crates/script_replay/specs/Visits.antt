@@ -64,22 +64,22 @@ VisitsFrame t w path c (answer.Served reply) d =
 VisitsFrame t w path c other d = ⊥
 
 -- What is answered where this is done, but where the answer is a text of any length
-abbrev pub Visits : KnownTable → Words → Work → KnownCpu → Answer → KnownCpu → Type 0
-Visits t w (Visit command) c said d = RepliesVisited t w command c said d
-Visits t w (Frame path) c said d = VisitsFrame t w path c said d
-Visits t w (Fast group) c said d = VisitsFast group c said d
-Visits t w (Release frame) c said d = VisitsRelease t w frame c said d
-Visits t w (Get frame) c said d = GetsPin frame c said d
-Visits t w (Put frame) c said d = PutsPin frame c said d
-Visits t w Settle c said d = VisitsSettle t w c said d
-Visits t w Blocks c said d = ⊥
-Visits t w Show c said d = ⊥
+abbrev pub AnswersByVisit : KnownTable → Words → Work → KnownCpu → Answer → KnownCpu → Type 0
+AnswersByVisit t w (Visit command) c said d = RepliesVisited t w command c said d
+AnswersByVisit t w (Frame path) c said d = VisitsFrame t w path c said d
+AnswersByVisit t w (Fast group) c said d = VisitsFast group c said d
+AnswersByVisit t w (Release frame) c said d = VisitsRelease t w frame c said d
+AnswersByVisit t w (Get frame) c said d = GetsPin frame c said d
+AnswersByVisit t w (Put frame) c said d = PutsPin frame c said d
+AnswersByVisit t w Settle c said d = VisitsSettle t w c said d
+AnswersByVisit t w Blocks c said d = ⊥
+AnswersByVisit t w Show c said d = ⊥
 
 -- the same as text: `blocks` and `show` settle the processor, and tell of the machine as it is then
 abbrev pub VisitsWork : KnownTable → Words → Work → KnownCpu → List ℕ → KnownCpu → Type 0
 VisitsWork t w Blocks c text d = TellsOf t w c d (λ m. text ≡ blocks_text m.blocks)
 VisitsWork t w Show c text d = TellsOf t w c d (λ m. text ≡ show_text m)
-VisitsWork t w work c text d = (said : Answer) × Visits t w work c said d × (text ≡ answer_text said)
+VisitsWork t w work c text d = (said : Answer) × AnswersByVisit t w work c said d × (text ≡ answer_text said)
 
 -- what a command is answered at a part, as text, and the part after it
 abbrev pub VisitsText : KnownTable → Words → Command → KnownCpu → List ℕ → KnownCpu → Type 0

@@ -65,7 +65,7 @@ tries-preserved g c =
     c.in-Err-Over.ensures.steps) in (
       so_far_more t c.args.group (2 ^ c.args.order) c.args.cpu.now c.args.machine.now c.tries.machine c.tries.invariant.0 c.take_block.new.self c.tries.machine
           c.make_room.new.machine c.tries.cpu c.in-Err-Over.over.group r.1 c.tries.invariant.1 r.0 refl run clears
-          (subst (λ (n : ℕ). HasMadeRoom c.args.group n c.in-Err-Over.over.group c.make_room.new.machine) c.frames-pages.ensures.frames
+          (subst (λ (n : ℕ). HasMadeRoom c.args.group c.in-Err-Over.over.group n c.make_room.new.machine) c.frames-pages.ensures.frames
           c.in_ok-make_room-in-Err-Over.ensures.room),
       c.in-Err-Over.ensures.cpu ∙ c.tries.invariant.1,
     )
@@ -86,7 +86,7 @@ returns-in_err-make_room-in-Err-Over-clause-charges g c =
     c.take_block.new.cpu c.from_residual.ensures.0 is (c.in-Err-Over.ensures.cpu ∙ c.tries.invariant.1)
     (so_far_over t c.args.group (2 ^ c.args.order) c.args.cpu.now c.args.machine.now c.tries.machine c.tries.invariant.0 c.take_block.new.self c.tries.machine
     c.make_room.new.machine c.tries.cpu c.in-Err-Over.over.group r.1 c.tries.invariant.1 r.0 refl run clears x
-    (subst (λ (n : ℕ). IsCause c.args.group n c.in-Err-Over.over.group x c.make_room.new.machine) c.frames-pages.ensures.frames
+    (subst (λ (n : ℕ). IsCause c.args.group c.in-Err-Over.over.group n x c.make_room.new.machine) c.frames-pages.ensures.frames
     c.in_err-make_room-in-Err-Over.ensures.room))
 
 pub returns-in_err-make_room-in-Err-Over-clause-visit : goal.returns-in_err-make_room-in-Err-Over-clause-visit
@@ -103,7 +103,7 @@ returns-in_err-make_room-in-Err-Over-clause-leaves g c =
     let clears = relieving_lowers t c.args.group c.in-Err-Over.over.group c.frames-pages.result c.take_block.new.self c.make_room.new.machine c.make_room.ensures.clears in
     over_leaves g.N.BootName.frames c.args.group c.args.order c.in-Err-Over.over.group c.from_residual.result x c.args.machine.now c.make_room.new.machine
     c.from_residual.ensures.0 is
-    (subst (λ (n : ℕ). IsCause c.args.group n c.in-Err-Over.over.group x c.make_room.new.machine) c.frames-pages.ensures.frames
+    (subst (λ (n : ℕ). IsCause c.args.group c.in-Err-Over.over.group n x c.make_room.new.machine) c.frames-pages.ensures.frames
     c.in_err-make_room-in-Err-Over.ensures.room)
     (lowers_both g.N.BootName.frames c.args.machine.now c.tries.machine c.make_room.new.machine c.tries.invariant.0.lowers
     (subst (λ (y : KnownMachine). Lowers g.N.BootName.frames y c.make_room.new.machine) r.1 clears))

@@ -45,7 +45,7 @@ returns-in_err-make_room-clause-fills g c =
     (so_far_over g.N.BootName.frames c.args.group 1 c.args.cpu.now c.args.machine.now c.tries.machine c.tries.invariant.0 c.fill_stock.new.self c.tries.machine
     c.make_room.new.machine c.tries.cpu c.in-Err.over.group c.in-Err.ensures.unchanged.0 c.tries.invariant.1 c.in-Err.ensures.over refl
     c.in-Err.ensures.refused c.make_room.ensures.clears e
-    (subst (λ (z : AllocFault). IsCause c.args.group 1 c.in-Err.over.group z c.make_room.new.machine) (sym same) c.in_err-make_room.ensures.room)))
+    (subst (λ (z : AllocFault). IsCause c.args.group c.in-Err.over.group 1 z c.make_room.new.machine) (sym same) c.in_err-make_room.ensures.room)))
 
 pub returns-in_err-make_room-clause-visit : goal.returns-in_err-make_room-clause-visit
 returns-in_err-make_room-clause-visit g c =

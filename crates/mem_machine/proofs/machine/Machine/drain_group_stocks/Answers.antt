@@ -1,7 +1,7 @@
 use Rattle.std.proofs.Common.{◌+◌, ℕ, sym, subst, arith}
 use Rattle.mem_machine.specs.Stocks.{of_group}
 use Rattle.mem_machine.proofs.DrainingAll.{DrainedSoFar, drained_more}
-use Rattle.mem_machine.proofs.machine.Machine.drain_own_stocks.Goals as goal
+use Rattle.mem_machine.proofs.machine.Machine.drain_group_stocks.Goals as goal
 
 pub loop-before-preserved : goal.loop-before-preserved
 loop-before-preserved g c =
