@@ -1,7 +1,7 @@
 //! Groups made and taken out.
 
 ghost use Rattle.std.specs.Prelude.{◌≡◌, ◌<◌, MatchResult};
-ghost use Rattle.cpu_part.specs.Cpus.{KnownCpu};
+ghost use Rattle.mem_alloc.specs.Stepping.{ByStepsOfAny};
 ghost use Rattle.mem_machine.specs.Machines.{KeepsVisit, Visits};
 ghost use Rattle.mem_system.specs.Leaves.{IsLeafAt, HasNoLeaf};
 ghost use Rattle.mem_system.specs.Outcomes.{HasItsGroups, reply_of};
@@ -18,8 +18,7 @@ use mem_machine::Machine;
 
 // Makes the group of the path.
 pub(crate) fn make_group<N: BootName>(machine: &mut Machine<N>, path: &[u8]) -> Outcome
-    ensures made { (c : KnownCpu) → BySteps N.frames (side machine.old c) (side machine.new c)
-        (OfMachine (MakesGroup path.now (reply_of machine.new.ledger result))) }
+    ensures made { ByStepsOfAny N.frames machine.old machine.new (MakesGroup path.now (reply_of machine.new.ledger result)) }
     ensures groups { HasItsGroups machine.new.ledger result }
     ensures seat { machine.new.seat ≡ machine.old.seat }
 {

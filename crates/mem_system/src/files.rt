@@ -9,7 +9,7 @@ ghost use Rattle.mem_system.specs.Outcomes.{HasItsGroups, reply_of};
 ghost use Rattle.mem_machine.specs.Machines.{KeepsVisit, Visits};
 ghost use Rattle.mem_alloc.specs.Stepping.{ByStepsOfAny};
 ghost use Rattle.mem_system.specs.Files.{Reads, IsFileOf, HasNoFile, RefusesWrite};
-ghost use Rattle.mem_system.specs.Commands.{BySteps, SetsLimit, Writes, OfMachine};
+ghost use Rattle.mem_system.specs.Commands.{SetsLimit, Writes};
 ghost use Rattle.mem_machine.specs.Local.{side};
 
 use crate::outcome::Outcome;
@@ -99,8 +99,8 @@ pub(crate) fn write_file<N: BootName>(
     name: &[u8],
     value: &[u8],
 ) -> Outcome
-    ensures written { (c : KnownCpu) → BySteps N.frames (side machine.old c) (side machine.new c)
-        (OfMachine (Writes path.now name.now value.now (reply_of machine.new.ledger result))) }
+    ensures written { ByStepsOfAny N.frames machine.old machine.new
+        (Writes path.now name.now value.now (reply_of machine.new.ledger result)) }
     ensures groups { HasItsGroups machine.new.ledger result }
     ensures stays { (c : KnownCpu) → Visits N.frames (side machine.old c)
         → KeepsVisit N.frames (side machine.old c) (side machine.new c) }

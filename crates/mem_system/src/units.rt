@@ -1,12 +1,10 @@
 //! Kept units: touched, and noted as dirty or clean.
 
 ghost use Rattle.std.specs.Prelude.{◌≡◌, ◌≢◌, ◌<◌, None, MatchOption};
-ghost use Rattle.cpu_part.specs.Cpus.{KnownCpu};
 ghost use Rattle.mem_machine.specs.Machines.{home_of};
 ghost use Rattle.mem_system.specs.Kept.{TouchesFrame, NotesDirt};
 ghost use Rattle.mem_system.specs.Outcomes.{HasItsGroups, reply_of};
-ghost use Rattle.mem_system.specs.Commands.{BySteps, OfMachine};
-ghost use Rattle.mem_machine.specs.Local.{side};
+ghost use Rattle.mem_alloc.specs.Stepping.{ByStepsOfAny};
 
 use crate::outcome::Outcome;
 use cpu_part::{BootName, Tables};
@@ -39,8 +37,7 @@ pub(crate) fn touch_frame<N: BootName>(
     frame: u32,
 ) -> Outcome
     requires { frame < N.frames.frames }
-    ensures touched { (c : KnownCpu) → BySteps N.frames (side machine.old c) (side machine.new c)
-        (OfMachine (TouchesFrame frame (reply_of machine.new.ledger result))) }
+    ensures touched { ByStepsOfAny N.frames machine.old machine.new (TouchesFrame frame (reply_of machine.new.ledger result)) }
     ensures groups { HasItsGroups machine.new.ledger result }
     ensures seat { machine.new.seat ≡ machine.old.seat }
 {
@@ -61,8 +58,7 @@ pub(crate) fn note_dirt<N: BootName>(
     is_dirty: bool,
 ) -> Outcome
     requires { frame < N.frames.frames }
-    ensures noted { (c : KnownCpu) → BySteps N.frames (side machine.old c) (side machine.new c)
-        (OfMachine (NotesDirt frame is_dirty (reply_of machine.new.ledger result))) }
+    ensures noted { ByStepsOfAny N.frames machine.old machine.new (NotesDirt frame is_dirty (reply_of machine.new.ledger result)) }
     ensures groups { HasItsGroups machine.new.ledger result }
     ensures seat { machine.new.seat ≡ machine.old.seat }
 {

@@ -7,18 +7,17 @@ use Rattle.mem_system.proofs.directories.make_group.Goals as goal
 
 pub returns-in-Ok-clause-made : goal.returns-in-Ok-clause-made
 returns-in-Ok-clause-made g c =
-    λ x. (make_steps c.args.path.now c.in-Ok.group, (sym c.in-Ok.ensures.refused, c.in-Ok.ensures.made, refl), c.in-Ok.ensures.steps x)
+    (make_steps c.args.path.now c.in-Ok.group, (sym c.in-Ok.ensures.refused, c.in-Ok.ensures.made, refl), c.in-Ok.ensures.steps)
 
 pub returns-in-Ok-clause-seat : goal.returns-in-Ok-clause-seat
 returns-in-Ok-clause-seat g c = ap (λ (k : KnownMachine). k.seat) c.in-Ok.ensures.made.machine
 
 pub returns-in-Err-clause-made : goal.returns-in-Err-clause-made
-returns-in-Err-clause-made g c =
-    λ (x : KnownCpu). (
-      [],
-      (sym c.in-Err.ensures.refused, (c.in-Err.ensures.unchanged, refl)),
-      ap (λ (k : KnownMachine). local_of g.N.BootName.frames k x) (sym c.in-Err.ensures.unchanged),
-    )
+returns-in-Err-clause-made g c = (
+  [],
+  (sym c.in-Err.ensures.refused, (c.in-Err.ensures.unchanged, refl)),
+  λ (x : KnownCpu). ap (λ (k : KnownMachine). local_of g.N.BootName.frames k x) (sym c.in-Err.ensures.unchanged),
+)
 
 pub returns-in-Err-clause-seat : goal.returns-in-Err-clause-seat
 returns-in-Err-clause-seat g c = ap (λ (k : KnownMachine). k.seat) c.in-Err.ensures.unchanged

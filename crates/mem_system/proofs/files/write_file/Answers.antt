@@ -1,6 +1,5 @@
 use Rattle.std.proofs.Common.{subst}
 use Rattle.group_charge.specs.Charges.{Ledger}
-use Rattle.cpu_part.specs.Cpus.{KnownCpu}
 use Rattle.control_files.specs.declared.file.File.TheVariants.{Max}
 use Rattle.mem_system.specs.Files.{IsFileOf}
 use Rattle.mem_system.proofs.Found.{found_there}
@@ -14,8 +13,7 @@ set_limit-requires-clause-there g c =
 pub returns-clause-written : goal.returns-clause-written
 returns-clause-written g c =
     let is = subst (λ (l : Ledger). IsFileOf l.groups c.args.path.now c.args.name.now c.in-Ok.found.0 Max) c.charges.ensures c.in-Ok.ensures.0 in
-    let set = c.set_limit.ensures.sets in
-    λ (x : KnownCpu). (
+    let set = c.set_limit.ensures.sets in (
       set.0,
       record {
         group = c.in-Ok.found.0;
@@ -24,5 +22,5 @@ returns-clause-written g c =
         reads = c.in-Ok.ensures.1;
         sets = set.1;
       },
-      set.2 x,
+      set.2,
     )
