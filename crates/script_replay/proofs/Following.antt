@@ -290,8 +290,8 @@ module _ (t : KnownTable) (w : Words) (run : Run) (locked : KnownLocked) (cpus :
   answer_follows work.Blocks said after names is shut decided = absurd is
   answer_follows work.Show said after names is shut decided = absurd is
 
-  pub work_follows : (explains : Bool) (asked : Work) (text : List ℕ) (after : Holder) → WorkInRange t.frames asked → (is : AnswersWork t explains asked before text after) →
-      AllShut after.locked.machine → Decided (work_steps t explains asked before text after is) → Follows (work_steps t explains asked before text after is) after
-  work_follows explains work.Blocks text after names is shut decided = served_follows c (unseen_same t m c c refl) cmd.Settle Done after is.0 shut decided
-  work_follows explains work.Show text after names is shut decided = served_follows c (unseen_same t m c c refl) cmd.Settle Done after is.0 shut decided
-  work_follows explains asked text after names is shut decided = answer_follows asked is.0 after names is.1 shut decided
+  pub work_follows : (is_explained : Bool) (asked : Work) (text : List ℕ) (after : Holder) → WorkInRange t.frames asked → (is : AnswersWork t is_explained asked before text after) →
+      AllShut after.locked.machine → Decided (work_steps t is_explained asked before text after is) → Follows (work_steps t is_explained asked before text after is) after
+  work_follows is_explained work.Blocks text after names is shut decided = served_follows c (unseen_same t m c c refl) cmd.Settle Done after is.0 shut decided
+  work_follows is_explained work.Show text after names is shut decided = served_follows c (unseen_same t m c c refl) cmd.Settle Done after is.0 shut decided
+  work_follows is_explained asked text after names is shut decided = answer_follows asked is.0 after names is.1 shut decided

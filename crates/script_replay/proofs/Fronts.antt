@@ -23,14 +23,14 @@ released_after t f l c seen (Served reply) k d can_not served = (seen, can_not, 
 released_after t f l c seen said k d can_not served = absurd served
 
 -- of its kills the same is told
-pub served_kills : (explains : Bool) (t : KnownTable) (path : Bor (List ℕ)) (l : KnownLocked) (c seen : KnownCpu) (said : Answer) (k : KnownLocked) (d : KnownCpu)
+pub served_kills : (is_explained : Bool) (t : KnownTable) (path : Bor (List ℕ)) (l : KnownLocked) (c seen : KnownCpu) (said : Answer) (k : KnownLocked) (d : KnownCpu)
     (none : GetsNoneFast path.now (holder l c) seen) (served : RepliesServed t (cmd.Alloc path 0) (holder l seen) said (holder k d))
-    → kills_text explains k.machine ≡ frame_kills explains t path (holder l c) said (holder k d) (served_after t path l c seen said k d none served)
+    → kills_text is_explained k.machine ≡ frame_kills is_explained t path (holder l c) said (holder k d) (served_after t path l c seen said k d none served)
 unfolding served_after
-served_kills explains t path l c seen (Served reply) k d none served = refl
-served_kills explains t path l c seen said k d none served = absurd served
+served_kills is_explained t path l c seen (Served reply) k d none served = refl
+served_kills is_explained t path l c seen said k d none served = absurd served
 
-pub released_kills : (explains : Bool) (t : KnownTable) (f : ℕ) (l : KnownLocked) (seen : KnownCpu) (said : Answer) (k : KnownLocked) (d : KnownCpu)
-    → RepliesServed t (cmd.Release f) (holder l seen) said (holder k d) → kills_text explains k.machine ≡ release_kills explains said (holder k d)
-released_kills explains t f l seen (Served reply) k d served = refl
-released_kills explains t f l seen said k d served = absurd served
+pub released_kills : (is_explained : Bool) (t : KnownTable) (f : ℕ) (l : KnownLocked) (seen : KnownCpu) (said : Answer) (k : KnownLocked) (d : KnownCpu)
+    → RepliesServed t (cmd.Release f) (holder l seen) said (holder k d) → kills_text is_explained k.machine ≡ release_kills is_explained said (holder k d)
+released_kills is_explained t f l seen (Served reply) k d served = refl
+released_kills is_explained t f l seen said k d served = absurd served

@@ -48,18 +48,18 @@ tied_still t w cpus k c d is_part tied none all j e at = elim (cases_eq j k) [
 ]
 
 -- a command that was served at its part
-pub part_goes : (t : KnownTable) (w : Words) (explains : Bool) (before after : KnownLocked) (cpus : List KnownCpu) (line : Line) (processor : ℕ) (command : Command) (c d : KnownCpu)
+pub part_goes : (t : KnownTable) (w : Words) (is_explained : Bool) (before after : KnownLocked) (cpus : List KnownCpu) (line : Line) (processor : ℕ) (command : Command) (c d : KnownCpu)
     {number : ℕ} {U E : Type 0} (r : Result U E) (old new : List ℕ) → line ≡ At number processor command → LineIsThere t.frames (length cpus) line →
     slice_get cpus (processor - 1) ≡ Some c →
-    (said : List ℕ) × AnswersText t explains command (holder before c) said (holder after d) × IfOk r (λ _. new ≡ old ++ said) →
+    (said : List ℕ) × AnswersText t is_explained command (holder before c) said (holder after d) × IfOk r (λ _. new ≡ old ++ said) →
     IsQuiet t w after → IsConsistent t w after.machine → AreCharges after.machine.ledger → IsTied t w d → (d.stock.view.last ≡ stock_is.NoGroup → d.fresh ≡ []) →
-    (text : List ℕ) × GoesWell t w explains (record { locked = before; cpus = cpus }) line text
+    (text : List ℕ) × GoesWell t w is_explained (record { locked = before; cpus = cpus }) line text
     (record { locked = after; cpus = slice_set cpus (processor - 1) d }) × IfOk r (λ _. new ≡ old ++ text)
-part_goes t w explains before after cpus line processor command c d r old new is there is_part answered quiet good charges tied none = (
+part_goes t w is_explained before after cpus line processor command c d r old new is there is_part answered quiet good charges tied none = (
   answered.0,
   record {
     there = there;
-    serves = subst (λ (x : Line). ServesLine t explains (record { locked = before; cpus = cpus }) x answered.0
+    serves = subst (λ (x : Line). ServesLine t is_explained (record { locked = before; cpus = cpus }) x answered.0
         (record { locked = after; cpus = slice_set cpus (processor - 1) d })) (sym is)
         (record { part = c; left = d; is_part = is_part; answers = answered.1; cpus = refl });
     stands = record {
@@ -73,79 +73,79 @@ part_goes t w explains before after cpus line processor command c d r old new is
 )
 
 -- the same, of the part that was read
-pub part_read : (t : KnownTable) (w : Words) (explains : Bool) (before after : KnownLocked) (cpus : List KnownCpu) (line : Line) (processor : ℕ) (command : Command) (c d : KnownCpu)
+pub part_read : (t : KnownTable) (w : Words) (is_explained : Bool) (before after : KnownLocked) (cpus : List KnownCpu) (line : Line) (processor : ℕ) (command : Command) (c d : KnownCpu)
     {number : ℕ} {U E : Type 0} (r : Result U E) (old new : List ℕ) → line ≡ At number processor command → LineIsThere t.frames (length cpus) line →
     c ≡ get_or cpus (processor - 1) c →
-    (said : List ℕ) × AnswersText t explains command (holder before c) said (holder after d) × IfOk r (λ _. new ≡ old ++ said) →
+    (said : List ℕ) × AnswersText t is_explained command (holder before c) said (holder after d) × IfOk r (λ _. new ≡ old ++ said) →
     IsQuiet t w after → IsConsistent t w after.machine → AreCharges after.machine.ledger → IsTied t w d → (d.stock.view.last ≡ stock_is.NoGroup → d.fresh ≡ []) →
-    (text : List ℕ) × GoesWell t w explains (record { locked = before; cpus = cpus }) line text
+    (text : List ℕ) × GoesWell t w is_explained (record { locked = before; cpus = cpus }) line text
     (record { locked = after; cpus = slice_set cpus (processor - 1) d }) × IfOk r (λ _. new ≡ old ++ text)
-part_read t w explains before after cpus line processor command c d {number = number} r old new is there read answered quiet good charges tied none =
+part_read t w is_explained before after cpus line processor command c d {number = number} r old new is there read answered quiet good charges tied none =
     let named : LineIsThere t.frames (length cpus) (At number processor command) = subst (LineIsThere t.frames (length cpus)) is there in
     let low = named.low in
     let high = named.high in
-    part_goes t w explains before after cpus line processor command c d r old new is there
+    part_goes t w is_explained before after cpus line processor command c d r old new is there
     (slice_get_read cpus (length cpus) (processor - 1) c refl (omega arith) read) answered quiet good charges tied none
 
 -- ---- the lines so far
 
 abbrev pub GoesAll : KnownTable → Words → Bool → Standing → List Line → List ℕ → Standing → Type 0
-GoesAll t w explains s [] text e = (text ≡ []) × (e ≡ s)
-GoesAll t w explains s (line ∷ lines) text e =
-    (first : List ℕ) × (rest : List ℕ) × (mid : Standing) × GoesWell t w explains s line first mid × GoesAll t w explains mid lines rest e × (text ≡ first ++ rest)
+GoesAll t w is_explained s [] text e = (text ≡ []) × (e ≡ s)
+GoesAll t w is_explained s (line ∷ lines) text e =
+    (first : List ℕ) × (rest : List ℕ) × (mid : Standing) × GoesWell t w is_explained s line first mid × GoesAll t w is_explained mid lines rest e × (text ≡ first ++ rest)
 
-goes_more : (t : KnownTable) (w : Words) (explains : Bool) (s m e : Standing) (lines : List Line) (line : Line) (text more : List ℕ) → GoesAll t w explains s lines text m
-    → GoesWell t w explains m line more e → GoesAll t w explains s (lines ++ line ∷ []) (text ++ more) e
-goes_more t w explains s m e [] line text more all one =
-    let at : GoesWell t w explains s line more e = subst (λ (x : Standing). GoesWell t w explains x line more e) all.1 one in
+goes_more : (t : KnownTable) (w : Words) (is_explained : Bool) (s m e : Standing) (lines : List Line) (line : Line) (text more : List ℕ) → GoesAll t w is_explained s lines text m
+    → GoesWell t w is_explained m line more e → GoesAll t w is_explained s (lines ++ line ∷ []) (text ++ more) e
+goes_more t w is_explained s m e [] line text more all one =
+    let at : GoesWell t w is_explained s line more e = subst (λ (x : Standing). GoesWell t w is_explained x line more e) all.1 one in
     (more, [], e, at, (refl, refl), ap (λ l. l ++ more) all.0 ∙ sym (append-nil more))
-goes_more t w explains s m e (l ∷ lines) line text more all one =
-    (all.0, all.1 ++ more, all.2, all.3, goes_more t w explains all.2 m e lines line all.1 more all.4 one, ap (λ x. x ++ more) all.5 ∙ append_assoc all.0 all.1 more)
+goes_more t w is_explained s m e (l ∷ lines) line text more all one =
+    (all.0, all.1 ++ more, all.2, all.3, goes_more t w is_explained all.2 m e lines line all.1 more all.4 one, ap (λ x. x ++ more) all.5 ∙ append_assoc all.0 all.1 more)
 
-pub goes_line : (t : KnownTable) (w : Words) (explains : Bool) (s m e : Standing) (lines : List Line) (i : ℕ) (default : Line) (text new : List ℕ)
-    → i < length lines → GoesAll t w explains s (take i lines) text m
-    → (more : List ℕ) × GoesWell t w explains m (get_or lines i default) more e × (new ≡ text ++ more)
-    → GoesAll t w explains s (take (i + 1) lines) new e
-goes_line t w explains s m e lines i default text new inside all one =
+pub goes_line : (t : KnownTable) (w : Words) (is_explained : Bool) (s m e : Standing) (lines : List Line) (i : ℕ) (default : Line) (text new : List ℕ)
+    → i < length lines → GoesAll t w is_explained s (take i lines) text m
+    → (more : List ℕ) × GoesWell t w is_explained m (get_or lines i default) more e × (new ≡ text ++ more)
+    → GoesAll t w is_explained s (take (i + 1) lines) new e
+goes_line t w is_explained s m e lines i default text new inside all one =
     let next : take (i + 1) lines ≡ take i lines ++ get_or lines i default ∷ [] = take_more lines i default inside in
-    rw (next, one.2) (goes_more t w explains s m e (take i lines) (get_or lines i default) text one.0 all one.1)
+    rw (next, one.2) (goes_more t w is_explained s m e (take i lines) (get_or lines i default) text one.0 all one.1)
 
-pub goes_served : (t : KnownTable) (w : Words) (explains : Bool) (s e : Standing) (lines : List Line) (text : List ℕ) → GoesAll t w explains s lines text e → ServesAll t explains s lines text e
-goes_served t w explains s e [] text all = all
-goes_served t w explains s e (line ∷ lines) text all = (all.0, all.1, all.2, all.3.serves, goes_served t w explains all.2 e lines all.1 all.4, all.5)
+pub goes_served : (t : KnownTable) (w : Words) (is_explained : Bool) (s e : Standing) (lines : List Line) (text : List ℕ) → GoesAll t w is_explained s lines text e → ServesAll t is_explained s lines text e
+goes_served t w is_explained s e [] text all = all
+goes_served t w is_explained s e (line ∷ lines) text all = (all.0, all.1, all.2, all.3.serves, goes_served t w is_explained all.2 e lines all.1 all.4, all.5)
 
 -- the lines are at their end
-pub goes_end : (t : KnownTable) (w : Words) (explains : Bool) (s e : Standing) (lines : List Line) (i : ℕ) (text items : List ℕ) → length lines ≤ i →
-    GoesAll t w explains s (take i lines) text e → items ≡ text → GoesAll t w explains s lines items e
-goes_end t w explains s e lines i text items past all is =
-    subst (λ (x : List Line × List ℕ). GoesAll t w explains s x.0 x.1 e) (λ j. (take_all i lines past j, sym is j)) all
+pub goes_end : (t : KnownTable) (w : Words) (is_explained : Bool) (s e : Standing) (lines : List Line) (i : ℕ) (text items : List ℕ) → length lines ≤ i →
+    GoesAll t w is_explained s (take i lines) text e → items ≡ text → GoesAll t w is_explained s lines items e
+goes_end t w is_explained s e lines i text items past all is =
+    subst (λ (x : List Line × List ℕ). GoesAll t w is_explained s x.0 x.1 e) (λ j. (take_all i lines past j, sym is j)) all
 
 -- ---- what they tell
 
 some_cpu : (t : KnownTable) (w : Words) (locked : KnownLocked) → IsQuiet t w locked → 1 ≤ t.cpus
 some_cpu t w locked quiet = let sized = quiet.sized.cpus in let low = quiet.valid.cpus_low in omega arith
 
-line_follows : (t : KnownTable) (w : Words) (explains : Bool) (run : Run) (s e : Standing) (line : Line) (text : List ℕ) → ShowsAll t run s.locked.machine s.cpus →
-    AreTied t w s.cpus → (goes : GoesWell t w explains s line text e) → LineIsDecided t explains s line text e goes.serves →
-    ShowsAll t (run ++ line_steps t explains s line text e goes.serves) e.locked.machine e.cpus
-line_follows t w explains run s e Go text shows tied goes decided =
+line_follows : (t : KnownTable) (w : Words) (is_explained : Bool) (run : Run) (s e : Standing) (line : Line) (text : List ℕ) → ShowsAll t run s.locked.machine s.cpus →
+    AreTied t w s.cpus → (goes : GoesWell t w is_explained s line text e) → LineIsDecided t is_explained s line text e goes.serves →
+    ShowsAll t (run ++ line_steps t is_explained s line text e goes.serves) e.locked.machine e.cpus
+line_follows t w is_explained run s e Go text shows tied goes decided =
     subst (λ (r : Run). ShowsAll t r e.locked.machine e.cpus) (sym (append-nil run))
     (subst (λ (x : Standing). ShowsAll t run x.locked.machine x.cpus) (sym goes.serves.1) shows)
-line_follows t w explains run s e (At number processor command) text shows tied goes decided =
-    let is : AtPart processor (λ one other. AnswersText t explains command one text other) s e = goes.serves in
-    subst (λ (cpus : List KnownCpu). ShowsAll t (run ++ line_steps t explains s (At number processor command) text e goes.serves) e.locked.machine cpus) (sym is.cpus)
-    (work_follows t w run s.locked s.cpus (processor - 1) is.part shows is.is_part tied explains (work_of command) text (holder e.locked is.left)
+line_follows t w is_explained run s e (At number processor command) text shows tied goes decided =
+    let is : AtPart processor (λ one other. AnswersText t is_explained command one text other) s e = goes.serves in
+    subst (λ (cpus : List KnownCpu). ShowsAll t (run ++ line_steps t is_explained s (At number processor command) text e goes.serves) e.locked.machine cpus) (sym is.cpus)
+    (work_follows t w run s.locked s.cpus (processor - 1) is.part shows is.is_part tied is_explained (work_of command) text (holder e.locked is.left)
     (work_in_range t.frames command goes.there.names) is.answers goes.stands.quiet.shut decided)
 
-pub goes_history : (t : KnownTable) (w : Words) (explains : Bool) (decided : Type 0) (run : Run) (s e : Standing) (lines : List Line) (text : List ℕ) →
-    (decided → ShowsAll t run s.locked.machine s.cpus) → AreTied t w s.cpus → GoesAll t w explains s lines text e → TellsHistory t explains decided run s lines text e
-goes_history t w explains decided run s e [] text shows tied all = all
-goes_history t w explains decided run s e (line ∷ lines) text shows tied all =
+pub goes_history : (t : KnownTable) (w : Words) (is_explained : Bool) (decided : Type 0) (run : Run) (s e : Standing) (lines : List Line) (text : List ℕ) →
+    (decided → ShowsAll t run s.locked.machine s.cpus) → AreTied t w s.cpus → GoesAll t w is_explained s lines text e → TellsHistory t is_explained decided run s lines text e
+goes_history t w is_explained decided run s e [] text shows tied all = all
+goes_history t w is_explained decided run s e (line ∷ lines) text shows tied all =
     let goes = all.3 in
     let mid = all.2 in
-    let next : Run = run ++ line_steps t explains s line all.0 mid goes.serves in
-    let follows : decided → LineIsDecided t explains s line all.0 mid goes.serves → ShowsAll t next mid.locked.machine mid.cpus =
-    λ so_far here. line_follows t w explains run s mid line all.0 (shows so_far) tied goes here in
+    let next : Run = run ++ line_steps t is_explained s line all.0 mid goes.serves in
+    let follows : decided → LineIsDecided t is_explained s line all.0 mid goes.serves → ShowsAll t next mid.locked.machine mid.cpus =
+    λ so_far here. line_follows t w is_explained run s mid line all.0 (shows so_far) tied goes here in
     let tied_then : AreTied t w mid.cpus = goes.stands.tied tied in (
       all.0,
       all.1,
@@ -156,25 +156,25 @@ goes_history t w explains decided run s e (line ∷ lines) text shows tied all =
         promise = the_whole_is_promised t w next mid.locked.machine mid.cpus (follows so_far here) goes.stands.consistent goes.stands.charges tied_then
             (some_cpu t w mid.locked goes.stands.quiet);
       },
-      goes_history t w explains (decided × LineIsDecided t explains s line all.0 mid goes.serves) next mid e lines all.1 (λ both. follows both.0 both.1) tied_then all.4,
+      goes_history t w is_explained (decided × LineIsDecided t is_explained s line all.0 mid goes.serves) next mid e lines all.1 (λ both. follows both.0 both.1) tied_then all.4,
       all.5,
     )
 
 -- memory was wanting for the text of the next line
-pub goes_stop : (t : KnownTable) (w : Words) (explains : Bool) (s m e : Standing) (lines : List Line) (i : ℕ) (default : Line) (text more : List ℕ)
-    → i < length lines → GoesAll t w explains s (take i lines) text m → GoesWell t w explains m (get_or lines i default) more e
-    → StopsAt lines (λ served said. Replays t w explains s served said e)
-goes_stop t w explains s m e lines i default text more inside all one =
+pub goes_stop : (t : KnownTable) (w : Words) (is_explained : Bool) (s m e : Standing) (lines : List Line) (i : ℕ) (default : Line) (text more : List ℕ)
+    → i < length lines → GoesAll t w is_explained s (take i lines) text m → GoesWell t w is_explained m (get_or lines i default) more e
+    → StopsAt lines (λ served said. Replays t w is_explained s served said e)
+goes_stop t w is_explained s m e lines i default text more inside all one =
     let first = take (i + 1) lines in
     let said = text ++ more in
-    let goes : GoesAll t w explains s first said e = goes_line t w explains s m e lines i default text said inside all (more, one, refl) in
+    let goes : GoesAll t w is_explained s first said e = goes_line t w is_explained s m e lines i default text said inside all (more, one, refl) in
     record {
       number = i + 1;
       low = omega arith;
       high = omega (arith, inside);
       text = said;
       served = record {
-        served = goes_served t w explains s e first said goes;
-        history = λ run shows tied. goes_history t w explains (Unit {0}) run s e first said (λ u. shows) tied goes;
+        served = goes_served t w is_explained s e first said goes;
+        history = λ run shows tied. goes_history t w is_explained (Unit {0}) run s e first said (λ u. shows) tied goes;
       };
     }

@@ -137,33 +137,33 @@ kills_text false m = []
 -- so it is with an Alloc of a single frame, where it wasn't refused before the lock
 abbrev pub frame_kills : Bool → (t : KnownTable) (path : Bor (List ℕ)) (before : Holder) (said : Answer) (after : Holder)
     → AnswersFrame t path before said after → List ℕ
-frame_kills explains t path before (answer.Served reply) after (inl none) = []
-frame_kills explains t path before (answer.Served reply) after (inr served) = kills_text explains after.locked.machine
-frame_kills explains t path before said after is = []
+frame_kills is_explained t path before (answer.Served reply) after (inl none) = []
+frame_kills is_explained t path before (answer.Served reply) after (inr served) = kills_text is_explained after.locked.machine
+frame_kills is_explained t path before said after is = []
 
 -- so it is with a Release, where the frame wasn't listed again without the lock
 abbrev pub release_kills : Bool → Answer → Holder → List ℕ
-release_kills explains (answer.Served reply) after = kills_text explains after.locked.machine
-release_kills explains said after = []
+release_kills is_explained (answer.Served reply) after = kills_text is_explained after.locked.machine
+release_kills is_explained said after = []
 
 -- what is told of kills behind the answer, where this was done and answered so
 abbrev pub work_kills : Bool → (t : KnownTable) (work : Work) (before : Holder) (said : Answer) (after : Holder)
     → Answers t work before said after → List ℕ
-work_kills explains t (Visit command) before said after is = kills_text explains after.locked.machine
-work_kills explains t (Frame path) before said after is = frame_kills explains t path before said after is
-work_kills explains t (Release frame) before said after is = release_kills explains said after
-work_kills explains t work before said after is = []
+work_kills is_explained t (Visit command) before said after is = kills_text is_explained after.locked.machine
+work_kills is_explained t (Frame path) before said after is = frame_kills is_explained t path before said after is
+work_kills is_explained t (Release frame) before said after is = release_kills is_explained said after
+work_kills is_explained t work before said after is = []
 
 -- The same as text: the answer's, and behind it what is told of kills. `blocks` and `show` settle the processor, and tell
 -- of the machine as it is then
 abbrev pub AnswersWork : KnownTable → Bool → Work → Holder → List ℕ → Holder → Type 0
-AnswersWork t explains Blocks before text after =
+AnswersWork t is_explained Blocks before text after =
     SettlesCaller t before after × (text ≡ blocks_text after.locked.machine.blocks)
-AnswersWork t explains Show before text after = SettlesCaller t before after × (text ≡ show_text after.locked.machine)
-AnswersWork t explains work before text after =
+AnswersWork t is_explained Show before text after = SettlesCaller t before after × (text ≡ show_text after.locked.machine)
+AnswersWork t is_explained work before text after =
     (said : Answer) × (is : Answers t work before said after)
-    × (text ≡ answer_text said ++ work_kills explains t work before said after is)
+    × (text ≡ answer_text said ++ work_kills is_explained t work before said after is)
 
 -- what a command is answered, as text
 abbrev pub AnswersText : KnownTable → Bool → Command → Holder → List ℕ → Holder → Type 0
-AnswersText t explains command before text after = AnswersWork t explains (work_of command) before text after
+AnswersText t is_explained command before text after = AnswersWork t is_explained (work_of command) before text after

@@ -91,26 +91,26 @@ answer_steps t Settle before said after is = settle_answer_steps t before said a
 answer_steps t work before said after is = []
 
 -- so it is with what is told as text: `blocks` and `show` settle the processor under the lock
-abbrev pub work_steps : (t : KnownTable) (explains : Bool) (work : Work) (before : Holder) (text : List ℕ)
-    (after : Holder) → AnswersWork t explains work before text after → Run
-work_steps t explains Blocks before text after is = under_lock before.cpu.number is.0.0
-work_steps t explains Show before text after is = under_lock before.cpu.number is.0.0
-work_steps t explains work before text after is = answer_steps t work before is.0 after is.1
+abbrev pub work_steps : (t : KnownTable) (is_explained : Bool) (work : Work) (before : Holder) (text : List ℕ)
+    (after : Holder) → AnswersWork t is_explained work before text after → Run
+work_steps t is_explained Blocks before text after is = under_lock before.cpu.number is.0.0
+work_steps t is_explained Show before text after is = under_lock before.cpu.number is.0.0
+work_steps t is_explained work before text after is = answer_steps t work before is.0 after is.1
 
 -- the steps of a line that was served so; `go` makes none
-abbrev pub line_steps : (t : KnownTable) (explains : Bool) (before : Standing) (line : Line) (text : List ℕ)
-    (after : Standing) → ServesLine t explains before line text after → Run
-line_steps t explains before Go text after is = []
-line_steps t explains before (At number processor command) text after is =
-    work_steps t explains (work_of command) (holder before.locked is.part) text (holder after.locked is.left) is.answers
+abbrev pub line_steps : (t : KnownTable) (is_explained : Bool) (before : Standing) (line : Line) (text : List ℕ)
+    (after : Standing) → ServesLine t is_explained before line text after → Run
+line_steps t is_explained before Go text after is = []
+line_steps t is_explained before (At number processor command) text after is =
+    work_steps t is_explained (work_of command) (holder before.locked is.part) text (holder after.locked is.left) is.answers
 
 -- each answer of a Get, a Put, a Freeze, a drain, a Consume and a Credit among them is what all parts together decide
-abbrev pub LineIsDecided : (t : KnownTable) (explains : Bool) (before : Standing) (line : Line) (text : List ℕ)
-    (after : Standing) → ServesLine t explains before line text after → Type 0
-LineIsDecided t explains before Go text after is = Unit {0}
-LineIsDecided t explains before (At number processor command) text after is =
+abbrev pub LineIsDecided : (t : KnownTable) (is_explained : Bool) (before : Standing) (line : Line) (text : List ℕ)
+    (after : Standing) → ServesLine t is_explained before line text after → Type 0
+LineIsDecided t is_explained before Go text after is = Unit {0}
+LineIsDecided t is_explained before (At number processor command) text after is =
     AreDecided t before.cpus (side_of (holder before.locked is.part))
-    (line_steps t explains before (At number processor command) text after is)
+    (line_steps t is_explained before (At number processor command) text after is)
 
 -- ---- the history
 -- the run is legal, and the promise holds after it of what stands then
@@ -122,21 +122,21 @@ pub record HoldsPromise (t : KnownTable) (run : Run) (now : Standing) : Type 0 w
 -- all lines before are what all parts together decided (`decided`, of those before), the run so far with the line's
 -- steps is legal, and keeps the promise
 abbrev pub TellsHistory : KnownTable → Bool → Type 0 → Run → Standing → List Line → List ℕ → Standing → Type 0
-TellsHistory t explains decided run s [] text e = (text ≡ []) × (e ≡ s)
-TellsHistory t explains decided run s (line ∷ lines) text e =
-    (first : List ℕ) × (rest : List ℕ) × (mid : Standing) × (serves : ServesLine t explains s line first mid)
-    × (decided → LineIsDecided t explains s line first mid serves
-    → HoldsPromise t (run ++ line_steps t explains s line first mid serves) mid)
-    × TellsHistory t explains (decided × LineIsDecided t explains s line first mid serves)
-    (run ++ line_steps t explains s line first mid serves) mid lines rest e
+TellsHistory t is_explained decided run s [] text e = (text ≡ []) × (e ≡ s)
+TellsHistory t is_explained decided run s (line ∷ lines) text e =
+    (first : List ℕ) × (rest : List ℕ) × (mid : Standing) × (serves : ServesLine t is_explained s line first mid)
+    × (decided → LineIsDecided t is_explained s line first mid serves
+    → HoldsPromise t (run ++ line_steps t is_explained s line first mid serves) mid)
+    × TellsHistory t is_explained (decided × LineIsDecided t is_explained s line first mid serves)
+    (run ++ line_steps t is_explained s line first mid serves) mid lines rest e
     × (text ≡ first ++ rest)
 
 -- the lines are served one after the other, and tell their history where a run shows what stood before
-pub record Replays (t : KnownTable) (w : Words) (explains : Bool) (before : Standing) (lines : List Line)
+pub record Replays (t : KnownTable) (w : Words) (is_explained : Bool) (before : Standing) (lines : List Line)
     (text : List ℕ) (after : Standing) : Type 0 where
-  pub served : ServesAll t explains before lines text after
+  pub served : ServesAll t is_explained before lines text after
   pub history : (run : Run) → ShowsAll t run before.locked.machine before.cpus → AreTied t w before.cpus
-      → TellsHistory t explains (Unit {0}) run before lines text after
+      → TellsHistory t is_explained (Unit {0}) run before lines text after
 
 -- ---- what is known of a line beside what it is answered
 -- what lies behind the lock is well, and where each part before was what its seats know, so is each part after
@@ -147,8 +147,8 @@ pub record StandsWell (t : KnownTable) (w : Words) (before after : Standing) : T
   pub tied : AreTied t w before.cpus → AreTied t w after.cpus
 
 -- the line names what is there, is served, and leaves all well
-pub record GoesWell (t : KnownTable) (w : Words) (explains : Bool) (before : Standing) (line : Line)
+pub record GoesWell (t : KnownTable) (w : Words) (is_explained : Bool) (before : Standing) (line : Line)
     (text : List ℕ) (after : Standing) : Type 0 where
   pub there : LineIsThere t.frames (length before.cpus) line
-  pub serves : ServesLine t explains before line text after
+  pub serves : ServesLine t is_explained before line text after
   pub stands : StandsWell t w before after

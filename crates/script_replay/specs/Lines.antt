@@ -27,16 +27,16 @@ pub record AtPart (processor : ℕ) (goes : Holder → Holder → Type 0) (befor
 
 -- a line is answered this text, in which kills are explained or not; `go` is answered nothing, and does nothing
 abbrev pub ServesLine : KnownTable → Bool → Standing → Line → List ℕ → Standing → Type 0
-ServesLine t explains before Go text after = (text ≡ []) × (after ≡ before)
-ServesLine t explains before (At number processor command) text after =
-    AtPart processor (λ one other. AnswersText t explains command one text other) before after
+ServesLine t is_explained before Go text after = (text ≡ []) × (after ≡ before)
+ServesLine t is_explained before (At number processor command) text after =
+    AtPart processor (λ one other. AnswersText t is_explained command one text other) before after
 
 -- the lines are served one after the other, and their texts stand one after the other
 abbrev pub ServesAll : KnownTable → Bool → Standing → List Line → List ℕ → Standing → Type 0
-ServesAll t explains s [] text e = (text ≡ []) × (e ≡ s)
-ServesAll t explains s (line ∷ lines) text e =
+ServesAll t is_explained s [] text e = (text ≡ []) × (e ≡ s)
+ServesAll t is_explained s (line ∷ lines) text e =
     (first : List ℕ) × (rest : List ℕ) × (mid : Standing)
-    × ServesLine t explains s line first mid × ServesAll t explains mid lines rest e × (text ≡ first ++ rest)
+    × ServesLine t is_explained s line first mid × ServesAll t is_explained mid lines rest e × (text ≡ first ++ rest)
 
 -- Memory was wanting for the text of the line of this number. This is so of the lines up to it, itself among them, and of
 -- their texts, its own too, which nobody gets: they were served, once each, and no line after them

@@ -22,7 +22,7 @@ use reply_texts::{write_fast, write_listed, write_outcome, write_refusal, write_
 use script_lines::line::Command;
 use std::alloc::AllocError;
 
-// Serves a command and adds what it is answered, and behind that where `explains` says so why groups were killed for
+// Serves a command and adds what it is answered, and behind that where `is_explained` says so why groups were killed for
 // it. Where memory is wanting the command was served all the same.
 #[tactic(auto, using(crate::proofs::InRange::work_in_range))]
 pub(crate) fn answer_text<N: BootName>(
@@ -30,15 +30,15 @@ pub(crate) fn answer_text<N: BootName>(
     tables: &Tables<N>,
     cpu: &mut Cpu<N>,
     command: &Command<'_>,
-    explains: bool,
+    is_explained: bool,
     text: &mut String,
 ) -> Result<(), AllocError>
     requires { NamesInRange N.frames.frames command.now }
-    ensures { AddsText result (AnswersText N.frames explains command.now) (holder locked.old cpu.old) (holder locked.new cpu.new)
+    ensures { AddsText result (AnswersText N.frames is_explained command.now) (holder locked.old cpu.old) (holder locked.new cpu.new)
         (string_bytes text.old) (string_bytes text.new) }
 {
     let work = work_of(command);
-    answer_work(locked, tables, cpu, &work, explains, text)
+    answer_work(locked, tables, cpu, &work, is_explained, text)
 }
 
 // Does what is asked and adds what it is answered. Each text is written where the answer is made, and that of a
@@ -48,18 +48,18 @@ fn answer_work<N: BootName>(
     tables: &Tables<N>,
     cpu: &mut Cpu<N>,
     work: &Work<'_>,
-    explains: bool,
+    is_explained: bool,
     text: &mut String,
 ) -> Result<(), AllocError>
     requires { WorkInRange N.frames.frames work.now }
-    ensures { AddsText result (AnswersWork N.frames explains work.now) (holder locked.old cpu.old) (holder locked.new cpu.new)
+    ensures { AddsText result (AnswersWork N.frames is_explained work.now) (holder locked.old cpu.old) (holder locked.new cpu.new)
         (string_bytes text.old) (string_bytes text.new) }
 {
     match *work {
-        Work::Visit(cmd) => serve_command(locked, tables, cpu, &cmd, explains, text),
-        Work::Frame { path } => alloc_frame(locked, tables, cpu, path, explains, text),
+        Work::Visit(cmd) => serve_command(locked, tables, cpu, &cmd, is_explained, text),
+        Work::Frame { path } => answer_frame(locked, tables, cpu, path, is_explained, text),
         Work::Fast { group } => write_fast(&cpu.alloc_fast(tables, group), text),
-        Work::Release { frame } => release(locked, tables, cpu, frame, explains, text),
+        Work::Release { frame } => answer_release(locked, tables, cpu, frame, is_explained, text),
         Work::Get { frame } => get(tables, cpu, frame, text),
         Work::Put { frame } => put(tables, cpu, frame, text),
         Work::Settle => {
@@ -83,16 +83,16 @@ fn serve_command<N: BootName>(
     tables: &Tables<N>,
     cpu: &mut Cpu<N>,
     cmd: &Cmd<'_>,
-    explains: bool,
+    is_explained: bool,
     text: &mut String,
 ) -> Result<(), AllocError>
     requires { IsOfZone N.frames cmd.now }
-    ensures { AddsText result (AnswersWork N.frames explains (Visit cmd.now)) (holder locked.old cpu.old) (holder locked.new cpu.new)
+    ensures { AddsText result (AnswersWork N.frames is_explained (Visit cmd.now)) (holder locked.old cpu.old) (holder locked.new cpu.new)
         (string_bytes text.old) (string_bytes text.new) }
 {
     let outcome = carry_out(locked, tables, cpu, cmd);
     write_outcome(locked.charges(), &outcome, text)?;
-    explain(locked, explains, text)
+    explain(locked, is_explained, text)
 }
 
 // Serves an Alloc of a single frame for this group under the lock, and adds its reply, and what is told of its kills: its
@@ -102,28 +102,28 @@ fn serve_frame<N: BootName>(
     tables: &Tables<N>,
     cpu: &mut Cpu<N>,
     group: GroupId,
-    explains: bool,
+    is_explained: bool,
     text: &mut String,
 ) -> Result<(), AllocError>
     requires there { IsTrue (has_group locked.old.machine.ledger.groups group) }
     ensures { (path : Bor (List ℕ)) → number_at locked.old.machine.ledger.groups path.now ≡ Some group
-        → AddsText result (AnswersWork N.frames explains (Visit (Alloc path 0)))
+        → AddsText result (AnswersWork N.frames is_explained (Visit (Alloc path 0)))
         (holder locked.old cpu.old) (holder locked.new cpu.new) (string_bytes text.old) (string_bytes text.new) }
 {
     let outcome = carry_out_frame(locked, tables, cpu, group);
     write_outcome(locked.charges(), &outcome, text)?;
-    explain(locked, explains, text)
+    explain(locked, is_explained, text)
 }
 
 // Adds why groups were killed for the command that was served last, where that is asked for.
 fn explain<N: BootName>(
     locked: &Locked<N>,
-    explains: bool,
+    is_explained: bool,
     text: &mut String,
 ) -> Result<(), AllocError>
-    ensures { IfOk result (λ _. string_bytes text.new ≡ string_bytes text.old ++ kills_text explains locked.now.machine) }
+    ensures { IfOk result (λ _. string_bytes text.new ≡ string_bytes text.old ++ kills_text is_explained locked.now.machine) }
 {
-    if !explains {
+    if !is_explained {
         return Ok(());
     }
     let machine = locked.machine();
@@ -131,15 +131,15 @@ fn explain<N: BootName>(
 }
 
 // Takes a frame, without the lock where it can be.
-fn alloc_frame<N: BootName>(
+fn answer_frame<N: BootName>(
     locked: &mut Locked<N>,
     tables: &Tables<N>,
     cpu: &mut Cpu<N>,
     path: &[u8],
-    explains: bool,
+    is_explained: bool,
     text: &mut String,
 ) -> Result<(), AllocError>
-    ensures { AddsText result (AnswersWork N.frames explains (Frame path.entry))
+    ensures { AddsText result (AnswersWork N.frames is_explained (Frame path.entry))
         (holder locked.old cpu.old) (holder locked.new cpu.new) (string_bytes text.old) (string_bytes text.new) }
 {
     let Some(group) = locked.find(path) else {
@@ -147,21 +147,21 @@ fn alloc_frame<N: BootName>(
     };
     match cpu.alloc_fast(tables, group.number()) {
         Fast::Got(frame) => write_fast(&Fast::Got(frame), text),
-        _ => serve_frame(locked, tables, cpu, group, explains, text),
+        _ => serve_frame(locked, tables, cpu, group, is_explained, text),
     }
 }
 
 // Lists a fresh frame again, without the lock where it can be.
-fn release<N: BootName>(
+fn answer_release<N: BootName>(
     locked: &mut Locked<N>,
     tables: &Tables<N>,
     cpu: &mut Cpu<N>,
     number: u32,
-    explains: bool,
+    is_explained: bool,
     text: &mut String,
 ) -> Result<(), AllocError>
     requires { number < N.frames.frames }
-    ensures { AddsText result (AnswersWork N.frames explains (Release number)) (holder locked.old cpu.old) (holder locked.new cpu.new)
+    ensures { AddsText result (AnswersWork N.frames is_explained (Release number)) (holder locked.old cpu.old) (holder locked.new cpu.new)
         (string_bytes text.old) (string_bytes text.new) }
 {
     if try_list(tables, cpu, number) {
@@ -172,7 +172,7 @@ fn release<N: BootName>(
         tables,
         cpu,
         &Cmd::Release { frame: number },
-        explains,
+        is_explained,
         text,
     )
 }

@@ -25,28 +25,28 @@ use std::alloc::{AllocError, Global};
 /// Serves the lines in their order, each at the part of the processor that it names, and gives their answers, each of
 /// whose lines ends with a line feed. `go` does nothing. `AllocError` comes where memory is wanting for the text of a
 /// line: the lines before it were served then, it was served too, once, without its text, and no line after it was.
-/// Where `explains` says so, a line for which groups were killed has the explanation of that behind its answer.
+/// Where `is_explained` says so, a line for which groups were killed has the explanation of that behind its answer.
 pub fn replay<N: BootName>(
     alloc: Global,
     locked: &mut Locked<N>,
     tables: &Tables<N>,
     cpus: &mut [Cpu<N>],
     lines: &[Line<'_>],
-    explains: bool,
+    is_explained: bool,
 ) -> Result<Vec<u8>, AllocError>
     requires { All (LineIsThere N.frames.frames (length cpus.old)) lines.now }
-    ensures answers { IfOk result (λ answers. ServesAll N.frames explains (standing locked.old cpus.old) lines.now answers.items
+    ensures answers { IfOk result (λ answers. ServesAll N.frames is_explained (standing locked.old cpus.old) lines.now answers.items
         (standing locked.new cpus.new)) }
     ensures history { (run : Run) → ShowsAll N.frames run locked.old.machine cpus.old
         → AreTied N.frames N.stocks cpus.old → IfOk result (λ answers.
-        TellsHistory N.frames explains (Unit {0}) run (standing locked.old cpus.old) lines.now answers.items
+        TellsHistory N.frames is_explained (Unit {0}) run (standing locked.old cpus.old) lines.now answers.items
         (standing locked.new cpus.new)) }
     ensures stopped { IfErr result (λ _. StopsAt lines.now (λ served text.
-        Replays N.frames N.stocks explains (standing locked.old cpus.old) served text (standing locked.new cpus.new))) }
+        Replays N.frames N.stocks is_explained (standing locked.old cpus.old) served text (standing locked.new cpus.new))) }
 {
     let mut answers = String::new(alloc);
     for line in lines {
-        serve_line(locked, tables, cpus, line, explains, &mut answers)?;
+        serve_line(locked, tables, cpus, line, is_explained, &mut answers)?;
     }
     Ok(answers.into_bytes())
 }
@@ -57,11 +57,11 @@ fn serve_line<N: BootName>(
     tables: &Tables<N>,
     cpus: &mut [Cpu<N>],
     line: &Line<'_>,
-    explains: bool,
+    is_explained: bool,
     answers: &mut String,
 ) -> Result<(), AllocError>
     requires { LineIsThere N.frames.frames (length cpus.old) line.now }
-    ensures { AddsText result (λ before text after. GoesWell N.frames N.stocks explains before line.now text after)
+    ensures { AddsText result (λ before text after. GoesWell N.frames N.stocks is_explained before line.now text after)
         (standing locked.old cpus.old) (standing locked.new cpus.new)
         (string_bytes answers.old) (string_bytes answers.new) }
 {
@@ -76,7 +76,7 @@ fn serve_line<N: BootName>(
             ..
         } => {
             let at = (*processor - 1) as usize;
-            serve_part(locked, tables, &mut cpus[at], command, explains, answers)
+            serve_part(locked, tables, &mut cpus[at], command, is_explained, answers)
         }
     }
 }
@@ -87,11 +87,11 @@ fn serve_part<N: BootName>(
     tables: &Tables<N>,
     cpu: &mut Cpu<N>,
     command: &Command<'_>,
-    explains: bool,
+    is_explained: bool,
     answers: &mut String,
 ) -> Result<(), AllocError>
     requires { NamesInRange N.frames.frames command.now }
-    ensures answered { AddsText result (AnswersText N.frames explains command.now)
+    ensures answered { AddsText result (AnswersText N.frames is_explained command.now)
         (holder locked.old cpu.old) (holder locked.new cpu.new) (string_bytes answers.old) (string_bytes answers.new) }
     ensures quiet { IsQuiet N.frames N.stocks locked.new }
     ensures consistent { IsConsistent N.frames N.stocks locked.new.machine }
@@ -99,7 +99,7 @@ fn serve_part<N: BootName>(
     ensures tied { IsTied N.frames N.stocks cpu.new }
     ensures none_fresh { cpu.new.stock.view.last ≡ NoGroup → cpu.new.fresh ≡ [] }
 {
-    let served = answer_text(locked, tables, cpu, command, explains, answers);
+    let served = answer_text(locked, tables, cpu, command, is_explained, answers);
     let _number = cpu.number(); // For the clauses.
     let _last = cpu.last_stock(); // For the clauses.
     see_well(locked);

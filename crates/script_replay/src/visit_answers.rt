@@ -79,12 +79,12 @@ fn visit_work<N: BootName, R: Wait, G: Gate>(
     let tables = system.tables();
     match *work {
         Work::Visit(cmd) => visited(rt, system, cpu, &cmd, gate, text),
-        Work::Frame { path } => alloc_frame(rt, system, cpu, path, gate, text),
+        Work::Frame { path } => visit_frame(rt, system, cpu, path, gate, text),
         Work::Fast { group } => write_fast(&cpu.alloc_fast(tables, group), text),
-        Work::Release { frame } => release(rt, system, cpu, frame, gate, text),
+        Work::Release { frame } => visit_release(rt, system, cpu, frame, gate, text),
         Work::Get { frame } => get(tables, cpu, frame, text),
         Work::Put { frame } => put(tables, cpu, frame, text),
-        Work::Settle => settle(rt, system, cpu, gate, text),
+        Work::Settle => visit_settle(rt, system, cpu, gate, text),
         Work::Blocks => tell_blocks(rt, alloc, system, cpu, text),
         Work::Show => tell_show(rt, alloc, system, cpu, text),
     }
@@ -109,7 +109,7 @@ fn visited<N: BootName, R: Wait, G: Gate>(
 }
 
 // Settles the processor by a visit, and adds what is answered.
-fn settle<N: BootName, R: Wait, G: Gate>(
+fn visit_settle<N: BootName, R: Wait, G: Gate>(
     rt: &R,
     system: &System<N>,
     cpu: &mut Cpu<N>,
@@ -124,7 +124,7 @@ fn settle<N: BootName, R: Wait, G: Gate>(
 }
 
 // Takes a frame, without the lock where it can be, and adds what is answered.
-fn alloc_frame<N: BootName, R: Wait, G: Gate>(
+fn visit_frame<N: BootName, R: Wait, G: Gate>(
     rt: &R,
     system: &System<N>,
     cpu: &mut Cpu<N>,
@@ -145,7 +145,7 @@ fn alloc_frame<N: BootName, R: Wait, G: Gate>(
 }
 
 // Lists a fresh frame again, without the lock where it can be, and adds what is answered.
-fn release<N: BootName, R: Wait, G: Gate>(
+fn visit_release<N: BootName, R: Wait, G: Gate>(
     rt: &R,
     system: &System<N>,
     cpu: &mut Cpu<N>,

@@ -34,13 +34,13 @@ pub fn replay_by_visits<N: BootName, R: Wait>(
 {
     let mut answers = String::new(alloc);
     for line in lines {
-        serve_line(rt, alloc, system, cpus, line, &mut answers)?;
+        serve_by_visit(rt, alloc, system, cpus, line, &mut answers)?;
     }
     Ok(answers.into_bytes())
 }
 
 // Serves a line and adds its answer.
-fn serve_line<N: BootName, R: Wait>(
+fn serve_by_visit<N: BootName, R: Wait>(
     rt: &R,
     alloc: Global,
     system: &System<N>,

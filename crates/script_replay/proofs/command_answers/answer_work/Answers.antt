@@ -11,14 +11,14 @@ use Rattle.mem_system.specs.Commands.{holder}
 use Rattle.script_replay.proofs.command_answers.answer_work.Goals as goal
 
 pub returns-in-Fast : goal.returns-in-Fast
-returns-in-Fast g c = subst (λ (work : Work). (said : List ℕ) × AnswersWork g.N.BootName.frames c.args.explains work (holder c.args.locked.now c.args.cpu.now) said (holder c.args.locked.now c.alloc_fast.new.self)
+returns-in-Fast g c = subst (λ (work : Work). (said : List ℕ) × AnswersWork g.N.BootName.frames c.args.is_explained work (holder c.args.locked.now c.args.cpu.now) said (holder c.args.locked.now c.alloc_fast.new.self)
     × IfOk c.write_fast.result (λ _. string_bytes c.write_fast.new.text ≡ string_bytes c.args.text.now ++ said)) (sym c.in-Fast.is)
     (told_alone (λ (said : Answer). AnswersFast c.in-Fast.group (holder c.args.locked.now c.args.cpu.now) said (holder c.args.locked.now c.alloc_fast.new.self))
     (λ said so. []) (answer.Fast c.alloc_fast.result) (string_bytes c.args.text.now) (string_bytes c.write_fast.new.text) c.write_fast.result
     (c.alloc_fast.ensures.answer, refl) refl c.write_fast.ensures)
 
 pub returns-in-Get : goal.returns-in-Get
-returns-in-Get g c = subst (λ (work : Work). (said : List ℕ) × AnswersWork g.N.BootName.frames c.args.explains work (holder c.args.locked.now c.args.cpu.now) said (holder c.args.locked.now c.get.new.cpu)
+returns-in-Get g c = subst (λ (work : Work). (said : List ℕ) × AnswersWork g.N.BootName.frames c.args.is_explained work (holder c.args.locked.now c.args.cpu.now) said (holder c.args.locked.now c.get.new.cpu)
     × IfOk c.get.result (λ _. string_bytes c.get.new.text ≡ string_bytes c.args.text.now ++ said)) (sym c.in-Get.is)
     (alone (λ (said : Answer). AnswersGet c.in-Get.frame (holder c.args.locked.now c.args.cpu.now) said (holder c.args.locked.now c.get.new.cpu))
     (λ said so. []) (string_bytes c.args.text.now) (string_bytes c.get.new.text) c.get.result (λ said so. refl)
@@ -27,7 +27,7 @@ returns-in-Get g c = subst (λ (work : Work). (said : List ℕ) × AnswersWork g
     (string_bytes c.args.text.now) (string_bytes c.get.new.text) c.get.result (λ said so. (so, refl)) c.get.ensures))
 
 pub returns-in-Put : goal.returns-in-Put
-returns-in-Put g c = subst (λ (work : Work). (said : List ℕ) × AnswersWork g.N.BootName.frames c.args.explains work (holder c.args.locked.now c.args.cpu.now) said (holder c.args.locked.now c.put.new.cpu)
+returns-in-Put g c = subst (λ (work : Work). (said : List ℕ) × AnswersWork g.N.BootName.frames c.args.is_explained work (holder c.args.locked.now c.args.cpu.now) said (holder c.args.locked.now c.put.new.cpu)
     × IfOk c.put.result (λ _. string_bytes c.put.new.text ≡ string_bytes c.args.text.now ++ said)) (sym c.in-Put.is)
     (alone (λ (said : Answer). AnswersPut c.in-Put.frame (holder c.args.locked.now c.args.cpu.now) said (holder c.args.locked.now c.put.new.cpu))
     (λ said so. []) (string_bytes c.args.text.now) (string_bytes c.put.new.text) c.put.result (λ said so. refl)
@@ -36,19 +36,19 @@ returns-in-Put g c = subst (λ (work : Work). (said : List ℕ) × AnswersWork g
     (string_bytes c.args.text.now) (string_bytes c.put.new.text) c.put.result (λ said so. (so, refl)) c.put.ensures))
 
 pub returns-in-Settle : goal.returns-in-Settle
-returns-in-Settle g c = subst (λ (work : Work). (said : List ℕ) × AnswersWork g.N.BootName.frames c.args.explains work (holder c.args.locked.now c.args.cpu.now) said (holder c.settle.new.locked c.settle.new.cpu)
+returns-in-Settle g c = subst (λ (work : Work). (said : List ℕ) × AnswersWork g.N.BootName.frames c.args.is_explained work (holder c.args.locked.now c.args.cpu.now) said (holder c.settle.new.locked c.settle.new.cpu)
     × IfOk c.write_settled.result (λ _. string_bytes c.write_settled.new.text ≡ string_bytes c.args.text.now ++ said)) (sym c.in-Settle.is)
     (told_alone (λ (said : Answer). AnswersSettle g.N.BootName.frames (holder c.args.locked.now c.args.cpu.now) said (holder c.settle.new.locked c.settle.new.cpu))
     (λ said so. []) answer.Settled (string_bytes c.args.text.now) (string_bytes c.write_settled.new.text) c.write_settled.result c.settle.ensures.served refl c.write_settled.ensures)
 
 pub returns-in-Blocks : goal.returns-in-Blocks
-returns-in-Blocks g c = subst (λ (work : Work). (said : List ℕ) × AnswersWork g.N.BootName.frames c.args.explains work (holder c.args.locked.now c.args.cpu.now) said
+returns-in-Blocks g c = subst (λ (work : Work). (said : List ℕ) × AnswersWork g.N.BootName.frames c.args.is_explained work (holder c.args.locked.now c.args.cpu.now) said
     (holder c.settle-in-Blocks.new.locked c.settle-in-Blocks.new.cpu)
     × IfOk c.write_blocks.result (λ _. string_bytes c.write_blocks.new.text ≡ string_bytes c.args.text.now ++ said)) (sym c.in-Blocks.is)
     (blocks_text c.machine.result.now.blocks, (c.settle-in-Blocks.ensures.served, search rules), c.write_blocks.ensures)
 
 pub returns-in-Show : goal.returns-in-Show
-returns-in-Show g c = subst (λ (work : Work). (said : List ℕ) × AnswersWork g.N.BootName.frames c.args.explains work (holder c.args.locked.now c.args.cpu.now) said
+returns-in-Show g c = subst (λ (work : Work). (said : List ℕ) × AnswersWork g.N.BootName.frames c.args.is_explained work (holder c.args.locked.now c.args.cpu.now) said
     (holder c.settle-in-Show.new.locked c.settle-in-Show.new.cpu)
     × IfOk c.write_show.result (λ _. string_bytes c.write_show.new.text ≡ string_bytes c.args.text.now ++ said)) (sym c.in-Show.is)
     (show_text c.machine-in-Show.result.now, (c.settle-in-Show.ensures.served, search rules), c.write_show.ensures)

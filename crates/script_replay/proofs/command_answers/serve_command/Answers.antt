@@ -13,7 +13,7 @@ pub returns-in_err-write_outcome : goal.returns-in_err-write_outcome
 returns-in_err-write_outcome g c =
     let after = c.carry_out-outcome.new in
     told_kills (λ (said : Answer). RepliesServed g.N.BootName.frames c.args.cmd.now (holder c.args.locked.now c.args.cpu.now) said (holder after.locked after.cpu))
-    (λ said so. kills_text c.args.explains after.locked.machine) (Served (reply_of after.locked.machine.ledger c.carry_out-outcome.result))
+    (λ said so. kills_text c.args.is_explained after.locked.machine) (Served (reply_of after.locked.machine.ledger c.carry_out-outcome.result))
     (string_bytes c.args.text.now) (string_bytes c.write_outcome.new.text) _ c.carry_out-outcome.ensures.served (search rules)
 
 pub returns : goal.returns
@@ -21,9 +21,9 @@ returns g c =
     let after = c.carry_out-outcome.new in
     let outcome = c.carry_out-outcome.result in
     told_kills (λ (said : Answer). RepliesServed g.N.BootName.frames c.args.cmd.now (holder c.args.locked.now c.args.cpu.now) said (holder after.locked after.cpu))
-    (λ said so. kills_text c.args.explains after.locked.machine) (Served (reply_of after.locked.machine.ledger outcome))
+    (λ said so. kills_text c.args.is_explained after.locked.machine) (Served (reply_of after.locked.machine.ledger outcome))
     (string_bytes c.args.text.now) (string_bytes c.explain.new.text) c.explain.result c.carry_out-outcome.ensures.served
     (behind c.explain.result (string_bytes c.args.text.now) (string_bytes c.write_outcome.new.text) (string_bytes c.explain.new.text)
-    (reply_text (reply_of after.locked.machine.ledger outcome)) (kills_text c.args.explains after.locked.machine)
+    (reply_text (reply_of after.locked.machine.ledger outcome)) (kills_text c.args.is_explained after.locked.machine)
     (c.in_ok-write_outcome.ensures ∙ ap (λ (l : Ledger). string_bytes c.args.text.now ++ reply_text (reply_of l outcome)) c.charges.ensures)
     c.explain.ensures)

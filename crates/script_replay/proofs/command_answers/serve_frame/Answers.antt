@@ -14,7 +14,7 @@ pub returns-in_err-write_outcome : goal.returns-in_err-write_outcome
 returns-in_err-write_outcome g c path at =
     let after = c.carry_out_frame-outcome.new in
     told_kills (λ (said : Answer). RepliesServed g.N.BootName.frames (Alloc path 0) (holder c.args.locked.now c.args.cpu.now) said (holder after.locked after.cpu))
-    (λ said so. kills_text c.args.explains after.locked.machine) (Served (reply_of after.locked.machine.ledger c.carry_out_frame-outcome.result))
+    (λ said so. kills_text c.args.is_explained after.locked.machine) (Served (reply_of after.locked.machine.ledger c.carry_out_frame-outcome.result))
     (string_bytes c.args.text.now) (string_bytes c.write_outcome.new.text) _ (c.carry_out_frame-outcome.ensures.served path at) (search rules)
 
 pub returns : goal.returns
@@ -22,9 +22,9 @@ returns g c path at =
     let after = c.carry_out_frame-outcome.new in
     let outcome = c.carry_out_frame-outcome.result in
     told_kills (λ (said : Answer). RepliesServed g.N.BootName.frames (Alloc path 0) (holder c.args.locked.now c.args.cpu.now) said (holder after.locked after.cpu))
-    (λ said so. kills_text c.args.explains after.locked.machine) (Served (reply_of after.locked.machine.ledger outcome))
+    (λ said so. kills_text c.args.is_explained after.locked.machine) (Served (reply_of after.locked.machine.ledger outcome))
     (string_bytes c.args.text.now) (string_bytes c.explain.new.text) c.explain.result (c.carry_out_frame-outcome.ensures.served path at)
     (behind c.explain.result (string_bytes c.args.text.now) (string_bytes c.write_outcome.new.text) (string_bytes c.explain.new.text)
-    (reply_text (reply_of after.locked.machine.ledger outcome)) (kills_text c.args.explains after.locked.machine)
+    (reply_text (reply_of after.locked.machine.ledger outcome)) (kills_text c.args.is_explained after.locked.machine)
     (c.in_ok-write_outcome.ensures ∙ ap (λ (l : Ledger). string_bytes c.args.text.now ++ reply_text (reply_of l outcome)) c.charges.ensures)
     c.explain.ensures)

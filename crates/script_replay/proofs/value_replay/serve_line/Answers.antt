@@ -6,7 +6,7 @@ use Rattle.script_replay.proofs.value_replay.serve_line.Goals as goal
 
 pub returns-in-At : goal.returns-in-At
 returns-in-At g c =
-    part_read g.N.BootName.frames g.N.BootName.stocks c.args.explains c.args.locked.now c.serve_part.new.locked c.args.cpus.now c.args.line.now c.in-At.processor c.in-At.command
+    part_read g.N.BootName.frames g.N.BootName.stocks c.args.is_explained c.args.locked.now c.serve_part.new.locked c.args.cpus.now c.args.line.now c.in-At.processor c.in-At.command
     (get_or c.args.cpus.now (c.in-At.processor - 1) c.index-cpus-at.result) c.serve_part.new.cpu _ (string_bytes c.args.answers.now)
     (string_bytes c.serve_part.new.answers) c.in-At.is c.requires
     (ap (λ (d : KnownCpu). get_or c.args.cpus.now (c.in-At.processor - 1) d) c.index-cpus-at.is)

@@ -6,15 +6,15 @@ use Rattle.script_replay.proofs.visit_replay.replay_by_visits.Goals as goal
 
 pub loop-line-preserved : goal.loop-line-preserved
 loop-line-preserved g c =
-    visits_line g.N.BootName.frames g.N.BootName.stocks c.args.cpus.now c.loop-line.cpus c.serve_line.new.cpus
-    c.args.lines.now c.loop-line.line-index _ (string_bytes c.loop-line.answers) (string_bytes c.serve_line.new.answers) c.loop-line-test.true
-    c.loop-line.invariant c.in_ok-serve_line.ensures
+    visits_line g.N.BootName.frames g.N.BootName.stocks c.args.cpus.now c.loop-line.cpus c.serve_by_visit.new.cpus
+    c.args.lines.now c.loop-line.line-index _ (string_bytes c.loop-line.answers) (string_bytes c.serve_by_visit.new.answers) c.loop-line-test.true
+    c.loop-line.invariant c.in_ok-serve_by_visit.ensures
 
-pub returns-in_err-serve_line-clause-stopped : goal.returns-in_err-serve_line-clause-stopped
-returns-in_err-serve_line-clause-stopped g c =
-    at_error c.from_residual.result _ (visits_stop g.N.BootName.frames g.N.BootName.stocks c.args.cpus.now c.loop-line.cpus c.serve_line.new.cpus
-    c.args.lines.now c.loop-line.line-index _ (string_bytes c.loop-line.answers) c.serve_line.ensures.0 c.loop-line-test.true
-    c.loop-line.invariant c.serve_line.ensures.1)
+pub returns-in_err-serve_by_visit-clause-stopped : goal.returns-in_err-serve_by_visit-clause-stopped
+returns-in_err-serve_by_visit-clause-stopped g c =
+    at_error c.from_residual.result _ (visits_stop g.N.BootName.frames g.N.BootName.stocks c.args.cpus.now c.loop-line.cpus c.serve_by_visit.new.cpus
+    c.args.lines.now c.loop-line.line-index _ (string_bytes c.loop-line.answers) c.serve_by_visit.ensures.0 c.loop-line-test.true
+    c.loop-line.invariant c.serve_by_visit.ensures.1)
 
 pub returns-clause-answers : goal.returns-clause-answers
 returns-clause-answers g c =

@@ -2,7 +2,7 @@ use Rattle.std.proofs.Common.{◌-◌, get_or, ap}
 use Rattle.std.specs.String.{string_bytes}
 use Rattle.cpu_part.specs.Cpus.{KnownCpu}
 use Rattle.script_replay.proofs.Visiting.{part_visited}
-use Rattle.script_replay.proofs.visit_replay.serve_line.Goals as goal
+use Rattle.script_replay.proofs.visit_replay.serve_by_visit.Goals as goal
 
 pub returns-in-At : goal.returns-in-At
 returns-in-At g c =

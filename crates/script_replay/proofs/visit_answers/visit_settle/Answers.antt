@@ -3,7 +3,7 @@ use Rattle.reply_texts.specs.Answer.{Answer, Settled}
 use Rattle.script_replay.specs.Visits.{VisitsSettle}
 use Rattle.script_replay.proofs.Telling.{told}
 use Rattle.script_replay.proofs.Visiting.{settled_done}
-use Rattle.script_replay.proofs.visit_answers.settle.Goals as goal
+use Rattle.script_replay.proofs.visit_answers.visit_settle.Goals as goal
 
 pub returns : goal.returns
 returns g c =

@@ -12,13 +12,13 @@ use Rattle.mem_system.proofs.Found.{found_there}
 use Rattle.script_replay.proofs.Fronts.{served_after, served_kills}
 use Rattle.script_replay.proofs.Telling.{kills_as, told_alone}
 use Rattle.mem_system.specs.Commands.{holder}
-use Rattle.script_replay.proofs.command_answers.alloc_frame.Goals as goal
+use Rattle.script_replay.proofs.command_answers.answer_frame.Goals as goal
 
 pub returns-in_default : goal.returns-in_default
 returns-in_default g c =
     let same = holder c.args.locked.now c.args.cpu.now in
     told_alone (λ (said : Answer). AnswersFrame g.N.BootName.frames c.args.path same said same)
-    (λ said so. frame_kills c.args.explains g.N.BootName.frames c.args.path same said same so) (Served (Refused NoGroup)) (string_bytes c.args.text.now)
+    (λ said so. frame_kills c.args.is_explained g.N.BootName.frames c.args.path same said same so) (Served (Refused NoGroup)) (string_bytes c.args.text.now)
     (string_bytes c.write_refusal.new.text) c.write_refusal.result (inl (sym c.in_default.ensures.found, refl, refl, refl))
     refl c.write_refusal.ensures
 
@@ -30,7 +30,7 @@ returns-in-Got g c =
     let before = holder c.args.locked.now c.args.cpu.now in
     let after = holder c.args.locked.now c.alloc_fast.new.self in
     told_alone (λ (said : Answer). AnswersFrame g.N.BootName.frames c.args.path before said after)
-    (λ said so. frame_kills c.args.explains g.N.BootName.frames c.args.path before said after so) (answer.Fast (Got c.in-Got.frame)) (string_bytes c.args.text.now)
+    (λ said so. frame_kills c.args.is_explained g.N.BootName.frames c.args.path before said after so) (answer.Fast (Got c.in-Got.frame)) (string_bytes c.args.text.now)
     (string_bytes c.write_fast.new.text) c.write_fast.result (
       c.in-Some.group,
       sym c.in-Some.ensures.found,
@@ -54,9 +54,9 @@ returns-in_default-alloc_fast g c =
     } in
     kills_as (λ (said : Answer). RepliesServed t (cmd.Alloc path 0) (holder l seen) said (holder after.locked after.cpu))
     (λ (said : Answer). AnswersFrame t path (holder l c.args.cpu.now) said (holder after.locked after.cpu))
-    (λ said so. kills_text c.args.explains after.locked.machine)
-    (λ said so. frame_kills c.args.explains t path (holder l c.args.cpu.now) said (holder after.locked after.cpu) so)
+    (λ said so. kills_text c.args.is_explained after.locked.machine)
+    (λ said so. frame_kills c.args.is_explained t path (holder l c.args.cpu.now) said (holder after.locked after.cpu) so)
     (string_bytes c.args.text.now) (string_bytes after.text) c.serve_frame.result
     (λ said so. served_after t path l c.args.cpu.now seen said after.locked after.cpu none so)
-    (λ said so. served_kills c.args.explains t path l c.args.cpu.now seen said after.locked after.cpu none so)
+    (λ said so. served_kills c.args.is_explained t path l c.args.cpu.now seen said after.locked after.cpu none so)
     (c.serve_frame.ensures path (sym c.in-Some.ensures.found))

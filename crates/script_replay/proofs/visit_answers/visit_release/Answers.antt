@@ -3,7 +3,7 @@ use Rattle.std.specs.String.{string_bytes}
 use Rattle.reply_texts.specs.Answer.{Answer, Listed}
 use Rattle.script_replay.specs.Visits.{VisitsRelease}
 use Rattle.script_replay.proofs.Telling.{told}
-use Rattle.script_replay.proofs.visit_answers.release.Goals as goal
+use Rattle.script_replay.proofs.visit_answers.visit_release.Goals as goal
 
 pub returns-then-try_list : goal.returns-then-try_list
 returns-then-try_list g c =

@@ -10,7 +10,7 @@ use Rattle.reply_texts.specs.Answer as answer
 use Rattle.script_replay.specs.Visits.{RepliesVisited, VisitsFrame}
 use Rattle.script_replay.proofs.Telling.{told, told_as}
 use Rattle.script_replay.proofs.Visiting.{visited_after}
-use Rattle.script_replay.proofs.visit_answers.alloc_frame.Goals as goal
+use Rattle.script_replay.proofs.visit_answers.visit_frame.Goals as goal
 
 pub returns-in_default : goal.returns-in_default
 returns-in_default g c =
