@@ -41,7 +41,7 @@ pub fn finish<N: BootName>(tables: Tables<N>, locked: Locked<N>, cpus: Vec<Cpu<N
     requires { length cpus.items ≡ N.frames.cpus }
     ensures { EndsHeld N.frames N.stocks (record { locked = locked; cpus = cpus.items }) result.held result.audit }
 {
-    match end(tables, locked, cpus) {
+    match end(locked, tables, cpus) {
         Ok(audit) => Ended { held: 0, audit },
         Err(pinned) => {
             let Pinned {
@@ -51,7 +51,7 @@ pub fn finish<N: BootName>(tables: Tables<N>, locked: Locked<N>, cpus: Vec<Cpu<N
                 pins,
             } = pinned;
             put_all(&tables, &mut cpus);
-            match end(tables, locked, cpus) {
+            match end(locked, tables, cpus) {
                 Ok(audit) => Ended { held: pins, audit },
                 Err(_) => unreachable!(),
             }

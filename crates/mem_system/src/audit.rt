@@ -27,7 +27,7 @@ pub struct Audit {
 }
 
 // Counts the frames by their places, and tells the counts of the machine, with so many drops of the processors' own.
-pub(crate) fn take_audit<N: BootName>(tables: &Tables<N>, machine: &Machine<N>, drops: u64) -> Audit
+pub(crate) fn take_audit<N: BootName>(machine: &Machine<N>, tables: &Tables<N>, drops: u64) -> Audit
     ensures { Tells N.frames machine.now drops result }
 {
     let places = machine.count_places(tables);

@@ -92,8 +92,8 @@ fn close<N: BootName>(
 /// in a visit; then the tables are closed, and the answer is what was counted. Where a pin remains, nothing is done,
 /// and all is given back.
 pub fn end<N: BootName>(
-    tables: Tables<N>,
     locked: Locked<N>,
+    tables: Tables<N>,
     mut cpus: Vec<Cpu<N>>,
 ) -> Result<Audit, Pinned<N>>
     requires { length cpus.items ≡ N.frames.cpus }
@@ -123,7 +123,7 @@ pub fn end<N: BootName>(
     } = locked;
     rest_all(&mut machine, &tables, &mut cpus);
     empty_all(&mut machine, &tables, &mut cpus);
-    let audit = take_audit(&tables, &machine, drops);
+    let audit = take_audit(&machine, &tables, drops);
     let (frame_seats, stock_seats) = gather_seats(cpus, frame_seats, stock_seats);
     close(tables, machine, frame_seats, stock_seats);
     Ok(audit)

@@ -8,7 +8,7 @@ ghost use Rattle.mem_system.specs.Outcomes.{HasItsGroups, reply_of};
 ghost use Rattle.mem_system.specs.Commands.{BySteps, FreshAfter, IsOfZone, IsSettled, ListAndFreshStayWithin, Obeys};
 
 use crate::allocations::allocate;
-use crate::directories::{make_group, remove_group};
+use crate::groups::{make_group, remove_group};
 use crate::files::{read_file, write_file};
 use crate::outcome::Outcome;
 use crate::owners::tell_place;

@@ -33,7 +33,7 @@ impl<N: BootName> System<N> {
         ensures cpus { IfErr result (λ h. h.cpus.items ≡ cpus.items) }
     {
         let System { tables, locked } = self;
-        match end(tables, locked.into_inner(), cpus) {
+        match end(locked.into_inner(), tables, cpus) {
             Ok(audit) => Ok(audit),
             Err(pinned) => Err(Held::of(pinned)),
         }

@@ -3,7 +3,7 @@ use Rattle.cpu_part.specs.Cpus.{KnownCpu}
 use Rattle.mem_machine.specs.Machines.{KnownMachine}
 use Rattle.mem_machine.specs.Local.{local_of}
 use Rattle.mem_machine.specs.Steps.{make_steps}
-use Rattle.mem_system.proofs.directories.make_group.Goals as goal
+use Rattle.mem_system.proofs.groups.make_group.Goals as goal
 
 pub returns-in-Ok-clause-made : goal.returns-in-Ok-clause-made
 returns-in-Ok-clause-made g c =

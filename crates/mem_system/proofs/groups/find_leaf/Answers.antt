@@ -1,7 +1,7 @@
 use Rattle.std.proofs.Common.{◌≡◌, Some, rules}
 use Rattle.group_tree.specs.Groups.{number_at}
 use Rattle.mem_system.proofs.Found.{found_there}
-use Rattle.mem_system.proofs.directories.find_leaf.Goals as goal
+use Rattle.mem_system.proofs.groups.find_leaf.Goals as goal
 
 pub has_child-requires : goal.has_child-requires
 has_child-requires c =
