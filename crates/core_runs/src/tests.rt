@@ -8,7 +8,7 @@ mod recount;
 use group_tree::group::GroupId;
 use group_tree::path::PathText;
 use mem_core::zone::Core;
-use plays::{Fact, Row, group, plays, works};
+use plays::{CoreFact, Row, group, plays, works};
 use std::test::Fail;
 use step_rules::phase::Phase;
 use step_rules::step::{Action, Answer};
@@ -93,7 +93,7 @@ fn a_frame_lives_and_returns_once(rt: HostRuntime) -> Result<(), Fail> {
         (0, Action::ShutVisit { cpu: 2 }, Answer::Done),
         (2, Action::Unlock, Answer::Done),
     ];
-    let facts = [Fact::Current(GroupId::root(), 0), Fact::Pins(2, 0)];
+    let facts = [CoreFact::Current(GroupId::root(), 0), CoreFact::Pins(2, 0)];
     works(&rt, rt.alloc(), &with_frame(), &rows, &facts)
 }
 
@@ -114,12 +114,12 @@ fn a_fresh_frame_is_credited_once(rt: HostRuntime) -> Result<(), Fail> {
         (1, Action::Consume { group }, Answer::Illegal),
     ];
     let facts = [
-        Fact::Fresh(1, 0, Some(1)),
-        Fact::Fresh(1, 1, Some(0)),
-        Fact::Fresh(1, 2, None),
-        Fact::Stock(1, 0),
-        Fact::Book(1, 2),
-        Fact::Current(root, 2),
+        CoreFact::Fresh(1, 0, Some(1)),
+        CoreFact::Fresh(1, 1, Some(0)),
+        CoreFact::Fresh(1, 2, None),
+        CoreFact::Stock(1, 0),
+        CoreFact::Book(1, 2),
+        CoreFact::Current(root, 2),
     ];
     works(&rt, rt.alloc(), &with_stock(2), &rows, &facts)
 }
@@ -148,10 +148,10 @@ fn a_stock_is_drained_before_a_credit(rt: HostRuntime) -> Result<(), Fail> {
         (1, Action::Unlock, Answer::Done),
     ];
     let facts = [
-        Fact::IsHead(0),
-        Fact::Phase(1, Phase::InZone),
-        Fact::Book(1, 0),
-        Fact::Current(GroupId::root(), 1),
+        CoreFact::IsHead(0),
+        CoreFact::Phase(1, Phase::InZone),
+        CoreFact::Book(1, 0),
+        CoreFact::Current(GroupId::root(), 1),
     ];
     works(&rt, rt.alloc(), &with_stock(2), &rows, &facts)
 }
@@ -174,8 +174,8 @@ fn a_frame_is_passed_to_a_list_and_back(rt: HostRuntime) -> Result<(), Fail> {
         (0, Action::Collect { frame: 3, cpu: 2 }, Answer::Done),
         (0, Action::ShutVisit { cpu: 2 }, Answer::Done),
     ];
-    works(&rt, rt.alloc(), &out, &[], &[Fact::Listed(2, 1)])?;
-    works(&rt, rt.alloc(), &out, &back, &[Fact::Listed(2, 0)])
+    works(&rt, rt.alloc(), &out, &[], &[CoreFact::Listed(2, 1)])?;
+    works(&rt, rt.alloc(), &out, &back, &[CoreFact::Listed(2, 0)])
 }
 
 // Four pages are filled, one is consumed, three are drained, and the fresh frame's page is absorbed.
@@ -192,7 +192,7 @@ fn a_book_of_four_pages_falls_to_0(rt: HostRuntime) -> Result<(), Fail> {
         (1, Action::Report { pages: 1 }, Answer::Done),
         (0, Action::Absorb { cpu: 1 }, Answer::Pages(1)),
     ];
-    let facts = [Fact::Book(1, 0), Fact::Pending(group, 3)];
+    let facts = [CoreFact::Book(1, 0), CoreFact::Pending(group, 3)];
     works(&rt, rt.alloc(), &with_stock(4), &rows, &facts)
 }
 
@@ -211,9 +211,9 @@ fn a_killed_groups_fresh_frame_is_dropped(rt: HostRuntime) -> Result<(), Fail> {
         (0, Action::Return { frame: 0 }, Answer::Done),
     ];
     let facts = [
-        Fact::Phase(0, Phase::InZone),
-        Fact::IsKilled(group),
-        Fact::Current(GroupId::root(), 1),
+        CoreFact::Phase(0, Phase::InZone),
+        CoreFact::IsKilled(group),
+        CoreFact::Current(GroupId::root(), 1),
     ];
     works(&rt, rt.alloc(), &with_stock(2), &rows, &facts)
 }
@@ -233,9 +233,9 @@ fn a_pin_outlives_a_kill(rt: HostRuntime) -> Result<(), Fail> {
         (1, Action::Unlock, Answer::Done),
     ];
     let facts = [
-        Fact::Back(2, 0, Some(0)),
-        Fact::Back(2, 1, None),
-        Fact::Current(GroupId::root(), 1),
+        CoreFact::Back(2, 0, Some(0)),
+        CoreFact::Back(2, 1, None),
+        CoreFact::Current(GroupId::root(), 1),
     ];
     works(&rt, rt.alloc(), &with_frame(), &rows, &facts)
 }
@@ -292,12 +292,12 @@ fn a_refused_grant_is_noted(rt: HostRuntime) -> Result<(), Fail> {
         (1, Action::Unlock, Answer::Done),
     ];
     let facts = [
-        Fact::IsThere(group),
-        Fact::Current(group, 0),
-        Fact::Peak(group, 2),
-        Fact::Max(group, limit),
-        Fact::Events(group, 1, 0),
-        Fact::LocalOom(group, 1),
+        CoreFact::IsThere(group),
+        CoreFact::Current(group, 0),
+        CoreFact::Peak(group, 2),
+        CoreFact::Max(group, limit),
+        CoreFact::Events(group, 1, 0),
+        CoreFact::LocalOom(group, 1),
     ];
     works(&rt, rt.alloc(), &with_group(), &rows, &facts)
 }
@@ -326,10 +326,10 @@ fn with_block() -> [Row; 6] {
 #[test]
 fn a_block_is_kept_whole(rt: HostRuntime) -> Result<(), Fail> {
     let facts = [
-        Fact::Current(group(1), 4),
-        Fact::IsHead(0),
-        Fact::Phase(1, Phase::Tail(group(1))),
-        Fact::Phase(3, Phase::Tail(group(1))),
+        CoreFact::Current(group(1), 4),
+        CoreFact::IsHead(0),
+        CoreFact::Phase(1, Phase::Tail(group(1))),
+        CoreFact::Phase(3, Phase::Tail(group(1))),
     ];
     works(&rt, rt.alloc(), &with_block(), &[], &facts)
 }
@@ -346,11 +346,11 @@ fn a_block_comes_back_whole(rt: HostRuntime) -> Result<(), Fail> {
         (1, Action::Unlock, Answer::Done),
     ];
     let facts = [
-        Fact::Current(group(1), 0),
-        Fact::Phase(0, Phase::InZone),
-        Fact::Phase(1, Phase::InZone),
-        Fact::Phase(2, Phase::InZone),
-        Fact::Phase(3, Phase::InZone),
+        CoreFact::Current(group(1), 0),
+        CoreFact::Phase(0, Phase::InZone),
+        CoreFact::Phase(1, Phase::InZone),
+        CoreFact::Phase(2, Phase::InZone),
+        CoreFact::Phase(3, Phase::InZone),
     ];
     works(&rt, rt.alloc(), &with_block(), &rows, &facts)
 }
@@ -375,6 +375,6 @@ fn a_placed_unit_is_not_dropped(rt: HostRuntime) -> Result<(), Fail> {
         (0, Action::Return { frame: 0 }, Answer::Done),
         (1, Action::Unlock, Answer::Done),
     ];
-    let facts = [Fact::Current(group, 0), Fact::Phase(0, Phase::InZone)];
+    let facts = [CoreFact::Current(group, 0), CoreFact::Phase(0, Phase::InZone)];
     works(&rt, rt.alloc(), &with_group(), &rows, &facts)
 }

@@ -13,7 +13,7 @@ pub type Row = (u32, Action, Answer);
 
 /// What has to be so after a run.
 #[derive(Clone, Copy)]
-pub enum Fact {
+pub enum CoreFact {
     /// The usage of a group.
     Current(GroupId, u128),
     /// The highest usage of a group that is there.
@@ -71,41 +71,41 @@ pub fn plays(rt: &impl Abort, core: &mut Core, rows: &[Row]) {
 }
 
 // Whether the fact about a group is so, and the group there.
-fn is_so_of_group(core: &Core, fact: &Fact, group: GroupId) -> bool {
+fn is_so_of_group(core: &Core, fact: &CoreFact, group: GroupId) -> bool {
     if !core.tree().contains(group) {
         return false;
     }
     match *fact {
-        Fact::Peak(_, peak) => core.peak(group) == peak,
-        Fact::Max(_, limit) => core.max(group) == limit,
-        Fact::Events(_, max, oom_kill) => {
+        CoreFact::Peak(_, peak) => core.peak(group) == peak,
+        CoreFact::Max(_, limit) => core.max(group) == limit,
+        CoreFact::Events(_, max, oom_kill) => {
             let events = core.events(group);
             events.max == max && events.oom_kill == oom_kill
         }
-        Fact::LocalOom(_, oom) => core.events_local(group).oom == oom,
+        CoreFact::LocalOom(_, oom) => core.events_local(group).oom == oom,
         _ => true,
     }
 }
 
 // Whether the fact is so.
-fn is_so(core: &Core, fact: &Fact) -> bool {
+fn is_so(core: &Core, fact: &CoreFact) -> bool {
     match *fact {
-        Fact::Current(group, pages) => core.current(group) == pages,
-        Fact::Pending(group, pages) => core.pending(group) == pages,
-        Fact::IsKilled(group) => core.is_killed(group),
-        Fact::Peak(group, _)
-        | Fact::Max(group, _)
-        | Fact::Events(group, ..)
-        | Fact::LocalOom(group, _)
-        | Fact::IsThere(group) => is_so_of_group(core, fact, group),
-        Fact::Pins(cpu, pins) => core.pins(cpu) == pins,
-        Fact::Book(cpu, pages) => core.book(cpu) == pages,
-        Fact::Stock(cpu, pages) => core.stock_pages(cpu) == pages,
-        Fact::Listed(cpu, frames) => core.list_len(cpu) == frames,
-        Fact::Fresh(cpu, at, frame) => core.fresh(cpu).get(at).copied() == frame,
-        Fact::Back(cpu, at, frame) => core.back(cpu).get(at).copied() == frame,
-        Fact::Phase(frame, phase) => core.phase(frame) == phase,
-        Fact::IsHead(frame) => matches!(core.phase(frame), Phase::Head { .. }),
+        CoreFact::Current(group, pages) => core.current(group) == pages,
+        CoreFact::Pending(group, pages) => core.pending(group) == pages,
+        CoreFact::IsKilled(group) => core.is_killed(group),
+        CoreFact::Peak(group, _)
+        | CoreFact::Max(group, _)
+        | CoreFact::Events(group, ..)
+        | CoreFact::LocalOom(group, _)
+        | CoreFact::IsThere(group) => is_so_of_group(core, fact, group),
+        CoreFact::Pins(cpu, pins) => core.pins(cpu) == pins,
+        CoreFact::Book(cpu, pages) => core.book(cpu) == pages,
+        CoreFact::Stock(cpu, pages) => core.stock_pages(cpu) == pages,
+        CoreFact::Listed(cpu, frames) => core.list_len(cpu) == frames,
+        CoreFact::Fresh(cpu, at, frame) => core.fresh(cpu).get(at).copied() == frame,
+        CoreFact::Back(cpu, at, frame) => core.back(cpu).get(at).copied() == frame,
+        CoreFact::Phase(frame, phase) => core.phase(frame) == phase,
+        CoreFact::IsHead(frame) => matches!(core.phase(frame), Phase::Head { .. }),
     }
 }
 
@@ -115,7 +115,7 @@ pub fn works(
     alloc: Global,
     begin: &[Row],
     rows: &[Row],
-    facts: &[Fact],
+    facts: &[CoreFact],
 ) -> Result<(), Fail> {
     let mut core = Core::new(alloc, 8, 3)?;
     plays(rt, &mut core, begin);

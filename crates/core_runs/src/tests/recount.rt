@@ -9,7 +9,7 @@ pub const FRAMES: u32 = 8;
 
 // Where a frame is: with the zone, with a processor, or kept by a group of this number.
 #[derive(Clone, Copy)]
-pub enum Spot {
+pub enum Recounted {
     Free,
     Out(u32),
     Listed(u32),
@@ -44,7 +44,7 @@ struct Filled {
 pub struct Recount {
     pub holder: Option<u32>,
     is_visiting: bool,
-    spots: [Spot; 8],
+    spots: [Recounted; 8],
     // A seat and a frame for each reference.
     references: Vec<(u32, u32)>,
     // A processor, or 0 while it is pending, and a group for each page.
@@ -90,24 +90,24 @@ fn take_out(pairs: &mut Vec<(u32, u32)>, wanted: (u32, u32)) {
     }
 }
 
-fn keeper(spot: Spot) -> Option<u32> {
+fn keeper(spot: Recounted) -> Option<u32> {
     match spot {
-        Spot::Fresh(_, group) => Some(group),
-        Spot::Back(_, group) => Some(group),
-        Spot::BackReturning(_, group) => Some(group),
-        Spot::InHand(group, _) => Some(group),
-        Spot::Live(group) => Some(group),
+        Recounted::Fresh(_, group) => Some(group),
+        Recounted::Back(_, group) => Some(group),
+        Recounted::BackReturning(_, group) => Some(group),
+        Recounted::InHand(group, _) => Some(group),
+        Recounted::Live(group) => Some(group),
         _ => None,
     }
 }
 
-fn suits(spot: Spot, sought: Sought) -> bool {
+fn suits(spot: Recounted, sought: Sought) -> bool {
     match (spot, sought) {
-        (Spot::Out(at), Sought::Passing(cpu)) => at == cpu,
-        (Spot::Returning(at), Sought::Passing(cpu)) => at == cpu,
-        (Spot::BackReturning(at, _), Sought::Passing(cpu)) => at == cpu,
-        (Spot::Fresh(at, _), Sought::Fresh(cpu)) => at == cpu,
-        (Spot::InHand(_, is_ended), Sought::Ended) => is_ended,
+        (Recounted::Out(at), Sought::Passing(cpu)) => at == cpu,
+        (Recounted::Returning(at), Sought::Passing(cpu)) => at == cpu,
+        (Recounted::BackReturning(at, _), Sought::Passing(cpu)) => at == cpu,
+        (Recounted::Fresh(at, _), Sought::Fresh(cpu)) => at == cpu,
+        (Recounted::InHand(_, is_ended), Sought::Ended) => is_ended,
         _ => false,
     }
 }
@@ -117,7 +117,7 @@ impl Recount {
         Recount {
             holder: Some(1),
             is_visiting: false,
-            spots: [Spot::Free; 8],
+            spots: [Recounted::Free; 8],
             references: Vec::new(alloc),
             pages: Vec::new(alloc),
             lists: Vec::new(alloc),
@@ -125,20 +125,20 @@ impl Recount {
         }
     }
 
-    fn spot(&self, frame: u32) -> Spot {
+    fn spot(&self, frame: u32) -> Recounted {
         self.spots[(frame % FRAMES) as usize]
     }
 
-    fn set(&mut self, frame: u32, spot: Spot) {
+    fn set(&mut self, frame: u32, spot: Recounted) {
         self.spots[(frame % FRAMES) as usize] = spot;
     }
 
     pub fn is_free(&self, frame: u32) -> bool {
-        matches!(self.spot(frame), Spot::Free)
+        matches!(self.spot(frame), Recounted::Free)
     }
 
     pub fn is_fresh(&self, frame: u32) -> bool {
-        matches!(self.spot(frame), Spot::Fresh(..))
+        matches!(self.spot(frame), Recounted::Fresh(..))
     }
 
     pub fn references(&self, seat: u32, frame: u32) -> u32 {

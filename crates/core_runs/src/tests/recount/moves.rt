@@ -1,6 +1,6 @@
 //! How the plain account answers each step, and what it then keeps.
 
-use super::{Filled, Recount, Sought, Spot, count, is_on_path, take_out};
+use super::{Filled, Recount, Sought, Recounted, count, is_on_path, take_out};
 use group_tree::group::GroupId;
 use std::alloc::AllocError;
 use step_rules::step::{Action, Answer};
@@ -40,36 +40,36 @@ impl Recount {
     }
 
     // Where a frame is after the step; None where the step is illegal.
-    fn moved(&self, seat: u32, action: &Action) -> Option<(u32, Spot)> {
+    fn moved(&self, seat: u32, action: &Action) -> Option<(u32, Recounted)> {
         let is_locked = self.holder.is_some();
         let (frame, spot) = match *action {
             Action::PassOut { frame, cpu } => match self.spot(frame) {
-                Spot::Free if self.visits(cpu) => (frame, Spot::Out(cpu)),
+                Recounted::Free if self.visits(cpu) => (frame, Recounted::Out(cpu)),
                 _ => return None,
             },
             Action::TakeIn { frame } => match self.spot(frame) {
-                Spot::Out(cpu) if cpu == seat => (frame, Spot::Listed(seat)),
+                Recounted::Out(cpu) if cpu == seat => (frame, Recounted::Listed(seat)),
                 _ => return None,
             },
             Action::PassBack { frame } => match self.spot(frame) {
                 _ if !self.visits(seat) => return None,
-                Spot::Listed(_) if self.front(seat) == Some(frame) => (
+                Recounted::Listed(_) if self.front(seat) == Some(frame) => (
                     frame,
-                    Spot::Returning(seat),
+                    Recounted::Returning(seat),
                 ),
-                Spot::Back(cpu, group) if cpu == seat => (frame, Spot::BackReturning(seat, group)),
+                Recounted::Back(cpu, group) if cpu == seat => (frame, Recounted::BackReturning(seat, group)),
                 _ => return None,
             },
             Action::Collect { frame, cpu } => match self.spot(frame) {
-                Spot::Returning(at) if at == cpu && is_locked => (frame, Spot::Free),
-                Spot::BackReturning(at, group) if at == cpu && is_locked => (
+                Recounted::Returning(at) if at == cpu && is_locked => (frame, Recounted::Free),
+                Recounted::BackReturning(at, group) if at == cpu && is_locked => (
                     frame,
-                    Spot::InHand(group, true),
+                    Recounted::InHand(group, true),
                 ),
                 _ => return None,
             },
             Action::Return { frame } => match self.spot(frame) {
-                Spot::InHand(_, true) if is_locked => (frame, Spot::Free),
+                Recounted::InHand(_, true) if is_locked => (frame, Recounted::Free),
                 _ => return None,
             },
             _ => return None,
@@ -82,8 +82,8 @@ impl Recount {
             return Ok(Answer::Illegal);
         };
         match spot {
-            Spot::Listed(_) => self.lists.push((seat, frame))?,
-            Spot::Returning(_) => take_out(&mut self.lists, (seat, frame)),
+            Recounted::Listed(_) => self.lists.push((seat, frame))?,
+            Recounted::Returning(_) => take_out(&mut self.lists, (seat, frame)),
             _ => {}
         }
         self.set(frame, spot);
@@ -143,7 +143,7 @@ impl Recount {
             None => Answer::NoFreeBlock,
             Some(at) => {
                 take_out(&mut self.pages, (0, group));
-                self.set(at, Spot::InHand(group, false));
+                self.set(at, Recounted::InHand(group, false));
                 Answer::Placed(Block { at, order })
             }
         }
@@ -151,9 +151,9 @@ impl Recount {
 
     fn unfreeze(&mut self, frame: u32) -> Result<Answer, AllocError> {
         match self.spot(frame) {
-            Spot::InHand(group, _) if self.holder.is_some() => {
+            Recounted::InHand(group, _) if self.holder.is_some() => {
                 self.references.push((0, frame))?;
-                self.set(frame, Spot::Live(group));
+                self.set(frame, Recounted::Live(group));
                 Ok(Answer::Done)
             }
             _ => Ok(Answer::Illegal),
@@ -178,8 +178,8 @@ impl Recount {
             return Answer::Left(left);
         }
         match self.spot(frame) {
-            Spot::Live(group) if seat == 0 => self.set(frame, Spot::InHand(group, true)),
-            Spot::Live(group) => self.set(frame, Spot::Back(seat, group)),
+            Recounted::Live(group) if seat == 0 => self.set(frame, Recounted::InHand(group, true)),
+            Recounted::Live(group) => self.set(frame, Recounted::Back(seat, group)),
             _ => {}
         }
         Answer::Last
@@ -216,7 +216,7 @@ impl Recount {
                 }
                 take_out(&mut self.pages, (seat, group));
                 take_out(&mut self.lists, (seat, front));
-                self.set(front, Spot::Fresh(seat, group));
+                self.set(front, Recounted::Fresh(seat, group));
                 Answer::Took
             }
             _ => Answer::OtherGroup,
@@ -225,13 +225,13 @@ impl Recount {
 
     fn credit(&mut self, seat: u32, frame: u32) -> Result<Answer, AllocError> {
         match (self.spot(frame), self.last_fill(seat)) {
-            (Spot::Fresh(cpu, group), Some(fill)) if cpu == seat => {
+            (Recounted::Fresh(cpu, group), Some(fill)) if cpu == seat => {
                 if fill.is_drained {
                     return Ok(Answer::Drained);
                 }
                 self.pages.push((seat, group))?;
                 self.lists.push((seat, frame))?;
-                self.set(frame, Spot::Listed(seat));
+                self.set(frame, Recounted::Listed(seat));
                 Ok(Answer::Back)
             }
             _ => Ok(Answer::Illegal),
