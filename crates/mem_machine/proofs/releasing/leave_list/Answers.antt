@@ -1,14 +1,10 @@
+use Rattle.std.proofs.Common.{rules}
 use Rattle.mem_machine.proofs.Leaving.{leave_all}
 use Rattle.mem_machine.proofs.releasing.leave_list.Goals as goal
 
-pub returns-clause-leaves : goal.returns-clause-leaves
-returns-clause-leaves c =
-    (leave_all c.args.links.now c.args.lists.now.items c.args.head c.in-Some.home c.in-Some.ensures c.requires.owner c.requires.groups c.requires.stand
+pub returns : goal.returns
+returns c =
+    let all = leave_all c.args.links.now c.args.lists.now.items c.args.head c.in-Some.home c.in-Some.ensures c.requires.owner c.requires.groups c.requires.stand
     _ _ c.index.ensures _ c.take_off.new.self c.take_off.ensures.stands c.take_off.ensures.owner c.take_off.ensures.inactive c.take_off.ensures.active
-    c.take_off.ensures.forgotten c.take_off.ensures.others c.take_off.ensures.moves c.take_off.ensures.used c.others_stand.ensures c.one_of_all_changes.ensures).leaves
-
-pub returns-clause-stand : goal.returns-clause-stand
-returns-clause-stand c =
-    (leave_all c.args.links.now c.args.lists.now.items c.args.head c.in-Some.home c.in-Some.ensures c.requires.owner c.requires.groups c.requires.stand
-    _ _ c.index.ensures _ c.take_off.new.self c.take_off.ensures.stands c.take_off.ensures.owner c.take_off.ensures.inactive c.take_off.ensures.active
-    c.take_off.ensures.forgotten c.take_off.ensures.others c.take_off.ensures.moves c.take_off.ensures.used c.others_stand.ensures c.one_of_all_changes.ensures).stand
+    c.take_off.ensures.forgotten c.take_off.ensures.others c.take_off.ensures.moves c.take_off.ensures.used c.others_stand.ensures c.one_of_all_changes.ensures in
+    record { leaves = all.leaves; stand = all.stand; frames = search rules; groups = search rules }

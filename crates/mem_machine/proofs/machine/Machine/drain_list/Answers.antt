@@ -22,14 +22,10 @@ pub loop-taken-preserved : goal.loop-taken-preserved
 loop-taken-preserved g c =
     taken_more _ _ _ _ _ _ _ _ c.loop-taken.invariant c.if-not-take_one_back.ensures.takes c.take_one_back.ensures.visit
 
-pub returns-clause-listed : goal.returns-clause-listed
-returns-clause-listed g c = (taken_whole _ _ _ _ _ _ _ c.loop-taken.invariant c.loop-taken.auto.taken-end c.loop-taken-test.false).listed
-
-pub returns-clause-takes : goal.returns-clause-takes
-returns-clause-takes g c = (taken_whole _ _ _ _ _ _ _ c.loop-taken.invariant c.loop-taken.auto.taken-end c.loop-taken-test.false).takes
-
-pub returns-clause-steps : goal.returns-clause-steps
-returns-clause-steps g c = (taken_whole _ _ _ _ _ _ _ c.loop-taken.invariant c.loop-taken.auto.taken-end c.loop-taken-test.false).steps
+pub returns : goal.returns
+returns g c =
+    let all = taken_whole _ _ _ _ _ _ _ c.loop-taken.invariant c.loop-taken.auto.taken-end c.loop-taken-test.false in
+    record { at_most = search rules; listed = all.listed; takes = all.takes; fewer_only_at_the_end = search rules; visit = search rules; steps = all.steps }
 
 pub returns-then-not-take_one_back-clause-at_most : goal.returns-then-not-take_one_back-clause-at_most
 returns-then-not-take_one_back-clause-at_most g c = search rules

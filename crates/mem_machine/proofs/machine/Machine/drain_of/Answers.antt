@@ -49,21 +49,14 @@ returns-then-pages-gt0-clause-steps g c =
     c.drain-pages.ensures.booked c.drain-pages.ensures.drained_before (Some c.args.group) c.requires.group (some_not_none _ _) _ _
     (c.uncharge.ensures.uncharged ∙ ap (λ (n : ℕ). with_uncharge c.self.inside.charges n c.drain-pages.result) id) (ap uncounted c.drain-pages.ensures.machine)).steps
 
-pub returns-else-pages-gt0-clause-drains : goal.returns-else-pages-gt0-clause-drains
-returns-else-pages-gt0-clause-drains g c =
+pub returns-else-pages-gt0 : goal.returns-else-pages-gt0
+returns-else-pages-gt0 g c =
     let none : c.drain-pages.result ≡ 0 = search rules in
-    (drained_all g.N.BootName.frames g.N.BootName.stocks _ _ _ _ c.self.view_is c.self.invariant.0
+    let all = drained_all g.N.BootName.frames g.N.BootName.stocks _ _ _ _ c.self.view_is c.self.invariant.0
     (λ some. c.tree-tree.ensures.legal) c.requires.processor.0 c.requires.processor.1
     c.drain-pages.ensures.booked c.drain-pages.ensures.drained_before (Some c.args.group) c.requires.group (some_not_none _ _) _ _
-    (drained_none c.self.inside.charges (Some c.args.group) _ none) (ap uncounted c.drain-pages.ensures.machine)).drains
-
-pub returns-else-pages-gt0-clause-steps : goal.returns-else-pages-gt0-clause-steps
-returns-else-pages-gt0-clause-steps g c =
-    let none : c.drain-pages.result ≡ 0 = search rules in
-    (drained_all g.N.BootName.frames g.N.BootName.stocks _ _ _ _ c.self.view_is c.self.invariant.0
-    (λ some. c.tree-tree.ensures.legal) c.requires.processor.0 c.requires.processor.1
-    c.drain-pages.ensures.booked c.drain-pages.ensures.drained_before (Some c.args.group) c.requires.group (some_not_none _ _) _ _
-    (drained_none c.self.inside.charges (Some c.args.group) _ none) (ap uncounted c.drain-pages.ensures.machine)).steps
+    (drained_none c.self.inside.charges (Some c.args.group) _ none) (ap uncounted c.drain-pages.ensures.machine) in
+    record { drains = all.drains; steps = all.steps }
 
 pub returns-then-pages-gt0-clause-drains : goal.returns-then-pages-gt0-clause-drains
 returns-then-pages-gt0-clause-drains g c = search rules

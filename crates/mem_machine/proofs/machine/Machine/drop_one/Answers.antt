@@ -37,41 +37,16 @@ invariant_of-self g c =
     c.with_drop-self-inside.ensures) in
     (all.consistent, all.free_is)
 
-pub returns-clause-drops : goal.returns-clause-drops
-returns-clause-drops g c =
+pub returns : goal.returns
+returns g c =
     let k0 : c.unwrap-order.result ≡ 0 = search rules in
     let fits : c.args.group < 64 = search rules in
     let e = c.collect_fresh-frame.ensures in
     let was = was_fresh g.N.BootName.frames g.N.BootName.stocks _ c.args.cpu.now _ c.args.group e.frame e.nothing e.lent e.booked e.group c.requires.group
     fits in
     let u = c.free_unit.ensures in
-    (drop_all g.N.BootName.frames g.N.BootName.stocks _ _ c.self.view_is c.args.cpu.now _ c.number-number.ensures.tied c.self.invariant.0
+    let all = drop_all g.N.BootName.frames g.N.BootName.stocks _ _ c.self.view_is c.args.cpu.now _ c.number-number.ensures.tied c.self.invariant.0
     c.requires.visit _ _ c.self.invariant.1 _ c.args.group was c.requires.killed e.cpu _ c.unwrap-order.result c.number.ensures k0 _ e.zone _ (ap uncounted e.machine)
     _ u.spots _ u.frames u.areas _ u.charges _
-    c.with_drop-self-inside.ensures).drops
-
-pub returns-clause-visit : goal.returns-clause-visit
-returns-clause-visit g c =
-    let k0 : c.unwrap-order.result ≡ 0 = search rules in
-    let fits : c.args.group < 64 = search rules in
-    let e = c.collect_fresh-frame.ensures in
-    let was = was_fresh g.N.BootName.frames g.N.BootName.stocks _ c.args.cpu.now _ c.args.group e.frame e.nothing e.lent e.booked e.group c.requires.group
-    fits in
-    let u = c.free_unit.ensures in
-    (drop_all g.N.BootName.frames g.N.BootName.stocks _ _ c.self.view_is c.args.cpu.now _ c.number-number.ensures.tied c.self.invariant.0
-    c.requires.visit _ _ c.self.invariant.1 _ c.args.group was c.requires.killed e.cpu _ c.unwrap-order.result c.number.ensures k0 _ e.zone _ (ap uncounted e.machine)
-    _ u.spots _ u.frames u.areas _ u.charges _
-    c.with_drop-self-inside.ensures).visit
-
-pub returns-clause-steps : goal.returns-clause-steps
-returns-clause-steps g c =
-    let k0 : c.unwrap-order.result ≡ 0 = search rules in
-    let fits : c.args.group < 64 = search rules in
-    let e = c.collect_fresh-frame.ensures in
-    let was = was_fresh g.N.BootName.frames g.N.BootName.stocks _ c.args.cpu.now _ c.args.group e.frame e.nothing e.lent e.booked e.group c.requires.group
-    fits in
-    let u = c.free_unit.ensures in
-    (drop_all g.N.BootName.frames g.N.BootName.stocks _ _ c.self.view_is c.args.cpu.now _ c.number-number.ensures.tied c.self.invariant.0
-    c.requires.visit _ _ c.self.invariant.1 _ c.args.group was c.requires.killed e.cpu _ c.unwrap-order.result c.number.ensures k0 _ e.zone _ (ap uncounted e.machine)
-    _ u.spots _ u.frames u.areas _ u.charges _
-    c.with_drop-self-inside.ensures).steps
+    c.with_drop-self-inside.ensures in
+    record { drops = all.drops; visit = all.visit; steps = all.steps }

@@ -10,20 +10,11 @@ invariant_of-self g c = (
   c.self.invariant.1,
 )
 
-pub returns-then-not-freeze-clause-evicts : goal.returns-then-not-freeze-clause-evicts
-returns-then-not-freeze-clause-evicts g c =
-    (missed_all g.N.BootName.frames g.N.BootName.stocks _ _ c.self.view_is c.self.invariant.0 c.args.head c.requires.frame c.requires.kept _
-    c.if-not-freeze.ensures.answer _ c.with_miss-self-inside.ensures).misses
-
-pub returns-then-not-freeze-clause-visit : goal.returns-then-not-freeze-clause-visit
-returns-then-not-freeze-clause-visit g c =
-    (missed_all g.N.BootName.frames g.N.BootName.stocks _ _ c.self.view_is c.self.invariant.0 c.args.head c.requires.frame c.requires.kept _
-    c.if-not-freeze.ensures.answer _ c.with_miss-self-inside.ensures).visit
-
-pub returns-then-not-freeze-clause-steps : goal.returns-then-not-freeze-clause-steps
-returns-then-not-freeze-clause-steps g c =
-    (missed_all g.N.BootName.frames g.N.BootName.stocks _ _ c.self.view_is c.self.invariant.0 c.args.head c.requires.frame c.requires.kept _
-    c.if-not-freeze.ensures.answer _ c.with_miss-self-inside.ensures).steps
+pub returns-then-not-freeze : goal.returns-then-not-freeze
+returns-then-not-freeze g c =
+    let all = missed_all g.N.BootName.frames g.N.BootName.stocks _ _ c.self.view_is c.self.invariant.0 c.args.head c.requires.frame c.requires.kept _
+    c.if-not-freeze.ensures.answer _ c.with_miss-self-inside.ensures in
+    record { evicts = all.misses; visit = all.visit; steps = all.steps }
 
 pub free_unit-requires-clause-in_use : goal.free_unit-requires-clause-in_use
 free_unit-requires-clause-in_use g c =
@@ -54,32 +45,13 @@ invariant_of-self-2 g c =
     c.with_freeze-self-inside.ensures c.frames.ensures.frames in
     (all.consistent, all.free_is)
 
-pub returns-clause-evicts : goal.returns-clause-evicts
-returns-clause-evicts g c =
+pub returns : goal.returns
+returns g c =
     let head = read_head g.N.BootName.frames g.N.BootName.stocks _ c.self.invariant.0 c.args.head _ c.requires.frame c.number-at.ensures _ c.in-Head.unit
     c.index.ensures c.in-Head.is in
-    (evicted_all g.N.BootName.frames g.N.BootName.stocks _ _ c.self.view_is c.self.invariant.0 c.args.head _
+    let all = evicted_all g.N.BootName.frames g.N.BootName.stocks _ _ c.self.view_is c.self.invariant.0 c.args.head _
     c.requires.frame c.number-at.ensures c.requires.kept _ _ c.leave_list.ensures.leaves c.leave_list.ensures.stand c.leave_list.ensures.frames
     c.leave_list.ensures.groups _ c.if-not-freeze.ensures.answer c.in-Head.unit head _ _ _ _ _ _ _ c.self.invariant.1 c.free_unit.ensures.spots
     c.free_unit.ensures.frames c.free_unit.ensures.areas c.free_unit.ensures.charges c.free_unit.ensures.usage
-    c.with_freeze-self-inside.ensures c.frames.ensures.frames).evicts
-
-pub returns-clause-visit : goal.returns-clause-visit
-returns-clause-visit g c =
-    let head = read_head g.N.BootName.frames g.N.BootName.stocks _ c.self.invariant.0 c.args.head _ c.requires.frame c.number-at.ensures _ c.in-Head.unit
-    c.index.ensures c.in-Head.is in
-    (evicted_all g.N.BootName.frames g.N.BootName.stocks _ _ c.self.view_is c.self.invariant.0 c.args.head _
-    c.requires.frame c.number-at.ensures c.requires.kept _ _ c.leave_list.ensures.leaves c.leave_list.ensures.stand c.leave_list.ensures.frames
-    c.leave_list.ensures.groups _ c.if-not-freeze.ensures.answer c.in-Head.unit head _ _ _ _ _ _ _ c.self.invariant.1 c.free_unit.ensures.spots
-    c.free_unit.ensures.frames c.free_unit.ensures.areas c.free_unit.ensures.charges c.free_unit.ensures.usage
-    c.with_freeze-self-inside.ensures c.frames.ensures.frames).visit
-
-pub returns-clause-steps : goal.returns-clause-steps
-returns-clause-steps g c =
-    let head = read_head g.N.BootName.frames g.N.BootName.stocks _ c.self.invariant.0 c.args.head _ c.requires.frame c.number-at.ensures _ c.in-Head.unit
-    c.index.ensures c.in-Head.is in
-    (evicted_all g.N.BootName.frames g.N.BootName.stocks _ _ c.self.view_is c.self.invariant.0 c.args.head _
-    c.requires.frame c.number-at.ensures c.requires.kept _ _ c.leave_list.ensures.leaves c.leave_list.ensures.stand c.leave_list.ensures.frames
-    c.leave_list.ensures.groups _ c.if-not-freeze.ensures.answer c.in-Head.unit head _ _ _ _ _ _ _ c.self.invariant.1 c.free_unit.ensures.spots
-    c.free_unit.ensures.frames c.free_unit.ensures.areas c.free_unit.ensures.charges c.free_unit.ensures.usage
-    c.with_freeze-self-inside.ensures c.frames.ensures.frames).steps
+    c.with_freeze-self-inside.ensures c.frames.ensures.frames in
+    record { evicts = all.evicts; visit = all.visit; steps = all.steps }

@@ -26,20 +26,9 @@ invariant_of-self g c =
     c.number-at.ensures c.number-number.ensures.number c.pass_out.ensures.zone c.accept.ensures.zone c.accept.ensures.cpu c.accept.ensures.nothing.1.1) in
     (all.consistent, all.free_is)
 
-pub returns-clause-lends : goal.returns-clause-lends
-returns-clause-lends g c =
-    (given_all g.N.BootName.frames g.N.BootName.stocks _ _ c.self.view_is c.args.cpu.now _ c.number-number.ensures.tied c.self.invariant.0 c.requires.visit
+pub returns : goal.returns
+returns g c =
+    let all = given_all g.N.BootName.frames g.N.BootName.stocks _ _ c.self.view_is c.args.cpu.now _ c.number-number.ensures.tied c.self.invariant.0 c.requires.visit
     _ _ _ c.args.frame _ c.number-number.result _ _ c.self.invariant.1 c.requires.frame c.requires.free c.take_frame.ensures.frames c.take_frame.ensures.areas
-    c.number-at.ensures c.number-number.ensures.number c.pass_out.ensures.zone c.accept.ensures.zone c.accept.ensures.cpu c.accept.ensures.nothing.1.1).lends
-
-pub returns-clause-visit : goal.returns-clause-visit
-returns-clause-visit g c =
-    (given_all g.N.BootName.frames g.N.BootName.stocks _ _ c.self.view_is c.args.cpu.now _ c.number-number.ensures.tied c.self.invariant.0 c.requires.visit
-    _ _ _ c.args.frame _ c.number-number.result _ _ c.self.invariant.1 c.requires.frame c.requires.free c.take_frame.ensures.frames c.take_frame.ensures.areas
-    c.number-at.ensures c.number-number.ensures.number c.pass_out.ensures.zone c.accept.ensures.zone c.accept.ensures.cpu c.accept.ensures.nothing.1.1).visit
-
-pub returns-clause-steps : goal.returns-clause-steps
-returns-clause-steps g c =
-    (given_all g.N.BootName.frames g.N.BootName.stocks _ _ c.self.view_is c.args.cpu.now _ c.number-number.ensures.tied c.self.invariant.0 c.requires.visit
-    _ _ _ c.args.frame _ c.number-number.result _ _ c.self.invariant.1 c.requires.frame c.requires.free c.take_frame.ensures.frames c.take_frame.ensures.areas
-    c.number-at.ensures c.number-number.ensures.number c.pass_out.ensures.zone c.accept.ensures.zone c.accept.ensures.cpu c.accept.ensures.nothing.1.1).steps
+    c.number-at.ensures c.number-number.ensures.number c.pass_out.ensures.zone c.accept.ensures.zone c.accept.ensures.cpu c.accept.ensures.nothing.1.1 in
+    record { lends = all.lends; visit = all.visit; steps = all.steps }

@@ -33,21 +33,14 @@ invariant_of-self-2 g c =
     c.accept.ensures.cpu c.accept.ensures.nothing.1.1) in
     (all.consistent, all.free_is)
 
-pub returns-clause-lends : goal.returns-clause-lends
-returns-clause-lends g c =
+pub returns : goal.returns
+returns g c =
     let k0 : c.unwrap.result ≡ 0 = search rules in
-    (lend_all g.N.BootName.frames g.N.BootName.stocks _ _ c.self.view_is c.args.cpu.now _ c.number-number.ensures.tied c.self.invariant.0 c.requires.visit _ _
+    let all = lend_all g.N.BootName.frames g.N.BootName.stocks _ _ c.self.view_is c.args.cpu.now _ c.number-number.ensures.tied c.self.invariant.0 c.requires.visit _ _
     c.unwrap.result c.in-Some.block _ c.in-Some-frame.frame _ c.number-number.result _ _ c.self.invariant.1 k0 c.in-Some.ensures.taken c.in-Some.ensures.frames
     c.in-Some.ensures.areas c.in-Some-frame.ensures.0 c.number.ensures c.number-number.ensures.number c.pass_out.ensures.zone c.accept.ensures.zone
-    c.accept.ensures.cpu c.accept.ensures.nothing.1.1).lends
-
-pub returns-clause-visit : goal.returns-clause-visit
-returns-clause-visit g c =
-    let k0 : c.unwrap.result ≡ 0 = search rules in
-    (lend_all g.N.BootName.frames g.N.BootName.stocks _ _ c.self.view_is c.args.cpu.now _ c.number-number.ensures.tied c.self.invariant.0 c.requires.visit _ _
-    c.unwrap.result c.in-Some.block _ c.in-Some-frame.frame _ c.number-number.result _ _ c.self.invariant.1 k0 c.in-Some.ensures.taken c.in-Some.ensures.frames
-    c.in-Some.ensures.areas c.in-Some-frame.ensures.0 c.number.ensures c.number-number.ensures.number c.pass_out.ensures.zone c.accept.ensures.zone
-    c.accept.ensures.cpu c.accept.ensures.nothing.1.1).visit
+    c.accept.ensures.cpu c.accept.ensures.nothing.1.1 in
+    record { lends = all.lends; visit = all.visit }
 
 pub unreachable-requires : goal.unreachable-requires
 unreachable-requires g c =

@@ -29,17 +29,12 @@ invariant_of-self g c = (
   c.self.invariant.1,
 )
 
-pub returns-in-Left-clause-visit : goal.returns-in-Left-clause-visit
-returns-in-Left-clause-visit g c =
-    (left_all g.N.BootName.frames g.N.BootName.stocks _ _ c.self.view_is c.self.invariant.0 c.args.head _
+pub returns-in-Left : goal.returns-in-Left
+returns-in-Left g c =
+    let all = left_all g.N.BootName.frames g.N.BootName.stocks _ _ c.self.view_is c.self.invariant.0 c.args.head _
     c.requires.frame c.number-at.ensures c.requires.kept _ _ c.leave_list.ensures.leaves c.leave_list.ensures.stand c.leave_list.ensures.frames
-    c.leave_list.ensures.groups c.in-Left.left _ c.in-Left.ensures.answer.2).visit
-
-pub returns-in-Left-clause-steps : goal.returns-in-Left-clause-steps
-returns-in-Left-clause-steps g c =
-    (left_all g.N.BootName.frames g.N.BootName.stocks _ _ c.self.view_is c.self.invariant.0 c.args.head _
-    c.requires.frame c.number-at.ensures c.requires.kept _ _ c.leave_list.ensures.leaves c.leave_list.ensures.stand c.leave_list.ensures.frames
-    c.leave_list.ensures.groups c.in-Left.left _ c.in-Left.ensures.answer.2).steps
+    c.leave_list.ensures.groups c.in-Left.left _ c.in-Left.ensures.answer.2 in
+    record { releases = search rules; visit = all.visit; steps = all.steps }
 
 pub invariant_of-self-in-Last : goal.invariant_of-self-in-Last
 invariant_of-self-in-Last g c =
@@ -51,32 +46,12 @@ invariant_of-self-in-Last g c =
     c.free_unit.ensures.frames c.free_unit.ensures.areas c.free_unit.ensures.charges c.with_last_put-self-inside.ensures in
     (all.consistent, all.free_is)
 
-pub returns-in-Head-clause-releases : goal.returns-in-Head-clause-releases
-returns-in-Head-clause-releases g c =
+pub returns-in-Head : goal.returns-in-Head
+returns-in-Head g c =
     let head = read_head g.N.BootName.frames g.N.BootName.stocks _ c.self.invariant.0 c.args.head _ c.requires.frame c.number-at.ensures _ c.in-Head.unit
     c.index.ensures c.in-Head.is in
-    (returned_all g.N.BootName.frames g.N.BootName.stocks _ _ c.self.view_is c.self.invariant.0 c.args.head _
+    let all = returned_all g.N.BootName.frames g.N.BootName.stocks _ _ c.self.view_is c.self.invariant.0 c.args.head _
     c.requires.frame c.number-at.ensures c.requires.kept _ _ c.leave_list.ensures.leaves c.leave_list.ensures.stand c.leave_list.ensures.frames
     c.leave_list.ensures.groups _ c.in-Last.ensures.answer.0 c.in-Head.unit head _ _ _ _ _ _ c.self.invariant.1 c.free_unit.ensures.spots
-    c.free_unit.ensures.frames c.free_unit.ensures.areas c.free_unit.ensures.charges c.with_last_put-self-inside.ensures).returns
-
-pub returns-in-Head-clause-visit : goal.returns-in-Head-clause-visit
-returns-in-Head-clause-visit g c =
-    let head = read_head g.N.BootName.frames g.N.BootName.stocks _ c.self.invariant.0 c.args.head _ c.requires.frame c.number-at.ensures _ c.in-Head.unit
-    c.index.ensures c.in-Head.is in
-    (returned_all g.N.BootName.frames g.N.BootName.stocks _ _ c.self.view_is c.self.invariant.0 c.args.head _
-    c.requires.frame c.number-at.ensures c.requires.kept _ _ c.leave_list.ensures.leaves c.leave_list.ensures.stand c.leave_list.ensures.frames
-    c.leave_list.ensures.groups _ c.in-Last.ensures.answer.0 c.in-Head.unit head _ _ _ _ _ _ c.self.invariant.1 c.free_unit.ensures.spots
-    c.free_unit.ensures.frames c.free_unit.ensures.areas c.free_unit.ensures.charges c.with_last_put-self-inside.ensures).visit
-
-pub returns-in-Head-clause-steps : goal.returns-in-Head-clause-steps
-returns-in-Head-clause-steps g c =
-    let head = read_head g.N.BootName.frames g.N.BootName.stocks _ c.self.invariant.0 c.args.head _ c.requires.frame c.number-at.ensures _ c.in-Head.unit
-    c.index.ensures c.in-Head.is in
-    (returned_all g.N.BootName.frames g.N.BootName.stocks _ _ c.self.view_is c.self.invariant.0 c.args.head _
-    c.requires.frame c.number-at.ensures c.requires.kept _ _ c.leave_list.ensures.leaves c.leave_list.ensures.stand c.leave_list.ensures.frames
-    c.leave_list.ensures.groups _ c.in-Last.ensures.answer.0 c.in-Head.unit head _ _ _ _ _ _ c.self.invariant.1 c.free_unit.ensures.spots
-    c.free_unit.ensures.frames c.free_unit.ensures.areas c.free_unit.ensures.charges c.with_last_put-self-inside.ensures).steps
-
-pub returns-in-Left-clause-releases : goal.returns-in-Left-clause-releases
-returns-in-Left-clause-releases g c = search rules
+    c.free_unit.ensures.frames c.free_unit.ensures.areas c.free_unit.ensures.charges c.with_last_put-self-inside.ensures in
+    record { releases = all.returns; visit = all.visit; steps = all.steps }

@@ -13,18 +13,11 @@ invariant_of-self g c = (
   c.self.invariant.1,
 )
 
-pub returns-clause-dirties : goal.returns-clause-dirties
-returns-clause-dirties g c =
-    (dirty_all g.N.BootName.frames g.N.BootName.stocks _ _ c.self.view_is c.self.invariant.0 c.args.head _ c.requires.frame c.number-at.ensures
+pub returns : goal.returns
+returns g c =
+    let all = dirty_all g.N.BootName.frames g.N.BootName.stocks _ _ c.self.view_is c.self.invariant.0 c.args.head _ c.requires.frame c.number-at.ensures
     c.in-Some.home
     c.in-Some.ensures _ c.index.ensures _ c.args.is_dirty c.set_dirty.ensures.stands c.set_dirty.ensures.entries c.set_dirty.ensures.others
     c.others_stand.ensures
-    c.one_of_all_changes.ensures).dirties
-
-pub returns-clause-steps : goal.returns-clause-steps
-returns-clause-steps g c =
-    (dirty_all g.N.BootName.frames g.N.BootName.stocks _ _ c.self.view_is c.self.invariant.0 c.args.head _ c.requires.frame c.number-at.ensures
-    c.in-Some.home
-    c.in-Some.ensures _ c.index.ensures _ c.args.is_dirty c.set_dirty.ensures.stands c.set_dirty.ensures.entries c.set_dirty.ensures.others
-    c.others_stand.ensures
-    c.one_of_all_changes.ensures).steps
+    c.one_of_all_changes.ensures in
+    record { dirties = all.dirties; steps = all.steps }

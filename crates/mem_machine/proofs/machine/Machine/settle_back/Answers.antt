@@ -1,3 +1,4 @@
+use Rattle.std.proofs.Common.{rules}
 use Rattle.mem_machine.proofs.Settled.{back_start, back_more, back_end, fewer}
 use Rattle.mem_machine.proofs.machine.Machine.settle_back.Goals as goal
 
@@ -11,17 +12,7 @@ loop-frame-preserved g c =
 pub loop-frame-smaller : goal.loop-frame-smaller
 loop-frame-smaller g c = fewer _ _ _ c.in-Some.ensures.returns.front
 
-pub returns-clause-returns : goal.returns-clause-returns
-returns-clause-returns g c = (back_end g.N.BootName.frames _ _ _ _ _ _ c.loop-frame.invariant c.in_default.ensures.returns).returns
-
-pub returns-clause-others : goal.returns-clause-others
-returns-clause-others g c = (back_end g.N.BootName.frames _ _ _ _ _ _ c.loop-frame.invariant c.in_default.ensures.returns).others
-
-pub returns-clause-fresh : goal.returns-clause-fresh
-returns-clause-fresh g c = (back_end g.N.BootName.frames _ _ _ _ _ _ c.loop-frame.invariant c.in_default.ensures.returns).fresh
-
-pub returns-clause-none_back : goal.returns-clause-none_back
-returns-clause-none_back g c = (back_end g.N.BootName.frames _ _ _ _ _ _ c.loop-frame.invariant c.in_default.ensures.returns).none_back
-
-pub returns-clause-steps : goal.returns-clause-steps
-returns-clause-steps g c = (back_end g.N.BootName.frames _ _ _ _ _ _ c.loop-frame.invariant c.in_default.ensures.returns).steps
+pub returns : goal.returns
+returns g c =
+    let all = back_end g.N.BootName.frames _ _ _ _ _ _ c.loop-frame.invariant c.in_default.ensures.returns in
+    record { returns = all.returns; others = all.others; fresh = all.fresh; none_back = all.none_back; visit = search rules; steps = all.steps }

@@ -1,3 +1,4 @@
+use Rattle.std.proofs.Common.{rules}
 use Rattle.mem_machine.proofs.Settled.{fresh_start, fresh_more, fresh_end, settled_over, fewer}
 use Rattle.mem_machine.proofs.machine.Machine.settle_fresh.Goals as goal
 
@@ -11,17 +12,7 @@ loop-frame-preserved g c =
 pub loop-frame-smaller : goal.loop-frame-smaller
 loop-frame-smaller g c = fewer _ _ _ (settled_over _ _ _ _ _ c.in-Some.ensures.settles).front
 
-pub returns-clause-settles : goal.returns-clause-settles
-returns-clause-settles g c = (fresh_end g.N.BootName.frames _ _ _ _ _ _ c.loop-frame.invariant c.in_default.ensures.settles).settles
-
-pub returns-clause-others : goal.returns-clause-others
-returns-clause-others g c = (fresh_end g.N.BootName.frames _ _ _ _ _ _ c.loop-frame.invariant c.in_default.ensures.settles).others
-
-pub returns-clause-back : goal.returns-clause-back
-returns-clause-back g c = (fresh_end g.N.BootName.frames _ _ _ _ _ _ c.loop-frame.invariant c.in_default.ensures.settles).back
-
-pub returns-clause-none_fresh : goal.returns-clause-none_fresh
-returns-clause-none_fresh g c = (fresh_end g.N.BootName.frames _ _ _ _ _ _ c.loop-frame.invariant c.in_default.ensures.settles).none_fresh
-
-pub returns-clause-steps : goal.returns-clause-steps
-returns-clause-steps g c = (fresh_end g.N.BootName.frames _ _ _ _ _ _ c.loop-frame.invariant c.in_default.ensures.settles).steps
+pub returns : goal.returns
+returns g c =
+    let all = fresh_end g.N.BootName.frames _ _ _ _ _ _ c.loop-frame.invariant c.in_default.ensures.settles in
+    record { settles = all.settles; others = all.others; back = all.back; none_fresh = all.none_fresh; visit = search rules; steps = all.steps }

@@ -23,25 +23,16 @@ invariant_of-self-2 g c =
     c.number-at.ensures c.in-Some.ensures.answer collected c.collect.ensures.cpu) in
     (all.consistent, all.free_is)
 
-pub returns-clause-takes : goal.returns-clause-takes
-returns-clause-takes g c =
+pub returns : goal.returns
+returns g c =
     let k0 : c.unwrap.result ≡ 0 = search rules in
     let inside : c.in-Some.frame < g.N.BootName.frames.frames = search rules in
     let collected = c.collect.ensures.zone ∙ ap (λ (s : KnownSeat). seat_with s c.in-Some.frame
     (collected_from c.hand_front.new.self.number)) c.in-Some.ensures.zone in
-    (take_all g.N.BootName.frames g.N.BootName.stocks _ _ c.self.view_is c.args.cpu.now c.hand_front.new.self _ c.number-number.ensures.tied c.self.invariant.0
+    let all = take_all g.N.BootName.frames g.N.BootName.stocks _ _ c.self.view_is c.args.cpu.now c.hand_front.new.self _ c.number-number.ensures.tied c.self.invariant.0
     c.requires _ _ c.unwrap.result _ c.in-Some.frame _ _ c.self.invariant.1 k0 c.give.ensures.frames c.give.ensures.areas inside c.in-Some.ensures.borrowed.1
-    c.number-at.ensures c.in-Some.ensures.answer collected c.collect.ensures.cpu).takes
-
-pub returns-clause-visit : goal.returns-clause-visit
-returns-clause-visit g c =
-    let k0 : c.unwrap.result ≡ 0 = search rules in
-    let inside : c.in-Some.frame < g.N.BootName.frames.frames = search rules in
-    let collected = c.collect.ensures.zone ∙ ap (λ (s : KnownSeat). seat_with s c.in-Some.frame
-    (collected_from c.hand_front.new.self.number)) c.in-Some.ensures.zone in
-    (take_all g.N.BootName.frames g.N.BootName.stocks _ _ c.self.view_is c.args.cpu.now c.hand_front.new.self _ c.number-number.ensures.tied c.self.invariant.0
-    c.requires _ _ c.unwrap.result _ c.in-Some.frame _ _ c.self.invariant.1 k0 c.give.ensures.frames c.give.ensures.areas inside c.in-Some.ensures.borrowed.1
-    c.number-at.ensures c.in-Some.ensures.answer collected c.collect.ensures.cpu).visit
+    c.number-at.ensures c.in-Some.ensures.answer collected c.collect.ensures.cpu in
+    record { takes = all.takes; visit = all.visit }
 
 pub invariant_of-self : goal.invariant_of-self
 invariant_of-self g c = search rules

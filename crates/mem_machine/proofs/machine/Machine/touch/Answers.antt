@@ -14,16 +14,10 @@ invariant_of-self g c = (
   c.self.invariant.1,
 )
 
-pub returns-clause-touches : goal.returns-clause-touches
-returns-clause-touches g c =
-    (touch_all g.N.BootName.frames g.N.BootName.stocks _ _ c.self.view_is c.self.invariant.0 c.args.head _ c.requires.frame c.number-at.ensures
+pub returns : goal.returns
+returns g c =
+    let all = touch_all g.N.BootName.frames g.N.BootName.stocks _ _ c.self.view_is c.self.invariant.0 c.args.head _ c.requires.frame c.number-at.ensures
     c.in-Some.home
     c.in-Some.ensures _ c.index.ensures _ _ c.touch-touched.result c.touch-touched.ensures.stands c.touch-touched.ensures.owner c.touch-touched.ensures.touches
-    c.touch-touched.ensures.others c.others_stand.ensures c.one_of_all_changes.ensures).touches
-
-pub returns-clause-steps : goal.returns-clause-steps
-returns-clause-steps g c =
-    (touch_all g.N.BootName.frames g.N.BootName.stocks _ _ c.self.view_is c.self.invariant.0 c.args.head _ c.requires.frame c.number-at.ensures
-    c.in-Some.home
-    c.in-Some.ensures _ c.index.ensures _ _ c.touch-touched.result c.touch-touched.ensures.stands c.touch-touched.ensures.owner c.touch-touched.ensures.touches
-    c.touch-touched.ensures.others c.others_stand.ensures c.one_of_all_changes.ensures).steps
+    c.touch-touched.ensures.others c.others_stand.ensures c.one_of_all_changes.ensures in
+    record { touches = all.touches; steps = all.steps }
