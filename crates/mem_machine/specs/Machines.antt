@@ -83,6 +83,10 @@ active_in m g = entries_in m g Active
 abbrev pub home_of : List Link → ℕ → Option Home
 home_of links f = (link_at links f).home
 
+-- in this machine the frame heads a kept unit: it stands on a list
+abbrev pub HeadsKeptUnit : KnownMachine → ℕ → Type 0
+HeadsKeptUnit m f = home_of m.links f ≢ None
+
 -- the lists of all groups but this one stand as they stood: the same units in the same order, with their marks and dirt
 abbrev pub OthersStay : List Link → List Lru → ℕ → List Link → List Lru → Type 0
 OthersStay before old group after new = (g : ℕ) (list : LruList) → g < MAX_GROUPS → g ≢ group
