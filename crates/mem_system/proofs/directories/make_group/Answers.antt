@@ -16,7 +16,7 @@ pub returns-in-Err-clause-made : goal.returns-in-Err-clause-made
 returns-in-Err-clause-made g c =
     λ (x : KnownCpu). (
       [],
-      (sym c.in-Err.ensures.refused, (c.in-Err.ensures.unchanged, refl)),
+      (sym c.in-Err.ensures.refused, record { machine = c.in-Err.ensures.unchanged; steps_are = refl }),
       ap (λ (k : KnownMachine). local_of g.N.BootName.frames k x) (sym c.in-Err.ensures.unchanged),
     )
 
