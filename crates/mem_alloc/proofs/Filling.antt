@@ -77,7 +77,7 @@ pub refused_lowers : (t : KnownTable) (g pages over : ℕ) (m n : KnownMachine) 
 refused_lowers t g pages over m n steps r = relieves_lower t g over pages m n r.relieving r.relieves
 
 pub makes_lower : (t : KnownTable) (g pages : ℕ) (before : List ℕ) (m n : KnownMachine) (steps : Run) → MakesRoom g pages before (course t m steps n) → Lowers t m n
-makes_lower t g pages [] m n steps h = subst (λ (x : KnownMachine). Lowers t m x) (sym h.0) (lowers_none t m)
+makes_lower t g pages [] m n steps h = subst (λ (x : KnownMachine). Lowers t m x) (sym h.machine) (lowers_none t m)
 makes_lower t g pages (over ∷ later) m n steps h =
     lowers_both t m h.0 n (refused_lowers t g pages over m h.0 h.1 h.3) (makes_lower t g pages later h.0 n h.2 h.5)
 

@@ -88,7 +88,7 @@ pub no_rounds : (t : KnownTable) (g pages : ℕ) (m : KnownMachine) → limit_of
 no_rounds t g pages m none = (
   [],
   record {
-    rounds = subst (λ (o : Option ℕ). RoundsBefore o g pages (course t m [] m)) (sym none) (refl, refl);
+    rounds = subst (λ (o : Option ℕ). RoundsBefore o g pages (course t m [] m)) (sym none) (record { machine = refl; steps_are = refl });
     missed = λ over. absurd (false≢true (sym over ∙ ap (λ (o : Option ℕ). fits_limit o (current_of m.ledger g + pages)) none));
     keeps = keeps_none t m;
     none_killed = record { runs = λ c. refl; quiet = refl; misses = λ f. omega arith };
@@ -122,10 +122,10 @@ room_more t g pages over [] m x n making last makes refused room = (
   n,
   last,
   [],
-  subst (λ (y : KnownMachine). IsRefusedAt g pages over (course t y last n)) makes.0 refused,
+  subst (λ (y : KnownMachine). IsRefusedAt g pages over (course t y last n)) makes.machine refused,
   room,
-  (refl, refl),
-  ap (λ (r : Run). r ++ last) makes.1 ∙ sym (append-nil last),
+  record { machine = refl; steps_are = refl },
+  ap (λ (r : Run). r ++ last) makes.steps_are ∙ sym (append-nil last),
 )
 room_more t g pages over (h ∷ before) m x n making last makes refused room = (
   makes.0,
@@ -150,7 +150,7 @@ pub so_far_none : (t : KnownTable) (g pages : ℕ) (c : KnownCpu) (m : KnownMach
 so_far_none t g pages c m alive = record {
   refused_at = [];
   making = [];
-  makes = (refl, refl);
+  makes = record { machine = refl; steps_are = refl };
   runs = refl;
   lowers = lowers_none t m;
   alive = alive;

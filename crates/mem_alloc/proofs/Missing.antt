@@ -134,7 +134,7 @@ counts_refused t g pages over m n steps h =
 
 counts_room : (t : KnownTable) (g pages : ℕ) (refused : List ℕ) (m n : KnownMachine) (steps : Run) → MakesRoom g pages refused (course t m steps n)
     → CountsMisses (course t m steps n)
-counts_room t g pages [] m n steps h = counts_rest t m n steps h.0 h.1
+counts_room t g pages [] m n steps h = counts_rest t m n steps h.machine h.steps_are
 counts_room t g pages (over ∷ later) m n steps h =
     counts_as t m n steps (h.1 ++ h.2) h.6 (counts_both t m h.0 n h.1 h.2 (counts_refused t g pages over m h.0 h.1 h.3) (counts_room t g pages later h.0 n h.2 h.5))
 

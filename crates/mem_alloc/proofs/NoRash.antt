@@ -482,7 +482,7 @@ module _ (t : KnownTable) (MayAsk : List Group → ℕ → ℕ → Type 0) (s : 
     pub makes_tame : (refused : List ℕ) (made : Run) (m : KnownMachine) (steps rest : Run) (n : KnownMachine) (z : State) → m.ledger.groups ≡ base → Passes t c s made m
         → IsLocalRun c.number (local_of t m c) (steps ++ rest) z → MakesRoom g pages refused (course t m steps n) → Tame made m steps n
     makes_tame [] made m steps rest n z is since whole h =
-        subst (λ (y : Run × KnownMachine). Tame made m y.0 y.1) (λ i. (sym h.1 i, sym h.0 i)) (tame_none made m)
+        subst (λ (y : Run × KnownMachine). Tame made m y.0 y.1) (λ i. (sym h.steps_are i, sym h.machine i)) (tame_none made m)
     makes_tame (over ∷ later) made m steps rest n z is since whole h =
         let x = h.0 in
         let all : IsLocalRun c.number (local_of t m c) (h.1 ++ (h.2 ++ rest)) z =

@@ -15,7 +15,7 @@ use Rattle.step_rules.specs.declared.step.Action.TheVariants.{Kill, NoteOom}
 use Rattle.step_rules.specs.declared.step.Answer.{Answer}
 use Rattle.step_rules.specs.declared.step.Step.{Step}
 use Rattle.step_rules.specs.After.{Run}
-use Rattle.mem_machine.specs.Machines.{IsConsistent, KnownMachine, home_of}
+use Rattle.mem_machine.specs.Machines.{HeadsKeptUnit, IsConsistent, KnownMachine, home_of}
 use Rattle.mem_machine.specs.Local.{IsLocalRun, local_of}
 use Rattle.mem_machine.specs.Stocks.{AreDrained}
 use Rattle.mem_reclaim.specs.Staying.{MissedAll}
@@ -37,9 +37,9 @@ has_oom_note g steps = list_any (λ e. is_oom_note g e.0.action) steps
 -- began, and is as dirty as it was
 pub record IsLeftBySteps (way : Course KnownMachine) : Type 0 where
   pub misses : CountsMisses way
-  pub owners : (f : ℕ) → home_of way.after.links f ≢ None
+  pub owners : (f : ℕ) → HeadsKeptUnit way.after f
       → owner_of (home_of way.after.links f) ≡ owner_of (home_of way.before.links f)
-  pub dirt : (f : ℕ) → home_of way.after.links f ≢ None
+  pub dirt : (f : ℕ) → HeadsKeptUnit way.after f
       → (link_at way.after.links f).is_dirty ≡ (link_at way.before.links f).is_dirty
 
 -- which limit a call may kill for, and so many pages: where it charges pages to a group, up to 8, that of the group or one

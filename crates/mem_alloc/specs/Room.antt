@@ -49,7 +49,7 @@ pub record ClearsBelow (group pages : ℕ) (way : Course KnownMachine) : Type 0 
 -- what is reclaimed from the group's subtree before its limit: nothing where it has none, else so many pages as are
 -- missing, in at most 16 rounds
 abbrev pub RoundsBefore : Option ℕ → ℕ → ℕ → Course KnownMachine → Type 0
-RoundsBefore None g pages way = (way.after ≡ way.before) × (way.steps ≡ [])
+RoundsBefore None g pages way = Rests way
 RoundsBefore (Some limit) g pages way =
     (given : ℕ) × MakesRounds g (pages_missing g pages limit) 16 given way.before way.steps way.after
 
@@ -101,7 +101,7 @@ pub record HasMadeRoom (requester group pages : ℕ) (after : KnownMachine) : Ty
 
 -- it is refused at each of these groups, one after the other, and each has room for the pages then
 abbrev pub MakesRoom : ℕ → ℕ → List ℕ → Course KnownMachine → Type 0
-MakesRoom g pages [] way = (way.after ≡ way.before) × (way.steps ≡ [])
+MakesRoom g pages [] way = Rests way
 MakesRoom g pages (over ∷ later) way =
     (mid : KnownMachine) × (first rest : Run) × IsRefusedAt g pages over (course way.table way.before first mid)
     × HasMadeRoom g over pages mid × MakesRoom g pages later (course way.table mid rest way.after)

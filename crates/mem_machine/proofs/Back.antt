@@ -101,13 +101,14 @@ module _ (t : KnownTable) (w : Words) (m : KnownMachine) (c : KnownCpu) (tied : 
   no_home None is = refl
   no_home (Some h) is = absurd (omega (arith, is))
 
-  back_fits : FitsSpot (collected_from c.number (note_of m.seat.view f)) (home_of m.links f) Free
+  back_fits : FitsSpot t.cpus (collected_from c.number (note_of m.seat.view f)) (home_of m.links f) Free
   back_fits =
       let fits = ok.spots f was.inside in
       let home = no_home (home_of m.links f) (sym was.nothing.0 ∙ fits.references) in
       record {
         own = refl;
         lent = refl;
+        borrower = tt;
         references = fits.references;
         kept = subst (λ (h : Option Home). IfSome h (λ k. (k.owner < 64) × (head_group_of Free ≡ Some k.owner))) (sym home) tt;
       }
@@ -117,9 +118,9 @@ module _ (t : KnownTable) (w : Words) (m : KnownMachine) (c : KnownCpu) (tied : 
       let seat = seat_with m.seat f (collected_from c.number) in
       let sizes = ok.sizes in
       unit_freed_consistent t w m ok f unit heads new blocks m.links m.lists seat counts frees areas ok.seats.frames sizes.links sizes.lists ok.lists
-      (λ x inside ne. subst (λ (k : FrameNote). FitsSpot k (home_of m.links x) (spot_at m.spots x))
+      (λ x inside ne. subst (λ (k : FrameNote). FitsSpot t.cpus k (home_of m.links x) (spot_at m.spots x))
       (sym (note_else m.seat.view f x (collected_from c.number) ne)) (ok.spots x inside))
-      (subst (λ (k : FrameNote). FitsSpot k (home_of m.links f) Free) (sym (note_here m.seat.view f (collected_from c.number))) back_fits)
+      (subst (λ (k : FrameNote). FitsSpot t.cpus k (home_of m.links f) Free) (sym (note_here m.seat.view f (collected_from c.number))) back_fits)
       (subst BalancesCounts (sym counted) (balanced_last_put m.counts ok.balances))
 
   pub returned_steps : IsLocalRun c.number s (return_steps c.number f) (local_of t returned d)

@@ -62,13 +62,14 @@ pub record AllMissed (t : KnownTable) (w : Words) (now : KnownMachine) (f : ℕ)
   pub steps : MakesForAny t now (evict_steps f None) n
 
 missed_fits : (t : KnownTable) (w : Words) (m : KnownMachine) → IsConsistent t w m → (f word g : ℕ) → g < t.frames
-    → FitsSpot (note_of (seat_with m.seat f (missed word)).view g) (home_of m.links g) (spot_at m.spots g)
+    → FitsSpot t.cpus (note_of (seat_with m.seat f (missed word)).view g) (home_of m.links g) (spot_at m.spots g)
 missed_fits t w m ok f word g within =
     let old = ok.spots g within in
     let change : FrameNote → FrameNote = missed word in
     record {
       own = note_keeps m.seat f change (λ k. k.own) (λ k. refl) g ∙ old.own;
       lent = ap some_cpu (note_keeps m.seat f change (λ k. k.lent) (λ k. refl) g) ∙ old.lent;
+      borrower = old.borrower;
       references = note_keeps m.seat f change (λ k. k.references) (λ k. refl) g ∙ old.references;
       kept = old.kept;
     }

@@ -94,13 +94,13 @@ module _ (t : KnownTable) (w : Words) (m : KnownMachine) (first : IsFirst t w m)
   note_first : (f : ℕ) → f < t.frames → note_of m.seat.view f ≡ record blank { own = 1 }
   note_first f inside = ap (λ (s : KnownSeat). note_of s.view f) first.seat ∙ get_or-replicate t.frames f (record blank { own = 1 }) blank inside
 
-  pub spots_first : (f : ℕ) → f < t.frames → FitsSpot (note_of m.seat.view f) (home_of m.links f) (spot_at m.spots f)
+  pub spots_first : (f : ℕ) → f < t.frames → FitsSpot t.cpus (note_of m.seat.view f) (home_of m.links f) (spot_at m.spots f)
   spots_first f inside =
       let note = note_first f inside in
       let home : home_of m.links f ≡ None = ap (λ (l : Link). l.home) (first.nowhere f) in
       let spot = all_free f in
-      subst (λ (x : FrameNote × Option Home × Spot). FitsSpot x.0 x.1 x.2) (λ i. (sym note i, sym home i, sym spot i))
-      (record { own = refl; lent = refl; references = refl; kept = tt })
+      subst (λ (x : FrameNote × Option Home × Spot). FitsSpot t.cpus x.0 x.1 x.2) (λ i. (sym note i, sym home i, sym spot i))
+      (record { own = refl; lent = refl; borrower = tt; references = refl; kept = tt })
 
   pub charged_first : (g : ℕ) → pages_of m.ledger g ≡ frames_charged m.spots g + pages_booked t m.stock g
   charged_first g =

@@ -299,8 +299,8 @@ module _ (t : KnownTable) (w : Words) (m : KnownMachine) (ok : IsConsistent t w 
   pub unit_freed_consistent : (spots : List Spot) (blocks : List Block) (links : List Link) (lists : List Lru) (seat : KnownSeat) (counts : Counts)
       → FreesFrames m.spots f (2 ^ unit.order) spots → AreMaximalBlocks (free_of spots) blocks → IsZoneSeat t seat
       → length links ≡ t.frames → length lists ≡ 64 → AllStand links lists
-      → ((x : ℕ) → x < t.frames → (x ≡ f → ⊥) → FitsSpot (note_of seat.view x) (home_of links x) (spot_at m.spots x))
-      → FitsSpot (note_of seat.view f) (home_of links f) Free → BalancesCounts counts
+      → ((x : ℕ) → x < t.frames → (x ≡ f → ⊥) → FitsSpot t.cpus (note_of seat.view x) (home_of links x) (spot_at m.spots x))
+      → FitsSpot t.cpus (note_of seat.view f) (home_of links f) Free → BalancesCounts counts
       → IsConsistent t w (record m {
         blocks = blocks;
         spots = spots;
@@ -315,18 +315,18 @@ module _ (t : KnownTable) (w : Words) (m : KnownMachine) (ok : IsConsistent t w 
     seats = let s = ok.seats in record { frames = zone; table = s.table; stocks = s.stocks };
     areas = areas;
     spots = λ x within. elim (cases_eq x f) [
-      | inl e ↦ subst (λ (k : ℕ). FitsSpot (note_of seat.view k) (home_of links k) (spot_at spots k)) (sym e)
-          (subst (FitsSpot (note_of seat.view f) (home_of links f)) (sym (freed_head spots frees)) head)
+      | inl e ↦ subst (λ (k : ℕ). FitsSpot t.cpus (note_of seat.view k) (home_of links k) (spot_at spots k)) (sym e)
+          (subst (FitsSpot t.cpus (note_of seat.view f) (home_of links f)) (sym (freed_head spots frees)) head)
       | inr ne ↦ elim (within_cases f (2 ^ unit.order) x) [
         | inl inside ↦
             let low = inside.1 in
             let tail = (ok.units.heads f unit heads).tails x (omega (arith, low, ne)) inside.2 in
-            let old : FitsSpot (note_of seat.view x) (home_of links x) (Tail unit.group) =
-            subst (FitsSpot (note_of seat.view x) (home_of links x)) tail (others x within ne) in
-            subst (FitsSpot (note_of seat.view x) (home_of links x))
+            let old : FitsSpot t.cpus (note_of seat.view x) (home_of links x) (Tail unit.group) =
+            subst (FitsSpot t.cpus (note_of seat.view x) (home_of links x)) tail (others x within ne) in
+            subst (FitsSpot t.cpus (note_of seat.view x) (home_of links x))
             (sym (frees.records x ∙ ap (λ (b : Bool). cond b Free (spot_at m.spots x)) inside.0))
-            (record { own = old.own; lent = old.lent; references = old.references; kept = old.kept })
-        | inr out ↦ subst (FitsSpot (note_of seat.view x) (home_of links x))
+            (record { own = old.own; lent = old.lent; borrower = tt; references = old.references; kept = old.kept })
+        | inr out ↦ subst (FitsSpot t.cpus (note_of seat.view x) (home_of links x))
             (sym (frees.records x ∙ ap (λ (b : Bool). cond b Free (spot_at m.spots x)) out.0)) (others x within ne)
       ]
     ];

@@ -208,11 +208,11 @@ module _ (t : KnownTable) (w : Words) (m : KnownMachine) (c : KnownCpu) (tied : 
     homeless None is = tt
     homeless (Some x) is = is
 
-    dropped_fits : FitsSpot (collected_from c.number (note_of m.seat.view f)) (home_of m.links f) Free
+    dropped_fits : FitsSpot t.cpus (collected_from c.number (note_of m.seat.view f)) (home_of m.links f) Free
     dropped_fits =
-        let old : FitsSpot (note_of m.seat.view f) (home_of m.links f) (Lent c.number) =
-        subst (λ (x : Spot). FitsSpot (note_of m.seat.view f) (home_of m.links f) x) is_lent (ok.spots f was.inside) in
-        record { own = refl; lent = refl; references = old.references; kept = homeless (home_of m.links f) old.kept }
+        let old : FitsSpot t.cpus (note_of m.seat.view f) (home_of m.links f) (Lent c.number) =
+        subst (λ (x : Spot). FitsSpot t.cpus (note_of m.seat.view f) (home_of m.links f) x) is_lent (ok.spots f was.inside) in
+        record { own = refl; lent = refl; borrower = tt; references = old.references; kept = homeless (home_of m.links f) old.kept }
 
     charged_one : 1 ≤ pages_of m.ledger g
     charged_one =
@@ -232,7 +232,7 @@ module _ (t : KnownTable) (w : Words) (m : KnownMachine) (c : KnownCpu) (tied : 
       };
       seats = let z = ok.seats in record { frames = z.frames; table = z.table; stocks = z.stocks };
       areas = subst (λ (l : List Spot). AreMaximalBlocks (free_of l) blocks) one_set areas;
-      spots = spots_changed m.seat m.links m.spots f (collected_from c.number) Free t.frames within ok.spots dropped_fits;
+      spots = spots_changed t.cpus m.seat m.links m.spots f (collected_from c.number) Free t.frames within ok.spots dropped_fits;
       units = units_stay m.spots f Free within (ap spot_group is_lent) refl ok.units;
       lists = ok.lists;
       noted = none_noted m.stock.view c.number ok.noted;

@@ -109,16 +109,17 @@ module _ (t : KnownTable) (w : Words) (m : KnownMachine) (ok : IsConsistent t w 
 
 -- ---- the records and the notes
 
-fits_with : (note now : FrameNote) (home here : Option Home) (spot x : Spot) → now ≡ note → here ≡ home → x ≡ spot → FitsSpot note home spot
-    → FitsSpot now here x
-fits_with note now home here spot x a b c fits =
-    subst (λ (y : FrameNote × Option Home × Spot). FitsSpot y.0 y.1 y.2) (λ i. (sym a i, sym b i, sym c i)) fits
+fits_with : (cpus : ℕ) (note now : FrameNote) (home here : Option Home) (spot x : Spot) → now ≡ note → here ≡ home → x ≡ spot → FitsSpot cpus note home spot
+    → FitsSpot cpus now here x
+fits_with cpus note now home here spot x a b c fits =
+    subst (λ (y : FrameNote × Option Home × Spot). FitsSpot cpus y.0 y.1 y.2) (λ i. (sym a i, sym b i, sym c i)) fits
 
 -- a free frame that becomes a tail is in the zone's hand as before
-tail_fits : (note : FrameNote) (home : Option Home) (g : ℕ) → FitsSpot note home Free → FitsSpot note home (Tail g)
-tail_fits note home g fits = record {
+tail_fits : (cpus : ℕ) (note : FrameNote) (home : Option Home) (g : ℕ) → FitsSpot cpus note home Free → FitsSpot cpus note home (Tail g)
+tail_fits cpus note home g fits = record {
   own = fits.own;
   lent = fits.lent;
+  borrower = tt;
   references = fits.references;
   kept = subst (λ (h : Option Home). IfSome h (λ k. (k.owner < 64) × (head_group_of (Tail g) ≡ Some k.owner))) (sym (homeless home Free refl fits.kept)) tt;
 }
@@ -129,9 +130,9 @@ pub record IsUsed (note : FrameNote) : Type 0 where
   pub lent : note.lent ≡ 0
   pub references : note.references ≡ 1
 
-head_fits : (note : FrameNote) (g k : ℕ) → g < 64 → IsUsed note
-    → FitsSpot note (Some (record { owner = g; list = Inactive })) (Head (record { group = g; order = k }))
-head_fits note g k fits used = record { own = used.own; lent = ap some_cpu used.lent; references = used.references; kept = (fits, refl) }
+head_fits : (cpus : ℕ) (note : FrameNote) (g k : ℕ) → g < 64 → IsUsed note
+    → FitsSpot cpus note (Some (record { owner = g; list = Inactive })) (Head (record { group = g; order = k }))
+head_fits cpus note g k fits used = record { own = used.own; lent = ap some_cpu used.lent; borrower = tt; references = used.references; kept = (fits, refl) }
 
 module _ (t : KnownTable) (w : Words) (m : KnownMachine) (ok : IsConsistent t w m) (g : ℕ) (fits : g < 64) (b : Block) (spots : List Spot)
     (placed : PlacesUnit m.spots g b spots)
@@ -142,22 +143,22 @@ module _ (t : KnownTable) (w : Words) (m : KnownMachine) (ok : IsConsistent t w 
   abbrev seat : KnownSeat
   seat = seat_with m.seat b.at change
 
-  pub unit_fits : (x : ℕ) → x < t.frames → FitsSpot (note_of seat.view x) (home_of links x) (spot_at spots x)
+  pub unit_fits : (x : ℕ) → x < t.frames → FitsSpot t.cpus (note_of seat.view x) (home_of links x) (spot_at spots x)
   unit_fits x inside = elim (cases_eq x b.at) [
-    | inl e ↦ subst (λ (y : ℕ). FitsSpot (note_of seat.view y) (home_of links y) (spot_at spots y)) (sym e)
-        (fits_with (change (note_of m.seat.view b.at)) (note_of seat.view b.at) (Some (record { owner = g; list = Inactive })) (home_of links b.at)
+    | inl e ↦ subst (λ (y : ℕ). FitsSpot t.cpus (note_of seat.view y) (home_of links y) (spot_at spots y)) (sym e)
+        (fits_with t.cpus (change (note_of m.seat.view b.at)) (note_of seat.view b.at) (Some (record { owner = g; list = Inactive })) (home_of links b.at)
         (Head (record { group = g; order = b.order })) (spot_at spots b.at) (note_here m.seat.view b.at change) joined
-        (placed.records b.at ∙ head_of_block m.spots g b b.at refl) (head_fits (change (note_of m.seat.view b.at)) g b.order fits used))
+        (placed.records b.at ∙ head_of_block m.spots g b b.at refl) (head_fits t.cpus (change (note_of m.seat.view b.at)) g b.order fits used))
     | inr ne ↦ elim (within_cases b.at (2 ^ b.order) x) [
       | inl within ↦
           let free = rest x within.1 within.2 ne in
-          let old : FitsSpot (note_of m.seat.view x) (home_of m.links x) Free =
-          subst (λ (y : Spot). FitsSpot (note_of m.seat.view x) (home_of m.links x) y) free (ok.spots x inside) in
-          fits_with (note_of m.seat.view x) (note_of seat.view x) (home_of m.links x) (home_of links x) (Tail g) (spot_at spots x)
+          let old : FitsSpot t.cpus (note_of m.seat.view x) (home_of m.links x) Free =
+          subst (λ (y : Spot). FitsSpot t.cpus (note_of m.seat.view x) (home_of m.links x) y) free (ok.spots x inside) in
+          fits_with t.cpus (note_of m.seat.view x) (note_of seat.view x) (home_of m.links x) (home_of links x) (Tail g) (spot_at spots x)
           (note_else m.seat.view b.at x change ne) (homes x ne) (placed.records x ∙ tail_of_block m.spots g b x within.0 ne)
-          (tail_fits (note_of m.seat.view x) (home_of m.links x) g old)
+          (tail_fits t.cpus (note_of m.seat.view x) (home_of m.links x) g old)
       | inr out ↦
-          fits_with (note_of m.seat.view x) (note_of seat.view x) (home_of m.links x) (home_of links x) (spot_at m.spots x) (spot_at spots x)
+          fits_with t.cpus (note_of m.seat.view x) (note_of seat.view x) (home_of m.links x) (home_of links x) (spot_at m.spots x) (spot_at spots x)
           (note_else m.seat.view b.at x change ne) (homes x ne) (placed.records x ∙ off_block m.spots g b x out.0) (ok.spots x inside)
     ]
   ]

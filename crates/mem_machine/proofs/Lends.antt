@@ -118,11 +118,11 @@ module _ (t : KnownTable) (w : Words) (m : KnownMachine) (c : KnownCpu) (tied : 
   seated : IsSeated t c
   seated = record { some_number = tied.seats.some_number; cpus = tied.seats.frame_cpus }
 
-  lent_fits : FitsSpot (passed_out_to c.number (note_of m.seat.view f)) (home_of m.links f) (Lent c.number)
+  lent_fits : FitsSpot t.cpus (passed_out_to c.number (note_of m.seat.view f)) (home_of m.links f) (Lent c.number)
   lent_fits =
-      let old : FitsSpot (note_of m.seat.view f) (home_of m.links f) Free = subst (λ (x : Spot). FitsSpot (note_of m.seat.view f)
+      let old : FitsSpot t.cpus (note_of m.seat.view f) (home_of m.links f) Free = subst (λ (x : Spot). FitsSpot t.cpus (note_of m.seat.view f)
       (home_of m.links f) x) free (ok.spots f inside) in
-      record { own = refl; lent = some_cpu_is c.number tied.seats.some_number; references = old.references; kept = homeless (home_of m.links f) old.kept }
+      record { own = refl; lent = some_cpu_is c.number tied.seats.some_number; borrower = (tied.seats.some_number, tied.seats.frame_cpus); references = old.references; kept = homeless (home_of m.links f) old.kept }
 
   pub lend_consistent : (blocks : List Block) → AreMaximalBlocks (free_of (slice_set m.spots f (Lent c.number))) blocks
       → IsConsistent t w (record m { blocks = blocks; spots = slice_set m.spots f (Lent c.number); seat = seat_with m.seat f (passed_out_to c.number) })
@@ -136,7 +136,7 @@ module _ (t : KnownTable) (w : Words) (m : KnownMachine) (c : KnownCpu) (tied : 
     };
     seats = let s = ok.seats in record { frames = s.frames; table = s.table; stocks = s.stocks };
     areas = areas;
-    spots = spots_changed m.seat m.links m.spots f (passed_out_to c.number) (Lent c.number) t.frames within ok.spots lent_fits;
+    spots = spots_changed t.cpus m.seat m.links m.spots f (passed_out_to c.number) (Lent c.number) t.frames within ok.spots lent_fits;
     units = units_stay m.spots f (Lent c.number) within (ap group_of free) refl ok.units;
     lists = ok.lists;
     noted = ok.noted;

@@ -59,14 +59,15 @@ owner_of : Option Home → Option ℕ
 owner_of home = option_map (λ h. h.owner) home
 
 -- a record fits as before where the frame is on a list of the same owner
-pub fits_home : (note : FrameNote) (h k : Option Home) (spot : Spot) → option_map (λ (x : Home). x.owner) k ≡ option_map (λ (x : Home). x.owner) h
-    → FitsSpot note h spot → FitsSpot note k spot
-fits_home note None None spot same fits = fits
-fits_home note None (Some k) spot same fits = absurd (none-some k.owner (sym same))
-fits_home note (Some h) None spot same fits = absurd (none-some h.owner same)
-fits_home note (Some h) (Some k) spot same fits = record {
+pub fits_home : (cpus : ℕ) (note : FrameNote) (h k : Option Home) (spot : Spot) → option_map (λ (x : Home). x.owner) k ≡ option_map (λ (x : Home). x.owner) h
+    → FitsSpot cpus note h spot → FitsSpot cpus note k spot
+fits_home cpus note None None spot same fits = fits
+fits_home cpus note None (Some k) spot same fits = absurd (none-some k.owner (sym same))
+fits_home cpus note (Some h) None spot same fits = absurd (none-some h.owner same)
+fits_home cpus note (Some h) (Some k) spot same fits = record {
   own = fits.own;
   lent = fits.lent;
+  borrower = fits.borrower;
   references = fits.references;
   kept = (subst (λ (n : ℕ). n < 64) (sym (some_same 0 k.owner h.owner same)) fits.kept.0, fits.kept.1 ∙ sym same);
 }

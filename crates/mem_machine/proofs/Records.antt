@@ -117,16 +117,16 @@ heads_one (Lent q) is hand = absurd (none-some q is)
 heads_one (Head unit) is hand = (unit, refl)
 heads_one (Tail g) is hand = absurd (omega (arith, hand))
 
-pub spots_changed : (seat : KnownSeat) (links : List Link) (spots : List Spot) (f : ℕ) (change : FrameNote → FrameNote) (x : Spot) (frames : ℕ)
+pub spots_changed : (cpus : ℕ) (seat : KnownSeat) (links : List Link) (spots : List Spot) (f : ℕ) (change : FrameNote → FrameNote) (x : Spot) (frames : ℕ)
     → f < length spots
-    → ((g : ℕ) → g < frames → FitsSpot (note_of seat.view g) (home_of links g) (spot_at spots g))
-    → FitsSpot (change (note_of seat.view f)) (home_of links f) x
-    → (g : ℕ) → g < frames → FitsSpot (note_of (seat_with seat f change).view g) (home_of links g) (spot_at (slice_set spots f x) g)
-spots_changed seat links spots f change x frames inside fits here g within = elim (cases_eq g f) [
-  | inl e ↦ subst (λ (h : ℕ). FitsSpot (note_of (seat_with seat f change).view h) (home_of links h) (spot_at (slice_set spots f x) h)) (sym e)
-      (subst (λ (z : FrameNote × Spot). FitsSpot z.0 (home_of links f) z.1)
+    → ((g : ℕ) → g < frames → FitsSpot cpus (note_of seat.view g) (home_of links g) (spot_at spots g))
+    → FitsSpot cpus (change (note_of seat.view f)) (home_of links f) x
+    → (g : ℕ) → g < frames → FitsSpot cpus (note_of (seat_with seat f change).view g) (home_of links g) (spot_at (slice_set spots f x) g)
+spots_changed cpus seat links spots f change x frames inside fits here g within = elim (cases_eq g f) [
+  | inl e ↦ subst (λ (h : ℕ). FitsSpot cpus (note_of (seat_with seat f change).view h) (home_of links h) (spot_at (slice_set spots f x) h)) (sym e)
+      (subst (λ (z : FrameNote × Spot). FitsSpot cpus z.0 (home_of links f) z.1)
       (λ i. (sym (note_here seat.view f change) i, sym (get_or-set_same spots f x Free inside) i)) here)
-  | inr ne ↦ subst (λ (z : FrameNote × Spot). FitsSpot z.0 (home_of links g) z.1)
+  | inr ne ↦ subst (λ (z : FrameNote × Spot). FitsSpot cpus z.0 (home_of links g) z.1)
       (λ i. (sym (note_else seat.view f g change ne) i, sym (get_or-set_other spots f g x Free ne) i)) (fits g within)
 ]
 

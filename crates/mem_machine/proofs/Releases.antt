@@ -164,8 +164,8 @@ module _ (t : KnownTable) (w : Words) (m : KnownMachine) (ok : IsConsistent t w 
 
     -- every other frame fits its record as before
     pub others_fit : (change : FrameNote → FrameNote) (g : ℕ) → g < t.frames → (g ≡ f → ⊥)
-        → FitsSpot (note_of (seat_with m.seat f change).view g) (home_of links g) (spot_at m.spots g)
-    others_fit change g within ne = subst (λ (x : FrameNote × Option Home). FitsSpot x.0 x.1 (spot_at m.spots g))
+        → FitsSpot t.cpus (note_of (seat_with m.seat f change).view g) (home_of links g) (spot_at m.spots g)
+    others_fit change g within ne = subst (λ (x : FrameNote × Option Home). FitsSpot t.cpus x.0 x.1 (spot_at m.spots g))
         (λ i. (sym (note_else m.seat.view f g change ne) i, sym (leaves.homes g ne) i)) (ok.spots g within)
 
     may_put : (c : KnownCpu) → is_legal (local_of t m c) 0 (Put f) ≡ true
@@ -177,11 +177,11 @@ module _ (t : KnownTable) (w : Words) (m : KnownMachine) (ok : IsConsistent t w 
       abbrev left_seat : KnownSeat
       left_seat = seat_with m.seat f (let_go left)
 
-      left_fits : (g : ℕ) → g < t.frames → FitsSpot (note_of left_seat.view g) (home_of links g) (spot_at m.spots g)
+      left_fits : (g : ℕ) → g < t.frames → FitsSpot t.cpus (note_of left_seat.view g) (home_of links g) (spot_at m.spots g)
       left_fits g within = elim (cases_eq g f) [
-        | inl e ↦ subst (λ (k : ℕ). FitsSpot (note_of left_seat.view k) (home_of links k) (spot_at m.spots k)) (sym e)
-            (subst (λ (k : FrameNote). FitsSpot k (home_of links f) (spot_at m.spots f)) (sym (note_here m.seat.view f (let_go left)))
-            (let old = ok.spots f inside in record { own = old.own; lent = old.lent; references = no_reference; kept = no_home (spot_at m.spots f) }))
+        | inl e ↦ subst (λ (k : ℕ). FitsSpot t.cpus (note_of left_seat.view k) (home_of links k) (spot_at m.spots k)) (sym e)
+            (subst (λ (k : FrameNote). FitsSpot t.cpus k (home_of links f) (spot_at m.spots f)) (sym (note_here m.seat.view f (let_go left)))
+            (let old = ok.spots f inside in record { own = old.own; lent = old.lent; borrower = old.borrower; references = no_reference; kept = no_home (spot_at m.spots f) }))
         | inr ne ↦ others_fit (let_go left) g within ne
       ]
 
@@ -211,11 +211,12 @@ module _ (t : KnownTable) (w : Words) (m : KnownMachine) (ok : IsConsistent t w 
 
     module _ (unit : ChargedUnit) (heads : spot_at m.spots f ≡ Head unit) where
       -- the head in the zone's hand fits the record of a free frame
-      pub hand_fits : (change : FrameNote → FrameNote) → TakesInHand change → FitsSpot (note_of (seat_with m.seat f change).view f) (home_of links f) Free
-      hand_fits change takes = subst (λ (k : FrameNote). FitsSpot k (home_of links f) Free) (sym (note_here m.seat.view f change))
+      pub hand_fits : (change : FrameNote → FrameNote) → TakesInHand change → FitsSpot t.cpus (note_of (seat_with m.seat f change).view f) (home_of links f) Free
+      hand_fits change takes = subst (λ (k : FrameNote). FitsSpot t.cpus k (home_of links f) Free) (sym (note_here m.seat.view f change))
           (record {
             own = takes.own (note_of m.seat.view f);
             lent = ap some_cpu (takes.lent (note_of m.seat.view f)) ∙ (ok.spots f inside).lent ∙ ap lent_to heads;
+            borrower = tt;
             references = takes.references (note_of m.seat.view f) ∙ no_reference;
             kept = no_home Free;
           })

@@ -12,7 +12,7 @@ use Rattle.cpu_part.specs.Cpus.{KnownCpu}
 use Rattle.step_rules.specs.State.{State}
 use Rattle.mem_machine.specs.Machines.{KnownMachine, Visits, is_killed}
 use Rattle.mem_machine.specs.Local.{IsLocalRun, local_of, fresh_group, side}
-use Rattle.mem_machine.specs.Settling.{HandsOver, KeepsFresh, DropsFresh, SettlesFresh, SettlesAllFresh, ReturnsBack, ReturnsAllBack, LeavesOthers, Settles}
+use Rattle.mem_machine.specs.Settling.{FindsNoneBack, FindsNoneFresh, HandsOver, KeepsFresh, DropsFresh, SettlesFresh, SettlesAllFresh, ReturnsBack, ReturnsAllBack, LeavesOthers, Settles}
 use Rattle.mem_machine.specs.Settling.{fresh_steps, return_steps, settle_steps}
 use Rattle.mem_machine.proofs.Reaching.{run_both}
 
@@ -135,17 +135,17 @@ pub record FreshSettled (t : KnownTable) (m : KnownMachine) (c : KnownCpu) (n : 
   pub none_fresh : d.fresh ≡ []
 
 pub fresh_end : (t : KnownTable) (m : KnownMachine) (c : KnownCpu) (x : KnownMachine) (y : KnownCpu) (n : KnownMachine) (d : KnownCpu)
-    → FreshSoFar t m c x y → (y.fresh ≡ []) × (n ≡ x) × (d ≡ y) → FreshSettled t m c n d
+    → FreshSoFar t m c x y → FindsNoneFresh (side x y) (side n d) → FreshSettled t m c n d
 fresh_end t m c x y n d so_far none =
     let k : Bool = is_killed m.killed (fresh_group c) in
     record {
-      settles = so_far.settles n d (subst (λ (l : List ℕ). SettlesAllFresh l (side x y) (side n d)) (sym none.0) (none.1, none.2));
+      settles = so_far.settles n d (subst (λ (l : List ℕ). SettlesAllFresh l (side x y) (side n d)) (sym none.none_fresh) (none.machine, none.cpu));
       steps = so_far.steps (local_of t n d)
-          (subst (λ (l : List ℕ). IsLocalRun c.number (local_of t x y) (flat_map (fresh_steps k c.number) l) (local_of t n d)) (sym none.0)
-          (λ i. local_of t (sym none.1 i) (sym none.2 i)));
-      others = subst (λ (e : KnownCpu). LeavesOthers c e) (sym none.2) so_far.others;
-      back = ap (λ (e : KnownCpu). e.back) none.2 ∙ so_far.back;
-      none_fresh = ap (λ (e : KnownCpu). e.fresh) none.2 ∙ none.0;
+          (subst (λ (l : List ℕ). IsLocalRun c.number (local_of t x y) (flat_map (fresh_steps k c.number) l) (local_of t n d)) (sym none.none_fresh)
+          (λ i. local_of t (sym none.machine i) (sym none.cpu i)));
+      others = subst (λ (e : KnownCpu). LeavesOthers c e) (sym none.cpu) so_far.others;
+      back = ap (λ (e : KnownCpu). e.back) none.cpu ∙ so_far.back;
+      none_fresh = ap (λ (e : KnownCpu). e.fresh) none.cpu ∙ none.none_fresh;
     }
 
 -- ---- all back frames
@@ -190,15 +190,15 @@ pub record BackSettled (t : KnownTable) (m : KnownMachine) (c : KnownCpu) (n : K
   pub none_back : d.back ≡ []
 
 pub back_end : (t : KnownTable) (m : KnownMachine) (c : KnownCpu) (x : KnownMachine) (y : KnownCpu) (n : KnownMachine) (d : KnownCpu)
-    → BackSoFar t m c x y → (y.back ≡ []) × (n ≡ x) × (d ≡ y) → BackSettled t m c n d
+    → BackSoFar t m c x y → FindsNoneBack (side x y) (side n d) → BackSettled t m c n d
 back_end t m c x y n d so_far none = record {
-  returns = so_far.returns n d (subst (λ (l : List ℕ). ReturnsAllBack l (side x y) (side n d)) (sym none.0) (none.1, none.2));
+  returns = so_far.returns n d (subst (λ (l : List ℕ). ReturnsAllBack l (side x y) (side n d)) (sym none.none_back) (none.machine, none.cpu));
   steps = so_far.steps (local_of t n d)
-      (subst (λ (l : List ℕ). IsLocalRun c.number (local_of t x y) (flat_map (return_steps c.number) l) (local_of t n d)) (sym none.0)
-      (λ i. local_of t (sym none.1 i) (sym none.2 i)));
-  others = subst (λ (e : KnownCpu). LeavesOthers c e) (sym none.2) so_far.others;
-  fresh = ap (λ (e : KnownCpu). e.fresh) none.2 ∙ so_far.fresh;
-  none_back = ap (λ (e : KnownCpu). e.back) none.2 ∙ none.0;
+      (subst (λ (l : List ℕ). IsLocalRun c.number (local_of t x y) (flat_map (return_steps c.number) l) (local_of t n d)) (sym none.none_back)
+      (λ i. local_of t (sym none.machine i) (sym none.cpu i)));
+  others = subst (λ (e : KnownCpu). LeavesOthers c e) (sym none.cpu) so_far.others;
+  fresh = ap (λ (e : KnownCpu). e.fresh) none.cpu ∙ so_far.fresh;
+  none_back = ap (λ (e : KnownCpu). e.back) none.cpu ∙ none.none_back;
 }
 
 -- ---- both

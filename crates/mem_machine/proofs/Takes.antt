@@ -90,11 +90,11 @@ module _ (t : KnownTable) (w : Words) (m : KnownMachine) (c : KnownCpu) (tied : 
   homeless None is = tt
   homeless (Some x) is = is
 
-  taken_fits : FitsSpot (collected_from c.number (note_of m.seat.view f)) (home_of m.links f) Free
+  taken_fits : FitsSpot t.cpus (collected_from c.number (note_of m.seat.view f)) (home_of m.links f) Free
   taken_fits =
-      let old : FitsSpot (note_of m.seat.view f) (home_of m.links f) (Lent c.number) =
-      subst (λ (x : Spot). FitsSpot (note_of m.seat.view f) (home_of m.links f) x) is_lent_spot (ok.spots f inside) in
-      record { own = refl; lent = refl; references = old.references; kept = homeless (home_of m.links f) old.kept }
+      let old : FitsSpot t.cpus (note_of m.seat.view f) (home_of m.links f) (Lent c.number) =
+      subst (λ (x : Spot). FitsSpot t.cpus (note_of m.seat.view f) (home_of m.links f) x) is_lent_spot (ok.spots f inside) in
+      record { own = refl; lent = refl; borrower = tt; references = old.references; kept = homeless (home_of m.links f) old.kept }
 
   pub take_consistent : (blocks : List Block) → AreMaximalBlocks (free_of (slice_set m.spots f Free)) blocks
       → IsConsistent t w (record m { blocks = blocks; spots = slice_set m.spots f Free; seat = seat_with m.seat f (collected_from c.number) })
@@ -108,7 +108,7 @@ module _ (t : KnownTable) (w : Words) (m : KnownMachine) (c : KnownCpu) (tied : 
     };
     seats = let s = ok.seats in record { frames = s.frames; table = s.table; stocks = s.stocks };
     areas = areas;
-    spots = spots_changed m.seat m.links m.spots f (collected_from c.number) Free t.frames within ok.spots taken_fits;
+    spots = spots_changed t.cpus m.seat m.links m.spots f (collected_from c.number) Free t.frames within ok.spots taken_fits;
     units = units_stay m.spots f Free within (ap group_of is_lent_spot) refl ok.units;
     lists = ok.lists;
     noted = ok.noted;

@@ -49,7 +49,7 @@ module _ (t : KnownTable) (w : Words) (m : KnownMachine) (ok : IsConsistent t w 
     };
     seats = ok.seats;
     areas = ok.areas;
-    spots = λ g within. fits_home (note_of m.seat.view g) (home_of m.links g) (home_of links g) (spot_at m.spots g) (owners g) (ok.spots g within);
+    spots = λ g within. fits_home t.cpus (note_of m.seat.view g) (home_of m.links g) (home_of links g) (spot_at m.spots g) (owners g) (ok.spots g within);
     units = ok.units;
     lists = all_stand;
     noted = ok.noted;

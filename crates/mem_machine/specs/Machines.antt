@@ -83,6 +83,10 @@ active_in m g = entries_in m g Active
 abbrev pub home_of : List Link → ℕ → Option Home
 home_of links f = (link_at links f).home
 
+-- in this machine the frame heads a kept unit: it stands on a list
+abbrev pub HeadsKeptUnit : KnownMachine → ℕ → Type 0
+HeadsKeptUnit m f = home_of m.links f ≢ None
+
 -- the lists of all groups but this one stand as they stood: the same units in the same order, with their marks and dirt
 abbrev pub OthersStay : List Link → List Lru → ℕ → List Link → List Lru → Type 0
 OthersStay before old group after new = (g : ℕ) (list : LruList) → g < MAX_GROUPS → g ≢ group
@@ -109,11 +113,12 @@ abbrev pub pages_booked : KnownTable → Seated → ℕ → ℕ
 pages_booked t stock g = sum_to (t.cpus + 1) (λ p. booked g (account_of stock.view p))
 
 -- The zone's seat notes of a frame what its record says: it is in the zone's hand where it is free or a tail, it is
--- lent to whom the record says, and the zone has one reference exactly where the frame stands on a list; that is one of
--- the group of the unit that it heads
-pub record FitsSpot (note : FrameNote) (home : Option Home) (spot : Spot) : Type 0 where
+-- lent to whom the record says, who is one of so many processors, and the zone has one reference exactly where the frame
+-- stands on a list; that is one of the group of the unit that it heads
+pub record FitsSpot (cpus : ℕ) (note : FrameNote) (home : Option Home) (spot : Spot) : Type 0 where
   pub own : note.own ≡ one_if (is_in_hand spot)
   pub lent : some_cpu note.lent ≡ lent_to spot
+  pub borrower : IfSome (lent_to spot) (λ p. (1 ≤ p) × (p ≤ cpus))
   pub references : note.references ≡ one_if (is_some home)
   pub kept : IfSome home (λ h. (h.owner < MAX_GROUPS) × (head_group_of spot ≡ Some h.owner))
 
@@ -140,7 +145,7 @@ pub record IsConsistent (table : KnownTable) (words : Words) (machine : KnownMac
   pub seats : AreZoneSeats table words machine.seat machine.stock
   pub areas : AreMaximalBlocks (free_of machine.spots) machine.blocks
   pub spots : (f : ℕ) → f < table.frames
-      → FitsSpot (note_of machine.seat.view f) (home_of machine.links f) (spot_at machine.spots f)
+      → FitsSpot table.cpus (note_of machine.seat.view f) (home_of machine.links f) (spot_at machine.spots f)
   pub units : AreUnits machine.spots
   pub lists : AllStand machine.links machine.lists
   pub noted : (p : ℕ) → (account_of machine.stock.view p).noted ≡ 0

@@ -97,14 +97,26 @@ pub record SettlesFresh (frame : ℕ) (before after : Side) : Type 0 where
   pub keeps : is_fresh_killed before ≡ false → KeepsFresh (fresh_group before.cpu) frame before after
   pub drops : is_fresh_killed before ≡ true → DropsFresh (fresh_group before.cpu) frame before after
 
--- what settling the oldest fresh frame leaves, by what it tells: the frame; or there is none, and nothing changed
+-- no frame of the processor is fresh, and nothing changed
+pub record FindsNoneFresh (before after : Side) : Type 0 where
+  pub none_fresh : before.cpu.fresh ≡ []
+  pub machine : after.machine ≡ before.machine
+  pub cpu : after.cpu ≡ before.cpu
+
+-- no frame of the processor is back, and nothing changed
+pub record FindsNoneBack (before after : Side) : Type 0 where
+  pub none_back : before.cpu.back ≡ []
+  pub machine : after.machine ≡ before.machine
+  pub cpu : after.cpu ≡ before.cpu
+
+-- what settling the oldest fresh frame leaves, by what it tells: the frame; or that there is none
 abbrev pub SettlesNext : Option ℕ → Side → Side → Type 0
-SettlesNext None before after = (before.cpu.fresh ≡ []) × (after.machine ≡ before.machine) × (after.cpu ≡ before.cpu)
+SettlesNext None before after = FindsNoneFresh before after
 SettlesNext (Some f) before after = SettlesFresh f before after
 
--- what returning the oldest back frame leaves, by what it tells: the frame; or there is none, and nothing changed
+-- what returning the oldest back frame leaves, by what it tells: the frame; or that there is none
 abbrev pub ReturnsNext : Option ℕ → Side → Side → Type 0
-ReturnsNext None before after = (before.cpu.back ≡ []) × (after.machine ≡ before.machine) × (after.cpu ≡ before.cpu)
+ReturnsNext None before after = FindsNoneBack before after
 ReturnsNext (Some f) before after = ReturnsBack f before after
 
 -- so it is with these fresh frames, one after the other

@@ -1,8 +1,8 @@
 //! Kept units that are tried: frozen and given back where nobody else has a reference.
 
-ghost use Rattle.std.specs.Prelude.{◌≡◌, ◌≢◌, ◌<◌, None};
+ghost use Rattle.std.specs.Prelude.{◌≡◌, ◌<◌};
 ghost use Rattle.cpu_part.specs.Cpus.{KnownCpu};
-ghost use Rattle.mem_machine.specs.Machines.{home_of, Visits};
+ghost use Rattle.mem_machine.specs.Machines.{HeadsKeptUnit, Visits};
 ghost use Rattle.mem_machine.specs.Evicting.{Evicts, evict_steps};
 ghost use Rattle.mem_machine.specs.Local.{MakesForAny, side};
 
@@ -19,7 +19,7 @@ impl<N: BootName> Machine<N> {
     /// goes by its head, which stands on a list of its group.
     pub fn evict(&mut self, tables: &Tables<N>, head: Frame) -> Option<u32>
         requires frame { head < N.frames.frames }
-        requires kept { home_of self.old.links head ≢ None }
+        requires kept { HeadsKeptUnit self.old head }
         ensures evicts { Evicts self.old head result self.new }
         ensures visit { (cpu : KnownCpu) → Visits N.frames (side self.old cpu) → Visits N.frames (side self.new cpu) }
         ensures steps { MakesForAny N.frames self.old (evict_steps head result) self.new }

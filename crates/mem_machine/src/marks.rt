@@ -1,7 +1,7 @@
 //! The use of kept units: what is noted of them on the lists of their groups.
 
-ghost use Rattle.std.specs.Prelude.{◌≢◌, ◌<◌, [], None};
-ghost use Rattle.mem_machine.specs.Machines.{home_of};
+ghost use Rattle.std.specs.Prelude.{◌<◌, []};
+ghost use Rattle.mem_machine.specs.Machines.{HeadsKeptUnit};
 ghost use Rattle.mem_machine.specs.Marks.{Dirties, TouchesUnit};
 ghost use Rattle.mem_machine.specs.Local.{MakesForAny};
 
@@ -16,7 +16,7 @@ impl<N: BootName> Machine<N> {
     /// end of the active list of its group, unmarked. The unit goes by its head, which stands on a list of its group.
     pub fn touch(&mut self, head: Frame) -> Touched
         requires frame { head < N.frames.frames }
-        requires kept { home_of self.old.links head ≢ None }
+        requires kept { HeadsKeptUnit self.old head }
         ensures touches { TouchesUnit self.old head result self.new }
         ensures steps { MakesForAny N.frames self.old [] self.new }
     {
@@ -36,7 +36,7 @@ impl<N: BootName> Machine<N> {
     /// group.
     pub fn set_dirty(&mut self, head: Frame, is_dirty: bool)
         requires frame { head < N.frames.frames }
-        requires kept { home_of self.old.links head ≢ None }
+        requires kept { HeadsKeptUnit self.old head }
         ensures dirties { Dirties self.old head is_dirty self.new }
         ensures steps { MakesForAny N.frames self.old [] self.new }
     {

@@ -1,11 +1,11 @@
 //! What the machine tells of itself.
 
-ghost use Rattle.std.specs.Prelude.{◌≡◌, ◌≢◌, ◌<◌, ◌↔◌, None, IsTrue};
+ghost use Rattle.std.specs.Prelude.{◌≡◌, ◌<◌, ◌↔◌, IsTrue};
 ghost use Rattle.group_tree.specs.Groups.{has_group};
 ghost use Rattle.group_charge.specs.Charges.{current_of};
 ghost use Rattle.zone_blocks.specs.Areas.{AreMaximalBlocks};
 ghost use Rattle.mem_machine.specs.Spots.{spot_at, free_of, place_of, unit_of};
-ghost use Rattle.mem_machine.specs.Machines.{IsConsistent, home_of, is_killed};
+ghost use Rattle.mem_machine.specs.Machines.{HeadsKeptUnit, IsConsistent, is_killed};
 
 use crate::counts::Counts;
 use crate::machine::Machine;
@@ -57,7 +57,7 @@ impl<N: BootName> Machine<N> {
     /// Whether the frame heads a kept unit, which stands on a list of its group.
     pub fn is_kept(&self, frame: Frame) -> bool
         requires { frame < N.frames.frames }
-        ensures { IsTrue result ↔ (home_of self.now.links frame ≢ None) }
+        ensures { IsTrue result ↔ HeadsKeptUnit self.now frame }
     {
         self.links.home(frame.number()).is_some()
     }

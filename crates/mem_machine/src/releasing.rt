@@ -3,7 +3,7 @@
 ghost use Rattle.std.specs.Prelude.{◌≡◌, ◌≢◌, ◌<◌, None, IfSome, length};
 ghost use Rattle.group_tree.specs.declared.group.TheConstants.{MAX_GROUPS};
 ghost use Rattle.lru_lists.specs.Lists.{AllStand};
-ghost use Rattle.mem_machine.specs.Machines.{home_of, Visits};
+ghost use Rattle.mem_machine.specs.Machines.{HeadsKeptUnit, home_of, Visits};
 ghost use Rattle.mem_machine.specs.Releasing.{LeavesList, Releases, release_steps};
 ghost use Rattle.cpu_part.specs.Cpus.{KnownCpu};
 ghost use Rattle.mem_machine.specs.Local.{Makes, MakesForAny, side};
@@ -54,7 +54,7 @@ impl<N: BootName> Machine<N> {
     /// comes back. The unit goes by its head, which stands on a list of its group. Whose visit is open is all the same.
     pub fn let_go(&mut self, tables: &Tables<N>, head: Frame) -> Released
         requires frame { head < N.frames.frames }
-        requires kept { home_of self.old.links head ≢ None }
+        requires kept { HeadsKeptUnit self.old head }
         ensures releases { Releases self.old head result self.new }
         ensures visit { (cpu : KnownCpu) → Visits N.frames (side self.old cpu) → Visits N.frames (side self.new cpu) }
         ensures steps { MakesForAny N.frames self.old (release_steps head result) self.new }
@@ -79,7 +79,7 @@ impl<N: BootName> Machine<N> {
     pub fn release(&mut self, tables: &Tables<N>, cpu: &Cpu<N>, head: Frame) -> Released
         requires visit { Visits N.frames (side self.old cpu.now) }
         requires frame { head < N.frames.frames }
-        requires kept { home_of self.old.links head ≢ None }
+        requires kept { HeadsKeptUnit self.old head }
         ensures releases { Releases self.old head result self.new }
         ensures visit { Visits N.frames (side self.new cpu.now) }
         ensures steps { Makes N.frames (side self.old cpu.now) (release_steps head result) (side self.new cpu.now) }

@@ -10,7 +10,7 @@ use Rattle.step_rules.specs.After.{Run}
 use Rattle.mem_machine.specs.declared.releasing.Released.{Released}
 use Rattle.kill_notes.specs.declared.note.Note.{Note}
 use Rattle.kill_notes.specs.declared.note.Note.TheVariants.{Killed}
-use Rattle.mem_machine.specs.Machines.{KnownMachine, Visits, active_in, home_of, inactive_in, side, with_note}
+use Rattle.mem_machine.specs.Machines.{HeadsKeptUnit, KnownMachine, Visits, active_in, home_of, inactive_in, side, with_note}
 use Rattle.mem_machine.specs.Local.{MakesForAny}
 use Rattle.mem_machine.specs.Releasing.{Releases, release_steps}
 use Rattle.mem_machine.specs.Steps.{Drain, drain_stocks_steps, kill_steps}
@@ -108,7 +108,7 @@ pub record OnlyLetsGo (table : KnownTable) (before after : KnownMachine) : Type 
   pub usage : (g : ℕ) → current_of after.ledger g ≤ current_of before.ledger g
   pub visit : (cpu : KnownCpu) → Visits table (side before cpu) → Visits table (side after cpu)
   pub leaves : OnlyLeave before after
-  pub dirt : (f : ℕ) → home_of after.links f ≢ None → (link_at after.links f).is_dirty ≡ (link_at before.links f).is_dirty
+  pub dirt : (f : ℕ) → HeadsKeptUnit after f → (link_at after.links f).is_dirty ≡ (link_at before.links f).is_dirty
   pub misses : (f : ℕ) → misses_of after.seat f ≡ misses_of before.seat f
 
 -- what each processor's stock is stays, and who is killed

@@ -8,7 +8,7 @@ use Rattle.lru_lists.specs.declared.record.Home.{Home}
 use Rattle.lru_lists.specs.Queue.{link_at}
 use Rattle.lru_lists.specs.Lists.{owner_of}
 use Rattle.cpu_part.specs.Cpus.{KnownCpu}
-use Rattle.mem_machine.specs.Machines.{KnownMachine, Visits, home_of, side}
+use Rattle.mem_machine.specs.Machines.{HeadsKeptUnit, KnownMachine, Visits, home_of, side}
 
 -- the frame heads a kept unit, which is dirty
 pub record IsDirtyUnit (links : List Link) (frame : ℕ) : Type 0 where
@@ -25,8 +25,8 @@ pub record Keeps (table : KnownTable) (before after : KnownMachine) : Type 0 whe
   pub usage : (g : ℕ) → current_of after.ledger g ≤ current_of before.ledger g
   pub visit : (cpu : KnownCpu) → Visits table (side before cpu) → Visits table (side after cpu)
   pub dirty : (f : ℕ) → IsDirtyUnit before.links f → IsDirtyUnit after.links f
-  pub owners : (f : ℕ) → home_of after.links f ≢ None → owner_of (home_of after.links f) ≡ owner_of (home_of before.links f)
-  pub dirt : (f : ℕ) → home_of after.links f ≢ None → (link_at after.links f).is_dirty ≡ (link_at before.links f).is_dirty
+  pub owners : (f : ℕ) → HeadsKeptUnit after f → owner_of (home_of after.links f) ≡ owner_of (home_of before.links f)
+  pub dirt : (f : ℕ) → HeadsKeptUnit after f → (link_at after.links f).is_dirty ≡ (link_at before.links f).is_dirty
   pub misses : (f : ℕ) → misses_of before.seat f ≤ misses_of after.seat f
 
 -- no unit came onto a list: who stands on one stood there

@@ -78,7 +78,7 @@ above_visit t g limit m n c b v = elim (cases_lt limit (current_of m.ledger g)) 
       let first = usage_visit t g limit (with_limit_noted m g 0) x c h.lowering h.lowers told in
       let kills = kills_lower None t g 0 x n h.killing h.kills in
       record { visit = kills.visit c first.visit; opened = kills.opened ∙ first.opened; number = refl; back = refl }
-  | inr within ↦ visit_keeps t m n c (ap (λ (k : KnownMachine). k.seat) (b.1.within (omega (arith, within))).0) v
+  | inr within ↦ visit_keeps t m n c (ap (λ (k : KnownMachine). k.seat) (b.1.within (omega (arith, within))).machine) v
 ]
 
 -- the stocks are drained, and then the rounds are made
@@ -127,7 +127,7 @@ lowered_none t g limit m within = (
   [],
   record {
     above = λ (over : limit < current_of m.ledger g). absurd (omega (arith, over, within));
-    within = λ less. (refl, refl);
+    within = λ less. record { machine = refl; steps_are = refl };
   },
   λ c. refl,
 )
@@ -160,7 +160,7 @@ limited_to t g limit of m x n some is first last =
 pub limited_none : (t : KnownTable) (g : ℕ) (of : Option ℕ) (m x : KnownMachine) → of ≡ None → x ≡ with_limit_of m g of
     → MakesForAny t m (set_max_steps g of) x → ByStepsOfAny t m x (SetsLimit g of)
 limited_none t g of m x none is first =
-    let keeps = subst (λ (o : Option ℕ). KeepsToLimit g o (course t x [] x)) (sym none) (refl, refl) in
+    let keeps = subst (λ (o : Option ℕ). KeepsToLimit g o (course t x [] x)) (sym none) (record { machine = refl; steps_are = refl }) in
     limited_by t g of m x x is first ([], keeps, λ c. refl)
 
 -- ---- a group that is taken out

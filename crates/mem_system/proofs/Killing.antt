@@ -49,7 +49,7 @@ use Rattle.mem_system.specs.Commands.{MakesGroup, MayAskFor, Obeys, Removes, Set
 
 makes_quiet : (path : List ℕ) (said : Reply) (way : Course KnownMachine) → MakesGroup path said way → has_kill way.steps ≡ false
 makes_quiet path (reply.Group n) way h = ap has_kill h.2
-makes_quiet path (reply.Refused fault) way h = ap has_kill h.1.1
+makes_quiet path (reply.Refused fault) way h = ap has_kill h.1.steps_are
 makes_quiet path other way h = absurd h
 
 lowers_quiet : (g limit : ℕ) (way : Course KnownMachine) → LowersUsage g limit way → has_kill way.steps ≡ false
@@ -62,7 +62,7 @@ removes_quiet path reply.Done way h =
     ap has_kill h.steps_are
     ∙ no_kill_both h.lowering (remove_steps h.group) (lowers_quiet h.group 0 (course way.table way.before h.lowering h.emptied) h.lowers) refl
 removes_quiet path (reply.Refused fault.Busy) way h = lowers_quiet h.group 0 way h.lowers
-removes_quiet path (reply.Refused other) way h = ap has_kill h.1.1
+removes_quiet path (reply.Refused other) way h = ap has_kill h.1.steps_are
 removes_quiet path other way h = absurd h
 
 touches_quiet : (f : ℕ) (said : Reply) (way : Course KnownMachine) → TouchesFrame f said way → has_kill way.steps ≡ false
@@ -138,12 +138,12 @@ module _ (t : KnownTable) (MayAsk : List Group → ℕ → ℕ → Type 0) (s : 
       → MayAsk m.ledger.groups g 0 → Passes t c s made m → LowersAbove g limit (course t m steps n) → RashFree t MayAsk s c made steps
   lowers_rash g limit made m steps n is asked since h = elim (cases_lt limit (current_of m.ledger g)) [
     | inl above ↦ kills_rash g limit made m steps n is asked since (h.above above)
-    | inr within ↦ rash_quiet t MayAsk s c made steps (ap has_kill (h.within within).1)
+    | inr within ↦ rash_quiet t MayAsk s c made steps (ap has_kill (h.within within).steps_are)
   ]
 
   keeps_rash : (g : ℕ) (of : Option ℕ) (made : Run) (m : KnownMachine) (steps : Run) (n : KnownMachine) → limit_of m.ledger.groups g ≡ of
       → MayAsk m.ledger.groups g 0 → Passes t c s made m → KeepsToLimit g of (course t m steps n) → RashFree t MayAsk s c made steps
-  keeps_rash g None made m steps n is asked since h = rash_quiet t MayAsk s c made steps (ap has_kill h.1)
+  keeps_rash g None made m steps n is asked since h = rash_quiet t MayAsk s c made steps (ap has_kill h.steps_are)
   keeps_rash g (Some limit) made m steps n is asked since h = lowers_rash g limit made m steps n is asked since h
 
   sets_rash : (g : ℕ) (of : Option ℕ) (steps : Run) (n : KnownMachine) (z : State) → has_group s.ledger.groups g ≡ true
@@ -169,7 +169,7 @@ writes_no_rash t cmd path name value reply.Done s c steps n z asks whole h =
     sets_rash t (MayAskFor cmd s.ledger.groups) s c h.group h.limit steps n z (found_there s.ledger.groups path h.group h.file.number)
     (asks h.group h.limit h.file h.reads) whole h.sets
 writes_no_rash t cmd path name value (reply.Refused fault) s c steps n z asks whole h =
-    rash_quiet t (MayAskFor cmd s.ledger.groups) s c [] steps (ap has_kill h.1.1)
+    rash_quiet t (MayAskFor cmd s.ledger.groups) s c [] steps (ap has_kill h.1.steps_are)
 writes_no_rash t cmd path name value other s c steps n z asks whole h = absurd h
 
 allocates_for : (t : KnownTable) (cmd : Cmd) (sizes : Config) (path : List ℕ) (order : ℕ) (answer : Result ℕ AllocFault) (s : KnownMachine) (c : KnownCpu)

@@ -33,7 +33,7 @@ makes_counts path (reply.Group n) way h =
     counts_as way.table way.before way.after way.steps (make_steps path n) h.2
     (counts_same way.table way.before way.after (make_steps path n) (record { quiet = refl; no_miss = λ f. refl })
     (ap (λ (x : KnownMachine). x.seat) h.1.machine))
-makes_counts path (reply.Refused fault) way h = counts_rest way.table way.before way.after way.steps h.1.0 h.1.1
+makes_counts path (reply.Refused fault) way h = counts_rest way.table way.before way.after way.steps h.1.machine h.1.steps_are
 makes_counts path other way h = absurd h
 
 lowers_counts : (g limit : ℕ) (way : Course KnownMachine) → LowersUsage g limit way → CountsMisses way
@@ -52,7 +52,7 @@ removes_counts path reply.Done way h =
     (counts_same t h.emptied way.after (remove_steps h.group) (record { quiet = refl; no_miss = λ f. refl })
     (ap (λ (x : KnownMachine). x.seat) h.machine)))
 removes_counts path (reply.Refused fault.Busy) way h = lowers_counts h.group 0 way h.lowers
-removes_counts path (reply.Refused other) way h = counts_rest way.table way.before way.after way.steps h.1.0 h.1.1
+removes_counts path (reply.Refused other) way h = counts_rest way.table way.before way.after way.steps h.1.machine h.1.steps_are
 removes_counts path other way h = absurd h
 
 above_counts : (g limit : ℕ) (way : Course KnownMachine) → LowersAbove g limit way → CountsMisses way
@@ -62,11 +62,11 @@ above_counts g limit way h = elim (cases_lt limit (current_of way.before.ledger 
       let t = way.table in
       counts_as t way.before way.after way.steps (b.lowering ++ b.killing) b.steps_are (counts_both t way.before b.lowered way.after b.lowering b.killing
       (lowers_counts g limit (course t (with_limit_noted way.before g 0) b.lowering b.lowered) b.lowers) (counts_kills None t g 0 b.lowered way.after b.killing b.kills))
-  | inr within ↦ counts_rest way.table way.before way.after way.steps (h.within within).0 (h.within within).1
+  | inr within ↦ counts_rest way.table way.before way.after way.steps (h.within within).machine (h.within within).steps_are
 ]
 
 keeps_counts : (g : ℕ) (of : Option ℕ) (way : Course KnownMachine) → KeepsToLimit g of way → CountsMisses way
-keeps_counts g None way h = counts_rest way.table way.before way.after way.steps h.0 h.1
+keeps_counts g None way h = counts_rest way.table way.before way.after way.steps h.machine h.steps_are
 keeps_counts g (Some limit) way h = above_counts g limit way h
 
 sets_counts : (g : ℕ) (of : Option ℕ) (way : Course KnownMachine) → SetsLimit g of way → CountsMisses way
@@ -80,7 +80,7 @@ sets_counts g of way h =
 
 writes_counts : (path name value : List ℕ) (said : Reply) (way : Course KnownMachine) → Writes path name value said way → CountsMisses way
 writes_counts path name value reply.Done way h = sets_counts h.group h.limit way h.sets
-writes_counts path name value (reply.Refused fault) way h = counts_rest way.table way.before way.after way.steps h.1.0 h.1.1
+writes_counts path name value (reply.Refused fault) way h = counts_rest way.table way.before way.after way.steps h.1.machine h.1.steps_are
 writes_counts path name value other way h = absurd h
 
 heads_none : (f : ℕ) (way : Course KnownMachine) → HeadsNoUnit f way → CountsMisses way

@@ -17,7 +17,7 @@ use Rattle.mem_machine.specs.Local.{Side, side, Makes}
 use Rattle.mem_machine.specs.Settling.{Settles, settle_steps}
 use Rattle.mem_machine.specs.Steps.{open_steps, shut_steps, make_steps, remove_steps, set_max_steps}
 -- how a call is said by its steps
-pub use Rattle.mem_alloc.specs.Stepping.{CountsMisses, Course, course, of_machine, OfMachine, BySteps, Stays, IsSettled}
+pub use Rattle.mem_alloc.specs.Stepping.{CountsMisses, Course, course, of_machine, OfMachine, BySteps, Rests, Stays, IsSettled}
 use Rattle.mem_reclaim.specs.Moves.{has_kill}
 -- that nobody is killed too early
 pub use Rattle.mem_alloc.specs.NoRash.{IsChargedBelow, NoRashKill}
@@ -37,17 +37,13 @@ use Rattle.mem_system.specs.Kept.{TouchesFrame, NotesDirt}
 use Rattle.mem_system.specs.Releases.{ReleasesFrame}
 use Rattle.mem_system.specs.Allocs.{Allocates, FreshOf}
 
--- nothing of the machine changed, without a step
-abbrev pub MachineStays : Course KnownMachine → Type 0
-MachineStays way = (way.after ≡ way.before) × (way.steps ≡ [])
-
 -- Mkdir: no cause of a refusal holds, and the group is made, as the machine makes it; or it is refused for the first
 -- cause that holds, and nothing changed
 abbrev pub MakesGroup : List ℕ → Reply → Course KnownMachine → Type 0
 MakesGroup path (Group n) way =
     (make_fault way.before.ledger.groups path ≡ None) × AddsGroup way.before n path way.after
     × (way.steps ≡ make_steps path n)
-MakesGroup path (Refused fault) way = (make_fault way.before.ledger.groups path ≡ Some fault) × MachineStays way
+MakesGroup path (Refused fault) way = (make_fault way.before.ledger.groups path ≡ Some fault) × Rests way
 MakesGroup path other way = ⊥
 
 -- the usage of the group is lowered to nothing, and it is gone
@@ -73,7 +69,7 @@ pub record StaysBusy (path : List ℕ) (way : Course KnownMachine) : Type 0 wher
 abbrev pub Removes : List ℕ → Reply → Course KnownMachine → Type 0
 Removes path Done way = RemovesGroup path way
 Removes path (Refused Busy) way = StaysBusy path way
-Removes path (Refused fault) way = HasNoLeaf way.before.ledger.groups path fault × MachineStays way
+Removes path (Refused fault) way = HasNoLeaf way.before.ledger.groups path fault × Rests way
 Removes path other way = ⊥
 
 -- the machine with another limit of the group
@@ -98,7 +94,7 @@ pub record WritesLimit (path name value : List ℕ) (way : Course KnownMachine) 
 abbrev pub Writes : List ℕ → List ℕ → List ℕ → Reply → Course KnownMachine → Type 0
 Writes path name value Done way = WritesLimit path name value way
 Writes path name value (Refused fault) way =
-    RefusesWrite way.before.ledger.groups path name value fault × MachineStays way
+    RefusesWrite way.before.ledger.groups path name value fault × Rests way
 Writes path name value other way = ⊥
 
 -- a frame that the command names is one of so many

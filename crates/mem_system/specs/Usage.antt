@@ -1,5 +1,5 @@
 -- A group's usage brought down to a limit.
-use Rattle.std.specs.Prelude.{◌≡◌, ℕ, ◌<◌, ◌≤◌, Option, Some, None, List, [], ◌++◌}
+use Rattle.std.specs.Prelude.{◌≡◌, ℕ, ◌<◌, ◌≤◌, Option, Some, None, List, ◌++◌}
 use Rattle.group_charge.specs.Charges.{current_of}
 use Rattle.step_rules.specs.After.{Run}
 use Rattle.mem_machine.specs.Machines.{KnownMachine}
@@ -11,7 +11,7 @@ use Rattle.mem_reclaim.specs.Rounds.{MakesRounds, pages_missing}
 use Rattle.mem_reclaim.specs.Staying.{Keeps, MissedAll}
 use Rattle.mem_alloc.specs.Room.{with_limit_noted}
 use Rattle.mem_alloc.specs.Kills.{KillsFor}
-use Rattle.mem_alloc.specs.Stepping.{Course, course}
+use Rattle.mem_alloc.specs.Stepping.{Course, course, Rests}
 
 -- The stocks of the group's subtree are drained, and then its units are reclaimed, in at most 16 rounds, as long as its
 -- usage is above the limit. Where it is above it even then, each clean unit that the subtree still keeps was tried, and
@@ -42,9 +42,9 @@ pub record LowersByKills (group limit : ℕ) (way : Course KnownMachine) : Type 
 -- the group's usage is lowered to the limit where it is above it, also by kills, and else nothing is done
 pub record LowersAbove (group limit : ℕ) (way : Course KnownMachine) : Type 0 where
   pub above : limit < current_of way.before.ledger group → LowersByKills group limit way
-  pub within : current_of way.before.ledger group ≤ limit → (way.after ≡ way.before) × (way.steps ≡ [])
+  pub within : current_of way.before.ledger group ≤ limit → Rests way
 
 -- the group's usage is kept to its limit, if it has one
 abbrev pub KeepsToLimit : ℕ → Option ℕ → Course KnownMachine → Type 0
-KeepsToLimit group None way = (way.after ≡ way.before) × (way.steps ≡ [])
+KeepsToLimit group None way = Rests way
 KeepsToLimit group (Some limit) way = LowersAbove group limit way

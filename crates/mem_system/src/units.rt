@@ -1,7 +1,7 @@
 //! Kept units: touched, and noted as dirty or clean.
 
-ghost use Rattle.std.specs.Prelude.{◌≡◌, ◌≢◌, ◌<◌, None, MatchOption};
-ghost use Rattle.mem_machine.specs.Machines.{home_of};
+ghost use Rattle.std.specs.Prelude.{◌≡◌, ◌<◌, None, MatchOption};
+ghost use Rattle.mem_machine.specs.Machines.{HeadsKeptUnit, home_of};
 ghost use Rattle.mem_system.specs.Kept.{TouchesFrame, NotesDirt};
 ghost use Rattle.mem_system.specs.Outcomes.{HasItsGroups, reply_of};
 ghost use Rattle.mem_alloc.specs.Stepping.{ByStepsOfAny};
@@ -21,7 +21,7 @@ pub(crate) fn find_unit<N: BootName>(
 ) -> Option<Frame>
     requires { frame < N.frames.frames }
     ensures { MatchOption result (home_of machine.now.links frame ≡ None)
-        (λ found. (found ≡ frame) × (home_of machine.now.links frame ≢ None)) }
+        (λ found. (found ≡ frame) × HeadsKeptUnit machine.now frame) }
 {
     let frame = tables.frames.frame(frame).unwrap();
     if !machine.is_kept(frame) {

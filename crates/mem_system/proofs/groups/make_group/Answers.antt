@@ -15,7 +15,7 @@ returns-in-Ok-clause-seat g c = ap (λ (k : KnownMachine). k.seat) c.in-Ok.ensur
 pub returns-in-Err-clause-made : goal.returns-in-Err-clause-made
 returns-in-Err-clause-made g c = (
   [],
-  (sym c.in-Err.ensures.refused, (c.in-Err.ensures.unchanged, refl)),
+  (sym c.in-Err.ensures.refused, record { machine = c.in-Err.ensures.unchanged; steps_are = refl }),
   λ (x : KnownCpu). ap (λ (k : KnownMachine). local_of g.N.BootName.frames k x) (sym c.in-Err.ensures.unchanged),
 )
 
