@@ -47,16 +47,28 @@ module _ (t : KnownTable) (stock : Seated) (q : ℕ) (b : Account) (inside : q �
 
 -- ---- the counts
 
+-- it is the same seat, at the same table
+abbrev SameSeat : Seated → Seated → Type 0
+SameSeat stock new = (new.table ≡ stock.table) × (new.view.number ≡ stock.view.number)
+
 -- the same books
-pub counted_same : (t : KnownTable) (w : Words) (stock new : Seated) (sums : List ℕ) → AreBooked t w stock sums
+pub counted_same : (t : KnownTable) (w : Words) (stock new : Seated) (sums : List ℕ) → AreBooked t w stock sums → SameSeat stock new
     → ((h : ℕ) → pages_booked t new h ≡ pages_booked t stock h) → AreBooked t w new sums
-counted_same t w stock new sums are same = record { cpus = are.cpus; size = are.size; each = λ h fits. are.each h fits ∙ sym (same h) }
+counted_same t w stock new sums are seat same = record {
+  table = seat.0 ∙ are.table;
+  zone = seat.1 ∙ are.zone;
+  cpus = are.cpus;
+  size = are.size;
+  each = λ h fits. are.each h fits ∙ sym (same h);
+}
 
 -- one group has other books, and its count is right
-counted_else : (t : KnownTable) (w : Words) (stock new : Seated) (sums : List ℕ) (g x : ℕ) → AreBooked t w stock sums → g < 64
+counted_else : (t : KnownTable) (w : Words) (stock new : Seated) (sums : List ℕ) (g x : ℕ) → AreBooked t w stock sums → SameSeat stock new → g < 64
     → x ≡ pages_booked t new g → ((h : ℕ) → (h ≡ g → ⊥) → pages_booked t new h ≡ pages_booked t stock h)
     → AreBooked t w new (slice_set sums g x)
-counted_else t w stock new sums g x are inside here others = record {
+counted_else t w stock new sums g x are seat inside here others = record {
+  table = seat.0 ∙ are.table;
+  zone = seat.1 ∙ are.zone;
   cpus = are.cpus;
   size = length-set sums g x ∙ are.size;
   each = λ h fits. elim (cases_eq h g) [
@@ -67,20 +79,20 @@ counted_else t w stock new sums g x are inside here others = record {
 }
 
 -- one group has so many pages less
-pub counted_less : (t : KnownTable) (w : Words) (stock new : Seated) (sums : List ℕ) (g k x : ℕ) → AreBooked t w stock sums → g < 64
+pub counted_less : (t : KnownTable) (w : Words) (stock new : Seated) (sums : List ℕ) (g k x : ℕ) → AreBooked t w stock sums → SameSeat stock new → g < 64
     → ((h : ℕ) → pages_booked t stock h ≡ pages_booked t new h + cond (h == g) k 0) → x + k ≡ pages_booked t stock g
     → AreBooked t w new (slice_set sums g x)
-counted_less t w stock new sums g k x are inside less is =
-    counted_else t w stock new sums g x are inside
+counted_less t w stock new sums g k x are seat inside less is =
+    counted_else t w stock new sums g x are seat inside
     (let a = less g in let z : cond (g == g) k 0 ≡ k = cond-true (g == g) k 0 (eq-eqb g g refl) in omega (arith, a, z, is))
     (λ h ne. let a = less h in let z : cond (h == g) k 0 ≡ 0 = cond-false (h == g) k 0 (ne_eqb h g ne) in omega (arith, a, z))
 
 -- one group has so many pages more
-pub counted_more : (t : KnownTable) (w : Words) (stock new : Seated) (sums : List ℕ) (g k x : ℕ) → AreBooked t w stock sums → g < 64
+pub counted_more : (t : KnownTable) (w : Words) (stock new : Seated) (sums : List ℕ) (g k x : ℕ) → AreBooked t w stock sums → SameSeat stock new → g < 64
     → ((h : ℕ) → pages_booked t new h ≡ pages_booked t stock h + cond (h == g) k 0) → x ≡ pages_booked t stock g + k
     → AreBooked t w new (slice_set sums g x)
-counted_more t w stock new sums g k x are inside more is =
-    counted_else t w stock new sums g x are inside
+counted_more t w stock new sums g k x are seat inside more is =
+    counted_else t w stock new sums g x are seat inside
     (let a = more g in let z : cond (g == g) k 0 ≡ k = cond-true (g == g) k 0 (eq-eqb g g refl) in omega (arith, a, z, is))
     (λ h ne. let a = more h in let z : cond (h == g) k 0 ≡ 0 = cond-false (h == g) k 0 (ne_eqb h g ne) in omega (arith, a, z))
 
@@ -137,9 +149,11 @@ absorbed_books t stock p g inside group enough h =
 
 -- ---- the calls
 
-pub first_counted : (t : KnownTable) (w : Words) (m : Seated) (sums : List ℕ) → w.cpus ≡ t.cpus → m.view ≡ first_machine → sums ≡ replicate 64 0
+pub first_counted : (t : KnownTable) (w : Words) (m : Seated) (sums : List ℕ) → w.cpus ≡ t.cpus → m.table ≡ w.table → m.view ≡ first_machine → sums ≡ replicate 64 0
     → AreBooked t w m sums
-first_counted t w m sums cpus first zeros = record {
+first_counted t w m sums cpus table first zeros = record {
+  table = table;
+  zone = ap (λ (v : StockView). v.number) first;
   cpus = cpus;
   size = ap length zeros ∙ length-replicate {A = ℕ} 64 0;
   each = λ g fits. ap (λ (l : List ℕ). get_or l g 0) zeros ∙ repeated 64 g 0 ∙ sym (
@@ -147,20 +161,24 @@ first_counted t w m sums cpus first zeros = record {
       );
 }
 
+-- the seat with a view of the same number
+same_seat : (m n : Seated) (v : StockView) → v.number ≡ m.view.number → n ≡ with_view m v → SameSeat m n
+same_seat m n v number is = (ap (λ (x : Seated). x.table) is, ap (λ (x : Seated). x.view.number) is ∙ number)
+
 module _ (t : KnownTable) (w : Words) (m : Seated) (sums : List ℕ) (are : AreBooked t w m sums) where
   -- a look for the group of a stock
   pub after_group : (q : ℕ) → q ≤ t.cpus → (o : Option ℕ) (n : Seated) → n ≡ with_view m (with_steps 1 (after_look m.view q o)) → AreBooked t w n sums
   after_group q inside None n is =
-      counted_same t w m n sums are (λ h. ap (λ (x : Seated). pages_booked t x h) is ∙ looked_books t m q inside h)
-  after_group q inside (Some g) n is = counted_same t w m n sums are (λ h. ap (λ (x : Seated). pages_booked t x h) is)
+      counted_same t w m n sums are (same_seat m n _ refl is) (λ h. ap (λ (x : Seated). pages_booked t x h) is ∙ looked_books t m q inside h)
+  after_group q inside (Some g) n is = counted_same t w m n sums are (same_seat m n _ refl is) (λ h. ap (λ (x : Seated). pages_booked t x h) is)
 
   -- a look that changes nothing
   pub after_look_only : (n : Seated) → n ≡ with_view m (with_steps 1 m.view) → AreBooked t w n sums
-  after_look_only n is = counted_same t w m n sums are (λ h. ap (λ (x : Seated). pages_booked t x h) is)
+  after_look_only n is = counted_same t w m n sums are (same_seat m n _ refl is) (λ h. ap (λ (x : Seated). pages_booked t x h) is)
 
   -- a page is noted
   pub after_note : (p n : ℕ) → p ≤ t.cpus → (x : Seated) → x ≡ with_view m (noting m.view p n) → AreBooked t w x sums
-  after_note p n inside x is = counted_same t w m x sums are (λ h. ap (λ (y : Seated). pages_booked t y h) is ∙ noted_books t m p n inside h)
+  after_note p n inside x is = counted_same t w m x sums are (same_seat m x _ refl is) (λ h. ap (λ (y : Seated). pages_booked t y h) is ∙ noted_books t m p n inside h)
 
   module _ (q g k : ℕ) (inside : q ≤ t.cpus) (fits : g < 64) (group : (account_of m.view q).group ≡ Some g) (r : ℕ)
       (read : r ≡ get_or sums g 0) where
@@ -174,7 +192,7 @@ module _ (t : KnownTable) (w : Words) (m : Seated) (sums : List ℕ) (are : AreB
     after_drain enough s n is =
         let small = within_count enough in
         let b = are.each g fits in
-        counted_less t w m n sums g k (r - k) are fits
+        counted_less t w m n sums g k (r - k) are (same_seat m n _ refl is) fits
         (λ h. drained_books t m q g k inside group enough h ∙ ap (λ (x : Seated). pages_booked t x h + cond (h == g) k 0) (sym is))
         (omega (arith, small, b, read))
 
@@ -185,7 +203,7 @@ module _ (t : KnownTable) (w : Words) (m : Seated) (sums : List ℕ) (are : AreB
         let small = within_count enough in
         let b = are.each g fits in
         let some : (account_of m.view q).noted ≤ (account_of m.view q).book = omega (arith, all, enough) in
-        counted_less t w m n sums g k (r - k) are fits
+        counted_less t w m n sums g k (r - k) are (same_seat m n _ refl is) fits
         (λ h. absorbed_books t m q g inside group some h
         ∙ ap (λ (z : Seated × ℕ). pages_booked t z.0 h + cond (h == g) z.1 0) (λ i. (sym is i, sym all i)))
         (omega (arith, small, b, read))
@@ -195,7 +213,7 @@ module _ (t : KnownTable) (w : Words) (m : Seated) (sums : List ℕ) (are : AreB
       → (n : Seated) → n ≡ with_view m (filling m.view q g k) → AreBooked t w n (slice_set sums g (r + k))
   after_fill q g k inside fits empty r read n is =
       let b = are.each g fits in
-      counted_more t w m n sums g k (r + k) are fits
+      counted_more t w m n sums g k (r + k) are (same_seat m n _ refl is) fits
       (λ h. ap (λ (x : Seated). pages_booked t x h) is ∙ filled_books t m q g k inside empty h)
       (omega (arith, b, read))
 

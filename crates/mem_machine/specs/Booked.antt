@@ -2,13 +2,15 @@
 use Rattle.std.specs.Prelude.{◌≡◌, ℕ, ◌<◌, List, length}
 use Rattle.std.specs.List.{slice_index_or}
 use Rattle.frame_word.specs.Seats.{KnownTable}
-use Rattle.stock_word.specs.Stock.{Words, Seated}
+use Rattle.stock_word.specs.Stock.{Words, Seated, IsMachine}
 use Rattle.group_tree.specs.declared.group.TheConstants.{MAX_GROUPS}
 use Rattle.mem_machine.specs.Machines.{pages_booked}
 
--- there is a sum for each group number, which is what is booked to the stocks of that group; the two tables have as many
--- processors
+-- the seat is the zone's at the table of the stocks, which has as many processors as that of the frames; and there is a sum
+-- for each group number, which is what is booked to the stocks of that group
 pub record AreBooked (t : KnownTable) (w : Words) (stock : Seated) (sums : List ℕ) : Type 0 where
+  pub table : stock.table ≡ w.table
+  pub zone : IsMachine stock.view
   pub cpus : w.cpus ≡ t.cpus
   pub size : length sums ≡ MAX_GROUPS
   pub each : (g : ℕ) → g < MAX_GROUPS → slice_index_or sums g 0 ≡ pages_booked t stock g

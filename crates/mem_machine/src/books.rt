@@ -3,7 +3,7 @@
 ghost use Rattle.std.specs.Prelude.{◌≡◌, ◌≢◌, ◌+◌, ◌-◌, ◌^◌, ◌<◌, ◌≤◌, ◌⊎◌, [], false, Some, IfSome, length};
 ghost use Rattle.frame_word.specs.Views.{collected_from};
 ghost use Rattle.frame_word.specs.Seats.{IsZoneSeat, IsOpen, NothingPasses, HasNothingOf, IsLent, seat_with};
-ghost use Rattle.stock_word.specs.Stock.{IsMachine, account_of, drained_of, first_machine, group_of, is_held, pages_of, stocked};
+ghost use Rattle.stock_word.specs.Stock.{account_of, drained_of, first_machine, group_of, is_held, pages_of, stocked};
 ghost use Rattle.stock_word.specs.Kinds.{after_fill, draining, filling, with_steps};
 ghost use Rattle.stock_word.specs.Calls.{after_look, steps_of_drain, with_view};
 ghost use Rattle.cpu_part.specs.Calls.{HandsFresh, TakesFront};
@@ -39,9 +39,10 @@ impl<N: BootName> Model for Books<N> {
 }
 
 impl<N: BootName> Books<N> {
-    /// The books of a new boot, where nothing is booked.
+    /// The books of a new boot, where nothing is booked: the seat is the zone's at the boot's table.
     pub(crate) fn new(seat: StockSeat) -> Books<N>
         requires first { seat.view ≡ first_machine }
+        requires table { seat.table ≡ N.stocks.table }
         requires cpus { N.stocks.cpus ≡ N.frames.cpus }
         ensures { result ≡ seat }
     {
@@ -73,7 +74,6 @@ impl<N: BootName> Books<N> {
 
     /// The group of processor `q`'s stock, as `StockWords::group` tells it.
     pub(crate) fn group(&mut self, tables: &Tables<N>, q: u32) -> Option<u32>
-        requires seat { (self.old.table ≡ N.stocks.table) × IsMachine self.old.view }
         requires processor { (1 ≤ q) × (q ≤ N.frames.cpus) }
         ensures group { result ≡ (account_of self.old.view q).group }
         ensures fits { IfSome result (λ g. g < MAX_GROUPS) }
@@ -84,7 +84,6 @@ impl<N: BootName> Books<N> {
 
     /// Drains the stock of processor `q`, which is of this group, as `StockWords::drain` does.
     pub(crate) fn drain(&mut self, tables: &Tables<N>, q: u32, group: u32) -> u32
-        requires seat { (self.old.table ≡ N.stocks.table) × IsMachine self.old.view }
         requires processor { (1 ≤ q) × (q ≤ N.frames.cpus) }
         requires group { (account_of self.old.view q).group ≡ Some group }
         requires fits { group < MAX_GROUPS }
@@ -100,7 +99,6 @@ impl<N: BootName> Books<N> {
 
     /// Fills the processor's stock, as `Cpu::fill` does. The pages booked to the group stay below 2^32.
     pub(crate) fn fill(&mut self, tables: &Tables<N>, cpu: &mut Cpu<N>, group: u32, pages: u32)
-        requires seat { (self.old.table ≡ N.stocks.table) × IsMachine self.old.view }
         requires number { group < MAX_GROUPS }
         requires pages { (0 < pages) × (pages < 65536) }
         requires fits { pages_booked N.frames self.old group + pages < 2 ^ 32 }
@@ -117,7 +115,6 @@ impl<N: BootName> Books<N> {
 
     /// The processor's stock, as `Cpu::look` tells it.
     pub(crate) fn look(&mut self, tables: &Tables<N>, cpu: &mut Cpu<N>) -> Stock
-        requires seat { (self.old.table ≡ N.stocks.table) × IsMachine self.old.view }
         ensures balanced { (account_of self.old.view cpu.old.number).book
             ≡ pages_of result + cpu.old.stock.view.fresh + (account_of self.old.view cpu.old.number).noted }
         ensures bounded { (account_of self.old.view cpu.old.number).book < 65536 }
@@ -132,7 +129,6 @@ impl<N: BootName> Books<N> {
 
     /// Takes the front of the processor's list, as `Cpu::take_front` does.
     pub(crate) fn take_front(&mut self, tables: &Tables<N>, cpu: &mut Cpu<N>, group: u32) -> Frame
-        requires seat { (self.old.table ≡ N.stocks.table) × IsMachine self.old.view }
         requires group { (account_of self.old.view cpu.old.number).group ≡ Some group }
         requires page { 0 < stocked self.old.view cpu.old.stock.view }
         requires front { 1 ≤ length cpu.old.list }
@@ -154,7 +150,6 @@ impl<N: BootName> Books<N> {
         group: GroupId,
     ) -> Frame
         requires zone { IsZoneSeat N.frames zone.old }
-        requires seat { (self.old.table ≡ N.stocks.table) × IsMachine self.old.view }
         requires open { IsOpen zone.old cpu.old.number }
         requires still { NothingPasses N.frames zone.old cpu.old.seat }
         requires fresh { cpu.old.fresh ≢ [] }
