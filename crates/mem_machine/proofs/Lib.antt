@@ -1,6 +1,8 @@
 pub mod Balances
 pub mod NoneLent
 pub mod Reaching
+pub mod Followed
+pub mod LedgerMoves
 pub mod Holds
 pub mod First
 pub mod GroupSteps

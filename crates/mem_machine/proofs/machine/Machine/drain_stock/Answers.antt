@@ -30,6 +30,6 @@ returns-in-None-clause-steps g c =
 
 pub returns-in-Some-clause-steps : goal.returns-in-Some-clause-steps
 returns-in-Some-clause-steps g c =
-    subst (λ (x : KnownMachine). (d : KnownCpu) → IsLocalRun d.number (local_of g.N.BootName.frames x d)
-    (drain_steps c.args.q (stock_group x c.args.q) c.drain_of.result) (local_of g.N.BootName.frames c.drain_of.new.self d))
+    subst (λ (x : KnownMachine). (d : KnownCpu) → Leads g.N.BootName.frames d.number (side x d)
+    (drain_steps c.args.q (stock_group x c.args.q) c.drain_of.result) (side c.drain_of.new.self d))
     (looked_now _ _ c.self.view_is _ (ap uncounted c.in-Some.ensures.machine)) c.drain_of.ensures.steps
