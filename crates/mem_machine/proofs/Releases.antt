@@ -382,7 +382,7 @@ back_all t w m now same ok f i inside is kept_now links lists left_list stand li
           subst (λ (s : State). IsLocalRun c.number s (zone_makes (Return f) answer.Done ∷ []) (local_of t n c)) (sym (ends c))
               (return_runs t w m ok f inside kept links lists leaves stand sized listed unit heads c change takes spots blocks counts frees),
         );
-        follows = follows_still _ m.ledger steps _ (ap (λ (b : Bool). b && true) still) (uncharge_peaks m.ledger unit.group (2 ^ unit.order))
+        follows = follows_still _ m.ledger steps _ (and_from _ _ still refl) (uncharge_peaks m.ledger unit.group (2 ^ unit.order))
             (uncharge_events m.ledger unit.group (2 ^ unit.order));
       };
     } in

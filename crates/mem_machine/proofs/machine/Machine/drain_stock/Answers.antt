@@ -2,7 +2,7 @@ use Rattle.cpu_part.specs.Cpus.{KnownCpu}
 use Rattle.std.proofs.Common.{subst, ap}
 use Rattle.stock_word.specs.Calls.{uncounted}
 use Rattle.mem_machine.specs.Machines.{KnownMachine}
-use Rattle.mem_machine.specs.Local.{local_of, IsLocalRun}
+use Rattle.mem_machine.specs.Local.{side, Leads}
 use Rattle.mem_machine.specs.Steps.{drain_steps}
 use Rattle.mem_machine.specs.Stocks.{stock_group}
 use Rattle.mem_machine.proofs.Draining.{never_drained, looked_now}
