@@ -24,7 +24,7 @@ use Rattle.mem_machine.specs.declared.spot.Spot.TheVariants.{Free, Head}
 use Rattle.mem_machine.specs.declared.counts.Counts.{Counts}
 use Rattle.mem_machine.specs.Spots.{spot_at, free_of, head_group_of, some_cpu}
 use Rattle.mem_machine.specs.Machines.{KnownMachine, FitsSpot, IsConsistent, BalancesCounts, Visits, home_of}
-use Rattle.mem_machine.specs.Local.{IsLocalRun, local_of, side, Leads}
+use Rattle.mem_machine.specs.Local.{IsLocalRun, local_of, side, MakesAs}
 use Rattle.mem_machine.specs.Freeing.{FreesFrames}
 use Rattle.mem_machine.specs.Settling.{ReturnsBack, return_steps}
 use Rattle.mem_machine.specs.Counts.{with_last_put}
@@ -155,7 +155,7 @@ pub record AllReturned (t : KnownTable) (w : Words) (now : KnownMachine) (c : Kn
   pub free_is : free ≡ free_of n.spots
   pub returns : ReturnsBack f (side now c) (side n d)
   pub visit : Visits t (side n d)
-  pub steps : Leads t c.number (side now c) (return_steps c.number f) (side n d)
+  pub steps : MakesAs t c.number (side now c) (return_steps c.number f) (side n d)
 
 pub return_all : (t : KnownTable) (w : Words) (m now : KnownMachine) → m ≡ now → (c h d : KnownCpu) → IsTied t w c → IsConsistent t w m → Visits t (side now c)
     → (before free : List Bool) → before ≡ free_of m.spots → (f : ℕ) → WasBack t m f → HandsBack f c h → d ≡ h → (i : ℕ) → i ≡ f

@@ -26,7 +26,7 @@ use Rattle.step_rules.proofs.Basics.{at_same, at_other, at_each, at_itself, cond
 use Rattle.step_rules.proofs.Sums.{sum_part, sum_change}
 use Rattle.mem_machine.specs.Spots.{count_of}
 use Rattle.mem_machine.specs.Machines.{KnownMachine, IsConsistent, booked, frames_charged, pages_booked}
-use Rattle.mem_machine.specs.Local.{local_of, part_of, part_with, IsLocalRun, Leads, side}
+use Rattle.mem_machine.specs.Local.{local_of, part_of, part_with, IsLocalRun, MakesAs, side}
 use Rattle.mem_machine.specs.Steps.{ungrant_steps, drain_steps}
 use Rattle.mem_machine.specs.Stocks.{uncharged, stock_group, Drains}
 use Rattle.mem_machine.proofs.Reaching.{zone_step, run_one}
@@ -286,7 +286,7 @@ drain_follows s l (Some g) q (suc k) = follows_still s l (drain_steps q (Some g)
 pub drain_runs : (t : KnownTable) (m n : KnownMachine) (q k : ℕ)
     → n ≡ record m { ledger = uncharged m.ledger (stock_group m q) k; stock = with_view m.stock (draining m.stock.view q k) }
     → 1 ≤ q → q ≤ t.cpus → ((g : ℕ) → stock_group m q ≡ Some g → 1 ≤ k → has_group m.ledger.groups g ≡ true) → (c : KnownCpu)
-    → Leads t c.number (side m c) (drain_steps q (stock_group m q) k) (side n c)
+    → MakesAs t c.number (side m c) (drain_steps q (stock_group m q) k) (side n c)
 drain_runs t m n q k is some inside there c =
     let s = local_of t m c in
     let part = drained (part_of m.stock c q) k in
@@ -297,7 +297,7 @@ drain_runs t m n q k is some inside there c =
     = ungrants c.number (with_part s q part) (part_of m.stock c q).stock.group k acts (λ g of. there g (sym group ∙ of)) in
     let parts = parts_drained m.stock c q k in
     let groups = groups_stay m.ledger (stock_group m q) k in
-    subst (λ (x : KnownMachine). Leads t c.number (side m c) (drain_steps q (stock_group m q) k) (side x c)) (sym is) (record {
+    subst (λ (x : KnownMachine). MakesAs t c.number (side m c) (drain_steps q (stock_group m q) k) (side x c)) (sym is) (record {
       leads = subst (λ (x : State × Option ℕ). IsLocalRun c.number s (drain_steps q x.1 k) x.0)
           (λ i. (record s { groups = sym groups i; parts = sym parts i }, group i)) (
             zone_step s c.number (DrainStock q) (Pages k) refl
@@ -311,7 +311,7 @@ drain_runs t m n q k is some inside there c =
 pub record Drained (t : KnownTable) (w : Words) (m now : KnownMachine) (q k : ℕ) (l : Ledger) (stock : Seated) : Type 0 where
   pub consistent : IsConsistent t w (record m { ledger = l; stock = stock })
   pub drains : Drains now q k (record m { ledger = l; stock = stock })
-  pub steps : (c : KnownCpu) → Leads t c.number (side now c) (drain_steps q (stock_group now q) k)
+  pub steps : (c : KnownCpu) → MakesAs t c.number (side now c) (drain_steps q (stock_group now q) k)
       (side (record m { ledger = l; stock = stock }) c)
 
 drained_here : (t : KnownTable) (w : Words) (m : KnownMachine) (q k : ℕ) → IsConsistent t w m → (1 ≤ k → AreCharges m.ledger) → 1 ≤ q → q ≤ t.cpus

@@ -1,7 +1,7 @@
 -- The peaks and the event counts of the ledger follow lists of steps. Serves the `steps` clauses of all calls.
-use Rattle.std.proofs.Common.{◌≡◌, ℕ, ◌==◌, ◌&&◌, ◌++◌, Bool, true, false, Option, Some, None, List, [], ◌∷◌, cond, refl, sym, ap, ◌∙◌, subst}
-use Rattle.std.proofs.Common.{inl, inr, arith, eq-eqb}
-use Rattle.std.proofs.lemmas.Bool.{cases_eq, cases_Bool, ne_eqb, and_parts, true≢false, false≢true}
+use Rattle.std.proofs.Common.{◌≡◌, ℕ, ◌&&◌, ◌++◌, Bool, true, false, Option, None, List, [], ◌∷◌, cond, refl, sym, ap, ◌∙◌, subst}
+use Rattle.std.proofs.Common.{inl, inr, eq-eqb}
+use Rattle.std.proofs.lemmas.Bool.{cases_eq, cases_Bool, and_parts, true≢false, false≢true}
 use Rattle.group_tree.specs.declared.group.Group.{Group}
 use Rattle.group_tree.specs.Groups.{has_group, without_group}
 use Rattle.group_tree.specs.Room.{one_more}
@@ -22,7 +22,7 @@ use Rattle.step_rules.specs.Legal.{is_of_group}
 use Rattle.step_rules.proofs.Moving.{gone_itself}
 use Rattle.mem_machine.specs.Following.{Moves, moved_over, moves_peak, moves_count, count_by, FollowsSteps}
 use Rattle.mem_machine.specs.Machines.{KnownMachine}
-use Rattle.mem_machine.specs.Local.{Side, side, local_of, IsLocalRun, Leads}
+use Rattle.mem_machine.specs.Local.{Side, side, local_of, IsLocalRun, MakesAs}
 use Rattle.mem_machine.proofs.Reaching.{run_both}
 
 -- ---- one list after another
@@ -96,8 +96,8 @@ module _ (p : ℕ) (a : State) (one : Run) (b : State) (two : Run) (c : State) (
       ] ∙ sym (over_both moves p a one two b x first)
 
 -- one list after another
-pub leads_both : (t : KnownTable) (p : ℕ) (one two : Run) (a b c : Side) → Leads t p a one b → Leads t p b two c → Leads t p a (one ++ two) c
-leads_both t p one two a b c first second =
+pub makes_both : (t : KnownTable) (p : ℕ) (one two : Run) (a b c : Side) → MakesAs t p a one b → MakesAs t p b two c → MakesAs t p a (one ++ two) c
+makes_both t p one two a b c first second =
     let s = local_of t a.machine a.cpu in
     let u = local_of t b.machine b.cpu in
     let v = local_of t c.machine c.cpu in
@@ -193,13 +193,13 @@ follows_same s l steps still = follows_still s l steps l still (λ m. refl) (sam
 
 -- ---- no step
 
-pub leads_none : (t : KnownTable) (p : ℕ) (a : Side) → Leads t p a [] a
-leads_none t p a = record { leads = refl; follows = follows_same _ _ _ refl }
+pub makes_none : (t : KnownTable) (p : ℕ) (a : Side) → MakesAs t p a [] a
+makes_none t p a = record { leads = refl; follows = follows_same _ _ _ refl }
 
 -- what is seen stays, and the ledger
-pub leads_stay : (t : KnownTable) (m n : KnownMachine) (c d : KnownCpu) → local_of t m c ≡ local_of t n d → n.ledger ≡ m.ledger
-    → Leads t c.number (side m c) [] (side n d)
-leads_stay t m n c d seen same = record {
+pub makes_stay : (t : KnownTable) (m n : KnownMachine) (c d : KnownCpu) → local_of t m c ≡ local_of t n d → n.ledger ≡ m.ledger
+    → MakesAs t c.number (side m c) [] (side n d)
+makes_stay t m n c d seen same = record {
   leads = seen;
   follows = subst (FollowsSteps (local_of t m c) m.ledger []) (sym same) (follows_same (local_of t m c) m.ledger [] refl);
 }

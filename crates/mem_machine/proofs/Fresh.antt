@@ -31,7 +31,7 @@ use Rattle.mem_machine.specs.declared.spot.Spot.TheVariants.{Free, Lent, Head}
 use Rattle.mem_machine.specs.declared.counts.Counts.{Counts}
 use Rattle.mem_machine.specs.Spots.{spot_at, is_free, free_of, group_of as spot_group, head_group_of, some_cpu}
 use Rattle.mem_machine.specs.Machines.{KnownMachine, FitsSpot, IsConsistent, BalancesCounts, Visits, home_of, is_killed, pages_booked}
-use Rattle.mem_machine.specs.Local.{IsLocalRun, local_of, fresh_group, number_or_0, side, Leads}
+use Rattle.mem_machine.specs.Local.{IsLocalRun, local_of, fresh_group, number_or_0, side, MakesAs}
 use Rattle.mem_machine.specs.Steps.{zone_makes}
 use Rattle.mem_machine.specs.Blocks.{PlacesUnit}
 use Rattle.mem_machine.specs.Counts.{with_drop}
@@ -274,7 +274,7 @@ pub record AllKept (t : KnownTable) (w : Words) (now : KnownMachine) (c : KnownC
   pub free_is : free ≡ free_of n.spots
   pub keeps : KeepsFresh g f (side now c) (side n d)
   pub visit : Visits t (side n d)
-  pub steps : Leads t c.number (side now c) (keep_steps c.number f) (side n d)
+  pub steps : MakesAs t c.number (side now c) (keep_steps c.number f) (side n d)
 
 pub keep_all : (t : KnownTable) (w : Words) (m now : KnownMachine) → m ≡ now → (c h : KnownCpu) → IsTied t w c → IsConsistent t w m → Visits t (side now c)
     → (free : List Bool) → free ≡ free_of m.spots → (f g : ℕ) → WasFresh t m c f g → HandsFresh f c h → (i k o : ℕ) → i ≡ f → k ≡ 0 → o ≡ g
@@ -327,7 +327,7 @@ pub record AllDropped (t : KnownTable) (w : Words) (now : KnownMachine) (c : Kno
   pub free_is : free ≡ free_of n.spots
   pub drops : DropsFresh g f (side now c) (side n d)
   pub visit : Visits t (side n d)
-  pub steps : Leads t c.number (side now c) (drop_steps c.number f) (side n d)
+  pub steps : MakesAs t c.number (side now c) (drop_steps c.number f) (side n d)
 
 pub drop_all : (t : KnownTable) (w : Words) (m now : KnownMachine) → m ≡ now → (c h : KnownCpu) → IsTied t w c → IsConsistent t w m → Visits t (side now c)
     → (before free : List Bool) → before ≡ free_of m.spots → (f g : ℕ) → WasFresh t m c f g → is_killed now.killed g ≡ true → HandsFresh f c h

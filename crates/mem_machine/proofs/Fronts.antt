@@ -25,7 +25,7 @@ use Rattle.mem_machine.specs.Spots.{spot_at, some_cpu}
 use Rattle.mem_machine.specs.Spots.{group_of as charged_to}
 use Rattle.mem_machine.proofs.Ledgers.{ledger_side}
 use Rattle.mem_machine.specs.Machines.{KnownMachine, IsConsistent, Visits}
-use Rattle.mem_machine.specs.Local.{local_of, phase_of, part_of, part_with, side, Leads}
+use Rattle.mem_machine.specs.Local.{local_of, phase_of, part_of, part_with, side, MakesAs}
 use Rattle.mem_machine.specs.Steps.{take_front_steps}
 use Rattle.mem_machine.specs.Paying.{IsOfSize, IsOwnStock, HoldsPage, PaysForFront, HasRoomFor, pages_held}
 use Rattle.mem_machine.proofs.Reaching.{cpu_step, run_one}
@@ -179,7 +179,7 @@ module _ (t : KnownTable) (w : Words) (m : KnownMachine) (c : KnownCpu) (tied : 
         stock = record { group = a.group; pages = sym pages i; is_drained = is_some a.group && not a.filled };
       }))
 
-  pub front_runs : Leads t c.number (side m c) (take_front_steps c.number g) (side m d)
+  pub front_runs : MakesAs t c.number (side m c) (take_front_steps c.number g) (side m d)
   front_runs =
       let p = c.number in
       let s = local_of t m c in
@@ -210,7 +210,7 @@ pub record FrontPaid (t : KnownTable) (w : Words) (now : KnownMachine) (g f : �
   pub consistent : IsConsistent t w n
   pub pays : PaysForFront g f (side now c) (side n d)
   pub visit : Visits t (side n d)
-  pub steps : Leads t c.number (side now c) (take_front_steps c.number g) (side n d)
+  pub steps : MakesAs t c.number (side now c) (take_front_steps c.number g) (side n d)
 
 pub front_paid : (t : KnownTable) (w : Words) (m now : KnownMachine) → m ≡ now → (c : KnownCpu) → IsTied t w c → IsConsistent t w m → Visits t (side now c)
     → (g f h : ℕ) → h ≡ g → HoldsPage (side now c) g → c.fresh ≡ [] → f < t.frames → (stock : Seated) → stock ≡ m.stock → (d : KnownCpu)

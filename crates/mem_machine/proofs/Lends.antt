@@ -31,7 +31,7 @@ use Rattle.mem_machine.specs.declared.spot.Spot.TheVariants.{Free, Lent, Head, T
 use Rattle.mem_machine.specs.Spots.{spot_at, free_of, group_of, head_group_of, is_in_hand}
 use Rattle.mem_machine.specs.Machines.{KnownMachine, FitsSpot, IsConsistent, IsSeated, Visits, home_of}
 use Rattle.mem_machine.specs.Lending.{LendsByStep, LendsNone}
-use Rattle.mem_machine.specs.Local.{local_of, phase_of, part_of, part_with, fresh_group, side, Leads}
+use Rattle.mem_machine.specs.Local.{local_of, phase_of, part_of, part_with, fresh_group, side, MakesAs}
 use Rattle.mem_machine.specs.Steps.{lend_steps}
 use Rattle.mem_machine.proofs.Reaching.{zone_step, cpu_step}
 use Rattle.mem_machine.proofs.Holds.{zone_may_act, visits_open, seated_cpu}
@@ -160,7 +160,7 @@ module _ (t : KnownTable) (w : Words) (m : KnownMachine) (c : KnownCpu) (tied : 
     ];
   }
 
-  pub lend_runs : (blocks : List Block) → in_hands (note_of c.seat.view f) ≡ 0 → Leads t c.number (side m c) (lend_steps c.number f)
+  pub lend_runs : (blocks : List Block) → in_hands (note_of c.seat.view f) ≡ 0 → MakesAs t c.number (side m c) (lend_steps c.number f)
       (side (record m { blocks = blocks; spots = slice_set m.spots f (Lent c.number); seat = seat_with m.seat f (passed_out_to c.number) }) (record c { list = c.list ++ f ∷ []; seat = seat_with c.seat f took_in }))
   lend_runs blocks none =
       let s = local_of t m c in

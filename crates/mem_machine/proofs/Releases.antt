@@ -39,7 +39,7 @@ use Rattle.mem_machine.specs.declared.spot.Spot.{Spot}
 use Rattle.mem_machine.specs.declared.spot.Spot.TheVariants.{Free, Head}
 use Rattle.mem_machine.specs.Spots.{spot_at, free_of, head_group_of, lent_to, some_cpu}
 use Rattle.mem_machine.specs.Machines.{KnownMachine, FitsSpot, IsConsistent, Visits, BalancesCounts, home_of, is_killed}
-use Rattle.mem_machine.specs.Local.{IsLocalRun, MakesForAny, local_of, phase_of, references_of, side, Leads}
+use Rattle.mem_machine.specs.Local.{IsLocalRun, MakesForAny, local_of, phase_of, references_of, side, MakesAs}
 use Rattle.mem_machine.specs.Counts.{with_last_put}
 use Rattle.mem_machine.specs.Freeing.{FreesFrames}
 use Rattle.mem_machine.specs.Releasing.{LeavesList, ReturnsUnit, release_steps}
@@ -201,7 +201,7 @@ module _ (t : KnownTable) (w : Words) (m : KnownMachine) (ok : IsConsistent t w 
         balances = ok.balances;
       }
 
-      pub left_runs : (c : KnownCpu) → Leads t c.number (side m c) (release_steps f (Left left))
+      pub left_runs : (c : KnownCpu) → MakesAs t c.number (side m c) (release_steps f (Left left))
           (side (record m { links = links; lists = lists; seat = left_seat }) c)
       left_runs c =
           let s = local_of t m c in

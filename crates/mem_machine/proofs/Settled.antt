@@ -10,10 +10,10 @@ use Rattle.stock_word.specs.declared.view.Stock.TheVariants.{NoGroup, HeldBy, Dr
 use Rattle.stock_word.specs.Stock.{group_of}
 use Rattle.cpu_part.specs.Cpus.{KnownCpu}
 use Rattle.mem_machine.specs.Machines.{KnownMachine, Visits, is_killed}
-use Rattle.mem_machine.specs.Local.{fresh_group, side, Leads, Side}
+use Rattle.mem_machine.specs.Local.{fresh_group, side, MakesAs, Side}
 use Rattle.mem_machine.specs.Settling.{HandsOver, KeepsFresh, DropsFresh, SettlesFresh, SettlesAllFresh, ReturnsBack, ReturnsAllBack, LeavesOthers, Settles}
 use Rattle.mem_machine.specs.Settling.{fresh_steps, return_steps, settle_steps}
-use Rattle.mem_machine.proofs.Followed.{leads_both, leads_none}
+use Rattle.mem_machine.proofs.Followed.{makes_both, makes_none}
 
 -- ---- one fresh frame
 
@@ -60,8 +60,8 @@ settles_dropped f g m c n d named killed drops = record {
 }
 
 pub steps_of : (b : Bool) (p f g : ℕ) (m : KnownMachine) (c : KnownCpu) (t : KnownTable) (x y : Side) → fresh_group c ≡ g → is_killed m.killed g ≡ b
-    → Leads t p x (fresh_steps b p f) y → Leads t p x (fresh_steps (is_killed m.killed (fresh_group c)) p f) y
-steps_of b p f g m c t x y named is run = subst (λ (k : Bool). Leads t p x (fresh_steps k p f) y) (sym (ap (is_killed m.killed) named ∙ is)) run
+    → MakesAs t p x (fresh_steps b p f) y → MakesAs t p x (fresh_steps (is_killed m.killed (fresh_group c)) p f) y
+steps_of b p f g m c t x y named is run = subst (λ (k : Bool). MakesAs t p x (fresh_steps k p f) y) (sym (ap (is_killed m.killed) named ∙ is)) run
 
 -- a list that isn't empty
 pub some_fresh : (xs : List ℕ) (n : ℕ) → n ≡ length xs → n ≢ 0 → xs ≢ []
@@ -83,8 +83,8 @@ of_no_group (DrainedOf g) e = absurd (none-some g (sym e))
 pub record FreshSoFar (t : KnownTable) (m : KnownMachine) (c : KnownCpu) (x : KnownMachine) (y : KnownCpu) : Type 0 where
   pub settles : (n : KnownMachine) (d : KnownCpu) → SettlesAllFresh y.fresh (side x y) (side n d) → SettlesAllFresh c.fresh (side m c) (side n d)
   pub steps : (b : Side)
-      → Leads t c.number (side x y) (flat_map (fresh_steps (is_killed m.killed (fresh_group c)) c.number) y.fresh) b
-      → Leads t c.number (side m c) (flat_map (fresh_steps (is_killed m.killed (fresh_group c)) c.number) c.fresh) b
+      → MakesAs t c.number (side x y) (flat_map (fresh_steps (is_killed m.killed (fresh_group c)) c.number) y.fresh) b
+      → MakesAs t c.number (side m c) (flat_map (fresh_steps (is_killed m.killed (fresh_group c)) c.number) c.fresh) b
   pub visit : Visits t (side x y)
   pub others : LeavesOthers c y
   pub back : y.back ≡ c.back
@@ -108,17 +108,17 @@ fresh_start t m c visit = record {
 
 pub fresh_more : (t : KnownTable) (m : KnownMachine) (c : KnownCpu) (x : KnownMachine) (y : KnownCpu) (x' : KnownMachine) (y' : KnownCpu) (f : ℕ)
     → FreshSoFar t m c x y → SettlesFresh f (side x y) (side x' y') → Visits t (side x' y')
-    → Leads t y.number (side x y) (fresh_steps (is_killed x.killed (fresh_group y)) y.number f) (side x' y') → FreshSoFar t m c x' y'
+    → MakesAs t y.number (side x y) (fresh_steps (is_killed x.killed (fresh_group y)) y.number f) (side x' y') → FreshSoFar t m c x' y'
 fresh_more t m c x y x' y' f so_far one visit run =
     let over = settled_over f x y x' y' one in
     let k : Bool = is_killed m.killed (fresh_group c) in
     let p : ℕ = c.number in
-    let run_c : Leads t p (side x y) (fresh_steps k p f) (side x' y') =
-    subst (λ (z : ℕ × Bool). Leads t z.0 (side x y) (fresh_steps z.1 z.0 f) (side x' y')) (λ i. (so_far.others.number i, so_far.killed i)) run in
+    let run_c : MakesAs t p (side x y) (fresh_steps k p f) (side x' y') =
+    subst (λ (z : ℕ × Bool). MakesAs t z.0 (side x y) (fresh_steps z.1 z.0 f) (side x' y')) (λ i. (so_far.others.number i, so_far.killed i)) run in
     record {
       settles = λ n d rest. so_far.settles n d (subst (λ (l : List ℕ). SettlesAllFresh l (side x y) (side n d)) (sym over.front) (side x' y', one, rest));
-      steps = λ b rest. so_far.steps b (subst (λ (l : List ℕ). Leads t p (side x y) (flat_map (fresh_steps k p) l) b) (sym over.front)
-          (leads_both t p (fresh_steps k p f) (flat_map (fresh_steps k p) y'.fresh) (side x y) (side x' y') b run_c rest));
+      steps = λ b rest. so_far.steps b (subst (λ (l : List ℕ). MakesAs t p (side x y) (flat_map (fresh_steps k p) l) b) (sym over.front)
+          (makes_both t p (fresh_steps k p f) (flat_map (fresh_steps k p) y'.fresh) (side x y) (side x' y') b run_c rest));
       visit = visit;
       others = both_others c y y' so_far.others over.others;
       back = over.back ∙ so_far.back;
@@ -128,7 +128,7 @@ fresh_more t m c x y x' y' f so_far one visit run =
 -- none is left
 pub record FreshSettled (t : KnownTable) (m : KnownMachine) (c : KnownCpu) (n : KnownMachine) (d : KnownCpu) : Type 0 where
   pub settles : SettlesAllFresh c.fresh (side m c) (side n d)
-  pub steps : Leads t c.number (side m c) (flat_map (fresh_steps (is_killed m.killed (fresh_group c)) c.number) c.fresh) (side n d)
+  pub steps : MakesAs t c.number (side m c) (flat_map (fresh_steps (is_killed m.killed (fresh_group c)) c.number) c.fresh) (side n d)
   pub others : LeavesOthers c d
   pub back : d.back ≡ c.back
   pub none_fresh : d.fresh ≡ []
@@ -140,9 +140,9 @@ fresh_end t m c x y n d so_far none =
     record {
       settles = so_far.settles n d (subst (λ (l : List ℕ). SettlesAllFresh l (side x y) (side n d)) (sym none.0) (none.1, none.2));
       steps = so_far.steps (side n d)
-          (subst (λ (l : List ℕ). Leads t c.number (side x y) (flat_map (fresh_steps k c.number) l) (side n d)) (sym none.0)
-          (subst (λ (z : KnownMachine × KnownCpu). Leads t c.number (side x y) [] (side z.0 z.1)) (λ i. (sym none.1 i, sym none.2 i))
-          (leads_none t c.number (side x y))));
+          (subst (λ (l : List ℕ). MakesAs t c.number (side x y) (flat_map (fresh_steps k c.number) l) (side n d)) (sym none.0)
+          (subst (λ (z : KnownMachine × KnownCpu). MakesAs t c.number (side x y) [] (side z.0 z.1)) (λ i. (sym none.1 i, sym none.2 i))
+          (makes_none t c.number (side x y))));
       others = subst (λ (e : KnownCpu). LeavesOthers c e) (sym none.2) so_far.others;
       back = ap (λ (e : KnownCpu). e.back) none.2 ∙ so_far.back;
       none_fresh = ap (λ (e : KnownCpu). e.fresh) none.2 ∙ none.0;
@@ -152,8 +152,8 @@ fresh_end t m c x y n d so_far none =
 
 pub record BackSoFar (t : KnownTable) (m : KnownMachine) (c : KnownCpu) (x : KnownMachine) (y : KnownCpu) : Type 0 where
   pub returns : (n : KnownMachine) (d : KnownCpu) → ReturnsAllBack y.back (side x y) (side n d) → ReturnsAllBack c.back (side m c) (side n d)
-  pub steps : (b : Side) → Leads t c.number (side x y) (flat_map (return_steps c.number) y.back) b
-      → Leads t c.number (side m c) (flat_map (return_steps c.number) c.back) b
+  pub steps : (b : Side) → MakesAs t c.number (side x y) (flat_map (return_steps c.number) y.back) b
+      → MakesAs t c.number (side m c) (flat_map (return_steps c.number) c.back) b
   pub visit : Visits t (side x y)
   pub others : LeavesOthers c y
   pub fresh : y.fresh ≡ c.fresh
@@ -163,7 +163,7 @@ back_start t m c visit = record { returns = λ n d rest. rest; steps = λ b rest
 
 pub back_more : (t : KnownTable) (m : KnownMachine) (c : KnownCpu) (x : KnownMachine) (y : KnownCpu) (x' : KnownMachine) (y' : KnownCpu) (f : ℕ)
     → BackSoFar t m c x y → ReturnsBack f (side x y) (side x' y') → Visits t (side x' y')
-    → Leads t y.number (side x y) (return_steps y.number f) (side x' y') → BackSoFar t m c x' y'
+    → MakesAs t y.number (side x y) (return_steps y.number f) (side x' y') → BackSoFar t m c x' y'
 back_more t m c x y x' y' f so_far one visit run =
     let p : ℕ = c.number in
     let others : LeavesOthers y y' = record {
@@ -171,12 +171,12 @@ back_more t m c x y x' y' f so_far one visit run =
       list = ap (λ (e : KnownCpu). e.list) one.cpu;
       pins = ap (λ (e : KnownCpu). e.pins) one.cpu;
     } in
-    let run_c : Leads t p (side x y) (return_steps p f) (side x' y') =
-    subst (λ (q : ℕ). Leads t q (side x y) (return_steps q f) (side x' y')) so_far.others.number run in
+    let run_c : MakesAs t p (side x y) (return_steps p f) (side x' y') =
+    subst (λ (q : ℕ). MakesAs t q (side x y) (return_steps q f) (side x' y')) so_far.others.number run in
     record {
       returns = λ n d rest. so_far.returns n d (subst (λ (l : List ℕ). ReturnsAllBack l (side x y) (side n d)) (sym one.front) (side x' y', one, rest));
-      steps = λ b rest. so_far.steps b (subst (λ (l : List ℕ). Leads t p (side x y) (flat_map (return_steps p) l) b) (sym one.front)
-          (leads_both t p (return_steps p f) (flat_map (return_steps p) y'.back) (side x y) (side x' y') b run_c rest));
+      steps = λ b rest. so_far.steps b (subst (λ (l : List ℕ). MakesAs t p (side x y) (flat_map (return_steps p) l) b) (sym one.front)
+          (makes_both t p (return_steps p f) (flat_map (return_steps p) y'.back) (side x y) (side x' y') b run_c rest));
       visit = visit;
       others = both_others c y y' so_far.others others;
       fresh = ap (λ (e : KnownCpu). e.fresh) one.cpu ∙ so_far.fresh;
@@ -184,7 +184,7 @@ back_more t m c x y x' y' f so_far one visit run =
 
 pub record BackSettled (t : KnownTable) (m : KnownMachine) (c : KnownCpu) (n : KnownMachine) (d : KnownCpu) : Type 0 where
   pub returns : ReturnsAllBack c.back (side m c) (side n d)
-  pub steps : Leads t c.number (side m c) (flat_map (return_steps c.number) c.back) (side n d)
+  pub steps : MakesAs t c.number (side m c) (flat_map (return_steps c.number) c.back) (side n d)
   pub others : LeavesOthers c d
   pub fresh : d.fresh ≡ c.fresh
   pub none_back : d.back ≡ []
@@ -194,9 +194,9 @@ pub back_end : (t : KnownTable) (m : KnownMachine) (c : KnownCpu) (x : KnownMach
 back_end t m c x y n d so_far none = record {
   returns = so_far.returns n d (subst (λ (l : List ℕ). ReturnsAllBack l (side x y) (side n d)) (sym none.0) (none.1, none.2));
   steps = so_far.steps (side n d)
-      (subst (λ (l : List ℕ). Leads t c.number (side x y) (flat_map (return_steps c.number) l) (side n d)) (sym none.0)
-      (subst (λ (z : KnownMachine × KnownCpu). Leads t c.number (side x y) [] (side z.0 z.1)) (λ i. (sym none.1 i, sym none.2 i))
-          (leads_none t c.number (side x y))));
+      (subst (λ (l : List ℕ). MakesAs t c.number (side x y) (flat_map (return_steps c.number) l) (side n d)) (sym none.0)
+      (subst (λ (z : KnownMachine × KnownCpu). MakesAs t c.number (side x y) [] (side z.0 z.1)) (λ i. (sym none.1 i, sym none.2 i))
+      (makes_none t c.number (side x y))));
   others = subst (λ (e : KnownCpu). LeavesOthers c e) (sym none.2) so_far.others;
   fresh = ap (λ (e : KnownCpu). e.fresh) none.2 ∙ so_far.fresh;
   none_back = ap (λ (e : KnownCpu). e.back) none.2 ∙ none.0;
@@ -213,20 +213,20 @@ pub record AllSettled (t : KnownTable) (m : KnownMachine) (c : KnownCpu) (n : Kn
   pub others : LeavesOthers c d
   pub none_fresh : d.fresh ≡ []
   pub none_back : d.back ≡ []
-  pub steps : Leads t c.number (side m c) (settle_steps (side m c)) (side n d)
+  pub steps : MakesAs t c.number (side m c) (settle_steps (side m c)) (side n d)
 
 pub settle_both : (t : KnownTable) (m : KnownMachine) (c : KnownCpu) (x : KnownMachine) (y : KnownCpu) (n : KnownMachine) (d : KnownCpu)
     → SettlesAllFresh c.fresh (side m c) (side x y) → LeavesOthers c y × (y.back ≡ c.back) × (y.fresh ≡ [])
-    → Leads t c.number (side m c) (flat_map (fresh_steps (is_killed m.killed (fresh_group c)) c.number) c.fresh) (side x y)
+    → MakesAs t c.number (side m c) (flat_map (fresh_steps (is_killed m.killed (fresh_group c)) c.number) c.fresh) (side x y)
     → ReturnsAllBack y.back (side x y) (side n d) → LeavesOthers y d × (d.fresh ≡ y.fresh) × (d.back ≡ [])
-    → Leads t y.number (side x y) (flat_map (return_steps y.number) y.back) (side n d) → AllSettled t m c n d
+    → MakesAs t y.number (side x y) (flat_map (return_steps y.number) y.back) (side n d) → AllSettled t m c n d
 settle_both t m c x y n d fresh leaves run back leaves' run' = record {
   settles = record { mid = side x y; fresh = fresh; back = subst (λ (l : List ℕ). ReturnsAllBack l (side x y) (side n d)) leaves.1 back };
   others = both_others c y d leaves.0 leaves'.0;
   none_fresh = leaves'.1 ∙ leaves.2;
   none_back = leaves'.2;
-  steps = leads_both t c.number (flat_map (fresh_steps (is_killed m.killed (fresh_group c)) c.number) c.fresh) (flat_map (return_steps c.number) c.back)
+  steps = makes_both t c.number (flat_map (fresh_steps (is_killed m.killed (fresh_group c)) c.number) c.fresh) (flat_map (return_steps c.number) c.back)
       (side m c) (side x y) (side n d) run
-      (subst (λ (z : ℕ × List ℕ). Leads t z.0 (side x y) (flat_map (return_steps z.0) z.1) (side n d))
+      (subst (λ (z : ℕ × List ℕ). MakesAs t z.0 (side x y) (flat_map (return_steps z.0) z.1) (side n d))
       (λ i. (leaves.0.number i, leaves.1 i)) run');
 }

@@ -34,7 +34,7 @@ use Rattle.mem_machine.specs.declared.spot.Spot.TheVariants.{Free, Head, Tail}
 use Rattle.mem_machine.specs.Spots.{spot_at, is_free, is_in_hand, lent_to, free_of, group_of}
 use Rattle.mem_machine.specs.Machines.{KnownMachine, IsConsistent, Visits, is_killed}
 use Rattle.mem_machine.specs.Blocks.{PlacesUnit, TakesBlock, TakesNoBlock, taken_steps, unplaced_steps}
-use Rattle.mem_machine.specs.Local.{local_of, phase_of, side, Leads}
+use Rattle.mem_machine.specs.Local.{local_of, phase_of, side, MakesAs}
 use Rattle.mem_machine.proofs.Records.{length_free, free_at, free_is, free_inside, no_cpu_is}
 use Rattle.mem_machine.proofs.PlacesUnits.{in_block, off_block}
 use Rattle.mem_machine.proofs.KeptUnits.{IsAdded, IsUsed, JoinsCharges, unit_kept, unit_listed}
@@ -172,7 +172,7 @@ pub record AllTaken (t : KnownTable) (w : Words) (now : KnownMachine) (c : Known
   pub free_is : free ≡ free_of n.spots
   pub takes : TakesBlock now g k at n
   pub visit : Visits t (side n d)
-  pub steps : Leads t c.number (side now c) (taken_steps g k at) (side n d)
+  pub steps : MakesAs t c.number (side now c) (taken_steps g k at) (side n d)
 
 -- what is asked of the processor and of the group
 pub record MayTake (t : KnownTable) (m : KnownMachine) (c : KnownCpu) (g : ℕ) : Type 0 where
@@ -294,7 +294,7 @@ taken_all t w m now same c d stays ok facts g i fits index k pages size may room
 -- what it leaves where there is none
 pub record NoneTaken (t : KnownTable) (now : KnownMachine) (c : KnownCpu) (g k : ℕ) (n : KnownMachine) (d : KnownCpu) : Type 0 where
   pub none : TakesNoBlock now g k n
-  pub steps : Leads t c.number (side now c) (unplaced_steps g k) (side n d)
+  pub steps : MakesAs t c.number (side now c) (unplaced_steps g k) (side n d)
 
 pub none_all : (t : KnownTable) (w : Words) (m now : KnownMachine) → m ≡ now → (c d : KnownCpu) → d ≡ c → IsConsistent t w m → AreCharges m.ledger → (g k pages : ℕ) → pages ≡ 2 ^ k
     → MayTake t now c g → PathHasRoom m.ledger.groups (current_of m.ledger) g pages → (charged ledger : Ledger) → charged ≡ with_charge m.ledger g pages → ledger ≡ with_uncharge charged g pages

@@ -91,13 +91,13 @@ local_of t m c = record {
 
 -- These steps, of the processor of this number and of the zone's seat, lead from one side to another: by what the
 -- processor sees, and by the peaks and the event counts of the ledger
-pub record Leads (table : KnownTable) (number : ℕ) (before : Side) (steps : Run) (after : Side) : Type 0 where
+pub record MakesAs (table : KnownTable) (number : ℕ) (before : Side) (steps : Run) (after : Side) : Type 0 where
   pub leads : IsLocalRun number (local_of table before.machine before.cpu) steps (local_of table after.machine after.cpu)
   pub follows : FollowsSteps (local_of table before.machine before.cpu) before.machine.ledger steps after.machine.ledger
 
 -- these steps lead the processor that holds the lock from one side to another
 abbrev pub Makes : KnownTable → Side → Run → Side → Type 0
-Makes t before steps after = Leads t before.cpu.number before steps after
+Makes t before steps after = MakesAs t before.cpu.number before steps after
 
 -- so it is by the steps that the side before tells
 abbrev pub MakesBy : KnownTable → (Side → Run) → Side → Side → Type 0
