@@ -32,7 +32,7 @@ illegal_groups s seat Lock m = refl
 illegal_groups s seat action m = refl
 
 -- a step after which a group is there that wasn't makes it
-only_made : (s : State) (seat : ℕ) (action : Action) (answer : Answer) (m : ℕ) → has_group s.groups m ≡ false
+pub only_made : (s : State) (seat : ℕ) (action : Action) (answer : Answer) (m : ℕ) → has_group s.groups m ≡ false
     → has_group (after s seat action answer).groups m ≡ true → makes_group m action answer ≡ true
 only_made s seat action Illegal m absent there = absurd (true≢false (sym there ∙ illegal_groups s seat action m ∙ absent))
 only_made s seat (SetMax g limit) Done m absent there = absurd (true≢false (sym there ∙ has_group-limited s.groups g m limit ∙ absent))
@@ -47,7 +47,7 @@ only_made s seat Lock answer m absent there = absurd (true≢false (sym there �
 only_made s seat action answer m absent there = absurd (true≢false (sym there ∙ absent))
 
 -- a number of group m that begins anew where the group is made
-abbrev Begins : Moves → ℕ → Type 0
+abbrev pub Begins : Moves → ℕ → Type 0
 Begins moves m = (s : State) (seat : ℕ) (action : Action) (answer : Answer) (x y : ℕ) → makes_group m action answer ≡ true
     → moves s seat action answer x ≡ moves s seat action answer y
 
@@ -56,14 +56,14 @@ made_peak t (Make path) (Number n) m x made = ap (λ (b : Bool). cond b 0 x) mad
 made_peak t Lock answer m x made = absurd (false≢true made)
 made_peak t action answer m x made = absurd (false≢true made)
 
-peak_begins : (m : ℕ) → Begins (moves_peak m) m
+pub peak_begins : (m : ℕ) → Begins (moves_peak m) m
 peak_begins m s seat action answer x y made =
     made_peak (after s seat action answer) action answer m x made ∙ sym (made_peak (after s seat action answer) action answer m y made)
 
-abbrev Test : Type 0
+abbrev pub Test : Type 0
 Test = List Group → Action → Answer → Bool
 
-count_begins : (test : Test) (m : ℕ) → Begins (moves_count test m) m
+pub count_begins : (test : Test) (m : ℕ) → Begins (moves_count test m) m
 count_begins test m s seat action answer x y made =
     ap (λ (b : Bool). cond b 0 (cond (test s.groups action answer) (one_more x) x)) made
     ∙ sym (ap (λ (b : Bool). cond b 0 (cond (test s.groups action answer) (one_more y) y)) made)
@@ -118,10 +118,10 @@ makes_both t p one two a b c first second =
 -- the step moves no peak and no count
 abbrev pub is_still : Action → Answer → Bool
 is_still (Grant g n) Granted = false
-is_still (NoteMax g) answer = false
-is_still (NoteOom g) answer = false
-is_still (Kill g) answer = false
-is_still (Make path) answer = false
+is_still (NoteMax g) Done = false
+is_still (NoteOom g) Done = false
+is_still (Kill g) Done = false
+is_still (Make path) (Number n) = false
 is_still action answer = true
 
 -- no step of the list does
@@ -129,29 +129,27 @@ abbrev pub are_still : Run → Bool
 are_still [] = true
 are_still (e ∷ rest) = is_still e.0.action e.1 && are_still rest
 
-still_peak : (t : State) (action : Action) (answer : Answer) (m x : ℕ) → is_still action answer ≡ true → peak_follows t action answer m x ≡ x
+pub still_peak : (t : State) (action : Action) (answer : Answer) (m x : ℕ) → is_still action answer ≡ true → peak_follows t action answer m x ≡ x
 still_peak t (Grant g n) Granted m x still = absurd (false≢true still)
-still_peak t (Make path) answer m x still = absurd (false≢true still)
-still_peak t Lock answer m x still = refl
+still_peak t (Make path) (Number n) m x still = absurd (false≢true still)
 still_peak t action answer m x still = refl
 
-still_note : (key : EventKey) (action : Action) (answer : Answer) → is_still action answer ≡ true → noted_at key action answer ≡ None
-still_note Max (NoteMax g) answer still = absurd (false≢true still)
+pub still_note : (key : EventKey) (action : Action) (answer : Answer) → is_still action answer ≡ true → noted_at key action answer ≡ None
+still_note Max (NoteMax g) Done still = absurd (false≢true still)
 still_note Max action answer still = refl
-still_note Oom (NoteOom g) answer still = absurd (false≢true still)
+still_note Oom (NoteOom g) Done still = absurd (false≢true still)
 still_note Oom action answer still = refl
-still_note OomKill (Kill g) answer still = absurd (false≢true still)
+still_note OomKill (Kill g) Done still = absurd (false≢true still)
 still_note OomKill action answer still = refl
 
 still_make : (m : ℕ) (action : Action) (answer : Answer) → is_still action answer ≡ true → makes_group m action answer ≡ false
-still_make m (Make path) answer still = absurd (false≢true still)
-still_make m Lock answer still = refl
+still_make m (Make path) (Number n) still = absurd (false≢true still)
 still_make m action answer still = refl
 
-abbrev Stays : Moves → Type 0
+abbrev pub Stays : Moves → Type 0
 Stays moves = (s : State) (seat : ℕ) (action : Action) (answer : Answer) (x : ℕ) → is_still action answer ≡ true → moves s seat action answer x ≡ x
 
-count_stays : (test : Test) (m : ℕ) → ((groups : List Group) (action : Action) (answer : Answer) → is_still action answer ≡ true
+pub count_stays : (test : Test) (m : ℕ) → ((groups : List Group) (action : Action) (answer : Answer) → is_still action answer ≡ true
     → test groups action answer ≡ false) → Stays (moves_count test m)
 count_stays test m none s seat action answer x still =
     ap (λ (b : Bool). cond b 0 (cond (test s.groups action answer) (one_more x) x)) (still_make m action answer still)
@@ -167,15 +165,19 @@ over_still moves stays s (e ∷ rest) x still =
 pub peak_still : (m : ℕ) (s : State) (steps : Run) (x : ℕ) → are_still steps ≡ true → moved_over (moves_peak m) s steps x ≡ x
 peak_still m = over_still (moves_peak m) (λ s seat action answer x still. still_peak (after s seat action answer) action answer m x still)
 
+pub below_stays : (key : EventKey) (m : ℕ) → Stays (moves_count (is_noted_below key m) m)
+below_stays key m = count_stays (is_noted_below key m) m (λ groups action answer still. ap (is_below groups m) (still_note key action answer still))
+
+pub at_stays : (key : EventKey) (m : ℕ) → Stays (moves_count (is_noted_at key m) m)
+at_stays key m = count_stays (is_noted_at key m) m (λ groups action answer still. ap (λ (o : Option ℕ). is_of_group o m) (still_note key action answer still))
+
 pub below_still : (key : EventKey) (m : ℕ) (s : State) (steps : Run) (x : ℕ) → are_still steps ≡ true
     → moved_over (moves_count (is_noted_below key m) m) s steps x ≡ x
-below_still key m = over_still (moves_count (is_noted_below key m) m) (count_stays (is_noted_below key m) m
-    (λ groups action answer still. ap (is_below groups m) (still_note key action answer still)))
+below_still key m = over_still (moves_count (is_noted_below key m) m) (below_stays key m)
 
 pub at_still : (key : EventKey) (m : ℕ) (s : State) (steps : Run) (x : ℕ) → are_still steps ≡ true
     → moved_over (moves_count (is_noted_at key m) m) s steps x ≡ x
-at_still key m = over_still (moves_count (is_noted_at key m) m) (count_stays (is_noted_at key m) m
-    (λ groups action answer still. ap (λ (o : Option ℕ). is_of_group o m) (still_note key action answer still)))
+at_still key m = over_still (moves_count (is_noted_at key m) m) (at_stays key m)
 
 pub follows_still : (s : State) (l : Ledger) (steps : Run) (k : Ledger) → are_still steps ≡ true → SamePeaks l k → SameEvents l k → FollowsSteps s l steps k
 follows_still s l steps k still peaks events = record {

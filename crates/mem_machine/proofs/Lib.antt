@@ -26,6 +26,7 @@ pub mod PlacesUnits
 pub mod BlockCharges
 pub mod KeptUnits
 pub mod Interleaves
+pub mod Tells
 pub mod TakesBlocks
 pub mod Leaving
 pub mod Releases

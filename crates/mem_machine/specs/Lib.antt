@@ -13,6 +13,7 @@ pub mod Ageing
 pub mod Freeing
 pub mod Blocks
 pub mod Interleaving
+pub mod Telling
 pub mod Releasing
 pub mod Evicting
 pub mod Settling
