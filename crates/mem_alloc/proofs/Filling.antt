@@ -16,13 +16,12 @@ use Rattle.zone_sizes.specs.declared.config.Config.{Config}
 use Rattle.zone_sizes.specs.Config.{IsValidConfig}
 use Rattle.step_rules.specs.After.{Run}
 use Rattle.mem_machine.specs.Machines.{KnownMachine, is_killed}
-use Rattle.mem_machine.specs.Local.{IsLocalRun, local_of, side}
+use Rattle.mem_machine.specs.Local.{side, MakesAs}
 use Rattle.mem_machine.specs.Lending.{LendsMany, Refills}
 use Rattle.mem_machine.specs.Paying.{HoldsPage, PaysForFront}
 use Rattle.mem_machine.specs.Stocks.{Drains, Fills, stock_group}
 use Rattle.mem_machine.specs.Steps.{drain_steps, fill_steps, over_steps, refill_steps, take_front_steps}
 use Rattle.mem_machine.proofs.Prepaying.{filled_account, filled_at}
-use Rattle.mem_machine.proofs.Reaching.{run_both}
 use Rattle.mem_alloc.specs.declared.faults.AllocFault.{AllocFault}
 use Rattle.mem_alloc.specs.declared.faults.AllocFault.TheVariants.{Over, NoFrames, Killed}
 use Rattle.mem_alloc.specs.Stepping.{BySteps, course}
@@ -179,19 +178,19 @@ lent_page frames g m n c d lends page =
 
 -- the batch fits
 pub batch_fits : (t : KnownTable) (sizes : Config) (g : ℕ) (m n : KnownMachine) (c d : KnownCpu) → Fills g sizes.stock (side m c) (side n d)
-    → IsLocalRun c.number (local_of t m c) (fill_steps c.number g sizes.stock) (local_of t n d) → BySteps t (side m c) (side n d) (ChargesFrame sizes g)
+    → MakesAs t c.number (side m c) (fill_steps c.number g sizes.stock) (side n d) → BySteps t (side m c) (side n d) (ChargesFrame sizes g)
 batch_fits t sizes g m n c d fills steps = (fill_steps c.number g sizes.stock, inl (record { fills = fills; steps_are = refl }), steps)
 
 -- the batch doesn't fit, and then one page is charged, or is refused
 module _ (t : KnownTable) (sizes : Config) (g over : ℕ) (m x n : KnownMachine) (c y d : KnownCpu) (stays : x ≡ m) (its : y ≡ c)
     (lowest : IsLowestOver m.ledger.groups (current_of m.ledger) g sizes.stock over)
-    (refused : IsLocalRun c.number (local_of t m c) (over_steps g sizes.stock over) (local_of t m c)) where
+    (refused : MakesAs t c.number (side m c) (over_steps g sizes.stock over) (side m c)) where
   pub one_fits : BySteps t (side x y) (side n d) (FillsAfterRoom g 1) → BySteps t (side m c) (side n d) (ChargesFrame sizes g)
   one_fits b =
       let here = subst (λ (z : KnownMachine × KnownCpu). BySteps t (side z.0 z.1) (side n d) (FillsAfterRoom g 1)) (λ i. (stays i, its i)) b in (
         over_steps g sizes.stock over ++ here.0,
         inr (record { over = over; batch = lowest; later = here.0; fills = here.1; steps_are = refl }),
-        run_both c.number (over_steps g sizes.stock over) here.0 (local_of t m c) (local_of t m c) (local_of t n d) refused here.2,
+        makes_both t c.number (over_steps g sizes.stock over) here.0 (side m c) (side m c) (side n d) refused here.2,
       )
 
   pub none_fits : (cause : AllocFault) → BySteps t (side x y) (side n d) (RefusesOne g cause)
@@ -200,13 +199,13 @@ module _ (t : KnownTable) (sizes : Config) (g over : ℕ) (m x n : KnownMachine)
       let here = subst (λ (z : KnownMachine × KnownCpu). BySteps t (side z.0 z.1) (side n d) (RefusesOne g cause)) (λ i. (stays i, its i)) b in (
         over_steps g sizes.stock over ++ here.0,
         record { over = over; batch = lowest; later = here.0; refuses = here.1; steps_are = refl },
-        run_both c.number (over_steps g sizes.stock over) here.0 (local_of t m c) (local_of t m c) (local_of t n d) refused here.2,
+        makes_both t c.number (over_steps g sizes.stock over) here.0 (side m c) (side m c) (side n d) refused here.2,
       )
 
 -- the own stock is drained first
 module _ (t : KnownTable) (sizes : Config) (g pages q : ℕ) (m k x n : KnownMachine) (c e d : KnownCpu) (same : k ≡ m) (mine : e ≡ c) (named : q ≡ e.number)
-    (lacks : ¬ HoldsPage (side m c) g) (drains : Drains k q pages x) (draining : (h : KnownCpu) → IsLocalRun h.number (local_of t k h)
-    (drain_steps q (stock_group k q) pages) (local_of t x h)) where
+    (lacks : ¬ HoldsPage (side m c) g) (drains : Drains k q pages x) (draining : (h : KnownCpu) → MakesAs t h.number (side k h)
+    (drain_steps q (stock_group k q) pages) (side x h)) where
   number_is : q ≡ c.number
   number_is = named ∙ ap (λ (h : KnownCpu). h.number) mine
 
@@ -216,8 +215,8 @@ module _ (t : KnownTable) (sizes : Config) (g pages q : ℕ) (m k x n : KnownMac
   drained_own : DrainsOwn g (side m c) (drain_steps c.number (stock_group m c.number) pages) x
   drained_own = record { lacks = lacks; drained = pages; drains = drained; steps_are = refl }
 
-  by_drain : IsLocalRun c.number (local_of t m c) (drain_steps c.number (stock_group m c.number) pages) (local_of t x c)
-  by_drain = subst (λ (z : KnownMachine × ℕ). IsLocalRun c.number (local_of t z.0 c) (drain_steps z.1 (stock_group z.0 z.1) pages) (local_of t x c))
+  by_drain : MakesAs t c.number (side m c) (drain_steps c.number (stock_group m c.number) pages) (side x c)
+  by_drain = subst (λ (z : KnownMachine × ℕ). MakesAs t c.number (side z.0 c) (drain_steps z.1 (stock_group z.0 z.1) pages) (side x c))
       (λ i. (same i, number_is i)) (draining c)
 
   pub pays_anew : BySteps t (side x e) (side n d) (ChargesFrame sizes g) → BySteps t (side m c) (side n d) (PaysForFrame sizes g)
@@ -233,7 +232,7 @@ module _ (t : KnownTable) (sizes : Config) (g pages q : ℕ) (m k x n : KnownMac
           charges = here.1;
           steps_are = refl;
         }),
-        run_both c.number (drain_steps c.number (stock_group m c.number) pages) here.0 (local_of t m c) (local_of t x c) (local_of t n d) by_drain here.2,
+        makes_both t c.number (drain_steps c.number (stock_group m c.number) pages) here.0 (side m c) (side x c) (side n d) by_drain here.2,
       )
 
   pub refuses_anew : (cause : AllocFault) → BySteps t (side x e) (side n d) (RefusesFrame sizes g cause)
@@ -250,7 +249,7 @@ module _ (t : KnownTable) (sizes : Config) (g pages q : ℕ) (m k x n : KnownMac
           refuses = here.1;
           steps_are = refl;
         },
-        run_both c.number (drain_steps c.number (stock_group m c.number) pages) here.0 (local_of t m c) (local_of t x c) (local_of t n d) by_drain here.2,
+        makes_both t c.number (drain_steps c.number (stock_group m c.number) pages) here.0 (side m c) (side x c) (side n d) by_drain here.2,
       )
 
 -- ---- the list
@@ -261,8 +260,8 @@ none_lent (f ∷ frames) m n c d none h = absurd (omega (arith, none))
 
 -- no frame was lent, since none is free
 no_steps : (t : KnownTable) (frames : List ℕ) (m n : KnownMachine) (c d : KnownCpu) → length frames ≡ 0
-    → IsLocalRun c.number (local_of t m c) (refill_steps c.number frames) (local_of t n d)
-    → IsLocalRun c.number (local_of t m c) [] (local_of t n d)
+    → MakesAs t c.number (side m c) (refill_steps c.number frames) (side n d)
+    → MakesAs t c.number (side m c) [] (side n d)
 no_steps t [] m n c d none run = run
 no_steps t (f ∷ frames) m n c d none run = absurd (omega (arith, none))
 
@@ -317,15 +316,15 @@ module _ (t : KnownTable) (sizes : Config) (m k x n : KnownMachine) (c e y : Kno
   from_first P p = subst (λ (z : KnownMachine × KnownCpu). P z.0 z.1) (λ i. (first.1.stays.machine i, first.1.stays.cpu i)) p
 
   pub no_frame : (pages q : ℕ) → BySteps t (side k e) (side x y) (RefillsInRounds sizes.batch false) → q ≡ y.number → Drains x q pages n
-      → ((h : KnownCpu) → IsLocalRun h.number (local_of t x h) (drain_steps q (stock_group x q) pages) (local_of t n h))
+      → ((h : KnownCpu) → MakesAs t h.number (side x h) (drain_steps q (stock_group x q) pages) (side n h))
       → BySteps t (side m c) (side n y) (HasNoFrame NoFrames)
   no_frame pages q rounds named drains steps =
       let there = from_first (λ u v. BySteps t (side u v) (side x y) (RefillsInRounds sizes.batch false)) rounds in
       let cpu : y ≡ c = (fails_spare t 1 LendsNoFrame (no_frame_spares t) 16 m x c y there.0 there.1).cpu in
       let here = subst (λ (z : KnownCpu). BySteps t (side m c) (side x z) (RefillsInRounds sizes.batch false)) cpu there in
       let number : q ≡ c.number = named ∙ ap (λ (h : KnownCpu). h.number) cpu in
-      let last : IsLocalRun c.number (local_of t x c) (drain_steps c.number (stock_group x c.number) pages) (local_of t n c) =
-      subst (λ (p : ℕ). IsLocalRun c.number (local_of t x c) (drain_steps p (stock_group x p) pages) (local_of t n c)) number (steps c) in
+      let last : MakesAs t c.number (side x c) (drain_steps c.number (stock_group x c.number) pages) (side n c) =
+      subst (λ (p : ℕ). MakesAs t c.number (side x c) (drain_steps p (stock_group x p) pages) (side n c)) number (steps c) in
       subst (λ (z : KnownCpu). BySteps t (side m c) (side n z) (HasNoFrame NoFrames)) (sym cpu) (
         here.0 ++ drain_steps c.number (stock_group x c.number) pages,
         record {
@@ -341,7 +340,7 @@ module _ (t : KnownTable) (sizes : Config) (m k x n : KnownMachine) (c e y : Kno
           cpu = refl;
           steps_are = refl;
         },
-        run_both c.number here.0 (drain_steps c.number (stock_group x c.number) pages) (local_of t m c) (local_of t x c) (local_of t n c) here.2 last,
+        makes_both t c.number here.0 (drain_steps c.number (stock_group x c.number) pages) (side m c) (side x c) (side n c) here.2 last,
       )
 
   -- or free frames come to the list after rounds
@@ -465,8 +464,8 @@ module _ (t : KnownTable) (sizes : Config) (g : ℕ) (m : KnownMachine) (c : Kno
     none_found n d b = (
       pays.0 ++ b.0,
       record { paid = side k y; paying = pays.0; draining = b.0; alive = alive; pays = pays.1; none = b.1; steps_are = refl },
-      run_both c.number pays.0 b.0 (local_of t m c) (local_of t k y) (local_of t n d) pays.2
-          (subst (λ (p : ℕ). IsLocalRun p (local_of t k y) b.0 (local_of t n d)) number b.2),
+      makes_both t c.number pays.0 b.0 (side m c) (side k y) (side n d) pays.2
+          (subst (λ (p : ℕ). MakesAs t p (side k y) b.0 (side n d)) number b.2),
     )
 
     pub not_found : (r : Result ℕ AllocFault) (x : AllocFault) (n : KnownMachine) (d : KnownCpu) → IsErr r → IfErr r (λ e. e ≡ x)
@@ -478,13 +477,13 @@ module _ (t : KnownTable) (sizes : Config) (g : ℕ) (m : KnownMachine) (c : Kno
 
     -- the front of the list is paid for
     pub gets_frame : (f : ℕ) (l n : KnownMachine) (z d : KnownCpu) → z.number ≡ y.number → BySteps t (side k y) (side l z) (FillsList sizes)
-        → PaysForFront g f (side l z) (side n d) → IsLocalRun z.number (local_of t l z) (take_front_steps z.number g) (local_of t n d)
+        → PaysForFront g f (side l z) (side n d) → MakesAs t z.number (side l z) (take_front_steps z.number g) (side n d)
         → BySteps t (side m c) (side n d) (GetsFrame sizes g f)
     gets_frame f l n z d named fills takes steps =
-        let last : IsLocalRun c.number (local_of t l z) (take_front_steps c.number g) (local_of t n d) =
-        subst (λ (p : ℕ). IsLocalRun p (local_of t l z) (take_front_steps p g) (local_of t n d)) (named ∙ number) steps in
-        let next : IsLocalRun c.number (local_of t k y) fills.0 (local_of t l z) =
-        subst (λ (p : ℕ). IsLocalRun p (local_of t k y) fills.0 (local_of t l z)) number fills.2 in (
+        let last : MakesAs t c.number (side l z) (take_front_steps c.number g) (side n d) =
+        subst (λ (p : ℕ). MakesAs t p (side l z) (take_front_steps p g) (side n d)) (named ∙ number) steps in
+        let next : MakesAs t c.number (side k y) fills.0 (side l z) =
+        subst (λ (p : ℕ). MakesAs t p (side k y) fills.0 (side l z)) number fills.2 in (
           pays.0 ++ (fills.0 ++ take_front_steps c.number g),
           record {
             paid = side k y;
@@ -497,6 +496,6 @@ module _ (t : KnownTable) (sizes : Config) (g : ℕ) (m : KnownMachine) (c : Kno
             takes = takes;
             steps_are = refl;
           },
-          run_both c.number pays.0 (fills.0 ++ take_front_steps c.number g) (local_of t m c) (local_of t k y) (local_of t n d) pays.2
-              (run_both c.number fills.0 (take_front_steps c.number g) (local_of t k y) (local_of t l z) (local_of t n d) next last),
+          makes_both t c.number pays.0 (fills.0 ++ take_front_steps c.number g) (side m c) (side k y) (side n d) pays.2
+              (makes_both t c.number fills.0 (take_front_steps c.number g) (side k y) (side l z) (side n d) next last),
         )

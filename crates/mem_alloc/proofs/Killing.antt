@@ -16,9 +16,8 @@ use Rattle.stock_word.specs.Stock.{Words}
 use Rattle.step_rules.specs.State.{sum_to}
 use Rattle.step_rules.specs.After.{Run}
 use Rattle.mem_machine.specs.Machines.{IsConsistent, KnownMachine, is_killed}
-use Rattle.mem_machine.specs.Local.{MakesForAny, local_of}
+use Rattle.mem_machine.specs.Local.{MakesForAny, side}
 use Rattle.mem_machine.specs.Steps.{note_oom_steps}
-use Rattle.mem_machine.proofs.Reaching.{run_both}
 use Rattle.mem_reclaim.specs.Killing.{IsKilledBy, OnlyDrains, OnlyLetsGo}
 use Rattle.mem_reclaim.specs.Victim.{HasMostFrames, IsVictim}
 use Rattle.mem_reclaim.proofs.Choosing.{chosen_there}
@@ -180,7 +179,7 @@ so_far_killed r t w g pages v m x n so_far wanting whole charges chosen kills ma
     stocks = stocks;
     keeps = keeps;
   });
-  runs = λ c. run_both c.number so_far.killing kills.steps (local_of t m c) (local_of t x c) (local_of t n c) (so_far.runs c) (kills.runs c);
+  runs = λ c. makes_both t c.number so_far.killing kills.steps (side m c) (side x c) (side n c) (so_far.runs c) (kills.runs c);
 }
 
 pub so_far_there : (r : Option ℕ) (t : KnownTable) (g pages : ℕ) (m n : KnownMachine) → KillsSoFar r t g pages m n → has_group m.ledger.groups g ≡ true
@@ -208,7 +207,7 @@ kills_end r t g pages m x n over noted noting so_far ended = (
   },
   λ c.
       let x : KnownMachine = with_oom_noted_at m g in
-      run_both c.number (note_oom_steps g) so_far.killing (local_of t m c) (local_of t x c) (local_of t n c)
+      makes_both t c.number (note_oom_steps g) so_far.killing (side m c) (side x c) (side n c)
       (subst (λ (y : KnownMachine). MakesForAny t m (note_oom_steps g) y) noted noting c) (so_far.runs c),
 )
 

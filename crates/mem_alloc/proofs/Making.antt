@@ -11,10 +11,9 @@ use Rattle.group_charge.specs.Charges.{current_of, with_max_noted}
 use Rattle.cpu_part.specs.Cpus.{KnownCpu}
 use Rattle.step_rules.specs.After.{Run}
 use Rattle.mem_machine.specs.Machines.{KnownMachine, is_killed}
-use Rattle.mem_machine.specs.Local.{IsLocalRun, MakesForAny, local_of, side}
+use Rattle.mem_machine.specs.Local.{MakesForAny, side, MakesAs}
 use Rattle.mem_machine.specs.Steps.{over_steps, note_max_steps, drain_stocks_steps, fill_steps}
 use Rattle.mem_machine.specs.Stocks.{Fills, DrainsSubtree, DrainsAllBelow, AreDrained}
-use Rattle.mem_machine.proofs.Reaching.{run_both}
 use Rattle.mem_alloc.specs.Stepping.{BySteps, ByStepsOfAny, course, OfMachine}
 use Rattle.mem_reclaim.specs.Moves.{Leads}
 use Rattle.mem_reclaim.specs.Rounds.{MakesRounds, pages_missing}
@@ -31,7 +30,7 @@ use Rattle.mem_alloc.proofs.Killing.{relieving_lowers}
 note_then_drains : (t : KnownTable) (g pages : ℕ) (m x n : KnownMachine) → MakesForAny t m (note_max_steps g) x → (drains : DrainsSubtree t g pages x n)
     → MakesForAny t m (note_max_steps g ++ drain_stocks_steps drains.drains) n
 note_then_drains t g pages m x n noting drains c =
-    run_both c.number (note_max_steps g) (drain_stocks_steps drains.drains) (local_of t m c) (local_of t x c) (local_of t n c) (noting c) (drains.steps c)
+    makes_both t c.number (note_max_steps g) (drain_stocks_steps drains.drains) (side m c) (side x c) (side n c) (noting c) (drains.steps c)
 
 -- the notes, and then the drains. Serves `make_room`
 pub clears_by : (t : KnownTable) (g pages back : ℕ) (m y x n : KnownMachine) → y ≡ with_limit_noted m g pages → x ≡ record y { ledger = with_max_noted y.ledger g }
@@ -66,8 +65,8 @@ relieves_by t r g pages m x y n first next last = (
     kills = last.1;
     steps_are = refl;
   },
-  λ c. run_both c.number first.0 (next.0 ++ last.0) (local_of t m c) (local_of t x c) (local_of t n c) (first.2 c)
-      (run_both c.number next.0 last.0 (local_of t x c) (local_of t y c) (local_of t n c) (next.2 c) (last.2 c)),
+  λ c. makes_both t c.number first.0 (next.0 ++ last.0) (side m c) (side x c) (side n c) (first.2 c)
+      (makes_both t c.number next.0 last.0 (side x c) (side y c) (side n c) (next.2 c) (last.2 c)),
 )
 
 -- victims are killed for few pages
@@ -142,7 +141,7 @@ pub record RoomSoFar (t : KnownTable) (g pages : ℕ) (c : KnownCpu) (m n : Know
   pub refused_at : List ℕ
   pub making : Run
   pub makes : MakesRoom g pages refused_at (course t m making n)
-  pub runs : IsLocalRun c.number (local_of t m c) making (local_of t n c)
+  pub runs : MakesAs t c.number (side m c) making (side n c)
   pub lowers : Lowers t m n
   pub alive : is_killed n.killed g ≡ false
 
@@ -160,7 +159,7 @@ module _ (t : KnownTable) (g pages : ℕ) (c : KnownCpu) (m x : KnownMachine) (s
   -- one more try was refused, by its steps
   module _ (y z n : KnownMachine) (d : KnownCpu) (over : ℕ) (same : y ≡ x) (mine : d ≡ c)
       (low : IsLowestOver z.ledger.groups (current_of z.ledger) g pages over) (before_it : z ≡ x)
-      (refusing : IsLocalRun d.number (local_of t z d) (over_steps g pages over) (local_of t z d)) (relieves : ByStepsOfAny t y n (RelievesLimit g over pages)) where
+      (refusing : MakesAs t d.number (side z d) (over_steps g pages over) (side z d)) (relieves : ByStepsOfAny t y n (RelievesLimit g over pages)) where
     its : ByStepsOfAny t x n (RelievesLimit g over pages)
     its = subst (λ (k : KnownMachine). ByStepsOfAny t k n (RelievesLimit g over pages)) same relieves
 
@@ -172,13 +171,13 @@ module _ (t : KnownTable) (g pages : ℕ) (c : KnownCpu) (m x : KnownMachine) (s
       steps_are = refl;
     }
 
-    runs_on : IsLocalRun c.number (local_of t m c) (so_far.making ++ (over_steps g pages over ++ its.0))
-        (local_of t n c)
-    runs_on = run_both c.number so_far.making (over_steps g pages over ++ its.0) (local_of t m c)
-        (local_of t x c) (local_of t n c) so_far.runs
-        (run_both c.number (over_steps g pages over) its.0 (local_of t x c) (local_of t x c)
-        (local_of t n c)
-        (subst (λ (k : KnownMachine × KnownCpu). IsLocalRun k.1.number (local_of t k.0 k.1) (over_steps g pages over) (local_of t k.0 k.1))
+    runs_on : MakesAs t c.number (side m c) (so_far.making ++ (over_steps g pages over ++ its.0))
+        (side n c)
+    runs_on = makes_both t c.number so_far.making (over_steps g pages over ++ its.0) (side m c)
+        (side x c) (side n c) so_far.runs
+        (makes_both t c.number (over_steps g pages over) its.0 (side x c) (side x c)
+        (side n c)
+        (subst (λ (k : KnownMachine × KnownCpu). MakesAs t k.1.number (side k.0 k.1) (over_steps g pages over) (side k.0 k.1))
         (λ i. (before_it i, mine i)) refusing)
         (its.2 c))
 
@@ -217,7 +216,7 @@ module _ (t : KnownTable) (g pages : ℕ) (c : KnownCpu) (m x : KnownMachine) (s
 
   -- the pages are granted, and fill the stock
   pub so_far_fills : (y : KnownCpu) → y ≡ c → (n : KnownMachine) (d : KnownCpu) → Fills g pages (side x y) (side n d)
-      → IsLocalRun y.number (local_of t x y) (fill_steps y.number g pages) (local_of t n d)
+      → MakesAs t y.number (side x y) (fill_steps y.number g pages) (side n d)
       → BySteps t (side m c) (side n d) (FillsAfterRoom g pages)
   so_far_fills y mine n d fills steps = (
     so_far.making ++ fill_steps c.number g pages,
@@ -229,8 +228,8 @@ module _ (t : KnownTable) (g pages : ℕ) (c : KnownCpu) (m x : KnownMachine) (s
       fills = subst (λ (k : KnownCpu). Fills g pages (side x k) (side n d)) mine fills;
       steps_are = refl;
     },
-    run_both c.number so_far.making (fill_steps c.number g pages) (local_of t m c) (local_of t x c) (local_of t n d) so_far.runs
-        (subst (λ (k : KnownCpu). IsLocalRun k.number (local_of t x k) (fill_steps k.number g pages) (local_of t n d)) mine steps),
+    makes_both t c.number so_far.making (fill_steps c.number g pages) (side m c) (side x c) (side n d) so_far.runs
+        (subst (λ (k : KnownCpu). MakesAs t k.number (side x k) (fill_steps k.number g pages) (side n d)) mine steps),
   )
 
 -- an answer that is a refusal, of this cause
@@ -245,7 +244,7 @@ pub refuses_one : (t : KnownTable) (g : ℕ) (cause : AllocFault) (m : KnownMach
 refuses_one t g cause m c n d cpu b = (
   b.0,
   record { refuses = b.1; cpu = cpu },
-  subst (λ (k : KnownCpu). IsLocalRun c.number (local_of t m c) b.0 (local_of t n k)) (sym cpu) b.2,
+  subst (λ (k : KnownCpu). MakesAs t c.number (side m c) b.0 (side n k)) (sym cpu) b.2,
 )
 
 -- what holds of an answer in either case

@@ -217,7 +217,7 @@ drains_pass t c g k m n drains all runs =
 pub keeps_pass : (t : KnownTable) (c : KnownCpu) (m n : KnownMachine) (steps : Run) → MakesForAny t m steps n → Keeps t m n
     → ((f : ℕ) → misses_of n.seat f ≡ misses_of m.seat f + missed_in f steps) → Passes t c m steps n
 keeps_pass t c m n steps runs keeps misses = record {
-  runs = runs c;
+  runs = (runs c).leads;
   tied = record {
     misses = misses;
     owners = keeps.owners;
@@ -311,7 +311,7 @@ module _ (t : KnownTable) (MayAsk : List Group → ℕ → ℕ → Type 0) (s : 
   -- a kill's steps, of which the first is the kill
   kill_passes : (g v : ℕ) (m n : KnownMachine) (kills : IsKilledBy t g v m n) → OnlyLetsGo t m n → Passes t c m kills.steps n
   kill_passes g v m n kills keeps = record {
-    runs = kills.runs c;
+    runs = (kills.runs c).leads;
     tied = record {
       misses = λ f.
           let p = keeps.misses f in
@@ -394,7 +394,7 @@ module _ (t : KnownTable) (MayAsk : List Group → ℕ → ℕ → Type 0) (s : 
       → Passes t c s made m → AreDrained g t.cpus m → MissedAll g s m → KillsVictims r g pages (course t m steps n) → Tame made m steps n
   tame_victims r g pages made m steps n asked since drained missed h =
       let x = with_oom_noted_at m g in
-      let note = passes_same t c m x (note_oom_steps g) (h.notes c) refl refl (record { quiet = refl; no_miss = λ f. refl }) in
+      let note = passes_same t c m x (note_oom_steps g) (h.notes c).leads refl refl (record { quiet = refl; no_miss = λ f. refl }) in
       let ready : Ready g (made ++ note_oom_steps g) x = record {
         since = passes_both t c s m x made (note_oom_steps g) since note;
         noted = noted_last g made (note_oom_steps g) (or_left (g == g) false (eq-eqb g g refl));
@@ -432,7 +432,7 @@ module _ (t : KnownTable) (MayAsk : List Group → ℕ → ℕ → Type 0) (s : 
       let same = all_same g t.cpus (with_max_noted_at m g pages) n h.drains h.all in
       let quiet = quiet_both (note_max_steps g) (drain_stocks_steps h.drains) (record { quiet = refl; no_miss = λ f. refl }) (quiet_drains h.drains) in
       let here = subst AreQuiet (sym h.steps_are) quiet in
-      tame_quiet made m steps n (passes_same t c m n steps (h.runs c) same.seat same.links here) same.groups here.quiet
+      tame_quiet made m steps n (passes_same t c m n steps (h.runs c).leads same.seat same.links here) same.groups here.quiet
 
   reclaims_tame : (g pages : ℕ) (made : Run) (m : KnownMachine) (steps : Run) (n : KnownMachine) → ReclaimsFor g pages (course t m steps n)
       → Tame made m steps n

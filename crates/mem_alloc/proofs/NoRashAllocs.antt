@@ -17,7 +17,6 @@ use Rattle.mem_machine.specs.Local.{IsLocalRun, Side, local_of, side}
 use Rattle.mem_machine.specs.Blocks.{taken_steps, unplaced_steps}
 use Rattle.mem_machine.specs.Stocks.{stock_group}
 use Rattle.mem_machine.specs.Steps.{drain_list_steps, drain_steps, fill_steps, over_steps, take_front_steps}
-use Rattle.mem_machine.proofs.Reaching.{run_both}
 use Rattle.mem_reclaim.specs.Moves.{has_kill, is_kill}
 use Rattle.mem_reclaim.proofs.LettingGo.{quiet_drain}
 use Rattle.mem_alloc.specs.declared.faults.AllocFault.{AllocFault}
@@ -176,19 +175,19 @@ module _ (t : KnownTable) (MayAsk : List Group → ℕ → ℕ → Type 0) (s : 
     pays_rash sizes steps rest n z whole (inr h) =
         let all = subst (λ (k : Run). IsLocalRun c.number (local_of t s c) k z) (ap (λ (k : Run). k ++ rest) h.steps_are ∙ append_assoc h.first h.later rest)
         whole in
-        let on = run_rest c.number h.first (h.later ++ rest) (local_of t s c) (local_of t h.emptied c) z h.empties all in
+        let on = run_rest c.number h.first (h.later ++ rest) (local_of t s c) (local_of t h.emptied c) z h.empties.leads all in
         subst (λ (k : Run). RashFree t MayAsk s c [] k) (sym h.steps_are) (rash_both t MayAsk s c [] h.first h.later
         (rash_quiet t MayAsk s c [] h.first (drain_quiet h.emptied h.first h.drains))
-        (charges_rash sizes h.first h.emptied h.later rest n z (drain_same s h.emptied c.number h.drains.drained h.drains.drains).groups (drain_passes h.emptied h.first h.drains h.empties) on h.charges))
+        (charges_rash sizes h.first h.emptied h.later rest n z (drain_same s h.emptied c.number h.drains.drained h.drains.drains).groups (drain_passes h.emptied h.first h.drains h.empties.leads) on h.charges))
 
     pays_not_rash : (sizes : Config) (cause : AllocFault) (steps : Run) (n : Side) (z : State) → IsLocalRun c.number (local_of t s c) steps z
         → RefusesToPay sizes g cause (course t (side s c) steps n) → RashFree t MayAsk s c [] steps
     pays_not_rash sizes cause steps n z whole h =
         let all = subst (λ (k : Run). IsLocalRun c.number (local_of t s c) k z) h.steps_are whole in
-        let on = run_rest c.number h.first h.later (local_of t s c) (local_of t h.emptied c) z h.empties all in
+        let on = run_rest c.number h.first h.later (local_of t s c) (local_of t h.emptied c) z h.empties.leads all in
         subst (λ (k : Run). RashFree t MayAsk s c [] k) (sym h.steps_are) (rash_both t MayAsk s c [] h.first h.later
         (rash_quiet t MayAsk s c [] h.first (drain_quiet h.emptied h.first h.drains))
-        (refuses_rash sizes cause h.first h.emptied h.later n z (drain_same s h.emptied c.number h.drains.drained h.drains.drains).groups (drain_passes h.emptied h.first h.drains h.empties) on h.refuses))
+        (refuses_rash sizes cause h.first h.emptied h.later n z (drain_same s h.emptied c.number h.drains.drained h.drains.drains).groups (drain_passes h.emptied h.first h.drains h.empties.leads) on h.refuses))
 
     pub frame_no_rash : (sizes : Config) (answer : Result ℕ AllocFault) (steps : Run) (n : Side) (z : State) → IsLocalRun c.number (local_of t s c) steps z
         → AllocatesFrame sizes g answer (course t (side s c) steps n) → NoRashKill t MayAsk s c steps

@@ -6,8 +6,7 @@ use Rattle.frame_word.specs.Seats.{KnownTable}
 use Rattle.cpu_part.specs.Cpus.{KnownCpu}
 use Rattle.step_rules.specs.After.{Run}
 use Rattle.mem_machine.specs.Machines.{KnownMachine}
-use Rattle.mem_machine.specs.Local.{Side, IsLocalRun, local_of, side}
-use Rattle.mem_machine.proofs.Reaching.{run_both}
+use Rattle.mem_machine.specs.Local.{Side, side, MakesAs}
 use Rattle.mem_reclaim.specs.Moves.{Leads}
 use Rattle.mem_reclaim.specs.Passes.{Reclaims}
 use Rattle.mem_reclaim.specs.Staying.{Keeps, MissedAll}
@@ -110,7 +109,7 @@ pub record RoundsSoFar (t : KnownTable) (want : ℕ) (Fails : Course Side → Ty
   pub succeeds : (k : ℕ) (rest : Run) (n : Side)
       → SucceedsInRounds (16 - made) want (Succeeds k) Fails (course t (side now d) rest n)
       → SucceedsInRounds 16 want (Succeeds k) Fails (course t (side m c) (steps ++ rest) n)
-  pub runs : IsLocalRun c.number (local_of t m c) steps (local_of t now d)
+  pub runs : MakesAs t c.number (side m c) steps (side now d)
   pub spares : Spares t m c now d
 
 module _ (t : KnownTable) (want : ℕ) (Fails : Course Side → Type 0) (Succeeds : ℕ → Course Side → Type 0)
@@ -134,13 +133,13 @@ module _ (t : KnownTable) (want : ℕ) (Fails : Course Side → Type 0) (Succeed
           so.steps ++ [],
           so.fails [] (side now d)
               (subst (λ (k : ℕ). FailsInRounds k want Fails (course t (side now d) [] (side now d))) e none),
-          subst (λ (r : Run). IsLocalRun c.number (local_of t m c) r (local_of t now d)) (sym (append-nil so.steps)) so.runs,
+          subst (λ (r : Run). MakesAs t c.number (side m c) r (side now d)) (sym (append-nil so.steps)) so.runs,
         )
 
     -- one round more
     module _ (left : made < 16) (given : ℕ) (x : KnownMachine) (leads : Leads t given now x (λ steps. Reclaims 0 want given now steps x))
         (missed : given < want → MissedAll 0 now x) (keeps : Keeps t now x) (then : KnownMachine) (e : KnownCpu) (trying : Run)
-        (tries : IsLocalRun d.number (local_of t x d) trying (local_of t then e)) where
+        (tries : MakesAs t d.number (side x d) trying (side then e)) where
       next_left : suc (16 - (made + 1)) ≡ 16 - made
       next_left = omega (arith, left)
 
@@ -162,12 +161,12 @@ module _ (t : KnownTable) (want : ℕ) (Fails : Course Side → Type 0) (Succeed
         steps_are = refl;
       }
 
-      runs_on : IsLocalRun c.number (local_of t m c) (so.steps ++ first) (local_of t then e)
+      runs_on : MakesAs t c.number (side m c) (so.steps ++ first) (side then e)
       runs_on =
           let number = ap (λ (y : KnownCpu). y.number) so.spares.cpu in
-          run_both c.number so.steps first (local_of t m c) (local_of t now d) (local_of t then e) so.runs
-          (subst (λ (p : ℕ). IsLocalRun p (local_of t now d) first (local_of t then e)) number
-          (run_both d.number leads.steps trying (local_of t now d) (local_of t x d) (local_of t then e) (leads.moves.runs d) tries))
+          makes_both t c.number so.steps first (side m c) (side now d) (side then e) so.runs
+          (subst (λ (p : ℕ). MakesAs t p (side now d) first (side then e)) number
+          (makes_both t d.number leads.steps trying (side now d) (side x d) (side then e) (leads.moves.runs d) tries))
 
       -- in which it succeeded
       pub rounds_succeed : (k : ℕ) → Succeeds k (course t (side x d) trying (side then e))
@@ -186,7 +185,7 @@ module _ (t : KnownTable) (want : ℕ) (Fails : Course Side → Type 0) (Succeed
         rounds_end none =
             let last : FailsInRounds (suc (16 - (made + 1))) want Fails (course t (side now d) (first ++ []) (side then e)) =
             (given, side then e, first, [], round Fails does, inl (none, record { machine = refl; cpu = refl; steps_are = refl }), refl) in
-            let run = subst (λ (r : Run). IsLocalRun c.number (local_of t m c) (so.steps ++ r) (local_of t then e)) (sym (append-nil first)) runs_on in (
+            let run = subst (λ (r : Run). MakesAs t c.number (side m c) (so.steps ++ r) (side then e)) (sym (append-nil first)) runs_on in (
               so.steps ++ (first ++ []),
               so.fails (first ++ []) (side then e)
                   (subst (λ (j : ℕ). FailsInRounds j want Fails (course t (side now d) (first ++ []) (side then e))) next_left last),

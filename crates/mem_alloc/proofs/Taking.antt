@@ -12,16 +12,14 @@ use Rattle.group_charge.specs.Charges.{current_of, with_charge, with_uncharge}
 use Rattle.stock_word.specs.Stock.{account_of}
 use Rattle.cpu_part.specs.Cpus.{KnownCpu}
 use Rattle.step_rules.specs.After.{Run}
-use Rattle.step_rules.specs.State.{State}
 use Rattle.mem_machine.specs.declared.blocks.TakeFault.{TakeFault}
 use Rattle.mem_machine.specs.declared.blocks.TakeFault.TheVariants as fault
 use Rattle.mem_machine.specs.Machines.{KnownMachine, is_killed}
-use Rattle.mem_machine.specs.Local.{IsLocalRun, local_of, side}
+use Rattle.mem_machine.specs.Local.{side, MakesAs, Side}
 use Rattle.mem_machine.specs.Lending.{TakesManyBack}
 use Rattle.mem_machine.specs.Blocks.{TakesBlock, TakesNoBlock, RefusesBlock, block_steps, taken_steps, unplaced_steps}
 use Rattle.mem_machine.specs.Paying.{HasRoomFor}
 use Rattle.mem_machine.specs.Steps.{over_steps, drain_list_steps}
-use Rattle.mem_machine.proofs.Reaching.{run_both}
 use Rattle.mem_alloc.specs.declared.faults.AllocFault.{AllocFault}
 use Rattle.mem_alloc.specs.declared.faults.AllocFault.TheVariants.{Over, NoFrames, Killed}
 use Rattle.mem_alloc.specs.Stepping.{BySteps, course, OfMachine}
@@ -39,28 +37,28 @@ pub is_refused : (m n : KnownMachine) (g k : ℕ) (e : TakeFault) (o : OverLimit
     → IsLowestOver m.ledger.groups (current_of m.ledger) g (2 ^ k) o.group × (n ≡ m)
 is_refused m n g k e o is refuses = subst (λ (x : TakeFault). RefusesBlock m g k x n) is refuses
 
-pub by_refusal : (p g k : ℕ) (a b : State) (e : TakeFault) (o : OverLimit) → e ≡ fault.Over o → IsLocalRun p a (block_steps g k (Err e)) b
-    → IsLocalRun p a (over_steps g (2 ^ k) o.group) b
-by_refusal p g k a b e o is steps = subst (λ (x : TakeFault). IsLocalRun p a (block_steps g k (Err x)) b) is steps
+pub by_refusal : {t : KnownTable} (p g k : ℕ) (a b : Side) (e : TakeFault) (o : OverLimit) → e ≡ fault.Over o → MakesAs t p a (block_steps g k (Err e)) b
+    → MakesAs t p a (over_steps g (2 ^ k) o.group) b
+by_refusal {t = t} p g k a b e o is steps = subst (λ (x : TakeFault). MakesAs t p a (block_steps g k (Err x)) b) is steps
 
 -- no block was free
 pub is_none : (m n : KnownMachine) (g k : ℕ) (e : TakeFault) → e ≡ fault.NoBlock → RefusesBlock m g k e n → TakesNoBlock m g k n
 is_none m n g k e is refuses = subst (λ (x : TakeFault). RefusesBlock m g k x n) is refuses
 
-pub by_none : (p g k : ℕ) (a b : State) (e : TakeFault) → e ≡ fault.NoBlock → IsLocalRun p a (block_steps g k (Err e)) b
-    → IsLocalRun p a (unplaced_steps g k) b
-by_none p g k a b e is steps = subst (λ (x : TakeFault). IsLocalRun p a (block_steps g k (Err x)) b) is steps
+pub by_none : {t : KnownTable} (p g k : ℕ) (a b : Side) (e : TakeFault) → e ≡ fault.NoBlock → MakesAs t p a (block_steps g k (Err e)) b
+    → MakesAs t p a (unplaced_steps g k) b
+by_none {t = t} p g k a b e is steps = subst (λ (x : TakeFault). MakesAs t p a (block_steps g k (Err x)) b) is steps
 
 -- ---- after the tries that were refused
 
 module _ (t : KnownTable) (g k : ℕ) (c : KnownCpu) (m x : KnownMachine) (so_far : RoomSoFar t g (2 ^ k) c m x) (y : KnownCpu) (mine : y ≡ c)
     (n : KnownMachine) (d : KnownCpu) where
-  runs_on : (steps : Run) → IsLocalRun y.number (local_of t x y) steps (local_of t n d)
-      → IsLocalRun c.number (local_of t m c) (so_far.making ++ steps) (local_of t n d)
-  runs_on steps run = run_both c.number so_far.making steps (local_of t m c) (local_of t x c) (local_of t n d) so_far.runs
-      (subst (λ (e : KnownCpu). IsLocalRun e.number (local_of t x e) steps (local_of t n d)) mine run)
+  runs_on : (steps : Run) → MakesAs t y.number (side x y) steps (side n d)
+      → MakesAs t c.number (side m c) (so_far.making ++ steps) (side n d)
+  runs_on steps run = makes_both t c.number so_far.making steps (side m c) (side x c) (side n d) so_far.runs
+      (subst (λ (e : KnownCpu). MakesAs t e.number (side x e) steps (side n d)) mine run)
 
-  pub so_far_takes : (head : ℕ) → TakesBlock x g k head n → IsLocalRun y.number (local_of t x y) (taken_steps g k head) (local_of t n d)
+  pub so_far_takes : (head : ℕ) → TakesBlock x g k head n → MakesAs t y.number (side x y) (taken_steps g k head) (side n d)
       → BySteps t (side m c) (side n d) (OfMachine (TakesAfterRoom g k head))
   so_far_takes head takes run = (
     so_far.making ++ taken_steps g k head,
@@ -68,7 +66,7 @@ module _ (t : KnownTable) (g k : ℕ) (c : KnownCpu) (m x : KnownMachine) (so_fa
     runs_on (taken_steps g k head) run,
   )
 
-  pub so_far_no_block : TakesNoBlock x g k n → IsLocalRun y.number (local_of t x y) (unplaced_steps g k) (local_of t n d)
+  pub so_far_no_block : TakesNoBlock x g k n → MakesAs t y.number (side x y) (unplaced_steps g k) (side n d)
       → BySteps t (side m c) (side n d) (OfMachine (FindsNoBlock g k))
   so_far_no_block none run = (
     so_far.making ++ unplaced_steps g k,
@@ -111,7 +109,7 @@ over_charges t g k (Err e) x m n c d not is cpu b =
     charges_refused t g k e m n c d (
       b.0,
       subst (λ (z : AllocFault). IsRefusedFor g (2 ^ k) z (course t m b.0 n)) (sym is) b.1,
-      subst (λ (e : KnownCpu). IsLocalRun c.number (local_of t m c) b.0 (local_of t n e)) (sym cpu) b.2,
+      subst (λ (e : KnownCpu). MakesAs t c.number (side m c) b.0 (side n e)) (sym cpu) b.2,
     )
 
 pub over_leaves : (t : KnownTable) (g k over : ℕ) (r : Result ℕ AllocFault) (x : AllocFault) (m n : KnownMachine) → IsErr r → IfErr r (λ e. e ≡ x)
@@ -211,7 +209,7 @@ rounds_open t g k (Err Killed) m n c d steps h = absurd h
 -- ---- what the second try leaves
 module _ (t : KnownTable) (g k : ℕ) (m x n : KnownMachine) (c y d : KnownCpu) (count listed : ℕ) (counts : listed ≡ length c.list) (few : count ≤ listed)
     (gives : TakesManyBack (take count c.list) (side m c) (side x y)) (rest : count < listed → y.list ≡ []) (stays : d ≡ y)
-    (giving : IsLocalRun c.number (local_of t m c) (drain_list_steps c.number (take count c.list)) (local_of t x y)) where
+    (giving : MakesAs t c.number (side m c) (drain_list_steps c.number (take count c.list)) (side x y)) where
   part : BackPart (take count c.list) m c x y
   part = back_part (take count c.list) m x c y gives
 
@@ -221,13 +219,13 @@ module _ (t : KnownTable) (g k : ℕ) (m x n : KnownMachine) (c y d : KnownCpu) 
   given : TakesManyBack c.list (side m c) (side x d)
   given = subst (λ (z : List ℕ × KnownCpu). TakesManyBack z.0 (side m c) (side x z.1)) (λ i. (whole i, sym stays i)) gives
 
-  by_giving : IsLocalRun c.number (local_of t m c) (drain_list_steps c.number c.list) (local_of t x y)
-  by_giving = subst (λ (z : List ℕ). IsLocalRun c.number (local_of t m c) (drain_list_steps c.number z) (local_of t x y)) whole giving
+  by_giving : MakesAs t c.number (side m c) (drain_list_steps c.number c.list) (side x y)
+  by_giving = subst (λ (z : List ℕ). MakesAs t c.number (side m c) (drain_list_steps c.number z) (side x y)) whole giving
 
-  then : (steps : Run) → IsLocalRun y.number (local_of t x y) steps (local_of t n d)
-      → IsLocalRun c.number (local_of t m c) (drain_list_steps c.number c.list ++ steps) (local_of t n d)
-  then steps run = run_both c.number (drain_list_steps c.number c.list) steps (local_of t m c) (local_of t x y) (local_of t n d) by_giving
-      (subst (λ (p : ℕ). IsLocalRun p (local_of t x y) steps (local_of t n d)) part.number run)
+  then : (steps : Run) → MakesAs t y.number (side x y) steps (side n d)
+      → MakesAs t c.number (side m c) (drain_list_steps c.number c.list ++ steps) (side n d)
+  then steps run = makes_both t c.number (drain_list_steps c.number c.list) steps (side m c) (side x y) (side n d) by_giving
+      (subst (λ (p : ℕ). MakesAs t p (side x y) steps (side n d)) part.number run)
 
   takes_again : (r : Result ℕ AllocFault) → BySteps t (side x y) (side n d) (TakesSecond g k r) → BySteps t (side m c) (side n d) (TakesAgain g k r)
   takes_again r second = (
@@ -243,18 +241,18 @@ module _ (t : KnownTable) (g k : ℕ) (m x n : KnownMachine) (c y d : KnownCpu) 
   )
 
   -- it takes the block
-  pub takes_after : (head : ℕ) → TakesBlock x g k head n → IsLocalRun y.number (local_of t x y) (taken_steps g k head) (local_of t n d)
+  pub takes_after : (head : ℕ) → TakesBlock x g k head n → MakesAs t y.number (side x y) (taken_steps g k head) (side n d)
       → BySteps t (side m c) (side n d) (TakesAgain g k (Ok head))
   takes_after head takes run =
       takes_again (Ok head) (taken_steps g k head, inl (record { takes = takes; cpu = stays; steps_are = refl }), run)
 
   -- or finds none, and rounds of reclaim follow
   module _ (w : KnownMachine) (z : KnownCpu) (none : TakesNoBlock x g k w) (same : z ≡ y)
-      (vain : IsLocalRun y.number (local_of t x y) (unplaced_steps g k) (local_of t w z)) where
+      (vain : MakesAs t y.number (side x y) (unplaced_steps g k) (side w z)) where
     in_rounds : (r : Result ℕ AllocFault) → BySteps t (side w z) (side n d) (TakesInRounds g k r) → BySteps t (side x y) (side n d) (TriesInRounds g k r)
     in_rounds r there =
         let rounds = subst (λ (u : KnownCpu). BySteps t (side w u) (side n d) (TakesInRounds g k r)) same there in
-        let first = subst (λ (u : KnownCpu). IsLocalRun y.number (local_of t x y) (unplaced_steps g k) (local_of t w u)) same vain in (
+        let first = subst (λ (u : KnownCpu). MakesAs t y.number (side x y) (unplaced_steps g k) (side w u)) same vain in (
           unplaced_steps g k ++ rounds.0,
           record {
             tried = w;
@@ -264,7 +262,7 @@ module _ (t : KnownTable) (g k : ℕ) (m x n : KnownMachine) (c y d : KnownCpu) 
             rounds = rounds.1;
             steps_are = refl;
           },
-          run_both y.number (unplaced_steps g k) rounds.0 (local_of t x y) (local_of t w y) (local_of t n d) first rounds.2,
+          makes_both t y.number (unplaced_steps g k) rounds.0 (side x y) (side w y) (side n d) first rounds.2,
         )
 
     as_second : (r : Result ℕ AllocFault) → BySteps t (side x y) (side n d) (TriesInRounds g k r) → BySteps t (side x y) (side n d) (TakesSecond g k r)
@@ -294,7 +292,7 @@ first_none t g k m x c y cause named b = subst (λ (f : AllocFault). BySteps t (
 module _ (t : KnownTable) (g k : ℕ) (m : KnownMachine) (c : KnownCpu) (alive : is_killed m.killed g ≡ false) where
   by_answer : (r : Result ℕ AllocFault) (x n : KnownMachine) (d : KnownCpu) (first later : Run) → TakesAgain g k r (course t (side x c) later (side n d))
       → (TakesAgain g k r (course t (side x c) later (side n d)) → TriesAgain g k r (course t (side m c) (first ++ later) (side n d)))
-      → IsLocalRun c.number (local_of t m c) (first ++ later) (local_of t n d) → BySteps t (side m c) (side n d) (AllocatesBlock g k r)
+      → MakesAs t c.number (side m c) (first ++ later) (side n d) → BySteps t (side m c) (side n d) (AllocatesBlock g k r)
   by_answer (Ok head) x n d first later told tries run = (first ++ later, (alive, inr (tries told)), run)
   by_answer (Err (Over over)) x n d first later told tries run = absurd told.takes.rounds
   by_answer (Err NoFrames) x n d first later told tries run = (first ++ later, (alive, tries told), run)
@@ -305,7 +303,7 @@ module _ (t : KnownTable) (g k : ℕ) (m : KnownMachine) (c : KnownCpu) (alive :
       → BySteps t (side x y) (side n d) (TakesAgain g k r) → BySteps t (side m c) (side n d) (AllocatesBlock g k r)
   decides_again r x n y d mine first again_there =
       let again = subst (λ (z : KnownCpu). BySteps t (side x z) (side n d) (TakesAgain g k r)) mine again_there in
-      let before = subst (λ (z : KnownCpu). IsLocalRun c.number (local_of t m c) first.0 (local_of t x z)) mine first.2 in
-      let run = run_both c.number first.0 again.0 (local_of t m c) (local_of t x c) (local_of t n d) before again.2 in
+      let before = subst (λ (z : KnownCpu). MakesAs t c.number (side m c) first.0 (side x z)) mine first.2 in
+      let run = makes_both t c.number first.0 again.0 (side m c) (side x c) (side n d) before again.2 in
       by_answer r x n d first.0 again.0 again.1
       (λ told. record { charged = x; first = first.0; later = again.0; none = first.1; again = told; steps_are = refl }) run

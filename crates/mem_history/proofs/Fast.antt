@@ -102,8 +102,8 @@ fast_lines_follow t run cpus k before action answer after_side shows serves =
     let goes = run_on zone p whole (λ x seat act ans. IsDecided (seen_together cpus p x) seat act ans)
     (λ s seat act ans zoned stays legal decided. decided_count t run m cpus k c shows serves.is_part s zoned stays seat act ans legal decided)
     lock (local_of t m c) (cpu_makes p action answer ∷ []) (local_of t n d) (took, start)
-    (λ r. zone_of_run zone r ∙ sym (zone_of_run zone run)) serves.leads serves.decided in
-    let step : IsLocalStep (local_of t m c) p p action answer = serves.leads.0 in
+    (λ r. zone_of_run zone r ∙ sym (zone_of_run zone run)) serves.leads.leads serves.decided in
+    let step : IsLocalStep (local_of t m c) p p action answer = serves.leads.leads.0 in
     let legal : is_legal held p action ≡ true =
     ap (λ (s : State). is_legal s p action) (sym lock_is) ∙ sym (legality_is_seen zone lock p (local_of t m c) took p action step.own).same ∙ step.legal in
     let answered : IsAnswer held p action answer =

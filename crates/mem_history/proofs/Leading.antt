@@ -49,6 +49,7 @@ use Rattle.mem_history.proofs.Covers.{plain, head_plain, lent_plain, same_times,
 use Rattle.mem_history.proofs.Others.{HasOwn, has_own, own_shown, other_shown, own_references}
 use Rattle.mem_history.proofs.Wholes.{is_one, not_zone, whole_sound}
 use Rattle.mem_history.proofs.Currents.{spot_covers}
+use Rattle.mem_machine.proofs.Followed.{follows_same}
 
 -- ---- lists
 
@@ -190,18 +191,21 @@ module _ (t : KnownTable) (w : Words) (run : Run) (m : KnownMachine) (cpus : Lis
       let low : nat_lt (pins_of (local_of t m c) q + length ((local_of t m c).parts q).back) 256 ≡ true = lt-ltb _ 256 (omega arith) in
       let e : KnownCpu = record c { pins = pins; seat = seat } in
       let n = own_references t m c q f some refl in
-      subst (λ (x : KnownCpu). Makes t (side m c) (cpu_makes q (Get f) Held ∷ []) (side m x)) (sym now) (
-        record {
-          own = inr refl;
-          inside = refl;
-          legal = and_from _ _ (and_from _ _ one (lt-ltb f t.frames inside)) low;
-          answered = tt;
-        },
-        λ i. record (local_of t m c) {
-          references = λ r x. sym (references_changed t m c e refl some f (λ y. views.held (looked seen y)) ((local_of t m c).references q f + 1) changed
-              (ap (λ (y : ℕ). y + 1) (sym n)) r x) i;
-        },
-      )
+      subst (λ (x : KnownCpu). Makes t (side m c) (cpu_makes q (Get f) Held ∷ []) (side m x)) (sym now) (record {
+        leads = (
+          record {
+            own = inr refl;
+            inside = refl;
+            legal = and_from _ _ (and_from _ _ one (lt-ltb f t.frames inside)) low;
+            answered = tt;
+          },
+          λ i. record (local_of t m c) {
+            references = λ r x. sym (references_changed t m c e refl some f (λ y. views.held (looked seen y)) ((local_of t m c).references q f + 1) changed
+                (ap (λ (y : ℕ). y + 1) (sym n)) r x) i;
+          },
+        );
+        follows = follows_same _ _ _ refl;
+      })
 
   -- ---- put
 
@@ -220,13 +224,16 @@ module _ (t : KnownTable) (w : Words) (run : Run) (m : KnownMachine) (cpus : Lis
   leads_left d f n pinned pins seat changed now =
       let e : KnownCpu = record c { pins = pins; seat = seat } in
       let same = own_references t m c q f some refl in
-      subst (λ (x : KnownCpu). Makes t (side m c) (cpu_makes q (Put f) (Left n) ∷ []) (side m x)) (sym now) (
-        record { own = inr refl; inside = refl; legal = put_legal f pinned; answered = tt },
-        λ i. record (local_of t m c) {
-          references = λ r x. sym (references_changed t m c e refl some f (let_go n) ((local_of t m c).references q f - 1) changed
-              (ap (λ (y : ℕ). y - 1) (sym same)) r x) i;
-        },
-      )
+      subst (λ (x : KnownCpu). Makes t (side m c) (cpu_makes q (Put f) (Left n) ∷ []) (side m x)) (sym now) (record {
+        leads = (
+          record { own = inr refl; inside = refl; legal = put_legal f pinned; answered = tt },
+          λ i. record (local_of t m c) {
+            references = λ r x. sym (references_changed t m c e refl some f (let_go n) ((local_of t m c).references q f - 1) changed
+                (ap (λ (y : ℕ). y - 1) (sym same)) r x) i;
+          },
+        );
+        follows = follows_same _ _ _ refl;
+      })
 
   last_phases : (f : ℕ) (u : ChargedUnit) → spot_at m.spots f ≡ Head u → (x : ℕ) →
       phase_of (record c { back = c.back ++ f ∷ [] }) x (spot_at m.spots x)
@@ -271,15 +278,18 @@ module _ (t : KnownTable) (w : Words) (run : Run) (m : KnownMachine) (cpus : Lis
       let parts_are : (r : ℕ) → part_of m.stock e r ≡ (cond (q == 0) (part_of m.stock c) (with_at (part_of m.stock c) q (with_back ((local_of t m c).parts q) f))) r =
       λ r. parts_changed t m c e refl some (with_back ((local_of t m c).parts q) f) part r
       ∙ sym (ap (λ (h : ℕ → Part). h r) (cond-false (q == 0) (part_of m.stock c) (with_at (part_of m.stock c) q (with_back ((local_of t m c).parts q) f)) (ne_eqb q 0 some))) in
-      subst (λ (x : KnownCpu). Makes t (side m c) (cpu_makes q (Put f) Last ∷ []) (side m x)) (sym now) (
-        record { own = inr refl; inside = refl; legal = put_legal f pinned; answered = tt },
-        λ i. record (local_of t m c) {
-          phases = λ x. sym (last_phases f head.0 head.1 x) i;
-          references = λ r x. sym (references_changed t m c e refl some f let_go_last ((local_of t m c).references q f - 1) changed
-              (ap (λ (y : ℕ). y - 1) (sym same)) r x) i;
-          parts = λ r. sym (parts_are r) i;
-        },
-      )
+      subst (λ (x : KnownCpu). Makes t (side m c) (cpu_makes q (Put f) Last ∷ []) (side m x)) (sym now) (record {
+        leads = (
+          record { own = inr refl; inside = refl; legal = put_legal f pinned; answered = tt },
+          λ i. record (local_of t m c) {
+            phases = λ x. sym (last_phases f head.0 head.1 x) i;
+            references = λ r x. sym (references_changed t m c e refl some f let_go_last ((local_of t m c).references q f - 1) changed
+                (ap (λ (y : ℕ). y - 1) (sym same)) r x) i;
+            parts = λ r. sym (parts_are r) i;
+          },
+        );
+        follows = follows_same _ _ _ refl;
+      })
 
   -- ---- a frame that becomes fresh, and one that is listed again
 
@@ -339,18 +349,21 @@ module _ (t : KnownTable) (w : Words) (run : Run) (m : KnownMachine) (cpus : Lis
             let same : parts.times x e.fresh ≡ parts.times x c.fresh = let h = times_end x f c.fresh in let l = times_other f x (λ z. ne (sym z)) in omega arith in
             other_phase e x (spot_at m.spots x) refl refl group same ∙ sym (at_other (local_of t m c).phases f (consumed q g) x ne)
       ]) ∙ ap (λ (h : ℕ). with_at (local_of t m c).phases h (consumed q g) x) (sym front_is) in
-      subst (λ (x : KnownCpu). Makes t (side m c) (cpu_makes q (Consume g) Took ∷ []) (side m x)) (sym now) (
-        record {
-          own = inr refl;
-          inside = refl;
-          legal = and_from _ _ (and_from _ _ one (le-leb 1 _ some_listed)) (lt-ltb _ 32 some_room);
-          answered = answered;
-        },
-        λ i. record (local_of t m c) {
-          phases = λ x. sym (phases_are x) i;
-          parts = λ r. sym (parts_changed t m c e refl some (paid ((local_of t m c).parts q)) part_is r) i;
-        },
-      )
+      subst (λ (x : KnownCpu). Makes t (side m c) (cpu_makes q (Consume g) Took ∷ []) (side m x)) (sym now) (record {
+        leads = (
+          record {
+            own = inr refl;
+            inside = refl;
+            legal = and_from _ _ (and_from _ _ one (le-leb 1 _ some_listed)) (lt-ltb _ 32 some_room);
+            answered = answered;
+          },
+          λ i. record (local_of t m c) {
+            phases = λ x. sym (phases_are x) i;
+            parts = λ r. sym (parts_changed t m c e refl some (paid ((local_of t m c).parts q)) part_is r) i;
+          },
+        );
+        follows = follows_same _ _ _ refl;
+      })
 
   leads_listed : (d : KnownCpu) (f i : ℕ) (stock : Seated) (drops : ℕ) → i < length c.fresh → get_or c.fresh i 0 ≡ f →
       d ≡ record c { list = c.list ++ f ∷ []; fresh = remove c.fresh i; stock = stock; drops = drops } →
@@ -402,18 +415,21 @@ module _ (t : KnownTable) (w : Words) (run : Run) (m : KnownMachine) (cpus : Lis
             ap (parts.times x) removed ∙ same_times x (without f c.fresh) ∙ times_without_other x f c.fresh ne ∙ sym (same_times x c.fresh) in
             other_phase e x (spot_at m.spots x) refl refl group same ∙ sym (at_other (local_of t m c).phases f (phase.Lent q OnList) x ne)
       ] in
-      subst (λ (x : KnownCpu). Makes t (side m c) (cpu_makes q (Credit f) Back ∷ []) (side m x)) (sym now) (
-        record {
-          own = inr refl;
-          inside = refl;
-          legal = and_from _ _ (and_from _ _ one (lt-ltb f t.frames below)) has;
-          answered = answered;
-        },
-        λ j. record (local_of t m c) {
-          phases = λ x. sym (phases_are x) j;
-          parts = λ r. sym (parts_changed t m c e refl some (credited ((local_of t m c).parts q) f) part_is r) j;
-        },
-      )
+      subst (λ (x : KnownCpu). Makes t (side m c) (cpu_makes q (Credit f) Back ∷ []) (side m x)) (sym now) (record {
+        leads = (
+          record {
+            own = inr refl;
+            inside = refl;
+            legal = and_from _ _ (and_from _ _ one (lt-ltb f t.frames below)) has;
+            answered = answered;
+          },
+          λ j. record (local_of t m c) {
+            phases = λ x. sym (phases_are x) j;
+            parts = λ r. sym (parts_changed t m c e refl some (credited ((local_of t m c).parts q) f) part_is r) j;
+          },
+        );
+        follows = follows_same _ _ _ refl;
+      })
 
 consume_same : (p g : ℕ) (x y : State) → x.parts p ≡ y.parts p → IsAnswer x p (Consume g) Took → IsAnswer y p (Consume g) Took
 consume_same p g x y same is = (

@@ -182,7 +182,7 @@ lines_follow t run cpus k before steps after shows serves =
     let goes = run_on zone p whole (λ x seat action answer. IsDecided (seen_together cpus p x) seat action answer)
     (λ s seat action answer zoned stays legal decided. decided_count t run m cpus k c shows serves.is_part s zoned stays seat action answer legal decided)
     lock (local_of t m c) steps (local_of t n d) (takes t run m cpus k c shows serves.is_part, start)
-    (λ r. zone_of_run zone r ∙ sym (zone_of_run zone run)) serves.leads serves.decided in
+    (λ r. zone_of_run zone r ∙ sym (zone_of_run zone run)) serves.leads.leads serves.decided in
     let made : Run = lock ++ steps in
     let last = state_of zone made in
     let number : d.number ≡ p =

@@ -24,7 +24,7 @@ use Rattle.mem_machine.specs.declared.spot.Spot.TheVariants.{Free, Head}
 use Rattle.mem_machine.specs.declared.counts.Counts.{Counts}
 use Rattle.mem_machine.specs.Spots.{spot_at, free_of, head_group_of, some_cpu}
 use Rattle.mem_machine.specs.Machines.{KnownMachine, FitsSpot, IsConsistent, BalancesCounts, Visits, home_of}
-use Rattle.mem_machine.specs.Local.{IsLocalRun, local_of, side}
+use Rattle.mem_machine.specs.Local.{IsLocalRun, local_of, side, MakesAs}
 use Rattle.mem_machine.specs.Freeing.{FreesFrames}
 use Rattle.mem_machine.specs.Settling.{ReturnsBack, return_steps}
 use Rattle.mem_machine.specs.Counts.{with_last_put}
@@ -34,6 +34,8 @@ use Rattle.mem_machine.proofs.Freeing.{free_block_given, unit_in_use, head_insid
 use Rattle.mem_machine.proofs.HandOvers.{handed_visits, IsBackFront, back_front, return_run}
 use Rattle.mem_machine.proofs.Shown.{is_visited, back_phase, back_handed, back_else, phases_freed, parts_back, references_same}
 use Rattle.mem_machine.proofs.Balances.{balanced_last_put}
+use Rattle.mem_machine.proofs.Followed.{follows_still}
+use Rattle.group_charge.proofs.CallerLemmas.{uncharge_peaks, uncharge_events}
 
 -- what is told of a back frame that was handed over
 pub record WasBack (t : KnownTable) (m : KnownMachine) (f : ℕ) : Type 0 where
@@ -154,7 +156,7 @@ pub record AllReturned (t : KnownTable) (w : Words) (now : KnownMachine) (c : Kn
   pub free_is : free ≡ free_of n.spots
   pub returns : ReturnsBack f (side now c) (side n d)
   pub visit : Visits t (side n d)
-  pub steps : IsLocalRun c.number (local_of t now c) (return_steps c.number f) (local_of t n d)
+  pub steps : MakesAs t c.number (side now c) (return_steps c.number f) (side n d)
 
 pub return_all : (t : KnownTable) (w : Words) (m now : KnownMachine) → m ≡ now → (c h d : KnownCpu) → IsTied t w c → IsConsistent t w m → Visits t (side now c)
     → (before free : List Bool) → before ≡ free_of m.spots → (f : ℕ) → WasBack t m f → HandsBack f c h → d ≡ h → (i : ℕ) → i ≡ f
@@ -184,7 +186,11 @@ return_all t w m now same c h d tied ok visit_now before free free_was f was han
       free_is = free_is;
       returns = returned_does t w m c tied ok visit f was unit heads rest front spots frees blocks areas counts counted;
       visit = returned_visits t w m c tied ok visit f was unit heads rest front spots frees blocks areas counts counted;
-      steps = returned_steps t w m c tied ok visit f was unit heads rest front spots frees blocks areas counts counted;
+      steps = record {
+        leads = returned_steps t w m c tied ok visit f was unit heads rest front spots frees blocks areas counts counted;
+        follows = follows_still _ m.ledger _ _ refl (uncharge_peaks m.ledger unit.group (2 ^ unit.order))
+            (uncharge_events m.ledger unit.group (2 ^ unit.order));
+      };
     } in
     let number : h.number ≡ c.number = ap (λ (x : KnownCpu). x.number) hands.2 in
     let seat_is : seat ≡ seat_with m.seat f (collected_from c.number) = collects ∙ ap (λ (x : ℕ). seat_with m.seat f (collected_from x)) number in

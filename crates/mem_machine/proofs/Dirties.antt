@@ -16,8 +16,9 @@ use Rattle.cpu_part.specs.Cpus.{KnownCpu}
 use Rattle.mem_machine.specs.Spots.{spot_at, head_group_of}
 use Rattle.mem_machine.specs.Machines.{KnownMachine, IsConsistent, OthersStay, home_of, lists_at, no_lists}
 use Rattle.mem_machine.specs.Marks.{Dirties}
-use Rattle.mem_machine.specs.Local.{local_of, IsLocalRun}
+use Rattle.mem_machine.specs.Local.{MakesAs, side}
 use Rattle.mem_machine.proofs.Listed.{dirtied_owners, fits_home, place_here, loose_stay, others_stay}
+use Rattle.mem_machine.proofs.Followed.{makes_stay}
 
 -- a home that is there is of a group number
 pub owner_bound : (t : KnownTable) (w : Words) (m : KnownMachine) → IsConsistent t w m → (f : ℕ) (h : Home) → f < t.frames
@@ -93,7 +94,7 @@ has_home m now same f i is kept none =
 pub record AllDirtied (t : KnownTable) (w : Words) (now : KnownMachine) (f : ℕ) (d : Bool) (n : KnownMachine) : Type 0 where
   pub consistent : IsConsistent t w n
   pub dirties : Dirties now f d n
-  pub steps : (c : KnownCpu) → IsLocalRun c.number (local_of t now c) [] (local_of t n c)
+  pub steps : (c : KnownCpu) → MakesAs t c.number (side now c) [] (side n c)
 
 pub dirty_all : (t : KnownTable) (w : Words) (m now : KnownMachine) → m ≡ now → IsConsistent t w m → (f i : ℕ) → f < t.frames → i ≡ f → (h : Home)
     → Some h ≡ home_of m.links i → (lru : Lru) → lru ≡ get_or m.lists h.owner lru → (links : List Link) (d : Bool) → StandsIn links lru
@@ -106,5 +107,5 @@ dirty_all t w m now same ok f i inside is h home lru read links d now_stands ent
     subst (λ (x : KnownMachine). AllDirtied t w x f d (record m { links = links })) same (record {
       consistent = dirty_consistent t w m ok f inside h at lru read links d now_stands told changes others all;
       dirties = dirty_does t w m ok f inside h at lru read links d now_stands told changes others all;
-      steps = λ c. refl;
+      steps = λ c. makes_stay t m (record m { links = links }) c c refl refl;
     })

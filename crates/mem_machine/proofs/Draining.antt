@@ -16,7 +16,7 @@ use Rattle.group_tree.specs.Groups.{has_group}
 use Rattle.group_tree.proofs.GroupLemmas.{is_some-find}
 use Rattle.group_charge.specs.declared.account.Account as charge
 use Rattle.group_charge.specs.Charges.{Ledger, AreCharges, account_at, pages_of, taken}
-use Rattle.group_charge.proofs.CallerLemmas.{has_account, uncharge_pages}
+use Rattle.group_charge.proofs.CallerLemmas.{has_account, uncharge_pages, uncharge_peaks, uncharge_events}
 use Rattle.cpu_part.specs.Cpus.{KnownCpu}
 use Rattle.step_rules.specs.declared.step.Action.TheVariants.{DrainStock, Ungrant}
 use Rattle.step_rules.specs.declared.step.Answer.TheVariants.{Done, Pages}
@@ -26,11 +26,13 @@ use Rattle.step_rules.proofs.Basics.{at_same, at_other, at_each, at_itself, cond
 use Rattle.step_rules.proofs.Sums.{sum_part, sum_change}
 use Rattle.mem_machine.specs.Spots.{count_of}
 use Rattle.mem_machine.specs.Machines.{KnownMachine, IsConsistent, booked, frames_charged, pages_booked}
-use Rattle.mem_machine.specs.Local.{local_of, part_of, part_with, IsLocalRun}
+use Rattle.mem_machine.specs.Local.{local_of, part_of, part_with, IsLocalRun, MakesAs, side}
 use Rattle.mem_machine.specs.Steps.{ungrant_steps, drain_steps}
 use Rattle.mem_machine.specs.Stocks.{uncharged, stock_group, Drains}
 use Rattle.mem_machine.proofs.Reaching.{zone_step, run_one}
 use Rattle.mem_machine.proofs.Holds.{zone_may_act}
+use Rattle.mem_machine.proofs.Followed.{follows_same, follows_still}
+use Rattle.mem_machine.specs.Following.{FollowsSteps}
 
 -- ---- the ledger
 
@@ -273,10 +275,18 @@ ungrants p s (Some g) (suc k) acts there =
     (zone_step now p (Ungrant g (suc k)) Done refl (and_from _ _ (and_from _ _ acts (there g refl (omega arith))) enough) tt)
     (λ i. record s { pending = sym (pending_back g (0 + suc k) (suc k) (omega arith)) i })
 
+-- no peak and no count moves
+drain_follows : (s : State) (l : Ledger) (o : Option ℕ) (q k : ℕ) → FollowsSteps s l (drain_steps q o k) (uncharged l o k)
+drain_follows s l None q k = follows_same s l (drain_steps q None k) refl
+drain_follows s l (Some g) q zero = follows_still s l (drain_steps q (Some g) zero) (uncharged l (Some g) zero) refl (uncharge_peaks l g zero)
+    (uncharge_events l g zero)
+drain_follows s l (Some g) q (suc k) = follows_still s l (drain_steps q (Some g) (suc k)) (uncharged l (Some g) (suc k)) refl
+    (uncharge_peaks l g (suc k)) (uncharge_events l g (suc k))
+
 pub drain_runs : (t : KnownTable) (m n : KnownMachine) (q k : ℕ)
     → n ≡ record m { ledger = uncharged m.ledger (stock_group m q) k; stock = with_view m.stock (draining m.stock.view q k) }
     → 1 ≤ q → q ≤ t.cpus → ((g : ℕ) → stock_group m q ≡ Some g → 1 ≤ k → has_group m.ledger.groups g ≡ true) → (c : KnownCpu)
-    → IsLocalRun c.number (local_of t m c) (drain_steps q (stock_group m q) k) (local_of t n c)
+    → MakesAs t c.number (side m c) (drain_steps q (stock_group m q) k) (side n c)
 drain_runs t m n q k is some inside there c =
     let s = local_of t m c in
     let part = drained (part_of m.stock c q) k in
@@ -287,20 +297,22 @@ drain_runs t m n q k is some inside there c =
     = ungrants c.number (with_part s q part) (part_of m.stock c q).stock.group k acts (λ g of. there g (sym group ∙ of)) in
     let parts = parts_drained m.stock c q k in
     let groups = groups_stay m.ledger (stock_group m q) k in
-    subst (λ (x : KnownMachine). IsLocalRun c.number s (drain_steps q (stock_group m q) k) (local_of t x c)) (sym is)
-    (subst (λ (x : State × Option ℕ). IsLocalRun c.number s (drain_steps q x.1 k) x.0)
-    (λ i. (record s { groups = sym groups i; parts = sym parts i }, group i)) (
-      zone_step s c.number (DrainStock q) (Pages k) refl
-          (and_from _ _ acts (and_from (nat_le 1 q) (nat_le q t.cpus) (le-leb 1 q some) (le-leb q t.cpus inside))) tt,
-      rest,
-    ))
+    subst (λ (x : KnownMachine). MakesAs t c.number (side m c) (drain_steps q (stock_group m q) k) (side x c)) (sym is) (record {
+      leads = subst (λ (x : State × Option ℕ). IsLocalRun c.number s (drain_steps q x.1 k) x.0)
+          (λ i. (record s { groups = sym groups i; parts = sym parts i }, group i)) (
+            zone_step s c.number (DrainStock q) (Pages k) refl
+                (and_from _ _ acts (and_from (nat_le 1 q) (nat_le q t.cpus) (le-leb 1 q some) (le-leb q t.cpus inside))) tt,
+            rest,
+          );
+      follows = drain_follows s m.ledger (stock_group m q) q k;
+    })
 
 -- what `drain_of` and `drain_stock` leave, of the machine as it was seen before
 pub record Drained (t : KnownTable) (w : Words) (m now : KnownMachine) (q k : ℕ) (l : Ledger) (stock : Seated) : Type 0 where
   pub consistent : IsConsistent t w (record m { ledger = l; stock = stock })
   pub drains : Drains now q k (record m { ledger = l; stock = stock })
-  pub steps : (c : KnownCpu) → IsLocalRun c.number (local_of t now c) (drain_steps q (stock_group now q) k)
-      (local_of t (record m { ledger = l; stock = stock }) c)
+  pub steps : (c : KnownCpu) → MakesAs t c.number (side now c) (drain_steps q (stock_group now q) k)
+      (side (record m { ledger = l; stock = stock }) c)
 
 drained_here : (t : KnownTable) (w : Words) (m : KnownMachine) (q k : ℕ) → IsConsistent t w m → (1 ≤ k → AreCharges m.ledger) → 1 ≤ q → q ≤ t.cpus
     → k ≤ (account_of m.stock.view q).book → ((account_of m.stock.view q).filled ≡ false → k ≡ 0) → (stock_group m q ≡ None → k ≡ 0)

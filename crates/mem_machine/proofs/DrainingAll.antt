@@ -20,12 +20,12 @@ use Rattle.cpu_part.specs.Cpus.{KnownCpu}
 use Rattle.mem_machine.specs.Machines.{KnownMachine}
 use Rattle.step_rules.specs.State.{Part}
 use Rattle.step_rules.specs.After.{Run}
-use Rattle.mem_machine.specs.Local.{local_of, part_with, IsLocalRun}
+use Rattle.mem_machine.specs.Local.{local_of, part_with, MakesAs, side}
 use Rattle.mem_machine.specs.Steps.{Drain, drain_steps, drain_stocks_steps, pages_drained}
 use Rattle.mem_machine.specs.Stocks.{stock_group, DrainsNoted, DrainsIf, DrainsAllIf, DrainsIfChosen, DrainsChosen, AreDrainedIf}
-use Rattle.mem_machine.proofs.Reaching.{run_both}
 use Rattle.mem_machine.proofs.GroupSteps.{stayed_runs}
 use Rattle.mem_machine.proofs.Draining.{drained_at, drained_else, groups_stay, looked_now}
+use Rattle.mem_machine.proofs.Followed.{makes_both, makes_none, makes_stay}
 
 -- ---- the accounts after a look
 
@@ -64,19 +64,19 @@ module _ (test : List Group → Option ℕ → Bool) (q : ℕ) (x n : KnownMachi
 
 -- it is of the subtree, and is drained
 pub drained_one : (t : KnownTable) (test : List Group → Option ℕ → Bool) (q pages : ℕ) (m n : KnownMachine) → test m.ledger.groups (stock_group m q) ≡ true → DrainsNoted m q pages n
-    → ((c : KnownCpu) → IsLocalRun c.number (local_of t m c) (drain_steps q (stock_group m q) pages) (local_of t n c)) → DrainsIfChosen t test q pages m n
+    → ((c : KnownCpu) → MakesAs t c.number (side m c) (drain_steps q (stock_group m q) pages) (side n c)) → DrainsIfChosen t test q pages m n
 drained_one t test q pages m n below drains steps = record {
   drains = record { cpu = q; group = stock_group m q; pages = pages } ∷ [];
   one = (below, record { cpu = refl; group = refl; drains = drains });
   sum = omega arith;
-  steps = λ c. subst (λ (r : Run). IsLocalRun c.number (local_of t m c) r (local_of t n c))
+  steps = λ c. subst (λ (r : Run). MakesAs t c.number (side m c) r (side n c))
       (sym (append-nil (drain_steps q (stock_group m q) pages))) (steps c);
 }
 
 -- it is of another group, or of none
 pub drained_not : (t : KnownTable) (test : List Group → Option ℕ → Bool) (q : ℕ) (m n : KnownMachine) → test m.ledger.groups (stock_group m q) ≡ false
     → n ≡ record m { stock = with_view m.stock (after_look m.stock.view q (stock_group m q)) }
-    → ((c : KnownCpu) → IsLocalRun c.number (local_of t m c) [] (local_of t n c)) → DrainsIfChosen t test q 0 m n
+    → ((c : KnownCpu) → MakesAs t c.number (side m c) [] (side n c)) → DrainsIfChosen t test q 0 m n
 drained_not t test q m n other is steps = record { drains = []; one = (other, is); sum = refl; steps = steps }
 
 -- a part whose stock is of no group shows the same once that counts as drained
@@ -113,14 +113,15 @@ module _ (t : KnownTable) (m : KnownMachine) (q : ℕ) (none : stock_group m q �
   ]
 
   -- the look at a stock of no group changes nothing that is seen
-  pub looked_none : IsLocalRun c.number (local_of t m c) [] (local_of t (record m { stock = with_view m.stock (draining m.stock.view q 0) }) c)
-  looked_none = λ i. record (local_of t m c) { parts = λ p. sym (shown_same p) i }
+  pub looked_none : MakesAs t c.number (side m c) [] (side (record m { stock = with_view m.stock (draining m.stock.view q 0) }) c)
+  looked_none = makes_stay t m (record m { stock = with_view m.stock (draining m.stock.view q 0) }) c c
+      (λ i. record (local_of t m c) { parts = λ p. sym (shown_same p) i }) refl
 
 -- the stock of a group that the test chooses, of the machine as it was seen before the look
 pub looked_own : (t : KnownTable) (m now : KnownMachine) → m ≡ now → (stock : Seated) → stock ≡ m.stock → (test : List Group → Option ℕ → Bool)
     → (q h pages : ℕ) (n : KnownMachine) → Some h ≡ stock_group m q → test m.ledger.groups (Some h) ≡ true → DrainsNoted (record m { stock = stock }) q pages n
-    → ((c : KnownCpu) → IsLocalRun c.number (local_of t (record m { stock = stock }) c) (drain_steps q (stock_group (record m { stock = stock }) q) pages)
-    (local_of t n c)) → DrainsIfChosen t test q pages now n
+    → ((c : KnownCpu) → MakesAs t c.number (side (record m { stock = stock }) c) (drain_steps q (stock_group (record m { stock = stock }) q) pages)
+    (side n c)) → DrainsIfChosen t test q pages now n
 looked_own t m now same stock is test q h pages n of chosen drains steps =
     subst (λ (x : KnownMachine). DrainsIfChosen t test q pages x n) (looked_now m now same stock is)
     (drained_one t test q pages (record m { stock = stock }) n
@@ -156,7 +157,7 @@ pub record DrainedSoFar (t : KnownTable) (test : List Group → Option ℕ → B
   pub sum : pages ≡ pages_drained drains
   pub groups : n.ledger.groups ≡ m.ledger.groups
   pub drained : AreDrainedIf test k n
-  pub steps : (c : KnownCpu) → IsLocalRun c.number (local_of t m c) (drain_stocks_steps drains) (local_of t n c)
+  pub steps : (c : KnownCpu) → MakesAs t c.number (side m c) (drain_stocks_steps drains) (side n c)
   pub small : pages ≤ k * 4294967295
 
 pub drained_start : (t : KnownTable) (test : List Group → Option ℕ → Bool) (m : KnownMachine) → DrainedSoFar t test 0 0 m m
@@ -166,7 +167,7 @@ drained_start t test m = record {
   sum = refl;
   groups = refl;
   drained = λ q some few. absurd (omega (arith, some, few));
-  steps = λ c. refl;
+  steps = λ c. makes_none t c.number (side m c);
   small = omega arith;
 }
 
@@ -201,8 +202,8 @@ drained_more t test k pages more m x n before last bound =
       sum = omega (arith, both, a, b);
       groups = below_groups test (k + 1) x n last.drains last.one ∙ before.groups;
       drained = drained_now test k x n last.drains last.one before.drained;
-      steps = λ c. subst (λ (r : Run). IsLocalRun c.number (local_of t m c) r (local_of t n c)) list
-          (run_both c.number (drain_stocks_steps before.drains) (drain_stocks_steps last.drains) (local_of t m c) (local_of t x c) (local_of t n c)
+      steps = λ c. subst (λ (r : Run). MakesAs t c.number (side m c) r (side n c)) list
+          (makes_both t c.number (drain_stocks_steps before.drains) (drain_stocks_steps last.drains) (side m c) (side x c) (side n c)
           (before.steps c) (last.steps c));
       small = omega (arith, low, bound);
     }

@@ -34,6 +34,7 @@ use Rattle.mem_machine.proofs.Balances.{balanced_freeze}
 use Rattle.mem_machine.proofs.Reaching.{zone_step}
 use Rattle.mem_machine.proofs.Holds.{zone_may_act}
 use Rattle.mem_machine.proofs.Releases.{TakesInHand, note_keeps, visit_stays, held_once, back_all}
+use Rattle.mem_machine.proofs.Followed.{follows_same}
 
 frozen_in_hand : TakesInHand (frozen 1)
 frozen_in_hand = record { own = λ k. refl; lent = λ k. refl; references = λ k. refl; passed_out = λ k. refl; collected = λ k. refl }
@@ -97,10 +98,14 @@ missed_all t w m now same ok f inside kept seat answered counts counted =
       misses = record { word = word; others = answered.1; machine = refl };
       visit = λ c visit. visit_stays t m n c f (missed word) refl (λ k. refl) (λ k. refl) (λ k. refl) visit;
       steps = λ c.
-          let s = local_of t m c in (
-            zone_step s c.number (Freeze f 1) answer.Missed refl (may_freeze t m f inside held c) tt,
-            λ i. record s { references = λ q x. references_stay m.seat c f word q x i },
-          );
+          let s = local_of t m c in
+          record {
+            leads = (
+              zone_step s c.number (Freeze f 1) answer.Missed refl (may_freeze t m f inside held c) tt,
+              λ i. record s { references = λ q x. references_stay m.seat c f word q x i },
+            );
+            follows = follows_same _ _ _ refl;
+          };
     } in
     subst (λ (x : KnownMachine × KnownSeat × Counts). AllMissed t w x.0 f (record m { seat = x.1; counts = x.2 }))
     (λ j. (same j, sym answered.2 j, sym counted j)) all
@@ -153,7 +158,7 @@ evicted_all t w m now same ok f i inside is kept_now links lists left_list stand
       counts = counts;
     } in
     let back = back_all t w m now same ok f i inside is kept_now links lists left_list stand linked listed (frozen 1) frozen_in_hand seat answered.1
-    (Freeze f 1) answer.Done (λ c held. zone_step (local_of t m c) c.number (Freeze f 1) answer.Done refl (may_freeze t m f inside held c) tt) (λ c. refl)
+    (Freeze f 1) answer.Done (λ c held. zone_step (local_of t m c) c.number (Freeze f 1) answer.Done refl (may_freeze t m f inside held c) tt) refl (λ c. refl)
     unit head before free blocks spots ledger counts was frees_i gives_i areas_free uncharged (rw counted (balanced_freeze m.counts ok.balances)) in
     let here : spot_at m.spots f ≡ Head unit = subst (λ (x : ℕ). spot_at m.spots x ≡ Head unit) is head in
     let list : LeavesList now.links now.lists f links lists = back.list in

@@ -13,7 +13,7 @@ use Rattle.frame_word.specs.Seats.{KnownTable, KnownSeat, seat_with, HasNothingO
 use Rattle.frame_word.proofs.Notes.{note_here, changed_twice}
 use Rattle.stock_word.specs.Stock.{Words, Seated, account_of, group_of}
 use Rattle.group_charge.specs.Charges.{Ledger, pages_of, with_uncharge}
-use Rattle.group_charge.proofs.CallerLemmas.{uncharge_pages}
+use Rattle.group_charge.proofs.CallerLemmas.{uncharge_pages, uncharge_peaks, uncharge_events}
 use Rattle.lru_lists.specs.declared.record.Link.{Link}
 use Rattle.lru_lists.specs.declared.record.Home.{Home}
 use Rattle.lru_lists.specs.declared.lru.Lru.{Lru}
@@ -31,7 +31,7 @@ use Rattle.mem_machine.specs.declared.spot.Spot.TheVariants.{Free, Lent, Head}
 use Rattle.mem_machine.specs.declared.counts.Counts.{Counts}
 use Rattle.mem_machine.specs.Spots.{spot_at, is_free, free_of, group_of as spot_group, head_group_of, some_cpu}
 use Rattle.mem_machine.specs.Machines.{KnownMachine, FitsSpot, IsConsistent, BalancesCounts, Visits, home_of, is_killed, pages_booked}
-use Rattle.mem_machine.specs.Local.{IsLocalRun, local_of, fresh_group, number_or_0, side}
+use Rattle.mem_machine.specs.Local.{IsLocalRun, local_of, fresh_group, number_or_0, side, MakesAs}
 use Rattle.mem_machine.specs.Steps.{zone_makes}
 use Rattle.mem_machine.specs.Blocks.{PlacesUnit}
 use Rattle.mem_machine.specs.Counts.{with_drop}
@@ -49,6 +49,7 @@ use Rattle.mem_machine.proofs.HandOvers.{handed_visits, IsFreshFront, fresh_fron
 use Rattle.mem_machine.proofs.Shown.{is_visited, fresh_unit, fresh_phase, fresh_handed, fresh_else, phases_set, phases_freed, parts_absorbed, references_used}
 use Rattle.mem_machine.proofs.Shown.{references_same}
 use Rattle.mem_machine.proofs.Balances.{balanced_drop}
+use Rattle.mem_machine.proofs.Followed.{follows_same, follows_still}
 
 -- what is told of a frame that was collected fresh, and of its page
 pub record WasFresh (t : KnownTable) (m : KnownMachine) (c : KnownCpu) (f g : ℕ) : Type 0 where
@@ -273,7 +274,7 @@ pub record AllKept (t : KnownTable) (w : Words) (now : KnownMachine) (c : KnownC
   pub free_is : free ≡ free_of n.spots
   pub keeps : KeepsFresh g f (side now c) (side n d)
   pub visit : Visits t (side n d)
-  pub steps : IsLocalRun c.number (local_of t now c) (keep_steps c.number f) (local_of t n d)
+  pub steps : MakesAs t c.number (side now c) (keep_steps c.number f) (side n d)
 
 pub keep_all : (t : KnownTable) (w : Words) (m now : KnownMachine) → m ≡ now → (c h : KnownCpu) → IsTied t w c → IsConsistent t w m → Visits t (side now c)
     → (free : List Bool) → free ≡ free_of m.spots → (f g : ℕ) → WasFresh t m c f g → HandsFresh f c h → (i k o : ℕ) → i ≡ f → k ≡ 0 → o ≡ g
@@ -302,7 +303,10 @@ keep_all t w m now same c h tied ok visit_now free free_is f g was hands i k o i
       free_is = free_is ∙ kept_free t w m c tied ok visit f g was rest front o owner lru read links new added others all;
       keeps = kept_does t w m c tied ok visit f g was rest front o owner lru read links new added others all;
       visit = kept_visits t w m c tied ok visit f g was rest front o owner lru read links new added others all;
-      steps = kept_steps t w m c tied ok visit f g was rest front o owner lru read links new added others all;
+      steps = record {
+        leads = kept_steps t w m c tied ok visit f g was rest front o owner lru read links new added others all;
+        follows = follows_same _ _ _ refl;
+      };
     } in
     subst (λ (x : KnownMachine × KnownMachine × KnownCpu). AllKept t w x.0 c g f x.1 x.2 free)
     (λ j. (
@@ -323,7 +327,7 @@ pub record AllDropped (t : KnownTable) (w : Words) (now : KnownMachine) (c : Kno
   pub free_is : free ≡ free_of n.spots
   pub drops : DropsFresh g f (side now c) (side n d)
   pub visit : Visits t (side n d)
-  pub steps : IsLocalRun c.number (local_of t now c) (drop_steps c.number f) (local_of t n d)
+  pub steps : MakesAs t c.number (side now c) (drop_steps c.number f) (side n d)
 
 pub drop_all : (t : KnownTable) (w : Words) (m now : KnownMachine) → m ≡ now → (c h : KnownCpu) → IsTied t w c → IsConsistent t w m → Visits t (side now c)
     → (before free : List Bool) → before ≡ free_of m.spots → (f g : ℕ) → WasFresh t m c f g → is_killed now.killed g ≡ true → HandsFresh f c h
@@ -352,7 +356,10 @@ drop_all t w m now same c h tied ok visit_now before free free_was f g was kille
       free_is = free_is;
       drops = dropped_does t w m c tied ok visit f g was rest front spots frees blocks areas counts counted;
       visit = dropped_visits t w m c tied ok visit f g was rest front spots frees blocks areas counts counted;
-      steps = dropped_steps t w m c tied ok visit f g was rest front spots frees blocks areas counts counted killed;
+      steps = record {
+        leads = dropped_steps t w m c tied ok visit f g was rest front spots frees blocks areas counts counted killed;
+        follows = follows_still _ m.ledger _ _ refl (uncharge_peaks m.ledger g 1) (uncharge_events m.ledger g 1);
+      };
     } in
     let uncharged_one : ledger ≡ with_uncharge m.ledger g 1 = uncharges ∙ ap (λ (j : ℕ). with_uncharge m.ledger g (2 ^ j)) zero_is in
     subst (λ (x : KnownMachine × KnownMachine × KnownCpu). AllDropped t w x.0 c g f x.1 x.2 free)

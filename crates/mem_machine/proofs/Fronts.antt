@@ -25,7 +25,7 @@ use Rattle.mem_machine.specs.Spots.{spot_at, some_cpu}
 use Rattle.mem_machine.specs.Spots.{group_of as charged_to}
 use Rattle.mem_machine.proofs.Ledgers.{ledger_side}
 use Rattle.mem_machine.specs.Machines.{KnownMachine, IsConsistent, Visits}
-use Rattle.mem_machine.specs.Local.{local_of, phase_of, part_of, part_with, IsLocalRun, side}
+use Rattle.mem_machine.specs.Local.{local_of, phase_of, part_of, part_with, side, MakesAs}
 use Rattle.mem_machine.specs.Steps.{take_front_steps}
 use Rattle.mem_machine.specs.Paying.{IsOfSize, IsOwnStock, HoldsPage, PaysForFront, HasRoomFor, pages_held}
 use Rattle.mem_machine.proofs.Reaching.{cpu_step, run_one}
@@ -35,6 +35,7 @@ use Rattle.mem_machine.proofs.Lends.{parts_changed, lent_listed}
 use Rattle.mem_machine.proofs.Takes.{without_front}
 use Rattle.cpu_part.proofs.Counts.{test_here, times_front}
 use Rattle.mem_machine.proofs.Shown.{fresh_phase}
+use Rattle.mem_machine.proofs.Followed.{follows_same}
 
 -- ---- the own stock
 
@@ -178,7 +179,7 @@ module _ (t : KnownTable) (w : Words) (m : KnownMachine) (c : KnownCpu) (tied : 
         stock = record { group = a.group; pages = sym pages i; is_drained = is_some a.group && not a.filled };
       }))
 
-  pub front_runs : IsLocalRun c.number (local_of t m c) (take_front_steps c.number g) (local_of t m d)
+  pub front_runs : MakesAs t c.number (side m c) (take_front_steps c.number g) (side m d)
   front_runs =
       let p = c.number in
       let s = local_of t m c in
@@ -197,16 +198,19 @@ module _ (t : KnownTable) (w : Words) (m : KnownMachine) (c : KnownCpu) (tied : 
       let answer : IsAnswer s p (Consume g) Took = (ap (λ (x : Part). x.stock.group) own ∙ page.group, drained, pages) in
       let at : front_of (part_of m.stock c p).list ≡ f = ap (λ (x : Part). front_of x.list) own ∙ fronted in
       let parts = parts_changed m.stock c rest (c.fresh ++ f ∷ []) c.back (paid (part_of m.stock c p)) part_paid in
-      run_one p s (local_of t m d) p (Consume g) Took (cpu_step s p (Consume g) Took refl legal answer)
-      ((λ i. record s { phases = λ h. phases_paid h i; parts = λ q. parts q i })
-      ∙ (λ i. record s { phases = with_at s.phases (sym at i) (consumed p g); parts = with_at s.parts p (paid (part_of m.stock c p)) }))
+      record {
+        leads = run_one p s (local_of t m d) p (Consume g) Took (cpu_step s p (Consume g) Took refl legal answer)
+            ((λ i. record s { phases = λ h. phases_paid h i; parts = λ q. parts q i })
+            ∙ (λ i. record s { phases = with_at s.phases (sym at i) (consumed p g); parts = with_at s.parts p (paid (part_of m.stock c p)) }));
+        follows = follows_same _ _ _ refl;
+      }
 
 -- all of it, of the machine as it was seen before
 pub record FrontPaid (t : KnownTable) (w : Words) (now : KnownMachine) (g f : ℕ) (c : KnownCpu) (n : KnownMachine) (d : KnownCpu) : Type 0 where
   pub consistent : IsConsistent t w n
   pub pays : PaysForFront g f (side now c) (side n d)
   pub visit : Visits t (side n d)
-  pub steps : IsLocalRun c.number (local_of t now c) (take_front_steps c.number g) (local_of t n d)
+  pub steps : MakesAs t c.number (side now c) (take_front_steps c.number g) (side n d)
 
 pub front_paid : (t : KnownTable) (w : Words) (m now : KnownMachine) → m ≡ now → (c : KnownCpu) → IsTied t w c → IsConsistent t w m → Visits t (side now c)
     → (g f h : ℕ) → h ≡ g → HoldsPage (side now c) g → c.fresh ≡ [] → f < t.frames → (stock : Seated) → stock ≡ m.stock → (d : KnownCpu)

@@ -13,7 +13,7 @@ use Rattle.mem_machine.specs.Spots.{spot_at, is_free, free_of}
 use Rattle.mem_machine.specs.Machines.{KnownMachine, IsConsistent, Visits}
 use Rattle.mem_machine.specs.Lending.{LendsFrame}
 use Rattle.mem_machine.specs.Steps.{lend_steps}
-use Rattle.mem_machine.specs.Local.{IsLocalRun, local_of, side}
+use Rattle.mem_machine.specs.Local.{side, MakesAs}
 use Rattle.mem_machine.proofs.Records.{free_at, free_taken}
 use Rattle.mem_machine.proofs.Lends.{lend_consistent, lend_runs, lend_visits, zone_hand}
 
@@ -23,7 +23,7 @@ pub record AllGiven (t : KnownTable) (w : Words) (now : KnownMachine) (c : Known
   pub free_is : free ≡ free_of n.spots
   pub lends : LendsFrame f (side now c) (side n d)
   pub visit : Visits t (side n d)
-  pub steps : IsLocalRun c.number (local_of t now c) (lend_steps c.number f) (local_of t n d)
+  pub steps : MakesAs t c.number (side now c) (lend_steps c.number f) (side n d)
 
 pub given_all : (t : KnownTable) (w : Words) (m now : KnownMachine) → m ≡ now → (c d : KnownCpu) → IsTied t w c → IsConsistent t w m → Visits t (side now c)
     → (before free : List Bool) (blocks : List Block) (f i q : ℕ) (seat seat' : KnownSeat) → before ≡ free_of m.spots → f < t.frames

@@ -13,7 +13,7 @@ use Rattle.zone_blocks.proofs.Unique.{in_maximal}
 use Rattle.frame_word.specs.Seats.{KnownTable}
 use Rattle.group_tree.specs.Groups.{has_group, limit_of}
 use Rattle.group_tree.specs.Room as room
-use Rattle.group_charge.specs.Charges.{current_of}
+use Rattle.group_charge.specs.Charges.{AreCharges, SamePeaks, SameEvents, current_of, with_charge}
 use Rattle.cpu_part.specs.Cpus.{KnownCpu, times}
 use Rattle.step_rules.specs.declared.step.Action.TheVariants.{Grant, Ungrant, PlaceBlock}
 use Rattle.step_rules.specs.declared.step.Answer.TheVariants.{Done, Granted, Over, NoFreeBlock}
@@ -32,10 +32,12 @@ use Rattle.mem_machine.specs.declared.spot.Spot.{Spot}
 use Rattle.mem_machine.specs.declared.spot.Spot.TheVariants.{Free, Lent, Head, Tail}
 use Rattle.mem_machine.specs.Spots.{spot_at, is_free, free_of}
 use Rattle.mem_machine.specs.Machines.{KnownMachine, is_killed}
-use Rattle.mem_machine.specs.Local.{fresh_group, phase_of, local_of, IsLocalRun}
+use Rattle.mem_machine.specs.Local.{fresh_group, phase_of, local_of, side, MakesAs}
 use Rattle.mem_machine.specs.Steps.{zone_makes}
 use Rattle.mem_machine.proofs.Reaching.{zone_step}
 use Rattle.mem_machine.proofs.Holds.{zone_may_act}
+use Rattle.mem_machine.proofs.Followed.{follows_same}
+use Rattle.mem_machine.proofs.LedgerMoves.{follows_grant}
 use Rattle.mem_machine.proofs.Records.{length_free, free_at}
 
 module _ (t : KnownTable) (m : KnownMachine) (c : KnownCpu) (g n : ℕ) (there : has_group m.ledger.groups g ≡ true) (alive : is_killed m.killed g ≡ false)
@@ -62,8 +64,8 @@ module _ (t : KnownTable) (m : KnownMachine) (c : KnownCpu) (g n : ℕ) (there :
     lowest = λ k on none. low.lowest k on (sym (room_same k) ∙ none);
   })
 
-  pub refused_run : (h : ℕ) → room.IsLowestOver m.ledger.groups (current_of m.ledger) g n h → IsLocalRun c.number s (zone_makes (Grant g n) (Over h) ∷ []) s
-  refused_run h low = (is_over h low, refl)
+  pub refused_run : (h : ℕ) → room.IsLowestOver m.ledger.groups (current_of m.ledger) g n h → MakesAs t c.number (side m c) (zone_makes (Grant g n) (Over h) ∷ []) (side m c)
+  refused_run h low = record { leads = (is_over h low, refl); follows = follows_same _ _ _ refl }
 
   -- the state with the pages pending
   abbrev pub with_granted : State
@@ -147,17 +149,20 @@ module _ (t : KnownTable) (m : KnownMachine) (c : KnownCpu) (g n : ℕ) (there :
       (none_to_place t m c sized areas k none)
 
   -- the pages are granted, no block is there, and they go back: the local state is as it was
-  pub unplaced_run : room.PathHasRoom m.ledger.groups (current_of m.ledger) g n → (x : KnownMachine) → x ≡ record m { ledger = x.ledger }
-      → x.ledger.groups ≡ m.ledger.groups → IsLocalRun c.number (local_of t m c)
-      (zone_makes (Grant g n) Granted ∷ zone_makes (PlaceBlock g k) NoFreeBlock ∷ zone_makes (Ungrant g n) Done ∷ []) (local_of t x c)
-  unplaced_run path x is groups = (
-    is_granted t m c g n there alive usage path,
-    (
-      is_not_placed,
+  pub unplaced_run : AreCharges m.ledger → room.PathHasRoom m.ledger.groups (current_of m.ledger) g n → (x : KnownMachine) → x ≡ record m { ledger = x.ledger }
+      → x.ledger.groups ≡ m.ledger.groups → SamePeaks (with_charge m.ledger g n) x.ledger → SameEvents (with_charge m.ledger g n) x.ledger → MakesAs t c.number (side m c)
+      (zone_makes (Grant g n) Granted ∷ zone_makes (PlaceBlock g k) NoFreeBlock ∷ zone_makes (Ungrant g n) Done ∷ []) (side x c)
+  unplaced_run facts path x is groups peaks events = record {
+    leads = (
+      is_granted t m c g n there alive usage path,
       (
-        is_taken_back t m c g n there alive usage,
-        sym (ap (λ (y : KnownMachine). local_of t y c) is
-            ∙ (λ i. record (local_of t m c) { groups = groups i; pending = λ h. sym (none_pends t m c g n there alive usage h) i })),
+        is_not_placed,
+        (
+          is_taken_back t m c g n there alive usage,
+          sym (ap (λ (y : KnownMachine). local_of t y c) is
+              ∙ (λ i. record (local_of t m c) { groups = groups i; pending = λ h. sym (none_pends t m c g n there alive usage h) i })),
+        ),
       ),
-    ),
-  )
+    );
+    follows = follows_grant t m c g n facts there usage (zone_makes (PlaceBlock g k) NoFreeBlock ∷ zone_makes (Ungrant g n) Done ∷ []) refl x.ledger peaks events;
+  }

@@ -7,57 +7,73 @@ use Rattle.std.proofs.lemmas.List.{get_or-set_same, get_or-set_other}
 use Rattle.frame_word.specs.Seats.{KnownTable}
 use Rattle.group_tree.specs.Groups.{has_group, has_child, with_group, make_fault, IsLeastFreeNumber}
 use Rattle.group_tree.specs.declared.fault.Fault.{Fault}
+use Rattle.group_charge.specs.Charges.{AreCharges, CountsEvent, SamePeaks, with_max, with_oom, with_oom_kill}
 use Rattle.group_charge.specs.Charges.{Ledger, current_of, with_kill_noted, with_max_noted, with_oom_noted, with_group_limit, with_new_group, with_group_removed}
 use Rattle.cpu_part.specs.Cpus.{KnownCpu}
 use Rattle.step_rules.specs.declared.step.Action.TheVariants.{Kill, NoteMax, NoteOom, SetMax, Make, Remove}
 use Rattle.step_rules.specs.declared.step.Answer.TheVariants.{Done, Number}
 use Rattle.step_rules.specs.Usage.{usage_of}
+use Rattle.step_rules.specs.Events.{Max, Oom, OomKill}
 use Rattle.step_rules.specs.Legal.{is_removable}
 use Rattle.step_rules.specs.State.{with_at}
 use Rattle.step_rules.proofs.Basics.{at_each}
 use Rattle.mem_machine.specs.Machines.{KnownMachine, is_killed, AddsGroup}
-use Rattle.mem_machine.specs.Local.{local_of, IsLocalRun}
+use Rattle.mem_machine.specs.Local.{local_of, side, IsLocalRun, MakesAs}
 use Rattle.mem_machine.specs.Steps.{kill_steps, note_max_steps, note_oom_steps, set_max_steps, make_steps, remove_steps}
 use Rattle.mem_machine.proofs.Reaching.{zone_step, run_one}
 use Rattle.mem_machine.proofs.Holds.{zone_may_act}
+use Rattle.mem_machine.proofs.Followed.{makes_none}
+use Rattle.mem_machine.proofs.LedgerMoves.{follows_note, follows_limit, follows_make, follows_remove}
 
 module _ (t : KnownTable) (m n : KnownMachine) (g : ℕ) (there : has_group m.ledger.groups g ≡ true) where
-  pub note_max_runs : n ≡ record m { ledger = with_max_noted m.ledger g } → (c : KnownCpu)
-      → IsLocalRun c.number (local_of t m c) (note_max_steps g) (local_of t n c)
-  note_max_runs is c =
+  pub note_max_runs : n ≡ record m { ledger = with_max_noted m.ledger g } → CountsEvent with_max m.ledger n.ledger g → SamePeaks m.ledger n.ledger
+      → (c : KnownCpu) → MakesAs t c.number (side m c) (note_max_steps g) (side n c)
+  note_max_runs is counts peaks c =
       let s = local_of t m c in
-      subst (λ (k : KnownMachine). IsLocalRun c.number s (note_max_steps g) (local_of t k c)) (sym is)
-      (run_one c.number s _ 0 (NoteMax g) Done (zone_step s c.number (NoteMax g) Done refl (and_from _ _ (zone_may_act m.seat c.number) there) tt) refl)
+      record {
+        leads = subst (λ (k : KnownMachine). IsLocalRun c.number s (note_max_steps g) (local_of t k c)) (sym is)
+            (run_one c.number s _ 0 (NoteMax g) Done
+            (zone_step s c.number (NoteMax g) Done refl (and_from _ _ (zone_may_act m.seat c.number) there) tt) refl);
+        follows = follows_note Max t m c g n.ledger counts peaks;
+      }
 
-  pub note_oom_runs : n ≡ record m { ledger = with_oom_noted m.ledger g } → (c : KnownCpu)
-      → IsLocalRun c.number (local_of t m c) (note_oom_steps g) (local_of t n c)
-  note_oom_runs is c =
+  pub note_oom_runs : n ≡ record m { ledger = with_oom_noted m.ledger g } → CountsEvent with_oom m.ledger n.ledger g → SamePeaks m.ledger n.ledger
+      → (c : KnownCpu) → MakesAs t c.number (side m c) (note_oom_steps g) (side n c)
+  note_oom_runs is counts peaks c =
       let s = local_of t m c in
-      subst (λ (k : KnownMachine). IsLocalRun c.number s (note_oom_steps g) (local_of t k c)) (sym is)
-      (run_one c.number s _ 0 (NoteOom g) Done (zone_step s c.number (NoteOom g) Done refl (and_from _ _ (zone_may_act m.seat c.number) there) tt) refl)
+      record {
+        leads = subst (λ (k : KnownMachine). IsLocalRun c.number s (note_oom_steps g) (local_of t k c)) (sym is)
+            (run_one c.number s _ 0 (NoteOom g) Done
+            (zone_step s c.number (NoteOom g) Done refl (and_from _ _ (zone_may_act m.seat c.number) there) tt) refl);
+        follows = follows_note Oom t m c g n.ledger counts peaks;
+      }
 
   pub set_max_runs : (limit : Option ℕ) → g ≢ 0 → n ≡ record m { ledger = with_group_limit m.ledger g limit } → (c : KnownCpu)
-      → IsLocalRun c.number (local_of t m c) (set_max_steps g limit) (local_of t n c)
+      → MakesAs t c.number (side m c) (set_max_steps g limit) (side n c)
   set_max_runs limit below is c =
       let s = local_of t m c in
-      subst (λ (k : KnownMachine). IsLocalRun c.number s (set_max_steps g limit) (local_of t k c)) (sym is)
-      (run_one c.number s _ 0 (SetMax g limit) Done
-      (zone_step s c.number (SetMax g limit) Done refl (and_from _ _ (and_from _ _ (zone_may_act m.seat c.number) there) (ap not (ne_eqb g 0 below))) tt) refl)
+      subst (λ (k : KnownMachine). MakesAs t c.number (side m c) (set_max_steps g limit) (side k c)) (sym is) (record {
+        leads = run_one c.number s _ 0 (SetMax g limit) Done (zone_step s c.number (SetMax g limit) Done refl
+            (and_from _ _ (and_from _ _ (zone_may_act m.seat c.number) there) (ap not (ne_eqb g 0 below))) tt) refl;
+        follows = follows_limit s m.ledger g limit;
+      })
 
 -- the same, of the machine as it was seen before
 module _ (t : KnownTable) (m now : KnownMachine) (same : m ≡ now) (g : ℕ) (there : has_group now.ledger.groups g ≡ true) where
-  pub notes_max : (l : Ledger) → l ≡ with_max_noted m.ledger g → (c : KnownCpu)
-      → IsLocalRun c.number (local_of t now c) (note_max_steps g) (local_of t (record m { ledger = l }) c)
-  notes_max l is c = note_max_runs t now (record m { ledger = l }) g there
-      ((λ i. record m { ledger = is i }) ∙ ap (λ (k : KnownMachine). record k { ledger = with_max_noted k.ledger g }) same) c
+  pub notes_max : (l : Ledger) → l ≡ with_max_noted m.ledger g → CountsEvent with_max m.ledger l g → SamePeaks m.ledger l → (c : KnownCpu)
+      → MakesAs t c.number (side now c) (note_max_steps g) (side (record m { ledger = l }) c)
+  notes_max l is counts peaks c = note_max_runs t now (record m { ledger = l }) g there
+      ((λ i. record m { ledger = is i }) ∙ ap (λ (k : KnownMachine). record k { ledger = with_max_noted k.ledger g }) same)
+      (subst (λ (k : KnownMachine). CountsEvent with_max k.ledger l g) same counts) (subst (λ (k : KnownMachine). SamePeaks k.ledger l) same peaks) c
 
-  pub notes_oom : (l : Ledger) → l ≡ with_oom_noted m.ledger g → (c : KnownCpu)
-      → IsLocalRun c.number (local_of t now c) (note_oom_steps g) (local_of t (record m { ledger = l }) c)
-  notes_oom l is c = note_oom_runs t now (record m { ledger = l }) g there
-      ((λ i. record m { ledger = is i }) ∙ ap (λ (k : KnownMachine). record k { ledger = with_oom_noted k.ledger g }) same) c
+  pub notes_oom : (l : Ledger) → l ≡ with_oom_noted m.ledger g → CountsEvent with_oom m.ledger l g → SamePeaks m.ledger l → (c : KnownCpu)
+      → MakesAs t c.number (side now c) (note_oom_steps g) (side (record m { ledger = l }) c)
+  notes_oom l is counts peaks c = note_oom_runs t now (record m { ledger = l }) g there
+      ((λ i. record m { ledger = is i }) ∙ ap (λ (k : KnownMachine). record k { ledger = with_oom_noted k.ledger g }) same)
+      (subst (λ (k : KnownMachine). CountsEvent with_oom k.ledger l g) same counts) (subst (λ (k : KnownMachine). SamePeaks k.ledger l) same peaks) c
 
   pub sets_max : (l : Ledger) (limit : Option ℕ) → g ≢ 0 → l ≡ with_group_limit m.ledger g limit → (c : KnownCpu)
-      → IsLocalRun c.number (local_of t now c) (set_max_steps g limit) (local_of t (record m { ledger = l }) c)
+      → MakesAs t c.number (side now c) (set_max_steps g limit) (side (record m { ledger = l }) c)
   sets_max l limit below is c = set_max_runs t now (record m { ledger = l }) g there limit below
       ((λ i. record m { ledger = is i }) ∙ ap (λ (k : KnownMachine). record k { ledger = with_group_limit k.ledger g limit }) same) c
 
@@ -68,32 +84,39 @@ marks_set marks g b inside = λ i. λ k. (at_each (is_killed marks) g b (λ (h :
 
 -- a group is killed
 pub kill_runs : (t : KnownTable) (m n : KnownMachine) (g : ℕ) → g < length m.killed → has_group m.ledger.groups g ≡ true → is_killed m.killed g ≡ false
-    → n ≡ record m { ledger = with_kill_noted m.ledger g; killed = slice_set m.killed g true }
-    → (c : KnownCpu) → IsLocalRun c.number (local_of t m c) (kill_steps g) (local_of t n c)
-kill_runs t m n g inside there alive is c =
+    → n ≡ record m { ledger = with_kill_noted m.ledger g; killed = slice_set m.killed g true } → CountsEvent with_oom_kill m.ledger n.ledger g
+    → SamePeaks m.ledger n.ledger → (c : KnownCpu) → MakesAs t c.number (side m c) (kill_steps g) (side n c)
+kill_runs t m n g inside there alive is counts peaks c =
     let s = local_of t m c in
-    subst (λ (k : KnownMachine). IsLocalRun c.number s (kill_steps g) (local_of t k c)) (sym is)
-    (run_one c.number s _ 0 (Kill g) Done
-    (zone_step s c.number (Kill g) Done refl (and_from _ _ (and_from _ _ (zone_may_act m.seat c.number) there) (ap not alive)) tt)
-    (λ i. record s { killed = marks_set m.killed g true inside i }))
+    record {
+      leads = subst (λ (k : KnownMachine). IsLocalRun c.number s (kill_steps g) (local_of t k c)) (sym is)
+          (run_one c.number s _ 0 (Kill g) Done
+          (zone_step s c.number (Kill g) Done refl (and_from _ _ (and_from _ _ (zone_may_act m.seat c.number) there) (ap not alive)) tt)
+          (λ i. record s { killed = marks_set m.killed g true inside i }));
+      follows = follows_note OomKill t m c g n.ledger counts peaks;
+    }
 
 -- the same, of the machine as it was seen before
 pub kills : (t : KnownTable) (m now : KnownMachine) → m ≡ now → (g : ℕ) → g < length m.killed → has_group now.ledger.groups g ≡ true
-    → is_killed now.killed g ≡ false → (l : Ledger) → l ≡ with_kill_noted m.ledger g → (marks : List Bool) → marks ≡ slice_set m.killed g true
-    → (c : KnownCpu) → IsLocalRun c.number (local_of t now c) (kill_steps g) (local_of t (record m { ledger = l; killed = marks }) c)
-kills t m now same g inside there alive l is marks set =
+    → is_killed now.killed g ≡ false → (l : Ledger) → l ≡ with_kill_noted m.ledger g → CountsEvent with_oom_kill m.ledger l g
+    → SamePeaks m.ledger l → (marks : List Bool) → marks ≡ slice_set m.killed g true
+    → (c : KnownCpu) → MakesAs t c.number (side now c) (kill_steps g) (side (record m { ledger = l; killed = marks }) c)
+kills t m now same g inside there alive l is counts peaks marks set =
     kill_runs t now (record m { ledger = l; killed = marks }) g (subst (λ (k : KnownMachine). g < length k.killed) same inside) there alive
     ((λ i. record m { ledger = is i; killed = set i })
     ∙ ap (λ (k : KnownMachine). record k { ledger = with_kill_noted k.ledger g; killed = slice_set k.killed g true }) same)
+    (subst (λ (k : KnownMachine). CountsEvent with_oom_kill k.ledger l g) same counts) (subst (λ (k : KnownMachine). SamePeaks k.ledger l) same peaks)
 
 make_runs : (t : KnownTable) (m n : KnownMachine) (g : ℕ) (path : List ℕ) → g < length m.killed → is_none (make_fault m.ledger.groups path) ≡ true
-    → AddsGroup m g path n → (c : KnownCpu) → IsLocalRun c.number (local_of t m c) (make_steps path g) (local_of t n c)
-make_runs t m n g path inside allowed makes c =
+    → AreCharges m.ledger → AddsGroup m g path n → (c : KnownCpu) → MakesAs t c.number (side m c) (make_steps path g) (side n c)
+make_runs t m n g path inside allowed facts makes c =
     let s = local_of t m c in
-    subst (λ (k : KnownMachine). IsLocalRun c.number s (make_steps path g) (local_of t k c)) (sym makes.machine)
-    (run_one c.number s _ 0 (Make path) (Number g) (zone_step s c.number (Make path) (Number g) refl (and_from _ _
-    (zone_may_act m.seat c.number) allowed) makes.least)
-    (λ i. record s { groups = with_group m.ledger.groups g path; killed = marks_set m.killed g false inside i }))
+    subst (λ (k : KnownMachine). MakesAs t c.number (side m c) (make_steps path g) (side k c)) (sym makes.machine) (record {
+      leads = run_one c.number s _ 0 (Make path) (Number g) (zone_step s c.number (Make path) (Number g) refl (and_from _ _
+          (zone_may_act m.seat c.number) allowed) makes.least)
+          (λ i. record s { groups = with_group m.ledger.groups g path; killed = marks_set m.killed g false inside i });
+      follows = follows_make s m.ledger path g facts makes.least;
+    })
 
 -- nothing was refused
 none_of : (x : Option Fault) → x ≡ None → is_none x ≡ true
@@ -109,33 +132,35 @@ module _ (t : KnownTable) (m now : KnownMachine) (same : m ≡ now) where
   }
 
   pub made_runs : (l : Ledger) (marks : List Bool) (g : ℕ) (path : List ℕ) → g < length m.killed → None ≡ make_fault m.ledger.groups path
-      → IsLeastFreeNumber m.ledger.groups g → l ≡ with_new_group m.ledger g path → marks ≡ slice_set m.killed g false → (c : KnownCpu)
-      → IsLocalRun c.number (local_of t now c) (make_steps path g) (local_of t (record m { ledger = l; killed = marks }) c)
-  made_runs l marks g path inside allowed least is set c =
+      → AreCharges m.ledger → IsLeastFreeNumber m.ledger.groups g → l ≡ with_new_group m.ledger g path → marks ≡ slice_set m.killed g false → (c : KnownCpu)
+      → MakesAs t c.number (side now c) (make_steps path g) (side (record m { ledger = l; killed = marks }) c)
+  made_runs l marks g path inside allowed facts least is set c =
       make_runs t now (record m { ledger = l; killed = marks }) g path (subst (λ (k : KnownMachine). g < length k.killed) same inside)
       (none_of (make_fault now.ledger.groups path) (subst (λ (k : KnownMachine). make_fault k.ledger.groups path ≡ None) same (sym allowed)))
-      (makes l marks g path least is set) c
+      (subst (λ (k : KnownMachine). AreCharges k.ledger) same facts) (makes l marks g path least is set) c
 
-  pub stayed_runs : (n : KnownMachine) → n ≡ m → (c : KnownCpu) → IsLocalRun c.number (local_of t now c) [] (local_of t n c)
-  stayed_runs n is c = sym (ap (λ (k : KnownMachine). local_of t k c) (is ∙ same))
+  pub stayed_runs : (n : KnownMachine) → n ≡ m → (c : KnownCpu) → MakesAs t c.number (side now c) [] (side n c)
+  stayed_runs n is c = subst (λ (k : KnownMachine). MakesAs t c.number (side now c) [] (side k c)) (sym (is ∙ same)) (makes_none t c.number (side now c))
 
 -- a group that goes
 module _ (t : KnownTable) (m n : KnownMachine) (c : KnownCpu) (g : ℕ) where
   pub remove_runs : has_group m.ledger.groups g ≡ true → has_child m.ledger.groups g ≡ false → g ≢ 0 → current_of m.ledger g ≡ 0
       → usage_of (local_of t m c) g ≡ current_of m.ledger g → n ≡ record m { ledger = with_group_removed m.ledger g }
-      → IsLocalRun c.number (local_of t m c) (remove_steps g) (local_of t n c)
+      → MakesAs t c.number (side m c) (remove_steps g) (side n c)
   remove_runs there leaf below empty usage is =
       let s = local_of t m c in
       let removable : is_removable s g ≡ true =
       and_from _ _ (and_from _ _ (and_from _ _ there (ap not (ne_eqb g 0 below))) (ap not leaf)) (eq-eqb (usage_of s g) 0 (usage ∙ empty)) in
-      subst (λ (k : KnownMachine). IsLocalRun c.number s (remove_steps g) (local_of t k c)) (sym is)
-      (run_one c.number s _ 0 (Remove g) Done (zone_step s c.number (Remove g) Done refl
-      (and_from _ _ (zone_may_act m.seat c.number) removable) tt) refl)
+      subst (λ (k : KnownMachine). MakesAs t c.number (side m c) (remove_steps g) (side k c)) (sym is) (record {
+        leads = run_one c.number s _ 0 (Remove g) Done (zone_step s c.number (Remove g) Done refl
+            (and_from _ _ (zone_may_act m.seat c.number) removable) tt) refl;
+        follows = follows_remove s m.ledger g;
+      })
 
 pub removes : (t : KnownTable) (m now : KnownMachine) → m ≡ now → (c d : KnownCpu) → d ≡ c → (g : ℕ) → has_group now.ledger.groups g ≡ true
     → has_child now.ledger.groups g ≡ false → g ≢ 0 → current_of now.ledger g ≡ 0 → usage_of (local_of t now c) g ≡ current_of now.ledger g
-    → (l : Ledger) → l ≡ with_group_removed m.ledger g → IsLocalRun c.number (local_of t now c) (remove_steps g) (local_of t (record m { ledger = l }) d)
+    → (l : Ledger) → l ≡ with_group_removed m.ledger g → MakesAs t c.number (side now c) (remove_steps g) (side (record m { ledger = l }) d)
 removes t m now same c d cpu g there leaf below empty usage l is =
-    subst (λ (x : KnownCpu). IsLocalRun c.number (local_of t now c) (remove_steps g) (local_of t (record m { ledger = l }) x)) (sym cpu)
+    subst (λ (x : KnownCpu). MakesAs t c.number (side now c) (remove_steps g) (side (record m { ledger = l }) x)) (sym cpu)
     (remove_runs t now (record m { ledger = l }) c g there leaf below empty usage
     ((λ i. record m { ledger = is i }) ∙ ap (λ (k : KnownMachine). record k { ledger = with_group_removed k.ledger g }) same))

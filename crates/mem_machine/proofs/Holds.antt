@@ -22,9 +22,10 @@ use Rattle.mem_machine.specs.declared.spot.Spot.{Spot}
 use Rattle.mem_machine.specs.declared.spot.Spot.TheVariants.{Free, Lent, Head, Tail}
 use Rattle.mem_machine.specs.Spots.{spot_at}
 use Rattle.mem_machine.specs.Machines.{KnownMachine, IsSeated, Visits}
-use Rattle.mem_machine.specs.Local.{hold_of, local_of, phase_of, part_of, part_with, fresh_group, IsLocalRun, side}
+use Rattle.mem_machine.specs.Local.{hold_of, local_of, phase_of, part_of, part_with, fresh_group, side, MakesAs}
 use Rattle.mem_machine.specs.Steps.{open_steps, shut_steps}
 use Rattle.mem_machine.proofs.Reaching.{zone_step, run_one}
+use Rattle.mem_machine.proofs.Followed.{follows_same}
 
 zone_acts : (b : Bool) (p : ℕ) → may_zone_act (cond b (Visiting p) (HeldBy p)) 0 ≡ true
 zone_acts true p = refl
@@ -77,18 +78,20 @@ unfolding resting
 unfolded_rest c p f x = no_pass c p f x
 
 pub open_runs : (t : KnownTable) (m n : KnownMachine) (c : KnownCpu) → n ≡ record m { seat = seat_with_visit m.seat c.number 1 } → IsShut m.seat c.number
-    → IsLocalRun c.number (local_of t m c) (open_steps c.number) (local_of t n c)
+    → MakesAs t c.number (side m c) (open_steps c.number) (side n c)
 open_runs t m n c is shut =
     let p = c.number in
     let legal : (may_zone_act (hold_of m.seat p) 0 && is_held_by p (hold_of m.seat p)) ≡ true =
     and_from _ _ (zone_may_act m.seat p) (ap (is_held_by p) (hold_shut m.seat p shut) ∙ eq-eqb p p refl) in
     let opened : hold_of (seat_with_visit m.seat p 1) p ≡ Visiting p = hold_open (seat_with_visit m.seat p 1) p (put_here 0 m.seat.view.opened p 1) in
-    subst (λ (k : KnownMachine). IsLocalRun p (local_of t m c) (open_steps c.number) (local_of t k c)) (sym is)
-    (run_one p (local_of t m c) _ 0 (OpenVisit p) Done (zone_step (local_of t m c) p (OpenVisit p) Done refl legal tt)
-    (λ i. record (local_of t m c) { hold = opened i }))
+    subst (λ (k : KnownMachine). MakesAs t p (side m c) (open_steps c.number) (side k c)) (sym is) (record {
+      leads = run_one p (local_of t m c) _ 0 (OpenVisit p) Done (zone_step (local_of t m c) p (OpenVisit p) Done refl legal tt)
+          (λ i. record (local_of t m c) { hold = opened i });
+      follows = follows_same _ _ _ refl;
+    })
 
 pub shut_runs : (t : KnownTable) (m n : KnownMachine) (c : KnownCpu) → n ≡ record m { seat = seat_with_visit m.seat c.number 0 } → IsOpen m.seat c.number
-    → (account_of m.stock.view c.number).noted ≡ 0 → IsLocalRun c.number (local_of t m c) (shut_steps c.number) (local_of t n c)
+    → (account_of m.stock.view c.number).noted ≡ 0 → MakesAs t c.number (side m c) (shut_steps c.number) (side n c)
 shut_runs t m n c is was_open noted =
     let p = c.number in
     let s = local_of t m c in
@@ -99,22 +102,24 @@ shut_runs t m n c is was_open noted =
     let legal : is_legal s 0 (ShutVisit p) ≡ true =
     and_from _ _ (and_from _ _ (and_from _ _ (and_from _ _ (zone_may_act m.seat p) (visits_open m.seat p was_open)) still) unreported) reported in
     let shut : hold_of (seat_with_visit m.seat p 0) p ≡ HeldBy p = hold_shut (seat_with_visit m.seat p 0) p (put_here 0 m.seat.view.opened p 0) in
-    subst (λ (k : KnownMachine). IsLocalRun p (local_of t m c) (shut_steps c.number) (local_of t k c)) (sym is)
-    (run_one p s _ 0 (ShutVisit p) Done (zone_step s p (ShutVisit p) Done refl legal tt) (λ i. record s { hold = shut i }))
+    subst (λ (k : KnownMachine). MakesAs t p (side m c) (shut_steps c.number) (side k c)) (sym is) (record {
+      leads = run_one p s _ 0 (ShutVisit p) Done (zone_step s p (ShutVisit p) Done refl legal tt) (λ i. record s { hold = shut i });
+      follows = follows_same _ _ _ refl;
+    })
 
 -- the same, of the machine as it was seen before, and of a processor's part that stayed
 pub opens : (t : KnownTable) (m now : KnownMachine) → m ≡ now → (c d : KnownCpu) → d ≡ c → (seat : KnownSeat) → seat ≡ seat_with_visit m.seat c.number 1
-    → IsShut now.seat c.number → IsLocalRun c.number (local_of t now c) (open_steps c.number) (local_of t (record m { seat = seat }) d)
+    → IsShut now.seat c.number → MakesAs t c.number (side now c) (open_steps c.number) (side (record m { seat = seat }) d)
 opens t m now same c d stays seat is shut =
-    subst (λ (x : KnownMachine × KnownCpu). IsLocalRun c.number (local_of t x.0 c) (open_steps c.number) (local_of t (record m { seat = seat }) x.1))
+    subst (λ (x : KnownMachine × KnownCpu). MakesAs t c.number (side x.0 c) (open_steps c.number) (side (record m { seat = seat }) x.1))
     (λ i. (same i, sym stays i))
     (open_runs t m (record m { seat = seat }) c (λ i. record m { seat = is i }) (subst (λ (k : KnownMachine). IsShut k.seat c.number) (sym same) shut))
 
 pub shuts : (t : KnownTable) (m now : KnownMachine) → m ≡ now → (c d : KnownCpu) → d ≡ c → (seat : KnownSeat) → seat ≡ seat_with_visit m.seat c.number 0
     → Visits t (side now c) → (account_of m.stock.view c.number).noted ≡ 0
-    → IsLocalRun c.number (local_of t now c) (shut_steps c.number) (local_of t (record m { seat = seat }) d)
+    → MakesAs t c.number (side now c) (shut_steps c.number) (side (record m { seat = seat }) d)
 shuts t m now same c d stays seat is visit noted =
-    subst (λ (x : KnownMachine × KnownCpu). IsLocalRun c.number (local_of t x.0 c) (shut_steps c.number) (local_of t (record m { seat = seat }) x.1))
+    subst (λ (x : KnownMachine × KnownCpu). MakesAs t c.number (side x.0 c) (shut_steps c.number) (side (record m { seat = seat }) x.1))
     (λ i. (same i, sym stays i))
     (shut_runs t m (record m { seat = seat }) c (λ i. record m { seat = is i }) (subst (λ (k : KnownMachine). IsOpen k.seat c.number)
     (sym same) visit.is_open) noted)

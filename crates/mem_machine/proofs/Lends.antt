@@ -31,11 +31,12 @@ use Rattle.mem_machine.specs.declared.spot.Spot.TheVariants.{Free, Lent, Head, T
 use Rattle.mem_machine.specs.Spots.{spot_at, free_of, group_of, head_group_of, is_in_hand}
 use Rattle.mem_machine.specs.Machines.{KnownMachine, FitsSpot, IsConsistent, IsSeated, Visits, home_of}
 use Rattle.mem_machine.specs.Lending.{LendsByStep, LendsNone}
-use Rattle.mem_machine.specs.Local.{local_of, phase_of, part_of, part_with, fresh_group, IsLocalRun, side}
+use Rattle.mem_machine.specs.Local.{local_of, phase_of, part_of, part_with, fresh_group, side, MakesAs}
 use Rattle.mem_machine.specs.Steps.{lend_steps}
 use Rattle.mem_machine.proofs.Reaching.{zone_step, cpu_step}
 use Rattle.mem_machine.proofs.Holds.{zone_may_act, visits_open, seated_cpu}
 use Rattle.mem_machine.proofs.Records.{free_at, free_is, free_inside, covers_one, free_taken, some_cpu_is, spots_changed, holds_same, units_stay, charges_stay}
+use Rattle.mem_machine.proofs.Followed.{follows_same}
 
 -- ---- parts of the local state
 
@@ -159,9 +160,8 @@ module _ (t : KnownTable) (w : Words) (m : KnownMachine) (c : KnownCpu) (tied : 
     ];
   }
 
-  pub lend_runs : (blocks : List Block) → in_hands (note_of c.seat.view f) ≡ 0 → IsLocalRun c.number (local_of t m c) (lend_steps c.number f)
-      (local_of t (record m { blocks = blocks; spots = slice_set m.spots f (Lent c.number); seat = seat_with m.seat f (passed_out_to c.number) })
-      (record c { list = c.list ++ f ∷ []; seat = seat_with c.seat f took_in }))
+  pub lend_runs : (blocks : List Block) → in_hands (note_of c.seat.view f) ≡ 0 → MakesAs t c.number (side m c) (lend_steps c.number f)
+      (side (record m { blocks = blocks; spots = slice_set m.spots f (Lent c.number); seat = seat_with m.seat f (passed_out_to c.number) }) (record c { list = c.list ++ f ∷ []; seat = seat_with c.seat f took_in }))
   lend_runs blocks none =
       let s = local_of t m c in
       let d : KnownCpu = record c { list = c.list ++ f ∷ []; seat = seat_with c.seat f took_in } in
@@ -185,13 +185,17 @@ module _ (t : KnownTable) (w : Words) (m : KnownMachine) (c : KnownCpu) (tied : 
       (cond-true (c.number == c.number) (part_with c.list c.fresh c.back (account_of m.stock.view c.number)) (part_with [] [] []
       (account_of m.stock.view c.number))
       (eq-eqb c.number c.number refl))) in
-      let pa = parts_changed m.stock c (c.list ++ f ∷ []) c.fresh c.back _ listed in (
-        zone_step s c.number (PassOut f c.number) Done refl may_pass tt,
-        (
-          cpu_step out c.number (TakeIn f) Done refl may_take tt,
-          (λ i. record s { phases = λ g. sym (ph g) i; references = λ q x. sym (re q x) i; parts = λ q. sym (pa q) i }),
-        ),
-      )
+      let pa = parts_changed m.stock c (c.list ++ f ∷ []) c.fresh c.back _ listed in
+      record {
+        leads = (
+          zone_step s c.number (PassOut f c.number) Done refl may_pass tt,
+          (
+            cpu_step out c.number (TakeIn f) Done refl may_take tt,
+            (λ i. record s { phases = λ g. sym (ph g) i; references = λ q x. sym (re q x) i; parts = λ q. sym (pa q) i }),
+          ),
+        );
+        follows = follows_same _ _ _ refl;
+      }
     where
       same_phase : (g : ℕ) (y : Spot) → phase_of (record c { list = c.list ++ f ∷ []; seat = seat_with c.seat f took_in }) g y ≡ phase_of c g y
       same_phase g Free = refl

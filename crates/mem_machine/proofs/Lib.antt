@@ -1,6 +1,8 @@
 pub mod Balances
 pub mod NoneLent
 pub mod Reaching
+pub mod Followed
+pub mod LedgerMoves
 pub mod Holds
 pub mod First
 pub mod GroupSteps
@@ -24,6 +26,7 @@ pub mod PlacesUnits
 pub mod BlockCharges
 pub mod KeptUnits
 pub mod Interleaves
+pub mod Tells
 pub mod TakesBlocks
 pub mod Leaving
 pub mod Releases

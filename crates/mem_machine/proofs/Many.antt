@@ -7,21 +7,20 @@ use Rattle.std.specs.List.{flat_map}
 use Rattle.zone_blocks.specs.Areas.{HasNoneFrom}
 use Rattle.frame_word.specs.Seats.{KnownTable}
 use Rattle.cpu_part.specs.Cpus.{KnownCpu}
-use Rattle.step_rules.specs.State.{State}
 use Rattle.step_rules.specs.After.{Run}
 use Rattle.mem_machine.specs.Machines.{KnownMachine, Visits}
 use Rattle.mem_machine.specs.Lending.{LendsOne, LendsNone, LendsMany, LendsByStep, Refills, TakesOneBack, TakesNoneBack, TakesManyBack, TakesBackByStep}
-use Rattle.mem_machine.specs.Local.{local_of, IsLocalRun, side}
+use Rattle.mem_machine.specs.Local.{MakesAs, Side, side}
 use Rattle.mem_machine.specs.Steps.{lend_steps, back_steps, drain_list_steps}
-use Rattle.mem_machine.proofs.Reaching.{run_both}
+use Rattle.mem_machine.proofs.Followed.{makes_none, makes_both}
 
 -- the steps of frames, and then of one more
-steps_more : (p : ℕ) (steps : ℕ → Run) (frames : List ℕ) (f : ℕ) (a b c : State) → IsLocalRun p a (flat_map steps frames) b → IsLocalRun p b (steps f) c
-    → IsLocalRun p a (flat_map steps (frames ++ f ∷ [])) c
-steps_more p steps frames f a b c before one =
+steps_more : (t : KnownTable) (p : ℕ) (steps : ℕ → Run) (frames : List ℕ) (f : ℕ) (a b c : Side) → MakesAs t p a (flat_map steps frames) b
+    → MakesAs t p b (steps f) c → MakesAs t p a (flat_map steps (frames ++ f ∷ [])) c
+steps_more t p steps frames f a b c before one =
     let list : flat_map steps frames ++ steps f ≡ flat_map steps (frames ++ f ∷ []) =
     sym (flat_map-append steps frames (f ∷ []) ∙ ap (λ (r : Run). flat_map steps frames ++ r) (append-nil (steps f))) in
-    subst (λ (r : Run). IsLocalRun p a r c) list (run_both p (flat_map steps frames) (steps f) a b c before one)
+    subst (λ (r : Run). MakesAs t p a r c) list (makes_both t p (flat_map steps frames) (steps f) a b c before one)
 
 length_more : (frames : List ℕ) (f k : ℕ) → k ≡ length frames → k + 1 ≡ length (frames ++ f ∷ [])
 length_more frames f k all = let a = length-append frames (f ∷ []) in omega (arith, a, all)
@@ -42,7 +41,7 @@ pub record LentSoFar (t : KnownTable) (k : ℕ) (m : KnownMachine) (c : KnownCpu
 
 pub lent_start : (t : KnownTable) (m : KnownMachine) (c : KnownCpu) → Visits t (side m c) → LentSoFar t 0 m c m c
 lent_start t m c visit = record {
-  refills = record { frames = []; all = refl; lends = (refl, refl); steps = refl };
+  refills = record { frames = []; all = refl; lends = (refl, refl); steps = makes_none t c.number (side m c) };
   visit = visit;
   number = refl;
   count = omega arith;
@@ -61,8 +60,8 @@ lent_more t k m c x y n d before one visit =
         frames = so_far.frames ++ f ∷ [];
         all = length_more so_far.frames f k so_far.all;
         lends = lends_more so_far.frames f m c x y n d so_far.lends one.lends;
-        steps = steps_more c.number (lend_steps c.number) so_far.frames f (local_of t m c) (local_of t x y) (local_of t n d) so_far.steps
-            (subst (λ (p : ℕ). IsLocalRun p (local_of t x y) (lend_steps p f) (local_of t n d)) before.number one.steps);
+        steps = steps_more t c.number (lend_steps c.number) so_far.frames f (side m c) (side x y) (side n d) so_far.steps
+            (subst (λ (p : ℕ). MakesAs t p (side x y) (lend_steps p f) (side n d)) before.number one.steps);
       };
       visit = visit;
       number = ap (λ (e : KnownCpu). e.number) one.lends.cpu ∙ before.number;
@@ -93,12 +92,12 @@ pub record TakenSoFar (t : KnownTable) (k : ℕ) (m : KnownMachine) (c : KnownCp
   pub split : c.list ≡ frames ++ d.list
   pub takes : TakesManyBack frames (side m c) (side n d)
   pub visit : Visits t (side n d)
-  pub steps : IsLocalRun c.number (local_of t m c) (drain_list_steps c.number frames) (local_of t n d)
+  pub steps : MakesAs t c.number (side m c) (drain_list_steps c.number frames) (side n d)
   pub number : d.number ≡ c.number
 
 pub taken_start : (t : KnownTable) (m : KnownMachine) (c : KnownCpu) → Visits t (side m c) → TakenSoFar t 0 m c m c
 taken_start t m c visit =
-    record { frames = []; all = refl; split = refl; takes = (refl, refl); visit = visit; steps = refl; number = refl }
+    record { frames = []; all = refl; split = refl; takes = (refl, refl); visit = visit; steps = makes_none t c.number (side m c); number = refl }
 
 pub taken_more : (t : KnownTable) (k : ℕ) (m : KnownMachine) (c : KnownCpu) (x : KnownMachine) (y : KnownCpu) (n : KnownMachine) (d : KnownCpu)
     → TakenSoFar t k m c x y → TakesBackByStep t (side x y) (side n d) → Visits t (side n d) → TakenSoFar t (k + 1) m c n d
@@ -111,8 +110,8 @@ taken_more t k m c x y n d before one visit =
       split = before.split ∙ ap (λ (l : List ℕ). before.frames ++ l) left ∙ sym (append_assoc before.frames (f ∷ []) d.list);
       takes = takes_more before.frames f m c x y n d before.takes one.takes;
       visit = visit;
-      steps = steps_more c.number (back_steps c.number) before.frames f (local_of t m c) (local_of t x y) (local_of t n d) before.steps
-          (subst (λ (p : ℕ). IsLocalRun p (local_of t x y) (back_steps p f) (local_of t n d)) before.number one.steps);
+      steps = steps_more t c.number (back_steps c.number) before.frames f (side m c) (side x y) (side n d) before.steps
+          (subst (λ (p : ℕ). MakesAs t p (side x y) (back_steps p f) (side n d)) before.number one.steps);
       number = ap (λ (e : KnownCpu). e.number) one.takes.cpu ∙ before.number;
     }
 
@@ -128,7 +127,7 @@ taken_end t k m c x y n d before none = (
 pub record TakesFront (t : KnownTable) (k : ℕ) (m : KnownMachine) (c : KnownCpu) (n : KnownMachine) (d : KnownCpu) : Type 0 where
   pub listed : k ≤ length c.list
   pub takes : TakesManyBack (take k c.list) (side m c) (side n d)
-  pub steps : IsLocalRun c.number (local_of t m c) (drain_list_steps c.number (take k c.list)) (local_of t n d)
+  pub steps : MakesAs t c.number (side m c) (drain_list_steps c.number (take k c.list)) (side n d)
 
 pub taken_front : (t : KnownTable) (k : ℕ) (m : KnownMachine) (c : KnownCpu) (n : KnownMachine) (d : KnownCpu) → TakenSoFar t k m c n d
     → TakesFront t k m c n d
@@ -140,7 +139,7 @@ taken_front t k m c n d so_far =
     record {
       listed = omega (arith, long, all);
       takes = subst (λ (l : List ℕ). TakesManyBack l (side m c) (side n d)) front so_far.takes;
-      steps = subst (λ (l : List ℕ). IsLocalRun c.number (local_of t m c) (drain_list_steps c.number l) (local_of t n d)) front so_far.steps;
+      steps = subst (λ (l : List ℕ). MakesAs t c.number (side m c) (drain_list_steps c.number l) (side n d)) front so_far.steps;
     }
 
 -- the same where all that were asked for were taken

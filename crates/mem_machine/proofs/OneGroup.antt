@@ -19,6 +19,7 @@ use Rattle.mem_machine.specs.Ageing.{AgesGroup, RenewsUnit}
 use Rattle.mem_machine.specs.Local.{MakesForAny}
 use Rattle.mem_machine.proofs.Listed.{fits_home, loose_stay, others_stay, place_here}
 use Rattle.mem_machine.proofs.KeptUnits.{there, read_owner, read_stands, read_is}
+use Rattle.mem_machine.proofs.Followed.{makes_stay}
 
 -- ---- the lists as they are read
 
@@ -120,7 +121,7 @@ module _ (t : KnownTable) (w : Words) (m : KnownMachine) (ok : IsConsistent t w 
     others = others_stay m.links links m.lists g lru new ok.lists ok.sizes.lists own changes others_stand;
     owners = owners;
     loose = λ f none. loose_stay m.links links lru.owner f changes (mapped f) none;
-    steps = λ c. refl;
+    steps = λ c. makes_stay t m (record m { links = links; lists = slice_set m.lists g new }) c c refl refl;
   }
 
 -- the same, of the machine as it was seen before

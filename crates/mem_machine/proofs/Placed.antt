@@ -1,5 +1,5 @@
 -- A block that is charged and placed, by its steps: Grant, PlaceBlock, Unfreeze and Publish. Serves `take_block`.
-use Rattle.std.proofs.Common.{◌≡◌, ℕ, ◌+◌, ◌^◌, ◌<◌, ◌==◌, Bool, true, false, cond, refl, sym, ap, ◌∙◌, arith, inl, inr}
+use Rattle.std.proofs.Common.{◌≡◌, ℕ, ◌+◌, ◌^◌, ◌<◌, ◌==◌, Bool, true, false, cond, [], ◌∷◌, refl, sym, ap, ◌∙◌, arith, inl, inr}
 use Rattle.std.specs.Prelude.{nat_le}
 use Rattle.std.proofs.lemmas.Bool.{and_from, le-leb, lt-ltb, cases_eq, eq-eqb, ne_eqb}
 use Rattle.std.proofs.lemmas.Nat.{pow_pos}
@@ -8,7 +8,7 @@ use Rattle.zone_blocks.specs.Areas.{IsFreeBlock}
 use Rattle.frame_word.specs.Seats.{KnownTable, holds}
 use Rattle.group_tree.specs.Groups.{has_group}
 use Rattle.group_tree.specs.Room as room
-use Rattle.group_charge.specs.Charges.{current_of}
+use Rattle.group_charge.specs.Charges.{current_of, AreCharges, SamePeaks, SameEvents, with_charge}
 use Rattle.cpu_part.specs.Cpus.{KnownCpu, times}
 use Rattle.step_rules.specs.declared.phase.ChargedUnit.{ChargedUnit}
 use Rattle.step_rules.specs.declared.phase.Stage.TheVariants.{Live, BackAt, Bare}
@@ -24,11 +24,13 @@ use Rattle.step_rules.proofs.Basics.{at_same, at_other}
 use Rattle.mem_machine.specs.declared.spot.Spot.TheVariants.{Head, Tail}
 use Rattle.mem_machine.specs.Spots.{spot_at}
 use Rattle.mem_machine.specs.Machines.{KnownMachine, is_killed}
-use Rattle.mem_machine.specs.Local.{hold_of, references_of, phase_of, part_of, local_of, IsLocalRun}
+use Rattle.mem_machine.specs.Local.{hold_of, references_of, phase_of, part_of, local_of, MakesAs, side}
 use Rattle.mem_machine.specs.Blocks.{placed_spot, taken_steps}
 use Rattle.mem_machine.proofs.Reaching.{zone_step}
 use Rattle.mem_machine.proofs.Holds.{zone_may_act}
 use Rattle.mem_machine.proofs.Grants.{with_granted, is_granted, pending_is, none_pends}
+use Rattle.mem_machine.proofs.LedgerMoves.{follows_grant}
+use Rattle.mem_machine.specs.Steps.{zone_makes}
 
 -- the block stands in the second machine, with one reference of the zone on its head, and all else that is seen is the same
 pub record IsPlaced (m : KnownMachine) (c : KnownCpu) (g : ℕ) (b : Block) (n : KnownMachine) : Type 0 where
@@ -127,25 +129,30 @@ module _ (t : KnownTable) (m : KnownMachine) (c : KnownCpu) (g : ℕ) (b : Block
     ]
 
     -- the steps lead to what the second machine shows
-    pub taken_run : IsLocalRun c.number (local_of t m c) (taken_steps g b.order b.at) (local_of t n c)
-    taken_run = (
-      is_granted t m c g (2 ^ b.order) there alive usage path,
-      (
-        zone_step granted c.number (PlaceBlock g b.order) (Placed b) refl may_place (refl, free),
+    pub taken_run : AreCharges m.ledger → SamePeaks (with_charge m.ledger g (2 ^ b.order)) n.ledger → SameEvents (with_charge m.ledger g (2 ^ b.order)) n.ledger
+        → MakesAs t c.number (side m c) (taken_steps g b.order b.at) (side n c)
+    taken_run facts peaks events = record {
+      leads = (
+        is_granted t m c g (2 ^ b.order) there alive usage path,
         (
-          zone_step placed c.number (Unfreeze b.at 1) Done refl may_unfreeze tt,
+          zone_step granted c.number (PlaceBlock g b.order) (Placed b) refl may_place (refl, free),
           (
-            zone_step kept c.number (Publish b.at) Done refl may_publish tt,
-            (λ i. record s {
-              hold = sym is.hold i;
-              groups = sym is.groups i;
-              killed = is_killed (sym is.killed i);
-              phases = λ f. sym (phases_are f) i;
-              references = λ q f. sym (references_are q f) i;
-              parts = part_of (sym is.stock i) c;
-              pending = λ h. none_pends t m c g (2 ^ b.order) there alive usage h i;
-            }),
+            zone_step placed c.number (Unfreeze b.at 1) Done refl may_unfreeze tt,
+            (
+              zone_step kept c.number (Publish b.at) Done refl may_publish tt,
+              (λ i. record s {
+                hold = sym is.hold i;
+                groups = sym is.groups i;
+                killed = is_killed (sym is.killed i);
+                phases = λ f. sym (phases_are f) i;
+                references = λ q f. sym (references_are q f) i;
+                parts = part_of (sym is.stock i) c;
+                pending = λ h. none_pends t m c g (2 ^ b.order) there alive usage h i;
+              }),
+            ),
           ),
         ),
-      ),
-    )
+      );
+      follows = follows_grant t m c g (2 ^ b.order) facts there usage
+          (zone_makes (PlaceBlock g b.order) (Placed b) ∷ zone_makes (Unfreeze b.at 1) Done ∷ zone_makes (Publish b.at) Done ∷ []) refl n.ledger peaks events;
+    }

@@ -33,16 +33,18 @@ use Rattle.mem_machine.specs.declared.spot.Spot.{Spot}
 use Rattle.mem_machine.specs.declared.spot.Spot.TheVariants.{Free, Lent, Head, Tail}
 use Rattle.mem_machine.specs.Spots.{spot_at, count_of}
 use Rattle.mem_machine.specs.Machines.{KnownMachine, IsConsistent, Visits, is_killed, booked, pages_booked}
-use Rattle.mem_machine.specs.Local.{local_of, phase_of, part_of, part_with, IsLocalRun, Makes, side}
-use Rattle.mem_machine.specs.Steps.{drain_steps, fill_steps, over_steps}
+use Rattle.mem_machine.specs.Local.{local_of, phase_of, part_of, part_with, Makes, side, MakesAs}
+use Rattle.mem_machine.specs.Steps.{drain_steps, fill_steps, over_steps, zone_makes}
 use Rattle.mem_machine.specs.Stocks.{uncharged, stock_group, Drains, Fills, Prepays, IsOver, own_drain_steps, pages_held}
 use Rattle.mem_machine.specs.Paying.{IsOwnStock}
-use Rattle.mem_machine.proofs.Reaching.{zone_step, run_both}
+use Rattle.mem_machine.proofs.Reaching.{zone_step}
 use Rattle.mem_machine.proofs.Holds.{zone_may_act, visits_open, own_part}
 use Rattle.mem_machine.proofs.Lends.{lent_listed}
 use Rattle.mem_machine.proofs.Draining.{booked_is, counts_own, counts_other, cond-same, stocks_consistent, nothing, pending_back, groups_stay, drained_at, drained_account}
 use Rattle.mem_machine.proofs.Usage.{usage_is, balanced_alone}
-use Rattle.mem_machine.proofs.Grants.{is_granted, is_over}
+use Rattle.mem_machine.proofs.Grants.{is_granted, refused_run}
+use Rattle.mem_machine.proofs.Followed.{makes_both, same_events}
+use Rattle.mem_machine.proofs.LedgerMoves.{follows_grant}
 
 -- ---- the accounts
 
@@ -160,12 +162,11 @@ pub fill_runs : (t : KnownTable) (w : Words) (m : KnownMachine) (c : KnownCpu) (
     → AreCharges m.ledger → IsTied t w c → Visits t (side m c) → c.fresh ≡ []
     → has_group m.ledger.groups g ≡ true → is_killed m.killed g ≡ false → (account_of m.stock.view c.number).book ≡ 0
     → room.PathHasRoom m.ledger.groups (current_of m.ledger) g k
-    → IsLocalRun c.number (local_of t m c) (fill_steps c.number g k) (local_of t (record m {
+    → MakesAs t c.number (side m c) (fill_steps c.number g k) (side (record m {
       ledger = with_charge m.ledger g k;
       stock =
           with_view m.stock (filling m.stock.view c.number g k);
-    })
-    (record c { stock = with_view c.stock (after_fill c.stock.view g k) }))
+    }) (record c { stock = with_view c.stock (after_fill c.stock.view g k) }))
 fill_runs t w m c g k ok facts tied visit none there alive empty has =
     let usage : (h : ℕ) → local.usage_of (local_of t m c) h ≡ current_of m.ledger h = usage_is t w m c ok facts visit.lent tied (balanced_alone m c none) in
     let p = c.number in
@@ -188,17 +189,22 @@ fill_runs t w m c g k ok facts tied visit none there alive empty has =
     let phases : (λ (f : ℕ). phase_of d f (spot_at m.spots f)) ≡ (λ f. phase_of c f (spot_at m.spots f))
     = λ i. λ f. phase_stays c (with_view c.stock (after_fill c.stock.view g k)) f (spot_at m.spots f) (ap (times f) none) i in
     let parts = parts_filled m.stock c g k len noted empty in
-    let back = pending_back g (0 + k) k (omega arith) in (
-      is_granted t m c g k there alive usage has,
-      (zone_step s1 p (Fill p g k) Done refl legal tt, (λ i. record s { phases = sym phases i; parts = sym parts i; pending = back i })),
-    )
+    let back = pending_back g (0 + k) k (omega arith) in
+    record {
+      leads = (
+        is_granted t m c g k there alive usage has,
+        (zone_step s1 p (Fill p g k) Done refl legal tt, (λ i. record s { phases = sym phases i; parts = sym parts i; pending = back i })),
+      );
+      follows = follows_grant t m c g k facts there usage (zone_makes (Fill p g k) Done ∷ []) refl (with_charge m.ledger g k) (λ h. refl)
+          (same_events (with_charge m.ledger g k));
+    }
 
 -- what `fill_stock` leaves, of the machine as it was seen before
 pub record Filled (t : KnownTable) (w : Words) (m now : KnownMachine) (g k : ℕ) (c : KnownCpu) (l : Ledger) (stock : Seated) (d : KnownCpu) : Type 0 where
   pub consistent : IsConsistent t w (record m { ledger = l; stock = stock })
   pub fills : Fills g k (side now c) (side (record m { ledger = l; stock = stock }) d)
   pub visit : Visits t (side (record m { ledger = l; stock = stock }) d)
-  pub steps : IsLocalRun c.number (local_of t now c) (fill_steps c.number g k) (local_of t (record m { ledger = l; stock = stock }) d)
+  pub steps : MakesAs t c.number (side now c) (fill_steps c.number g k) (side (record m { ledger = l; stock = stock }) d)
 
 filled_here : (t : KnownTable) (w : Words) (m : KnownMachine) (c : KnownCpu) (g k : ℕ) → IsConsistent t w m
     → AreCharges m.ledger → IsTied t w c → Visits t (side m c) → c.fresh ≡ [] → k < 65536
@@ -236,16 +242,14 @@ filled_all t w m now c g k same ok facts tied visit none small there alive empty
 -- the grant is refused where a limit has no room, and nothing changes
 pub refused_all : (t : KnownTable) (w : Words) (m now : KnownMachine) → m ≡ now → (c : KnownCpu) (g k over : ℕ) → IsConsistent t w m → AreCharges m.ledger
     → IsTied t w c → Visits t (side now c) → c.fresh ≡ [] → has_group now.ledger.groups g ≡ true → is_killed now.killed g ≡ false
-    → room.IsLowestOver now.ledger.groups (current_of now.ledger) g k over → IsLocalRun c.number (local_of t now c) (over_steps g k over) (local_of t now c)
+    → room.IsLowestOver now.ledger.groups (current_of now.ledger) g k over → MakesAs t c.number (side now c) (over_steps g k over) (side now c)
 refused_all t w m now same c g k over ok facts tied visit none there alive low =
-    subst (λ (x : KnownMachine). IsLocalRun c.number (local_of t x c) (over_steps g k over) (local_of t x c)) same
+    subst (λ (x : KnownMachine). MakesAs t c.number (side x c) (over_steps g k over) (side x c)) same
     (let its : Visits t (side m c) = subst (λ (x : KnownMachine). Visits t (side x c)) (sym same) visit in
-    let usage : (h : ℕ) → local.usage_of (local_of t m c) h ≡ current_of m.ledger h = usage_is t w m c ok facts its.lent tied (balanced_alone m c none) in (
-      is_over t m c g k (ap (λ (x : KnownMachine). has_group x.ledger.groups g) same ∙ there)
-          (ap (λ (x : KnownMachine). is_killed x.killed g) same ∙ alive) usage
-          over (subst (λ (x : KnownMachine). room.IsLowestOver x.ledger.groups (current_of x.ledger) g k over) (sym same) low),
-      refl,
-    ))
+    let usage : (h : ℕ) → local.usage_of (local_of t m c) h ≡ current_of m.ledger h = usage_is t w m c ok facts its.lent tied (balanced_alone m c none) in
+    refused_run t m c g k (ap (λ (x : KnownMachine). has_group x.ledger.groups g) same ∙ there)
+    (ap (λ (x : KnownMachine). is_killed x.killed g) same ∙ alive) usage
+    over (subst (λ (x : KnownMachine). room.IsLowestOver x.ledger.groups (current_of x.ledger) g k over) (sym same) low))
 
 -- what two clauses of an answer tell together
 pub on_ok_both : {T E : Type 0} (r : Result T E) {P Q R : Type 0} → (P → Q → R) → OnOk r P → OnOk r Q → OnOk r R
@@ -331,12 +335,12 @@ module _ (m x : KnownMachine) (q p k : ℕ) (named : q ≡ p) (d : Drains m q k 
 
   -- the steps of the drain, and then those of the fill or of the grant that is refused
   module _ (t : KnownTable) (c : KnownCpu) (mine : c.number ≡ p) (whole : k ≡ pages_held (side m c))
-      (drained : IsLocalRun c.number (local_of t m c) (drain_steps q (stock_group m q) k) (local_of t x c)) where
+      (drained : MakesAs t c.number (side m c) (drain_steps q (stock_group m q) k) (side x c)) where
     its_number : q ≡ c.number
     its_number = named ∙ sym mine
 
-    drained_own : IsLocalRun c.number (local_of t m c) (own_drain_steps (side m c)) (local_of t x c)
-    drained_own = subst (λ (z : ℕ × ℕ). IsLocalRun c.number (local_of t m c) (drain_steps z.0 (stock_group m z.0) z.1) (local_of t x c))
+    drained_own : MakesAs t c.number (side m c) (own_drain_steps (side m c)) (side x c)
+    drained_own = subst (λ (z : ℕ × ℕ). MakesAs t c.number (side m c) (drain_steps z.0 (stock_group m z.0) z.1) (side x c))
         (λ i. (its_number i, whole i)) drained
 
     own_drain : Drains m c.number (pages_held (side m c)) x
@@ -353,8 +357,8 @@ module _ (m x : KnownMachine) (q p k : ℕ) (named : q ≡ p) (d : Drains m q k 
 
       pub prepay_runs : Makes t (side y e) (fill_steps e.number g pages) (side n f)
           → Makes t (side m c) (own_drain_steps (side m c) ++ fill_steps c.number g pages) (side n f)
-      prepay_runs steps = run_both c.number (own_drain_steps (side m c)) (fill_steps c.number g pages) (local_of t m c) (local_of t x c)
-          (local_of t n f) drained_own
+      prepay_runs steps = makes_both t c.number (own_drain_steps (side m c)) (fill_steps c.number g pages) (side m c) (side x c)
+          (side n f) drained_own
           (subst (λ (z : KnownMachine × KnownCpu). Makes t (side z.0 z.1) (fill_steps z.1.number g pages) (side n f)) (λ i. (same i, stays i)) steps)
 
       -- where the grant was refused, nothing changed since
@@ -371,5 +375,5 @@ module _ (m x : KnownMachine) (q p k : ℕ) (named : q ≡ p) (d : Drains m q k 
             → Makes t (side m c) (own_drain_steps (side m c) ++ over_steps g pages over) (side n f)
         refused_runs steps = subst (λ (z : KnownMachine × KnownCpu). Makes t (side m c) (own_drain_steps (side m c) ++ over_steps g pages over) (side z.0 z.1))
             (λ i. (sym (kept ∙ same) i, sym (own_kept ∙ stays) i))
-            (run_both c.number (own_drain_steps (side m c)) (over_steps g pages over) (local_of t m c) (local_of t x c) (local_of t x c) drained_own
+            (makes_both t c.number (own_drain_steps (side m c)) (over_steps g pages over) (side m c) (side x c) (side x c) drained_own
             (subst (λ (z : KnownMachine × KnownCpu). Makes t (side z.0 z.1) (over_steps g pages over) (side z.0 z.1)) (λ i. (same i, stays i)) steps))

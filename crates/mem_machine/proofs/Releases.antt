@@ -39,7 +39,7 @@ use Rattle.mem_machine.specs.declared.spot.Spot.{Spot}
 use Rattle.mem_machine.specs.declared.spot.Spot.TheVariants.{Free, Head}
 use Rattle.mem_machine.specs.Spots.{spot_at, free_of, head_group_of, lent_to, some_cpu}
 use Rattle.mem_machine.specs.Machines.{KnownMachine, FitsSpot, IsConsistent, Visits, BalancesCounts, home_of, is_killed}
-use Rattle.mem_machine.specs.Local.{IsLocalRun, MakesForAny, local_of, phase_of, references_of, side}
+use Rattle.mem_machine.specs.Local.{IsLocalRun, MakesForAny, local_of, phase_of, references_of, side, MakesAs}
 use Rattle.mem_machine.specs.Counts.{with_last_put}
 use Rattle.mem_machine.specs.Freeing.{FreesFrames}
 use Rattle.mem_machine.specs.Releasing.{LeavesList, ReturnsUnit, release_steps}
@@ -50,6 +50,8 @@ use Rattle.mem_machine.proofs.Reaching.{zone_step}
 use Rattle.mem_machine.proofs.Holds.{zone_may_act}
 use Rattle.mem_machine.proofs.Freeing.{free_block_given, unit_freed_consistent}
 use Rattle.mem_machine.proofs.Balances.{balanced_last_put}
+use Rattle.mem_machine.proofs.Followed.{follows_same, follows_still, is_still}
+use Rattle.group_charge.proofs.CallerLemmas.{uncharge_peaks, uncharge_events}
 
 -- ---- one note of the zone's seat changed
 
@@ -199,13 +201,17 @@ module _ (t : KnownTable) (w : Words) (m : KnownMachine) (ok : IsConsistent t w 
         balances = ok.balances;
       }
 
-      pub left_runs : (c : KnownCpu) → IsLocalRun c.number (local_of t m c) (release_steps f (Left left))
-          (local_of t (record m { links = links; lists = lists; seat = left_seat }) c)
+      pub left_runs : (c : KnownCpu) → MakesAs t c.number (side m c) (release_steps f (Left left))
+          (side (record m { links = links; lists = lists; seat = left_seat }) c)
       left_runs c =
-          let s = local_of t m c in (
-            zone_step s c.number (Put f) (answer.Left left) refl (may_put c) tt,
-            λ i. record s { references = λ q x. references_less m.seat c f (let_go left) (λ k. refl) q x i },
-          )
+          let s = local_of t m c in
+          record {
+            leads = (
+              zone_step s c.number (Put f) (answer.Left left) refl (may_put c) tt,
+              λ i. record s { references = λ q x. references_less m.seat c f (let_go left) (λ k. refl) q x i },
+            );
+            follows = follows_same _ _ _ refl;
+          }
 
     -- ---- it comes into the zone's hand
 
@@ -323,7 +329,7 @@ pub back_all : (t : KnownTable) (w : Words) (m now : KnownMachine) → m ≡ now
     → AllStand links lists → length links ≡ length m.links → length lists ≡ 64
     → (change : FrameNote → FrameNote) → TakesInHand change → (seat : KnownSeat) → seat ≡ seat_with m.seat f change
     → (action : Action) (answered : Answer)
-    → ((c : KnownCpu) → holds m.seat f ≡ 1 → IsLocalStep (local_of t m c) c.number 0 action answered)
+    → ((c : KnownCpu) → holds m.seat f ≡ 1 → IsLocalStep (local_of t m c) c.number 0 action answered) → is_still action answered ≡ true
     → ((c : KnownCpu) → after (local_of t m c) 0 action answered ≡ after (local_of t m c) 0 (Put f) answer.Last)
     → (unit : ChargedUnit) → spot_at m.spots i ≡ Head unit
     → (before free : List Bool) (blocks : List Block) (spots : List Spot) (ledger : Ledger) (counts : Counts)
@@ -338,7 +344,7 @@ pub back_all : (t : KnownTable) (w : Words) (m now : KnownMachine) → m ≡ now
       seat = seat;
       counts = counts;
     })
-back_all t w m now same ok f i inside is kept_now links lists left_list stand linked listed change takes seat put action answered first ends unit head before
+back_all t w m now same ok f i inside is kept_now links lists left_list stand linked listed change takes seat put action answered first still ends unit head before
     free blocks spots ledger counts was frees_i gives_i areas_free uncharged balances =
     let kept : home_of m.links f ≢ None = subst (λ (x : KnownMachine). home_of x.links f ≢ None) (sym same) kept_now in
     let leaves : LeavesList m.links m.lists f links lists = subst (λ (x : ℕ). LeavesList m.links m.lists x links lists) is left_list in
@@ -371,11 +377,15 @@ back_all t w m now same ok f i inside is kept_now links lists left_list stand li
       frees = frees;
       areas = areas;
       visit = λ c visit. visit_stays t m n c f change refl takes.lent takes.passed_out takes.collected visit;
-      runs = λ c. (
-        first c (held_once t w m ok f inside kept),
-        subst (λ (s : State). IsLocalRun c.number s (zone_makes (Return f) answer.Done ∷ []) (local_of t n c)) (sym (ends c))
-            (return_runs t w m ok f inside kept links lists leaves stand sized listed unit heads c change takes spots blocks counts frees),
-      );
+      runs = λ c. record {
+        leads = (
+          first c (held_once t w m ok f inside kept),
+          subst (λ (s : State). IsLocalRun c.number s (zone_makes (Return f) answer.Done ∷ []) (local_of t n c)) (sym (ends c))
+              (return_runs t w m ok f inside kept links lists leaves stand sized listed unit heads c change takes spots blocks counts frees),
+        );
+        follows = follows_still _ m.ledger steps _ (and_from _ _ still refl) (uncharge_peaks m.ledger unit.group (2 ^ unit.order))
+            (uncharge_events m.ledger unit.group (2 ^ unit.order));
+      };
     } in
     subst (λ (x : KnownMachine × KnownMachine). AllBack t w x.0 f unit free steps x.1) (λ j. (
       same j,
@@ -416,7 +426,7 @@ pub returned_all : (t : KnownTable) (w : Words) (m now : KnownMachine) → m ≡
 returned_all t w m now same ok f i inside is kept_now links lists left_list stand linked listed seat put unit head before free blocks spots
     ledger counts was frees_i gives_i areas_free uncharged counted =
     let back = back_all t w m now same ok f i inside is kept_now links lists left_list stand linked listed let_go_last last_in_hand seat put
-    (Put f) answer.Last (λ c held. zone_step (local_of t m c) c.number (Put f) answer.Last refl (may_put_one t m f inside held c) tt) (λ c. refl)
+    (Put f) answer.Last (λ c held. zone_step (local_of t m c) c.number (Put f) answer.Last refl (may_put_one t m f inside held c) tt) refl (λ c. refl)
     unit head before free blocks spots ledger counts was frees_i gives_i areas_free uncharged (rw counted (balanced_last_put m.counts ok.balances)) in
     record {
       consistent = back.consistent;

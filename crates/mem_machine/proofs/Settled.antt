@@ -9,12 +9,11 @@ use Rattle.stock_word.specs.declared.view.Stock.{Stock}
 use Rattle.stock_word.specs.declared.view.Stock.TheVariants.{NoGroup, HeldBy, DrainedOf}
 use Rattle.stock_word.specs.Stock.{group_of}
 use Rattle.cpu_part.specs.Cpus.{KnownCpu}
-use Rattle.step_rules.specs.State.{State}
 use Rattle.mem_machine.specs.Machines.{KnownMachine, Visits, is_killed}
-use Rattle.mem_machine.specs.Local.{IsLocalRun, local_of, fresh_group, side}
+use Rattle.mem_machine.specs.Local.{fresh_group, side, MakesAs, Side}
 use Rattle.mem_machine.specs.Settling.{FindsNoneBack, FindsNoneFresh, HandsOver, KeepsFresh, DropsFresh, SettlesFresh, SettlesAllFresh, ReturnsBack, ReturnsAllBack, LeavesOthers, Settles}
 use Rattle.mem_machine.specs.Settling.{fresh_steps, return_steps, settle_steps}
-use Rattle.mem_machine.proofs.Reaching.{run_both}
+use Rattle.mem_machine.proofs.Followed.{makes_both, makes_none}
 
 -- ---- one fresh frame
 
@@ -60,9 +59,9 @@ settles_dropped f g m c n d named killed drops = record {
   drops = λ e. subst (λ (k : ℕ). DropsFresh k f (side m c) (side n d)) (sym named) drops;
 }
 
-pub steps_of : (b : Bool) (p f g : ℕ) (m : KnownMachine) (c : KnownCpu) (s t : State) → fresh_group c ≡ g → is_killed m.killed g ≡ b
-    → IsLocalRun p s (fresh_steps b p f) t → IsLocalRun p s (fresh_steps (is_killed m.killed (fresh_group c)) p f) t
-steps_of b p f g m c s t named is run = subst (λ (x : Bool). IsLocalRun p s (fresh_steps x p f) t) (sym (ap (is_killed m.killed) named ∙ is)) run
+pub steps_of : (b : Bool) (p f g : ℕ) (m : KnownMachine) (c : KnownCpu) (t : KnownTable) (x y : Side) → fresh_group c ≡ g → is_killed m.killed g ≡ b
+    → MakesAs t p x (fresh_steps b p f) y → MakesAs t p x (fresh_steps (is_killed m.killed (fresh_group c)) p f) y
+steps_of b p f g m c t x y named is run = subst (λ (k : Bool). MakesAs t p x (fresh_steps k p f) y) (sym (ap (is_killed m.killed) named ∙ is)) run
 
 -- a list that isn't empty
 pub some_fresh : (xs : List ℕ) (n : ℕ) → n ≡ length xs → n ≢ 0 → xs ≢ []
@@ -83,9 +82,9 @@ of_no_group (DrainedOf g) e = absurd (none-some g (sym e))
 -- what is settled from here on is what is left of a settle from the beginning
 pub record FreshSoFar (t : KnownTable) (m : KnownMachine) (c : KnownCpu) (x : KnownMachine) (y : KnownCpu) : Type 0 where
   pub settles : (n : KnownMachine) (d : KnownCpu) → SettlesAllFresh y.fresh (side x y) (side n d) → SettlesAllFresh c.fresh (side m c) (side n d)
-  pub steps : (b : State)
-      → IsLocalRun c.number (local_of t x y) (flat_map (fresh_steps (is_killed m.killed (fresh_group c)) c.number) y.fresh) b
-      → IsLocalRun c.number (local_of t m c) (flat_map (fresh_steps (is_killed m.killed (fresh_group c)) c.number) c.fresh) b
+  pub steps : (b : Side)
+      → MakesAs t c.number (side x y) (flat_map (fresh_steps (is_killed m.killed (fresh_group c)) c.number) y.fresh) b
+      → MakesAs t c.number (side m c) (flat_map (fresh_steps (is_killed m.killed (fresh_group c)) c.number) c.fresh) b
   pub visit : Visits t (side x y)
   pub others : LeavesOthers c y
   pub back : y.back ≡ c.back
@@ -109,17 +108,17 @@ fresh_start t m c visit = record {
 
 pub fresh_more : (t : KnownTable) (m : KnownMachine) (c : KnownCpu) (x : KnownMachine) (y : KnownCpu) (x' : KnownMachine) (y' : KnownCpu) (f : ℕ)
     → FreshSoFar t m c x y → SettlesFresh f (side x y) (side x' y') → Visits t (side x' y')
-    → IsLocalRun y.number (local_of t x y) (fresh_steps (is_killed x.killed (fresh_group y)) y.number f) (local_of t x' y') → FreshSoFar t m c x' y'
+    → MakesAs t y.number (side x y) (fresh_steps (is_killed x.killed (fresh_group y)) y.number f) (side x' y') → FreshSoFar t m c x' y'
 fresh_more t m c x y x' y' f so_far one visit run =
     let over = settled_over f x y x' y' one in
     let k : Bool = is_killed m.killed (fresh_group c) in
     let p : ℕ = c.number in
-    let run_c : IsLocalRun p (local_of t x y) (fresh_steps k p f) (local_of t x' y') =
-    subst (λ (z : ℕ × Bool). IsLocalRun z.0 (local_of t x y) (fresh_steps z.1 z.0 f) (local_of t x' y')) (λ i. (so_far.others.number i, so_far.killed i)) run in
+    let run_c : MakesAs t p (side x y) (fresh_steps k p f) (side x' y') =
+    subst (λ (z : ℕ × Bool). MakesAs t z.0 (side x y) (fresh_steps z.1 z.0 f) (side x' y')) (λ i. (so_far.others.number i, so_far.killed i)) run in
     record {
       settles = λ n d rest. so_far.settles n d (subst (λ (l : List ℕ). SettlesAllFresh l (side x y) (side n d)) (sym over.front) (side x' y', one, rest));
-      steps = λ b rest. so_far.steps b (subst (λ (l : List ℕ). IsLocalRun p (local_of t x y) (flat_map (fresh_steps k p) l) b) (sym over.front)
-          (run_both p (fresh_steps k p f) (flat_map (fresh_steps k p) y'.fresh) (local_of t x y) (local_of t x' y') b run_c rest));
+      steps = λ b rest. so_far.steps b (subst (λ (l : List ℕ). MakesAs t p (side x y) (flat_map (fresh_steps k p) l) b) (sym over.front)
+          (makes_both t p (fresh_steps k p f) (flat_map (fresh_steps k p) y'.fresh) (side x y) (side x' y') b run_c rest));
       visit = visit;
       others = both_others c y y' so_far.others over.others;
       back = over.back ∙ so_far.back;
@@ -129,7 +128,7 @@ fresh_more t m c x y x' y' f so_far one visit run =
 -- none is left
 pub record FreshSettled (t : KnownTable) (m : KnownMachine) (c : KnownCpu) (n : KnownMachine) (d : KnownCpu) : Type 0 where
   pub settles : SettlesAllFresh c.fresh (side m c) (side n d)
-  pub steps : IsLocalRun c.number (local_of t m c) (flat_map (fresh_steps (is_killed m.killed (fresh_group c)) c.number) c.fresh) (local_of t n d)
+  pub steps : MakesAs t c.number (side m c) (flat_map (fresh_steps (is_killed m.killed (fresh_group c)) c.number) c.fresh) (side n d)
   pub others : LeavesOthers c d
   pub back : d.back ≡ c.back
   pub none_fresh : d.fresh ≡ []
@@ -140,9 +139,10 @@ fresh_end t m c x y n d so_far none =
     let k : Bool = is_killed m.killed (fresh_group c) in
     record {
       settles = so_far.settles n d (subst (λ (l : List ℕ). SettlesAllFresh l (side x y) (side n d)) (sym none.none_fresh) (none.machine, none.cpu));
-      steps = so_far.steps (local_of t n d)
-          (subst (λ (l : List ℕ). IsLocalRun c.number (local_of t x y) (flat_map (fresh_steps k c.number) l) (local_of t n d)) (sym none.none_fresh)
-          (λ i. local_of t (sym none.machine i) (sym none.cpu i)));
+      steps = so_far.steps (side n d)
+          (subst (λ (l : List ℕ). MakesAs t c.number (side x y) (flat_map (fresh_steps k c.number) l) (side n d)) (sym none.none_fresh)
+          (subst (λ (z : KnownMachine × KnownCpu). MakesAs t c.number (side x y) [] (side z.0 z.1)) (λ i. (sym none.machine i, sym none.cpu i))
+          (makes_none t c.number (side x y))));
       others = subst (λ (e : KnownCpu). LeavesOthers c e) (sym none.cpu) so_far.others;
       back = ap (λ (e : KnownCpu). e.back) none.cpu ∙ so_far.back;
       none_fresh = ap (λ (e : KnownCpu). e.fresh) none.cpu ∙ none.none_fresh;
@@ -152,8 +152,8 @@ fresh_end t m c x y n d so_far none =
 
 pub record BackSoFar (t : KnownTable) (m : KnownMachine) (c : KnownCpu) (x : KnownMachine) (y : KnownCpu) : Type 0 where
   pub returns : (n : KnownMachine) (d : KnownCpu) → ReturnsAllBack y.back (side x y) (side n d) → ReturnsAllBack c.back (side m c) (side n d)
-  pub steps : (b : State) → IsLocalRun c.number (local_of t x y) (flat_map (return_steps c.number) y.back) b
-      → IsLocalRun c.number (local_of t m c) (flat_map (return_steps c.number) c.back) b
+  pub steps : (b : Side) → MakesAs t c.number (side x y) (flat_map (return_steps c.number) y.back) b
+      → MakesAs t c.number (side m c) (flat_map (return_steps c.number) c.back) b
   pub visit : Visits t (side x y)
   pub others : LeavesOthers c y
   pub fresh : y.fresh ≡ c.fresh
@@ -163,7 +163,7 @@ back_start t m c visit = record { returns = λ n d rest. rest; steps = λ b rest
 
 pub back_more : (t : KnownTable) (m : KnownMachine) (c : KnownCpu) (x : KnownMachine) (y : KnownCpu) (x' : KnownMachine) (y' : KnownCpu) (f : ℕ)
     → BackSoFar t m c x y → ReturnsBack f (side x y) (side x' y') → Visits t (side x' y')
-    → IsLocalRun y.number (local_of t x y) (return_steps y.number f) (local_of t x' y') → BackSoFar t m c x' y'
+    → MakesAs t y.number (side x y) (return_steps y.number f) (side x' y') → BackSoFar t m c x' y'
 back_more t m c x y x' y' f so_far one visit run =
     let p : ℕ = c.number in
     let others : LeavesOthers y y' = record {
@@ -171,12 +171,12 @@ back_more t m c x y x' y' f so_far one visit run =
       list = ap (λ (e : KnownCpu). e.list) one.cpu;
       pins = ap (λ (e : KnownCpu). e.pins) one.cpu;
     } in
-    let run_c : IsLocalRun p (local_of t x y) (return_steps p f) (local_of t x' y') =
-    subst (λ (q : ℕ). IsLocalRun q (local_of t x y) (return_steps q f) (local_of t x' y')) so_far.others.number run in
+    let run_c : MakesAs t p (side x y) (return_steps p f) (side x' y') =
+    subst (λ (q : ℕ). MakesAs t q (side x y) (return_steps q f) (side x' y')) so_far.others.number run in
     record {
       returns = λ n d rest. so_far.returns n d (subst (λ (l : List ℕ). ReturnsAllBack l (side x y) (side n d)) (sym one.front) (side x' y', one, rest));
-      steps = λ b rest. so_far.steps b (subst (λ (l : List ℕ). IsLocalRun p (local_of t x y) (flat_map (return_steps p) l) b) (sym one.front)
-          (run_both p (return_steps p f) (flat_map (return_steps p) y'.back) (local_of t x y) (local_of t x' y') b run_c rest));
+      steps = λ b rest. so_far.steps b (subst (λ (l : List ℕ). MakesAs t p (side x y) (flat_map (return_steps p) l) b) (sym one.front)
+          (makes_both t p (return_steps p f) (flat_map (return_steps p) y'.back) (side x y) (side x' y') b run_c rest));
       visit = visit;
       others = both_others c y y' so_far.others others;
       fresh = ap (λ (e : KnownCpu). e.fresh) one.cpu ∙ so_far.fresh;
@@ -184,7 +184,7 @@ back_more t m c x y x' y' f so_far one visit run =
 
 pub record BackSettled (t : KnownTable) (m : KnownMachine) (c : KnownCpu) (n : KnownMachine) (d : KnownCpu) : Type 0 where
   pub returns : ReturnsAllBack c.back (side m c) (side n d)
-  pub steps : IsLocalRun c.number (local_of t m c) (flat_map (return_steps c.number) c.back) (local_of t n d)
+  pub steps : MakesAs t c.number (side m c) (flat_map (return_steps c.number) c.back) (side n d)
   pub others : LeavesOthers c d
   pub fresh : d.fresh ≡ c.fresh
   pub none_back : d.back ≡ []
@@ -193,9 +193,10 @@ pub back_end : (t : KnownTable) (m : KnownMachine) (c : KnownCpu) (x : KnownMach
     → BackSoFar t m c x y → FindsNoneBack (side x y) (side n d) → BackSettled t m c n d
 back_end t m c x y n d so_far none = record {
   returns = so_far.returns n d (subst (λ (l : List ℕ). ReturnsAllBack l (side x y) (side n d)) (sym none.none_back) (none.machine, none.cpu));
-  steps = so_far.steps (local_of t n d)
-      (subst (λ (l : List ℕ). IsLocalRun c.number (local_of t x y) (flat_map (return_steps c.number) l) (local_of t n d)) (sym none.none_back)
-      (λ i. local_of t (sym none.machine i) (sym none.cpu i)));
+  steps = so_far.steps (side n d)
+      (subst (λ (l : List ℕ). MakesAs t c.number (side x y) (flat_map (return_steps c.number) l) (side n d)) (sym none.none_back)
+      (subst (λ (z : KnownMachine × KnownCpu). MakesAs t c.number (side x y) [] (side z.0 z.1)) (λ i. (sym none.machine i, sym none.cpu i))
+      (makes_none t c.number (side x y))));
   others = subst (λ (e : KnownCpu). LeavesOthers c e) (sym none.cpu) so_far.others;
   fresh = ap (λ (e : KnownCpu). e.fresh) none.cpu ∙ so_far.fresh;
   none_back = ap (λ (e : KnownCpu). e.back) none.cpu ∙ none.none_back;
@@ -212,20 +213,20 @@ pub record AllSettled (t : KnownTable) (m : KnownMachine) (c : KnownCpu) (n : Kn
   pub others : LeavesOthers c d
   pub none_fresh : d.fresh ≡ []
   pub none_back : d.back ≡ []
-  pub steps : IsLocalRun c.number (local_of t m c) (settle_steps (side m c)) (local_of t n d)
+  pub steps : MakesAs t c.number (side m c) (settle_steps (side m c)) (side n d)
 
 pub settle_both : (t : KnownTable) (m : KnownMachine) (c : KnownCpu) (x : KnownMachine) (y : KnownCpu) (n : KnownMachine) (d : KnownCpu)
     → SettlesAllFresh c.fresh (side m c) (side x y) → LeavesOthers c y × (y.back ≡ c.back) × (y.fresh ≡ [])
-    → IsLocalRun c.number (local_of t m c) (flat_map (fresh_steps (is_killed m.killed (fresh_group c)) c.number) c.fresh) (local_of t x y)
+    → MakesAs t c.number (side m c) (flat_map (fresh_steps (is_killed m.killed (fresh_group c)) c.number) c.fresh) (side x y)
     → ReturnsAllBack y.back (side x y) (side n d) → LeavesOthers y d × (d.fresh ≡ y.fresh) × (d.back ≡ [])
-    → IsLocalRun y.number (local_of t x y) (flat_map (return_steps y.number) y.back) (local_of t n d) → AllSettled t m c n d
+    → MakesAs t y.number (side x y) (flat_map (return_steps y.number) y.back) (side n d) → AllSettled t m c n d
 settle_both t m c x y n d fresh leaves run back leaves' run' = record {
   settles = record { mid = side x y; fresh = fresh; back = subst (λ (l : List ℕ). ReturnsAllBack l (side x y) (side n d)) leaves.1 back };
   others = both_others c y d leaves.0 leaves'.0;
   none_fresh = leaves'.1 ∙ leaves.2;
   none_back = leaves'.2;
-  steps = run_both c.number (flat_map (fresh_steps (is_killed m.killed (fresh_group c)) c.number) c.fresh) (flat_map (return_steps c.number) c.back)
-      (local_of t m c) (local_of t x y) (local_of t n d) run
-      (subst (λ (z : ℕ × List ℕ). IsLocalRun z.0 (local_of t x y) (flat_map (return_steps z.0) z.1) (local_of t n d))
+  steps = makes_both t c.number (flat_map (fresh_steps (is_killed m.killed (fresh_group c)) c.number) c.fresh) (flat_map (return_steps c.number) c.back)
+      (side m c) (side x y) (side n d) run
+      (subst (λ (z : ℕ × List ℕ). MakesAs t z.0 (side x y) (flat_map (return_steps z.0) z.1) (side n d))
       (λ i. (leaves.0.number i, leaves.1 i)) run');
 }

@@ -31,12 +31,13 @@ use Rattle.mem_machine.specs.declared.spot.Spot.TheVariants.{Free, Lent, Head, T
 use Rattle.mem_machine.specs.Spots.{spot_at, is_free, free_of, group_of, head_group_of, some_cpu}
 use Rattle.mem_machine.specs.Machines.{KnownMachine, FitsSpot, IsConsistent, IsSeated, Visits, home_of}
 use Rattle.mem_machine.specs.Lending.{TakesBackByStep, TakesNoneBack}
-use Rattle.mem_machine.specs.Local.{local_of, phase_of, part_of, part_with, IsLocalRun, side}
+use Rattle.mem_machine.specs.Local.{local_of, phase_of, part_of, part_with, side, MakesAs}
 use Rattle.mem_machine.specs.Steps.{back_steps}
 use Rattle.mem_machine.proofs.Reaching.{zone_step, cpu_step}
 use Rattle.mem_machine.proofs.Holds.{zone_may_act, visits_open, seated_cpu}
 use Rattle.mem_machine.proofs.Records.{free_at, one_covered, length_free, free_given, lent_spot, spots_changed, holds_same, units_stay, charges_stay}
 use Rattle.mem_machine.proofs.Lends.{parts_changed, references_stay, lent_listed, phases_changed}
+use Rattle.mem_machine.proofs.Followed.{follows_same}
 
 -- a list that hasn't the frame stays without it
 pub without_none : (f : ℕ) (xs : List ℕ) → times f xs ≡ 0 → without f xs ≡ xs
@@ -146,9 +147,8 @@ module _ (t : KnownTable) (w : Words) (m : KnownMachine) (c : KnownCpu) (tied : 
   same_phase g (Head unit) = refl
   same_phase g (Tail h) = refl
 
-  pub take_runs : (blocks : List Block) → IsLocalRun c.number (local_of t m c) (back_steps c.number f)
-      (local_of t (record m { blocks = blocks; spots = slice_set m.spots f Free; seat = seat_with m.seat f (collected_from c.number) })
-      (record c { list = rest; seat = seat_with c.seat f gave_back }))
+  pub take_runs : (blocks : List Block) → MakesAs t c.number (side m c) (back_steps c.number f)
+      (side (record m { blocks = blocks; spots = slice_set m.spots f Free; seat = seat_with m.seat f (collected_from c.number) }) (record c { list = rest; seat = seat_with c.seat f gave_back }))
   take_runs blocks =
       let p = c.number in
       let s = local_of t m c in
@@ -179,13 +179,17 @@ module _ (t : KnownTable) (w : Words) (m : KnownMachine) (c : KnownCpu) (tied : 
         fresh = without_none f c.fresh none_fresh i;
         back = without_none f c.back none_back i;
       })) in
-      let pa = parts_changed m.stock c rest c.fresh c.back _ gone in (
-        cpu_step s p (PassBack f) Done refl may_pass tt,
-        (
-          zone_step mid p (Collect f p) Done refl may_collect tt,
-          (λ i. record s { phases = λ g. sym (ph g) i; references = λ q x. sym (re q x) i; parts = λ q. sym (pa q) i }),
-        ),
-      )
+      let pa = parts_changed m.stock c rest c.fresh c.back _ gone in
+      record {
+        leads = (
+          cpu_step s p (PassBack f) Done refl may_pass tt,
+          (
+            zone_step mid p (Collect f p) Done refl may_collect tt,
+            (λ i. record s { phases = λ g. sym (ph g) i; references = λ q x. sym (re q x) i; parts = λ q. sym (pa q) i }),
+          ),
+        );
+        follows = follows_same _ _ _ refl;
+      }
 
 -- all of it, of the machine as it was seen before
 pub record AllTaken (t : KnownTable) (w : Words) (now : KnownMachine) (c : KnownCpu) (n : KnownMachine) (d : KnownCpu) (free : List Bool) : Type 0 where

@@ -19,7 +19,7 @@ use Rattle.frame_word.proofs.Notes.{note_here, note_else}
 use Rattle.stock_word.specs.Stock.{Words}
 use Rattle.group_tree.specs.Groups.{has_group}
 use Rattle.group_tree.specs.Room.{PathHasRoom}
-use Rattle.group_charge.specs.Charges.{Ledger, current_of, with_charge, with_uncharge, PagesRise}
+use Rattle.group_charge.specs.Charges.{Ledger, current_of, with_charge, with_uncharge, PagesRise, AreCharges}
 use Rattle.lru_lists.specs.declared.record.Link.{Link}
 use Rattle.lru_lists.specs.declared.lru.Lru.{Lru}
 use Rattle.lru_lists.specs.Lists.{OthersStand, OneOfAllChanges}
@@ -34,12 +34,14 @@ use Rattle.mem_machine.specs.declared.spot.Spot.TheVariants.{Free, Head, Tail}
 use Rattle.mem_machine.specs.Spots.{spot_at, is_free, is_in_hand, lent_to, free_of, group_of}
 use Rattle.mem_machine.specs.Machines.{KnownMachine, IsConsistent, Visits, is_killed}
 use Rattle.mem_machine.specs.Blocks.{PlacesUnit, TakesBlock, TakesNoBlock, taken_steps, unplaced_steps}
-use Rattle.mem_machine.specs.Local.{local_of, phase_of, IsLocalRun, side}
+use Rattle.mem_machine.specs.Local.{local_of, phase_of, side, MakesAs}
 use Rattle.mem_machine.proofs.Records.{length_free, free_at, free_is, free_inside, no_cpu_is}
 use Rattle.mem_machine.proofs.PlacesUnits.{in_block, off_block}
 use Rattle.mem_machine.proofs.KeptUnits.{IsAdded, IsUsed, JoinsCharges, unit_kept, unit_listed}
 use Rattle.mem_machine.proofs.Placed.{taken_run}
 use Rattle.mem_machine.proofs.Grants.{unplaced_run}
+use Rattle.mem_machine.proofs.Followed.{same_events}
+use Rattle.group_charge.proofs.CallerLemmas.{uncharge_peaks, uncharge_events}
 
 -- ---- the block that was taken
 
@@ -170,7 +172,7 @@ pub record AllTaken (t : KnownTable) (w : Words) (now : KnownMachine) (c : Known
   pub free_is : free ≡ free_of n.spots
   pub takes : TakesBlock now g k at n
   pub visit : Visits t (side n d)
-  pub steps : IsLocalRun c.number (local_of t now c) (taken_steps g k at) (local_of t n d)
+  pub steps : MakesAs t c.number (side now c) (taken_steps g k at) (side n d)
 
 -- what is asked of the processor and of the group
 pub record MayTake (t : KnownTable) (m : KnownMachine) (c : KnownCpu) (g : ℕ) : Type 0 where
@@ -194,13 +196,13 @@ taken_machine m g b blocks spots links new = record {
   notes = m.notes;
 }
 
-taken_here : (t : KnownTable) (w : Words) (m : KnownMachine) (c : KnownCpu) → IsConsistent t w m → (g : ℕ) → g < 64 → (b : Block)
+taken_here : (t : KnownTable) (w : Words) (m : KnownMachine) (c : KnownCpu) → IsConsistent t w m → AreCharges m.ledger → (g : ℕ) → g < 64 → (b : Block)
     → MayTake t m c g → PathHasRoom m.ledger.groups (current_of m.ledger) g (2 ^ b.order) → PagesRise m.ledger (with_charge m.ledger g (2 ^ b.order)) g (2 ^ b.order)
     → (before free : List Bool) (blocks : List Block) → before ≡ free_of m.spots → IsFrontOfSmallest m.blocks b.order b → TakesFrames before b free
     → AreMaximalBlocks free blocks → (spots : List Spot) → PlacesUnit m.spots g b spots → holds m.seat b.at ≡ 0
     → (any lru : Lru) → lru ≡ get_or m.lists g any → (links : List Link) (new : Lru) → IsAdded m.links lru b.at links new → OthersStand → OneOfAllChanges
     → AllTaken t w m c g b.order b.at (taken_machine m g b blocks spots links new) c free
-taken_here t w m c ok g fits b may room rise before free blocks was front takes areas spots placed unreferred any lru read links new added others all =
+taken_here t w m c ok facts g fits b may room rise before free blocks was front takes areas spots placed unreferred any lru read links new added others all =
     let n = taken_machine m g b blocks spots links new in
     let block = taken_inside m.spots m.blocks ok.areas before free was b.order b front takes in
     let were_free = taken_free m.spots m.blocks ok.areas before free was b.order b front takes in
@@ -243,17 +245,17 @@ taken_here t w m c ok g fits b may room rise before free blocks was front takes 
             groups = refl;
             killed = refl;
             stock = refl;
-          });
+          }) facts (λ h. refl) (same_events (with_charge m.ledger g (2 ^ b.order)));
     }
 
-pub taken_all : (t : KnownTable) (w : Words) (m now : KnownMachine) → m ≡ now → (c d : KnownCpu) → d ≡ c → IsConsistent t w m → (g i : ℕ) → i < 64 → i ≡ g
+pub taken_all : (t : KnownTable) (w : Words) (m now : KnownMachine) → m ≡ now → (c d : KnownCpu) → d ≡ c → IsConsistent t w m → AreCharges m.ledger → (g i : ℕ) → i < 64 → i ≡ g
     → (k pages : ℕ) → pages ≡ 2 ^ k → MayTake t now c g → PathHasRoom m.ledger.groups (current_of m.ledger) g pages → (ledger : Ledger) → ledger ≡ with_charge m.ledger g pages
     → PagesRise m.ledger ledger g pages → (before free : List Bool) (b : Block) (blocks : List Block) → before ≡ free_of m.spots
     → IsFrontOfSmallest m.blocks k b → TakesFrames before b free → AreMaximalBlocks free blocks → (spots : List Spot) → PlacesUnit m.spots g b spots
     → (f u : ℕ) → f ≡ b.at → u ≡ f → holds m.seat f ≡ 0 → (seat : KnownSeat) → seat ≡ seat_with m.seat f (unfrozen 1) → (any lru : Lru)
     → lru ≡ get_or m.lists i any → (links : List Link) (new : Lru) → IsAdded m.links lru u links new → OthersStand → OneOfAllChanges
     → AllTaken t w now c g k f (record m { blocks = blocks; spots = spots; ledger = ledger; links = links; lists = slice_set m.lists i new; seat = seat }) d free
-taken_all t w m now same c d stays ok g i fits index k pages size may room ledger charged rise before free b blocks was front takes areas spots placed f u at unit
+taken_all t w m now same c d stays ok facts g i fits index k pages size may room ledger charged rise before free b blocks was front takes areas spots placed f u at unit
     unreferred seat seat_is any lru read links new added others all =
     let order : k ≡ b.order = sym front.order_is in
     let so_many : pages ≡ 2 ^ b.order = size ∙ ap (λ (x : ℕ). 2 ^ x) order in
@@ -284,7 +286,7 @@ taken_all t w m now same c d stays ok g i fits index k pages size may room ledge
       sym order j,
       sym at j,
     ))
-    (taken_here t w m c ok g fits_here b may_here room_here rise_here before free blocks was front_here takes areas spots placed unreferred_here any lru read_here links new
+    (taken_here t w m c ok facts g fits_here b may_here room_here rise_here before free blocks was front_here takes areas spots placed unreferred_here any lru read_here links new
     added_here others all)
 
 -- ---- no block
@@ -292,12 +294,12 @@ taken_all t w m now same c d stays ok g i fits index k pages size may room ledge
 -- what it leaves where there is none
 pub record NoneTaken (t : KnownTable) (now : KnownMachine) (c : KnownCpu) (g k : ℕ) (n : KnownMachine) (d : KnownCpu) : Type 0 where
   pub none : TakesNoBlock now g k n
-  pub steps : IsLocalRun c.number (local_of t now c) (unplaced_steps g k) (local_of t n d)
+  pub steps : MakesAs t c.number (side now c) (unplaced_steps g k) (side n d)
 
-pub none_all : (t : KnownTable) (w : Words) (m now : KnownMachine) → m ≡ now → (c d : KnownCpu) → d ≡ c → IsConsistent t w m → (g k pages : ℕ) → pages ≡ 2 ^ k
+pub none_all : (t : KnownTable) (w : Words) (m now : KnownMachine) → m ≡ now → (c d : KnownCpu) → d ≡ c → IsConsistent t w m → AreCharges m.ledger → (g k pages : ℕ) → pages ≡ 2 ^ k
     → MayTake t now c g → PathHasRoom m.ledger.groups (current_of m.ledger) g pages → (charged ledger : Ledger) → charged ≡ with_charge m.ledger g pages → ledger ≡ with_uncharge charged g pages
     → (blocks : List Block) → blocks ≡ m.blocks → HasNoneFrom m.blocks k → NoneTaken t now c g k (record m { blocks = blocks; ledger = ledger }) d
-none_all t w m now same c d stays ok g k pages size may room charged ledger rises falls blocks kept none =
+none_all t w m now same c d stays ok facts g k pages size may room charged ledger rises falls blocks kept none =
     let may_here : MayTake t m c g = subst (λ (x : KnownMachine). MayTake t x c g) (sym same) may in
     let room_here : PathHasRoom m.ledger.groups (current_of m.ledger) g (2 ^ k) = subst (PathHasRoom m.ledger.groups (current_of m.ledger) g) size room in
     let after : Ledger = with_uncharge (with_charge m.ledger g (2 ^ k)) g (2 ^ k) in
@@ -308,5 +310,6 @@ none_all t w m now same c d stays ok g k pages size may room charged ledger rise
     (λ j. (same j, record m { blocks = sym kept j; ledger = sym ledger_is j }, sym stays j))
     (record {
       none = record { room = room_here; none = none; machine = refl };
-      steps = unplaced_run t m c g (2 ^ k) may_here.there may_here.alive may_here.usage k enough ok.sizes.spots ok.areas none room_here n refl refl;
+      steps = unplaced_run t m c g (2 ^ k) may_here.there may_here.alive may_here.usage k enough ok.sizes.spots ok.areas none facts room_here n refl refl
+          (uncharge_peaks (with_charge m.ledger g (2 ^ k)) g (2 ^ k)) (uncharge_events (with_charge m.ledger g (2 ^ k)) g (2 ^ k));
     })

@@ -14,9 +14,10 @@ use Rattle.cpu_part.specs.Cpus.{KnownCpu}
 use Rattle.mem_machine.specs.Spots.{spot_at}
 use Rattle.mem_machine.specs.Machines.{KnownMachine, IsConsistent, home_of, no_lists}
 use Rattle.mem_machine.specs.Marks.{TouchesUnit}
-use Rattle.mem_machine.specs.Local.{local_of, IsLocalRun}
+use Rattle.mem_machine.specs.Local.{MakesAs, side}
 use Rattle.mem_machine.proofs.Listed.{touched_owners, fits_home, loose_stay, others_stay}
 use Rattle.mem_machine.proofs.Dirties.{owner_bound, on_list, owned, stands, its_lists}
+use Rattle.mem_machine.proofs.Followed.{makes_stay}
 
 module _ (t : KnownTable) (w : Words) (m : KnownMachine) (ok : IsConsistent t w m) (f : ℕ) (inside : f < t.frames) (h : Home)
     (home : home_of m.links f ≡ Some h)
@@ -74,7 +75,7 @@ module _ (t : KnownTable) (w : Words) (m : KnownMachine) (ok : IsConsistent t w 
 pub record AllTouched (t : KnownTable) (w : Words) (now : KnownMachine) (f : ℕ) (touched : Touched) (n : KnownMachine) : Type 0 where
   pub consistent : IsConsistent t w n
   pub touches : TouchesUnit now f touched n
-  pub steps : (c : KnownCpu) → IsLocalRun c.number (local_of t now c) [] (local_of t n c)
+  pub steps : (c : KnownCpu) → MakesAs t c.number (side now c) [] (side n c)
 
 pub touch_all : (t : KnownTable) (w : Words) (m now : KnownMachine) → m ≡ now → IsConsistent t w m → (f i : ℕ) → f < t.frames → i ≡ f → (h : Home)
     → Some h ≡ home_of m.links i → (lru : Lru) → lru ≡ get_or m.lists h.owner lru → (links : List Link) (new : Lru) (touched : Touched) → StandsIn links new
@@ -87,5 +88,5 @@ touch_all t w m now same ok f i inside is h home lru read links new touched now_
     subst (λ (x : KnownMachine). AllTouched t w x f touched n) same (record {
       consistent = touch_consistent t w m ok f inside h at lru read links new touched now_stands owner told changes others all;
       touches = touch_does t w m ok f inside h at lru read links new touched now_stands owner told changes others all;
-      steps = λ c. refl;
+      steps = λ c. makes_stay t m n c c refl refl;
     })

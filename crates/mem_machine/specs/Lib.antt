@@ -1,6 +1,7 @@
 pub mod Spots
 pub mod Counts
 pub mod Machines
+pub mod Following
 pub mod Local
 pub mod Start
 pub mod Steps
@@ -12,6 +13,7 @@ pub mod Ageing
 pub mod Freeing
 pub mod Blocks
 pub mod Interleaving
+pub mod Telling
 pub mod Releasing
 pub mod Evicting
 pub mod Settling

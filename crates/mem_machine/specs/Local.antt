@@ -22,6 +22,7 @@ use Rattle.mem_machine.specs.declared.spot.Spot.{Spot}
 use Rattle.mem_machine.specs.declared.spot.Spot.TheVariants.{Free, Lent, Head, Tail}
 use Rattle.mem_machine.specs.Spots.{spot_at}
 use Rattle.mem_machine.specs.Machines.{KnownMachine, is_killed}
+use Rattle.mem_machine.specs.Following.{FollowsSteps}
 
 -- the number, 0 where there is none
 abbrev pub number_or_0 : Option ℕ → ℕ
@@ -88,10 +89,15 @@ local_of t m c = record {
   pending = λ g. 0;
 }
 
--- these steps lead the processor that holds the lock, by what it sees, from one side to another
+-- These steps, of the processor of this number and of the zone's seat, lead from one side to another: by what the
+-- processor sees, and by the peaks and the event counts of the ledger
+pub record MakesAs (table : KnownTable) (number : ℕ) (before : Side) (steps : Run) (after : Side) : Type 0 where
+  pub leads : IsLocalRun number (local_of table before.machine before.cpu) steps (local_of table after.machine after.cpu)
+  pub follows : FollowsSteps (local_of table before.machine before.cpu) before.machine.ledger steps after.machine.ledger
+
+-- these steps lead the processor that holds the lock from one side to another
 abbrev pub Makes : KnownTable → Side → Run → Side → Type 0
-Makes t before steps after =
-    IsLocalRun before.cpu.number (local_of t before.machine before.cpu) steps (local_of t after.machine after.cpu)
+Makes t before steps after = MakesAs t before.cpu.number before steps after
 
 -- so it is by the steps that the side before tells
 abbrev pub MakesBy : KnownTable → (Side → Run) → Side → Side → Type 0

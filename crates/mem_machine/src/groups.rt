@@ -60,6 +60,7 @@ impl<N: BootName> Machine<N> {
         ensures unchanged { OnErr result (self.new ≡ self.old) }
         ensures steps { IfOk result (λ n. MakesForAny N.frames self.old (make_steps path.now n) self.new) }
     {
+        let _tree = self.charges.tree(); // For the clauses.
         let group = self.charges.make(path)?;
         let number = group.number();
         self.killed[number as usize] = false;

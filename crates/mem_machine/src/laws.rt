@@ -1,6 +1,7 @@
 //! Laws: what each function ensures holds of every run, machine and processor.
 
 ghost use Rattle.mem_machine.specs.Interleaving.{CallsInterleave};
+ghost use Rattle.mem_machine.specs.Telling.{LedgersTell};
 
 use step_rules::laws as rules;
 
@@ -13,3 +14,10 @@ pub fn calls_interleave()
 {
     rules::local_runs_interleave();
 }
+
+/// Where a run shows the processor the machine before a call, and each group's peak and event counts in the ledger are those
+/// of the run, so they are after the call, of the run with the call's steps and any allowed steps of other processors
+/// between them.
+pub fn ledgers_tell()
+    ensures { LedgersTell }
+{}

@@ -23,12 +23,11 @@ use Rattle.step_rules.specs.After.{Run}
 use Rattle.mem_machine.specs.declared.releasing.Released.{Released}
 use Rattle.mem_machine.specs.declared.releasing.Released.TheVariants.{Left, Returned}
 use Rattle.mem_machine.specs.Machines.{KnownMachine, IsConsistent, Visits, home_of, side}
-use Rattle.mem_machine.specs.Local.{MakesForAny, local_of}
+use Rattle.mem_machine.specs.Local.{MakesForAny}
 use Rattle.mem_machine.specs.Ageing.{entries_in}
 use Rattle.mem_machine.specs.Releasing.{LeavesList, Releases, release_steps}
 use Rattle.mem_machine.specs.Steps.{Drain, drain_stocks_steps, kill_steps, drain_steps}
 use Rattle.mem_machine.specs.Stocks.{AreOwnDrained, DrainsNoted, DrainsIf, DrainsAllIf, DrainsGroup, of_group, stock_group, uncharged}
-use Rattle.mem_machine.proofs.Reaching.{run_both}
 use Rattle.mem_machine.proofs.Draining.{drained_at, groups_stay}
 use Rattle.std.proofs.lemmas.List.Folds.{list_any-append}
 use Rattle.std.proofs.lemmas.List.Sums.{sum_by-append}
@@ -232,7 +231,7 @@ let_go_more t g list m i now s u o f at left then releases_f visit runs_f =
           subst (λ (r : Run). LetsGoAll (entries_in m g list) m r n) (sym (append_assoc s.steps (release_steps u.number left) rest))
           (s.whole (release_steps u.number left ++ rest) n (subst (λ (l : List Entry). LetsGoAll l now (release_steps u.number left ++ rest) n) (sym o.entries)
           (then, left, rest, releases, subst (λ (l : List Entry). LetsGoAll l then rest n) tail all, refl)));
-      runs = λ c. run_both c.number s.steps (release_steps u.number left) (local_of t m c) (local_of t now c) (local_of t then c) (s.runs c) (runs c);
+      runs = λ c. makes_both t c.number s.steps (release_steps u.number left) (side m c) (side now c) (side then c) (s.runs c) (runs c);
       left =
           let a = s.left in
           let b : length (entries_in now g list) ≡ length (u ∷ o.rest) = ap length o.entries in
@@ -465,9 +464,9 @@ all_killed t w v fits m a d b n is usage killed pages drains drained first first
           steps_are = refl;
         };
         runs = λ c.
-            run_both c.number (kill_steps v) (drain_stocks_steps drains.drains ++ (first.steps ++ last.steps)) (local_of t m c) (local_of t a c) (local_of t n c)
-            (killed c) (run_both c.number (drain_stocks_steps drains.drains) (first.steps ++ last.steps) (local_of t a c) (local_of t d c) (local_of t n c)
-            (drains.steps c) (run_both c.number first.steps last.steps (local_of t d c) (local_of t b c) (local_of t n c) (first.runs c) (last.runs c)));
+            makes_both t c.number (kill_steps v) (drain_stocks_steps drains.drains ++ (first.steps ++ last.steps)) (side m c) (side a c) (side n c)
+            (killed c) (makes_both t c.number (drain_stocks_steps drains.drains) (first.steps ++ last.steps) (side a c) (side d c) (side n c)
+            (drains.steps c) (makes_both t c.number first.steps last.steps (side d c) (side b c) (side n c) (first.runs c) (last.runs c)));
         later = later;
         front = refl;
         quiet = quiet.quiet;

@@ -24,10 +24,9 @@ use Rattle.mem_machine.specs.declared.spot.Spot.{Spot}
 use Rattle.mem_machine.specs.declared.spot.Spot.TheVariants.{Head}
 use Rattle.mem_machine.specs.Spots.{spot_at}
 use Rattle.mem_machine.specs.Machines.{KnownMachine}
-use Rattle.mem_machine.specs.Local.{IsLocalRun, MakesForAny, local_of, phase_of}
+use Rattle.mem_machine.specs.Local.{IsLocalRun, MakesForAny, local_of, phase_of, side}
 use Rattle.mem_machine.specs.Evicting.{MissesUnit, EvictsUnit, Evicts, evict_steps}
 use Rattle.mem_machine.specs.Steps.{zone_makes}
-use Rattle.mem_machine.proofs.Reaching.{run_both}
 use Rattle.mem_machine.specs.declared.counts.Counts.{Counts}
 use Rattle.mem_reclaim.specs.Moves.{Moves, Rises, all_missed_in, pages_back, pages_returned, returned_in, is_miss, missed_in, is_kill, has_kill}
 use Rattle.mem_reclaim.proofs.Rising.{missed_both, returned_both, rises_both, rises_none, rises_one}
@@ -65,7 +64,7 @@ moves_rest t m = moves_none t m m (λ c. refl) refl refl
 pub moves_both : (t : KnownTable) (a b c : KnownMachine) (some more : ℕ) (one two : Run) → Moves t a some one b → Moves t b more two c
     → Moves t a (some + more) (one ++ two) c
 moves_both t a b c some more one two first second = record {
-  runs = λ p. run_both p.number one two (local_of t a p) (local_of t b p) (local_of t c p) (first.runs p) (second.runs p);
+  runs = λ p. makes_both t p.number one two (side a p) (side b p) (side c p) (first.runs p) (second.runs p);
   pages = λ p.
       let x = pages_both p.number one two (local_of t a p) (local_of t b p) (first.runs p) in
       let y = first.pages p in let z = second.pages p in

@@ -10,8 +10,7 @@ use Rattle.cpu_part.specs.Cpus.{KnownCpu}
 use Rattle.mem_machine.specs.Machines.{KnownMachine, Visits, KeepsVisit}
 use Rattle.mem_machine.specs.Steps.{drain_stocks_steps, set_max_steps}
 use Rattle.mem_machine.specs.Stocks.{DrainsSubtree, AreDrained}
-use Rattle.mem_machine.specs.Local.{MakesForAny, side, local_of}
-use Rattle.mem_machine.proofs.Reaching.{run_both}
+use Rattle.mem_machine.specs.Local.{MakesForAny, side}
 use Rattle.mem_reclaim.specs.Moves.{Leads}
 use Rattle.mem_reclaim.specs.Rounds.{MakesRounds, pages_missing}
 use Rattle.mem_reclaim.specs.Staying.{Keeps, MissedAll}
@@ -100,7 +99,7 @@ lowered_by t g limit pages given m x n sub none leads missed keeps = (
     keeps = keeps;
     steps_are = refl;
   },
-  λ c. run_both c.number (drain_stocks_steps sub.drains) leads.steps (local_of t m c) (local_of t x c) (local_of t n c)
+  λ c. makes_both t c.number (drain_stocks_steps sub.drains) leads.steps (side m c) (side x c) (side n c)
       (sub.steps c) (leads.moves.runs c),
 )
 
@@ -117,7 +116,7 @@ lowered_above t g limit m y x n over told of_y k =
         above = λ more. record { lowered = x; lowering = b.0; killing = k.0; lowers = b.1; kills = k.1; steps_are = refl };
         within = λ (less : current_of m.ledger g ≤ limit). absurd (omega (arith, over, less));
       },
-      λ c. run_both c.number b.0 k.0 (local_of t m c) (local_of t x c) (local_of t n c) (b.2 c) (k.2 c),
+      λ c. makes_both t c.number b.0 k.0 (side m c) (side x c) (side n c) (b.2 c) (k.2 c),
     )
 
 -- the usage is within it
@@ -143,7 +142,7 @@ limited_by t g of m x n is first last = (
     keeps = subst (λ (k : KnownMachine). KeepsToLimit g of (course t k last.0 n)) is last.1;
     steps_are = refl;
   },
-  λ c. run_both c.number (set_max_steps g of) last.0 (local_of t m c) (local_of t x c) (local_of t n c) (first c)
+  λ c. makes_both t c.number (set_max_steps g of) last.0 (side m c) (side x c) (side n c) (first c)
       (last.2 c),
 )
 

@@ -117,7 +117,7 @@ module _ (t : KnownTable) (MayAsk : List Group → ℕ → ℕ → Type 0) (s : 
       let y = low.drained in
       let first = drain_stocks_steps low.drains in
       let told = with_limit_noted m g 0 in
-      let drains = passes_told g m y first (drains_pass t c g t.cpus told y low.drains low.drains_all (low.drain_runs c)) in
+      let drains = passes_told g m y first (drains_pass t c g t.cpus told y low.drains low.drains_all (low.drain_runs c).leads) in
       let after_drains = passes_both t c s m y made first since drains in
       let rounds = keeps_pass t c y x low.reclaims.steps low.reclaims.moves.runs low.keeps low.reclaims.moves.misses in
       let lowering = subst (λ (k : Run). Passes t c m k x) (sym low.steps_are) (passes_both t c m y x first low.reclaims.steps drains rounds) in

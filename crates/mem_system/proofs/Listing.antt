@@ -12,9 +12,8 @@ use Rattle.mem_machine.specs.declared.releasing.Released.TheVariants.{Returned}
 use Rattle.mem_machine.specs.Spots.{spot_at}
 use Rattle.mem_machine.specs.Machines.{KnownMachine}
 use Rattle.mem_machine.specs.Lending.{TakesManyBack}
-use Rattle.mem_machine.specs.Local.{IsLocalRun, local_of, side}
+use Rattle.mem_machine.specs.Local.{side, MakesAs}
 use Rattle.mem_machine.specs.Releasing.{ReturnsUnit, release_steps}
-use Rattle.mem_machine.proofs.Reaching.{run_both}
 use Rattle.mem_system.specs.Commands.{BySteps}
 use Rattle.mem_system.specs.Releases.{ListsFrame, ReturnsFrames}
 
@@ -75,7 +74,7 @@ left_over k list left listed split =
 
 -- a single frame came back and went to the list
 pub returned_single : (t : KnownTable) (sizes : Config) (f : ℕ) (m freed n : KnownMachine) (c d : KnownCpu) (returns : ReturnsUnit m f freed)
-    → returns.unit.order ≡ 0 → IsLocalRun c.number (local_of t m c) (release_steps f Returned) (local_of t freed c)
+    → returns.unit.order ≡ 0 → MakesAs t c.number (side m c) (release_steps f Returned) (side freed c)
     → BySteps t (side freed c) (side n d) (ListsFrame sizes f) → BySteps t (side m c) (side n d) (ReturnsFrames sizes f)
 returned_single t sizes f m freed n c d returns single first lists = (
   release_steps f Returned ++ lists.0,
@@ -87,12 +86,12 @@ returned_single t sizes f m freed n c d returns single first lists = (
     block = λ more. absurd (more single);
     steps_are = refl;
   },
-  run_both c.number (release_steps f Returned) lists.0 (local_of t m c) (local_of t freed c) (local_of t n d) first lists.2,
+  makes_both t c.number (release_steps f Returned) lists.0 (side m c) (side freed c) (side n d) first lists.2,
 )
 
 -- a block came back
 pub returned_block : (t : KnownTable) (sizes : Config) (f : ℕ) (m freed : KnownMachine) (c : KnownCpu) (returns : ReturnsUnit m f freed)
-    → returns.unit.order ≢ 0 → IsLocalRun c.number (local_of t m c) (release_steps f Returned) (local_of t freed c)
+    → returns.unit.order ≢ 0 → MakesAs t c.number (side m c) (release_steps f Returned) (side freed c)
     → BySteps t (side m c) (side freed c) (ReturnsFrames sizes f)
 returned_block t sizes f m freed c returns more first = (
   release_steps f Returned,

@@ -15,10 +15,9 @@ use Rattle.mem_machine.specs.Spots.{spot_at}
 use Rattle.mem_machine.specs.Machines.{KnownMachine}
 use Rattle.mem_machine.specs.Lending.{TakesManyBack}
 use Rattle.mem_machine.specs.Stocks.{Drains, stock_group}
-use Rattle.mem_machine.specs.Local.{IsLocalRun, local_of, side}
+use Rattle.mem_machine.specs.Local.{side, MakesAs}
 use Rattle.mem_machine.specs.Settling.{Settles, settle_steps}
 use Rattle.mem_machine.specs.Steps.{open_steps, shut_steps, drain_list_steps, drain_steps}
-use Rattle.mem_machine.proofs.Reaching.{run_both}
 use Rattle.mem_machine.proofs.Draining.{drained_at, drained_else}
 use Rattle.mem_machine.proofs.NoneLent.{past_free}
 use Rattle.mem_system.specs.Commands.{BySteps, with_visit_of}
@@ -28,20 +27,20 @@ use Rattle.mem_system.proofs.Listing.{left_over}
 -- the whole visit in which a processor is settled, from its three parts
 pub rested : (t : KnownTable) (m n : KnownMachine) (c d : KnownCpu) (entered x : KnownMachine) (c1 c2 : KnownCpu)
     → entered ≡ with_visit_of m c.number 1 → c1 ≡ c → c2.number ≡ c1.number → n ≡ with_visit_of x c2.number 0 → d ≡ c2
-    → IsLocalRun c.number (local_of t m c) (open_steps c.number) (local_of t entered c1)
-    → Settles (side entered c1) (side x c2) → IsLocalRun c1.number (local_of t entered c1) (settle_steps (side entered c1)) (local_of t x c2)
-    → IsLocalRun c2.number (local_of t x c2) (shut_steps c2.number) (local_of t n d)
+    → MakesAs t c.number (side m c) (open_steps c.number) (side entered c1)
+    → Settles (side entered c1) (side x c2) → MakesAs t c1.number (side entered c1) (settle_steps (side entered c1)) (side x c2)
+    → MakesAs t c2.number (side x c2) (shut_steps c2.number) (side n d)
     → BySteps t (side m c) (side n d) SettlesInVisit
 rested t m n c d entered x c1 c2 opened same second shut after first settles rests last =
     let p = c.number in
     let begins = with_visit_of m p 1 in
     let two : c2.number ≡ p = second ∙ ap (λ (y : KnownCpu). y.number) same in
-    let before : KnownMachine × KnownCpu → Type 0 = λ (y : KnownMachine × KnownCpu). IsLocalRun p (local_of t m c) (open_steps p) (local_of t y.0 y.1) in
-    let begun : IsLocalRun p (local_of t m c) (open_steps p) (local_of t begins c) = subst before (λ i. (opened i, same i)) first in
+    let before : KnownMachine × KnownCpu → Type 0 = λ (y : KnownMachine × KnownCpu). MakesAs t p (side m c) (open_steps p) (side y.0 y.1) in
+    let begun : MakesAs t p (side m c) (open_steps p) (side begins c) = subst before (λ i. (opened i, same i)) first in
     let settled : Settles (side begins c) (side x c2) = subst (λ (y : KnownMachine × KnownCpu). Settles (side y.0 y.1) (side x c2)) (λ i. (opened i, same i)) settles in
-    let done : IsLocalRun p (local_of t begins c) (settle_steps (side begins c)) (local_of t x c2) =
-    subst (λ (y : KnownMachine × KnownCpu). IsLocalRun y.1.number (local_of t y.0 y.1) (settle_steps (side y.0 y.1)) (local_of t x c2)) (λ i. (opened i, same i)) rests in
-    let ended = subst (λ (q : ℕ). IsLocalRun q (local_of t x c2) (shut_steps q) (local_of t n d)) two last in (
+    let done : MakesAs t p (side begins c) (settle_steps (side begins c)) (side x c2) =
+    subst (λ (y : KnownMachine × KnownCpu). MakesAs t y.1.number (side y.0 y.1) (settle_steps (side y.0 y.1)) (side x c2)) (λ i. (opened i, same i)) rests in
+    let ended = subst (λ (q : ℕ). MakesAs t q (side x c2) (shut_steps q) (side n d)) two last in (
       open_steps p ++ (settle_steps (side begins c) ++ shut_steps p),
       record {
         settled = x;
@@ -49,8 +48,8 @@ rested t m n c d entered x c1 c2 opened same second shut after first settles res
         machine = shut ∙ ap (λ (q : ℕ). with_visit_of x q 0) two;
         steps_are = refl;
       },
-      run_both p (open_steps p) (settle_steps (side begins c) ++ shut_steps p) (local_of t m c) (local_of t begins c) (local_of t n d) begun
-          (run_both p (settle_steps (side begins c)) (shut_steps p) (local_of t begins c) (local_of t x c2) (local_of t n d) done ended),
+      makes_both t p (open_steps p) (settle_steps (side begins c) ++ shut_steps p) (side m c) (side begins c) (side n d) begun
+          (makes_both t p (settle_steps (side begins c)) (shut_steps p) (side begins c) (side x c2) (side n d) done ended),
     )
 
 -- ---- a list that is given back whole
@@ -130,12 +129,12 @@ emptied_drained x y n p q k drains shut =
 -- the whole visit, from its four parts
 pub emptied : (t : KnownTable) (m n : KnownMachine) (c d : KnownCpu) (entered x y : KnownMachine) (c1 c2 : KnownCpu) (k q pages : ℕ)
     → entered ≡ with_visit_of m c.number 1 → c1 ≡ c → c2.number ≡ c1.number → q ≡ c2.number → n ≡ with_visit_of y c2.number 0 → d ≡ c2
-    → take k c1.list ≡ c1.list → IsLocalRun c.number (local_of t m c) (open_steps c.number) (local_of t entered c1)
+    → take k c1.list ≡ c1.list → MakesAs t c.number (side m c) (open_steps c.number) (side entered c1)
     → TakesManyBack (take k c1.list) (side entered c1) (side x c2)
-    → IsLocalRun c1.number (local_of t entered c1) (drain_list_steps c1.number (take k c1.list)) (local_of t x c2)
+    → MakesAs t c1.number (side entered c1) (drain_list_steps c1.number (take k c1.list)) (side x c2)
     → Drains x q pages y
-    → ((e : KnownCpu) → IsLocalRun e.number (local_of t x e) (drain_steps q (stock_group x q) pages) (local_of t y e))
-    → IsLocalRun c2.number (local_of t y c2) (shut_steps c2.number) (local_of t n d)
+    → ((e : KnownCpu) → MakesAs t e.number (side x e) (drain_steps q (stock_group x q) pages) (side y e))
+    → MakesAs t c2.number (side y c2) (shut_steps c2.number) (side n d)
     → BySteps t (side m c) (side n d) Empties
 emptied t m n c d entered x y c1 c2 k q pages opened same second named shut after whole first takes gives drains drips last =
     let p = c.number in
@@ -143,16 +142,16 @@ emptied t m n c d entered x y c1 c2 k q pages opened same second named shut afte
     let two : c2.number ≡ p = second ∙ ap (λ (z : KnownCpu). z.number) same in
     let its : q ≡ p = named ∙ two in
     let list : take k c1.list ≡ c.list = whole ∙ ap (λ (z : KnownCpu). z.list) same in
-    let before : KnownMachine × KnownCpu → Type 0 = λ (z : KnownMachine × KnownCpu). IsLocalRun p (local_of t m c) (open_steps p) (local_of t z.0 z.1) in
-    let begun : IsLocalRun p (local_of t m c) (open_steps p) (local_of t begins c) = subst before (λ i. (opened i, same i)) first in
+    let before : KnownMachine × KnownCpu → Type 0 = λ (z : KnownMachine × KnownCpu). MakesAs t p (side m c) (open_steps p) (side z.0 z.1) in
+    let begun : MakesAs t p (side m c) (open_steps p) (side begins c) = subst before (λ i. (opened i, same i)) first in
     let taken : TakesManyBack c.list (side begins c) (side x c2) =
     subst (λ (z : List ℕ × KnownMachine × KnownCpu). TakesManyBack z.0 (side z.1 z.2) (side x c2)) (λ i. (list i, opened i, same i)) takes in
-    let given : IsLocalRun p (local_of t begins c) (drain_list_steps p c.list) (local_of t x c2) =
-    subst (λ (z : List ℕ × KnownMachine × KnownCpu). IsLocalRun z.2.number (local_of t z.1 z.2) (drain_list_steps z.2.number z.0) (local_of t x c2))
+    let given : MakesAs t p (side begins c) (drain_list_steps p c.list) (side x c2) =
+    subst (λ (z : List ℕ × KnownMachine × KnownCpu). MakesAs t z.2.number (side z.1 z.2) (drain_list_steps z.2.number z.0) (side x c2))
     (λ i. (list i, opened i, same i)) gives in
-    let dripped : IsLocalRun p (local_of t x c2) (drain_steps p (stock_group x p) pages) (local_of t y c2) =
-    subst (λ (z : ℕ × ℕ). IsLocalRun z.0 (local_of t x c2) (drain_steps z.1 (stock_group x z.1) pages) (local_of t y c2)) (λ i. (two i, its i)) (drips c2) in
-    let ended = subst (λ (r : ℕ). IsLocalRun r (local_of t y c2) (shut_steps r) (local_of t n d)) two last in (
+    let dripped : MakesAs t p (side x c2) (drain_steps p (stock_group x p) pages) (side y c2) =
+    subst (λ (z : ℕ × ℕ). MakesAs t z.0 (side x c2) (drain_steps z.1 (stock_group x z.1) pages) (side y c2)) (λ i. (two i, its i)) (drips c2) in
+    let ended = subst (λ (r : ℕ). MakesAs t r (side y c2) (shut_steps r) (side n d)) two last in (
       open_steps p ++ (drain_list_steps p c.list ++ (drain_steps p (stock_group x p) pages ++ shut_steps p)),
       record {
         emptied = x;
@@ -163,9 +162,9 @@ emptied t m n c d entered x y c1 c2 k q pages opened same second named shut afte
         machine = shut ∙ ap (λ (r : ℕ). with_visit_of y r 0) two;
         steps_are = refl;
       },
-      run_both p (open_steps p) (drain_list_steps p c.list ++ (drain_steps p (stock_group x p) pages ++ shut_steps p)) (local_of t m c) (local_of t begins c)
-          (local_of t n d) begun
-          (run_both p (drain_list_steps p c.list) (drain_steps p (stock_group x p) pages ++ shut_steps p) (local_of t begins c) (local_of t x c2)
-          (local_of t n d) given
-          (run_both p (drain_steps p (stock_group x p) pages) (shut_steps p) (local_of t x c2) (local_of t y c2) (local_of t n d) dripped ended)),
+      makes_both t p (open_steps p) (drain_list_steps p c.list ++ (drain_steps p (stock_group x p) pages ++ shut_steps p)) (side m c) (side begins c)
+          (side n d) begun
+          (makes_both t p (drain_list_steps p c.list) (drain_steps p (stock_group x p) pages ++ shut_steps p) (side begins c) (side x c2)
+          (side n d) given
+          (makes_both t p (drain_steps p (stock_group x p) pages) (shut_steps p) (side x c2) (side y c2) (side n d) dripped ended)),
     )

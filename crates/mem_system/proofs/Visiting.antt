@@ -7,10 +7,9 @@ use Rattle.frame_word.specs.Seats.{KnownTable}
 use Rattle.frame_word.proofs.Notes.{put_here, put_else}
 use Rattle.cpu_part.specs.Cpus.{KnownCpu}
 use Rattle.mem_machine.specs.Machines.{KnownMachine, is_killed}
-use Rattle.mem_machine.specs.Local.{IsLocalRun, local_of, fresh_group, side}
+use Rattle.mem_machine.specs.Local.{local_of, fresh_group, side, MakesAs}
 use Rattle.mem_machine.specs.Settling.{SettlesFresh, SettlesAllFresh, ReturnsAllBack, Settles, settle_steps}
 use Rattle.mem_machine.specs.Steps.{open_steps, shut_steps}
-use Rattle.mem_machine.proofs.Reaching.{run_both}
 use Rattle.mem_system.specs.declared.command.Cmd.{Cmd}
 use Rattle.mem_system.specs.declared.command.Reply.{Reply}
 use Rattle.mem_system.specs.Boots.{KnownLocked, AllShut}
@@ -49,24 +48,24 @@ settled_opened m n c d s = returned_all c.back s.mid.machine n s.mid.cpu d s.bac
 pub served : (t : KnownTable) (cmd : Cmd) (l k : KnownLocked) (c d : KnownCpu) (reply : Reply) (entered mid x : KnownMachine) (c1 c2 c3 : KnownCpu)
     → entered ≡ with_visit_of (record l.machine { notes = [] }) c.number 1 → c1 ≡ c → c2.number ≡ c1.number → c3.number ≡ c2.number
     → k.machine ≡ with_visit_of x c3.number 0 → d ≡ c3 → k.sizes ≡ l.sizes
-    → IsLocalRun c.number (local_of t l.machine c) (open_steps c.number) (local_of t entered c1)
-    → Settles (side entered c1) (side mid c2) → IsLocalRun c1.number (local_of t entered c1) (settle_steps (side entered c1)) (local_of t mid c2)
+    → MakesAs t c.number (side l.machine c) (open_steps c.number) (side entered c1)
+    → Settles (side entered c1) (side mid c2) → MakesAs t c1.number (side entered c1) (settle_steps (side entered c1)) (side mid c2)
     → BySteps t (side mid c2) (side x c3) (Obeys l.sizes cmd reply)
-    → IsLocalRun c3.number (local_of t x c3) (shut_steps c3.number) (local_of t k.machine d)
+    → MakesAs t c3.number (side x c3) (shut_steps c3.number) (side k.machine d)
     → IsServed t cmd (holder l c) reply (holder k d)
 served t cmd l k c d reply entered mid x c1 c2 c3 opened same second third shut after sizes first settles rests obeyed last =
     let p = c.number in
     let begins = with_visit_of (record l.machine { notes = [] }) p 1 in
     let two : c2.number ≡ p = second ∙ ap (λ (y : KnownCpu). y.number) same in
     let three : c3.number ≡ p = third ∙ two in
-    let before : KnownMachine × KnownCpu → Type 0 = λ (y : KnownMachine × KnownCpu). IsLocalRun p (local_of t l.machine c) (open_steps p) (local_of t y.0 y.1) in
-    let begun : IsLocalRun p (local_of t l.machine c) (open_steps p) (local_of t begins c) =
+    let before : KnownMachine × KnownCpu → Type 0 = λ (y : KnownMachine × KnownCpu). MakesAs t p (side l.machine c) (open_steps p) (side y.0 y.1) in
+    let begun : MakesAs t p (side l.machine c) (open_steps p) (side begins c) =
     subst before (λ i. (opened i, same i)) first in
     let settled : Settles (side begins c) (side mid c2) = subst (λ (y : KnownMachine × KnownCpu). Settles (side y.0 y.1) (side mid c2)) (λ i. (opened i, same i)) settles in
-    let rested : IsLocalRun p (local_of t begins c) (settle_steps (side begins c)) (local_of t mid c2) =
-    subst (λ (y : KnownMachine × KnownCpu). IsLocalRun y.1.number (local_of t y.0 y.1) (settle_steps (side y.0 y.1)) (local_of t mid c2)) (λ i. (opened i, same i)) rests in
-    let inside = subst (λ (q : ℕ). IsLocalRun q (local_of t mid c2) obeyed.0 (local_of t x c3)) two obeyed.2 in
-    let ended = subst (λ (q : ℕ). IsLocalRun q (local_of t x c3) (shut_steps q) (local_of t k.machine d)) three last in (
+    let rested : MakesAs t p (side begins c) (settle_steps (side begins c)) (side mid c2) =
+    subst (λ (y : KnownMachine × KnownCpu). MakesAs t y.1.number (side y.0 y.1) (settle_steps (side y.0 y.1)) (side mid c2)) (λ i. (opened i, same i)) rests in
+    let inside = subst (λ (q : ℕ). MakesAs t q (side mid c2) obeyed.0 (side x c3)) two obeyed.2 in
+    let ended = subst (λ (q : ℕ). MakesAs t q (side x c3) (shut_steps q) (side k.machine d)) three last in (
       open_steps p ++ (settle_steps (side begins c) ++ (obeyed.0 ++ shut_steps p)),
       record {
         settled = side mid c2;
@@ -81,8 +80,8 @@ served t cmd l k c d reply entered mid x c1 c2 c3 opened same second third shut 
         sizes = sizes;
         steps_are = refl;
       },
-      run_both p (open_steps p) (settle_steps (side begins c) ++ (obeyed.0 ++ shut_steps p)) (local_of t l.machine c) (local_of t begins c)
-          (local_of t k.machine d) begun
-          (run_both p (settle_steps (side begins c)) (obeyed.0 ++ shut_steps p) (local_of t begins c) (local_of t mid c2) (local_of t k.machine d) rested
-          (run_both p obeyed.0 (shut_steps p) (local_of t mid c2) (local_of t x c3) (local_of t k.machine d) inside ended)),
+      makes_both t p (open_steps p) (settle_steps (side begins c) ++ (obeyed.0 ++ shut_steps p)) (side l.machine c) (side begins c)
+          (side k.machine d) begun
+          (makes_both t p (settle_steps (side begins c)) (obeyed.0 ++ shut_steps p) (side begins c) (side mid c2) (side k.machine d) rested
+          (makes_both t p obeyed.0 (shut_steps p) (side mid c2) (side x c3) (side k.machine d) inside ended)),
     )

@@ -2,9 +2,8 @@ use Rattle.std.proofs.Common.{rules, ◌≡◌, ◌++◌, ap, sym, ◌∙◌, re
 use Rattle.group_charge.specs.Charges.{Ledger}
 use Rattle.cpu_part.specs.Cpus.{KnownCpu}
 use Rattle.mem_machine.specs.Machines.{KnownMachine, KeepsVisit}
-use Rattle.mem_machine.specs.Local.{side, local_of}
+use Rattle.mem_machine.specs.Local.{side}
 use Rattle.mem_machine.specs.Steps.{remove_steps}
-use Rattle.mem_machine.proofs.Reaching.{run_both}
 use Rattle.mem_system.specs.Leaves.{IsLeafAt}
 use Rattle.mem_system.proofs.Found.{found_there}
 use Rattle.mem_system.proofs.Keeping.{lowered_groups, lowered_visit, visit_keeps, visit_both, leaf_keeps}
@@ -53,8 +52,8 @@ returns-clause-removed g c =
         machine = c.remove.ensures.machine;
         steps_are = refl;
       },
-      run_both before.number lowers.0 (remove_steps c.in-Ok.group) (local_of t c.args.machine.now before)
-          (local_of t c.lower_usage.new.machine before) (local_of t c.remove.new.self c.remove.new.cpu)
+      makes_both t before.number lowers.0 (remove_steps c.in-Ok.group) (side c.args.machine.now before)
+          (side c.lower_usage.new.machine before) (side c.remove.new.self c.remove.new.cpu)
           (lowers.2 before) c.remove.ensures.steps,
     )
 

@@ -2,9 +2,8 @@ use Rattle.std.proofs.Common.{◌≡◌, ℕ, [], ◌∷◌, ◌++◌, length, a
 use Rattle.std.proofs.lemmas.List.{length-append}
 use Rattle.cpu_part.specs.Cpus.{KnownCpu}
 use Rattle.mem_machine.specs.Machines.{KnownMachine}
-use Rattle.mem_machine.specs.Local.{IsLocalRun, local_of, side}
+use Rattle.mem_machine.specs.Local.{side, MakesAs}
 use Rattle.mem_machine.specs.Steps.{lend_steps}
-use Rattle.mem_machine.proofs.Reaching.{run_both}
 use Rattle.mem_system.proofs.Listing.{cut_off}
 use Rattle.mem_system.proofs.releases.list_frame.Goals as goal
 
@@ -25,8 +24,8 @@ returns-clause-lists g c =
     let cuts = c.cut_list.ensures.cuts in
     let p = before.number in
     let same : c.cut_list.new.cpu.number ≡ p = (cut_off _ _ _ _ _ cuts.1.takes).number in
-    let lent = subst (λ (q : ℕ). IsLocalRun q (local_of t c.cut_list.new.machine c.cut_list.new.cpu) (lend_steps q c.args.frame)
-    (local_of t c.lend.new.self c.lend.new.cpu)) same c.lend.ensures.steps in (
+    let lent = subst (λ (q : ℕ). MakesAs t q (side c.cut_list.new.machine c.cut_list.new.cpu) (lend_steps q c.args.frame)
+    (side c.lend.new.self c.lend.new.cpu)) same c.lend.ensures.steps in (
       cuts.0 ++ lend_steps p c.args.frame,
       record {
         mid = side c.cut_list.new.machine c.cut_list.new.cpu;
@@ -35,8 +34,8 @@ returns-clause-lists g c =
         lends = c.lend.ensures.lends;
         steps_are = refl;
       },
-      run_both p cuts.0 (lend_steps p c.args.frame) (local_of t c.args.machine.now before) (local_of t c.cut_list.new.machine c.cut_list.new.cpu)
-          (local_of t c.lend.new.self c.lend.new.cpu) cuts.2 lent,
+      makes_both t p cuts.0 (lend_steps p c.args.frame) (side c.args.machine.now before) (side c.cut_list.new.machine c.cut_list.new.cpu)
+          (side c.lend.new.self c.lend.new.cpu) cuts.2 lent,
     )
 
 pub returns-clause-stays : goal.returns-clause-stays

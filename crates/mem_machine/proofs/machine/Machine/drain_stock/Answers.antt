@@ -2,7 +2,7 @@ use Rattle.cpu_part.specs.Cpus.{KnownCpu}
 use Rattle.std.proofs.Common.{subst, ap}
 use Rattle.stock_word.specs.Calls.{uncounted}
 use Rattle.mem_machine.specs.Machines.{KnownMachine}
-use Rattle.mem_machine.specs.Local.{local_of, IsLocalRun}
+use Rattle.mem_machine.specs.Local.{side, MakesAs}
 use Rattle.mem_machine.specs.Steps.{drain_steps}
 use Rattle.mem_machine.specs.Stocks.{stock_group}
 use Rattle.mem_machine.proofs.Draining.{never_drained, looked_now}
@@ -30,6 +30,6 @@ returns-in-None-clause-steps g c =
 
 pub returns-in-Some-clause-steps : goal.returns-in-Some-clause-steps
 returns-in-Some-clause-steps g c =
-    subst (λ (x : KnownMachine). (d : KnownCpu) → IsLocalRun d.number (local_of g.N.BootName.frames x d)
-    (drain_steps c.args.q (stock_group x c.args.q) c.drain_of.result) (local_of g.N.BootName.frames c.drain_of.new.self d))
+    subst (λ (x : KnownMachine). (d : KnownCpu) → MakesAs g.N.BootName.frames d.number (side x d)
+    (drain_steps c.args.q (stock_group x c.args.q) c.drain_of.result) (side c.drain_of.new.self d))
     (looked_now _ _ c.self.view_is _ (ap uncounted c.in-Some.ensures.machine)) c.drain_of.ensures.steps

@@ -10,7 +10,7 @@ returns-clause-steps g c =
     let sized = c.self.invariant.0.sizes.killed in
     let inside : c.in_ok-group.group < length c.self.inside.killed.items = omega (arith, value, below, sized) in
     made_runs g.N.BootName.frames _ _ c.self.view_is _ _ c.in_ok-group.group c.args.path.now inside c.in_ok-group.ensures.refused
-    c.in_ok-group.ensures.least
+    c.tree-tree.ensures.legal c.in_ok-group.ensures.least
     c.in_ok-group.ensures.made (ap (λ (n : ℕ). slice_set c.self.inside.killed.items n false) value)
 
 pub invariant_of-self : goal.invariant_of-self

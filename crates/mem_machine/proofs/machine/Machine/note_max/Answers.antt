@@ -3,7 +3,7 @@ use Rattle.mem_machine.proofs.GroupSteps.{notes_max}
 use Rattle.mem_machine.proofs.machine.Machine.note_max.Goals as goal
 
 pub returns-clause-steps : goal.returns-clause-steps
-returns-clause-steps g c = notes_max g.N.BootName.frames _ _ c.self.view_is c.args.group c.requires _ c.note_max.ensures.noted
+returns-clause-steps g c = notes_max g.N.BootName.frames _ _ c.self.view_is c.args.group c.requires _ c.note_max.ensures.noted c.note_max.ensures.counts c.note_max.ensures.peaks
 
 pub invariant_of-self : goal.invariant_of-self
 invariant_of-self g c = search rules

@@ -3,7 +3,7 @@ use Rattle.mem_machine.proofs.GroupSteps.{notes_oom}
 use Rattle.mem_machine.proofs.machine.Machine.note_oom.Goals as goal
 
 pub returns-clause-steps : goal.returns-clause-steps
-returns-clause-steps g c = notes_oom g.N.BootName.frames _ _ c.self.view_is c.args.group c.requires _ c.note_oom.ensures.noted
+returns-clause-steps g c = notes_oom g.N.BootName.frames _ _ c.self.view_is c.args.group c.requires _ c.note_oom.ensures.noted c.note_oom.ensures.counts c.note_oom.ensures.peaks
 
 pub invariant_of-self : goal.invariant_of-self
 invariant_of-self g c = search rules

@@ -9,13 +9,13 @@ pub returns-then-index-clause-steps : goal.returns-then-index-clause-steps
 returns-then-index-clause-steps g c =
     let of_group : group_of c.args.cpu.now.stock.view.last ≡ Some c.unwrap-group.result = search rules in
     let killed : is_killed c.args.self.now.killed c.unwrap-group.result ≡ true = search rules in
-    steps_of true _ _ c.unwrap-group.result c.args.self.now c.args.cpu.now _ _ (ap number_or_0 of_group) killed c.drop_one.ensures.steps
+    steps_of true _ _ c.unwrap-group.result c.args.self.now c.args.cpu.now _ _ _ (ap number_or_0 of_group) killed c.drop_one.ensures.steps
 
 pub returns-else-index-clause-steps : goal.returns-else-index-clause-steps
 returns-else-index-clause-steps g c =
     let of_group : group_of c.args.cpu.now.stock.view.last ≡ Some c.unwrap-group.result = search rules in
     let alive : is_killed c.args.self.now.killed c.unwrap-group.result ≡ false = search rules in
-    steps_of false _ _ c.unwrap-group.result c.args.self.now c.args.cpu.now _ _ (ap number_or_0 of_group) alive c.keep_one.ensures.steps
+    steps_of false _ _ c.unwrap-group.result c.args.self.now c.args.cpu.now _ _ _ (ap number_or_0 of_group) alive c.keep_one.ensures.steps
 
 pub returns-else-index-clause-settles : goal.returns-else-index-clause-settles
 returns-else-index-clause-settles g c =

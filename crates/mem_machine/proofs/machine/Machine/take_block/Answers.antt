@@ -6,7 +6,7 @@ use Rattle.mem_machine.proofs.machine.Machine.take_block.Goals as goal
 pub returns-in_default-take-clause-refuses : goal.returns-in_default-take-clause-refuses
 returns-in_default-take-clause-refuses g c =
     (none_all g.N.BootName.frames g.N.BootName.stocks _ _ (c.self.view_is ∙ c.see_usage.ensures.machine) c.args.cpu.now _ c.see_usage.ensures.cpu
-    c.self.invariant.0 c.args.group c.args.order _ c.frames-pages.ensures.frames
+    c.self.invariant.0 c.tree-tree.ensures.legal c.args.group c.args.order _ c.frames-pages.ensures.frames
     (record {
       visit = c.requires.visit;
       none_back = c.requires.none_back;
@@ -19,7 +19,7 @@ returns-in_default-take-clause-refuses g c =
 pub returns-in_default-take-clause-steps : goal.returns-in_default-take-clause-steps
 returns-in_default-take-clause-steps g c =
     (none_all g.N.BootName.frames g.N.BootName.stocks _ _ (c.self.view_is ∙ c.see_usage.ensures.machine) c.args.cpu.now _ c.see_usage.ensures.cpu
-    c.self.invariant.0 c.args.group c.args.order _ c.frames-pages.ensures.frames
+    c.self.invariant.0 c.tree-tree.ensures.legal c.args.group c.args.order _ c.frames-pages.ensures.frames
     (record {
       visit = c.requires.visit;
       none_back = c.requires.none_back;
@@ -50,7 +50,7 @@ unfreeze-requires-clause-hand g c =
 pub invariant_of-self-2 : goal.invariant_of-self-2
 invariant_of-self-2 g c =
     let all = taken_all g.N.BootName.frames g.N.BootName.stocks _ _ (c.self.view_is ∙ c.see_usage.ensures.machine) c.args.cpu.now _ c.see_usage.ensures.cpu
-    c.self.invariant.0 c.args.group _ c.number-number.ensures.below c.number-number.ensures.value c.args.order _ c.frames-pages.ensures.frames
+    c.self.invariant.0 c.tree-tree.ensures.legal c.args.group _ c.number-number.ensures.below c.number-number.ensures.value c.args.order _ c.frames-pages.ensures.frames
     (record {
       visit = c.requires.visit;
       none_back = c.requires.none_back;
@@ -74,7 +74,7 @@ invariant_of-self-2 g c =
 pub returns-clause-takes : goal.returns-clause-takes
 returns-clause-takes g c =
     (taken_all g.N.BootName.frames g.N.BootName.stocks _ _ (c.self.view_is ∙ c.see_usage.ensures.machine) c.args.cpu.now _ c.see_usage.ensures.cpu
-    c.self.invariant.0 c.args.group _ c.number-number.ensures.below c.number-number.ensures.value c.args.order _ c.frames-pages.ensures.frames
+    c.self.invariant.0 c.tree-tree.ensures.legal c.args.group _ c.number-number.ensures.below c.number-number.ensures.value c.args.order _ c.frames-pages.ensures.frames
     (record {
       visit = c.requires.visit;
       none_back = c.requires.none_back;
@@ -97,7 +97,7 @@ returns-clause-takes g c =
 pub returns-clause-visit : goal.returns-clause-visit
 returns-clause-visit g c =
     (taken_all g.N.BootName.frames g.N.BootName.stocks _ _ (c.self.view_is ∙ c.see_usage.ensures.machine) c.args.cpu.now _ c.see_usage.ensures.cpu
-    c.self.invariant.0 c.args.group _ c.number-number.ensures.below c.number-number.ensures.value c.args.order _ c.frames-pages.ensures.frames
+    c.self.invariant.0 c.tree-tree.ensures.legal c.args.group _ c.number-number.ensures.below c.number-number.ensures.value c.args.order _ c.frames-pages.ensures.frames
     (record {
       visit = c.requires.visit;
       none_back = c.requires.none_back;
@@ -120,7 +120,7 @@ returns-clause-visit g c =
 pub returns-clause-steps : goal.returns-clause-steps
 returns-clause-steps g c =
     (taken_all g.N.BootName.frames g.N.BootName.stocks _ _ (c.self.view_is ∙ c.see_usage.ensures.machine) c.args.cpu.now _ c.see_usage.ensures.cpu
-    c.self.invariant.0 c.args.group _ c.number-number.ensures.below c.number-number.ensures.value c.args.order _ c.frames-pages.ensures.frames
+    c.self.invariant.0 c.tree-tree.ensures.legal c.args.group _ c.number-number.ensures.below c.number-number.ensures.value c.args.order _ c.frames-pages.ensures.frames
     (record {
       visit = c.requires.visit;
       none_back = c.requires.none_back;

@@ -1,0 +1,207 @@
+-- The peaks and the event counts of the ledger follow lists of steps. Serves the `steps` clauses of all calls.
+use Rattle.std.proofs.Common.{◌≡◌, ℕ, ◌&&◌, ◌++◌, Bool, true, false, Option, None, List, [], ◌∷◌, cond, refl, sym, ap, ◌∙◌, subst}
+use Rattle.std.proofs.Common.{inl, inr, eq-eqb}
+use Rattle.std.proofs.lemmas.Bool.{cases_eq, cases_Bool, and_parts, true≢false, false≢true}
+use Rattle.group_tree.specs.declared.group.Group.{Group}
+use Rattle.group_tree.specs.Groups.{has_group, without_group}
+use Rattle.group_tree.specs.Room.{one_more}
+use Rattle.group_tree.proofs.CallerLemmas.{has_group-with, has_group-limited, has_group-without}
+use Rattle.group_charge.specs.Charges.{Ledger, SamePeaks, SameEvents}
+use Rattle.frame_word.specs.Seats.{KnownTable}
+use Rattle.cpu_part.specs.Cpus.{KnownCpu}
+use Rattle.step_rules.specs.declared.step.Action.{Action}
+use Rattle.step_rules.specs.declared.step.Action.TheVariants.{Lock, Grant, NoteMax, NoteOom, Kill, SetMax, Make, Remove}
+use Rattle.step_rules.specs.declared.step.Answer.{Answer}
+use Rattle.step_rules.specs.declared.step.Answer.TheVariants.{Illegal, Done, Granted, Number}
+use Rattle.step_rules.specs.State.{State}
+use Rattle.step_rules.specs.After.{Run, after}
+use Rattle.step_rules.specs.Peaks.{peak_follows}
+use Rattle.step_rules.specs.Events.{EventKey, Max, Oom, OomKill, noted_at, is_noted_at, is_noted_below, makes_group}
+use Rattle.step_rules.specs.Usage.{is_below}
+use Rattle.step_rules.specs.Legal.{is_of_group}
+use Rattle.step_rules.proofs.Moving.{gone_itself}
+use Rattle.mem_machine.specs.Following.{Moves, moved_over, moves_peak, moves_count, count_by, FollowsSteps}
+use Rattle.mem_machine.specs.Machines.{KnownMachine}
+use Rattle.mem_machine.specs.Local.{Side, side, local_of, IsLocalRun, MakesAs}
+use Rattle.mem_machine.proofs.Reaching.{run_both}
+
+-- ---- one list after another
+
+illegal_groups : (s : State) (seat : ℕ) (action : Action) (m : ℕ) → has_group (after s seat action Illegal).groups m ≡ has_group s.groups m
+illegal_groups s seat Lock m = refl
+illegal_groups s seat action m = refl
+
+-- a step after which a group is there that wasn't makes it
+pub only_made : (s : State) (seat : ℕ) (action : Action) (answer : Answer) (m : ℕ) → has_group s.groups m ≡ false
+    → has_group (after s seat action answer).groups m ≡ true → makes_group m action answer ≡ true
+only_made s seat action Illegal m absent there = absurd (true≢false (sym there ∙ illegal_groups s seat action m ∙ absent))
+only_made s seat (SetMax g limit) Done m absent there = absurd (true≢false (sym there ∙ has_group-limited s.groups g m limit ∙ absent))
+only_made s seat (Make path) (Number n) m absent there = elim (cases_eq m n) [
+  | inl e ↦ eq-eqb m n e
+  | inr ne ↦ absurd (true≢false (sym there ∙ has_group-with s.groups n m path ne ∙ absent))
+]
+only_made s seat (Remove g) Done m absent there =
+    absurd (true≢false (sym there ∙ has_group-without s.groups g m
+    (λ e. true≢false (sym there ∙ ap (has_group (without_group s.groups g)) e ∙ gone_itself s.groups g)) ∙ absent))
+only_made s seat Lock answer m absent there = absurd (true≢false (sym there ∙ absent))
+only_made s seat action answer m absent there = absurd (true≢false (sym there ∙ absent))
+
+-- a number of group m that begins anew where the group is made
+abbrev pub Begins : Moves → ℕ → Type 0
+Begins moves m = (s : State) (seat : ℕ) (action : Action) (answer : Answer) (x y : ℕ) → makes_group m action answer ≡ true
+    → moves s seat action answer x ≡ moves s seat action answer y
+
+made_peak : (t : State) (action : Action) (answer : Answer) (m x : ℕ) → makes_group m action answer ≡ true → peak_follows t action answer m x ≡ 0
+made_peak t (Make path) (Number n) m x made = ap (λ (b : Bool). cond b 0 x) made
+made_peak t Lock answer m x made = absurd (false≢true made)
+made_peak t action answer m x made = absurd (false≢true made)
+
+pub peak_begins : (m : ℕ) → Begins (moves_peak m) m
+peak_begins m s seat action answer x y made =
+    made_peak (after s seat action answer) action answer m x made ∙ sym (made_peak (after s seat action answer) action answer m y made)
+
+abbrev pub Test : Type 0
+Test = List Group → Action → Answer → Bool
+
+pub count_begins : (test : Test) (m : ℕ) → Begins (moves_count test m) m
+count_begins test m s seat action answer x y made =
+    ap (λ (b : Bool). cond b 0 (cond (test s.groups action answer) (one_more x) x)) made
+    ∙ sym (ap (λ (b : Bool). cond b 0 (cond (test s.groups action answer) (one_more y) y)) made)
+
+over_both : (moves : Moves) (p : ℕ) (a : State) (one two : Run) (b : State) (x : ℕ) → IsLocalRun p a one b
+    → moved_over moves a (one ++ two) x ≡ moved_over moves b two (moved_over moves a one x)
+over_both moves p a [] two b x run = ap (λ (s : State). moved_over moves s two x) run
+over_both moves p a (e ∷ rest) two b x run =
+    over_both moves p (after a e.0.seat e.0.action e.1) rest two b (moves a e.0.seat e.0.action e.1 x) run.1
+
+-- of a group that isn't there at first, and is at the end, it is the same whatever it was at first
+over_anew : (moves : Moves) (m : ℕ) → Begins moves m → (p : ℕ) (s : State) (steps : Run) (t : State) (x y : ℕ) → IsLocalRun p s steps t
+    → has_group s.groups m ≡ false → has_group t.groups m ≡ true → moved_over moves s steps x ≡ moved_over moves s steps y
+over_anew moves m begins p s [] t x y run absent there = absurd (true≢false (sym there ∙ ap (λ (k : State). has_group k.groups m) (sym run) ∙ absent))
+over_anew moves m begins p s (e ∷ rest) t x y run absent there =
+    let now : State = after s e.0.seat e.0.action e.1 in
+    elim (cases_Bool (has_group now.groups m)) [
+      | inl here ↦ ap (moved_over moves now rest)
+          (begins s e.0.seat e.0.action e.1 x y (only_made s e.0.seat e.0.action e.1 m absent here))
+      | inr none ↦ over_anew moves m begins p now rest t (moves s e.0.seat e.0.action e.1 x) (moves s e.0.seat e.0.action e.1 y) run.1 none there
+    ]
+
+module _ (p : ℕ) (a : State) (one : Run) (b : State) (two : Run) (c : State) (first : IsLocalRun p a one b) (second : IsLocalRun p b two c) (m : ℕ) where
+  joined : (moves : Moves) → Begins moves m → (x y z : ℕ) → (has_group b.groups m ≡ true → y ≡ moved_over moves a one x)
+      → z ≡ moved_over moves b two y → has_group c.groups m ≡ true → z ≡ moved_over moves a (one ++ two) x
+  joined moves begins x y z before behind there =
+      behind ∙ elim (cases_Bool (has_group b.groups m)) [
+        | inl here ↦ ap (moved_over moves b two) (before here)
+        | inr none ↦ over_anew moves m begins p b two c y (moved_over moves a one x) second none there
+      ] ∙ sym (over_both moves p a one two b x first)
+
+-- one list after another
+pub makes_both : (t : KnownTable) (p : ℕ) (one two : Run) (a b c : Side) → MakesAs t p a one b → MakesAs t p b two c → MakesAs t p a (one ++ two) c
+makes_both t p one two a b c first second =
+    let s = local_of t a.machine a.cpu in
+    let u = local_of t b.machine b.cpu in
+    let v = local_of t c.machine c.cpu in
+    record {
+      leads = run_both p one two s u v first.leads second.leads;
+      follows = record {
+        peak = λ m there. joined p s one u two v first.leads second.leads m (moves_peak m) (peak_begins m) _ _ _
+            (first.follows.peak m) (second.follows.peak m there) there;
+        events = λ key m there. joined p s one u two v first.leads second.leads m (moves_count (is_noted_below key m) m) (count_begins (is_noted_below key m) m)
+            _ _ _ (first.follows.events key m) (second.follows.events key m there) there;
+        events_local = λ key m there. joined p s one u two v first.leads second.leads m (moves_count (is_noted_at key m) m)
+            (count_begins (is_noted_at key m) m) _ _ _ (first.follows.events_local key m) (second.follows.events_local key m there) there;
+      };
+    }
+
+-- ---- steps that move nothing
+
+-- the step moves no peak and no count
+abbrev pub is_still : Action → Answer → Bool
+is_still (Grant g n) Granted = false
+is_still (NoteMax g) Done = false
+is_still (NoteOom g) Done = false
+is_still (Kill g) Done = false
+is_still (Make path) (Number n) = false
+is_still action answer = true
+
+-- no step of the list does
+abbrev pub are_still : Run → Bool
+are_still [] = true
+are_still (e ∷ rest) = is_still e.0.action e.1 && are_still rest
+
+pub still_peak : (t : State) (action : Action) (answer : Answer) (m x : ℕ) → is_still action answer ≡ true → peak_follows t action answer m x ≡ x
+still_peak t (Grant g n) Granted m x still = absurd (false≢true still)
+still_peak t (Make path) (Number n) m x still = absurd (false≢true still)
+still_peak t action answer m x still = refl
+
+pub still_note : (key : EventKey) (action : Action) (answer : Answer) → is_still action answer ≡ true → noted_at key action answer ≡ None
+still_note Max (NoteMax g) Done still = absurd (false≢true still)
+still_note Max action answer still = refl
+still_note Oom (NoteOom g) Done still = absurd (false≢true still)
+still_note Oom action answer still = refl
+still_note OomKill (Kill g) Done still = absurd (false≢true still)
+still_note OomKill action answer still = refl
+
+still_make : (m : ℕ) (action : Action) (answer : Answer) → is_still action answer ≡ true → makes_group m action answer ≡ false
+still_make m (Make path) (Number n) still = absurd (false≢true still)
+still_make m action answer still = refl
+
+abbrev pub Stays : Moves → Type 0
+Stays moves = (s : State) (seat : ℕ) (action : Action) (answer : Answer) (x : ℕ) → is_still action answer ≡ true → moves s seat action answer x ≡ x
+
+pub count_stays : (test : Test) (m : ℕ) → ((groups : List Group) (action : Action) (answer : Answer) → is_still action answer ≡ true
+    → test groups action answer ≡ false) → Stays (moves_count test m)
+count_stays test m none s seat action answer x still =
+    ap (λ (b : Bool). cond b 0 (cond (test s.groups action answer) (one_more x) x)) (still_make m action answer still)
+    ∙ ap (λ (b : Bool). cond b (one_more x) x) (none s.groups action answer still)
+
+over_still : (moves : Moves) → Stays moves → (s : State) (steps : Run) (x : ℕ) → are_still steps ≡ true → moved_over moves s steps x ≡ x
+over_still moves stays s [] x still = refl
+over_still moves stays s (e ∷ rest) x still =
+    let both = and_parts (is_still e.0.action e.1) (are_still rest) still in
+    over_still moves stays (after s e.0.seat e.0.action e.1) rest (moves s e.0.seat e.0.action e.1 x) both.1
+    ∙ stays s e.0.seat e.0.action e.1 x both.0
+
+pub peak_still : (m : ℕ) (s : State) (steps : Run) (x : ℕ) → are_still steps ≡ true → moved_over (moves_peak m) s steps x ≡ x
+peak_still m = over_still (moves_peak m) (λ s seat action answer x still. still_peak (after s seat action answer) action answer m x still)
+
+pub below_stays : (key : EventKey) (m : ℕ) → Stays (moves_count (is_noted_below key m) m)
+below_stays key m = count_stays (is_noted_below key m) m (λ groups action answer still. ap (is_below groups m) (still_note key action answer still))
+
+pub at_stays : (key : EventKey) (m : ℕ) → Stays (moves_count (is_noted_at key m) m)
+at_stays key m = count_stays (is_noted_at key m) m (λ groups action answer still. ap (λ (o : Option ℕ). is_of_group o m) (still_note key action answer still))
+
+pub below_still : (key : EventKey) (m : ℕ) (s : State) (steps : Run) (x : ℕ) → are_still steps ≡ true
+    → moved_over (moves_count (is_noted_below key m) m) s steps x ≡ x
+below_still key m = over_still (moves_count (is_noted_below key m) m) (below_stays key m)
+
+pub at_still : (key : EventKey) (m : ℕ) (s : State) (steps : Run) (x : ℕ) → are_still steps ≡ true
+    → moved_over (moves_count (is_noted_at key m) m) s steps x ≡ x
+at_still key m = over_still (moves_count (is_noted_at key m) m) (at_stays key m)
+
+pub follows_still : (s : State) (l : Ledger) (steps : Run) (k : Ledger) → are_still steps ≡ true → SamePeaks l k → SameEvents l k → FollowsSteps s l steps k
+follows_still s l steps k still peaks events = record {
+  peak = λ m there. peaks m ∙ sym (peak_still m s steps _ still);
+  events = λ key m there. ap (count_by key) (events.events m) ∙ sym (below_still key m s steps _ still);
+  events_local = λ key m there. ap (count_by key) (events.events_local m) ∙ sym (at_still key m s steps _ still);
+}
+
+-- the ledger stays
+pub same_events : (l : Ledger) → SameEvents l l
+same_events l = record { events = λ m. refl; events_local = λ m. refl }
+
+pub follows_same : (s : State) (l : Ledger) (steps : Run) → are_still steps ≡ true → FollowsSteps s l steps l
+follows_same s l steps still = follows_still s l steps l still (λ m. refl) (same_events l)
+
+-- ---- no step
+
+pub makes_none : (t : KnownTable) (p : ℕ) (a : Side) → MakesAs t p a [] a
+makes_none t p a = record { leads = refl; follows = follows_same _ _ _ refl }
+
+-- what is seen stays, and the ledger
+pub makes_stay : (t : KnownTable) (m n : KnownMachine) (c d : KnownCpu) → local_of t m c ≡ local_of t n d → n.ledger ≡ m.ledger
+    → MakesAs t c.number (side m c) [] (side n d)
+makes_stay t m n c d seen same = record {
+  leads = seen;
+  follows = subst (FollowsSteps (local_of t m c) m.ledger []) (sym same) (follows_same (local_of t m c) m.ledger [] refl);
+}

@@ -1,0 +1,238 @@
+-- Each step that moves a peak or a count of the ledger, and what comes with it. Serves the `steps` clauses of the calls that charge,
+-- note, kill, make, limit and remove.
+use Rattle.std.proofs.Common.{◌≡◌, ◌≢◌, ℕ, ◌+◌, ◌<◌, ◌==◌, Bool, true, false, Option, Some, None, List, [], ◌∷◌, ◌++◌, cond, refl, sym, ap, ◌∙◌}
+use Rattle.std.proofs.Common.{inl, inr, arith, eq-eqb, get_or}
+use Rattle.std.specs.Prelude.{max, not, is_some, filter}
+use Rattle.std.specs.List.{find}
+use Rattle.std.specs.Option.{option_map_or, option_or}
+use Rattle.std.proofs.lemmas.Bool.{cases_eq, ne_eqb, eqb-true, not_from_false, true≢false}
+use Rattle.std.proofs.lemmas.List.Folds.{find-append}
+use Rattle.group_tree.specs.declared.group.Group.{Group}
+use Rattle.group_tree.specs.Groups.{has_group, in_subtree, without_group, IsLeastFreeNumber}
+use Rattle.group_tree.specs.Room.{one_more}
+use Rattle.group_tree.proofs.GroupLemmas.{find-filter, is_some-find}
+use Rattle.group_charge.specs.declared.account.Account.{Account}
+use Rattle.group_charge.specs.declared.account.Counts.{Counts}
+use Rattle.group_charge.specs.Charges.{Ledger, AreCharges, SamePeaks, SameEvents, CountsEvent, current_of, peak_of, events_of, events_local_of, account_at}
+use Rattle.group_charge.specs.Charges.{no_events, empty_account, with_charge, with_max, with_oom, with_oom_kill, with_new_group, with_group_removed, with_group_limit}
+use Rattle.group_charge.proofs.CallerLemmas.{charge_rises, charge_peaks, charge_events, has_account}
+use Rattle.frame_word.specs.Seats.{KnownTable}
+use Rattle.cpu_part.specs.Cpus.{KnownCpu}
+use Rattle.step_rules.specs.declared.step.Action.{Action}
+use Rattle.step_rules.specs.declared.step.Action.TheVariants.{Grant, NoteMax, NoteOom, Kill, Make}
+use Rattle.step_rules.specs.declared.step.Answer.TheVariants.{Done, Granted, Number}
+use Rattle.step_rules.specs.State.{State}
+use Rattle.step_rules.specs.After.{Run, after}
+use Rattle.step_rules.specs.Usage.{usage_of, is_below, frames_kept, pages_prepaid, pages_pending}
+use Rattle.step_rules.specs.Events.{EventKey, Max, Oom, OomKill, noted_at, count_after, is_noted_at, is_noted_below}
+use Rattle.step_rules.specs.Legal.{is_of_group}
+use Rattle.step_rules.proofs.Homes.{number_low}
+use Rattle.step_rules.proofs.Moving.{gone_itself, pending_moves, pends_split}
+use Rattle.mem_machine.specs.Following.{moves_peak, count_by, FollowsSteps}
+use Rattle.mem_machine.specs.Machines.{KnownMachine}
+use Rattle.mem_machine.specs.Local.{local_of}
+use Rattle.mem_machine.specs.Steps.{zone_makes, make_steps, remove_steps, set_max_steps}
+use Rattle.mem_machine.proofs.Followed.{are_still, peak_still, below_still, at_still, follows_still}
+
+-- ---- a grant
+
+-- pages that are granted are in the usage of the group and of each of its ancestors
+granted_usage : (t : KnownTable) (m : KnownMachine) (c : KnownCpu) (g n : ℕ) → AreCharges m.ledger → has_group m.ledger.groups g ≡ true
+    → ((h : ℕ) → usage_of (local_of t m c) h ≡ current_of m.ledger h) → (h : ℕ)
+    → current_of (with_charge m.ledger g n) h ≡ usage_of (after (local_of t m c) 0 (Grant g n) Granted) h
+granted_usage t m c g n facts there usage h =
+    let s = local_of t m c in
+    let low : g < 64 = number_low m.ledger.groups g facts.groups there in
+    let a = pending_moves m.ledger.groups (λ k. 0) h g (0 + n) low in
+    let b = pends_split m.ledger.groups h g 0 n in
+    charge_rises m.ledger g n facts there h ∙ ap (λ (v : ℕ). cond (in_subtree m.ledger.groups h g) (v + n) v) (sym (usage h))
+    ∙ sym (granted (in_subtree m.ledger.groups h g) (frames_kept s.groups s.phases s.zone.frames h + pages_prepaid s.groups s.parts s.zone.cpus h)
+    (pages_pending s.groups s.pending h) (usage_of (after s 0 (Grant g n) Granted) h) (omega (arith, a, b)))
+  where
+    granted : (b : Bool) (x y z : ℕ) → z ≡ x + (y + cond b n 0) → z ≡ cond b (x + y + n) (x + y)
+    granted true x y z e = omega (arith, e)
+    granted false x y z e = omega (arith, e)
+
+grant_noted : (key : EventKey) (g n : ℕ) → noted_at key (Grant g n) Granted ≡ None
+grant_noted Max g n = refl
+grant_noted Oom g n = refl
+grant_noted OomKill g n = refl
+
+-- pages are granted, and then nothing moves but usage
+pub follows_grant : (t : KnownTable) (m : KnownMachine) (c : KnownCpu) (g n : ℕ) → AreCharges m.ledger → has_group m.ledger.groups g ≡ true
+    → ((h : ℕ) → usage_of (local_of t m c) h ≡ current_of m.ledger h) → (rest : Run) → are_still rest ≡ true → (k : Ledger)
+    → SamePeaks (with_charge m.ledger g n) k → SameEvents (with_charge m.ledger g n) k
+    → FollowsSteps (local_of t m c) m.ledger (zone_makes (Grant g n) Granted ∷ rest) k
+follows_grant t m c g n facts there usage rest still k peaks events =
+    let s = local_of t m c in
+    let now : State = after s 0 (Grant g n) Granted in
+    let own = charge_events m.ledger g n in
+    record {
+      peak = λ h is. peaks h ∙ charge_peaks m.ledger g n facts h
+          ∙ ap (λ (v : ℕ). cond (in_subtree m.ledger.groups h g) (max (peak_of m.ledger h) v) (peak_of m.ledger h)) (granted_usage t m c g n facts there usage h)
+          ∙ sym (peak_still h now rest _ still);
+      events = λ key h is. ap (count_by key) (events.events h ∙ own.events h) ∙ sym (below_still key h now rest _ still
+          ∙ ap (λ (o : Option ℕ). cond (is_below m.ledger.groups h o) (one_more (count_by key (events_of m.ledger h))) (count_by key (events_of m.ledger h)))
+          (grant_noted key g n));
+      events_local = λ key h is. ap (count_by key) (events.events_local h ∙ own.events_local h) ∙ sym (at_still key h now rest _ still
+          ∙ ap (λ (o : Option ℕ). cond (is_of_group o h) (one_more (count_by key (events_local_of m.ledger h))) (count_by key (events_local_of m.ledger h)))
+          (grant_noted key g n));
+    }
+
+-- ---- an event
+
+-- what one more event makes of a count
+one_counted : (f : Counts → ℕ) (more : Counts → Counts) (b : Bool) (x : Counts) → f (more x) ≡ one_more (f x) → f (cond b (more x) x) ≡ cond b (one_more (f x)) (f x)
+one_counted f more true x counts = counts
+one_counted f more false x counts = refl
+
+none_counted : (f : Counts → ℕ) (more : Counts → Counts) (b : Bool) (x : Counts) → f (more x) ≡ f x → f (cond b (more x) x) ≡ f x
+none_counted f more true x keeps = keeps
+none_counted f more false x keeps = refl
+
+-- the step that notes an event of the kind at group g, and what it makes of counts
+abbrev pub noting : EventKey → ℕ → Action
+noting Max g = NoteMax g
+noting Oom g = NoteOom g
+noting OomKill g = Kill g
+
+abbrev pub one_of : EventKey → Counts → Counts
+one_of Max = with_max
+one_of Oom = with_oom
+one_of OomKill = with_oom_kill
+
+below_counted : (kind key : EventKey) (groups : List Group) (g m : ℕ) (x : Counts)
+    → count_by key (cond (in_subtree groups m g) (one_of kind x) x) ≡ count_after (is_noted_below key m) m groups (noting kind g) Done (count_by key x)
+below_counted Max Max groups g m x = one_counted (count_by Max) with_max (in_subtree groups m g) x refl
+below_counted Max Oom groups g m x = none_counted (count_by Oom) with_max (in_subtree groups m g) x refl
+below_counted Max OomKill groups g m x = none_counted (count_by OomKill) with_max (in_subtree groups m g) x refl
+below_counted Oom Max groups g m x = none_counted (count_by Max) with_oom (in_subtree groups m g) x refl
+below_counted Oom Oom groups g m x = one_counted (count_by Oom) with_oom (in_subtree groups m g) x refl
+below_counted Oom OomKill groups g m x = none_counted (count_by OomKill) with_oom (in_subtree groups m g) x refl
+below_counted OomKill Max groups g m x = none_counted (count_by Max) with_oom_kill (in_subtree groups m g) x refl
+below_counted OomKill Oom groups g m x = none_counted (count_by Oom) with_oom_kill (in_subtree groups m g) x refl
+below_counted OomKill OomKill groups g m x = one_counted (count_by OomKill) with_oom_kill (in_subtree groups m g) x refl
+
+at_counted : (kind key : EventKey) (groups : List Group) (g m : ℕ) (x : Counts)
+    → count_by key (cond (g == m) (one_of kind x) x) ≡ count_after (is_noted_at key m) m groups (noting kind g) Done (count_by key x)
+at_counted Max Max groups g m x = one_counted (count_by Max) with_max (g == m) x refl
+at_counted Max Oom groups g m x = none_counted (count_by Oom) with_max (g == m) x refl
+at_counted Max OomKill groups g m x = none_counted (count_by OomKill) with_max (g == m) x refl
+at_counted Oom Max groups g m x = none_counted (count_by Max) with_oom (g == m) x refl
+at_counted Oom Oom groups g m x = one_counted (count_by Oom) with_oom (g == m) x refl
+at_counted Oom OomKill groups g m x = none_counted (count_by OomKill) with_oom (g == m) x refl
+at_counted OomKill Max groups g m x = none_counted (count_by Max) with_oom_kill (g == m) x refl
+at_counted OomKill Oom groups g m x = none_counted (count_by Oom) with_oom_kill (g == m) x refl
+at_counted OomKill OomKill groups g m x = one_counted (count_by OomKill) with_oom_kill (g == m) x refl
+
+turned : (a b : ℕ) → (a == b) ≡ (b == a)
+turned a b = elim (cases_eq a b) [
+  | inl e ↦ eq-eqb a b e ∙ sym (eq-eqb b a (sym e))
+  | inr ne ↦ ne_eqb a b ne ∙ sym (ne_eqb b a (λ e. ne (sym e)))
+]
+
+noting_peak : (kind : EventKey) (m g : ℕ) (s : State) (x : ℕ) → moves_peak m s 0 (noting kind g) Done x ≡ x
+noting_peak Max m g s x = refl
+noting_peak Oom m g s x = refl
+noting_peak OomKill m g s x = refl
+
+-- an event is noted at a group
+pub follows_note : (kind : EventKey) (t : KnownTable) (m : KnownMachine) (c : KnownCpu) (g : ℕ) (k : Ledger) → CountsEvent (one_of kind) m.ledger k g
+    → SamePeaks m.ledger k → FollowsSteps (local_of t m c) m.ledger (zone_makes (noting kind g) Done ∷ []) k
+follows_note kind t m c g k counts peaks = record {
+  peak = λ h is. peaks h ∙ sym (noting_peak kind h g (local_of t m c) (peak_of m.ledger h));
+  events = λ key h is. ap (count_by key) (counts.events h) ∙ below_counted kind key m.ledger.groups g h (events_of m.ledger h);
+  events_local = λ key h is. ap (count_by key) (counts.events_local h
+      ∙ ap (λ (b : Bool). cond b (one_of kind (events_local_of m.ledger h)) (events_local_of m.ledger h)) (turned h g))
+      ∙ at_counted kind key m.ledger.groups g h (events_local_of m.ledger h);
+}
+
+-- ---- a limit
+
+pub follows_limit : (s : State) (l : Ledger) (g : ℕ) (limit : Option ℕ) → FollowsSteps s l (set_max_steps g limit) (with_group_limit l g limit)
+unfolding peak_of events_of events_local_of account_at
+follows_limit s l g limit = follows_still s l (set_max_steps g limit) (with_group_limit l g limit) refl (λ m. refl)
+    (record { events = λ m. refl; events_local = λ m. refl })
+
+-- ---- a group that is made
+
+none_is : {X : Type 0} (o : Option X) → is_some o ≡ false → o ≡ None
+none_is None e = refl
+none_is (Some x) e = absurd (true≢false e)
+
+-- a number of an account, where there is one
+abbrev read : {X : Type 0} → (Account → X) → X → List Account → ℕ → X
+read r x accounts m = option_map_or r (find (λ (a : Account). a.group == m) accounts) x
+
+made_read : {X : Type 0} (r : Account → X) (x : X) (l : Ledger) (n m : ℕ) → AreCharges l → has_group l.groups n ≡ false → r (empty_account n) ≡ x
+    → read r x (l.accounts ++ empty_account n ∷ []) m ≡ cond (m == n) x (read r x l.accounts m)
+made_read r x l n m facts free empty =
+    ap (λ (o : Option Account). option_map_or r o x) (find-append (λ (a : Account). a.group == m) l.accounts (empty_account n ∷ []))
+    ∙ elim (cases_eq m n) [
+      | inl e ↦
+          let none : find (λ (a : Account). a.group == m) l.accounts ≡ None =
+          none_is _ (is_some-find (λ (a : Account). a.group == m) l.accounts ∙ has_account l m facts ∙ ap (has_group l.groups) e ∙ free) in
+          ap (λ (o : Option Account). option_map_or r (option_or o (cond (n == m) (Some (empty_account n)) None)) x) none
+          ∙ ap (λ (b : Bool). option_map_or r (cond b (Some (empty_account n)) None) x) (eq-eqb n m (sym e)) ∙ empty
+          ∙ sym (ap (λ (b : Bool). cond b x (read r x l.accounts m)) (eq-eqb m n e))
+      | inr ne ↦
+          ap (λ (b : Bool). option_map_or r (option_or (find (λ (a : Account). a.group == m) l.accounts) (cond b (Some (empty_account n)) None)) x)
+          (ne_eqb n m (λ e. ne (sym e)))
+          ∙ or_none (find (λ (a : Account). a.group == m) l.accounts)
+          ∙ sym (ap (λ (b : Bool). cond b x (read r x l.accounts m)) (ne_eqb m n ne))
+    ]
+  where
+    or_none : (o : Option Account) → option_map_or r (option_or o None) x ≡ option_map_or r o x
+    or_none None = refl
+    or_none (Some a) = refl
+
+made_count : (key : EventKey) (b : Bool) (x : Counts) → count_by key (cond b no_events x) ≡ cond b 0 (count_by key x)
+made_count Max true x = refl
+made_count Oom true x = refl
+made_count OomKill true x = refl
+made_count key false x = refl
+
+make_noted : (key : EventKey) (path : List ℕ) (n : ℕ) → noted_at key (Make path) (Number n) ≡ None
+make_noted Max path n = refl
+make_noted Oom path n = refl
+make_noted OomKill path n = refl
+
+-- a group is made
+pub follows_make : (s : State) (l : Ledger) (path : List ℕ) (n : ℕ) → AreCharges l → IsLeastFreeNumber l.groups n
+    → FollowsSteps s l (make_steps path n) (with_new_group l n path)
+unfolding peak_of events_of events_local_of account_at
+follows_make s l path n facts least = record {
+  peak = λ m is. made_read (λ (a : Account). a.peak) 0 l n m facts least.free refl;
+  events = λ key m is. ap (count_by key) (made_read (λ (a : Account). a.events) no_events l n m facts least.free refl)
+      ∙ made_count key (m == n) (read (λ (a : Account). a.events) no_events l.accounts m)
+      ∙ sym (ap (λ (o : Option ℕ). cond (m == n) 0 (cond (is_below s.groups m o) (one_more (count_by key (read (λ (a : Account). a.events) no_events l.accounts m)))
+      (count_by key (read (λ (a : Account). a.events) no_events l.accounts m)))) (make_noted key path n));
+  events_local = λ key m is. ap (count_by key) (made_read (λ (a : Account). a.events_local) no_events l n m facts least.free refl)
+      ∙ made_count key (m == n) (read (λ (a : Account). a.events_local) no_events l.accounts m)
+      ∙ sym (ap (λ (o : Option ℕ). cond (m == n) 0 (cond (is_of_group o m) (one_more (count_by key (read (λ (a : Account). a.events_local) no_events l.accounts m)))
+      (count_by key (read (λ (a : Account). a.events_local) no_events l.accounts m)))) (make_noted key path n));
+}
+
+-- ---- a group that is removed
+
+removed_read : {X : Type 0} (r : Account → X) (x : X) (accounts : List Account) (g m : ℕ) → m ≢ g
+    → read r x (filter (λ (a : Account). not (a.group == g)) accounts) m ≡ read r x accounts m
+removed_read r x accounts g m other =
+    ap (λ (o : Option Account). option_map_or r o x)
+    (find-filter (λ (a : Account). a.group == m) (λ a. not (a.group == g)) accounts
+    (λ k d lt t. not_from_false ((get_or accounts k d).group == g)
+    (ne_eqb (get_or accounts k d).group g (λ e. other (sym (eqb-true (get_or accounts k d).group m t) ∙ e)))))
+
+-- a group is removed: each that is still there has the account that it had
+pub follows_remove : (s : State) (l : Ledger) (g : ℕ) → FollowsSteps s l (remove_steps g) (with_group_removed l g)
+unfolding peak_of events_of events_local_of account_at
+follows_remove s l g = record {
+  peak = λ m is. removed_read (λ (a : Account). a.peak) 0 l.accounts g m (other m is);
+  events = λ key m is. ap (count_by key) (removed_read (λ (a : Account). a.events) no_events l.accounts g m (other m is))
+      ∙ sym (below_still key m s (remove_steps g) _ refl);
+  events_local = λ key m is. ap (count_by key) (removed_read (λ (a : Account). a.events_local) no_events l.accounts g m (other m is))
+      ∙ sym (at_still key m s (remove_steps g) _ refl);
+}
+  where
+    other : (m : ℕ) → has_group (without_group l.groups g) m ≡ true → m ≢ g
+    other m is e = true≢false (sym is ∙ ap (has_group (without_group l.groups g)) e ∙ gone_itself l.groups g)

@@ -1,0 +1,27 @@
+-- What the peaks and the event counts of the ledger tell of a run, and that each call keeps it so.
+use Rattle.std.specs.Prelude.{◌≡◌, ℕ, ◌++◌, true}
+use Rattle.frame_word.specs.Seats.{KnownTable}
+use Rattle.group_tree.specs.Groups.{has_group}
+use Rattle.group_charge.specs.Charges.{Ledger, peak_of, events_of, events_local_of}
+use Rattle.step_rules.specs.After.{Run}
+use Rattle.step_rules.specs.Peaks.{IsPeak}
+use Rattle.step_rules.specs.Events.{EventKey, events_of as events_in, events_local_of as events_local_in}
+use Rattle.mem_machine.specs.Following.{count_by}
+use Rattle.mem_machine.specs.Local.{Side, Makes}
+use Rattle.mem_machine.specs.Interleaving.{zone_of, Shows, IsMixed}
+
+-- of each group that is there, the ledger tells the peak that it reached in the run, and the events that the run noted
+pub record TellsRun (table : KnownTable) (run : Run) (ledger : Ledger) : Type 0 where
+  pub peak : (m : ℕ) → has_group ledger.groups m ≡ true → IsPeak (zone_of table) run m (peak_of ledger m)
+  pub events : (key : EventKey) (m : ℕ) → has_group ledger.groups m ≡ true
+      → count_by key (events_of ledger m) ≡ events_in key (zone_of table) run m
+  pub events_local : (key : EventKey) (m : ℕ) → has_group ledger.groups m ≡ true
+      → count_by key (events_local_of ledger m) ≡ events_local_in key (zone_of table) run m
+
+-- Where a run shows a processor the machine, and the ledger tells the run, and a call leads by these steps to another
+-- machine and part of the processor, the ledger after the call tells the run with the call's steps, and any steps of
+-- other processors between them
+abbrev pub LedgersTell : Type 0
+LedgersTell = (t : KnownTable) (run steps mixed : Run) (before after : Side)
+    → Shows t run before → TellsRun t run before.machine.ledger → Makes t before steps after
+    → IsMixed t run before.cpu.number steps mixed → TellsRun t (run ++ mixed) after.machine.ledger
