@@ -16,17 +16,12 @@ invariant_of-self g c = (
   c.self.invariant.1,
 )
 
-pub returns-in-None-clause-drains : goal.returns-in-None-clause-drains
-returns-in-None-clause-drains g c =
-    (never_drained g.N.BootName.frames g.N.BootName.stocks _ _ c.self.view_is c.self.invariant.0 c.args.q c.requires.processor.0
+pub returns-in-None : goal.returns-in-None
+returns-in-None g c =
+    let all = never_drained g.N.BootName.frames g.N.BootName.stocks _ _ c.self.view_is c.self.invariant.0 c.args.q c.requires.processor.0
     c.requires.processor.1 c.in-None.ensures.group _
-    (ap uncounted c.in-None.ensures.machine)).drains
-
-pub returns-in-None-clause-steps : goal.returns-in-None-clause-steps
-returns-in-None-clause-steps g c =
-    (never_drained g.N.BootName.frames g.N.BootName.stocks _ _ c.self.view_is c.self.invariant.0 c.args.q c.requires.processor.0
-    c.requires.processor.1 c.in-None.ensures.group _
-    (ap uncounted c.in-None.ensures.machine)).steps
+    (ap uncounted c.in-None.ensures.machine) in
+    record { drains = all.drains; steps = all.steps }
 
 pub returns-in-Some-clause-steps : goal.returns-in-Some-clause-steps
 returns-in-Some-clause-steps g c =
