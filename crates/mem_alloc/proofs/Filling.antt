@@ -34,6 +34,7 @@ use Rattle.mem_alloc.specs.Frames.{LendsBatch, LendsNoFrame, ReclaimsForList, Re
 use Rattle.mem_alloc.proofs.Lowering.{Lowers, lowers_none, lowers_both, drain_lowers}
 use Rattle.mem_alloc.proofs.Killing.{relieves_lower}
 use Rattle.mem_alloc.proofs.Rounding.{Spares, FailureSpares, InTheEnd, spares_same, fails_spare, in_the_end}
+use Rattle.mem_machine.proofs.Followed.{makes_both}
 
 -- ---- what is kept
 

@@ -25,6 +25,7 @@ use Rattle.mem_alloc.specs.Stepping.{ByStepsOfAny, Rests, course}
 use Rattle.mem_alloc.specs.Kills.{IsWanting, KillsEach, KillsFor, KillsOne, KillsVictims, has_room_for, with_oom_noted_at}
 use Rattle.mem_alloc.specs.Room.{KillsForFew, RelievesLimit}
 use Rattle.mem_alloc.proofs.Lowering.{Lowers, lowers_none, lowers_both, same_visit, clears_lower, keeps_lower, sum_less}
+use Rattle.mem_machine.proofs.Followed.{makes_both, makes_none}
 
 -- ---- what is kept
 
@@ -159,7 +160,7 @@ pub record KillsSoFar (r : Option ℕ) (t : KnownTable) (g pages : ℕ) (m n : K
   pub runs : MakesForAny t m killing n
 
 pub so_far_nobody : (r : Option ℕ) (t : KnownTable) (g pages : ℕ) (m : KnownMachine) → KillsSoFar r t g pages m m
-so_far_nobody r t g pages m = record { victims = []; killing = []; kills = record { machine = refl; steps_are = refl }; runs = λ c. refl }
+so_far_nobody r t g pages m = record { victims = []; killing = []; kills = record { machine = refl; steps_are = refl }; runs = λ c. makes_none t c.number (side m c) }
 
 pub so_far_killed : (r : Option ℕ) (t : KnownTable) (w : Words) (g pages v : ℕ) (m x n : KnownMachine) → KillsSoFar r t g pages m x
     → IsWanting r g pages x → IsConsistent t w x → AreCharges x.ledger → IsVictim x g (Some v) → IsKilledBy t g v x n
@@ -216,7 +217,7 @@ pub no_kills : (r : Option ℕ) (t : KnownTable) (g pages : ℕ) (m : KnownMachi
 no_kills r t g pages m room = (
   [],
   record { room = λ _. record { machine = refl; steps_are = refl }; over = λ over. absurd (false≢true (sym over ∙ room)) },
-  λ c. refl,
+  λ c. makes_none t c.number (side m c),
 )
 
 -- ---- kills for a few pages alone
@@ -229,5 +230,5 @@ pub many_rest : (t : KnownTable) (r g pages : ℕ) (m : KnownMachine) → 8 < pa
 many_rest t r g pages m many = (
   [],
   record { few = λ few. absurd (omega (arith, few, many)); many = λ _. record { machine = refl; steps_are = refl } },
-  λ c. refl,
+  λ c. makes_none t c.number (side m c),
 )

@@ -26,6 +26,7 @@ use Rattle.mem_alloc.specs.declared.faults.AllocFault.{AllocFault}
 use Rattle.mem_alloc.specs.Charging.{FillsAfterRoom, RefusesOne}
 use Rattle.mem_alloc.proofs.Lowering.{Lowers, lowers_none, lowers_both}
 use Rattle.mem_alloc.proofs.Killing.{relieving_lowers}
+use Rattle.mem_machine.proofs.Followed.{makes_both, makes_none}
 
 note_then_drains : (t : KnownTable) (g pages : ℕ) (m x n : KnownMachine) → MakesForAny t m (note_max_steps g) x → (drains : DrainsSubtree t g pages x n)
     → MakesForAny t m (note_max_steps g ++ drain_stocks_steps drains.drains) n
@@ -37,7 +38,9 @@ pub clears_by : (t : KnownTable) (g pages back : ℕ) (m y x n : KnownMachine) �
     → MakesForAny t y (note_max_steps g) x → DrainsSubtree t g back x n → AreDrained g t.cpus n → ByStepsOfAny t m n (ClearsBelow g pages)
 clears_by t g pages back m y x n told noted noting_y drains drained =
     let both : x ≡ with_max_noted_at m g pages = noted ∙ ap (λ (k : KnownMachine). record k { ledger = with_max_noted k.ledger g }) told in
-    let noting : MakesForAny t m (note_max_steps g) x = subst (λ (k : KnownMachine). MakesForAny t k (note_max_steps g) x) told noting_y in (
+    let noting_told : MakesForAny t (with_limit_noted m g pages) (note_max_steps g) x =
+    subst (λ (k : KnownMachine). MakesForAny t k (note_max_steps g) x) told noting_y in
+    let noting : MakesForAny t m (note_max_steps g) x = λ c. record { leads = (noting_told c).leads; follows = (noting_told c).follows } in (
       note_max_steps g ++ drain_stocks_steps drains.drains,
       record {
         drains = drains.drains;
@@ -79,7 +82,7 @@ pub kills_nobody : (t : KnownTable) (r g pages : ℕ) (m : KnownMachine) → 8 <
 kills_nobody t r g pages m many = (
   [],
   record { few = λ few. absurd (omega (arith, few, many)); many = λ _. record { machine = refl; steps_are = refl } },
-  λ c. refl,
+  λ c. makes_none t c.number (side m c),
 )
 
 -- there is no limit
@@ -90,9 +93,9 @@ no_rounds t g pages m none = (
     rounds = subst (λ (o : Option ℕ). RoundsBefore o g pages (course t m [] m)) (sym none) (record { machine = refl; steps_are = refl });
     missed = λ over. absurd (false≢true (sym over ∙ ap (λ (o : Option ℕ). fits_limit o (current_of m.ledger g + pages)) none));
     keeps = keeps_none t m;
-    none_killed = record { runs = λ c. refl; quiet = refl; misses = λ f. omega arith };
+    none_killed = record { runs = λ c. makes_none t c.number (side m c); quiet = refl; misses = λ f. omega arith };
   },
-  λ c. refl,
+  λ c. makes_none t c.number (side m c),
 )
 
 -- there is one
@@ -150,7 +153,7 @@ so_far_none t g pages c m alive = record {
   refused_at = [];
   making = [];
   makes = record { machine = refl; steps_are = refl };
-  runs = refl;
+  runs = makes_none t c.number (side m c);
   lowers = lowers_none t m;
   alive = alive;
 }

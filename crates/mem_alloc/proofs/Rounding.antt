@@ -13,6 +13,7 @@ use Rattle.mem_reclaim.specs.Staying.{Keeps, MissedAll}
 use Rattle.mem_alloc.specs.Stepping.{Course, BySteps, course}
 use Rattle.mem_alloc.specs.Rounds.{MakesRound, FailsInRounds, SucceedsInRounds}
 use Rattle.mem_alloc.proofs.Lowering.{Lowers, lowers_none, lowers_both, keeps_lower}
+use Rattle.mem_machine.proofs.Followed.{makes_both, makes_none}
 
 -- ---- what is kept where a try fails
 
@@ -119,7 +120,7 @@ module _ (t : KnownTable) (want : ℕ) (Fails : Course Side → Type 0) (Succeed
     steps = [];
     fails = λ rest n h. h;
     succeeds = λ k rest n h. h;
-    runs = refl;
+    runs = makes_none t c.number (side m c);
     spares = spares_none t m c;
   }
 

@@ -29,6 +29,7 @@ use Rattle.mem_alloc.specs.Blocks.{TryTakes, TryFindsNone, TakesInRounds, TriesI
 use Rattle.mem_alloc.proofs.Lowering.{Lowers, same_visit, lowered_fits, usage_back, room_back}
 use Rattle.mem_alloc.proofs.Making.{RoomSoFar, so_far_none}
 use Rattle.mem_alloc.proofs.Rounding.{FailureSpares, fails_spare, in_the_end}
+use Rattle.mem_machine.proofs.Followed.{makes_both}
 
 -- ---- one try
 

@@ -48,7 +48,8 @@ killed_noted t g v m a b n told had had_is kills_a keeps_a stocks_a noted_had =
         steps = kills.steps;
         kills = kills.kills;
         noted = noted;
-        runs = subst (λ (x : KnownMachine). MakesForAny t m kills.steps x) (sym noted) kills.runs;
+        runs = subst (λ (x : KnownMachine). MakesForAny t m kills.steps x) (sym noted)
+            (λ c. record { leads = (kills.runs c).leads; follows = (kills.runs c).follows });
         later = kills.later;
         front = kills.front;
         quiet = kills.quiet;

@@ -45,6 +45,7 @@ use Rattle.mem_reclaim.specs.Staying.{OnlyLeave}
 use Rattle.mem_reclaim.specs.Killing.{KillsBySteps, KeepsNone, KeepsStocks, LetsGoAll, LetsGoBySteps, OnlyDrains, OnlyLetsGo, with_killed}
 use Rattle.mem_reclaim.proofs.Listing.{has_unit, listed_is, home_inside, has_mid}
 use Rattle.mem_reclaim.proofs.Rising.{drains_return_none, returned_both, rises_both, units_rise}
+use Rattle.mem_machine.proofs.Followed.{makes_both, makes_none}
 
 -- ---- what stays
 
@@ -171,7 +172,7 @@ pub let_go_first : (t : KnownTable) (g : ℕ) (list : LruList) (m : KnownMachine
 let_go_first t g list m = record {
   steps = [];
   whole = λ rest n all. all;
-  runs = λ c. refl;
+  runs = λ c. makes_none t c.number (side m c);
   left = omega arith;
   keeps = only_lets_none t m;
   stocks = record { stock = refl; killed = refl };

@@ -30,6 +30,7 @@ use Rattle.mem_machine.specs.Steps.{zone_makes}
 use Rattle.mem_machine.specs.declared.counts.Counts.{Counts}
 use Rattle.mem_reclaim.specs.Moves.{Moves, Rises, all_missed_in, pages_back, pages_returned, returned_in, is_miss, missed_in, is_kill, has_kill}
 use Rattle.mem_reclaim.proofs.Rising.{missed_both, returned_both, rises_both, rises_none, rises_one}
+use Rattle.mem_machine.proofs.Followed.{makes_both, makes_none}
 
 -- ---- one list of steps after another
 
@@ -59,14 +60,14 @@ moves_none t m n runs seat counts = record {
 }
 
 pub moves_rest : (t : KnownTable) (m : KnownMachine) → Moves t m 0 [] m
-moves_rest t m = moves_none t m m (λ c. refl) refl refl
+moves_rest t m = moves_none t m m (λ c. makes_none t c.number (side m c)) refl refl
 
 pub moves_both : (t : KnownTable) (a b c : KnownMachine) (some more : ℕ) (one two : Run) → Moves t a some one b → Moves t b more two c
     → Moves t a (some + more) (one ++ two) c
 moves_both t a b c some more one two first second = record {
   runs = λ p. makes_both t p.number one two (side a p) (side b p) (side c p) (first.runs p) (second.runs p);
   pages = λ p.
-      let x = pages_both p.number one two (local_of t a p) (local_of t b p) (first.runs p) in
+      let x = pages_both p.number one two (local_of t a p) (local_of t b p) (first.runs p).leads in
       let y = first.pages p in let z = second.pages p in
       omega (arith, x, y, z);
   quiet = list_any-append (λ (e : Step × Answer). is_kill e.0.action) one two ∙ both_false (has_kill one) (has_kill two) first.quiet second.quiet;

@@ -24,6 +24,7 @@ use Rattle.mem_alloc.specs.Room.{with_limit_noted}
 use Rattle.mem_system.specs.Usage.{LowersUsage, LowersAbove, KeepsToLimit}
 use Rattle.mem_system.proofs.Found.{found_there}
 use Rattle.mem_system.specs.Commands.{SetsLimit, with_limit_of}
+use Rattle.mem_machine.proofs.Followed.{makes_both, makes_none}
 
 -- ---- a visit
 
@@ -116,7 +117,8 @@ lowered_above t g limit m y x n over told of_y k =
         above = λ more. record { lowered = x; lowering = b.0; killing = k.0; lowers = b.1; kills = k.1; steps_are = refl };
         within = λ (less : current_of m.ledger g ≤ limit). absurd (omega (arith, over, less));
       },
-      λ c. makes_both t c.number b.0 k.0 (side m c) (side x c) (side n c) (b.2 c) (k.2 c),
+      λ c. makes_both t c.number b.0 k.0 (side m c) (side x c) (side n c)
+          (record { leads = (b.2 c).leads; follows = (b.2 c).follows }) (k.2 c),
     )
 
 -- the usage is within it
@@ -128,7 +130,7 @@ lowered_none t g limit m within = (
     above = λ (over : limit < current_of m.ledger g). absurd (omega (arith, over, within));
     within = λ less. record { machine = refl; steps_are = refl };
   },
-  λ c. refl,
+  λ c. makes_none t c.number (side m c),
 )
 
 -- the limit is set, and then the usage is kept to it
@@ -160,7 +162,7 @@ pub limited_none : (t : KnownTable) (g : ℕ) (of : Option ℕ) (m x : KnownMach
     → MakesForAny t m (set_max_steps g of) x → ByStepsOfAny t m x (SetsLimit g of)
 limited_none t g of m x none is first =
     let keeps = subst (λ (o : Option ℕ). KeepsToLimit g o (course t x [] x)) (sym none) (record { machine = refl; steps_are = refl }) in
-    limited_by t g of m x x is first ([], keeps, λ c. refl)
+    limited_by t g of m x x is first ([], keeps, λ c. makes_none t c.number (side x c))
 
 -- ---- a group that is taken out
 

@@ -16,6 +16,7 @@ use Rattle.mem_machine.specs.Local.{side, MakesAs}
 use Rattle.mem_machine.specs.Releasing.{ReturnsUnit, release_steps}
 use Rattle.mem_system.specs.Commands.{BySteps}
 use Rattle.mem_system.specs.Releases.{ListsFrame, ReturnsFrames}
+use Rattle.mem_machine.proofs.Followed.{makes_both}
 
 -- another frame that is free now leaves a free one free
 set_free : (spots : List Spot) (f g : ℕ) → spot_at spots g ≡ Free → spot_at (slice_set spots f Free) g ≡ Free

@@ -23,6 +23,7 @@ use Rattle.mem_machine.proofs.NoneLent.{past_free}
 use Rattle.mem_system.specs.Commands.{BySteps, with_visit_of}
 use Rattle.mem_system.specs.Ends.{SettlesInVisit, Empties, LeavesAlone}
 use Rattle.mem_system.proofs.Listing.{left_over}
+use Rattle.mem_machine.proofs.Followed.{makes_both}
 
 -- the whole visit in which a processor is settled, from its three parts
 pub rested : (t : KnownTable) (m n : KnownMachine) (c d : KnownCpu) (entered x : KnownMachine) (c1 c2 : KnownCpu)

@@ -16,6 +16,7 @@ use Rattle.mem_system.specs.Boots.{KnownLocked, AllShut}
 use Rattle.mem_system.proofs.Killing.{around_quiet, obeys_no_rash}
 use Rattle.mem_system.proofs.Missing.{obeys_counts}
 use Rattle.mem_system.specs.Commands.{BySteps, Obeys, with_visit_of, course, holder, IsServed}
+use Rattle.mem_machine.proofs.Followed.{makes_both}
 
 pub all_shut : (m x n : KnownMachine) (p : ℕ) → AllShut m → x.seat.view.opened ≡ put_at 0 m.seat.view.opened p 1 → n ≡ with_visit_of x p 0 → AllShut n
 all_shut m x n p shut opened is q =
@@ -48,7 +49,7 @@ settled_opened m n c d s = returned_all c.back s.mid.machine n s.mid.cpu d s.bac
 pub served : (t : KnownTable) (cmd : Cmd) (l k : KnownLocked) (c d : KnownCpu) (reply : Reply) (entered mid x : KnownMachine) (c1 c2 c3 : KnownCpu)
     → entered ≡ with_visit_of (record l.machine { notes = [] }) c.number 1 → c1 ≡ c → c2.number ≡ c1.number → c3.number ≡ c2.number
     → k.machine ≡ with_visit_of x c3.number 0 → d ≡ c3 → k.sizes ≡ l.sizes
-    → MakesAs t c.number (side l.machine c) (open_steps c.number) (side entered c1)
+    → MakesAs t c.number (side (record l.machine { notes = [] }) c) (open_steps c.number) (side entered c1)
     → Settles (side entered c1) (side mid c2) → MakesAs t c1.number (side entered c1) (settle_steps (side entered c1)) (side mid c2)
     → BySteps t (side mid c2) (side x c3) (Obeys l.sizes cmd reply)
     → MakesAs t c3.number (side x c3) (shut_steps c3.number) (side k.machine d)
@@ -60,7 +61,7 @@ served t cmd l k c d reply entered mid x c1 c2 c3 opened same second third shut 
     let three : c3.number ≡ p = third ∙ two in
     let before : KnownMachine × KnownCpu → Type 0 = λ (y : KnownMachine × KnownCpu). MakesAs t p (side l.machine c) (open_steps p) (side y.0 y.1) in
     let begun : MakesAs t p (side l.machine c) (open_steps p) (side begins c) =
-    subst before (λ i. (opened i, same i)) first in
+    subst before (λ i. (opened i, same i)) (record { leads = first.leads; follows = first.follows }) in
     let settled : Settles (side begins c) (side mid c2) = subst (λ (y : KnownMachine × KnownCpu). Settles (side y.0 y.1) (side mid c2)) (λ i. (opened i, same i)) settles in
     let rested : MakesAs t p (side begins c) (settle_steps (side begins c)) (side mid c2) =
     subst (λ (y : KnownMachine × KnownCpu). MakesAs t y.1.number (side y.0 y.1) (settle_steps (side y.0 y.1)) (side mid c2)) (λ i. (opened i, same i)) rests in
@@ -73,7 +74,7 @@ served t cmd l k c d reply entered mid x c1 c2 c3 opened same second third shut 
         inner = obeyed.0;
         done = x;
         obeys = subst (λ (y : KnownCpu). Obeys l.sizes cmd reply (course t (side mid c2) obeyed.0 (side x y))) (sym after) obeyed.1;
-        no_rash = obeys_no_rash t l.sizes cmd reply mid c2 obeyed.0 (side x c3) (local_of t x c3) obeyed.1 obeyed.2;
+        no_rash = obeys_no_rash t l.sizes cmd reply mid c2 obeyed.0 (side x c3) (local_of t x c3) obeyed.1 obeyed.2.leads;
         only_inner = around_quiet p (side begins c);
         misses = obeys_counts l.sizes cmd reply (course t (side mid c2) obeyed.0 (side x c3)) obeyed.1;
         machine = shut ∙ ap (λ (q : ℕ). with_visit_of x q 0) three;

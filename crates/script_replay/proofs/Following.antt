@@ -61,6 +61,7 @@ use Rattle.script_replay.specs.Answers.{RepliesServed, AnswersGet, AnswersPut, C
 use Rattle.script_replay.specs.Answers.{Answers, AnswersWork}
 use Rattle.script_replay.specs.Ranges.{WorkInRange}
 use Rattle.script_replay.specs.History.{served_steps, fast_answer_steps, get_steps, put_steps, frame_steps, release_answer_steps, settle_answer_steps, answer_steps, work_steps}
+use Rattle.mem_machine.specs.Following.{FollowsSteps}
 
 -- ---- what no one sees
 
@@ -186,7 +187,11 @@ module _ (t : KnownTable) (w : Words) (run : Run) (locked : KnownLocked) (cpus :
   served_follows seen unseen command reply after is shut decided =
       lines_follow t run cpus k (side m c) is.0 (side after.locked.machine after.cpu) shows (record {
         is_part = is_part;
-        leads = subst (λ (x : ℕ × State). IsLocalRun x.0 x.1 is.0 (local_of t after.locked.machine after.cpu)) (λ i. (unseen.number i, unseen.same i)) is.2;
+        leads = record {
+          leads = subst (λ (x : ℕ × State). IsLocalRun x.0 x.1 is.0 (local_of t after.locked.machine after.cpu)) (λ i. (unseen.number i, unseen.same i))
+              is.2.leads;
+          follows = subst (λ (x : State). FollowsSteps x m.ledger is.0 after.locked.machine.ledger) unseen.same is.2.follows;
+        };
         decided = inner_decided is.0 decided;
         shut = shut;
       })

@@ -8,6 +8,7 @@ use Rattle.mem_system.specs.Leaves.{IsLeafAt}
 use Rattle.mem_system.proofs.Found.{found_there}
 use Rattle.mem_system.proofs.Keeping.{lowered_groups, lowered_visit, visit_keeps, visit_both, leaf_keeps}
 use Rattle.mem_system.proofs.groups.remove_group.Goals as goal
+use Rattle.mem_machine.proofs.Followed.{makes_both}
 
 pub lower_usage-requires : goal.lower_usage-requires
 lower_usage-requires g c =

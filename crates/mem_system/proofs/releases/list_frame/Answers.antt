@@ -6,6 +6,7 @@ use Rattle.mem_machine.specs.Local.{side, MakesAs}
 use Rattle.mem_machine.specs.Steps.{lend_steps}
 use Rattle.mem_system.proofs.Listing.{cut_off}
 use Rattle.mem_system.proofs.releases.list_frame.Goals as goal
+use Rattle.mem_machine.proofs.Followed.{makes_both}
 
 pub lend-requires-clause-free : goal.lend-requires-clause-free
 lend-requires-clause-free g c = (cut_off _ _ _ _ _ c.cut_list.ensures.cuts.1.takes).free c.args.frame c.requires.free
