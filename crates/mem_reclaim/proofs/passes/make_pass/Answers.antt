@@ -17,18 +17,11 @@ loop-number-preserved g c =
     c.loop-number.invariant c.loop-number-test.true c.if-want-given.false c.in-Some.turn c.in-Some.ensures.1 c.take_turn-given.result
     c.take_turn-given.new.machine e.turns e.keeps e.usage e.few e.leaves e.missed
 
-pub returns-clause-passes : goal.returns-clause-passes
-returns-clause-passes g c =
-    (pass_done g.N.BootName.frames g.N.BootName.stocks c.args.is_first c.args.group c.args.want c.args.machine.now c.loop-number.number c.loop-number.given
-    c.loop-number.machine c.spots-spots.ensures.consistent c.loop-number.invariant c.loop-number-test.false).passes
-
-pub returns-clause-missed : goal.returns-clause-missed
-returns-clause-missed g c =
-    (pass_done g.N.BootName.frames g.N.BootName.stocks c.args.is_first c.args.group c.args.want c.args.machine.now c.loop-number.number c.loop-number.given
-    c.loop-number.machine c.spots-spots.ensures.consistent c.loop-number.invariant c.loop-number-test.false).missed
-
-pub returns-clause-few : goal.returns-clause-few
-returns-clause-few g c = search rules
+pub returns : goal.returns
+returns g c =
+    let all = pass_done g.N.BootName.frames g.N.BootName.stocks c.args.is_first c.args.group c.args.want c.args.machine.now c.loop-number.number c.loop-number.given
+    c.loop-number.machine c.spots-spots.ensures.consistent c.loop-number.invariant c.loop-number-test.false in
+    record { passes = all.passes; keeps = search rules; usage = search rules; few = search rules; leaves = search rules; missed = all.missed }
 
 pub returns-then-want-given-clause-few : goal.returns-then-want-given-clause-few
 returns-then-want-given-clause-few g c = search rules

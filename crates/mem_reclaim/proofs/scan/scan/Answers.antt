@@ -63,18 +63,11 @@ loop-met-preserved g c =
     (omega (arith, small)) c.meet.ensures.meets c.meet.ensures.keeps c.meet.ensures.usage c.newer-next.result c.in-Some-frame.frame c.in-Some-frame.ensures.0
     c.newer-next.ensures)
 
-pub returns-clause-scans : goal.returns-clause-scans
-returns-clause-scans g c =
-    (scan_done g.N.BootName.frames c.args.marks_count c.args.group c.args.list c.args.want c.args.machine.now c.loop-met._met c.loop-met.given c.loop-met.next
-    c.loop-met.machine c.loop-met.invariant c.listed-units.result c.listed-units.ensures c.loop-met-test.false).scans
-
-pub returns-clause-missed : goal.returns-clause-missed
-returns-clause-missed g c =
-    (scan_done g.N.BootName.frames c.args.marks_count c.args.group c.args.list c.args.want c.args.machine.now c.loop-met._met c.loop-met.given c.loop-met.next
-    c.loop-met.machine c.loop-met.invariant c.listed-units.result c.listed-units.ensures c.loop-met-test.false).missed
-
-pub returns-clause-few : goal.returns-clause-few
-returns-clause-few g c = search rules
+pub returns : goal.returns
+returns g c =
+    let all = scan_done g.N.BootName.frames c.args.marks_count c.args.group c.args.list c.args.want c.args.machine.now c.loop-met._met c.loop-met.given c.loop-met.next
+    c.loop-met.machine c.loop-met.invariant c.listed-units.result c.listed-units.ensures c.loop-met-test.false in
+    record { scans = all.scans; keeps = search rules; usage = search rules; few = search rules; leaves = search rules; missed = all.missed }
 
 pub returns-then-want-given-clause-few : goal.returns-then-want-given-clause-few
 returns-then-want-given-clause-few g c = search rules
