@@ -22,7 +22,7 @@ use Rattle.mem_machine.proofs.Reaching.{run_both}
 use Rattle.mem_machine.proofs.Draining.{drained_at, drained_else}
 use Rattle.mem_machine.proofs.NoneLent.{past_free}
 use Rattle.mem_system.specs.Commands.{BySteps, with_visit_of}
-use Rattle.mem_system.specs.Ends.{Rests, Empties, LeavesAlone}
+use Rattle.mem_system.specs.Ends.{SettlesInVisit, Empties, LeavesAlone}
 use Rattle.mem_system.proofs.Listing.{left_over}
 
 -- the whole visit in which a processor is settled, from its three parts
@@ -31,7 +31,7 @@ pub rested : (t : KnownTable) (m n : KnownMachine) (c d : KnownCpu) (entered x :
     → IsLocalRun c.number (local_of t m c) (open_steps c.number) (local_of t entered c1)
     → Settles (side entered c1) (side x c2) → IsLocalRun c1.number (local_of t entered c1) (settle_steps (side entered c1)) (local_of t x c2)
     → IsLocalRun c2.number (local_of t x c2) (shut_steps c2.number) (local_of t n d)
-    → BySteps t (side m c) (side n d) Rests
+    → BySteps t (side m c) (side n d) SettlesInVisit
 rested t m n c d entered x c1 c2 opened same second shut after first settles rests last =
     let p = c.number in
     let begins = with_visit_of m p 1 in

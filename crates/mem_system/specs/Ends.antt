@@ -34,7 +34,7 @@ abbrev pub Happens : Type 1
 Happens = Course Side → Type 0
 
 -- the processor is settled in a visit
-pub record Rests (way : Course Side) : Type 0 where
+pub record SettlesInVisit (way : Course Side) : Type 0 where
   pub settled : KnownMachine
   pub settles : Settles (visited way.before) (side settled way.after.cpu)
   pub machine : way.after.machine ≡ with_visit_of settled way.before.cpu.number 0
@@ -151,7 +151,7 @@ pub record Ends (table : KnownTable) (stock_table : Words) (locked : KnownLocked
   pub no_pin : pins_of cpus ≡ 0
   pub settled : KnownMachine
   pub rested : List KnownCpu
-  pub rests : InTurn table Rests locked.machine cpus settled rested
+  pub rests : InTurn table SettlesInVisit locked.machine cpus settled rested
   pub last : KnownMachine
   pub spent : List KnownCpu
   pub empties : InTurn table Empties settled rested last spent

@@ -5,7 +5,7 @@ ghost use Rattle.frame_word.specs.Seats.{IsShut};
 ghost use Rattle.mem_machine.specs.Machines.{KnownMachine};
 ghost use Rattle.mem_system.specs.Boots.{AllShut};
 ghost use Rattle.mem_system.specs.Commands.{BySteps};
-ghost use Rattle.mem_system.specs.Ends.{InTurn, Rests, Empties, IsRested, IsSpent, LeavesAlone, pins_of};
+ghost use Rattle.mem_system.specs.Ends.{InTurn, SettlesInVisit, Empties, IsRested, IsSpent, LeavesAlone, pins_of};
 ghost use Rattle.mem_machine.specs.Local.{side};
 
 use cpu_part::{BootName, Cpu, Tables};
@@ -15,7 +15,7 @@ use mem_machine::Machine;
 fn rest_cpu<N: BootName>(machine: &mut Machine<N>, tables: &Tables<N>, cpu: &mut Cpu<N>)
     requires shut { AllShut machine.old }
     requires no_pin { cpu.old.pins ≡ [] }
-    ensures rests { BySteps N.frames (side machine.old cpu.old) (side machine.new cpu.new) Rests }
+    ensures rests { BySteps N.frames (side machine.old cpu.old) (side machine.new cpu.new) SettlesInVisit }
     ensures shut { AllShut machine.new }
     ensures rested { IsRested cpu.new }
 {
@@ -49,7 +49,7 @@ pub(crate) fn rest_all<N: BootName>(
 )
     requires shut { AllShut machine.old }
     requires no_pin { pins_of cpus.old ≡ 0 }
-    ensures rests { InTurn N.frames Rests machine.old cpus.old machine.new cpus.new }
+    ensures rests { InTurn N.frames SettlesInVisit machine.old cpus.old machine.new cpus.new }
     ensures shut { AllShut machine.new }
     ensures rested { All IsRested cpus.new }
 {

@@ -5,7 +5,7 @@ use Rattle.std.specs.Prelude.{min}
 use Rattle.group_tree.specs.Room.{max_count}
 use Rattle.cpu_part.specs.Cpus.{KnownCpu, IsIdle}
 use Rattle.mem_system.specs.Boots.{KnownLocked}
-use Rattle.mem_system.specs.Ends.{InTurn, Rests, Empties, Ends, IsRested, frame_seat_of, stock_seat_of, drops_of, pins_of}
+use Rattle.mem_system.specs.Ends.{InTurn, SettlesInVisit, Empties, Ends, IsRested, frame_seat_of, stock_seat_of, drops_of, pins_of}
 use Rattle.mem_system.proofs.Closing.{turn_long, written_back, idle_all, frame_seats_at, stock_seats_at, long_frames, long_stocks, all_ends}
 use Rattle.mem_system.proofs.boot_end.end.Goals as goal
 
@@ -13,7 +13,7 @@ pub empty_all-requires-clause-rested : goal.empty_all-requires-clause-rested
 empty_all-requires-clause-rested g c =
     let t = g.N.BootName.frames in
     let first = c.deref_mut.ensures.value in
-    let long = turn_long t Rests _ _ _ _ c.rest_all.ensures.rests ∙ ap length first in
+    let long = turn_long t SettlesInVisit _ _ _ _ c.rest_all.ensures.rests ∙ ap length first in
     let same = c.deref_mut-2.ensures.value ∙ written_back c.args.cpus.len c.rest_all.new.cpus c.args.cpus.items long
     (sym c.deref_mut.ensures.len ∙ ap length first) in
     subst (All IsRested) (sym same) c.rest_all.ensures.rested
@@ -24,7 +24,7 @@ gather_seats-frame_seats-requires-clause-idle g c =
     let first = c.deref_mut.ensures.value in
     let second = c.deref_mut-2.ensures.value in
     let size = sym c.deref_mut.ensures.len ∙ ap length first in
-    let long = turn_long t Rests _ _ _ _ c.rest_all.ensures.rests ∙ ap length first in
+    let long = turn_long t SettlesInVisit _ _ _ _ c.rest_all.ensures.rests ∙ ap length first in
     let same = written_back c.args.cpus.len c.rest_all.new.cpus c.args.cpus.items long size in
     let longer = turn_long t Empties _ _ _ _ c.empty_all.ensures.empties ∙ ap length second in
     subst (All IsIdle) (sym (written_back c.args.cpus.len c.empty_all.new.cpus _ longer (size ∙ sym (ap length same ∙ long))))
@@ -37,7 +37,7 @@ close-requires-clause-frames g c =
     let first = c.deref_mut.ensures.value in
     let second = c.deref_mut-2.ensures.value in
     let size = sym c.deref_mut.ensures.len ∙ ap length first in
-    let long = turn_long t Rests _ _ _ _ c.rest_all.ensures.rests ∙ ap length first in
+    let long = turn_long t SettlesInVisit _ _ _ _ c.rest_all.ensures.rests ∙ ap length first in
     let same = written_back c.args.cpus.len c.rest_all.new.cpus c.args.cpus.items long size in
     let longer = turn_long t Empties _ _ _ _ c.empty_all.ensures.empties ∙ ap length second in
     let last = written_back c.args.cpus.len c.empty_all.new.cpus _ longer (size ∙ sym (ap length same ∙ long)) in
@@ -53,7 +53,7 @@ close-requires-clause-stocks g c =
     let first = c.deref_mut.ensures.value in
     let second = c.deref_mut-2.ensures.value in
     let size = sym c.deref_mut.ensures.len ∙ ap length first in
-    let long = turn_long t Rests _ _ _ _ c.rest_all.ensures.rests ∙ ap length first in
+    let long = turn_long t SettlesInVisit _ _ _ _ c.rest_all.ensures.rests ∙ ap length first in
     let same = written_back c.args.cpus.len c.rest_all.new.cpus c.args.cpus.items long size in
     let longer = turn_long t Empties _ _ _ _ c.empty_all.ensures.empties ∙ ap length second in
     let last = written_back c.args.cpus.len c.empty_all.new.cpus _ longer (size ∙ sym (ap length same ∙ long)) in
@@ -70,7 +70,7 @@ returns-clause-ends g c =
     let first = c.deref_mut.ensures.value in
     let second = c.deref_mut-2.ensures.value in
     let size = sym c.deref_mut.ensures.len ∙ ap length first in
-    let long = turn_long t Rests _ _ _ _ c.rest_all.ensures.rests ∙ ap length first in
+    let long = turn_long t SettlesInVisit _ _ _ _ c.rest_all.ensures.rests ∙ ap length first in
     let same = written_back c.args.cpus.len c.rest_all.new.cpus c.args.cpus.items long size in
     let longer = turn_long t Empties _ _ _ _ c.empty_all.ensures.empties ∙ ap length second in
     let last = written_back c.args.cpus.len c.empty_all.new.cpus _ longer (size ∙ sym (ap length same ∙ long)) in
@@ -80,8 +80,8 @@ returns-clause-ends g c =
     let none : pins_of c.args.cpus.items ≡ 0 =
     let counted = c.count_pins-pins.ensures in let zero = c.if-pins-gt0.false in sym (ap pins_of read) ∙ sym counted ∙ omega (arith, zero) in
     let dropped = c.count_drops-drops.ensures ∙ ap (λ (l : List KnownCpu). min (drops_of l) max_count) c.deref-2.ensures.value in
-    let rests : InTurn t Rests c.locked.inside.machine c.args.cpus.items c.rest_all.new.machine c.rest_all.new.cpus =
-    subst (λ (l : List KnownCpu). InTurn t Rests c.locked.inside.machine l c.rest_all.new.machine c.rest_all.new.cpus) first c.rest_all.ensures.rests in
+    let rests : InTurn t SettlesInVisit c.locked.inside.machine c.args.cpus.items c.rest_all.new.machine c.rest_all.new.cpus =
+    subst (λ (l : List KnownCpu). InTurn t SettlesInVisit c.locked.inside.machine l c.rest_all.new.machine c.rest_all.new.cpus) first c.rest_all.ensures.rests in
     let empties : InTurn t Empties c.rest_all.new.machine c.rest_all.new.cpus c.empty_all.new.machine c.empty_all.new.cpus =
     subst (λ (l : List KnownCpu). InTurn t Empties c.rest_all.new.machine l c.empty_all.new.machine c.empty_all.new.cpus) (second ∙ same)
     c.empty_all.ensures.empties in

@@ -1,5 +1,5 @@
 use Rattle.std.proofs.Common.{◌<◌, ◌≤◌, length, rules}
-use Rattle.mem_system.specs.Ends.{Rests, IsRested}
+use Rattle.mem_system.specs.Ends.{SettlesInVisit, IsRested}
 use Rattle.mem_system.proofs.InTurns.{so_far_more, so_far_end, no_pin_at, all_more, all_taken}
 use Rattle.mem_system.proofs.last_visits.rest_all.Goals as goal
 
@@ -13,14 +13,14 @@ pub loop-cpu-preserved : goal.loop-cpu-preserved
 loop-cpu-preserved g c =
     let inside : c.loop-cpu.cpu-index < length c.loop-cpu.cpus = search rules in
     let done = c.rest_cpu.ensures in (
-      so_far_more g.N.BootName.frames Rests _ _ _ _ _ _ c.cpu-item.result _ c.loop-cpu.invariant.0 inside done.rests done.shut,
+      so_far_more g.N.BootName.frames SettlesInVisit _ _ _ _ _ _ c.cpu-item.result _ c.loop-cpu.invariant.0 inside done.rests done.shut,
       all_more IsRested c.loop-cpu.cpus c.loop-cpu.cpu-index c.rest_cpu.new.cpu inside c.loop-cpu.invariant.1 done.rested,
     )
 
 pub returns-clause-rests : goal.returns-clause-rests
 returns-clause-rests g c =
     let past : length c.loop-cpu.cpus ≤ c.loop-cpu.cpu-index = search rules in
-    so_far_end g.N.BootName.frames Rests _ _ _ _ _ c.loop-cpu.invariant.0 past
+    so_far_end g.N.BootName.frames SettlesInVisit _ _ _ _ _ c.loop-cpu.invariant.0 past
 
 pub returns-clause-rested : goal.returns-clause-rested
 returns-clause-rested g c =
