@@ -17,7 +17,6 @@ use Rattle.group_charge.proofs.CallerLemmas.{uncharge_pages, uncharge_peaks, unc
 use Rattle.lru_lists.specs.declared.record.Link.{Link}
 use Rattle.lru_lists.specs.declared.record.Home.{Home}
 use Rattle.lru_lists.specs.declared.lru.Lru.{Lru}
-use Rattle.lru_lists.specs.Lists.{OthersStand, OneOfAllChanges}
 use Rattle.cpu_part.specs.Cpus.{KnownCpu, IsTied}
 use Rattle.cpu_part.specs.Calls.{HandsFresh}
 use Rattle.step_rules.specs.declared.phase.Stage.TheVariants.{FreshAt, Collected, Live, BackAt}
@@ -40,7 +39,8 @@ use Rattle.mem_machine.specs.Settling.{KeepsFresh, DropsFresh, with_page_absorbe
 use Rattle.mem_machine.proofs.Holds.{own_part}
 use Rattle.mem_machine.proofs.Records.{free_at, free_set, lent_spot, spots_changed, units_stay, charges_stay}
 use Rattle.mem_machine.proofs.PlacesUnits.{head_of_block, off_block}
-use Rattle.mem_machine.proofs.KeptUnits.{IsAdded, unit_kept, unit_listed}
+use Rattle.mem_machine.proofs.Joins.{AllJoin}
+use Rattle.mem_machine.proofs.KeptUnits.{unit_kept}
 use Rattle.mem_machine.proofs.Freeing.{is_out, is_in, free_block_given}
 use Rattle.mem_machine.proofs.Takes.{may_give}
 use Rattle.mem_machine.proofs.Draining.{booked_within}
@@ -128,8 +128,7 @@ module _ (t : KnownTable) (w : Words) (m : KnownMachine) (c : KnownCpu) (tied : 
 
   -- ---- kept
 
-  module _ (o : ℕ) (owner_is : o ≡ g) (lru : Lru) (read : lru ≡ get_or m.lists o lru) (links : List Link) (new : Lru) (added : IsAdded m.links lru f links new)
-      (others : OthersStand) (all : OneOfAllChanges) where
+  module _ (links : List Link) (lists : List Lru) (joined : AllJoin m.links m.lists g f links lists) where
     abbrev used : FrameNote → FrameNote
     used k = unfrozen 1 (collected_from c.number k)
 
@@ -137,13 +136,10 @@ module _ (t : KnownTable) (w : Words) (m : KnownMachine) (c : KnownCpu) (tied : 
     kept = record m {
       spots = slice_set m.spots f (Head (record { group = g; order = 0 }));
       links = links;
-      lists = slice_set m.lists g new;
+      lists = lists;
       seat = seat_with m.seat f used;
       stock = with_page_absorbed m.stock c.number;
     }
-
-    read_g : lru ≡ get_or m.lists g lru
-    read_g = read ∙ ap (λ (k : ℕ). get_or m.lists k lru) owner_is
 
     kept_free : free_of m.spots ≡ free_of kept.spots
     kept_free = free_stays m.spots f (Head (record { group = g; order = 0 })) within (ap is_free is_lent) refl
@@ -153,8 +149,7 @@ module _ (t : KnownTable) (w : Words) (m : KnownMachine) (c : KnownCpu) (tied : 
         let b : Block = record { at = f; order = 0 } in
         let seats = ok.seats in
         unit_kept t w m ok g was.fits b (record { order = omega arith; aligned = omega arith; inside = let a = within in omega (arith, a) }) kept.spots
-        (placed_one m.spots g f within) (ap spot_group is_lent) (λ x low high ne. absurd (ne (omega (arith, low, high)))) lru lru read_g links new added
-        others all used
+        (placed_one m.spots g f within) (ap spot_group is_lent) (λ x low high ne. absurd (ne (omega (arith, low, high)))) links lists joined used
         (record { own = refl; lent = refl; references = let a = was.nothing.0 in omega (arith, a) }) m.blocks m.ledger
         (with_page_absorbed m.stock c.number)
         m.counts (record {
@@ -184,7 +179,7 @@ module _ (t : KnownTable) (w : Words) (m : KnownMachine) (c : KnownCpu) (tied : 
     kept_visits = handed_visits t w m c tied visit f used (λ k. refl) kept d refl refl refl
 
     kept_does : KeepsFresh g f (side m c) (side kept d)
-    kept_does = record { listed = unit_listed t w m ok g was.fits lru lru read_g f links new added others all kept; machine = refl; cpu = (front, refl) }
+    kept_does = record { listed = joined.joins; machine = refl; cpu = (front, refl) }
 
   -- ---- dropped
 
@@ -277,34 +272,34 @@ pub record AllKept (t : KnownTable) (w : Words) (now : KnownMachine) (c : KnownC
   pub steps : MakesAs t c.number (side now c) (keep_steps c.number f) (side n d)
 
 pub keep_all : (t : KnownTable) (w : Words) (m now : KnownMachine) → m ≡ now → (c h : KnownCpu) → IsTied t w c → IsConsistent t w m → Visits t (side now c)
-    → (free : List Bool) → free ≡ free_of m.spots → (f g : ℕ) → WasFresh t m c f g → HandsFresh f c h → (i k o : ℕ) → i ≡ f → k ≡ 0 → o ≡ g
+    → (free : List Bool) → free ≡ free_of m.spots → (f g : ℕ) → WasFresh t m c f g → HandsFresh f c h → (i k : ℕ) → i ≡ f → k ≡ 0
     → (mid seat : KnownSeat) → mid ≡ seat_with m.seat f (collected_from c.number) → seat ≡ seat_with mid f (unfrozen 1)
     → (stock : Seated) → stock ≡ with_page_absorbed m.stock c.number
-    → (lru : Lru) → lru ≡ get_or m.lists o lru → (links : List Link) (new : Lru) → IsAdded m.links lru i links new → OthersStand → OneOfAllChanges
+    → (links : List Link) (lists : List Lru) → AllJoin m.links m.lists g i links lists
     → AllKept t w now c g f (record m {
       spots = slice_set m.spots i (Head (record { group = g; order = k }));
       links = links;
-      lists = slice_set m.lists o new;
+      lists = lists;
       seat = seat;
       stock = stock;
     }) h free
-keep_all t w m now same c h tied ok visit_now free free_is f g was hands i k o index zero_is owner mid seat collects unfreezes stock absorbs lru read
-    links new added_i others all =
+keep_all t w m now same c h tied ok visit_now free free_is f g was hands i k index zero_is mid seat collects unfreezes stock absorbs links
+    lists joined_i =
     let visit : Visits t (side m c) = subst (λ (x : KnownMachine). Visits t (side x c)) (sym same) visit_now in
     let rest = hands.0 in
     let front : c.fresh ≡ f ∷ rest = hands.1 in
-    let added : IsAdded m.links lru f links new = subst (λ (j : ℕ). IsAdded m.links lru j links new) index added_i in
+    let joined : AllJoin m.links m.lists g f links lists = subst (λ (j : ℕ). AllJoin m.links m.lists g j links lists) index joined_i in
     let seat_is : seat ≡ seat_with m.seat f (λ n. unfrozen 1 (collected_from c.number n)) =
     unfreezes ∙ ap (λ (x : KnownSeat). seat_with x f (unfrozen 1)) collects
     ∙ (λ j. record { table = m.seat.table; view = changed_twice m.seat.view f (collected_from c.number) (unfrozen 1) j }) in
-    let one : AllKept t w m c g f (kept t w m c tied ok visit f g was rest front o owner lru read links new added others all) (fresh_handed c f rest) free =
+    let one : AllKept t w m c g f (kept t w m c tied ok visit f g was rest front links lists joined) (fresh_handed c f rest) free =
     record {
-      consistent = kept_consistent t w m c tied ok visit f g was rest front o owner lru read links new added others all;
-      free_is = free_is ∙ kept_free t w m c tied ok visit f g was rest front o owner lru read links new added others all;
-      keeps = kept_does t w m c tied ok visit f g was rest front o owner lru read links new added others all;
-      visit = kept_visits t w m c tied ok visit f g was rest front o owner lru read links new added others all;
+      consistent = kept_consistent t w m c tied ok visit f g was rest front links lists joined;
+      free_is = free_is ∙ kept_free t w m c tied ok visit f g was rest front links lists joined;
+      keeps = kept_does t w m c tied ok visit f g was rest front links lists joined;
+      visit = kept_visits t w m c tied ok visit f g was rest front links lists joined;
       steps = record {
-        leads = kept_steps t w m c tied ok visit f g was rest front o owner lru read links new added others all;
+        leads = kept_steps t w m c tied ok visit f g was rest front links lists joined;
         follows = follows_same _ _ _ refl;
       };
     } in
@@ -314,7 +309,7 @@ keep_all t w m now same c h tied ok visit_now free free_is f g was hands i k o i
       record m {
         spots = slice_set m.spots (sym index j) (Head (record { group = g; order = sym zero_is j }));
         links = links;
-        lists = slice_set m.lists (sym owner j) new;
+        lists = lists;
         seat = sym seat_is j;
         stock = sym absorbs j;
       },

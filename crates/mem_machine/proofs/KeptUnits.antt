@@ -1,10 +1,10 @@
 -- Frames that were charged to no group become a unit of one, whose head comes to the newest end of the group's inactive list:
 -- the machine is consistent again. Serves all calls that put a unit into use, of one frame or of a block.
-use Rattle.std.proofs.Common.{◌≡◌, ◌≢◌, ℕ, ◌+◌, ◌^◌, ◌≤◌, ◌<◌, ◌==◌, false, cond, Option, Some, None, List, [], ◌∷◌, ◌++◌, length, get_or}
+use Rattle.std.proofs.Common.{◌≡◌, ◌≢◌, ℕ, ◌+◌, ◌^◌, ◌≤◌, ◌<◌, ◌==◌, cond, Option, Some, None, List, length, get_or}
 use Rattle.std.proofs.Common.{refl, sym, ap, ◌∙◌, subst, arith, inl, inr}
-use Rattle.std.specs.Prelude.{slice_set, IfSome}
+use Rattle.std.specs.Prelude.{IfSome}
 use Rattle.std.proofs.lemmas.Bool.{cases_eq}
-use Rattle.std.proofs.lemmas.List.{get_or_default, get_or-set_same, length-set}
+use Rattle.std.proofs.lemmas.List.{get_or_default}
 use Rattle.std.proofs.lemmas.Option.{none-some}
 use Rattle.zone_blocks.specs.declared.block.Block.{Block}
 use Rattle.zone_blocks.specs.Block.{IsBlock}
@@ -19,20 +19,18 @@ use Rattle.lru_lists.specs.declared.record.Link.{Link}
 use Rattle.lru_lists.specs.declared.record.Home.{Home}
 use Rattle.lru_lists.specs.declared.record.LruList.TheVariants.{Inactive}
 use Rattle.lru_lists.specs.declared.lru.Lru.{Lru}
-use Rattle.lru_lists.specs.Queue.{link_at}
-use Rattle.lru_lists.specs.Lists.{OthersStand, OneOfAllChanges, StandsIn, AllStand, ChangesOwn, MovesOnly, IsOnNone, place_of, inactive_of, active_of}
-use Rattle.lru_lists.specs.Lists as lists
+use Rattle.lru_lists.specs.Lists.{StandsIn, IsOnNone}
 use Rattle.step_rules.proofs.Placing.{within_cases}
 use Rattle.mem_machine.specs.declared.spot.Spot.{Spot}
 use Rattle.mem_machine.specs.declared.spot.Spot.TheVariants.{Free, Lent, Head, Tail}
 use Rattle.mem_machine.specs.declared.counts.Counts.{Counts}
 use Rattle.mem_machine.specs.Spots.{spot_at, free_of, group_of, head_group_of, some_cpu}
 use Rattle.mem_machine.specs.Machines.{KnownMachine, FitsSpot, IsConsistent, BalancesCounts, home_of, lists_at, no_lists, frames_charged, pages_booked}
-use Rattle.mem_machine.specs.Blocks.{PlacesUnit, ListsUnit}
+use Rattle.mem_machine.specs.Blocks.{PlacesUnit}
 use Rattle.mem_machine.proofs.PlacesUnits.{head_of_block, tail_of_block, off_block}
 use Rattle.mem_machine.proofs.BlockCharges.{charges_rise}
 use Rattle.mem_machine.proofs.Units.{units_placed}
-use Rattle.mem_machine.proofs.Listed.{others_stay}
+use Rattle.mem_machine.proofs.Joins.{AllJoin}
 
 -- a frame that is charged to no group stands on no list
 homeless : (h : Option Home) (x : Spot) → group_of x ≡ None → IfSome h (λ k. (k.owner < 64) × (head_group_of x ≡ Some k.owner)) → h ≡ None
@@ -64,48 +62,6 @@ module _ (t : KnownTable) (w : Words) (m : KnownMachine) (ok : IsConsistent t w 
 
   pub read_is : lists_at m.lists g ≡ lru
   read_is = sym (read ∙ get_or_default m.lists g any no_lists there)
-
--- a unit was added to them
-pub record IsAdded (links : List Link) (lru : Lru) (f : ℕ) (after : List Link) (new : Lru) : Type 0 where
-  pub stands : StandsIn after new
-  pub owner : new.owner ≡ lru.owner
-  pub inactive : inactive_of after new ≡ inactive_of links lru ++ record { number = f; is_marked = false; is_dirty = false } ∷ []
-  pub active : active_of after new ≡ active_of links lru
-  pub changes : ChangesOwn links after lru.owner
-  pub moves : MovesOnly links after lru.owner f
-  pub joined : (link_at after f).home ≡ Some (lists.home_of lru Inactive)
-
-module _ (t : KnownTable) (w : Words) (m : KnownMachine) (ok : IsConsistent t w m) (g : ℕ) (fits : g < 64) (any lru : Lru) (read : lru ≡ get_or m.lists g any)
-    (f : ℕ) (links : List Link) (new : Lru) (added : IsAdded m.links lru f links new) (others_stand : OthersStand)
-    (one_of_all_changes : OneOfAllChanges) where
-  own : lru.owner ≡ g
-  own = read_owner t w m ok g fits any lru read
-
-  room : g < length m.lists
-  room = there t w m ok g fits any lru read
-
-  pub all_stand : AllStand links (slice_set m.lists g new)
-  all_stand = subst (λ (k : ℕ). AllStand links (slice_set m.lists k new)) (added.owner ∙ own)
-      (one_of_all_changes m.links links m.lists new ok.lists (subst (λ (k : ℕ). k < length m.lists) (sym (added.owner ∙ own)) room) added.stands
-      (subst (ChangesOwn m.links links) (sym added.owner) added.changes))
-
-  pub joined_home : home_of links f ≡ Some (record { owner = g; list = Inactive })
-  joined_home = added.joined ∙ (λ i. Some (record { owner = own i; list = Inactive }))
-
-  -- in every machine with these lists the unit is listed, and all others are as they were
-  pub unit_listed : (x : KnownMachine) → ListsUnit m g f (record x { links = links; lists = slice_set m.lists g new })
-  unit_listed x =
-      let now : get_or (slice_set m.lists g new) g no_lists ≡ new = get_or-set_same m.lists g new no_lists room in
-      let was : lru ≡ lists_at m.lists g = sym (read_is t w m ok g fits any lru read) in
-      record {
-        stands = joined_home;
-        homes = λ y ne. added.moves.home y ne;
-        inactive = ap (inactive_of links) now ∙ added.inactive
-            ∙ ap (λ (l : Lru). inactive_of m.links l ++ record { number = f; is_marked = false; is_dirty = false } ∷ []) was;
-        active = ap (active_of links) now ∙ added.active ∙ ap (active_of m.links) was;
-        others = others_stay m.links links m.lists g lru new ok.lists ok.sizes.lists own added.changes others_stand;
-        loose = λ y ne none. added.moves.kept y ne (ap (λ (x : Option Home). place_of x lru.owner) none);
-      }
 
 -- ---- the records and the notes
 
@@ -181,7 +137,7 @@ pub record JoinsCharges (t : KnownTable) (w : Words) (m : KnownMachine) (g pages
 pub unit_kept : (t : KnownTable) (w : Words) (m : KnownMachine) → IsConsistent t w m → (g : ℕ) → g < 64 → (b : Block) → IsBlock (length m.spots) b
     → (spots : List Spot) → PlacesUnit m.spots g b spots → group_of (spot_at m.spots b.at) ≡ None
     → ((x : ℕ) → b.at ≤ x → x < b.at + 2 ^ b.order → x ≢ b.at → spot_at m.spots x ≡ Free)
-    → (any lru : Lru) → lru ≡ get_or m.lists g any → (links : List Link) (new : Lru) → IsAdded m.links lru b.at links new → OthersStand → OneOfAllChanges
+    → (links : List Link) (lists : List Lru) → AllJoin m.links m.lists g b.at links lists
     → (change : FrameNote → FrameNote) → IsUsed (change (note_of m.seat.view b.at))
     → (blocks : List Block) (ledger : Ledger) (stock : Seated) (counts : Counts) → JoinsCharges t w m g (2 ^ b.order) spots blocks ledger stock → BalancesCounts counts
     → IsConsistent t w (record {
@@ -189,14 +145,14 @@ pub unit_kept : (t : KnownTable) (w : Words) (m : KnownMachine) → IsConsistent
       spots = spots;
       ledger = ledger;
       links = links;
-      lists = slice_set m.lists g new;
+      lists = lists;
       seat = seat_with m.seat b.at change;
       stock = stock;
       killed = m.killed;
       counts = counts;
       notes = m.notes;
     })
-unit_kept t w m ok g fits b block spots placed first rest any lru read links new added others all change used blocks ledger stock counts joins balances =
+unit_kept t w m ok g fits b block spots placed first rest links lists joined change used blocks ledger stock counts joins balances =
     let uncharged : (f : ℕ) → b.at ≤ f → f < b.at + 2 ^ b.order → group_of (spot_at m.spots f) ≡ None =
     λ f low high. elim (cases_eq f b.at) [
       | inl e ↦ ap (λ (y : ℕ). group_of (spot_at m.spots y)) e ∙ first
@@ -205,17 +161,16 @@ unit_kept t w m ok g fits b block spots placed first rest any lru read links new
     record {
       sizes = let s = ok.sizes in record {
         spots = placed.frames ∙ s.spots;
-        links = added.changes.frames ∙ s.links;
-        lists = length-set m.lists g new ∙ s.lists;
+        links = joined.frames ∙ s.links;
+        lists = joined.groups;
         killed = s.killed;
         cpus = s.cpus;
       };
       seats = record { frames = ok.seats.frames; table = joins.table; stocks = joins.stocks };
       areas = joins.areas;
-      spots = unit_fits t w m ok g fits b spots placed rest links (joined_home t w m ok g fits any lru read b.at links new added others all)
-          (λ x ne. added.moves.home x ne) change used;
+      spots = unit_fits t w m ok g fits b spots placed rest links joined.joins.stands joined.joins.homes change used;
       units = units_placed m.spots spots g b placed block uncharged ok.units;
-      lists = all_stand t w m ok g fits any lru read b.at links new added others all;
+      lists = joined.stand;
       noted = joins.noted;
       bounded = joins.bounded;
       charged = λ h. let a = joins.charged h in let c = charges_rise m.spots spots g b placed block uncharged h in omega (arith, a, c);

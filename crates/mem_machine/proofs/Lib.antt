@@ -24,6 +24,7 @@ pub mod Units
 pub mod Freeing
 pub mod PlacesUnits
 pub mod BlockCharges
+pub mod Joins
 pub mod KeptUnits
 pub mod Interleaves
 pub mod Tells

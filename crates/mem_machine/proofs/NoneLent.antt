@@ -1,6 +1,6 @@
 -- What is lent where the machine ends, and how many frames are free and charged. Serves `see_none_lent`, and the end of a system.
-use Rattle.std.proofs.Common.{◌≡◌, ℕ, ◌+◌, ◌<◌, ◌≤◌, Option, Some, None, List, [], ◌∷◌, length, refl, sym, ap, ◌∙◌, inl, inr, arith, zero, suc}
-use Rattle.std.specs.Prelude.{is_some}
+use Rattle.std.proofs.Common.{◌≡◌, ℕ, ◌+◌, ◌<◌, ◌≤◌, Option, Some, None, List, [], ◌∷◌, length, refl, sym, ap, ◌∙◌, subst, inl, inr, arith, zero, suc}
+use Rattle.std.specs.Prelude.{is_some, IfSome}
 use Rattle.std.proofs.lemmas.Bool.{cases_lt}
 use Rattle.std.proofs.lemmas.Option.{none-some}
 use Rattle.std.proofs.lemmas.List.{get_or_past}
@@ -32,7 +32,7 @@ pub past_free : (p : ℕ) → Free ≡ Lent p → ⊥
 past_free p e = none-some p (ap lent_to e)
 
 -- a frame that is lent is one of the zone's, and the zone's seat notes whom it is lent to
-pub lent_noted : (t : KnownTable) (w : Words) (m : KnownMachine) → IsConsistent t w m → (f p : ℕ) → spot_at m.spots f ≡ Lent p
+lent_noted : (t : KnownTable) (w : Words) (m : KnownMachine) → IsConsistent t w m → (f p : ℕ) → spot_at m.spots f ≡ Lent p
     → (f < t.frames) × ((note_of m.seat.view f).lent ≡ p) × (1 ≤ p)
 lent_noted t w m ok f p is = elim (cases_lt f t.frames) [
   | inl inside ↦
@@ -42,6 +42,11 @@ lent_noted t w m ok f p is = elim (cases_lt f t.frames) [
       let sized = ok.sizes.spots in
       absurd (past_free p (sym (get_or_past m.spots f Free (omega (arith, past, sized))) ∙ is))
 ]
+
+-- who a frame is lent to is one of the processors
+pub lent_to_cpu : (t : KnownTable) (w : Words) (m : KnownMachine) → IsConsistent t w m → (f p : ℕ) → spot_at m.spots f ≡ Lent p → (1 ≤ p) × (p ≤ t.cpus)
+lent_to_cpu t w m ok f p is =
+    subst (λ (x : Spot). IfSome (lent_to x) (λ q. (1 ≤ q) × (q ≤ t.cpus))) is (ok.spots f (lent_noted t w m ok f p is).0).borrower
 
 -- a processor with no listed and no fresh frame has none that is lent to it
 pub none_lent : (t : KnownTable) (w : Words) (m : KnownMachine) (c : KnownCpu) → IsConsistent t w m → IsTied t w c → LentIsBorrowed t m.seat c.seat

@@ -1,7 +1,7 @@
 -- A block is charged to a group and taken, or none is there. Serves `take_block`.
 use Rattle.std.proofs.Common.{◌≡◌, ℕ, zero, suc, ◌+◌, ◌-◌, ◌^◌, ◌≤◌, ◌<◌, ◌==◌, Bool, true, false, cond, List, [], length, get_or}
 use Rattle.std.proofs.Common.{refl, sym, ap, ◌∙◌, subst, arith, inl, inr}
-use Rattle.std.specs.Prelude.{slice_set, slice_index}
+use Rattle.std.specs.Prelude.{slice_index}
 use Rattle.std.specs.Cmp.{both_ways}
 use Rattle.std.proofs.lemmas.Bool.{cases_eq, false≢true}
 use Rattle.std.proofs.lemmas.List.{ext_get_or}
@@ -22,7 +22,6 @@ use Rattle.group_tree.specs.Room.{PathHasRoom}
 use Rattle.group_charge.specs.Charges.{Ledger, current_of, with_charge, with_uncharge, PagesRise, AreCharges}
 use Rattle.lru_lists.specs.declared.record.Link.{Link}
 use Rattle.lru_lists.specs.declared.lru.Lru.{Lru}
-use Rattle.lru_lists.specs.Lists.{OthersStand, OneOfAllChanges}
 use Rattle.cpu_part.specs.Cpus.{KnownCpu, times}
 use Rattle.step_rules.specs.Phases as phases
 use Rattle.step_rules.specs.State.{with_at, free_in, one_if}
@@ -37,7 +36,8 @@ use Rattle.mem_machine.specs.Blocks.{PlacesUnit, TakesBlock, TakesNoBlock, taken
 use Rattle.mem_machine.specs.Local.{local_of, phase_of, side, MakesAs}
 use Rattle.mem_machine.proofs.Records.{length_free, free_at, free_is, free_inside, no_cpu_is}
 use Rattle.mem_machine.proofs.PlacesUnits.{in_block, off_block}
-use Rattle.mem_machine.proofs.KeptUnits.{IsAdded, IsUsed, JoinsCharges, unit_kept, unit_listed}
+use Rattle.mem_machine.proofs.Joins.{AllJoin}
+use Rattle.mem_machine.proofs.KeptUnits.{IsUsed, JoinsCharges, unit_kept}
 use Rattle.mem_machine.proofs.Placed.{taken_run}
 use Rattle.mem_machine.proofs.Grants.{unplaced_run}
 use Rattle.mem_machine.proofs.Followed.{same_events}
@@ -182,13 +182,13 @@ pub record MayTake (t : KnownTable) (m : KnownMachine) (c : KnownCpu) (g : ℕ) 
   pub there : has_group m.ledger.groups g ≡ true
   pub alive : is_killed m.killed g ≡ false
 
-abbrev taken_machine : KnownMachine → ℕ → Block → List Block → List Spot → List Link → Lru → KnownMachine
-taken_machine m g b blocks spots links new = record {
+abbrev taken_machine : KnownMachine → ℕ → Block → List Block → List Spot → List Link → List Lru → KnownMachine
+taken_machine m g b blocks spots links lists = record {
   blocks = blocks;
   spots = spots;
   ledger = with_charge m.ledger g (2 ^ b.order);
   links = links;
-  lists = slice_set m.lists g new;
+  lists = lists;
   seat = seat_with m.seat b.at (unfrozen 1);
   stock = m.stock;
   killed = m.killed;
@@ -200,10 +200,10 @@ taken_here : (t : KnownTable) (w : Words) (m : KnownMachine) (c : KnownCpu) → 
     → MayTake t m c g → PathHasRoom m.ledger.groups (current_of m.ledger) g (2 ^ b.order) → PagesRise m.ledger (with_charge m.ledger g (2 ^ b.order)) g (2 ^ b.order)
     → (before free : List Bool) (blocks : List Block) → before ≡ free_of m.spots → IsFrontOfSmallest m.blocks b.order b → TakesFrames before b free
     → AreMaximalBlocks free blocks → (spots : List Spot) → PlacesUnit m.spots g b spots → holds m.seat b.at ≡ 0
-    → (any lru : Lru) → lru ≡ get_or m.lists g any → (links : List Link) (new : Lru) → IsAdded m.links lru b.at links new → OthersStand → OneOfAllChanges
-    → AllTaken t w m c g b.order b.at (taken_machine m g b blocks spots links new) c free
-taken_here t w m c ok facts g fits b may room rise before free blocks was front takes areas spots placed unreferred any lru read links new added others all =
-    let n = taken_machine m g b blocks spots links new in
+    → (links : List Link) (lists : List Lru) → AllJoin m.links m.lists g b.at links lists
+    → AllTaken t w m c g b.order b.at (taken_machine m g b blocks spots links lists) c free
+taken_here t w m c ok facts g fits b may room rise before free blocks was front takes areas spots placed unreferred links lists joined =
+    let n = taken_machine m g b blocks spots links lists in
     let block = taken_inside m.spots m.blocks ok.areas before free was b.order b front takes in
     let were_free = taken_free m.spots m.blocks ok.areas before free was b.order b front takes in
     let head = head_free m.spots m.blocks ok.areas before free was b.order b front takes in
@@ -225,15 +225,15 @@ taken_here t w m c ok facts g fits b may room rise before free blocks was front 
       charged = λ h. let a = rise h in let old = ok.charged h in omega (arith, a, old);
     } in
     record {
-      consistent = unit_kept t w m ok g fits b block spots placed (ap group_of head) (λ x low high ne. were_free x low high) any lru read links new added others
-          all (unfrozen 1) used blocks (with_charge m.ledger g (2 ^ b.order)) m.stock m.counts joins ok.balances;
+      consistent = unit_kept t w m ok g fits b block spots placed (ap group_of head) (λ x low high ne. were_free x low high) links lists joined
+          (unfrozen 1) used blocks (with_charge m.ledger g (2 ^ b.order)) m.stock m.counts joins ok.balances;
       free_is = frees;
       takes = record {
         room = room;
         front = front;
         areas = maximal;
         unit = placed;
-        listed = unit_listed t w m ok g fits any lru read b.at links new added others all n;
+        listed = joined.joins;
         machine = refl;
       };
       visit = unfrozen_visits t m n c b.at refl may.visit;
@@ -248,28 +248,26 @@ taken_here t w m c ok facts g fits b may room rise before free blocks was front 
           }) facts (λ h. refl) (same_events (with_charge m.ledger g (2 ^ b.order)));
     }
 
-pub taken_all : (t : KnownTable) (w : Words) (m now : KnownMachine) → m ≡ now → (c d : KnownCpu) → d ≡ c → IsConsistent t w m → AreCharges m.ledger → (g i : ℕ) → i < 64 → i ≡ g
+pub taken_all : (t : KnownTable) (w : Words) (m now : KnownMachine) → m ≡ now → (c d : KnownCpu) → d ≡ c → IsConsistent t w m → AreCharges m.ledger → (g : ℕ) → g < 64
     → (k pages : ℕ) → pages ≡ 2 ^ k → MayTake t now c g → PathHasRoom m.ledger.groups (current_of m.ledger) g pages → (ledger : Ledger) → ledger ≡ with_charge m.ledger g pages
     → PagesRise m.ledger ledger g pages → (before free : List Bool) (b : Block) (blocks : List Block) → before ≡ free_of m.spots
     → IsFrontOfSmallest m.blocks k b → TakesFrames before b free → AreMaximalBlocks free blocks → (spots : List Spot) → PlacesUnit m.spots g b spots
-    → (f u : ℕ) → f ≡ b.at → u ≡ f → holds m.seat f ≡ 0 → (seat : KnownSeat) → seat ≡ seat_with m.seat f (unfrozen 1) → (any lru : Lru)
-    → lru ≡ get_or m.lists i any → (links : List Link) (new : Lru) → IsAdded m.links lru u links new → OthersStand → OneOfAllChanges
-    → AllTaken t w now c g k f (record m { blocks = blocks; spots = spots; ledger = ledger; links = links; lists = slice_set m.lists i new; seat = seat }) d free
-taken_all t w m now same c d stays ok facts g i fits index k pages size may room ledger charged rise before free b blocks was front takes areas spots placed f u at unit
-    unreferred seat seat_is any lru read links new added others all =
+    → (f u : ℕ) → f ≡ b.at → u ≡ f → holds m.seat f ≡ 0 → (seat : KnownSeat) → seat ≡ seat_with m.seat f (unfrozen 1)
+    → (links : List Link) (lists : List Lru) → AllJoin m.links m.lists g u links lists
+    → AllTaken t w now c g k f (record m { blocks = blocks; spots = spots; ledger = ledger; links = links; lists = lists; seat = seat }) d free
+taken_all t w m now same c d stays ok facts g fits k pages size may room ledger charged rise before free b blocks was front takes areas spots placed f u at unit
+    unreferred seat seat_is links lists joined =
     let order : k ≡ b.order = sym front.order_is in
     let so_many : pages ≡ 2 ^ b.order = size ∙ ap (λ (x : ℕ). 2 ^ x) order in
     let may_here : MayTake t m c g = subst (λ (x : KnownMachine). MayTake t x c g) (sym same) may in
     let room_here : PathHasRoom m.ledger.groups (current_of m.ledger) g (2 ^ b.order) =
     subst (PathHasRoom m.ledger.groups (current_of m.ledger) g) so_many room in
-    let fits_here : g < 64 = subst (λ (x : ℕ). x < 64) index fits in
     let ledger_is : ledger ≡ with_charge m.ledger g (2 ^ b.order) = charged ∙ ap (with_charge m.ledger g) so_many in
     let rise_here : PagesRise m.ledger (with_charge m.ledger g (2 ^ b.order)) g (2 ^ b.order) =
     subst (λ (x : Ledger × ℕ). PagesRise m.ledger x.0 g x.1) (λ j. (ledger_is j, so_many j)) rise in
     let front_here : IsFrontOfSmallest m.blocks b.order b = subst (λ (x : ℕ). IsFrontOfSmallest m.blocks x b) order front in
     let unreferred_here : holds m.seat b.at ≡ 0 = subst (λ (x : ℕ). holds m.seat x ≡ 0) at unreferred in
-    let read_here : lru ≡ get_or m.lists g any = subst (λ (x : ℕ). lru ≡ get_or m.lists x any) index read in
-    let added_here : IsAdded m.links lru b.at links new = subst (λ (x : ℕ). IsAdded m.links lru x links new) (unit ∙ at) added in
+    let joined_here : AllJoin m.links m.lists g b.at links lists = subst (λ (x : ℕ). AllJoin m.links m.lists g x links lists) (unit ∙ at) joined in
     let seat_here : seat ≡ seat_with m.seat b.at (unfrozen 1) = seat_is ∙ ap (λ (x : ℕ). seat_with m.seat x (unfrozen 1)) at in
     subst (λ (x : KnownMachine × KnownMachine × KnownCpu × ℕ × ℕ). AllTaken t w x.0 c g x.3 x.4 x.1 x.2 free)
     (λ j. (
@@ -279,15 +277,14 @@ taken_all t w m now same c d stays ok facts g i fits index k pages size may room
         spots = spots;
         ledger = sym ledger_is j;
         links = links;
-        lists = slice_set m.lists (sym index j) new;
+        lists = lists;
         seat = sym seat_here j;
       },
       sym stays j,
       sym order j,
       sym at j,
     ))
-    (taken_here t w m c ok facts g fits_here b may_here room_here rise_here before free blocks was front_here takes areas spots placed unreferred_here any lru read_here links new
-    added_here others all)
+    (taken_here t w m c ok facts g fits b may_here room_here rise_here before free blocks was front_here takes areas spots placed unreferred_here links lists joined_here)
 
 -- ---- no block
 

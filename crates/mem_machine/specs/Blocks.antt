@@ -8,7 +8,10 @@ use Rattle.frame_word.specs.Seats.{seat_with}
 use Rattle.group_tree.specs.Room.{PathHasRoom}
 use Rattle.group_charge.specs.Charges.{current_of, with_charge, with_uncharge}
 use Rattle.lru_lists.specs.declared.record.LruList.TheVariants.{Inactive}
+use Rattle.lru_lists.specs.declared.record.Link.{Link}
+use Rattle.lru_lists.specs.declared.lru.Lru.{Lru}
 use Rattle.lru_lists.specs.Queue.{link_at}
+use Rattle.lru_lists.specs.Lists.{inactive_of, active_of}
 use Rattle.step_rules.specs.declared.step.Action.TheVariants.{Grant, Ungrant, PlaceBlock, Unfreeze, Publish}
 use Rattle.step_rules.specs.declared.step.Answer.TheVariants.{Done, Granted, Over, Placed, NoFreeBlock}
 use Rattle.step_rules.specs.After.{Run, is_within}
@@ -17,7 +20,7 @@ use Rattle.mem_machine.specs.declared.spot.Spot.TheVariants.{Head, Tail}
 use Rattle.mem_machine.specs.declared.blocks.TakeFault.{TakeFault}
 use Rattle.mem_machine.specs.declared.blocks.TakeFault.TheVariants as fault
 use Rattle.mem_machine.specs.Spots.{spot_at, free_of}
-use Rattle.mem_machine.specs.Machines.{KnownMachine, OthersStay, LacksRoom, home_of, inactive_in, active_in}
+use Rattle.mem_machine.specs.Machines.{KnownMachine, OthersStay, LacksRoom, home_of, lists_at}
 use Rattle.mem_machine.specs.Steps.{zone_makes}
 
 -- the record of a frame once the block is a unit of the group: the first frame heads it, and the rest are tails
@@ -34,14 +37,19 @@ pub record PlacesUnit (before : List Spot) (group : ℕ) (block : Block) (after 
 
 -- the unit comes to the newest end of its group's inactive list, clean and unmarked; every other frame and the lists of
 -- all other groups are as they were, and each other frame on no list has the record that it had
-pub record ListsUnit (before : KnownMachine) (group frame : ℕ) (after : KnownMachine) : Type 0 where
-  pub stands : home_of after.links frame ≡ Some (record { owner = group; list = Inactive })
-  pub homes : (x : ℕ) → x ≢ frame → home_of after.links x ≡ home_of before.links x
-  pub inactive : inactive_in after group
-      ≡ inactive_in before group ++ record { number = frame; is_marked = false; is_dirty = false } ∷ []
-  pub active : active_in after group ≡ active_in before group
-  pub others : OthersStay before.links before.lists group after.links after.lists
-  pub loose : (x : ℕ) → x ≢ frame → home_of before.links x ≡ None → link_at after.links x ≡ link_at before.links x
+pub record JoinsList (before : List Link) (old : List Lru) (group frame : ℕ)
+    (after : List Link) (new : List Lru) : Type 0 where
+  pub stands : home_of after frame ≡ Some (record { owner = group; list = Inactive })
+  pub homes : (x : ℕ) → x ≢ frame → home_of after x ≡ home_of before x
+  pub inactive : inactive_of after (lists_at new group)
+      ≡ inactive_of before (lists_at old group) ++ record { number = frame; is_marked = false; is_dirty = false } ∷ []
+  pub active : active_of after (lists_at new group) ≡ active_of before (lists_at old group)
+  pub others : OthersStay before old group after new
+  pub loose : (x : ℕ) → x ≢ frame → home_of before x ≡ None → link_at after x ≡ link_at before x
+
+-- so it is in the machine
+abbrev pub ListsUnit : KnownMachine → (group frame : ℕ) → KnownMachine → Type 0
+ListsUnit before group frame after = JoinsList before.links before.lists group frame after.links after.lists
 
 -- The group is charged for a block of this order, and has it: the front of the free block of the least sufficient order
 -- that has the least address. Its head is in use, with one reference of the zone, and stands on the group's inactive

@@ -7,13 +7,13 @@ ghost use Rattle.mem_machine.specs.Paying.{HasRoomFor};
 ghost use Rattle.mem_machine.specs.Blocks.{PlacesUnit, TakesBlock, RefusesBlock, block_steps};
 ghost use Rattle.mem_machine.specs.Local.{Makes, side};
 
+use crate::joining::join_list;
 use crate::machine::Machine;
 use crate::spot::Spot;
 use cpu_part::{BootName, Cpu, Tables};
 use frame_word::Frame;
 use group_charge::charges::Over;
 use group_tree::group::GroupId;
-use lru_lists::laws;
 use step_rules::phase::ChargedUnit;
 use zone_blocks::block::Block;
 use zone_blocks::order::Order;
@@ -81,12 +81,7 @@ impl<N: BootName> Machine<N> {
         };
         place_unit(&mut self.spots, block, group);
         tables.frames.unfreeze(&mut self.seat, head, 1);
-        laws::others_stand();
-        laws::one_of_all_changes();
-        let number = group.number() as usize;
-        let mut lists = self.lists[number];
-        lists.add(&mut self.links, head.number());
-        self.lists[number] = lists;
+        join_list(&mut self.links, &mut self.lists, group, head.number());
         Ok(head)
     }
 }

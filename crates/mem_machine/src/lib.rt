@@ -12,6 +12,7 @@ mod counts;
 mod evicting;
 mod freed;
 mod groups;
+mod joining;
 pub mod laws;
 mod lending;
 mod machine;

@@ -10,12 +10,12 @@ ghost use Rattle.mem_machine.specs.Settling.{MakesFreshSteps, MakesReturnSteps, 
 ghost use Rattle.mem_machine.specs.Settling.{all_fresh_steps, all_back_steps, settle_steps};
 
 use crate::freed::free_unit;
+use crate::joining::join_list;
 use crate::machine::Machine;
 use crate::spot::Spot;
 use cpu_part::{BootName, Cpu, Tables};
 use frame_word::Frame;
 use group_tree::group::GroupId;
-use lru_lists::laws;
 use step_rules::phase::ChargedUnit;
 use zone_blocks::order::Order;
 
@@ -36,12 +36,7 @@ impl<N: BootName> Machine<N> {
         let at = frame.number();
         let order = Order::of(0).unwrap();
         self.spots[at as usize] = Spot::Head(ChargedUnit { group, order });
-        laws::others_stand();
-        laws::one_of_all_changes();
-        let owner = group.number() as usize;
-        let mut lists = self.lists[owner];
-        lists.add(&mut self.links, at);
-        self.lists[owner] = lists;
+        join_list(&mut self.links, &mut self.lists, group, at);
         frame
     }
 

@@ -20,7 +20,7 @@ use Rattle.cpu_part.specs.Cpus.{KnownCpu, IsIdle, times}
 use Rattle.step_rules.specs.State.{one_if}
 use Rattle.mem_machine.specs.Machines.{KnownMachine, IsConsistent, home_of}
 use Rattle.mem_machine.specs.Places.{NoneLentTo}
-use Rattle.mem_machine.proofs.NoneLent.{lent_noted, each_is_placed}
+use Rattle.mem_machine.proofs.NoneLent.{lent_to_cpu, each_is_placed}
 use Rattle.mem_system.specs.declared.audit.Audit.{Audit}
 use Rattle.mem_system.specs.Boots.{KnownLocked, IsQuiet, AllShut}
 use Rattle.mem_system.specs.Ends.{Happens, InTurn, SettlesInVisit, Empties, IsSpent, Tells, IsClosed, HasNoPage, Ends, frame_seat_of, stock_seat_of, drops_of, pins_of}
@@ -172,11 +172,8 @@ module _ (t : KnownTable) (w : Words) (m : KnownMachine) (cpus : List KnownCpu) 
 
   none_lent : (p : ℕ) → NoneLentTo p m.spots
   none_lent p f is =
-      let noted = lent_noted t w m ok f p is in
-      let rule = (closed.rule.each_frame f noted.0).lent_to_one in
-      let zone : only 0 m.seat.view (note_of m.seat.view f).lent ≡ p =
-      cond-true (m.seat.view.number == 0) (note_of m.seat.view f).lent 0 is_zone ∙ noted.1 in
-      let its = found p noted.2 (omega (arith, rule, zone)) in
+      let cpu = lent_to_cpu t w m ok f p is in
+      let its = found p cpu.0 cpu.1 in
       subst (λ (q : ℕ). NoneLentTo q m.spots) its.1 its.2.none_lent f is
 
 -- the processors' own drops count as returns too
