@@ -1,18 +1,12 @@
+use Rattle.std.proofs.Common.{rules}
 use Rattle.mem_machine.proofs.Joins.{join_all}
 use Rattle.mem_machine.proofs.joining.join_list.Goals as goal
 
-pub returns-clause-joins : goal.returns-clause-joins
-returns-clause-joins c =
+pub returns : goal.returns
+returns c =
     let a = c.add.ensures in
-    (join_all c.args.links.now c.args.lists.now.items c.args.group c.args.head _ c.number-owner.ensures.value c.number-owner.ensures.below
+    let all = join_all c.args.links.now c.args.lists.now.items c.args.group c.args.head _ c.number-owner.ensures.value c.number-owner.ensures.below
     c.requires.groups c.requires.stand _ _ c.index.ensures _ _
     (record { stands = a.stands; owner = a.owner; inactive = a.inactive; active = a.active; changes = a.others; moves = a.moves; joined = a.joined })
-    c.others_stand.ensures c.one_of_all_changes.ensures).joins
-
-pub returns-clause-stand : goal.returns-clause-stand
-returns-clause-stand c =
-    let a = c.add.ensures in
-    (join_all c.args.links.now c.args.lists.now.items c.args.group c.args.head _ c.number-owner.ensures.value c.number-owner.ensures.below
-    c.requires.groups c.requires.stand _ _ c.index.ensures _ _
-    (record { stands = a.stands; owner = a.owner; inactive = a.inactive; active = a.active; changes = a.others; moves = a.moves; joined = a.joined })
-    c.others_stand.ensures c.one_of_all_changes.ensures).stand
+    c.others_stand.ensures c.one_of_all_changes.ensures in
+    record { joins = all.joins; stand = all.stand; frames = search rules; groups = search rules }

@@ -20,41 +20,16 @@ invariant_of-self g c =
     (record { joins = a.joins; stand = a.stand; frames = a.frames; groups = a.groups })) in
     (all.consistent, all.free_is)
 
-pub returns-clause-keeps : goal.returns-clause-keeps
-returns-clause-keeps g c =
+pub returns : goal.returns
+returns g c =
     let k0 : c.unwrap-order.result ≡ 0 = search rules in
     let fits : c.args.group < 64 = search rules in
     let e = c.collect_fresh-frame.ensures in
     let was = was_fresh g.N.BootName.frames g.N.BootName.stocks _ c.args.cpu.now _ c.args.group e.frame e.nothing e.lent e.booked e.group c.requires.group
     fits in
     let a = c.join_list.ensures in
-    (keep_all g.N.BootName.frames g.N.BootName.stocks _ _ c.self.view_is c.args.cpu.now _ c.number-number.ensures.tied c.self.invariant.0
+    let all = keep_all g.N.BootName.frames g.N.BootName.stocks _ _ c.self.view_is c.args.cpu.now _ c.number-number.ensures.tied c.self.invariant.0
     c.requires.visit _ c.self.invariant.1 _ c.args.group was e.cpu _ c.unwrap-order.result c.number-at.ensures k0 _ _
     e.zone c.unfreeze.ensures.seat _ (ap uncounted e.machine) _ _
-    (record { joins = a.joins; stand = a.stand; frames = a.frames; groups = a.groups })).keeps
-
-pub returns-clause-visit : goal.returns-clause-visit
-returns-clause-visit g c =
-    let k0 : c.unwrap-order.result ≡ 0 = search rules in
-    let fits : c.args.group < 64 = search rules in
-    let e = c.collect_fresh-frame.ensures in
-    let was = was_fresh g.N.BootName.frames g.N.BootName.stocks _ c.args.cpu.now _ c.args.group e.frame e.nothing e.lent e.booked e.group c.requires.group
-    fits in
-    let a = c.join_list.ensures in
-    (keep_all g.N.BootName.frames g.N.BootName.stocks _ _ c.self.view_is c.args.cpu.now _ c.number-number.ensures.tied c.self.invariant.0
-    c.requires.visit _ c.self.invariant.1 _ c.args.group was e.cpu _ c.unwrap-order.result c.number-at.ensures k0 _ _
-    e.zone c.unfreeze.ensures.seat _ (ap uncounted e.machine) _ _
-    (record { joins = a.joins; stand = a.stand; frames = a.frames; groups = a.groups })).visit
-
-pub returns-clause-steps : goal.returns-clause-steps
-returns-clause-steps g c =
-    let k0 : c.unwrap-order.result ≡ 0 = search rules in
-    let fits : c.args.group < 64 = search rules in
-    let e = c.collect_fresh-frame.ensures in
-    let was = was_fresh g.N.BootName.frames g.N.BootName.stocks _ c.args.cpu.now _ c.args.group e.frame e.nothing e.lent e.booked e.group c.requires.group
-    fits in
-    let a = c.join_list.ensures in
-    (keep_all g.N.BootName.frames g.N.BootName.stocks _ _ c.self.view_is c.args.cpu.now _ c.number-number.ensures.tied c.self.invariant.0
-    c.requires.visit _ c.self.invariant.1 _ c.args.group was e.cpu _ c.unwrap-order.result c.number-at.ensures k0 _ _
-    e.zone c.unfreeze.ensures.seat _ (ap uncounted e.machine) _ _
-    (record { joins = a.joins; stand = a.stand; frames = a.frames; groups = a.groups })).steps
+    (record { joins = a.joins; stand = a.stand; frames = a.frames; groups = a.groups }) in
+    record { keeps = all.keeps; visit = all.visit; steps = all.steps }

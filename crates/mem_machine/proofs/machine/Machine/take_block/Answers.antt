@@ -3,9 +3,9 @@ use Rattle.zone_buddy.specs.Zone.{Zone}
 use Rattle.mem_machine.proofs.TakesBlocks.{taken_all, none_all, taken_inside, head_inside, head_free, free_in_hand}
 use Rattle.mem_machine.proofs.machine.Machine.take_block.Goals as goal
 
-pub returns-in_default-take-clause-refuses : goal.returns-in_default-take-clause-refuses
-returns-in_default-take-clause-refuses g c =
-    (none_all g.N.BootName.frames g.N.BootName.stocks _ _ (c.self.view_is ∙ c.see_usage.ensures.machine) c.args.cpu.now _ c.see_usage.ensures.cpu
+pub returns-in_default-take : goal.returns-in_default-take
+returns-in_default-take g c =
+    let all = none_all g.N.BootName.frames g.N.BootName.stocks _ _ (c.self.view_is ∙ c.see_usage.ensures.machine) c.args.cpu.now _ c.see_usage.ensures.cpu
     c.self.invariant.0 c.tree-tree.ensures.legal c.args.group c.args.order _ c.frames-pages.ensures.frames
     (record {
       visit = c.requires.visit;
@@ -14,20 +14,8 @@ returns-in_default-take-clause-refuses g c =
       there = c.requires.there;
       alive = c.requires.alive;
     }) (c.in_default.ensures.granted.0 refl) _ _ c.in_default.ensures.charged c.uncharge.ensures.uncharged _
-    (ap (λ (z : Zone). z.blocks) c.in_default-take.ensures.none) c.in_default-take.ensures.taken).none
-
-pub returns-in_default-take-clause-steps : goal.returns-in_default-take-clause-steps
-returns-in_default-take-clause-steps g c =
-    (none_all g.N.BootName.frames g.N.BootName.stocks _ _ (c.self.view_is ∙ c.see_usage.ensures.machine) c.args.cpu.now _ c.see_usage.ensures.cpu
-    c.self.invariant.0 c.tree-tree.ensures.legal c.args.group c.args.order _ c.frames-pages.ensures.frames
-    (record {
-      visit = c.requires.visit;
-      none_back = c.requires.none_back;
-      usage = c.see_usage.ensures.usage;
-      there = c.requires.there;
-      alive = c.requires.alive;
-    }) (c.in_default.ensures.granted.0 refl) _ _ c.in_default.ensures.charged c.uncharge.ensures.uncharged _
-    (ap (λ (z : Zone). z.blocks) c.in_default-take.ensures.none) c.in_default-take.ensures.taken).steps
+    (ap (λ (z : Zone). z.blocks) c.in_default-take.ensures.none) c.in_default-take.ensures.taken in
+    record { takes = search rules; refuses = all.none; cpu = search rules; visit = search rules; steps = all.steps }
 
 pub unreachable-requires : goal.unreachable-requires
 unreachable-requires g c =
@@ -65,11 +53,11 @@ invariant_of-self-2 g c =
     (record { joins = j.joins; stand = j.stand; frames = j.frames; groups = j.groups }) in
     (all.consistent, all.free_is)
 
-pub returns-clause-takes : goal.returns-clause-takes
-returns-clause-takes g c =
+pub returns : goal.returns
+returns g c =
     let fits : c.args.group < 64 = search rules in
     let j = c.join_list.ensures in
-    (taken_all g.N.BootName.frames g.N.BootName.stocks _ _ (c.self.view_is ∙ c.see_usage.ensures.machine) c.args.cpu.now _ c.see_usage.ensures.cpu
+    let all = taken_all g.N.BootName.frames g.N.BootName.stocks _ _ (c.self.view_is ∙ c.see_usage.ensures.machine) c.args.cpu.now _ c.see_usage.ensures.cpu
     c.self.invariant.0 c.tree-tree.ensures.legal c.args.group fits c.args.order _ c.frames-pages.ensures.frames
     (record {
       visit = c.requires.visit;
@@ -80,47 +68,11 @@ returns-clause-takes g c =
     }) (c.in_default.ensures.granted.0 refl) _ c.in_default.ensures.charged c.in_default.ensures.pages _ _ c.in-Some.block _ c.self.invariant.1
     c.in-Some.ensures.taken c.in-Some.ensures.frames c.in-Some.ensures.areas _ c.place_unit.ensures c.in-Some-frame.head _ c.in-Some-frame.ensures.0
     c.number.ensures c.unfreeze.ensures.no_reference _ c.unfreeze.ensures.seat _ _
-    (record { joins = j.joins; stand = j.stand; frames = j.frames; groups = j.groups })).takes
-
-pub returns-clause-visit : goal.returns-clause-visit
-returns-clause-visit g c =
-    let fits : c.args.group < 64 = search rules in
-    let j = c.join_list.ensures in
-    (taken_all g.N.BootName.frames g.N.BootName.stocks _ _ (c.self.view_is ∙ c.see_usage.ensures.machine) c.args.cpu.now _ c.see_usage.ensures.cpu
-    c.self.invariant.0 c.tree-tree.ensures.legal c.args.group fits c.args.order _ c.frames-pages.ensures.frames
-    (record {
-      visit = c.requires.visit;
-      none_back = c.requires.none_back;
-      usage = c.see_usage.ensures.usage;
-      there = c.requires.there;
-      alive = c.requires.alive;
-    }) (c.in_default.ensures.granted.0 refl) _ c.in_default.ensures.charged c.in_default.ensures.pages _ _ c.in-Some.block _ c.self.invariant.1
-    c.in-Some.ensures.taken c.in-Some.ensures.frames c.in-Some.ensures.areas _ c.place_unit.ensures c.in-Some-frame.head _ c.in-Some-frame.ensures.0
-    c.number.ensures c.unfreeze.ensures.no_reference _ c.unfreeze.ensures.seat _ _
-    (record { joins = j.joins; stand = j.stand; frames = j.frames; groups = j.groups })).visit
-
-pub returns-clause-steps : goal.returns-clause-steps
-returns-clause-steps g c =
-    let fits : c.args.group < 64 = search rules in
-    let j = c.join_list.ensures in
-    (taken_all g.N.BootName.frames g.N.BootName.stocks _ _ (c.self.view_is ∙ c.see_usage.ensures.machine) c.args.cpu.now _ c.see_usage.ensures.cpu
-    c.self.invariant.0 c.tree-tree.ensures.legal c.args.group fits c.args.order _ c.frames-pages.ensures.frames
-    (record {
-      visit = c.requires.visit;
-      none_back = c.requires.none_back;
-      usage = c.see_usage.ensures.usage;
-      there = c.requires.there;
-      alive = c.requires.alive;
-    }) (c.in_default.ensures.granted.0 refl) _ c.in_default.ensures.charged c.in_default.ensures.pages _ _ c.in-Some.block _ c.self.invariant.1
-    c.in-Some.ensures.taken c.in-Some.ensures.frames c.in-Some.ensures.areas _ c.place_unit.ensures c.in-Some-frame.head _ c.in-Some-frame.ensures.0
-    c.number.ensures c.unfreeze.ensures.no_reference _ c.unfreeze.ensures.seat _ _
-    (record { joins = j.joins; stand = j.stand; frames = j.frames; groups = j.groups })).steps
+    (record { joins = j.joins; stand = j.stand; frames = j.frames; groups = j.groups }) in
+    record { takes = all.takes; refuses = search rules; cpu = search rules; visit = all.visit; steps = all.steps }
 
 pub invariant_of-self : goal.invariant_of-self
 invariant_of-self g c = search rules
 
 pub invariant_of-self-in_default-take : goal.invariant_of-self-in_default-take
 invariant_of-self-in_default-take g c = search rules
-
-pub returns-in_default-take-clause-takes : goal.returns-in_default-take-clause-takes
-returns-in_default-take-clause-takes g c = search rules
