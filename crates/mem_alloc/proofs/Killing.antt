@@ -200,17 +200,20 @@ kills_end r t g pages m x n over noted noting so_far ended = (
     over = λ _. record {
       victims = so_far.victims;
       killing = so_far.killing;
-      notes = subst (λ (y : KnownMachine). MakesForAny t m (note_oom_steps g) y) noted noting;
+      notes = told;
       kills = so_far.kills;
       ended = ended;
       steps_are = refl;
     };
   },
-  λ c.
-      let x : KnownMachine = with_oom_noted_at m g in
-      makes_both t c.number (note_oom_steps g) so_far.killing (side m c) (side x c) (side n c)
-      (subst (λ (y : KnownMachine). MakesForAny t m (note_oom_steps g) y) noted noting c) (so_far.runs c),
+  λ c. makes_both t c.number (note_oom_steps g) so_far.killing (side m c) (side (with_oom_noted_at m g) c) (side n c) (told c) (so_far.runs c),
 )
+  where
+    noting_m : MakesForAny t m (note_oom_steps g) (record m { ledger = with_oom_noted m.ledger g })
+    noting_m = subst (λ (y : KnownMachine). MakesForAny t m (note_oom_steps g) y) noted noting
+
+    told : MakesForAny t m (note_oom_steps g) (with_oom_noted_at m g)
+    told c = record { leads = (noting_m c).leads; follows = (noting_m c).follows }
 
 -- there is room
 pub no_kills : (r : Option ℕ) (t : KnownTable) (g pages : ℕ) (m : KnownMachine) → has_room_for m.ledger g pages ≡ true → ByStepsOfAny t m m (KillsFor r g pages)
