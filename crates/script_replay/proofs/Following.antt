@@ -156,24 +156,24 @@ module _ (t : KnownTable) (w : Words) (run : Run) (locked : KnownLocked) (cpus :
   unseen_follows : (after : Holder) → after.locked ≡ locked → IsUnseen t m c after.cpu → Follows [] after
   unseen_follows after kept unseen =
       let d = after.cpu in (
-      subst (λ (r : Run). ShowsAll t r after.locked.machine (slice_set cpus k d)) (sym (append-nil run))
-      (subst (λ (l : KnownLocked). ShowsAll t run l.machine (slice_set cpus k d)) (sym kept) (record {
-        legal = shows.legal;
-        free = shows.free;
-        count = length-set cpus k d ∙ shows.count;
-        each = λ j e at. elim (cases_eq j k) [
-          | inl here ↦
-              let is : e ≡ d = set_here cpus k d e (slice_get_within cpus k c is_part) (subst (λ (i : ℕ). slice_get (slice_set cpus k d) i ≡ Some e) here at) in
-              let was = shows.each k c is_part in
-              subst (λ (x : KnownCpu). IsSeenAt t m (state_of (zone_of t) run) j x) (sym is) (record {
-                number = unseen.number ∙ was.number ∙ ap suc (sym here);
-                sees = unseen.same ∙ was.sees ∙ ap (λ (q : ℕ). seen_by q (state_of (zone_of t) run)) (sym unseen.number);
-              })
-          | inr ne ↦ shows.each j e (set_else cpus k j d e ne at)
-        ];
-      })),
-      λ told. subst (λ (r : Run). TellsRun t r after.locked.machine.ledger) (sym (append-nil run))
-          (subst (λ (l : KnownLocked). TellsRun t run l.machine.ledger) (sym kept) told),
+        subst (λ (r : Run). ShowsAll t r after.locked.machine (slice_set cpus k d)) (sym (append-nil run))
+            (subst (λ (l : KnownLocked). ShowsAll t run l.machine (slice_set cpus k d)) (sym kept) (record {
+              legal = shows.legal;
+              free = shows.free;
+              count = length-set cpus k d ∙ shows.count;
+              each = λ j e at. elim (cases_eq j k) [
+                | inl here ↦
+                    let is : e ≡ d = set_here cpus k d e (slice_get_within cpus k c is_part) (subst (λ (i : ℕ). slice_get (slice_set cpus k d) i ≡ Some e) here at) in
+                    let was = shows.each k c is_part in
+                    subst (λ (x : KnownCpu). IsSeenAt t m (state_of (zone_of t) run) j x) (sym is) (record {
+                      number = unseen.number ∙ was.number ∙ ap suc (sym here);
+                      sees = unseen.same ∙ was.sees ∙ ap (λ (q : ℕ). seen_by q (state_of (zone_of t) run)) (sym unseen.number);
+                    })
+                | inr ne ↦ shows.each j e (set_else cpus k j d e ne at)
+              ];
+            })),
+        λ told. subst (λ (r : Run). TellsRun t r after.locked.machine.ledger) (sym (append-nil run))
+            (subst (λ (l : KnownLocked). TellsRun t run l.machine.ledger) (sym kept) told),
       )
 
   -- the processor holds the lock from its first step on, which decides nothing
