@@ -6,6 +6,7 @@ use Rattle.stock_word.specs.Stock.{Words}
 use Rattle.zone_sizes.specs.declared.config.Config.{Config}
 use Rattle.zone_sizes.specs.Config.{IsValidConfig}
 use Rattle.mem_machine.specs.Machines.{IsFirst}
+use Rattle.mem_machine.specs.Telling.{TellsRun}
 use Rattle.mem_system.specs.Boots.{IsSizedAs, first_cpus}
 use Rattle.script_lines.specs.declared.line.Line.{Line}
 use Rattle.script_lines.specs.Script.{IsScript}
@@ -28,7 +29,8 @@ pub record StandsAtFirst (sizes : Config) (table : KnownTable) (stock_table : Wo
 
 -- what a boot with these sizes answers to the lines, one after the other, with why groups were killed or without, and then
 -- tells of its end. All steps of the lines together are one run from the boot on, which tells of each line that the promise
--- is kept after it
+-- is kept after it. The ledger of the boot tells the run of no step, and so after each line each group's peak and event
+-- counts are those of the run so far
 pub record AreAnswers (sizes : Config) (is_explained is_audited : Bool) (lines : List Line) (text : List ℕ) : Type 0 where
   pub frames : KnownTable
   pub stocks : Words
@@ -39,6 +41,7 @@ pub record AreAnswers (sizes : Config) (is_explained is_audited : Bool) (lines :
   pub first : StandsAtFirst sizes frames stocks start
   pub served : ServesAll frames is_explained start lines answers end
   pub history : TellsHistory frames is_explained (Unit {0}) [] start lines answers end
+  pub told : TellsRun frames [] start.locked.machine.ledger
   pub ends : TellsEnd frames stocks is_audited end ending
   pub text_is : text ≡ answers ++ ending
 

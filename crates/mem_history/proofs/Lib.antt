@@ -8,3 +8,4 @@ pub mod Booting
 pub mod Currents
 pub mod Promised
 pub mod Leading
+pub mod Told

@@ -1,3 +1,4 @@
 pub mod Whole
 pub mod Kept
 pub mod Leading
+pub mod Told

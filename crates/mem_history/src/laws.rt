@@ -3,6 +3,7 @@
 ghost use Rattle.mem_history.specs.Whole.{LinesFollow, FastLinesFollow, TheHolderIsShown};
 ghost use Rattle.mem_history.specs.Kept.{ABootIsShown, CurrentIsKept, TheFirstHolderIsShown, TheWholeIsPromised};
 ghost use Rattle.mem_history.specs.Leading.{FastCallsLead};
+ghost use Rattle.mem_history.specs.Told.{ABootTells, LinesTell, FastLinesTell};
 
 /// A new boot shows the run of no step.
 pub fn a_boot_is_shown()
@@ -47,4 +48,20 @@ pub fn the_whole_is_promised()
 /// machine shows its processor: a get that is answered Held, a put, a frame that becomes fresh, and one that is listed again.
 pub fn fast_calls_lead()
     ensures { FastCallsLead }
+{}
+
+/// The ledger of a new boot tells the run of no step: the root's peak is 0, and so is each count.
+pub fn a_boot_tells()
+    ensures { ABootTells }
+{}
+
+/// Where the ledger tells the run that shows the whole, each group's peak and event counts, it tells the run that goes on with a
+/// line under the lock.
+pub fn lines_tell()
+    ensures { LinesTell }
+{}
+
+/// And the run that goes on with a step that takes no lock.
+pub fn fast_lines_tell()
+    ensures { FastLinesTell }
 {}

@@ -1,6 +1,6 @@
 -- The ledger tells a run, and goes on telling it with each call. Serves `ledgers_tell`.
-use Rattle.std.proofs.Common.{◌≡◌, ◌≢◌, ℕ, ◌==◌, ◌&&◌, ◌++◌, Bool, true, false, List, [], ◌∷◌, cond, take, length, Option, Some, refl, sym, ap, ◌∙◌, subst, inl, inr, zero, suc, eq-eqb}
-use Rattle.std.specs.Prelude.{IfSome, max, not}
+use Rattle.std.proofs.Common.{◌≡◌, ◌≢◌, ℕ, ◌==◌, ◌&&◌, ◌++◌, Bool, true, false, [], ◌∷◌, cond, take, length, Option, Some, refl, sym, ap, ◌∙◌, subst, inl, inr, zero, suc, eq-eqb}
+use Rattle.std.specs.Prelude.{IfSome, max}
 use Rattle.std.specs.List.{slice_get}
 use Rattle.std.proofs.lemmas.Bool.{cases_Bool, and_parts, eqb-true, or_left, or_right, true≢false}
 use Rattle.std.proofs.lemmas.List.{append_assoc, append-nil}
@@ -12,17 +12,16 @@ use Rattle.step_rules.specs.declared.step.Action.{Action}
 use Rattle.step_rules.specs.declared.step.Action.TheVariants.{Grant, NoteMax, NoteOom, Kill, Make}
 use Rattle.step_rules.specs.declared.step.Answer.{Answer}
 use Rattle.step_rules.specs.declared.step.Answer.TheVariants.{Illegal, Done, Granted, Number}
-use Rattle.step_rules.specs.State.{Zone, State, is_unheld}
-use Rattle.step_rules.specs.Legal.{is_legal, IsCounted, Allows}
+use Rattle.step_rules.specs.State.{Zone, State}
+use Rattle.step_rules.specs.Legal.{is_legal, Allows}
 use Rattle.step_rules.specs.Usage.{usage_of}
 use Rattle.step_rules.specs.After.{Run, after, state_of, IsLegalRun}
-use Rattle.step_rules.specs.Cover.{hide}
 use Rattle.step_rules.specs.Laws.{ShowsLocal, IsLocalStep, pushed}
 use Rattle.step_rules.specs.Reaches.{is_own, own_steps, MayFollow, IsInterleaved}
 use Rattle.step_rules.specs.Peaks.{IsPeak, peak_follows}
-use Rattle.step_rules.specs.Events.{EventKey, count_after, is_noted_at, is_noted_below, events_of as events_in, events_local_of as events_local_in}
+use Rattle.step_rules.specs.Events.{is_noted_at, is_noted_below, events_of as events_in, events_local_of as events_local_in}
 use Rattle.step_rules.proofs.LegalTests.{grant_tests, make_tests, kill_tests}
-use Rattle.step_rules.proofs.Runs.{allowed, sound_run, state_more}
+use Rattle.step_rules.proofs.Runs.{allowed, sound_run}
 use Rattle.step_rules.proofs.CoverUsage.{usage_seen}
 use Rattle.step_rules.proofs.LocalLaws.{own_step_is_legal, other_step_is_hidden}
 use Rattle.step_rules.proofs.Peaking.{peaks_are_kept}
@@ -30,7 +29,7 @@ use Rattle.step_rules.proofs.Noting.{events_are_counted}
 use Rattle.mem_machine.specs.Following.{Moves, moved_over, moves_peak, moves_count, count_by}
 use Rattle.mem_machine.specs.Local.{local_of, IsLocalRun}
 use Rattle.mem_machine.specs.Interleaving.{zone_of}
-use Rattle.mem_machine.specs.Telling.{TellsRun, LedgersTell}
+use Rattle.mem_machine.specs.Telling.{LedgersTell}
 use Rattle.mem_machine.proofs.Followed.{is_still, only_made, Stays, Test, still_peak, below_stays, at_stays, count_begins}
 
 -- ---- steps of other processors

@@ -41,11 +41,13 @@ use Rattle.mem_machine.specs.Local.{local_of, phase_of, number_or_0, Makes, IsLo
 use Rattle.mem_machine.specs.Interleaving.{zone_of}
 use Rattle.mem_machine.specs.Steps.{cpu_makes}
 use Rattle.mem_machine.proofs.Records.{holds_same}
-use Rattle.mem_history.specs.Whole.{ShowsAll, IsSeenAt, seen_by, seen_together, state_after, IsDecided, AreDecided, under_lock, is_fast}
+use Rattle.mem_machine.specs.Telling.{TellsRun}
+use Rattle.mem_history.specs.Whole.{ShowsAll, ServesAt, ServesFast, IsSeenAt, seen_by, seen_together, state_after, IsDecided, AreDecided, under_lock, is_fast}
 use Rattle.mem_history.specs.Kept.{AreTied}
 use Rattle.mem_history.specs.Leading.{IsPart, put_answer}
 use Rattle.mem_history.proofs.Wholes.{set_here, set_else, lines_follow}
 use Rattle.mem_history.proofs.Fast.{fast_lines_follow}
+use Rattle.mem_history.proofs.Told.{lines_tell, fast_lines_tell}
 use Rattle.mem_history.proofs.Leading.{fast_calls_lead}
 use Rattle.mem_system.specs.declared.command.Cmd.{Cmd}
 use Rattle.mem_system.specs.declared.command.Cmd.TheVariants as cmd
@@ -142,9 +144,10 @@ module _ (t : KnownTable) (w : Words) (run : Run) (locked : KnownLocked) (cpus :
   abbrev before : Holder
   before = holder locked c
 
-  -- the whole after these steps, which leave this holder
+  -- the whole after these steps, which leave this holder, and what its ledger tells
   abbrev Follows : Run → Holder → Type 0
   Follows steps after = ShowsAll t (run ++ steps) after.locked.machine (slice_set cpus k after.cpu)
+      × (TellsRun t run m.ledger → TellsRun t (run ++ steps) after.locked.machine.ledger)
 
   abbrev Decided : Run → Type 0
   Decided steps = AreDecided t cpus (side_of before) steps
@@ -152,23 +155,26 @@ module _ (t : KnownTable) (w : Words) (run : Run) (locked : KnownLocked) (cpus :
   -- nothing that is seen changed
   unseen_follows : (after : Holder) → after.locked ≡ locked → IsUnseen t m c after.cpu → Follows [] after
   unseen_follows after kept unseen =
-      let d = after.cpu in
-      subst (λ (r : Run). ShowsAll t r after.locked.machine (slice_set cpus k d)) (sym (append-nil run))
-      (subst (λ (l : KnownLocked). ShowsAll t run l.machine (slice_set cpus k d)) (sym kept) (record {
-        legal = shows.legal;
-        free = shows.free;
-        count = length-set cpus k d ∙ shows.count;
-        each = λ j e at. elim (cases_eq j k) [
-          | inl here ↦
-              let is : e ≡ d = set_here cpus k d e (slice_get_within cpus k c is_part) (subst (λ (i : ℕ). slice_get (slice_set cpus k d) i ≡ Some e) here at) in
-              let was = shows.each k c is_part in
-              subst (λ (x : KnownCpu). IsSeenAt t m (state_of (zone_of t) run) j x) (sym is) (record {
-                number = unseen.number ∙ was.number ∙ ap suc (sym here);
-                sees = unseen.same ∙ was.sees ∙ ap (λ (q : ℕ). seen_by q (state_of (zone_of t) run)) (sym unseen.number);
-              })
-          | inr ne ↦ shows.each j e (set_else cpus k j d e ne at)
-        ];
-      }))
+      let d = after.cpu in (
+        subst (λ (r : Run). ShowsAll t r after.locked.machine (slice_set cpus k d)) (sym (append-nil run))
+            (subst (λ (l : KnownLocked). ShowsAll t run l.machine (slice_set cpus k d)) (sym kept) (record {
+              legal = shows.legal;
+              free = shows.free;
+              count = length-set cpus k d ∙ shows.count;
+              each = λ j e at. elim (cases_eq j k) [
+                | inl here ↦
+                    let is : e ≡ d = set_here cpus k d e (slice_get_within cpus k c is_part) (subst (λ (i : ℕ). slice_get (slice_set cpus k d) i ≡ Some e) here at) in
+                    let was = shows.each k c is_part in
+                    subst (λ (x : KnownCpu). IsSeenAt t m (state_of (zone_of t) run) j x) (sym is) (record {
+                      number = unseen.number ∙ was.number ∙ ap suc (sym here);
+                      sees = unseen.same ∙ was.sees ∙ ap (λ (q : ℕ). seen_by q (state_of (zone_of t) run)) (sym unseen.number);
+                    })
+                | inr ne ↦ shows.each j e (set_else cpus k j d e ne at)
+              ];
+            })),
+        λ told. subst (λ (r : Run). TellsRun t r after.locked.machine.ledger) (sym (append-nil run))
+            (subst (λ (l : KnownLocked). TellsRun t run l.machine.ledger) (sym kept) told),
+      )
 
   -- the processor holds the lock from its first step on, which decides nothing
   inner_decided : (steps : Run) → Decided (under_lock p steps) → Decided steps
@@ -185,7 +191,7 @@ module _ (t : KnownTable) (w : Words) (run : Run) (locked : KnownLocked) (cpus :
   served_follows : (seen : KnownCpu) → IsUnseen t m c seen → (command : Cmd) (reply : Reply) (after : Holder) →
       (is : IsServed t command (holder locked seen) reply after) → AllShut after.locked.machine → Decided (under_lock p is.0) → Follows (under_lock p is.0) after
   served_follows seen unseen command reply after is shut decided =
-      lines_follow t run cpus k (side m c) is.0 (side after.locked.machine after.cpu) shows (record {
+      let serves : ServesAt t cpus k (side m c) is.0 (side after.locked.machine after.cpu) = record {
         is_part = is_part;
         leads = record {
           leads = subst (λ (x : ℕ × State). IsLocalRun x.0 x.1 is.0 (local_of t after.locked.machine after.cpu)) (λ i. (unseen.number i, unseen.same i))
@@ -194,21 +200,28 @@ module _ (t : KnownTable) (w : Words) (run : Run) (locked : KnownLocked) (cpus :
         };
         decided = inner_decided is.0 decided;
         shut = shut;
-      })
+      } in (
+        lines_follow t run cpus k (side m c) is.0 (side after.locked.machine after.cpu) shows serves,
+        lines_tell t run cpus k (side m c) is.0 (side after.locked.machine after.cpu) shows serves,
+      )
 
   -- a step without the lock
   step_follows : (action : Action) (said : Said) (after : Holder) → after.locked ≡ locked → after.cpu.number ≡ p → is_fast action ≡ true →
       Makes t (side m c) (cpu_makes p action said ∷ []) (side m after.cpu) → Decided (cpu_makes p action said ∷ []) → Follows (cpu_makes p action said ∷ []) after
   step_follows action said after kept number quick leads decided =
-      subst (λ (l : KnownLocked). ShowsAll t (run ++ cpu_makes p action said ∷ []) l.machine (slice_set cpus k after.cpu)) (sym kept)
-      (fast_lines_follow t run cpus k (side m c) action said (side m after.cpu) shows (record {
+      let serves : ServesFast t cpus k (side m c) action said (side m after.cpu) = record {
         is_part = is_part;
         number = number;
         fast = quick;
         machine = refl;
         leads = leads;
         decided = decided;
-      }))
+      } in (
+        subst (λ (l : KnownLocked). ShowsAll t (run ++ cpu_makes p action said ∷ []) l.machine (slice_set cpus k after.cpu)) (sym kept)
+            (fast_lines_follow t run cpus k (side m c) action said (side m after.cpu) shows serves),
+        λ told. subst (λ (l : KnownLocked). TellsRun t (run ++ cpu_makes p action said ∷ []) l.machine.ledger) (sym kept)
+            (fast_lines_tell t run cpus k (side m c) action said (side m after.cpu) shows serves told),
+      )
 
   this_part : IsPart t w run m cpus k c
   this_part = record { shows = shows; is_part = is_part; tied = (tied k c is_part).tied }

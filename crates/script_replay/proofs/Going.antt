@@ -13,6 +13,7 @@ use Rattle.group_charge.specs.Charges.{AreCharges}
 use Rattle.cpu_part.specs.Cpus.{KnownCpu, IsTied}
 use Rattle.step_rules.specs.After.{Run}
 use Rattle.mem_machine.specs.Machines.{IsConsistent}
+use Rattle.mem_machine.specs.Telling.{TellsRun}
 use Rattle.mem_history.specs.Whole.{ShowsAll}
 use Rattle.mem_history.specs.Kept.{AreTied, IsTiedPart}
 use Rattle.mem_history.proofs.Wholes.{set_here, set_else}
@@ -125,15 +126,21 @@ goes_end t w is_explained s e lines i text items past all is =
 some_cpu : (t : KnownTable) (w : Words) (locked : KnownLocked) → IsQuiet t w locked → 1 ≤ t.cpus
 some_cpu t w locked quiet = let sized = quiet.sized.cpus in let low = quiet.valid.cpus_low in omega arith
 
+-- a run shows what stands, and its ledger tells it where the one before told the run before
+abbrev Follows : KnownTable → Run → Standing → Run → Standing → Type 0
+Follows t earlier s run e = ShowsAll t run e.locked.machine e.cpus × (TellsRun t earlier s.locked.machine.ledger → TellsRun t run e.locked.machine.ledger)
+
 line_follows : (t : KnownTable) (w : Words) (is_explained : Bool) (run : Run) (s e : Standing) (line : Line) (text : List ℕ) → ShowsAll t run s.locked.machine s.cpus →
     AreTied t w s.cpus → (goes : GoesWell t w is_explained s line text e) → LineIsDecided t is_explained s line text e goes.serves →
-    ShowsAll t (run ++ line_steps t is_explained s line text e goes.serves) e.locked.machine e.cpus
+    Follows t run s (run ++ line_steps t is_explained s line text e goes.serves) e
 line_follows t w is_explained run s e Go text shows tied goes decided =
-    subst (λ (r : Run). ShowsAll t r e.locked.machine e.cpus) (sym (append-nil run))
-    (subst (λ (x : Standing). ShowsAll t run x.locked.machine x.cpus) (sym goes.serves.1) shows)
+    subst (λ (r : Run). Follows t run s r e) (sym (append-nil run))
+    (subst (λ (x : Standing). Follows t run s run x) (sym goes.serves.1) (shows, λ told. told))
 line_follows t w is_explained run s e (At number processor command) text shows tied goes decided =
     let is : AtPart processor (λ one other. AnswersText t is_explained command one text other) s e = goes.serves in
-    subst (λ (cpus : List KnownCpu). ShowsAll t (run ++ line_steps t is_explained s (At number processor command) text e goes.serves) e.locked.machine cpus) (sym is.cpus)
+    subst (λ (cpus : List KnownCpu). ShowsAll t (run ++ line_steps t is_explained s (At number processor command) text e goes.serves) e.locked.machine cpus
+    × (TellsRun t run s.locked.machine.ledger
+    → TellsRun t (run ++ line_steps t is_explained s (At number processor command) text e goes.serves) e.locked.machine.ledger)) (sym is.cpus)
     (work_follows t w run s.locked s.cpus (processor - 1) is.part shows is.is_part tied is_explained (work_of command) text (holder e.locked is.left)
     (work_in_range t.frames command goes.there.names) is.answers goes.stands.quiet.shut decided)
 
@@ -144,7 +151,7 @@ goes_history t w is_explained decided run s e (line ∷ lines) text shows tied a
     let goes = all.3 in
     let mid = all.2 in
     let next : Run = run ++ line_steps t is_explained s line all.0 mid goes.serves in
-    let follows : decided → LineIsDecided t is_explained s line all.0 mid goes.serves → ShowsAll t next mid.locked.machine mid.cpus =
+    let follows : decided → LineIsDecided t is_explained s line all.0 mid goes.serves → Follows t run s next mid =
     λ so_far here. line_follows t w is_explained run s mid line all.0 (shows so_far) tied goes here in
     let tied_then : AreTied t w mid.cpus = goes.stands.tied tied in (
       all.0,
@@ -152,11 +159,12 @@ goes_history t w is_explained decided run s e (line ∷ lines) text shows tied a
       mid,
       goes.serves,
       λ so_far here. record {
-        legal = (follows so_far here).legal;
-        promise = the_whole_is_promised t w next mid.locked.machine mid.cpus (follows so_far here) goes.stands.consistent goes.stands.charges tied_then
+        legal = (follows so_far here).0.legal;
+        tells = (follows so_far here).1;
+        promise = the_whole_is_promised t w next mid.locked.machine mid.cpus (follows so_far here).0 goes.stands.consistent goes.stands.charges tied_then
             (some_cpu t w mid.locked goes.stands.quiet);
       },
-      goes_history t w is_explained (decided × LineIsDecided t is_explained s line all.0 mid goes.serves) next mid e lines all.1 (λ both. follows both.0 both.1) tied_then all.4,
+      goes_history t w is_explained (decided × LineIsDecided t is_explained s line all.0 mid goes.serves) next mid e lines all.1 (λ both. (follows both.0 both.1).0) tied_then all.4,
       all.5,
     )
 

@@ -14,6 +14,7 @@ use Rattle.step_rules.specs.After.{Run, IsLegalRun}
 use Rattle.step_rules.specs.Promise.{Promise}
 use Rattle.mem_machine.specs.Machines.{IsConsistent}
 use Rattle.mem_machine.specs.Interleaving.{zone_of}
+use Rattle.mem_machine.specs.Telling.{TellsRun}
 use Rattle.mem_machine.specs.Steps.{cpu_makes}
 use Rattle.mem_history.specs.Whole.{AreDecided, ShowsAll, under_lock}
 use Rattle.mem_history.specs.Kept.{AreTied, shown_of}
@@ -113,20 +114,22 @@ LineIsDecided t is_explained before (At number processor command) text after is 
     (line_steps t is_explained before (At number processor command) text after is)
 
 -- ---- the history
--- the run is legal, and the promise holds after it of what stands then
-pub record HoldsPromise (t : KnownTable) (run : Run) (now : Standing) : Type 0 where
+-- the run is legal, and the promise holds after it of what stands then; and where the ledger told the run before, each
+-- group's peak and event counts, it tells this one
+pub record HoldsPromise (t : KnownTable) (earlier : Run) (before : Standing) (run : Run) (now : Standing) : Type 0 where
   pub legal : IsLegalRun (zone_of t) run
   pub promise : Promise (zone_of t) run (shown_of now.locked.machine now.cpus)
+  pub tells : TellsRun t earlier before.locked.machine.ledger → TellsRun t run now.locked.machine.ledger
 
 -- The lines are served one after the other, as `ServesAll` says. After each of them, where its answers and those of
 -- all lines before are what all parts together decided (`decided`, of those before), the run so far with the line's
--- steps is legal, and keeps the promise
+-- steps is legal, and keeps the promise; and the ledger goes on telling it
 abbrev pub TellsHistory : KnownTable → Bool → Type 0 → Run → Standing → List Line → List ℕ → Standing → Type 0
 TellsHistory t is_explained decided run s [] text e = (text ≡ []) × (e ≡ s)
 TellsHistory t is_explained decided run s (line ∷ lines) text e =
     (first : List ℕ) × (rest : List ℕ) × (mid : Standing) × (serves : ServesLine t is_explained s line first mid)
     × (decided → LineIsDecided t is_explained s line first mid serves
-    → HoldsPromise t (run ++ line_steps t is_explained s line first mid serves) mid)
+    → HoldsPromise t run s (run ++ line_steps t is_explained s line first mid serves) mid)
     × TellsHistory t is_explained (decided × LineIsDecided t is_explained s line first mid serves)
     (run ++ line_steps t is_explained s line first mid serves) mid lines rest e
     × (text ≡ first ++ rest)

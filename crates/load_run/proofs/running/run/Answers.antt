@@ -1,6 +1,7 @@
 use Rattle.std.proofs.Common.{ℕ, [], All, sym, subst, refl}
 use Rattle.script_replay.specs.Lines.{standing}
 use Rattle.script_replay.specs.Ranges.{LineIsThere}
+use Rattle.mem_history.proofs.Told.{a_boot_tells}
 use Rattle.load_run.specs.Ending.{end_text}
 use Rattle.load_run.proofs.Answering.{at_ok, sized_as, weakened}
 use Rattle.load_run.proofs.Starting.{boot_shown, parts_tied}
@@ -38,6 +39,7 @@ returns g c =
       history = replays.history [] (boot_shown c.args.boot.sizes t w c.in_ok-tables.locked.machine c.in_ok-tables.cpus.items sized
           c.in_ok-tables.ensures.machine first) (parts_tied c.args.boot.sizes t w c.in_ok-tables.locked.machine c.in_ok-tables.cpus.items sized
           c.in_ok-tables.ensures.machine first);
+      told = a_boot_tells t w c.in_ok-tables.locked.machine c.in_ok-tables.ensures.machine;
       ends = record { held = held; audit = audit; ends = ended.ends; text_is = refl };
       text_is = is;
     }) c.tell_end.ensures

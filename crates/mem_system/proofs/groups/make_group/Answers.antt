@@ -1,8 +1,9 @@
-use Rattle.std.proofs.Common.{[], ap, sym, refl}
+use Rattle.std.proofs.Common.{[], ap, sym, refl, subst}
 use Rattle.cpu_part.specs.Cpus.{KnownCpu}
 use Rattle.mem_machine.specs.Machines.{KnownMachine}
-use Rattle.mem_machine.specs.Local.{local_of}
+use Rattle.mem_machine.specs.Local.{MakesAs, side}
 use Rattle.mem_machine.specs.Steps.{make_steps}
+use Rattle.mem_machine.proofs.Followed.{makes_none}
 use Rattle.mem_system.proofs.groups.make_group.Goals as goal
 
 pub returns-in-Ok-clause-made : goal.returns-in-Ok-clause-made
@@ -16,7 +17,8 @@ pub returns-in-Err-clause-made : goal.returns-in-Err-clause-made
 returns-in-Err-clause-made g c = (
   [],
   (sym c.in-Err.ensures.refused, record { machine = c.in-Err.ensures.unchanged; steps_are = refl }),
-  λ (x : KnownCpu). ap (λ (k : KnownMachine). local_of g.N.BootName.frames k x) (sym c.in-Err.ensures.unchanged),
+  λ (x : KnownCpu). subst (λ (k : KnownMachine). MakesAs g.N.BootName.frames x.number (side c.args.machine.now x) [] (side k x)) (sym c.in-Err.ensures.unchanged)
+      (makes_none g.N.BootName.frames x.number (side c.args.machine.now x)),
 )
 
 pub returns-in-Err-clause-seat : goal.returns-in-Err-clause-seat
