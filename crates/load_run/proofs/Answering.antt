@@ -3,7 +3,6 @@ use Rattle.std.proofs.Common.{◌≡◌, ℕ, Bool, zero, suc, ◌+◌, refl, Li
 use Rattle.std.proofs.Common.{Some, IfSome, Result, Ok, Err, IfOk, IfErr, MatchResult, arith, ap, ◌∙◌, sym, subst}
 use Rattle.std.proofs.lemmas.List.{length-take, take_all}
 use Rattle.std.specs.Io.KnownBytes.{Appends}
-use Rattle.std.specs.Result.{IsErrAnd}
 use Rattle.frame_word.specs.Seats.{KnownTable}
 use Rattle.stock_word.specs.Stock.{Words}
 use Rattle.mem_system.specs.Boots.{IsSizedAs, first_cpus}
@@ -11,7 +10,7 @@ use Rattle.zone_sizes.specs.declared.config.Config.{Config}
 use Rattle.zone_sizes.specs.Config.{IsValidConfig}
 use Rattle.script_lines.specs.declared.line.Line.{Line}
 use Rattle.script_lines.specs.Script.{IsScript}
-use Rattle.load_run.specs.declared.settings.Settings.{Settings}
+use Rattle.load_options.specs.declared.settings.Settings.{Settings}
 use Rattle.load_run.specs.Answers.{AreAnswers, IsAnswered, IsReplayed}
 use Rattle.mem_history.specs.Whole.{ShowsAll}
 use Rattle.mem_history.specs.Kept.{AreTied}
@@ -37,13 +36,6 @@ answered asked (Some bytes) script settings lines text is_asked read is valid an
     let whole : take 1048577 bytes ≡ bytes = take_all 1048577 bytes (omega arith) in
     let is_script : IsScript settings.sizes bytes lines = subst (λ (all : List ℕ). IsScript settings.sizes all lines) (read ∙ whole) is in
     record { settings = settings; is_asked = is_asked; valid = valid; lines = lines; script = is_script; answers = answers }
-
--- what is well stays so where an error becomes another
-pub kept : {T D E : Type 0} (r : Result T E) (s : Result T D) (P : T → Type 0) (Q : E → D → Type 0)
-    → MatchResult r (λ x. s ≡ Ok x) (λ e. IsErrAnd s (Q e)) → IfOk r P → IfOk s P
-kept (Ok x) s P Q cases is = subst (λ t. IfOk t P) (sym cases) is
-kept (Err e) (Ok y) P Q cases is = absurd cases
-kept (Err e) (Err d) P Q cases is = tt
 
 -- so does what follows from it
 pub weakened : {T E : Type 0} (r : Result T E) (P Q : T → Type 0) → ((x : T) → P x → Q x) → IfOk r P → IfOk r Q

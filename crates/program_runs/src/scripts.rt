@@ -3,7 +3,7 @@
 use crate::rows::{Row, explained_rows, group_rows, kill_rows, processor_rows, reclaim_rows};
 use crate::streams::{PLAIN, broken, in_steps, is_refused, run, whole};
 use crate::visits::visit_all;
-use load_run::command_line::parse_words;
+use load_options::command_line::parse_words;
 use mem_system::boot;
 use script_lines::script::parse_script;
 use std::alloc::AllocError;

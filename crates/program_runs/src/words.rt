@@ -1,8 +1,8 @@
 //! The words of the command line.
 
-use load_run::command_line::{parse_run_words, parse_words};
-use load_run::fault::WordsFault;
-use load_run::settings::Settings;
+use load_options::command_line::{parse_run_words, parse_words};
+use load_options::fault::WordsFault;
+use load_options::settings::Settings;
 use std::test::Fail;
 use zone_sizes::config::Config;
 
