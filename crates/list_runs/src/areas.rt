@@ -2,26 +2,24 @@ ghost use Rattle.std.specs.Prelude.{◌≡◌};
 
 use crate::walks::{holds, order_of, walks, wholes};
 use std::process::Abort;
-use std::test::Fail;
 use zone_blocks::areas::FreeAreas;
 use zone_blocks::block::Block;
 use zone_blocks::laws;
 use zone_blocks::order::Order;
 
-// The lines that the README shows.
+// The calls that the README shows.
 #[test]
-fn areas_of_eleven_frames(rt: HostRuntime) -> Result<(), Fail> {
-    let mut areas = FreeAreas::new(rt.alloc(), 11)?;
+fn areas_of_eleven_frames(rt: HostRuntime) {
+    let mut areas = empty_areas(&rt, 11);
     areas.set_from(&[true; 11]);
-    let order = Order::of(1).ok_or("order 1")?;
-    assert!(rt; areas.first(order) == Some(Block { at: 8, order }));
+    let order = order_of(&rt, 1);
+    holds(&rt, areas.first(order) == Some(Block { at: 8, order }));
     if areas.contains(Block { at: 8, order }) {
         areas.remove(Block { at: 8, order });
     }
-    assert!(rt; !areas.contains(Block { at: 8, order }));
-    let rest = Order::of(3).ok_or("order 3")?;
-    assert!(rt; areas.smallest_from(order) == Some(Block { at: 0, order: rest }));
-    Ok(())
+    holds(&rt, !areas.contains(Block { at: 8, order }));
+    let rest = block(&rt, 0, 3);
+    holds(&rt, areas.smallest_from(order) == Some(rest));
 }
 
 #[test]

@@ -1,26 +1,24 @@
-use crate::walks::{order_of, walks, wholes};
+use crate::walks::{holds, order_of, walks, wholes};
 use rand_core::{Rng, SeedableRng};
 use rand_pcg::Pcg32;
 use std::process::Abort;
-use std::test::Fail;
 use zone_blocks::areas::FreeAreas;
 use zone_blocks::block::Block;
 use zone_blocks::order::Order;
 use zone_buddy::buddy::Buddy;
 
-// The lines that the README shows.
+// The calls that the README shows.
 #[test]
-fn a_block_is_taken_and_given_back(rt: HostRuntime) -> Result<(), Fail> {
-    let mut zone = Buddy::new(rt.alloc(), 16)?;
-    let order = Order::of(2).ok_or("order 2")?;
-    assert!(rt; zone.take(order) == Some(Block { at: 0, order }));
+fn a_block_is_taken_and_given_back(rt: HostRuntime) {
+    let mut zone = zone_of(&rt, 16);
+    let order = order_of(&rt, 2);
+    holds(&rt, zone.take(order) == Some(Block { at: 0, order }));
     if zone.is_in_use(Block { at: 0, order }) {
         zone.give(Block { at: 0, order });
     }
     for block in zone.blocks() {
-        assert!(rt; block.order.frames() == 16);
+        holds(&rt, block.order.frames() == 16);
     }
-    Ok(())
 }
 
 // Takes a block of this order, which has to begin at this frame, or there has to be none.
