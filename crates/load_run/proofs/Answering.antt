@@ -1,8 +1,11 @@
 -- What a script is answered, from what was read of it.
-use Rattle.std.proofs.Common.{◌≡◌, ℕ, Bool, zero, suc, ◌+◌, refl, List, length, take, Option, None}
+use Rattle.std.proofs.Common.{◌≡◌, ℕ, All, Bool, zero, suc, ◌+◌, refl, List, length, take, Option, None}
 use Rattle.std.proofs.Common.{Some, IfSome, Result, Ok, Err, IfOk, IfErr, MatchResult, arith, ap, ◌∙◌, sym, subst}
 use Rattle.std.proofs.lemmas.List.{length-take, take_all}
+use Rattle.std.proofs.lemmas.Bool.{false≢true}
 use Rattle.std.specs.Io.KnownBytes.{Appends}
+use Rattle.std.specs.Prelude.{is_some}
+use Rattle.std.specs.Result.{result_ok}
 use Rattle.frame_word.specs.Seats.{KnownTable}
 use Rattle.stock_word.specs.Stock.{Words}
 use Rattle.mem_system.specs.Boots.{IsSizedAs, first_cpus}
@@ -17,6 +20,8 @@ use Rattle.mem_history.specs.Kept.{AreTied}
 use Rattle.step_rules.specs.After.{Run}
 use Rattle.script_replay.specs.History.{Replays, TellsHistory}
 use Rattle.script_replay.specs.Lines.{ServesAll, Standing, StopsAt}
+use Rattle.script_replay.specs.Ranges.{LineIsThere}
+use Rattle.script_replay.proofs.InRange.{script_there}
 
 -- the answers were written behind what the writer held, where the script is known
 pub replayed : (asked : Option Settings) (input before after : Option (List ℕ)) (text : List ℕ) → IfSome input (λ bytes. IsAnswered asked bytes text)
@@ -70,3 +75,15 @@ first_long t w p (suc n) = ap (λ (k : ℕ). suc k) (first_long t w (p + 1) n)
 -- the tables under their names have the sizes
 pub sized_as : (sizes : Config) (f t : KnownTable) (s w : Words) → IsSizedAs sizes f s → (f ≡ t) × (s ≡ w) → IsSizedAs sizes t w
 sized_as sizes f t s w sized names = subst (λ (b : KnownTable × Words). IsSizedAs sizes b.0 b.1) (λ i. (names.0 i, names.1 i)) sized
+
+-- what the lines of a script name is there, in a boot of the script's sizes
+pub script_of_boot : (sizes booted : Config) (bytes : List ℕ) (parsed lines : List Line) → booted ≡ sizes → lines ≡ parsed
+    → IsScript sizes bytes parsed → All (LineIsThere booted.frames booted.cpus) lines
+script_of_boot sizes booted bytes parsed lines same is_parsed is =
+    let there = script_there sizes bytes parsed is in
+    subst (λ (b : Config × List Line). All (LineIsThere b.0.frames b.0.cpus) b.1) (λ i. (sym same i, sym is_parsed i)) there
+
+-- what holds of a good result holds of what was kept of it
+pub kept_ok : {T E : Type 0} (r : Result T E) (x : T) (P : T → Type 0) → Some x ≡ result_ok r → IfOk r P → P x
+kept_ok (Ok y) x P same ok = let is : x ≡ y = cc in subst P (sym is) ok
+kept_ok (Err e) x P same ok = absurd (false≢true (sym (ap is_some same)))
