@@ -1,5 +1,6 @@
 //! A boot of 16 frames and two processors starts, and a group is made, read, limited and taken out by visits.
 ghost use Rattle.std.specs.Prelude.{◌≡◌, ◌<◌, length};
+ghost use Rattle.mem_system.specs.Commands.{IsOfZone};
 
 use cpu_part::{BootName, Cpu};
 use group_tree::fault::Fault;
@@ -10,7 +11,6 @@ use std::marker::Brand;
 use std::process::Abort;
 use std::sync::Wait;
 use std::sync::atomic::{AtomicU32, Ordering};
-use std::test::Fail;
 use zone_sizes::config::Config;
 
 /// 16 frames and two processors.
@@ -38,6 +38,38 @@ impl Gate for Counter {
     fn after(&self, _cpu: u32, _line: usize) {}
 }
 
+/// It is so, or the test ends here. A call is proved at less cost than the macro in its place.
+pub fn holds(rt: &impl Abort, is: bool) {
+    assert!(rt; is);
+}
+
+/// What the processor is answered in a visit. What `System::visit` says of it is left out: whoever takes the reply alone
+/// needn't pay for its clauses.
+pub fn visit<N: BootName, R: Wait>(
+    rt: &R,
+    system: &System<N>,
+    cpu: &mut Cpu<N>,
+    cmd: &Cmd<'_>,
+) -> Reply
+    requires { IsOfZone N.frames cmd.now }
+{
+    system.visit(rt, cpu, cmd)
+}
+
+/// The processor is answered so in a visit.
+pub fn answers<N: BootName, R: Wait + Abort>(
+    rt: &R,
+    system: &System<N>,
+    cpu: &mut Cpu<N>,
+    cmd: &Cmd<'_>,
+    reply: &Reply,
+)
+    requires { IsOfZone N.frames cmd.now }
+{
+    let told = visit(rt, system, cpu, cmd);
+    holds(rt, told == *reply);
+}
+
 /// The file of `/a` reads as this text.
 pub fn reads<N: BootName, R: Wait + Abort>(
     rt: &R,
@@ -47,8 +79,8 @@ pub fn reads<N: BootName, R: Wait + Abort>(
     text: &[u8],
 ) {
     let path: &[u8] = b"/a";
-    match system.visit(rt, cpu, &Cmd::Read { path, file }) {
-        Reply::Text(found) => assert!(rt; found.as_bytes() == text),
+    match visit(rt, system, cpu, &Cmd::Read { path, file }) {
+        Reply::Text(found) => holds(rt, found.as_bytes() == text),
         _ => panic!(rt; "no text"),
     }
 }
@@ -59,11 +91,24 @@ fn makes_and_reads<N: BootName, R: Wait + Abort>(rt: &R, system: &System<N>, cpu
     let file: &[u8] = b"memory.max";
     let value: &[u8] = b"8K";
     let group = GroupId::of(1).expect(rt, "a group");
-    assert!(rt; system.visit(rt, cpu, &Cmd::Mkdir { path }) == Reply::Group(group));
-    assert!(rt; system.visit(rt, cpu, &Cmd::Mkdir { path }) == Reply::Refused(Fault::Exists));
+    let exists = Reply::Refused(Fault::Exists);
+    answers(
+        rt,
+        system,
+        cpu,
+        &Cmd::Mkdir { path },
+        &Reply::Group(group),
+    );
+    answers(rt, system, cpu, &Cmd::Mkdir { path }, &exists);
     reads(rt, system, cpu, b"memory.max", b"max\n");
-    assert!(rt; system.visit(rt, cpu, &Cmd::Write { path, file, value }) == Reply::Done);
+    let write = Cmd::Write { path, file, value };
+    answers(rt, system, cpu, &write, &Reply::Done);
     reads(rt, system, cpu, b"memory.max", b"8192\n");
+    reads_nothing(rt, system, cpu);
+}
+
+// Nothing was charged to the group.
+fn reads_nothing<N: BootName, R: Wait + Abort>(rt: &R, system: &System<N>, cpu: &mut Cpu<N>) {
     reads(rt, system, cpu, b"memory.current", b"0\n");
     reads(rt, system, cpu, b"memory.peak", b"0\n");
     let events = b"low 0\nhigh 0\nmax 0\noom 0\noom_kill 0\n";
@@ -79,33 +124,38 @@ fn tells<N: BootName, R: Wait + Abort>(
     cpu: &mut Cpu<N>,
 ) {
     let shown = system.show(rt, alloc, cpu).expect(rt, "memory");
-    assert!(rt; shown.as_str() == "0-15 free\ncurrent /a 0\n");
+    holds(rt, shown.as_str() == "0-15 free\ncurrent /a 0\n");
     let blocks = system.blocks(rt, alloc, cpu).expect(rt, "memory");
-    assert!(rt; blocks.as_str() == "4:0\n");
+    holds(rt, blocks.as_str() == "4:0\n");
 }
 
 // Processor 2 finds the group and takes it out.
 fn takes_out<N: BootName, R: Wait + Abort>(rt: &R, system: &System<N>, cpu: &mut Cpu<N>) {
     let path: &[u8] = b"/a";
-    assert!(rt; system.find(rt, path) == GroupId::of(1));
-    assert!(rt; system.visit(rt, cpu, &Cmd::Rmdir { path }) == Reply::Done);
-    assert!(rt; system.visit(rt, cpu, &Cmd::Rmdir { path }) == Reply::Refused(Fault::NoGroup));
+    holds(rt, system.find(rt, path) == GroupId::of(1));
+    let no_group = Reply::Refused(Fault::NoGroup);
+    answers(rt, system, cpu, &Cmd::Rmdir { path }, &Reply::Done);
+    answers(rt, system, cpu, &Cmd::Rmdir { path }, &no_group);
     let root: &[u8] = b"/";
-    assert!(rt;
-        system.visit(rt, cpu, &Cmd::Rmdir { path: root }) == Reply::Refused(Fault::BadName)
-    );
+    let bad_name = Reply::Refused(Fault::BadName);
+    answers(rt, system, cpu, &Cmd::Rmdir { path: root }, &bad_name);
+    keeps_none(rt, system, cpu);
+}
+
+// Frame 3 is free, and no unit.
+fn keeps_none<N: BootName, R: Wait + Abort>(rt: &R, system: &System<N>, cpu: &mut Cpu<N>) {
     let frame = system
         .tables()
         .frames
         .frame(3)
         .expect(rt, "a frame")
         .number();
-    assert!(rt; system.visit(rt, cpu, &Cmd::Owner { frame }) == Reply::Free);
+    answers(rt, system, cpu, &Cmd::Owner { frame }, &Reply::Free);
     let refused = Reply::Refused(Fault::NotKept);
-    assert!(rt; system.visit(rt, cpu, &Cmd::Touch { frame }) == refused);
-    assert!(rt; system.visit(rt, cpu, &Cmd::Dirty { frame }) == refused);
-    assert!(rt; system.visit(rt, cpu, &Cmd::Clean { frame }) == refused);
-    assert!(rt; system.visit(rt, cpu, &Cmd::Release { frame }) == refused);
+    answers(rt, system, cpu, &Cmd::Touch { frame }, &refused);
+    answers(rt, system, cpu, &Cmd::Dirty { frame }, &refused);
+    answers(rt, system, cpu, &Cmd::Clean { frame }, &refused);
+    answers(rt, system, cpu, &Cmd::Release { frame }, &refused);
 }
 
 // Processor 2 is visited by a gate that it passes, and is answered in place of an older reply.
@@ -113,13 +163,24 @@ fn passes_the_gate<N: BootName, R: Wait + Abort>(rt: &R, system: &System<N>, cpu
     let gate = Counter {
         inside: AtomicU32::new(0),
     };
-    assert!(rt; system.visit_with(rt, cpu, &Cmd::Settle, &gate) == Reply::Done);
-    assert!(rt; gate.inside.load(Ordering::SeqCst) == 2);
+    let told = system.visit_with(rt, cpu, &Cmd::Settle, &gate);
+    holds(rt, told == Reply::Done);
+    holds(rt, gate.inside.load(Ordering::SeqCst) == 2);
+    is_answered_in_place(rt, system, cpu, &gate);
+    holds(rt, gate.inside.load(Ordering::SeqCst) == 4);
+}
+
+// The reply to the processor takes the place of an older one.
+fn is_answered_in_place<N: BootName, R: Wait + Abort>(
+    rt: &R,
+    system: &System<N>,
+    cpu: &mut Cpu<N>,
+    gate: &Counter,
+) {
     let mut reply = Reply::Free;
     let path: &[u8] = b"/a";
-    system.visit_into(rt, cpu, &Cmd::Rmdir { path }, &gate, &mut reply);
-    assert!(rt; reply == Reply::Refused(Fault::NoGroup));
-    assert!(rt; gate.inside.load(Ordering::SeqCst) == 4);
+    system.visit_into(rt, cpu, &Cmd::Rmdir { path }, gate, &mut reply);
+    holds(rt, reply == Reply::Refused(Fault::NoGroup));
 }
 
 /// Shuts the system down, which no processor has a pin in.
@@ -150,31 +211,39 @@ fn lives<N: BootName, R: Wait + Abort>(rt: &R, alloc: Global, boot: Boot)
     requires { (boot.frames ≡ N.frames) × (boot.stocks ≡ N.stocks) }
 {
     let (system, mut cpus) = boot.start::<N>(alloc).expect(rt, "memory");
-    assert!(rt; cpus.len() == 2);
+    holds(rt, cpus.len() == 2);
     let root: &[u8] = b"/";
-    assert!(rt; system.find(rt, root) == Some(GroupId::root()));
+    holds(rt, system.find(rt, root) == Some(GroupId::root()));
+    visits(rt, alloc, &system, &mut cpus);
+    holds(rt, ends(rt, system, cpus) == nothing_was_charged());
+}
+
+// What each of the two processors does.
+fn visits<N: BootName, R: Wait + Abort>(
+    rt: &R,
+    alloc: Global,
+    system: &System<N>,
+    cpus: &mut [Cpu<N>],
+) {
     for (at, cpu) in cpus.iter_mut().enumerate() {
         if at == 0 {
-            makes_and_reads(rt, &system, cpu);
-            tells(rt, alloc, &system, cpu);
+            makes_and_reads(rt, system, cpu);
+            tells(rt, alloc, system, cpu);
         } else {
-            takes_out(rt, &system, cpu);
-            passes_the_gate(rt, &system, cpu);
+            takes_out(rt, system, cpu);
+            passes_the_gate(rt, system, cpu);
         }
     }
-    assert!(rt; ends(rt, system, cpus) == nothing_was_charged());
 }
 
 #[test]
-fn a_group_is_made_and_read(rt: HostRuntime) -> Result<(), Fail> {
+fn a_group_is_made_and_read(rt: HostRuntime) {
     let boot = boot(rt.alloc(), SIZES).expect(&rt, "a boot");
     lives::<Brand, _>(&rt, rt.alloc(), boot);
-    Ok(())
 }
 
 #[test]
-fn bad_sizes_are_refused(rt: HostRuntime) -> Result<(), Fail> {
+fn bad_sizes_are_refused(rt: HostRuntime) {
     let sizes = Config { cpus: 17, ..SIZES };
-    assert!(&rt; boot(rt.alloc(), sizes).is_err());
-    Ok(())
+    holds(&rt, boot(rt.alloc(), sizes).is_err());
 }

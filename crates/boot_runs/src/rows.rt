@@ -1,15 +1,15 @@
 //! Allocations of one processor for the group `/a`: what they answer, and what is charged then.
-ghost use Rattle.std.specs.Prelude.{◌≡◌};
+ghost use Rattle.std.specs.Prelude.{◌≡◌, ◌<◌};
 
-use crate::life::reads;
+use crate::life::{answers, ends, holds, reads, visit};
 use cpu_part::{BootName, Cpu};
+use frame_word::Frame;
 use group_tree::fault::Fault;
 use mem_system::{Boot, Cmd, Reply, System, boot};
 use std::alloc::Global;
 use std::marker::Brand;
 use std::process::Abort;
 use std::sync::Wait;
-use std::test::Fail;
 use zone_sizes::config::Config;
 
 // What an allocation answers.
@@ -132,27 +132,37 @@ fn is_told(reply: &Reply, told: &Told) -> bool {
     }
 }
 
+/// The frame of this number.
+pub fn frame<N: BootName>(rt: &impl Abort, system: &System<N>, number: u32) -> Frame
+    ensures { result < N.frames.frames }
+{
+    system.tables().frames.frame(number).expect(rt, "a frame")
+}
+
 // The processor asks for one thing.
 fn asks<N: BootName, R: Wait + Abort>(rt: &R, system: &System<N>, cpu: &mut Cpu<N>, line: &Line) {
     let path: &[u8] = b"/a";
     match line {
         Line::Alloc(order, told) => {
             let order = *order;
-            let reply = system.visit(rt, cpu, &Cmd::Alloc { path, order });
-            assert!(rt; is_told(&reply, told));
+            let reply = visit(rt, system, cpu, &Cmd::Alloc { path, order });
+            holds(rt, is_told(&reply, told));
         }
         Line::Dirty(number) => {
-            let frame = system.tables().frames.frame(*number);
-            let frame = frame.expect(rt, "a frame").number();
-            assert!(rt; system.visit(rt, cpu, &Cmd::Dirty { frame }) == Reply::Done);
+            let frame = frame(rt, system, *number).number();
+            answers(rt, system, cpu, &Cmd::Dirty { frame }, &Reply::Done);
         }
         Line::Release(number) => {
-            let frame = system.tables().frames.frame(*number);
-            let frame = frame.expect(rt, "a frame").number();
-            let reply = system.visit(rt, cpu, &Cmd::Release { frame });
-            assert!(rt; reply == Reply::Returned);
+            let frame = frame(rt, system, *number).number();
+            answers(
+                rt,
+                system,
+                cpu,
+                &Cmd::Release { frame },
+                &Reply::Returned,
+            );
         }
-        Line::Settle => assert!(rt; system.visit(rt, cpu, &Cmd::Settle) == Reply::Done),
+        Line::Settle => answers(rt, system, cpu, &Cmd::Settle, &Reply::Done),
     }
 }
 
@@ -161,8 +171,9 @@ fn plays<N: BootName, R: Wait + Abort>(rt: &R, system: &System<N>, cpu: &mut Cpu
     let path: &[u8] = b"/a";
     let file: &[u8] = b"memory.max";
     let value = row.limit;
-    let _made = system.visit(rt, cpu, &Cmd::Mkdir { path });
-    assert!(rt; system.visit(rt, cpu, &Cmd::Write { path, file, value }) == Reply::Done);
+    let _made = visit(rt, system, cpu, &Cmd::Mkdir { path });
+    let write = Cmd::Write { path, file, value };
+    answers(rt, system, cpu, &write, &Reply::Done);
     for line in &row.lines {
         asks(rt, system, cpu, line);
     }
@@ -180,14 +191,12 @@ fn lives<N: BootName, R: Wait + Abort>(rt: &R, alloc: Global, boot: Boot, row: &
         plays(rt, &system, cpu, row);
     }
     assert!(rt; cpus.len() == system.tables().frames.cpus() as usize);
-    match system.shutdown(cpus) {
-        Ok(audit) => assert!(rt; audit.frames == row.frames),
-        Err(_) => panic!(rt; "a pin"),
-    }
+    let audit = ends(rt, system, cpus);
+    holds(rt, audit.frames == row.frames);
 }
 
 #[test]
-fn allocations_answer_as_the_rows_say(rt: HostRuntime) -> Result<(), Fail> {
+fn allocations_answer_as_the_rows_say(rt: HostRuntime) {
     for row in &ROWS {
         let sizes = Config {
             frames: row.frames,
@@ -199,5 +208,4 @@ fn allocations_answer_as_the_rows_say(rt: HostRuntime) -> Result<(), Fail> {
         let boot = boot(rt.alloc(), sizes).expect(&rt, "a boot");
         lives::<Brand, _>(&rt, rt.alloc(), boot, row);
     }
-    Ok(())
 }

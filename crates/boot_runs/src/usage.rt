@@ -1,17 +1,16 @@
 //! Usage of the group `/a` brought down by Rmdir and by a write of memory.max: which units come back, and which stay.
 ghost use Rattle.std.specs.Prelude.{◌≡◌, ◌<◌};
-ghost use Rattle.mem_system.specs.Commands.{IsOfZone};
 
-use crate::life::reads;
+use crate::life::{ends as shut, holds, reads, visit};
+use crate::rows::frame;
 use cpu_part::{BootName, Cpu};
-use frame_word::{Frame, Get};
+use frame_word::Get;
 use group_tree::fault::Fault;
 use mem_system::{Boot, Cmd, Reply, System, boot};
 use std::alloc::Global;
 use std::marker::Brand;
 use std::process::Abort;
 use std::sync::Wait;
-use std::test::Fail;
 use zone_sizes::config::Config;
 
 // What the processor does: an allocation of an order is answered with a frame, and a group is taken out or is busy.
@@ -154,30 +153,11 @@ const ROWS: [Row; 9] = [
     },
 ];
 
-// The frame of this number.
-fn frame<N: BootName>(rt: &impl Abort, system: &System<N>, number: u32) -> Frame
-    ensures { result < N.frames.frames }
-{
-    system.tables().frames.frame(number).expect(rt, "a frame")
-}
-
 // The processor puts its pin of the frame.
 fn puts<N: BootName>(rt: &impl Abort, system: &System<N>, cpu: &mut Cpu<N>, number: u32) {
     let pinned = frame(rt, system, number);
     assert!(rt; cpu.holds(pinned));
     let _ = cpu.put(system.tables(), pinned);
-}
-
-// What the processor is answered in a visit.
-fn visit<N: BootName, R: Wait + Abort>(
-    rt: &R,
-    system: &System<N>,
-    cpu: &mut Cpu<N>,
-    cmd: &Cmd<'_>,
-) -> Reply
-    requires { IsOfZone N.frames cmd.now }
-{
-    system.visit(rt, cpu, cmd)
 }
 
 // What the processor is answered to the line.
@@ -211,7 +191,7 @@ fn answer<N: BootName, R: Wait + Abort>(
 fn does<N: BootName, R: Wait + Abort>(rt: &R, system: &System<N>, cpu: &mut Cpu<N>, line: &Line) {
     if let Line::Pin(number) = line {
         let pinned = frame(rt, system, *number);
-        assert!(rt; cpu.get(system.tables(), pinned) == Ok(Get::Held));
+        holds(rt, cpu.get(system.tables(), pinned) == Ok(Get::Held));
     }
     if let Line::Unpin(number) = line {
         puts(rt, system, cpu, *number);
@@ -221,7 +201,7 @@ fn does<N: BootName, R: Wait + Abort>(rt: &R, system: &System<N>, cpu: &mut Cpu<
         Line::Busy => Reply::Refused(Fault::Busy),
         _ => Reply::Done,
     };
-    assert!(rt; answer(rt, system, cpu, line) == told);
+    holds(rt, answer(rt, system, cpu, line) == told);
 }
 
 // The letter of the place where the frame is.
@@ -253,12 +233,12 @@ fn ends<N: BootName, R: Wait + Abort>(rt: &R, system: &System<N>, cpu: &mut Cpu<
     let path: &[u8] = b"/a";
     match row.current {
         Some(current) => reads(rt, system, cpu, b"memory.current", current),
-        None => assert!(rt; system.find(rt, path) == None),
+        None => holds(rt, system.find(rt, path) == None),
     }
     let mut number = 0;
     for letter in row.places {
         assert!(rt; number < 8);
-        assert!(rt; place(rt, system, cpu, number) == *letter);
+        holds(rt, place(rt, system, cpu, number) == *letter);
         number += 1;
     }
 }
@@ -273,14 +253,12 @@ fn lives<N: BootName, R: Wait + Abort>(rt: &R, alloc: Global, boot: Boot, row: &
         ends(rt, &system, cpu, row);
     }
     assert!(rt; cpus.len() == system.tables().frames.cpus() as usize);
-    match system.shutdown(cpus) {
-        Ok(audit) => assert!(rt; audit.frames == 16),
-        Err(_) => panic!(rt; "a pin"),
-    }
+    let audit = shut(rt, system, cpus);
+    holds(rt, audit.frames == 16);
 }
 
 #[test]
-fn usage_comes_down_as_the_rows_say(rt: HostRuntime) -> Result<(), Fail> {
+fn usage_comes_down_as_the_rows_say(rt: HostRuntime) {
     for row in &ROWS {
         let sizes = Config {
             frames: 16,
@@ -292,5 +270,4 @@ fn usage_comes_down_as_the_rows_say(rt: HostRuntime) -> Result<(), Fail> {
         let boot = boot(rt.alloc(), sizes).expect(&rt, "a boot");
         lives::<Brand, _>(&rt, rt.alloc(), boot, row);
     }
-    Ok(())
 }

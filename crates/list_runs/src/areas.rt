@@ -1,54 +1,58 @@
-use crate::walks::{holds, walks, wholes};
+ghost use Rattle.std.specs.Prelude.{◌≡◌};
+
+use crate::walks::{holds, order_of, walks, wholes};
 use std::process::Abort;
-use std::test::Fail;
 use zone_blocks::areas::FreeAreas;
 use zone_blocks::block::Block;
 use zone_blocks::laws;
 use zone_blocks::order::Order;
 
-// The lines that the README shows.
+// The calls that the README shows.
 #[test]
-fn areas_of_eleven_frames(rt: HostRuntime) -> Result<(), Fail> {
-    let mut areas = FreeAreas::new(rt.alloc(), 11)?;
+fn areas_of_eleven_frames(rt: HostRuntime) {
+    let mut areas = empty_areas(&rt, 11);
     areas.set_from(&[true; 11]);
-    let order = Order::of(1).ok_or("order 1")?;
-    assert!(rt; areas.first(order) == Some(Block { at: 8, order }));
+    let order = order_of(&rt, 1);
+    holds(&rt, areas.first(order) == Some(Block { at: 8, order }));
     if areas.contains(Block { at: 8, order }) {
         areas.remove(Block { at: 8, order });
     }
-    assert!(rt; !areas.contains(Block { at: 8, order }));
-    let rest = Order::of(3).ok_or("order 3")?;
-    assert!(rt; areas.smallest_from(order) == Some(Block { at: 0, order: rest }));
-    Ok(())
+    holds(&rt, !areas.contains(Block { at: 8, order }));
+    let rest = block(&rt, 0, 3);
+    holds(&rt, areas.smallest_from(order) == Some(rest));
 }
 
 #[test]
-fn orders_end_at_ten(rt: HostRuntime) -> Result<(), Fail> {
-    let greatest = Order::of(10).ok_or("order 10")?;
-    assert!(rt; greatest.exponent() == 10 && greatest.frames() == 1024);
-    assert!(rt; Order::of(11).is_none());
-    Ok(())
+fn orders_end_at_ten(rt: HostRuntime) {
+    let greatest = order_of(&rt, 10);
+    holds(&rt, greatest.exponent() == 10 && greatest.frames() == 1024);
+    holds(&rt, Order::of(11).is_none());
+}
+
+// The empty areas of a zone of so many frames.
+fn empty_areas(rt: &(impl Abort + AllocGlobal), frames: u32) -> FreeAreas
+    ensures { result.frames ≡ frames }
+{
+    FreeAreas::new(rt.alloc(), frames).expect(rt, "memory")
 }
 
 #[test]
-fn eleven_free_frames(rt: HostRuntime) -> Result<(), Fail> {
-    let mut areas = FreeAreas::new(rt.alloc(), 11)?;
+fn eleven_free_frames(rt: HostRuntime) {
+    let mut areas = empty_areas(&rt, 11);
     walks(&rt, areas.walk(), &[]);
     areas.set_from(&[true; 11]);
     walks(&rt, areas.walk(), &[(0, 10), (1, 8), (3, 0)]);
-    Ok(())
 }
 
 #[test]
-fn sixteen_frames_with_five_in_use(rt: HostRuntime) -> Result<(), Fail> {
+fn sixteen_frames_with_five_in_use(rt: HostRuntime) {
     let mut free = [true; 16];
     for used in [0, 4, 5, 6, 7] {
         free[used] = false;
     }
-    let mut areas = FreeAreas::new(rt.alloc(), 16)?;
+    let mut areas = empty_areas(&rt, 16);
     areas.set_from(&free);
     walks(&rt, areas.walk(), &[(0, 1), (1, 2), (3, 8)]);
-    Ok(())
 }
 
 // What is done with free areas, and what they have to answer: a block by its first frame and the exponent of its order.
@@ -66,32 +70,37 @@ enum Row {
 
 // The block of this exponent at this frame.
 fn block(rt: &impl Abort, at: u32, exponent: u32) -> Block {
-    let order = Order::of(exponent).expect(rt, "an order");
+    let order = order_of(rt, exponent);
     Block { at, order }
+}
+
+// Puts in a block, which has to be one that may be.
+fn put_in(rt: &impl Abort, areas: &mut FreeAreas, block: Block) {
+    assert!(rt; block.is_block_of(areas.frames()) && !areas.overlaps(block));
+    areas.insert(block);
+}
+
+// Takes out a block, which has to be there.
+fn take_out(rt: &impl Abort, areas: &mut FreeAreas, block: Block) {
+    let taken = block;
+    assert!(rt; areas.contains(block));
+    areas.remove(taken);
 }
 
 // Makes a row; a block that is put in or taken out has to be one that may.
 fn play(rt: &impl Abort, areas: &mut FreeAreas, row: Row) {
     match row {
-        Row::Put(at, exponent) => {
-            let block = block(rt, at, exponent);
-            assert!(rt; block.is_block_of(areas.frames()) && !areas.overlaps(block));
-            areas.insert(block);
-        }
-        Row::Take(at, exponent) => {
-            let block = block(rt, at, exponent);
-            assert!(rt; areas.contains(block));
-            areas.remove(block);
-        }
+        Row::Put(at, exponent) => put_in(rt, areas, block(rt, at, exponent)),
+        Row::Take(at, exponent) => take_out(rt, areas, block(rt, at, exponent)),
         Row::Bit(exponent, bit) => {
             holds(rt, areas.pair_bit(block(rt, 0, exponent)) == bit);
         }
         Row::First(exponent, at) => {
-            let first = areas.first(block(rt, 0, exponent).order);
+            let first = areas.first(order_of(rt, exponent));
             holds(rt, first == Some(block(rt, at, exponent)));
         }
         Row::NoneFrom(exponent) => {
-            let order = block(rt, 0, exponent).order;
+            let order = order_of(rt, exponent);
             holds(rt, areas.first(order).is_none());
             holds(rt, areas.smallest_from(order).is_none());
         }
@@ -100,8 +109,8 @@ fn play(rt: &impl Abort, areas: &mut FreeAreas, row: Row) {
 
 // Sixteen frames, of which a single frame is taken, and then four.
 #[test]
-fn bits_of_pairs(rt: HostRuntime) -> Result<(), Fail> {
-    let mut areas = FreeAreas::new(rt.alloc(), 16)?;
+fn bits_of_pairs(rt: HostRuntime) {
+    let mut areas = empty_areas(&rt, 16);
     areas.set_from(&[true; 16]);
     let rows = [
         Row::Take(0, 4),
@@ -115,24 +124,27 @@ fn bits_of_pairs(rt: HostRuntime) -> Result<(), Fail> {
         Row::Bit(2, Some(false)),
         Row::Bit(4, None),
     ];
+    play_all(&rt, &mut areas, &rows);
+}
+
+// Makes the rows.
+fn play_all(rt: &impl Abort, areas: &mut FreeAreas, rows: &[Row]) {
     for row in rows {
-        play(&rt, &mut areas, row);
+        play(rt, areas, *row);
     }
-    Ok(())
 }
 
 #[test]
-fn a_whole_zone_is_blocks_of_the_greatest_order(rt: HostRuntime) -> Result<(), Fail> {
-    let free = vec![in rt.alloc(); true; 65_536]?;
-    let mut areas = FreeAreas::new(rt.alloc(), 65_536)?;
+fn a_whole_zone_is_blocks_of_the_greatest_order(rt: HostRuntime) {
+    let free = vec![in rt.alloc(); true; 65_536].expect(&rt, "memory");
+    let mut areas = empty_areas(&rt, 65_536);
     areas.set_from(free.as_slice());
     walks(&rt, areas.walk(), &wholes());
-    Ok(())
 }
 
 #[test]
-fn a_block_is_put_in_and_taken_out(rt: HostRuntime) -> Result<(), Fail> {
-    let mut areas = FreeAreas::new(rt.alloc(), 16)?;
+fn a_block_is_put_in_and_taken_out(rt: HostRuntime) {
+    let mut areas = empty_areas(&rt, 16);
     let rows = [
         Row::Put(8, 1),
         Row::First(1, 8),
@@ -140,10 +152,7 @@ fn a_block_is_put_in_and_taken_out(rt: HostRuntime) -> Result<(), Fail> {
         Row::Take(8, 1),
         Row::NoneFrom(1),
     ];
-    for row in rows {
-        play(&rt, &mut areas, row);
-    }
-    Ok(())
+    play_all(&rt, &mut areas, &rows);
 }
 
 #[test]

@@ -1,27 +1,24 @@
-use crate::walks::{walks, wholes};
+use crate::walks::{holds, order_of, walks, wholes};
 use rand_core::{Rng, SeedableRng};
 use rand_pcg::Pcg32;
-use std::alloc::{AllocError, Global};
 use std::process::Abort;
-use std::test::Fail;
 use zone_blocks::areas::FreeAreas;
 use zone_blocks::block::Block;
 use zone_blocks::order::Order;
 use zone_buddy::buddy::Buddy;
 
-// The lines that the README shows.
+// The calls that the README shows.
 #[test]
-fn a_block_is_taken_and_given_back(rt: HostRuntime) -> Result<(), Fail> {
-    let mut zone = Buddy::new(rt.alloc(), 16)?;
-    let order = Order::of(2).ok_or("order 2")?;
-    assert!(rt; zone.take(order) == Some(Block { at: 0, order }));
+fn a_block_is_taken_and_given_back(rt: HostRuntime) {
+    let mut zone = zone_of(&rt, 16);
+    let order = order_of(&rt, 2);
+    holds(&rt, zone.take(order) == Some(Block { at: 0, order }));
     if zone.is_in_use(Block { at: 0, order }) {
         zone.give(Block { at: 0, order });
     }
     for block in zone.blocks() {
-        assert!(rt; block.order.frames() == 16);
+        holds(&rt, block.order.frames() == 16);
     }
-    Ok(())
 }
 
 // Takes a block of this order, which has to begin at this frame, or there has to be none.
@@ -39,10 +36,15 @@ fn gives(rt: &impl Abort, zone: &mut Buddy, block: Block) {
     zone.give(given);
 }
 
+// A zone of so many frames.
+fn zone_of(rt: &(impl Abort + AllocGlobal), frames: u32) -> Buddy {
+    Buddy::new(rt.alloc(), frames).expect(rt, "memory")
+}
+
 #[test]
-fn sixteen_frames_one_by_one(rt: HostRuntime) -> Result<(), Fail> {
-    let order = Order::of(0).ok_or("order 0")?;
-    let mut zone = Buddy::new(rt.alloc(), 16)?;
+fn sixteen_frames_one_by_one(rt: HostRuntime) {
+    let order = order_of(&rt, 0);
+    let mut zone = zone_of(&rt, 16);
     for at in 0..16 {
         takes(&rt, &mut zone, order, Some(at));
     }
@@ -51,7 +53,6 @@ fn sixteen_frames_one_by_one(rt: HostRuntime) -> Result<(), Fail> {
         gives(&rt, &mut zone, Block { at, order });
     }
     walks(&rt, zone.blocks(), &[(4, 0)]);
-    Ok(())
 }
 
 // The blocks of a zone of 65,536 frames of which the first is in use: one of each order, and 63 whole ones more.
@@ -70,33 +71,36 @@ fn without_one() -> [(u32, u32); 73] {
     pairs
 }
 
-#[test]
-fn the_greatest_zone_is_taken_and_given_back(rt: HostRuntime) -> Result<(), Fail> {
-    let order = Order::of(10).ok_or("order 10")?;
-    let single = Order::of(0).ok_or("order 0")?;
-    let mut zone = Buddy::new(rt.alloc(), 65_536)?;
+// Takes and gives back a whole zone of 65,536 frames by blocks of 1,024.
+fn take_and_give_all(rt: &impl Abort, zone: &mut Buddy) {
+    let order = order_of(rt, 10);
     for index in 0..64_u32 {
-        takes(&rt, &mut zone, order, Some(index * 1024));
+        takes(rt, zone, order, Some(index * 1024));
     }
-    takes(&rt, &mut zone, single, None);
+    takes(rt, zone, order_of(rt, 0), None);
     for index in 0..64_u32 {
         let at = index * 1024;
-        gives(&rt, &mut zone, Block { at, order });
+        gives(rt, zone, Block { at, order });
     }
-    let at = 0;
-    takes(&rt, &mut zone, single, Some(at));
-    walks(&rt, zone.blocks(), &without_one());
-    gives(&rt, &mut zone, Block { at, order: single });
-    walks(&rt, zone.blocks(), &wholes());
-    Ok(())
 }
 
 #[test]
-fn one_frame_of_sixteen(rt: HostRuntime) -> Result<(), Fail> {
-    let mut zone = Buddy::new(rt.alloc(), 16)?;
+fn the_greatest_zone_is_taken_and_given_back(rt: HostRuntime) {
+    let mut zone = zone_of(&rt, 65_536);
+    take_and_give_all(&rt, &mut zone);
+    let at = 0;
+    let order = order_of(&rt, 0);
+    takes(&rt, &mut zone, order, Some(at));
+    walks(&rt, zone.blocks(), &without_one());
+    gives(&rt, &mut zone, Block { at, order });
+    walks(&rt, zone.blocks(), &wholes());
+}
+
+#[test]
+fn one_frame_of_sixteen(rt: HostRuntime) {
+    let mut zone = Buddy::new(rt.alloc(), 16).expect(&rt, "memory");
     zone.take_frame(5);
     walks(&rt, zone.blocks(), &[(0, 4), (1, 6), (2, 0), (3, 8)]);
-    Ok(())
 }
 
 // Marks the frames of a block as free or in use.
@@ -119,6 +123,14 @@ fn take_one(zone: &mut Buddy, word: u32) -> Option<Block> {
     Some(Block { at, order })
 }
 
+// Takes a block, or one frame, which the word picks.
+fn take_some(zone: &mut Buddy, word: u32) -> Option<Block> {
+    match Order::of(word / 2 % 8) {
+        Some(order) if order.exponent() < 7 => zone.take(order),
+        _ => take_one(zone, word / 16),
+    }
+}
+
 // By a random word takes a block, or one frame, or gives a block of those held, and notes which
 // frames are free.
 fn take_or_give(
@@ -127,15 +139,11 @@ fn take_or_give(
     held: &mut Vec<Block>,
     free: &mut [bool],
     word: u32,
-) -> Result<(), AllocError> {
+) {
     if word % 2 == 0 || held.is_empty() {
-        let taken = match Order::of(word / 2 % 8) {
-            Some(order) if order.exponent() < 7 => zone.take(order),
-            _ => take_one(zone, word / 16),
-        };
-        if let Some(block) = taken {
+        if let Some(block) = take_some(zone, word) {
             mark(free, &block, false);
-            held.push(block)?;
+            held.push(block).expect(rt, "memory");
         }
     } else {
         let index = word as usize / 2 % held.len();
@@ -143,77 +151,89 @@ fn take_or_give(
         mark(free, &block, true);
         gives(rt, zone, block);
     }
-    Ok(())
 }
 
 // Which blocks of the next order are free, where `free` tells of those of one order.
-fn joined(alloc: Global, free: &[bool]) -> Result<Vec<bool>, AllocError> {
-    let mut larger = Vec::new(alloc);
+fn joined(rt: &(impl Abort + AllocGlobal), free: &[bool]) -> Vec<bool> {
+    let mut larger = Vec::new(rt.alloc());
     for pair in free.chunks_exact(2) {
-        larger.push(matches!(pair, [true, true]))?;
+        let is_free = matches!(pair, [true, true]);
+        larger.push(is_free).expect(rt, "memory");
     }
-    Ok(larger)
+    larger
+}
+
+// Adds the free blocks of this exponent that lie in no free block of the next.
+fn add_maximal(
+    rt: &impl Abort,
+    pairs: &mut Vec<(u32, u32)>,
+    exponent: u32,
+    free: &[bool],
+    larger: &[bool],
+) {
+    let mut at = 0_u32;
+    for (number, is_free) in free.iter().enumerate() {
+        let lies_in_larger = larger.get(number / 2).copied().unwrap_or(false);
+        if *is_free && !lies_in_larger {
+            pairs.push((exponent, at)).expect(rt, "memory");
+        }
+        at = at.wrapping_add(1 << exponent % 32);
+    }
 }
 
 // The maximal free blocks of a set of free frames, as pairs of order and address, by the definition
 // alone: a free block that lies in no free block of the next order.
-fn maximal_of(alloc: Global, frames: &[bool]) -> Result<Vec<(u32, u32)>, AllocError> {
-    let mut pairs = Vec::new(alloc);
-    let mut free = Vec::from_slice(alloc, frames)?;
-    let mut size = 1_u32;
-    for exponent in 0..11 {
-        let larger = if exponent < 10 {
-            joined(alloc, free.as_slice())?
-        } else {
-            Vec::new(alloc)
-        };
-        let mut at = 0_u32;
-        for (number, is_free) in free.iter().enumerate() {
-            let lies_in_larger = larger.get(number / 2).copied().unwrap_or(false);
-            if *is_free && !lies_in_larger {
-                pairs.push((exponent, at))?;
-            }
-            at = at.wrapping_add(size);
-        }
+fn maximal_of(rt: &(impl Abort + AllocGlobal), frames: &[bool]) -> Vec<(u32, u32)> {
+    let mut pairs = Vec::new(rt.alloc());
+    let mut free = Vec::from_slice(rt.alloc(), frames).expect(rt, "memory");
+    for exponent in 0..10 {
+        let larger = joined(rt, free.as_slice());
+        add_maximal(rt, &mut pairs, exponent, free.as_slice(), larger.as_slice());
         free = larger;
-        size = size.wrapping_mul(2);
     }
-    Ok(pairs)
+    add_maximal(rt, &mut pairs, 10, free.as_slice(), &[]);
+    pairs
+}
+
+// A call on the zone. Then its blocks are the maximal free blocks of the frames that are free, and so are the areas that
+// are set from these.
+fn compare_one(
+    rt: &(impl Abort + AllocGlobal),
+    zone: &mut Buddy,
+    plain: &mut FreeAreas,
+    held: &mut Vec<Block>,
+    free: &mut [bool],
+    word: u32,
+) {
+    take_or_give(rt, zone, held, free, word);
+    if plain.frames() as usize == free.len() {
+        plain.set_from(free);
+    }
+    let wanted = maximal_of(rt, free);
+    walks(rt, zone.blocks(), wanted.as_slice());
+    walks(rt, plain.walk(), wanted.as_slice());
 }
 
 // So many calls on a zone of so many frames, each compared with the maximal free blocks of the
 // frames that are free, and with the areas that are set from them.
-fn compare(
-    rt: &(impl Abort + AllocGlobal),
-    free: &mut [bool],
-    frames: u32,
-    calls: u32,
-) -> Result<(), AllocError> {
+fn compare(rt: &(impl Abort + AllocGlobal), free: &mut [bool], frames: u32, calls: u32) {
     let mut random = Pcg32::seed_from_u64(2_025);
-    let mut zone = Buddy::new(rt.alloc(), frames)?;
-    let mut plain = FreeAreas::new(rt.alloc(), frames)?;
+    let mut zone = zone_of(rt, frames);
+    let mut plain = FreeAreas::new(rt.alloc(), frames).expect(rt, "memory");
     let mut held = Vec::new(rt.alloc());
     for _ in 0..calls {
-        take_or_give(rt, &mut zone, &mut held, free, random.next_u32())?;
-        if plain.frames() as usize == free.len() {
-            plain.set_from(free);
-        }
-        let wanted = maximal_of(rt.alloc(), free)?;
-        walks(rt, zone.blocks(), wanted.as_slice());
-        walks(rt, plain.walk(), wanted.as_slice());
+        let word = random.next_u32();
+        compare_one(rt, &mut zone, &mut plain, &mut held, free, word);
     }
-    Ok(())
 }
 
 #[test]
-fn take_and_give_agree_with_the_areas_of_a_thousand_frames(rt: HostRuntime) -> Result<(), Fail> {
-    compare(&rt, &mut [true; 1_000], 1_000, 10_000)?;
-    Ok(())
+fn take_and_give_agree_with_the_areas_of_a_thousand_frames(rt: HostRuntime) {
+    compare(&rt, &mut [true; 1_000], 1_000, 10_000);
 }
 
 #[test]
-fn take_and_give_agree_with_the_areas_of_many_frames(rt: HostRuntime) -> Result<(), Fail> {
-    let mut free = vec![in rt.alloc(); true; 65_536]?;
-    compare(&rt, free.as_mut_slice(), 65_536, 1_000)?;
-    Ok(())
+fn take_and_give_agree_with_the_areas_of_many_frames(rt: HostRuntime) {
+    let mut free = vec![in rt.alloc(); true; 65_536].expect(&rt, "memory");
+    compare(&rt, free.as_mut_slice(), 65_536, 1_000);
 }

@@ -1,7 +1,6 @@
 use crate::walks::holds;
 use bit_levels::levels::BitLevels;
 use std::process::Abort;
-use std::test::Fail;
 
 // A bound of which no proof knows the number.
 fn bound() -> usize {
@@ -20,13 +19,8 @@ fn last(rt: &impl Abort, set: &BitLevels, number: usize, member: Option<usize>) 
     holds(rt, set.last_below(number) == member);
 }
 
-#[test]
-fn the_nearest_lower_member(rt: HostRuntime) -> Result<(), Fail> {
-    let mut set = BitLevels::new(rt.alloc(), bound())?;
-    last(&rt, &set, bound(), None);
-    for number in [3, 64, 700_000] {
-        put(&mut set, number, true);
-    }
+// Asks for the members below numbers of a set that has three.
+fn ask_each(rt: &impl Abort, set: &BitLevels) {
     let members = [
         (bound(), Some(700_000)),
         (700_000, Some(64)),
@@ -34,9 +28,18 @@ fn the_nearest_lower_member(rt: HostRuntime) -> Result<(), Fail> {
         (3, None),
     ];
     for (number, member) in members {
-        last(&rt, &set, number, member);
+        last(rt, set, number, member);
     }
+}
+
+#[test]
+fn the_nearest_lower_member(rt: HostRuntime) {
+    let mut set = BitLevels::new(rt.alloc(), bound()).expect(&rt, "memory");
+    last(&rt, &set, bound(), None);
+    for number in [3, 64, 700_000] {
+        put(&mut set, number, true);
+    }
+    ask_each(&rt, &set);
     put(&mut set, 64, false);
     last(&rt, &set, 700_000, Some(3));
-    Ok(())
 }

@@ -256,16 +256,23 @@ fn the_lists_agree_with_plain_vectors(rt: HostRuntime) -> Result<(), Fail> {
 }
 
 #[test]
-fn a_second_touch_moves_a_unit(rt: HostRuntime) -> Result<(), Fail> {
-    let mut links = Links::new(rt.alloc(), 16)?;
+fn a_second_touch_moves_a_unit(rt: HostRuntime) {
+    let mut links = Links::new(rt.alloc(), 16).expect(&rt, "memory");
     let mut lru = Lru::new(7);
     lru.add(&mut links, 3);
-    assert!(rt; lru.is_on(&links, 3).is_some());
-    assert!(rt; lru.touch(&mut links, 3) == Touched::Marked);
-    assert!(rt; lru.is_on(&links, 3).is_some());
-    assert!(rt; lru.touch(&mut links, 3) == Touched::Moved);
-    assert!(rt; lru.is_on(&links, 3) == Some(LruList::Active));
+    touches(&rt, &mut lru, &mut links, Touched::Marked);
+    touches(&rt, &mut lru, &mut links, Touched::Moved);
+    holds(&rt, lru.is_on(&links, 3) == Some(LruList::Active));
     lru.age(&mut links);
-    assert!(rt; lru.is_on(&links, 3) == Some(LruList::Inactive));
-    Ok(())
+    holds(&rt, lru.is_on(&links, 3) == Some(LruList::Inactive));
+}
+
+// Unit 3, which has to be on a list, is touched with this answer.
+fn touches(rt: &impl Abort, lru: &mut Lru, links: &mut Links, answer: Touched)
+    requires { (3 < length links.old) × StandsIn links.old lru.old }
+    ensures stands { StandsIn links.new lru.new }
+    ensures frames { length links.new ≡ length links.old }
+{
+    assert!(rt; lru.is_on(links, 3).is_some());
+    holds(rt, lru.touch(links, 3) == answer);
 }

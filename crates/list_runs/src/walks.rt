@@ -1,9 +1,15 @@
 use std::process::Abort;
+use zone_blocks::order::Order;
 use zone_blocks::walk::Walk;
 
 /// It is so, or the test ends here. A call is proved at less cost than the macro in its place.
 pub fn holds(rt: &impl Abort, is: bool) {
     assert!(rt; is);
+}
+
+/// The order of this exponent, which has to be one.
+pub fn order_of(rt: &impl Abort, exponent: u32) -> Order {
+    Order::of(exponent).expect(rt, "an order")
 }
 
 /// The blocks of a walk have to be these, as pairs of order and address.

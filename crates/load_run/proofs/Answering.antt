@@ -1,9 +1,11 @@
 -- What a script is answered, from what was read of it.
-use Rattle.std.proofs.Common.{◌≡◌, ℕ, Bool, zero, suc, ◌+◌, refl, List, length, take, Option, None}
+use Rattle.std.proofs.Common.{◌≡◌, ℕ, All, Bool, zero, suc, ◌+◌, refl, List, length, take, Option, None}
 use Rattle.std.proofs.Common.{Some, IfSome, Result, Ok, Err, IfOk, IfErr, MatchResult, arith, ap, ◌∙◌, sym, subst}
 use Rattle.std.proofs.lemmas.List.{length-take, take_all}
+use Rattle.std.proofs.lemmas.Bool.{false≢true}
 use Rattle.std.specs.Io.KnownBytes.{Appends}
-use Rattle.std.specs.Result.{IsErrAnd}
+use Rattle.std.specs.Prelude.{is_some}
+use Rattle.std.specs.Result.{result_ok}
 use Rattle.frame_word.specs.Seats.{KnownTable}
 use Rattle.stock_word.specs.Stock.{Words}
 use Rattle.mem_system.specs.Boots.{IsSizedAs, first_cpus}
@@ -11,13 +13,15 @@ use Rattle.zone_sizes.specs.declared.config.Config.{Config}
 use Rattle.zone_sizes.specs.Config.{IsValidConfig}
 use Rattle.script_lines.specs.declared.line.Line.{Line}
 use Rattle.script_lines.specs.Script.{IsScript}
-use Rattle.load_run.specs.declared.settings.Settings.{Settings}
+use Rattle.load_options.specs.declared.settings.Settings.{Settings}
 use Rattle.load_run.specs.Answers.{AreAnswers, IsAnswered, IsReplayed}
 use Rattle.mem_history.specs.Whole.{ShowsAll}
 use Rattle.mem_history.specs.Kept.{AreTied}
 use Rattle.step_rules.specs.After.{Run}
 use Rattle.script_replay.specs.History.{Replays, TellsHistory}
 use Rattle.script_replay.specs.Lines.{ServesAll, Standing, StopsAt}
+use Rattle.script_replay.specs.Ranges.{LineIsThere}
+use Rattle.script_replay.proofs.InRange.{script_there}
 
 -- the answers were written behind what the writer held, where the script is known
 pub replayed : (asked : Option Settings) (input before after : Option (List ℕ)) (text : List ℕ) → IfSome input (λ bytes. IsAnswered asked bytes text)
@@ -37,13 +41,6 @@ answered asked (Some bytes) script settings lines text is_asked read is valid an
     let whole : take 1048577 bytes ≡ bytes = take_all 1048577 bytes (omega arith) in
     let is_script : IsScript settings.sizes bytes lines = subst (λ (all : List ℕ). IsScript settings.sizes all lines) (read ∙ whole) is in
     record { settings = settings; is_asked = is_asked; valid = valid; lines = lines; script = is_script; answers = answers }
-
--- what is well stays so where an error becomes another
-pub kept : {T D E : Type 0} (r : Result T E) (s : Result T D) (P : T → Type 0) (Q : E → D → Type 0)
-    → MatchResult r (λ x. s ≡ Ok x) (λ e. IsErrAnd s (Q e)) → IfOk r P → IfOk s P
-kept (Ok x) s P Q cases is = subst (λ t. IfOk t P) (sym cases) is
-kept (Err e) (Ok y) P Q cases is = absurd cases
-kept (Err e) (Err d) P Q cases is = tt
 
 -- so does what follows from it
 pub weakened : {T E : Type 0} (r : Result T E) (P Q : T → Type 0) → ((x : T) → P x → Q x) → IfOk r P → IfOk r Q
@@ -78,3 +75,15 @@ first_long t w p (suc n) = ap (λ (k : ℕ). suc k) (first_long t w (p + 1) n)
 -- the tables under their names have the sizes
 pub sized_as : (sizes : Config) (f t : KnownTable) (s w : Words) → IsSizedAs sizes f s → (f ≡ t) × (s ≡ w) → IsSizedAs sizes t w
 sized_as sizes f t s w sized names = subst (λ (b : KnownTable × Words). IsSizedAs sizes b.0 b.1) (λ i. (names.0 i, names.1 i)) sized
+
+-- what the lines of a script name is there, in a boot of the script's sizes
+pub script_of_boot : (sizes booted : Config) (bytes : List ℕ) (parsed lines : List Line) → booted ≡ sizes → lines ≡ parsed
+    → IsScript sizes bytes parsed → All (LineIsThere booted.frames booted.cpus) lines
+script_of_boot sizes booted bytes parsed lines same is_parsed is =
+    let there = script_there sizes bytes parsed is in
+    subst (λ (b : Config × List Line). All (LineIsThere b.0.frames b.0.cpus) b.1) (λ i. (sym same i, sym is_parsed i)) there
+
+-- what holds of a good result holds of what was kept of it
+pub kept_ok : {T E : Type 0} (r : Result T E) (x : T) (P : T → Type 0) → Some x ≡ result_ok r → IfOk r P → P x
+kept_ok (Ok y) x P same ok = let is : x ≡ y = cc in subst P (sym is) ok
+kept_ok (Err e) x P same ok = absurd (false≢true (sym (ap is_some same)))

@@ -1,5 +1,4 @@
 pub mod Answering
-pub mod Asking
 pub mod Causing
 pub mod Putting
 pub mod Starting

@@ -5,13 +5,13 @@ use Rattle.zone_sizes.specs.Config.{IsValidConfig}
 use Rattle.script_lines.specs.declared.line.Line.{Line}
 use Rattle.script_lines.specs.declared.fault.ScriptFault.TheVariants as script
 use Rattle.script_lines.specs.Script.{IsFirstBadLine, IsScript}
-use Rattle.load_run.specs.declared.settings.Settings.{Settings}
+use Rattle.load_options.specs.declared.settings.Settings.{Settings}
 use Rattle.load_run.specs.declared.fault.ProgramFault.{ProgramFault}
 use Rattle.load_run.specs.declared.fault.ProgramFault.TheVariants.{Words, Script, BadConfig, Input, Output, NoMemory}
 use Rattle.load_run.specs.Answers.{IsAnswered, bytes_read}
 use Rattle.load_run.specs.Fault.{fault_text, status_of}
-use Rattle.load_run.specs.Settings.{HasSizesInRange}
-use Rattle.load_run.specs.Words.{TellsSettings}
+use Rattle.load_options.specs.Settings.{HasSizesInRange}
+use Rattle.load_options.specs.Words.{TellsSettings}
 use Rattle.load_run.specs.Writing.{AppendsBeginning}
 
 -- the n-th line of what is read of the input is the first bad one, for the sizes that are asked for

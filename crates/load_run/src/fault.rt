@@ -1,22 +1,10 @@
-//! Why a command line, a script or a run of the program fails.
+//! Why a run of the program fails.
 
 ghost use Rattle.std.specs.Prelude.{◌≡◌};
 
+use load_options::fault::WordsFault;
 use script_lines::fault::ScriptFault;
 use std::alloc::AllocError;
-use thiserror::Error;
-
-/// Why the words of the command line give no settings.
-#[derive(Debug, Drop, Error)]
-pub enum WordsFault {
-    /// The words aren't those of the program, or ask for help. It holds the text for the user, each line
-    /// with its line feed.
-    #[error("{0}")]
-    BadWords(String),
-    /// Memory ran out.
-    #[error("no memory")]
-    NoMemory(#[from(alloc)] AllocError),
-}
 
 /// Why the program ends without its answers.
 #[derive(Debug, Drop)]

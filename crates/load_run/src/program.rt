@@ -7,17 +7,17 @@ ghost use Rattle.load_run.specs.Fault.{IsBootFault, IsReadFault, IsScriptFault, 
 ghost use Rattle.load_run.specs.Writing.{AppendsBeginning};
 ghost use Rattle.script_lines.specs.Script.{IsScript};
 ghost use Rattle.script_replay.specs.Ranges.{LineIsThere};
-ghost use Rattle.load_run.specs.Settings.{HasSizesInRange};
-ghost use Rattle.load_run.specs.Words.{settings_of};
+ghost use Rattle.load_options.specs.Settings.{HasSizesInRange};
+ghost use Rattle.load_options.specs.Words.{settings_of};
 ghost use Rattle.load_run.specs.Answers.{AreAnswers, IsAnswered, IsReplayed, bytes_read};
 ghost use Rattle.zone_sizes.specs.Config.{IsValidConfig};
 
-use crate::command_line::parse_words;
 use crate::fault::ProgramFault;
 use crate::running::run;
-use crate::settings::Settings;
 use crate::telling::tell;
 use crate::writing::write_whole;
+use load_options::command_line::parse_words;
+use load_options::settings::Settings;
 use mem_system::{BootFault, boot};
 use script_lines::line::Line;
 use script_lines::script::{MOST_INPUT, parse_script};

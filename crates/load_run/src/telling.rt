@@ -6,9 +6,10 @@ ghost use Rattle.std.specs.Io.KnownBytes.{Appends};
 ghost use Rattle.load_run.specs.Fault.{fault_text, status_of};
 ghost use Rattle.load_run.specs.Writing.{AppendsBeginning};
 
-use crate::fault::{ProgramFault, WordsFault};
+use crate::fault::ProgramFault;
 use crate::writing::write_whole;
 use itoa::Buffer;
+use load_options::fault::WordsFault;
 use script_lines::fault::ScriptFault;
 use std::io;
 use std::io::Write;

@@ -4,13 +4,13 @@ use Rattle.std.proofs.KnownBytes.{Appends-nil, Keeps-refl}
 use Rattle.zone_sizes.specs.declared.config.Config.{Config}
 use Rattle.script_lines.specs.declared.line.Line.{Line}
 use Rattle.script_lines.specs.Script.{IsScript}
-use Rattle.load_run.specs.declared.settings.Settings.{Settings}
+use Rattle.load_options.specs.declared.settings.Settings.{Settings}
 use Rattle.load_run.specs.declared.fault.ProgramFault.{ProgramFault}
 use Rattle.load_run.specs.declared.fault.ProgramFault.TheVariants.{Words, Script, BadConfig, Input, Output, NoMemory}
 use Rattle.load_run.specs.Answers.{bytes_read}
 use Rattle.load_run.specs.Causes.{HasCause, IsMisused}
 use Rattle.load_run.specs.Fault.{IsBootFault, IsReadFault, IsScriptFault, IsWordsFault, fault_text, status_of}
-use Rattle.load_run.specs.Settings.{HasSizesInRange}
+use Rattle.load_options.specs.Settings.{HasSizesInRange}
 use Rattle.load_run.specs.Writing.{AppendsBeginning}
 use Rattle.load_run.proofs.Causing.{boot_cause, read_cause, script_cause, words_cause}
 use Rattle.load_threads.specs.Answers.{IsAnsweredByThreads}

@@ -12,7 +12,7 @@ use Rattle.script_replay.specs.Lines.{ServesAll, Standing}
 use Rattle.script_replay.specs.History.{TellsHistory}
 use Rattle.script_threads.specs.Each.{TellsEach, workers_from}
 use Rattle.script_threads.specs.Runs.{lines_before_go}
-use Rattle.load_run.specs.declared.settings.Settings.{Settings}
+use Rattle.load_options.specs.declared.settings.Settings.{Settings}
 use Rattle.load_run.specs.Answers.{StandsAtFirst}
 use Rattle.load_run.specs.Ending.{TellsEnd}
 

@@ -1,7 +1,7 @@
 -- Why `run` ends without its answers, and what it leaves then.
 use Rattle.std.specs.Prelude.{◌≡◌, ℕ, List, Option}
 use Rattle.std.specs.Io.KnownBytes.{Keeps}
-use Rattle.load_run.specs.declared.settings.Settings.{Settings}
+use Rattle.load_options.specs.declared.settings.Settings.{Settings}
 use Rattle.load_run.specs.declared.fault.ProgramFault.{ProgramFault}
 use Rattle.load_run.specs.declared.fault.ProgramFault.TheVariants.{Words, Script, BadConfig, Input, Output, NoMemory}
 use Rattle.load_run.specs.Causes.{HasCause}

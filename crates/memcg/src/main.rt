@@ -1,7 +1,7 @@
 //! The program `memcg`: memory control groups over a zone of page frames, driven by a script.
 #![tactic(auto)]
 
-use load_run::command_line::words;
+use load_options::command_line::words;
 use load_run::fault::ProgramFault;
 use load_run::program::drive;
 use load_run::telling::tell;

@@ -1,10 +1,12 @@
 //! Bad scripts and failing streams, and what is told of them.
 
-use crate::streams::{Outcome, PLAIN, Paper, Script, in_steps, new_paper, run, run_on, whole};
-use std::alloc::AllocError;
+ghost use Rattle.std.specs.Prelude.{◌≤◌, length};
+
+use crate::streams::{
+    Outcome, PLAIN, Paper, Script, holds, holds_of, in_steps, new_paper, run, run_on, whole,
+};
 use std::io::ErrorKind;
 use std::process::Abort;
-use std::test::Fail;
 
 const SCRIPT: &str = "1 mkdir /a\n1 alloc /a 0\n1 blocks\n1 read /a memory.current\n";
 
@@ -47,16 +49,20 @@ fn bad_scripts() -> [(&'static str, usize); 31] {
     ]
 }
 
+// The script's first bad line is told, and nothing is answered.
+fn tells_first_bad_line(rt: &(impl Abort + AllocGlobal), script: &str, line: usize) {
+    let told = format!(in rt.alloc(); "bad line {line}\n").expect(rt, "memory");
+    let outcome = run(rt, &PLAIN, whole(script.as_bytes()), 10_000);
+    holds_of(rt, outcome.status == 2, script);
+    holds_of(rt, outcome.faults.as_slice() == told.as_bytes(), script);
+    holds_of(rt, outcome.output.is_empty(), script);
+}
+
 #[test]
-fn tells_each_first_bad_line(rt: HostRuntime) -> Result<(), Fail> {
+fn tells_each_first_bad_line(rt: HostRuntime) {
     for (script, line) in bad_scripts() {
-        let told = format!(in rt.alloc(); "bad line {line}\n")?;
-        let outcome = run(&rt, &PLAIN, whole(script.as_bytes()), 10_000)?;
-        assert_eq!(rt; outcome.status, 2, "{script:?}");
-        assert!(rt; outcome.faults.as_slice() == told.as_bytes(), "{script:?}");
-        assert!(rt; outcome.output.is_empty(), "{script:?}");
+        tells_first_bad_line(&rt, script, line);
     }
-    Ok(())
 }
 
 // The run ended well, with the answers to `SCRIPT` and no fault.
@@ -67,12 +73,11 @@ fn is_answered(outcome: &Outcome) -> bool {
 }
 
 #[test]
-fn ends_well_where_nothing_fails(rt: HostRuntime) -> Result<(), Fail> {
+fn ends_well_where_nothing_fails(rt: HostRuntime) {
     for at_once in 1..=80 {
-        let outcome = run(&rt, &PLAIN, in_steps(SCRIPT.as_bytes(), at_once), 10_000)?;
+        let outcome = run(&rt, &PLAIN, in_steps(SCRIPT.as_bytes(), at_once), 10_000);
         assert!(rt; is_answered(&outcome), "{at_once}");
     }
-    Ok(())
 }
 
 // `SCRIPT`, where one read fails after so many that go well.
@@ -85,47 +90,41 @@ fn failing(good_reads: u32, kind: ErrorKind) -> Script<'static> {
 }
 
 // Each read in turn fails so, the last one too: so many were made, each of which ended the run with this text.
-fn failed_reads<R: AllocGlobal + Abort>(
-    rt: &R,
-    kind: ErrorKind,
-    told: &str,
-) -> Result<u32, AllocError> {
+fn failed_reads<R: AllocGlobal + Abort>(rt: &R, kind: ErrorKind, told: &str) -> u32 {
     for good in 0..100 {
-        let outcome = run(rt, &PLAIN, failing(good, kind), 10_000)?;
+        let outcome = run(rt, &PLAIN, failing(good, kind), 10_000);
         if outcome.status == 0 {
-            assert!(rt; is_answered(&outcome), "{good}");
-            return Ok(good);
+            holds_of(rt, is_answered(&outcome), told);
+            return good;
         }
-        assert_eq!(rt; outcome.status, 1, "{good}");
-        assert!(rt; outcome.output.is_empty(), "{good}");
-        assert!(rt; outcome.faults.as_slice() == told.as_bytes(), "{good}");
+        holds_of(rt, outcome.status == 1, told);
+        holds_of(rt, outcome.output.is_empty(), told);
+        holds_of(rt, outcome.faults.as_slice() == told.as_bytes(), told);
     }
-    Ok(100)
+    100
 }
 
 #[test]
-fn tells_that_the_input_failed(rt: HostRuntime) -> Result<(), Fail> {
-    let failed = failed_reads(&rt, ErrorKind::ConnectionReset, "input failed\n")?;
+fn tells_that_the_input_failed(rt: HostRuntime) {
+    let failed = failed_reads(&rt, ErrorKind::ConnectionReset, "input failed\n");
     assert!(rt; 10 < failed && failed < 100, "{failed}");
-    let wanting = failed_reads(&rt, ErrorKind::OutOfMemory, "no memory\n")?;
+    let wanting = failed_reads(&rt, ErrorKind::OutOfMemory, "no memory\n");
     assert_eq!(rt; wanting, failed);
-    Ok(())
 }
 
 #[test]
-fn reads_on_after_an_interrupt(rt: HostRuntime) -> Result<(), Fail> {
+fn reads_on_after_an_interrupt(rt: HostRuntime) {
     for good in 0..20 {
-        let outcome = run(&rt, &PLAIN, failing(good, ErrorKind::Interrupted), 10_000)?;
+        let outcome = run(&rt, &PLAIN, failing(good, ErrorKind::Interrupted), 10_000);
         assert!(rt; is_answered(&outcome), "{good}");
     }
-    Ok(())
 }
 
 // `SCRIPT`, over this writer for the answers.
-fn run_to<R: AllocGlobal>(rt: &R, output: Paper) -> Result<Outcome, AllocError> {
+fn run_to(rt: &(impl Abort + AllocGlobal), output: Paper) -> Outcome {
     let script = whole(SCRIPT.as_bytes());
-    let faults = new_paper(rt.alloc(), 100)?;
-    Ok(run_on(rt.alloc(), &PLAIN, script, output, faults))
+    let faults = new_paper(rt, 100);
+    run_on(rt.alloc(), &PLAIN, script, output, faults)
 }
 
 // The run told that its output failed, and wrote these answers before.
@@ -135,46 +134,53 @@ fn is_cut_short(outcome: &Outcome, answers: &[u8]) -> bool {
         && outcome.faults.as_slice() == b"output failed\n".as_slice()
 }
 
-#[test]
-fn tells_that_the_output_failed(rt: HostRuntime) -> Result<(), Fail> {
-    let answers = ANSWERS.as_bytes();
-    for at_once in [1, 3, 100] {
-        for room in 0..answers.len() {
-            let paper = Paper {
-                at_once,
-                ..new_paper(rt.alloc(), room)?
-            };
-            let outcome = run_to(&rt, paper)?;
-            assert!(rt;
-                is_cut_short(&outcome, &answers[..room]),
-                "{at_once} {room}"
-            );
-        }
-        let paper = Paper {
-            at_once,
-            interrupts: true,
-            ..new_paper(rt.alloc(), answers.len())?
-        };
-        assert!(rt; is_answered(&run_to(&rt, paper)?), "{at_once}");
-    }
-    let unkept = Paper {
-        keeps: false,
-        ..new_paper(rt.alloc(), 100)?
-    };
-    assert!(rt; is_cut_short(&run_to(&rt, unkept)?, answers));
-    Ok(())
+// With room for so many bytes, so many at once, the answers are cut short there.
+fn is_cut_at(rt: &(impl Abort + AllocGlobal), at_once: usize, answers: &[u8], room: usize)
+    requires { room ≤ length answers.now }
+{
+    let mut paper = new_paper(rt, room);
+    paper.at_once = at_once;
+    let outcome = run_to(rt, paper);
+    assert!(rt; is_cut_short(&outcome, &answers[..room]), "{at_once} {room}");
+}
+
+// With room for all of the answers they are written, so many bytes at once, where the first write is interrupted.
+fn is_written(rt: &(impl Abort + AllocGlobal), at_once: usize) {
+    let mut paper = new_paper(rt, ANSWERS.len());
+    paper.at_once = at_once;
+    paper.interrupts = true;
+    let outcome = run_to(rt, paper);
+    assert!(rt; is_answered(&outcome), "{at_once}");
 }
 
 #[test]
-fn ends_as_it_would_where_a_fault_is_not_told(rt: HostRuntime) -> Result<(), Fail> {
+fn tells_that_the_output_failed(rt: HostRuntime) {
+    let answers = ANSWERS.as_bytes();
+    for at_once in [1, 3, 100] {
+        for room in 0..answers.len() {
+            is_cut_at(&rt, at_once, answers, room);
+        }
+        is_written(&rt, at_once);
+    }
+    let mut unkept = new_paper(&rt, 100);
+    unkept.keeps = false;
+    holds(&rt, is_cut_short(&run_to(&rt, unkept), answers));
+}
+
+// With room for so much of the fault that is told, the run ends as it would.
+fn ends_as_it_would(rt: &(impl Abort + AllocGlobal), told: &[u8]) {
+    let script = whole(b"1 show\n1 sho".as_slice());
+    let output = new_paper(rt, 100);
+    let faults = new_paper(rt, told.len());
+    let outcome = run_on(rt.alloc(), &PLAIN, script, output, faults);
+    holds(rt, outcome.status == 2);
+    holds(rt, outcome.faults.as_slice() == told);
+}
+
+#[test]
+fn ends_as_it_would_where_a_fault_is_not_told(rt: HostRuntime) {
     let told = b"bad line 2\n".as_slice();
     for room in 0..told.len() {
-        let script = whole(b"1 show\n1 sho".as_slice());
-        let output = new_paper(rt.alloc(), 100)?;
-        let faults = new_paper(rt.alloc(), room)?;
-        let outcome = run_on(rt.alloc(), &PLAIN, script, output, faults);
-        assert_eq!(rt; outcome.status, 2, "{room}");
-        assert!(rt; outcome.faults.as_slice() == &told[..room], "{room}");
+        ends_as_it_would(&rt, &told[..room]);
     }
-    Ok(())
 }

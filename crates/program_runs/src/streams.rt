@@ -1,10 +1,11 @@
 //! Readers and writers in memory, those that fail too, and a run of the program over them.
 
 use load_run::program::drive;
-use std::alloc::{AllocError, Global};
+use std::alloc::Global;
 use std::cmp::min;
 use std::io;
 use std::io::{ErrorKind, Read, Write};
+use std::process::Abort;
 
 /// A script that is read a few bytes at a time. One of the reads may fail.
 #[derive(Drop)]
@@ -69,14 +70,14 @@ pub struct Paper {
 }
 
 /// A writer with room for so many bytes, which has all of its memory.
-pub fn new_paper(alloc: Global, room: usize) -> Result<Paper, AllocError> {
-    Ok(Paper {
-        text: Vec::with_capacity(alloc, room)?,
+pub fn new_paper(rt: &(impl Abort + AllocGlobal), room: usize) -> Paper {
+    Paper {
+        text: Vec::with_capacity(rt.alloc(), room).expect(rt, "memory"),
         at_once: 3,
         room,
         interrupts: false,
         keeps: true,
-    })
+    }
 }
 
 impl Write for Paper {
@@ -131,26 +132,37 @@ pub fn run_on(
 }
 
 /// Runs it over this script, with room for so many bytes of answers, and for a long fault.
-pub fn run<R: AllocGlobal>(
-    rt: &R,
+pub fn run(
+    rt: &(impl Abort + AllocGlobal),
     words: &[&str],
     script: Script<'_>,
     room: usize,
-) -> Result<Outcome, AllocError> {
-    let output = new_paper(rt.alloc(), room)?;
-    let faults = new_paper(rt.alloc(), 10_000)?;
-    Ok(run_on(rt.alloc(), words, script, output, faults))
+) -> Outcome {
+    let output = new_paper(rt, room);
+    let faults = new_paper(rt, 10_000);
+    run_on(rt.alloc(), words, script, output, faults)
 }
 
-/// Whether the words and the script are told this status and these faults, and no answer.
-pub fn is_refused<R: AllocGlobal>(
-    rt: &R,
+/// The words and the script are told this status and these faults, and no answer.
+pub fn is_refused(
+    rt: &(impl Abort + AllocGlobal),
     words: &[&str],
     script: Script<'_>,
     status: u8,
     faults: &[u8],
-) -> Result<bool, AllocError> {
-    let outcome = run(rt, words, script, 10_000)?;
-    let told = outcome.faults.starts_with(faults);
-    Ok(outcome.status == status && outcome.output.is_empty() && told)
+) {
+    let outcome = run(rt, words, script, 10_000);
+    holds(rt, outcome.status == status);
+    holds(rt, outcome.output.is_empty());
+    holds(rt, outcome.faults.starts_with(faults));
+}
+
+/// It is so, or the test ends here. A call is proved at less cost than the macro in its place.
+pub fn holds(rt: &impl Abort, is: bool) {
+    assert!(rt; is);
+}
+
+/// It is so of what has this name, or the test ends here with the name.
+pub fn holds_of(rt: &impl Abort, is: bool, name: &str) {
+    assert!(rt; is, "{name:?}");
 }

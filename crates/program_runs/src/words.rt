@@ -1,14 +1,20 @@
 //! The words of the command line.
 
-use load_run::command_line::{parse_run_words, parse_words};
-use load_run::fault::WordsFault;
-use load_run::settings::Settings;
-use std::test::Fail;
+use crate::streams::{holds, holds_of};
+use load_options::command_line::{parse_run_words, parse_words};
+use load_options::fault::WordsFault;
+use load_options::settings::Settings;
+use std::process::Abort;
 use zone_sizes::config::Config;
 
+// The settings that the words ask for.
+fn settings(rt: &(impl Abort + AllocGlobal), words: &[&str]) -> Settings {
+    parse_words(rt.alloc(), words).expect(rt, "settings")
+}
+
 #[test]
-fn has_defaults(rt: HostRuntime) -> Result<(), Fail> {
-    let found = parse_words(rt.alloc(), &["replay"])?;
+fn has_defaults(rt: HostRuntime) {
+    let found = settings(&rt, &["replay"]);
     let defaults = Config {
         frames: 16,
         cpus: 2,
@@ -16,12 +22,12 @@ fn has_defaults(rt: HostRuntime) -> Result<(), Fail> {
         high: 8,
         stock: 4,
     };
-    assert!(rt; found.sizes == defaults && !found.is_audited && !found.is_explained);
-    Ok(())
+    holds(&rt, found.sizes == defaults);
+    holds(&rt, !found.is_audited && !found.is_explained);
 }
 
 #[test]
-fn takes_the_greatest_values(rt: HostRuntime) -> Result<(), Fail> {
+fn takes_the_greatest_values(rt: HostRuntime) {
     let words = [
         "replay",
         "--frames=65536",
@@ -36,7 +42,7 @@ fn takes_the_greatest_values(rt: HostRuntime) -> Result<(), Fail> {
         "--audit",
         "--explain",
     ];
-    let found = parse_words(rt.alloc(), &words)?;
+    let found = settings(&rt, &words);
     let greatest = Config {
         frames: 65_536,
         cpus: 16,
@@ -44,12 +50,12 @@ fn takes_the_greatest_values(rt: HostRuntime) -> Result<(), Fail> {
         high: 256,
         stock: 64,
     };
-    assert!(rt; found.sizes == greatest && found.is_audited && found.is_explained);
-    Ok(())
+    holds(&rt, found.sizes == greatest);
+    holds(&rt, found.is_audited && found.is_explained);
 }
 
 #[test]
-fn reads_both_spellings_in_any_order(rt: HostRuntime) -> Result<(), Fail> {
+fn reads_both_spellings_in_any_order(rt: HostRuntime) {
     let attached = [
         "replay",
         "--frames=40",
@@ -74,13 +80,26 @@ fn reads_both_spellings_in_any_order(rt: HostRuntime) -> Result<(), Fail> {
         is_explained: false,
         is_audited: true,
     };
-    assert!(rt; parse_words(rt.alloc(), &attached)? == wanted);
-    assert!(rt; parse_words(rt.alloc(), &parted)? == wanted);
-    Ok(())
+    holds(&rt, settings(&rt, &attached) == wanted);
+    holds(&rt, settings(&rt, &parted) == wanted);
+}
+
+// The option alone gives these sizes, in the order of the options.
+fn reads_alone(rt: &(impl Abort + AllocGlobal), word: &str, wanted: [u32; 5]) {
+    let found = settings(rt, &["replay", word]);
+    let sizes = found.sizes;
+    let values = [
+        sizes.frames,
+        sizes.cpus,
+        sizes.batch,
+        sizes.high,
+        sizes.stock,
+    ];
+    holds_of(rt, values == wanted && !found.is_audited, word);
 }
 
 #[test]
-fn reads_each_option_alone(rt: HostRuntime) -> Result<(), Fail> {
+fn reads_each_option_alone(rt: HostRuntime) {
     let cases = [
         ("--frames=9", [9, 2, 4, 8, 4]),
         ("--cpus=9", [16, 9, 4, 8, 4]),
@@ -89,72 +108,50 @@ fn reads_each_option_alone(rt: HostRuntime) -> Result<(), Fail> {
         ("--stock=9", [16, 2, 4, 8, 9]),
     ];
     for (word, wanted) in cases {
-        let found = parse_words(rt.alloc(), &["replay", word])?;
-        let sizes = found.sizes;
-        let values = [
-            sizes.frames,
-            sizes.cpus,
-            sizes.batch,
-            sizes.high,
-            sizes.stock,
-        ];
-        assert!(rt; values == wanted && !found.is_audited, "{word}");
+        reads_alone(&rt, word, wanted);
     }
-    Ok(())
 }
 
-// What is told of the words, or the empty text where they are taken.
-fn told<R: AllocGlobal>(rt: &R, words: &[&str]) -> Result<String, Fail> {
-    match parse_words(rt.alloc(), words) {
-        Ok(_) => Ok(String::new(rt.alloc())),
-        Err(WordsFault::BadWords(text)) => Ok(text),
-        Err(WordsFault::NoMemory(error)) => Err(error)?,
+// The words are bad ones, and what is told of them begins so.
+fn is_told(rt: &impl Abort, found: Result<Settings, WordsFault>, begin: &str) {
+    match found {
+        Err(WordsFault::BadWords(text)) => {
+            assert!(rt; text.as_str().starts_with(begin), "{text}")
+        }
+        Ok(_) | Err(WordsFault::NoMemory(_)) => holds_of(rt, false, begin),
     }
 }
 
 #[test]
-fn run_explains_nothing(rt: HostRuntime) -> Result<(), Fail> {
-    let found = parse_run_words(rt.alloc(), &["run", "--audit"])?;
-    assert!(rt; found.is_audited && !found.is_explained);
-    match parse_run_words(rt.alloc(), &["run", "--explain"]) {
-        Err(WordsFault::BadWords(text)) => assert!(rt;
-            text.as_str()
-                .starts_with("error: unexpected argument '--explain' found\n"),
-            "{text}"
-        ),
-        Ok(_) | Err(WordsFault::NoMemory(_)) => assert!(rt; false),
-    }
-    Ok(())
+fn run_explains_nothing(rt: HostRuntime) {
+    let found = parse_run_words(rt.alloc(), &["run", "--audit"]).expect(&rt, "settings");
+    holds(&rt, found.is_audited && !found.is_explained);
+    let found = parse_run_words(rt.alloc(), &["run", "--explain"]);
+    is_told(
+        &rt,
+        found,
+        "error: unexpected argument '--explain' found\n",
+    );
 }
 
 #[test]
-fn tells_what_is_wrong(rt: HostRuntime) -> Result<(), Fail> {
-    let below = told(&rt, &["replay", "--frames", "0"])?;
-    assert!(rt;
-        below.as_str().starts_with(
-            "error: invalid value '0' for '--frames <N>': 0 is not in 1..=65536\n"
-        ),
-        "{below}"
+fn tells_what_is_wrong(rt: HostRuntime) {
+    let alloc = rt.alloc();
+    let below = "error: invalid value '0' for '--frames <N>': 0 is not in 1..=65536\n";
+    is_told(
+        &rt,
+        parse_words(alloc, &["replay", "--frames", "0"]),
+        below,
     );
-    let unknown = told(&rt, &["play"])?;
-    assert!(rt;
-        unknown
-            .as_str()
-            .starts_with("error: unrecognized subcommand 'play'\n"),
-        "{unknown}"
-    );
-    let help = told(&rt, &["replay", "--help"])?;
-    assert!(rt;
-        help.as_str().starts_with(
-            "Runs the lines of a script, one after the other\n\nUsage: memcg replay [OPTIONS]\n"
-        ),
-        "{help}"
-    );
-    Ok(())
+    let unknown = "error: unrecognized subcommand 'play'\n";
+    is_told(&rt, parse_words(alloc, &["play"]), unknown);
+    let help =
+        "Runs the lines of a script, one after the other\n\nUsage: memcg replay [OPTIONS]\n";
+    is_told(&rt, parse_words(alloc, &["replay", "--help"]), help);
 }
 
 #[test]
-fn refuses_each_value_past_its_range(rt: HostRuntime) -> Result<(), Fail> {
+fn refuses_each_value_past_its_range(rt: HostRuntime) {
     let past = [
         "--frames=65537",
         "--cpus=17",
@@ -172,14 +169,24 @@ fn refuses_each_value_past_its_range(rt: HostRuntime) -> Result<(), Fail> {
         "--audit=1",
     ];
     for word in past {
-        let text = told(&rt, &["replay", word])?;
-        assert!(rt; text.as_str().starts_with("error: "), "{word}");
+        is_told(
+            &rt,
+            parse_words(rt.alloc(), &["replay", word]),
+            "error: ",
+        );
     }
-    Ok(())
+}
+
+// The words are bad ones, and something is told of them.
+fn is_refused(rt: &impl Abort, found: Result<Settings, WordsFault>) {
+    match found {
+        Err(WordsFault::BadWords(text)) => holds(rt, !text.is_empty()),
+        Ok(_) | Err(WordsFault::NoMemory(_)) => holds(rt, false),
+    }
 }
 
 #[test]
-fn refuses_what_it_does_not_have(rt: HostRuntime) -> Result<(), Fail> {
+fn refuses_what_it_does_not_have(rt: HostRuntime) {
     for words in [
         [].as_slice(),
         &["run"],
@@ -189,8 +196,6 @@ fn refuses_what_it_does_not_have(rt: HostRuntime) -> Result<(), Fail> {
         &["--help"],
         &["help"],
     ] {
-        let text = told(&rt, words)?;
-        assert!(rt; !text.is_empty(), "{words:?}");
+        is_refused(&rt, parse_words(rt.alloc(), words));
     }
-    Ok(())
 }

@@ -3,9 +3,9 @@ use Rattle.std.proofs.Common.{List, map, subst, sym, ℕ}
 use Rattle.script_lines.specs.declared.line.Line.{Line}
 use Rattle.script_lines.specs.Script.{IsScript}
 use Rattle.script_replay.proofs.InRange.{script_there}
-use Rattle.load_run.specs.Words.{settings_of}
+use Rattle.load_options.specs.Words.{settings_of}
 use Rattle.load_run.proofs.Answering.{answered, joined}
-use Rattle.load_run.proofs.Asking.{asked_some}
+use Rattle.load_options.proofs.Asking.{asked_some}
 use Rattle.load_run.proofs.Causing.{boot_cause, on_error}
 use Rattle.load_run.proofs.program.answers_to.Goals as goal
 

@@ -3,10 +3,10 @@ use Rattle.std.proofs.Common.{List, map, subst, sym, ℕ}
 use Rattle.script_lines.specs.declared.line.Line.{Line}
 use Rattle.script_lines.specs.Script.{IsScript}
 use Rattle.script_replay.proofs.InRange.{script_there}
-use Rattle.load_run.specs.Words.{run_settings_of}
+use Rattle.load_options.specs.Words.{run_settings_of}
 use Rattle.load_run.proofs.Answering.{joined}
 use Rattle.load_threads.proofs.Answering.{answered}
-use Rattle.load_run.proofs.Asking.{asked_some}
+use Rattle.load_options.proofs.Asking.{asked_some}
 use Rattle.load_run.proofs.Causing.{on_error}
 use Rattle.load_threads.proofs.Causing.{run_boot_cause}
 use Rattle.load_threads.proofs.program.answers_to.Goals as goal

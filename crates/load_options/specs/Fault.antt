@@ -1,0 +1,9 @@
+-- Why the words of a command line give no settings.
+use Rattle.std.specs.Prelude.{⊤}
+use Rattle.load_options.specs.declared.fault.WordsFault.{WordsFault}
+use Rattle.load_options.specs.declared.fault.WordsFault.TheVariants.{BadWords, NoMemory}
+
+-- memory ran out
+abbrev pub IsNoMemory : WordsFault → Type 0
+IsNoMemory (BadWords text) = ⊥
+IsNoMemory (NoMemory e) = ⊤

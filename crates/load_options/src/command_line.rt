@@ -1,0 +1,202 @@
+//! The words of the command line.
+
+ghost use Rattle.std.specs.Prelude.{◌≡◌, IfOk, codes, false, map, pos};
+ghost use Rattle.clap.specs.Words.{app_of, kind_of, rule_of};
+ghost use Rattle.clap.specs.declared.builder.command.Command.TheViews.{out-Command as fields_of};
+ghost use Rattle.clap.specs.declared.builder.value_parser.ValueParser.TheVariants.{Signed};
+ghost use Rattle.load_options.specs.Fault.{IsNoMemory};
+ghost use Rattle.load_options.specs.Settings.{HasSizesInRange};
+ghost use Rattle.load_options.specs.Words.{TellsSettings, flag_rule, program, replay_shape, run_settings_of, settings_for};
+ghost use Rattle.load_options.specs.Words.{settings_of, size_rule, task_shape};
+
+use crate::fault::WordsFault;
+use crate::settings::{
+    MOST_BATCH, MOST_CPUS, MOST_FRAMES, MOST_HIGH, MOST_STOCK, Settings, read_settings,
+};
+use clap::builder::ValueParser;
+use clap::error::ErrorKind;
+use clap::{Arg, ArgAction, Command, Error, value_parser};
+use std::alloc::{AllocError, Global};
+use std::convert::AsStr;
+use std::rt::Env;
+use std::{env, io};
+
+// What the help says of the program, of its subcommands, and of their options.
+const MEMCG_HELP: &str = "Charges page frames to the groups of a tree";
+
+const REPLAY_HELP: &str = "Runs the lines of a script, one after the other";
+
+const RUN_HELP: &str =
+    "Runs the lines before `go` so, and those behind it by a thread for each processor";
+
+const FRAMES_HELP: &str = "Frames of the zone, 1 to 65536";
+
+const CPUS_HELP: &str = "Processors, 1 to 16";
+
+const BATCH_HELP: &str = "Frames by which a processor's list is refilled, 1 to 64";
+
+const HIGH_HELP: &str = "Frames at which a processor's list gives back, batch to 256";
+
+const STOCK_HELP: &str = "Pages that a processor prepays, 1 to 64";
+
+const AUDIT_HELP: &str = "Tells at the end which pins were held, and what was counted";
+
+const EXPLAIN_HELP: &str = "Tells behind an answer why groups were killed for it";
+
+/// The words of the command line that follow the program's name. A word that isn't UTF-8 is a fault of the
+/// words. It has no contract: no clause has a name for the words that a process was started with.
+pub fn words<R: Env + AllocGlobal>(rt: &R) -> Result<Vec<String>, WordsFault> {
+    match env::args(rt) {
+        Ok(words) => Ok(words.skip(1).collect(rt.alloc())?),
+        Err(error) if error.kind() == io::ErrorKind::OutOfMemory => {
+            Err(WordsFault::NoMemory(AllocError))
+        }
+        Err(_) => {
+            let text = "error: a word of the command line is not valid UTF-8\n";
+            Err(WordsFault::BadWords(String::from_str(rt.alloc(), text)?))
+        }
+    }
+}
+
+/// Reads the words that follow the program's name: `replay`, and then any of `--frames`, `--cpus`, `--batch`,
+/// `--high` and `--stock`, each at most once, with a whole number in its own range: frames 1 to 65,536,
+/// processors 1 to 16, batch 1 to 64, high 1 to 256, stock 1 to 64; and `--audit` and `--explain`, at most once.
+/// `Config::is_valid` asks more: high is at least batch. A size that is left out is 16, 2, 4, 8, 4 in turn.
+/// Anything else is a fault of the words, a request for help too.
+pub fn parse_words<S: AsStr>(alloc: Global, words: &[S]) -> Result<Settings, WordsFault>
+    ensures asked { TellsSettings (settings_of (map S.text words.now)) result }
+    ensures in_range { IfOk result (λ o. HasSizesInRange o.sizes) }
+{
+    parse_task(alloc, "replay", words)
+}
+
+/// Reads the words that follow the program's name as `parse_words` does, where `run` stands in place of `replay`. It has
+/// no `--explain`: that is a fault of the words here.
+pub fn parse_run_words<S: AsStr>(alloc: Global, words: &[S]) -> Result<Settings, WordsFault>
+    ensures asked { TellsSettings (run_settings_of (map S.text words.now)) result }
+    ensures in_range { IfOk result (λ o. HasSizesInRange o.sizes) }
+{
+    parse_task(alloc, "run", words)
+}
+
+// Reads the words that follow the program's name, where this subcommand is to be the first.
+fn parse_task<S: AsStr>(alloc: Global, task: &str, words: &[S]) -> Result<Settings, WordsFault>
+    ensures asked { TellsSettings (settings_for task.now (map S.text words.now)) result }
+    ensures in_range { IfOk result (λ o. HasSizesInRange o.sizes) }
+{
+    let mut command = memcg(alloc).map_err(WordsFault::NoMemory)?;
+    let found = match command.try_get_matches_from_mut(words) {
+        Ok(found) => found,
+        Err(error) => return Err(fault_of(alloc, &error)),
+    };
+    match read_settings(&found, task) {
+        Some(settings) => Ok(settings),
+        // The words are those of the other subcommand. Clap refuses each word that has no value in its range before,
+        // and every size has a default; but of a value that it found it promises no range, so what can't come is
+        // answered as it would be if it came.
+        None => {
+            let text = "the subcommand is another, or an option has no value in its range";
+            let error = command
+                .error(ErrorKind::InvalidValue, text)
+                .map_err(WordsFault::NoMemory)?;
+            Err(fault_of(alloc, &error))
+        }
+    }
+}
+
+// The fault that clap's error is to whoever gave the words: its text, or that memory ran out.
+fn fault_of(alloc: Global, error: &Error) -> WordsFault
+    ensures { kind_of error.now ≡ ErrorKind.OutOfMemory → IsNoMemory result }
+{
+    match error.kind() {
+        ErrorKind::OutOfMemory => WordsFault::NoMemory(AllocError),
+        _ => match format!(in alloc; "{error}") {
+            Ok(text) => WordsFault::BadWords(text),
+            Err(error) => WordsFault::NoMemory(error),
+        },
+    }
+}
+
+// The program as clap reads it.
+fn memcg<'a>(alloc: Global) -> Result<Command<'a>, AllocError>
+    ensures app { IfOk result (λ command. app_of command ≡ program) }
+{
+    Command::new(alloc, "memcg")
+        .bin_name("memcg")?
+        .no_binary_name(true)
+        .about(MEMCG_HELP)
+        .subcommand_required(true)
+        .subcommand(replay_task(alloc)?)?
+        .subcommand(task(alloc, "run", RUN_HELP)?)
+}
+
+// `replay`, which has an option more.
+fn replay_task<'a>(alloc: Global) -> Result<Command<'a>, AllocError>
+    ensures shape { IfOk result (λ command. (app_of command).top ≡ replay_shape) }
+    ensures local { IfOk result (λ command. (fields_of command).has_globals ≡ false) }
+{
+    task(alloc, "replay", REPLAY_HELP)?.arg(explain_option(alloc))
+}
+
+// A subcommand, with its options.
+fn task<'a>(alloc: Global, name: &'a str, about: &'a str) -> Result<Command<'a>, AllocError>
+    ensures shape { IfOk result (λ command. (app_of command).top ≡ task_shape name.entry.now) }
+    ensures local { IfOk result (λ command. (fields_of command).has_globals ≡ false) }
+{
+    Command::new(alloc, name)
+        .about(about)
+        .arg(size_option(alloc, "frames", FRAMES_HELP, MOST_FRAMES, "16"))?
+        .arg(size_option(alloc, "cpus", CPUS_HELP, MOST_CPUS, "2"))?
+        .arg(size_option(alloc, "batch", BATCH_HELP, MOST_BATCH, "4"))?
+        .arg(size_option(alloc, "high", HIGH_HELP, MOST_HIGH, "8"))?
+        .arg(size_option(alloc, "stock", STOCK_HELP, MOST_STOCK, "4"))?
+        .arg(audit_option(alloc))
+}
+
+// Whether the end is told.
+fn audit_option<'a>(alloc: Global) -> Arg<'a>
+    ensures rule { rule_of result ≡ flag_rule (codes "audit") }
+    ensures local { result.global ≡ false }
+{
+    Arg::new(alloc, "audit")
+        .long("audit")
+        .help(AUDIT_HELP)
+        .action(ArgAction::SetTrue)
+}
+
+// Whether it is told why groups were killed.
+fn explain_option<'a>(alloc: Global) -> Arg<'a>
+    ensures rule { rule_of result ≡ flag_rule (codes "explain") }
+    ensures local { result.global ≡ false }
+{
+    Arg::new(alloc, "explain")
+        .long("explain")
+        .help(EXPLAIN_HELP)
+        .action(ArgAction::SetTrue)
+}
+
+// A whole number from 1 to `most`.
+fn whole_number<'a>(most: u32) -> ValueParser<'a>
+    ensures { result ≡ Signed (pos 1) (pos most) }
+{
+    value_parser!(u32).range(1..=i64::from(most))
+}
+
+// A number option from 1 to `most`.
+fn size_option<'a>(
+    alloc: Global,
+    name: &'a str,
+    help: &'a str,
+    most: u32,
+    default: &'a str,
+) -> Arg<'a>
+    ensures rule { rule_of result ≡ size_rule name.entry.now most default.entry.now }
+    ensures local { result.global ≡ false }
+{
+    Arg::new(alloc, name)
+        .long(name)
+        .value_name("N")
+        .help(help)
+        .value_parser(whole_number(most))
+        .default_value(default)
+}
