@@ -21,6 +21,8 @@ pub mod Settling
 pub mod Returning
 pub mod Granting
 pub mod SmallRuns
+pub mod Breaking
+pub mod Sighting
 pub mod Homes
 pub mod Keeping
 pub mod Moving
