@@ -23,6 +23,7 @@ pub mod Granting
 pub mod SmallRuns
 pub mod Breaking
 pub mod Sighting
+pub mod GroupRuns
 pub mod Homes
 pub mod Keeping
 pub mod Moving

@@ -1,13 +1,15 @@
 -- Small runs, to be read beside the table: one of the life of a frame, three whose last step is refused, one of a drop, two at
--- borders (of references, limits and kills, and of the order of a list), and one of notes.
-use Rattle.std.specs.Prelude.{ℕ, Some, [], ◌∷◌, ◌++◌}
+-- borders (of references, limits and kills, and of the order of a list), one of notes, one of a group and its limit, and one of a
+-- stock that doesn't pay.
+use Rattle.std.specs.Prelude.{ℕ, Some, [], ◌∷◌, ◌++◌, codes}
 use Rattle.step_rules.specs.declared.step.Step.{Step}
 use Rattle.step_rules.specs.declared.step.Action.{Action}
 use Rattle.step_rules.specs.declared.step.Action.TheVariants.{Lock, Unlock, OpenVisit, ShutVisit, Get, Put, Freeze, Unfreeze, PassOut, TakeIn, PassBack}
 use Rattle.step_rules.specs.declared.step.Action.TheVariants.{Collect, Consume, Credit, Report, Absorb, Fill, DrainStock, Grant, Ungrant, PlaceBlock}
-use Rattle.step_rules.specs.declared.step.Action.TheVariants.{Publish, Return, NoteMax, NoteOom, SetMax, Kill}
+use Rattle.step_rules.specs.declared.step.Action.TheVariants.{Publish, Return, NoteMax, NoteOom, SetMax, Make, Remove, Kill}
 use Rattle.step_rules.specs.declared.step.Answer.{Answer}
-use Rattle.step_rules.specs.declared.step.Answer.TheVariants.{Illegal, Done, Held, Zero, Full, Left, Last, Missed, Took, Back, Pages, Granted, Placed}
+use Rattle.step_rules.specs.declared.step.Answer.TheVariants.{Illegal, Done, Held, Zero, Full, Left, Last, Missed, Took, Empty, OtherGroup, Drained, Back}
+use Rattle.step_rules.specs.declared.step.Answer.TheVariants.{Pages, Granted, Over, Placed, NoFreeBlock, Number}
 use Rattle.step_rules.specs.State.{Zone}
 use Rattle.step_rules.specs.After.{Run}
 
@@ -91,3 +93,29 @@ in_line =
 -- three kinds of events are noted at the root, once, twice and once
 abbrev pub noted : Run
 noted = made 1 Lock Done ∷ made 0 (NoteMax 0) Done ∷ made 0 (NoteOom 0) Done ∷ made 0 (NoteOom 0) Done ∷ made 0 (Kill 0) Done ∷ []
+
+-- two groups are made, one below the other, and the upper one gets a limit of a page: two pages for the lower one are over
+-- it, and one is granted; then the limit may fall below the usage. A frame is kept for that page, and has references
+abbrev pub group_in_use : Run
+group_in_use =
+    made 1 Lock Done ∷ made 0 (Make (codes "/a")) (Number 1) ∷ made 0 (Make (codes "/a/b")) (Number 2) ∷ made 0 (SetMax 1 (Some 1)) Done ∷
+    made 0 (Grant 2 2) (Over 1) ∷ made 0 (Grant 2 1) Granted ∷ made 0 (SetMax 1 (Some 0)) Done ∷
+    made 0 (PlaceBlock 2 0) (Placed (record { at = 0; order = 0 })) ∷ made 0 (Unfreeze 0 1) Done ∷ made 1 (Get 0) Held ∷ made 1 (Get 0) Held ∷
+    made 1 (Put 0) (Left 2) ∷ made 1 (Put 0) (Left 1) ∷ []
+
+-- a group isn't removed while one lies below it, or while it is used. The lower one is killed; the frame comes back all the same,
+-- and the group is removed. A new one gets its number, without its kill, and is below the same limit
+abbrev pub group_comes_and_goes : Run
+group_comes_and_goes =
+    group_in_use ++ made 0 (Remove 1) Illegal ∷ made 0 (Remove 2) Illegal ∷ made 0 (NoteOom 2) Done ∷ made 0 (Kill 2) Done ∷
+    made 0 (Freeze 0 1) Done ∷ made 0 (Return 0) Done ∷ made 0 (Remove 2) Done ∷ made 0 (Make (codes "/a/b")) (Number 2) ∷
+    made 0 (NoteMax 2) Done ∷ made 0 (Grant 2 1) (Over 1) ∷ made 1 Unlock Done ∷ []
+
+-- a processor's stock has one page, and its list both frames, so that none is free. Its stock pays for its group alone, and for
+-- one frame; and once it is drained it pays for none, and takes no page back
+abbrev pub stock_without_a_page : Run
+stock_without_a_page =
+    made 1 Lock Done ∷ made 0 (OpenVisit 1) Done ∷ made 0 (PassOut 0 1) Done ∷ made 1 (TakeIn 0) Done ∷ made 0 (PassOut 1 1) Done ∷
+    made 1 (TakeIn 1) Done ∷ made 0 (Grant 0 1) Granted ∷ made 0 (PlaceBlock 0 0) NoFreeBlock ∷ made 0 (Fill 1 0 1) Done ∷
+    made 1 (Consume 5) OtherGroup ∷ made 1 (Consume 0) Took ∷ made 1 (Consume 0) Empty ∷ made 0 (DrainStock 1) (Pages 0) ∷
+    made 1 (Consume 0) Drained ∷ made 1 (Credit 0) Drained ∷ []

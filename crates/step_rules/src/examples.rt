@@ -1,9 +1,10 @@
 //! Small runs that are checked by evaluation: what each function ensures is that the table allows every answer of the
 //! run as it stands, refused steps included.
 
-ghost use Rattle.std.specs.Prelude.{◌≡◌};
+ghost use Rattle.std.specs.Prelude.{◌≡◌, false};
 ghost use Rattle.step_rules.specs.After.{IsLegalRun, state_of};
-ghost use Rattle.step_rules.specs.Examples.{small_zone, life_of_a_frame, credited_twice, returned_twice, unlocked_too_soon, returned_when_killed, at_the_borders, in_line, noted};
+ghost use Rattle.step_rules.specs.Examples.{small_zone, life_of_a_frame, credited_twice, returned_twice, unlocked_too_soon, returned_when_killed, at_the_borders, in_line, noted, group_comes_and_goes, stock_without_a_page};
+ghost use Rattle.step_rules.specs.Folds.{was_killed};
 ghost use Rattle.step_rules.specs.Events.{Max, Oom, OomKill, events_of, events_local_of};
 ghost use Rattle.step_rules.specs.declared.phase.Phase.TheVariants.{InZone};
 ghost use Rattle.step_rules.specs.declared.phase.Hold.TheVariants.{Unheld};
@@ -56,4 +57,21 @@ pub fn notes_are_counted()
     ensures max { (events_of Max small_zone noted 0 ≡ 1) × (events_local_of Max small_zone noted 0 ≡ 1) }
     ensures oom { (events_of Oom small_zone noted 0 ≡ 2) × (events_local_of Oom small_zone noted 0 ≡ 2) }
     ensures oom_kill { (events_of OomKill small_zone noted 0 ≡ 1) × (events_local_of OomKill small_zone noted 0 ≡ 1) }
+{}
+
+/// Pages for a group are bounded by the limit of the one above it, which is named where they are over it and may be set
+/// below what is used; a group is removed once it has none below it and uses nothing, killed or not, and its number is
+/// given again, with nothing of what was counted there. What is noted at a group is counted above it too.
+pub fn a_group_comes_and_goes()
+    ensures legal { IsLegalRun small_zone group_comes_and_goes }
+    ensures killed { was_killed group_comes_and_goes 2 ≡ false }
+    ensures above { (events_of Oom small_zone group_comes_and_goes 1 ≡ 1) × (events_local_of Oom small_zone group_comes_and_goes 1 ≡ 0) }
+    ensures anew { (events_of Oom small_zone group_comes_and_goes 2 ≡ 0) × (events_of OomKill small_zone group_comes_and_goes 2 ≡ 0) }
+    ensures noted { (events_of Max small_zone group_comes_and_goes 0 ≡ 1) × (events_local_of Max small_zone group_comes_and_goes 2 ≡ 1) }
+{}
+
+/// A stock pays for its own group, as many frames as it has pages, and once it is drained nothing; and where no frame is
+/// free none is placed.
+pub fn a_stock_pays_once()
+    ensures { IsLegalRun small_zone stock_without_a_page }
 {}
