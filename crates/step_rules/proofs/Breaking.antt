@@ -4,11 +4,14 @@ use Rattle.std.proofs.lemmas.Bool.{cases_eq, ne_eqb, true≢false, false≢true}
 use Rattle.zone_blocks.specs.Block.{Covers}
 use Rattle.group_tree.specs.Path.{names_of}
 use Rattle.group_tree.specs.Groups.{has_group, group_at, path_of, in_subtree, with_limit, initial_groups}
-use Rattle.step_rules.specs.Promise.{Shown, Promise}
+use Rattle.group_tree.specs.declared.group.Group.{Group}
+use Rattle.step_rules.specs.declared.step.FramePlace.{FramePlace}
+use Rattle.step_rules.specs.declared.step.FramePlace.TheVariants.{Charged}
+use Rattle.step_rules.specs.Promise.{Shown, HasOnce, Promise}
 use Rattle.step_rules.specs.Examples.{small_zone}
 use Rattle.step_rules.specs.Breaches.{BreaksPromise, past_a_limit, granted_when_killed}
 use Rattle.step_rules.specs.Breaches.{returned_unused, returned_in_use, returned_in_no_unit, returned_again, credited_again, credited_in_use}
-use Rattle.step_rules.specs.Breaches.{consumed_nothing, consumed_in_a_unit, placed_on_a_tail, placed_smaller, placed_in_use, placed_ended}
+use Rattle.step_rules.specs.Breaches.{consumed_nothing, consumed_in_a_unit, placed_on_a_tail, placed_smaller, placed_in_use, placed_ended, placed_for_nobody}
 use Rattle.step_rules.specs.Breaches.{given_after_the_last, put_after_the_last, frozen_after_the_last, unfrozen_in_no_unit, unfrozen_in_use}
 
 -- ---- limits
@@ -58,6 +61,14 @@ placed_in_use_breaks shown promise =
 
 pub placed_ended_breaks : BreaksPromise placed_ended
 placed_ended_breaks shown promise = true≢false ((promise.returns 1).1 0 (record { from = omega arith; before = omega arith })).2
+
+pub placed_for_nobody_breaks : BreaksPromise placed_for_nobody
+unfolding has_group group_at
+placed_for_nobody_breaks shown promise =
+    let one = promise.frames 0 (omega arith) in
+    let kept : shown.keeper 0 ≡ Some 5 = (one.kept 5).1 (0, 0, refl, record { from = omega arith; before = omega arith }) in
+    let once : HasOnce small_zone shown 0 (Charged 5) = subst (λ (p : FramePlace). HasOnce small_zone shown 0 p) (sym (one.only (Charged 5) kept)) one.once in
+    false≢true (sym (ap (λ (groups : List Group). has_group groups 5) promise.groups) ∙ once.0)
 
 -- ---- references after the last
 pub given_after_the_last_breaks : BreaksPromise given_after_the_last

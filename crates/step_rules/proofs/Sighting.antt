@@ -22,7 +22,8 @@ use Rattle.step_rules.specs.After.{state_of, IsLegalRun}
 use Rattle.step_rules.specs.Promise.{IsShown, HasOnce, Promise}
 use Rattle.step_rules.specs.Examples.{small_zone, life_of_a_frame}
 use Rattle.step_rules.specs.Breaches.{kept_run, right_sight, at_list, IsWrongSight, seen_nowhere, seen_twice, listed_twice, listed_by_nobody}
-use Rattle.step_rules.specs.Breaches.{kept_in_no_unit, seen_beyond, prepaid_for_nobody, prepaid_left_out, no_group_seen, IsWrongAtBoot, parted_areas}
+use Rattle.step_rules.specs.Breaches.{kept_in_no_unit, seen_beyond, prepaid_for_nobody, prepaid_left_out, no_group_seen}
+use Rattle.step_rules.specs.Breaches.{IsWrongAfter, free_sight, parted_areas, prepaid_by_nobody, prepaid_for_no_group, granted_and_lost, lost_in_number}
 use Rattle.step_rules.specs.Units.{units_of}
 use Rattle.step_rules.specs.Returns.{times_in}
 use Rattle.step_rules.proofs.SmallRuns.{life_is_legal}
@@ -216,7 +217,7 @@ pub no_group_is_wrong : IsWrongSight no_group_seen
 no_group_is_wrong promise = true≢false (ap (λ (groups : List Group). length groups == 0) promise.groups)
 
 -- two free blocks beside one another are one
-pub parted_is_wrong : IsWrongAtBoot parted_areas
+pub parted_is_wrong : IsWrongAfter [] parted_areas
 parted_is_wrong promise =
     let free = promise.areas.0 in
     let size : length free ≡ 2 = promise.areas.1 in
@@ -232,3 +233,23 @@ parted_is_wrong promise =
     both free a b zero covers = a
     both free a b (suc zero) covers = b
     both free a b (suc (suc f)) covers = let past = covers.before in absurd (omega (arith, past))
+
+pub by_no_cpu_is_wrong : IsWrongAfter [] prepaid_by_nobody
+by_no_cpu_is_wrong promise = false≢true (promise.stocks 3 (omega arith)).0
+
+pub for_no_group_is_wrong : IsWrongAfter [] prepaid_for_no_group
+unfolding has_group group_at
+for_no_group_is_wrong promise =
+    let paid = promise.stocks 1 (omega arith) in
+    false≢true (subst (λ (g : ℕ). has_group initial_groups g ≡ true) (sym (some_number 5 paid.1.0 paid.1.1)) paid.1.2)
+  where
+    some_number : (a b : ℕ) → Some a ≡ Some b → a ≡ b
+    some_number a b z = cc
+
+pub lost_is_wrong : IsWrongAfter granted_and_lost free_sight
+unfolding has_group group_at in_subtree path_of names_of sum_to
+lost_is_wrong promise = true≢false (ap (λ (n : ℕ). n == 0) (promise.current 0 refl).1)
+
+pub lost_in_number_is_wrong : IsWrongAfter granted_and_lost lost_in_number
+unfolding has_group group_at in_subtree path_of names_of sum_to
+lost_in_number_is_wrong promise = true≢false (ap (λ (n : ℕ). n == 1) (promise.current 0 refl).0)

@@ -83,6 +83,10 @@ placed_in_use = made 2 (Get 0) Held ∷ placed
 abbrev pub placed_ended : Run
 placed_ended = ended ++ placed
 
+-- one is placed for a group that isn't there
+abbrev pub placed_for_nobody : Run
+placed_for_nobody = made 0 (PlaceBlock 5 0) (Placed (record { at = 0; order = 0 })) ∷ []
+
 -- after the last reference another is given, goes last, or is frozen
 abbrev pub given_after_the_last : Run
 given_after_the_last = ended ++ made 2 (Get 0) Held ∷ []
@@ -160,17 +164,37 @@ prepaid_left_out = record right_sight { current = λ g. 1 }
 abbrev pub no_group_seen : Shown
 no_group_seen = record right_sight { groups = [] }
 
--- seen at boot it breaks the promise
-abbrev pub IsWrongAtBoot : Shown → Type 0
-IsWrongAtBoot shown = ¬ Promise small_zone [] shown
-
--- the two frames are seen as two blocks
-abbrev pub parted_areas : Shown
-parted_areas = record {
-  areas = record { at = 0; order = 0 } ∷ record { at = 1; order = 0 } ∷ [];
+-- ---- what is shown of free frames alone
+-- both frames are free, and nothing is charged
+abbrev pub free_sight : Shown
+free_sight = record {
+  areas = record { at = 0; order = 1 } ∷ [];
   lists = λ p. [];
   keeper = λ f. None;
   groups = initial_groups;
   stocks = λ p. no_stock;
   current = λ g. 0;
 }
+
+-- seen after the run it breaks the promise
+abbrev pub IsWrongAfter : Run → Shown → Type 0
+IsWrongAfter run shown = ¬ Promise small_zone run shown
+
+-- the two frames are seen as two blocks
+abbrev pub parted_areas : Shown
+parted_areas = record free_sight { areas = record { at = 0; order = 0 } ∷ record { at = 1; order = 0 } ∷ [] }
+
+-- a page is in the stock of a processor that isn't there
+abbrev pub prepaid_by_nobody : Shown
+prepaid_by_nobody = record free_sight { stocks = λ p. if p == 3 then record { group = Some 0; pages = 1; is_drained = false } else no_stock }
+
+-- one is prepaid for a group that isn't there
+abbrev pub prepaid_for_no_group : Shown
+prepaid_for_no_group = record free_sight { stocks = λ p. if p == 1 then record { group = Some 5; pages = 1; is_drained = false } else no_stock }
+
+-- a page was granted, and is neither in a stock nor kept: it may not be left out of the root's number, and may not be in it
+abbrev pub granted_and_lost : Run
+granted_and_lost = made 0 (Grant 0 1) Granted ∷ []
+
+abbrev pub lost_in_number : Shown
+lost_in_number = record free_sight { current = λ g. 1 }

@@ -1,14 +1,16 @@
 //! What breaks the promise: runs and sights, each wrong in one thing, so that each field of the promise says something.
 
+ghost use Rattle.std.specs.Prelude.{[]};
 ghost use Rattle.step_rules.specs.After.{IsLegalRun, state_of};
 ghost use Rattle.step_rules.specs.Examples.{small_zone};
 ghost use Rattle.step_rules.specs.Promise.{IsShown, Promise};
 ghost use Rattle.step_rules.specs.Breaches.{BreaksPromise, past_a_limit, granted_when_killed};
 ghost use Rattle.step_rules.specs.Breaches.{returned_unused, returned_in_use, returned_in_no_unit, returned_again, credited_again, credited_in_use};
-ghost use Rattle.step_rules.specs.Breaches.{consumed_nothing, consumed_in_a_unit, placed_on_a_tail, placed_smaller, placed_in_use, placed_ended};
+ghost use Rattle.step_rules.specs.Breaches.{consumed_nothing, consumed_in_a_unit, placed_on_a_tail, placed_smaller, placed_in_use, placed_ended, placed_for_nobody};
 ghost use Rattle.step_rules.specs.Breaches.{given_after_the_last, put_after_the_last, frozen_after_the_last, unfrozen_in_no_unit, unfrozen_in_use};
 ghost use Rattle.step_rules.specs.Breaches.{kept_run, right_sight, IsWrongSight, seen_nowhere, seen_twice, listed_twice, listed_by_nobody};
-ghost use Rattle.step_rules.specs.Breaches.{kept_in_no_unit, seen_beyond, prepaid_for_nobody, prepaid_left_out, no_group_seen, IsWrongAtBoot, parted_areas};
+ghost use Rattle.step_rules.specs.Breaches.{kept_in_no_unit, seen_beyond, prepaid_for_nobody, prepaid_left_out, no_group_seen};
+ghost use Rattle.step_rules.specs.Breaches.{IsWrongAfter, free_sight, parted_areas, prepaid_by_nobody, prepaid_for_no_group, granted_and_lost, lost_in_number};
 
 /// A grant that passes the limit of an ancestor breaks the promise, and so does one to a killed group.
 pub fn a_grant_past_a_limit_breaks_the_promise()
@@ -27,7 +29,8 @@ pub fn a_return_out_of_turn_breaks_the_promise()
     ensures credited_in_use { BreaksPromise credited_in_use }
 {}
 
-/// What is in use is paid for, or placed, by no run that keeps the promise.
+/// A frame is paid for only from a list, and paid for or placed only where it is in no use; and a block is placed only of
+/// its order, and for a group that is there.
 pub fn a_second_use_breaks_the_promise()
     ensures nothing { BreaksPromise consumed_nothing }
     ensures in_a_unit { BreaksPromise consumed_in_a_unit }
@@ -35,6 +38,7 @@ pub fn a_second_use_breaks_the_promise()
     ensures smaller { BreaksPromise placed_smaller }
     ensures in_use { BreaksPromise placed_in_use }
     ensures ended { BreaksPromise placed_ended }
+    ensures for_nobody { BreaksPromise placed_for_nobody }
 {}
 
 /// After the last reference is gone no other is given, goes last or is frozen; and the first ones are put on a unit that
@@ -55,8 +59,7 @@ pub fn a_right_sight_keeps_the_promise()
 {}
 
 /// The same breaks it where it is wrong in one thing: a frame is nowhere, in two places, twice on a list, on nobody's
-/// list, kept in no unit, or none of the zone's; a page is prepaid for nobody, or left out; no group is seen; or two
-/// blocks are seen where they are one.
+/// list, kept in no unit, or none of the zone's; a page is prepaid for nobody, or left out; or no group is seen.
 pub fn a_wrong_sight_breaks_the_promise()
     ensures nowhere { IsWrongSight seen_nowhere }
     ensures twice { IsWrongSight seen_twice }
@@ -67,5 +70,14 @@ pub fn a_wrong_sight_breaks_the_promise()
     ensures for_nobody { IsWrongSight prepaid_for_nobody }
     ensures left_out { IsWrongSight prepaid_left_out }
     ensures no_group { IsWrongSight no_group_seen }
-    ensures parted { IsWrongAtBoot parted_areas }
+{}
+
+/// Of free frames alone a sight breaks the promise where two blocks are seen that are one, where a page is prepaid by
+/// nobody or for a group that isn't there, and where a page was granted and is nowhere, counted or not.
+pub fn a_wrong_free_sight_breaks_the_promise()
+    ensures parted { IsWrongAfter [] parted_areas }
+    ensures by_nobody { IsWrongAfter [] prepaid_by_nobody }
+    ensures for_no_group { IsWrongAfter [] prepaid_for_no_group }
+    ensures lost { IsWrongAfter granted_and_lost free_sight }
+    ensures lost_in_number { IsWrongAfter granted_and_lost lost_in_number }
 {}
