@@ -24,6 +24,7 @@ pub mod SmallRuns
 pub mod Breaking
 pub mod Sighting
 pub mod GroupRuns
+pub mod LocalRuns
 pub mod Homes
 pub mod Keeping
 pub mod Moving

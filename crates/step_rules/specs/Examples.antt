@@ -1,7 +1,7 @@
 -- Small runs, to be read beside the table: one of the life of a frame, three whose last step is refused, one of a drop, two at
 -- borders (of references, limits and kills, and of the order of a list), one of notes, one of a group and its limit, and one of a
 -- stock that doesn't pay.
-use Rattle.std.specs.Prelude.{ℕ, Some, [], ◌∷◌, ◌++◌, codes}
+use Rattle.std.specs.Prelude.{ℕ, ◌==◌, Some, [], ◌∷◌, ◌++◌, codes, replicate, if◌then◌else◌}
 use Rattle.step_rules.specs.declared.step.Step.{Step}
 use Rattle.step_rules.specs.declared.step.Action.{Action}
 use Rattle.step_rules.specs.declared.step.Action.TheVariants.{Lock, Unlock, OpenVisit, ShutVisit, Get, Put, Freeze, Unfreeze, PassOut, TakeIn, PassBack}
@@ -10,7 +10,7 @@ use Rattle.step_rules.specs.declared.step.Action.TheVariants.{Publish, Return, N
 use Rattle.step_rules.specs.declared.step.Answer.{Answer}
 use Rattle.step_rules.specs.declared.step.Answer.TheVariants.{Illegal, Done, Held, Zero, Full, Left, Last, Missed, Took, Empty, OtherGroup, Drained, Back}
 use Rattle.step_rules.specs.declared.step.Answer.TheVariants.{Pages, Granted, Over, Placed, NoFreeBlock, Number}
-use Rattle.step_rules.specs.State.{Zone}
+use Rattle.step_rules.specs.State.{Zone, State, at_boot, no_part}
 use Rattle.step_rules.specs.After.{Run}
 
 -- a zone of two frames and two processors
@@ -119,3 +119,24 @@ stock_without_a_page =
     made 1 (TakeIn 1) Done ∷ made 0 (Grant 0 1) Granted ∷ made 0 (PlaceBlock 0 0) NoFreeBlock ∷ made 0 (Fill 1 0 1) Done ∷
     made 1 (Consume 5) OtherGroup ∷ made 1 (Consume 0) Took ∷ made 1 (Consume 0) Empty ∷ made 0 (DrainStock 1) (Pages 0) ∷
     made 1 (Consume 0) Drained ∷ made 1 (Credit 0) Drained ∷ []
+
+-- processor 1 takes the lock
+abbrev pub lock_taken : Run
+lock_taken = made 1 Lock Done ∷ []
+
+-- its visit is opened and shut, and in between it asks in vain for a frame that has no reference; so does processor 2 meanwhile
+abbrev pub vain_visit : Run
+vain_visit = made 0 (OpenVisit 1) Done ∷ made 2 (Get 0) Zero ∷ made 1 (Get 0) Zero ∷ made 0 (ShutVisit 1) Done ∷ []
+
+-- ---- states at the bounds, which are tests of the table and not of a run
+-- each seat has so many references on frame 0
+abbrev pub with_pins : ℕ → State
+with_pins n = record (at_boot small_zone) { references = λ seat f. if f == 0 then n else 0 }
+
+-- each processor has so many back frames
+abbrev pub with_back_frames : ℕ → State
+with_back_frames n = record (at_boot small_zone) { parts = λ p. record no_part { back = replicate n 0 } }
+
+-- each has so many fresh frames, and one on its list
+abbrev pub with_fresh_frames : ℕ → State
+with_fresh_frames n = record (at_boot small_zone) { parts = λ p. record no_part { list = 1 ∷ []; fresh = replicate n 0 } }
