@@ -1,13 +1,12 @@
 -- What breaks the promise, and the sight that keeps it.
-use Rattle.std.proofs.Common.{◌≡◌, ℕ, ◌+◌, ◌<◌, ◌≤◌, ◌==◌, Bool, true, false, Option, Some, None, List, [], ◌∷◌, refl, sym, ◌∙◌, ap, subst, arith, inl, inr, zero, suc}
-use Rattle.std.proofs.lemmas.Bool.{cases_eq, ne_eqb, true≢false, false≢true}
-use Rattle.zone_blocks.specs.Block.{Covers}
+use Rattle.std.proofs.Common.{◌≡◌, ◌≤◌, ◌==◌, Some, List, refl, sym, ◌∙◌, ap, subst, arith, inl, inr}
+use Rattle.std.proofs.lemmas.Bool.{true≢false, false≢true}
 use Rattle.group_tree.specs.Path.{names_of}
-use Rattle.group_tree.specs.Groups.{has_group, group_at, path_of, in_subtree, with_limit, initial_groups}
+use Rattle.group_tree.specs.Groups.{has_group, group_at, path_of, in_subtree, with_limit}
 use Rattle.group_tree.specs.declared.group.Group.{Group}
 use Rattle.step_rules.specs.declared.step.FramePlace.{FramePlace}
 use Rattle.step_rules.specs.declared.step.FramePlace.TheVariants.{Charged}
-use Rattle.step_rules.specs.Promise.{Shown, HasOnce, Promise}
+use Rattle.step_rules.specs.Promise.{HasOnce}
 use Rattle.step_rules.specs.Examples.{small_zone}
 use Rattle.step_rules.specs.Breaches.{BreaksPromise, past_a_limit, granted_when_killed}
 use Rattle.step_rules.specs.Breaches.{returned_unused, returned_in_use, returned_in_no_unit, returned_again, credited_again, credited_in_use}
@@ -24,7 +23,7 @@ granted_when_killed_breaks shown promise = true≢false (promise.limits 2).0
 
 -- ---- returns
 pub returned_unused_breaks : BreaksPromise returned_unused
-returned_unused_breaks shown promise = elim (promise.returns 1).0 [ | inl e ↦ false≢true e | inr e ↦ false≢true e ]
+returned_unused_breaks shown promise = elim (promise.returns 1).0 [ inl e ↦ false≢true e | inr e ↦ false≢true e ]
 
 pub returned_in_use_breaks : BreaksPromise returned_in_use
 returned_in_use_breaks shown promise = true≢false (ap (λ n. n == 2) ((promise.returns 3).2 0))
@@ -33,7 +32,7 @@ pub returned_in_no_unit_breaks : BreaksPromise returned_in_no_unit
 returned_in_no_unit_breaks shown promise = false≢true (promise.returns 1).1
 
 pub returned_again_breaks : BreaksPromise returned_again
-returned_again_breaks shown promise = elim (promise.returns 4).0 [ | inl e ↦ false≢true e | inr e ↦ false≢true e ]
+returned_again_breaks shown promise = elim (promise.returns 4).0 [ inl e ↦ false≢true e | inr e ↦ false≢true e ]
 
 pub credited_again_breaks : BreaksPromise credited_again
 credited_again_breaks shown promise = true≢false (ap (λ n. n == 0) (promise.returns 8).0)

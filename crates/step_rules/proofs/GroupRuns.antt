@@ -1,6 +1,6 @@
 -- The small runs of groups and of a stock are legal, each step in turn.
-use Rattle.std.proofs.Common.{◌≡◌, ℕ, ◌+◌, ◌<◌, ◌⊎◌, Bool, true, false, Option, Some, None, List, [], ◌∷◌, length, refl, sym, ◌∙◌, ap, subst, arith, inl, inr, zero, suc}
-use Rattle.std.specs.Prelude.{IsTrue, codes}
+use Rattle.std.proofs.Common.{◌≡◌, ℕ, ◌+◌, ◌<◌, Bool, true, false, Option, Some, None, List, [], ◌∷◌, refl, sym, ◌∙◌, ap, subst, arith, inl, inr, zero, suc}
+use Rattle.std.specs.Prelude.{codes}
 use Rattle.std.specs.List.{slice_index_or}
 use Rattle.std.proofs.lemmas.Bool.{cases_eq, ne_eqb, true≢false, false≢true}
 use Rattle.std.proofs.lemmas.Nat.{pow_pos}
@@ -16,7 +16,7 @@ use Rattle.step_rules.specs.Legal.{is_of_group}
 use Rattle.step_rules.specs.After.{IsLegalRun}
 use Rattle.step_rules.specs.Examples.{small_zone, group_comes_and_goes, stock_without_a_page}
 use Rattle.step_rules.specs.Events.{Max, Oom, OomKill, events_of, events_local_of}
-use Rattle.step_rules.proofs.SmallRuns.{AreAllowed, legal_each, root_has_room, front_block}
+use Rattle.step_rules.proofs.SmallRuns.{legal_each, root_has_room, front_block}
 
 -- the root, a group with a limit, and one below it
 abbrev three : Option ℕ → List Group
@@ -34,7 +34,7 @@ above limit m below = elim (cases_eq 0 m) [
   | inl e ↦ IsRoot e
   | inr far ↦ elim (cases_eq 1 m) [
     | inl e ↦ IsUpper e
-    | inr farther ↦ elim (cases_eq 2 m) [ | inl e ↦ IsLower e | inr none ↦ absurd (false≢true (sym (nobody far farther none) ∙ below)) ]
+    | inr farther ↦ elim (cases_eq 2 m) [ inl e ↦ IsLower e | inr none ↦ absurd (false≢true (sym (nobody far farther none) ∙ below)) ]
   ]
 ]
   where

@@ -1,5 +1,5 @@
 -- A small visit is local; and what is legal at the bounds.
-use Rattle.std.proofs.Common.{◌≡◌, ℕ, ◌++◌, true, false, refl, inl, inr, zero, suc}
+use Rattle.std.proofs.Common.{◌≡◌, ◌++◌, true, false, refl, inl, inr, zero, suc}
 use Rattle.std.proofs.lemmas.Bool.{true≢false, false≢true}
 use Rattle.step_rules.specs.declared.step.Action.TheVariants.{Get, Consume}
 use Rattle.step_rules.specs.State.{State, at_boot, sum_to, all_to}

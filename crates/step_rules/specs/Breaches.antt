@@ -1,11 +1,10 @@
 -- What breaks the promise: small runs and sights, each wrong in one thing. So each field of the promise refuses something; and
 -- that it can be kept is said of one sight.
-use Rattle.std.specs.Prelude.{◌≡◌, ℕ, ◌==◌, false, Some, None, List, [], ◌∷◌, ◌++◌, codes, if◌then◌else◌}
-use Rattle.zone_blocks.specs.declared.block.Block.{Block}
+use Rattle.std.specs.Prelude.{ℕ, ◌==◌, false, Some, None, List, [], ◌∷◌, ◌++◌, codes, if◌then◌else◌}
 use Rattle.group_tree.specs.Groups.{initial_groups}
 use Rattle.step_rules.specs.declared.step.Action.TheVariants.{Lock, Get, Put, Freeze, Unfreeze, TakeIn, Consume, Credit, Grant, PlaceBlock, Return, SetMax, Make, Kill}
 use Rattle.step_rules.specs.declared.step.Answer.TheVariants.{Done, Held, Last, Took, Back, Granted, Placed, Number}
-use Rattle.step_rules.specs.State.{Stock, no_stock}
+use Rattle.step_rules.specs.State.{no_stock}
 use Rattle.step_rules.specs.After.{Run}
 use Rattle.step_rules.specs.Examples.{small_zone, made, first_visit, hand_over}
 use Rattle.step_rules.specs.Promise.{Shown, Promise}
