@@ -43,6 +43,7 @@ pub mod Heads
 pub mod Charging
 pub mod Promising
 pub mod Answering
+pub mod Answered
 pub mod Few
 pub mod Booking
 pub mod Living

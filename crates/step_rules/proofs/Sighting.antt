@@ -181,10 +181,7 @@ by_nobody_is_wrong promise = by_place (promise.frames 1 (omega arith)).place (pr
 second_in_no_unit : (h k : ℕ) → (units_of kept_run).unit h ≡ Some (record { group = 0; order = k }) → Covers (record { at = h; order = k }) 1 → ⊥
 second_in_no_unit h k is covers = elim (cases_eq 0 h) [
   | inl e ↦
-      let same : Some (record { group = 0; order = 0 }) ≡ Some (record { group = 0; order = k }) =
-      subst (λ (m : ℕ). (units_of kept_run).unit m ≡ Some (record { group = 0; order = k })) (sym e) is in
-      let order : 0 ≡ k = ap order_in same in
-      let size : 1 ≡ 2 ^ k = ap (λ (n : ℕ). 2 ^ n) order in
+      let size = one_frame (subst (λ (m : ℕ). (units_of kept_run).unit m ≡ Some (record { group = 0; order = k })) (sym e) is) in
       let high = covers.before in
       omega (arith, e, size, high)
   | inr ne ↦ none_some _ (sym (no_unit ne) ∙ is)
@@ -193,6 +190,9 @@ second_in_no_unit h k is covers = elim (cases_eq 0 h) [
     order_in : Option ChargedUnit → ℕ
     order_in None = 0
     order_in (Some unit) = unit.order
+
+    one_frame : ◌≡◌ {A = Option ChargedUnit} (Some (record { group = 0; order = 0 })) (Some (record { group = 0; order = k })) → 1 ≡ 2 ^ k
+    one_frame same = ap (λ (n : ℕ). 2 ^ n) (ap order_in same)
 
     no_unit : (0 ≡ h → ⊥) → (units_of kept_run).unit h ≡ None
     no_unit ne = rw (ne_eqb 0 h ne) refl
