@@ -1,14 +1,13 @@
 -- Each step has an answer that it may get. Serves `every_step_is_answered`.
-use Rattle.std.proofs.Common.{◌≡◌, ℕ, zero, suc, ◌+◌, ◌-◌, ◌^◌, ◌<◌, ◌≤◌, ◌⊎◌, Bool, true, false, Option, Some, None, List, length, refl, sym, ◌∙◌, ap, subst, arith}
-use Rattle.std.proofs.Common.{inl, inr, IsTrue, cond}
+use Rattle.std.proofs.Common.{◌≡◌, ℕ, zero, suc, ◌+◌, ◌-◌, ◌<◌, ◌≤◌, ◌⊎◌, Bool, true, false, Option, Some, None, List, length, refl, ◌∙◌, ap, subst, arith}
+use Rattle.std.proofs.Common.{inl, inr, cond}
 use Rattle.std.specs.Prelude.{nat_le}
-use Rattle.std.proofs.lemmas.Bool.{cases_Bool, cases_eq, cases_lt, leb-true, true≢false}
-use Rattle.std.proofs.lemmas.Nat.{pow_pos}
+use Rattle.std.proofs.lemmas.Bool.{cases_Bool, cases_eq, leb-true}
 use Rattle.zone_blocks.specs.declared.block.Block.{Block}
 use Rattle.zone_blocks.specs.Areas.{IsFreeBlock}
 use Rattle.zone_blocks.proofs.Unique.{decide_free_block}
 use Rattle.group_tree.specs.declared.group.Group.{Group}
-use Rattle.group_tree.specs.Groups.{has_group, in_subtree, parent_of, AreGroups, IsLeastFreeNumber}
+use Rattle.group_tree.specs.Groups.{has_group, parent_of, AreGroups, IsLeastFreeNumber}
 use Rattle.group_tree.specs.Ancestors.{depth_at}
 use Rattle.group_tree.specs.Room.{has_room, PathHasRoom, IsLowestOver}
 use Rattle.group_tree.proofs.AncestorLemmas.{parent_of-none_root}
@@ -57,11 +56,14 @@ room_or_over groups usage g n tree there =
     climb (suc left) m few walked =
         elim (cases_Bool (has_room groups usage m n)) [
           | inl passes ↦ go_on m walked passes (parent_of groups m) refl (λ p up on. climb left p (omega (arith, up, few)) on)
-          | inr fails ↦ inr (m, record {
-            on_path = walked.on_path;
-            over = fails;
-            lowest = walked_lowest groups (λ k. has_room groups usage k n) g m walked;
-          })
+          | inr fails ↦ inr (
+            m,
+            record {
+              on_path = walked.on_path;
+              over = fails;
+              lowest = walked_lowest groups (λ k. has_room groups usage k n) g m walked;
+            },
+          )
         ]
 
 -- ---- a free block of this order, or none
@@ -131,12 +133,12 @@ put_given s seat f some =
     ]
 
 freeze_given : (s : State) (seat f n : ℕ) → IsAnswered s seat (Freeze f n)
-freeze_given s seat f n = elim (cases_eq (live_references s f) n) [ | inl all ↦ (Done, tt, all) | inr other ↦ (Missed, tt, other) ]
+freeze_given s seat f n = elim (cases_eq (live_references s f) n) [ inl all ↦ (Done, tt, all) | inr other ↦ (Missed, tt, other) ]
 
 -- the number is that of the option, or isn't
 of_or_other : (o : Option ℕ) (g : ℕ) → (o ≡ Some g) ⊎ (o ≡ Some g → ⊥)
 of_or_other None g = inr (λ e. none_some g e)
-of_or_other (Some h) g = elim (cases_eq h g) [ | inl e ↦ inl (ap Some e) | inr ne ↦ inr (λ e. ne (same h g e)) ]
+of_or_other (Some h) g = elim (cases_eq h g) [ inl e ↦ inl (ap Some e) | inr ne ↦ inr (λ e. ne (same h g e)) ]
   where
     same : (a b : ℕ) → Some a ≡ Some b → a ≡ b
     same a b z = cc
@@ -155,11 +157,11 @@ consume_given s seat g =
     ]
 
 credit_given : (s : State) (seat f : ℕ) → IsAnswered s seat (Credit f)
-credit_given s seat f = elim (cases_Bool (s.parts seat).stock.is_drained) [ | inl drained ↦ (Drained, drained, tt) | inr not ↦ (Back, not, tt) ]
+credit_given s seat f = elim (cases_Bool (s.parts seat).stock.is_drained) [ inl drained ↦ (Drained, drained, tt) | inr not ↦ (Back, not, tt) ]
 
 grant_given : (s : State) (seat g n : ℕ) → AreGroups s.groups → has_group s.groups g ≡ true → IsAnswered s seat (Grant g n)
 grant_given s seat g n tree there =
-    elim (room_or_over s.groups (usage_of s) g n tree there) [ | inl room ↦ (Granted, room, tt) | inr over ↦ (Over over.0, over.1, tt) ]
+    elim (room_or_over s.groups (usage_of s) g n tree there) [ inl room ↦ (Granted, room, tt) | inr over ↦ (Over over.0, over.1, tt) ]
 
 place_given : (s : State) (seat g k : ℕ) → IsAnswered s seat (PlaceBlock g k)
 place_given s seat g k =
