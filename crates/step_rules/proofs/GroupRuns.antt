@@ -14,7 +14,7 @@ use Rattle.group_tree.specs.Room.{PathHasRoom, IsLowestOver, has_room, fits_limi
 use Rattle.step_rules.specs.State.{at_boot, sum_to, all_to}
 use Rattle.step_rules.specs.Legal.{is_of_group}
 use Rattle.step_rules.specs.After.{IsLegalRun}
-use Rattle.step_rules.specs.Examples.{small_zone, group_comes_and_goes, stock_without_a_page}
+use Rattle.step_rules.specs.Examples.{small_zone, group_comes_and_goes, killed_group_ends, stock_without_a_page}
 use Rattle.step_rules.specs.Events.{Max, Oom, OomKill, events_of, events_local_of}
 use Rattle.step_rules.proofs.SmallRuns.{legal_each, root_has_room, front_block}
 
@@ -111,3 +111,21 @@ counted_anew = (refl, refl)
 pub noted_at_last : (events_of Max small_zone group_comes_and_goes 0 ≡ 1) × (events_local_of Max small_zone group_comes_and_goes 2 ≡ 1)
 unfolding in_subtree path_of group_at names_of with_limit without_group
 noted_at_last = (refl, refl)
+
+-- two groups without limits have room
+two_have_room : (usage : ℕ → ℕ) (n : ℕ) → PathHasRoom (two None) usage 1 n
+unfolding limit_of group_at in_subtree path_of
+two_have_room usage n m below = elim (cases_eq 0 m) [
+  | inl e ↦ subst (λ (k : ℕ). has_room (two None) usage k n ≡ true) e refl
+  | inr far ↦ elim (cases_eq 1 m) [
+    | inl e ↦ subst (λ (k : ℕ). has_room (two None) usage k n ≡ true) e refl
+    | inr farther ↦ absurd (false≢true (sym (nobody far farther) ∙ below))
+  ]
+]
+  where
+    nobody : (0 ≡ m → ⊥) → (1 ≡ m → ⊥) → in_subtree (two None) m 1 ≡ false
+    nobody a b = rw (ne_eqb 0 m a) (rw (ne_eqb 1 m b) refl)
+
+pub killed_run_is_legal : IsLegalRun small_zone killed_group_ends
+unfolding has_group group_at sum_to all_to in_subtree path_of names_of number_at parent_path is_name is_well_formed make_fault has_child with_limit without_group limit_of
+killed_run_is_legal = legal_each (at_boot small_zone) killed_group_ends (record { legal = refl; answered = tt; counted = tt }, (record { legal = refl; answered = first_number; counted = tt }, (record { legal = refl; answered = two_have_room _ 2; counted = tt }, (record { legal = refl; answered = tt; counted = tt }, (refl, (record { legal = refl; answered = tt; counted = tt }, (record { legal = refl; answered = tt; counted = tt }, (record { legal = refl; answered = tt; counted = tt }, (record { legal = refl; answered = (refl, front_block _ refl refl); counted = tt }, (record { legal = refl; answered = tt; counted = tt }, (record { legal = refl; answered = tt; counted = tt }, (record { legal = refl; answered = tt; counted = tt }, (record { legal = refl; answered = tt; counted = refl }, (record { legal = refl; answered = tt; counted = tt }, (record { legal = refl; answered = second_number (Some 0); counted = tt }, (record { legal = refl; answered = tt; counted = tt }, (record { legal = refl; answered = tt; counted = tt }, (record { legal = refl; answered = tt; counted = tt }, tt))))))))))))))))))

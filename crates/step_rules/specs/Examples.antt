@@ -1,6 +1,6 @@
 -- Small runs, to be read beside the table: one of the life of a frame, three whose last step is refused, one of a drop, two at
--- borders (of references, limits and kills, and of the order of a list), one of notes, one of a group and its limit, and one of a
--- stock that doesn't pay.
+-- borders (of references, limits and kills, and of the order of a list), one of notes, two of a group, its limit and its kill, and
+-- one of a stock that doesn't pay.
 use Rattle.std.specs.Prelude.{ℕ, ◌==◌, Some, [], ◌∷◌, ◌++◌, codes, replicate, if◌then◌else◌}
 use Rattle.step_rules.specs.declared.step.Step.{Step}
 use Rattle.step_rules.specs.declared.step.Action.{Action}
@@ -110,6 +110,16 @@ group_comes_and_goes =
     group_in_use ++ made 0 (Remove 1) Illegal ∷ made 0 (Remove 2) Illegal ∷ made 0 (NoteOom 2) Done ∷ made 0 (Kill 2) Done ∷
     made 0 (Freeze 0 1) Done ∷ made 0 (Return 0) Done ∷ made 0 (Remove 2) Done ∷ made 0 (Make (codes "/a/b")) (Number 2) ∷
     made 0 (NoteMax 2) Done ∷ made 0 (Grant 2 1) (Over 1) ∷ made 1 Unlock Done ∷ []
+
+-- two pages are granted to a group, and it is killed: it gets no other page, but of these the one is placed and the other taken
+-- back; events are noted at it, its limit is set, its frame is published and comes back, a group is made below it and removed, and
+-- it is removed itself
+abbrev pub killed_group_ends : Run
+killed_group_ends =
+    made 1 Lock Done ∷ made 0 (Make (codes "/a")) (Number 1) ∷ made 0 (Grant 1 2) Granted ∷ made 0 (Kill 1) Done ∷ made 0 (Grant 1 1) Illegal ∷
+    made 0 (NoteMax 1) Done ∷ made 0 (NoteOom 1) Done ∷ made 0 (SetMax 1 (Some 0)) Done ∷ made 0 (PlaceBlock 1 0) (Placed (record { at = 0; order = 0 })) ∷
+    made 0 (Ungrant 1 1) Done ∷ made 0 (Unfreeze 0 1) Done ∷ made 0 (Publish 0) Done ∷ made 0 (Freeze 0 1) Done ∷ made 0 (Return 0) Done ∷
+    made 0 (Make (codes "/a/b")) (Number 2) ∷ made 0 (Remove 2) Done ∷ made 0 (Remove 1) Done ∷ made 1 Unlock Done ∷ []
 
 -- a processor's stock has one page, and its list both frames, so that none is free. Its stock pays for its group alone, and for
 -- one frame; and once it is drained it pays for none, and takes no page back

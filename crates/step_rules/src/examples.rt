@@ -3,7 +3,7 @@
 
 ghost use Rattle.std.specs.Prelude.{◌≡◌, ◌++◌, true, false, Some};
 ghost use Rattle.step_rules.specs.After.{IsLegalRun, state_of};
-ghost use Rattle.step_rules.specs.Examples.{small_zone, life_of_a_frame, credited_twice, returned_twice, unlocked_too_soon, returned_when_killed, at_the_borders, in_line, noted, group_comes_and_goes, stock_without_a_page};
+ghost use Rattle.step_rules.specs.Examples.{small_zone, life_of_a_frame, credited_twice, returned_twice, unlocked_too_soon, returned_when_killed, at_the_borders, in_line, noted, group_comes_and_goes, killed_group_ends, stock_without_a_page};
 ghost use Rattle.step_rules.specs.Examples.{first_visit, hand_over, last_put, lock_taken, vain_visit, with_pins, with_back_frames, with_fresh_frames};
 ghost use Rattle.step_rules.specs.Legal.{is_legal};
 ghost use Rattle.step_rules.specs.Cover.{hide};
@@ -77,6 +77,12 @@ pub fn a_group_comes_and_goes()
     ensures above { (events_of Oom small_zone group_comes_and_goes 1 ≡ 1) × (events_local_of Oom small_zone group_comes_and_goes 1 ≡ 0) }
     ensures anew { (events_of Oom small_zone group_comes_and_goes 2 ≡ 0) × (events_of OomKill small_zone group_comes_and_goes 2 ≡ 0) }
     ensures noted { (events_of Max small_zone group_comes_and_goes 0 ≡ 1) × (events_local_of Max small_zone group_comes_and_goes 2 ≡ 1) }
+{}
+
+/// A killed group gets no page more; those that are pending for it are placed or taken back, events are noted at it, its
+/// limit is set, and it is removed once nothing of it is left.
+pub fn a_killed_group_ends()
+    ensures { IsLegalRun small_zone killed_group_ends }
 {}
 
 /// A stock pays for its own group, as many frames as it has pages, and once it is drained nothing; and where no frame is
