@@ -21,6 +21,10 @@ pub mod Settling
 pub mod Returning
 pub mod Granting
 pub mod SmallRuns
+pub mod Breaking
+pub mod Sighting
+pub mod GroupRuns
+pub mod LocalRuns
 pub mod Homes
 pub mod Keeping
 pub mod Moving
@@ -39,6 +43,7 @@ pub mod Heads
 pub mod Charging
 pub mod Promising
 pub mod Answering
+pub mod Answered
 pub mod Few
 pub mod Booking
 pub mod Living

@@ -14,17 +14,17 @@ use Rattle.step_rules.specs.Events.{Max, Oom, OomKill, events_of, events_local_o
 use Rattle.step_rules.proofs.Runs.{next, IsLegalFrom}
 
 -- each step is allowed after those before it
-abbrev AreAllowed : State → Run → Type 0
+abbrev pub AreAllowed : State → Run → Type 0
 AreAllowed s [] = Unit {0}
 AreAllowed s (e ∷ run) = Allows s e.0.seat e.0.action e.1 × AreAllowed (next s e) run
 
-legal_each : (s : State) (run : Run) → AreAllowed s run → IsLegalFrom s run
+pub legal_each : (s : State) (run : Run) → AreAllowed s run → IsLegalFrom s run
 legal_each s [] each k = tt
 legal_each s (e ∷ run) each zero = each.0
 legal_each s (e ∷ run) each (suc k) = legal_each (next s e) run each.1 k
 
 -- the root has no limit
-root_has_room : (usage : ℕ → ℕ) (n : ℕ) → PathHasRoom initial_groups usage 0 n
+pub root_has_room : (usage : ℕ → ℕ) (n : ℕ) → PathHasRoom initial_groups usage 0 n
 unfolding limit_of group_at
 root_has_room usage n m below =
     elim (cases_eq 0 m) [
@@ -33,7 +33,7 @@ root_has_room usage n m below =
     ]
 
 -- frame 0 of the small zone is a free block where it is free
-front_block : (free : List Bool) → length free ≡ 2 → slice_index_or free 0 false ≡ true → IsFreeBlock free (record { at = 0; order = 0 })
+pub front_block : (free : List Bool) → length free ≡ 2 → slice_index_or free 0 false ≡ true → IsFreeBlock free (record { at = 0; order = 0 })
 front_block free size first = record {
   block = record { order = omega arith; aligned = refl; inside = omega arith };
   all_free = λ f covers.

@@ -1,4 +1,4 @@
--- Who makes a step; and the table leaves no choice of an answer but which free block is placed.
+-- Who makes a step; each step has an answer; and the table leaves no choice of it but which free block is placed.
 use Rattle.std.specs.Prelude.{◌≡◌, ◌≢◌, ◌⊎◌, ◌||◌, ℕ, true}
 use Rattle.zone_blocks.specs.declared.block.Block.{Block}
 use Rattle.step_rules.specs.declared.step.Action.{Action}
@@ -23,3 +23,9 @@ abbrev pub AnswersAreDetermined : Type 0
 AnswersAreDetermined = (zone : Zone) (run : Run) → IsLegalRun zone run → (seat : ℕ) (action : Action) (one other : Answer) →
     Allows (state_of zone run) seat action one → Allows (state_of zone run) seat action other →
     (one ≡ other) ⊎ (IsPlacing one × IsPlacing other)
+
+-- after every legal run each step has an answer that it may get; so every list of steps, answered one after the other, makes a
+-- legal run
+abbrev pub EveryStepIsAnswered : Type 0
+EveryStepIsAnswered = (zone : Zone) (run : Run) → IsLegalRun zone run → (seat : ℕ) (action : Action) →
+    (answer : Answer) × Allows (state_of zone run) seat action answer

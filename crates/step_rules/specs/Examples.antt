@@ -1,14 +1,16 @@
 -- Small runs, to be read beside the table: one of the life of a frame, three whose last step is refused, one of a drop, two at
--- borders (of references, limits and kills, and of the order of a list), and one of notes.
-use Rattle.std.specs.Prelude.{ℕ, Some, [], ◌∷◌, ◌++◌}
+-- borders (of references, limits and kills, and of the order of a list), one of notes, two of a group, its limit and its kill, and
+-- one of a stock that doesn't pay.
+use Rattle.std.specs.Prelude.{ℕ, ◌==◌, Some, [], ◌∷◌, ◌++◌, codes, replicate, if◌then◌else◌}
 use Rattle.step_rules.specs.declared.step.Step.{Step}
 use Rattle.step_rules.specs.declared.step.Action.{Action}
 use Rattle.step_rules.specs.declared.step.Action.TheVariants.{Lock, Unlock, OpenVisit, ShutVisit, Get, Put, Freeze, Unfreeze, PassOut, TakeIn, PassBack}
 use Rattle.step_rules.specs.declared.step.Action.TheVariants.{Collect, Consume, Credit, Report, Absorb, Fill, DrainStock, Grant, Ungrant, PlaceBlock}
-use Rattle.step_rules.specs.declared.step.Action.TheVariants.{Publish, Return, NoteMax, NoteOom, SetMax, Kill}
+use Rattle.step_rules.specs.declared.step.Action.TheVariants.{Publish, Return, NoteMax, NoteOom, SetMax, Make, Remove, Kill}
 use Rattle.step_rules.specs.declared.step.Answer.{Answer}
-use Rattle.step_rules.specs.declared.step.Answer.TheVariants.{Illegal, Done, Held, Zero, Full, Left, Last, Missed, Took, Back, Pages, Granted, Placed}
-use Rattle.step_rules.specs.State.{Zone}
+use Rattle.step_rules.specs.declared.step.Answer.TheVariants.{Illegal, Done, Held, Zero, Full, Left, Last, Missed, Took, Empty, OtherGroup, Drained, Back}
+use Rattle.step_rules.specs.declared.step.Answer.TheVariants.{Pages, Granted, Over, Placed, NoFreeBlock, Number}
+use Rattle.step_rules.specs.State.{Zone, State, at_boot, no_part}
 use Rattle.step_rules.specs.After.{Run}
 
 -- a zone of two frames and two processors
@@ -91,3 +93,60 @@ in_line =
 -- three kinds of events are noted at the root, once, twice and once
 abbrev pub noted : Run
 noted = made 1 Lock Done ∷ made 0 (NoteMax 0) Done ∷ made 0 (NoteOom 0) Done ∷ made 0 (NoteOom 0) Done ∷ made 0 (Kill 0) Done ∷ []
+
+-- two groups are made, one below the other, and the upper one gets a limit of a page: two pages for the lower one are over
+-- it, and one is granted; then the limit may fall below the usage. A frame is kept for that page, and has references
+abbrev pub group_in_use : Run
+group_in_use =
+    made 1 Lock Done ∷ made 0 (Make (codes "/a")) (Number 1) ∷ made 0 (Make (codes "/a/b")) (Number 2) ∷ made 0 (SetMax 1 (Some 1)) Done ∷
+    made 0 (Grant 2 2) (Over 1) ∷ made 0 (Grant 2 1) Granted ∷ made 0 (SetMax 1 (Some 0)) Done ∷
+    made 0 (PlaceBlock 2 0) (Placed (record { at = 0; order = 0 })) ∷ made 0 (Unfreeze 0 1) Done ∷ made 1 (Get 0) Held ∷ made 1 (Get 0) Held ∷
+    made 1 (Put 0) (Left 2) ∷ made 1 (Put 0) (Left 1) ∷ []
+
+-- a group isn't removed while one lies below it, or while it is used. The lower one is killed; the frame comes back all the same,
+-- and the group is removed. A new one gets its number, without its kill, and is below the same limit
+abbrev pub group_comes_and_goes : Run
+group_comes_and_goes =
+    group_in_use ++ made 0 (Remove 1) Illegal ∷ made 0 (Remove 2) Illegal ∷ made 0 (NoteOom 2) Done ∷ made 0 (Kill 2) Done ∷
+    made 0 (Freeze 0 1) Done ∷ made 0 (Return 0) Done ∷ made 0 (Remove 2) Done ∷ made 0 (Make (codes "/a/b")) (Number 2) ∷
+    made 0 (NoteMax 2) Done ∷ made 0 (Grant 2 1) (Over 1) ∷ made 1 Unlock Done ∷ []
+
+-- two pages are granted to a group, and it is killed: it gets no other page, but of these the one is placed and the other taken
+-- back; events are noted at it, its limit is set, its frame is published and comes back, a group is made below it and removed, and
+-- it is removed itself
+abbrev pub killed_group_ends : Run
+killed_group_ends =
+    made 1 Lock Done ∷ made 0 (Make (codes "/a")) (Number 1) ∷ made 0 (Grant 1 2) Granted ∷ made 0 (Kill 1) Done ∷ made 0 (Grant 1 1) Illegal ∷
+    made 0 (NoteMax 1) Done ∷ made 0 (NoteOom 1) Done ∷ made 0 (SetMax 1 (Some 0)) Done ∷ made 0 (PlaceBlock 1 0) (Placed (record { at = 0; order = 0 })) ∷
+    made 0 (Ungrant 1 1) Done ∷ made 0 (Unfreeze 0 1) Done ∷ made 0 (Publish 0) Done ∷ made 0 (Freeze 0 1) Done ∷ made 0 (Return 0) Done ∷
+    made 0 (Make (codes "/a/b")) (Number 2) ∷ made 0 (Remove 2) Done ∷ made 0 (Remove 1) Done ∷ made 1 Unlock Done ∷ []
+
+-- a processor's stock has one page, and its list both frames, so that none is free. Its stock pays for its group alone, and for
+-- one frame; and once it is drained it pays for none, and takes no page back
+abbrev pub stock_without_a_page : Run
+stock_without_a_page =
+    made 1 Lock Done ∷ made 0 (OpenVisit 1) Done ∷ made 0 (PassOut 0 1) Done ∷ made 1 (TakeIn 0) Done ∷ made 0 (PassOut 1 1) Done ∷
+    made 1 (TakeIn 1) Done ∷ made 0 (Grant 0 1) Granted ∷ made 0 (PlaceBlock 0 0) NoFreeBlock ∷ made 0 (Fill 1 0 1) Done ∷
+    made 1 (Consume 5) OtherGroup ∷ made 1 (Consume 0) Took ∷ made 1 (Consume 0) Empty ∷ made 0 (DrainStock 1) (Pages 0) ∷
+    made 1 (Consume 0) Drained ∷ made 1 (Credit 0) Drained ∷ []
+
+-- processor 1 takes the lock
+abbrev pub lock_taken : Run
+lock_taken = made 1 Lock Done ∷ []
+
+-- its visit is opened and shut, and in between it asks in vain for a frame that has no reference; so does processor 2 meanwhile
+abbrev pub vain_visit : Run
+vain_visit = made 0 (OpenVisit 1) Done ∷ made 2 (Get 0) Zero ∷ made 1 (Get 0) Zero ∷ made 0 (ShutVisit 1) Done ∷ []
+
+-- ---- states at the bounds, which are tests of the table and not of a run
+-- each seat has so many references on frame 0
+abbrev pub with_pins : ℕ → State
+with_pins n = record (at_boot small_zone) { references = λ seat f. if f == 0 then n else 0 }
+
+-- each processor has so many back frames
+abbrev pub with_back_frames : ℕ → State
+with_back_frames n = record (at_boot small_zone) { parts = λ p. record no_part { back = replicate n 0 } }
+
+-- each has so many fresh frames, and one on its list
+abbrev pub with_fresh_frames : ℕ → State
+with_fresh_frames n = record (at_boot small_zone) { parts = λ p. record no_part { list = 1 ∷ []; fresh = replicate n 0 } }

@@ -26,3 +26,4 @@ pub mod Booked
 pub mod Answers
 pub mod Charges
 pub mod Promise
+pub mod Breaches

@@ -1,9 +1,19 @@
 //! Small runs that are checked by evaluation: what each function ensures is that the table allows every answer of the
 //! run as it stands, refused steps included.
 
-ghost use Rattle.std.specs.Prelude.{◌≡◌};
+ghost use Rattle.std.specs.Prelude.{◌≡◌, ◌++◌, true, false, Some};
 ghost use Rattle.step_rules.specs.After.{IsLegalRun, state_of};
-ghost use Rattle.step_rules.specs.Examples.{small_zone, life_of_a_frame, credited_twice, returned_twice, unlocked_too_soon, returned_when_killed, at_the_borders, in_line, noted};
+ghost use Rattle.step_rules.specs.Examples.{small_zone, life_of_a_frame, credited_twice, returned_twice, unlocked_too_soon, returned_when_killed, at_the_borders, in_line, noted, group_comes_and_goes, killed_group_ends, stock_without_a_page};
+ghost use Rattle.step_rules.specs.Examples.{first_visit, hand_over, last_put, lock_taken, vain_visit, with_pins, with_back_frames, with_fresh_frames};
+ghost use Rattle.step_rules.specs.Legal.{is_legal};
+ghost use Rattle.step_rules.specs.Cover.{hide};
+ghost use Rattle.step_rules.specs.Laws.{ShowsLocal};
+ghost use Rattle.step_rules.specs.Reaches.{IsLocalRun, own_steps, IsInterleaved};
+ghost use Rattle.step_rules.specs.Folds.{was_killed};
+ghost use Rattle.step_rules.specs.Returns.{is_gone};
+ghost use Rattle.step_rules.specs.Kept.{is_published};
+ghost use Rattle.step_rules.specs.Lent.{lent_to};
+ghost use Rattle.step_rules.specs.declared.step.Action.TheVariants.{Get, Consume};
 ghost use Rattle.step_rules.specs.Events.{Max, Oom, OomKill, events_of, events_local_of};
 ghost use Rattle.step_rules.specs.declared.phase.Phase.TheVariants.{InZone};
 ghost use Rattle.step_rules.specs.declared.phase.Hold.TheVariants.{Unheld};
@@ -56,4 +66,53 @@ pub fn notes_are_counted()
     ensures max { (events_of Max small_zone noted 0 ≡ 1) × (events_local_of Max small_zone noted 0 ≡ 1) }
     ensures oom { (events_of Oom small_zone noted 0 ≡ 2) × (events_local_of Oom small_zone noted 0 ≡ 2) }
     ensures oom_kill { (events_of OomKill small_zone noted 0 ≡ 1) × (events_local_of OomKill small_zone noted 0 ≡ 1) }
+{}
+
+/// Pages for a group are bounded by the limit of the one above it, which is named where they are over it and may be set
+/// below what is used; a group is removed once it has none below it and uses nothing, killed or not, and its number is
+/// given again, with nothing of what was counted there. What is noted at a group is counted above it too.
+pub fn a_group_comes_and_goes()
+    ensures legal { IsLegalRun small_zone group_comes_and_goes }
+    ensures killed { was_killed group_comes_and_goes 2 ≡ false }
+    ensures above { (events_of Oom small_zone group_comes_and_goes 1 ≡ 1) × (events_local_of Oom small_zone group_comes_and_goes 1 ≡ 0) }
+    ensures anew { (events_of Oom small_zone group_comes_and_goes 2 ≡ 0) × (events_of OomKill small_zone group_comes_and_goes 2 ≡ 0) }
+    ensures noted { (events_of Max small_zone group_comes_and_goes 0 ≡ 1) × (events_local_of Max small_zone group_comes_and_goes 2 ≡ 1) }
+{}
+
+/// A killed group gets no page more; those that are pending for it are placed or taken back, events are noted at it, its
+/// limit is set, and it is removed once nothing of it is left.
+pub fn a_killed_group_ends()
+    ensures { IsLegalRun small_zone killed_group_ends }
+{}
+
+/// A stock pays for its own group, as many frames as it has pages, and once it is drained nothing; and where no frame is
+/// free none is placed.
+pub fn a_stock_pays_once()
+    ensures { IsLegalRun small_zone stock_without_a_page }
+{}
+
+/// What a run tells of that life: the frame is lent to processor 1 after the first visit, published from the hand-over
+/// until it comes back, and gone from the last put until then.
+pub fn the_life_of_a_frame_is_told()
+    ensures lent { lent_to ((state_of small_zone first_visit).phases 0) ≡ Some 1 }
+    ensures published { (is_published (first_visit ++ hand_over) 0 ≡ true) × (is_published life_of_a_frame 0 ≡ false) }
+    ensures not_gone { is_gone (first_visit ++ hand_over) 0 ≡ false }
+    ensures gone { (is_gone (first_visit ++ hand_over ++ last_put) 0 ≡ true) × (is_gone life_of_a_frame 0 ≡ false) }
+{}
+
+/// There are local steps, of the processor that holds the lock and of the zone's seat, and steps of others between them:
+/// the visit is shown to the processor as if it and the zone had been alone.
+pub fn a_visit_is_local()
+    ensures before { ShowsLocal small_zone lock_taken 1 (hide 1 (state_of small_zone lock_taken)) }
+    ensures local { IsLocalRun 1 (hide 1 (state_of small_zone lock_taken)) (own_steps 1 vain_visit) (hide 1 (state_of small_zone lock_taken)) }
+    ensures between { IsInterleaved small_zone lock_taken 1 vain_visit }
+    ensures after { ShowsLocal small_zone (lock_taken ++ vain_visit) 1 (hide 1 (state_of small_zone lock_taken)) }
+{}
+
+/// A processor gets a reference where its pins and back frames are below 256, and pays for a frame where fewer than 32
+/// are fresh.
+pub fn the_bounds_are_kept()
+    ensures pins { (is_legal (with_pins 255) 1 (Get 1) ≡ true) × (is_legal (with_pins 256) 1 (Get 1) ≡ false) }
+    ensures back { (is_legal (with_back_frames 255) 1 (Get 1) ≡ true) × (is_legal (with_back_frames 256) 1 (Get 1) ≡ false) }
+    ensures fresh { (is_legal (with_fresh_frames 31) 1 (Consume 0) ≡ true) × (is_legal (with_fresh_frames 32) 1 (Consume 0) ≡ false) }
 {}

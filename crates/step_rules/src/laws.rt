@@ -18,7 +18,7 @@ ghost use Rattle.step_rules.specs.Folds.{AllGroupsAreTold, TheLockIsTold, AllPar
 ghost use Rattle.step_rules.specs.Kept.{AllPublishedIsKept};
 ghost use Rattle.step_rules.specs.FreeAreas.{AllAreasAreTold};
 ghost use Rattle.step_rules.specs.Current.{AllCurrentIsTold};
-ghost use Rattle.step_rules.specs.Answers.{AnswersAreDetermined, OnlySeatsAct};
+ghost use Rattle.step_rules.specs.Answers.{AnswersAreDetermined, EveryStepIsAnswered, OnlySeatsAct};
 ghost use Rattle.step_rules.specs.Counts.{ReferencesAreCounted, StocksAreCounted, BooksAreCounted};
 
 /// After every legal run that leaves the lock free the promise holds of what is shown: the free areas are maximal, each
@@ -121,6 +121,11 @@ pub fn events_are_counted()
 /// After every legal run a step has one answer that is allowed, but that any free block of its order may be placed.
 pub fn answers_are_determined()
     ensures { AnswersAreDetermined }
+{}
+
+/// After every legal run each step has an answer that is allowed. So every list of steps makes a legal run.
+pub fn every_step_is_answered()
+    ensures { EveryStepIsAnswered }
 {}
 
 /// After every legal run a step that isn't answered Illegal is made by a processor, or by the zone's seat while one holds

@@ -2,6 +2,7 @@
 //! it is legal, what it may be answered, what it changes, and what follows for every legal run.
 #![tactic(auto)]
 
+pub mod breaches;
 pub mod examples;
 pub mod laws;
 pub mod phase;

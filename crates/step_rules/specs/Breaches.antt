@@ -1,0 +1,199 @@
+-- What breaks the promise: small runs and sights, each wrong in one thing. So each field of the promise refuses something; and
+-- that it can be kept is said of one sight.
+use Rattle.std.specs.Prelude.{ℕ, ◌==◌, false, Some, None, List, [], ◌∷◌, ◌++◌, codes, if◌then◌else◌}
+use Rattle.group_tree.specs.Groups.{initial_groups}
+use Rattle.step_rules.specs.declared.step.Action.TheVariants.{Lock, Get, Put, Freeze, Unfreeze, TakeIn, Consume, Credit, Grant, PlaceBlock, Return, SetMax, Make, Kill}
+use Rattle.step_rules.specs.declared.step.Answer.TheVariants.{Done, Held, Last, Took, Back, Granted, Placed, Number}
+use Rattle.step_rules.specs.State.{no_stock}
+use Rattle.step_rules.specs.After.{Run}
+use Rattle.step_rules.specs.Examples.{small_zone, made, first_visit, hand_over}
+use Rattle.step_rules.specs.Promise.{Shown, Promise}
+
+-- whatever is shown after the run, it doesn't keep the promise
+abbrev pub BreaksPromise : Run → Type 0
+BreaksPromise run = (shown : Shown) → ¬ Promise small_zone run shown
+
+-- ---- limits
+-- two pages are granted, one by one, to a group whose parent has a limit of one
+abbrev pub past_a_limit : Run
+past_a_limit =
+    made 1 Lock Done ∷ made 0 (Make (codes "/a")) (Number 1) ∷ made 0 (Make (codes "/a/b")) (Number 2) ∷ made 0 (SetMax 1 (Some 1)) Done ∷
+    made 0 (Grant 2 1) Granted ∷ made 0 (Grant 2 1) Granted ∷ []
+
+-- a page is granted to a killed group
+abbrev pub granted_when_killed : Run
+granted_when_killed = made 1 Lock Done ∷ made 0 (Kill 0) Done ∷ made 0 (Grant 0 1) Granted ∷ []
+
+-- ---- returns
+-- frame 0 is placed, for the root
+abbrev pub placed : Run
+placed = made 0 (PlaceBlock 0 0) (Placed (record { at = 0; order = 0 })) ∷ []
+
+-- the last reference of frame 0 goes
+abbrev pub ended : Run
+ended = made 0 (Freeze 0 0) Done ∷ []
+
+-- a unit comes back that never had a reference
+abbrev pub returned_unused : Run
+returned_unused = placed ++ made 0 (Return 0) Done ∷ []
+
+-- one comes back on which a reference is left
+abbrev pub returned_in_use : Run
+returned_in_use = placed ++ made 0 (Unfreeze 0 2) Done ∷ made 0 (Freeze 0 1) Done ∷ made 0 (Return 0) Done ∷ []
+
+-- a frame comes back that heads no unit
+abbrev pub returned_in_no_unit : Run
+returned_in_no_unit = ended ++ made 0 (Return 0) Done ∷ []
+
+-- a unit comes back twice for one end
+abbrev pub returned_again : Run
+returned_again = placed ++ made 0 (Unfreeze 0 1) Done ∷ made 0 (Freeze 0 1) Done ∷ made 0 (Return 0) Done ∷ made 0 (Return 0) Done ∷ []
+
+-- a fresh frame is credited twice
+abbrev pub credited_again : Run
+credited_again = first_visit ++ made 1 (Consume 0) Took ∷ made 1 (Credit 0) Back ∷ made 1 (Credit 0) Back ∷ []
+
+-- one is credited to which somebody refers
+abbrev pub credited_in_use : Run
+credited_in_use = first_visit ++ made 1 (Consume 0) Took ∷ made 2 (Get 0) Held ∷ made 1 (Credit 0) Back ∷ []
+
+-- the front of an empty list is paid for
+abbrev pub consumed_nothing : Run
+consumed_nothing = made 1 (Consume 0) Took ∷ []
+
+-- the front of a list is paid for that lies in a unit
+abbrev pub consumed_in_a_unit : Run
+consumed_in_a_unit = placed ++ made 1 (TakeIn 0) Done ∷ made 1 (Consume 0) Took ∷ []
+
+-- a block is placed on the second frame of a unit
+abbrev pub placed_on_a_tail : Run
+placed_on_a_tail =
+    made 0 (PlaceBlock 0 1) (Placed (record { at = 0; order = 1 })) ∷ made 0 (PlaceBlock 0 0) (Placed (record { at = 1; order = 0 })) ∷ []
+
+-- a block of another order is placed
+abbrev pub placed_smaller : Run
+placed_smaller = made 0 (PlaceBlock 0 1) (Placed (record { at = 0; order = 0 })) ∷ []
+
+-- one is placed to which somebody refers
+abbrev pub placed_in_use : Run
+placed_in_use = made 2 (Get 0) Held ∷ placed
+
+-- one is placed whose last reference is gone without its coming back
+abbrev pub placed_ended : Run
+placed_ended = ended ++ placed
+
+-- one is placed for a group that isn't there
+abbrev pub placed_for_nobody : Run
+placed_for_nobody = made 0 (PlaceBlock 5 0) (Placed (record { at = 0; order = 0 })) ∷ []
+
+-- after the last reference another is given, goes last, or is frozen
+abbrev pub given_after_the_last : Run
+given_after_the_last = ended ++ made 2 (Get 0) Held ∷ []
+
+abbrev pub put_after_the_last : Run
+put_after_the_last = ended ++ made 2 (Put 0) Last ∷ []
+
+abbrev pub frozen_after_the_last : Run
+frozen_after_the_last = ended ++ ended
+
+-- the first references are put on a frame that heads no unit, or on one that has some
+abbrev pub unfrozen_in_no_unit : Run
+unfrozen_in_no_unit = made 0 (Unfreeze 0 1) Done ∷ []
+
+abbrev pub unfrozen_in_use : Run
+unfrozen_in_use = placed ++ made 0 (Unfreeze 0 1) Done ∷ made 0 (Unfreeze 0 1) Done ∷ []
+
+-- ---- what is shown
+-- frame 0 is kept for the root, frame 1 is free, and processor 1 has a page of the root in its stock
+abbrev pub kept_run : Run
+kept_run = first_visit ++ hand_over
+
+-- so it is seen
+abbrev pub right_sight : Shown
+right_sight = record {
+  areas = record { at = 1; order = 0 } ∷ [];
+  lists = λ p. [];
+  keeper = λ f. if f == 0 then Some 0 else None;
+  groups = initial_groups;
+  stocks = λ p. if p == 1 then record { group = Some 0; pages = 1; is_drained = false } else no_stock;
+  current = λ g. 2;
+}
+
+-- the frames of one processor's list
+abbrev pub at_list : ℕ → List ℕ → ℕ → List ℕ
+at_list q frames p = if p == q then frames else []
+
+-- seen after that run it breaks the promise
+abbrev pub IsWrongSight : Shown → Type 0
+IsWrongSight shown = ¬ Promise small_zone kept_run shown
+
+-- frame 1 is seen nowhere
+abbrev pub seen_nowhere : Shown
+seen_nowhere = record right_sight { areas = [] }
+
+-- it is seen in the free areas and on a list
+abbrev pub seen_twice : Shown
+seen_twice = record right_sight { lists = at_list 1 (1 ∷ []) }
+
+-- it stands twice on a list
+abbrev pub listed_twice : Shown
+listed_twice = record right_sight { areas = []; lists = at_list 1 (1 ∷ 1 ∷ []) }
+
+-- it stands on the list of a processor that isn't there
+abbrev pub listed_by_nobody : Shown
+listed_by_nobody = record right_sight { areas = []; lists = at_list 3 (1 ∷ []) }
+
+-- it is kept by the root, and lies in no unit
+abbrev pub kept_in_no_unit : Shown
+kept_in_no_unit = record right_sight { areas = []; keeper = λ f. Some 0 }
+
+-- a frame is seen that the zone doesn't have
+abbrev pub seen_beyond : Shown
+seen_beyond = record right_sight { lists = at_list 1 (2 ∷ []) }
+
+-- a page is prepaid for no group
+abbrev pub prepaid_for_nobody : Shown
+prepaid_for_nobody = record right_sight { stocks = λ p. if p == 1 then record { group = None; pages = 1; is_drained = false } else no_stock }
+
+-- the root's number leaves out the page in the stock
+abbrev pub prepaid_left_out : Shown
+prepaid_left_out = record right_sight { current = λ g. 1 }
+
+-- no group is seen
+abbrev pub no_group_seen : Shown
+no_group_seen = record right_sight { groups = [] }
+
+-- ---- what is shown of free frames alone
+-- both frames are free, and nothing is charged
+abbrev pub free_sight : Shown
+free_sight = record {
+  areas = record { at = 0; order = 1 } ∷ [];
+  lists = λ p. [];
+  keeper = λ f. None;
+  groups = initial_groups;
+  stocks = λ p. no_stock;
+  current = λ g. 0;
+}
+
+-- seen after the run it breaks the promise
+abbrev pub IsWrongAfter : Run → Shown → Type 0
+IsWrongAfter run shown = ¬ Promise small_zone run shown
+
+-- the two frames are seen as two blocks
+abbrev pub parted_areas : Shown
+parted_areas = record free_sight { areas = record { at = 0; order = 0 } ∷ record { at = 1; order = 0 } ∷ [] }
+
+-- a page is in the stock of a processor that isn't there
+abbrev pub prepaid_by_nobody : Shown
+prepaid_by_nobody = record free_sight { stocks = λ p. if p == 3 then record { group = Some 0; pages = 1; is_drained = false } else no_stock }
+
+-- one is prepaid for a group that isn't there
+abbrev pub prepaid_for_no_group : Shown
+prepaid_for_no_group = record free_sight { stocks = λ p. if p == 1 then record { group = Some 5; pages = 1; is_drained = false } else no_stock }
+
+-- a page was granted, and is neither in a stock nor kept: it may not be left out of the root's number, and may not be in it
+abbrev pub granted_and_lost : Run
+granted_and_lost = made 0 (Grant 0 1) Granted ∷ []
+
+abbrev pub lost_in_number : Shown
+lost_in_number = record free_sight { current = λ g. 1 }

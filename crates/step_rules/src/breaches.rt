@@ -1,0 +1,83 @@
+//! What breaks the promise: runs and sights, each wrong in one thing, so that each field of the promise says something.
+
+ghost use Rattle.std.specs.Prelude.{[]};
+ghost use Rattle.step_rules.specs.After.{IsLegalRun, state_of};
+ghost use Rattle.step_rules.specs.Examples.{small_zone};
+ghost use Rattle.step_rules.specs.Promise.{IsShown, Promise};
+ghost use Rattle.step_rules.specs.Breaches.{BreaksPromise, past_a_limit, granted_when_killed};
+ghost use Rattle.step_rules.specs.Breaches.{returned_unused, returned_in_use, returned_in_no_unit, returned_again, credited_again, credited_in_use};
+ghost use Rattle.step_rules.specs.Breaches.{consumed_nothing, consumed_in_a_unit, placed_on_a_tail, placed_smaller, placed_in_use, placed_ended, placed_for_nobody};
+ghost use Rattle.step_rules.specs.Breaches.{given_after_the_last, put_after_the_last, frozen_after_the_last, unfrozen_in_no_unit, unfrozen_in_use};
+ghost use Rattle.step_rules.specs.Breaches.{kept_run, right_sight, IsWrongSight, seen_nowhere, seen_twice, listed_twice, listed_by_nobody};
+ghost use Rattle.step_rules.specs.Breaches.{kept_in_no_unit, seen_beyond, prepaid_for_nobody, prepaid_left_out, no_group_seen};
+ghost use Rattle.step_rules.specs.Breaches.{IsWrongAfter, free_sight, parted_areas, prepaid_by_nobody, prepaid_for_no_group, granted_and_lost, lost_in_number};
+
+/// A grant that passes the limit of an ancestor breaks the promise, and so does one to a killed group.
+pub fn a_grant_past_a_limit_breaks_the_promise()
+    ensures limit { BreaksPromise past_a_limit }
+    ensures killed { BreaksPromise granted_when_killed }
+{}
+
+/// A return breaks the promise where no last reference is gone, where one is left, of no unit, and a second time; and a
+/// credit a second time, and where somebody refers to the frame.
+pub fn a_return_out_of_turn_breaks_the_promise()
+    ensures unused { BreaksPromise returned_unused }
+    ensures in_use { BreaksPromise returned_in_use }
+    ensures in_no_unit { BreaksPromise returned_in_no_unit }
+    ensures again { BreaksPromise returned_again }
+    ensures credited_again { BreaksPromise credited_again }
+    ensures credited_in_use { BreaksPromise credited_in_use }
+{}
+
+/// A frame is paid for only from a list, and paid for or placed only where it is in no use; and a block is placed only of
+/// its order, and for a group that is there.
+pub fn a_second_use_breaks_the_promise()
+    ensures nothing { BreaksPromise consumed_nothing }
+    ensures in_a_unit { BreaksPromise consumed_in_a_unit }
+    ensures on_a_tail { BreaksPromise placed_on_a_tail }
+    ensures smaller { BreaksPromise placed_smaller }
+    ensures in_use { BreaksPromise placed_in_use }
+    ensures ended { BreaksPromise placed_ended }
+    ensures for_nobody { BreaksPromise placed_for_nobody }
+{}
+
+/// After the last reference is gone no other is given, goes last or is frozen; and the first ones are put on a unit that
+/// has none.
+pub fn a_reference_after_the_last_breaks_the_promise()
+    ensures given { BreaksPromise given_after_the_last }
+    ensures put { BreaksPromise put_after_the_last }
+    ensures frozen { BreaksPromise frozen_after_the_last }
+    ensures in_no_unit { BreaksPromise unfrozen_in_no_unit }
+    ensures in_use { BreaksPromise unfrozen_in_use }
+{}
+
+/// What is shown after a small run keeps the promise: one frame kept, one free, and one page in a stock.
+pub fn a_right_sight_keeps_the_promise()
+    ensures legal { IsLegalRun small_zone kept_run }
+    ensures shown { IsShown (state_of small_zone kept_run) right_sight }
+    ensures kept { Promise small_zone kept_run right_sight }
+{}
+
+/// The same breaks it where it is wrong in one thing: a frame is nowhere, in two places, twice on a list, on nobody's
+/// list, kept in no unit, or none of the zone's; a page is prepaid for nobody, or left out; or no group is seen.
+pub fn a_wrong_sight_breaks_the_promise()
+    ensures nowhere { IsWrongSight seen_nowhere }
+    ensures twice { IsWrongSight seen_twice }
+    ensures listed_twice { IsWrongSight listed_twice }
+    ensures by_nobody { IsWrongSight listed_by_nobody }
+    ensures in_no_unit { IsWrongSight kept_in_no_unit }
+    ensures beyond { IsWrongSight seen_beyond }
+    ensures for_nobody { IsWrongSight prepaid_for_nobody }
+    ensures left_out { IsWrongSight prepaid_left_out }
+    ensures no_group { IsWrongSight no_group_seen }
+{}
+
+/// Of free frames alone a sight breaks the promise where two blocks are seen that are one, where a page is prepaid by
+/// nobody or for a group that isn't there, and where a page was granted and is nowhere, counted or not.
+pub fn a_wrong_free_sight_breaks_the_promise()
+    ensures parted { IsWrongAfter [] parted_areas }
+    ensures by_nobody { IsWrongAfter [] prepaid_by_nobody }
+    ensures for_no_group { IsWrongAfter [] prepaid_for_no_group }
+    ensures lost { IsWrongAfter granted_and_lost free_sight }
+    ensures lost_in_number { IsWrongAfter granted_and_lost lost_in_number }
+{}
