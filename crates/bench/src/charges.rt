@@ -68,11 +68,6 @@ fn tell_pair<R: Print + Clock + Alloc<A = Global>>(
 
 /// Measures the pair at both depths.
 pub fn tell_charges<R: Print + Clock + Alloc<A = Global>>(rt: &R, pace: Pace) -> Result<()> {
-    tell_pair(
-        rt,
-        pace,
-        "try_charge and uncharge, depth 1",
-        &PATHS[..1],
-    )?;
+    tell_pair(rt, pace, "try_charge and uncharge, depth 1", &PATHS[..1])?;
     tell_pair(rt, pace, "try_charge and uncharge, depth 8", &PATHS)
 }
