@@ -54,12 +54,20 @@ impl<R> Subject<R> for Payer {
     }
 }
 
+// Measures the pair in the group of the last of the paths.
+fn tell_pair<R: Print + Clock + Alloc<A = Global>>(
+    rt: &R,
+    pace: Pace,
+    name: &'static str,
+    paths: &[&[u8]],
+) -> Result<()> {
+    let mut payer = Payer::new(rt.alloc(), paths)?;
+    let row = Row::new(name, 0, 1_000_000, 1);
+    tell_rows(rt, pace, 10, &mut [row], &mut payer)
+}
+
 /// Measures the pair at both depths.
 pub fn tell_charges<R: Print + Clock + Alloc<A = Global>>(rt: &R, pace: Pace) -> Result<()> {
-    let mut shallow = Payer::new(rt.alloc(), &PATHS[..1])?;
-    let row = Row::new("try_charge and uncharge, depth 1", 0, 1_000_000, 1);
-    tell_rows(rt, pace, 10, &mut [row], &mut shallow)?;
-    let mut deep = Payer::new(rt.alloc(), &PATHS)?;
-    let row = Row::new("try_charge and uncharge, depth 8", 0, 1_000_000, 1);
-    tell_rows(rt, pace, 10, &mut [row], &mut deep)
+    tell_pair(rt, pace, "try_charge and uncharge, depth 1", &PATHS[..1])?;
+    tell_pair(rt, pace, "try_charge and uncharge, depth 8", &PATHS)
 }

@@ -2,6 +2,7 @@
 ghost use Rattle.std.specs.Prelude.{◌≡◌, ◌≤◌};
 ghost use Rattle.frame_word.specs.Seats.{IsShut, first_zone_view, first_cpu_view};
 ghost use Rattle.stock_word.specs.Stock.{first_machine, first_processor};
+ghost use Rattle.cpu_part.specs.Cpus.{IsIdle};
 
 use crate::costs::Pace;
 use crate::machine::{Visited, tell_blocks, tell_settling, tell_visits};
@@ -11,7 +12,7 @@ use cpu_part::{BootName, Cpu, Tables};
 use frame_word::{FrameSeat, FrameWords};
 use group_tree::group::GroupId;
 use mem_machine::Machine;
-use std::alloc::Global;
+use std::alloc::{AllocError, Global};
 use std::marker::Brand;
 use std::sync::Wait;
 use std::time::Clock;
@@ -54,14 +55,8 @@ impl Parts {
 }
 
 impl<N: BootName> Visited<N> {
-    // Opens the first visit.
-    fn new(
-        alloc: Global,
-        tables: Tables<N>,
-        mut machine: Machine<N>,
-        mut cpu: Cpu<N>,
-        group: GroupId,
-    ) -> Visited<N>
+    // Opens the first visit. The root pays, until there is another group.
+    fn new(alloc: Global, tables: Tables<N>, mut machine: Machine<N>, mut cpu: Cpu<N>) -> Visited<N>
         requires { IsShut machine.seat cpu.number }
     {
         machine.open(&tables, &mut cpu);
@@ -69,7 +64,7 @@ impl<N: BootName> Visited<N> {
             tables,
             machine,
             cpu,
-            group,
+            group: GroupId::root(),
             order: Order::of(0).unwrap(),
             heads: Vec::new(alloc),
         }
@@ -82,20 +77,27 @@ impl<N: BootName> Visited<N> {
     }
 }
 
+// The processor's part, of which nothing is left, is taken apart.
+fn take_apart<N: BootName>(visited: Visited<N>)
+    requires { IsIdle visited.cpu }
+{
+    let Visited {
+        tables: _,
+        machine: _,
+        cpu,
+        group: _,
+        order: _,
+        heads: _,
+    } = visited;
+    let _ = cpu.into_seats();
+}
+
 // Ends the processor's part, which has no pin, once nothing of it is left.
 fn end<N: BootName, R: Wait>(rt: &R, mut visited: Visited<N>) {
     for _ in rt.forever() {
         visited.rest();
         if visited.cpu.is_idle() {
-            let Visited {
-                tables: _,
-                machine: _,
-                cpu,
-                group: _,
-                order: _,
-                heads: _,
-            } = visited;
-            let _ = cpu.into_seats();
+            take_apart(visited);
             return;
         }
     }
@@ -122,26 +124,22 @@ fn tell_calls<N: BootName, R: Print + Clock + Alloc<A = Global>>(
     tell_settling(rt, pace, visited)
 }
 
-// Measures this part.
+// Measures this part, where a group is made first, which pays.
 fn tell_part<N: BootName, R: Print + Clock + Alloc<A = Global>>(
     rt: &R,
     pace: Pace,
     visited: &mut Visited<N>,
     part: Part,
 ) -> Result<()> {
+    visited.group = visited.make(b"/a").context("no group")?;
     match part {
         Part::Calls => tell_calls(rt, pace, visited),
         Part::Victim { name, depth } => tell_victim(rt, pace, visited, name, depth),
     }
 }
 
-// Makes the machine and its processor's part, measures, and ends the processor's part.
-fn live<N: BootName, R: Wait + Print + Clock + Alloc<A = Global>>(
-    rt: &R,
-    pace: Pace,
-    parts: Parts,
-    part: Part,
-) -> Result<()>
+// The machine and its processor's part, whose first visit is open.
+fn start<N: BootName>(alloc: Global, parts: Parts) -> Result<Visited<N>, AllocError>
     requires { (parts.frames ≡ N.frames) × (parts.stocks ≡ N.stocks) }
 {
     let Parts {
@@ -153,10 +151,21 @@ fn live<N: BootName, R: Wait + Print + Clock + Alloc<A = Global>>(
         payer,
     } = parts;
     let tables = Tables::<N>::new(frames, stocks);
-    let mut machine = Machine::<N>::new(rt.alloc(), &tables, zone, machine)?;
-    let group = machine.make(b"/a")?;
-    let cpu = Cpu::<N>::new(rt.alloc(), seat, payer)?;
-    let mut visited = Visited::new(rt.alloc(), tables, machine, cpu, group);
+    let machine = Machine::<N>::new(alloc, &tables, zone, machine)?;
+    let cpu = Cpu::<N>::new(alloc, seat, payer)?;
+    Ok(Visited::new(alloc, tables, machine, cpu))
+}
+
+// Makes the machine and its processor's part, measures, and ends the processor's part.
+fn live<N: BootName, R: Wait + Print + Clock + Alloc<A = Global>>(
+    rt: &R,
+    pace: Pace,
+    parts: Parts,
+    part: Part,
+) -> Result<()>
+    requires { (parts.frames ≡ N.frames) × (parts.stocks ≡ N.stocks) }
+{
+    let mut visited = start::<N>(rt.alloc(), parts)?;
     let told = tell_part(rt, pace, &mut visited, part);
     end(rt, visited);
     told

@@ -21,20 +21,38 @@ mod zone;
 use crate::costs::Pace;
 use crate::tables::{TABLES, table_named, tell_table};
 use anyhow::Result;
+use std::alloc::Global;
 use std::env;
+use std::sync::Wait;
+use std::thread::Threads;
+use std::time::Clock;
 
 fn main(rt: HostRuntime) -> Result<()> {
-    let mut words = env::args(&rt)?.skip(1).peekable();
-    if words.peek().is_none() {
-        for (_, table) in TABLES {
-            tell_table(&rt, table, Pace::Quick)?;
-        }
-        return Ok(());
+    let words: Vec<String> = env::args(&rt)?.skip(1).collect(rt.alloc())?;
+    if words.is_empty() {
+        run_all(&rt)
+    } else {
+        tell_named(&rt, &words)
     }
-    let unit = references::measure_unit(&rt)?;
+}
+
+// Runs the rows of all tables, and tells their names.
+fn run_all<R: Threads + Wait + Print + Clock + Alloc<A = Global> + Sync>(rt: &R) -> Result<()> {
+    for (_, table) in TABLES {
+        tell_table(rt, table, Pace::Quick)?;
+    }
+    Ok(())
+}
+
+// Measures the tables of these names.
+fn tell_named<R: Threads + Wait + Print + Clock + Alloc<A = Global> + Sync>(
+    rt: &R,
+    words: &[String],
+) -> Result<()> {
+    let unit = references::measure_unit(rt)?;
     for word in words {
         match table_named(word.as_str()) {
-            Some(table) => tell_table(&rt, table, Pace::Timed { unit })?,
+            Some(table) => tell_table(rt, table, Pace::Timed { unit })?,
             None => println!(rt;
                 "{word}: no table; there are references, prepaid, lists, charges, zone, machine, system, reclaim and script"
             )?,

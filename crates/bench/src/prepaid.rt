@@ -138,6 +138,23 @@ fn supply<N: BootName, R: Wait>(rt: &R, system: &System<N>, cpus: &mut [Cpu<N>])
     Ok(())
 }
 
+// Measures these rounds by one, two and four processors.
+fn tell_sides<N: BootName + Send + Sync, R: Threads + Wait + Print + Clock + Sync>(
+    rt: &R,
+    pace: Pace,
+    system: &System<N>,
+    cpus: &mut [Cpu<N>],
+    group: GroupId,
+    rounds: Rounds,
+) -> Result<()> {
+    for threads in [1, 2, 4] {
+        let part = cpus.get_mut(..threads).context("too few processors")?;
+        tell_rounds(rt, pace, system, part, group, rounds)?;
+        println!(rt; "  threads: {threads}")?;
+    }
+    Ok(())
+}
+
 /// Measures the rounds of one, two and four processors. Each has a frame on its list, and a page of the group in its stock.
 pub fn tell_threads<N: BootName + Send + Sync, R: Threads + Wait + Print + Clock + Sync>(
     rt: &R,
@@ -148,11 +165,7 @@ pub fn tell_threads<N: BootName + Send + Sync, R: Threads + Wait + Print + Clock
 ) -> Result<()> {
     supply(rt, system, cpus)?;
     for rounds in ROUNDS {
-        for threads in [1, 2, 4] {
-            let part = cpus.get_mut(..threads).context("too few processors")?;
-            tell_rounds(rt, pace, system, part, group, rounds)?;
-            println!(rt; "  threads: {threads}")?;
-        }
+        tell_sides(rt, pace, system, cpus, group, rounds)?;
     }
     for cpu in cpus.iter() {
         let drops = u64::from(pace.choose(21_000_000, 6));

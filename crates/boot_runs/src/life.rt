@@ -92,13 +92,7 @@ fn makes_and_reads<N: BootName, R: Wait + Abort>(rt: &R, system: &System<N>, cpu
     let value: &[u8] = b"8K";
     let group = GroupId::of(1).expect(rt, "a group");
     let exists = Reply::Refused(Fault::Exists);
-    answers(
-        rt,
-        system,
-        cpu,
-        &Cmd::Mkdir { path },
-        &Reply::Group(group),
-    );
+    answers(rt, system, cpu, &Cmd::Mkdir { path }, &Reply::Group(group));
     answers(rt, system, cpu, &Cmd::Mkdir { path }, &exists);
     reads(rt, system, cpu, b"memory.max", b"max\n");
     let write = Cmd::Write { path, file, value };

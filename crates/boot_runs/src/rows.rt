@@ -154,13 +154,7 @@ fn asks<N: BootName, R: Wait + Abort>(rt: &R, system: &System<N>, cpu: &mut Cpu<
         }
         Line::Release(number) => {
             let frame = frame(rt, system, *number).number();
-            answers(
-                rt,
-                system,
-                cpu,
-                &Cmd::Release { frame },
-                &Reply::Returned,
-            );
+            answers(rt, system, cpu, &Cmd::Release { frame }, &Reply::Returned);
         }
         Line::Settle => answers(rt, system, cpu, &Cmd::Settle, &Reply::Done),
     }

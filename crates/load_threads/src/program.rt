@@ -12,9 +12,9 @@ ghost use Rattle.load_threads.specs.Causes.{FailsAtRun, HasRunCause};
 
 use crate::running::run_by_threads;
 use load_options::command_line::parse_run_words;
+use load_options::settings::Settings;
 use load_run::fault::ProgramFault;
 use load_run::program::{lines_of, read_script, write_answers};
-use load_options::settings::Settings;
 use load_run::telling::tell;
 use mem_system::{BootFault, boot};
 use script_lines::line::Line;

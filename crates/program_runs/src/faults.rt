@@ -141,7 +141,10 @@ fn is_cut_at(rt: &(impl Abort + AllocGlobal), at_once: usize, answers: &[u8], ro
     let mut paper = new_paper(rt, room);
     paper.at_once = at_once;
     let outcome = run_to(rt, paper);
-    assert!(rt; is_cut_short(&outcome, &answers[..room]), "{at_once} {room}");
+    assert!(rt;
+        is_cut_short(&outcome, &answers[..room]),
+        "{at_once} {room}"
+    );
 }
 
 // With room for all of the answers they are written, so many bytes at once, where the first write is interrupted.

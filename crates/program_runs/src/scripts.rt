@@ -14,7 +14,11 @@ use zone_sizes::config::Config;
 
 // The row is answered as it says.
 fn answers<R: AllocGlobal + Abort>(rt: &R, row: &Row) {
-    let words: Vec<&str> = row.words.split(' ').collect(rt.alloc()).expect(rt, row.name);
+    let words: Vec<&str> = row
+        .words
+        .split(' ')
+        .collect(rt.alloc())
+        .expect(rt, row.name);
     let outcome = run(rt, &words, whole(row.script.as_bytes()), 10_000);
     holds_of(rt, outcome.status == 0, row.name);
     holds_of(rt, is_output(&outcome, row), row.name);
@@ -31,7 +35,11 @@ fn is_output(outcome: &Outcome, row: &Row) -> bool {
 
 // The sizes that the row's words ask for.
 fn sizes_of<R: AllocGlobal + Abort>(rt: &R, row: &Row) -> Config {
-    let words: Vec<&str> = row.words.split(' ').collect(rt.alloc()).expect(rt, row.name);
+    let words: Vec<&str> = row
+        .words
+        .split(' ')
+        .collect(rt.alloc())
+        .expect(rt, row.name);
     let settings = parse_words(rt.alloc(), &words);
     settings.expect(rt, row.name).sizes
 }

@@ -127,26 +127,17 @@ fn run_explains_nothing(rt: HostRuntime) {
     let found = parse_run_words(rt.alloc(), &["run", "--audit"]).expect(&rt, "settings");
     holds(&rt, found.is_audited && !found.is_explained);
     let found = parse_run_words(rt.alloc(), &["run", "--explain"]);
-    is_told(
-        &rt,
-        found,
-        "error: unexpected argument '--explain' found\n",
-    );
+    is_told(&rt, found, "error: unexpected argument '--explain' found\n");
 }
 
 #[test]
 fn tells_what_is_wrong(rt: HostRuntime) {
     let alloc = rt.alloc();
     let below = "error: invalid value '0' for '--frames <N>': 0 is not in 1..=65536\n";
-    is_told(
-        &rt,
-        parse_words(alloc, &["replay", "--frames", "0"]),
-        below,
-    );
+    is_told(&rt, parse_words(alloc, &["replay", "--frames", "0"]), below);
     let unknown = "error: unrecognized subcommand 'play'\n";
     is_told(&rt, parse_words(alloc, &["play"]), unknown);
-    let help =
-        "Runs the lines of a script, one after the other\n\nUsage: memcg replay [OPTIONS]\n";
+    let help = "Runs the lines of a script, one after the other\n\nUsage: memcg replay [OPTIONS]\n";
     is_told(&rt, parse_words(alloc, &["replay", "--help"]), help);
 }
 
@@ -169,11 +160,7 @@ fn refuses_each_value_past_its_range(rt: HostRuntime) {
         "--audit=1",
     ];
     for word in past {
-        is_told(
-            &rt,
-            parse_words(rt.alloc(), &["replay", word]),
-            "error: ",
-        );
+        is_told(&rt, parse_words(rt.alloc(), &["replay", word]), "error: ");
     }
 }
 

@@ -1,10 +1,9 @@
 //! The program's `run` over readers and writers in memory.
 
-use crate::systems::{holds, tells};
 use load_run::program::drive;
 use load_threads::program::drive_run;
-use std::process::Abort;
 use std::sync::Wait;
+use std::test::Fail;
 use std::thread::Threads;
 
 // What a run of the program leaves.
@@ -29,19 +28,16 @@ fn run<R: AllocGlobal + Threads + Wait + Sync>(rt: &R, words: &[&str], script: &
     }
 }
 
-// The run ended well, and told no fault.
-fn ends_well(rt: &impl Abort, outcome: &Outcome) {
-    holds(rt, outcome.status == 0 && outcome.faults.is_empty());
-}
-
 #[test]
-fn a_script_runs_by_threads(rt: HostRuntime) {
+fn a_script_runs_by_threads(rt: HostRuntime) -> Result<(), Fail> {
     let script = "1 mkdir /a\n2 alloc /a 0\n2 settle\ngo\n2 get 0\n1 settle\n2 get 0\n";
     let outcome = run(&rt, &["run", "--audit"], script);
     let answers = "group 1\nframe 0\nsettled\ncpu 1\nsettled\ncpu 2\nheld\nheld\nheld 2\n\
         audit frames 16 free 15 charged 1\naudit puts 0 freezes 0 drops 0 returns 0\n";
-    tells(&rt, &outcome.output, answers);
-    ends_well(&rt, &outcome);
+    assert!(rt; outcome.output.as_slice() == answers.as_bytes());
+    assert_eq!(rt; outcome.status, 0);
+    assert!(rt; outcome.faults.is_empty());
+    Ok(())
 }
 
 // Runs the program's `replay` over the script, with the audit.
@@ -85,52 +81,32 @@ fn pinned_rows() -> [(&'static str, &'static str, &'static str); 3] {
     ]
 }
 
-// By threads these are the answers and the ending, and by `replay` the ending is the same.
-fn ends_alike<R: AllocGlobal + Threads + Wait + Abort + Sync>(
-    rt: &R,
-    script: &str,
-    told: &str,
-    ending: &str,
-) {
-    let outcome = run(rt, &["run", "--audit"], script);
-    tells(rt, &outcome.output, told);
-    ends_well(rt, &outcome);
-    let alone = replayed(rt, script);
-    holds(rt, alone.output.ends_with(ending.as_bytes()));
-    ends_well(rt, &alone);
-}
-
 #[test]
-fn pins_that_threads_leave_are_put_at_the_end(rt: HostRuntime) {
+fn pins_that_threads_leave_are_put_at_the_end(rt: HostRuntime) -> Result<(), Fail> {
     let alloc = rt.alloc();
     for (later, answers, ending) in pinned_rows() {
-        let script = format!(in alloc; "1 mkdir /a\n1 alloc /a 0\n1 settle\ngo\n{later}");
-        let script = script.expect(&rt, "memory");
-        let told = format!(in alloc; "group 1\nframe 0\nsettled\n{answers}{ending}");
-        let told = told.expect(&rt, "memory");
-        ends_alike(&rt, script.as_str(), told.as_str(), ending);
+        let script = format!(in alloc; "1 mkdir /a\n1 alloc /a 0\n1 settle\ngo\n{later}")?;
+        let told = format!(in alloc; "group 1\nframe 0\nsettled\n{answers}{ending}")?;
+        let outcome = run(&rt, &["run", "--audit"], script.as_str());
+        assert!(rt; outcome.output.as_slice() == told.as_bytes(), "{later:?}");
+        assert!(rt; outcome.status == 0 && outcome.faults.is_empty());
+        let alone = replayed(&rt, script.as_str());
+        assert!(rt; alone.output.ends_with(ending.as_bytes()), "{later:?}");
+        assert!(rt; alone.status == 0 && alone.faults.is_empty());
     }
-}
-
-// The run is told this fault, or one that begins so, and writes no answer.
-fn is_misused<R: AllocGlobal + Threads + Wait + Abort + Sync>(
-    rt: &R,
-    words: &[&str],
-    script: &str,
-    fault: &str,
-) {
-    let outcome = run(rt, words, script);
-    holds(rt, outcome.status == 2 && outcome.output.is_empty());
-    if fault.ends_with('\n') {
-        tells(rt, &outcome.faults, fault);
-    }
-    holds(rt, outcome.faults.starts_with(fault.as_bytes()));
+    Ok(())
 }
 
 #[test]
-fn a_fault_of_the_words_the_script_or_the_sizes_is_told(rt: HostRuntime) {
-    is_misused(&rt, &["replay"], "1 mkdir\n", "error: ");
-    let words = ["run", "--batch=9"];
-    is_misused(&rt, &words, "go\n3 show\n", "bad line 2\n");
-    is_misused(&rt, &words, "go\n2 show\n", "refused 14 BadConfig\n");
+fn a_fault_of_the_words_the_script_or_the_sizes_is_told(rt: HostRuntime) -> Result<(), Fail> {
+    let words = run(&rt, &["replay"], "1 mkdir\n");
+    assert!(rt; words.status == 2 && words.output.is_empty());
+    assert!(rt; words.faults.starts_with("error: ".as_bytes()));
+    let line = run(&rt, &["run", "--batch=9"], "go\n3 show\n");
+    assert!(rt; line.status == 2 && line.output.is_empty());
+    assert!(rt; line.faults.as_slice() == "bad line 2\n".as_bytes());
+    let sizes = run(&rt, &["run", "--batch=9"], "go\n2 show\n");
+    assert!(rt; sizes.status == 2 && sizes.output.is_empty());
+    assert!(rt; sizes.faults.as_slice() == "refused 14 BadConfig\n".as_bytes());
+    Ok(())
 }

@@ -5,7 +5,7 @@ ghost use Rattle.mem_system.specs.Boots.{IsSizedAs};
 ghost use Rattle.script_replay.specs.Ranges.{LineIsThere};
 
 use crate::rounds::{ROUNDS, Rounds, begin, play};
-use crate::systems::{SIZES, holds, shut, tells};
+use crate::systems::{SIZES, shut};
 use cpu_part::{BootName, Cpu};
 use mem_system::{Audit, Boot, Cmd, System, boot};
 use script_lines::line::Line;
@@ -16,6 +16,7 @@ use std::marker::Brand;
 use std::process::Abort;
 use std::sync::Wait;
 use std::sync::atomic::AtomicU32;
+use std::test::Fail;
 use std::thread::{Threads, join};
 
 // Asks for a block of more pages than `/a` may have, and tells how often it was refused for that.
@@ -117,55 +118,46 @@ fn live<N: BootName + Send + Sync, R: Threads + Wait + Abort + Sync>(
     Ok((raced?, audit))
 }
 
-// What both processors come to between the first lines and the last ones, and what is told at the end.
-fn run_race<R: AllocGlobal + Threads + Wait + Abort + Sync>(
-    rt: &R,
-    rounds: Rounds,
-    first: &str,
-    last: &str,
-) -> Option<(Raced, Audit)> {
+#[test]
+fn a_stock_is_consumed_while_it_is_drained(rt: HostRuntime) -> Result<(), Fail> {
     let alloc = rt.alloc();
     let sizes = SIZES;
-    let first = parse_script(alloc, first.as_bytes(), &sizes).ok()?;
-    let last = parse_script(alloc, last.as_bytes(), &sizes).ok()?;
-    let boot = boot(alloc, sizes).ok()?;
-    live::<Brand, _>(rt, alloc, boot, rounds, &first, &last).ok()
-}
-
-// Every round of both went as it should, and this is told after them.
-fn all_went_well(rt: &impl Abort, raced: &Raced, last: &str) {
-    holds(rt, raced.refused == ROUNDS);
-    holds(rt, raced.played == ROUNDS);
-    tells(rt, &raced.last, last);
-}
-
-// All frames came back.
-fn all_are_free(rt: &impl Abort, audit: &Audit) {
-    holds(rt, audit.free == 16 && audit.charged == 0);
-}
-
-#[test]
-fn a_stock_is_consumed_while_it_is_drained(rt: HostRuntime) {
-    let first = "1 mkdir /a\n1 write /a memory.max 32K\n";
-    let last = "1 read /a memory.events\n";
-    let raced = run_race(&rt, Rounds::TakeAndGive, first, last);
-    let (raced, audit) = raced.expect(&rt, "a race");
+    let first = parse_script(alloc, b"1 mkdir /a\n1 write /a memory.max 32K\n", &sizes)?;
+    let last = parse_script(alloc, b"1 read /a memory.events\n", &sizes)?;
+    let boot = boot(alloc, sizes).expect(&rt, "a boot");
+    let (raced, audit) = live::<Brand, _>(&rt, alloc, boot, Rounds::TakeAndGive, &first, &last)?;
+    assert_eq!(&rt; raced.refused, ROUNDS);
+    assert_eq!(&rt; raced.played, ROUNDS);
     let events = "low 0\nhigh 0\nmax 500\noom 0\noom_kill 0\n";
-    all_went_well(&rt, &raced, events);
-    all_are_free(&rt, &audit);
-    holds(&rt, audit.freezes == 0 && audit.returns == 500);
-    holds(&rt, audit.last_puts.saturating_add(audit.drops) == 500);
+    assert!(rt; raced.last.as_slice() == events.as_bytes());
+    assert!(rt; audit.free == 16 && audit.charged == 0);
+    assert!(rt; audit.freezes == 0 && audit.returns == 500);
+    assert_eq!(rt; audit.last_puts.saturating_add(audit.drops), 500);
+    Ok(())
 }
 
 #[test]
-fn a_unit_is_referred_to_while_it_is_reclaimed(rt: HostRuntime) {
-    let first = "1 mkdir /a\n1 write /a memory.max 32K\n1 alloc /a 0\n1 settle\n";
-    let last = "1 alloc /a 4\n1 owner 0\n1 read /a memory.events\n";
-    let raced = run_race(&rt, Rounds::GetAndPut, first, last);
-    let (raced, audit) = raced.expect(&rt, "a race");
+fn a_unit_is_referred_to_while_it_is_reclaimed(rt: HostRuntime) -> Result<(), Fail> {
+    let alloc = rt.alloc();
+    let sizes = SIZES;
+    let first = parse_script(
+        alloc,
+        b"1 mkdir /a\n1 write /a memory.max 32K\n1 alloc /a 0\n1 settle\n",
+        &sizes,
+    )?;
+    let last = parse_script(
+        alloc,
+        b"1 alloc /a 4\n1 owner 0\n1 read /a memory.events\n",
+        &sizes,
+    )?;
+    let boot = boot(alloc, sizes).expect(&rt, "a boot");
+    let (raced, audit) = live::<Brand, _>(&rt, alloc, boot, Rounds::GetAndPut, &first, &last)?;
+    assert_eq!(&rt; raced.refused, ROUNDS);
+    assert_eq!(&rt; raced.played, ROUNDS);
     let answers = "refused 15 OverLimit /a\nfree\nlow 0\nhigh 0\nmax 501\noom 0\noom_kill 0\n";
-    all_went_well(&rt, &raced, answers);
-    all_are_free(&rt, &audit);
-    holds(&rt, audit.freezes == 1 && audit.returns == 1);
-    holds(&rt, audit.last_puts == 0 && audit.drops == 0);
+    assert!(rt; raced.last.as_slice() == answers.as_bytes());
+    assert!(rt; audit.free == 16 && audit.charged == 0);
+    assert!(rt; audit.freezes == 1 && audit.returns == 1);
+    assert!(rt; audit.last_puts == 0 && audit.drops == 0);
+    Ok(())
 }

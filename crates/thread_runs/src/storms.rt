@@ -1,18 +1,20 @@
 //! Four processors beside each other, each with random lines, and what is asked of the zone after them.
 
-ghost use Rattle.std.specs.Prelude.{◌≡◌, ◌<◌, length};
+ghost use Rattle.std.specs.Prelude.{◌≡◌, length};
 
-use crate::systems::{Told, holds, run_script};
-use mem_system::NoGate;
+use crate::systems::live;
+use mem_system::{NoGate, boot};
 use rand_core::{Rng, SeedableRng};
 use rand_pcg::Pcg32;
 use script_lines::line::{Command, Line};
 use script_lines::script::parse_script;
 use script_threads::before_go;
-use std::alloc::AllocError;
+use std::alloc::{AllocError, Global};
+use std::marker::Brand;
 use std::process::Abort;
 use std::slice::Iter;
 use std::str;
+use std::test::Fail;
 use zone_sizes::config::Config;
 
 // How many lines each processor has; by hand 20,000.
@@ -50,31 +52,23 @@ fn begin(script: &mut String) -> Result<(), AllocError> {
     script.push_str("go\n")
 }
 
-// The command about one frame of this kind, if it is one.
-fn frame_command(kind: u32) -> Option<&'static str> {
-    let name = match kind {
-        11..=13 => "get",
-        14..=18 => "put",
-        19..=22 => "release",
-        24 | 25 => "touch",
-        26 => "dirty",
-        27 => "clean",
-        _ => return None,
-    };
-    Some(name)
-}
-
-// Adds a line of the processor about the group of this path, and the limit that it has at first.
-fn pick_of_group(
-    script: &mut String,
-    cpu: u32,
-    kind: u32,
-    group: (&str, &str),
-    order: u32,
-) -> Result<(), AllocError> {
-    let (path, limit) = group;
-    match kind {
-        0..=6 => writeln!(script, "{cpu} alloc {path} {order}"),
+// Adds a line of the processor that these words pick.
+fn pick(script: &mut String, cpu: u32, kind: u32, word: u32) -> Result<(), AllocError> {
+    let frame = (word >> 8) % FRAMES;
+    let (path, limit) = GROUPS[(word % 8) as usize];
+    let group = word % 10;
+    let order = (word >> 16) % 3;
+    match kind % 32 {
+        0..=4 => writeln!(script, "{cpu} alloc {path} 0"),
+        5 | 6 => writeln!(script, "{cpu} alloc {path} {order}"),
+        7..=10 => writeln!(script, "{cpu} fast {group}"),
+        11..=13 => writeln!(script, "{cpu} get {frame}"),
+        14..=18 => writeln!(script, "{cpu} put {frame}"),
+        19..=22 => writeln!(script, "{cpu} release {frame}"),
+        23 => writeln!(script, "{cpu} settle"),
+        24 | 25 => writeln!(script, "{cpu} touch {frame}"),
+        26 => writeln!(script, "{cpu} dirty {frame}"),
+        27 => writeln!(script, "{cpu} clean {frame}"),
         28 => writeln!(script, "{cpu} write {path} memory.max 8K"),
         29 => writeln!(script, "{cpu} write {path} memory.max {limit}"),
         30 => writeln!(script, "{cpu} rmdir {path}"),
@@ -82,43 +76,24 @@ fn pick_of_group(
     }
 }
 
-// Adds a line of the processor that these words pick.
-fn pick(script: &mut String, cpu: u32, kind: u32, word: u32) -> Result<(), AllocError> {
-    let kind = kind % 32;
-    let frame = (word >> 8) % FRAMES;
-    let group = word % 10;
-    if let Some(name) = frame_command(kind) {
-        return writeln!(script, "{cpu} {name} {frame}");
-    }
-    match kind {
-        7..=10 => writeln!(script, "{cpu} fast {group}"),
-        23 => writeln!(script, "{cpu} settle"),
-        _ => {
-            let order = if kind < 5 { 0 } else { (word >> 16) % 3 };
-            pick_of_group(script, cpu, kind, GROUPS[(word % 8) as usize], order)
-        }
-    }
-}
-
 // The script of this seed.
-fn storm_of(rt: &(impl Abort + AllocGlobal), seed: u64) -> String {
+fn storm_of(alloc: Global, seed: u64) -> Result<String, AllocError> {
     let mut random = Pcg32::seed_from_u64(seed);
-    let mut script = String::new(rt.alloc());
-    begin(&mut script).expect(rt, "memory");
+    let mut script = String::new(alloc);
+    begin(&mut script)?;
     for _ in 0..LINES {
         for cpu in 1..=CPUS {
             let kind = random.next_u32();
-            let word = random.next_u32();
-            pick(&mut script, cpu, kind >> 8, word).expect(rt, "memory");
+            pick(&mut script, cpu, kind >> 8, random.next_u32())?;
         }
     }
-    script
+    Ok(script)
 }
 
 // What is asked at the end: the blocks and each frame's owner, when all are settled; and each usage, and the owners
 // again, when the groups at the top have lost their prepaid pages and what can be reclaimed.
-fn ask_last(script: &mut String) -> Result<(), AllocError> {
-    script.push_str("1 settle\n2 settle\n3 settle\n4 settle\n")?;
+fn last_of(alloc: Global) -> Result<String, AllocError> {
+    let mut script = String::from_str(alloc, "1 settle\n2 settle\n3 settle\n4 settle\n")?;
     for path in ["/a", "/d", "/g", "/h"] {
         writeln!(script, "1 write {path} memory.max 0")?;
     }
@@ -129,7 +104,7 @@ fn ask_last(script: &mut String) -> Result<(), AllocError> {
     for (path, _) in GROUPS {
         writeln!(script, "1 read {path} memory.current")?;
     }
-    Ok(())
+    Ok(script)
 }
 
 // The references that the processors' answers leave: of each, and on each frame.
@@ -201,27 +176,22 @@ fn is_free(owners: &[&str], at: u32, size: u32) -> bool {
     }
 }
 
-// Whether the block of this order at this frame is free, and in no greater one that is.
-fn is_maximal(owners: &[&str], order: u32, at: u32) -> bool
-    requires { order < 7 }
-{
-    let greater = order + 1;
-    let above = (at >> greater) << greater;
-    at % (1 << order) == 0
-        && is_free(owners, at, 1 << order)
-        && !is_free(owners, above, 1 << greater)
-}
-
-// Adds the free blocks that are in no greater one, as `blocks` tells them.
-fn add_blocks(owners: &[&str], text: &mut String) -> Result<(), AllocError> {
-    for order in 0..7u32 {
-        for at in 0..64u32 {
-            if is_maximal(owners, order, at) {
-                write!(text, " {order}:{at}")?;
-            }
+// The free blocks that are in no greater one, as `blocks` tells them.
+fn blocks_of(alloc: Global, owners: &[&str]) -> Result<String, AllocError> {
+    let mut text = String::new(alloc);
+    for place in 0..448u32 {
+        let order = place / 64;
+        let at = place % 64;
+        let greater = order + 1;
+        let above = (at >> greater) << greater;
+        if at % (1 << order) == 0
+            && is_free(owners, at, 1 << order)
+            && !is_free(owners, above, 1 << greater)
+        {
+            write!(text, " {order}:{at}")?;
         }
     }
-    Ok(())
+    Ok(text)
 }
 
 // How many frames are kept for the group or one below it.
@@ -233,75 +203,51 @@ fn kept_below(owners: &[&str], path: &str) -> usize {
     owners.iter().filter(is_below).count()
 }
 
-// The blocks that were told are the greatest free ones of the frames whose owners were told.
-fn blocks_agree(rt: &(impl Abort + AllocGlobal), blocks: &str, owners: &[&str]) {
-    let mut free = String::new(rt.alloc());
-    add_blocks(owners, &mut free).expect(rt, "memory");
-    let is_told = match free.as_str().strip_prefix(' ') {
-        Some(rest) => rest == blocks,
-        None => blocks == "none",
-    };
-    holds(rt, is_told);
-}
-
-// A frame on which references are left is kept.
-fn pins_agree(rt: &impl Abort, owners: &[&str], left: &PinCounts) {
-    for (owner, pins) in owners.iter().zip(left.on.iter()) {
-        holds(rt, *pins == 0 || owner.starts_with('/'));
-    }
-}
-
-// The usage that was told is 4,096 bytes for each frame that is kept, or the group is gone.
-fn usage_agrees(rt: &(impl Abort + AllocGlobal), kept: usize, current: &str) {
-    let bytes = kept.wrapping_mul(4096);
-    let bytes = format!(in rt.alloc(); "{bytes}").expect(rt, "memory");
-    holds(
-        rt,
-        current == bytes.as_str() || (current == "refused 6 NoGroup" && kept == 0),
-    );
-}
-
 // The answers to what is asked at the end hold together, and go with the references that are left.
-fn add_up(rt: &(impl Abort + AllocGlobal), answers: &[&str], left: &PinCounts)
+fn add_up<R: AllocGlobal + Abort>(
+    rt: &R,
+    answers: &[&str],
+    left: &PinCounts,
+) -> Result<(), AllocError>
     requires { length answers.now ≡ 82 }
 {
+    let blocks = answers[8];
     let owners = &answers[9..73];
-    blocks_agree(rt, answers[8], owners);
-    pins_agree(rt, owners, left);
-    for ((path, _), current) in GROUPS.iter().zip(answers[73..81].iter()) {
-        usage_agrees(rt, kept_below(owners, path), current);
+    let told = format!(in rt.alloc(); " {blocks}")?;
+    let free = blocks_of(rt.alloc(), owners)?;
+    assert!(rt; told == free || (blocks == "none" && free.is_empty()));
+    for (owner, pins) in owners.iter().zip(left.on.iter()) {
+        assert!(rt; *pins == 0 || owner.starts_with('/'));
     }
-}
-
-// The references that the answers to the script leave.
-fn pins_left(rt: &(impl Abort + AllocGlobal), script: &str, told: &Told) -> PinCounts {
-    let lines = parse_script(rt.alloc(), script.as_bytes(), &SIZES).expect(rt, "a script");
-    let later = lines
-        .get(before_go(&lines)..)
-        .expect(rt, "lines from `go` on");
-    let threads = str::from_utf8(&told.threads).expect(rt, "a text");
-    read_pins(later, threads)
-}
-
-// What is told after the script holds together.
-fn last_adds_up(rt: &(impl Abort + AllocGlobal), last: &[u8], left: &PinCounts) {
-    let last = str::from_utf8(last).expect(rt, "a text");
-    let answers: Vec<&str> = last.split('\n').collect(rt.alloc()).expect(rt, "memory");
-    assert_eq!(rt; answers.len(), 82);
-    add_up(rt, &answers, left);
+    for ((path, _), current) in GROUPS.iter().zip(answers[73..81].iter()) {
+        let kept = kept_below(owners, path);
+        let bytes = format!(in rt.alloc(); "{}", kept.wrapping_mul(4096))?;
+        assert!(rt; *current == bytes.as_str() || (*current == "refused 6 NoGroup" && kept == 0));
+    }
+    Ok(())
 }
 
 #[test]
-fn what_threads_leave_adds_up(rt: HostRuntime) {
-    let script = storm_of(&rt, 2_026);
-    let mut last = String::new(rt.alloc());
-    ask_last(&mut last).expect(&rt, "memory");
-    let told = run_script(&rt, SIZES, script.as_str(), last.as_str(), &NoGate);
-    let told = told.expect(&rt, "a run");
-    let left = pins_left(&rt, script.as_str(), &told);
-    holds(&rt, told.pins == left.of);
-    last_adds_up(&rt, &told.last, &left);
+fn what_threads_leave_adds_up(rt: HostRuntime) -> Result<(), Fail> {
+    let alloc = rt.alloc();
+    let sizes = SIZES;
+    let script = storm_of(alloc, 2_026)?;
+    let last = last_of(alloc)?;
+    let lines = parse_script(alloc, script.as_bytes(), &sizes)?;
+    let asked = parse_script(alloc, last.as_bytes(), &sizes)?;
+    let boot = boot(alloc, sizes).expect(&rt, "a boot");
+    let told = live::<Brand, _, _>(&rt, alloc, boot, &lines, &asked, &NoGate)?;
+    let threads = str::from_utf8(&told.threads).expect(&rt, "a text");
+    let later = lines
+        .get(before_go(&lines)..)
+        .expect(&rt, "lines from `go` on");
+    let left = read_pins(later, threads);
+    assert!(rt; told.pins == left.of);
+    let last = str::from_utf8(&told.last).expect(&rt, "a text");
+    let answers: Vec<&str> = last.split('\n').collect(alloc)?;
+    assert_eq!(rt; answers.len(), 82);
+    add_up(&rt, &answers, &left)?;
     let audit = told.audit;
-    holds(&rt, audit.frames == FRAMES);
-    holds(&rt, audit.free.wrapping_add(audit.charged) == FRAMES);
+    assert!(rt; audit.frames == FRAMES && audit.free.wrapping_add(audit.charged) == FRAMES);
+    Ok(())
 }

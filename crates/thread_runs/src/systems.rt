@@ -5,13 +5,11 @@ ghost use Rattle.mem_system.specs.Boots.{IsSizedAs};
 ghost use Rattle.script_replay.specs.Ranges.{LineIsThere};
 
 use cpu_part::{BootName, Cpu, Tables};
-use mem_system::{Audit, Boot, Gate, System, boot};
+use mem_system::{Audit, Boot, Gate, System};
 use script_lines::line::Line;
-use script_lines::script::parse_script;
 use script_replay::replay_by_visits;
 use script_threads::run_lines;
 use std::alloc::{AllocError, Global};
-use std::marker::Brand;
 use std::process::Abort;
 use std::sync::Wait;
 use std::thread::Threads;
@@ -111,9 +109,9 @@ pub fn shut<N: BootName>(rt: &impl Abort, system: System<N>, cpus: Vec<Cpu<N>>) 
     }
 }
 
-// Starts the boot under a name of its tables, runs the lines by threads and then the last ones by visits, puts the pins
-// that are left, also where memory or a thread was wanting, and shuts the system down.
-fn live<N: BootName + Send + Sync, R: Threads + Wait + Abort + Sync, G: Gate + Sync>(
+/// Starts the boot under a name of its tables, runs the lines by threads and then the last ones by visits, puts the pins
+/// that are left, also where memory or a thread was wanting, and shuts the system down.
+pub fn live<N: BootName + Send + Sync, R: Threads + Wait + Abort + Sync, G: Gate + Sync>(
     rt: &R,
     alloc: Global,
     boot: Boot,
@@ -137,32 +135,4 @@ fn live<N: BootName + Send + Sync, R: Threads + Wait + Abort + Sync, G: Gate + S
         pins,
         audit,
     })
-}
-
-/// What a boot of these sizes answers to a script in threads and to one after it, and its end; None where memory or a thread
-/// was wanting.
-pub fn run_script<R: AllocGlobal + Threads + Wait + Abort + Sync, G: Gate + Sync>(
-    rt: &R,
-    sizes: Config,
-    script: &str,
-    last: &str,
-    gate: &G,
-) -> Option<Told>
-    requires { sizes.cpus < 2 ^ 31 }
-{
-    let alloc = rt.alloc();
-    let lines = parse_script(alloc, script.as_bytes(), &sizes).ok()?;
-    let last = parse_script(alloc, last.as_bytes(), &sizes).ok()?;
-    let boot = boot(alloc, sizes).ok()?;
-    live::<Brand, _, _>(rt, alloc, boot, &lines, &last, gate).ok()
-}
-
-/// It is so, or the test ends here. A call is proved at less cost than the macro in its place.
-pub fn holds(rt: &impl Abort, is: bool) {
-    assert!(rt; is);
-}
-
-/// The bytes that were told are this text.
-pub fn tells(rt: &impl Abort, told: &[u8], text: &str) {
-    assert!(rt; told == text.as_bytes(), "{text:?}");
 }
