@@ -375,6 +375,9 @@ fn a_placed_unit_is_not_dropped(rt: HostRuntime) -> Result<(), Fail> {
         (0, Action::Return { frame: 0 }, Answer::Done),
         (1, Action::Unlock, Answer::Done),
     ];
-    let facts = [CoreFact::Current(group, 0), CoreFact::Phase(0, Phase::InZone)];
+    let facts = [
+        CoreFact::Current(group, 0),
+        CoreFact::Phase(0, Phase::InZone),
+    ];
     works(&rt, rt.alloc(), &with_group(), &rows, &facts)
 }

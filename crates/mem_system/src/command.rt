@@ -8,8 +8,8 @@ ghost use Rattle.mem_system.specs.Outcomes.{HasItsGroups, reply_of};
 ghost use Rattle.mem_system.specs.Commands.{BySteps, FreshAfter, IsOfZone, IsSettled, ListAndFreshStayWithin, Obeys};
 
 use crate::allocations::allocate;
-use crate::groups::{make_group, remove_group};
 use crate::files::{read_file, write_file};
+use crate::groups::{make_group, remove_group};
 use crate::outcome::Outcome;
 use crate::owners::tell_place;
 use crate::releases::release_frame;

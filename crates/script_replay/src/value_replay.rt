@@ -76,7 +76,14 @@ fn serve_line<N: BootName>(
             ..
         } => {
             let at = (*processor - 1) as usize;
-            serve_part(locked, tables, &mut cpus[at], command, is_explained, answers)
+            serve_part(
+                locked,
+                tables,
+                &mut cpus[at],
+                command,
+                is_explained,
+                answers,
+            )
         }
     }
 }

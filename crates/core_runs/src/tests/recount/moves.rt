@@ -1,6 +1,6 @@
 //! How the plain account answers each step, and what it then keeps.
 
-use super::{Filled, Recount, Sought, Recounted, count, is_on_path, take_out};
+use super::{Filled, Recount, Recounted, Sought, count, is_on_path, take_out};
 use group_tree::group::GroupId;
 use std::alloc::AllocError;
 use step_rules::step::{Action, Answer};
@@ -57,7 +57,10 @@ impl Recount {
                     frame,
                     Recounted::Returning(seat),
                 ),
-                Recounted::Back(cpu, group) if cpu == seat => (frame, Recounted::BackReturning(seat, group)),
+                Recounted::Back(cpu, group) if cpu == seat => (
+                    frame,
+                    Recounted::BackReturning(seat, group),
+                ),
                 _ => return None,
             },
             Action::Collect { frame, cpu } => match self.spot(frame) {
