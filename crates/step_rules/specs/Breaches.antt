@@ -86,20 +86,23 @@ placed_ended = ended ++ placed
 abbrev pub placed_for_nobody : Run
 placed_for_nobody = made 0 (PlaceBlock 5 0) (Placed (record { at = 0; order = 0 })) ∷ []
 
--- after the last reference another is given, goes last, or is frozen
+-- after the last reference another is given
 abbrev pub given_after_the_last : Run
 given_after_the_last = ended ++ made 2 (Get 0) Held ∷ []
 
+-- after the last reference one more goes, as the last
 abbrev pub put_after_the_last : Run
 put_after_the_last = ended ++ made 2 (Put 0) Last ∷ []
 
+-- after the last reference the frame is frozen once more
 abbrev pub frozen_after_the_last : Run
 frozen_after_the_last = ended ++ ended
 
--- the first references are put on a frame that heads no unit, or on one that has some
+-- the first references are put on a frame that heads no unit
 abbrev pub unfrozen_in_no_unit : Run
 unfrozen_in_no_unit = made 0 (Unfreeze 0 1) Done ∷ []
 
+-- first references are put on a frame that has some
 abbrev pub unfrozen_in_use : Run
 unfrozen_in_use = placed ++ made 0 (Unfreeze 0 1) Done ∷ made 0 (Unfreeze 0 1) Done ∷ []
 
@@ -191,9 +194,10 @@ prepaid_by_nobody = record free_sight { stocks = λ p. if p == 3 then record { g
 abbrev pub prepaid_for_no_group : Shown
 prepaid_for_no_group = record free_sight { stocks = λ p. if p == 1 then record { group = Some 5; pages = 1; is_drained = false } else no_stock }
 
--- a page was granted, and is neither in a stock nor kept: it may not be left out of the root's number, and may not be in it
+-- a page was granted, and is neither in a stock nor kept: the number shown for the root may not leave it out
 abbrev pub granted_and_lost : Run
 granted_and_lost = made 0 (Grant 0 1) Granted ∷ []
 
+-- nor may that number have it in, with no stock and no frame for it
 abbrev pub lost_in_number : Shown
 lost_in_number = record free_sight { current = λ g. 1 }
