@@ -179,7 +179,7 @@ module _ (t : KnownTable) (w : Words) (m : KnownMachine) (c : KnownCpu) (tied : 
     kept_visits = handed_visits t w m c tied visit f used (λ k. refl) kept d refl refl refl
 
     kept_does : KeepsFresh g f (side m c) (side kept d)
-    kept_does = record { listed = joined.joins; machine = refl; cpu = (front, refl) }
+    kept_does = record { listed = joined.joins; machine = refl; cpu = record { front = front; cpu = refl } }
 
   -- ---- dropped
 
@@ -259,7 +259,7 @@ module _ (t : KnownTable) (w : Words) (m : KnownMachine) (c : KnownCpu) (tied : 
     dropped_visits = handed_visits t w m c tied visit f (collected_from c.number) (λ k. refl) dropped d refl refl refl
 
     dropped_does : DropsFresh g f (side m c) (side dropped d)
-    dropped_does = record { frees = frees; areas = areas; machine = λ i. record dropped { counts = counted i }; cpu = (front, refl) }
+    dropped_does = record { frees = frees; areas = areas; machine = λ i. record dropped { counts = counted i }; cpu = record { front = front; cpu = refl } }
 
 -- ---- all of it, of the machine as it was seen before
 

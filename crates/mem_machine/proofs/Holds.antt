@@ -1,5 +1,5 @@
 -- Who holds the lock, by the zone's seat; and the steps that open and shut a visit. Serves `open` and `shut`, and who acts in every call.
-use Rattle.std.proofs.Common.{◌≡◌, ℕ, ◌&&◌, ◌==◌, Bool, true, false, get_or, cond, refl, sym, ap, ◌∙◌, subst, eq-eqb}
+use Rattle.std.proofs.Common.{◌≡◌, ℕ, ◌≤◌, ◌&&◌, ◌==◌, Bool, true, false, get_or, cond, refl, sym, ap, ◌∙◌, subst, eq-eqb}
 use Rattle.std.proofs.lemmas.Bool.{and_from, le-leb, cond-true}
 use Rattle.std.specs.Prelude.{nat_le, not}
 use Rattle.frame_word.specs.Seats.{KnownTable, KnownSeat, IsOpen, IsShut, seat_with_visit}
@@ -21,7 +21,7 @@ use Rattle.step_rules.proofs.Sums.{all_each}
 use Rattle.mem_machine.specs.declared.spot.Spot.{Spot}
 use Rattle.mem_machine.specs.declared.spot.Spot.TheVariants.{Free, Lent, Head, Tail}
 use Rattle.mem_machine.specs.Spots.{spot_at}
-use Rattle.mem_machine.specs.Machines.{KnownMachine, IsSeated, Visits}
+use Rattle.mem_machine.specs.Machines.{KnownMachine, Visits}
 use Rattle.mem_machine.specs.Local.{hold_of, local_of, phase_of, part_of, part_with, fresh_group, side, MakesAs}
 use Rattle.mem_machine.specs.Steps.{open_steps, shut_steps}
 use Rattle.mem_machine.proofs.Reaching.{zone_step, run_one}
@@ -43,6 +43,11 @@ hold_shut seat p shut = ap (λ (n : ℕ). cond (n == 1) (Visiting p) (HeldBy p))
 
 pub visits_open : (seat : KnownSeat) (p : ℕ) → IsOpen seat p → visits p (hold_of seat p) ≡ true
 visits_open seat p is = ap (visits p) (hold_open seat p is) ∙ eq-eqb p p refl
+
+-- the processor is one of the table's
+pub record IsSeated (table : KnownTable) (cpu : KnownCpu) : Type 0 where
+  pub some_number : 1 ≤ cpu.number
+  pub cpus : cpu.number ≤ table.cpus
 
 pub seated_cpu : (t : KnownTable) (c : KnownCpu) → IsSeated t c → is_cpu (record { frames = t.frames; cpus = t.cpus }) c.number ≡ true
 seated_cpu t c s = and_from (nat_le 1 c.number) (nat_le c.number t.cpus) (le-leb 1 c.number s.some_number) (le-leb c.number t.cpus s.cpus)

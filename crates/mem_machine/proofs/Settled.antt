@@ -27,14 +27,14 @@ pub record WentOver (f : ℕ) (m : KnownMachine) (c : KnownCpu) (n : KnownMachin
 
 went_over : (f : ℕ) (m : KnownMachine) (c : KnownCpu) (n : KnownMachine) (d : KnownCpu) → HandsOver f c d → n.killed ≡ m.killed → WentOver f m c n d
 went_over f m c n d hands killed = record {
-  front = hands.0;
+  front = hands.front;
   others = record {
-    number = ap (λ (x : KnownCpu). x.number) hands.1;
-    list = ap (λ (x : KnownCpu). x.list) hands.1;
-    pins = ap (λ (x : KnownCpu). x.pins) hands.1;
+    number = ap (λ (x : KnownCpu). x.number) hands.cpu;
+    list = ap (λ (x : KnownCpu). x.list) hands.cpu;
+    pins = ap (λ (x : KnownCpu). x.pins) hands.cpu;
   };
-  back = ap (λ (x : KnownCpu). x.back) hands.1;
-  group = ap fresh_group hands.1;
+  back = ap (λ (x : KnownCpu). x.back) hands.cpu;
+  group = ap fresh_group hands.cpu;
   killed = killed;
 }
 

@@ -25,29 +25,29 @@ use Rattle.mem_machine.specs.Steps.{zone_makes}
 
 -- the record of a frame once the block is a unit of the group: the first frame heads it, and the rest are tails
 abbrev pub placed_spot : List Spot → ℕ → Block → ℕ → Spot
-placed_spot spots g b f =
-    if is_within b.at (2 ^ b.order) f
-    then (if f == b.at then Head (record { group = g; order = b.order }) else Tail g)
-    else spot_at spots f
+placed_spot spots group block frame =
+    if is_within block.at (2 ^ block.order) frame
+    then (if frame == block.at then Head (record { group = group; order = block.order }) else Tail group)
+    else spot_at spots frame
 
 -- the block is a unit of the group, and all other frames have the records that they had
 pub record PlacesUnit (before : List Spot) (group : ℕ) (block : Block) (after : List Spot) : Type 0 where
   pub frames : length after ≡ length before
-  pub records : (f : ℕ) → spot_at after f ≡ placed_spot before group block f
+  pub records : (frame : ℕ) → spot_at after frame ≡ placed_spot before group block frame
 
 -- the unit comes to the newest end of its group's inactive list, clean and unmarked; every other frame and the lists of
 -- all other groups are as they were, and each other frame on no list has the record that it had
 pub record JoinsList (before : List Link) (old : List Lru) (group frame : ℕ)
     (after : List Link) (new : List Lru) : Type 0 where
   pub stands : home_of after frame ≡ Some (record { owner = group; list = Inactive })
-  pub homes : (x : ℕ) → x ≢ frame → home_of after x ≡ home_of before x
+  pub homes : (other : ℕ) → other ≢ frame → home_of after other ≡ home_of before other
   pub inactive : inactive_of after (lists_at new group)
       ≡ inactive_of before (lists_at old group) ++ record { number = frame; is_marked = false; is_dirty = false } ∷ []
   pub active : active_of after (lists_at new group) ≡ active_of before (lists_at old group)
   pub others : OthersStay before old group after new
-  pub loose : (x : ℕ) → x ≢ frame → home_of before x ≡ None → link_at after x ≡ link_at before x
+  pub loose : (other : ℕ) → other ≢ frame → home_of before other ≡ None → link_at after other ≡ link_at before other
 
--- so it is in the machine
+-- the unit comes onto its group's inactive list, in the machine
 abbrev pub ListsUnit : KnownMachine → (group frame : ℕ) → KnownMachine → Type 0
 ListsUnit before group frame after = JoinsList before.links before.lists group frame after.links after.lists
 
@@ -81,33 +81,33 @@ pub record TakesNoBlock (before : KnownMachine) (group order : ℕ) (after : Kno
 -- The machine where no block was taken. A limit had no room for it, that of the named group the lowest, and nothing
 -- changed; or no free block of the order or above is there
 abbrev pub RefusesBlock : KnownMachine → ℕ → ℕ → TakeFault → KnownMachine → Type 0
-RefusesBlock before g k (fault.Over over) after =
-    LacksRoom before g (2 ^ k) over.group × (after ≡ before)
-RefusesBlock before g k fault.NoBlock after = TakesNoBlock before g k after
+RefusesBlock before group order (fault.Over over) after =
+    LacksRoom before group (2 ^ order) over.group × (after ≡ before)
+RefusesBlock before group order fault.NoBlock after = TakesNoBlock before group order after
 
 -- the steps of a block of this order that is charged to the group and begins at this frame
 abbrev pub taken_steps : ℕ → ℕ → ℕ → Run
-taken_steps g k at =
-    zone_makes (Grant g (2 ^ k)) Granted
-    ∷ zone_makes (PlaceBlock g k) (Placed (record { at = at; order = k }))
+taken_steps group order at =
+    zone_makes (Grant group (2 ^ order)) Granted
+    ∷ zone_makes (PlaceBlock group order) (Placed (record { at = at; order = order }))
     ∷ zone_makes (Unfreeze at 1) Done
     ∷ zone_makes (Publish at) Done
     ∷ []
 
--- the one step where a limit has no room for the block, that of group h the lowest
+-- the one step where a limit has no room for the block, that of group `over` the lowest
 abbrev pub refused_steps : ℕ → ℕ → ℕ → Run
-refused_steps g k h = zone_makes (Grant g (2 ^ k)) (Over h) ∷ []
+refused_steps group order over = zone_makes (Grant group (2 ^ order)) (Over over) ∷ []
 
 -- the steps where no free block of the order or above is there
 abbrev pub unplaced_steps : ℕ → ℕ → Run
-unplaced_steps g k =
-    zone_makes (Grant g (2 ^ k)) Granted
-    ∷ zone_makes (PlaceBlock g k) NoFreeBlock
-    ∷ zone_makes (Ungrant g (2 ^ k)) Done
+unplaced_steps group order =
+    zone_makes (Grant group (2 ^ order)) Granted
+    ∷ zone_makes (PlaceBlock group order) NoFreeBlock
+    ∷ zone_makes (Ungrant group (2 ^ order)) Done
     ∷ []
 
 -- the steps of a call that takes a block, by its answer
 abbrev pub block_steps : ℕ → ℕ → Result ℕ TakeFault → Run
-block_steps g k (Ok at) = taken_steps g k at
-block_steps g k (Err (fault.Over over)) = refused_steps g k over.group
-block_steps g k (Err fault.NoBlock) = unplaced_steps g k
+block_steps group order (Ok at) = taken_steps group order at
+block_steps group order (Err (fault.Over over)) = refused_steps group order over.group
+block_steps group order (Err fault.NoBlock) = unplaced_steps group order

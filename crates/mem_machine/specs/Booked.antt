@@ -6,11 +6,11 @@ use Rattle.stock_word.specs.Stock.{Words, Seated, IsMachine}
 use Rattle.group_tree.specs.declared.group.TheConstants.{MAX_GROUPS}
 use Rattle.mem_machine.specs.Machines.{pages_booked}
 
--- the seat is the zone's at the table of the stocks, which has as many processors as that of the frames; and there is a sum
--- for each group number, which is what is booked to the stocks of that group
-pub record AreBooked (t : KnownTable) (w : Words) (stock : Seated) (sums : List ℕ) : Type 0 where
-  pub table : stock.table ≡ w.table
+-- The seat is the zone's at the table of the stocks, which has as many processors as that of the frames. There is a sum
+-- for each group number: what is booked to the stocks of that group
+pub record AreBooked (frame_table : KnownTable) (words : Words) (stock : Seated) (sums : List ℕ) : Type 0 where
+  pub table : stock.table ≡ words.table
   pub zone : IsMachine stock.view
-  pub cpus : w.cpus ≡ t.cpus
+  pub cpus : words.cpus ≡ frame_table.cpus
   pub size : length sums ≡ MAX_GROUPS
-  pub each : (g : ℕ) → g < MAX_GROUPS → slice_index_or sums g 0 ≡ pages_booked t stock g
+  pub each : (group : ℕ) → group < MAX_GROUPS → slice_index_or sums group 0 ≡ pages_booked frame_table stock group

@@ -49,10 +49,10 @@ pub record EvictsUnit (before : KnownMachine) (frame pages : ℕ) (after : Known
 
 -- what a try leaves, by what it tells: the pages that came back, or none where it missed
 abbrev pub Evicts : KnownMachine → ℕ → Option ℕ → KnownMachine → Type 0
-Evicts before f None after = MissesUnit before f after
-Evicts before f (Some pages) after = EvictsUnit before f pages after
+Evicts before frame None after = MissesUnit before frame after
+Evicts before frame (Some pages) after = EvictsUnit before frame pages after
 
 -- the steps of a try: the zone freezes the frame, and where that is done the unit comes back
 abbrev pub evict_steps : ℕ → Option ℕ → Run
-evict_steps f None = zone_makes (Freeze f 1) Missed ∷ []
-evict_steps f (Some pages) = zone_makes (Freeze f 1) Done ∷ zone_makes (Return f) Done ∷ []
+evict_steps frame None = zone_makes (Freeze frame 1) Missed ∷ []
+evict_steps frame (Some pages) = zone_makes (Freeze frame 1) Done ∷ zone_makes (Return frame) Done ∷ []

@@ -1,5 +1,6 @@
 -- Frames that go between the free areas and a processor's list.
-use Rattle.std.specs.Prelude.{◌≡◌, ℕ, ◌+◌, ◌≤◌, Bool, true, false, List, [], ◌∷◌, ◌++◌, length, take, slice_set}
+use Rattle.std.specs.Prelude.{◌≡◌, ℕ, ◌+◌, ◌≤◌, Bool, true, false}
+use Rattle.std.specs.Prelude.{List, [], ◌∷◌, ◌++◌, length, take, slice_set}
 use Rattle.zone_blocks.specs.Areas.{AreMaximalBlocks, HasNoneFrom, IsFrontOfSmallest}
 use Rattle.frame_word.specs.Views.{passed_out_to, took_in, gave_back, collected_from}
 use Rattle.frame_word.specs.Seats.{KnownTable, seat_with}
@@ -47,12 +48,12 @@ pub record LendsNone (before after : Side) : Type 0 where
 
 -- so many frames more fit the processor's list: with those it has fresh it lists 256 at most
 abbrev pub HasListRoom : KnownCpu → ℕ → Type 0
-HasListRoom c count = length c.list + length c.fresh + count ≤ MOST_LISTED
+HasListRoom cpu count = length cpu.list + length cpu.fresh + count ≤ MOST_LISTED
 
 -- these frames are lent, one after the other
 abbrev pub LendsMany : List ℕ → Side → Side → Type 0
 LendsMany [] before after = (after.machine ≡ before.machine) × (after.cpu ≡ before.cpu)
-LendsMany (f ∷ frames) before after = (mid : Side) × LendsOne f before mid × LendsMany frames mid after
+LendsMany (frame ∷ rest) before after = (mid : Side) × LendsOne frame before mid × LendsMany rest mid after
 
 -- one frame is lent, by its steps
 pub record LendsByStep (table : KnownTable) (before after : Side) : Type 0 where
@@ -62,8 +63,8 @@ pub record LendsByStep (table : KnownTable) (before after : Side) : Type 0 where
 
 -- what lending one frame leaves, by what it tells: one is lent; or none is free
 abbrev pub LendsIfFree : KnownTable → Bool → Side → Side → Type 0
-LendsIfFree t true before after = LendsByStep t before after
-LendsIfFree t false before after = LendsNone before after
+LendsIfFree table true before after = LendsByStep table before after
+LendsIfFree table false before after = LendsNone before after
 
 -- so many frames are lent, one after the other, by their steps
 pub record Refills (table : KnownTable) (count : ℕ) (before after : Side) : Type 0 where
@@ -93,7 +94,8 @@ pub record TakesNoneBack (before after : Side) : Type 0 where
 -- these frames are taken back, one after the other
 abbrev pub TakesManyBack : List ℕ → Side → Side → Type 0
 TakesManyBack [] before after = (after.machine ≡ before.machine) × (after.cpu ≡ before.cpu)
-TakesManyBack (f ∷ frames) before after = (mid : Side) × TakesOneBack f before mid × TakesManyBack frames mid after
+TakesManyBack (frame ∷ rest) before after =
+    (mid : Side) × TakesOneBack frame before mid × TakesManyBack rest mid after
 
 -- one frame is taken back, by its steps
 pub record TakesBackByStep (table : KnownTable) (before after : Side) : Type 0 where
@@ -103,8 +105,8 @@ pub record TakesBackByStep (table : KnownTable) (before after : Side) : Type 0 w
 
 -- what taking one frame back leaves, by what it tells: the front of the list is free again; or the list is empty
 abbrev pub TakesBackIfListed : KnownTable → Bool → Side → Side → Type 0
-TakesBackIfListed t true before after = TakesBackByStep t before after
-TakesBackIfListed t false before after = TakesNoneBack before after
+TakesBackIfListed table true before after = TakesBackByStep table before after
+TakesBackIfListed table false before after = TakesNoneBack before after
 
 -- the steps by which so many frames are taken back from the front of the processor's list
 abbrev pub take_back_steps : ℕ → Side → Run

@@ -1,6 +1,7 @@
 pub mod Spots
 pub mod Counts
 pub mod Machines
+pub mod Kept
 pub mod Following
 pub mod Local
 pub mod Start

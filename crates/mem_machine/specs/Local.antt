@@ -27,82 +27,89 @@ use Rattle.mem_machine.specs.Following.{FollowsSteps}
 -- the number, 0 where there is none
 abbrev pub number_or_0 : Option ℕ → ℕ
 number_or_0 None = 0
-number_or_0 (Some n) = n
+number_or_0 (Some number) = number
 
 -- the group that the processor's fresh frames are of
 abbrev pub fresh_group : KnownCpu → ℕ
-fresh_group c = number_or_0 (stocks.group_of c.stock.view.last)
+fresh_group cpu = number_or_0 (stocks.group_of cpu.stock.view.last)
 
--- the phase of frame f with this record, to the processor: a frame lent to it is fresh or listed, and a unit with its
+-- the phase of the frame with this record, to the processor: a frame lent to it is fresh or listed, and a unit with its
 -- own last put is in its hand
 abbrev pub phase_of : KnownCpu → ℕ → Spot → Phase
-phase_of c f Free = phase.InZone
-phase_of c f (Lent q) =
-    if q == c.number && nat_le 1 (times f c.fresh)
-    then phase.Head (record { group = fresh_group c; order = 0 }) (FreshAt q)
-    else phase.Lent q OnList
-phase_of c f (Head unit) = if nat_le 1 (times f c.back) then phase.Head unit (BackAt c.number) else phase.Head unit Live
-phase_of c f (Tail g) = phase.Tail g
+phase_of cpu frame Free = phase.InZone
+phase_of cpu frame (Lent processor) =
+    if processor == cpu.number && nat_le 1 (times frame cpu.fresh)
+    then phase.Head (record { group = fresh_group cpu; order = 0 }) (FreshAt processor)
+    else phase.Lent processor OnList
+phase_of cpu frame (Head unit) =
+    if nat_le 1 (times frame cpu.back) then phase.Head unit (BackAt cpu.number) else phase.Head unit Live
+phase_of cpu frame (Tail group) = phase.Tail group
 
 -- the part of a processor with these lists and this account: its stock has the booked pages that are neither fresh nor
 -- noted
 abbrev pub part_with : List ℕ → List ℕ → List ℕ → Account → Part
-part_with list fresh back a = record {
+part_with list fresh back account = record {
   list = list;
   fresh = fresh;
   back = back;
   stock = record {
-    group = a.group;
-    pages = a.book - length fresh - a.noted;
-    is_drained = is_some a.group && not a.filled;
+    group = account.group;
+    pages = account.book - length fresh - account.noted;
+    is_drained = is_some account.group && not account.filled;
   };
-  book = a.book;
+  book = account.book;
   unreported = 0;
-  reported = a.noted;
+  reported = account.noted;
 }
 
--- the part of processor q as processor c sees it: its own lists, and of the others the account alone
+-- the part of the processor of this number, as `cpu` sees it: its own lists, and of the others the account alone
 abbrev pub part_of : Seated → KnownCpu → ℕ → Part
-part_of stock c q =
-    if q == c.number
-    then part_with c.list c.fresh c.back (account_of stock.view q)
-    else part_with [] [] [] (account_of stock.view q)
+part_of stock cpu processor =
+    if processor == cpu.number
+    then part_with cpu.list cpu.fresh cpu.back (account_of stock.view processor)
+    else part_with [] [] [] (account_of stock.view processor)
 
--- the references that the processor sees: the zone's and its own
+-- the references of a seat on the frame, as `cpu` sees them: those of the zone, whose number is 0, and its own
 abbrev pub references_of : KnownSeat → KnownCpu → ℕ → ℕ → ℕ
-references_of seat c q f = if q == 0 then holds seat f else (if q == c.number then holds c.seat f else 0)
+references_of zone_seat cpu seat frame =
+    if seat == 0 then holds zone_seat frame else (if seat == cpu.number then holds cpu.seat frame else 0)
 
 -- the processor holds the lock; its visit may be open
 abbrev pub hold_of : KnownSeat → ℕ → Hold
-hold_of seat p = if slice_index seat.view.opened p == 1 then Visiting p else HeldBy p
+hold_of seat processor = if slice_index seat.view.opened processor == 1 then Visiting processor else HeldBy processor
 
--- what the machine shows the processor that holds the lock. No page is pending between two calls
+-- The local state of a side: what the machine shows the processor that holds the lock, in the words of the rules. No
+-- page is pending between two calls
 abbrev pub local_of : KnownTable → KnownMachine → KnownCpu → State
-local_of t m c = record {
-  zone = record { frames = t.frames; cpus = t.cpus };
-  hold = hold_of m.seat c.number;
-  groups = m.ledger.groups;
-  killed = is_killed m.killed;
-  phases = λ f. phase_of c f (spot_at m.spots f);
-  references = references_of m.seat c;
-  parts = part_of m.stock c;
-  pending = λ g. 0;
+local_of table machine cpu = record {
+  zone = record { frames = table.frames; cpus = table.cpus };
+  hold = hold_of machine.seat cpu.number;
+  groups = machine.ledger.groups;
+  killed = is_killed machine.killed;
+  phases = λ frame. phase_of cpu frame (spot_at machine.spots frame);
+  references = references_of machine.seat cpu;
+  parts = part_of machine.stock cpu;
+  pending = λ group. 0;
 }
+
+-- the local state of the side
+abbrev pub local_at : KnownTable → Side → State
+local_at table now = local_of table now.machine now.cpu
 
 -- These steps, of the processor of this number and of the zone's seat, lead from one side to another: by what the
 -- processor sees, and by the peaks and the event counts of the ledger
 pub record MakesAs (table : KnownTable) (number : ℕ) (before : Side) (steps : Run) (after : Side) : Type 0 where
-  pub leads : IsLocalRun number (local_of table before.machine before.cpu) steps (local_of table after.machine after.cpu)
-  pub follows : FollowsSteps (local_of table before.machine before.cpu) before.machine.ledger steps after.machine.ledger
+  pub leads : IsLocalRun number (local_at table before) steps (local_at table after)
+  pub follows : FollowsSteps (local_at table before) before.machine.ledger steps after.machine.ledger
 
 -- these steps lead the processor that holds the lock from one side to another
 abbrev pub Makes : KnownTable → Side → Run → Side → Type 0
-Makes t before steps after = MakesAs t before.cpu.number before steps after
+Makes table before steps after = MakesAs table before.cpu.number before steps after
 
--- so it is by the steps that the side before tells
+-- the steps that the side before tells lead the processor that holds the lock from this side to the other
 abbrev pub MakesBy : KnownTable → (Side → Run) → Side → Side → Type 0
-MakesBy t steps before after = Makes t before (steps before) after
+MakesBy table steps before after = Makes table before (steps before) after
 
 -- whichever processor holds the lock, these steps lead it from one machine to another, and its own part stays
 abbrev pub MakesForAny : KnownTable → KnownMachine → Run → KnownMachine → Type 0
-MakesForAny t before steps after = (cpu : KnownCpu) → Makes t (side before cpu) steps (side after cpu)
+MakesForAny table before steps after = (cpu : KnownCpu) → Makes table (side before cpu) steps (side after cpu)

@@ -1,6 +1,6 @@
 -- What a contract sees of the machine, and what always holds of it.
-use Rattle.std.specs.Prelude.{◌≡◌, ◌≢◌, ℕ, ◌+◌, ◌<◌, ◌≤◌, ◌==◌, Bool, false, Option, Some, None, is_some, IfSome}
-use Rattle.std.specs.Prelude.{List, [], length, replicate, slice_set, if◌then◌else◌}
+use Rattle.std.specs.Prelude.{◌≡◌, ◌≢◌, ℕ, ◌+◌, ◌<◌, ◌≤◌, ◌==◌, Bool, false, Option, Some, None}
+use Rattle.std.specs.Prelude.{is_some, IfSome, List, [], length, replicate, slice_set, if◌then◌else◌}
 use Rattle.std.specs.List.{slice_index_or}
 use Rattle.zone_blocks.specs.declared.block.Block.{Block}
 use Rattle.zone_blocks.specs.Areas.{AreMaximalBlocks}
@@ -53,7 +53,7 @@ pub record KnownMachine : Type 0 where
 
 -- the machine with one note more
 abbrev pub with_note : KnownMachine → Note → KnownMachine
-with_note m note = record m { notes = noted m.notes note }
+with_note machine note = record machine { notes = noted machine.notes note }
 
 -- an empty list
 abbrev pub no_queue : Queue
@@ -65,62 +65,69 @@ no_lists = record { owner = MAX_GROUPS; inactive = no_queue; active = no_queue }
 
 -- the two lists of the group of this number
 abbrev pub lists_at : List Lru → ℕ → Lru
-lists_at lists g = slice_index_or lists g no_lists
+lists_at lists group = slice_index_or lists group no_lists
 
 -- the units of one of the group's lists, from the oldest to the newest
 abbrev pub entries_in : KnownMachine → ℕ → LruList → List Entry
-entries_in m g list = entries_of m.links (lists_at m.lists g) list
+entries_in machine group list = entries_of machine.links (lists_at machine.lists group) list
 
 -- the inactive units of the group, from the oldest to the newest
 abbrev pub inactive_in : KnownMachine → ℕ → List Entry
-inactive_in m g = entries_in m g Inactive
+inactive_in machine group = entries_in machine group Inactive
 
 -- the active units of the group, from the oldest to the newest
 abbrev pub active_in : KnownMachine → ℕ → List Entry
-active_in m g = entries_in m g Active
+active_in machine group = entries_in machine group Active
 
 -- the list that the frame stands on, if it heads a kept unit
 abbrev pub home_of : List Link → ℕ → Option Home
-home_of links f = (link_at links f).home
+home_of links frame = (link_at links frame).home
 
 -- in this machine the frame heads a kept unit: it stands on a list
 abbrev pub HeadsKeptUnit : KnownMachine → ℕ → Type 0
-HeadsKeptUnit m f = home_of m.links f ≢ None
+HeadsKeptUnit machine frame = home_of machine.links frame ≢ None
 
 -- the lists of all groups but this one stand as they stood: the same units in the same order, with their marks and dirt
 abbrev pub OthersStay : List Link → List Lru → ℕ → List Link → List Lru → Type 0
-OthersStay before old group after new = (g : ℕ) (list : LruList) → g < MAX_GROUPS → g ≢ group
-    → entries_of after (lists_at new g) list ≡ entries_of before (lists_at old g) list
+OthersStay before old group after new = (other : ℕ) (list : LruList) → other < MAX_GROUPS → other ≢ group
+    → entries_of after (lists_at new other) list ≡ entries_of before (lists_at old other) list
 
 -- each frame on no list has the record that it had, mark and dirt included
 abbrev pub LooseStay : List Link → List Link → Type 0
-LooseStay before after = (f : ℕ) → home_of before f ≡ None → link_at after f ≡ link_at before f
+LooseStay before after =
+    (frame : ℕ) → home_of before frame ≡ None → link_at after frame ≡ link_at before frame
+
+-- each group number has its two lists, and these stand in the records through which they are linked
+pub record AreGroupLists (links : List Link) (lists : List Lru) : Type 0 where
+  pub groups : length lists ≡ MAX_GROUPS
+  pub stand : AllStand links lists
 
 -- the group of this number is killed
 abbrev pub is_killed : List Bool → ℕ → Bool
-is_killed killed g = slice_index_or killed g false
+is_killed killed group = slice_index_or killed group false
 
 -- the frames that are charged to the group itself
 abbrev pub frames_charged : List Spot → ℕ → ℕ
-frames_charged spots g = sum_to (length spots) (λ f. count_of g (group_of (spot_at spots f)))
+frames_charged spots group = sum_to (length spots) (λ frame. count_of group (group_of (spot_at spots frame)))
 
 -- the pages of a processor's book, where its stock is of the group
 abbrev pub booked : ℕ → Account → ℕ
-booked g a = if count_of g a.group == 0 then 0 else a.book
+booked group account = if count_of group account.group == 0 then 0 else account.book
 
 -- the pages booked to the stocks of the group itself
 abbrev pub pages_booked : KnownTable → Seated → ℕ → ℕ
-pages_booked t stock g = sum_to (t.cpus + 1) (λ p. booked g (account_of stock.view p))
+pages_booked table stock group =
+    sum_to (table.cpus + 1) (λ processor. booked group (account_of stock.view processor))
 
--- The zone's seat notes of a frame what its record says: it is in the zone's hand where it is free or a tail, it is
--- lent to whom the record says, who is one of so many processors, and the zone has one reference exactly where the frame
--- stands on a list; that is one of the group of the unit that it heads
+-- The zone's seat notes of a frame what its record says. It is in the zone's hand where it is free or a tail. It is
+-- lent to whom the record says, who is one of so many processors. The zone has one reference on it exactly where it
+-- stands on a list, which is one of the group of the unit that it heads
 pub record FitsSpot (cpus : ℕ) (note : FrameNote) (home : Option Home) (spot : Spot) : Type 0 where
   pub own : note.own ≡ one_if (is_in_hand spot)
   pub lent : some_cpu note.lent ≡ lent_to spot
-  pub borrower : IfSome (lent_to spot) (λ p. (1 ≤ p) × (p ≤ cpus))
+  pub borrower : IfSome (lent_to spot) (λ processor. (1 ≤ processor) × (processor ≤ cpus))
   pub references : note.references ≡ one_if (is_some home)
-  pub kept : IfSome home (λ h. (h.owner < MAX_GROUPS) × (head_group_of spot ≡ Some h.owner))
+  pub kept : IfSome home (λ list. (list.owner < MAX_GROUPS) × (head_group_of spot ≡ Some list.owner))
 
 -- the parts have the sizes of the tables, which agree
 pub record AreSized (table : KnownTable) (words : Words) (machine : KnownMachine) : Type 0 where
@@ -144,14 +151,15 @@ pub record IsConsistent (table : KnownTable) (words : Words) (machine : KnownMac
   pub sizes : AreSized table words machine
   pub seats : AreZoneSeats table words machine.seat machine.stock
   pub areas : AreMaximalBlocks (free_of machine.spots) machine.blocks
-  pub spots : (f : ℕ) → f < table.frames
-      → FitsSpot table.cpus (note_of machine.seat.view f) (home_of machine.links f) (spot_at machine.spots f)
+  pub spots : (frame : ℕ) → frame < table.frames
+      → FitsSpot table.cpus (note_of machine.seat.view frame) (home_of machine.links frame)
+      (spot_at machine.spots frame)
   pub units : AreUnits machine.spots
   pub lists : AllStand machine.links machine.lists
-  pub noted : (p : ℕ) → (account_of machine.stock.view p).noted ≡ 0
-  pub bounded : (p : ℕ) → (account_of machine.stock.view p).book < 65536
-  pub charged : (g : ℕ)
-      → pages_of machine.ledger g ≡ frames_charged machine.spots g + pages_booked table machine.stock g
+  pub noted : (processor : ℕ) → (account_of machine.stock.view processor).noted ≡ 0
+  pub bounded : (processor : ℕ) → (account_of machine.stock.view processor).book < 65536
+  pub charged : (group : ℕ)
+      → pages_of machine.ledger group ≡ frames_charged machine.spots group + pages_booked table machine.stock group
   pub balances : BalancesCounts machine.counts
 
 -- a group of this path was made, and got the least free number
@@ -164,9 +172,11 @@ pub record AddsGroup (before : KnownMachine) (number : ℕ) (path : List ℕ) (a
 
 -- group `lowest` is the lowest of the group's path whose limit has no room for so many pages more
 abbrev pub LacksRoom : KnownMachine → ℕ → ℕ → ℕ → Type 0
-LacksRoom m g pages lowest = IsLowestOver m.ledger.groups (current_of m.ledger) g pages lowest
+LacksRoom machine group pages lowest =
+    IsLowestOver machine.ledger.groups (current_of machine.ledger) group pages lowest
 
--- the machine, and the part of the processor that holds its lock
+-- A side: the machine, and the part of the processor that holds its lock. A call of the machine finds one, and leaves
+-- one
 pub record Side : Type 0 where
   pub machine : KnownMachine
   pub cpu : KnownCpu
@@ -175,11 +185,17 @@ pub record Side : Type 0 where
 abbrev pub side : KnownMachine → KnownCpu → Side
 side machine cpu = record { machine = machine; cpu = cpu }
 
--- the processor's visit is open, nothing passes for it, and what is lent to it are its listed and fresh frames
+-- The processor is visited: its visit was opened and not shut yet, no frame passes between it and the zone, and what is
+-- lent to it are its listed and fresh frames
 pub record Visits (table : KnownTable) (now : Side) : Type 0 where
   pub is_open : IsOpen now.machine.seat now.cpu.number
   pub still : NothingPasses table now.machine.seat now.cpu.seat
   pub lent : LentIsBorrowed table now.machine.seat now.cpu.seat
+
+-- whichever processor was visited before, is visited after
+abbrev pub StaysVisited : KnownTable → KnownMachine → KnownMachine → Type 0
+StaysVisited table before after =
+    (cpu : KnownCpu) → Visits table (side before cpu) → Visits table (side after cpu)
 
 -- What stays of a side while a visit goes on: it is open still, no other was opened or shut, and the processor has its
 -- number and its back frames
@@ -189,10 +205,9 @@ pub record KeepsVisit (table : KnownTable) (before after : Side) : Type 0 where
   pub number : after.cpu.number ≡ before.cpu.number
   pub back : after.cpu.back ≡ before.cpu.back
 
--- the processor is one of the table's
-pub record IsSeated (table : KnownTable) (cpu : KnownCpu) : Type 0 where
-  pub some_number : 1 ≤ cpu.number
-  pub cpus : cpu.number ≤ table.cpus
+-- a processor of this number is there
+abbrev pub IsCpuOf : KnownTable → ℕ → Type 0
+IsCpuOf table processor = (1 ≤ processor) × (processor ≤ table.cpus)
 
 -- no frame is lent or charged, there is the root alone, no group is killed, and nothing came back or was noted yet
 pub record IsFirst (table : KnownTable) (words : Words) (machine : KnownMachine) : Type 0 where

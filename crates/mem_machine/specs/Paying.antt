@@ -1,11 +1,12 @@
--- What a processor's stock holds, and the frame that is paid for with a page of it.
-use Rattle.std.specs.Prelude.{◌≡◌, ℕ, ◌+◌, ◌-◌, ◌^◌, ◌<◌, ◌≤◌, Some, true}
+-- What a processor's stock holds, the frame that is paid for with a page of it, and what may be charged.
+use Rattle.std.specs.Prelude.{◌≡◌, ℕ, ◌+◌, ◌-◌, ◌^◌, ◌<◌, ◌≤◌, Some, true, false, IsTrue}
 use Rattle.frame_word.specs.Seats.{KnownTable}
 use Rattle.stock_word.specs.declared.view.Stock.{Stock}
 use Rattle.stock_word.specs.Stock.{account_of, pages_of, group_of, is_held}
 use Rattle.cpu_part.specs.Calls.{TakesFront}
+use Rattle.group_tree.specs.Groups.{has_group}
 use Rattle.group_charge.specs.Charges.{current_of}
-use Rattle.mem_machine.specs.Machines.{KnownMachine, Side}
+use Rattle.mem_machine.specs.Machines.{KnownMachine, Side, is_killed}
 use Rattle.mem_machine.specs.Stocks.{stock_group}
 -- the pages that the processor's stock holds
 pub use Rattle.mem_machine.specs.Stocks.{pages_held}
@@ -27,11 +28,18 @@ pub record PaysForFront (group frame : ℕ) (before after : Side) : Type 0 where
   pub takes : TakesFront group (pages_held before - 1) frame before.cpu after.cpu
   pub machine : after.machine ≡ before.machine
 
--- a zone of at most 65,536 frames and 64 processors
+-- the zone of the table has at most 65,536 frames and 64 processors
 pub record IsOfSize (table : KnownTable) : Type 0 where
   pub frames : table.frames ≤ 65536
   pub cpus : table.cpus ≤ 64
 
--- with so many pages more, the pages that are charged in all are fewer than 2^32
+-- with so many pages more, fewer than 2^32 pages are charged in all
 abbrev pub HasRoomFor : KnownMachine → ℕ → Type 0
 HasRoomFor now pages = current_of now.ledger 0 + pages < 2 ^ 32
+
+-- so many pages may be charged to the group where its limits have room: it is there, isn't killed, and the count of all
+-- pages that are charged holds them too
+pub record MayCharge (now : KnownMachine) (group pages : ℕ) : Type 0 where
+  pub there : IsTrue (has_group now.ledger.groups group)
+  pub alive : is_killed now.killed group ≡ false
+  pub fits : HasRoomFor now pages

@@ -7,12 +7,12 @@ use Rattle.mem_machine.specs.Spots.{is_free, group_of, spot_at}
 
 -- how many frames are free
 abbrev pub frames_free : List Spot → ℕ
-frames_free spots = sum_by (λ x. one_if (is_free x)) spots
+frames_free spots = sum_by (λ spot. one_if (is_free spot)) spots
 
 -- how many frames are charged to a group
 abbrev pub frames_in_groups : List Spot → ℕ
-frames_in_groups spots = sum_by (λ x. one_if (is_some (group_of x))) spots
+frames_in_groups spots = sum_by (λ spot. one_if (is_some (group_of spot))) spots
 
--- no frame is lent to processor p
+-- no frame is lent to the processor
 abbrev pub NoneLentTo : ℕ → List Spot → Type 0
-NoneLentTo p spots = (f : ℕ) → spot_at spots f ≢ Lent p
+NoneLentTo processor spots = (frame : ℕ) → spot_at spots frame ≢ Lent processor

@@ -30,7 +30,7 @@ pub record LeavesList (before : List Link) (old : List Lru) (frame : ℕ)
   pub list : LruList
   pub stands : home_of before frame ≡ Some (record { owner = group; list = list })
   pub forgotten : link_at after frame ≡ nowhere
-  pub homes : (f : ℕ) → f ≢ frame → home_of after f ≡ home_of before f
+  pub homes : (other : ℕ) → other ≢ frame → home_of after other ≡ home_of before other
   pub loose : LooseStay before after
   pub used : SameUse before after frame
   pub inactive : inactive_of after (lists_at new group)
@@ -69,10 +69,10 @@ pub record ReturnsUnit (before : KnownMachine) (frame : ℕ) (after : KnownMachi
 
 -- what a release leaves, by what it tells
 abbrev pub Releases : KnownMachine → ℕ → Released → KnownMachine → Type 0
-Releases before f (Left left) after = LeavesReferences before f left after
-Releases before f Returned after = ReturnsUnit before f after
+Releases before frame (Left left) after = LeavesReferences before frame left after
+Releases before frame Returned after = ReturnsUnit before frame after
 
 -- the steps of a release: the zone puts its reference, and where it was the last one the unit comes back
 abbrev pub release_steps : ℕ → Released → Run
-release_steps f (Left left) = zone_makes (Put f) (answer.Left left) ∷ []
-release_steps f Returned = zone_makes (Put f) answer.Last ∷ zone_makes (Return f) answer.Done ∷ []
+release_steps frame (Left left) = zone_makes (Put frame) (answer.Left left) ∷ []
+release_steps frame Returned = zone_makes (Put frame) answer.Last ∷ zone_makes (Return frame) answer.Done ∷ []

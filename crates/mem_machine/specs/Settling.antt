@@ -1,12 +1,13 @@
 -- Fresh and back frames of the processor that is visited, settled one after the other.
-use Rattle.std.specs.Prelude.{◌≡◌, ℕ, ◌+◌, ◌^◌, ◌≤◌, Bool, true, false, Option, Some, None, IfSome, List, [], ◌∷◌, ◌++◌}
-use Rattle.std.specs.Prelude.{slice_set, if◌then◌else◌}
+use Rattle.std.specs.Prelude.{◌≡◌, ℕ, ◌+◌, ◌^◌, ◌<◌, ◌≤◌, Bool, true, false, Option, Some, None, IfSome}
+use Rattle.std.specs.Prelude.{List, [], ◌∷◌, ◌++◌, slice_set, if◌then◌else◌}
 use Rattle.std.specs.List.{flat_map}
 use Rattle.zone_blocks.specs.Areas.{AreMaximalBlocks}
 use Rattle.frame_word.specs.Views.{gave_back, collected_from, unfrozen}
-use Rattle.frame_word.specs.Seats.{KnownTable, seat_with}
+use Rattle.frame_word.specs.Seats.{KnownTable, KnownSeat, seat_with}
+use Rattle.frame_word.specs.Seats.{IsZoneSeat, IsOpen, NothingPasses, HasNothingOf, IsLent}
 use Rattle.stock_word.specs.declared.view.Account.{Account}
-use Rattle.stock_word.specs.Stock.{Seated}
+use Rattle.stock_word.specs.Stock.{Seated, account_of, group_of}
 use Rattle.stock_word.specs.Kinds.{after_report, noting, absorbing, with_steps}
 use Rattle.stock_word.specs.Calls.{with_view}
 use Rattle.group_charge.specs.Charges.{with_uncharge}
@@ -25,25 +26,43 @@ use Rattle.mem_machine.specs.Blocks.{ListsUnit}
 use Rattle.mem_machine.specs.Counts.{with_drop, with_last_put}
 use Rattle.mem_machine.specs.Freeing.{FreesFrames}
 
--- the stocks after a page of processor p was reported and absorbed
+-- the stocks after a page of the processor was reported and absorbed
 abbrev pub with_page_absorbed : Seated → ℕ → Seated
-with_page_absorbed stock p = with_view stock (absorbing (noting stock.view p 1) p)
+with_page_absorbed stock processor = with_view stock (absorbing (noting stock.view processor 1) processor)
 
 -- the stocks' seat after it absorbed that page, by one step
 abbrev pub after_page_absorbed : Seated → ℕ → Seated
-after_page_absorbed seat p = with_view seat (with_steps 1 (absorbing (noting seat.view p 1) p))
+after_page_absorbed seat processor = with_view seat (with_steps 1 (absorbing (noting seat.view processor 1) processor))
 
 -- a page of the account's book isn't noted yet
 abbrev pub HasUnnotedPage : Account → Type 0
-HasUnnotedPage a = 1 + a.noted ≤ a.book
+HasUnnotedPage account = 1 + account.noted ≤ account.book
 
--- the oldest fresh frame is handed over, and its page reported
-abbrev pub HandsOver : ℕ → KnownCpu → KnownCpu → Type 0
-HandsOver f before after = (before.fresh ≡ f ∷ after.fresh) × (after ≡ record before {
-  fresh = after.fresh;
-  seat = seat_with before.seat f gave_back;
-  stock = with_view before.stock (after_report before.stock.view 1);
-})
+-- the seat is the zone's at the frames' table, the visit of the processor is open there, and no frame passes between
+-- the two
+pub record IsVisitedAt (table : KnownTable) (seat : KnownSeat) (cpu : KnownCpu) : Type 0 where
+  pub zone : IsZoneSeat table seat
+  pub is_open : IsOpen seat cpu.number
+  pub still : NothingPasses table seat cpu.seat
+
+-- What the zone's seats know of a fresh frame of the processor. They have nothing of it, and lent it to the processor;
+-- its page is booked to the processor's stock, and they know of which group that is
+pub record KnowsFresh (table : KnownTable) (seat : KnownSeat) (stock : Seated)
+    (cpu : KnownCpu) (frame : ℕ) : Type 0 where
+  pub inside : frame < table.frames
+  pub nothing : HasNothingOf seat frame
+  pub lent : IsLent seat frame cpu.number
+  pub booked : HasUnnotedPage (account_of stock.view cpu.number)
+  pub group : group_of cpu.stock.view.last ≡ (account_of stock.view cpu.number).group
+
+-- the frame, the oldest fresh one, is handed over, and its page reported
+pub record HandsOver (frame : ℕ) (before after : KnownCpu) : Type 0 where
+  pub front : before.fresh ≡ frame ∷ after.fresh
+  pub cpu : after ≡ record before {
+    fresh = after.fresh;
+    seat = seat_with before.seat frame gave_back;
+    stock = with_view before.stock (after_report before.stock.view 1);
+  }
 
 -- The oldest fresh frame is a kept unit of one frame, of the group: in use, with one reference of the zone, and on the
 -- group's inactive list. Its page, which was booked, is charged for it
@@ -53,7 +72,7 @@ pub record KeepsFresh (group frame : ℕ) (before after : Side) : Type 0 where
     spots = slice_set before.machine.spots frame (Head (record { group = group; order = 0 }));
     links = after.machine.links;
     lists = after.machine.lists;
-    seat = seat_with before.machine.seat frame (λ k. unfrozen 1 (collected_from before.cpu.number k));
+    seat = seat_with before.machine.seat frame (λ note. unfrozen 1 (collected_from before.cpu.number note));
     stock = with_page_absorbed before.machine.stock before.cpu.number;
   }
   pub cpu : HandsOver frame before.cpu after.cpu
@@ -112,22 +131,24 @@ pub record FindsNoneBack (before after : Side) : Type 0 where
 -- what settling the oldest fresh frame leaves, by what it tells: the frame; or that there is none
 abbrev pub SettlesNext : Option ℕ → Side → Side → Type 0
 SettlesNext None before after = FindsNoneFresh before after
-SettlesNext (Some f) before after = SettlesFresh f before after
+SettlesNext (Some frame) before after = SettlesFresh frame before after
 
 -- what returning the oldest back frame leaves, by what it tells: the frame; or that there is none
 abbrev pub ReturnsNext : Option ℕ → Side → Side → Type 0
 ReturnsNext None before after = FindsNoneBack before after
-ReturnsNext (Some f) before after = ReturnsBack f before after
+ReturnsNext (Some frame) before after = ReturnsBack frame before after
 
--- so it is with these fresh frames, one after the other
+-- these fresh frames are settled, one after the other
 abbrev pub SettlesAllFresh : List ℕ → Side → Side → Type 0
 SettlesAllFresh [] before after = (after.machine ≡ before.machine) × (after.cpu ≡ before.cpu)
-SettlesAllFresh (f ∷ rest) before after = (mid : Side) × SettlesFresh f before mid × SettlesAllFresh rest mid after
+SettlesAllFresh (frame ∷ rest) before after =
+    (mid : Side) × SettlesFresh frame before mid × SettlesAllFresh rest mid after
 
 -- these back frames come back, one after the other
 abbrev pub ReturnsAllBack : List ℕ → Side → Side → Type 0
 ReturnsAllBack [] before after = (after.machine ≡ before.machine) × (after.cpu ≡ before.cpu)
-ReturnsAllBack (f ∷ rest) before after = (mid : Side) × ReturnsBack f before mid × ReturnsAllBack rest mid after
+ReturnsAllBack (frame ∷ rest) before after =
+    (mid : Side) × ReturnsBack frame before mid × ReturnsAllBack rest mid after
 
 -- the processor has the number, the list and the pins that it had
 pub record LeavesOthers (before after : KnownCpu) : Type 0 where
@@ -144,30 +165,36 @@ pub record Settles (before after : Side) : Type 0 where
 
 -- ---- the steps
 
--- the steps by which a fresh frame f of processor p comes into the zone's hand, and its page off the book
+-- the steps by which a fresh frame of the processor comes into the zone's hand, and its page off the book
 abbrev pub collect_steps : ℕ → ℕ → Run
-collect_steps p f =
-    cpu_makes p (PassBack f) Done
-    ∷ cpu_makes p (Report 1) Done
-    ∷ zone_makes (Collect f p) Done
-    ∷ zone_makes (Absorb p) (Pages 1)
+collect_steps processor frame =
+    cpu_makes processor (PassBack frame) Done
+    ∷ cpu_makes processor (Report 1) Done
+    ∷ zone_makes (Collect frame processor) Done
+    ∷ zone_makes (Absorb processor) (Pages 1)
     ∷ []
 
 -- the steps of a fresh frame that is kept
 abbrev pub keep_steps : ℕ → ℕ → Run
-keep_steps p f = collect_steps p f ++ zone_makes (Unfreeze f 1) Done ∷ zone_makes (Publish f) Done ∷ []
+keep_steps processor frame =
+    collect_steps processor frame ++ zone_makes (Unfreeze frame 1) Done ∷ zone_makes (Publish frame) Done ∷ []
 
 -- the steps of a fresh frame that is dropped
 abbrev pub drop_steps : ℕ → ℕ → Run
-drop_steps p f = collect_steps p f ++ zone_makes (Return f) Done ∷ []
+drop_steps processor frame = collect_steps processor frame ++ zone_makes (Return frame) Done ∷ []
 
 -- the steps of a back frame
 abbrev pub return_steps : ℕ → ℕ → Run
-return_steps p f = cpu_makes p (PassBack f) Done ∷ zone_makes (Collect f p) Done ∷ zone_makes (Return f) Done ∷ []
+return_steps processor frame =
+    cpu_makes processor (PassBack frame) Done
+    ∷ zone_makes (Collect frame processor) Done
+    ∷ zone_makes (Return frame) Done
+    ∷ []
 
 -- the steps of a fresh frame, whose group is killed or not
 abbrev pub fresh_steps : Bool → ℕ → ℕ → Run
-fresh_steps is_killed p f = if is_killed then drop_steps p f else keep_steps p f
+fresh_steps is_killed processor frame =
+    if is_killed then drop_steps processor frame else keep_steps processor frame
 
 -- the steps of all fresh frames, in the order in which they were taken
 abbrev pub all_fresh_steps : Side → Run
@@ -183,9 +210,10 @@ settle_steps now = all_fresh_steps now ++ all_back_steps now
 
 -- where a fresh frame was settled, it was by its steps
 abbrev pub MakesFreshSteps : KnownTable → Option ℕ → Side → Side → Type 0
-MakesFreshSteps t next before after =
-    IfSome next (λ f. Makes t before (fresh_steps (is_fresh_killed before) before.cpu.number f) after)
+MakesFreshSteps table next before after =
+    IfSome next (λ frame. Makes table before (fresh_steps (is_fresh_killed before) before.cpu.number frame) after)
 
 -- where a back frame was returned, it was by its steps
 abbrev pub MakesReturnSteps : KnownTable → Option ℕ → Side → Side → Type 0
-MakesReturnSteps t next before after = IfSome next (λ f. Makes t before (return_steps before.cpu.number f) after)
+MakesReturnSteps table next before after =
+    IfSome next (λ frame. Makes table before (return_steps before.cpu.number frame) after)

@@ -14,43 +14,43 @@ use Rattle.step_rules.specs.After.{Run}
 abbrev pub zone_makes : Action → Answer → Step × Answer
 zone_makes action answer = (record { seat = 0; action = action }, answer)
 
--- a step of processor p's own seat, and its answer
+-- a step of the processor's own seat, and its answer
 abbrev pub cpu_makes : ℕ → Action → Answer → Step × Answer
-cpu_makes p action answer = (record { seat = p; action = action }, answer)
+cpu_makes processor action answer = (record { seat = processor; action = action }, answer)
 
--- p's visit begins
+-- the processor's visit begins
 abbrev pub open_steps : ℕ → Run
-open_steps p = zone_makes (OpenVisit p) Done ∷ []
+open_steps processor = zone_makes (OpenVisit processor) Done ∷ []
 
--- p's visit ends
+-- the processor's visit ends
 abbrev pub shut_steps : ℕ → Run
-shut_steps p = zone_makes (ShutVisit p) Done ∷ []
+shut_steps processor = zone_makes (ShutVisit processor) Done ∷ []
 
--- frame f goes from the free areas to the end of p's list
+-- the frame goes from the free areas to the end of the processor's list
 abbrev pub lend_steps : ℕ → ℕ → Run
-lend_steps p f = zone_makes (PassOut f p) Done ∷ cpu_makes p (TakeIn f) Done ∷ []
+lend_steps processor frame = zone_makes (PassOut frame processor) Done ∷ cpu_makes processor (TakeIn frame) Done ∷ []
 
--- so it is with each of these frames, in this order
+-- these frames go to the end of the processor's list, one after the other
 abbrev pub refill_steps : ℕ → List ℕ → Run
-refill_steps p frames = flat_map (lend_steps p) frames
+refill_steps processor frames = flat_map (lend_steps processor) frames
 
--- frame f goes back from p to the free areas
+-- the frame goes back from the processor to the free areas
 abbrev pub back_steps : ℕ → ℕ → Run
-back_steps p f = cpu_makes p (PassBack f) Done ∷ zone_makes (Collect f p) Done ∷ []
+back_steps processor frame = cpu_makes processor (PassBack frame) Done ∷ zone_makes (Collect frame processor) Done ∷ []
 
--- so it is with each of these frames, in this order
+-- these frames go back to the free areas, one after the other
 abbrev pub drain_list_steps : ℕ → List ℕ → Run
-drain_list_steps p frames = flat_map (back_steps p) frames
+drain_list_steps processor frames = flat_map (back_steps processor) frames
 
 -- so many pages come off the group's charge; with none, or no group, nothing is done
 abbrev pub ungrant_steps : Option ℕ → ℕ → Run
-ungrant_steps None n = []
-ungrant_steps (Some g) zero = []
-ungrant_steps (Some g) (suc n) = zone_makes (Ungrant g (suc n)) Done ∷ []
+ungrant_steps None pages = []
+ungrant_steps (Some group) zero = []
+ungrant_steps (Some group) (suc more) = zone_makes (Ungrant group (suc more)) Done ∷ []
 
--- the stock of processor q, which is of this group, is drained of so many pages, and these come off the group's charge
+-- the processor's stock, which is of this group, is drained of so many pages, and these come off the group's charge
 abbrev pub drain_steps : ℕ → Option ℕ → ℕ → Run
-drain_steps q group n = zone_makes (DrainStock q) (Pages n) ∷ ungrant_steps group n
+drain_steps processor group pages = zone_makes (DrainStock processor) (Pages pages) ∷ ungrant_steps group pages
 
 -- a drain: whose stock it was, the group that the stock is of, and how many pages were in it
 pub record Drain : Type 0 where
@@ -60,44 +60,45 @@ pub record Drain : Type 0 where
 
 -- the pages of these drains
 abbrev pub pages_drained : List Drain → ℕ
-pages_drained drains = sum_by (λ d. d.pages) drains
+pages_drained drains = sum_by (λ drain. drain.pages) drains
 
 -- the steps of these drains, in this order
 abbrev pub drain_stocks_steps : List Drain → Run
-drain_stocks_steps drains = flat_map (λ d. drain_steps d.cpu d.group d.pages) drains
+drain_stocks_steps drains = flat_map (λ drain. drain_steps drain.cpu drain.group drain.pages) drains
 
--- n pages are granted to the group and fill p's stock
+-- so many pages are granted to the group and fill the processor's stock
 abbrev pub fill_steps : ℕ → ℕ → ℕ → Run
-fill_steps p g n = zone_makes (Grant g n) Granted ∷ zone_makes (Fill p g n) Done ∷ []
+fill_steps processor group pages =
+    zone_makes (Grant group pages) Granted ∷ zone_makes (Fill processor group pages) Done ∷ []
 
--- the grant of n pages is refused, since group `over` has no room for them
+-- the grant of so many pages is refused, since group `over` has no room for them
 abbrev pub over_steps : ℕ → ℕ → ℕ → Run
-over_steps g n over = zone_makes (Grant g n) (Over over) ∷ []
+over_steps group pages over = zone_makes (Grant group pages) (Over over) ∷ []
 
--- the front of p's list becomes fresh, paid for with a page of its stock, which is of the group
+-- the front of the processor's list becomes fresh, paid for with a page of its stock, which is of the group
 abbrev pub take_front_steps : ℕ → ℕ → Run
-take_front_steps p g = cpu_makes p (Consume g) Took ∷ []
+take_front_steps processor group = cpu_makes processor (Consume group) Took ∷ []
 
 -- it is noted that the group's usage was about to go over its limit
 abbrev pub note_max_steps : ℕ → Run
-note_max_steps g = zone_makes (NoteMax g) Done ∷ []
+note_max_steps group = zone_makes (NoteMax group) Done ∷ []
 
 -- it is noted that the group's limit couldn't be kept by reclaim
 abbrev pub note_oom_steps : ℕ → Run
-note_oom_steps g = zone_makes (NoteOom g) Done ∷ []
+note_oom_steps group = zone_makes (NoteOom group) Done ∷ []
 
 -- the group is killed, which is an event at it
 abbrev pub kill_steps : ℕ → Run
-kill_steps g = zone_makes (Kill g) Done ∷ []
+kill_steps group = zone_makes (Kill group) Done ∷ []
 
--- group n is made, of this path
+-- a group of this path is made, and gets this number
 abbrev pub make_steps : List ℕ → ℕ → Run
-make_steps path n = zone_makes (Make path) (Number n) ∷ []
+make_steps path number = zone_makes (Make path) (Number number) ∷ []
 
 -- the group is taken out
 abbrev pub remove_steps : ℕ → Run
-remove_steps g = zone_makes (Remove g) Done ∷ []
+remove_steps group = zone_makes (Remove group) Done ∷ []
 
 -- the group gets this limit
 abbrev pub set_max_steps : ℕ → Option ℕ → Run
-set_max_steps g limit = zone_makes (SetMax g limit) Done ∷ []
+set_max_steps group limit = zone_makes (SetMax group limit) Done ∷ []

@@ -1,6 +1,6 @@
 -- Stocks that are drained and filled.
-use Rattle.std.specs.Prelude.{◌≡◌, ℕ, zero, suc, ◌-◌, ◌≤◌, ◌<◌, Bool, true, false, Option, Some, None}
-use Rattle.std.specs.Prelude.{List, [], ◌∷◌, ◌++◌, length}
+use Rattle.std.specs.Prelude.{◌≡◌, ℕ, zero, suc, ◌-◌, ◌≤◌, ◌<◌, Bool, true, false}
+use Rattle.std.specs.Prelude.{Option, Some, None, List, [], ◌∷◌, ◌++◌, length}
 use Rattle.frame_word.specs.Seats.{KnownTable}
 use Rattle.stock_word.specs.Stock.{account_of}
 use Rattle.stock_word.specs.Kinds.{draining, filling, after_fill}
@@ -20,16 +20,16 @@ use Rattle.mem_machine.specs.Steps.{Drain, drain_steps, drain_stocks_steps, fill
 
 -- the ledger after so many pages came off the charge of the group, if there is one
 abbrev pub uncharged : Ledger → Option ℕ → ℕ → Ledger
-uncharged l None n = l
-uncharged l (Some g) n = with_uncharge l g n
+uncharged ledger None pages = ledger
+uncharged ledger (Some group) pages = with_uncharge ledger group pages
 
--- the group that processor q's stock is of
+-- the group that the processor's stock is of
 abbrev pub stock_group : KnownMachine → ℕ → Option ℕ
-stock_group m q = (account_of m.stock.view q).group
+stock_group machine processor = (account_of machine.stock.view processor).group
 
--- processor q's stock isn't held: it is drained, or was never filled
+-- the processor's stock isn't held: it is drained, or was never filled
 abbrev pub IsDrained : KnownMachine → ℕ → Type 0
-IsDrained m q = (account_of m.stock.view q).filled ≡ false
+IsDrained machine processor = (account_of machine.stock.view processor).filled ≡ false
 
 -- a stock can be filled with so many pages: one at least, and no more than a stock's word holds
 abbrev pub FitsStock : ℕ → Type 0
@@ -60,42 +60,50 @@ pub record DrainsOne (before : KnownMachine) (processor : ℕ) (drain : Drain) (
   pub group : drain.group ≡ stock_group before processor
   pub drains : DrainsNoted before processor drain.pages after
 
--- the stock is of a group of g's subtree
-abbrev pub of_subtree : ℕ → List Group → Option ℕ → Bool
-of_subtree g groups stock = is_below groups g stock
+-- which stocks a call means: a test of the groups that are there and of the group that a stock is of
+abbrev pub StockTest : Type 0
+StockTest = List Group → Option ℕ → Bool
 
--- the stock is of group g itself
-abbrev pub of_group : ℕ → List Group → Option ℕ → Bool
-of_group g groups stock = is_of_group stock g
+-- the stock is of a group of the subtree of this one
+abbrev pub of_subtree : ℕ → StockTest
+of_subtree group groups stock = is_below groups group stock
 
--- Processor q's stock is drained where the test, by the groups that are there and the group that the stock is of, chooses
--- it: that is the one drain. Else there is none, and nothing changed but that a stock of no group, of which the zone's
--- seat now knows, counts as drained of no page
-abbrev pub DrainsIf : (List Group → Option ℕ → Bool) → KnownMachine → ℕ → List Drain → KnownMachine → Type 0
-DrainsIf test before q [] after =
-    (test before.ledger.groups (stock_group before q) ≡ false)
-    × (after ≡ record before { stock = with_view before.stock (after_look before.stock.view q (stock_group before q)) })
-DrainsIf test before q (drain ∷ []) after =
-    (test before.ledger.groups (stock_group before q) ≡ true) × DrainsOne before q drain after
-DrainsIf test before q (one ∷ two ∷ more) after = ⊥
+-- the stock is of this group itself
+abbrev pub of_group : ℕ → StockTest
+of_group group groups stock = is_of_group stock group
 
--- so it is with processors 1 to k, one after the other
-abbrev pub DrainsAllIf : (List Group → Option ℕ → Bool) → ℕ → List Drain → KnownMachine → KnownMachine → Type 0
+-- the test chooses the processor's stock
+abbrev pub is_chosen : StockTest → KnownMachine → ℕ → Bool
+is_chosen test machine processor = test machine.ledger.groups (stock_group machine processor)
+
+-- The processor's stock is drained where the test chooses it: that is the one drain. Else there is none, and nothing
+-- changed but that a stock of no group, of which the zone's seat now knows, counts as drained of no page
+abbrev pub DrainsIf : StockTest → KnownMachine → ℕ → List Drain → KnownMachine → Type 0
+DrainsIf test before processor [] after =
+    (is_chosen test before processor ≡ false) × (after ≡ record before {
+      stock = with_view before.stock (after_look before.stock.view processor (stock_group before processor));
+    })
+DrainsIf test before processor (drain ∷ []) after =
+    (is_chosen test before processor ≡ true) × DrainsOne before processor drain after
+DrainsIf test before processor (one ∷ two ∷ more) after = ⊥
+
+-- the stocks of so many processors, from number 1 on, are drained where the test chooses them, one after the other
+abbrev pub DrainsAllIf : StockTest → ℕ → List Drain → KnownMachine → KnownMachine → Type 0
 DrainsAllIf test zero drains before after = (drains ≡ []) × (after ≡ before)
-DrainsAllIf test (suc k) drains before after =
+DrainsAllIf test (suc count) drains before after =
     (first last : List Drain) × (mid : KnownMachine) × (drains ≡ first ++ last)
-    × DrainsAllIf test k first before mid × DrainsIf test mid (suc k) last after
+    × DrainsAllIf test count first before mid × DrainsIf test mid (suc count) last after
 
--- processor q's stock is drained where it is of the group's subtree
+-- the processor's stock is drained where it is of the group's subtree
 abbrev pub DrainsBelow : ℕ → KnownMachine → ℕ → List Drain → KnownMachine → Type 0
-DrainsBelow g before q drains after = DrainsIf (of_subtree g) before q drains after
+DrainsBelow group before processor drains after = DrainsIf (of_subtree group) before processor drains after
 
--- so it is with processors 1 to k, one after the other
+-- the stocks of so many processors, from number 1 on, are drained where they are of the group's subtree
 abbrev pub DrainsAllBelow : ℕ → ℕ → List Drain → KnownMachine → KnownMachine → Type 0
-DrainsAllBelow g k drains before after = DrainsAllIf (of_subtree g) k drains before after
+DrainsAllBelow group count drains before after = DrainsAllIf (of_subtree group) count drains before after
 
 -- the processor's stock is drained where the test chooses it, of so many pages, by the drain's steps
-pub record DrainsIfChosen (table : KnownTable) (test : List Group → Option ℕ → Bool) (processor pages : ℕ)
+pub record DrainsIfChosen (table : KnownTable) (test : StockTest) (processor pages : ℕ)
     (before after : KnownMachine) : Type 0 where
   pub drains : List Drain
   pub one : DrainsIf test before processor drains after
@@ -104,32 +112,32 @@ pub record DrainsIfChosen (table : KnownTable) (test : List Group → Option ℕ
 
 -- the stocks that the test chooses are drained, one processor after the other, of so many pages in all, by the drains'
 -- steps
-pub record DrainsChosen (table : KnownTable) (test : List Group → Option ℕ → Bool) (pages : ℕ)
-    (before after : KnownMachine) : Type 0 where
+pub record DrainsChosen (table : KnownTable) (test : StockTest) (pages : ℕ) (before after : KnownMachine) : Type 0 where
   pub drains : List Drain
   pub all : DrainsAllIf test table.cpus drains before after
   pub sum : pages ≡ pages_drained drains
   pub steps : MakesForAny table before (drain_stocks_steps drains) after
 
--- those of the group's subtree
+-- the stocks of the group's subtree are drained, of so many pages in all
 abbrev pub DrainsSubtree : KnownTable → ℕ → ℕ → KnownMachine → KnownMachine → Type 0
-DrainsSubtree t g pages before after = DrainsChosen t (of_subtree g) pages before after
+DrainsSubtree table group pages before after = DrainsChosen table (of_subtree group) pages before after
 
--- those of the group itself
+-- the stocks of the group itself are drained, of so many pages in all
 abbrev pub DrainsGroup : KnownTable → ℕ → ℕ → KnownMachine → KnownMachine → Type 0
-DrainsGroup t g pages before after = DrainsChosen t (of_group g) pages before after
+DrainsGroup table group pages before after = DrainsChosen table (of_group group) pages before after
 
 -- no stock that the test chooses is held
-abbrev pub AreDrainedIf : (List Group → Option ℕ → Bool) → ℕ → KnownMachine → Type 0
-AreDrainedIf test cpus m = (q : ℕ) → 1 ≤ q → q ≤ cpus → test m.ledger.groups (stock_group m q) ≡ true → IsDrained m q
+abbrev pub AreDrainedIf : StockTest → ℕ → KnownMachine → Type 0
+AreDrainedIf test cpus machine = (processor : ℕ) → 1 ≤ processor → processor ≤ cpus
+    → is_chosen test machine processor ≡ true → IsDrained machine processor
 
 -- no stock of the group's subtree is held
 abbrev pub AreDrained : ℕ → ℕ → KnownMachine → Type 0
-AreDrained g cpus m = AreDrainedIf (of_subtree g) cpus m
+AreDrained group cpus machine = AreDrainedIf (of_subtree group) cpus machine
 
 -- no stock of the group itself is held
 abbrev pub AreOwnDrained : ℕ → ℕ → KnownMachine → Type 0
-AreOwnDrained g cpus m = AreDrainedIf (of_group g) cpus m
+AreOwnDrained group cpus machine = AreDrainedIf (of_group group) cpus machine
 
 -- so many pages are charged to the group, whose limits have room for them, and are in the processor's stock
 pub record Fills (group pages : ℕ) (before after : Side) : Type 0 where
@@ -144,11 +152,11 @@ pub record Fills (group pages : ℕ) (before after : Side) : Type 0 where
 
 -- the steps by which the processor's stock is filled with pages that are charged to the group
 abbrev pub own_fill_steps : ℕ → ℕ → Side → Run
-own_fill_steps g n now = fill_steps now.cpu.number g n
+own_fill_steps group pages now = fill_steps now.cpu.number group pages
 
 -- the charge is refused at the group that the error names, and nothing is done
 abbrev pub RefusesGrant : KnownTable → ℕ → ℕ → Side → Over → Type 0
-RefusesGrant t g n now over = Makes t now (over_steps g n over.group) now
+RefusesGrant table group pages now over = Makes table now (over_steps group pages over.group) now
 
 -- the steps by which the processor's own stock is drained of all its pages
 abbrev pub own_drain_steps : Side → Run
@@ -169,8 +177,9 @@ pub record IsOver (group pages over : ℕ) (before after : Side) : Type 0 where
 
 -- the steps of `prepay` where the pages are charged
 abbrev pub prepay_steps : ℕ → ℕ → Side → Run
-prepay_steps g n now = own_drain_steps now ++ fill_steps now.cpu.number g n
+prepay_steps group pages now = own_drain_steps now ++ fill_steps now.cpu.number group pages
 
 -- the own stock is drained, and then the charge is refused at the group that the error names
 abbrev pub RefusesPrepay : KnownTable → ℕ → ℕ → Side → Side → Over → Type 0
-RefusesPrepay t g n before after over = Makes t before (own_drain_steps before ++ over_steps g n over.group) after
+RefusesPrepay table group pages before after over =
+    Makes table before (own_drain_steps before ++ over_steps group pages over.group) after

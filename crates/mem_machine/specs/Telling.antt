@@ -12,16 +12,17 @@ use Rattle.mem_machine.specs.Interleaving.{zone_of, Shows, IsMixed}
 
 -- of each group that is there, the ledger tells the peak that it reached in the run, and the events that the run noted
 pub record TellsRun (table : KnownTable) (run : Run) (ledger : Ledger) : Type 0 where
-  pub peak : (m : ℕ) → has_group ledger.groups m ≡ true → IsPeak (zone_of table) run m (peak_of ledger m)
-  pub events : (key : EventKey) (m : ℕ) → has_group ledger.groups m ≡ true
-      → count_by key (events_of ledger m) ≡ events_in key (zone_of table) run m
-  pub events_local : (key : EventKey) (m : ℕ) → has_group ledger.groups m ≡ true
-      → count_by key (events_local_of ledger m) ≡ events_local_in key (zone_of table) run m
+  pub peak : (group : ℕ) → has_group ledger.groups group ≡ true
+      → IsPeak (zone_of table) run group (peak_of ledger group)
+  pub events : (key : EventKey) (group : ℕ) → has_group ledger.groups group ≡ true
+      → count_by key (events_of ledger group) ≡ events_in key (zone_of table) run group
+  pub events_local : (key : EventKey) (group : ℕ) → has_group ledger.groups group ≡ true
+      → count_by key (events_local_of ledger group) ≡ events_local_in key (zone_of table) run group
 
 -- Where a run shows a processor the machine, and the ledger tells the run, and a call leads by these steps to another
 -- machine and part of the processor, the ledger after the call tells the run with the call's steps, and any steps of
 -- other processors between them
 abbrev pub LedgersTell : Type 0
-LedgersTell = (t : KnownTable) (run steps mixed : Run) (before after : Side)
-    → Shows t run before → TellsRun t run before.machine.ledger → Makes t before steps after
-    → IsMixed t run before.cpu.number steps mixed → TellsRun t (run ++ mixed) after.machine.ledger
+LedgersTell = (table : KnownTable) (run steps mixed : Run) (before after : Side)
+    → Shows table run before → TellsRun table run before.machine.ledger → Makes table before steps after
+    → IsMixed table run before.cpu.number steps mixed → TellsRun table (run ++ mixed) after.machine.ledger

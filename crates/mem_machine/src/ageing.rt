@@ -11,7 +11,7 @@ use crate::machine::Machine;
 use cpu_part::BootName;
 use frame_word::Frame;
 use group_tree::group::GroupId;
-use lru_lists::laws;
+use lru_lists::laws as list_laws;
 use lru_lists::record::{Entry, LruList};
 
 impl<N: BootName> Machine<N> {
@@ -22,8 +22,8 @@ impl<N: BootName> Machine<N> {
         ensures steps { MakesForAny N.frames self.old [] self.new }
     {
         let owner = group.number() as usize;
-        laws::others_stand();
-        laws::one_of_all_changes();
+        list_laws::others_stand();
+        list_laws::one_of_all_changes();
         self.lists[owner].age(&mut self.links);
     }
 
@@ -37,8 +37,8 @@ impl<N: BootName> Machine<N> {
     {
         let at = head.number();
         let owner = group.number() as usize;
-        laws::others_stand();
-        laws::one_of_all_changes();
+        list_laws::others_stand();
+        list_laws::one_of_all_changes();
         self.lists[owner].renew(&mut self.links, at);
     }
 
@@ -57,7 +57,7 @@ impl<N: BootName> Machine<N> {
     }
 
     /// The unit just after this one on the list of a group on which it stands; None exactly where this is the newest. A
-    /// walk over a list is `oldest`, and then this from each unit to the next.
+    /// walk over a list is `oldest`, and then `newer` from each unit to the next.
     pub fn newer(&self, group: GroupId, list: LruList, head: Frame) -> Option<Entry>
         requires frame { head < N.frames.frames }
         requires stands { home_of self.now.links head ≡ Some (record { owner = group; list = list }) }
@@ -66,8 +66,8 @@ impl<N: BootName> Machine<N> {
         self.lists[group.number() as usize].newer(&self.links, head.number())
     }
 
-    /// How many frames are charged to the group itself, those of units that aren't kept any more counted: its pages less
-    /// those that are booked to its stocks.
+    /// How many frames are charged to the group itself, those of units that aren't kept any more among them: its pages
+    /// less those that are booked to its stocks.
     pub fn frames_of(&self, group: GroupId) -> u64
         ensures { result ≡ frames_charged self.now.spots group }
     {

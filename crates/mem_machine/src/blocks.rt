@@ -1,9 +1,8 @@
 //! Blocks of frames that are charged to a group and taken.
 
-ghost use Rattle.std.specs.Prelude.{◌≡◌, ◌+◌, ◌^◌, ◌≤◌, false, IsTrue, IfOk, IfErr, [], length};
-ghost use Rattle.group_tree.specs.Groups.{has_group};
-ghost use Rattle.mem_machine.specs.Machines.{Visits, is_killed};
-ghost use Rattle.mem_machine.specs.Paying.{HasRoomFor};
+ghost use Rattle.std.specs.Prelude.{◌≡◌, ◌+◌, ◌^◌, ◌≤◌, IfOk, IfErr, [], length};
+ghost use Rattle.mem_machine.specs.Machines.{Visits};
+ghost use Rattle.mem_machine.specs.Paying.{MayCharge};
 ghost use Rattle.mem_machine.specs.Blocks.{PlacesUnit, TakesBlock, RefusesBlock, block_steps};
 ghost use Rattle.mem_machine.specs.Local.{Makes, side};
 
@@ -55,9 +54,7 @@ impl<N: BootName> Machine<N> {
         order: Order,
     ) -> Result<Frame, TakeFault>
         requires visit { Visits N.frames (side self.old cpu.old) }
-        requires there { IsTrue (has_group self.old.ledger.groups group) }
-        requires alive { is_killed self.old.killed group ≡ false }
-        requires fits { HasRoomFor self.old (2 ^ order) }
+        requires charges { MayCharge self.old group (2 ^ order) }
         requires none_back { cpu.old.back ≡ [] }
         ensures takes { IfOk result (λ head. TakesBlock self.old group order head self.new) }
         ensures refuses { IfErr result (λ fault. RefusesBlock self.old group order fault self.new) }

@@ -1,14 +1,16 @@
 //! The zone's seat at the stocks, and how many pages are booked to the stocks of each group.
 
-ghost use Rattle.std.specs.Prelude.{◌≡◌, ◌≢◌, ◌+◌, ◌-◌, ◌^◌, ◌<◌, ◌≤◌, ◌⊎◌, [], false, Some, IfSome, length};
+ghost use Rattle.std.specs.Prelude.{◌≡◌, ◌≢◌, ◌+◌, ◌-◌, ◌^◌, ◌<◌, ◌≤◌, ◌⊎◌, [], false};
+ghost use Rattle.std.specs.Prelude.{Some, IfSome};
 ghost use Rattle.frame_word.specs.Views.{collected_from};
-ghost use Rattle.frame_word.specs.Seats.{IsZoneSeat, IsOpen, NothingPasses, HasNothingOf, IsLent, seat_with};
+ghost use Rattle.frame_word.specs.Seats.{seat_with};
 ghost use Rattle.stock_word.specs.Stock.{account_of, drained_of, first_machine, group_of, is_held, pages_of, stocked};
 ghost use Rattle.stock_word.specs.Kinds.{after_fill, draining, filling, with_steps};
 ghost use Rattle.stock_word.specs.Calls.{after_look, steps_of_drain, with_view};
-ghost use Rattle.cpu_part.specs.Calls.{HandsFresh, TakesFront};
-ghost use Rattle.mem_machine.specs.Machines.{pages_booked};
-ghost use Rattle.mem_machine.specs.Settling.{HasUnnotedPage, after_page_absorbed};
+ghost use Rattle.cpu_part.specs.Calls.{CanTake, HandsFresh, TakesFront};
+ghost use Rattle.mem_machine.specs.Machines.{IsCpuOf, pages_booked};
+ghost use Rattle.mem_machine.specs.Settling.{IsVisitedAt, KnowsFresh, after_page_absorbed};
+ghost use Rattle.mem_machine.specs.Stocks.{FitsStock};
 ghost use Rattle.group_tree.specs.declared.group.TheConstants.{MAX_GROUPS};
 
 use cpu_part::{BootName, Cpu, Tables};
@@ -72,27 +74,28 @@ impl<N: BootName> Books<N> {
         self.sums[group.number() as usize]
     }
 
-    /// The group of processor `q`'s stock, as `StockWords::group` tells it.
-    pub(crate) fn group(&mut self, tables: &Tables<N>, q: u32) -> Option<u32>
-        requires processor { (1 ≤ q) × (q ≤ N.frames.cpus) }
-        ensures group { result ≡ (account_of self.old.view q).group }
+    /// The group of the processor's stock, as `StockWords::group` tells it.
+    pub(crate) fn group(&mut self, tables: &Tables<N>, processor: u32) -> Option<u32>
+        requires processor { IsCpuOf N.frames processor }
+        ensures group { result ≡ (account_of self.old.view processor).group }
         ensures fits { IfSome result (λ g. g < MAX_GROUPS) }
-        ensures machine { self.new ≡ with_view self.old (with_steps 1 (after_look self.old.view q result)) }
+        ensures machine { self.new ≡ with_view self.old (with_steps 1 (after_look self.old.view processor result)) }
     {
-        tables.stocks.group(&mut self.seat, q)
+        tables.stocks.group(&mut self.seat, processor)
     }
 
-    /// Drains the stock of processor `q`, which is of this group, as `StockWords::drain` does.
-    pub(crate) fn drain(&mut self, tables: &Tables<N>, q: u32, group: u32) -> u32
-        requires processor { (1 ≤ q) × (q ≤ N.frames.cpus) }
-        requires group { (account_of self.old.view q).group ≡ Some group }
+    /// Drains the stock of the processor, which is of this group, as `StockWords::drain` does.
+    pub(crate) fn drain(&mut self, tables: &Tables<N>, processor: u32, group: u32) -> u32
+        requires processor { IsCpuOf N.frames processor }
+        requires group { (account_of self.old.view processor).group ≡ Some group }
         requires fits { group < MAX_GROUPS }
         ensures machine { self.new ≡ with_view self.old
-            (with_steps (steps_of_drain (account_of self.old.view q).group) (draining self.old.view q result)) }
-        ensures booked { result ≤ (account_of self.old.view q).book }
-        ensures drained_before { (account_of self.old.view q).filled ≡ false → result ≡ 0 }
+            (with_steps (steps_of_drain (account_of self.old.view processor).group)
+            (draining self.old.view processor result)) }
+        ensures booked { result ≤ (account_of self.old.view processor).book }
+        ensures drained_before { (account_of self.old.view processor).filled ≡ false → result ≡ 0 }
     {
-        let pages = tables.stocks.drain(&mut self.seat, q);
+        let pages = tables.stocks.drain(&mut self.seat, processor);
         self.sums[group as usize] -= pages;
         pages
     }
@@ -100,13 +103,15 @@ impl<N: BootName> Books<N> {
     /// Fills the processor's stock, as `Cpu::fill` does. The pages booked to the group stay below 2^32.
     pub(crate) fn fill(&mut self, tables: &Tables<N>, cpu: &mut Cpu<N>, group: u32, pages: u32)
         requires number { group < MAX_GROUPS }
-        requires pages { (0 < pages) × (pages < 65536) }
+        requires pages { FitsStock pages }
         requires fits { pages_booked N.frames self.old group + pages < 2 ^ 32 }
         requires drained { (account_of self.old.view cpu.old.number).filled ≡ false }
         requires settled { (cpu.old.fresh ≡ []) × ((account_of self.old.view cpu.old.number).noted ≡ 0) }
         ensures nothing_booked { (account_of self.old.view cpu.old.number).book ≡ 0 }
         ensures machine { self.new ≡ with_view self.old (filling self.old.view cpu.old.number group pages) }
-        ensures cpu { cpu.new ≡ record cpu.old { stock = with_view cpu.old.stock (after_fill cpu.old.stock.view group pages) } }
+        ensures cpu { cpu.new ≡ record cpu.old {
+          stock = with_view cpu.old.stock (after_fill cpu.old.stock.view group pages);
+        } }
     {
         let _number = cpu.number(); // For the clauses.
         cpu.fill(tables, &mut self.seat, group, pages);
@@ -131,8 +136,7 @@ impl<N: BootName> Books<N> {
     pub(crate) fn take_front(&mut self, tables: &Tables<N>, cpu: &mut Cpu<N>, group: u32) -> Frame
         requires group { (account_of self.old.view cpu.old.number).group ≡ Some group }
         requires page { 0 < stocked self.old.view cpu.old.stock.view }
-        requires front { 1 ≤ length cpu.old.list }
-        requires room { length cpu.old.fresh < 32 }
+        requires front { CanTake cpu.old }
         ensures machine { self.new ≡ self.old }
         ensures cpu { TakesFront group (stocked self.old.view cpu.old.stock.view - 1) result cpu.old cpu.new }
         ensures frame { result < N.frames.frames }
@@ -140,8 +144,8 @@ impl<N: BootName> Books<N> {
         cpu.take_front(tables, &mut self.seat, group)
     }
 
-    /// Takes the oldest fresh frame of the processor that is visited into the zone's hand, and its page off the processor's
-    /// book, whose stock is of this group.
+    /// Takes the oldest fresh frame of the processor that is visited into the zone's hand, and its page off the book of
+    /// the processor's stock, which is of this group.
     pub(crate) fn collect_fresh(
         &mut self,
         tables: &Tables<N>,
@@ -149,19 +153,13 @@ impl<N: BootName> Books<N> {
         zone: &mut FrameSeat,
         group: GroupId,
     ) -> Frame
-        requires zone { IsZoneSeat N.frames zone.old }
-        requires open { IsOpen zone.old cpu.old.number }
-        requires still { NothingPasses N.frames zone.old cpu.old.seat }
+        requires visited { IsVisitedAt N.frames zone.old cpu.old }
         requires fresh { cpu.old.fresh ≢ [] }
         requires group { group_of cpu.old.stock.view.last ≡ Some group }
+        ensures known { KnowsFresh N.frames zone.old self.old cpu.old result }
         ensures cpu { HandsFresh result cpu.old cpu.new }
-        ensures frame { result < N.frames.frames }
         ensures zone { zone.new ≡ seat_with zone.old result (collected_from cpu.old.number) }
         ensures machine { self.new ≡ after_page_absorbed self.old cpu.old.number }
-        ensures nothing { HasNothingOf zone.old result }
-        ensures lent { IsLent zone.old result cpu.old.number }
-        ensures booked { HasUnnotedPage (account_of self.old.view cpu.old.number) }
-        ensures group { group_of cpu.old.stock.view.last ≡ (account_of self.old.view cpu.old.number).group }
     {
         let number = cpu.number();
         let Some(frame) = cpu.hand_fresh(tables, zone, &mut self.seat) else {

@@ -1,10 +1,9 @@
 //! Kept units that are tried: frozen and given back where nobody else has a reference.
 
 ghost use Rattle.std.specs.Prelude.{◌≡◌, ◌<◌};
-ghost use Rattle.cpu_part.specs.Cpus.{KnownCpu};
-ghost use Rattle.mem_machine.specs.Machines.{HeadsKeptUnit, Visits};
+ghost use Rattle.mem_machine.specs.Machines.{HeadsKeptUnit, StaysVisited};
 ghost use Rattle.mem_machine.specs.Evicting.{Evicts, evict_steps};
-ghost use Rattle.mem_machine.specs.Local.{MakesForAny, side};
+ghost use Rattle.mem_machine.specs.Local.{MakesForAny};
 
 use crate::freed::free_unit;
 use crate::machine::Machine;
@@ -21,7 +20,7 @@ impl<N: BootName> Machine<N> {
         requires frame { head < N.frames.frames }
         requires kept { HeadsKeptUnit self.old head }
         ensures evicts { Evicts self.old head result self.new }
-        ensures visit { (cpu : KnownCpu) → Visits N.frames (side self.old cpu) → Visits N.frames (side self.new cpu) }
+        ensures visit { StaysVisited N.frames self.old self.new }
         ensures steps { MakesForAny N.frames self.old (evict_steps head result) self.new }
     {
         if !tables.frames.freeze(&mut self.seat, head, 1) {

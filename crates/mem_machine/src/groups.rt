@@ -3,11 +3,13 @@
 ghost use Rattle.std.specs.Prelude.{◌≡◌, ◌≢◌, ℕ, IsTrue, IfOk, OnErr, false, true, slice_set};
 ghost use Rattle.std.specs.Result.{result_err};
 ghost use Rattle.group_tree.specs.Groups.{has_group, has_child, make_fault};
-ghost use Rattle.group_charge.specs.Charges.{current_of, SameUsage, with_kill_noted, with_max_noted, with_oom_noted, with_group_limit, with_group_removed};
+ghost use Rattle.group_charge.specs.Charges.{current_of, SameUsage, with_group_limit, with_group_removed};
+ghost use Rattle.group_charge.specs.Charges.{with_kill_noted, with_max_noted, with_oom_noted};
 ghost use Rattle.step_rules.specs.Usage.{usage_of};
 ghost use Rattle.mem_machine.specs.Machines.{is_killed, AddsGroup, Visits};
 ghost use Rattle.mem_machine.specs.Local.{Makes, MakesForAny, side, local_of};
-ghost use Rattle.mem_machine.specs.Steps.{kill_steps, note_max_steps, note_oom_steps, make_steps, remove_steps, set_max_steps};
+ghost use Rattle.mem_machine.specs.Steps.{kill_steps, note_max_steps, note_oom_steps};
+ghost use Rattle.mem_machine.specs.Steps.{make_steps, remove_steps, set_max_steps};
 
 use crate::machine::Machine;
 use cpu_part::{BootName, Cpu, Tables};
@@ -25,8 +27,8 @@ impl<N: BootName> Machine<N> {
         self.charges.note_max(group);
     }
 
-    /// Notes that an allocation was about to fail at the limit of a group, and that killing was an option: one more `oom` in
-    /// its events and in those of each of its ancestors, and in its local events.
+    /// Notes that an allocation was about to fail at the limit of a group, and that killing was an option: one more
+    /// `oom` in its events and in those of each of its ancestors, and in its local events.
     pub fn note_oom(&mut self, group: GroupId)
         requires { IsTrue (has_group self.old.ledger.groups group) }
         ensures machine { self.new ≡ record self.old { ledger = with_oom_noted self.old.ledger group } }
@@ -37,8 +39,8 @@ impl<N: BootName> Machine<N> {
     }
 
     /// Kills a group that isn't killed: nothing can be charged to it any more, until it is removed. That is one more
-    /// `oom_kill` in its events and in those of each of its ancestors, and in its local events. Its stocks and its kept units
-    /// stay as they are.
+    /// `oom_kill` in its events and in those of each of its ancestors, and in its local events. Its stocks and its kept
+    /// units stay as they are.
     pub fn mark_killed(&mut self, group: GroupId)
         requires there { IsTrue (has_group self.old.ledger.groups group) }
         requires alive { is_killed self.old.killed group ≡ false }

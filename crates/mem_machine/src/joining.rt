@@ -1,13 +1,11 @@
 //! Units that come onto the lists of their groups.
 
 ghost use Rattle.std.specs.Prelude.{◌≡◌, ◌<◌, None, length};
-ghost use Rattle.group_tree.specs.declared.group.TheConstants.{MAX_GROUPS};
-ghost use Rattle.lru_lists.specs.Lists.{AllStand};
-ghost use Rattle.mem_machine.specs.Machines.{home_of};
+ghost use Rattle.mem_machine.specs.Machines.{AreGroupLists, home_of};
 ghost use Rattle.mem_machine.specs.Blocks.{JoinsList};
 
 use group_tree::group::GroupId;
-use lru_lists::laws;
+use lru_lists::laws as list_laws;
 use lru_lists::links::Links;
 use lru_lists::lru::Lru;
 
@@ -15,16 +13,14 @@ use lru_lists::lru::Lru;
 pub(crate) fn join_list(links: &mut Links, lists: &mut Vec<Lru>, group: GroupId, head: u32)
     requires frame { head < length links.old }
     requires away { home_of links.old head ≡ None }
-    requires groups { length lists.old.items ≡ MAX_GROUPS }
-    requires stand { AllStand links.old lists.old.items }
+    requires lists { AreGroupLists links.old lists.old.items }
     ensures joins { JoinsList links.old lists.old.items group head links.new lists.new.items }
-    ensures stand { AllStand links.new lists.new.items }
+    ensures lists { AreGroupLists links.new lists.new.items }
     ensures frames { length links.new ≡ length links.old }
-    ensures groups { length lists.new.items ≡ MAX_GROUPS }
 {
     let owner = group.number() as usize;
-    laws::others_stand();
-    laws::one_of_all_changes();
+    list_laws::others_stand();
+    list_laws::one_of_all_changes();
     let mut own = lists[owner];
     own.add(links, head);
     lists[owner] = own;

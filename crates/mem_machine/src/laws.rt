@@ -15,9 +15,9 @@ pub fn calls_interleave()
     rules::local_runs_interleave();
 }
 
-/// Where a run shows the processor the machine before a call, and each group's peak and event counts in the ledger are those
-/// of the run, so they are after the call, of the run with the call's steps and any allowed steps of other processors
-/// between them.
+/// What a call does to peaks and event counts. Where a run shows the processor the machine before the call, and the
+/// ledger has each group's peak and event counts of that run, then after the call it has those of the run that went on
+/// with the call's steps, and with any allowed steps of other processors between them.
 pub fn ledgers_tell()
     ensures { LedgersTell }
 {}

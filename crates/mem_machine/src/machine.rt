@@ -46,45 +46,23 @@ pub struct Machine<N: BootName> {
     pub(crate) killed: Vec<bool>,
     // How often units ended and came back, or were tried in vain, since the boot.
     pub(crate) counts: Counts,
-    // What was noted since `forget_notes` was called last: the limits without room, what was tried there, and who was killed.
+    // What was noted since `forget_notes` was called last: the limits without room, what was tried there, and who was
+    // killed.
     pub(crate) notes: Notes,
     // The boot whose tables these are.
     pub(crate) of: PhantomData<N>,
 }
 
 impl<N: BootName> Model for Machine<N> {
-    ghost use Rattle.std.specs.Prelude.{◌≡◌};
-    ghost use Rattle.stock_word.specs.Calls.{uncounted};
-    ghost use Rattle.mem_machine.specs.Spots.{free_of};
-    ghost use Rattle.mem_machine.specs.Machines.{KnownMachine, IsConsistent};
+    ghost use Rattle.mem_machine.specs.Machines.{KnownMachine};
 
     ghost Value = { KnownMachine };
 
-    ghost view = { λ m. record {
-      blocks = m.zone.blocks;
-      spots = m.spots.items;
-      ledger = m.charges;
-      links = m.links;
-      lists = m.lists.items;
-      seat = m.seat;
-      stock = uncounted m.stock;
-      killed = m.killed.items;
-      counts = m.counts;
-      notes = m.notes;
-    } };
+    ghost use Rattle.mem_machine.specs.Kept.{machine_of, AreKept};
 
-    ghost invariant = { λ m. IsConsistent N.frames N.stocks (record {
-      blocks = m.zone.blocks;
-      spots = m.spots.items;
-      ledger = m.charges;
-      links = m.links;
-      lists = m.lists.items;
-      seat = m.seat;
-      stock = uncounted m.stock;
-      killed = m.killed.items;
-      counts = m.counts;
-      notes = m.notes;
-    }) × (m.zone.free ≡ free_of m.spots.items) };
+    ghost view = { machine_of };
+
+    ghost invariant = { λ m. AreKept N.frames N.stocks m };
 }
 
 impl<N: BootName> Machine<N> {

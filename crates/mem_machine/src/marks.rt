@@ -8,7 +8,7 @@ ghost use Rattle.mem_machine.specs.Local.{MakesForAny};
 use crate::machine::Machine;
 use cpu_part::BootName;
 use frame_word::Frame;
-use lru_lists::laws;
+use lru_lists::laws as list_laws;
 use lru_lists::lru::Touched;
 
 impl<N: BootName> Machine<N> {
@@ -24,8 +24,8 @@ impl<N: BootName> Machine<N> {
         let Some(home) = self.links.home(at) else {
             unreachable!()
         };
-        laws::others_stand();
-        laws::one_of_all_changes();
+        list_laws::others_stand();
+        list_laws::one_of_all_changes();
         let mut lists = self.lists[home.owner as usize];
         let touched = lists.touch(&mut self.links, at);
         self.lists[home.owner as usize] = lists;
@@ -45,8 +45,8 @@ impl<N: BootName> Machine<N> {
             unreachable!()
         };
         let lists = self.lists[home.owner as usize];
-        laws::others_stand();
-        laws::one_of_all_changes();
+        list_laws::others_stand();
+        list_laws::one_of_all_changes();
         lists.set_dirty(&mut self.links, at, is_dirty);
     }
 }

@@ -2,10 +2,8 @@
 
 ghost use Rattle.std.specs.Prelude.{◌≡◌, ◌≢◌, ◌<◌, None, IfSome, length};
 ghost use Rattle.group_tree.specs.declared.group.TheConstants.{MAX_GROUPS};
-ghost use Rattle.lru_lists.specs.Lists.{AllStand};
-ghost use Rattle.mem_machine.specs.Machines.{HeadsKeptUnit, home_of, Visits};
+ghost use Rattle.mem_machine.specs.Machines.{AreGroupLists, HeadsKeptUnit, StaysVisited, Visits, home_of};
 ghost use Rattle.mem_machine.specs.Releasing.{LeavesList, Releases, release_steps};
-ghost use Rattle.cpu_part.specs.Cpus.{KnownCpu};
 ghost use Rattle.mem_machine.specs.Local.{Makes, MakesForAny, side};
 
 use crate::freed::free_unit;
@@ -13,7 +11,7 @@ use crate::machine::Machine;
 use crate::spot::Spot;
 use cpu_part::{BootName, Cpu, Tables};
 use frame_word::{Frame, Put};
-use lru_lists::laws;
+use lru_lists::laws as list_laws;
 use lru_lists::links::Links;
 use lru_lists::lru::Lru;
 
@@ -32,18 +30,16 @@ pub(crate) fn leave_list(links: &mut Links, lists: &mut Vec<Lru>, head: u32)
     requires frame { head < length links.old }
     requires kept { home_of links.old head ≢ None }
     requires owner { IfSome (home_of links.old head) (λ h. h.owner < MAX_GROUPS) }
-    requires groups { length lists.old.items ≡ MAX_GROUPS }
-    requires stand { AllStand links.old lists.old.items }
+    requires lists { AreGroupLists links.old lists.old.items }
     ensures leaves { LeavesList links.old lists.old.items head links.new lists.new.items }
-    ensures stand { AllStand links.new lists.new.items }
+    ensures lists { AreGroupLists links.new lists.new.items }
     ensures frames { length links.new ≡ length links.old }
-    ensures groups { length lists.new.items ≡ MAX_GROUPS }
 {
     let Some(home) = links.home(head) else {
         unreachable!()
     };
-    laws::others_stand();
-    laws::one_of_all_changes();
+    list_laws::others_stand();
+    list_laws::one_of_all_changes();
     let mut own = lists[home.owner as usize];
     own.take_off(links, head);
     lists[home.owner as usize] = own;
@@ -56,7 +52,7 @@ impl<N: BootName> Machine<N> {
         requires frame { head < N.frames.frames }
         requires kept { HeadsKeptUnit self.old head }
         ensures releases { Releases self.old head result self.new }
-        ensures visit { (cpu : KnownCpu) → Visits N.frames (side self.old cpu) → Visits N.frames (side self.new cpu) }
+        ensures visit { StaysVisited N.frames self.old self.new }
         ensures steps { MakesForAny N.frames self.old (release_steps head result) self.new }
     {
         let at = head.number();

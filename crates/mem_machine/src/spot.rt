@@ -6,7 +6,7 @@ ghost use Rattle.mem_machine.specs.Spots.{place_of};
 use group_tree::group::GroupId;
 use step_rules::phase::ChargedUnit;
 
-/// Where a frame stands, as the zone's holder keeps it.
+/// The record of one frame: where it stands, as the machine keeps it.
 #[derive(Clone, Copy, Debug, PartialEq, Eq)]
 pub enum Spot {
     /// In the zone's free areas.
@@ -19,7 +19,7 @@ pub enum Spot {
     Tail(GroupId),
 }
 
-/// Where a frame is.
+/// Where a frame is, for those who don't ask which frame heads its unit.
 #[derive(Clone, Copy, Debug, PartialEq, Eq)]
 pub enum Place {
     /// In the zone's free areas.

@@ -1,13 +1,14 @@
 //! The processors' stocks: drained, and filled.
 
-ghost use Rattle.std.specs.Prelude.{◌≡◌, ◌≤◌, ◌<◌, [], false, Some, IsTrue, OnOk, OnErr, IfErr};
+ghost use Rattle.std.specs.Prelude.{◌≡◌, ◌<◌, [], Some, IsTrue, OnOk, OnErr, IfErr};
 ghost use Rattle.group_tree.specs.declared.group.TheConstants.{MAX_GROUPS};
 ghost use Rattle.group_tree.specs.Groups.{has_group, in_subtree};
-ghost use Rattle.mem_machine.specs.Machines.{LacksRoom, Visits, is_killed};
-ghost use Rattle.mem_machine.specs.Stocks.{IsDrained, AreDrained, AreOwnDrained, FitsStock, of_group, of_subtree, stock_group};
-ghost use Rattle.mem_machine.specs.Stocks.{Drains, DrainsGroup, DrainsIfChosen, DrainsNoted, DrainsSubtree, Fills, Prepays, IsOver};
+ghost use Rattle.mem_machine.specs.Machines.{IsCpuOf, LacksRoom, Visits};
+ghost use Rattle.mem_machine.specs.Stocks.{IsDrained, AreDrained, AreOwnDrained, FitsStock, stock_group};
+ghost use Rattle.mem_machine.specs.Stocks.{of_group, of_subtree, Drains, DrainsIfChosen, DrainsNoted};
+ghost use Rattle.mem_machine.specs.Stocks.{DrainsGroup, DrainsSubtree, Fills, Prepays, IsOver};
 ghost use Rattle.mem_machine.specs.Stocks.{RefusesGrant, RefusesPrepay, own_fill_steps, prepay_steps};
-ghost use Rattle.mem_machine.specs.Paying.{HasRoomFor};
+ghost use Rattle.mem_machine.specs.Paying.{MayCharge};
 ghost use Rattle.mem_machine.specs.Local.{MakesBy, MakesForAny, side};
 ghost use Rattle.mem_machine.specs.Steps.{drain_steps};
 
@@ -18,45 +19,51 @@ use group_tree::group::GroupId;
 use kill_notes::note::Note;
 
 impl<N: BootName> Machine<N> {
-    // Drains the stock of processor q, which is of this group, and tells how many pages were in it.
-    fn drain_of(&mut self, tables: &Tables<N>, q: u32, group: u32) -> u32
-        requires processor { (1 ≤ q) × (q ≤ N.frames.cpus) }
-        requires group { stock_group self.old q ≡ Some group }
+    // Drains the stock of the processor, which is of this group, and tells how many pages were in it.
+    fn drain_of(&mut self, tables: &Tables<N>, processor: u32, group: u32) -> u32
+        requires processor { IsCpuOf N.frames processor }
+        requires group { stock_group self.old processor ≡ Some group }
         requires fits { group < MAX_GROUPS }
-        ensures drains { Drains self.old q result self.new }
-        ensures steps { MakesForAny N.frames self.old (drain_steps q (stock_group self.old q) result) self.new }
+        ensures drains { Drains self.old processor result self.new }
+        ensures steps { MakesForAny N.frames self.old
+            (drain_steps processor (stock_group self.old processor) result) self.new }
     {
         let _tree = self.charges.tree(); // For the clauses.
-        let pages = self.stock.drain(tables, q, group);
+        let pages = self.stock.drain(tables, processor, group);
         if pages > 0 {
             self.charges.uncharge(GroupId::of(group).unwrap(), pages);
         }
         pages
     }
 
-    // Drains the stock of processor q, which is of this group, notes that, and tells how many pages were in it.
-    fn drain_noted(&mut self, tables: &Tables<N>, q: u32, group: u32) -> u32
-        requires processor { (1 ≤ q) × (q ≤ N.frames.cpus) }
-        requires group { stock_group self.old q ≡ Some group }
+    // Drains the stock of the processor, which is of this group, notes that, and tells how many pages were in it.
+    fn drain_noted(&mut self, tables: &Tables<N>, processor: u32, group: u32) -> u32
+        requires processor { IsCpuOf N.frames processor }
+        requires group { stock_group self.old processor ≡ Some group }
         requires fits { group < MAX_GROUPS }
-        ensures drains { DrainsNoted self.old q result self.new }
-        ensures steps { MakesForAny N.frames self.old (drain_steps q (stock_group self.old q) result) self.new }
+        ensures drains { DrainsNoted self.old processor result self.new }
+        ensures steps { MakesForAny N.frames self.old
+            (drain_steps processor (stock_group self.old processor) result) self.new }
     {
-        let pages = self.drain_of(tables, q, group);
-        self.notes.note(Note::Stock { cpu: q, pages });
+        let pages = self.drain_of(tables, processor, group);
+        self.notes.note(Note::Stock {
+            cpu: processor,
+            pages,
+        });
         pages
     }
 
-    /// Drains the stock of processor `q`, which may be any of the boot's, and tells how many pages were in it. They
-    /// come off its book and off the charge of the group that it is of. The processor's own calls may go on meanwhile.
-    pub fn drain_stock(&mut self, tables: &Tables<N>, q: u32) -> u32
-        requires processor { (1 ≤ q) × (q ≤ N.frames.cpus) }
-        ensures drains { Drains self.old q result self.new }
-        ensures steps { MakesForAny N.frames self.old (drain_steps q (stock_group self.old q) result) self.new }
+    /// Drains the stock of a processor, which may be any of the boot's, and tells how many pages were in it. They come
+    /// off its book and off the charge of the group that it is of. The processor's own calls may go on meanwhile.
+    pub fn drain_stock(&mut self, tables: &Tables<N>, processor: u32) -> u32
+        requires processor { IsCpuOf N.frames processor }
+        ensures drains { Drains self.old processor result self.new }
+        ensures steps { MakesForAny N.frames self.old
+            (drain_steps processor (stock_group self.old processor) result) self.new }
     {
-        match self.stock.group(tables, q) {
+        match self.stock.group(tables, processor) {
             None => 0,
-            Some(group) => self.drain_of(tables, q, group),
+            Some(group) => self.drain_of(tables, processor, group),
         }
     }
 
@@ -71,16 +78,18 @@ impl<N: BootName> Machine<N> {
         tree.contains(below) && tree.in_subtree(group, below)
     }
 
-    // Drains the stock of processor q where it is of the subtree of the group, notes that, and tells how many pages came
-    // from it.
-    fn drain_below(&mut self, tables: &Tables<N>, q: u32, group: GroupId) -> u32
-        requires processor { (1 ≤ q) × (q ≤ N.frames.cpus) }
+    // Drains the stock of the processor where it is of the subtree of the group, notes that, and tells how many pages
+    // came from it.
+    fn drain_if_below(&mut self, tables: &Tables<N>, processor: u32, group: GroupId) -> u32
+        requires processor { IsCpuOf N.frames processor }
         requires there { IsTrue (has_group self.old.ledger.groups group) }
-        ensures { DrainsIfChosen N.frames (of_subtree group) q result self.old self.new }
+        ensures { DrainsIfChosen N.frames (of_subtree group) processor result self.old self.new }
     {
-        match self.stock.group(tables, q) {
+        match self.stock.group(tables, processor) {
             None => 0,
-            Some(number) if self.is_below(group, number) => self.drain_noted(tables, q, number),
+            Some(number) if self.is_below(group, number) => self.drain_noted(
+                tables, processor, number,
+            ),
             Some(_) => 0,
         }
     }
@@ -95,33 +104,34 @@ impl<N: BootName> Machine<N> {
     {
         let mut pages = 0;
         for before in 0..tables.frames.cpus() {
-            pages += u64::from(self.drain_below(tables, before + 1, group));
+            pages += u64::from(self.drain_if_below(tables, before + 1, group));
         }
         pages
     }
 
-    // Drains the stock of processor q where it is of the group itself, notes that, and tells how many pages came from
+    // Drains the stock of the processor where it is of the group itself, notes that, and tells how many pages came from
     // it.
-    fn drain_own(&mut self, tables: &Tables<N>, q: u32, group: GroupId) -> u32
-        requires processor { (1 ≤ q) × (q ≤ N.frames.cpus) }
-        ensures { DrainsIfChosen N.frames (of_group group) q result self.old self.new }
+    fn drain_if_own(&mut self, tables: &Tables<N>, processor: u32, group: GroupId) -> u32
+        requires processor { IsCpuOf N.frames processor }
+        ensures { DrainsIfChosen N.frames (of_group group) processor result self.old self.new }
     {
-        match self.stock.group(tables, q) {
+        match self.stock.group(tables, processor) {
             None => 0,
-            Some(number) if number == group.number() => self.drain_noted(tables, q, number),
+            Some(number) if number == group.number() => self.drain_noted(tables, processor, number),
             Some(_) => 0,
         }
     }
 
-    /// Drains the stocks of the group itself, also where one has no page, and tells how many pages were in them. They come
-    /// off the books and off the charge of the group, and each drain is noted. It looks at each processor's stock once.
+    /// Drains the stocks of the group itself, also where one has no page, and tells how many pages were in them. They
+    /// come off the books and off the charge of the group, and each drain is noted. It looks at each processor's stock
+    /// once.
     pub fn drain_group_stocks(&mut self, tables: &Tables<N>, group: GroupId) -> u64
         ensures drains { DrainsGroup N.frames group result self.old self.new }
         ensures drained { AreOwnDrained group N.frames.cpus self.new }
     {
         let mut pages = 0;
         for before in 0..tables.frames.cpus() {
-            pages += u64::from(self.drain_own(tables, before + 1, group));
+            pages += u64::from(self.drain_if_own(tables, before + 1, group));
         }
         pages
     }
@@ -138,10 +148,8 @@ impl<N: BootName> Machine<N> {
         pages: u32,
     ) -> Result<(), Over>
         requires visit { Visits N.frames (side self.old cpu.old) }
-        requires there { IsTrue (has_group self.old.ledger.groups group) }
-        requires alive { is_killed self.old.killed group ≡ false }
+        requires charges { MayCharge self.old group pages }
         requires pages { FitsStock pages }
-        requires fits { HasRoomFor self.old pages }
         requires none_fresh { cpu.old.fresh ≡ [] }
         requires drained { IsDrained self.old cpu.old.number }
         ensures fills { OnOk result (Fills group pages (side self.old cpu.old) (side self.new cpu.new)) }
@@ -171,10 +179,8 @@ impl<N: BootName> Machine<N> {
         pages: u32,
     ) -> Result<(), Over>
         requires visit { Visits N.frames (side self.old cpu.old) }
-        requires there { IsTrue (has_group self.old.ledger.groups group) }
-        requires alive { is_killed self.old.killed group ≡ false }
+        requires charges { MayCharge self.old group pages }
         requires pages { FitsStock pages }
-        requires fits { HasRoomFor self.old pages }
         requires none_fresh { cpu.old.fresh ≡ [] }
         ensures prepays { OnOk result (Prepays group pages (side self.old cpu.old) (side self.new cpu.new)) }
         ensures over { IfErr result (λ e. IsOver group pages e.group (side self.old cpu.old) (side self.new cpu.new)) }

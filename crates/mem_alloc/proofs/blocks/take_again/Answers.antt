@@ -8,17 +8,14 @@ use Rattle.mem_alloc.proofs.Taking.{is_refused, is_none, by_none, back_part, nev
 use Rattle.mem_alloc.proofs.Taking.{none_leaves, takes_after, reclaims_after, reclaims_open, list_shrinks}
 use Rattle.mem_alloc.proofs.blocks.take_again.Goals as goal
 
-pub take_block-requires-clause-there : goal.take_block-requires-clause-there
-take_block-requires-clause-there g c =
-    ap (λ l. has_group l.groups c.args.group) (back_part _ _ _ _ _ c.drain_list.ensures.takes).ledger ∙ c.requires.there
-
-pub take_block-requires-clause-alive : goal.take_block-requires-clause-alive
-take_block-requires-clause-alive g c =
-    ap (λ l. is_killed l c.args.group) (back_part _ _ _ _ _ c.drain_list.ensures.takes).killed ∙ c.requires.alive
-
-pub take_block-requires-clause-fits : goal.take_block-requires-clause-fits
-take_block-requires-clause-fits g c =
-    subst (λ l. current_of l 0 + 2 ^ c.args.order < 2 ^ 32) (sym (back_part _ _ _ _ _ c.drain_list.ensures.takes).ledger) c.requires.fits
+pub take_block-requires-clause-charges : goal.take_block-requires-clause-charges
+take_block-requires-clause-charges g c =
+    let part = back_part _ _ _ _ _ c.drain_list.ensures.takes in
+    record {
+      there = ap (λ l. has_group l.groups c.args.group) part.ledger ∙ c.requires.there;
+      alive = ap (λ l. is_killed l c.args.group) part.killed ∙ c.requires.alive;
+      fits = subst (λ l. current_of l 0 + 2 ^ c.args.order < 2 ^ 32) (sym part.ledger) c.requires.fits;
+    }
 
 pub take_block-requires-clause-none_back : goal.take_block-requires-clause-none_back
 take_block-requires-clause-none_back g c = (back_part _ _ _ _ _ c.drain_list.ensures.takes).back ∙ c.requires.settled.1

@@ -1,14 +1,14 @@
-use Rattle.std.proofs.Common.{sym, subst, arith}
+use Rattle.std.proofs.Common.{sym, subst, rules, arith}
 use Rattle.mem_machine.specs.Machines.{KnownMachine}
 use Rattle.mem_machine.specs.Paying.{HasRoomFor}
 use Rattle.mem_alloc.proofs.Making.{match_both}
 use Rattle.mem_alloc.proofs.Filling.{batch_fits, one_fits, none_fits}
 use Rattle.mem_alloc.proofs.charging.charge_frame.Goals as goal
 
-pub fill_stock-requires-clause-fits : goal.fill_stock-requires-clause-fits
-fill_stock-requires-clause-fits g c =
+pub fill_stock-requires-clause-charges : goal.fill_stock-requires-clause-charges
+fill_stock-requires-clause-charges g c =
     let high = c.requires.sizes.stock_high in
-    c.see_room.ensures.room c.args.sizes.stock (omega (arith, high))
+    record { there = search rules; alive = search rules; fits = c.see_room.ensures.room c.args.sizes.stock (omega (arith, high)) }
 
 pub returns-in_default-clause-charges : goal.returns-in_default-clause-charges
 returns-in_default-clause-charges g c =

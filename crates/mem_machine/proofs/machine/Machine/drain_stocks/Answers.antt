@@ -5,6 +5,6 @@ use Rattle.mem_machine.proofs.machine.Machine.drain_stocks.Goals as goal
 
 pub loop-before-preserved : goal.loop-before-preserved
 loop-before-preserved g c =
-    let few = c.drain_below.type_inv in
-    subst (λ (n : ℕ). DrainedSoFar g.N.BootName.frames (of_subtree c.args.group) (c.loop-before.before + 1) (c.loop-before.pages + n) c.args.self.now c.drain_below.new.self)
-    (sym c.from-pages.ensures) (drained_more _ _ _ _ _ _ _ _ c.loop-before.invariant c.drain_below.ensures (omega (arith, few)))
+    let few = c.drain_if_below.type_inv in
+    subst (λ (n : ℕ). DrainedSoFar g.N.BootName.frames (of_subtree c.args.group) (c.loop-before.before + 1) (c.loop-before.pages + n) c.args.self.now c.drain_if_below.new.self)
+    (sym c.from-pages.ensures) (drained_more _ _ _ _ _ _ _ _ c.loop-before.invariant c.drain_if_below.ensures (omega (arith, few)))

@@ -8,8 +8,8 @@ free_unit-requires-clause-in_use g c =
     let k0 : c.unwrap-order.result ≡ 0 = search rules in
     let fits : c.args.group < 64 = search rules in
     let e = c.collect_fresh-frame.ensures in
-    let was = was_fresh g.N.BootName.frames g.N.BootName.stocks _ c.args.cpu.now _ c.args.group e.frame e.nothing e.lent e.booked e.group c.requires.group
-    fits in
+    let was = was_fresh g.N.BootName.frames g.N.BootName.stocks _ c.args.cpu.now _ c.args.group e.known.inside e.known.nothing e.known.lent
+    e.known.booked e.known.group c.requires.group fits in
     drop_in_use g.N.BootName.frames g.N.BootName.stocks _ c.args.cpu.now c.number-number.ensures.tied c.self.invariant.0 _ _ c.args.group _
     c.unwrap-order.result c.self.invariant.1 was c.number.ensures k0
 
@@ -18,8 +18,8 @@ free_unit-requires-clause-charged g c =
     let k0 : c.unwrap-order.result ≡ 0 = search rules in
     let fits : c.args.group < 64 = search rules in
     let e = c.collect_fresh-frame.ensures in
-    let was = was_fresh g.N.BootName.frames g.N.BootName.stocks _ c.args.cpu.now _ c.args.group e.frame e.nothing e.lent e.booked e.group c.requires.group
-    fits in
+    let was = was_fresh g.N.BootName.frames g.N.BootName.stocks _ c.args.cpu.now _ c.args.group e.known.inside e.known.nothing e.known.lent
+    e.known.booked e.known.group c.requires.group fits in
     drop_charged g.N.BootName.frames g.N.BootName.stocks _ c.args.cpu.now c.number-number.ensures.tied c.self.invariant.0 _ c.args.group was
     c.unwrap-order.result k0
 
@@ -28,8 +28,8 @@ invariant_of-self g c =
     let k0 : c.unwrap-order.result ≡ 0 = search rules in
     let fits : c.args.group < 64 = search rules in
     let e = c.collect_fresh-frame.ensures in
-    let was = was_fresh g.N.BootName.frames g.N.BootName.stocks _ c.args.cpu.now _ c.args.group e.frame e.nothing e.lent e.booked e.group c.requires.group
-    fits in
+    let was = was_fresh g.N.BootName.frames g.N.BootName.stocks _ c.args.cpu.now _ c.args.group e.known.inside e.known.nothing e.known.lent
+    e.known.booked e.known.group c.requires.group fits in
     let u = c.free_unit.ensures in
     let all = (drop_all g.N.BootName.frames g.N.BootName.stocks _ _ c.self.view_is c.args.cpu.now _ c.number-number.ensures.tied c.self.invariant.0
     c.requires.visit _ _ c.self.invariant.1 _ c.args.group was c.requires.killed e.cpu _ c.unwrap-order.result c.number.ensures k0 _ e.zone _ (ap uncounted e.machine)
@@ -42,8 +42,8 @@ returns g c =
     let k0 : c.unwrap-order.result ≡ 0 = search rules in
     let fits : c.args.group < 64 = search rules in
     let e = c.collect_fresh-frame.ensures in
-    let was = was_fresh g.N.BootName.frames g.N.BootName.stocks _ c.args.cpu.now _ c.args.group e.frame e.nothing e.lent e.booked e.group c.requires.group
-    fits in
+    let was = was_fresh g.N.BootName.frames g.N.BootName.stocks _ c.args.cpu.now _ c.args.group e.known.inside e.known.nothing e.known.lent
+    e.known.booked e.known.group c.requires.group fits in
     let u = c.free_unit.ensures in
     let all = drop_all g.N.BootName.frames g.N.BootName.stocks _ _ c.self.view_is c.args.cpu.now _ c.number-number.ensures.tied c.self.invariant.0
     c.requires.visit _ _ c.self.invariant.1 _ c.args.group was c.requires.killed e.cpu _ c.unwrap-order.result c.number.ensures k0 _ e.zone _ (ap uncounted e.machine)

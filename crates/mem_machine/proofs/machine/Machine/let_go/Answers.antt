@@ -24,16 +24,16 @@ free_unit-requires-clause-charged g c =
 pub invariant_of-self : goal.invariant_of-self
 invariant_of-self g c = (
   (left_all g.N.BootName.frames g.N.BootName.stocks _ _ c.self.view_is c.self.invariant.0 c.args.head _
-      c.requires.frame c.number-at.ensures c.requires.kept _ _ c.leave_list.ensures.leaves c.leave_list.ensures.stand c.leave_list.ensures.frames
-      c.leave_list.ensures.groups c.in-Left.left _ c.in-Left.ensures.answer.2).consistent,
+      c.requires.frame c.number-at.ensures c.requires.kept _ _ c.leave_list.ensures.leaves c.leave_list.ensures.lists.stand c.leave_list.ensures.frames
+      c.leave_list.ensures.lists.groups c.in-Left.left _ c.in-Left.ensures.answer.2).consistent,
   c.self.invariant.1,
 )
 
 pub returns-in-Left : goal.returns-in-Left
 returns-in-Left g c =
     let all = left_all g.N.BootName.frames g.N.BootName.stocks _ _ c.self.view_is c.self.invariant.0 c.args.head _
-    c.requires.frame c.number-at.ensures c.requires.kept _ _ c.leave_list.ensures.leaves c.leave_list.ensures.stand c.leave_list.ensures.frames
-    c.leave_list.ensures.groups c.in-Left.left _ c.in-Left.ensures.answer.2 in
+    c.requires.frame c.number-at.ensures c.requires.kept _ _ c.leave_list.ensures.leaves c.leave_list.ensures.lists.stand c.leave_list.ensures.frames
+    c.leave_list.ensures.lists.groups c.in-Left.left _ c.in-Left.ensures.answer.2 in
     record { releases = search rules; visit = all.visit; steps = all.steps }
 
 pub invariant_of-self-in-Last : goal.invariant_of-self-in-Last
@@ -41,8 +41,8 @@ invariant_of-self-in-Last g c =
     let head = read_head g.N.BootName.frames g.N.BootName.stocks _ c.self.invariant.0 c.args.head _ c.requires.frame c.number-at.ensures _ c.in-Head.unit
     c.index.ensures c.in-Head.is in
     let all = returned_all g.N.BootName.frames g.N.BootName.stocks _ _ c.self.view_is c.self.invariant.0 c.args.head _
-    c.requires.frame c.number-at.ensures c.requires.kept _ _ c.leave_list.ensures.leaves c.leave_list.ensures.stand c.leave_list.ensures.frames
-    c.leave_list.ensures.groups _ c.in-Last.ensures.answer.0 c.in-Head.unit head _ _ _ _ _ _ c.self.invariant.1 c.free_unit.ensures.spots
+    c.requires.frame c.number-at.ensures c.requires.kept _ _ c.leave_list.ensures.leaves c.leave_list.ensures.lists.stand c.leave_list.ensures.frames
+    c.leave_list.ensures.lists.groups _ c.in-Last.ensures.answer.0 c.in-Head.unit head _ _ _ _ _ _ c.self.invariant.1 c.free_unit.ensures.spots
     c.free_unit.ensures.frames c.free_unit.ensures.areas c.free_unit.ensures.charges c.with_last_put-self-inside.ensures in
     (all.consistent, all.free_is)
 
@@ -51,7 +51,7 @@ returns-in-Head g c =
     let head = read_head g.N.BootName.frames g.N.BootName.stocks _ c.self.invariant.0 c.args.head _ c.requires.frame c.number-at.ensures _ c.in-Head.unit
     c.index.ensures c.in-Head.is in
     let all = returned_all g.N.BootName.frames g.N.BootName.stocks _ _ c.self.view_is c.self.invariant.0 c.args.head _
-    c.requires.frame c.number-at.ensures c.requires.kept _ _ c.leave_list.ensures.leaves c.leave_list.ensures.stand c.leave_list.ensures.frames
-    c.leave_list.ensures.groups _ c.in-Last.ensures.answer.0 c.in-Head.unit head _ _ _ _ _ _ c.self.invariant.1 c.free_unit.ensures.spots
+    c.requires.frame c.number-at.ensures c.requires.kept _ _ c.leave_list.ensures.leaves c.leave_list.ensures.lists.stand c.leave_list.ensures.frames
+    c.leave_list.ensures.lists.groups _ c.in-Last.ensures.answer.0 c.in-Head.unit head _ _ _ _ _ _ c.self.invariant.1 c.free_unit.ensures.spots
     c.free_unit.ensures.frames c.free_unit.ensures.areas c.free_unit.ensures.charges c.with_last_put-self-inside.ensures in
     record { releases = all.returns; visit = all.visit; steps = all.steps }

@@ -1,4 +1,4 @@
-use Rattle.std.proofs.Common.{◌≡◌, ◌+◌, ◌^◌, ◌<◌, false, refl, sym, subst}
+use Rattle.std.proofs.Common.{◌≡◌, ◌+◌, ◌^◌, ◌<◌, false, refl, rules, sym, subst}
 use Rattle.group_charge.specs.Charges.{current_of}
 use Rattle.stock_word.specs.Stock.{account_of}
 use Rattle.cpu_part.specs.Cpus.{KnownCpu}
@@ -6,10 +6,14 @@ use Rattle.mem_machine.specs.Machines.{KnownMachine}
 use Rattle.mem_machine.proofs.Prepaying.{emptied_fits, emptied_drained, emptied_whole, prepays, prepay_runs, is_refused, refused_runs, on_ok_both, if_err_both}
 use Rattle.mem_machine.proofs.machine.Machine.prepay.Goals as goal
 
-pub fill_stock-requires-clause-fits : goal.fill_stock-requires-clause-fits
-fill_stock-requires-clause-fits g c =
-    subst (λ (y : KnownMachine). current_of y.ledger 0 + c.args.pages < 2 ^ 32) (sym c.own_stock-emptied.ensures.machine)
-    (emptied_fits _ _ _ _ _ c.number-number.ensures.number c.drain_stock.ensures.drains c.args.pages c.requires.fits)
+pub fill_stock-requires-clause-charges : goal.fill_stock-requires-clause-charges
+fill_stock-requires-clause-charges g c =
+    let fits = emptied_fits _ _ _ _ _ c.number-number.ensures.number c.drain_stock.ensures.drains c.args.pages c.requires.charges.fits in
+    record {
+      there = search rules;
+      alive = search rules;
+      fits = subst (λ (y : KnownMachine). current_of y.ledger 0 + c.args.pages < 2 ^ 32) (sym c.own_stock-emptied.ensures.machine) fits;
+    }
 
 pub fill_stock-requires-clause-drained : goal.fill_stock-requires-clause-drained
 fill_stock-requires-clause-drained g c =

@@ -11,8 +11,8 @@ returns-in_default-take g c =
       visit = c.requires.visit;
       none_back = c.requires.none_back;
       usage = c.see_usage.ensures.usage;
-      there = c.requires.there;
-      alive = c.requires.alive;
+      there = c.requires.charges.there;
+      alive = c.requires.charges.alive;
     }) (c.in_default.ensures.granted.0 refl) _ _ c.in_default.ensures.charged c.uncharge.ensures.uncharged _
     (ap (λ (z : Zone). z.blocks) c.in_default-take.ensures.none) c.in_default-take.ensures.taken in
     record { takes = search rules; refuses = all.none; cpu = search rules; visit = search rules; steps = all.steps }
@@ -45,12 +45,12 @@ invariant_of-self-2 g c =
       visit = c.requires.visit;
       none_back = c.requires.none_back;
       usage = c.see_usage.ensures.usage;
-      there = c.requires.there;
-      alive = c.requires.alive;
+      there = c.requires.charges.there;
+      alive = c.requires.charges.alive;
     }) (c.in_default.ensures.granted.0 refl) _ c.in_default.ensures.charged c.in_default.ensures.pages _ _ c.in-Some.block _ c.self.invariant.1
     c.in-Some.ensures.taken c.in-Some.ensures.frames c.in-Some.ensures.areas _ c.place_unit.ensures c.in-Some-frame.head _ c.in-Some-frame.ensures.0
     c.number.ensures c.unfreeze.ensures.no_reference _ c.unfreeze.ensures.seat _ _
-    (record { joins = j.joins; stand = j.stand; frames = j.frames; groups = j.groups }) in
+    (record { joins = j.joins; stand = j.lists.stand; frames = j.frames; groups = j.lists.groups }) in
     (all.consistent, all.free_is)
 
 pub returns : goal.returns
@@ -63,12 +63,12 @@ returns g c =
       visit = c.requires.visit;
       none_back = c.requires.none_back;
       usage = c.see_usage.ensures.usage;
-      there = c.requires.there;
-      alive = c.requires.alive;
+      there = c.requires.charges.there;
+      alive = c.requires.charges.alive;
     }) (c.in_default.ensures.granted.0 refl) _ c.in_default.ensures.charged c.in_default.ensures.pages _ _ c.in-Some.block _ c.self.invariant.1
     c.in-Some.ensures.taken c.in-Some.ensures.frames c.in-Some.ensures.areas _ c.place_unit.ensures c.in-Some-frame.head _ c.in-Some-frame.ensures.0
     c.number.ensures c.unfreeze.ensures.no_reference _ c.unfreeze.ensures.seat _ _
-    (record { joins = j.joins; stand = j.stand; frames = j.frames; groups = j.groups }) in
+    (record { joins = j.joins; stand = j.lists.stand; frames = j.frames; groups = j.lists.groups }) in
     record { takes = all.takes; refuses = search rules; cpu = search rules; visit = all.visit; steps = all.steps }
 
 pub invariant_of-self : goal.invariant_of-self

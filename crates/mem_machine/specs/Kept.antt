@@ -1,0 +1,28 @@
+-- What a contract sees of the machine's fields, and what always holds of them.
+use Rattle.std.specs.Prelude.{◌≡◌}
+use Rattle.frame_word.specs.Seats.{KnownTable}
+use Rattle.stock_word.specs.Stock.{Words}
+use Rattle.stock_word.specs.Calls.{uncounted}
+use Rattle.mem_machine.specs.declared.machine.Machine.TheInside.{Inside}
+use Rattle.mem_machine.specs.Spots.{free_of}
+use Rattle.mem_machine.specs.Machines.{KnownMachine, IsConsistent}
+
+-- what a contract sees of these fields: all but the number of steps that the seat at the stocks made
+abbrev pub machine_of : {N : Type 0} → Inside N → KnownMachine
+machine_of fields = record {
+  blocks = fields.zone.blocks;
+  spots = fields.spots.items;
+  ledger = fields.charges;
+  links = fields.links;
+  lists = fields.lists.items;
+  seat = fields.seat;
+  stock = uncounted fields.stock;
+  killed = fields.killed.items;
+  counts = fields.counts;
+  notes = fields.notes;
+}
+
+-- what the fields show is consistent, and the zone's free frames are those whose record is Free
+abbrev pub AreKept : {N : Type 0} → KnownTable → Words → Inside N → Type 0
+AreKept table words fields =
+    IsConsistent table words (machine_of fields) × (fields.zone.free ≡ free_of fields.spots.items)
