@@ -27,7 +27,7 @@ over_there t g pages over m n steps h =
 pub frame_over_there : (t : KnownTable) (sizes : Config) (g over : ℕ) (m n : KnownMachine) (c d : KnownCpu) (steps : Run)
     → AllocatesFrame sizes g (Err (Over over)) (course t (side m c) steps (side n d)) → has_group n.ledger.groups over ≡ true
 frame_over_there t sizes g over m n c d steps h =
-    over_there t g 1 over h.refuses.emptied n h.refuses.refuses.later h.refuses.refuses.refuses.refuses
+    over_there t g 1 over h.refuses.emptied n h.refuses.next.later h.refuses.next.next.refuses
 
 -- after a block was refused
 pub block_over_there : (t : KnownTable) (g k over : ℕ) (m n : KnownMachine) (c d : KnownCpu) (steps : Run)

@@ -79,7 +79,8 @@ refused_lowers t g pages over m n steps r = relieves_lower t g over pages m n r.
 pub makes_lower : (t : KnownTable) (g pages : ℕ) (before : List ℕ) (m n : KnownMachine) (steps : Run) → MakesRoom g pages before (course t m steps n) → Lowers t m n
 makes_lower t g pages [] m n steps h = subst (λ (x : KnownMachine). Lowers t m x) (sym h.machine) (lowers_none t m)
 makes_lower t g pages (over ∷ later) m n steps h =
-    lowers_both t m h.0 n (refused_lowers t g pages over m h.0 h.1 h.3) (makes_lower t g pages later h.0 n h.2 h.5)
+    lowers_both t m h.between n (refused_lowers t g pages over m h.between h.earlier h.first.refused)
+    (makes_lower t g pages later h.between n h.later h.second)
 
 pub over_lowers : (t : KnownTable) (g pages : ℕ) (cause : AllocFault) (m n : KnownMachine) (steps : Run) → IsRefusedFor g pages cause (course t m steps n) → Lowers t m n
 over_lowers t g pages cause m n steps h =
@@ -93,7 +94,7 @@ after_room_keeps t g k m n c d steps h =
 charges_keep : (t : KnownTable) (sizes : Config) (g : ℕ) (m n : KnownMachine) (c d : KnownCpu) (steps : Run)
     → ChargesFrame sizes g (course t (side m c) steps (side n d)) → KeepsPart m c n d
 charges_keep t sizes g m n c d steps (inl h) = fills_keep g sizes.stock m n c d h.fills
-charges_keep t sizes g m n c d steps (inr h) = after_room_keeps t g 1 m n c d h.later h.fills
+charges_keep t sizes g m n c d steps (inr h) = after_room_keeps t g 1 m n c d h.later h.next
 
 pub pays_keep : (t : KnownTable) (sizes : Config) (g : ℕ) (m n : KnownMachine) (c d : KnownCpu) (steps : Run)
     → PaysForFrame sizes g (course t (side m c) steps (side n d)) → KeepsPart m c n d
@@ -101,14 +102,14 @@ pays_keep t sizes g m n c d steps (inl h) =
     lowers_keep t m n c d (subst (λ (x : KnownMachine). Lowers t m x) (sym h.machine) (lowers_none t m)) h.cpu
 pays_keep t sizes g m n c d steps (inr h) =
     keeps_both m h.emptied n c c d (lowers_keep t m h.emptied c c (drain_lowers t m h.emptied c.number h.drains.drained h.drains.drains) refl)
-    (charges_keep t sizes g h.emptied n c d h.later h.charges)
+    (charges_keep t sizes g h.emptied n c d h.later h.next)
 
 pub refuses_keep : (t : KnownTable) (sizes : Config) (g : ℕ) (cause : AllocFault) (m n : KnownMachine) (c d : KnownCpu) (steps : Run)
     → RefusesToPay sizes g cause (course t (side m c) steps (side n d)) → KeepsPart m c n d
 refuses_keep t sizes g cause m n c d steps h =
-    let over = h.refuses.refuses in
+    let over = h.next.next in
     keeps_both m h.emptied n c c d (lowers_keep t m h.emptied c c (drain_lowers t m h.emptied c.number h.drains.drained h.drains.drains) refl)
-    (lowers_keep t h.emptied n c d (over_lowers t g 1 cause h.emptied n h.refuses.later over.refuses) over.cpu)
+    (lowers_keep t h.emptied n c d (over_lowers t g 1 cause h.emptied n h.next.later over.refuses) over.cpu)
 
 -- ---- the stock holds a page
 
@@ -123,13 +124,13 @@ filled_page g k m n c d f some none =
 pub charged_page : (t : KnownTable) (sizes : Config) (g : ℕ) (m n : KnownMachine) (c d : KnownCpu) (steps : Run) → IsValidConfig sizes
     → ChargesFrame sizes g (course t (side m c) steps (side n d)) → c.fresh ≡ [] → HoldsPage (side n d) g
 charged_page t sizes g m n c d steps valid (inl h) none = filled_page g sizes.stock m n c d h.fills valid.stock_low none
-charged_page t sizes g m n c d steps valid (inr h) none = filled_page g 1 h.fills.cleared n c d h.fills.fills (omega arith) none
+charged_page t sizes g m n c d steps valid (inr h) none = filled_page g 1 h.next.cleared n c d h.next.fills (omega arith) none
 
 pub paid_page : (t : KnownTable) (sizes : Config) (g : ℕ) (m n : KnownMachine) (c d : KnownCpu) (steps : Run) → IsValidConfig sizes
     → PaysForFrame sizes g (course t (side m c) steps (side n d)) → c.fresh ≡ [] → HoldsPage (side n d) g
 paid_page t sizes g m n c d steps valid (inl h) none =
     subst (λ (x : KnownMachine × KnownCpu). HoldsPage (side x.0 x.1) g) (λ i. (sym h.machine i, sym h.cpu i)) h.page
-paid_page t sizes g m n c d steps valid (inr h) none = charged_page t sizes g h.emptied n c d h.later valid h.charges none
+paid_page t sizes g m n c d steps valid (inr h) none = charged_page t sizes g h.emptied n c d h.later valid h.next none
 
 -- ---- frames that are lent
 
@@ -190,7 +191,7 @@ module _ (t : KnownTable) (sizes : Config) (g over : ℕ) (m x n : KnownMachine)
   one_fits b =
       let here = subst (λ (z : KnownMachine × KnownCpu). BySteps t (side z.0 z.1) (side n d) (FillsAfterRoom g 1)) (λ i. (stays i, its i)) b in (
         over_steps g sizes.stock over ++ here.0,
-        inr (record { over = over; batch = lowest; later = here.0; fills = here.1; steps_are = refl }),
+        inr (record { over = over; batch = lowest; later = here.0; next = here.1; steps_are = refl }),
         makes_both t c.number (over_steps g sizes.stock over) here.0 (side m c) (side m c) (side n d) refused here.2,
       )
 
@@ -199,7 +200,7 @@ module _ (t : KnownTable) (sizes : Config) (g over : ℕ) (m x n : KnownMachine)
   none_fits cause b =
       let here = subst (λ (z : KnownMachine × KnownCpu). BySteps t (side z.0 z.1) (side n d) (RefusesOne g cause)) (λ i. (stays i, its i)) b in (
         over_steps g sizes.stock over ++ here.0,
-        record { over = over; batch = lowest; later = here.0; refuses = here.1; steps_are = refl },
+        record { over = over; batch = lowest; later = here.0; next = here.1; steps_are = refl },
         makes_both t c.number (over_steps g sizes.stock over) here.0 (side m c) (side m c) (side n d) refused here.2,
       )
 
@@ -230,7 +231,7 @@ module _ (t : KnownTable) (sizes : Config) (g pages q : ℕ) (m k x n : KnownMac
           later = here.0;
           drains = drained_own;
           empties = by_drain;
-          charges = here.1;
+          next = here.1;
           steps_are = refl;
         }),
         makes_both t c.number (drain_steps c.number (stock_group m c.number) pages) here.0 (side m c) (side x c) (side n d) by_drain here.2,
@@ -247,7 +248,7 @@ module _ (t : KnownTable) (sizes : Config) (g pages q : ℕ) (m k x n : KnownMac
           later = here.0;
           drains = drained_own;
           empties = by_drain;
-          refuses = here.1;
+          next = here.1;
           steps_are = refl;
         },
         makes_both t c.number (drain_steps c.number (stock_group m c.number) pages) here.0 (side m c) (side x c) (side n d) by_drain here.2,
@@ -301,14 +302,13 @@ no_frame_spares t m n c d steps h = spares_same t m n c d h.stays.machine h.stay
 none_after : (t : KnownTable) (rounds : ℕ) (m n : KnownMachine) (c d : KnownCpu) (steps : Run) → HasNoneFrom m.blocks 0
     → FailsInRounds rounds 1 LendsNoFrame (course t (side m c) steps (side n d)) → HasNoneFrom n.blocks 0
 none_after t zero m n c d steps none h = subst (λ (x : KnownMachine). HasNoneFrom x.blocks 0) (sym h.machine) none
-none_after t (suc more) m n c d steps none h =
-    let tries = h.4.tries in
-    let here : HasNoneFrom h.1.machine.blocks 0 =
+none_after t (suc more) m n c d steps none (inl h) =
+    subst (λ (x : KnownMachine). HasNoneFrom x.blocks 0) (sym h.tries.stays.machine) h.tries.none
+none_after t (suc more) m n c d steps none (inr h) =
+    let tries = h.first.round.tries in
+    let here : HasNoneFrom h.between.machine.blocks 0 =
     subst (λ (x : KnownMachine). HasNoneFrom x.blocks 0) (sym tries.stays.machine) tries.none in
-    elim h.5 [
-      | inl last ↦ subst (λ (x : KnownMachine). HasNoneFrom x.blocks 0) (sym last.1.machine) here
-      | inr again ↦ none_after t more h.1.machine n h.1.cpu d h.3 here again.1
-    ]
+    none_after t more h.between.machine n h.between.cpu d h.later here h.second
 
 -- no frame is free, also after rounds of reclaim, and the stock is drained
 module _ (t : KnownTable) (sizes : Config) (m k x n : KnownMachine) (c e y : KnownCpu) (empty : c.list ≡ [])
@@ -448,7 +448,7 @@ module _ (t : KnownTable) (sizes : Config) (g : ℕ) (m : KnownMachine) (c : Kno
   refused_for : (x : AllocFault) (n : KnownMachine) (d : KnownCpu) → BySteps t (side m c) (side n d) (RefusesToPay sizes g x)
       → BySteps t (side m c) (side n d) (AllocatesFrame sizes g (Err x))
   refused_for (Over over) n d b = (b.0, record { alive = alive; refuses = b.1 }, b.2)
-  refused_for NoFrames n d b = absurd b.1.refuses.refuses.refuses.is_cause
+  refused_for NoFrames n d b = absurd b.1.next.next.refuses.is_cause
   refused_for Killed n d b = (b.0, inr (record { alive = alive; refuses = b.1 }), b.2)
 
   pub not_paid : (r : Result ℕ AllocFault) (x : AllocFault) (n : KnownMachine) (d : KnownCpu) → IsErr r → IfErr r (λ e. e ≡ x)

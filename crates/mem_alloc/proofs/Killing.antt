@@ -51,7 +51,8 @@ pub each_lowers : (r : Option ℕ) (t : KnownTable) (g pages : ℕ) (victims : L
     → KillsEach r g pages victims (course t m steps n) → Lowers t m n
 each_lowers r t g pages [] m n steps h = subst (λ (x : KnownMachine). Lowers t m x) (sym h.machine) (lowers_none t m)
 each_lowers r t g pages (v ∷ later) m n steps h =
-    lowers_both t m h.0 n (one_lowers t v m h.0 h.3.marked h.3.stocks h.3.keeps) (each_lowers r t g pages later h.0 n h.2 h.4)
+    lowers_both t m h.between n (one_lowers t v m h.between h.first.marked h.first.stocks h.first.keeps)
+    (each_lowers r t g pages later h.between n h.later h.second)
 
 usage_noted : (groups : List Group) (xs : List charge.Account) (g m : ℕ) → usage_of groups (map (with_event_at with_oom groups g) xs) m ≡ usage_of groups xs m
 unfolding usage_of
@@ -135,22 +136,22 @@ fewer_alive t w m n g v whole charges most marked =
 kills_more : (r : Option ℕ) (t : KnownTable) (g pages v : ℕ) (victims : List ℕ) (m x n : KnownMachine) (first last : Run)
     → KillsEach r g pages victims (course t m first x) → KillsOne r g pages v (course t x last n)
     → KillsEach r g pages (victims ++ v ∷ []) (course t m (first ++ last) n)
-kills_more r t g pages v [] m x n first last each one = (
-  n,
-  last,
-  [],
-  subst (λ (y : KnownMachine). KillsOne r g pages v (course t y last n)) each.machine one,
-  record { machine = refl; steps_are = refl },
-  ap (λ (k : Run). k ++ last) each.steps_are ∙ sym (append-nil last),
-)
-kills_more r t g pages v (u ∷ victims) m x n first last each one = (
-  each.0,
-  each.1,
-  each.2 ++ last,
-  each.3,
-  kills_more r t g pages v victims each.0 x n each.2 last each.4 one,
-  ap (λ (k : Run). k ++ last) each.5 ∙ append_assoc each.1 each.2 last,
-)
+kills_more r t g pages v [] m x n first last each one = record {
+  between = n;
+  earlier = last;
+  later = [];
+  first = subst (λ (y : KnownMachine). KillsOne r g pages v (course t y last n)) each.machine one;
+  second = record { machine = refl; steps_are = refl };
+  steps_are = ap (λ (k : Run). k ++ last) each.steps_are ∙ sym (append-nil last);
+}
+kills_more r t g pages v (u ∷ victims) m x n first last each one = record {
+  between = each.between;
+  earlier = each.earlier;
+  later = each.later ++ last;
+  first = each.first;
+  second = kills_more r t g pages v victims each.between x n each.later last each.second one;
+  steps_are = ap (λ (k : Run). k ++ last) each.steps_are ∙ append_assoc each.earlier each.later last;
+}
 
 -- these were killed so far, and nothing else happened
 pub record KillsSoFar (r : Option ℕ) (t : KnownTable) (g pages : ℕ) (m n : KnownMachine) : Type 0 where

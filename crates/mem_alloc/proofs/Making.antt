@@ -100,7 +100,7 @@ no_rounds t g pages m none = (
 
 -- there is one
 pub rounds_for : (t : KnownTable) (g pages limit given : ℕ) (m n : KnownMachine) → limit_of m.ledger.groups g ≡ Some limit
-    → Leads t given m n (λ steps. MakesRounds g (pages_missing g pages limit) 16 given m steps n) → Keeps t m n
+    → Leads t given m n (MakesRounds g (pages_missing g pages limit) 16) → Keeps t m n
     → (limit < current_of n.ledger g + pages → MissedAll g m n) → ByStepsOfAny t m n (ReclaimsFor g pages)
 rounds_for t g pages limit given m n is leads keeps missed = (
   leads.steps,
@@ -120,24 +120,25 @@ rounds_for t g pages limit given m n is leads keeps missed = (
 -- tries that were refused, and then one more
 room_more : (t : KnownTable) (g pages over : ℕ) (before : List ℕ) (m x n : KnownMachine) (making last : Run) → MakesRoom g pages before (course t m making x)
     → IsRefusedAt g pages over (course t x last n) → HasMadeRoom g over pages n → MakesRoom g pages (before ++ over ∷ []) (course t m (making ++ last) n)
-room_more t g pages over [] m x n making last makes refused room = (
-  n,
-  last,
-  [],
-  subst (λ (y : KnownMachine). IsRefusedAt g pages over (course t y last n)) makes.machine refused,
-  room,
-  record { machine = refl; steps_are = refl },
-  ap (λ (r : Run). r ++ last) makes.steps_are ∙ sym (append-nil last),
-)
-room_more t g pages over (h ∷ before) m x n making last makes refused room = (
-  makes.0,
-  makes.1,
-  makes.2 ++ last,
-  makes.3,
-  makes.4,
-  room_more t g pages over before makes.0 x n makes.2 last makes.5 refused room,
-  ap (λ (r : Run). r ++ last) makes.6 ∙ append_assoc makes.1 makes.2 last,
-)
+room_more t g pages over [] m x n making last makes refused room = record {
+  between = n;
+  earlier = last;
+  later = [];
+  first = record {
+    refused = subst (λ (y : KnownMachine). IsRefusedAt g pages over (course t y last n)) makes.machine refused;
+    room = room;
+  };
+  second = record { machine = refl; steps_are = refl };
+  steps_are = ap (λ (r : Run). r ++ last) makes.steps_are ∙ sym (append-nil last);
+}
+room_more t g pages over (h ∷ before) m x n making last makes refused room = record {
+  between = makes.between;
+  earlier = makes.earlier;
+  later = makes.later ++ last;
+  first = makes.first;
+  second = room_more t g pages over before makes.between x n makes.later last makes.second refused room;
+  steps_are = ap (λ (r : Run). r ++ last) makes.steps_are ∙ append_assoc makes.earlier makes.later last;
+}
 
 -- what the loops keep: the tries so far were refused at groups that have room now, and nothing else happened
 pub record RoomSoFar (t : KnownTable) (g pages : ℕ) (c : KnownCpu) (m n : KnownMachine) : Type 0 where

@@ -16,11 +16,11 @@ use Rattle.mem_reclaim.specs.Moves.{missed_in}
 use Rattle.mem_reclaim.proofs.LettingGo.{AreQuiet, misses_put, quiet_both, quiet_drain, quiet_drains}
 use Rattle.mem_alloc.specs.declared.faults.AllocFault.{AllocFault}
 use Rattle.mem_alloc.specs.declared.faults.AllocFault.TheVariants.{Over, NoFrames, Killed}
-use Rattle.mem_alloc.specs.Stepping.{CountsMisses, Course, Rests, Stays, course, of_machine}
+use Rattle.mem_alloc.specs.Stepping.{CountsMisses, Course, InTurn, OfMachineAlone, Rests, Stays, course, of_machine}
 use Rattle.mem_alloc.specs.Kills.{KillsEach, KillsFor, KillsOne, KillsVictims, has_room_for, with_oom_noted_at}
 use Rattle.mem_alloc.specs.Room.{ClearsBelow, IsRefusedAt, IsRefusedFor, KillsForFew, MakesRoom, RelievesLimit, with_max_noted_at}
 use Rattle.mem_alloc.specs.Charging.{ChargesFrame, DrainsOwn, FillsAfterRoom, PaysForFrame, RefusesFrame, RefusesToPay}
-use Rattle.mem_alloc.specs.Rounds.{FailsInRounds, MakesRound, SucceedsInRounds}
+use Rattle.mem_alloc.specs.Rounds.{FailsInRounds, GivesInRound, MakesRound, SucceedsInRounds}
 use Rattle.mem_alloc.specs.Frames.{AllocatesFrame, FillsList, HasNoFrame, LendsBatch, LendsNoFrame}
 use Rattle.mem_alloc.specs.Blocks.{AllocatesBlock, FindsNoBlock, TakesAfterRoom, TakesAgain, TakesInRounds, TakesSecond, TriesAgain, TriesInRounds, TryFindsNone, TryTakes}
 use Rattle.mem_alloc.proofs.NoRash.{all_same, missed_both}
@@ -71,13 +71,13 @@ counts_drains t g k m n drains all = counts_same t m n (drain_stocks_steps drain
 counts_one : (r : Option ℕ) (t : KnownTable) (g pages v : ℕ) (m n : KnownMachine) (steps : Run) → KillsOne r g pages v (course t m steps n)
     → CountsMisses (course t m steps n)
 counts_one r t g pages v m n steps h =
-    let told = kill_steps v ++ h.kills.later in
+    let told = kill_steps v ++ h.kills.once.later in
     let quiet : (f : ℕ) → missed_in f told ≡ 0 = λ f.
-    let a = missed_both f (kill_steps v) h.kills.later in
-    let b = h.kills.no_miss f in
+    let a = missed_both f (kill_steps v) h.kills.once.later in
+    let b = h.kills.once.no_miss f in
     let z : missed_in f (kill_steps v) ≡ 0 = refl in
     omega (arith, a, b, z) in
-    counts_as t m n steps told (h.steps_are ∙ h.kills.front) (λ f.
+    counts_as t m n steps told (h.steps_are ∙ h.kills.once.front) (λ f.
     let p = quiet f in
     let q = h.keeps.misses f in
     omega (arith, p, q))
@@ -86,7 +86,8 @@ counts_each : (r : Option ℕ) (t : KnownTable) (g pages : ℕ) (victims : List 
     → KillsEach r g pages victims (course t m steps n) → CountsMisses (course t m steps n)
 counts_each r t g pages [] m n steps h = counts_rest t m n steps h.machine h.steps_are
 counts_each r t g pages (v ∷ later) m n steps h =
-    counts_as t m n steps (h.1 ++ h.2) h.5 (counts_both t m h.0 n h.1 h.2 (counts_one r t g pages v m h.0 h.1 h.3) (counts_each r t g pages later h.0 n h.2 h.4))
+    counts_as t m n steps (h.earlier ++ h.later) h.steps_are (counts_both t m h.between n h.earlier h.later
+    (counts_one r t g pages v m h.between h.earlier h.first) (counts_each r t g pages later h.between n h.later h.second))
 
 pub counts_kills : (r : Option ℕ) (t : KnownTable) (g pages : ℕ) (m n : KnownMachine) (steps : Run) → KillsFor r g pages (course t m steps n)
     → CountsMisses (course t m steps n)
@@ -136,7 +137,8 @@ counts_room : (t : KnownTable) (g pages : ℕ) (refused : List ℕ) (m n : Known
     → CountsMisses (course t m steps n)
 counts_room t g pages [] m n steps h = counts_rest t m n steps h.machine h.steps_are
 counts_room t g pages (over ∷ later) m n steps h =
-    counts_as t m n steps (h.1 ++ h.2) h.6 (counts_both t m h.0 n h.1 h.2 (counts_refused t g pages over m h.0 h.1 h.3) (counts_room t g pages later h.0 n h.2 h.5))
+    counts_as t m n steps (h.earlier ++ h.later) h.steps_are (counts_both t m h.between n h.earlier h.later
+    (counts_refused t g pages over m h.between h.earlier h.first.refused) (counts_room t g pages later h.between n h.later h.second))
 
 counts_refusal : (t : KnownTable) (g pages : ℕ) (cause : AllocFault) (m n : KnownMachine) (steps : Run) → IsRefusedFor g pages cause (course t m steps n)
     → CountsMisses (course t m steps n)
@@ -175,6 +177,12 @@ AllCounted P = (way : Course Side) → P way → CountsMisses (of_machine way)
 counts_stay : AllCounted Stays
 counts_stay way h = counts_rest way.table way.before.machine way.after.machine way.steps h.machine h.steps_are
 
+counts_turns : (First Second : Course Side → Type 0) → AllCounted First → AllCounted Second → AllCounted (InTurn First Second)
+counts_turns First Second one two way h =
+    counts_as way.table way.before.machine way.after.machine way.steps (h.earlier ++ h.later) h.steps_are
+    (counts_both way.table way.before.machine h.between.machine way.after.machine h.earlier h.later
+    (one (course way.table way.before h.earlier h.between) h.first) (two (course way.table h.between h.later way.after) h.second))
+
 module _ (want : ℕ) (Fails : Course Side → Type 0) (failing : AllCounted Fails) where
   round_counts : (given : ℕ) (Tries : Course Side → Type 0) → AllCounted Tries → AllCounted (MakesRound want given Tries)
   round_counts given Tries trying way h =
@@ -183,25 +191,21 @@ module _ (want : ℕ) (Fails : Course Side → Type 0) (failing : AllCounted Fai
       counts_as way.table m n way.steps (h.reclaiming ++ h.trying) h.steps_are (counts_both way.table m h.reclaimed n h.reclaiming h.trying h.misses
       (trying (course way.table (side h.reclaimed way.before.cpu) h.trying way.after) h.tries))
 
+  gives_count : AllCounted (GivesInRound want Fails)
+  gives_count way h = round_counts h.given Fails failing way h.round
+
   fails_count : (rounds : ℕ) → AllCounted (FailsInRounds rounds want Fails)
   fails_count zero way h = counts_stay way h
-  fails_count (suc more) way h =
-      let m = way.before.machine in
-      let n = way.after.machine in
-      counts_as way.table m n way.steps (h.2 ++ h.3) h.6 (counts_both way.table m h.1.machine n h.2 h.3
-      (round_counts h.0 Fails failing (course way.table way.before h.2 h.1) h.4) (elim h.5 [
-        | inl last ↦ counts_stay (course way.table h.1 h.3 way.after) last.1
-        | inr again ↦ fails_count more (course way.table h.1 h.3 way.after) again.1
-      ]))
+  fails_count (suc more) way (inl h) = round_counts 0 Fails failing way h
+  fails_count (suc more) way (inr h) =
+      counts_turns (GivesInRound want Fails) (FailsInRounds more want Fails) gives_count (fails_count more) way h
 
   succeeds_count : (rounds : ℕ) (Succeeds : Course Side → Type 0) → AllCounted Succeeds → AllCounted (SucceedsInRounds rounds want Succeeds Fails)
   succeeds_count zero Succeeds succeeding way h = absurd h
   succeeds_count (suc more) Succeeds succeeding way (inl h) = round_counts h.0 Succeeds succeeding way h.1
   succeeds_count (suc more) Succeeds succeeding way (inr h) =
-      let m = way.before.machine in
-      let n = way.after.machine in
-      counts_as way.table m n way.steps (h.2 ++ h.3) h.7 (counts_both way.table m h.1.machine n h.2 h.3
-      (round_counts h.0 Fails failing (course way.table way.before h.2 h.1) h.5) (succeeds_count more Succeeds succeeding (course way.table h.1 h.3 way.after) h.6))
+      counts_turns (GivesInRound want Fails) (SucceedsInRounds more want Succeeds Fails) gives_count
+      (succeeds_count more Succeeds succeeding) way h
 
 -- ---- a single frame
 
@@ -250,7 +254,7 @@ charges_count sizes g way (inr h) =
     let m = way.before.machine in
     let first = over_steps g sizes.stock h.over in
     counts_as t m way.after.machine way.steps (first ++ h.later) h.steps_are (counts_both t m m way.after.machine first h.later
-    (over_counts t g sizes.stock h.over m) (fill_counts g (course t way.before h.later way.after) h.fills))
+    (over_counts t g sizes.stock h.over m) (fill_counts g (course t way.before h.later way.after) h.next))
 
 refuses_count : (sizes : Config) (g : ℕ) (cause : AllocFault) → AllCounted (RefusesFrame sizes g cause)
 refuses_count sizes g cause way h =
@@ -258,7 +262,7 @@ refuses_count sizes g cause way h =
     let m = way.before.machine in
     let first = over_steps g sizes.stock h.over in
     counts_as t m way.after.machine way.steps (first ++ h.later) h.steps_are (counts_both t m m way.after.machine first h.later
-    (over_counts t g sizes.stock h.over m) (counts_refusal t g 1 cause m way.after.machine h.later h.refuses.refuses))
+    (over_counts t g sizes.stock h.over m) (counts_refusal t g 1 cause m way.after.machine h.later h.next.refuses))
 
 own_counts : (t : KnownTable) (g : ℕ) (before : Side) (steps : Run) (x : KnownMachine) → DrainsOwn g before steps x
     → CountsMisses (course t before.machine steps x)
@@ -271,13 +275,13 @@ pays_count sizes g way (inl h) = counts_rest way.table way.before.machine way.af
 pays_count sizes g way (inr h) =
     counts_as way.table way.before.machine way.after.machine way.steps (h.first ++ h.later) h.steps_are
     (counts_both way.table way.before.machine h.emptied way.after.machine h.first h.later (own_counts way.table g way.before h.first h.emptied h.drains)
-    (charges_count sizes g (course way.table (side h.emptied way.before.cpu) h.later way.after) h.charges))
+    (charges_count sizes g (course way.table (side h.emptied way.before.cpu) h.later way.after) h.next))
 
 pays_not_count : (sizes : Config) (g : ℕ) (cause : AllocFault) → AllCounted (RefusesToPay sizes g cause)
 pays_not_count sizes g cause way h =
     counts_as way.table way.before.machine way.after.machine way.steps (h.first ++ h.later) h.steps_are
     (counts_both way.table way.before.machine h.emptied way.after.machine h.first h.later (own_counts way.table g way.before h.first h.emptied h.drains)
-    (refuses_count sizes g cause (course way.table (side h.emptied way.before.cpu) h.later way.after) h.refuses))
+    (refuses_count sizes g cause (course way.table (side h.emptied way.before.cpu) h.later way.after) h.next))
 
 pub frame_counts : (sizes : Config) (g : ℕ) (answer : Result ℕ AllocFault) → AllCounted (AllocatesFrame sizes g answer)
 frame_counts sizes g (Ok f) way h =
@@ -329,10 +333,7 @@ rounds_count g k (Err Killed) way h = absurd h
 
 tries_count : (g k : ℕ) (answer : Result ℕ AllocFault) → AllCounted (TriesInRounds g k answer)
 tries_count g k answer way h =
-    counts_as way.table way.before.machine way.after.machine way.steps (h.first ++ h.later) h.steps_are
-    (counts_both way.table way.before.machine h.tried way.after.machine h.first h.later
-    (finds_none_counts g k (course way.table way.before h.first (side h.tried way.before.cpu)) h.none)
-    (rounds_count g k answer (course way.table (side h.tried way.before.cpu) h.later way.after) h.rounds))
+    counts_turns (TryFindsNone g k) (TakesInRounds g k answer) (finds_none_counts g k) (rounds_count g k answer) way h
 
 second_counts : (g k : ℕ) (answer : Result ℕ AllocFault) → AllCounted (TakesSecond g k answer)
 second_counts g k (Ok head) way (inl h) = takes_count g k head way h
@@ -365,10 +366,9 @@ once_counts t g k head m n steps h =
 
 tries_again_counts : (g k : ℕ) (answer : Result ℕ AllocFault) → AllCounted (TriesAgain g k answer)
 tries_again_counts g k answer way h =
-    counts_as way.table way.before.machine way.after.machine way.steps (h.first ++ h.later) h.steps_are
-    (counts_both way.table way.before.machine h.charged way.after.machine h.first h.later
-    (none_found_counts way.table g k way.before.machine h.charged h.first h.none)
-    (again_counts g k answer (course way.table (side h.charged way.before.cpu) h.later way.after) h.again))
+    counts_turns (OfMachineAlone (FindsNoBlock g k)) (TakesAgain g k answer)
+    (λ first found. none_found_counts first.table g k first.before.machine first.after.machine first.steps found.does)
+    (again_counts g k answer) way h
 
 pub block_counts : (g k : ℕ) (answer : Result ℕ AllocFault) → AllCounted (AllocatesBlock g k answer)
 block_counts g k (Ok head) way h = elim h.1 [

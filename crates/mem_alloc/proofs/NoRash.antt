@@ -315,9 +315,9 @@ module _ (t : KnownTable) (MayAsk : List Group → ℕ → ℕ → Type 0) (s : 
     tied = record {
       misses = λ f.
           let p = keeps.misses f in
-          let q = kills.no_miss f in
-          let r : missed_in f kills.steps ≡ missed_in f (kill_steps v) + missed_in f kills.later =
-          ap (missed_in f) kills.front ∙ missed_both f (kill_steps v) kills.later in
+          let q = kills.once.no_miss f in
+          let r : missed_in f kills.steps ≡ missed_in f (kill_steps v) + missed_in f kills.once.later =
+          ap (missed_in f) kills.once.front ∙ missed_both f (kill_steps v) kills.once.later in
           let z : missed_in f (kill_steps v) ≡ 0 = refl in
           omega (arith, p, q, r, z);
       owners = λ f is.
@@ -373,8 +373,8 @@ module _ (t : KnownTable) (MayAsk : List Group → ℕ → ℕ → Type 0) (s : 
   tame_one r g pages v made m steps n asked ready one =
       let may = may_kill r g pages v made m steps n asked ready one in
       subst (λ (k : Run). Tame made m k n) (sym one.steps_are) (record {
-        rash = subst (λ (k : Run). RashFree t MayAsk s c made k) (sym one.kills.front)
-            (rash_kill made one.kills.later m v ready.since.runs may one.kills.quiet);
+        rash = subst (λ (k : Run). RashFree t MayAsk s c made k) (sym one.kills.once.front)
+            (rash_kill made one.kills.once.later m v ready.since.runs may one.kills.once.quiet);
         passes = kill_passes g v m n one.kills one.keeps;
         groups = one.keeps.groups;
       })
@@ -383,11 +383,12 @@ module _ (t : KnownTable) (MayAsk : List Group → ℕ → ℕ → Type 0) (s : 
       → MayAsk m.ledger.groups g pages → Ready g made m → KillsEach r g pages victims (course t m steps n) → Tame made m steps n
   tame_each r g pages [] made m steps n asked ready each = tame_rests made m steps n each
   tame_each r g pages (v ∷ later) made m steps n asked ready each =
-      let x = each.0 in
-      let one = tame_one r g pages v made m each.1 x asked ready each.3 in
-      let still = subst (λ (l : List Group). MayAsk l g pages) (sym each.3.keeps.groups) asked in
-      let rest = tame_each r g pages later (made ++ each.1) x each.2 n still (ready_more r g pages v made m each.1 x ready each.3) each.4 in
-      subst (λ (k : Run). Tame made m k n) (sym each.5) (tame_both made m x n each.1 each.2 one rest)
+      let x = each.between in
+      let first = each.earlier in
+      let one = tame_one r g pages v made m first x asked ready each.first in
+      let still = subst (λ (l : List Group). MayAsk l g pages) (sym each.first.keeps.groups) asked in
+      let rest = tame_each r g pages later (made ++ first) x each.later n still (ready_more r g pages v made m first x ready each.first) each.second in
+      subst (λ (k : Run). Tame made m k n) (sym each.steps_are) (tame_both made m x n first each.later one rest)
 
   -- where everything was tried, and what is noted then is one more `oom`
   tame_victims : (r : Option ℕ) (g pages : ℕ) (made : Run) (m : KnownMachine) (steps : Run) (n : KnownMachine) → MayAsk m.ledger.groups g pages
@@ -484,13 +485,15 @@ module _ (t : KnownTable) (MayAsk : List Group → ℕ → ℕ → Type 0) (s : 
     makes_tame [] made m steps rest n z is since whole h =
         subst (λ (y : Run × KnownMachine). Tame made m y.0 y.1) (λ i. (sym h.steps_are i, sym h.machine i)) (tame_none made m)
     makes_tame (over ∷ later) made m steps rest n z is since whole h =
-        let x = h.0 in
-        let all : IsLocalRun c.number (local_of t m c) (h.1 ++ (h.2 ++ rest)) z =
-        subst (λ (k : Run). IsLocalRun c.number (local_of t m c) k z) (ap (λ (k : Run). k ++ rest) h.6 ∙ append_assoc h.1 h.2 rest) whole in
-        let one = refused_tame over made m h.1 (h.2 ++ rest) x z is since all h.3 in
-        let on = run_rest c.number h.1 (h.2 ++ rest) (local_of t m c) (local_of t x c) z one.passes.runs all in
-        let two = makes_tame later (made ++ h.1) x h.2 rest n z (one.groups ∙ is) (passes_both t c s m x made h.1 since one.passes) on h.5 in
-        subst (λ (k : Run). Tame made m k n) (sym h.6) (tame_both made m x n h.1 h.2 one two)
+        let x = h.between in
+        let first = h.earlier in
+        let last = h.later in
+        let all : IsLocalRun c.number (local_of t m c) (first ++ (last ++ rest)) z =
+        subst (λ (k : Run). IsLocalRun c.number (local_of t m c) k z) (ap (λ (k : Run). k ++ rest) h.steps_are ∙ append_assoc first last rest) whole in
+        let one = refused_tame over made m first (last ++ rest) x z is since all h.first.refused in
+        let on = run_rest c.number first (last ++ rest) (local_of t m c) (local_of t x c) z one.passes.runs all in
+        let two = makes_tame later (made ++ first) x last rest n z (one.groups ∙ is) (passes_both t c s m x made first since one.passes) on h.second in
+        subst (λ (k : Run). Tame made m k n) (sym h.steps_are) (tame_both made m x n first last one two)
 
     pub refusal_rash : (cause : AllocFault) (made : Run) (m : KnownMachine) (steps : Run) (n : KnownMachine) (z : State) → m.ledger.groups ≡ base → Passes t c s made m
         → IsLocalRun c.number (local_of t m c) steps z → IsRefusedFor g pages cause (course t m steps n) → RashFree t MayAsk s c made steps

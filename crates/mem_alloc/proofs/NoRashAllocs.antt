@@ -21,9 +21,9 @@ use Rattle.mem_reclaim.specs.Moves.{has_kill, is_kill}
 use Rattle.mem_reclaim.proofs.LettingGo.{quiet_drain}
 use Rattle.mem_alloc.specs.declared.faults.AllocFault.{AllocFault}
 use Rattle.mem_alloc.specs.declared.faults.AllocFault.TheVariants.{Over, NoFrames, Killed}
-use Rattle.mem_alloc.specs.Stepping.{Course, course}
+use Rattle.mem_alloc.specs.Stepping.{Course, InTurn, course}
 use Rattle.mem_alloc.specs.Charging.{ChargesFrame, FillsAfterRoom, PaysForFrame, RefusesFrame, RefusesToPay, DrainsOwn}
-use Rattle.mem_alloc.specs.Rounds.{FailsInRounds, MakesRound, SucceedsInRounds}
+use Rattle.mem_alloc.specs.Rounds.{FailsInRounds, GivesInRound, MakesRound, SucceedsInRounds}
 use Rattle.mem_alloc.specs.Frames.{AllocatesFrame, FillsList, HasNoFrame, LendsBatch, LendsNoFrame}
 use Rattle.mem_alloc.specs.Blocks.{AllocatesBlock, FindsNoBlock, TakesAfterRoom, TakesAgain, TakesInRounds, TakesSecond, TriesAgain, TriesInRounds, TryFindsNone, TryTakes}
 use Rattle.mem_alloc.specs.NoRash.{NoRashKill}
@@ -39,6 +39,11 @@ no_kill_both one two a b = list_any-append (λ (e : Step × Answer). is_kill e.0
 abbrev AllQuiet : (Course Side → Type 0) → Type 0
 AllQuiet P = (way : Course Side) → P way → has_kill way.steps ≡ false
 
+turns_quiet : (First Second : Course Side → Type 0) → AllQuiet First → AllQuiet Second → AllQuiet (InTurn First Second)
+turns_quiet First Second one two way h =
+    ap has_kill h.steps_are ∙ no_kill_both h.earlier h.later (one (course way.table way.before h.earlier h.between) h.first)
+    (two (course way.table h.between h.later way.after) h.second)
+
 -- ---- rounds of reclaim
 
 module _ (want : ℕ) (Fails : Course Side → Type 0) (failing : AllQuiet Fails) where
@@ -48,21 +53,21 @@ module _ (want : ℕ) (Fails : Course Side → Type 0) (failing : AllQuiet Fails
       ap has_kill h.steps_are ∙ no_kill_both h.reclaiming h.trying h.none_killed
       (trying (course way.table (side h.reclaimed way.before.cpu) h.trying way.after) h.tries)
 
+  gives_quiet : AllQuiet (GivesInRound want Fails)
+  gives_quiet way h = round_quiet h.given Fails failing way h.round
+
   fails_quiet : (rounds : ℕ) → AllQuiet (FailsInRounds rounds want Fails)
   fails_quiet zero way h = ap has_kill h.steps_are
-  fails_quiet (suc more) way h =
-      let one = round_quiet h.0 Fails failing (course way.table way.before h.2 h.1) h.4 in
-      ap has_kill h.6 ∙ no_kill_both h.2 h.3 one (elim h.5 [
-        | inl last ↦ ap has_kill last.1.steps_are
-        | inr again ↦ fails_quiet more (course way.table h.1 h.3 way.after) again.1
-      ])
+  fails_quiet (suc more) way (inl h) = round_quiet 0 Fails failing way h
+  fails_quiet (suc more) way (inr h) =
+      turns_quiet (GivesInRound want Fails) (FailsInRounds more want Fails) gives_quiet (fails_quiet more) way h
 
   succeeds_quiet : (rounds : ℕ) (Succeeds : Course Side → Type 0) → AllQuiet Succeeds → AllQuiet (SucceedsInRounds rounds want Succeeds Fails)
   succeeds_quiet zero Succeeds succeeding way h = absurd h
   succeeds_quiet (suc more) Succeeds succeeding way (inl h) = round_quiet h.0 Succeeds succeeding way h.1
   succeeds_quiet (suc more) Succeeds succeeding way (inr h) =
-      ap has_kill h.7 ∙ no_kill_both h.2 h.3 (round_quiet h.0 Fails failing (course way.table way.before h.2 h.1) h.5)
-      (succeeds_quiet more Succeeds succeeding (course way.table h.1 h.3 way.after) h.6)
+      turns_quiet (GivesInRound want Fails) (SucceedsInRounds more want Succeeds Fails) gives_quiet
+      (succeeds_quiet more Succeeds succeeding) way h
 
 -- ---- a frame of the list
 
@@ -101,9 +106,7 @@ rounds_quiet g k (Err Killed) way h = absurd h
 
 tries_quiet : (g k : ℕ) (answer : Result ℕ AllocFault) → AllQuiet (TriesInRounds g k answer)
 tries_quiet g k answer way h =
-    ap has_kill h.steps_are ∙ no_kill_both h.first h.later
-    (finds_none_quiet g k (course way.table way.before h.first (side h.tried way.before.cpu)) h.none)
-    (rounds_quiet g k answer (course way.table (side h.tried way.before.cpu) h.later way.after) h.rounds)
+    turns_quiet (TryFindsNone g k) (TakesInRounds g k answer) (finds_none_quiet g k) (rounds_quiet g k answer) way h
 
 second_quiet : (g k : ℕ) (answer : Result ℕ AllocFault) → AllQuiet (TakesSecond g k answer)
 second_quiet g k (Ok head) way (inl h) = takes_quiet g k head way h
@@ -143,7 +146,7 @@ module _ (t : KnownTable) (MayAsk : List Group → ℕ → ℕ → Type 0) (s : 
         let on = run_rest c.number first (h.later ++ rest) (local_of t x c) (local_of t x c) z grant all in
         subst (λ (k : Run). RashFree t MayAsk s c made k) (sym h.steps_are) (rash_both t MayAsk s c made first h.later
         (rash_quiet t MayAsk s c made first refl)
-        (fills_rash (made ++ first) x h.later rest n z is (passes_both t c s x x made first since refused) on h.fills))
+        (fills_rash (made ++ first) x h.later rest n z is (passes_both t c s x x made first since refused) on h.next))
 
     refuses_rash : (sizes : Config) (cause : AllocFault) (made : Run) (x : KnownMachine) (steps : Run) (n : Side) (z : State) → x.ledger.groups ≡ s.ledger.groups → Passes t c s made x
         → IsLocalRun c.number (local_of t x c) steps z → RefusesFrame sizes g cause (course t (side x c) steps n) → RashFree t MayAsk s c made steps
@@ -155,7 +158,7 @@ module _ (t : KnownTable) (MayAsk : List Group → ℕ → ℕ → Type 0) (s : 
         let on = run_rest c.number first h.later (local_of t x c) (local_of t x c) z grant all in
         subst (λ (k : Run). RashFree t MayAsk s c made k) (sym h.steps_are) (rash_both t MayAsk s c made first h.later
         (rash_quiet t MayAsk s c made first refl)
-        (refusal_rash t MayAsk s c g 1 s.ledger.groups asks cause (made ++ first) x h.later n.machine z is (passes_both t c s x x made first since refused) on h.refuses.refuses))
+        (refusal_rash t MayAsk s c g 1 s.ledger.groups asks cause (made ++ first) x h.later n.machine z is (passes_both t c s x x made first since refused) on h.next.refuses))
 
     -- the own stock is drained
     drain_passes : (x : KnownMachine) (steps : Run) → DrainsOwn g (side s c) steps x → IsLocalRun c.number (local_of t s c) steps (local_of t x c)
@@ -178,7 +181,7 @@ module _ (t : KnownTable) (MayAsk : List Group → ℕ → ℕ → Type 0) (s : 
         let on = run_rest c.number h.first (h.later ++ rest) (local_of t s c) (local_of t h.emptied c) z h.empties.leads all in
         subst (λ (k : Run). RashFree t MayAsk s c [] k) (sym h.steps_are) (rash_both t MayAsk s c [] h.first h.later
         (rash_quiet t MayAsk s c [] h.first (drain_quiet h.emptied h.first h.drains))
-        (charges_rash sizes h.first h.emptied h.later rest n z (drain_same s h.emptied c.number h.drains.drained h.drains.drains).groups (drain_passes h.emptied h.first h.drains h.empties.leads) on h.charges))
+        (charges_rash sizes h.first h.emptied h.later rest n z (drain_same s h.emptied c.number h.drains.drained h.drains.drains).groups (drain_passes h.emptied h.first h.drains h.empties.leads) on h.next))
 
     pays_not_rash : (sizes : Config) (cause : AllocFault) (steps : Run) (n : Side) (z : State) → IsLocalRun c.number (local_of t s c) steps z
         → RefusesToPay sizes g cause (course t (side s c) steps n) → RashFree t MayAsk s c [] steps
@@ -187,7 +190,7 @@ module _ (t : KnownTable) (MayAsk : List Group → ℕ → ℕ → Type 0) (s : 
         let on = run_rest c.number h.first h.later (local_of t s c) (local_of t h.emptied c) z h.empties.leads all in
         subst (λ (k : Run). RashFree t MayAsk s c [] k) (sym h.steps_are) (rash_both t MayAsk s c [] h.first h.later
         (rash_quiet t MayAsk s c [] h.first (drain_quiet h.emptied h.first h.drains))
-        (refuses_rash sizes cause h.first h.emptied h.later n z (drain_same s h.emptied c.number h.drains.drained h.drains.drains).groups (drain_passes h.emptied h.first h.drains h.empties.leads) on h.refuses))
+        (refuses_rash sizes cause h.first h.emptied h.later n z (drain_same s h.emptied c.number h.drains.drained h.drains.drains).groups (drain_passes h.emptied h.first h.drains h.empties.leads) on h.next))
 
     pub frame_no_rash : (sizes : Config) (answer : Result ℕ AllocFault) (steps : Run) (n : Side) (z : State) → IsLocalRun c.number (local_of t s c) steps z
         → AllocatesFrame sizes g answer (course t (side s c) steps n) → NoRashKill t MayAsk s c steps
@@ -229,9 +232,9 @@ module _ (t : KnownTable) (MayAsk : List Group → ℕ → ℕ → Type 0) (s : 
         → TriesAgain g k answer (course t (side s c) steps n) → RashFree t MayAsk s c [] steps
     again_rash answer steps n z whole h =
         let all = subst (λ (r : Run). IsLocalRun c.number (local_of t s c) r z) h.steps_are whole in
-        let quiet = again_quiet g k answer (course t (side h.charged c) h.later n) h.again in
-        subst (λ (r : Run). RashFree t MayAsk s c [] r) (sym h.steps_are) (rash_both t MayAsk s c [] h.first h.later
-        (finds_none_rash h.first h.later h.charged z all h.none) (rash_quiet t MayAsk s c h.first h.later quiet))
+        let quiet = again_quiet g k answer (course t h.between h.later n) h.second in
+        subst (λ (r : Run). RashFree t MayAsk s c [] r) (sym h.steps_are) (rash_both t MayAsk s c [] h.earlier h.later
+        (finds_none_rash h.earlier h.later h.between.machine z all h.first.does) (rash_quiet t MayAsk s c h.earlier h.later quiet))
 
     pub block_no_rash : (answer : Result ℕ AllocFault) (steps : Run) (n : Side) (z : State) → IsLocalRun c.number (local_of t s c) steps z
         → AllocatesBlock g k answer (course t (side s c) steps n) → NoRashKill t MayAsk s c steps

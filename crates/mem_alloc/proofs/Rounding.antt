@@ -11,7 +11,7 @@ use Rattle.mem_reclaim.specs.Moves.{Leads}
 use Rattle.mem_reclaim.specs.Passes.{Reclaims}
 use Rattle.mem_reclaim.specs.Staying.{Keeps, MissedAll}
 use Rattle.mem_alloc.specs.Stepping.{Course, BySteps, course}
-use Rattle.mem_alloc.specs.Rounds.{MakesRound, FailsInRounds, SucceedsInRounds}
+use Rattle.mem_alloc.specs.Rounds.{FailsInRounds, GivesInRound, MakesRound, SucceedsInRounds}
 use Rattle.mem_alloc.proofs.Lowering.{Lowers, lowers_none, lowers_both, keeps_lower}
 use Rattle.mem_machine.proofs.Followed.{makes_both, makes_none}
 
@@ -63,12 +63,11 @@ module _ (t : KnownTable) (want : ℕ) (Fails : Course Side → Type 0) (failure
   pub fails_spare : (rounds : ℕ) (m n : KnownMachine) (c d : KnownCpu) (steps : Run)
       → FailsInRounds rounds want Fails (course t (side m c) steps (side n d)) → Spares t m c n d
   fails_spare zero m n c d steps h = spares_same t m n c d h.machine h.cpu
-  fails_spare (suc more) m n c d steps h =
-      let one = round_spares h.0 m h.1.machine c h.1.cpu h.2 h.4 in
-      spares_both t m h.1.machine n c h.1.cpu d one (elim h.5 [
-        | inl last ↦ spares_same t h.1.machine n h.1.cpu d last.1.machine last.1.cpu
-        | inr again ↦ fails_spare more h.1.machine n h.1.cpu d h.3 again.1
-      ])
+  fails_spare (suc more) m n c d steps (inl last) = round_spares 0 m n c d steps last
+  fails_spare (suc more) m n c d steps (inr h) =
+      let x = h.between in
+      spares_both t m x.machine n c x.cpu d (round_spares h.first.given m x.machine c x.cpu h.earlier h.first.round)
+      (fails_spare more x.machine n x.cpu d h.later h.second)
 
   -- where it succeeds in a round, this was kept before the try that succeeds
   pub record InTheEnd (Succeeds : Course Side → Type 0) (m : KnownMachine) (c : KnownCpu) (n : Side) : Type 0 where
@@ -89,13 +88,14 @@ module _ (t : KnownTable) (want : ℕ) (Fails : Course Side → Type 0) (failure
     succeeds = h.1.tries;
   }
   in_the_end Succeeds (suc more) m c n steps (inr h) =
-      let one = round_spares h.0 m h.1.machine c h.1.cpu h.2 h.5 in
-      let last = in_the_end Succeeds more h.1.machine h.1.cpu n h.3 h.6 in
+      let x = h.between in
+      let one = round_spares h.first.given m x.machine c x.cpu h.earlier h.first.round in
+      let last = in_the_end Succeeds more x.machine x.cpu n h.later h.second in
       record {
         before = last.before;
         cpu = last.cpu;
         trying = last.trying;
-        spares = spares_both t m h.1.machine last.before c h.1.cpu last.cpu one last.spares;
+        spares = spares_both t m x.machine last.before c x.cpu last.cpu one last.spares;
         succeeds = last.succeeds;
       }
 
@@ -138,7 +138,7 @@ module _ (t : KnownTable) (want : ℕ) (Fails : Course Side → Type 0) (Succeed
         )
 
     -- one round more
-    module _ (left : made < 16) (given : ℕ) (x : KnownMachine) (leads : Leads t given now x (λ steps. Reclaims 0 want given now steps x))
+    module _ (left : made < 16) (given : ℕ) (x : KnownMachine) (leads : Leads t given now x (Reclaims 0 want))
         (missed : given < want → MissedAll 0 now x) (keeps : Keeps t now x) (then : KnownMachine) (e : KnownCpu) (trying : Run)
         (tries : MakesAs t d.number (side x d) trying (side then e)) where
       next_left : suc (16 - (made + 1)) ≡ 16 - made
@@ -184,14 +184,16 @@ module _ (t : KnownTable) (want : ℕ) (Fails : Course Side → Type 0) (Succeed
         -- in which it failed, and no page came back
         pub rounds_end : given ≡ 0 → BySteps t (side m c) (side then e) (FailsInRounds 16 want Fails)
         rounds_end none =
-            let last : FailsInRounds (suc (16 - (made + 1))) want Fails (course t (side now d) (first ++ []) (side then e)) =
-            (given, side then e, first, [], round Fails does, inl (none, record { machine = refl; cpu = refl; steps_are = refl }), refl) in
-            let run = subst (λ (r : Run). MakesAs t c.number (side m c) (so.steps ++ r) (side then e)) (sym (append-nil first)) runs_on in (
-              so.steps ++ (first ++ []),
-              so.fails (first ++ []) (side then e)
-                  (subst (λ (j : ℕ). FailsInRounds j want Fails (course t (side now d) (first ++ []) (side then e))) next_left last),
-              run,
+            let last : FailsInRounds (suc (16 - (made + 1))) want Fails (course t (side now d) first (side then e)) =
+            inl (subst (λ (k : ℕ). MakesRound want k Fails (course t (side now d) first (side then e))) none (round Fails does)) in (
+              so.steps ++ first,
+              so.fails first (side then e)
+                  (subst (λ (j : ℕ). FailsInRounds j want Fails (course t (side now d) first (side then e))) next_left last),
+              runs_on,
             )
+
+        gave_pages : given ≢ 0 → GivesInRound want Fails (course t (side now d) first (side then e))
+        gave_pages gave = record { given = given; some = omega (arith, gave); round = round Fails does }
 
         -- in which it failed, and pages came back
         pub rounds_more : given ≢ 0 → Spares t x d then e → RoundsSoFar t want Fails Succeeds m c (made + 1) then e
@@ -199,13 +201,13 @@ module _ (t : KnownTable) (want : ℕ) (Fails : Course Side → Type 0) (Succeed
           steps = so.steps ++ first;
           fails = λ rest n h.
               let one : FailsInRounds (suc (16 - (made + 1))) want Fails (course t (side now d) (first ++ rest) n) =
-              (given, side then e, first, rest, round Fails does, inr (omega (arith, gave), h), refl) in
+              inr (record { between = side then e; earlier = first; later = rest; first = gave_pages gave; second = h; steps_are = refl }) in
               subst (λ (r : Run). FailsInRounds 16 want Fails (course t (side m c) r n)) (sym (append_assoc so.steps first rest))
               (so.fails (first ++ rest) n
               (subst (λ (j : ℕ). FailsInRounds j want Fails (course t (side now d) (first ++ rest) n)) next_left one));
           succeeds = λ k rest n h.
               let one : SucceedsInRounds (suc (16 - (made + 1))) want (Succeeds k) Fails (course t (side now d) (first ++ rest) n) =
-              inr (given, side then e, first, rest, omega (arith, gave), round Fails does, h, refl) in
+              inr (record { between = side then e; earlier = first; later = rest; first = gave_pages gave; second = h; steps_are = refl }) in
               subst (λ (r : Run). SucceedsInRounds 16 want (Succeeds k) Fails (course t (side m c) r n)) (sym (append_assoc so.steps first rest))
               (so.succeeds k (first ++ rest) n
               (subst (λ (j : ℕ). SucceedsInRounds j want (Succeeds k) Fails (course t (side now d) (first ++ rest) n)) next_left one));

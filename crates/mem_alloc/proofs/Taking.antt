@@ -24,7 +24,7 @@ use Rattle.mem_alloc.specs.declared.faults.AllocFault.{AllocFault}
 use Rattle.mem_alloc.specs.declared.faults.AllocFault.TheVariants.{Over, NoFrames, Killed}
 use Rattle.mem_alloc.specs.Stepping.{BySteps, course, OfMachine}
 use Rattle.mem_alloc.specs.Room.{IsCause, IsRefusedFor}
-use Rattle.mem_alloc.specs.Blocks.{TakesAfterRoom, FindsNoBlock, ChargesBlock, HasRoomStill, LeavesRoom, TakesAgain}
+use Rattle.mem_alloc.specs.Blocks.{TakesAfterRoom, FindsNoBlock, ChargesBlock, LeavesRoom, MayHaveBlock, TakesAgain}
 use Rattle.mem_alloc.specs.Blocks.{TryTakes, TryFindsNone, TakesInRounds, TriesInRounds, TakesSecond, TriesAgain, AllocatesBlock}
 use Rattle.mem_alloc.proofs.Lowering.{Lowers, same_visit, lowered_fits, usage_back, room_back}
 use Rattle.mem_alloc.proofs.Making.{RoomSoFar, so_far_none}
@@ -76,7 +76,7 @@ module _ (t : KnownTable) (g k : ℕ) (c : KnownCpu) (m x : KnownMachine) (so_fa
   )
 
   -- what a call for which no block is free leaves
-  pub room_still : TakesNoBlock x g k n → has_group m.ledger.groups g ≡ true → HasRoomFor m (2 ^ k) → HasRoomStill g k m n
+  pub room_still : TakesNoBlock x g k n → has_group m.ledger.groups g ≡ true → HasRoomFor m (2 ^ k) → MayHaveBlock g k n
   room_still none there fits =
       let ledger : n.ledger ≡ with_uncharge (with_charge x.ledger g (2 ^ k)) g (2 ^ k) = ap (λ (z : KnownMachine). z.ledger) none.machine in
       let groups : n.ledger.groups ≡ m.ledger.groups = ap (λ (z : KnownMachine). z.ledger.groups) none.machine ∙ so_far.lowers.groups in
@@ -190,7 +190,7 @@ none_spares t g k m n c d steps h = record {
 
 -- what one try that finds no block leaves
 pub none_leaves : (t : KnownTable) (g k : ℕ) (m n : KnownMachine) (c d : KnownCpu) → TakesNoBlock m g k n → is_killed m.killed g ≡ false → has_group m.ledger.groups g ≡ true
-    → HasRoomFor m (2 ^ k) → HasRoomStill g k m n
+    → HasRoomFor m (2 ^ k) → MayHaveBlock g k n
 none_leaves t g k m n c d none alive there fits = room_still t g k c m m (so_far_none t g (2 ^ k) c m alive) c refl n d none there fits
 
 -- rounds open and shut no visit
@@ -256,11 +256,11 @@ module _ (t : KnownTable) (g k : ℕ) (m x n : KnownMachine) (c y d : KnownCpu) 
         let first = subst (λ (u : KnownCpu). MakesAs t y.number (side x y) (unplaced_steps g k) (side w u)) same vain in (
           unplaced_steps g k ++ rounds.0,
           record {
-            tried = w;
-            first = unplaced_steps g k;
+            between = side w y;
+            earlier = unplaced_steps g k;
             later = rounds.0;
-            none = record { none = none; cpu = refl; steps_are = refl };
-            rounds = rounds.1;
+            first = record { none = none; cpu = refl; steps_are = refl };
+            second = rounds.1;
             steps_are = refl;
           },
           makes_both t y.number (unplaced_steps g k) rounds.0 (side x y) (side w y) (side n d) first rounds.2,
@@ -295,9 +295,9 @@ module _ (t : KnownTable) (g k : ℕ) (m : KnownMachine) (c : KnownCpu) (alive :
       → (TakesAgain g k r (course t (side x c) later (side n d)) → TriesAgain g k r (course t (side m c) (first ++ later) (side n d)))
       → MakesAs t c.number (side m c) (first ++ later) (side n d) → BySteps t (side m c) (side n d) (AllocatesBlock g k r)
   by_answer (Ok head) x n d first later told tries run = (first ++ later, (alive, inr (tries told)), run)
-  by_answer (Err (Over over)) x n d first later told tries run = absurd told.takes.rounds
+  by_answer (Err (Over over)) x n d first later told tries run = absurd told.takes.second
   by_answer (Err NoFrames) x n d first later told tries run = (first ++ later, (alive, tries told), run)
-  by_answer (Err Killed) x n d first later told tries run = absurd told.takes.rounds
+  by_answer (Err Killed) x n d first later told tries run = absurd told.takes.second
 
   -- the second one does
   pub decides_again : (r : Result ℕ AllocFault) (x n : KnownMachine) (y d : KnownCpu) → y ≡ c → BySteps t (side m c) (side x y) (OfMachine (FindsNoBlock g k))
@@ -307,4 +307,11 @@ module _ (t : KnownTable) (g k : ℕ) (m : KnownMachine) (c : KnownCpu) (alive :
       let before = subst (λ (z : KnownCpu). MakesAs t c.number (side m c) first.0 (side x z)) mine first.2 in
       let run = makes_both t c.number first.0 again.0 (side m c) (side x c) (side n d) before again.2 in
       by_answer r x n d first.0 again.0 again.1
-      (λ told. record { charged = x; first = first.0; later = again.0; none = first.1; again = told; steps_are = refl }) run
+      (λ told. record {
+        between = side x c;
+        earlier = first.0;
+        later = again.0;
+        first = record { does = first.1; cpu = refl };
+        second = told;
+        steps_are = refl;
+      }) run

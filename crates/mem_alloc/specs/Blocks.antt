@@ -10,14 +10,15 @@ use Rattle.mem_machine.specs.Lending.{TakesManyBack}
 use Rattle.mem_machine.specs.Blocks.{TakesBlock, TakesNoBlock, taken_steps, unplaced_steps}
 use Rattle.mem_machine.specs.Paying.{HasRoomFor}
 use Rattle.mem_machine.specs.Steps.{drain_list_steps}
+use Rattle.mem_reclaim.specs.declared.rounds.TheConstants.{MAX_ROUNDS}
 use Rattle.mem_alloc.specs.declared.faults.AllocFault.{AllocFault}
 use Rattle.mem_alloc.specs.declared.faults.AllocFault.TheVariants.{Over, NoFrames, Killed}
-use Rattle.mem_alloc.specs.Stepping.{Course, course, of_machine}
+use Rattle.mem_alloc.specs.Stepping.{Course, InTurn, OfMachineAlone, course, of_machine}
 use Rattle.mem_alloc.specs.Room.{MakesRoom, IsRefusedFor}
 use Rattle.mem_alloc.specs.Rounds.{FailsInRounds, SucceedsInRounds}
 use Rattle.mem_alloc.specs.Frames.{RefusesKilled}
 
--- The charge of the block may be refused first, at the groups `refused_at`, which have room then; after that the group
+-- the charge of the block may be refused first, at the groups `refused_at`, which have room then; after that the group
 -- is charged for it, and has it
 pub record TakesAfterRoom (group order head : ℕ) (way : Course KnownMachine) : Type 0 where
   pub refused_at : List ℕ
@@ -27,7 +28,8 @@ pub record TakesAfterRoom (group order head : ℕ) (way : Course KnownMachine) :
   pub takes : TakesBlock cleared group order head way.after
   pub steps_are : way.steps ≡ making ++ taken_steps group order head
 
--- so it is, but no block is free, and the pages go back
+-- the charge of the block may be refused first, at the groups `refused_at`, which have room then; after that no block
+-- is free, and the pages go back
 pub record FindsNoBlock (group order : ℕ) (way : Course KnownMachine) : Type 0 where
   pub refused_at : List ℕ
   pub cleared : KnownMachine
@@ -38,22 +40,23 @@ pub record FindsNoBlock (group order : ℕ) (way : Course KnownMachine) : Type 0
 
 -- the block is charged and taken, or the charge is refused for good, or no block is free
 abbrev pub ChargesBlock : ℕ → ℕ → Result ℕ AllocFault → Course KnownMachine → Type 0
-ChargesBlock g k (Ok head) way = TakesAfterRoom g k head way
-ChargesBlock g k (Err (Over over)) way = IsRefusedFor g (2 ^ k) (Over over) way
-ChargesBlock g k (Err NoFrames) way = FindsNoBlock g k way
-ChargesBlock g k (Err Killed) way = IsRefusedFor g (2 ^ k) Killed way
+ChargesBlock group order (Ok head) way = TakesAfterRoom group order head way
+ChargesBlock group order (Err (Over over)) way = IsRefusedFor group (2 ^ order) (Over over) way
+ChargesBlock group order (Err NoFrames) way = FindsNoBlock group order way
+ChargesBlock group order (Err Killed) way = IsRefusedFor group (2 ^ order) Killed way
 
--- what a call for which no block is free leaves: the group, which isn't killed, and room for the block
-pub record HasRoomStill (group order : ℕ) (before after : KnownMachine) : Type 0 where
-  pub there : IsTrue (has_group after.ledger.groups group)
-  pub alive : is_killed after.killed group ≡ false
-  pub fits : HasRoomFor after (2 ^ order)
-  pub room : PathHasRoom after.ledger.groups (current_of after.ledger) group (2 ^ order)
+-- no limit is in the way of a block for the group: it is there and isn't killed, the pages fit the count of all, and
+-- each limit on its path has room for them
+pub record MayHaveBlock (group order : ℕ) (machine : KnownMachine) : Type 0 where
+  pub there : IsTrue (has_group machine.ledger.groups group)
+  pub alive : is_killed machine.killed group ≡ false
+  pub fits : HasRoomFor machine (2 ^ order)
+  pub room : PathHasRoom machine.ledger.groups (current_of machine.ledger) group (2 ^ order)
 
--- no visit is opened or shut; and where no block is free, there is room for it still
+-- no visit is opened or shut; and where no block is free, no limit is in its way still
 pub record LeavesRoom (group order : ℕ) (answer : Result ℕ AllocFault) (before after : KnownMachine) : Type 0 where
   pub opened : after.seat.view.opened ≡ before.seat.view.opened
-  pub still : answer ≡ Err NoFrames → HasRoomStill group order before after
+  pub still : answer ≡ Err NoFrames → MayHaveBlock group order after
 
 -- one try: the block is charged and taken
 pub record TryTakes (group order head : ℕ) (way : Course Side) : Type 0 where
@@ -70,23 +73,19 @@ pub record TryFindsNone (group order : ℕ) (way : Course Side) : Type 0 where
 -- rounds of reclaim, each of which wants the pages of the block and is followed by a try: the block is charged and
 -- taken, or in no round is any block free
 abbrev pub TakesInRounds : ℕ → ℕ → Result ℕ AllocFault → Course Side → Type 0
-TakesInRounds g k (Ok head) way = SucceedsInRounds 16 (2 ^ k) (TryTakes g k head) (TryFindsNone g k) way
-TakesInRounds g k (Err NoFrames) way = FailsInRounds 16 (2 ^ k) (TryFindsNone g k) way
-TakesInRounds g k (Err other) way = ⊥
+TakesInRounds group order (Ok head) way =
+    SucceedsInRounds MAX_ROUNDS (2 ^ order) (TryTakes group order head) (TryFindsNone group order) way
+TakesInRounds group order (Err NoFrames) way = FailsInRounds MAX_ROUNDS (2 ^ order) (TryFindsNone group order) way
+TakesInRounds group order (Err other) way = ⊥
 
 -- a try finds no block, and this is what comes of the rounds of reclaim after it
-pub record TriesInRounds (group order : ℕ) (answer : Result ℕ AllocFault) (way : Course Side) : Type 0 where
-  pub tried : KnownMachine
-  pub first : Run
-  pub later : Run
-  pub none : TryFindsNone group order (course way.table way.before first (side tried way.before.cpu))
-  pub rounds : TakesInRounds group order answer (course way.table (side tried way.before.cpu) later way.after)
-  pub steps_are : way.steps ≡ first ++ later
+abbrev pub TriesInRounds : ℕ → ℕ → Result ℕ AllocFault → Course Side → Type 0
+TriesInRounds group order answer way = InTurn (TryFindsNone group order) (TakesInRounds group order answer) way
 
 -- the second try: the block is charged and taken, at once or after rounds of reclaim
 abbrev pub TakesSecond : ℕ → ℕ → Result ℕ AllocFault → Course Side → Type 0
-TakesSecond g k (Ok head) way = TryTakes g k head way ⊎ TriesInRounds g k (Ok head) way
-TakesSecond g k (Err cause) way = TriesInRounds g k (Err cause) way
+TakesSecond group order (Ok head) way = TryTakes group order head way ⊎ TriesInRounds group order (Ok head) way
+TakesSecond group order (Err cause) way = TriesInRounds group order (Err cause) way
 
 -- all frames of the processor's list go back to the zone, and then comes the second try
 pub record TakesAgain (group order : ℕ) (answer : Result ℕ AllocFault) (way : Course Side) : Type 0 where
@@ -101,14 +100,10 @@ pub record GetsAtOnce (group order head : ℕ) (way : Course Side) : Type 0 wher
   pub takes : TakesAfterRoom group order head (of_machine way)
   pub cpu : way.after.cpu ≡ way.before.cpu
 
--- no block is free, and this is what comes of the second try
-pub record TriesAgain (group order : ℕ) (answer : Result ℕ AllocFault) (way : Course Side) : Type 0 where
-  pub charged : KnownMachine
-  pub first : Run
-  pub later : Run
-  pub none : FindsNoBlock group order (course way.table way.before.machine first charged)
-  pub again : TakesAgain group order answer (course way.table (side charged way.before.cpu) later way.after)
-  pub steps_are : way.steps ≡ first ++ later
+-- the first try finds no block, and this is what comes of the second one
+abbrev pub TriesAgain : ℕ → ℕ → Result ℕ AllocFault → Course Side → Type 0
+TriesAgain group order answer way =
+    InTurn (OfMachineAlone (FindsNoBlock group order)) (TakesAgain group order answer) way
 
 -- the charge of the block is refused for good, for this cause, and the processor's part stays
 pub record IsNotCharged (group order : ℕ) (cause : AllocFault) (way : Course Side) : Type 0 where
@@ -118,9 +113,10 @@ pub record IsNotCharged (group order : ℕ) (cause : AllocFault) (way : Course S
 
 -- Allocates a block for the group, or tells why not
 abbrev pub AllocatesBlock : ℕ → ℕ → Result ℕ AllocFault → Course Side → Type 0
-AllocatesBlock g k (Ok head) way =
-    (is_killed way.before.machine.killed g ≡ false) × (GetsAtOnce g k head way ⊎ TriesAgain g k (Ok head) way)
-AllocatesBlock g k (Err (Over over)) way = IsNotCharged g k (Over over) way
-AllocatesBlock g k (Err NoFrames) way =
-    (is_killed way.before.machine.killed g ≡ false) × TriesAgain g k (Err NoFrames) way
-AllocatesBlock g k (Err Killed) way = RefusesKilled g way ⊎ IsNotCharged g k Killed way
+AllocatesBlock group order (Ok head) way =
+    (is_killed way.before.machine.killed group ≡ false)
+    × (GetsAtOnce group order head way ⊎ TriesAgain group order (Ok head) way)
+AllocatesBlock group order (Err (Over over)) way = IsNotCharged group order (Over over) way
+AllocatesBlock group order (Err NoFrames) way =
+    (is_killed way.before.machine.killed group ≡ false) × TriesAgain group order (Err NoFrames) way
+AllocatesBlock group order (Err Killed) way = RefusesKilled group way ⊎ IsNotCharged group order Killed way

@@ -13,8 +13,8 @@ use Rattle.mem_alloc.specs.declared.faults.AllocFault.{AllocFault}
 use Rattle.mem_alloc.specs.Stepping.{Course, course, of_machine}
 use Rattle.mem_alloc.specs.Room.{MakesRoom, IsRefusedFor}
 
--- the charge may be refused first, at the groups `refused_at`, which have room then; after that so many pages are
--- charged to the group and fill the processor's stock
+-- a charge may be refused first, at the groups `refused_at`, which have room then; after that so many pages are charged
+-- to the group and fill the processor's stock
 pub record FillsAfterRoom (group pages : ℕ) (way : Course Side) : Type 0 where
   pub refused_at : List ℕ
   pub cleared : KnownMachine
@@ -28,32 +28,27 @@ pub record RefusesOne (group : ℕ) (cause : AllocFault) (way : Course Side) : T
   pub refuses : IsRefusedFor group 1 cause (of_machine way)
   pub cpu : way.after.cpu ≡ way.before.cpu
 
--- the stock is filled at once with all the pages that it takes
+-- the processor's stock is filled at once with all the pages that it takes
 pub record FillsBatch (sizes : Config) (group : ℕ) (way : Course Side) : Type 0 where
   pub fills : Fills group sizes.stock way.before way.after
   pub steps_are : way.steps ≡ fill_steps way.before.cpu.number group sizes.stock
 
--- the limit of some group has no room for so many pages, which is no event; then one page fills the stock
-pub record FillsOne (sizes : Config) (group : ℕ) (way : Course Side) : Type 0 where
+-- the limit of some group has no room for all the pages that the stock takes, which is no event; and this comes next
+pub record LacksBatch (sizes : Config) (group : ℕ) (Next : Course Side → Type 0) (way : Course Side) : Type 0 where
   pub over : ℕ
   pub batch : IsLowestOver way.before.machine.ledger.groups (current_of way.before.machine.ledger) group
       sizes.stock over
   pub later : Run
-  pub fills : FillsAfterRoom group 1 (course way.table way.before later way.after)
+  pub next : Next (course way.table way.before later way.after)
   pub steps_are : way.steps ≡ over_steps group sizes.stock over ++ later
 
--- the stock, which is drained, is filled with pages of the group
+-- the processor's stock, which is drained, is filled with pages of the group: all that it takes, or one
 abbrev pub ChargesFrame : Config → ℕ → Course Side → Type 0
-ChargesFrame sizes g way = FillsBatch sizes g way ⊎ FillsOne sizes g way
+ChargesFrame sizes group way = FillsBatch sizes group way ⊎ LacksBatch sizes group (FillsAfterRoom group 1) way
 
--- the limit of some group has no room for so many pages, which is no event, and one page is refused for good
-pub record RefusesFrame (sizes : Config) (group : ℕ) (cause : AllocFault) (way : Course Side) : Type 0 where
-  pub over : ℕ
-  pub batch : IsLowestOver way.before.machine.ledger.groups (current_of way.before.machine.ledger) group
-      sizes.stock over
-  pub later : Run
-  pub refuses : RefusesOne group cause (course way.table way.before later way.after)
-  pub steps_are : way.steps ≡ over_steps group sizes.stock over ++ later
+-- not all the pages that the stock takes have room, and one page is refused for good
+abbrev pub RefusesFrame : Config → ℕ → AllocFault → Course Side → Type 0
+RefusesFrame sizes group cause way = LacksBatch sizes group (RefusesOne group cause) way
 
 -- the processor's stock holds no page of the group: it is drained, of `drained` pages, which go back to their group
 pub record DrainsOwn (group : ℕ) (before : Side) (steps : Run) (emptied : KnownMachine) : Type 0 where
@@ -62,33 +57,27 @@ pub record DrainsOwn (group : ℕ) (before : Side) (steps : Run) (emptied : Know
   pub drains : Drains before.machine before.cpu.number drained emptied
   pub steps_are : steps ≡ drain_steps before.cpu.number (stock_group before.machine before.cpu.number) drained
 
--- the stock holds a page of the group, and nothing changed
+-- the processor's stock holds a page of the group, and nothing changed
 pub record HasPage (group : ℕ) (way : Course Side) : Type 0 where
   pub page : HoldsPage way.before group
   pub machine : way.after.machine ≡ way.before.machine
   pub cpu : way.after.cpu ≡ way.before.cpu
   pub steps_are : way.steps ≡ []
 
--- the stock holds no page of the group: it is drained, and then filled with pages of the group
-pub record PaysAnew (sizes : Config) (group : ℕ) (way : Course Side) : Type 0 where
+-- the processor's stock holds no page of the group: it is drained, and this comes next
+pub record DrainsFirst (group : ℕ) (Next : Course Side → Type 0) (way : Course Side) : Type 0 where
   pub emptied : KnownMachine
   pub first : Run
   pub later : Run
   pub drains : DrainsOwn group way.before first emptied
   pub empties : Makes way.table way.before first (side emptied way.before.cpu)
-  pub charges : ChargesFrame sizes group (course way.table (side emptied way.before.cpu) later way.after)
+  pub next : Next (course way.table (side emptied way.before.cpu) later way.after)
   pub steps_are : way.steps ≡ first ++ later
 
 -- a page of the group is in the processor's stock: it was, or it is charged
 abbrev pub PaysForFrame : Config → ℕ → Course Side → Type 0
-PaysForFrame sizes g way = HasPage g way ⊎ PaysAnew sizes g way
+PaysForFrame sizes group way = HasPage group way ⊎ DrainsFirst group (ChargesFrame sizes group) way
 
--- the stock holds no page of the group and is drained, and a charge is refused for good
-pub record RefusesToPay (sizes : Config) (group : ℕ) (cause : AllocFault) (way : Course Side) : Type 0 where
-  pub emptied : KnownMachine
-  pub first : Run
-  pub later : Run
-  pub drains : DrainsOwn group way.before first emptied
-  pub empties : Makes way.table way.before first (side emptied way.before.cpu)
-  pub refuses : RefusesFrame sizes group cause (course way.table (side emptied way.before.cpu) later way.after)
-  pub steps_are : way.steps ≡ first ++ later
+-- the processor's stock held no page of the group, and a charge is refused for good
+abbrev pub RefusesToPay : Config → ℕ → AllocFault → Course Side → Type 0
+RefusesToPay sizes group cause way = DrainsFirst group (RefusesFrame sizes group cause) way

@@ -1,5 +1,6 @@
 -- How single frames are allocated: from the processor's list.
-use Rattle.std.specs.Prelude.{◌≡◌, ◌⊎◌, ℕ, ◌<◌, ◌≤◌, Bool, true, false, Result, Ok, Err, List, [], ◌++◌, length}
+use Rattle.std.specs.Prelude.{◌≡◌, ◌⊎◌, ℕ, ◌<◌, ◌≤◌, Bool, true, false, Result, Ok, Err}
+use Rattle.std.specs.Prelude.{List, [], ◌++◌, length}
 use Rattle.zone_blocks.specs.Areas.{HasNoneFrom}
 use Rattle.zone_sizes.specs.declared.config.Config.{Config}
 use Rattle.step_rules.specs.After.{Run}
@@ -9,6 +10,7 @@ use Rattle.mem_machine.specs.Stocks.{Drains, stock_group}
 use Rattle.mem_machine.specs.Lending.{LendsMany}
 use Rattle.mem_machine.specs.Paying.{PaysForFront}
 use Rattle.mem_machine.specs.Steps.{drain_steps, refill_steps, take_front_steps}
+use Rattle.mem_reclaim.specs.declared.rounds.TheConstants.{MAX_ROUNDS}
 use Rattle.mem_alloc.specs.declared.faults.AllocFault.{AllocFault}
 use Rattle.mem_alloc.specs.declared.faults.AllocFault.TheVariants.{Over, NoFrames, Killed}
 use Rattle.mem_alloc.specs.Stepping.{Course, course, Stays}
@@ -37,8 +39,8 @@ pub record LendsNoFrame (way : Course Side) : Type 0 where
 -- rounds of reclaim, each of which wants a page and is followed by a refill: free frames come to the list, or in no
 -- round is any frame free
 abbrev pub RefillsInRounds : ℕ → Bool → Course Side → Type 0
-RefillsInRounds batch true way = SucceedsInRounds 16 1 (LendsBatch batch) LendsNoFrame way
-RefillsInRounds batch false way = FailsInRounds 16 1 LendsNoFrame way
+RefillsInRounds batch true way = SucceedsInRounds MAX_ROUNDS 1 (LendsBatch batch) LendsNoFrame way
+RefillsInRounds batch false way = FailsInRounds MAX_ROUNDS 1 LendsNoFrame way
 
 -- the list is empty, and free frames come to it
 pub record RefillsList (sizes : Config) (way : Course Side) : Type 0 where
@@ -63,7 +65,7 @@ pub record HasNoFrame (cause : AllocFault) (way : Course Side) : Type 0 where
   pub none : HasNoneFrom way.before.machine.blocks 0
   pub reclaimed : KnownMachine
   pub reclaiming : Run
-  pub rounds : FailsInRounds 16 1 LendsNoFrame
+  pub rounds : FailsInRounds MAX_ROUNDS 1 LendsNoFrame
       (course way.table way.before reclaiming (side reclaimed way.before.cpu))
   pub none_still : HasNoneFrom reclaimed.blocks 0
   pub drained : ℕ
@@ -107,7 +109,7 @@ pub record RefusesKilled (group : ℕ) (way : Course Side) : Type 0 where
 
 -- Allocates one frame for the group, or tells why not
 abbrev pub AllocatesFrame : Config → ℕ → Result ℕ AllocFault → Course Side → Type 0
-AllocatesFrame sizes g (Ok f) way = GetsFrame sizes g f way
-AllocatesFrame sizes g (Err (Over h)) way = IsNotPaid sizes g (Over h) way
-AllocatesFrame sizes g (Err NoFrames) way = FindsNoFrame sizes g way
-AllocatesFrame sizes g (Err Killed) way = RefusesKilled g way ⊎ IsNotPaid sizes g Killed way
+AllocatesFrame sizes group (Ok frame) way = GetsFrame sizes group frame way
+AllocatesFrame sizes group (Err (Over over)) way = IsNotPaid sizes group (Over over) way
+AllocatesFrame sizes group (Err NoFrames) way = FindsNoFrame sizes group way
+AllocatesFrame sizes group (Err Killed) way = RefusesKilled group way ⊎ IsNotPaid sizes group Killed way

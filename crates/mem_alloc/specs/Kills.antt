@@ -11,29 +11,32 @@ use Rattle.mem_machine.specs.Local.{MakesForAny}
 use Rattle.mem_machine.specs.Steps.{note_oom_steps}
 use Rattle.mem_reclaim.specs.Killing.{IsKilledBy, OnlyDrains, OnlyLetsGo}
 use Rattle.mem_reclaim.specs.Victim.{IsVictim}
-use Rattle.mem_alloc.specs.Stepping.{Course, course, Rests}
+use Rattle.mem_alloc.specs.Stepping.{Course, InTurn, Rests, course}
 
 -- whether the limit of the group has room for so many pages more
 abbrev pub has_room_for : Ledger → ℕ → ℕ → Bool
-has_room_for ledger g pages = has_room ledger.groups (current_of ledger) g pages
+has_room_for ledger group pages = has_room ledger.groups (current_of ledger) group pages
 
--- the machine after it was noted that an allocation was about to fail at the group's limit: as an event, and for whoever
--- reads the notes
+-- the machine after it was noted that an allocation was about to fail at the group's limit: as an event, and for
+-- whoever reads the notes
 abbrev pub with_oom_noted_at : KnownMachine → ℕ → KnownMachine
-with_oom_noted_at m g = record m { ledger = with_oom_noted m.ledger g; notes = noted m.notes (Oom g) }
+with_oom_noted_at machine group = record machine {
+  ledger = with_oom_noted machine.ledger group;
+  notes = noted machine.notes (Oom group);
+}
 
 -- the group that asks for the pages, if one does, isn't killed
 abbrev pub IsAlive : Option ℕ → KnownMachine → Type 0
-IsAlive None m = Unit {0}
-IsAlive (Some requester) m = is_killed m.killed requester ≡ false
+IsAlive None machine = Unit {0}
+IsAlive (Some requester) machine = is_killed machine.killed requester ≡ false
 
 -- the limit of the group has no room for so many pages, and the group that asks for them isn't killed
-pub record IsWanting (requester : Option ℕ) (group pages : ℕ) (m : KnownMachine) : Type 0 where
-  pub over : has_room_for m.ledger group pages ≡ false
-  pub alive : IsAlive requester m
+pub record IsWanting (requester : Option ℕ) (group pages : ℕ) (machine : KnownMachine) : Type 0 where
+  pub over : has_room_for machine.ledger group pages ≡ false
+  pub alive : IsAlive requester machine
 
--- One kill: the pages are wanted still, and the victim of the group is killed, in a machine that is consistent and whose
--- usage is that of its accounts. What a kill keeps stays
+-- One kill: the pages are wanted still, and the victim of the group is killed, in a machine that is consistent and
+-- whose usage is that of its accounts. What a kill keeps stays
 pub record KillsOne (requester : Option ℕ) (group pages victim : ℕ) (way : Course KnownMachine) : Type 0 where
   pub wanting : IsWanting requester group pages way.before
   pub chosen : IsVictim way.before group (Some victim)
@@ -48,10 +51,9 @@ pub record KillsOne (requester : Option ℕ) (group pages victim : ℕ) (way : C
 
 -- these victims are killed, one after the other
 abbrev pub KillsEach : Option ℕ → ℕ → ℕ → List ℕ → Course KnownMachine → Type 0
-KillsEach requester g pages [] way = Rests way
-KillsEach requester g pages (victim ∷ later) way =
-    (mid : KnownMachine) × (first rest : Run) × KillsOne requester g pages victim (course way.table way.before first mid)
-    × KillsEach requester g pages later (course way.table mid rest way.after) × (way.steps ≡ first ++ rest)
+KillsEach requester group pages [] way = Rests way
+KillsEach requester group pages (victim ∷ others) way =
+    InTurn (KillsOne requester group pages victim) (KillsEach requester group pages others) way
 
 -- It is noted once as `oom` at the group, and then victims of it are killed, one after the other, until its limit has
 -- room for so many pages, or the group that asks for them is killed, or no victim is left

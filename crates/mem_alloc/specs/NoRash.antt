@@ -1,6 +1,6 @@
 -- No group is killed for a limit before everything else was tried. It is read from the steps of a call, and from the
 -- machine to which they lead.
-use Rattle.std.specs.Prelude.{◌≡◌, ◌≢◌, ℕ, ◌≤◌, ◌==◌, Bool, true, false, IsTrue, Some, None, List, ◌∷◌, ◌++◌}
+use Rattle.std.specs.Prelude.{◌≡◌, ℕ, ◌≤◌, ◌==◌, Bool, true, false, Some, List, ◌∷◌, ◌++◌}
 use Rattle.std.specs.List.{list_any}
 use Rattle.frame_word.specs.Seats.{KnownTable}
 use Rattle.stock_word.specs.Stock.{Words}
@@ -20,17 +20,18 @@ use Rattle.mem_machine.specs.Local.{IsLocalRun, local_of}
 use Rattle.mem_machine.specs.Stocks.{AreDrained}
 use Rattle.mem_reclaim.specs.Staying.{MissedAll}
 use Rattle.mem_reclaim.specs.Victim.{IsVictim}
+use Rattle.mem_alloc.specs.declared.kills.TheConstants.{MOST_KILLED_FOR}
 use Rattle.mem_alloc.specs.Kills.{has_room_for}
 use Rattle.mem_alloc.specs.Stepping.{CountsMisses, Course, course}
 
 -- the step notes at the group that an allocation was about to fail at its limit
 abbrev pub is_oom_note : ℕ → Action → Bool
-is_oom_note g (NoteOom h) = h == g
-is_oom_note g action = false
+is_oom_note group (NoteOom noted) = noted == group
+is_oom_note group action = false
 
--- one of the steps does
+-- one of the steps notes that at the group
 abbrev pub has_oom_note : ℕ → Run → Bool
-has_oom_note g steps = list_any (λ e. is_oom_note g e.0.action) steps
+has_oom_note group steps = list_any (λ e. is_oom_note group e.0.action) steps
 
 -- The machine is the one that these steps of a call left, in what steps alone don't tell: each frame's misses are those
 -- that were noted before the call and among the steps; and whoever is kept was kept for the same group when the call
@@ -42,17 +43,17 @@ pub record IsLeftBySteps (way : Course KnownMachine) : Type 0 where
   pub dirt : (f : ℕ) → HeadsKeptUnit way.after f
       → (link_at way.after.links f).is_dirty ≡ (link_at way.before.links f).is_dirty
 
--- which limit a call may kill for, and so many pages: where it charges pages to a group, up to 8, that of the group or one
--- above, for these
+-- which limit a call may kill for, and for how many pages: where it charges at most `MOST_KILLED_FOR` pages to a group,
+-- the limit of the group or of one above it, for these pages
 pub record IsChargedBelow (group pages : ℕ) (groups : List Group) (limited need : ℕ) : Type 0 where
   pub on_path : in_subtree groups limited group ≡ true
   pub need_is : need ≡ pages
-  pub few : pages ≤ 8
+  pub few : pages ≤ MOST_KILLED_FOR
 
--- The group may be killed after these steps of a call, for the limit of the group `limited`: that has no room for the
--- pages that are needed. A step notes that there as `oom`; no stock of the subtree is held; since the call began a freeze
--- of each clean unit that the subtree still keeps missed; and the group is the victim. The machine is consistent, its usage
--- that of its accounts, and it is the one that the steps left
+-- The victim may be killed after these steps of a call, for the limit of the group `limited`: that has no room for the
+-- pages that are needed. A step notes that there as `oom`; no stock of the subtree is held; since the call began a
+-- freeze of each clean unit that the subtree still keeps missed; and the group is the victim. The machine is
+-- consistent, its usage that of its accounts, and it is the one that the steps left
 pub record MayKill (table : KnownTable) (MayAsk : List Group → ℕ → ℕ → Type 0) (start : KnownMachine) (steps : Run)
     (now : KnownMachine) (victim : ℕ) : Type 0 where
   pub limited : ℕ
@@ -68,10 +69,11 @@ pub record MayKill (table : KnownTable) (MayAsk : List Group → ℕ → ℕ →
   pub charges : AreCharges now.ledger
   pub tied : IsLeftBySteps (course table start steps now)
 
--- Each kill among the steps of a call comes where the group may be killed: for each split of the list at a kill there is
--- a machine to which the steps before it lead, and there it may
+-- Each kill among the steps of a call comes where the victim may be killed: for each split of the list at a kill there
+-- is a machine to which the steps before it lead, and there it may
 abbrev pub NoRashKill : KnownTable → (List Group → ℕ → ℕ → Type 0) → KnownMachine → KnownCpu → Run → Type 0
-NoRashKill t MayAsk start cpu steps =
-    (before rest : Run) (e : Step × Answer) (victim : ℕ) → steps ≡ before ++ e ∷ rest → e.0.action ≡ Kill victim
-    → (now : KnownMachine) × IsLocalRun cpu.number (local_of t start cpu) before (local_of t now cpu)
-    × MayKill t MayAsk start before now victim
+NoRashKill table MayAsk start cpu steps =
+    (before rest : Run) (e : Step × Answer) (victim : ℕ)
+    → steps ≡ before ++ e ∷ rest → e.0.action ≡ Kill victim
+    → (now : KnownMachine) × IsLocalRun cpu.number (local_of table start cpu) before (local_of table now cpu)
+    × MayKill table MayAsk start before now victim

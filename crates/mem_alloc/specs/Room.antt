@@ -1,5 +1,5 @@
 -- What becomes of the machine where a limit has no room for a charge.
-use Rattle.std.specs.Prelude.{◌≡◌, ℕ, ◌+◌, ◌<◌, ◌≤◌, true, false, Option, Some, None, List, [], ◌∷◌, ◌++◌}
+use Rattle.std.specs.Prelude.{◌≡◌, ℕ, ◌<◌, ◌≤◌, true, false, Option, Some, None, List, [], ◌∷◌, ◌++◌}
 use Rattle.group_tree.specs.Groups.{limit_of}
 use Rattle.group_tree.specs.Room.{IsLowestOver}
 use Rattle.group_charge.specs.Charges.{Ledger, current_of, with_max_noted}
@@ -11,34 +11,38 @@ use Rattle.mem_machine.specs.Machines.{KnownMachine, is_killed}
 use Rattle.mem_machine.specs.Local.{MakesForAny}
 use Rattle.mem_machine.specs.Steps.{Drain, over_steps, note_max_steps, drain_stocks_steps}
 use Rattle.mem_machine.specs.Stocks.{DrainsAllBelow, AreDrained}
+use Rattle.mem_reclaim.specs.declared.rounds.TheConstants.{MAX_ROUNDS}
 use Rattle.mem_reclaim.specs.Moves.{has_kill}
 use Rattle.mem_reclaim.specs.Rounds.{MakesRounds, pages_missing}
 use Rattle.mem_reclaim.specs.Staying.{Keeps, MissedAll}
 use Rattle.mem_alloc.specs.declared.faults.AllocFault.{AllocFault}
 use Rattle.mem_alloc.specs.declared.faults.AllocFault.TheVariants.{Over, NoFrames, Killed}
-use Rattle.mem_alloc.specs.Stepping.{CountsMisses, Course, course, Rests}
+use Rattle.mem_alloc.specs.declared.kills.TheConstants.{MOST_KILLED_FOR}
+use Rattle.mem_alloc.specs.Stepping.{CountsMisses, Course, InTurn, Rests, course}
 -- what is killed, and whether there is room
 pub use Rattle.mem_alloc.specs.Kills.{KillsFor, has_room_for}
 
 -- the notes with one more, of the group's limit, if it has one: that it has no room for so many pages more
 abbrev pub limit_notes : Option ℕ → Ledger → ℕ → ℕ → List Note → List Note
-limit_notes None ledger g need notes = notes
-limit_notes (Some max) ledger g need notes = noted notes (Limit g max (current_of ledger g) need)
+limit_notes None ledger group need notes = notes
+limit_notes (Some max) ledger group need notes = noted notes (Limit group max (current_of ledger group) need)
 
--- the machine after that was noted
+-- the machine after its group's limit was so noted
 abbrev pub with_limit_noted : KnownMachine → ℕ → ℕ → KnownMachine
-with_limit_noted m g need = record m { notes = limit_notes (limit_of m.ledger.groups g) m.ledger g need m.notes }
-
--- the machine after it was noted that so many pages more were about to take the group's usage over its limit: for whoever
--- reads the notes, and as an event
-abbrev pub with_max_noted_at : KnownMachine → ℕ → ℕ → KnownMachine
-with_max_noted_at m g pages = record m {
-  ledger = with_max_noted m.ledger g;
-  notes = limit_notes (limit_of m.ledger.groups g) m.ledger g pages m.notes;
+with_limit_noted machine group need = record machine {
+  notes = limit_notes (limit_of machine.ledger.groups group) machine.ledger group need machine.notes;
 }
 
--- it is noted that so many pages were about to take the group's usage over its limit, and then the stocks of its subtree
--- are drained, by these steps, whoever holds the lock
+-- the machine after it was noted that so many pages more were about to take the group's usage over its limit: for
+-- whoever reads the notes, and as an event
+abbrev pub with_max_noted_at : KnownMachine → ℕ → ℕ → KnownMachine
+with_max_noted_at machine group pages = record machine {
+  ledger = with_max_noted machine.ledger group;
+  notes = limit_notes (limit_of machine.ledger.groups group) machine.ledger group pages machine.notes;
+}
+
+-- it is noted that so many pages were about to take the group's usage over its limit, and then the stocks of its
+-- subtree are drained, by these steps, whoever holds the lock
 pub record ClearsBelow (group pages : ℕ) (way : Course KnownMachine) : Type 0 where
   pub drains : List Drain
   pub all : DrainsAllBelow group way.table.cpus drains (with_max_noted_at way.before group pages) way.after
@@ -47,11 +51,11 @@ pub record ClearsBelow (group pages : ℕ) (way : Course KnownMachine) : Type 0 
   pub runs : MakesForAny way.table way.before way.steps way.after
 
 -- what is reclaimed from the group's subtree before its limit: nothing where it has none, else so many pages as are
--- missing, in at most 16 rounds
+-- missing, in at most `MAX_ROUNDS` rounds
 abbrev pub RoundsBefore : Option ℕ → ℕ → ℕ → Course KnownMachine → Type 0
-RoundsBefore None g pages way = Rests way
-RoundsBefore (Some limit) g pages way =
-    (given : ℕ) × MakesRounds g (pages_missing g pages limit) 16 given way.before way.steps way.after
+RoundsBefore None group pages way = Rests way
+RoundsBefore (Some limit) group pages way =
+    (given : ℕ) × MakesRounds group (pages_missing group pages limit) MAX_ROUNDS given way.before way.steps way.after
 
 -- the steps lead there, whoever holds the lock; none is a kill, and the misses noted are those among them
 pub record KillsNone (way : Course KnownMachine) : Type 0 where
@@ -67,11 +71,10 @@ pub record ReclaimsFor (group pages : ℕ) (way : Course KnownMachine) : Type 0 
   pub keeps : Keeps way.table way.before way.after
   pub none_killed : KillsNone way
 
--- what is done where reclaim makes no room: victims are killed for up to 8 pages, an order of at most 3, and nobody for
--- more
+-- what is done where reclaim makes no room: victims are killed for up to `MOST_KILLED_FOR` pages, and nobody for more
 pub record KillsForFew (requester group pages : ℕ) (way : Course KnownMachine) : Type 0 where
-  pub few : pages ≤ 8 → KillsFor (Some requester) group pages way
-  pub many : 8 < pages → Rests way
+  pub few : pages ≤ MOST_KILLED_FOR → KillsFor (Some requester) group pages way
+  pub many : MOST_KILLED_FOR < pages → Rests way
 
 -- The limit of the group had no room for so many pages: that is noted there as `max`, the stocks of its subtree are
 -- drained, its units are reclaimed in rounds, and then its victims are killed
@@ -99,29 +102,31 @@ pub record HasMadeRoom (requester group pages : ℕ) (after : KnownMachine) : Ty
   pub room : has_room_for after.ledger group pages ≡ true
   pub alive : is_killed after.killed requester ≡ false
 
--- it is refused at each of these groups, one after the other, and each has room for the pages then
+-- a charge is refused at the group `over`, which has room for the pages after that
+pub record MakesRoomAt (group pages over : ℕ) (way : Course KnownMachine) : Type 0 where
+  pub refused : IsRefusedAt group pages over way
+  pub room : HasMadeRoom group over pages way.after
+
+-- a charge is refused at each of these groups, one after the other, and each has room for the pages then
 abbrev pub MakesRoom : ℕ → ℕ → List ℕ → Course KnownMachine → Type 0
-MakesRoom g pages [] way = Rests way
-MakesRoom g pages (over ∷ later) way =
-    (mid : KnownMachine) × (first rest : Run) × IsRefusedAt g pages over (course way.table way.before first mid)
-    × HasMadeRoom g over pages mid × MakesRoom g pages later (course way.table mid rest way.after)
-    × (way.steps ≡ first ++ rest)
+MakesRoom group pages [] way = Rests way
+MakesRoom group pages (over ∷ others) way = InTurn (MakesRoomAt group pages over) (MakesRoom group pages others) way
 
 -- the group's limit has no room for the pages still, and the requester isn't killed
 pub record IsStillOver (requester group pages : ℕ) (after : KnownMachine) : Type 0 where
   pub still : has_room_for after.ledger group pages ≡ false
   pub alive : is_killed after.killed requester ≡ false
 
--- why a requester's charge is refused for good after it was refused at the group: that has no room for the pages still; or
--- the requester was killed
+-- why a requester's charge is refused for good after it was refused at the group: that has no room for the pages still;
+-- or the requester was killed
 abbrev pub IsCause : ℕ → ℕ → ℕ → AllocFault → KnownMachine → Type 0
 IsCause requester group pages (Over named) after = (named ≡ group) × IsStillOver requester group pages after
 IsCause requester group pages Killed after = is_killed after.killed requester ≡ true
 IsCause requester group pages NoFrames after = ⊥
 
--- It is refused for good at group `over`, for this cause, after it was noted there, the stocks of its subtree were
--- drained, units of it were reclaimed and victims of it killed. The groups `refused_at` refused it before, and have room
--- since
+-- A charge is refused for good at the group `over`, for this cause, after it was noted there, the stocks of its
+-- subtree were drained, units of it were reclaimed and victims of it killed. The groups `refused_at` refused it before,
+-- and have room since
 pub record IsRefusedFor (group pages : ℕ) (cause : AllocFault) (way : Course KnownMachine) : Type 0 where
   pub over : ℕ
   pub refused_at : List ℕ

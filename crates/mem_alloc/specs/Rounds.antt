@@ -6,11 +6,11 @@ use Rattle.mem_machine.specs.Local.{Side, side}
 use Rattle.mem_reclaim.specs.Moves.{has_kill}
 use Rattle.mem_reclaim.specs.Passes.{Reclaims}
 use Rattle.mem_reclaim.specs.Staying.{Keeps, MissedAll}
-use Rattle.mem_alloc.specs.Stepping.{CountsMisses, Course, course, Stays}
+use Rattle.mem_alloc.specs.Stepping.{CountsMisses, Course, InTurn, Stays, course}
 
--- One round: so many pages are wanted from the root's subtree, which is all groups, and `given` come back. Where they are
--- fewer, each clean unit that is still kept was tried, and missed; no group is killed. After that it is tried once more, also where none
--- came back
+-- One round: so many pages are wanted from the root's subtree, which is all groups, and `given` come back. Where they
+-- are fewer, each clean unit that is still kept was tried, and missed; no group is killed. After that it is tried once
+-- more, also where none came back
 pub record MakesRound (want given : ℕ) (Tries : Course Side → Type 0) (way : Course Side) : Type 0 where
   pub reclaimed : KnownMachine
   pub reclaiming : Run
@@ -23,23 +23,22 @@ pub record MakesRound (want given : ℕ) (Tries : Course Side → Type 0) (way :
   pub tries : Tries (course way.table (side reclaimed way.before.cpu) trying way.after)
   pub steps_are : way.steps ≡ reclaiming ++ trying
 
--- The try fails in all rounds, of which there are at most so many. One that gave no page is the last
+-- a round in which pages came back
+pub record GivesInRound (want : ℕ) (Tries : Course Side → Type 0) (way : Course Side) : Type 0 where
+  pub given : ℕ
+  pub some : 1 ≤ given
+  pub round : MakesRound want given Tries way
+
+-- the try fails in all rounds, of which there are at most so many; one that gave no page is the last
 abbrev pub FailsInRounds : ℕ → ℕ → (Course Side → Type 0) → Course Side → Type 0
 FailsInRounds zero want Fails way = Stays way
-FailsInRounds (suc more_rounds) want Fails way =
-    (given : ℕ) × (tried : Side) × (first rest : Run)
-    × MakesRound want given Fails (course way.table way.before first tried)
-    × (((given ≡ 0) × Stays (course way.table tried rest way.after))
-    ⊎ ((1 ≤ given) × FailsInRounds more_rounds want Fails (course way.table tried rest way.after)))
-    × (way.steps ≡ first ++ rest)
+FailsInRounds (suc rounds) want Fails way =
+    MakesRound want 0 Fails way ⊎ InTurn (GivesInRound want Fails) (FailsInRounds rounds want Fails) way
 
--- The try succeeds in one of the rounds, of which there are at most so many, and it fails in those before, each of
+-- the try succeeds in one of the rounds, of which there are at most so many, and it fails in those before, each of
 -- which gave pages
 abbrev pub SucceedsInRounds : ℕ → ℕ → (Course Side → Type 0) → (Course Side → Type 0) → Course Side → Type 0
 SucceedsInRounds zero want Succeeds Fails way = ⊥
-SucceedsInRounds (suc more_rounds) want Succeeds Fails way =
+SucceedsInRounds (suc rounds) want Succeeds Fails way =
     ((given : ℕ) × MakesRound want given Succeeds way)
-    ⊎ ((given : ℕ) × (tried : Side) × (first rest : Run) × (1 ≤ given)
-    × MakesRound want given Fails (course way.table way.before first tried)
-    × SucceedsInRounds more_rounds want Succeeds Fails (course way.table tried rest way.after)
-    × (way.steps ≡ first ++ rest))
+    ⊎ InTurn (GivesInRound want Fails) (SucceedsInRounds rounds want Succeeds Fails) way

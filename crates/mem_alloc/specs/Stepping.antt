@@ -1,5 +1,5 @@
 -- How a call is said by the steps that it is.
-use Rattle.std.specs.Prelude.{◌≡◌, ℕ, ◌+◌, [], Result, MatchResult}
+use Rattle.std.specs.Prelude.{◌≡◌, ℕ, ◌+◌, [], ◌++◌, Result, MatchResult}
 use Rattle.frame_word.specs.Seats.{KnownTable, misses_of}
 use Rattle.step_rules.specs.After.{Run}
 use Rattle.cpu_part.specs.Cpus.{KnownCpu}
@@ -23,23 +23,40 @@ course table before steps after = record { table = table; before = before; steps
 abbrev pub of_machine : Course Side → Course KnownMachine
 of_machine way = course way.table way.before.machine way.steps way.after.machine
 
--- this holds of what a course is for the machine
+-- this is done to the machine, whatever becomes of the processor's part
 abbrev pub OfMachine : (Course KnownMachine → Type 0) → Course Side → Type 0
-OfMachine P way = P (of_machine way)
+OfMachine Does way = Does (of_machine way)
 
--- a list of local steps with their answers leads from one side to another, and this holds of that course
+-- this is done to the machine, and the processor's part stays
+pub record OfMachineAlone (Does : Course KnownMachine → Type 0) (way : Course Side) : Type 0 where
+  pub does : Does (of_machine way)
+  pub cpu : way.after.cpu ≡ way.before.cpu
+
+-- One thing is done and then another, which begins with what the first left: the steps are those of the first and then
+-- those of the second
+pub record InTurn {Stand : Type 0} (First Second : Course Stand → Type 0) (way : Course Stand) : Type 0 where
+  pub between : Stand
+  pub earlier : Run
+  pub later : Run
+  pub first : First (course way.table way.before earlier between)
+  pub second : Second (course way.table between later way.after)
+  pub steps_are : way.steps ≡ earlier ++ later
+
+-- a list of local steps with their answers leads from one side to another, and this is done by them
 abbrev pub BySteps : KnownTable → Side → Side → (Course Side → Type 0) → Type 0
-BySteps t before after P = (steps : Run) × P (course t before steps after) × Makes t before steps after
+BySteps table before after Does =
+    (steps : Run) × Does (course table before steps after) × Makes table before steps after
 
--- a list of local steps leads from one machine to another, whoever holds the lock, and this holds of that course
+-- a list of local steps leads from one machine to another, whoever holds the lock, and this is done by them
 abbrev pub ByStepsOfAny : KnownTable → KnownMachine → KnownMachine → (Course KnownMachine → Type 0) → Type 0
-ByStepsOfAny t before after P = (steps : Run) × P (course t before steps after) × MakesForAny t before steps after
+ByStepsOfAny table before after Does =
+    (steps : Run) × Does (course table before steps after) × MakesForAny table before steps after
 
--- the course of a call that answers Ok is such a one, and where it answers a cause, it is such a one of the cause
+-- where a call answers Ok, the one thing is done by its steps, and where it answers a cause, the other for this cause
 abbrev pub ByAnswer : {T E : Type 0} → KnownTable → Side → Side → Result T E → (Course Side → Type 0)
     → (E → Course Side → Type 0) → Type 0
-ByAnswer t before after answer Does Refuses =
-    MatchResult answer (λ done. BySteps t before after Does) (λ cause. BySteps t before after (Refuses cause))
+ByAnswer table before after answer Does Refuses =
+    MatchResult answer (λ done. BySteps table before after Does) (λ cause. BySteps table before after (Refuses cause))
 
 -- the misses that the zone's seat noted of each frame grew by the freezes of it that missed among the steps
 abbrev pub CountsMisses : Course KnownMachine → Type 0
@@ -58,4 +75,4 @@ pub record Stays (way : Course Side) : Type 0 where
 
 -- a processor with nothing to settle: none of its frames is fresh or back
 abbrev pub IsSettled : KnownCpu → Type 0
-IsSettled c = (c.fresh ≡ []) × (c.back ≡ [])
+IsSettled cpu = (cpu.fresh ≡ []) × (cpu.back ≡ [])

@@ -1,13 +1,12 @@
 //! Blocks of frames: they come from the zone, and are kept units at once.
 
-ghost use Rattle.std.specs.Prelude.{◌≡◌, ◌+◌, ◌^◌, ◌≤◌, [], length, IsTrue, false};
+ghost use Rattle.std.specs.Prelude.{◌≡◌, ◌^◌, ◌≤◌, [], length, IsTrue, false};
 ghost use Rattle.group_tree.specs.Groups.{has_group};
-ghost use Rattle.group_tree.specs.Room.{PathHasRoom};
-ghost use Rattle.group_charge.specs.Charges.{current_of};
 ghost use Rattle.mem_machine.specs.Machines.{KeepsVisit, Visits, is_killed};
 ghost use Rattle.mem_machine.specs.Paying.{HasRoomFor, IsOfSize};
 ghost use Rattle.mem_alloc.specs.Stepping.{BySteps, IsSettled, OfMachine};
-ghost use Rattle.mem_alloc.specs.Blocks.{AllocatesBlock, ChargesBlock, TakesAgain, TakesInRounds, LeavesRoom};
+ghost use Rattle.mem_alloc.specs.Blocks.{AllocatesBlock, ChargesBlock, LeavesRoom, MayHaveBlock, TakesAgain};
+ghost use Rattle.mem_alloc.specs.Blocks.{TakesInRounds};
 ghost use Rattle.mem_machine.specs.Local.{side};
 
 use crate::faults::AllocFault;
@@ -59,10 +58,7 @@ fn take_in_rounds<N: BootName>(
     order: Order,
 ) -> Result<Frame, AllocFault>
     requires visit { Visits N.frames (side machine.old cpu.old) }
-    requires there { IsTrue (has_group machine.old.ledger.groups group) }
-    requires alive { is_killed machine.old.killed group ≡ false }
-    requires fits { HasRoomFor machine.old (2 ^ order) }
-    requires room { PathHasRoom machine.old.ledger.groups (current_of machine.old.ledger) group (2 ^ order) }
+    requires room { MayHaveBlock group order machine.old }
     requires none_back { cpu.old.back ≡ [] }
     ensures takes { BySteps N.frames (side machine.old cpu.old) (side machine.new cpu.new)
         (TakesInRounds group order result) }
@@ -92,10 +88,7 @@ fn take_again<N: BootName>(
     order: Order,
 ) -> Result<Frame, AllocFault>
     requires visit { Visits N.frames (side machine.old cpu.old) }
-    requires there { IsTrue (has_group machine.old.ledger.groups group) }
-    requires alive { is_killed machine.old.killed group ≡ false }
-    requires fits { HasRoomFor machine.old (2 ^ order) }
-    requires room { PathHasRoom machine.old.ledger.groups (current_of machine.old.ledger) group (2 ^ order) }
+    requires room { MayHaveBlock group order machine.old }
     requires settled { IsSettled cpu.old }
     ensures takes { BySteps N.frames (side machine.old cpu.old) (side machine.new cpu.new)
         (TakesAgain group order result) }

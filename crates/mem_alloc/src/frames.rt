@@ -88,10 +88,11 @@ fn fill_list<N: BootName>(
 /// drained and filled with `sizes.stock` pages where every limit has room for them, else with one page. Where a limit
 /// has no room for that one, room is made as `make_room` of `room` says, and `Over` and `Killed` are its refusals.
 ///
-/// Where the list is empty, up to `sizes.batch` free frames come to it. Where none is free, a page is reclaimed from the
-/// units of all groups, and free frames come to the list then: in at most 16 such rounds, of which one that gave no page
-/// is the last. `NoFrames`: none is free still, and the stock is drained again. The peaks, the notes, the drained
-/// stocks, the kills and what was reclaimed stand after a refusal. The zone has at most 65,536 frames and 64 processors.
+/// Where the list is empty, up to `sizes.batch` free frames come to it. Where none is free, a page is reclaimed from
+/// the units of all groups, and free frames come to the list then: in at most 16 such rounds, of which one that gave
+/// no page is the last. `NoFrames`: none is free still, and the stock is drained again. The peaks, the notes, the
+/// drained stocks, the kills and what was reclaimed stand after a refusal. The zone has at most 65,536 frames and 64
+/// processors.
 pub fn alloc_frame<N: BootName>(
     machine: &mut Machine<N>,
     tables: &Tables<N>,

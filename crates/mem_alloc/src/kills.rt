@@ -45,11 +45,11 @@ fn is_wanting<N: BootName>(
     }
 }
 
-/// Kills for a limit: where the limit of `group` has no room for so many pages more, that is noted once as `oom` at it,
-/// and then victims of it are killed, one after the other, until it has room, or the group that asks for the pages is
-/// killed, or no victim is left. For `requester` None no group asks, as where a limit is written: with 0 `pages` there is
-/// room then where the usage is at most the limit. Where there is room nothing is done. Modelled on what Linux does at a
-/// limit that it can't keep otherwise (cgroup-v2.rst, memory.max and memory.events).
+/// Kills for a limit: where the limit of `group` has no room for so many pages more, that is noted once as `oom` at
+/// it, and then victims of it are killed, one after the other, until it has room, or the group that asks for the
+/// pages is killed, or no victim is left. For `requester` None no group asks, as where a limit is written: with 0
+/// `pages` there is room then where the usage is at most the limit. Where there is room nothing is done. Modelled on
+/// what Linux does at a limit that it can't keep otherwise (cgroup-v2.rst, memory.max and memory.events).
 pub fn kill_for<N: BootName>(
     machine: &mut Machine<N>,
     tables: &Tables<N>,

@@ -1,6 +1,7 @@
 //! What is done where a limit has no room for a charge.
 
 ghost use Rattle.std.specs.Prelude.{◌≡◌, ◌<◌, IsTrue, MatchResult};
+ghost use Rattle.group_tree.specs.declared.group.TheConstants.{MAX_GROUPS};
 ghost use Rattle.group_tree.specs.Groups.{has_group};
 ghost use Rattle.mem_alloc.specs.Stepping.{ByStepsOfAny};
 ghost use Rattle.mem_alloc.specs.Room.{HasMadeRoom, IsCause, ReclaimsFor, RelievesLimit, with_limit_noted};
@@ -28,8 +29,8 @@ fn reclaim_for<N: BootName>(
     }
 }
 
-/// Notes for whoever reads the notes that the limit of the group, if it has one, has no room for `need` pages more; 0 where
-/// the limit was written. Nothing else changes.
+/// Notes that the limit of the group, if it has one, has no room for `need` pages more; 0 where a limit was written
+/// below the usage. The note is for whoever reads the notes of a command; nothing else changes.
 pub fn note_limit<N: BootName>(machine: &mut Machine<N>, group: GroupId, need: u32)
     requires { IsTrue (has_group machine.old.ledger.groups group) }
     ensures { machine.new ≡ with_limit_noted machine.old group need }
@@ -45,11 +46,11 @@ pub fn note_limit<N: BootName>(machine: &mut Machine<N>, group: GroupId, need: u
     }
 }
 
-// The limit of the group, the lowest on the path of `requester`, has no room for so many pages, which that asks for: it is
-// noted there (`max`), and the stocks of its subtree are drained. Where it has no room still, clean units of the subtree are
-// reclaimed in at most 16 rounds. Where that makes no room either, for up to 8 pages, an order of at most 3, `oom` is noted
-// there, and victims of the subtree are killed until it has. Where none is left, or for more pages, the charge is refused as
-// `Over`; where the requester itself was killed, as `Killed`. What was done stands after a refusal.
+// Relieves the limit of `group`, the lowest on the path of `requester` without room for so many pages. That is noted
+// (`max`), and the stocks of the subtree are drained. Where there is no room still, clean units of the subtree are
+// reclaimed, in at most 16 rounds. Where that makes none either, for up to 8 pages, an order of at most 3, `oom` is
+// noted, and victims of the subtree are killed until there is room. Where no victim is left, or for more pages, the
+// charge is refused as `Over`; where the requester itself was killed, as `Killed`. What was done stands after that.
 pub(crate) fn make_room<N: BootName>(
     machine: &mut Machine<N>,
     tables: &Tables<N>,
@@ -61,7 +62,7 @@ pub(crate) fn make_room<N: BootName>(
     ensures clears { ByStepsOfAny N.frames machine.old machine.new (RelievesLimit requester group pages) }
     ensures room { MatchResult result (λ done. HasMadeRoom requester group pages machine.new)
         (λ cause. IsCause requester group pages cause machine.new) }
-    ensures fits { group < 64 }
+    ensures below { group < MAX_GROUPS }
 {
     let _number = group.number(); // For the clauses.
     note_limit(machine, group, pages);

@@ -18,8 +18,7 @@ pub(crate) fn reclaim_anywhere<N: BootName>(
     want: u64,
 ) -> u64
     requires { want < 2 ^ 40 }
-    ensures reclaims { Leads N.frames result machine.old machine.new
-        (λ steps. Reclaims 0 want result machine.old steps machine.new) }
+    ensures reclaims { Leads N.frames result machine.old machine.new (Reclaims 0 want) }
     ensures missed { result < want → MissedAll 0 machine.old machine.new }
     ensures keeps { Keeps N.frames machine.old machine.new }
 {

@@ -50,11 +50,14 @@ killed_noted t g v m a b n told had had_is kills_a keeps_a stocks_a noted_had =
         noted = noted;
         runs = subst (λ (x : KnownMachine). MakesForAny t m kills.steps x) (sym noted)
             (λ c. record { leads = (kills.runs c).leads; follows = (kills.runs c).follows });
-        later = kills.later;
-        front = kills.front;
-        quiet = kills.quiet;
-        no_miss = kills.no_miss;
-        returned = subst (λ (x : KnownMachine). Rises m.counts.last_puts (returned_in kills.later) x.counts.last_puts) (sym noted) kills.returned;
+        once = record {
+          later = kills.once.later;
+          front = kills.once.front;
+          quiet = kills.once.quiet;
+          no_miss = kills.once.no_miss;
+          returned = subst (λ (x : KnownMachine). Rises m.counts.last_puts (returned_in kills.once.later) x.counts.last_puts) (sym noted)
+              kills.once.returned;
+        };
       };
       keeps = subst (λ (x : KnownMachine). OnlyLetsGo t m x) (sym noted) (only_lets_noted t m b note last keeps);
       stocks = subst (λ (x : KnownMachine). OnlyDrains m x) (sym noted) (record { of = stocks.of; drained = stocks.drained });

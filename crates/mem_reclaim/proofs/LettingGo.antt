@@ -468,12 +468,14 @@ all_killed t w v fits m a d b n is usage killed pages drains drained first first
             makes_both t c.number (kill_steps v) (drain_stocks_steps drains.drains ++ (first.steps ++ last.steps)) (side m c) (side a c) (side n c)
             (killed c) (makes_both t c.number (drain_stocks_steps drains.drains) (first.steps ++ last.steps) (side a c) (side d c) (side n c)
             (drains.steps c) (makes_both t c.number first.steps last.steps (side d c) (side b c) (side n c) (first.runs c) (last.runs c)));
-        later = later;
-        front = refl;
-        quiet = quiet.quiet;
-        no_miss = quiet.no_miss;
-        returned = last_puts_rise v m a d b n is unit.counts drains.drains first.steps last.steps
-            (units_rise (entries_in d v Inactive) d first.steps b first.lets_go) (units_rise (entries_in b v Active) b last.steps n last.lets_go);
+        once = record {
+          later = later;
+          front = refl;
+          quiet = quiet.quiet;
+          no_miss = quiet.no_miss;
+          returned = last_puts_rise v m a d b n is unit.counts drains.drains first.steps last.steps
+              (units_rise (entries_in d v Inactive) d first.steps b first.lets_go) (units_rise (entries_in b v Active) b last.steps n last.lets_go);
+        };
       };
       marked = last_stocks.killed ∙ first_stocks.killed ∙ unit.killed ∙ ap (λ (x : KnownMachine). x.killed) is;
       drained = λ q some few of.

@@ -27,7 +27,7 @@ use Rattle.mem_reclaim.proofs.Wanting.{rested}
 -- ---- the three cases
 
 pub meets_dirty : (t : KnownTable) (marks_count : Bool) (g : ℕ) (e : Entry) (m : KnownMachine) → e.is_dirty ≡ true
-    → Leads t 0 m m (λ steps. MeetsUnit marks_count g e 1 0 m steps m)
+    → Leads t 0 m m (MeetsUnit marks_count g e 1)
 meets_dirty t marks_count g e m dirty = record {
   steps = [];
   does = subst (λ (d : Bool). MeetsAs d (marks_count && e.is_marked) g e.number 0 m [] m) (sym dirty) (rested m);
@@ -35,7 +35,7 @@ meets_dirty t marks_count g e m dirty = record {
 }
 
 pub meets_spared : (t : KnownTable) (marks_count : Bool) (g f : ℕ) (e : Entry) (m n : KnownMachine) → e.is_dirty ≡ false → (marks_count && e.is_marked) ≡ true
-    → e.number ≡ f → RenewsUnit m g f n → MakesForAny t m [] n → Leads t 0 m n (λ steps. MeetsUnit marks_count g e 1 0 m steps n)
+    → e.number ≡ f → RenewsUnit m g f n → MakesForAny t m [] n → Leads t 0 m n (MeetsUnit marks_count g e 1)
 meets_spared t marks_count g f e m n clean spared is renews runs = record {
   steps = [];
   does = subst (λ (x : Bool × Bool × ℕ). MeetsAs x.0 x.1 g x.2 0 m [] n) (λ i. (sym clean i, sym spared i, sym is i))
@@ -45,9 +45,9 @@ meets_spared t marks_count g f e m n clean spared is renews runs = record {
 
 pub meets_tried : (t : KnownTable) (marks_count : Bool) (g f : ℕ) (e : Entry) (m n : KnownMachine) (answer : Option ℕ) (given : ℕ) → e.is_dirty ≡ false
     → (marks_count && e.is_marked) ≡ false → e.number ≡ f → Evicts m f answer n → MakesForAny t m (evict_steps f answer) n → given ≡ unwrap_or answer 0
-    → Leads t given m n (λ steps. MeetsUnit marks_count g e 1 given m steps n)
+    → Leads t given m n (MeetsUnit marks_count g e 1)
 meets_tried t marks_count g f e m n answer given clean spared is evicts runs pages =
-    subst (λ (p : ℕ). Leads t p m n (λ steps. MeetsUnit marks_count g e 1 p m steps n)) (sym pages) (record {
+    subst (λ (p : ℕ). Leads t p m n (MeetsUnit marks_count g e 1)) (sym pages) (record {
       steps = evict_steps f answer;
       does = subst (λ (x : Bool × Bool × ℕ). MeetsAs x.0 x.1 g x.2 (unwrap_or answer 0) m (evict_steps f answer) n) (λ i. (sym clean i, sym spared i, sym is i))
           (record { answer = answer; evicts = evicts; pages = refl; tries = refl });

@@ -28,8 +28,8 @@ use Rattle.mem_reclaim.proofs.Listing.{home_inside}
 -- ---- a group's first pass
 
 pub aged_leads : (t : KnownTable) (m aged n : KnownMachine) (g want given : ℕ) → AgesGroup m g aged → MakesForAny t m [] aged
-    → Leads t given aged n (λ steps. ScansList true g Inactive want given aged steps n)
-    → Leads t given m n (λ steps. AgesAndScans g want given m steps n)
+    → Leads t given aged n (ScansList true g Inactive want)
+    → Leads t given m n (AgesAndScans g want)
 aged_leads t m aged n g want given ages runs scans =
     let e : 0 + given ≡ given = omega arith in
     record {
@@ -74,16 +74,16 @@ both_missed t m k n g first last only inactive active f Active =
 -- ---- a turn
 
 pub turn_first : (t : KnownTable) (g k want given : ℕ) (m n : KnownMachine) → in_subtree m.ledger.groups g k ≡ true
-    → Leads t given m n (λ steps. AgesAndScans k want given m steps n) → Leads t given m n (λ steps. TakesTurn true g k want given m steps n)
+    → Leads t given m n (AgesAndScans k want) → Leads t given m n (TakesTurn true g k want)
 turn_first t g k want given m n inside leads = record { steps = leads.steps; does = inl (inside, leads.does); moves = leads.moves }
 
 pub turn_second : (t : KnownTable) (g k want given : ℕ) (m n : KnownMachine) → in_subtree m.ledger.groups g k ≡ true
-    → Leads t given m n (λ steps. WhileWanted (ScansList false k) (Inactive ∷ Active ∷ []) want given m steps n)
-    → Leads t given m n (λ steps. TakesTurn false g k want given m steps n)
+    → Leads t given m n (WhileWanted (ScansList false k) (Inactive ∷ Active ∷ []) want)
+    → Leads t given m n (TakesTurn false g k want)
 turn_second t g k want given m n inside leads = record { steps = leads.steps; does = inl (inside, leads.does); moves = leads.moves }
 
 pub turn_none : (t : KnownTable) (first : Bool) (g k want : ℕ) (m : KnownMachine) → in_subtree m.ledger.groups g k ≡ false
-    → Leads t 0 m m (λ steps. TakesTurn first g k want 0 m steps m)
+    → Leads t 0 m m (TakesTurn first g k want)
 turn_none t first g k want m outside = record { steps = []; does = inr (outside, rested m); moves = moves_rest t m }
 
 -- ---- a pass
@@ -114,14 +114,14 @@ range_next k lt =
 
 pub pass_more : (t : KnownTable) (first : Bool) (g want : ℕ) (m : KnownMachine) (k given : ℕ) (now : KnownMachine) → PassSoFar t first g want m k given now
     → k < 64 → given < want → (turn : ℕ) → turn ≡ k → (some : ℕ) (then : KnownMachine)
-    → Leads t some now then (λ steps. TakesTurn first g turn (want - given) some now steps then)
+    → Leads t some now then (TakesTurn first g turn (want - given))
     → Keeps t now then → current_of then.ledger g + some ≡ current_of now.ledger g → some < want - given + 2 ^ 32 → (first ≡ false → OnlyLeave now then)
     → (first ≡ false → some < want - given → in_subtree now.ledger.groups g turn ≡ true
     → (f : ℕ) (list : LruList) → IsMissed now then f (record { owner = turn; list = list }))
     → PassSoFar t first g want m (k + 1) (given + some) then
 pass_more t first g want m k given now s lt wanted turn at some then leads_turn keeps usage few leaves missed_turn =
-    let leads : Leads t some now then (λ steps. TakesTurn first g k (want - given) some now steps then) =
-    subst (λ (x : ℕ). Leads t some now then (λ steps. TakesTurn first g x (want - given) some now steps then)) at leads_turn in
+    let leads : Leads t some now then (TakesTurn first g k (want - given)) =
+    subst (λ (x : ℕ). Leads t some now then (TakesTurn first g x (want - given))) at leads_turn in
     let missed : first ≡ false → some < want - given → in_subtree now.ledger.groups g k ≡ true
     → (f : ℕ) (list : LruList) → IsMissed now then f (record { owner = k; list = list }) =
     subst (λ (x : ℕ). first ≡ false → some < want - given → in_subtree now.ledger.groups g x ≡ true
@@ -146,7 +146,7 @@ pass_more t first g want m k given now s lt wanted turn at some then leads_turn 
     }
 
 pub record PassEnds (t : KnownTable) (first : Bool) (g want : ℕ) (m : KnownMachine) (given : ℕ) (now : KnownMachine) : Type 0 where
-  pub passes : Leads t given m now (λ steps. MakesPass g first want given m steps now)
+  pub passes : Leads t given m now (MakesPass g first want)
   pub missed : first ≡ false → given < want → MissedAll g m now
 
 pub pass_enough : (t : KnownTable) (first : Bool) (g want : ℕ) (m : KnownMachine) (k given : ℕ) (now : KnownMachine) → PassSoFar t first g want m k given now

@@ -35,12 +35,12 @@ keeps_noted t m n note k = record {
 
 -- what one round left
 pub record RoundGives (t : KnownTable) (g number want : ℕ) (m : KnownMachine) (given : ℕ) (now : KnownMachine) : Type 0 where
-  pub makes : Leads t given m now (λ steps. MakesOneRound g number want given m steps now)
+  pub makes : Leads t given m now (MakesOneRound g number want)
   pub keeps : Keeps t m now
 
 -- a reclaim, and then its note
 pub round_noted : (t : KnownTable) (g number want : ℕ) (m : KnownMachine) (given : ℕ) (x n : KnownMachine)
-    → Leads t given m x (λ steps. Reclaims g want given m steps x) → Keeps t m x
+    → Leads t given m x (Reclaims g want) → Keeps t m x
     → n ≡ with_note x (round_note g number given m x) → RoundGives t g number want m given n
 round_noted t g number want m given x n leads keeps noted =
     let note = round_note g number given m x in
@@ -68,7 +68,7 @@ round_noted t g number want m given x n leads keeps noted =
 
 -- what rounds left: pages of the group's subtree, and where too few came back, no unit that wasn't tried
 pub record RoundsGive (t : KnownTable) (g need limit : ℕ) (m : KnownMachine) (given : ℕ) (now : KnownMachine) : Type 0 where
-  pub rounds : Leads t given m now (λ steps. MakesRounds g (pages_missing g need limit) 16 given m steps now)
+  pub rounds : Leads t given m now (MakesRounds g (pages_missing g need limit) 16)
   pub keeps : Keeps t m now
   pub usage : current_of now.ledger g + given ≡ current_of m.ledger g
   pub missed : limit < current_of now.ledger g + need → MissedAll g m now
@@ -101,7 +101,7 @@ module _ (t : KnownTable) (g need limit : ℕ) (m : KnownMachine) where
   module _ (made given : ℕ) (now : KnownMachine) (so : RoundsSoFar t g need limit m made given now) where
     -- nothing more is done
     ended : MakesRounds g (pages_missing g need limit) (16 - made) 0 now [] now
-        → Leads t given m now (λ steps. MakesRounds g (pages_missing g need limit) 16 given m steps now)
+        → Leads t given m now (MakesRounds g (pages_missing g need limit) 16)
     ended rest =
         let d : given + 0 ≡ given = omega arith in
         record {
@@ -137,7 +137,7 @@ module _ (t : KnownTable) (g need limit : ℕ) (m : KnownMachine) where
 
       -- one round more
       module _ (want some : ℕ) (then : KnownMachine) (tried_all : Bool) (wants : want ≡ pages_missing g need limit now.ledger) (wanted : want ≢ 0)
-          (leads : Leads t some now then (λ steps. MakesOneRound g (made + 1) want some now steps then)) (tells : tried_all ≡ nat_lt some want)
+          (leads : Leads t some now then (MakesOneRound g (made + 1) want)) (tells : tried_all ≡ nat_lt some want)
           (missed : tried_all ≡ true → MissedAll g now then) (usage : current_of then.ledger g + some ≡ current_of now.ledger g)
           (keeps : Keeps t now then) where
         does : MakesOneRound g (16 - (16 - (made + 1))) (pages_missing g need limit now.ledger) some now leads.steps then
@@ -168,7 +168,20 @@ module _ (t : KnownTable) (g need limit : ℕ) (m : KnownMachine) where
         goes_on more rest n h =
             let d : given + (some + more) ≡ given + some + more = omega arith in
             let one : MakesRounds g (pages_missing g need limit) (suc (16 - (made + 1))) (some + more) now (leads.steps ++ rest) n =
-            inr (omega (arith, wants, wanted), then, leads.steps, rest, some, more, does, h, refl, refl) in
+            inr (
+              omega (arith, wants, wanted),
+              record {
+                between = then;
+                earlier = leads.steps;
+                later = rest;
+                some = some;
+                more = more;
+                first = does;
+                second = h;
+                given_is = refl;
+                steps_are = refl;
+              },
+            ) in
             subst (λ (y : ℕ). MakesRounds g (pages_missing g need limit) 16 y m (so.steps ++ (leads.steps ++ rest)) n) d
             (so.whole (some + more) (leads.steps ++ rest) n
             (subst (λ (k : ℕ). MakesRounds g (pages_missing g need limit) k (some + more) now (leads.steps ++ rest) n) next_left one))

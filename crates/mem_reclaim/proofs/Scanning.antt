@@ -17,6 +17,7 @@ use Rattle.lru_lists.specs.Lists.{entry_after, first_entry, entry_of, entries_wi
 use Rattle.mem_machine.specs.Machines.{KnownMachine, IsConsistent, home_of}
 use Rattle.mem_machine.specs.Ageing.{entries_in}
 use Rattle.mem_reclaim.specs.Moves.{Leads}
+use Rattle.mem_reclaim.specs.Wanted.{WhileWanted}
 use Rattle.mem_reclaim.specs.Units.{MeetsUnit, ScansList}
 use Rattle.mem_reclaim.specs.Staying.{Keeps, OnlyLeave, IsMissed}
 use Rattle.mem_reclaim.proofs.Wanting.{SoFar, so_far_none, so_far_more, so_far_done, so_far_enough}
@@ -119,7 +120,7 @@ module _ (t : KnownTable) (w : Words) (marks_count : Bool) (g : ℕ) (fits : g <
   here = scan_here
 
   module _ (r : ℕ) (then : KnownMachine) (inactive : marks_count ≡ true → list ≡ Inactive) (wanted : given < want) (small : r < 2 ^ 32)
-      (leads : Leads t r now then (λ steps. MeetsUnit marks_count g u 1 r now steps then)) (keeps : Keeps t now then)
+      (leads : Leads t r now then (MeetsUnit marks_count g u 1)) (keeps : Keeps t now then)
       (usage : (x : ℕ) → in_subtree now.ledger.groups x g ≡ true → current_of then.ledger x + r ≡ current_of now.ledger x)
       (newer : Option Entry) (f : ℕ) (at : f ≡ u.number) (newer_is : newer ≡ entry_after f (entries_in now g list)) where
     now_are : entries_in now g list ≡ s.stayed ++ u ∷ (here.rest ++ s.moved)
@@ -191,12 +192,17 @@ module _ (t : KnownTable) (w : Words) (marks_count : Bool) (g : ℕ) (fits : g <
 -- ---- the end
 
 pub record ScanEnds (t : KnownTable) (marks_count : Bool) (g : ℕ) (list : LruList) (want : ℕ) (m : KnownMachine) (given : ℕ) (now : KnownMachine) : Type 0 where
-  pub scans : Leads t given m now (λ steps. ScansList marks_count g list want given m steps now)
+  pub scans : Leads t given m now (ScansList marks_count g list want)
   pub missed : marks_count ≡ false → given < want → (f : ℕ) → IsMissed m now f (record { owner = g; list = list })
 
 none_left : (todo : List Entry) (i n : ℕ) → length todo + i ≡ n → n ≤ i → todo ≡ []
 none_left [] i n left all = refl
 none_left (e ∷ es) i n left all = absurd (let a : length (e ∷ es) + i ≡ n = left in omega (arith, a, all))
+
+-- the units are those that stand on the list in the first machine
+of_list : (t : KnownTable) (marks_count : Bool) (g : ℕ) (list : LruList) (want given : ℕ) (m now : KnownMachine)
+    → Leads t given m now (WhileWanted (MeetsUnit marks_count g) (entries_in m g list) want) → Leads t given m now (ScansList marks_count g list want)
+of_list t marks_count g list want given m now h = record { steps = h.steps; does = h.does; moves = h.moves }
 
 -- all were met
 pub scan_done : (t : KnownTable) (marks_count : Bool) (g : ℕ) (list : LruList) (want : ℕ) (m : KnownMachine) (i given : ℕ) (next : Option Entry) (now : KnownMachine)
@@ -204,8 +210,8 @@ pub scan_done : (t : KnownTable) (marks_count : Bool) (g : ℕ) (list : LruList)
 scan_done t marks_count g list want m i given next now s units counted all =
     let none : s.todo ≡ [] = none_left s.todo i units (s.left ∙ sym counted) all in
     record {
-      scans = so_far_done t (MeetsUnit marks_count g) (entries_in m g list) want m given now
-          (subst (λ (l : List Entry). SoFar t (MeetsUnit marks_count g) (entries_in m g list) want m l given now) none s.so_far);
+      scans = of_list t marks_count g list want given m now (so_far_done t (MeetsUnit marks_count g) (entries_in m g list) want m given now
+          (subst (λ (l : List Entry). SoFar t (MeetsUnit marks_count g) (entries_in m g list) want m l given now) none s.so_far));
       missed = λ off less f home clean. elim (s.missed off f home clean) [
         | inl to ↦ absurd (false≢true (sym (ap (has_unit f) none) ∙ to))
         | inr rose ↦ rose
@@ -216,6 +222,7 @@ scan_done t marks_count g list want m i given next now s units counted all =
 pub scan_enough : (t : KnownTable) (marks_count : Bool) (g : ℕ) (list : LruList) (want : ℕ) (m : KnownMachine) (i given : ℕ) (next : Option Entry) (now : KnownMachine)
     → ScanSoFar t marks_count g list want m i given next now → want ≤ given → ScanEnds t marks_count g list want m given now
 scan_enough t marks_count g list want m i given next now s enough = record {
-  scans = so_far_enough t (MeetsUnit marks_count g) (entries_in m g list) want m s.todo given now s.so_far enough;
+  scans = of_list t marks_count g list want given m now
+      (so_far_enough t (MeetsUnit marks_count g) (entries_in m g list) want m s.todo given now s.so_far enough);
   missed = λ off less f home clean. absurd (omega (arith, less, enough));
 }

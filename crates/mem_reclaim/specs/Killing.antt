@@ -1,5 +1,6 @@
 -- A group is killed, and its kept units leave.
-use Rattle.std.specs.Prelude.{◌≡◌, ◌≢◌, ℕ, ◌+◌, ◌-◌, ◌≤◌, true, false, Option, Some, None, slice_set, List, [], ◌∷◌, ◌++◌, length}
+use Rattle.std.specs.Prelude.{◌≡◌, ◌≢◌, ℕ, ◌+◌, ◌-◌, ◌≤◌, true, false, Option, Some, None, List, [], ◌∷◌, ◌++◌}
+use Rattle.std.specs.Prelude.{length, slice_set}
 use Rattle.frame_word.specs.Seats.{KnownTable, misses_of}
 use Rattle.group_charge.specs.Charges.{current_of, with_kill_noted}
 use Rattle.lru_lists.specs.declared.record.Entry.{Entry}
@@ -10,7 +11,8 @@ use Rattle.step_rules.specs.After.{Run}
 use Rattle.mem_machine.specs.declared.releasing.Released.{Released}
 use Rattle.kill_notes.specs.declared.note.Note.{Note}
 use Rattle.kill_notes.specs.declared.note.Note.TheVariants.{Killed}
-use Rattle.mem_machine.specs.Machines.{HeadsKeptUnit, KnownMachine, Visits, active_in, home_of, inactive_in, side, with_note}
+use Rattle.mem_machine.specs.Machines.{HeadsKeptUnit, KnownMachine, Visits, active_in, home_of, inactive_in, side}
+use Rattle.mem_machine.specs.Machines.{with_note}
 use Rattle.mem_machine.specs.Local.{MakesForAny}
 use Rattle.mem_machine.specs.Releasing.{Releases, release_steps}
 use Rattle.mem_machine.specs.Steps.{Drain, drain_stocks_steps, kill_steps}
@@ -20,15 +22,15 @@ use Rattle.mem_reclaim.specs.declared.noting.Having.{Having}
 use Rattle.mem_reclaim.specs.Staying.{OnlyLeave}
 use Rattle.mem_reclaim.specs.Victim.{IsNext, own_frames, victim_note}
 
--- The units leave their lists in this order, and the zone's reference on each is put: one without another reference comes
--- back, its frames are free and its pages uncharged; any other stays charged, kept by no one
+-- The units leave their lists in this order, and the zone's reference on each is put: one without another reference
+-- comes back, its frames are free and its pages uncharged; any other stays charged, kept by no one
 abbrev pub LetsGoAll : List Entry → KnownMachine → Run → KnownMachine → Type 0
 LetsGoAll [] before steps after = (after ≡ before) × (steps ≡ [])
-LetsGoAll (e ∷ later) before steps after =
-    (between : KnownMachine) × (left : Released) × (rest : Run) × Releases before e.number left between
-    × LetsGoAll later between rest after × (steps ≡ release_steps e.number left ++ rest)
+LetsGoAll (unit ∷ others) before steps after =
+    (between : KnownMachine) × (left : Released) × (later : Run) × Releases before unit.number left between
+    × LetsGoAll others between later after × (steps ≡ release_steps unit.number left ++ later)
 
--- so it is by some steps, whoever holds the lock
+-- the units are let go by some steps, whoever holds the lock
 pub record LetsGoBySteps (table : KnownTable) (units : List Entry) (before after : KnownMachine) : Type 0 where
   pub steps : Run
   pub lets_go : LetsGoAll units before steps after
@@ -36,79 +38,87 @@ pub record LetsGoBySteps (table : KnownTable) (units : List Entry) (before after
 
 -- the group counts as killed, and one kill more is noted at it
 abbrev pub with_killed : KnownMachine → ℕ → KnownMachine
-with_killed m v = record m { ledger = with_kill_noted m.ledger v; killed = slice_set m.killed v true }
+with_killed machine group = record machine {
+  ledger = with_kill_noted machine.ledger group;
+  killed = slice_set machine.killed group true;
+}
 
--- Group v is killed. First it counts as killed; then its own stocks are drained, one processor after the other; then its
--- kept units leave, dirty ones too, the inactive ones first, and of each list the oldest first
-pub record KillsGroup (table : KnownTable) (v : ℕ) (before : KnownMachine) (steps : Run) (after : KnownMachine) : Type 0 where
+-- A group is killed. First it counts as killed; then its own stocks are drained, one processor after the other; then
+-- its kept units leave, dirty ones too, the inactive ones first, and of each list the oldest first
+pub record KillsGroup (table : KnownTable) (group : ℕ) (before : KnownMachine) (steps : Run)
+    (after : KnownMachine) : Type 0 where
   pub drained : KnownMachine
   pub between : KnownMachine
   pub drains : List Drain
   pub first : Run
   pub last : Run
-  pub stocks : DrainsAllIf (of_group v) table.cpus drains (with_killed before v) drained
-  pub inactive : LetsGoAll (inactive_in drained v) drained first between
-  pub active : LetsGoAll (active_in between v) between last after
-  pub steps_are : steps ≡ kill_steps v ++ (drain_stocks_steps drains ++ (first ++ last))
+  pub stocks : DrainsAllIf (of_group group) table.cpus drains (with_killed before group) drained
+  pub inactive : LetsGoAll (inactive_in drained group) drained first between
+  pub active : LetsGoAll (active_in between group) between last after
+  pub steps_are : steps ≡ kill_steps group ++ (drain_stocks_steps drains ++ (first ++ last))
 
--- so it is by some steps, whoever holds the lock: first the kill, which is the only one among them, and none is a freeze that
--- missed. The last puts that the machine counts grew by the units that they return
-pub record KillsBySteps (table : KnownTable) (v : ℕ) (before after : KnownMachine) : Type 0 where
-  pub steps : Run
-  pub kills : KillsGroup table v before steps after
-  pub runs : MakesForAny table before steps after
+-- Of these steps the kill of the group is the first, and the only one; none is a freeze that missed; and the last puts
+-- that the machine counts grew by the units that they return
+pub record KillsOnce (group : ℕ) (before : KnownMachine) (steps : Run) (after : KnownMachine) : Type 0 where
   pub later : Run
-  pub front : steps ≡ kill_steps v ++ later
+  pub front : steps ≡ kill_steps group ++ later
   pub quiet : has_kill later ≡ false
   pub no_miss : (f : ℕ) → missed_in f later ≡ 0
   pub returned : Rises before.counts.last_puts (returned_in later) after.counts.last_puts
+
+-- a group is killed by some steps, whoever holds the lock
+pub record KillsBySteps (table : KnownTable) (group : ℕ) (before after : KnownMachine) : Type 0 where
+  pub steps : Run
+  pub kills : KillsGroup table group before steps after
+  pub runs : MakesForAny table before steps after
+  pub once : KillsOnce group before steps after
 
 -- how many kept units the group has
 abbrev pub kept_units : KnownMachine → ℕ → ℕ
-kept_units m v = length (inactive_in m v) + length (active_in m v)
+kept_units machine group = length (inactive_in machine group) + length (active_in machine group)
 
--- what it has before it is killed: how often a unit was put last so far, its frames, and its kept units
+-- what a group has before it is killed: how often a unit was put last so far, its frames, and its kept units
 abbrev pub having_of : KnownMachine → ℕ → Having
-having_of m v = record { last_puts = m.counts.last_puts; frames = own_frames m v; units = kept_units m v }
+having_of machine group = record {
+  last_puts = machine.counts.last_puts;
+  frames = own_frames machine group;
+  units = kept_units machine group;
+}
 
--- what is noted of group v that is killed for group `limited`, by what it had before: of its kept units those that came
--- back were put last, and the others are pinned; its frames either came back or stay charged to it
+-- what is noted of a group that was killed for the group `limited`, by what it had before: of its kept units those that
+-- came back were put last, and the others are pinned; its frames either came back or stay charged to it
 abbrev pub killed_note : ℕ → ℕ → Having → KnownMachine → Note
-killed_note limited v had after =
-    Killed v (after.counts.last_puts - had.last_puts) (had.frames - own_frames after v)
-    (had.units - (after.counts.last_puts - had.last_puts)) (own_frames after v) (current_of after.ledger limited)
+killed_note limited group had after =
+    Killed group (after.counts.last_puts - had.last_puts) (had.frames - own_frames after group)
+    (had.units - (after.counts.last_puts - had.last_puts)) (own_frames after group) (current_of after.ledger limited)
 
--- Group v is killed for group `limited`: it is noted who is the victim and why; it is killed; and what became of its
--- units is noted. Of these steps the kill is the first, and the only one; none is a freeze that missed; and the last puts
--- that the machine counts grew by the units that they return
-pub record IsKilledBy (table : KnownTable) (limited v : ℕ) (before after : KnownMachine) : Type 0 where
+-- A victim is killed for the group `limited`, by some steps, whoever holds the lock: it is noted who is the victim and
+-- why; it is killed; and what became of its units is noted
+pub record IsKilledBy (table : KnownTable) (limited victim : ℕ) (before after : KnownMachine) : Type 0 where
   pub next : ℕ
-  pub follows : IsNext before limited v next
+  pub follows : IsNext before limited victim next
   pub killed : KnownMachine
   pub steps : Run
-  pub kills : KillsGroup table v (with_note before (victim_note before limited v next)) steps killed
-  pub noted : after ≡ with_note killed (killed_note limited v (having_of before v) killed)
+  pub kills : KillsGroup table victim (with_note before (victim_note before limited victim next)) steps killed
+  pub noted : after ≡ with_note killed (killed_note limited victim (having_of before victim) killed)
   pub runs : MakesForAny table before steps after
-  pub later : Run
-  pub front : steps ≡ kill_steps v ++ later
-  pub quiet : has_kill later ≡ false
-  pub no_miss : (f : ℕ) → missed_in f later ≡ 0
-  pub returned : Rises before.counts.last_puts (returned_in later) after.counts.last_puts
+  pub once : KillsOnce victim before steps after
 
 -- the victim for the group, if there is one, is killed; else nothing changed
 abbrev pub KillsVictim : KnownTable → ℕ → Option ℕ → KnownMachine → KnownMachine → Type 0
-KillsVictim t limited None before after = after ≡ before
-KillsVictim t limited (Some v) before after = IsKilledBy t limited v before after
+KillsVictim table limited None before after = after ≡ before
+KillsVictim table limited (Some victim) before after = IsKilledBy table limited victim before after
 
--- Groups with their limits and every visit stay, and no visit is opened or shut. No usage rises. Who is kept was kept on the same list, and is
--- as dirty as it was. No unit is frozen, so no miss is noted
+-- What stays where units are let go. Groups with their limits and every visit stay, and no visit is opened or shut. No
+-- usage rises. Who is kept was kept on the same list, and is as dirty as it was. No unit is frozen, so no miss is noted
 pub record OnlyLetsGo (table : KnownTable) (before after : KnownMachine) : Type 0 where
   pub groups : after.ledger.groups ≡ before.ledger.groups
   pub opened : after.seat.view.opened ≡ before.seat.view.opened
   pub usage : (g : ℕ) → current_of after.ledger g ≤ current_of before.ledger g
   pub visit : (cpu : KnownCpu) → Visits table (side before cpu) → Visits table (side after cpu)
   pub leaves : OnlyLeave before after
-  pub dirt : (f : ℕ) → HeadsKeptUnit after f → (link_at after.links f).is_dirty ≡ (link_at before.links f).is_dirty
+  pub dirt : (f : ℕ) → HeadsKeptUnit after f
+      → (link_at after.links f).is_dirty ≡ (link_at before.links f).is_dirty
   pub misses : (f : ℕ) → misses_of after.seat f ≡ misses_of before.seat f
 
 -- what each processor's stock is stays, and who is killed
@@ -123,4 +133,4 @@ pub record OnlyDrains (before after : KnownMachine) : Type 0 where
 
 -- no unit is kept for the group
 abbrev pub KeepsNone : ℕ → KnownMachine → Type 0
-KeepsNone v m = (f : ℕ) (h : Home) → home_of m.links f ≡ Some h → h.owner ≢ v
+KeepsNone group machine = (f : ℕ) (home : Home) → home_of machine.links f ≡ Some home → home.owner ≢ group

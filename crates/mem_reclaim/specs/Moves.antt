@@ -13,16 +13,18 @@ use Rattle.step_rules.specs.State.{State}
 use Rattle.step_rules.specs.After.{Run, after, unit_size}
 use Rattle.mem_machine.specs.Machines.{KnownMachine}
 use Rattle.mem_machine.specs.Local.{MakesForAny, local_of}
+use Rattle.mem_reclaim.specs.Wanted.{Reclaiming}
 
 -- how many pages come back by this pair: those of the unit that is returned
 abbrev pub pages_back : State → Action → Answer → ℕ
-pages_back s (Return f) Done = unit_size (unit_of (s.phases f))
-pages_back s action answer = 0
+pages_back state (Return frame) Done = unit_size (unit_of (state.phases frame))
+pages_back state action answer = 0
 
 -- how many pages come back by these steps, from this state on
 abbrev pub pages_returned : State → Run → ℕ
-pages_returned s [] = 0
-pages_returned s (e ∷ rest) = pages_back s e.0.action e.1 + pages_returned (after s e.0.seat e.0.action e.1) rest
+pages_returned state [] = 0
+pages_returned state (e ∷ rest) =
+    pages_back state e.0.action e.1 + pages_returned (after state e.0.seat e.0.action e.1) rest
 
 -- the pair is a freeze of the frame that missed
 abbrev pub is_miss : ℕ → Action → Answer → Bool
@@ -64,10 +66,11 @@ is_kill action = false
 abbrev pub has_kill : Run → Bool
 has_kill steps = list_any (λ e. is_kill e.0.action) steps
 
--- Whoever holds the lock, these steps lead from one machine to the other; so many pages come back by them; none of them is a kill;
--- the misses that the zone's seat noted of each frame grew by those among them; and the freezes and the misses that the
--- machine counts, by the units that they return and by all misses among them
-pub record Moves (table : KnownTable) (before : KnownMachine) (given : ℕ) (steps : Run) (after : KnownMachine) : Type 0 where
+-- Whoever holds the lock, these steps lead from one machine to the other; so many pages come back by them; none of them
+-- is a kill; the misses that the zone's seat noted of each frame grew by those among them; and the freezes and the
+-- misses that the machine counts, by the units that they return and by all misses among them
+pub record Moves (table : KnownTable) (before : KnownMachine) (given : ℕ) (steps : Run)
+    (after : KnownMachine) : Type 0 where
   pub runs : MakesForAny table before steps after
   pub pages : (cpu : KnownCpu) → pages_returned (local_of table before cpu) steps ≡ given
   pub quiet : has_kill steps ≡ false
@@ -75,8 +78,8 @@ pub record Moves (table : KnownTable) (before : KnownMachine) (given : ℕ) (ste
   pub returned : Rises before.counts.freezes (returned_in steps) after.counts.freezes
   pub missed : Rises before.counts.misses (all_missed_in steps) after.counts.misses
 
--- some list of steps does this
-pub record Leads (table : KnownTable) (given : ℕ) (before after : KnownMachine) (Does : Run → Type 0) : Type 0 where
+-- some list of steps leads from the one machine to the other and gives so many pages, and this may be said of it
+pub record Leads (table : KnownTable) (given : ℕ) (before after : KnownMachine) (Does : Reclaiming) : Type 0 where
   pub steps : Run
-  pub does : Does steps
+  pub does : Does given before steps after
   pub moves : Moves table before given steps after

@@ -1,43 +1,48 @@
 -- Rounds of reclaim, as long as pages are missing.
-use Rattle.std.specs.Prelude.{◌≡◌, ℕ, zero, suc, ◌+◌, ◌-◌, ◌≤◌, ◌⊎◌, ◌++◌}
+use Rattle.std.specs.Prelude.{◌≡◌, ℕ, zero, suc, ◌+◌, ◌-◌, ◌≤◌, ◌⊎◌}
 use Rattle.group_charge.specs.Charges.{Ledger, current_of}
 use Rattle.step_rules.specs.After.{Run}
 use Rattle.kill_notes.specs.declared.note.Note.{Note}
 use Rattle.kill_notes.specs.declared.note.Note.TheVariants.{Round}
 use Rattle.mem_machine.specs.Machines.{KnownMachine, with_note}
+use Rattle.mem_reclaim.specs.declared.rounds.TheConstants.{MAX_ROUNDS}
 use Rattle.mem_reclaim.specs.Moves.{Rises, all_missed_in, returned_in}
-use Rattle.mem_reclaim.specs.Wanted.{GivesNothing}
+use Rattle.mem_reclaim.specs.Wanted.{BothGive, GivesNothing, Reclaiming}
 use Rattle.mem_reclaim.specs.Passes.{Reclaims}
 
 -- how many pages must come back from the group's subtree, so that with `need` pages more its usage is at most the limit
 abbrev pub pages_missing : ℕ → ℕ → ℕ → Ledger → ℕ
 pages_missing group need limit ledger = current_of ledger group + need - limit
 
--- what is noted of a round of this number for the group, which led from the one machine to the other, and in which so many
--- pages came back
+-- what is noted of a round of this number for the group, which led from the one machine to the other, and in which so
+-- many pages came back
 abbrev pub round_note : ℕ → ℕ → ℕ → KnownMachine → KnownMachine → Note
 round_note group number pages before after =
     Round number (after.counts.freezes - before.counts.freezes) (after.counts.misses - before.counts.misses) pages
     (current_of after.ledger group)
 
--- One round, of this number, and then it is noted. The counts whose difference the note tells grew by the units that the
--- round's steps return, and by the freezes among them that missed
-pub record MakesOneRound (group number want given : ℕ) (before : KnownMachine) (steps : Run) (after : KnownMachine) : Type 0 where
+-- One round, of this number, and then it is noted. The counts whose difference the note tells grew by the units that
+-- the round's steps return, and by the freezes among them that missed
+pub record MakesOneRound (group number want given : ℕ) (before : KnownMachine) (steps : Run)
+    (after : KnownMachine) : Type 0 where
   pub reclaimed : KnownMachine
   pub reclaims : Reclaims group want given before steps reclaimed
   pub noted : after ≡ with_note reclaimed (round_note group number given before reclaimed)
   pub returned : Rises before.counts.freezes (returned_in steps) reclaimed.counts.freezes
   pub missed : Rises before.counts.misses (all_missed_in steps) reclaimed.counts.misses
 
--- Rounds of reclaim from the group's subtree, at most so many of 16, where `missing` tells how many pages are missing. Each
--- round wants the pages that are missing when it begins. They end as soon as none is missing, and after a round that
--- gave none
-abbrev pub MakesRounds : ℕ → (Ledger → ℕ) → ℕ → ℕ → KnownMachine → Run → KnownMachine → Type 0
+-- what is done after a round that gave `some` pages: nothing where it gave none
+abbrev pub UnlessNone : Reclaiming → ℕ → Reclaiming
+UnlessNone Does some given before steps after =
+    ((some ≡ 0) × GivesNothing given before steps after) ⊎ ((1 ≤ some) × Does given before steps after)
+
+-- Rounds of reclaim from the group's subtree, at most so many of `MAX_ROUNDS`, where `missing` tells how many pages are
+-- missing. Each round wants the pages that are missing when it begins. They end as soon as none is missing, and after a
+-- round that gave none
+abbrev pub MakesRounds : ℕ → (Ledger → ℕ) → ℕ → Reclaiming
 MakesRounds group missing zero given before steps after = GivesNothing given before steps after
-MakesRounds group missing (suc more_rounds) given before steps after =
+MakesRounds group missing (suc rounds) given before steps after =
     ((missing before.ledger ≡ 0) × GivesNothing given before steps after)
-    ⊎ ((1 ≤ missing before.ledger) × (between : KnownMachine) × (first rest : Run) × (some more : ℕ)
-    × MakesOneRound group (16 - more_rounds) (missing before.ledger) some before first between
-    × (((some ≡ 0) × GivesNothing more between rest after)
-    ⊎ ((1 ≤ some) × MakesRounds group missing more_rounds more between rest after))
-    × (given ≡ some + more) × (steps ≡ first ++ rest))
+    ⊎ ((1 ≤ missing before.ledger)
+    × BothGive (MakesOneRound group (MAX_ROUNDS - rounds) (missing before.ledger))
+    (UnlessNone (MakesRounds group missing rounds)) given before steps after)

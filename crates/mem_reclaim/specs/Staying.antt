@@ -1,10 +1,11 @@
 -- What stays in every reclaim, and what was tried.
-use Rattle.std.specs.Prelude.{◌≡◌, ◌≢◌, ℕ, ◌<◌, ◌≤◌, true, false, Some, None, List}
+use Rattle.std.specs.Prelude.{◌≡◌, ◌≢◌, ℕ, ◌+◌, ◌<◌, ◌≤◌, true, false, Some, None, List}
 use Rattle.frame_word.specs.Seats.{KnownTable, misses_of}
 use Rattle.group_tree.specs.Groups.{in_subtree}
 use Rattle.group_charge.specs.Charges.{current_of}
 use Rattle.lru_lists.specs.declared.record.Link.{Link}
 use Rattle.lru_lists.specs.declared.record.Home.{Home}
+use Rattle.lru_lists.specs.declared.record.LruList.{LruList}
 use Rattle.lru_lists.specs.Queue.{link_at}
 use Rattle.lru_lists.specs.Lists.{owner_of}
 use Rattle.cpu_part.specs.Cpus.{KnownCpu}
@@ -15,8 +16,9 @@ pub record IsDirtyUnit (links : List Link) (frame : ℕ) : Type 0 where
   pub kept : home_of links frame ≢ None
   pub dirty : (link_at links frame).is_dirty ≡ true
 
--- Stocks, killed groups, groups with their limits, and every visit stay, and none is opened or shut. No usage rises. No
--- dirty unit comes back. Who is kept was kept for the same group, as dirty as it is now. No miss is forgotten
+-- What a reclaim keeps. Stocks, killed groups, groups with their limits, and every visit stay, and none is opened or
+-- shut. No usage rises. No dirty unit comes back. Who is kept was kept for the same group, as dirty as it is now. No
+-- miss is forgotten
 pub record Keeps (table : KnownTable) (before after : KnownMachine) : Type 0 where
   pub stock : after.stock ≡ before.stock
   pub killed : after.killed ≡ before.killed
@@ -25,18 +27,39 @@ pub record Keeps (table : KnownTable) (before after : KnownMachine) : Type 0 whe
   pub usage : (g : ℕ) → current_of after.ledger g ≤ current_of before.ledger g
   pub visit : (cpu : KnownCpu) → Visits table (side before cpu) → Visits table (side after cpu)
   pub dirty : (f : ℕ) → IsDirtyUnit before.links f → IsDirtyUnit after.links f
-  pub owners : (f : ℕ) → HeadsKeptUnit after f → owner_of (home_of after.links f) ≡ owner_of (home_of before.links f)
-  pub dirt : (f : ℕ) → HeadsKeptUnit after f → (link_at after.links f).is_dirty ≡ (link_at before.links f).is_dirty
+  pub owners : (f : ℕ) → HeadsKeptUnit after f
+      → owner_of (home_of after.links f) ≡ owner_of (home_of before.links f)
+  pub dirt : (f : ℕ) → HeadsKeptUnit after f
+      → (link_at after.links f).is_dirty ≡ (link_at before.links f).is_dirty
   pub misses : (f : ℕ) → misses_of before.seat f ≤ misses_of after.seat f
 
 -- no unit came onto a list: who stands on one stood there
 abbrev pub OnlyLeave : KnownMachine → KnownMachine → Type 0
-OnlyLeave before after = (f : ℕ) (h : Home) → home_of after.links f ≡ Some h → home_of before.links f ≡ Some h
+OnlyLeave before after =
+    (f : ℕ) (home : Home) → home_of after.links f ≡ Some home → home_of before.links f ≡ Some home
+
+-- The usage of the group, and of each group above it, fell by so many pages
+abbrev pub UsageFalls : ℕ → ℕ → KnownMachine → KnownMachine → Type 0
+UsageFalls group pages before after =
+    (g : ℕ) → in_subtree before.ledger.groups g group ≡ true
+    → current_of after.ledger g + pages ≡ current_of before.ledger g
 
 -- a freeze of the frame missed in between, if it heads a clean unit that is still kept on this list
 abbrev pub IsMissed : KnownMachine → KnownMachine → ℕ → Home → Type 0
-IsMissed before after f h = home_of after.links f ≡ Some h → (link_at after.links f).is_dirty ≡ false → misses_of before.seat f < misses_of after.seat f
+IsMissed before after f home =
+    home_of after.links f ≡ Some home → (link_at after.links f).is_dirty ≡ false
+    → misses_of before.seat f < misses_of after.seat f
+
+-- a freeze of each clean unit that still stands on this list of the group missed in between
+abbrev pub MissedOnList : ℕ → LruList → KnownMachine → KnownMachine → Type 0
+MissedOnList group list before after = (f : ℕ) → IsMissed before after f (record { owner = group; list = list })
+
+-- a freeze of each clean unit that the group still keeps missed in between
+abbrev pub MissedOfGroup : ℕ → KnownMachine → KnownMachine → Type 0
+MissedOfGroup group before after =
+    (f : ℕ) (list : LruList) → IsMissed before after f (record { owner = group; list = list })
 
 -- a freeze of each clean unit that the subtree still keeps missed in between
 abbrev pub MissedAll : ℕ → KnownMachine → KnownMachine → Type 0
-MissedAll g before after = (f : ℕ) (h : Home) → in_subtree after.ledger.groups g h.owner ≡ true → IsMissed before after f h
+MissedAll group before after =
+    (f : ℕ) (home : Home) → in_subtree after.ledger.groups group home.owner ≡ true → IsMissed before after f home

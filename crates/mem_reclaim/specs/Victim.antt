@@ -8,63 +8,65 @@ use Rattle.kill_notes.specs.declared.note.Note.{Note}
 use Rattle.kill_notes.specs.declared.note.Note.TheVariants.{Victim}
 use Rattle.mem_machine.specs.Machines.{KnownMachine, is_killed, frames_charged}
 
--- group v is g or lies below it, and isn't killed
+-- the other group is the group or lies below it, and isn't killed
 abbrev pub may_be_killed : KnownMachine → ℕ → ℕ → Bool
-may_be_killed m g v = in_subtree m.ledger.groups g v && not (is_killed m.killed v)
+may_be_killed machine group other = in_subtree machine.ledger.groups group other && not (is_killed machine.killed other)
 
--- The frames by which the victim is chosen: those charged to the group itself. Frames of units that aren't kept any more
--- count, and a processor's fresh frames don't
+-- The frames by which the victim is chosen: those charged to the group itself. Frames of units that aren't kept any
+-- more count, and a processor's fresh frames don't
 abbrev pub own_frames : KnownMachine → ℕ → ℕ
-own_frames m v = frames_charged m.spots v
+own_frames machine group = frames_charged machine.spots group
 
--- among the groups that the test chooses, v has the most frames of its own, and the least number of those that have so
--- many
-pub record HasMost (m : KnownMachine) (test : ℕ → Bool) (v : ℕ) : Type 0 where
-  pub chosen : test v ≡ true
-  pub some : 1 ≤ own_frames m v
-  pub most : (k : ℕ) → test k ≡ true → own_frames m k ≤ own_frames m v
-  pub least : (k : ℕ) → test k ≡ true → own_frames m k ≡ own_frames m v → v ≤ k
+-- among the groups that the test chooses, this one has the most frames of its own, and the least number of those that
+-- have so many
+pub record HasMost (machine : KnownMachine) (test : ℕ → Bool) (group : ℕ) : Type 0 where
+  pub chosen : test group ≡ true
+  pub some : 1 ≤ own_frames machine group
+  pub most : (other : ℕ) → test other ≡ true → own_frames machine other ≤ own_frames machine group
+  pub least : (other : ℕ) → test other ≡ true → own_frames machine other ≡ own_frames machine group → group ≤ other
 
 -- who has the most frames of those that the test chooses; nobody where none of them has a frame of its own
 abbrev pub IsMost : KnownMachine → (ℕ → Bool) → Option ℕ → Type 0
-IsMost m test (Some v) = HasMost m test v
-IsMost m test None = (k : ℕ) → test k ≡ true → own_frames m k ≡ 0
+IsMost machine test (Some group) = HasMost machine test group
+IsMost machine test None = (other : ℕ) → test other ≡ true → own_frames machine other ≡ 0
 
--- among the groups of g's subtree that aren't killed, v has the most frames of its own, and the least number of those that
--- have so many
+-- among the groups of the subtree of `group` that aren't killed, the victim has the most frames of its own, and the
+-- least number of those that have so many
 abbrev pub HasMostFrames : KnownMachine → ℕ → ℕ → Type 0
-HasMostFrames m g v = HasMost m (may_be_killed m g) v
+HasMostFrames machine group victim = HasMost machine (may_be_killed machine group) victim
 
--- who is killed for g; nobody where no group of its subtree that isn't killed has a frame of its own
+-- who is killed for the group; nobody where no group of its subtree that isn't killed has a frame of its own
 abbrev pub IsVictim : KnownMachine → ℕ → Option ℕ → Type 0
-IsVictim m g who = IsMost m (may_be_killed m g) who
+IsVictim machine group who = IsMost machine (may_be_killed machine group) who
 
--- group k is this one, if there is one
+-- the other group is the one that is left out, if one is
 abbrev pub is_it : Option ℕ → ℕ → Bool
-is_it None k = false
-is_it (Some v) k = v == k
+is_it None other = false
+is_it (Some but) other = but == other
 
--- group k may be killed for g, and isn't this one, if there is one
+-- the other group may be killed for the group, and isn't the one that is left out, if one is
 abbrev pub may_be_chosen : KnownMachine → ℕ → Option ℕ → ℕ → Bool
-may_be_chosen m g but k = not (is_it but k) && may_be_killed m g k
+may_be_chosen machine group but other = not (is_it but other) && may_be_killed machine group other
 
--- the next after victim v: who would be the victim if v weren't there; and v once more where nobody would
+-- the next after the victim: who would be the victim if that one weren't there; the victim once more where nobody would
 abbrev pub IsNext : KnownMachine → ℕ → ℕ → ℕ → Type 0
-IsNext m g v next =
-    IsMost m (may_be_chosen m g (Some v)) (Some next) ⊎ (IsMost m (may_be_chosen m g (Some v)) None × (next ≡ v))
+IsNext machine group victim next =
+    IsMost machine (may_be_chosen machine group (Some victim)) (Some next)
+    ⊎ (IsMost machine (may_be_chosen machine group (Some victim)) None × (next ≡ victim))
 
--- group k may be killed for g, and has a frame of its own
+-- the other group may be killed for the group, and has a frame of its own
 abbrev pub is_candidate : KnownMachine → ℕ → ℕ → Bool
-is_candidate m g k = may_be_killed m g k && nat_le 1 (own_frames m k)
+is_candidate machine group other = may_be_killed machine group other && nat_le 1 (own_frames machine other)
 
--- how many groups may be killed for g and have a frame of their own
+-- how many groups may be killed for the group and have a frame of their own
 abbrev pub candidates : KnownMachine → ℕ → ℕ
-candidates m g = sum_to MAX_GROUPS (λ k. one_if (is_candidate m g k))
+candidates machine group = sum_to MAX_GROUPS (λ k. one_if (is_candidate machine group k))
 
 -- a group with its frames
 abbrev pub candidate : KnownMachine → ℕ → Candidate
-candidate m v = record { group = v; frames = own_frames m v }
+candidate machine group = record { group = group; frames = own_frames machine group }
 
--- what is noted of victim v for g, and of the next
+-- what is noted of the victim for the group, and of the next
 abbrev pub victim_note : KnownMachine → ℕ → ℕ → ℕ → Note
-victim_note m g v next = Victim (candidate m v) (candidates m g) (candidate m next)
+victim_note machine group victim next =
+    Victim (candidate machine victim) (candidates machine group) (candidate machine next)

@@ -7,7 +7,8 @@ ghost use Rattle.mem_machine.specs.Machines.{is_killed};
 ghost use Rattle.mem_machine.specs.Ageing.{entries_in};
 ghost use Rattle.mem_machine.specs.Stocks.{AreOwnDrained};
 ghost use Rattle.mem_reclaim.specs.Victim.{IsVictim};
-ghost use Rattle.mem_reclaim.specs.Killing.{KeepsNone, KeepsStocks, KillsBySteps, KillsVictim, LetsGoBySteps, OnlyDrains, OnlyLetsGo};
+ghost use Rattle.mem_reclaim.specs.Killing.{KeepsNone, KeepsStocks, KillsBySteps, KillsVictim, LetsGoBySteps};
+ghost use Rattle.mem_reclaim.specs.Killing.{OnlyDrains, OnlyLetsGo};
 
 use crate::noting::{had_by, note_killed, note_victim};
 use crate::victims::victim;
@@ -59,11 +60,11 @@ fn kill_group<N: BootName>(machine: &mut Machine<N>, tables: &Tables<N>, group: 
     let _spots = machine.spots(); // For the clauses.
 }
 
-/// Kills the victim of a group, and tells who that was; None where there is none, and nothing has changed. Nothing can be
-/// charged to the victim any more, until it is removed; that is noted as `oom_kill`. Its stocks are drained. Its kept units,
-/// dirty ones too, leave their lists and lose the zone's reference, the inactive ones first, oldest first: those without a pin
-/// are uncharged and free, the others stay charged and kept by no one until their last put is settled. Why it is the victim
-/// is noted before, and what became of its units after.
+/// Kills the victim of a group, and tells who that was; None where there is none, and nothing has changed. Nothing
+/// can be charged to the victim any more, until it is removed; that is noted as `oom_kill`. Its stocks are drained.
+/// Its kept units, dirty ones too, leave their lists and lose the zone's reference, the inactive ones first, oldest
+/// first: those without a pin are uncharged and free, the others stay charged and kept by no one until their last put
+/// is settled. Why it is the victim is noted before, and what became of its units after.
 pub fn kill<N: BootName>(
     machine: &mut Machine<N>,
     tables: &Tables<N>,

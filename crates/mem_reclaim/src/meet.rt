@@ -1,14 +1,12 @@
 //! What is done with one unit of a list.
 
-ghost use Rattle.std.specs.Prelude.{◌≡◌, ◌<◌, ◌&&◌, ◌+◌, ℕ, true, Some, IsTrue};
-ghost use Rattle.group_tree.specs.Groups.{in_subtree};
-ghost use Rattle.group_charge.specs.Charges.{current_of};
+ghost use Rattle.std.specs.Prelude.{◌≡◌, ◌<◌, ◌&&◌, Some, IsTrue};
 ghost use Rattle.lru_lists.specs.declared.record.LruList.TheVariants.{Inactive};
 ghost use Rattle.lru_lists.specs.Lists.{entry_of};
 ghost use Rattle.mem_machine.specs.Machines.{home_of};
 ghost use Rattle.mem_reclaim.specs.Moves.{Leads};
 ghost use Rattle.mem_reclaim.specs.Units.{MeetsUnit};
-ghost use Rattle.mem_reclaim.specs.Staying.{Keeps};
+ghost use Rattle.mem_reclaim.specs.Staying.{Keeps, UsageFalls};
 
 use cpu_part::{BootName, Tables};
 use frame_word::Frame;
@@ -23,8 +21,8 @@ fn is_spared(unit: Entry, marks_count: bool) -> bool
     marks_count && unit.is_marked
 }
 
-/// Meets a unit of one of a group's lists: a dirty one is left alone, a marked one is renewed where marks count, and any other is
-/// tried. It tells how many pages came back.
+/// Meets a unit of one of a group's lists: a dirty one is left alone, a marked one is renewed where marks count, and
+/// any other is tried. It tells how many pages came back.
 pub(crate) fn meet<N: BootName>(
     machine: &mut Machine<N>,
     tables: &Tables<N>,
@@ -38,10 +36,9 @@ pub(crate) fn meet<N: BootName>(
     requires unit { unit ≡ entry_of machine.old.links frame }
     requires stands { home_of machine.old.links frame ≡ Some (record { owner = group; list = list }) }
     requires inactive { IsTrue marks_count → list ≡ Inactive }
-    ensures meets { Leads N.frames result machine.old machine.new (λ steps. MeetsUnit marks_count group unit 1 result machine.old steps machine.new) }
+    ensures meets { Leads N.frames result machine.old machine.new (MeetsUnit marks_count group unit 1) }
     ensures keeps { Keeps N.frames machine.old machine.new }
-    ensures usage { (g : ℕ) → in_subtree machine.old.ledger.groups g group ≡ true
-        → current_of machine.new.ledger g + result ≡ current_of machine.old.ledger g }
+    ensures usage { UsageFalls group result machine.old machine.new }
 {
     if unit.is_dirty {
         return 0;

@@ -1,16 +1,11 @@
 //! The two passes over the groups of a subtree, by ascending number.
 
-ghost use Rattle.std.specs.Prelude.{◌≡◌, ◌<◌, ◌+◌, ◌^◌, ℕ, [], ◌∷◌, true, false, IsTrue};
+ghost use Rattle.std.specs.Prelude.{◌≡◌, ◌<◌, ◌+◌, ◌^◌, true, false, IsTrue};
 ghost use Rattle.group_tree.specs.Groups.{has_group, in_subtree};
 ghost use Rattle.group_charge.specs.Charges.{current_of};
-ghost use Rattle.lru_lists.specs.declared.record.Home.{Home};
-ghost use Rattle.lru_lists.specs.declared.record.LruList.{LruList};
-ghost use Rattle.lru_lists.specs.declared.record.LruList.TheVariants.{Inactive, Active};
-ghost use Rattle.mem_reclaim.specs.Wanted.{WhileWanted};
 ghost use Rattle.mem_reclaim.specs.Moves.{Leads};
-ghost use Rattle.mem_reclaim.specs.Units.{ScansList};
-ghost use Rattle.mem_reclaim.specs.Passes.{AgesAndScans, TakesTurn, MakesPass};
-ghost use Rattle.mem_reclaim.specs.Staying.{Keeps, OnlyLeave, IsMissed, MissedAll};
+ghost use Rattle.mem_reclaim.specs.Passes.{PassesGroup, TakesTurn, MakesPass};
+ghost use Rattle.mem_reclaim.specs.Staying.{Keeps, MissedAll, MissedOfGroup, OnlyLeave, UsageFalls};
 
 use crate::scan::scan;
 use cpu_part::{BootName, Tables};
@@ -27,10 +22,9 @@ fn age_and_scan<N: BootName>(
     want: u64,
 ) -> u64
     requires { want < 2 ^ 40 }
-    ensures passes { Leads N.frames result machine.old machine.new (λ steps. AgesAndScans group want result machine.old steps machine.new) }
+    ensures passes { Leads N.frames result machine.old machine.new (PassesGroup true group want) }
     ensures keeps { Keeps N.frames machine.old machine.new }
-    ensures usage { (g : ℕ) → in_subtree machine.old.ledger.groups g group ≡ true
-        → current_of machine.new.ledger g + result ≡ current_of machine.old.ledger g }
+    ensures usage { UsageFalls group result machine.old machine.new }
     ensures few { result < want + 2 ^ 32 }
 {
     machine.age(group);
@@ -46,14 +40,12 @@ fn scan_both<N: BootName>(
 ) -> u64
     requires wanted { 0 < want }
     requires fits { want < 2 ^ 40 }
-    ensures passes { Leads N.frames result machine.old machine.new
-        (λ steps. WhileWanted (ScansList false group) (Inactive ∷ Active ∷ []) want result machine.old steps machine.new) }
+    ensures passes { Leads N.frames result machine.old machine.new (PassesGroup false group want) }
     ensures keeps { Keeps N.frames machine.old machine.new }
-    ensures usage { (g : ℕ) → in_subtree machine.old.ledger.groups g group ≡ true
-        → current_of machine.new.ledger g + result ≡ current_of machine.old.ledger g }
+    ensures usage { UsageFalls group result machine.old machine.new }
     ensures few { result < want + 2 ^ 32 }
     ensures leaves { OnlyLeave machine.old machine.new }
-    ensures missed { result < want → (f : ℕ) (list : LruList) → IsMissed machine.old machine.new f (record { owner = group; list = list }) }
+    ensures missed { result < want → MissedOfGroup group machine.old machine.new }
 {
     let inactive = scan(machine, tables, group, LruList::Inactive, want, false);
     if want <= inactive {
@@ -91,13 +83,13 @@ fn take_turn<N: BootName>(
     requires there { IsTrue (has_group machine.old.ledger.groups group) }
     requires wanted { 0 < want }
     requires fits { want < 2 ^ 40 }
-    ensures turns { Leads N.frames result machine.old machine.new (λ steps. TakesTurn is_first group turn want result machine.old steps machine.new) }
+    ensures turns { Leads N.frames result machine.old machine.new (TakesTurn is_first group turn want) }
     ensures keeps { Keeps N.frames machine.old machine.new }
     ensures usage { current_of machine.new.ledger group + result ≡ current_of machine.old.ledger group }
     ensures few { result < want + 2 ^ 32 }
     ensures leaves { is_first ≡ false → OnlyLeave machine.old machine.new }
     ensures missed { is_first ≡ false → result < want → in_subtree machine.old.ledger.groups group turn ≡ true
-        → (f : ℕ) (list : LruList) → IsMissed machine.old machine.new f (record { owner = turn; list = list }) }
+        → MissedOfGroup turn machine.old machine.new }
 {
     if !is_below(machine.charges(), group, turn) {
         return 0;
@@ -109,8 +101,8 @@ fn take_turn<N: BootName>(
     }
 }
 
-/// One pass over the groups of the subtree of `group`, by ascending number, as long as pages are wanted. It tells how many pages
-/// came back.
+/// One pass over the groups of the subtree of `group`, by ascending number, as long as pages are wanted. It tells how
+/// many pages came back.
 pub(crate) fn make_pass<N: BootName>(
     machine: &mut Machine<N>,
     tables: &Tables<N>,
@@ -120,7 +112,7 @@ pub(crate) fn make_pass<N: BootName>(
 ) -> u64
     requires there { IsTrue (has_group machine.old.ledger.groups group) }
     requires fits { want < 2 ^ 40 }
-    ensures passes { Leads N.frames result machine.old machine.new (λ steps. MakesPass group is_first want result machine.old steps machine.new) }
+    ensures passes { Leads N.frames result machine.old machine.new (MakesPass group is_first want) }
     ensures keeps { Keeps N.frames machine.old machine.new }
     ensures usage { current_of machine.new.ledger group + result ≡ current_of machine.old.ledger group }
     ensures few { result < want + 2 ^ 32 }

@@ -17,15 +17,16 @@ use mem_machine::Machine;
 pub struct Reclaimed {
     /// How many pages came back. A block may give more than was still wanted.
     pub pages: u64,
-    /// Whether the second pass ended without enough pages: each clean unit that the subtree still keeps was tried, and missed.
+    /// Whether the second pass ended without enough pages: each clean unit that the subtree still keeps was tried,
+    /// and missed.
     pub tried_all: bool,
 }
 
-/// Takes pages back from the units that the subtree of `group` keeps, until at least `want` came back or every clean unit was
-/// tried. A unit comes back where nobody but the zone has a reference on it; a dirty one never does. The first pass ages each
-/// group's lists, tries its inactive units and gives marked ones a second chance; the second pass tries all clean units. Each
-/// pass goes over the groups by ascending number, and over a list from the oldest unit to the newest. With `want` 0 nothing is
-/// done.
+/// Takes pages back from the units that the subtree of `group` keeps, until at least `want` came back or every clean
+/// unit was tried. A unit comes back where nobody but the zone has a reference on it; a dirty one never does. The
+/// first pass ages each group's lists, tries its inactive units and gives marked ones a second chance; the second
+/// pass tries all clean units. Each pass goes over the groups by ascending number, and over a list from the oldest
+/// unit to the newest. With `want` 0 nothing is done.
 pub fn reclaim<N: BootName>(
     machine: &mut Machine<N>,
     tables: &Tables<N>,
@@ -34,8 +35,7 @@ pub fn reclaim<N: BootName>(
 ) -> Reclaimed
     requires there { IsTrue (has_group machine.old.ledger.groups group) }
     requires fits { want < 2 ^ 40 }
-    ensures reclaims { Leads N.frames result.pages machine.old machine.new
-        (λ steps. Reclaims group want result.pages machine.old steps machine.new) }
+    ensures reclaims { Leads N.frames result.pages machine.old machine.new (Reclaims group want) }
     ensures tried_all { result.tried_all ≡ nat_lt result.pages want }
     ensures missed { IsTrue result.tried_all → MissedAll group machine.old machine.new }
     ensures usage { current_of machine.new.ledger group + result.pages ≡ current_of machine.old.ledger group }

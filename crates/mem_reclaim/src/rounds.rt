@@ -3,6 +3,7 @@
 ghost use Rattle.std.specs.Prelude.{◌≡◌, ◌<◌, ◌+◌, ◌^◌, IsTrue, nat_lt};
 ghost use Rattle.group_tree.specs.Groups.{has_group};
 ghost use Rattle.group_charge.specs.Charges.{current_of};
+ghost use Rattle.mem_reclaim.specs.declared.rounds.TheConstants.{MAX_ROUNDS};
 ghost use Rattle.mem_reclaim.specs.Moves.{Leads};
 ghost use Rattle.mem_reclaim.specs.Rounds.{MakesOneRound, MakesRounds, pages_missing};
 ghost use Rattle.mem_reclaim.specs.Staying.{Keeps, MissedAll};
@@ -28,7 +29,8 @@ fn missing(charges: &Charges, group: GroupId, need: u32, limit: u32) -> u64
     (u64::from(charges.current(group)) + u64::from(need)).saturating_sub(u64::from(limit))
 }
 
-// Makes the round of this number, from 1, for a limit of the group: so many pages are wanted. It is noted, with what it tried.
+// Makes the round of this number, from 1, for a limit of the group: so many pages are wanted. It is noted, with what
+// it tried.
 fn make_round<N: BootName>(
     machine: &mut Machine<N>,
     tables: &Tables<N>,
@@ -38,8 +40,7 @@ fn make_round<N: BootName>(
 ) -> Reclaimed
     requires there { IsTrue (has_group machine.old.ledger.groups group) }
     requires fits { want < 2 ^ 40 }
-    ensures makes { Leads N.frames result.pages machine.old machine.new
-        (λ steps. MakesOneRound group number want result.pages machine.old steps machine.new) }
+    ensures makes { Leads N.frames result.pages machine.old machine.new (MakesOneRound group number want) }
     ensures tried_all { result.tried_all ≡ nat_lt result.pages want }
     ensures missed { IsTrue result.tried_all → MissedAll group machine.old machine.new }
     ensures usage { current_of machine.new.ledger group + result.pages ≡ current_of machine.old.ledger group }
@@ -60,8 +61,9 @@ fn make_round<N: BootName>(
 }
 
 /// Reclaims from the subtree of `group`, until its usage with `need` pages more is at most `limit`: in at most 16
-/// rounds, each of which wants the pages that are missing then, and is noted. A round that gave none is the last. It tells
-/// how many pages came back. Where that wasn't enough, each clean unit that the subtree still keeps was tried, and missed.
+/// rounds, each of which wants the pages that are missing then, and is noted. A round that gave none is the last. It
+/// tells how many pages came back. Where that wasn't enough, each clean unit that the subtree still keeps was tried,
+/// and missed.
 pub fn make_rounds<N: BootName>(
     machine: &mut Machine<N>,
     tables: &Tables<N>,
@@ -71,7 +73,7 @@ pub fn make_rounds<N: BootName>(
 ) -> u64
     requires there { IsTrue (has_group machine.old.ledger.groups group) }
     ensures rounds { Leads N.frames result machine.old machine.new
-        (λ steps. MakesRounds group (pages_missing group need limit) 16 result machine.old steps machine.new) }
+        (MakesRounds group (pages_missing group need limit) MAX_ROUNDS) }
     ensures missed { limit < current_of machine.new.ledger group + need → MissedAll group machine.old machine.new }
     ensures usage { current_of machine.new.ledger group + result ≡ current_of machine.old.ledger group }
     ensures keeps { Keeps N.frames machine.old machine.new }

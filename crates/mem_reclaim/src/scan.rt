@@ -1,12 +1,10 @@
 //! The units of one list, met one after the other.
 
-ghost use Rattle.std.specs.Prelude.{◌≡◌, ◌<◌, ◌+◌, ◌^◌, ℕ, true, false, IsTrue};
-ghost use Rattle.group_tree.specs.Groups.{in_subtree};
-ghost use Rattle.group_charge.specs.Charges.{current_of};
+ghost use Rattle.std.specs.Prelude.{◌≡◌, ◌<◌, ◌+◌, ◌^◌, false, IsTrue};
 ghost use Rattle.lru_lists.specs.declared.record.LruList.TheVariants.{Inactive};
 ghost use Rattle.mem_reclaim.specs.Moves.{Leads};
 ghost use Rattle.mem_reclaim.specs.Units.{ScansList};
-ghost use Rattle.mem_reclaim.specs.Staying.{Keeps, OnlyLeave, IsMissed};
+ghost use Rattle.mem_reclaim.specs.Staying.{Keeps, MissedOnList, OnlyLeave, UsageFalls};
 
 use crate::meet::meet;
 use cpu_part::{BootName, Tables};
@@ -14,8 +12,8 @@ use group_tree::group::GroupId;
 use lru_lists::record::LruList;
 use mem_machine::Machine;
 
-/// Meets the units that stand on one of a group's lists, oldest first, as long as pages are wanted. It tells how many pages came
-/// back. A unit that moves to the list's newest end meanwhile isn't met twice.
+/// Meets the units that stand on one of a group's lists, oldest first, as long as pages are wanted. It tells how many
+/// pages came back. A unit that moves to the list's newest end meanwhile isn't met twice.
 pub(crate) fn scan<N: BootName>(
     machine: &mut Machine<N>,
     tables: &Tables<N>,
@@ -26,13 +24,12 @@ pub(crate) fn scan<N: BootName>(
 ) -> u64
     requires fits { want < 2 ^ 40 }
     requires inactive { IsTrue marks_count → list ≡ Inactive }
-    ensures scans { Leads N.frames result machine.old machine.new (λ steps. ScansList marks_count group list want result machine.old steps machine.new) }
+    ensures scans { Leads N.frames result machine.old machine.new (ScansList marks_count group list want) }
     ensures keeps { Keeps N.frames machine.old machine.new }
-    ensures usage { (g : ℕ) → in_subtree machine.old.ledger.groups g group ≡ true
-        → current_of machine.new.ledger g + result ≡ current_of machine.old.ledger g }
+    ensures usage { UsageFalls group result machine.old machine.new }
     ensures few { result < want + 2 ^ 32 }
     ensures leaves { marks_count ≡ false → OnlyLeave machine.old machine.new }
-    ensures missed { marks_count ≡ false → result < want → (f : ℕ) → IsMissed machine.old machine.new f (record { owner = group; list = list }) }
+    ensures missed { marks_count ≡ false → result < want → MissedOnList group list machine.old machine.new }
 {
     let _records = machine.spots(); // For the clauses.
     let units = machine.listed(group, list);

@@ -1,9 +1,10 @@
-//! Who is killed where a limit can't be kept otherwise. Modelled on the choice of Linux's out-of-memory killer (cgroup-v2.rst,
-//! memory.max and memory.events), with a group as one killable unit.
+//! Who is killed where a limit can't be kept otherwise. Modelled on the choice of Linux's out-of-memory killer
+//! (cgroup-v2.rst, memory.max and memory.events), with a group as one killable unit.
 
 ghost use Rattle.std.specs.Prelude.{◌≡◌, IsTrue};
 ghost use Rattle.group_tree.specs.Groups.{has_group};
-ghost use Rattle.mem_reclaim.specs.Victim.{IsMost, IsNext, IsVictim, candidates, is_candidate, is_it, may_be_chosen, may_be_killed};
+ghost use Rattle.mem_reclaim.specs.Victim.{IsMost, IsNext, IsVictim, candidates, is_candidate, is_it};
+ghost use Rattle.mem_reclaim.specs.Victim.{may_be_chosen, may_be_killed};
 
 use crate::passes::is_below;
 use cpu_part::BootName;
@@ -41,8 +42,8 @@ fn may_be_chosen<N: BootName>(
     !is_it(but, other) && may_be_killed(machine, group, other)
 }
 
-// Among the groups that may be killed for a group, without `but`, the one with the most frames charged to itself, the least
-// number among equals; None where none of them has a frame.
+// Among the groups that may be killed for a group, without `but`, the one with the most frames charged to itself, the
+// least number among equals; None where none of them has a frame.
 fn most_charged<N: BootName>(
     machine: &Machine<N>,
     group: GroupId,
@@ -70,9 +71,9 @@ fn most_charged<N: BootName>(
     best
 }
 
-/// Who is killed for a group: among the groups of its subtree that aren't killed, the one with the most frames charged to
-/// itself, the least number among equals; None where none of them has a frame. Frames that are fresh at a processor don't
-/// count.
+/// Who is killed for a group: among the groups of its subtree that aren't killed, the one with the most frames
+/// charged to itself, the least number among equals; None where none of them has a frame. Frames that are fresh at a
+/// processor don't count.
 pub fn victim<N: BootName>(machine: &Machine<N>, group: GroupId) -> Option<GroupId>
     requires { IsTrue (has_group machine.now.ledger.groups group) }
     ensures { IsVictim machine.now group result }

@@ -84,7 +84,7 @@ above_visit t g limit m n c b v = elim (cases_lt limit (current_of m.ledger g)) 
 -- the stocks are drained, and then the rounds are made
 pub lowered_by : (t : KnownTable) (g limit pages given : ℕ) (m x n : KnownMachine) → DrainsSubtree t g pages m x
     → AreDrained g t.cpus x
-    → Leads t given x n (λ steps. MakesRounds g (pages_missing g 0 limit) 16 given x steps n)
+    → Leads t given x n (MakesRounds g (pages_missing g 0 limit) 16)
     → (limit < current_of n.ledger g + 0 → MissedAll g x n) → Keeps t x n → ByStepsOfAny t m n (LowersUsage g limit)
 lowered_by t g limit pages given m x n sub none leads missed keeps = (
   drain_stocks_steps sub.drains ++ leads.steps,

@@ -23,8 +23,7 @@ pub record LowersUsage (group limit : ℕ) (way : Course KnownMachine) : Type 0 
   pub none_held : AreDrained group way.table.cpus drained
   pub drain_runs : MakesForAny way.table way.before (drain_stocks_steps drains) drained
   pub given : ℕ
-  pub reclaims : Leads way.table given drained way.after
-      (λ steps. MakesRounds group (pages_missing group 0 limit) 16 given drained steps way.after)
+  pub reclaims : Leads way.table given drained way.after (MakesRounds group (pages_missing group 0 limit) 16)
   pub missed : limit < current_of way.after.ledger group → MissedAll group drained way.after
   pub keeps : Keeps way.table drained way.after
   pub steps_are : way.steps ≡ drain_stocks_steps drains ++ reclaims.steps

@@ -12,9 +12,9 @@ pub take_block-requires-clause-charges : goal.take_block-requires-clause-charges
 take_block-requires-clause-charges g c =
     let part = back_part _ _ _ _ _ c.drain_list.ensures.takes in
     record {
-      there = ap (λ l. has_group l.groups c.args.group) part.ledger ∙ c.requires.there;
-      alive = ap (λ l. is_killed l c.args.group) part.killed ∙ c.requires.alive;
-      fits = subst (λ l. current_of l 0 + 2 ^ c.args.order < 2 ^ 32) (sym part.ledger) c.requires.fits;
+      there = ap (λ l. has_group l.groups c.args.group) part.ledger ∙ c.requires.room.there;
+      alive = ap (λ l. is_killed l c.args.group) part.killed ∙ c.requires.room.alive;
+      fits = subst (λ l. current_of l 0 + 2 ^ c.args.order < 2 ^ 32) (sym part.ledger) c.requires.room.fits;
     }
 
 pub take_block-requires-clause-none_back : goal.take_block-requires-clause-none_back
@@ -23,7 +23,7 @@ take_block-requires-clause-none_back g c = (back_part _ _ _ _ _ c.drain_list.ens
 pub unreachable-requires : goal.unreachable-requires
 unreachable-requires g c =
     let room = subst (λ l. PathHasRoom l.groups (current_of l) c.args.group (2 ^ c.args.order))
-    (sym (back_part _ _ _ _ _ c.drain_list.ensures.takes).ledger) c.requires.room in
+    (sym (back_part _ _ _ _ _ c.drain_list.ensures.takes).ledger) c.requires.room.room in
     never_over c.drain_list.new.self c.args.group (2 ^ c.args.order) c.in-Err-Over.field-0-0.group room
     (is_refused c.drain_list.new.self c.take_block.new.self c.args.group c.args.order c.in-Err-Over.field-0 c.in-Err-Over.field-0-0
     c.in-Err-Over.field-0-is c.in-Err-Over.ensures.refuses).0
@@ -54,36 +54,14 @@ returns-in-Ok-clause-list g c =
     c.list_len-listed.ensures.count
     c.drain_list.ensures.at_most c.drain_list.ensures.takes c.drain_list.ensures.fewer_only_at_the_end c.in-Ok.ensures.cpu c.drain_list.ensures.steps
 
-pub take_in_rounds-requires-clause-there : goal.take_in_rounds-requires-clause-there
-take_in_rounds-requires-clause-there g c =
-    let none = is_none _ _ c.args.group c.args.order c.in-Err-NoBlock.field-0 c.in-Err-NoBlock.field-0-is c.in-Err-NoBlock.ensures.refuses in
-    let part = back_part _ _ _ _ _ c.drain_list.ensures.takes in
-    ap (λ (y : KnownMachine). has_group y.ledger.groups c.args.group) none.machine ∙ ap (λ l. has_group l.groups c.args.group) part.ledger
-    ∙ c.requires.there
-
-pub take_in_rounds-requires-clause-alive : goal.take_in_rounds-requires-clause-alive
-take_in_rounds-requires-clause-alive g c =
-    let none = is_none _ _ c.args.group c.args.order c.in-Err-NoBlock.field-0 c.in-Err-NoBlock.field-0-is c.in-Err-NoBlock.ensures.refuses in
-    let part = back_part _ _ _ _ _ c.drain_list.ensures.takes in
-    ap (λ (y : KnownMachine). is_killed y.killed c.args.group) none.machine ∙ ap (λ l. is_killed l c.args.group) part.killed ∙ c.requires.alive
-
-pub take_in_rounds-requires-clause-fits : goal.take_in_rounds-requires-clause-fits
-take_in_rounds-requires-clause-fits g c =
-    let none = is_none _ _ c.args.group c.args.order c.in-Err-NoBlock.field-0 c.in-Err-NoBlock.field-0-is c.in-Err-NoBlock.ensures.refuses in
-    let part = back_part _ _ _ _ _ c.drain_list.ensures.takes in
-    let there = ap (λ l. has_group l.groups c.args.group) part.ledger ∙ c.requires.there in
-    let fits = subst (λ l. current_of l 0 + 2 ^ c.args.order < 2 ^ 32) (sym part.ledger) c.requires.fits in
-    (none_leaves g.N.BootName.frames c.args.group c.args.order c.drain_list.new.self c.take_block.new.self c.drain_list.new.cpu
-    c.take_block.new.cpu none (ap (λ l. is_killed l c.args.group) part.killed ∙ c.requires.alive) there fits).fits
-
 pub take_in_rounds-requires-clause-room : goal.take_in_rounds-requires-clause-room
 take_in_rounds-requires-clause-room g c =
     let none = is_none _ _ c.args.group c.args.order c.in-Err-NoBlock.field-0 c.in-Err-NoBlock.field-0-is c.in-Err-NoBlock.ensures.refuses in
     let part = back_part _ _ _ _ _ c.drain_list.ensures.takes in
-    let there = ap (λ l. has_group l.groups c.args.group) part.ledger ∙ c.requires.there in
-    let fits = subst (λ l. current_of l 0 + 2 ^ c.args.order < 2 ^ 32) (sym part.ledger) c.requires.fits in
-    (none_leaves g.N.BootName.frames c.args.group c.args.order c.drain_list.new.self c.take_block.new.self c.drain_list.new.cpu
-    c.take_block.new.cpu none (ap (λ l. is_killed l c.args.group) part.killed ∙ c.requires.alive) there fits).room
+    let there = ap (λ l. has_group l.groups c.args.group) part.ledger ∙ c.requires.room.there in
+    let fits = subst (λ l. current_of l 0 + 2 ^ c.args.order < 2 ^ 32) (sym part.ledger) c.requires.room.fits in
+    none_leaves g.N.BootName.frames c.args.group c.args.order c.drain_list.new.self c.take_block.new.self c.drain_list.new.cpu
+    c.take_block.new.cpu none (ap (λ l. is_killed l c.args.group) part.killed ∙ c.requires.room.alive) there fits
 
 pub take_in_rounds-requires-clause-none_back : goal.take_in_rounds-requires-clause-none_back
 take_in_rounds-requires-clause-none_back g c =

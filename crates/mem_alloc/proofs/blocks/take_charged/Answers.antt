@@ -49,7 +49,7 @@ tries-smaller g c =
     (relieving_lowers g.N.BootName.frames c.args.group c.in-Err-Over.over.group c.frames-pages.result c.tries.machine c.make_room.new.machine
     (subst (λ (y : KnownMachine). ByStepsOfAny g.N.BootName.frames y c.make_room.new.machine
     (RelievesLimit c.args.group c.in-Err-Over.over.group c.frames-pages.result)) r.1
-    c.make_room.ensures.clears)) c.make_room.ensures.fits r.0.over
+    c.make_room.ensures.clears)) c.make_room.ensures.below r.0.over
     (subst (λ (n : ℕ). has_room_for c.make_room.new.machine.ledger c.in-Err-Over.over.group n ≡ true) c.frames-pages.ensures.frames
     c.in_ok-make_room-in-Err-Over.ensures.room.room)
 

@@ -21,7 +21,7 @@ returns-in-Ok-clause-takes g c =
     let given = c.reclaim_anywhere-given.result in
     let x = c.reclaim_anywhere-given.new.machine in
     let wants : c.from.result ≡ 2 ^ c.args.order = c.from.ensures ∙ c.frames-pages.ensures.frames in
-    let reclaims = subst (λ (w : ℕ). Leads t given c.loop-round.machine x (λ steps. Reclaims 0 w given c.loop-round.machine steps x)) wants
+    let reclaims = subst (λ (w : ℕ). Leads t given c.loop-round.machine x (Reclaims 0 w)) wants
     c.reclaim_anywhere-given.ensures.reclaims in
     let missed = subst (λ (w : ℕ). given < w → MissedAll 0 c.loop-round.machine x) wants c.reclaim_anywhere-given.ensures.missed in
     rounds_succeed t (2 ^ c.args.order) (TryFindsNone c.args.group c.args.order) (TryTakes c.args.group c.args.order) c.args.machine.now
@@ -35,7 +35,7 @@ returns-in-Err-NoBlock-clause-takes g c =
     let given = c.reclaim_anywhere-given.result in
     let x = c.reclaim_anywhere-given.new.machine in
     let wants : c.from.result ≡ 2 ^ c.args.order = c.from.ensures ∙ c.frames-pages.ensures.frames in
-    let reclaims = subst (λ (w : ℕ). Leads t given c.loop-round.machine x (λ steps. Reclaims 0 w given c.loop-round.machine steps x)) wants
+    let reclaims = subst (λ (w : ℕ). Leads t given c.loop-round.machine x (Reclaims 0 w)) wants
     c.reclaim_anywhere-given.ensures.reclaims in
     let missed = subst (λ (w : ℕ). given < w → MissedAll 0 c.loop-round.machine x) wants c.reclaim_anywhere-given.ensures.missed in
     let none = is_none _ _ c.args.group c.args.order c.in-Err-NoBlock.field-0 c.in-Err-NoBlock.field-0-is c.in-Err-NoBlock.ensures.refuses in
@@ -51,7 +51,7 @@ loop-round-preserved g c =
     let given = c.reclaim_anywhere-given.result in
     let x = c.reclaim_anywhere-given.new.machine in
     let wants : c.from.result ≡ 2 ^ c.args.order = c.from.ensures ∙ c.frames-pages.ensures.frames in
-    let reclaims = subst (λ (w : ℕ). Leads t given c.loop-round.machine x (λ steps. Reclaims 0 w given c.loop-round.machine steps x)) wants
+    let reclaims = subst (λ (w : ℕ). Leads t given c.loop-round.machine x (Reclaims 0 w)) wants
     c.reclaim_anywhere-given.ensures.reclaims in
     let missed = subst (λ (w : ℕ). given < w → MissedAll 0 c.loop-round.machine x) wants c.reclaim_anywhere-given.ensures.missed in
     let none = is_none _ _ c.args.group c.args.order c.in-Err-NoBlock.field-0 c.in-Err-NoBlock.field-0-is c.in-Err-NoBlock.ensures.refuses in

@@ -1,7 +1,9 @@
-use Rattle.std.proofs.Common.{◌≡◌, ◌∷◌, ◌++◌, [], length, false, sym, ap, ◌∙◌, arith, rules}
-use Rattle.std.specs.Prelude.{IfErr}
+use Rattle.std.proofs.Common.{◌≡◌, ℕ, ◌∷◌, ◌++◌, [], length, false, sym, ap, ◌∙◌, subst, arith, rules}
+use Rattle.std.specs.Prelude.{IfErr, Result}
+use Rattle.std.proofs.lemmas.Result.{err_from_is_err_and}
 use Rattle.mem_machine.specs.Machines.{KnownMachine, is_killed}
 use Rattle.cpu_part.specs.Cpus.{KnownCpu}
+use Rattle.mem_alloc.specs.declared.faults.AllocFault.{AllocFault}
 use Rattle.mem_alloc.proofs.Making.{refused_with, if_ok_none}
 use Rattle.mem_alloc.proofs.Filling.{keeps_both, pays_keep, refuses_keep, no_frame_keeps, filled_part, not_paid, not_found, gets_frame}
 use Rattle.mem_alloc.proofs.frames.alloc_frame.Goals as goal
@@ -32,7 +34,8 @@ returns-in_err-fill_list g c =
     let r = c.from_residual-in_err-fill_list.result in
     let x = c.in_err-fill_list.field-0.0 in
     let not = c.from_residual-in_err-fill_list.ensures.0 in
-    let is : IfErr r (λ e. e ≡ x) = search rules in
+    let err = err_from_is_err_and r c.from_residual-in_err-fill_list.ensures.1 in
+    let is : IfErr r (λ e. e ≡ x) = subst (λ (z : Result ℕ AllocFault). IfErr z (λ e. e ≡ x)) (sym err.1) err.2 in
     let paid = c.in_ok-pay_for_frame.ensures.pays in
     let none = c.in_err-fill_list.ensures.fills in
     let first = pays_keep t c.args.sizes c.args.group _ _ _ _ paid.0 paid.1 in

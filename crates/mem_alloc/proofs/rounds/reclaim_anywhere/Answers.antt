@@ -7,8 +7,7 @@ use Rattle.mem_alloc.proofs.rounds.reclaim_anywhere.Goals as goal
 
 pub returns-clause-reclaims : goal.returns-clause-reclaims
 returns-clause-reclaims g c =
-    subst (λ (h : ℕ). Leads g.N.BootName.frames c.reclaim.result.pages c.args.machine.now c.reclaim.new.machine
-    (λ steps. Reclaims h c.args.want c.reclaim.result.pages c.args.machine.now steps c.reclaim.new.machine))
+    subst (λ (h : ℕ). Leads g.N.BootName.frames c.reclaim.result.pages c.args.machine.now c.reclaim.new.machine (Reclaims h c.args.want))
     c.root.ensures c.reclaim.ensures.reclaims
 
 -- a reclaim that gave fewer pages than were wanted ended its second pass

@@ -1,6 +1,6 @@
-use Rattle.std.proofs.Common.{rules, ap, sym, ◌∙◌}
+use Rattle.std.proofs.Common.{ap, sym, ◌∙◌}
 use Rattle.lru_lists.specs.declared.record.Entry.{Entry}
-use Rattle.mem_reclaim.proofs.Meeting.{meets_tried}
+use Rattle.mem_reclaim.proofs.Meeting.{meets_dirty, meets_spared, meets_tried}
 use Rattle.mem_reclaim.proofs.Keeping.{keeps_try}
 use Rattle.mem_reclaim.proofs.meet.meet.Goals as goal
 
@@ -16,7 +16,10 @@ returns-clause-keeps g c =
     (sym (ap (λ (x : Entry). x.is_dirty) c.requires.unit) ∙ c.if-unit.false)
 
 pub returns-then-is_spared-clause-meets : goal.returns-then-is_spared-clause-meets
-returns-then-is_spared-clause-meets g c = search rules
+returns-then-is_spared-clause-meets g c =
+    meets_spared g.N.BootName.frames c.args.marks_count c.args.group c.args.frame c.args.unit c.args.machine.now c.renew.new.self c.if-unit.false
+    (sym c.is_spared.ensures ∙ c.if-is_spared.true) (ap (λ (x : Entry). x.number) c.requires.unit) c.renew.ensures.renews c.renew.ensures.steps
 
 pub returns-then-unit-clause-meets : goal.returns-then-unit-clause-meets
-returns-then-unit-clause-meets g c = search rules
+returns-then-unit-clause-meets g c =
+    meets_dirty g.N.BootName.frames c.args.marks_count c.args.group c.args.unit c.args.machine.now c.if-unit.true

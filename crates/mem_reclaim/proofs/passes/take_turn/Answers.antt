@@ -16,8 +16,7 @@ returns-then-is_first-clause-turns g c =
     let t = g.N.BootName.frames in
     let inside : in_subtree c.args.machine.now.ledger.groups c.args.group c.args.turn ≡ true =
     ap (λ (l : Ledger). in_subtree l.groups c.args.group c.args.turn) (sym c.charges.ensures) ∙ sym c.is_below.ensures ∙ c.if-not-is_below.false in
-    subst (λ (first : Bool). Leads t c.age_and_scan.result c.args.machine.now c.age_and_scan.new.machine
-    (λ steps. TakesTurn first c.args.group c.args.turn c.args.want c.age_and_scan.result c.args.machine.now steps c.age_and_scan.new.machine))
+    subst (λ (first : Bool). Leads t c.age_and_scan.result c.args.machine.now c.age_and_scan.new.machine (TakesTurn first c.args.group c.args.turn c.args.want))
     (sym c.if-is_first.true)
     (turn_first t c.args.group c.args.turn c.args.want c.age_and_scan.result c.args.machine.now c.age_and_scan.new.machine inside
     c.age_and_scan.ensures.passes)
@@ -32,8 +31,7 @@ returns-else-is_first-clause-turns g c =
     let t = g.N.BootName.frames in
     let inside : in_subtree c.args.machine.now.ledger.groups c.args.group c.args.turn ≡ true =
     ap (λ (l : Ledger). in_subtree l.groups c.args.group c.args.turn) (sym c.charges.ensures) ∙ sym c.is_below.ensures ∙ c.if-not-is_below.false in
-    subst (λ (first : Bool). Leads t c.scan_both.result c.args.machine.now c.scan_both.new.machine
-    (λ steps. TakesTurn first c.args.group c.args.turn c.args.want c.scan_both.result c.args.machine.now steps c.scan_both.new.machine))
+    subst (λ (first : Bool). Leads t c.scan_both.result c.args.machine.now c.scan_both.new.machine (TakesTurn first c.args.group c.args.turn c.args.want))
     (sym c.if-is_first.false)
     (turn_second t c.args.group c.args.turn c.args.want c.scan_both.result c.args.machine.now c.scan_both.new.machine inside c.scan_both.ensures.passes)
 
