@@ -1,6 +1,6 @@
 //! What a processor prepays and pays inside a visit: with the machine's seat of the stocks beside.
 ghost use Rattle.std.specs.Prelude.{◌≡◌, ◌+◌, ◌-◌, ◌<◌, ◌≤◌, ◌⊎◌, [], Some, false, length};
-ghost use Rattle.stock_word.specs.Stock.{IsMachine, account_of, stocked, pages_of, group_of, is_held, drained_of};
+ghost use Rattle.stock_word.specs.Stock.{IsZoneStock, account_of, stocked, pages_of, group_of, is_held, drained_of};
 ghost use Rattle.stock_word.specs.Kinds.{filling, after_fill, with_steps};
 ghost use Rattle.stock_word.specs.Calls.{with_view};
 ghost use Rattle.cpu_part.specs.Calls.{TakesFront};
@@ -16,7 +16,7 @@ impl<N: BootName> Cpu<N> {
     /// stock was never filled, or was drained after its last fill; there is no fresh frame, and no
     /// reported page that was not taken in.
     pub fn fill(&mut self, tables: &Tables<N>, machine: &mut StockSeat, group: u32, pages: u32)
-        requires machine { (machine.old.table ≡ N.stocks.table) × IsMachine machine.old.view }
+        requires machine { (machine.old.table ≡ N.stocks.table) × IsZoneStock machine.old.view }
         requires group { group < 64 }
         requires pages { (0 < pages) × (pages < 65536) }
         requires drained { (account_of machine.old.view self.old.number).filled ≡ false }
@@ -31,7 +31,7 @@ impl<N: BootName> Cpu<N> {
     /// The processor's stock by its word, and so by the books: one look, which counts at the machine's
     /// seat and changes nothing else. The book is the pages in the stock, the fresh ones and the reported ones.
     pub fn look(&mut self, tables: &Tables<N>, machine: &mut StockSeat) -> Stock
-        requires machine { (machine.old.table ≡ N.stocks.table) × IsMachine machine.old.view }
+        requires machine { (machine.old.table ≡ N.stocks.table) × IsZoneStock machine.old.view }
         ensures balanced { (account_of machine.old.view self.old.number).book
             ≡ pages_of result + self.old.stock.view.fresh + (account_of machine.old.view self.old.number).noted }
         ensures bounded { (account_of machine.old.view self.old.number).book < 65536 }
@@ -47,7 +47,7 @@ impl<N: BootName> Cpu<N> {
     /// Takes the front of the list for group `group` and pays for it, always. By the books the
     /// processor's stock, which is of that group, has a page that is neither fresh nor reported.
     pub fn take_front(&mut self, tables: &Tables<N>, machine: &mut StockSeat, group: u32) -> Frame
-        requires machine { (machine.old.table ≡ N.stocks.table) × IsMachine machine.old.view }
+        requires machine { (machine.old.table ≡ N.stocks.table) × IsZoneStock machine.old.view }
         requires group { (account_of machine.old.view self.old.number).group ≡ Some group }
         requires page { 0 < stocked machine.old.view self.old.stock.view }
         requires front { 1 ≤ length self.old.list }

@@ -3,7 +3,7 @@ ghost use Rattle.std.specs.Prelude.{◌≡◌, ◌+◌, ◌<◌, ◌≤◌, ◌�
 ghost use Rattle.frame_word.specs.Views.{took_in, collected_from};
 ghost use Rattle.frame_word.specs.Seats.{HandsAreApart, HasNothingOf, IsLent, IsLentToNone};
 ghost use Rattle.frame_word.specs.Seats.{IsInNoHand, IsOpen, IsShut, IsZoneSeat, LentIsBorrowed, NothingPasses, Passes, seat_with, seat_with_visit};
-ghost use Rattle.stock_word.specs.Stock.{IsMachine, IsProcessor, account_for, account_of, group_of};
+ghost use Rattle.stock_word.specs.Stock.{IsZoneStock, IsProcessor, account_for, account_of, group_of};
 ghost use Rattle.stock_word.specs.Kinds.{noting, after_report};
 ghost use Rattle.stock_word.specs.Calls.{with_view};
 ghost use Rattle.cpu_part.specs.Calls.{HandsFront, HandsFresh, HandsBack};
@@ -82,7 +82,7 @@ impl<N: BootName> Cpu<N> {
         machine: &mut StockSeat,
     ) -> Option<Frame>
         requires zone { IsZoneSeat N.frames zone.old }
-        requires machine { (machine.old.table ≡ N.stocks.table) × IsMachine machine.old.view }
+        requires machine { (machine.old.table ≡ N.stocks.table) × IsZoneStock machine.old.view }
         requires open { IsOpen zone.old self.old.number }
         ensures answer { MatchOption result ((self.old.fresh ≡ []) × (self.new ≡ self.old)) (λ f. HandsFresh f self.old self.new) }
         ensures frame { IfSome result (λ f. f < N.frames.frames) }
@@ -143,7 +143,7 @@ fn report_passed(
 )
     requires passed { IsInNoHand _seat.now _frame }
     requires tables { (machine.old.table ≡ stocks.now.table) × (stock.old.table ≡ stocks.now.table) }
-    requires machine { IsMachine machine.old.view }
+    requires machine { IsZoneStock machine.old.view }
     requires processor { IsProcessor stocks.now stock.old.view }
     requires fresh { 1 ≤ stock.old.view.fresh }
     ensures booked { stock.old.view.fresh + (account_for machine.old.view stock.old.view).noted ≤ (account_for machine.old.view stock.old.view).book }

@@ -8,7 +8,7 @@ use Rattle.std.proofs.lemmas.Option.{none-some}
 use Rattle.frame_word.specs.Seats.{KnownTable}
 use Rattle.stock_word.specs.declared.view.Account.{Account}
 use Rattle.stock_word.specs.declared.view.StockView.{StockView}
-use Rattle.stock_word.specs.Stock.{Words, Seated, IsMachine, account_of}
+use Rattle.stock_word.specs.Stock.{Words, Seated, IsZoneStock, account_of}
 use Rattle.stock_word.specs.Kinds.{draining}
 use Rattle.stock_word.specs.Calls.{with_view}
 use Rattle.stock_word.proofs.CallerLemmas.{account_of-with_account, account_of-with_account_other}
@@ -136,7 +136,7 @@ booked_within t stock q g inside group =
 
 -- other charges and another seat of the stocks
 pub stocks_consistent : (t : KnownTable) (w : Words) (m : KnownMachine) (l : Ledger) (stock : Seated)
-    → IsConsistent t w m → stock.table ≡ m.stock.table → IsMachine stock.view
+    → IsConsistent t w m → stock.table ≡ m.stock.table → IsZoneStock stock.view
     → ((p : ℕ) → (account_of stock.view p).noted ≡ 0) → ((p : ℕ) → (account_of stock.view p).book < 65536)
     → ((g : ℕ) → pages_of l g ≡ frames_charged m.spots g + pages_booked t stock g)
     → IsConsistent t w (record m { ledger = l; stock = stock })

@@ -2,7 +2,7 @@
 use Rattle.std.specs.Prelude.{◌≡◌, ℕ, ◌<◌, List, length}
 use Rattle.std.specs.List.{slice_index_or}
 use Rattle.frame_word.specs.Seats.{KnownTable}
-use Rattle.stock_word.specs.Stock.{Words, Seated, IsMachine}
+use Rattle.stock_word.specs.Stock.{Words, Seated, IsZoneStock}
 use Rattle.group_tree.specs.declared.group.TheConstants.{MAX_GROUPS}
 use Rattle.mem_machine.specs.Machines.{pages_booked}
 
@@ -10,7 +10,7 @@ use Rattle.mem_machine.specs.Machines.{pages_booked}
 -- for each group number: what is booked to the stocks of that group
 pub record AreBooked (frame_table : KnownTable) (words : Words) (stock : Seated) (sums : List ℕ) : Type 0 where
   pub table : stock.table ≡ words.table
-  pub zone : IsMachine stock.view
+  pub zone : IsZoneStock stock.view
   pub cpus : words.cpus ≡ frame_table.cpus
   pub size : length sums ≡ MAX_GROUPS
   pub each : (group : ℕ) → group < MAX_GROUPS → slice_index_or sums group 0 ≡ pages_booked frame_table stock group

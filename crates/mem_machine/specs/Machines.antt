@@ -9,7 +9,7 @@ use Rattle.frame_word.specs.Views.{note_of}
 use Rattle.frame_word.specs.Seats.{KnownTable, KnownSeat, IsZoneSeat, IsOpen, NothingPasses, LentIsBorrowed}
 use Rattle.frame_word.specs.Seats.{first_zone_view}
 use Rattle.stock_word.specs.declared.view.Account.{Account}
-use Rattle.stock_word.specs.Stock.{Words, Seated, IsMachine, account_of, first_machine}
+use Rattle.stock_word.specs.Stock.{Words, Seated, IsZoneStock, account_of, first_machine}
 use Rattle.group_charge.specs.Charges.{Ledger, pages_of, current_of, initial_ledger, with_new_group}
 use Rattle.group_tree.specs.declared.group.TheConstants.{MAX_GROUPS}
 use Rattle.group_tree.specs.Groups.{IsLeastFreeNumber}
@@ -141,7 +141,7 @@ pub record AreSized (table : KnownTable) (words : Words) (machine : KnownMachine
 pub record AreZoneSeats (frame_table : KnownTable) (words : Words) (seat : KnownSeat) (stock : Seated) : Type 0 where
   pub frames : IsZoneSeat frame_table seat
   pub table : stock.table ≡ words.table
-  pub stocks : IsMachine stock.view
+  pub stocks : IsZoneStock stock.view
 
 -- The machine is consistent. Its free areas are the maximal blocks of the free frames. Each frame is what its record
 -- says, to the zone's seat and to the lists. The charged frames are units of their groups. The lists stand. Nothing

@@ -164,9 +164,9 @@ pub record IsKept (views : List StockView) (number : ℕ) (last : Stock) : Type 
 abbrev pub IsProcessor : Words → StockView → Type 0
 IsProcessor words view = (0 < view.number) × (view.number ≤ words.cpus)
 
--- the view is that of the machine's seat, whose number is 0
-abbrev pub IsMachine : StockView → Type 0
-IsMachine view = view.number ≡ 0
+-- the view is that of the zone's seat, whose number is 0
+abbrev pub IsZoneStock : StockView → Type 0
+IsZoneStock view = view.number ≡ 0
 
 -- a view of a seat of this number that has seen nothing
 abbrev pub StartsAs : ℕ → StockView → Type 0

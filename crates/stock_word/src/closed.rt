@@ -1,7 +1,7 @@
 //! The end of a stock table.
 ghost use Rattle.std.specs.Prelude.{◌≡◌, ◌+◌, ◌-◌, ◌*◌, ◌<◌, ◌≤◌, ℕ, [], ◌∷◌, length, slice_index};
 ghost use Rattle.stock_word.specs.Kinds.{IsAlone};
-ghost use Rattle.stock_word.specs.Stock.{IsMachine, IsProcessor, AreOf, first_of, Gathers, view_in, word_of, HasWord};
+ghost use Rattle.stock_word.specs.Stock.{IsZoneStock, IsProcessor, AreOf, first_of, Gathers, view_in, word_of, HasWord};
 ghost use Rattle.stock_word.specs.declared.view.Stock.{Stock as AStock};
 ghost use Rattle.stock_word.specs.StockRule.{IsStockOf, stock_place as place_of_stock, report_place as place_of_report};
 
@@ -51,7 +51,7 @@ impl StockWords {
     /// processors, in any order. Each processor has one of them, and its words are what the
     /// machine's account of it and that seat tell, so no page was lost or made.
     pub fn close(self, seat0: StockSeat, seats: Vec<StockSeat>) -> ClosedWords
-        requires machine { (seat0.table ≡ self.table) × IsMachine seat0.view }
+        requires machine { (seat0.table ≡ self.table) × IsZoneStock seat0.view }
         requires processors { AreOf self.table seats.items × (length seats.items ≡ self.cpus) }
         ensures length { length result ≡ 16 * (self.cpus + 1) }
         ensures numbers { (k : ℕ) → k < length seats.items → IsProcessor self (view_in seats.items k) }

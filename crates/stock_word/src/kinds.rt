@@ -12,7 +12,7 @@
 ghost use Rattle.std.specs.Prelude.{◌≡◌, ◌≢◌, ◌*◌, ◌+◌, ◌-◌, ◌<◌, ◌≤◌, false, [], ◌∷◌, ◌++◌, Some, IfOk};
 ghost use Rattle.std.specs.Mem.Slots.{slots_items, slots_len, IsFull};
 ghost use Rattle.stock_word.specs.declared.view.Stock.TheVariants.{HeldBy, DrainedOf};
-ghost use Rattle.stock_word.specs.Stock.{Words, Placed, IsSized, HasWord, word_of, IsProcessor, IsMachine, account_of, account_for, stocked, IsSettled};
+ghost use Rattle.stock_word.specs.Stock.{Words, Placed, IsSized, HasWord, word_of, IsProcessor, IsZoneStock, account_of, account_for, stocked, IsSettled};
 ghost use Rattle.stock_word.specs.Stock.{first_of, second_of, first_machine, first_processors, without_second, second_alone};
 ghost use Rattle.stock_word.specs.Kinds.{IsAlone, IsPair, Ends, Consumes, Credits, SeesDrained, Reports, ConsumesHeld, Fills, SeesStock};
 ghost use Rattle.stock_word.specs.Kinds.{DrainsNone, LooksAt, Drains, Absorbs, Alone, Joined, consuming, crediting, looking, draining_step};
@@ -241,7 +241,7 @@ impl StockWords {
     pub(crate) fn step_look(&self, place: &mut Place, p: u32) -> u64
         requires table { place.old.table ≡ self.now.table }
         requires alone { IsAlone place.old.views }
-        requires machine { IsMachine (first_of place.old.views) }
+        requires machine { IsZoneStock (first_of place.old.views) }
         requires processor { (0 < p) × (p ≤ self.now.cpus) }
         ensures table { place.new.table ≡ place.old.table }
         ensures alone { IsAlone place.new.views }
@@ -256,7 +256,7 @@ impl StockWords {
     pub(crate) fn step_drain(&self, place: &mut Place, p: u32, group: u32) -> u64
         requires table { place.old.table ≡ self.now.table }
         requires alone { IsAlone place.old.views }
-        requires machine { IsMachine (first_of place.old.views) }
+        requires machine { IsZoneStock (first_of place.old.views) }
         requires processor { (0 < p) × (p ≤ self.now.cpus) }
         requires group { (account_of (first_of place.old.views) p).group ≡ Some group }
         requires fits { group < 64 }
@@ -275,7 +275,7 @@ impl StockWords {
     pub(crate) fn step_absorb(&self, place: &mut Place, p: u32) -> u64
         requires table { place.old.table ≡ self.now.table }
         requires alone { IsAlone place.old.views }
-        requires machine { IsMachine (first_of place.old.views) }
+        requires machine { IsZoneStock (first_of place.old.views) }
         requires processor { (0 < p) × (p ≤ self.now.cpus) }
         ensures table { place.new.table ≡ place.old.table }
         ensures alone { IsAlone place.new.views }
@@ -294,7 +294,7 @@ impl StockWords {
         requires table { place.old.table ≡ self.now.table }
         requires pair { IsPair place.old.views }
         requires number { number ≡ (second_of place.old.views).number }
-        requires machine { IsMachine (first_of place.old.views) }
+        requires machine { IsZoneStock (first_of place.old.views) }
         requires processor { IsProcessor self.now (second_of place.old.views) }
         requires fresh { n ≤ (second_of place.old.views).fresh }
         ensures table { place.new.table ≡ place.old.table }
@@ -313,7 +313,7 @@ impl StockWords {
         requires table { place.old.table ≡ self.now.table }
         requires pair { IsPair place.old.views }
         requires number { number ≡ (second_of place.old.views).number }
-        requires machine { IsMachine (first_of place.old.views) }
+        requires machine { IsZoneStock (first_of place.old.views) }
         requires processor { IsProcessor self.now (second_of place.old.views) }
         requires group { (account_for (first_of place.old.views) (second_of place.old.views)).group ≡ Some group }
         requires page { 0 < stocked (first_of place.old.views) (second_of place.old.views) }
@@ -333,7 +333,7 @@ impl StockWords {
         requires table { place.old.table ≡ self.now.table }
         requires pair { IsPair place.old.views }
         requires number { number ≡ (second_of place.old.views).number }
-        requires machine { IsMachine (first_of place.old.views) }
+        requires machine { IsZoneStock (first_of place.old.views) }
         requires processor { IsProcessor self.now (second_of place.old.views) }
         requires has_word { HasWord (HeldBy group pages) }
         requires settled { IsSettled (first_of place.old.views) (second_of place.old.views) }
@@ -354,7 +354,7 @@ impl StockWords {
         requires table { place.old.table ≡ self.now.table }
         requires pair { IsPair place.old.views }
         requires number { number ≡ (second_of place.old.views).number }
-        requires machine { IsMachine (first_of place.old.views) }
+        requires machine { IsZoneStock (first_of place.old.views) }
         requires processor { IsProcessor self.now (second_of place.old.views) }
         ensures table { place.new.table ≡ place.old.table }
         ensures pair { IsPair place.new.views }

@@ -1,7 +1,7 @@
 //! The calls of the machine's seat, alone or joined with a processor's. Whoever has that seat has
 //! the zone's lock.
 ghost use Rattle.std.specs.Prelude.{◌≡◌, ◌+◌, ◌-◌, ◌<◌, ◌≤◌, ◌⊎◌, [], ◌∷◌, false, Some, IfSome};
-ghost use Rattle.stock_word.specs.Stock.{IsProcessor, IsMachine, account_of, account_for, stocked, first_of, second_of};
+ghost use Rattle.stock_word.specs.Stock.{IsProcessor, IsZoneStock, account_of, account_for, stocked, first_of, second_of};
 ghost use Rattle.stock_word.specs.Stock.{HasWord, pages_of, group_of, is_held, drained_of};
 ghost use Rattle.stock_word.specs.Kinds.{IsAlone, IsPair, after_took, after_report, noting, filling, after_fill, draining, absorbing, with_steps};
 ghost use Rattle.stock_word.specs.Calls.{with_view, after_look, steps_of_drain};
@@ -39,7 +39,7 @@ impl StockWords {
     /// them.
     pub fn report(&self, seat0: &mut StockSeat, seat: &mut StockSeat, n: u32)
         requires tables { (seat0.old.table ≡ self.now.table) × (seat.old.table ≡ self.now.table) }
-        requires machine { IsMachine seat0.old.view }
+        requires machine { IsZoneStock seat0.old.view }
         requires processor { IsProcessor self.now seat.old.view }
         requires fresh { n ≤ seat.old.view.fresh }
         ensures booked { seat.old.view.fresh + (account_for seat0.old.view seat.old.view).noted ≤ (account_for seat0.old.view seat.old.view).book }
@@ -56,7 +56,7 @@ impl StockWords {
     /// machine's seat and changes nothing else. The book is the pages in the stock, the fresh ones and the reported ones.
     pub fn look(&self, seat0: &mut StockSeat, seat: &mut StockSeat) -> Stock
         requires tables { (seat0.old.table ≡ self.now.table) × (seat.old.table ≡ self.now.table) }
-        requires machine { IsMachine seat0.old.view }
+        requires machine { IsZoneStock seat0.old.view }
         requires processor { IsProcessor self.now seat.old.view }
         ensures has_word { HasWord result }
         ensures balanced { (account_for seat0.old.view seat.old.view).book
@@ -78,7 +78,7 @@ impl StockWords {
     /// (0 to 63), has a page that is neither fresh nor reported.
     pub fn consume_held(&self, seat0: &mut StockSeat, seat: &mut StockSeat, g: u32)
         requires tables { (seat0.old.table ≡ self.now.table) × (seat.old.table ≡ self.now.table) }
-        requires machine { IsMachine seat0.old.view }
+        requires machine { IsZoneStock seat0.old.view }
         requires processor { IsProcessor self.now seat.old.view }
         requires group { (account_for seat0.old.view seat.old.view).group ≡ Some g }
         requires page { 0 < stocked seat0.old.view seat.old.view }
@@ -96,7 +96,7 @@ impl StockWords {
     /// and none reported that was not taken in.
     pub fn fill(&self, seat0: &mut StockSeat, seat: &mut StockSeat, g: u32, n: u32)
         requires tables { (seat0.old.table ≡ self.now.table) × (seat.old.table ≡ self.now.table) }
-        requires machine { IsMachine seat0.old.view }
+        requires machine { IsZoneStock seat0.old.view }
         requires processor { IsProcessor self.now seat.old.view }
         requires group { g < 64 }
         requires pages { (0 < n) × (n < 65536) }
@@ -117,7 +117,7 @@ impl StockWords {
     /// drained already. The processor's own calls may go on meanwhile.
     pub fn drain(&self, seat0: &mut StockSeat, p: u32) -> u32
         requires table { seat0.old.table ≡ self.now.table }
-        requires machine { IsMachine seat0.old.view }
+        requires machine { IsZoneStock seat0.old.view }
         requires processor { (0 < p) × (p ≤ self.now.cpus) }
         ensures machine { seat0.new ≡ with_view seat0.old
             (with_steps (steps_of_drain (account_of seat0.old.view p).group) (draining seat0.old.view p result)) }
@@ -138,7 +138,7 @@ impl StockWords {
     /// One look. A stock that was never filled counts as drained of no page from then on.
     pub fn group(&self, seat0: &mut StockSeat, p: u32) -> Option<u32>
         requires table { seat0.old.table ≡ self.now.table }
-        requires machine { IsMachine seat0.old.view }
+        requires machine { IsZoneStock seat0.old.view }
         requires processor { (0 < p) × (p ≤ self.now.cpus) }
         ensures group { result ≡ (account_of seat0.old.view p).group }
         ensures fits { IfSome result (λ g. g < 64) }
@@ -152,7 +152,7 @@ impl StockWords {
     /// how many they are. They are no longer booked to its stock.
     pub fn absorb(&self, seat0: &mut StockSeat, p: u32) -> u32
         requires table { seat0.old.table ≡ self.now.table }
-        requires machine { IsMachine seat0.old.view }
+        requires machine { IsZoneStock seat0.old.view }
         requires processor { (0 < p) × (p ≤ self.now.cpus) }
         ensures reported { result ≡ (account_of seat0.old.view p).noted }
         ensures booked { result ≤ (account_of seat0.old.view p).book }

@@ -2,7 +2,7 @@
 //! it that are paid for inside a visit.
 ghost use Rattle.std.specs.Prelude.{◌≡◌, ◌≤◌, None};
 ghost use Rattle.frame_word.specs.Seats.{IsZoneSeat, first_zone_view};
-ghost use Rattle.stock_word.specs.Stock.{IsMachine};
+ghost use Rattle.stock_word.specs.Stock.{IsZoneStock};
 
 use crate::parts::{
     Given, Parts, drains, drops, fast, frame_of, give_back, give_some, give_up, make_parts, set_up,
@@ -57,7 +57,7 @@ fn take_by_books<N: BootName>(
     machine: &mut StockSeat,
     cpu: &mut Cpu<N>,
 ) -> Option<Frame>
-    requires machine { (machine.old.table ≡ N.stocks.table) × IsMachine machine.old.view }
+    requires machine { (machine.old.table ≡ N.stocks.table) × IsZoneStock machine.old.view }
     ensures machine { (machine.new.table ≡ machine.old.table) × (machine.new.view.number ≡ machine.old.view.number) }
     ensures books { machine.new.view.accounts ≡ machine.old.view.accounts }
     ensures none { result ≡ None → cpu.new ≡ cpu.old }
@@ -81,7 +81,7 @@ fn takes_fronts<N: BootName>(
     machine: &mut StockSeat,
     cpu: &mut Cpu<N>,
 )
-    requires machine { (machine.old.table ≡ N.stocks.table) × IsMachine machine.old.view × (1 ≤ N.stocks.cpus) }
+    requires machine { (machine.old.table ≡ N.stocks.table) × IsZoneStock machine.old.view × (1 ≤ N.stocks.cpus) }
 {
     let zeroth = frame_of(rt, tables, 0);
     let first = frame_of(rt, tables, 1);
@@ -106,7 +106,7 @@ fn takes<N: BootName>(
     cpu: &mut Cpu<N>,
     front: Option<Frame>,
 )
-    requires { (machine.old.table ≡ N.stocks.table) × IsMachine machine.old.view }
+    requires { (machine.old.table ≡ N.stocks.table) × IsZoneStock machine.old.view }
     ensures { (machine.new.table ≡ machine.old.table) × (machine.new.view.number ≡ machine.old.view.number) }
 {
     same(rt, take_by_books(tables, machine, cpu), front);

@@ -2,7 +2,7 @@
 ghost use Rattle.std.specs.Prelude.{◌≡◌, ◌≢◌, ◌+◌, ◌<◌, ◌≤◌, ℕ, [], length};
 ghost use Rattle.frame_word.specs.Seats.{IsInOwnHand, IsOpen, IsShut, IsZoneSeat, NothingPasses};
 ghost use Rattle.frame_word.specs.Seats.{first_cpu_view, first_zone_view, holds};
-ghost use Rattle.stock_word.specs.Stock.{IsMachine, first_machine, first_processor};
+ghost use Rattle.stock_word.specs.Stock.{IsZoneStock, first_machine, first_processor};
 
 use crate::rows::same;
 use cpu_part::{BootName, Cpu, Dropped, Fast, Tables};
@@ -166,9 +166,9 @@ fn take_fresh<N: BootName>(
     cpu: &mut Cpu<N>,
 ) -> Option<Frame>
     requires zone { IsZoneSeat N.frames zone.old × IsOpen zone.old cpu.old.number }
-    requires machine { (machine.old.table ≡ N.stocks.table) × IsMachine machine.old.view }
+    requires machine { (machine.old.table ≡ N.stocks.table) × IsZoneStock machine.old.view }
     requires still { NothingPasses N.frames zone.old cpu.old.seat }
-    ensures machine { (machine.new.table ≡ N.stocks.table) × IsMachine machine.new.view }
+    ensures machine { (machine.new.table ≡ N.stocks.table) × IsZoneStock machine.new.view }
 {
     let frame = cpu.hand_fresh(tables, zone, machine)?;
     cpu.collect(tables, zone, frame);
@@ -195,8 +195,8 @@ pub(crate) fn drains<N: BootName>(
     machine: &mut StockSeat,
     pages: u32,
 )
-    requires { (machine.old.table ≡ N.stocks.table) × IsMachine machine.old.view × (1 ≤ N.stocks.cpus) }
-    ensures { (machine.new.table ≡ N.stocks.table) × IsMachine machine.new.view }
+    requires { (machine.old.table ≡ N.stocks.table) × IsZoneStock machine.old.view × (1 ≤ N.stocks.cpus) }
+    ensures { (machine.new.table ≡ N.stocks.table) × IsZoneStock machine.new.view }
 {
     same(rt, tables.stocks.drain(machine, 1), pages);
 }
@@ -442,7 +442,7 @@ fn begins<N: BootName>(
     requires machine { (machine.old.table ≡ N.stocks.table) × (machine.old.view ≡ first_machine) }
     requires cpu { (cpu.old.number ≡ 1) × (cpu.old.list ≡ []) × (cpu.old.fresh ≡ []) }
     ensures zone { IsZoneSeat N.frames zone.new × IsShut zone.new 1 }
-    ensures machine { (machine.new.table ≡ N.stocks.table) × IsMachine machine.new.view }
+    ensures machine { (machine.new.table ≡ N.stocks.table) × IsZoneStock machine.new.view }
     ensures frame { result < 8 }
 {
     let used = frame_of(rt, tables, 5);
@@ -518,7 +518,7 @@ fn close_stocks(
     machine: StockSeat,
     payers: (StockSeat, StockSeat),
 )
-    requires machine { (machine.table ≡ stocks.table) × IsMachine machine.view }
+    requires machine { (machine.table ≡ stocks.table) × IsZoneStock machine.view }
     requires payers { (payers.0.table ≡ stocks.table) × (payers.1.table ≡ stocks.table) }
     requires sizes { stocks.cpus ≡ 2 }
 {
@@ -540,7 +540,7 @@ fn ends<N: BootName>(
     cpus: (Cpu<N>, Cpu<N>),
     used: Frame,
 )
-    requires zone { (zone.0.table ≡ N.frames.table) × (zone.1.table ≡ N.stocks.table) × IsMachine zone.1.view }
+    requires zone { (zone.0.table ≡ N.frames.table) × (zone.1.table ≡ N.stocks.table) × IsZoneStock zone.1.view }
     requires sizes { (N.frames.frames ≡ 8) × (N.frames.cpus ≡ 2) × (N.stocks.cpus ≡ 2) }
     requires used { used < 8 }
 {

@@ -1,5 +1,5 @@
 ghost use Rattle.std.specs.Prelude.{◌≡◌, ◌≤◌, ◌+◌, false, length};
-ghost use Rattle.stock_word.specs.Stock.{IsProcessor, IsMachine, IsSettled, account_of, first_machine, first_processor};
+ghost use Rattle.stock_word.specs.Stock.{IsProcessor, IsZoneStock, IsSettled, account_of, first_machine, first_processor};
 ghost use Rattle.stock_word.specs.Kinds.{draining, with_steps};
 ghost use Rattle.stock_word.specs.Calls.{steps_of_drain};
 
@@ -38,9 +38,9 @@ fn drained_with_a_fresh_page(rt: HostRuntime) {
 // Takes a page of the stock, of whatever group it is, where one is left. Tells whether there was.
 fn take_left(words: &StockWords, machine: &mut StockSeat, seat: &mut StockSeat) -> bool
     requires tables { (machine.old.table ≡ words.now.table) × (seat.old.table ≡ words.now.table) }
-    requires seats { IsMachine machine.old.view × IsProcessor words.now seat.old.view }
+    requires seats { IsZoneStock machine.old.view × IsProcessor words.now seat.old.view }
     ensures tables { (machine.new.table ≡ words.now.table) × (seat.new.table ≡ words.now.table) }
-    ensures seats { IsMachine machine.new.view × IsProcessor words.now seat.new.view }
+    ensures seats { IsZoneStock machine.new.view × IsProcessor words.now seat.new.view }
 {
     match words.look(machine, seat) {
         Stock::HeldBy { group, pages } if pages > 0 => {
@@ -107,17 +107,17 @@ fn round<R: Threads + Sync>(
     mut seat: StockSeat,
 ) -> (StockSeat, StockSeat, u32)
     requires tables { (machine.table ≡ words.now.table) × (seat.table ≡ words.now.table) }
-    requires numbers { IsMachine machine.view × (seat.view.number ≡ 1) × (1 ≤ words.now.cpus) }
+    requires numbers { IsZoneStock machine.view × (seat.view.number ≡ 1) × (1 ≤ words.now.cpus) }
     requires settled { IsSettled machine.view seat.view }
     ensures tables { (result.0.table ≡ words.now.table) × (result.1.table ≡ words.now.table) }
-    ensures numbers { IsMachine result.0.view × (result.1.view.number ≡ 1) }
+    ensures numbers { IsZoneStock result.0.view × (result.1.view.number ≡ 1) }
     ensures settled { IsSettled result.0.view result.1.view }
 {
     words.fill(&mut machine, &mut seat, 1, 50);
     let (drained, worked) = join(
         rt,
         move || -> (u32, StockSeat)
-            requires { (machine.table ≡ words.now.table) × IsMachine machine.view × (1 ≤ words.now.cpus) }
+            requires { (machine.table ≡ words.now.table) × IsZoneStock machine.view × (1 ≤ words.now.cpus) }
             ensures { (result.1.table ≡ words.entry.now.table)
                 × (result.1.view ≡ with_steps (steps_of_drain (account_of machine.view 1).group) (draining machine.view 1 result.0))
                 × (result.0 ≤ (account_of machine.view 1).book) }
