@@ -160,7 +160,7 @@ pub record IsKept (views : List StockView) (number : ℕ) (last : Stock) : Type 
   pub last_word : HasWord last
   pub none_fresh : last ≡ NoGroup → (first_of views).fresh ≡ 0
 
--- the view is that of a processor's seat, or of the machine's
+-- the view is that of a processor's seat, whose number is one of theirs
 abbrev pub IsProcessor : Words → StockView → Type 0
 IsProcessor words view = (0 < view.number) × (view.number ≤ words.cpus)
 
