@@ -63,9 +63,9 @@ fn serve_and_end<N: BootName + Send + Sync, R: Threads + Wait + Sync>(
         IsQuiet N.frames N.stocks end.locked × (length end.cpus ≡ N.frames.cpus)) result.1.held result.1.audit }
 {
     locked.see_quiet(); // For the clauses: there are few processors.
-    let system = System::of(tables, locked);
+    let system = System::of(locked, tables);
     let told = serve_later(rt, alloc, &system, &mut cpus, lines, has_memory);
-    let (tables, locked) = system.into_parts();
+    let (locked, tables) = system.into_parts();
     let ended = finish(tables, locked, cpus);
     (told, ended)
 }

@@ -6,13 +6,13 @@ use Rattle.zone_blocks.specs.declared.block.Block.{Block}
 
 -- a free block: its order and its first frame
 abbrev pub block_text : Block → List ℕ
-block_text b = decimal b.order ++ codes ":" ++ decimal b.at
+block_text block = decimal block.order ++ codes ":" ++ decimal block.at
 
 -- a free block that follows another: a space, and then its text
 abbrev pub spaced_block : Block → List ℕ
-spaced_block b = codes " " ++ block_text b
+spaced_block block = codes " " ++ block_text block
 
 -- what is written for `blocks`: the free blocks with a space between each two, or that there is none
 abbrev pub blocks_text : List Block → List ℕ
 blocks_text [] = codes "none\n"
-blocks_text (b ∷ blocks) = block_text b ++ flat_map spaced_block blocks ++ codes "\n"
+blocks_text (first ∷ others) = block_text first ++ flat_map spaced_block others ++ codes "\n"

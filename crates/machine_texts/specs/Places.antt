@@ -10,50 +10,52 @@ use Rattle.mem_machine.specs.declared.spot.Place.TheVariants.{Free, Lent, Charge
 use Rattle.mem_machine.specs.Spots.{place_of}
 use Rattle.machine_texts.specs.Characters.{characters}
 
--- the two places are one
+-- whether the two places are one
 abbrev pub is_same_place : Place → Place → Bool
 is_same_place Free Free = true
-is_same_place (Lent p) (Lent q) = p == q
-is_same_place (Charged g) (Charged h) = g == h
-is_same_place Free (Lent q) = false
-is_same_place Free (Charged h) = false
-is_same_place (Lent p) Free = false
-is_same_place (Lent p) (Charged h) = false
-is_same_place (Charged g) Free = false
-is_same_place (Charged g) (Lent q) = false
+is_same_place (Lent one) (Lent other) = one == other
+is_same_place (Charged one) (Charged other) = one == other
+is_same_place Free (Lent other) = false
+is_same_place Free (Charged other) = false
+is_same_place (Lent one) Free = false
+is_same_place (Lent one) (Charged other) = false
+is_same_place (Charged one) Free = false
+is_same_place (Charged one) (Lent other) = false
 
--- a group that is charged for the frame is there
+-- the group that is charged for frames at this place, if any, is there
 abbrev pub KeeperIsThere : List Group → Place → Type 0
-KeeperIsThere groups (Charged g) = has_group groups g ≡ true
+KeeperIsThere groups (Charged group) = has_group groups group ≡ true
 KeeperIsThere groups Free = Unit {0}
-KeeperIsThere groups (Lent p) = Unit {0}
+KeeperIsThere groups (Lent processor) = Unit {0}
 
--- so it is where a frame has this record
+-- the group that is charged for a frame with this record, if any, is there
 abbrev pub SpotIsThere : List Group → Spot → Type 0
-SpotIsThere groups s = KeeperIsThere groups (place_of s)
+SpotIsThere groups spot = KeeperIsThere groups (place_of spot)
 
 -- where a frame is: in the free areas, lent to this processor, or charged to the group of this path
 abbrev pub place_text : List Group → Place → List ℕ
 place_text groups Free = codes "free"
-place_text groups (Lent p) = codes "cpu " ++ decimal p
-place_text groups (Charged g) = option_map_or characters (path_of groups g) []
+place_text groups (Lent processor) = codes "cpu " ++ decimal processor
+place_text groups (Charged group) = option_map_or characters (path_of groups group) []
 
 -- the frames from the first to the last
-abbrev pub frames_text : ℕ → ℕ → List ℕ
-frames_text first last = if first == last then decimal first ++ codes " " else decimal first ++ codes "-" ++ decimal last ++ codes " "
+abbrev pub frames_text : (first last : ℕ) → List ℕ
+frames_text first last =
+    if first == last then decimal first ++ codes " "
+    else decimal first ++ codes "-" ++ decimal last ++ codes " "
 
 -- the line of a run: its frames from the first to the last, and the place where they all are
-abbrev pub run_text : List Group → ℕ → ℕ → Place → List ℕ
-run_text groups first last p = frames_text first last ++ place_text groups p ++ codes "\n"
+abbrev pub run_text : List Group → (first last : ℕ) → Place → List ℕ
+run_text groups first last place = frames_text first last ++ place_text groups place ++ codes "\n"
 
--- the frames from `first` to the one before `next` are at p, and those from `next` on have these records
-abbrev pub runs_text : List Group → ℕ → ℕ → Place → List Spot → List ℕ
-runs_text groups first next p [] = run_text groups first (next - 1) p
-runs_text groups first next p (s ∷ spots) =
-    if is_same_place (place_of s) p then runs_text groups first (next + 1) p spots
-    else run_text groups first (next - 1) p ++ runs_text groups next (next + 1) (place_of s) spots
+-- the frames from `first` to the one before `next` are at this place, and those from `next` on have these records
+abbrev pub runs_text : List Group → (first next : ℕ) → Place → List Spot → List ℕ
+runs_text groups first next place [] = run_text groups first (next - 1) place
+runs_text groups first next place (spot ∷ spots) =
+    if is_same_place (place_of spot) place then runs_text groups first (next + 1) place spots
+    else run_text groups first (next - 1) place ++ runs_text groups next (next + 1) (place_of spot) spots
 
 -- a line for each longest run of frames with equal place
 abbrev pub places_text : List Group → List Spot → List ℕ
 places_text groups [] = []
-places_text groups (s ∷ spots) = runs_text groups 0 1 (place_of s) spots
+places_text groups (spot ∷ spots) = runs_text groups 0 1 (place_of spot) spots

@@ -30,10 +30,11 @@ pub(crate) fn write_places(spots: &[Spot], tree: &Tree, text: &mut String) -> Re
     write_run(first, spots.len() - 1, &place, tree, text)
 }
 
-fn is_same_place(a: &Place, b: &Place) -> bool
-    ensures { result ≡ is_same_place a.now b.now }
+// Whether the two places are one.
+fn is_same_place(one: &Place, other: &Place) -> bool
+    ensures { result ≡ is_same_place one.now other.now }
 {
-    a == b
+    one == other
 }
 
 // The line of the frames from the first to the last, which are all at this place.
@@ -45,13 +46,15 @@ fn write_run(
     text: &mut String,
 ) -> Result<(), AllocError>
     requires { KeeperIsThere tree.now place.now }
-    ensures { IfOk result (λ _. string_bytes text.new ≡ string_bytes text.old ++ run_text tree.now first last place.now) }
+    ensures { IfOk result (λ _. string_bytes text.new
+        ≡ string_bytes text.old ++ run_text tree.now first last place.now) }
 {
     write_frames(first, last, text)?;
     write_place(place, tree, text)?;
     text.push_str("\n")
 }
 
+// The numbers of the frames from the first to the last.
 fn write_frames(first: usize, last: usize, text: &mut String) -> Result<(), AllocError>
     ensures { IfOk result (λ _. string_bytes text.new ≡ string_bytes text.old ++ frames_text first last) }
 {
@@ -62,6 +65,7 @@ fn write_frames(first: usize, last: usize, text: &mut String) -> Result<(), Allo
     }
 }
 
+// The place itself: for frames that are charged, the path of their group, which is there.
 fn write_place(place: &Place, tree: &Tree, text: &mut String) -> Result<(), AllocError>
     requires { KeeperIsThere tree.now place.now }
     ensures { IfOk result (λ _. string_bytes text.new ≡ string_bytes text.old ++ place_text tree.now place.now) }

@@ -137,17 +137,17 @@ module _ (t : KnownTable) (w : Words) (m : KnownMachine) (cpus : List KnownCpu) 
   found p some within =
       let same = ok.sizes.cpus in
       let at = closed.each p some (omega (arith, within, same)) in
-      let k = at.0 in
+      let k = at.place in
       let long = long_stocks cpus in
-      let inside = at.1 in
+      let inside = at.inside in
       let any : KnownCpu = record { number = 0; list = []; fresh = []; back = []; pins = []; seat = m.seat; stock = m.stock; drops = 0 } in
       let c = get_or cpus k any in
       let there : k < length cpus = omega (arith, long, inside) in
       let spent = all k any there in
       let view = view_at cpus k any there in
-      let number : c.number ≡ p = sym spent.tied.seats.stock_number ∙ sym (ap (λ v. v.number) view) ∙ at.2 in
+      let number : c.number ≡ p = sym spent.tied.seats.stock_number ∙ sym (ap (λ v. v.number) view) ∙ at.number in
       let words = closed.stocks k inside in
-      let drained = ap (λ (q : ℕ). (account_of m.stock.view q).filled) (at.2 ∙ sym number) ∙ spent.drained in
+      let drained = ap (λ (q : ℕ). (account_of m.stock.view q).filled) (at.number ∙ sym number) ∙ spent.drained in
       let empty : pages_of words.stock ≡ 0 = not_held words.stock (words.held ∙ drained) in
       let fresh : (view_in (map stock_seat_of cpus) k).fresh ≡ 0 = ap (λ v. v.fresh) view ∙ spent.tied.within.pages_are ∙ ap length spent.idle.1 in
       let noted = words.reported ∙ ok.noted (view_in (map stock_seat_of cpus) k).number in
@@ -156,7 +156,7 @@ module _ (t : KnownTable) (w : Words) (m : KnownMachine) (cpus : List KnownCpu) 
         c,
         number,
         spent,
-        subst (λ (q : ℕ). HasNoPage m closed.stock_words q) at.2
+        subst (λ (q : ℕ). HasNoPage m closed.stock_words q) at.number
             (record { stock = words.stock; encoded = words.encoded; empty = empty; none_reported = noted; book = book }),
       )
 
@@ -199,8 +199,8 @@ all_ends t w l cpus x rested y spent a frame_seats stock_seats drops quiet no_pi
       quiet = quiet;
       no_pin = no_pin;
       settled = x;
-      rested = rested;
-      rests = rests;
+      settled_cpus = rested;
+      settles = rests;
       last = y;
       spent = spent;
       empties = empties;

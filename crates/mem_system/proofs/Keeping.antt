@@ -23,7 +23,7 @@ use Rattle.mem_system.specs.Leaves.{IsLeafAt}
 use Rattle.mem_alloc.specs.Room.{with_limit_noted}
 use Rattle.mem_system.specs.Usage.{LowersUsage, LowersAbove, KeepsToLimit}
 use Rattle.mem_system.proofs.Found.{found_there}
-use Rattle.mem_system.specs.Commands.{SetsLimit, with_limit_of}
+use Rattle.mem_system.specs.Files.{SetsLimit, with_limit_of}
 use Rattle.mem_machine.proofs.Followed.{makes_both, makes_none}
 
 -- ---- a visit

@@ -37,18 +37,19 @@ use Rattle.mem_system.specs.declared.command.Cmd.{Cmd}
 use Rattle.mem_system.specs.declared.command.Cmd.TheVariants.{Mkdir, Rmdir, Write, Read, Settle, Owner, Touch, Dirty, Clean, Release, Alloc}
 use Rattle.mem_system.specs.declared.command.Reply.{Reply}
 use Rattle.mem_system.specs.declared.command.Reply.TheVariants as reply
-use Rattle.mem_system.specs.Files.{IsFileOf}
+use Rattle.mem_system.specs.Groups.{MakesGroup, Removes}
+use Rattle.mem_system.specs.Files.{IsFileOf, SetsLimit, Writes, with_limit_of}
 use Rattle.mem_alloc.specs.Room.{with_limit_noted}
 use Rattle.mem_system.specs.Usage.{LowersUsage, LowersAbove, LowersByKills, KeepsToLimit}
 use Rattle.mem_system.specs.Allocs.{Allocates, AllocatesFor}
 use Rattle.mem_system.specs.Kept.{TouchesFrame, NotesDirt}
 use Rattle.mem_system.specs.Releases.{CutsList, ListsFrame, ReleasesFrame, ReturnsFrames}
-use Rattle.mem_system.specs.Commands.{MakesGroup, MayAskFor, Obeys, Removes, SetsLimit, Writes, with_limit_of}
+use Rattle.mem_system.specs.Commands.{MayAskFor, Obeys}
 
 -- ---- commands that kill nobody
 
 makes_quiet : (path : List ℕ) (said : Reply) (way : Course KnownMachine) → MakesGroup path said way → has_kill way.steps ≡ false
-makes_quiet path (reply.Group n) way h = ap has_kill h.2
+makes_quiet path (reply.Group n) way h = ap has_kill h.steps_are
 makes_quiet path (reply.Refused fault) way h = ap has_kill h.1.steps_are
 makes_quiet path other way h = absurd h
 
@@ -88,7 +89,7 @@ returns_quiet : (sizes : Config) (f : ℕ) (way : Course Side) → ReturnsFrames
 returns_quiet sizes f way h =
     let listed : has_kill h.listing ≡ false = elim (cases_eq h.returns.unit.order 0) [
       | inl single ↦ lists_quiet sizes f (course way.table (side h.freed way.before.cpu) h.listing way.after) (h.single single)
-      | inr block ↦ ap has_kill (h.block block).2
+      | inr block ↦ ap has_kill (h.block block).steps_are
     ] in
     ap has_kill h.steps_are ∙ no_kill_both (release_steps f released.Returned) h.listing refl listed
 
@@ -217,7 +218,8 @@ obeys_no_rash t sizes (Mkdir path) said s c steps n z h whole =
 obeys_no_rash t sizes (Rmdir path) said s c steps n z h whole =
     rash_quiet t (MayAskFor (Rmdir path) s.ledger.groups) s c [] steps (removes_quiet path.now said (course t s steps n.machine) h.0)
 obeys_no_rash t sizes (Write path file value) said s c steps n z h whole =
-    writes_no_rash t (Write path file value) path.now file.now value.now said s c steps n.machine z (λ g of file reads. (of, file, reads, refl, refl)) whole h.0
+    writes_no_rash t (Write path file value) path.now file.now value.now said s c steps n.machine z
+    (λ g of file reads. record { limit = of; file = file; reads = reads; now_is = refl; no_need = refl }) whole h.0
 obeys_no_rash t sizes (Read path file) said s c steps n z h whole =
     rash_quiet t (MayAskFor (Read path file) s.ledger.groups) s c [] steps (ap has_kill h.1.steps_are)
 obeys_no_rash t sizes Settle said s c steps n z h whole =
@@ -234,7 +236,7 @@ obeys_no_rash t sizes (Release f) said s c steps n z h whole =
     rash_quiet t (MayAskFor (Release f) s.ledger.groups) s c [] steps (releases_quiet sizes f said (course t (side s c) steps n) h)
 obeys_no_rash t sizes (Alloc path order) said s c steps n z h whole =
     allocates_no_rash t (Alloc path order) sizes path.now order said s c steps n z
-    (λ g over found below few. (g, found, refl, record { on_path = below; need_is = refl; few = few })) whole h
+    (λ g over found below few. record { group = g; found = found; same = refl; below = record { on_path = below; need_is = refl; few = few } }) whole h
 
 -- ---- the steps around it
 

@@ -101,7 +101,7 @@ returned_block t sizes f m freed c returns more first = (
     returns = returns;
     listing = [];
     single = λ single. absurd (more single);
-    block = λ _. (refl, refl, refl);
+    block = λ _. record { machine = refl; cpu = refl; steps_are = refl };
     steps_are = refl;
   },
   first,

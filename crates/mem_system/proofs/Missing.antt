@@ -26,13 +26,15 @@ use Rattle.mem_system.specs.Usage.{KeepsToLimit, LowersAbove, LowersUsage}
 use Rattle.mem_system.specs.Allocs.{Allocates, AllocatesFor}
 use Rattle.mem_system.specs.Kept.{HeadsNoUnit, NotesDirt, TouchesFrame}
 use Rattle.mem_system.specs.Releases.{ListsFrame, ReleasesFrame, ReturnsFrames}
-use Rattle.mem_system.specs.Commands.{MakesGroup, Obeys, Removes, SetsLimit, Writes, with_limit_of}
+use Rattle.mem_system.specs.Groups.{MakesGroup, Removes}
+use Rattle.mem_system.specs.Files.{SetsLimit, Writes, with_limit_of}
+use Rattle.mem_system.specs.Commands.{Obeys}
 
 makes_counts : (path : List ℕ) (said : Reply) (way : Course KnownMachine) → MakesGroup path said way → CountsMisses way
 makes_counts path (reply.Group n) way h =
-    counts_as way.table way.before way.after way.steps (make_steps path n) h.2
+    counts_as way.table way.before way.after way.steps (make_steps path n) h.steps_are
     (counts_same way.table way.before way.after (make_steps path n) (record { quiet = refl; no_miss = λ f. refl })
-    (ap (λ (x : KnownMachine). x.seat) h.1.machine))
+    (ap (λ (x : KnownMachine). x.seat) h.adds.machine))
 makes_counts path (reply.Refused fault) way h = counts_rest way.table way.before way.after way.steps h.1.machine h.1.steps_are
 makes_counts path other way h = absurd h
 
@@ -127,7 +129,7 @@ returns_counts sizes f way h =
     (λ g. ap (λ (k : KnownMachine). misses_of k.seat g) h.returns.machine ∙ misses_put m.seat f g let_go_last (λ k. refl)) in
     let listed : CountsMisses (course t h.freed h.listing n) = elim (cases_eq h.returns.unit.order 0) [
       | inl single ↦ lists_counts sizes f (course t (side h.freed way.before.cpu) h.listing way.after) (h.single single)
-      | inr block ↦ counts_rest t h.freed n h.listing (h.block block).0 (h.block block).2
+      | inr block ↦ counts_rest t h.freed n h.listing (h.block block).machine (h.block block).steps_are
     ] in
     counts_as t m n way.steps (first ++ h.listing) h.steps_are (counts_both t m h.freed n first h.listing back listed)
 

@@ -1,4 +1,4 @@
--- Serves `deal` and `spend`. The parts of the processors at first, dealt one by one.
+-- Serves `make_cpus` and `take_apart`. The parts of the processors at first, made one by one.
 use Rattle.std.proofs.Common.{◌≡◌, ℕ, zero, suc, ◌+◌, ◌-◌, ◌<◌, ◌≤◌, List, [], ◌∷◌, ◌++◌, All, length, get_or, refl, sym, ap, ◌∙◌, subst, arith}
 use Rattle.atomic_table.specs.Seated.{TableId}
 use Rattle.frame_word.specs.Seats.{KnownTable, KnownSeat, number_of, IsCpuSeat, first_cpu_view, first_cpu_seats}

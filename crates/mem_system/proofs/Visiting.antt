@@ -66,9 +66,9 @@ served t cmd l k c d reply entered mid x c1 c2 c3 opened same second third shut 
     let rested : MakesAs t p (side begins c) (settle_steps (side begins c)) (side mid c2) =
     subst (λ (y : KnownMachine × KnownCpu). MakesAs t y.1.number (side y.0 y.1) (settle_steps (side y.0 y.1)) (side mid c2)) (λ i. (opened i, same i)) rests in
     let inside = subst (λ (q : ℕ). MakesAs t q (side mid c2) obeyed.0 (side x c3)) two obeyed.2 in
-    let ended = subst (λ (q : ℕ). MakesAs t q (side x c3) (shut_steps q) (side k.machine d)) three last in (
-      open_steps p ++ (settle_steps (side begins c) ++ (obeyed.0 ++ shut_steps p)),
-      record {
+    let ended = subst (λ (q : ℕ). MakesAs t q (side x c3) (shut_steps q) (side k.machine d)) three last in record {
+      steps = open_steps p ++ (settle_steps (side begins c) ++ (obeyed.0 ++ shut_steps p));
+      serves = record {
         settled = side mid c2;
         settles = settled;
         inner = obeyed.0;
@@ -80,9 +80,9 @@ served t cmd l k c d reply entered mid x c1 c2 c3 opened same second third shut 
         machine = shut ∙ ap (λ (q : ℕ). with_visit_of x q 0) three;
         sizes = sizes;
         steps_are = refl;
-      },
-      makes_both t p (open_steps p) (settle_steps (side begins c) ++ (obeyed.0 ++ shut_steps p)) (side l.machine c) (side begins c)
+      };
+      makes = makes_both t p (open_steps p) (settle_steps (side begins c) ++ (obeyed.0 ++ shut_steps p)) (side l.machine c) (side begins c)
           (side k.machine d) begun
           (makes_both t p (settle_steps (side begins c)) (obeyed.0 ++ shut_steps p) (side begins c) (side mid c2) (side k.machine d) rested
-          (makes_both t p obeyed.0 (shut_steps p) (side mid c2) (side x c3) (side k.machine d) inside ended)),
-    )
+          (makes_both t p obeyed.0 (shut_steps p) (side mid c2) (side x c3) (side k.machine d) inside ended));
+    }

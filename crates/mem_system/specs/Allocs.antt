@@ -36,10 +36,10 @@ pub record HasBadOrder (path : List ℕ) (order : ℕ) (way : Course Side) : Typ
   pub stays : Stays way
 
 -- Alloc: the frame, or the head of the block; or it is refused for the first cause that holds
-abbrev pub Allocates : Config → List ℕ → ℕ → Reply → Course Side → Type 0
-Allocates sizes path order (Frame f) way = AllocatesFor sizes path order (Ok f) way
-Allocates sizes path order (OverLimit g text) way =
-    AllocatesFor sizes path order (Err (Over g)) way × (path_of way.after.machine.ledger.groups g ≡ Some text)
+abbrev pub Allocates : Config → (path : List ℕ) (order : ℕ) → Reply → Course Side → Type 0
+Allocates sizes path order (Frame head) way = AllocatesFor sizes path order (Ok head) way
+Allocates sizes path order (OverLimit over text) way =
+    AllocatesFor sizes path order (Err (Over over)) way × (path_of way.after.machine.ledger.groups over ≡ Some text)
 Allocates sizes path order (Refused fault.NoGroup) way =
     (number_at way.before.machine.ledger.groups path ≡ None) × Stays way
 Allocates sizes path order (Refused fault.BadOrder) way = HasBadOrder path order way
@@ -49,18 +49,19 @@ Allocates sizes path order other way = ⊥
 
 -- what an allocation comes to, by its answer
 abbrev pub outcome_of : Result ℕ AllocFault → Outcome
-outcome_of (Ok f) = outcome.Frame f
-outcome_of (Err (Over g)) = outcome.OverLimit g
+outcome_of (Ok head) = outcome.Frame head
+outcome_of (Err (Over group)) = outcome.OverLimit group
 outcome_of (Err NoFrames) = outcome.Refused fault.NoFrames
 outcome_of (Err Killed) = outcome.Refused fault.Killed
 
--- the fresh frames after an allocation of this order: the frame that it answered, where it is a single one
-abbrev pub FreshOf : Reply → ℕ → List ℕ → Type 0
-FreshOf (Frame f) zero fresh = fresh ≡ f ∷ []
+-- the fresh frames after an allocation of this order with this reply: the frame that it tells, where it is a single one
+abbrev pub FreshOf : Reply → (order : ℕ) (fresh : List ℕ) → Type 0
+FreshOf (Frame head) zero fresh = fresh ≡ head ∷ []
 FreshOf other order fresh = fresh ≡ []
 
--- the same of the answer before it is told
+-- the fresh frames after an allocation of this order with this answer, of which no reply is told yet: the frame that it
+-- gives, where it is a single one
 pub record HasFreshFor (order : ℕ) (answer : Result ℕ AllocFault) (fresh : List ℕ) : Type 0 where
-  pub frame : order ≡ 0 → (f : ℕ) → answer ≡ Ok f → fresh ≡ f ∷ []
+  pub frame : order ≡ 0 → (head : ℕ) → answer ≡ Ok head → fresh ≡ head ∷ []
   pub refused : order ≡ 0 → (cause : AllocFault) → answer ≡ Err cause → fresh ≡ []
   pub block : order ≢ 0 → fresh ≡ []

@@ -37,7 +37,7 @@ pub record IsBooted (boot : KnownBoot) (zone : KnownSeat) (stock : Seated)
 
 -- no visit is open
 abbrev pub AllShut : KnownMachine → Type 0
-AllShut m = (p : ℕ) → IsShut m.seat p
+AllShut machine = (processor : ℕ) → IsShut machine.seat processor
 
 -- While no one holds the lock: no visit is open, the sizes are in their ranges, and the tables have them
 pub record IsQuiet (table : KnownTable) (words : Words) (locked : KnownLocked) : Type 0 where
@@ -52,13 +52,14 @@ pub record HasRoom (cpus frame_count frame_room stock_count stock_room : ℕ) : 
   pub no_stock_seat : stock_count ≡ 0
   pub stock_seats : cpus ≤ stock_room
 
--- the part of processor p, which did nothing yet
-abbrev pub part_at_first : KnownTable → Words → ℕ → KnownCpu
-part_at_first t w p =
-    first_cpu (record { table = t.table; view = first_cpu_view p })
-    (record { table = w.table; view = first_processor p })
+-- the part of this processor, which did nothing yet
+abbrev pub part_at_first : KnownTable → Words → (processor : ℕ) → KnownCpu
+part_at_first table words processor =
+    first_cpu (record { table = table.table; view = first_cpu_view processor })
+    (record { table = words.table; view = first_processor processor })
 
--- the parts of n processors, from p on, which did nothing yet: no frame is listed, fresh or back, and there is no pin
-abbrev pub first_cpus : KnownTable → Words → ℕ → ℕ → List KnownCpu
-first_cpus t w p zero = []
-first_cpus t w p (suc n) = part_at_first t w p ∷ first_cpus t w (p + 1) n
+-- the parts of so many processors, from the first on, which did nothing yet: no frame is listed, fresh or back, and
+-- there is no pin
+abbrev pub first_cpus : KnownTable → Words → (first count : ℕ) → List KnownCpu
+first_cpus table words first zero = []
+first_cpus table words first (suc more) = part_at_first table words first ∷ first_cpus table words (first + 1) more

@@ -23,13 +23,13 @@ use Rattle.mem_system.specs.Commands.{Course, BySteps, with_visit_of, visited}
 
 -- the pins of the processors
 abbrev pub pins_of : List KnownCpu → ℕ
-pins_of cpus = sum_by (λ c. length c.pins) cpus
+pins_of cpus = sum_by (λ cpu. length cpu.pins) cpus
 
 -- how often fresh frames went back to the lists of the processors
 abbrev pub drops_of : List KnownCpu → ℕ
-drops_of cpus = sum_by (λ c. c.drops) cpus
+drops_of cpus = sum_by (λ cpu. cpu.drops) cpus
 
--- what happens in a visit
+-- what happens in a visit, said of its course
 abbrev pub Happens : Type 1
 Happens = Course Side → Type 0
 
@@ -54,15 +54,18 @@ pub record Empties (way : Course Side) : Type 0 where
       ++ (drain_steps way.before.cpu.number (stock_group emptied way.before.cpu.number) pages
       ++ shut_steps way.before.cpu.number))
 
--- so it is with these processors, one after the other, each by local steps of its own
-abbrev pub InTurn : KnownTable → Happens → KnownMachine → List KnownCpu → KnownMachine → List KnownCpu → Type 0
-InTurn t P m [] n [] = n ≡ m
-InTurn t P m (c ∷ cpus) n (d ∷ rest) =
-    (mid : KnownMachine) × BySteps t (side m c) (side mid d) P × InTurn t P mid cpus n rest
-InTurn t P m cpus n rest = ⊥
+-- This happens in a visit of each of these processors, one after the other, each by local steps of its own: it leads
+-- from one machine, with their parts, to another, with the parts that they have then
+abbrev pub InTurn : KnownTable → Happens → (before : KnownMachine) (cpus : List KnownCpu) (after : KnownMachine)
+    (left : List KnownCpu) → Type 0
+InTurn table visit before [] after [] = after ≡ before
+InTurn table visit before (cpu ∷ cpus) after (cpu_left ∷ left) =
+    (mid : KnownMachine) × BySteps table (side before cpu) (side mid cpu_left) visit
+    × InTurn table visit mid cpus after left
+InTurn table visit before cpus after left = ⊥
 
 -- nothing of the processor is fresh or back, and it has no pin
-pub record IsRested (cpu : KnownCpu) : Type 0 where
+pub record IsSettledUnpinned (cpu : KnownCpu) : Type 0 where
   pub none_fresh : cpu.fresh ≡ []
   pub none_back : cpu.back ≡ []
   pub no_pin : cpu.pins ≡ []
@@ -76,9 +79,9 @@ pub record IsSpent (table : KnownTable) (words : Words) (machine : KnownMachine)
 
 -- no frame was lent to anyone, and no stock was filled
 pub record LeavesAlone (before after : KnownMachine) : Type 0 where
-  pub none_lent : (p : ℕ) → NoneLentTo p before.spots → NoneLentTo p after.spots
-  pub drained : (p : ℕ) → (account_of before.stock.view p).filled ≡ false
-      → (account_of after.stock.view p).filled ≡ false
+  pub none_lent : (processor : ℕ) → NoneLentTo processor before.spots → NoneLentTo processor after.spots
+  pub drained : (processor : ℕ) → (account_of before.stock.view processor).filled ≡ false
+      → (account_of after.stock.view processor).filled ≡ false
 
 -- What the audit tells of the machine, with so many drops of the processors' own, each of which is a return too. A
 -- count stays at its greatest
@@ -99,20 +102,22 @@ pub record AddsUp (audit : Audit) : Type 0 where
 
 -- the processor's seat at the frames' table
 abbrev pub frame_seat_of : KnownCpu → KnownSeat
-frame_seat_of c = c.seat
+frame_seat_of cpu = cpu.seat
 
--- and that at the stocks' table
+-- the processor's seat at the stocks' table
 abbrev pub stock_seat_of : KnownCpu → Seated
-stock_seat_of c = c.stock
+stock_seat_of cpu = cpu.stock
 
--- one of the seats is that of processor p
-abbrev pub HasSeatOf : List Seated → ℕ → Type 0
-HasSeatOf seats p = (k : ℕ) × (k < length seats) × ((view_in seats k).number ≡ p)
+-- one of the seats is that of the processor
+pub record HasSeatOf (seats : List Seated) (processor : ℕ) : Type 0 where
+  pub place : ℕ
+  pub inside : place < length seats
+  pub number : (view_in seats place).number ≡ processor
 
--- the words tell the stock of the processor whose seat is the k-th
-abbrev pub TellsStockAt : List ℕ → KnownMachine → List Seated → ℕ → Type 0
-TellsStockAt words machine seats k =
-    IsStockOf words (view_in seats k).number machine.stock.view (view_in seats k)
+-- the words tell the stock of the processor whose seat is at this place
+abbrev pub TellsStockAt : (words : List ℕ) → KnownMachine → (seats : List Seated) (place : ℕ) → Type 0
+TellsStockAt words machine seats place =
+    IsStockOf words (view_in seats place).number machine.stock.view (view_in seats place)
 
 -- Both tables are closed with these seats and the machine's, which was consistent. The frames' words keep the
 -- reference rule. Each processor has a seat at the stocks' table, and the stocks' words are what it and the machine's
@@ -123,8 +128,8 @@ pub record IsClosed (table : KnownTable) (stock_table : Words) (machine : KnownM
   pub words : List ℕ
   pub rule : ReferenceRule table.frames table.cpus words ((machine.seat.view ∷ map view_of frame_seats) ∷ [])
   pub stock_words : List ℕ
-  pub each : (p : ℕ) → 0 < p → p ≤ stock_table.cpus → HasSeatOf stock_seats p
-  pub stocks : (k : ℕ) → k < length stock_seats → TellsStockAt stock_words machine stock_seats k
+  pub each : (processor : ℕ) → 0 < processor → processor ≤ stock_table.cpus → HasSeatOf stock_seats processor
+  pub stocks : (place : ℕ) → place < length stock_seats → TellsStockAt stock_words machine stock_seats place
 
 -- the words of the table at the end: they keep the reference rule with the seats' views, and each frame's word is the
 -- zone's reference where the frame heads a kept unit, else 0
@@ -132,7 +137,8 @@ pub record AreLastWords (table : KnownTable) (machine : KnownMachine) (cpus : Li
     (last : List ℕ) : Type 0 where
   pub rule : ReferenceRule table.frames table.cpus last
       ((machine.seat.view ∷ map view_of (map frame_seat_of cpus)) ∷ [])
-  pub references : (f : ℕ) → f < table.frames → slice_index last f ≡ one_if (is_some (home_of machine.links f))
+  pub references : (frame : ℕ) → frame < table.frames
+      → slice_index last frame ≡ one_if (is_some (home_of machine.links frame))
 
 -- the words of processor p's stock have no page, and neither has its book
 pub record HasNoPage (machine : KnownMachine) (stock_words : List ℕ) (processor : ℕ) : Type 0 where
@@ -150,16 +156,16 @@ pub record Ends (table : KnownTable) (stock_table : Words) (locked : KnownLocked
   pub quiet : IsQuiet table stock_table locked
   pub no_pin : pins_of cpus ≡ 0
   pub settled : KnownMachine
-  pub rested : List KnownCpu
-  pub rests : InTurn table SettlesInVisit locked.machine cpus settled rested
+  pub settled_cpus : List KnownCpu
+  pub settles : InTurn table SettlesInVisit locked.machine cpus settled settled_cpus
   pub last : KnownMachine
   pub spent : List KnownCpu
-  pub empties : InTurn table Empties settled rested last spent
-  pub all_spent : All (λ c. IsSpent table stock_table last c) spent
-  pub none_lent : (p : ℕ) → NoneLentTo p last.spots
+  pub empties : InTurn table Empties settled settled_cpus last spent
+  pub all_spent : All (λ cpu. IsSpent table stock_table last cpu) spent
+  pub none_lent : (processor : ℕ) → NoneLentTo processor last.spots
   pub stock_words : List ℕ
-  pub told : All (λ c. IsStockOf stock_words c.number last.stock.view c.stock.view) spent
-  pub no_page : (p : ℕ) → 1 ≤ p → p ≤ table.cpus → HasNoPage last stock_words p
+  pub told : All (λ cpu. IsStockOf stock_words cpu.number last.stock.view cpu.stock.view) spent
+  pub no_page : (processor : ℕ) → 1 ≤ processor → processor ≤ table.cpus → HasNoPage last stock_words processor
   pub words : List ℕ
   pub last_words : AreLastWords table last spent words
   pub tells : Tells table last (min (drops_of cpus) max_count) audit

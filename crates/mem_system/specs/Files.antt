@@ -1,16 +1,21 @@
--- The files of the groups: which is meant, what is read, and why one isn't written.
-use Rattle.std.specs.Prelude.{◌≡◌, ◌≢◌, ◌⊎◌, ℕ, Some, None, List}
+-- The files of the groups: which is meant, what is read, and what a write does.
+use Rattle.std.specs.Prelude.{◌≡◌, ◌≢◌, ◌⊎◌, ℕ, Option, Some, None, List, ◌++◌}
 use Rattle.group_tree.specs.declared.group.Group.{Group}
 use Rattle.group_tree.specs.Groups.{number_at}
 use Rattle.group_tree.specs.declared.fault.Fault.{Fault}
 use Rattle.group_tree.specs.declared.fault.Fault.TheVariants.{NoGroup, NoFile, ReadOnly, BadLimit, BadNumber}
-use Rattle.group_charge.specs.Charges.{Ledger}
+use Rattle.group_charge.specs.Charges.{Ledger, with_group_limit}
 use Rattle.control_files.specs.declared.file.File.{File}
 use Rattle.control_files.specs.declared.file.File.TheVariants.{Max}
 use Rattle.control_files.specs.Files.{name_of, file_text}
-use Rattle.control_files.specs.Limit.{IsTooGreat, IsNoLimitText}
+use Rattle.control_files.specs.Limit.{ReadsAs, IsTooGreat, IsNoLimitText}
+use Rattle.step_rules.specs.After.{Run}
+use Rattle.mem_machine.specs.Machines.{KnownMachine}
+use Rattle.mem_machine.specs.Steps.{set_max_steps}
+use Rattle.mem_alloc.specs.Stepping.{Course, Rests, course}
 use Rattle.mem_system.specs.declared.command.Reply.{Reply}
-use Rattle.mem_system.specs.declared.command.Reply.TheVariants.{Text, Refused}
+use Rattle.mem_system.specs.declared.command.Reply.TheVariants.{Text, Done, Refused}
+use Rattle.mem_system.specs.Usage.{KeepsToLimit}
 
 -- the path is that of this group, which isn't the root, and the name that of its file
 pub record IsFileOf (groups : List Group) (path name : List ℕ) (group : ℕ) (file : File) : Type 0 where
@@ -19,10 +24,10 @@ pub record IsFileOf (groups : List Group) (path name : List ℕ) (group : ℕ) (
   pub named : name ≡ name_of file
 
 -- no group has the path; or it is the root's, or no file has the name
-abbrev pub HasNoFile : List Group → List ℕ → List ℕ → Fault → Type 0
+abbrev pub HasNoFile : List Group → (path name : List ℕ) → Fault → Type 0
 HasNoFile groups path name NoGroup = number_at groups path ≡ None
 HasNoFile groups path name NoFile =
-    (g : ℕ) × (number_at groups path ≡ Some g) × ((g ≡ 0) ⊎ ((file : File) → name ≢ name_of file))
+    (group : ℕ) × (number_at groups path ≡ Some group) × ((group ≡ 0) ⊎ ((file : File) → name ≢ name_of file))
 HasNoFile groups path name fault = ⊥
 
 -- the text is that of the file of the group
@@ -32,21 +37,52 @@ pub record ReadsFile (ledger : Ledger) (path name text : List ℕ) : Type 0 wher
   pub is_file : IsFileOf ledger.groups path name group file
   pub text_is : text ≡ file_text ledger group file
 
--- Read: the text of the file, by these numbers; or there is no such file
-abbrev pub Reads : Ledger → List ℕ → List ℕ → Reply → Type 0
-Reads l path name (Text text) = ReadsFile l path name text
-Reads l path name (Refused fault) = HasNoFile l.groups path name fault
-Reads l path name other = ⊥
+-- Read: the text of the file, by the ledger; or there is no such file
+abbrev pub Reads : Ledger → (path name : List ℕ) → Reply → Type 0
+Reads ledger path name (Text text) = ReadsFile ledger path name text
+Reads ledger path name (Refused fault) = HasNoFile ledger.groups path name fault
+Reads ledger path name other = ⊥
 
 -- why a value is not written to a file that is there
-abbrev pub RefusesValue : File → List ℕ → Fault → Type 0
+abbrev pub RefusesValue : File → (value : List ℕ) → Fault → Type 0
 RefusesValue file value ReadOnly = file ≢ Max
 RefusesValue file value BadLimit = (file ≡ Max) × IsNoLimitText value
 RefusesValue file value BadNumber = (file ≡ Max) × IsTooGreat value
 RefusesValue file value fault = ⊥
 
+-- the file is there, and doesn't take the value
+pub record RefusesValueOf (groups : List Group) (path name value : List ℕ) (fault : Fault) : Type 0 where
+  pub group : ℕ
+  pub file : File
+  pub is_file : IsFileOf groups path name group file
+  pub refuses : RefusesValue file value fault
+
 -- why nothing is written: there is no such file, or it doesn't take the value
-abbrev pub RefusesWrite : List Group → List ℕ → List ℕ → List ℕ → Fault → Type 0
+abbrev pub RefusesWrite : List Group → (path name value : List ℕ) → Fault → Type 0
 RefusesWrite groups path name value fault =
-    HasNoFile groups path name fault
-    ⊎ ((g : ℕ) × (file : File) × IsFileOf groups path name g file × RefusesValue file value fault)
+    HasNoFile groups path name fault ⊎ RefusesValueOf groups path name value fault
+
+-- the machine with another limit of the group
+abbrev pub with_limit_of : KnownMachine → (group : ℕ) → Option ℕ → KnownMachine
+with_limit_of machine group limit = record machine { ledger = with_group_limit machine.ledger group limit }
+
+-- the group gets the limit, and then its usage is kept to it
+pub record SetsLimit (group : ℕ) (limit : Option ℕ) (way : Course KnownMachine) : Type 0 where
+  pub lowering : Run
+  pub keeps : KeepsToLimit group limit (course way.table (with_limit_of way.before group limit) lowering way.after)
+  pub steps_are : way.steps ≡ set_max_steps group limit ++ lowering
+
+-- the file is memory.max of a group, and the value is the limit that the group gets
+pub record WritesLimit (path name value : List ℕ) (way : Course KnownMachine) : Type 0 where
+  pub group : ℕ
+  pub limit : Option ℕ
+  pub file : IsFileOf way.before.ledger.groups path name group Max
+  pub reads : ReadsAs value limit
+  pub sets : SetsLimit group limit way
+
+-- Write: the limit is set; or it is refused, and nothing changed
+abbrev pub Writes : (path name value : List ℕ) → Reply → Course KnownMachine → Type 0
+Writes path name value Done way = WritesLimit path name value way
+Writes path name value (Refused fault) way =
+    RefusesWrite way.before.ledger.groups path name value fault × Rests way
+Writes path name value other way = ⊥

@@ -3,8 +3,10 @@ pub mod Boots
 pub mod Commands
 pub mod Ends
 pub mod Files
+pub mod Groups
 pub mod Kept
 pub mod Leaves
+pub mod OnMachine
 pub mod Outcomes
 pub mod Owners
 pub mod Releases

@@ -16,23 +16,23 @@ path_or_empty None = []
 
 -- the reply of an outcome: its groups with their paths, its file with its text
 abbrev pub reply_of : Ledger → Outcome → Reply
-reply_of l (outcome.Group g) = Group g
-reply_of l (outcome.Frame f) = Frame f
-reply_of l outcome.Done = Done
-reply_of l (outcome.Text g file) = Text (file_text l g file)
-reply_of l outcome.Free = Free
-reply_of l (outcome.Lent p) = Lent p
-reply_of l (outcome.Charged g) = Charged g (path_or_empty (path_of l.groups g))
-reply_of l outcome.Marked = Marked
-reply_of l outcome.Active = Active
-reply_of l (outcome.Left n) = Left n
-reply_of l outcome.Returned = Returned
-reply_of l (outcome.OverLimit g) = OverLimit g (path_or_empty (path_of l.groups g))
-reply_of l (outcome.Refused fault) = Refused fault
+reply_of ledger (outcome.Group group) = Group group
+reply_of ledger (outcome.Frame frame) = Frame frame
+reply_of ledger outcome.Done = Done
+reply_of ledger (outcome.Text group file) = Text (file_text ledger group file)
+reply_of ledger outcome.Free = Free
+reply_of ledger (outcome.Lent processor) = Lent processor
+reply_of ledger (outcome.Charged group) = Charged group (path_or_empty (path_of ledger.groups group))
+reply_of ledger outcome.Marked = Marked
+reply_of ledger outcome.Active = Active
+reply_of ledger (outcome.Left references) = Left references
+reply_of ledger outcome.Returned = Returned
+reply_of ledger (outcome.OverLimit group) = OverLimit group (path_or_empty (path_of ledger.groups group))
+reply_of ledger (outcome.Refused fault) = Refused fault
 
 -- the group whose path or file is told is there, and the root has no file
 abbrev pub HasItsGroups : Ledger → Outcome → Type 0
-HasItsGroups l (outcome.Text g file) = IsTrue (has_group l.groups g) × (g ≢ 0)
-HasItsGroups l (outcome.Charged g) = IsTrue (has_group l.groups g)
-HasItsGroups l (outcome.OverLimit g) = IsTrue (has_group l.groups g)
-HasItsGroups l other = Unit {0}
+HasItsGroups ledger (outcome.Text group file) = IsTrue (has_group ledger.groups group) × (group ≢ 0)
+HasItsGroups ledger (outcome.Charged group) = IsTrue (has_group ledger.groups group)
+HasItsGroups ledger (outcome.OverLimit group) = IsTrue (has_group ledger.groups group)
+HasItsGroups ledger other = Unit {0}

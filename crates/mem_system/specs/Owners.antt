@@ -8,9 +8,9 @@ use Rattle.mem_system.specs.declared.command.Reply.{Reply}
 use Rattle.mem_system.specs.declared.command.Reply.TheVariants.{Free, Lent, Charged}
 
 -- Owner: where the frame is, with the path of the group that it is charged to
-abbrev pub TellsPlace : KnownMachine → ℕ → Reply → Type 0
-TellsPlace m f Free = place_of (spot_at m.spots f) ≡ place.Free
-TellsPlace m f (Lent p) = place_of (spot_at m.spots f) ≡ place.Lent p
-TellsPlace m f (Charged g path) =
-    (place_of (spot_at m.spots f) ≡ place.Charged g) × (path_of m.ledger.groups g ≡ Some path)
-TellsPlace m f other = ⊥
+abbrev pub TellsPlace : KnownMachine → (frame : ℕ) → Reply → Type 0
+TellsPlace machine frame Free = place_of (spot_at machine.spots frame) ≡ place.Free
+TellsPlace machine frame (Lent processor) = place_of (spot_at machine.spots frame) ≡ place.Lent processor
+TellsPlace machine frame (Charged group path) =
+    (place_of (spot_at machine.spots frame) ≡ place.Charged group) × (path_of machine.ledger.groups group ≡ Some path)
+TellsPlace machine frame other = ⊥

@@ -1,4 +1,4 @@
--- What a release does, and where the frames of a unit that comes back go.
+-- What a Release does, and where the frames of a unit that comes back go.
 use Rattle.std.specs.Prelude.{◌≡◌, ◌≢◌, ℕ, ◌<◌, ◌≤◌, List, [], ◌++◌, length, take}
 use Rattle.group_tree.specs.declared.fault.Fault.TheVariants.{NotKept}
 use Rattle.zone_sizes.specs.declared.config.Config.{Config}
@@ -9,9 +9,10 @@ use Rattle.mem_machine.specs.Local.{Side, side}
 use Rattle.mem_machine.specs.Releasing.{LeavesReferences, ReturnsUnit, release_steps}
 use Rattle.mem_machine.specs.Lending.{LendsFrame, TakesManyBack}
 use Rattle.mem_machine.specs.Steps.{lend_steps, drain_list_steps}
-use Rattle.mem_alloc.specs.Stepping.{Course, course, of_machine}
+use Rattle.mem_alloc.specs.Stepping.{Course, Stays, course}
 use Rattle.mem_system.specs.declared.command.Reply.{Reply}
 use Rattle.mem_system.specs.declared.command.Reply.TheVariants.{Left, Returned, Refused}
+use Rattle.mem_system.specs.OnMachine.{OnMachineAlone}
 use Rattle.mem_system.specs.Kept.{HeadsNoUnit}
 
 -- where the processor's list stood at `high`, `batch` frames from its front are free again; else nothing changed
@@ -38,7 +39,7 @@ pub record ReturnsFrames (sizes : Config) (frame : ℕ) (way : Course Side) : Ty
   pub listing : Run
   pub single : returns.unit.order ≡ 0
       → ListsFrame sizes frame (course way.table (side freed way.before.cpu) listing way.after)
-  pub block : returns.unit.order ≢ 0 → (way.after.machine ≡ freed) × (way.after.cpu ≡ way.before.cpu) × (listing ≡ [])
+  pub block : returns.unit.order ≢ 0 → Stays (course way.table (side freed way.before.cpu) listing way.after)
   pub steps_are : way.steps ≡ release_steps frame released.Returned ++ listing
 
 -- the unit is off its list and stays charged, with so many references of processors
@@ -48,8 +49,8 @@ pub record LeavesUnit (frame left : ℕ) (way : Course Side) : Type 0 where
   pub steps_are : way.steps ≡ release_steps frame (released.Left left)
 
 -- Release: references of processors are left; or the unit came back; or there is none
-abbrev pub ReleasesFrame : Config → ℕ → Reply → Course Side → Type 0
-ReleasesFrame sizes f (Left left) way = LeavesUnit f left way
-ReleasesFrame sizes f Returned way = ReturnsFrames sizes f way
-ReleasesFrame sizes f (Refused NotKept) way = HeadsNoUnit f (of_machine way) × (way.after.cpu ≡ way.before.cpu)
-ReleasesFrame sizes f other way = ⊥
+abbrev pub ReleasesFrame : Config → (frame : ℕ) → Reply → Course Side → Type 0
+ReleasesFrame sizes frame (Left left) way = LeavesUnit frame left way
+ReleasesFrame sizes frame Returned way = ReturnsFrames sizes frame way
+ReleasesFrame sizes frame (Refused NotKept) way = OnMachineAlone (HeadsNoUnit frame) way
+ReleasesFrame sizes frame other way = ⊥

@@ -9,14 +9,16 @@ use Rattle.mem_system.specs.Boots.{KnownLocked, IsQuiet}
 use Rattle.mem_system.specs.Commands.{Holder, holder, IsServed}
 
 -- the command `Settle` was served, by steps
-abbrev pub SettlesCaller : KnownTable → Holder → Holder → Type 0
-SettlesCaller t before after = IsServed t Settle before Done after
+abbrev pub SettlesCaller : KnownTable → (before after : Holder) → Type 0
+SettlesCaller table before after = IsServed table Settle before Done after
 
--- so it was on what lay behind the lock, with no visit open before and after
-abbrev pub TellsSettled : KnownTable → Words → Holder → Holder → Type 0
-TellsSettled t w before after = IsQuiet t w before.locked × SettlesCaller t before after × IsQuiet t w after.locked
-
--- so it was on a value that lay behind the lock, and this is so of the machine that it left
-abbrev pub TellsOf : KnownTable → Words → KnownCpu → KnownCpu → (KnownMachine → Type 0) → Type 0
-TellsOf t w before after is =
-    (l : KnownLocked) × (k : KnownLocked) × TellsSettled t w (holder l before) (holder k after) × is k.machine
+-- Through the lock: there was such a value behind it, the caller was settled in it, and this is so of the machine that
+-- was left. No visit was open before and after
+pub record TellsOf (table : KnownTable) (words : Words) (before after : KnownCpu)
+    (tells : KnownMachine → Type 0) : Type 0 where
+  pub found : KnownLocked
+  pub left : KnownLocked
+  pub quiet_before : IsQuiet table words found
+  pub settles : SettlesCaller table (holder found before) (holder left after)
+  pub quiet_after : IsQuiet table words left
+  pub told : tells left.machine

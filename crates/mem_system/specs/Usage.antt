@@ -28,8 +28,8 @@ pub record LowersUsage (group limit : ℕ) (way : Course KnownMachine) : Type 0 
   pub keeps : Keeps way.table drained way.after
   pub steps_are : way.steps ≡ drain_stocks_steps drains ++ reclaims.steps
 
--- it is noted that the limit has no room; the group's usage is lowered to it; and where it is above the group's limit even
--- then, victims of it are killed, for nobody that asks for pages
+-- it is noted that the limit has no room; the group's usage is lowered to it; and where it is above the group's limit
+-- even then, victims of it are killed, for nobody that asks for pages
 pub record LowersByKills (group limit : ℕ) (way : Course KnownMachine) : Type 0 where
   pub lowered : KnownMachine
   pub lowering : Run
@@ -44,6 +44,6 @@ pub record LowersAbove (group limit : ℕ) (way : Course KnownMachine) : Type 0 
   pub within : current_of way.before.ledger group ≤ limit → Rests way
 
 -- the group's usage is kept to its limit, if it has one
-abbrev pub KeepsToLimit : ℕ → Option ℕ → Course KnownMachine → Type 0
+abbrev pub KeepsToLimit : (group : ℕ) → Option ℕ → Course KnownMachine → Type 0
 KeepsToLimit group None way = Rests way
 KeepsToLimit group (Some limit) way = LowersAbove group limit way

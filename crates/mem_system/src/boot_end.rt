@@ -10,7 +10,7 @@ ghost use Rattle.mem_system.specs.Boots.{HasRoom};
 ghost use Rattle.mem_system.specs.Ends.{Ends, IsClosed, frame_seat_of, stock_seat_of, drops_of, pins_of};
 
 use crate::audit::{Audit, take_audit};
-use crate::last_visits::{empty_all, rest_all};
+use crate::last_visits::{empty_all, settle_all};
 use crate::lock::Locked;
 use cpu_part::{BootName, Cpu, Tables};
 use frame_word::FrameSeat;
@@ -19,8 +19,8 @@ use stock_word::StockSeat;
 
 /// What a boot consists of, given back since pins remain.
 pub struct Pinned<N: BootName> {
-    pub tables: Tables<N>,
     pub locked: Locked<N>,
+    pub tables: Tables<N>,
     pub cpus: Vec<Cpu<N>>,
     /// The pins of all processors together, at least 1.
     pub pins: u64,
@@ -71,9 +71,9 @@ fn gather_seats<N: BootName>(
 }
 
 // Takes the machine apart and closes the tables, with all their seats.
-fn close<N: BootName>(
-    tables: Tables<N>,
+fn close_tables<N: BootName>(
     machine: Machine<N>,
+    tables: Tables<N>,
     frame_seats: Vec<FrameSeat>,
     stock_seats: Vec<StockSeat>,
 )
@@ -97,19 +97,19 @@ pub fn end<N: BootName>(
     mut cpus: Vec<Cpu<N>>,
 ) -> Result<Audit, Pinned<N>>
     requires { length cpus.items ≡ N.frames.cpus }
-    ensures ends { IfOk result (λ a. Ends N.frames N.stocks locked cpus.items a) }
-    ensures pins { IfErr result (λ p. p.pins ≡ pins_of cpus.items) }
-    ensures some_pin { IfErr result (λ p. 1 ≤ p.pins) }
-    ensures tables { IfErr result (λ p. p.tables ≡ tables) }
-    ensures locked { IfErr result (λ p. p.locked ≡ locked) }
-    ensures cpus { IfErr result (λ p. p.cpus.items ≡ cpus.items) }
+    ensures ends { IfOk result (λ audit. Ends N.frames N.stocks locked cpus.items audit) }
+    ensures pins { IfErr result (λ pinned. pinned.pins ≡ pins_of cpus.items) }
+    ensures some_pin { IfErr result (λ pinned. 1 ≤ pinned.pins) }
+    ensures locked { IfErr result (λ pinned. pinned.locked ≡ locked) }
+    ensures tables { IfErr result (λ pinned. pinned.tables ≡ tables) }
+    ensures cpus { IfErr result (λ pinned. pinned.cpus.items ≡ cpus.items) }
 {
     let _few = tables.frames.cpus(); // For the clauses.
     let pins = count_pins(&cpus);
     if pins > 0 {
         return Err(Pinned {
-            tables,
             locked,
+            tables,
             cpus,
             pins,
         });
@@ -121,10 +121,10 @@ pub fn end<N: BootName>(
         frame_seats,
         stock_seats,
     } = locked;
-    rest_all(&mut machine, &tables, &mut cpus);
+    settle_all(&mut machine, &tables, &mut cpus);
     empty_all(&mut machine, &tables, &mut cpus);
     let audit = take_audit(&machine, &tables, drops);
     let (frame_seats, stock_seats) = gather_seats(cpus, frame_seats, stock_seats);
-    close(tables, machine, frame_seats, stock_seats);
+    close_tables(machine, tables, frame_seats, stock_seats);
     Ok(audit)
 }

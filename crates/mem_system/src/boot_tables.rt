@@ -31,8 +31,8 @@ impl From<AllocError> for BootFault {
 /// Makes the two tables of a zone of these sizes, with all their seats. `BadConfig` comes exactly where a size is out
 /// of its range, else `NoMemory` where memory is wanting.
 pub fn boot(alloc: Global, sizes: Config) -> Result<Boot, BootFault>
-    ensures sizes { IfOk result (λ b. b.sizes ≡ sizes) }
-    ensures sized { IfOk result (λ b. IsSizedAs sizes b.frames b.stocks) }
+    ensures sizes { IfOk result (λ boot. boot.sizes ≡ sizes) }
+    ensures sized { IfOk result (λ boot. IsSizedAs sizes boot.frames boot.stocks) }
     ensures bad_config { (result ≡ Err BadConfig) ↔ (¬ IsValidConfig sizes) }
 {
     if !sizes.is_valid() {

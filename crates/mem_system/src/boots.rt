@@ -49,10 +49,10 @@ impl Boot {
     ) -> Result<(Tables<N>, Locked<N>, Vec<Cpu<N>>), AllocError>
         requires frames { self.frames ≡ N.frames }
         requires stocks { self.stocks ≡ N.stocks }
-        ensures machine { IfOk result (λ r. IsFirst N.frames N.stocks r.1.machine) }
-        ensures sizes { IfOk result (λ r. r.1.sizes ≡ self.sizes) }
-        ensures cpus { IfOk result (λ r. r.2.items ≡ first_cpus N.frames N.stocks 1 self.sizes.cpus) }
-        ensures count { IfOk result (λ r. length r.2.items ≡ N.frames.cpus) }
+        ensures machine { IfOk result (λ parts. IsFirst N.frames N.stocks parts.1.machine) }
+        ensures sizes { IfOk result (λ parts. parts.1.sizes ≡ self.sizes) }
+        ensures cpus { IfOk result (λ parts. parts.2.items ≡ first_cpus N.frames N.stocks 1 self.sizes.cpus) }
+        ensures count { IfOk result (λ parts. length parts.2.items ≡ N.frames.cpus) }
     {
         let Boot {
             sizes,
@@ -66,7 +66,7 @@ impl Boot {
         let tables = Tables::<N>::new(frames, stocks);
         let machine = Machine::<N>::new(alloc, &tables, zone, stock)?;
         let locked = lock_up(alloc, sizes, machine)?;
-        let cpus = deal(alloc, sizes.cpus, frame_seats, stock_seats)?;
+        let cpus = make_cpus(alloc, sizes.cpus, frame_seats, stock_seats)?;
         Ok((tables, locked, cpus))
     }
 }
@@ -92,7 +92,7 @@ fn lock_up<N: BootName>(
 }
 
 // A part for each processor, from its two seats.
-fn deal<N: BootName>(
+fn make_cpus<N: BootName>(
     alloc: Global,
     cpus: u32,
     mut frame_seats: Vec<FrameSeat>,
@@ -110,7 +110,7 @@ fn deal<N: BootName>(
         match Cpu::<N>::new(alloc, frame_seat, stock_seat) {
             Ok(cpu) => made.push_reserved(cpu),
             Err(error) => {
-                spend(made);
+                take_apart(made);
                 return Err(error);
             }
         }
@@ -118,8 +118,8 @@ fn deal<N: BootName>(
     Ok(made)
 }
 
-// Spends parts of processors that did nothing.
-fn spend<N: BootName>(mut cpus: Vec<Cpu<N>>)
+// Takes parts of processors apart that did nothing: a part can't be dropped.
+fn take_apart<N: BootName>(mut cpus: Vec<Cpu<N>>)
     requires { All IsIdle cpus.items }
 {
     while let Some(cpu) = cpus.pop() {

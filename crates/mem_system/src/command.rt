@@ -35,8 +35,8 @@ pub enum Cmd<'a> {
         path: &'a [u8],
     },
     /// Writes a value to a file of the group of this path. Where the group's usage is above its new memory.max, the
-    /// stocks of its subtree are drained, clean units of it are reclaimed, and then victims of it killed, until the usage
-    /// is at most that or no victim is left.
+    /// stocks of its subtree are drained, clean units of it are reclaimed, and then victims of it killed, until the
+    /// usage is at most that or no victim is left.
     Write {
         path: &'a [u8],
         file: &'a [u8],

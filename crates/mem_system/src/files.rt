@@ -8,8 +8,7 @@ ghost use Rattle.cpu_part.specs.Cpus.{KnownCpu};
 ghost use Rattle.mem_system.specs.Outcomes.{HasItsGroups, reply_of};
 ghost use Rattle.mem_machine.specs.Machines.{KeepsVisit, Visits};
 ghost use Rattle.mem_alloc.specs.Stepping.{ByStepsOfAny};
-ghost use Rattle.mem_system.specs.Files.{Reads, IsFileOf, HasNoFile, RefusesWrite};
-ghost use Rattle.mem_system.specs.Commands.{SetsLimit, Writes};
+ghost use Rattle.mem_system.specs.Files.{IsFileOf, HasNoFile, Reads, RefusesWrite, SetsLimit, Writes};
 ghost use Rattle.mem_machine.specs.Local.{side};
 
 use crate::outcome::Outcome;

@@ -5,7 +5,8 @@ ghost use Rattle.mem_alloc.specs.Stepping.{ByStepsOfAny};
 ghost use Rattle.mem_machine.specs.Machines.{KeepsVisit, Visits};
 ghost use Rattle.mem_system.specs.Leaves.{IsLeafAt, HasNoLeaf};
 ghost use Rattle.mem_system.specs.Outcomes.{HasItsGroups, reply_of};
-ghost use Rattle.mem_system.specs.Commands.{BySteps, MakesGroup, Removes, OfMachine};
+ghost use Rattle.mem_system.specs.Groups.{MakesGroup, Removes};
+ghost use Rattle.mem_system.specs.Commands.{BySteps, OfMachine};
 ghost use Rattle.mem_machine.specs.Local.{side};
 
 use crate::outcome::Outcome;
@@ -18,7 +19,8 @@ use mem_machine::Machine;
 
 // Makes the group of the path.
 pub(crate) fn make_group<N: BootName>(machine: &mut Machine<N>, path: &[u8]) -> Outcome
-    ensures made { ByStepsOfAny N.frames machine.old machine.new (MakesGroup path.now (reply_of machine.new.ledger result)) }
+    ensures made { ByStepsOfAny N.frames machine.old machine.new
+        (MakesGroup path.now (reply_of machine.new.ledger result)) }
     ensures groups { HasItsGroups machine.new.ledger result }
     ensures seat { machine.new.seat ≡ machine.old.seat }
 {
@@ -30,7 +32,7 @@ pub(crate) fn make_group<N: BootName>(machine: &mut Machine<N>, path: &[u8]) -> 
 
 // The group of the path, which isn't the root and has no group below it.
 fn find_leaf(charges: &Charges, path: &[u8]) -> Result<GroupId, Fault>
-    ensures { MatchResult result (λ g. IsLeafAt charges.now.groups path.now g) (HasNoLeaf charges.now.groups path.now) }
+    ensures { MatchResult result (IsLeafAt charges.now.groups path.now) (HasNoLeaf charges.now.groups path.now) }
 {
     let tree = charges.tree();
     let Some(group) = tree.find(path) else {

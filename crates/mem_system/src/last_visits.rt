@@ -5,19 +5,19 @@ ghost use Rattle.frame_word.specs.Seats.{IsShut};
 ghost use Rattle.mem_machine.specs.Machines.{KnownMachine};
 ghost use Rattle.mem_system.specs.Boots.{AllShut};
 ghost use Rattle.mem_system.specs.Commands.{BySteps};
-ghost use Rattle.mem_system.specs.Ends.{InTurn, SettlesInVisit, Empties, IsRested, IsSpent, LeavesAlone, pins_of};
+ghost use Rattle.mem_system.specs.Ends.{InTurn, SettlesInVisit, Empties, IsSettledUnpinned, IsSpent, LeavesAlone, pins_of};
 ghost use Rattle.mem_machine.specs.Local.{side};
 
 use cpu_part::{BootName, Cpu, Tables};
 use mem_machine::Machine;
 
 // Settles the processor in a visit.
-fn rest_cpu<N: BootName>(machine: &mut Machine<N>, tables: &Tables<N>, cpu: &mut Cpu<N>)
+fn settle_cpu<N: BootName>(machine: &mut Machine<N>, tables: &Tables<N>, cpu: &mut Cpu<N>)
     requires shut { AllShut machine.old }
     requires no_pin { cpu.old.pins ≡ [] }
-    ensures rests { BySteps N.frames (side machine.old cpu.old) (side machine.new cpu.new) SettlesInVisit }
+    ensures settles { BySteps N.frames (side machine.old cpu.old) (side machine.new cpu.new) SettlesInVisit }
     ensures shut { AllShut machine.new }
-    ensures rested { IsRested cpu.new }
+    ensures settled { IsSettledUnpinned cpu.new }
 {
     machine.open(tables, cpu);
     machine.settle(tables, cpu);
@@ -27,7 +27,7 @@ fn rest_cpu<N: BootName>(machine: &mut Machine<N>, tables: &Tables<N>, cpu: &mut
 // Gives the list of the processor, which is settled, back to the zone and drains its stock, in a visit.
 fn empty_cpu<N: BootName>(machine: &mut Machine<N>, tables: &Tables<N>, cpu: &mut Cpu<N>)
     requires shut { AllShut machine.old }
-    requires rested { IsRested cpu.old }
+    requires settled { IsSettledUnpinned cpu.old }
     ensures empties { BySteps N.frames (side machine.old cpu.old) (side machine.new cpu.new) Empties }
     ensures shut { AllShut machine.new }
     ensures spent { IsSpent N.frames N.stocks machine.new cpu.new }
@@ -42,19 +42,19 @@ fn empty_cpu<N: BootName>(machine: &mut Machine<N>, tables: &Tables<N>, cpu: &mu
 }
 
 // Settles the processors, one after the other.
-pub(crate) fn rest_all<N: BootName>(
+pub(crate) fn settle_all<N: BootName>(
     machine: &mut Machine<N>,
     tables: &Tables<N>,
     cpus: &mut [Cpu<N>],
 )
     requires shut { AllShut machine.old }
     requires no_pin { pins_of cpus.old ≡ 0 }
-    ensures rests { InTurn N.frames SettlesInVisit machine.old cpus.old machine.new cpus.new }
+    ensures settles { InTurn N.frames SettlesInVisit machine.old cpus.old machine.new cpus.new }
     ensures shut { AllShut machine.new }
-    ensures rested { All IsRested cpus.new }
+    ensures settled { All IsSettledUnpinned cpus.new }
 {
     for cpu in cpus.iter_mut() {
-        rest_cpu(machine, tables, cpu);
+        settle_cpu(machine, tables, cpu);
     }
 }
 
@@ -65,10 +65,10 @@ pub(crate) fn empty_all<N: BootName>(
     cpus: &mut [Cpu<N>],
 )
     requires shut { AllShut machine.old }
-    requires rested { All IsRested cpus.old }
+    requires settled { All IsSettledUnpinned cpus.old }
     ensures empties { InTurn N.frames Empties machine.old cpus.old machine.new cpus.new }
     ensures shut { AllShut machine.new }
-    ensures spent { All (λ c. IsSpent N.frames N.stocks machine.new c) cpus.new }
+    ensures spent { All (λ cpu. IsSpent N.frames N.stocks machine.new cpu) cpus.new }
 {
     for cpu in cpus.iter_mut() {
         empty_cpu(machine, tables, cpu);

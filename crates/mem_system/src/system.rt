@@ -1,4 +1,4 @@
-//! The system: the tables that all processors share, and the zone's lock.
+//! The system: the zone's lock, with what lies behind it, and the tables that all processors share.
 
 ghost use Rattle.std.specs.Prelude.{◌≡◌, length, IfOk};
 ghost use Rattle.group_tree.specs.Groups.{number_at};
@@ -16,11 +16,11 @@ use group_tree::group::GroupId;
 use std::alloc::{AllocError, Global};
 use std::sync::{Mutex, Wait};
 
-/// A boot that has started: its tables, and the machine behind the zone's lock. Processors share it by `&`.
+/// A boot that has started: the machine behind the zone's lock, and its tables. Processors share it by `&`.
 #[derive(Drop)]
 pub struct System<N: BootName> {
-    pub(crate) tables: Tables<N>,
     pub(crate) locked: Mutex<Locked<N>>,
+    pub(crate) tables: Tables<N>,
 }
 
 impl Boot {
@@ -30,36 +30,36 @@ impl Boot {
     pub fn start<N: BootName>(self, alloc: Global) -> Result<(System<N>, Vec<Cpu<N>>), AllocError>
         requires frames { self.frames ≡ N.frames }
         requires stocks { self.stocks ≡ N.stocks }
-        ensures cpus { IfOk result (λ r. r.1.items ≡ first_cpus N.frames N.stocks 1 self.sizes.cpus) }
-        ensures count { IfOk result (λ r. length r.1.items ≡ N.frames.cpus) }
+        ensures cpus { IfOk result (λ started. started.1.items ≡ first_cpus N.frames N.stocks 1 self.sizes.cpus) }
+        ensures count { IfOk result (λ started. length started.1.items ≡ N.frames.cpus) }
     {
         let (tables, locked, cpus) = self.into_parts(alloc)?;
-        Ok((System::of(tables, locked), cpus))
+        Ok((System::of(locked, tables), cpus))
     }
 }
 
 impl<N: BootName> System<N> {
-    /// The system of these tables and of what lies behind the lock: processors share it from now on. What it says of
+    /// The system of what lies behind the lock and of these tables: processors share it from now on. What it says of
     /// the tables is all that a clause can say: none looks through the lock.
-    pub fn of(tables: Tables<N>, locked: Locked<N>) -> System<N>
+    pub fn of(locked: Locked<N>, tables: Tables<N>) -> System<N>
         ensures tables { result.tables ≡ tables }
     {
         let locked = Mutex::new(locked);
-        System { tables, locked }
+        System { locked, tables }
     }
 
-    /// Takes the system apart again, once nobody shares it: its tables, and what lies behind the lock, which is as the
-    /// last visit left it. Of that value it is said what always holds there: no visit is open, and the machine is
-    /// consistent.
-    pub fn into_parts(self) -> (Tables<N>, Locked<N>)
-        ensures tables { result.0 ≡ self.tables }
-        ensures quiet { IsQuiet N.frames N.stocks result.1 }
-        ensures consistent { IsConsistent N.frames N.stocks result.1.machine }
+    /// Takes the system apart again, once nobody shares it: what lies behind the lock, which is as the last visit left
+    /// it, and its tables. Of what lies behind the lock it is said what always holds there: no visit is open, and the
+    /// machine is consistent.
+    pub fn into_parts(self) -> (Locked<N>, Tables<N>)
+        ensures quiet { IsQuiet N.frames N.stocks result.0 }
+        ensures consistent { IsConsistent N.frames N.stocks result.0.machine }
+        ensures tables { result.1 ≡ self.tables }
     {
-        let System { tables, locked } = self;
+        let System { locked, tables } = self;
         let locked = locked.into_inner();
         locked.see_quiet();
-        (tables, locked)
+        (locked, tables)
     }
 
     /// The tables, for the calls that take no lock: those that N names.
@@ -73,8 +73,8 @@ impl<N: BootName> System<N> {
     /// The group of this path; None where no group has it. It takes the lock, and settles nothing. As with `visit`,
     /// it is said that there was such a value behind the lock.
     pub fn find<R: Wait>(&self, rt: &R, path: &[u8]) -> Option<GroupId>
-        ensures { (l : KnownLocked) × IsQuiet N.frames N.stocks l
-            × (result ≡ number_at l.machine.ledger.groups path.now) }
+        ensures { (found : KnownLocked) × IsQuiet N.frames N.stocks found
+            × (result ≡ number_at found.machine.ledger.groups path.now) }
     {
         let guard = self.locked.lock(rt);
         let locked = &*guard;

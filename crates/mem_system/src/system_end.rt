@@ -24,15 +24,15 @@ impl<N: BootName> System<N> {
     /// ended so.
     pub fn shutdown(self, cpus: Vec<Cpu<N>>) -> Result<Audit, Held<N>>
         requires { length cpus.items ≡ N.frames.cpus }
-        ensures ends { IfOk result (λ a. (l : KnownLocked) × Ends N.frames N.stocks l cpus.items a) }
-        ensures frames { IfOk result (λ a. a.frames ≡ N.frames.frames) }
-        ensures adds_up { IfOk result (λ a. AddsUp a) }
-        ensures no_pin { IfOk result (λ a. pins_of cpus.items ≡ 0) }
-        ensures pins { IfErr result (λ h. h.pins ≡ pins_of cpus.items) }
-        ensures some_pin { IfErr result (λ h. 1 ≤ h.pins) }
-        ensures cpus { IfErr result (λ h. h.cpus.items ≡ cpus.items) }
+        ensures ends { IfOk result (λ audit. (found : KnownLocked) × Ends N.frames N.stocks found cpus.items audit) }
+        ensures frames { IfOk result (λ audit. audit.frames ≡ N.frames.frames) }
+        ensures adds_up { IfOk result (λ audit. AddsUp audit) }
+        ensures no_pin { IfOk result (λ _. pins_of cpus.items ≡ 0) }
+        ensures pins { IfErr result (λ held. held.pins ≡ pins_of cpus.items) }
+        ensures some_pin { IfErr result (λ held. 1 ≤ held.pins) }
+        ensures cpus { IfErr result (λ held. held.cpus.items ≡ cpus.items) }
     {
-        let System { tables, locked } = self;
+        let System { locked, tables } = self;
         match end(locked.into_inner(), tables, cpus) {
             Ok(audit) => Ok(audit),
             Err(pinned) => Err(Held::of(pinned)),
@@ -47,14 +47,14 @@ impl<N: BootName> Held<N> {
         ensures pins { result.pins ≡ pinned.pins }
     {
         let Pinned {
-            tables,
             locked,
+            tables,
             cpus,
             pins,
         } = pinned;
         let locked = Mutex::new(locked);
         Held {
-            system: System { tables, locked },
+            system: System { locked, tables },
             cpus,
             pins,
         }

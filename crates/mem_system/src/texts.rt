@@ -79,7 +79,7 @@ impl<N: BootName> System<N> {
         cpu: &mut Cpu<N>,
     ) -> Result<String, AllocError>
         ensures told { TellsOf N.frames N.stocks cpu.old cpu.new
-            (λ m. IfOk result (λ text. string_bytes text ≡ show_text m)) }
+            (λ machine. IfOk result (λ text. string_bytes text ≡ show_text machine)) }
         ensures settled { IsSettled cpu.new }
     {
         let mut guard = self.locked.lock(rt);
@@ -98,7 +98,7 @@ impl<N: BootName> System<N> {
         cpu: &mut Cpu<N>,
     ) -> Result<String, AllocError>
         ensures told { TellsOf N.frames N.stocks cpu.old cpu.new
-            (λ m. IfOk result (λ text. string_bytes text ≡ blocks_text m.blocks)) }
+            (λ machine. IfOk result (λ text. string_bytes text ≡ blocks_text machine.blocks)) }
         ensures settled { IsSettled cpu.new }
     {
         let mut guard = self.locked.lock(rt);

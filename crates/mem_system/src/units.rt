@@ -37,7 +37,8 @@ pub(crate) fn touch_frame<N: BootName>(
     frame: u32,
 ) -> Outcome
     requires { frame < N.frames.frames }
-    ensures touched { ByStepsOfAny N.frames machine.old machine.new (TouchesFrame frame (reply_of machine.new.ledger result)) }
+    ensures touched { ByStepsOfAny N.frames machine.old machine.new
+        (TouchesFrame frame (reply_of machine.new.ledger result)) }
     ensures groups { HasItsGroups machine.new.ledger result }
     ensures seat { machine.new.seat ≡ machine.old.seat }
 {
@@ -58,7 +59,8 @@ pub(crate) fn note_dirt<N: BootName>(
     is_dirty: bool,
 ) -> Outcome
     requires { frame < N.frames.frames }
-    ensures noted { ByStepsOfAny N.frames machine.old machine.new (NotesDirt frame is_dirty (reply_of machine.new.ledger result)) }
+    ensures noted { ByStepsOfAny N.frames machine.old machine.new
+        (NotesDirt frame is_dirty (reply_of machine.new.ledger result)) }
     ensures groups { HasItsGroups machine.new.ledger result }
     ensures seat { machine.new.seat ≡ machine.old.seat }
 {

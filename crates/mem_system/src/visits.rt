@@ -11,9 +11,9 @@ use crate::outcome::{Outcome, tell};
 use cpu_part::{BootName, Cpu, Tables};
 
 /// Serves one command of the processor, which holds the lock: what was noted before is forgotten, its visit is opened,
-/// its fresh and back frames are settled, the command is obeyed, and the visit is shut. What is noted then are the limits
-/// without room that it met, what was tried there, and who was killed. A frame that the command names is one of the
-/// zone's. Its answer is told without texts: `reply_of` the charges as they are then is the reply that `serve` gives.
+/// its fresh and back frames are settled, the command is obeyed, and the visit is shut. What is noted then are the
+/// limits without room that it met, what was tried there, and who was killed. A frame that the command names is one of
+/// the zone's. Its answer is told without texts: `reply_of` the charges as they are then is the reply of `serve`.
 #[inline(always)]
 pub fn carry_out<N: BootName>(
     locked: &mut Locked<N>,

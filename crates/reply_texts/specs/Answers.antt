@@ -1,4 +1,4 @@
--- What is written for answers to lines.
+-- What is written for the answer to a line of a script.
 use Rattle.std.specs.Prelude.{ℕ, List, ◌++◌, codes}
 use Rattle.std.specs.Fmt.{decimal}
 use Rattle.cpu_part.specs.declared.answers.Fast as cpu
@@ -13,7 +13,7 @@ use Rattle.reply_texts.specs.Replies.{reply_text}
 
 -- what is written for a frame asked for without the lock
 abbrev pub fast_text : cpu.Fast → List ℕ
-fast_text (Got f) = codes "frame " ++ decimal f ++ codes "\n"
+fast_text (Got frame) = codes "frame " ++ decimal frame ++ codes "\n"
 fast_text FreshFull = codes "fresh-full\n"
 fast_text ListEmpty = codes "list-empty\n"
 fast_text OtherGroup = codes "other-group\n"
@@ -29,7 +29,7 @@ get_text Full = codes "full\n"
 
 -- what is written for a pin taken off
 abbrev pub put_text : word.Put → List ℕ
-put_text (Left n) = codes "left " ++ decimal n ++ codes "\n"
+put_text (Left references) = codes "left " ++ decimal references ++ codes "\n"
 put_text Last = codes "last\n"
 
 -- what is written for the answer to a line

@@ -6,7 +6,8 @@ use Rattle.group_tree.specs.declared.fault.Fault.TheVariants as fault
 use Rattle.group_tree.specs.Faults.{name_of, number_of}
 use Rattle.machine_texts.specs.Characters.{characters}
 use Rattle.mem_system.specs.declared.command.Reply.{Reply}
-use Rattle.mem_system.specs.declared.command.Reply.TheVariants.{Group, Frame, Done, Text, Free, Lent, Charged, Marked, Active, Left, Returned, OverLimit, Refused}
+use Rattle.mem_system.specs.declared.command.Reply.TheVariants.{Group, Frame, Done, Text, Free, Lent, Charged}
+use Rattle.mem_system.specs.declared.command.Reply.TheVariants.{Marked, Active, Left, Returned, OverLimit, Refused}
 
 -- the words of a refusal: its number and its name
 abbrev pub refusal_words : Fault → List ℕ
@@ -16,9 +17,9 @@ refusal_words reason = codes "refused " ++ decimal (number_of reason) ++ codes "
 abbrev pub refusal_text : Fault → List ℕ
 refusal_text reason = refusal_words reason ++ codes "\n"
 
--- the line of a charge over the limit of group g, which has this path
-abbrev pub over_limit_text : ℕ → List ℕ → List ℕ
-over_limit_text g path = refusal_words (fault.OverLimit g) ++ codes " " ++ characters path ++ codes "\n"
+-- the line of a charge over the limit of this group, which has this path
+abbrev pub over_limit_text : (group : ℕ) (path : List ℕ) → List ℕ
+over_limit_text group path = refusal_words (fault.OverLimit group) ++ codes " " ++ characters path ++ codes "\n"
 
 -- the line of a path
 abbrev pub path_text : List ℕ → List ℕ
@@ -26,16 +27,16 @@ path_text path = characters path ++ codes "\n"
 
 -- what is written for a reply
 abbrev pub reply_text : Reply → List ℕ
-reply_text (Group g) = codes "group " ++ decimal g ++ codes "\n"
-reply_text (Frame f) = codes "frame " ++ decimal f ++ codes "\n"
+reply_text (Group group) = codes "group " ++ decimal group ++ codes "\n"
+reply_text (Frame frame) = codes "frame " ++ decimal frame ++ codes "\n"
 reply_text Done = codes "ok\n"
 reply_text (Text text) = characters text
 reply_text Free = codes "free\n"
-reply_text (Lent p) = codes "cpu " ++ decimal p ++ codes "\n"
-reply_text (Charged g path) = path_text path
+reply_text (Lent processor) = codes "cpu " ++ decimal processor ++ codes "\n"
+reply_text (Charged group path) = path_text path
 reply_text Marked = codes "marked\n"
 reply_text Active = codes "active\n"
-reply_text (Left n) = codes "left " ++ decimal n ++ codes "\n"
+reply_text (Left references) = codes "left " ++ decimal references ++ codes "\n"
 reply_text Returned = codes "returned\n"
-reply_text (OverLimit g path) = over_limit_text g path
+reply_text (OverLimit group path) = over_limit_text group path
 reply_text (Refused reason) = refusal_text reason

@@ -17,7 +17,8 @@ pub(crate) fn push_number(number: u64, text: &mut String) -> Result<(), AllocErr
 
 // Adds a line of a word, which ends with a space, and a number.
 pub(crate) fn write_number(word: &str, number: u64, text: &mut String) -> Result<(), AllocError>
-    ensures { IfOk result (λ _. string_bytes text.new ≡ string_bytes text.old ++ (word.now ++ decimal number ++ codes "\n")) }
+    ensures { IfOk result (λ _. string_bytes text.new
+        ≡ string_bytes text.old ++ (word.now ++ decimal number ++ codes "\n")) }
 {
     text.push_str(word)?;
     push_number(number, text)?;

@@ -40,15 +40,16 @@ pub fn write_reply(reply: &Reply, text: &mut String) -> Result<(), AllocError>
     }
 }
 
-/// Adds what is written for the reply that these charges tell of an outcome: the same text as `write_reply` of it, with no reply
-/// made. It fails only for want of memory.
+/// Adds what is written for the reply that these charges tell of an outcome: the text that `write_reply` adds for it,
+/// with no reply made. It fails only for want of memory.
 pub fn write_outcome(
     charges: &Charges,
     outcome: &Outcome,
     text: &mut String,
 ) -> Result<(), AllocError>
     requires { HasItsGroups charges.now outcome.now }
-    ensures { IfOk result (λ _. string_bytes text.new ≡ string_bytes text.old ++ reply_text (reply_of charges.now outcome.now)) }
+    ensures { IfOk result (λ _. string_bytes text.new
+        ≡ string_bytes text.old ++ reply_text (reply_of charges.now outcome.now)) }
 {
     match *outcome {
         Outcome::Group(group) => write_number("group ", u64::from(group.number()), text),

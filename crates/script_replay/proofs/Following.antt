@@ -189,20 +189,20 @@ module _ (t : KnownTable) (w : Words) (run : Run) (locked : KnownLocked) (cpus :
 
   -- served under the lock, after a look at its own stock
   served_follows : (seen : KnownCpu) → IsUnseen t m c seen → (command : Cmd) (reply : Reply) (after : Holder) →
-      (is : IsServed t command (holder locked seen) reply after) → AllShut after.locked.machine → Decided (under_lock p is.0) → Follows (under_lock p is.0) after
+      (is : IsServed t command (holder locked seen) reply after) → AllShut after.locked.machine → Decided (under_lock p is.steps) → Follows (under_lock p is.steps) after
   served_follows seen unseen command reply after is shut decided =
-      let serves : ServesAt t cpus k (side m c) is.0 (side after.locked.machine after.cpu) = record {
+      let serves : ServesAt t cpus k (side m c) is.steps (side after.locked.machine after.cpu) = record {
         is_part = is_part;
         leads = record {
-          leads = subst (λ (x : ℕ × State). IsLocalRun x.0 x.1 is.0 (local_of t after.locked.machine after.cpu)) (λ i. (unseen.number i, unseen.same i))
-              is.2.leads;
-          follows = subst (λ (x : State). FollowsSteps x m.ledger is.0 after.locked.machine.ledger) unseen.same is.2.follows;
+          leads = subst (λ (x : ℕ × State). IsLocalRun x.0 x.1 is.steps (local_of t after.locked.machine after.cpu)) (λ i. (unseen.number i, unseen.same i))
+              is.makes.leads;
+          follows = subst (λ (x : State). FollowsSteps x m.ledger is.steps after.locked.machine.ledger) unseen.same is.makes.follows;
         };
-        decided = inner_decided is.0 decided;
+        decided = inner_decided is.steps decided;
         shut = shut;
       } in (
-        lines_follow t run cpus k (side m c) is.0 (side after.locked.machine after.cpu) shows serves,
-        lines_tell t run cpus k (side m c) is.0 (side after.locked.machine after.cpu) shows serves,
+        lines_follow t run cpus k (side m c) is.steps (side after.locked.machine after.cpu) shows serves,
+        lines_tell t run cpus k (side m c) is.steps (side after.locked.machine after.cpu) shows serves,
       )
 
   -- a step without the lock

@@ -25,7 +25,7 @@ use Rattle.script_replay.specs.Ranges.{LineIsThere}
 
 -- a Settle is answered that it was done
 pub settled_done : (t : KnownTable) (w : Words) (c d : KnownCpu) (reply : Reply) → IsVisited t w cmd.Settle c reply d → IsVisited t w cmd.Settle c Done d
-settled_done t w c d reply is = subst (λ (r : Reply). IsVisited t w cmd.Settle c r d) is.3.1.obeys.0 is
+settled_done t w c d reply is = subst (λ (r : Reply). IsVisited t w cmd.Settle c r d) is.served.serves.obeys.0 is
 
 -- where there is no frame for the group, the command is served by a visit
 pub visited_after : (t : KnownTable) (w : Words) (path : Bor (List ℕ)) (l : KnownLocked) (c seen : KnownCpu) (said : Answer) (d : KnownCpu) →

@@ -39,7 +39,7 @@ use Rattle.script_replay.specs.Ranges.{LineIsThere}
 -- under the lock: Lock, the steps by which the command was served, Unlock
 abbrev pub served_steps : (t : KnownTable) (command : Cmd) (before : Holder) (said : Answer) (after : Holder)
     → RepliesServed t command before said after → Run
-served_steps t command before (answer.Served reply) after is = under_lock before.cpu.number is.0
+served_steps t command before (answer.Served reply) after is = under_lock before.cpu.number is.steps
 served_steps t command before said after is = []
 
 -- a fast allocation that got a frame consumed a page, and any other made no step
@@ -63,20 +63,20 @@ abbrev pub frame_steps : (t : KnownTable) (path : Bor (List ℕ)) (before : Hold
 frame_steps t path before (answer.Fast (Got f)) after is =
     cpu_makes before.cpu.number (step.Consume is.0) says.Took ∷ []
 frame_steps t path before (answer.Served reply) after (inl none) = []
-frame_steps t path before (answer.Served reply) after (inr served) = under_lock before.cpu.number served.2.0
+frame_steps t path before (answer.Served reply) after (inr served) = under_lock before.cpu.number served.2.steps
 frame_steps t path before said after is = []
 
 -- a Release: a fresh frame that was listed again is that step, any other is served under the lock
 abbrev pub release_answer_steps : (t : KnownTable) (f : ℕ) (before : Holder) (said : Answer) (after : Holder)
     → AnswersRelease t f before said after → Run
 release_answer_steps t f before answer.Listed after is = cpu_makes before.cpu.number (step.Credit f) says.Back ∷ []
-release_answer_steps t f before (answer.Served reply) after is = under_lock before.cpu.number is.2.0
+release_answer_steps t f before (answer.Served reply) after is = under_lock before.cpu.number is.2.steps
 release_answer_steps t f before said after is = []
 
 -- a Settle is served under the lock
 abbrev pub settle_answer_steps : (t : KnownTable) (before : Holder) (said : Answer) (after : Holder)
     → AnswersSettle t before said after → Run
-settle_answer_steps t before answer.Settled after is = under_lock before.cpu.number is.0
+settle_answer_steps t before answer.Settled after is = under_lock before.cpu.number is.steps
 settle_answer_steps t before said after is = []
 
 -- the steps of what was done, and answered so
@@ -94,8 +94,8 @@ answer_steps t work before said after is = []
 -- so it is with what is told as text: `blocks` and `show` settle the processor under the lock
 abbrev pub work_steps : (t : KnownTable) (is_explained : Bool) (work : Work) (before : Holder) (text : List ℕ)
     (after : Holder) → AnswersWork t is_explained work before text after → Run
-work_steps t is_explained Blocks before text after is = under_lock before.cpu.number is.0.0
-work_steps t is_explained Show before text after is = under_lock before.cpu.number is.0.0
+work_steps t is_explained Blocks before text after is = under_lock before.cpu.number is.0.steps
+work_steps t is_explained Show before text after is = under_lock before.cpu.number is.0.steps
 work_steps t is_explained work before text after is = answer_steps t work before is.0 after is.1
 
 -- the steps of a line that was served so; `go` makes none

@@ -42,8 +42,8 @@ returns-clause-ends g c =
     let long : length c.serve_later-told.new.cpus ≡ length c.args.cpus.items = c.serve_later-told.auto.cpus ∙ ap length first in
     let same = written_back c.args.cpus.len c.serve_later-told.new.cpus c.args.cpus.items long (sym c.deref_mut.ensures.len ∙ ap length first) in
     record {
-      before = standing c.into_parts-tables.result.1 c.serve_later-told.new.cpus;
-      is_before = (c.into_parts-tables.ensures.quiet, long ∙ c.requires.count);
-      ends = subst (λ (cpus : List KnownCpu). EndsHeld t w (standing c.into_parts-tables.result.1 cpus) c.finish-ended.result.held c.finish-ended.result.audit) same
+      before = standing c.into_parts-locked.result.0 c.serve_later-told.new.cpus;
+      is_before = (c.into_parts-locked.ensures.quiet, long ∙ c.requires.count);
+      ends = subst (λ (cpus : List KnownCpu). EndsHeld t w (standing c.into_parts-locked.result.0 cpus) c.finish-ended.result.held c.finish-ended.result.audit) same
           c.finish-ended.ensures;
     }

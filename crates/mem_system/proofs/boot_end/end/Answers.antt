@@ -5,18 +5,18 @@ use Rattle.std.specs.Prelude.{min}
 use Rattle.group_tree.specs.Room.{max_count}
 use Rattle.cpu_part.specs.Cpus.{KnownCpu, IsIdle}
 use Rattle.mem_system.specs.Boots.{KnownLocked}
-use Rattle.mem_system.specs.Ends.{InTurn, SettlesInVisit, Empties, Ends, IsRested, frame_seat_of, stock_seat_of, drops_of, pins_of}
+use Rattle.mem_system.specs.Ends.{InTurn, SettlesInVisit, Empties, Ends, IsSettledUnpinned, frame_seat_of, stock_seat_of, drops_of, pins_of}
 use Rattle.mem_system.proofs.Closing.{turn_long, written_back, idle_all, frame_seats_at, stock_seats_at, long_frames, long_stocks, all_ends}
 use Rattle.mem_system.proofs.boot_end.end.Goals as goal
 
-pub empty_all-requires-clause-rested : goal.empty_all-requires-clause-rested
-empty_all-requires-clause-rested g c =
+pub empty_all-requires-clause-settled : goal.empty_all-requires-clause-settled
+empty_all-requires-clause-settled g c =
     let t = g.N.BootName.frames in
     let first = c.deref_mut.ensures.value in
-    let long = turn_long t SettlesInVisit _ _ _ _ c.rest_all.ensures.rests ∙ ap length first in
-    let same = c.deref_mut-2.ensures.value ∙ written_back c.args.cpus.len c.rest_all.new.cpus c.args.cpus.items long
+    let long = turn_long t SettlesInVisit _ _ _ _ c.settle_all.ensures.settles ∙ ap length first in
+    let same = c.deref_mut-2.ensures.value ∙ written_back c.args.cpus.len c.settle_all.new.cpus c.args.cpus.items long
     (sym c.deref_mut.ensures.len ∙ ap length first) in
-    subst (All IsRested) (sym same) c.rest_all.ensures.rested
+    subst (All IsSettledUnpinned) (sym same) c.settle_all.ensures.settled
 
 pub gather_seats-frame_seats-requires-clause-idle : goal.gather_seats-frame_seats-requires-clause-idle
 gather_seats-frame_seats-requires-clause-idle g c =
@@ -24,21 +24,21 @@ gather_seats-frame_seats-requires-clause-idle g c =
     let first = c.deref_mut.ensures.value in
     let second = c.deref_mut-2.ensures.value in
     let size = sym c.deref_mut.ensures.len ∙ ap length first in
-    let long = turn_long t SettlesInVisit _ _ _ _ c.rest_all.ensures.rests ∙ ap length first in
-    let same = written_back c.args.cpus.len c.rest_all.new.cpus c.args.cpus.items long size in
+    let long = turn_long t SettlesInVisit _ _ _ _ c.settle_all.ensures.settles ∙ ap length first in
+    let same = written_back c.args.cpus.len c.settle_all.new.cpus c.args.cpus.items long size in
     let longer = turn_long t Empties _ _ _ _ c.empty_all.ensures.empties ∙ ap length second in
     subst (All IsIdle) (sym (written_back c.args.cpus.len c.empty_all.new.cpus _ longer (size ∙ sym (ap length same ∙ long))))
     (idle_all t g.N.BootName.stocks c.empty_all.new.machine c.empty_all.new.cpus c.empty_all.ensures.spent)
 
-pub close-requires-clause-frames : goal.close-requires-clause-frames
-close-requires-clause-frames g c =
+pub close_tables-requires-clause-frames : goal.close_tables-requires-clause-frames
+close_tables-requires-clause-frames g c =
     let t = g.N.BootName.frames in
     let w = g.N.BootName.stocks in
     let first = c.deref_mut.ensures.value in
     let second = c.deref_mut-2.ensures.value in
     let size = sym c.deref_mut.ensures.len ∙ ap length first in
-    let long = turn_long t SettlesInVisit _ _ _ _ c.rest_all.ensures.rests ∙ ap length first in
-    let same = written_back c.args.cpus.len c.rest_all.new.cpus c.args.cpus.items long size in
+    let long = turn_long t SettlesInVisit _ _ _ _ c.settle_all.ensures.settles ∙ ap length first in
+    let same = written_back c.args.cpus.len c.settle_all.new.cpus c.args.cpus.items long size in
     let longer = turn_long t Empties _ _ _ _ c.empty_all.ensures.empties ∙ ap length second in
     let last = written_back c.args.cpus.len c.empty_all.new.cpus _ longer (size ∙ sym (ap length same ∙ long)) in
     let seats = c.gather_seats-frame_seats.ensures.frames ∙ ap (λ (l : List KnownCpu). map frame_seat_of l) last in (
@@ -46,15 +46,15 @@ close-requires-clause-frames g c =
       ap length seats ∙ long_frames c.empty_all.new.cpus ∙ longer ∙ ap length same ∙ long ∙ c.requires,
     )
 
-pub close-requires-clause-stocks : goal.close-requires-clause-stocks
-close-requires-clause-stocks g c =
+pub close_tables-requires-clause-stocks : goal.close_tables-requires-clause-stocks
+close_tables-requires-clause-stocks g c =
     let t = g.N.BootName.frames in
     let w = g.N.BootName.stocks in
     let first = c.deref_mut.ensures.value in
     let second = c.deref_mut-2.ensures.value in
     let size = sym c.deref_mut.ensures.len ∙ ap length first in
-    let long = turn_long t SettlesInVisit _ _ _ _ c.rest_all.ensures.rests ∙ ap length first in
-    let same = written_back c.args.cpus.len c.rest_all.new.cpus c.args.cpus.items long size in
+    let long = turn_long t SettlesInVisit _ _ _ _ c.settle_all.ensures.settles ∙ ap length first in
+    let same = written_back c.args.cpus.len c.settle_all.new.cpus c.args.cpus.items long size in
     let longer = turn_long t Empties _ _ _ _ c.empty_all.ensures.empties ∙ ap length second in
     let last = written_back c.args.cpus.len c.empty_all.new.cpus _ longer (size ∙ sym (ap length same ∙ long)) in
     let seats = c.gather_seats-frame_seats.ensures.stocks ∙ ap (λ (l : List KnownCpu). map stock_seat_of l) last in
@@ -70,8 +70,8 @@ returns-clause-ends g c =
     let first = c.deref_mut.ensures.value in
     let second = c.deref_mut-2.ensures.value in
     let size = sym c.deref_mut.ensures.len ∙ ap length first in
-    let long = turn_long t SettlesInVisit _ _ _ _ c.rest_all.ensures.rests ∙ ap length first in
-    let same = written_back c.args.cpus.len c.rest_all.new.cpus c.args.cpus.items long size in
+    let long = turn_long t SettlesInVisit _ _ _ _ c.settle_all.ensures.settles ∙ ap length first in
+    let same = written_back c.args.cpus.len c.settle_all.new.cpus c.args.cpus.items long size in
     let longer = turn_long t Empties _ _ _ _ c.empty_all.ensures.empties ∙ ap length second in
     let last = written_back c.args.cpus.len c.empty_all.new.cpus _ longer (size ∙ sym (ap length same ∙ long)) in
     let frames = c.gather_seats-frame_seats.ensures.frames ∙ ap (λ (l : List KnownCpu). map frame_seat_of l) last in
@@ -80,12 +80,12 @@ returns-clause-ends g c =
     let none : pins_of c.args.cpus.items ≡ 0 =
     let counted = c.count_pins-pins.ensures in let zero = c.if-pins-gt0.false in sym (ap pins_of read) ∙ sym counted ∙ omega (arith, zero) in
     let dropped = c.count_drops-drops.ensures ∙ ap (λ (l : List KnownCpu). min (drops_of l) max_count) c.deref-2.ensures.value in
-    let rests : InTurn t SettlesInVisit c.locked.inside.machine c.args.cpus.items c.rest_all.new.machine c.rest_all.new.cpus =
-    subst (λ (l : List KnownCpu). InTurn t SettlesInVisit c.locked.inside.machine l c.rest_all.new.machine c.rest_all.new.cpus) first c.rest_all.ensures.rests in
-    let empties : InTurn t Empties c.rest_all.new.machine c.rest_all.new.cpus c.empty_all.new.machine c.empty_all.new.cpus =
-    subst (λ (l : List KnownCpu). InTurn t Empties c.rest_all.new.machine l c.empty_all.new.machine c.empty_all.new.cpus) (second ∙ same)
+    let rests : InTurn t SettlesInVisit c.locked.inside.machine c.args.cpus.items c.settle_all.new.machine c.settle_all.new.cpus =
+    subst (λ (l : List KnownCpu). InTurn t SettlesInVisit c.locked.inside.machine l c.settle_all.new.machine c.settle_all.new.cpus) first c.settle_all.ensures.settles in
+    let empties : InTurn t Empties c.settle_all.new.machine c.settle_all.new.cpus c.empty_all.new.machine c.empty_all.new.cpus =
+    subst (λ (l : List KnownCpu). InTurn t Empties c.settle_all.new.machine l c.empty_all.new.machine c.empty_all.new.cpus) (second ∙ same)
     c.empty_all.ensures.empties in
     subst (λ (l : KnownLocked). Ends t w l c.args.cpus.items c.take_audit-audit.result) c.locked.view_is
-    (all_ends t w (record { machine = c.locked.inside.machine; sizes = c.locked.inside.sizes }) c.args.cpus.items c.rest_all.new.machine c.rest_all.new.cpus
+    (all_ends t w (record { machine = c.locked.inside.machine; sizes = c.locked.inside.sizes }) c.args.cpus.items c.settle_all.new.machine c.settle_all.new.cpus
     c.empty_all.new.machine c.empty_all.new.cpus c.take_audit-audit.result _ _ _ c.locked.invariant.0 none dropped rests empties c.empty_all.ensures.shut c.empty_all.ensures.spent
-    c.take_audit-audit.ensures c.close.ensures frames stocks)
+    c.take_audit-audit.ensures c.close_tables.ensures frames stocks)

@@ -8,7 +8,12 @@ use Rattle.mem_system.proofs.files.find_limit.Goals as goal
 
 pub returns-then-not-is_writable : goal.returns-then-not-is_writable
 returns-then-not-is_writable c =
-    inr (c.in-Ok.found.0, c.in-Ok.found.1, c.in-Ok.ensures, λ is. false≢true (sym c.if-not-is_writable.true ∙ c.is_writable.ensures.1 is))
+    inr (record {
+      group = c.in-Ok.found.0;
+      file = c.in-Ok.found.1;
+      is_file = c.in-Ok.ensures;
+      refuses = λ is. false≢true (sym c.if-not-is_writable.true ∙ c.is_writable.ensures.1 is);
+    })
 
 pub returns-in-Ok-read_limit : goal.returns-in-Ok-read_limit
 returns-in-Ok-read_limit c =
@@ -21,10 +26,10 @@ pub returns-in-Err-read_limit : goal.returns-in-Err-read_limit
 returns-in-Err-read_limit c =
     let is_max : c.in-Ok.found.1 ≡ Max = c.is_writable.ensures.0 c.if-not-is_writable.false in
     let told = c.in-Err-read_limit.ensures in
-    inr (
-      c.in-Ok.found.0,
-      c.in-Ok.found.1,
-      c.in-Ok.ensures,
-      refused_value c.args.value.now c.in-Ok.found.1 c.in-Err-read_limit.fault is_max told.err
-          (λ e. told.bad_number.0 (ap Err e)) (λ e. told.bad_limit.0 (ap Err e)),
-    )
+    inr (record {
+      group = c.in-Ok.found.0;
+      file = c.in-Ok.found.1;
+      is_file = c.in-Ok.ensures;
+      refuses = refused_value c.args.value.now c.in-Ok.found.1 c.in-Err-read_limit.fault is_max told.err
+          (λ e. told.bad_number.0 (ap Err e)) (λ e. told.bad_limit.0 (ap Err e));
+    })

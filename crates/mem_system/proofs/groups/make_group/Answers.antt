@@ -8,7 +8,7 @@ use Rattle.mem_system.proofs.groups.make_group.Goals as goal
 
 pub returns-in-Ok-clause-made : goal.returns-in-Ok-clause-made
 returns-in-Ok-clause-made g c =
-    (make_steps c.args.path.now c.in-Ok.group, (sym c.in-Ok.ensures.refused, c.in-Ok.ensures.made, refl), c.in-Ok.ensures.steps)
+    (make_steps c.args.path.now c.in-Ok.group, record { no_fault = sym c.in-Ok.ensures.refused; adds = c.in-Ok.ensures.made; steps_are = refl }, c.in-Ok.ensures.steps)
 
 pub returns-in-Ok-clause-seat : goal.returns-in-Ok-clause-seat
 returns-in-Ok-clause-seat g c = ap (λ (k : KnownMachine). k.seat) c.in-Ok.ensures.made.machine

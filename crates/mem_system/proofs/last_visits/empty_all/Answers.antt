@@ -1,16 +1,16 @@
 use Rattle.std.proofs.Common.{◌<◌, ◌≤◌, length, arith, rules, subst, sym}
 use Rattle.std.specs.Prelude.{take}
-use Rattle.mem_system.specs.Ends.{Empties, IsRested, IsSpent}
+use Rattle.mem_system.specs.Ends.{Empties, IsSettledUnpinned, IsSpent}
 use Rattle.mem_system.proofs.InTurns.{so_far_more, so_far_end, same_at, all_still, all_more, all_taken, spent_still}
 use Rattle.mem_system.proofs.last_visits.empty_all.Goals as goal
 
-pub empty_cpu-requires-clause-rested : goal.empty_cpu-requires-clause-rested
-empty_cpu-requires-clause-rested g c =
+pub empty_cpu-requires-clause-settled : goal.empty_cpu-requires-clause-settled
+empty_cpu-requires-clause-settled g c =
     let inside : c.loop-cpu.cpu-index < length c.loop-cpu.cpus = search rules in
     let so_far = c.loop-cpu.invariant.0 in
     let long = so_far.long in
-    subst IsRested (sym (same_at _ _ _ c.cpu-item.result inside long so_far.left))
-    (c.requires.rested c.loop-cpu.cpu-index c.cpu-item.result (omega (arith, inside, long)))
+    subst IsSettledUnpinned (sym (same_at _ _ _ c.cpu-item.result inside long so_far.left))
+    (c.requires.settled c.loop-cpu.cpu-index c.cpu-item.result (omega (arith, inside, long)))
 
 pub loop-cpu-preserved : goal.loop-cpu-preserved
 loop-cpu-preserved g c =

@@ -18,7 +18,7 @@ see_none_lent-requires-clause-none_listed g c =
 pub see_none_lent-requires-clause-none_fresh : goal.see_none_lent-requires-clause-none_fresh
 see_none_lent-requires-clause-none_fresh g c =
     ap (λ (y : KnownCpu). y.fresh) c.shut.ensures.cpu ∙ (cut_off _ _ _ _ _ c.drain_list.ensures.takes).fresh
-    ∙ ap (λ (y : KnownCpu). y.fresh) c.open.ensures.cpu ∙ c.requires.rested.none_fresh
+    ∙ ap (λ (y : KnownCpu). y.fresh) c.open.ensures.cpu ∙ c.requires.settled.none_fresh
 
 pub returns-clause-empties : goal.returns-clause-empties
 returns-clause-empties g c =
@@ -52,9 +52,9 @@ returns-clause-spent g c =
       tied = subst (λ (y : KnownCpu). IsTied t w y) (sym same) c.number.ensures.tied;
       idle = (
         ap (λ (y : KnownCpu). y.list) same ∙ whole.none_left,
-        ap (λ (y : KnownCpu). y.fresh) same ∙ cut.fresh ∙ ap (λ (y : KnownCpu). y.fresh) was ∙ c.requires.rested.none_fresh,
-        ap (λ (y : KnownCpu). y.back) same ∙ cut.back ∙ ap (λ (y : KnownCpu). y.back) was ∙ c.requires.rested.none_back,
-        ap (λ (y : KnownCpu). y.pins) same ∙ (taken_alone _ _ _ _ _ done.takes).pins ∙ ap (λ (y : KnownCpu). y.pins) was ∙ c.requires.rested.no_pin,
+        ap (λ (y : KnownCpu). y.fresh) same ∙ cut.fresh ∙ ap (λ (y : KnownCpu). y.fresh) was ∙ c.requires.settled.none_fresh,
+        ap (λ (y : KnownCpu). y.back) same ∙ cut.back ∙ ap (λ (y : KnownCpu). y.back) was ∙ c.requires.settled.none_back,
+        ap (λ (y : KnownCpu). y.pins) same ∙ (taken_alone _ _ _ _ _ done.takes).pins ∙ ap (λ (y : KnownCpu). y.pins) was ∙ c.requires.settled.no_pin,
       );
       none_lent = c.see_none_lent.ensures;
       drained = ap (λ (q : ℕ). (account_of c.shut.new.self.stock.view q).filled) (ap (λ (y : KnownCpu). y.number) same ∙ sym c.number.ensures.number)

@@ -8,12 +8,29 @@ use Rattle.script_replay.proofs.visit_answers.tell_blocks.Goals as goal
 
 pub returns-in_err-told : goal.returns-in_err-told
 returns-in_err-told g c =
-    let told = c.in_err-told.ensures.told in
-    (blocks_text told.1.machine.blocks, (told.0, told.1, told.2, refl), search rules)
+    let told = c.in_err-told.ensures.told in (
+      blocks_text told.left.machine.blocks,
+      record {
+        found = told.found;
+        left = told.left;
+        quiet_before = told.quiet_before;
+        settles = told.settles;
+        quiet_after = told.quiet_after;
+        told = refl;
+      },
+      search rules,
+    )
 
 pub returns : goal.returns
 returns g c =
     let told = c.in_ok-told.ensures.told in
     said_as (λ (said : List ℕ). VisitsWork g.N.BootName.frames g.N.BootName.stocks Blocks c.args.cpu.now said c.blocks-2.new.cpu)
     (string_bytes c.in_ok-told.told) (string_bytes c.args.text.now) (string_bytes c.push_str.new.self) c.push_str.result
-    (told.0, told.1, told.2, search rules) (search rules)
+    (record {
+      found = told.found;
+      left = told.left;
+      quiet_before = told.quiet_before;
+      settles = told.settles;
+      quiet_after = told.quiet_after;
+      told = search rules;
+    }) (search rules)

@@ -1,6 +1,6 @@
 use Rattle.std.specs.Prelude.{All}
 use Rattle.cpu_part.specs.Cpus.{IsIdle}
-use Rattle.mem_system.proofs.boots.spend.Given as goal
+use Rattle.mem_system.proofs.boots.take_apart.Given as goal
 
 -- nothing is left in the parts that are not spent yet
 abbrev pub invariant-loop-cpu : goal.invariant-loop-cpu

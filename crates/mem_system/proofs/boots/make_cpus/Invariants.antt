@@ -3,7 +3,7 @@ use Rattle.std.specs.Vec.{vec_len, vec_capacity}
 use Rattle.frame_word.specs.Seats.{first_cpu_seats}
 use Rattle.stock_word.specs.Stock.{first_seats}
 use Rattle.mem_system.specs.Boots.{first_cpus}
-use Rattle.mem_system.proofs.boots.deal.Given as goal
+use Rattle.mem_system.proofs.boots.make_cpus.Given as goal
 
 -- the parts of the processors so far are made, and the seats of the others are left
 abbrev pub invariant-loop-dealt : goal.invariant-loop-dealt

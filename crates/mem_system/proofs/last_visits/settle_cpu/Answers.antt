@@ -4,10 +4,10 @@ use Rattle.mem_machine.specs.Machines.{KnownMachine}
 use Rattle.mem_system.specs.Commands.{with_visit_of}
 use Rattle.mem_system.proofs.Visiting.{all_shut, settled_opened}
 use Rattle.mem_system.proofs.Turns.{rested}
-use Rattle.mem_system.proofs.last_visits.rest_cpu.Goals as goal
+use Rattle.mem_system.proofs.last_visits.settle_cpu.Goals as goal
 
-pub returns-clause-rests : goal.returns-clause-rests
-returns-clause-rests g c =
+pub returns-clause-settles : goal.returns-clause-settles
+returns-clause-settles g c =
     rested g.N.BootName.frames c.args.machine.now c.shut.new.self c.args.cpu.now c.shut.new.cpu c.open.new.self c.settle.new.self c.open.new.cpu c.settle.new.cpu
     c.open.ensures.machine c.open.ensures.cpu c.settle.ensures.others.number c.shut.ensures.machine c.shut.ensures.cpu c.open.ensures.steps
     c.settle.ensures.settles c.settle.ensures.steps c.shut.ensures.steps

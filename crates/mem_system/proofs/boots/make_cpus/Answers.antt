@@ -5,7 +5,7 @@ use Rattle.stock_word.specs.Stock.{first_seats}
 use Rattle.cpu_part.specs.Cpus.{IsIdle, first_cpu}
 use Rattle.mem_system.specs.Boots.{first_cpus}
 use Rattle.mem_system.proofs.Parts.{frame_seats_left, stock_seats_left, front_is, frame_seat_first, stock_seat_first, cpus_next, cpus_idle}
-use Rattle.mem_system.proofs.boots.deal.Goals as goal
+use Rattle.mem_system.proofs.boots.make_cpus.Goals as goal
 
 pub loop-dealt-init : goal.loop-dealt-init
 loop-dealt-init g c = record {
@@ -39,8 +39,8 @@ new-requires g c =
       same = ap (λ s. s.view.number) stock_seat ∙ sym (ap (λ s. number_of s) frame_seat);
     }
 
-pub spend-requires : goal.spend-requires
-spend-requires g c =
+pub take_apart-requires : goal.take_apart-requires
+take_apart-requires g c =
     subst (All IsIdle) (sym c.loop-dealt.invariant.made) (cpus_idle g.N.BootName.frames g.N.BootName.stocks 1 c.loop-dealt._dealt)
 
 pub loop-dealt-preserved : goal.loop-dealt-preserved

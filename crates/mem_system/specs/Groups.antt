@@ -1,0 +1,51 @@
+-- What Mkdir and Rmdir do, and what they answer.
+use Rattle.std.specs.Prelude.{◌≡◌, ℕ, ◌≤◌, Some, None, List, ◌++◌}
+use Rattle.group_tree.specs.Groups.{make_fault}
+use Rattle.group_tree.specs.declared.fault.Fault.TheVariants.{Busy}
+use Rattle.group_charge.specs.Charges.{current_of, with_group_removed}
+use Rattle.step_rules.specs.After.{Run}
+use Rattle.mem_machine.specs.Machines.{KnownMachine, AddsGroup}
+use Rattle.mem_machine.specs.Steps.{make_steps, remove_steps}
+use Rattle.mem_alloc.specs.Stepping.{Course, Rests, course}
+use Rattle.mem_system.specs.declared.command.Reply.{Reply}
+use Rattle.mem_system.specs.declared.command.Reply.TheVariants.{Group, Done, Refused}
+use Rattle.mem_system.specs.Leaves.{IsLeafAt, HasNoLeaf}
+use Rattle.mem_system.specs.Usage.{LowersUsage}
+
+-- no cause of a refusal holds, and the group of this path is made under this number, as the machine makes it
+pub record MakesNewGroup (path : List ℕ) (number : ℕ) (way : Course KnownMachine) : Type 0 where
+  pub no_fault : make_fault way.before.ledger.groups path ≡ None
+  pub adds : AddsGroup way.before number path way.after
+  pub steps_are : way.steps ≡ make_steps path number
+
+-- Mkdir: the group is made; or it is refused for the first cause that holds, and nothing changed
+abbrev pub MakesGroup : (path : List ℕ) → Reply → Course KnownMachine → Type 0
+MakesGroup path (Group number) way = MakesNewGroup path number way
+MakesGroup path (Refused fault) way = (make_fault way.before.ledger.groups path ≡ Some fault) × Rests way
+MakesGroup path other way = ⊥
+
+-- the usage of the group is lowered to nothing, and it is gone
+pub record RemovesGroup (path : List ℕ) (way : Course KnownMachine) : Type 0 where
+  pub group : ℕ
+  pub leaf : IsLeafAt way.before.ledger.groups path group
+  pub lowering : Run
+  pub emptied : KnownMachine
+  pub lowers : LowersUsage group 0 (course way.table way.before lowering emptied)
+  pub empty : current_of emptied.ledger group ≡ 0
+  pub machine : way.after ≡ record emptied { ledger = with_group_removed emptied.ledger group }
+  pub steps_are : way.steps ≡ lowering ++ remove_steps group
+
+-- the usage of the group is lowered as far as that can be, and pages are still charged to it
+pub record StaysBusy (path : List ℕ) (way : Course KnownMachine) : Type 0 where
+  pub group : ℕ
+  pub leaf : IsLeafAt way.before.ledger.groups path group
+  pub lowers : LowersUsage group 0 way
+  pub pages : 1 ≤ current_of way.after.ledger group
+
+-- Rmdir: the group is gone; or pages stay charged to it, and the drained and reclaimed ones are given back; or there is
+-- no such group, and nothing changed
+abbrev pub Removes : (path : List ℕ) → Reply → Course KnownMachine → Type 0
+Removes path Done way = RemovesGroup path way
+Removes path (Refused Busy) way = StaysBusy path way
+Removes path (Refused fault) way = HasNoLeaf way.before.ledger.groups path fault × Rests way
+Removes path other way = ⊥
