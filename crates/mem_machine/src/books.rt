@@ -35,9 +35,9 @@ impl<N: BootName> Model for Books<N> {
 
     ghost Value = { Seated };
 
-    ghost view = { λ b. b.seat };
+    ghost view = { λ books. books.seat };
 
-    ghost invariant = { λ b. AreBooked N.frames N.stocks b.seat b.sums };
+    ghost invariant = { λ books. AreBooked N.frames N.stocks books.seat books.sums };
 }
 
 impl<N: BootName> Books<N> {
@@ -78,7 +78,7 @@ impl<N: BootName> Books<N> {
     pub(crate) fn group(&mut self, tables: &Tables<N>, processor: u32) -> Option<u32>
         requires processor { IsCpuOf N.frames processor }
         ensures group { result ≡ (account_of self.old.view processor).group }
-        ensures fits { IfSome result (λ g. g < MAX_GROUPS) }
+        ensures fits { IfSome result (λ group. group < MAX_GROUPS) }
         ensures machine { self.new ≡ with_view self.old (with_steps 1 (after_look self.old.view processor result)) }
     {
         tables.stocks.group(&mut self.seat, processor)

@@ -1,6 +1,6 @@
 //! Kept units that are tried: frozen and given back where nobody else has a reference.
 
-ghost use Rattle.std.specs.Prelude.{◌≡◌, ◌<◌};
+ghost use Rattle.std.specs.Prelude.{◌<◌};
 ghost use Rattle.mem_machine.specs.Machines.{HeadsKeptUnit, StaysVisited};
 ghost use Rattle.mem_machine.specs.Evicting.{Evicts, evict_steps};
 ghost use Rattle.mem_machine.specs.Local.{MakesForAny};

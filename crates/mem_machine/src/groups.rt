@@ -57,10 +57,10 @@ impl<N: BootName> Machine<N> {
 
     /// Makes a group, as `Tree::make` does. It has no page, peak 0 and all counts 0, and isn't killed.
     pub fn make(&mut self, path: &[u8]) -> Result<GroupId, Fault>
-        ensures made { IfOk result (λ n. AddsGroup self.old n path.now self.new) }
+        ensures made { IfOk result (λ number. AddsGroup self.old number path.now self.new) }
         ensures refused { result_err result ≡ make_fault self.old.ledger.groups path.now }
         ensures unchanged { OnErr result (self.new ≡ self.old) }
-        ensures steps { IfOk result (λ n. MakesForAny N.frames self.old (make_steps path.now n) self.new) }
+        ensures steps { IfOk result (λ number. MakesForAny N.frames self.old (make_steps path.now number) self.new) }
     {
         let _tree = self.charges.tree(); // For the clauses.
         let group = self.charges.make(path)?;
@@ -74,7 +74,8 @@ impl<N: BootName> Machine<N> {
     /// processor's stock, which changes nothing.
     pub fn see_usage(&mut self, tables: &Tables<N>, cpu: &mut Cpu<N>)
         requires { Visits N.frames (side self.old cpu.old) }
-        ensures usage { (g : ℕ) → usage_of (local_of N.frames self.old cpu.old) g ≡ current_of self.old.ledger g }
+        ensures usage { (group : ℕ)
+            → usage_of (local_of N.frames self.old cpu.old) group ≡ current_of self.old.ledger group }
         ensures machine { self.new ≡ self.old }
         ensures cpu { cpu.new ≡ cpu.old }
     {

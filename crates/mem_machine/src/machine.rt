@@ -62,7 +62,7 @@ impl<N: BootName> Model for Machine<N> {
 
     ghost view = { machine_of };
 
-    ghost invariant = { λ m. AreKept N.frames N.stocks m };
+    ghost invariant = { λ fields. AreKept N.frames N.stocks fields };
 }
 
 impl<N: BootName> Machine<N> {
@@ -78,7 +78,7 @@ impl<N: BootName> Machine<N> {
         requires seat { seat ≡ record { table = N.frames.table; view = first_zone_view N.frames.frames } }
         requires stock { stock ≡ record { table = N.stocks.table; view = first_machine } }
         requires cpus { N.stocks.cpus ≡ N.frames.cpus }
-        ensures { IfOk result (λ m. IsFirst N.frames N.stocks m) }
+        ensures { IfOk result (λ machine. IsFirst N.frames N.stocks machine) }
     {
         let (zone, spots, links) = frame_rooms(alloc, tables.frames.frames())?;
         let (charges, lists, killed) = group_rooms(alloc)?;

@@ -29,7 +29,7 @@ pub enum Released {
 pub(crate) fn leave_list(links: &mut Links, lists: &mut Vec<Lru>, head: u32)
     requires frame { head < length links.old }
     requires kept { home_of links.old head ≢ None }
-    requires owner { IfSome (home_of links.old head) (λ h. h.owner < MAX_GROUPS) }
+    requires owner { IfSome (home_of links.old head) (λ home. home.owner < MAX_GROUPS) }
     requires lists { AreGroupLists links.old lists.old.items }
     ensures leaves { LeavesList links.old lists.old.items head links.new lists.new.items }
     ensures lists { AreGroupLists links.new lists.new.items }

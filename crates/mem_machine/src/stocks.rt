@@ -153,7 +153,7 @@ impl<N: BootName> Machine<N> {
         requires none_fresh { cpu.old.fresh ≡ [] }
         requires drained { IsDrained self.old cpu.old.number }
         ensures fills { OnOk result (Fills group pages (side self.old cpu.old) (side self.new cpu.new)) }
-        ensures over { IfErr result (λ e. LacksRoom self.old group pages e.group) }
+        ensures over { IfErr result (λ over. LacksRoom self.old group pages over.group) }
         ensures unchanged { OnErr result ((self.new ≡ self.old) × (cpu.new ≡ cpu.old)) }
         ensures visit { Visits N.frames (side self.new cpu.new) }
         ensures steps { OnOk result
@@ -183,7 +183,8 @@ impl<N: BootName> Machine<N> {
         requires pages { FitsStock pages }
         requires none_fresh { cpu.old.fresh ≡ [] }
         ensures prepays { OnOk result (Prepays group pages (side self.old cpu.old) (side self.new cpu.new)) }
-        ensures over { IfErr result (λ e. IsOver group pages e.group (side self.old cpu.old) (side self.new cpu.new)) }
+        ensures over { IfErr result
+            (λ over. IsOver group pages over.group (side self.old cpu.old) (side self.new cpu.new)) }
         ensures visit { Visits N.frames (side self.new cpu.new) }
         ensures steps { OnOk result
             (MakesBy N.frames (prepay_steps group pages) (side self.old cpu.old) (side self.new cpu.new)) }

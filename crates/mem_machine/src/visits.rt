@@ -1,7 +1,7 @@
 //! A visit of a processor: its begin and its end.
 
 ghost use Rattle.std.specs.Prelude.{◌≡◌};
-ghost use Rattle.frame_word.specs.Seats.{IsOpen, IsShut, NothingPasses, LentIsBorrowed, seat_with_visit};
+ghost use Rattle.frame_word.specs.Seats.{IsShut, NothingPasses, LentIsBorrowed, seat_with_visit};
 ghost use Rattle.mem_machine.specs.Machines.{Visits};
 ghost use Rattle.mem_machine.specs.Local.{Makes, side};
 ghost use Rattle.mem_machine.specs.Steps.{open_steps, shut_steps};
