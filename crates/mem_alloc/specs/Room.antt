@@ -11,9 +11,8 @@ use Rattle.mem_machine.specs.Machines.{KnownMachine, is_killed}
 use Rattle.mem_machine.specs.Local.{MakesForAny}
 use Rattle.mem_machine.specs.Steps.{Drain, over_steps, note_max_steps, drain_stocks_steps}
 use Rattle.mem_machine.specs.Stocks.{DrainsAllBelow, AreDrained}
-use Rattle.mem_reclaim.specs.declared.rounds.TheConstants.{MAX_ROUNDS}
 use Rattle.mem_reclaim.specs.Moves.{has_kill}
-use Rattle.mem_reclaim.specs.Rounds.{MakesRounds, pages_missing}
+use Rattle.mem_reclaim.specs.Rounds.{MakesRounds, max_rounds, pages_missing}
 use Rattle.mem_reclaim.specs.Staying.{Keeps, MissedAll}
 use Rattle.mem_alloc.specs.declared.faults.AllocFault.{AllocFault}
 use Rattle.mem_alloc.specs.declared.faults.AllocFault.TheVariants.{Over, NoFrames, Killed}
@@ -50,11 +49,11 @@ pub record ClearsBelow (group pages : ℕ) (way : Course KnownMachine) : Type 0 
   pub runs : MakesForAny way.table way.before way.steps way.after
 
 -- what is reclaimed from the group's subtree before its limit: nothing where it has none, else so many pages as are
--- missing, in at most `MAX_ROUNDS` rounds
+-- missing, in at most `max_rounds` rounds
 abbrev pub RoundsBefore : Option ℕ → ℕ → ℕ → Course KnownMachine → Type 0
 RoundsBefore None group pages way = Rests way
 RoundsBefore (Some limit) group pages way =
-    (given : ℕ) × MakesRounds group (pages_missing group pages limit) MAX_ROUNDS given way.before way.steps way.after
+    (given : ℕ) × MakesRounds group (pages_missing group pages limit) max_rounds given way.before way.steps way.after
 
 -- the steps lead there, whoever holds the lock; none is a kill, and the misses noted are those among them
 pub record KillsNone (way : Course KnownMachine) : Type 0 where
