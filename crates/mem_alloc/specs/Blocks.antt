@@ -10,7 +10,7 @@ use Rattle.mem_machine.specs.Lending.{TakesManyBack}
 use Rattle.mem_machine.specs.Blocks.{TakesBlock, TakesNoBlock, taken_steps, unplaced_steps}
 use Rattle.mem_machine.specs.Paying.{HasRoomFor}
 use Rattle.mem_machine.specs.Steps.{drain_list_steps}
-use Rattle.mem_reclaim.specs.declared.rounds.TheConstants.{MAX_ROUNDS}
+use Rattle.mem_reclaim.specs.Rounds.{max_rounds}
 use Rattle.mem_alloc.specs.declared.faults.AllocFault.{AllocFault}
 use Rattle.mem_alloc.specs.declared.faults.AllocFault.TheVariants.{Over, NoFrames, Killed}
 use Rattle.mem_alloc.specs.Stepping.{Course, InTurn, OfMachineAlone, course, of_machine}
@@ -74,8 +74,8 @@ pub record TryFindsNone (group order : ℕ) (way : Course Side) : Type 0 where
 -- taken, or in no round is any block free
 abbrev pub TakesInRounds : ℕ → ℕ → Result ℕ AllocFault → Course Side → Type 0
 TakesInRounds group order (Ok head) way =
-    SucceedsInRounds MAX_ROUNDS (2 ^ order) (TryTakes group order head) (TryFindsNone group order) way
-TakesInRounds group order (Err NoFrames) way = FailsInRounds MAX_ROUNDS (2 ^ order) (TryFindsNone group order) way
+    SucceedsInRounds max_rounds (2 ^ order) (TryTakes group order head) (TryFindsNone group order) way
+TakesInRounds group order (Err NoFrames) way = FailsInRounds max_rounds (2 ^ order) (TryFindsNone group order) way
 TakesInRounds group order (Err other) way = ⊥
 
 -- a try finds no block, and this is what comes of the rounds of reclaim after it

@@ -10,7 +10,7 @@ use Rattle.mem_machine.specs.Stocks.{Drains, stock_group}
 use Rattle.mem_machine.specs.Lending.{LendsMany}
 use Rattle.mem_machine.specs.Paying.{PaysForFront}
 use Rattle.mem_machine.specs.Steps.{drain_steps, refill_steps, take_front_steps}
-use Rattle.mem_reclaim.specs.declared.rounds.TheConstants.{MAX_ROUNDS}
+use Rattle.mem_reclaim.specs.Rounds.{max_rounds}
 use Rattle.mem_alloc.specs.declared.faults.AllocFault.{AllocFault}
 use Rattle.mem_alloc.specs.declared.faults.AllocFault.TheVariants.{Over, NoFrames, Killed}
 use Rattle.mem_alloc.specs.Stepping.{Course, course, Stays}
@@ -39,8 +39,8 @@ pub record LendsNoFrame (way : Course Side) : Type 0 where
 -- rounds of reclaim, each of which wants a page and is followed by a refill: free frames come to the list, or in no
 -- round is any frame free
 abbrev pub RefillsInRounds : ℕ → Bool → Course Side → Type 0
-RefillsInRounds batch true way = SucceedsInRounds MAX_ROUNDS 1 (LendsBatch batch) LendsNoFrame way
-RefillsInRounds batch false way = FailsInRounds MAX_ROUNDS 1 LendsNoFrame way
+RefillsInRounds batch true way = SucceedsInRounds max_rounds 1 (LendsBatch batch) LendsNoFrame way
+RefillsInRounds batch false way = FailsInRounds max_rounds 1 LendsNoFrame way
 
 -- the list is empty, and free frames come to it
 pub record RefillsList (sizes : Config) (way : Course Side) : Type 0 where
@@ -65,7 +65,7 @@ pub record HasNoFrame (cause : AllocFault) (way : Course Side) : Type 0 where
   pub none : HasNoneFrom way.before.machine.blocks 0
   pub reclaimed : KnownMachine
   pub reclaiming : Run
-  pub rounds : FailsInRounds MAX_ROUNDS 1 LendsNoFrame
+  pub rounds : FailsInRounds max_rounds 1 LendsNoFrame
       (course way.table way.before reclaiming (side reclaimed way.before.cpu))
   pub none_still : HasNoneFrom reclaimed.blocks 0
   pub drained : ℕ

@@ -13,6 +13,10 @@ use Rattle.mem_reclaim.specs.Killing.{IsKilledBy, OnlyDrains, OnlyLetsGo}
 use Rattle.mem_reclaim.specs.Victim.{IsVictim}
 use Rattle.mem_alloc.specs.Stepping.{Course, InTurn, Rests, course}
 
+-- for how many pages of one charge groups are killed at most: those of an order of 3
+abbrev pub most_killed_for : ℕ
+most_killed_for = 8
+
 -- whether the limit of the group has room for so many pages more
 abbrev pub has_room_for : Ledger → ℕ → ℕ → Bool
 has_room_for ledger group pages = has_room ledger.groups (current_of ledger) group pages

@@ -20,8 +20,7 @@ use Rattle.mem_machine.specs.Local.{IsLocalRun, local_of}
 use Rattle.mem_machine.specs.Stocks.{AreDrained}
 use Rattle.mem_reclaim.specs.Staying.{MissedAll}
 use Rattle.mem_reclaim.specs.Victim.{IsVictim}
-use Rattle.mem_alloc.specs.declared.kills.TheConstants.{MOST_KILLED_FOR}
-use Rattle.mem_alloc.specs.Kills.{has_room_for}
+use Rattle.mem_alloc.specs.Kills.{has_room_for, most_killed_for}
 use Rattle.mem_alloc.specs.Stepping.{CountsMisses, Course, course}
 
 -- the step notes at the group that an allocation was about to fail at its limit
@@ -43,12 +42,12 @@ pub record IsLeftBySteps (way : Course KnownMachine) : Type 0 where
   pub dirt : (f : ℕ) → HeadsKeptUnit way.after f
       → (link_at way.after.links f).is_dirty ≡ (link_at way.before.links f).is_dirty
 
--- which limit a call may kill for, and for how many pages: where it charges at most `MOST_KILLED_FOR` pages to a group,
+-- which limit a call may kill for, and for how many pages: where it charges at most `most_killed_for` pages to a group,
 -- the limit of the group or of one above it, for these pages
 pub record IsChargedBelow (group pages : ℕ) (groups : List Group) (limited need : ℕ) : Type 0 where
   pub on_path : in_subtree groups limited group ≡ true
   pub need_is : need ≡ pages
-  pub few : pages ≤ MOST_KILLED_FOR
+  pub few : pages ≤ most_killed_for
 
 -- The victim may be killed after these steps of a call, for the limit of the group `limited`: that has no room for the
 -- pages that are needed. A step notes that there as `oom`; no stock of the subtree is held; since the call began a

@@ -11,16 +11,14 @@ use Rattle.mem_machine.specs.Machines.{KnownMachine, is_killed}
 use Rattle.mem_machine.specs.Local.{MakesForAny}
 use Rattle.mem_machine.specs.Steps.{Drain, over_steps, note_max_steps, drain_stocks_steps}
 use Rattle.mem_machine.specs.Stocks.{DrainsAllBelow, AreDrained}
-use Rattle.mem_reclaim.specs.declared.rounds.TheConstants.{MAX_ROUNDS}
 use Rattle.mem_reclaim.specs.Moves.{has_kill}
-use Rattle.mem_reclaim.specs.Rounds.{MakesRounds, pages_missing}
+use Rattle.mem_reclaim.specs.Rounds.{MakesRounds, max_rounds, pages_missing}
 use Rattle.mem_reclaim.specs.Staying.{Keeps, MissedAll}
 use Rattle.mem_alloc.specs.declared.faults.AllocFault.{AllocFault}
 use Rattle.mem_alloc.specs.declared.faults.AllocFault.TheVariants.{Over, NoFrames, Killed}
-use Rattle.mem_alloc.specs.declared.kills.TheConstants.{MOST_KILLED_FOR}
 use Rattle.mem_alloc.specs.Stepping.{CountsMisses, Course, InTurn, Rests, course}
 -- what is killed, and whether there is room
-pub use Rattle.mem_alloc.specs.Kills.{KillsFor, has_room_for}
+pub use Rattle.mem_alloc.specs.Kills.{KillsFor, has_room_for, most_killed_for}
 
 -- the notes with one more, of the group's limit, if it has one: that it has no room for so many pages more
 abbrev pub limit_notes : Option ℕ → Ledger → ℕ → ℕ → List Note → List Note
@@ -51,11 +49,11 @@ pub record ClearsBelow (group pages : ℕ) (way : Course KnownMachine) : Type 0 
   pub runs : MakesForAny way.table way.before way.steps way.after
 
 -- what is reclaimed from the group's subtree before its limit: nothing where it has none, else so many pages as are
--- missing, in at most `MAX_ROUNDS` rounds
+-- missing, in at most `max_rounds` rounds
 abbrev pub RoundsBefore : Option ℕ → ℕ → ℕ → Course KnownMachine → Type 0
 RoundsBefore None group pages way = Rests way
 RoundsBefore (Some limit) group pages way =
-    (given : ℕ) × MakesRounds group (pages_missing group pages limit) MAX_ROUNDS given way.before way.steps way.after
+    (given : ℕ) × MakesRounds group (pages_missing group pages limit) max_rounds given way.before way.steps way.after
 
 -- the steps lead there, whoever holds the lock; none is a kill, and the misses noted are those among them
 pub record KillsNone (way : Course KnownMachine) : Type 0 where
@@ -71,10 +69,10 @@ pub record ReclaimsFor (group pages : ℕ) (way : Course KnownMachine) : Type 0 
   pub keeps : Keeps way.table way.before way.after
   pub none_killed : KillsNone way
 
--- what is done where reclaim makes no room: victims are killed for up to `MOST_KILLED_FOR` pages, and nobody for more
+-- what is done where reclaim makes no room: victims are killed for up to `most_killed_for` pages, and nobody for more
 pub record KillsForFew (requester group pages : ℕ) (way : Course KnownMachine) : Type 0 where
-  pub few : pages ≤ MOST_KILLED_FOR → KillsFor (Some requester) group pages way
-  pub many : MOST_KILLED_FOR < pages → Rests way
+  pub few : pages ≤ most_killed_for → KillsFor (Some requester) group pages way
+  pub many : most_killed_for < pages → Rests way
 
 -- The limit of the group had no room for so many pages: that is noted there as `max`, the stocks of its subtree are
 -- drained, its units are reclaimed in rounds, and then its victims are killed

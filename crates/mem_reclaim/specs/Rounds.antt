@@ -5,10 +5,13 @@ use Rattle.step_rules.specs.After.{Run}
 use Rattle.kill_notes.specs.declared.note.Note.{Note}
 use Rattle.kill_notes.specs.declared.note.Note.TheVariants.{Round}
 use Rattle.mem_machine.specs.Machines.{KnownMachine, with_note}
-use Rattle.mem_reclaim.specs.declared.rounds.TheConstants.{MAX_ROUNDS}
 use Rattle.mem_reclaim.specs.Moves.{Rises, all_missed_in, returned_in}
 use Rattle.mem_reclaim.specs.Wanted.{BothGive, GivesNothing, Reclaiming}
 use Rattle.mem_reclaim.specs.Passes.{Reclaims}
+
+-- how many rounds of reclaim are made at most, before a limit or where nothing is free
+abbrev pub max_rounds : ℕ
+max_rounds = 16
 
 -- how many pages must come back from the group's subtree, so that with `need` pages more its usage is at most the limit
 abbrev pub pages_missing : ℕ → ℕ → ℕ → Ledger → ℕ
@@ -36,7 +39,7 @@ abbrev pub UnlessNone : Reclaiming → ℕ → Reclaiming
 UnlessNone Does some given before steps after =
     ((some ≡ 0) × GivesNothing given before steps after) ⊎ ((1 ≤ some) × Does given before steps after)
 
--- Rounds of reclaim from the group's subtree, at most so many of `MAX_ROUNDS`, where `missing` tells how many pages are
+-- Rounds of reclaim from the group's subtree, at most so many of `max_rounds`, where `missing` tells how many pages are
 -- missing. Each round wants the pages that are missing when it begins. They end as soon as none is missing, and after a
 -- round that gave none
 abbrev pub MakesRounds : ℕ → (Ledger → ℕ) → ℕ → Reclaiming
@@ -44,5 +47,5 @@ MakesRounds group missing zero given before steps after = GivesNothing given bef
 MakesRounds group missing (suc rounds) given before steps after =
     ((missing before.ledger ≡ 0) × GivesNothing given before steps after)
     ⊎ ((1 ≤ missing before.ledger)
-    × BothGive (MakesOneRound group (MAX_ROUNDS - rounds) (missing before.ledger))
+    × BothGive (MakesOneRound group (max_rounds - rounds) (missing before.ledger))
     (UnlessNone (MakesRounds group missing rounds)) given before steps after)
