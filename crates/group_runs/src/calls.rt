@@ -8,29 +8,21 @@ use group_tree::group::GroupId;
 use group_tree::tree::Tree;
 use std::process::Abort;
 
-/// It is so, or the test ends here. A call is proved at less cost than the macro in its place.
-pub fn holds(rt: &impl Abort, is: bool) {
+/// The groups tell so, or the test ends here. A call is proved at less cost than the macro in its place.
+pub fn groups_tell(rt: &impl Abort, is: bool) {
     assert!(rt; is);
 }
 
 /// The group is there, or the test ends here.
-pub fn there(rt: &impl Abort, tree: &Tree, g: GroupId)
+pub fn group_stands(rt: &impl Abort, tree: &Tree, g: GroupId)
     ensures { IsTrue (has_group tree.now g) }
 {
     assert!(rt; tree.contains(g));
 }
 
-/// Makes the group of this path.
-pub fn made(rt: &impl Abort, charges: &mut Charges, path: &[u8]) -> GroupId {
-    match charges.make(path) {
-        Ok(g) => g,
-        Err(_) => panic!(rt; "no group was made"),
-    }
-}
-
 /// Takes the group out.
-pub fn remove(rt: &impl Abort, charges: &mut Charges, g: GroupId) {
-    there(rt, charges.tree(), g);
+pub fn remove_group(rt: &impl Abort, charges: &mut Charges, g: GroupId) {
+    group_stands(rt, charges.tree(), g);
     assert!(rt; !charges.tree().has_child(g));
     assert!(rt; g.number() != 0);
     assert!(rt; charges.current(g) == 0);
@@ -39,26 +31,30 @@ pub fn remove(rt: &impl Abort, charges: &mut Charges, g: GroupId) {
 
 /// Sets the limit of the group.
 pub fn set_max(rt: &impl Abort, charges: &mut Charges, g: GroupId, limit: Option<u32>) {
-    there(rt, charges.tree(), g);
+    group_stands(rt, charges.tree(), g);
     charges.set_max(g, limit);
 }
 
-/// Charges n pages to the group, which has to be answered so.
-pub fn charge(
+/// Charges n pages to the group, which has to be answered so. Where a limit has no room for them, that is noted.
+pub fn charge_pages(
     rt: &impl Abort,
     charges: &mut Charges,
     g: GroupId,
     n: u32,
     answer: Result<(), Over>,
 ) {
-    there(rt, charges.tree(), g);
+    group_stands(rt, charges.tree(), g);
     assert!(rt; charges.fits(n));
-    holds(rt, charges.try_charge(g, n) == answer);
+    groups_tell(rt, charges.try_charge(g, n) == answer);
+    if let Err(over) = answer {
+        group_stands(rt, charges.tree(), over.group);
+        charges.note_max(over.group);
+    }
 }
 
 /// Takes back n pages of the group.
-pub fn uncharge(rt: &impl Abort, charges: &mut Charges, g: GroupId, n: u32) {
-    there(rt, charges.tree(), g);
+pub fn uncharge_pages(rt: &impl Abort, charges: &mut Charges, g: GroupId, n: u32) {
+    group_stands(rt, charges.tree(), g);
     assert!(rt; n <= charges.pages(g));
     charges.uncharge(g, n);
 }

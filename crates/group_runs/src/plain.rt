@@ -1,6 +1,6 @@
 //! The same calls on plain rows, with each usage summed anew when it is asked for, beside `Charges`.
 
-use crate::calls::{self, holds, there};
+use crate::calls::{self, group_stands, groups_tell};
 use group_charge::charges::{Charges, Over};
 use group_tree::fault::Fault;
 use group_tree::group::{GroupId, MAX_GROUPS};
@@ -13,39 +13,51 @@ use std::test::Fail;
 // As many names as a path may have, and the root.
 const LEVELS: usize = 9;
 
-// What is known of a number. The row of the root names itself as its parent.
+// What is known of a group's number. The root names itself as its parent.
 #[derive(Clone, Copy)]
-struct Row {
+struct PlainGroup {
     is_there: bool,
     parent: GroupId,
     name: u8,
     pages: u32,
     peak: u32,
     limit: Option<u32>,
+    // How often its limit had no room, and how often its own or that of a group below it.
+    own_notes: u64,
+    all_notes: u64,
+}
+
+// A group of this name below that one, with nothing charged.
+fn empty_group(parent: GroupId, name: u8) -> PlainGroup {
+    PlainGroup {
+        is_there: true,
+        parent,
+        name,
+        pages: 0,
+        peak: 0,
+        limit: None,
+        own_notes: 0,
+        all_notes: 0,
+    }
 }
 
 // The rows by number.
 #[derive(Drop)]
-struct Plain {
-    rows: [Row; MAX_GROUPS],
+struct PlainGroups {
+    rows: [PlainGroup; MAX_GROUPS],
 }
 
-impl Plain {
-    fn new() -> Plain {
-        let nobody = Row {
-            is_there: false,
-            parent: GroupId::root(),
-            name: b'/',
-            pages: 0,
-            peak: 0,
-            limit: None,
-        };
+impl PlainGroups {
+    fn with_root() -> PlainGroups {
+        let root = empty_group(GroupId::root(), b'/');
+        let mut nobody = root;
+        nobody.is_there = false;
         let mut rows = [nobody; MAX_GROUPS];
-        rows[0].is_there = true;
-        Plain { rows }
+        rows[0] = root;
+        PlainGroups { rows }
     }
 
-    fn row(&self, g: GroupId) -> Row {
+    fn row(&self, g: GroupId) -> PlainGroup {
         self.rows[g.number() as usize]
     }
 
@@ -155,8 +167,22 @@ impl Plain {
         None
     }
 
+    // It is noted of g, and of all above it, that the limit of g had no room.
+    fn note_max(&mut self, g: GroupId) {
+        for number in 0..64_u32 {
+            let above = GroupId::of(number).unwrap_or(g);
+            if self.is_below(g, above) {
+                let mut row = self.row(above);
+                row.all_notes = row.all_notes.wrapping_add(1);
+                row.own_notes = row.own_notes.wrapping_add(u64::from(above == g));
+                self.rows[number as usize] = row;
+            }
+        }
+    }
+
     fn charge(&mut self, g: GroupId, n: u32) -> Result<(), Over> {
         if let Some(group) = self.lowest_over(g, n) {
+            self.note_max(group);
             return Err(Over { group });
         }
         let index = g.number() as usize;
@@ -171,44 +197,37 @@ impl Plain {
     }
 }
 
-// Makes a group of this name below g.
-fn make(
+// Makes a group of this name below g, on both.
+fn make_group(
     rt: &(impl Abort + Alloc<A = Global>),
     charges: &mut Charges,
-    plain: &mut Plain,
+    plain: &mut PlainGroups,
     g: GroupId,
     name: u8,
 ) -> Result<(), AllocError> {
     let path = plain.path(rt.alloc(), g, name)?;
     let made = charges.make(path.as_slice());
-    holds(rt, made == plain.make(g, name));
+    groups_tell(rt, made == plain.make(g, name));
     if let Ok(h) = made {
-        plain.rows[h.number() as usize] = Row {
-            is_there: true,
-            parent: g,
-            name,
-            pages: 0,
-            peak: 0,
-            limit: None,
-        };
+        plain.rows[h.number() as usize] = empty_group(g, name);
     }
     Ok(())
 }
 
 // Takes the group out, where it may go.
-fn remove(rt: &impl Abort, charges: &mut Charges, plain: &mut Plain, g: GroupId) {
-    there(rt, charges.tree(), g);
-    holds(rt, charges.tree().has_child(g) == plain.has_child(g));
+fn remove_group(rt: &impl Abort, charges: &mut Charges, plain: &mut PlainGroups, g: GroupId) {
+    group_stands(rt, charges.tree(), g);
+    groups_tell(rt, charges.tree().has_child(g) == plain.has_child(g));
     if g != GroupId::root() && !plain.has_child(g) && plain.usage(g) == 0 {
-        calls::remove(rt, charges, g);
+        calls::remove_group(rt, charges, g);
         plain.rows[g.number() as usize].is_there = false;
     }
 }
 
-fn set_max(
+fn limit_group(
     rt: &impl Abort,
     charges: &mut Charges,
-    plain: &mut Plain,
+    plain: &mut PlainGroups,
     g: GroupId,
     limit: Option<u32>,
 ) {
@@ -217,18 +236,24 @@ fn set_max(
 }
 
 // Takes back n pages of the group, or as many as it has.
-fn uncharge(rt: &impl Abort, charges: &mut Charges, plain: &mut Plain, g: GroupId, n: u32) {
+fn uncharge_group(
+    rt: &impl Abort,
+    charges: &mut Charges,
+    plain: &mut PlainGroups,
+    g: GroupId,
+    n: u32,
+) {
     let pages = plain.row(g).pages;
     let taken = n.min(pages);
-    calls::uncharge(rt, charges, g, taken);
+    calls::uncharge_pages(rt, charges, g, taken);
     plain.rows[g.number() as usize].pages = pages.wrapping_sub(taken);
 }
 
 // Makes one call, picked by two random words, on both.
-fn call(
+fn call_both(
     rt: &(impl Abort + Alloc<A = Global>),
     charges: &mut Charges,
-    plain: &mut Plain,
+    plain: &mut PlainGroups,
     word: u32,
     n: u32,
 ) -> Result<(), AllocError> {
@@ -240,42 +265,44 @@ fn call(
     };
     let few = (word / 8) % 8;
     match word % 8 {
-        0 | 1 => make(rt, charges, plain, g, b'a' + few as u8)?,
-        2 => remove(rt, charges, plain, g),
-        3 if few < 4 => set_max(rt, charges, plain, g, None),
-        3 => set_max(rt, charges, plain, g, Some((word / 64) % 40)),
-        4 | 5 => calls::charge(rt, charges, g, few, plain.charge(g, few)),
-        _ => uncharge(rt, charges, plain, g, 4 * few),
+        0 | 1 => make_group(rt, charges, plain, g, b'a' + few as u8)?,
+        2 => remove_group(rt, charges, plain, g),
+        3 if few < 4 => limit_group(rt, charges, plain, g, None),
+        3 => limit_group(rt, charges, plain, g, Some((word / 64) % 40)),
+        4 | 5 => calls::charge_pages(rt, charges, g, few, plain.charge(g, few)),
+        _ => uncharge_group(rt, charges, plain, g, 4 * few),
     }
     Ok(())
 }
 
-// The group has this usage, and own pages, peak and limit of this row.
-fn alike(rt: &impl Abort, charges: &Charges, g: GroupId, row: Row, usage: u32) {
-    there(rt, charges.tree(), g);
-    holds(rt, charges.current(g) == usage);
-    holds(rt, charges.pages(g) == row.pages);
-    holds(rt, charges.peak(g) == row.peak);
-    holds(rt, charges.max(g) == row.limit);
+// The group has this usage, and own pages, peak, limit and counts of this row.
+fn group_agrees(rt: &impl Abort, charges: &Charges, g: GroupId, row: PlainGroup, usage: u32) {
+    group_stands(rt, charges.tree(), g);
+    groups_tell(rt, charges.current(g) == usage);
+    groups_tell(rt, charges.pages(g) == row.pages);
+    groups_tell(rt, charges.peak(g) == row.peak);
+    groups_tell(rt, charges.max(g) == row.limit);
+    groups_tell(rt, charges.events(g).max == row.all_notes);
+    groups_tell(rt, charges.events_local(g).max == row.own_notes);
 }
 
-// Compares usage, own pages, peak and limit of all groups.
-fn compare(rt: &impl Abort, charges: &Charges, plain: &Plain) {
+// Compares usage, own pages, peak, limit and counts of all groups.
+fn compare_groups(rt: &impl Abort, charges: &Charges, plain: &PlainGroups) {
     for number in 0..64_u32 {
         let g = GroupId::of(number).unwrap_or(GroupId::root());
         let row = plain.row(g);
-        holds(rt, charges.tree().contains(g) == row.is_there);
+        groups_tell(rt, charges.tree().contains(g) == row.is_there);
         if row.is_there {
-            alike(rt, charges, g, row, plain.usage(g));
+            group_agrees(rt, charges, g, row, plain.usage(g));
         }
     }
 }
 
 // Makes so many calls on both, compares them at every twentieth, and tells the greatest number of groups.
-fn calls(
+fn call_often(
     rt: &(impl Abort + Alloc<A = Global>),
     charges: &mut Charges,
-    plain: &mut Plain,
+    plain: &mut PlainGroups,
     count: u32,
 ) -> Result<usize, AllocError> {
     let mut random = Pcg32::seed_from_u64(2_025);
@@ -283,10 +310,10 @@ fn calls(
     for turn in 0..count {
         let word = random.next_u32();
         let n = random.next_u32();
-        call(rt, charges, plain, word, n)?;
+        call_both(rt, charges, plain, word, n)?;
         most = plain.count().max(most);
         if turn % 20 == 19 {
-            compare(rt, charges, plain);
+            compare_groups(rt, charges, plain);
         }
     }
     Ok(most)
@@ -295,7 +322,7 @@ fn calls(
 #[test]
 fn the_charges_agree_with_plain_sums(rt: HostRuntime) -> Result<(), Fail> {
     let mut charges = Charges::new(rt.alloc())?;
-    let most = calls(&rt, &mut charges, &mut Plain::new(), 10_000)?;
-    holds(&rt, most == MAX_GROUPS);
+    let most = call_often(&rt, &mut charges, &mut PlainGroups::with_root(), 10_000)?;
+    groups_tell(&rt, most == MAX_GROUPS);
     Ok(())
 }

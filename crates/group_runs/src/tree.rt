@@ -1,7 +1,9 @@
+//! The lines that the README of `group_tree` shows, which paths are refused and why, and the texts of all refusals.
+
 ghost use Rattle.std.specs.Prelude.{IsTrue};
 ghost use Rattle.group_tree.specs.Groups.{has_group};
 
-use crate::calls::{holds, there};
+use crate::calls::groups_tell;
 use group_tree::fault::Fault;
 use group_tree::group::GroupId;
 use group_tree::path::PathText;
@@ -9,40 +11,31 @@ use group_tree::tree::Tree;
 use std::process::Abort;
 use std::test::Fail;
 
-// Makes the group of this path.
-fn made(rt: &impl Abort, tree: &mut Tree, path: &[u8]) -> GroupId {
+// A group of this path is made, and gets this number.
+fn makes_group(rt: &impl Abort, tree: &mut Tree, path: &[u8], number: u32) {
     match tree.make(path) {
-        Ok(g) => g,
+        Ok(group) => groups_tell(rt, group.number() == number),
         Err(_) => panic!(rt; "no group was made"),
     }
 }
 
 // A group of this path is refused so.
-fn refuses(rt: &impl Abort, tree: &mut Tree, path: &[u8], fault: Fault) {
-    holds(rt, tree.make(path) == Err(fault));
+fn refuses_path(rt: &impl Abort, tree: &mut Tree, path: &[u8], fault: Fault) {
+    groups_tell(rt, tree.make(path) == Err(fault));
 }
 
 #[test]
-fn names_take_the_signs_of_services(rt: HostRuntime) -> Result<(), Fail> {
+fn the_first_cause_refuses_a_path(rt: HostRuntime) -> Result<(), Fail> {
     let mut tree = Tree::new(rt.alloc())?;
-    let service = made(&rt, &mut tree, b"/user@1000.service");
-    holds(&rt, service.number() == 1);
-    refuses(&rt, &mut tree, b"/..", Fault::BadName);
-    refuses(&rt, &mut tree, b"/a//b", Fault::BadName);
-    refuses(&rt, &mut tree, b"/", Fault::BadName);
-    refuses(&rt, &mut tree, b"a", Fault::BadName);
-    Ok(())
-}
-
-#[test]
-fn refusals_come_in_their_order(rt: HostRuntime) -> Result<(), Fail> {
-    let mut tree = Tree::new(rt.alloc())?;
-    refuses(&rt, &mut tree, b"/a/a/a/a/a/a/a/a/a", Fault::TooDeep);
-    refuses(&rt, &mut tree, b"/a/a/a/a/a/a/a/a/..", Fault::BadName);
-    let _ = made(&rt, &mut tree, b"/a");
-    refuses(&rt, &mut tree, b"/a", Fault::Exists);
-    refuses(&rt, &mut tree, b"/x/y", Fault::NoParent);
-    holds(&rt, tree.make_fault(b"/a/b").is_none());
+    makes_group(&rt, &mut tree, b"/user@1000.service", 1);
+    refuses_path(&rt, &mut tree, b"/..", Fault::BadName);
+    refuses_path(&rt, &mut tree, b"/a//b", Fault::BadName);
+    refuses_path(&rt, &mut tree, b"/", Fault::BadName);
+    refuses_path(&rt, &mut tree, b"a", Fault::BadName);
+    refuses_path(&rt, &mut tree, b"/a/a/a/a/a/a/a/a/a", Fault::TooDeep);
+    refuses_path(&rt, &mut tree, b"/a/a/a/a/a/a/a/a/..", Fault::BadName);
+    refuses_path(&rt, &mut tree, b"/user@1000.service", Fault::Exists);
+    refuses_path(&rt, &mut tree, b"/x/y", Fault::NoParent);
     Ok(())
 }
 
@@ -51,62 +44,11 @@ fn the_65th_group_is_refused(rt: HostRuntime) -> Result<(), Fail> {
     let mut tree = Tree::new(rt.alloc())?;
     for n in 1..64_u8 {
         let path = [b'/', b'a' + n / 8, b'a' + n % 8];
-        let group = made(&rt, &mut tree, &path);
-        holds(&rt, group.number() == u32::from(n));
+        makes_group(&rt, &mut tree, &path, u32::from(n));
     }
-    refuses(&rt, &mut tree, b"/more", Fault::TreeFull);
-    refuses(&rt, &mut tree, b"/no/more", Fault::NoParent);
-    Ok(())
-}
-
-// Takes the group out.
-fn remove(rt: &impl Abort, tree: &mut Tree, g: GroupId) {
-    there(rt, tree, g);
-    assert!(rt; !tree.has_child(g));
-    assert!(rt; g.number() != 0);
-    tree.remove(g);
-}
-
-#[test]
-fn a_number_is_given_again(rt: HostRuntime) -> Result<(), Fail> {
-    let mut tree = Tree::new(rt.alloc())?;
-    let a = made(&rt, &mut tree, b"/a");
-    let b = made(&rt, &mut tree, b"/b");
-    remove(&rt, &mut tree, a);
-    holds(&rt, made(&rt, &mut tree, b"/c") == a);
-    holds(&rt, tree.contains(b));
-    holds(&rt, tree.groups().len() == 3);
-    Ok(())
-}
-
-// The group is found by this path, has it, and has this parent and this limit.
-fn tells(
-    rt: &impl Abort,
-    tree: &Tree,
-    path: &[u8],
-    g: GroupId,
-    parent: GroupId,
-    limit: Option<u32>,
-) {
-    there(rt, tree, g);
-    holds(rt, tree.find(path) == Some(g));
-    holds(rt, tree.path_of(g).as_bytes() == path);
-    holds(rt, tree.parent(g) == Some(parent));
-    holds(rt, tree.limit(g) == limit);
-}
-
-#[test]
-fn readers_tell_of_a_group(rt: HostRuntime) -> Result<(), Fail> {
-    let mut tree = Tree::new(rt.alloc())?;
-    let a = made(&rt, &mut tree, b"/a");
-    let b = made(&rt, &mut tree, b"/a/b");
-    tells(&rt, &tree, b"/a/b", b, a, None);
-    there(&rt, &tree, a);
-    there(&rt, &tree, b);
-    holds(&rt, tree.in_subtree(a, b));
-    holds(&rt, tree.has_child(a));
-    tree.set_max(b, Some(3));
-    tells(&rt, &tree, b"/a/b", b, a, Some(3));
+    groups_tell(&rt, tree.groups().len() == 64);
+    refuses_path(&rt, &mut tree, b"/more", Fault::TreeFull);
+    refuses_path(&rt, &mut tree, b"/no/more", Fault::NoParent);
     Ok(())
 }
 
@@ -145,9 +87,9 @@ fn the_first_lines_of_use(rt: HostRuntime) -> Result<(), Fail> {
 #[test]
 fn a_text_has_at_most_512_bytes(rt: HostRuntime) -> Result<(), Fail> {
     let long = [b'x'; 513];
-    holds(&rt, PathText::of(&long).is_none());
+    groups_tell(&rt, PathText::of(&long).is_none());
     let text = PathText::of(&long[..512]).ok_or("too long")?;
-    holds(&rt, text.as_bytes().len() == 512);
+    groups_tell(&rt, text.as_bytes().len() == 512);
     Ok(())
 }
 
@@ -208,12 +150,12 @@ fn refusals(group: GroupId) -> [Fault; 22] {
 #[test]
 fn each_refusal_has_its_number_name_and_text(rt: HostRuntime) -> Result<(), Fail> {
     let group = GroupId::of(63).ok_or("no group")?;
-    holds(&rt, GroupId::of(64).is_none());
+    groups_tell(&rt, GroupId::of(64).is_none());
     let mut told = String::new(rt.alloc());
     for fault in refusals(group) {
         let line = format!(in rt.alloc(); "{} {}: {fault}\n", fault.number(), fault.name())?;
         told.push_str(line.as_str())?;
     }
-    holds(&rt, told.as_str() == TEXTS);
+    groups_tell(&rt, told.as_str() == TEXTS);
     Ok(())
 }
