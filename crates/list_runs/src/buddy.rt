@@ -1,4 +1,6 @@
-use crate::walks::{holds, order_of, walks, wholes};
+//! The buddy system: the lines that its README shows, worked runs, and random calls beside the definition of maximal blocks.
+
+use crate::walks::{greatest_blocks, order_of, walks_blocks, zone_tells};
 use rand_core::{Rng, SeedableRng};
 use rand_pcg::Pcg32;
 use std::process::Abort;
@@ -12,17 +14,17 @@ use zone_buddy::buddy::Buddy;
 fn a_block_is_taken_and_given_back(rt: HostRuntime) {
     let mut zone = zone_of(&rt, 16);
     let order = order_of(&rt, 2);
-    holds(&rt, zone.take(order) == Some(Block { at: 0, order }));
+    zone_tells(&rt, zone.take(order) == Some(Block { at: 0, order }));
     if zone.is_in_use(Block { at: 0, order }) {
         zone.give(Block { at: 0, order });
     }
     for block in zone.blocks() {
-        holds(&rt, block.order.frames() == 16);
+        zone_tells(&rt, block.order.frames() == 16);
     }
 }
 
 // Takes a block of this order, which has to begin at this frame, or there has to be none.
-fn takes(rt: &impl Abort, zone: &mut Buddy, order: Order, at: Option<u32>) {
+fn takes_block(rt: &impl Abort, zone: &mut Buddy, order: Order, at: Option<u32>) {
     match zone.take(order) {
         Some(block) => assert!(rt; at == Some(block.at) && block.order == order),
         None => assert!(rt; at == None),
@@ -30,7 +32,7 @@ fn takes(rt: &impl Abort, zone: &mut Buddy, order: Order, at: Option<u32>) {
 }
 
 // Gives the block, which has to be in use.
-fn gives(rt: &impl Abort, zone: &mut Buddy, block: Block) {
+fn gives_block(rt: &impl Abort, zone: &mut Buddy, block: Block) {
     let given = block;
     assert!(rt; zone.is_in_use(block));
     zone.give(given);
@@ -46,41 +48,25 @@ fn sixteen_frames_one_by_one(rt: HostRuntime) {
     let order = order_of(&rt, 0);
     let mut zone = zone_of(&rt, 16);
     for at in 0..16 {
-        takes(&rt, &mut zone, order, Some(at));
+        takes_block(&rt, &mut zone, order, Some(at));
     }
-    takes(&rt, &mut zone, order, None);
+    takes_block(&rt, &mut zone, order, None);
     for at in [7, 0, 12, 3, 15, 8, 1, 14, 6, 9, 2, 11, 5, 10, 4, 13] {
-        gives(&rt, &mut zone, Block { at, order });
+        gives_block(&rt, &mut zone, Block { at, order });
     }
-    walks(&rt, zone.blocks(), &[(4, 0)]);
-}
-
-// The blocks of a zone of 65,536 frames of which the first is in use: one of each order, and 63 whole ones more.
-fn without_one() -> [(u32, u32); 73] {
-    let mut pairs = [(0, 1); 73];
-    let mut next = (0_u32, 1_u32);
-    for pair in pairs.iter_mut() {
-        *pair = next;
-        let (exponent, at) = next;
-        next = if exponent < 10 {
-            (exponent + 1, at.wrapping_mul(2))
-        } else {
-            (10, at.wrapping_add(1024))
-        };
-    }
-    pairs
+    walks_blocks(&rt, zone.blocks(), &[(4, 0)]);
 }
 
 // Takes and gives back a whole zone of 65,536 frames by blocks of 1,024.
 fn take_and_give_all(rt: &impl Abort, zone: &mut Buddy) {
     let order = order_of(rt, 10);
     for index in 0..64_u32 {
-        takes(rt, zone, order, Some(index * 1024));
+        takes_block(rt, zone, order, Some(index * 1024));
     }
-    takes(rt, zone, order_of(rt, 0), None);
+    takes_block(rt, zone, order_of(rt, 0), None);
     for index in 0..64_u32 {
         let at = index * 1024;
-        gives(rt, zone, Block { at, order });
+        gives_block(rt, zone, Block { at, order });
     }
 }
 
@@ -88,23 +74,11 @@ fn take_and_give_all(rt: &impl Abort, zone: &mut Buddy) {
 fn the_greatest_zone_is_taken_and_given_back(rt: HostRuntime) {
     let mut zone = zone_of(&rt, 65_536);
     take_and_give_all(&rt, &mut zone);
-    let at = 0;
-    let order = order_of(&rt, 0);
-    takes(&rt, &mut zone, order, Some(at));
-    walks(&rt, zone.blocks(), &without_one());
-    gives(&rt, &mut zone, Block { at, order });
-    walks(&rt, zone.blocks(), &wholes());
-}
-
-#[test]
-fn one_frame_of_sixteen(rt: HostRuntime) {
-    let mut zone = Buddy::new(rt.alloc(), 16).expect(&rt, "memory");
-    zone.take_frame(5);
-    walks(&rt, zone.blocks(), &[(0, 4), (1, 6), (2, 0), (3, 8)]);
+    walks_blocks(&rt, zone.blocks(), &greatest_blocks());
 }
 
 // Marks the frames of a block as free or in use.
-fn mark(free: &mut [bool], block: &Block, is_free: bool) {
+fn mark_frames(free: &mut [bool], block: &Block, is_free: bool) {
     let start = block.at as usize;
     let end = start + block.order.frames() as usize;
     for (number, frame) in free.iter_mut().enumerate() {
@@ -142,19 +116,19 @@ fn take_or_give(
 ) {
     if word % 2 == 0 || held.is_empty() {
         if let Some(block) = take_some(zone, word) {
-            mark(free, &block, false);
+            mark_frames(free, &block, false);
             held.push(block).expect(rt, "memory");
         }
     } else {
         let index = word as usize / 2 % held.len();
         let block = held.swap_remove(index);
-        mark(free, &block, true);
-        gives(rt, zone, block);
+        mark_frames(free, &block, true);
+        gives_block(rt, zone, block);
     }
 }
 
 // Which blocks of the next order are free, where `free` tells of those of one order.
-fn joined(rt: &(impl Abort + AllocGlobal), free: &[bool]) -> Vec<bool> {
+fn joined_pairs(rt: &(impl Abort + AllocGlobal), free: &[bool]) -> Vec<bool> {
     let mut larger = Vec::new(rt.alloc());
     for pair in free.chunks_exact(2) {
         let is_free = matches!(pair, [true, true]);
@@ -187,7 +161,7 @@ fn maximal_of(rt: &(impl Abort + AllocGlobal), frames: &[bool]) -> Vec<(u32, u32
     let mut pairs = Vec::new(rt.alloc());
     let mut free = Vec::from_slice(rt.alloc(), frames).expect(rt, "memory");
     for exponent in 0..10 {
-        let larger = joined(rt, free.as_slice());
+        let larger = joined_pairs(rt, free.as_slice());
         add_maximal(rt, &mut pairs, exponent, free.as_slice(), larger.as_slice());
         free = larger;
     }
@@ -197,7 +171,7 @@ fn maximal_of(rt: &(impl Abort + AllocGlobal), frames: &[bool]) -> Vec<(u32, u32
 
 // A call on the zone. Then its blocks are the maximal free blocks of the frames that are free, and so are the areas that
 // are set from these.
-fn compare_one(
+fn compare_blocks(
     rt: &(impl Abort + AllocGlobal),
     zone: &mut Buddy,
     plain: &mut FreeAreas,
@@ -210,30 +184,35 @@ fn compare_one(
         plain.set_from(free);
     }
     let wanted = maximal_of(rt, free);
-    walks(rt, zone.blocks(), wanted.as_slice());
-    walks(rt, plain.walk(), wanted.as_slice());
+    walks_blocks(rt, zone.blocks(), wanted.as_slice());
+    walks_blocks(rt, plain.walk(), wanted.as_slice());
 }
 
 // So many calls on a zone of so many frames, each compared with the maximal free blocks of the
 // frames that are free, and with the areas that are set from them.
-fn compare(rt: &(impl Abort + AllocGlobal), free: &mut [bool], frames: u32, calls: u32) {
+fn take_and_give_often(
+    rt: &(impl Abort + AllocGlobal),
+    free: &mut [bool],
+    frames: u32,
+    calls: u32,
+) {
     let mut random = Pcg32::seed_from_u64(2_025);
     let mut zone = zone_of(rt, frames);
     let mut plain = FreeAreas::new(rt.alloc(), frames).expect(rt, "memory");
     let mut held = Vec::new(rt.alloc());
     for _ in 0..calls {
         let word = random.next_u32();
-        compare_one(rt, &mut zone, &mut plain, &mut held, free, word);
+        compare_blocks(rt, &mut zone, &mut plain, &mut held, free, word);
     }
 }
 
 #[test]
 fn take_and_give_agree_with_the_areas_of_a_thousand_frames(rt: HostRuntime) {
-    compare(&rt, &mut [true; 1_000], 1_000, 10_000);
+    take_and_give_often(&rt, &mut [true; 1_000], 1_000, 10_000);
 }
 
 #[test]
 fn take_and_give_agree_with_the_areas_of_many_frames(rt: HostRuntime) {
     let mut free = vec![in rt.alloc(); true; 65_536].expect(&rt, "memory");
-    compare(&rt, free.as_mut_slice(), 65_536, 1_000);
+    take_and_give_often(&rt, free.as_mut_slice(), 65_536, 1_000);
 }

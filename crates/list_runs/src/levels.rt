@@ -1,4 +1,6 @@
-use crate::walks::holds;
+//! A set of a million numbers, asked for the nearest lower member.
+
+use crate::walks::zone_tells;
 use bit_levels::levels::BitLevels;
 use std::process::Abort;
 
@@ -14,13 +16,13 @@ fn put(set: &mut BitLevels, number: usize, value: bool) {
 }
 
 // The greatest member below the number has to be this one.
-fn last(rt: &impl Abort, set: &BitLevels, number: usize, member: Option<usize>) {
+fn tells_last_below(rt: &impl Abort, set: &BitLevels, number: usize, member: Option<usize>) {
     assert!(rt; number <= set.len());
-    holds(rt, set.last_below(number) == member);
+    zone_tells(rt, set.last_below(number) == member);
 }
 
 // Asks for the members below numbers of a set that has three.
-fn ask_each(rt: &impl Abort, set: &BitLevels) {
+fn ask_each_bound(rt: &impl Abort, set: &BitLevels) {
     let members = [
         (bound(), Some(700_000)),
         (700_000, Some(64)),
@@ -28,18 +30,18 @@ fn ask_each(rt: &impl Abort, set: &BitLevels) {
         (3, None),
     ];
     for (number, member) in members {
-        last(rt, set, number, member);
+        tells_last_below(rt, set, number, member);
     }
 }
 
 #[test]
 fn the_nearest_lower_member(rt: HostRuntime) {
     let mut set = BitLevels::new(rt.alloc(), bound()).expect(&rt, "memory");
-    last(&rt, &set, bound(), None);
+    tells_last_below(&rt, &set, bound(), None);
     for number in [3, 64, 700_000] {
         put(&mut set, number, true);
     }
-    ask_each(&rt, &set);
+    ask_each_bound(&rt, &set);
     put(&mut set, 64, false);
-    last(&rt, &set, 700_000, Some(3));
+    tells_last_below(&rt, &set, 700_000, Some(3));
 }

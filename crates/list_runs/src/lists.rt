@@ -1,8 +1,10 @@
+//! The inactive and the active list: the lines that the README of `lru_lists` shows, and random calls beside plain vectors.
+
 ghost use Rattle.std.specs.Prelude.{◌≡◌, ◌<◌, IfOk, length};
 ghost use Rattle.lru_lists.specs.Lists.{StandsIn, ChangesOwn, AllStand};
 ghost use Rattle.lru_lists.specs.Queue.{AreNowhere};
 
-use crate::walks::holds;
+use crate::walks::zone_tells;
 use lru_lists::laws;
 use lru_lists::links::Links;
 use lru_lists::lru::{Lru, Touched};
@@ -19,7 +21,7 @@ const OWNERS: u32 = 16;
 
 // The two lists of one owner as plain vectors, each from the oldest unit to the newest.
 #[derive(Drop)]
-struct Plain {
+struct PlainLists {
     inactive: Vec<Entry>,
     active: Vec<Entry>,
 }
@@ -34,7 +36,7 @@ fn unmarked(entry: Entry) -> Entry {
 }
 
 // Takes the unit out of a vector, and tells how it stood there.
-fn take(entries: &mut Vec<Entry>, unit: u32) -> Option<Entry> {
+fn take_entry(entries: &mut Vec<Entry>, unit: u32) -> Option<Entry> {
     for index in 0..entries.len() {
         if entries[index].number == unit {
             return Some(entries.remove(index));
@@ -43,7 +45,7 @@ fn take(entries: &mut Vec<Entry>, unit: u32) -> Option<Entry> {
     None
 }
 
-fn set_dirty(entries: &mut [Entry], unit: u32, is_dirty: bool) {
+fn dirty_entry(entries: &mut [Entry], unit: u32, is_dirty: bool) {
     for entry in entries {
         if entry.number == unit {
             entry.is_dirty = is_dirty;
@@ -51,7 +53,7 @@ fn set_dirty(entries: &mut [Entry], unit: u32, is_dirty: bool) {
     }
 }
 
-impl Plain {
+impl PlainLists {
     fn add(&mut self, unit: u32) -> Result<(), AllocError> {
         self.inactive.push(Entry {
             number: unit,
@@ -62,7 +64,7 @@ impl Plain {
     }
 
     fn take_off(&mut self, unit: u32) -> Option<Entry> {
-        take(&mut self.inactive, unit).or(take(&mut self.active, unit))
+        take_entry(&mut self.inactive, unit).or(take_entry(&mut self.active, unit))
     }
 
     fn touch(&mut self, unit: u32) -> Result<Touched, AllocError> {
@@ -79,8 +81,8 @@ impl Plain {
     }
 
     fn set_dirty(&mut self, unit: u32, is_dirty: bool) {
-        set_dirty(self.inactive.as_mut_slice(), unit, is_dirty);
-        set_dirty(self.active.as_mut_slice(), unit, is_dirty);
+        dirty_entry(self.inactive.as_mut_slice(), unit, is_dirty);
+        dirty_entry(self.active.as_mut_slice(), unit, is_dirty);
     }
 
     fn age(&mut self) -> Result<(), AllocError> {
@@ -95,11 +97,11 @@ impl Plain {
 }
 
 // Makes one call, picked by a random word, on the lists of one owner and on the plain vectors.
-fn call(
+fn call_on_lists(
     rt: &impl Abort,
     lru: &mut Lru,
     links: &mut Links,
-    plain: &mut Plain,
+    plain: &mut PlainLists,
     unit: u32,
     word: u32,
 ) -> Result<(), AllocError>
@@ -116,7 +118,7 @@ fn call(
         match word % 8 {
             1 | 2 => {
                 lru.take_off(links, unit);
-                holds(rt, plain.take_off(unit).is_some());
+                zone_tells(rt, plain.take_off(unit).is_some());
             }
             3 | 4 => {
                 let is_dirty = word % 8 == 3;
@@ -125,7 +127,7 @@ fn call(
             }
             _ => {
                 let touched = lru.touch(links, unit);
-                holds(rt, plain.touch(unit)? == touched);
+                zone_tells(rt, plain.touch(unit)? == touched);
             }
         }
     } else if links.home(unit).is_none() {
@@ -136,48 +138,48 @@ fn call(
 }
 
 // Walks one list from the oldest unit to the newest beside the plain vector.
-fn walk(rt: &impl Abort, lru: &Lru, links: &Links, list: LruList, plain: &[Entry])
+fn walk_list(rt: &impl Abort, lru: &Lru, links: &Links, list: LruList, plain: &[Entry])
     requires { StandsIn links.now lru.now }
 {
-    holds(rt, lru.len(list) as usize == plain.len());
+    zone_tells(rt, lru.len(list) as usize == plain.len());
     let mut next = lru.oldest(links, list);
     for entry in plain {
-        holds(rt, next == Some(*entry));
-        next = newer(rt, lru, links, list, entry.number);
+        zone_tells(rt, next == Some(*entry));
+        next = newer_unit(rt, lru, links, list, entry.number);
     }
-    holds(rt, next.is_none());
+    zone_tells(rt, next.is_none());
 }
 
 // The unit after this one, which has to stand on this list.
-fn newer(rt: &impl Abort, lru: &Lru, links: &Links, list: LruList, unit: u32) -> Option<Entry>
+fn newer_unit(rt: &impl Abort, lru: &Lru, links: &Links, list: LruList, unit: u32) -> Option<Entry>
     requires { StandsIn links.now lru.now }
 {
     assert!(rt; unit < links.frames());
     let on = lru.is_on(links, unit);
     assert!(rt; on.is_some());
-    holds(rt, on == Some(list));
+    zone_tells(rt, on == Some(list));
     lru.newer(links, unit)
 }
 
 // Compares all lists of all owners with the plain vectors.
-fn compare(rt: &impl Abort, links: &Links, lists: &[Lru], plain: &[Plain])
+fn compare_lists(rt: &impl Abort, links: &Links, lists: &[Lru], plain: &[PlainLists])
     requires { AllStand links.now lists.now }
 {
     assert!(rt; lists.len() == plain.len());
     for index in 0..lists.len() {
         let lru = &lists[index];
         let units = &plain[index];
-        walk(rt, lru, links, LruList::Inactive, units.inactive.as_slice());
-        walk(rt, lru, links, LruList::Active, units.active.as_slice());
+        walk_list(rt, lru, links, LruList::Inactive, units.inactive.as_slice());
+        walk_list(rt, lru, links, LruList::Active, units.active.as_slice());
     }
 }
 
 // Makes one call on the lists of one of the owners.
-fn step(
+fn call_one_owner(
     rt: &impl Abort,
     links: &mut Links,
     lists: &mut [Lru],
-    plain: &mut [Plain],
+    plain: &mut [PlainLists],
     unit: u32,
     word: u32,
 ) -> Result<(), AllocError>
@@ -193,7 +195,7 @@ fn step(
     if owner < lists.len() && owner < plain.len() {
         laws::one_of_all_changes();
         let mut lru = lists[owner];
-        let called = call(rt, &mut lru, links, &mut plain[owner], unit, word);
+        let called = call_on_lists(rt, &mut lru, links, &mut plain[owner], unit, word);
         lists[owner] = lru;
         called?;
     }
@@ -213,10 +215,10 @@ fn empty_lists(alloc: Global, links: &Links) -> Result<Vec<Lru>, AllocError>
 }
 
 // So many pairs of empty vectors.
-fn empty_plain(alloc: Global) -> Result<Vec<Plain>, AllocError> {
+fn empty_plain(alloc: Global) -> Result<Vec<PlainLists>, AllocError> {
     let mut plain = Vec::new(alloc);
     for _ in 0..OWNERS {
-        plain.push(Plain {
+        plain.push(PlainLists {
             inactive: Vec::new(alloc),
             active: Vec::new(alloc),
         })?;
@@ -225,7 +227,13 @@ fn empty_plain(alloc: Global) -> Result<Vec<Plain>, AllocError> {
 }
 
 // Makes so many calls, and compares all lists at every fiftieth.
-fn calls(rt: &impl Abort, links: &mut Links, lists: &mut [Lru], plain: &mut [Plain], count: u32)
+fn call_owners(
+    rt: &impl Abort,
+    links: &mut Links,
+    lists: &mut [Lru],
+    plain: &mut [PlainLists],
+    count: u32,
+)
     requires frames { length links.old ≡ 256 }
     requires stand { AllStand links.old lists.old }
 {
@@ -233,9 +241,9 @@ fn calls(rt: &impl Abort, links: &mut Links, lists: &mut [Lru], plain: &mut [Pla
     for turn in 0..count {
         let unit = random.next_u32() % FRAMES;
         let word = random.next_u32();
-        step(rt, links, lists, plain, unit, word).expect(rt, "memory");
+        call_one_owner(rt, links, lists, plain, unit, word).expect(rt, "memory");
         if turn % 50 == 49 {
-            compare(rt, links, lists, plain);
+            compare_lists(rt, links, lists, plain);
         }
     }
 }
@@ -245,7 +253,7 @@ fn the_lists_agree_with_plain_vectors(rt: HostRuntime) -> Result<(), Fail> {
     let mut plain = empty_plain(rt.alloc())?;
     let mut links = Links::new(rt.alloc(), FRAMES)?;
     let mut lists = empty_lists(rt.alloc(), &links)?;
-    calls(
+    call_owners(
         &rt,
         &mut links,
         lists.as_mut_slice(),
@@ -260,19 +268,19 @@ fn a_second_touch_moves_a_unit(rt: HostRuntime) {
     let mut links = Links::new(rt.alloc(), 16).expect(&rt, "memory");
     let mut lru = Lru::new(7);
     lru.add(&mut links, 3);
-    touches(&rt, &mut lru, &mut links, Touched::Marked);
-    touches(&rt, &mut lru, &mut links, Touched::Moved);
-    holds(&rt, lru.is_on(&links, 3) == Some(LruList::Active));
+    touches_unit_3(&rt, &mut lru, &mut links, Touched::Marked);
+    touches_unit_3(&rt, &mut lru, &mut links, Touched::Moved);
+    zone_tells(&rt, lru.is_on(&links, 3) == Some(LruList::Active));
     lru.age(&mut links);
-    holds(&rt, lru.is_on(&links, 3) == Some(LruList::Inactive));
+    zone_tells(&rt, lru.is_on(&links, 3) == Some(LruList::Inactive));
 }
 
 // Unit 3, which has to be on a list, is touched with this answer.
-fn touches(rt: &impl Abort, lru: &mut Lru, links: &mut Links, answer: Touched)
+fn touches_unit_3(rt: &impl Abort, lru: &mut Lru, links: &mut Links, answer: Touched)
     requires { (3 < length links.old) × StandsIn links.old lru.old }
     ensures stands { StandsIn links.new lru.new }
     ensures frames { length links.new ≡ length links.old }
 {
     assert!(rt; lru.is_on(links, 3).is_some());
-    holds(rt, lru.touch(links, 3) == answer);
+    zone_tells(rt, lru.touch(links, 3) == answer);
 }

@@ -1,9 +1,11 @@
+//! What the tests compare, and a walk over free blocks beside the blocks that are expected.
+
 use std::process::Abort;
 use zone_blocks::order::Order;
 use zone_blocks::walk::Walk;
 
-/// It is so, or the test ends here. A call is proved at less cost than the macro in its place.
-pub fn holds(rt: &impl Abort, is: bool) {
+/// The zone tells so, or the test ends here. A call is proved at less cost than the macro in its place.
+pub fn zone_tells(rt: &impl Abort, is: bool) {
     assert!(rt; is);
 }
 
@@ -13,18 +15,18 @@ pub fn order_of(rt: &impl Abort, exponent: u32) -> Order {
 }
 
 /// The blocks of a walk have to be these, as pairs of order and address.
-pub fn walks(rt: &impl Abort, walk: Walk<'_>, pairs: &[(u32, u32)]) {
+pub fn walks_blocks(rt: &impl Abort, walk: Walk<'_>, pairs: &[(u32, u32)]) {
     let mut rest = pairs.iter();
     for block in walk {
         let (exponent, at) = rest.next().copied().unwrap_or((11, 0));
-        holds(rt, block.order.exponent() == exponent);
-        holds(rt, block.at == at);
+        zone_tells(rt, block.order.exponent() == exponent);
+        zone_tells(rt, block.at == at);
     }
-    holds(rt, rest.next().is_none());
+    zone_tells(rt, rest.next().is_none());
 }
 
 /// The blocks of a zone of 65,536 frames that are all free.
-pub fn wholes() -> [(u32, u32); 64] {
+pub fn greatest_blocks() -> [(u32, u32); 64] {
     let mut pairs = [(10, 0); 64];
     let mut at = 0_u32;
     for pair in pairs.iter_mut() {
