@@ -3,11 +3,10 @@ ghost use Rattle.std.specs.Prelude.{◌≡◌};
 ghost use Rattle.mem_machine.specs.Machines.{Visits, side};
 
 use crate::small::{
-    Parts, frame, holds, is_kept, kill_for, make_parts, reclaim_from, rounds_from, take,
-    usage_and_kills,
+    SmallMachine, SmallParts, dirty_unit, is_kept, kill_for, make_small_parts, pin_unit,
+    reclaim_from, rounds_from, row_tells, take_unit, touch_unit, unpin_unit, usage_and_kills,
 };
 use cpu_part::{BootName, Cpu, Tables};
-use frame_word::Get;
 use group_tree::group::GroupId;
 use kill_notes::note::{Candidate, Note};
 use mem_machine::Machine;
@@ -15,10 +14,9 @@ use mem_reclaim::Reclaimed;
 use std::alloc::Global;
 use std::marker::Brand;
 use std::process::Abort;
-use std::test::Fail;
 
 // What is tried.
-enum Row {
+enum ReclaimRow {
     SecondChance,
     DirtyStays,
     MissedByAPin,
@@ -32,177 +30,127 @@ enum Row {
 }
 
 // What was noted, which is forgotten then.
-fn noted<N: BootName>(rt: &impl Abort, machine: &mut Machine<N>, notes: &[Note])
-    ensures { machine.new.seat.view.opened ≡ machine.old.seat.view.opened }
+fn noted<N: BootName>(rt: &impl Abort, small: &mut SmallMachine<N>, notes: &[Note])
+    ensures opened { small.new.machine.seat.view.opened ≡ small.old.machine.seat.view.opened }
+    ensures cpu { small.new.cpu ≡ small.old.cpu }
 {
-    holds(rt, machine.notes() == notes, "notes");
-    machine.forget_notes();
+    row_tells(rt, small.machine.notes() == notes, "notes");
+    small.machine.forget_notes();
 }
 
 // So many pages, and whether all was tried.
-fn gave(rt: &impl Abort, reclaimed: Reclaimed, pages: u64, tried_all: bool) {
-    holds(rt, reclaimed.pages == pages, "pages");
-    holds(rt, reclaimed.tried_all == tried_all, "tried all");
+fn reclaim_gave(rt: &impl Abort, reclaimed: Reclaimed, pages: u64, tried_all: bool) {
+    row_tells(rt, reclaimed.pages == pages, "pages");
+    row_tells(rt, reclaimed.tried_all == tried_all, "tried all");
 }
 
 // A unit that was touched is passed over once, for a younger one; the next reclaim takes it.
-fn second_chance<N: BootName>(
-    rt: &impl Abort,
-    tables: &Tables<N>,
-    machine: &mut Machine<N>,
-    cpu: &mut Cpu<N>,
-)
-    requires { Visits N.frames (side machine.old cpu.old) }
+fn second_chance<N: BootName>(rt: &impl Abort, small: &mut SmallMachine<N>)
+    requires { Visits N.frames (side small.old.machine small.old.cpu) }
 {
     let root = GroupId::root();
-    take(rt, tables, machine, cpu, root, 0, 0);
-    take(rt, tables, machine, cpu, root, 0, 1);
-    let touched = frame(rt, tables, 0);
-    assert!(rt; machine.is_kept(touched));
-    machine.touch(touched);
-    gave(rt, reclaim_from(rt, tables, machine, root, 1), 1, false);
-    holds(rt, is_kept(rt, tables, machine, 0), "the marked unit stays");
-    holds(rt, !is_kept(rt, tables, machine, 1), "the other went");
-    gave(rt, reclaim_from(rt, tables, machine, root, 1), 1, false);
-    holds(rt, !is_kept(rt, tables, machine, 0), "its chance is over");
+    take_unit(rt, small, root, 0, 0);
+    take_unit(rt, small, root, 0, 1);
+    touch_unit(rt, small, 0);
+    reclaim_gave(rt, reclaim_from(rt, small, root, 1), 1, false);
+    row_tells(rt, is_kept(rt, small, 0), "the marked unit stays");
+    row_tells(rt, !is_kept(rt, small, 1), "the other went");
+    reclaim_gave(rt, reclaim_from(rt, small, root, 1), 1, false);
+    row_tells(rt, !is_kept(rt, small, 0), "its chance is over");
 }
 
 // A dirty unit stays, though all pages are wanted.
-fn dirty_stays<N: BootName>(
-    rt: &impl Abort,
-    tables: &Tables<N>,
-    machine: &mut Machine<N>,
-    cpu: &mut Cpu<N>,
-)
-    requires { Visits N.frames (side machine.old cpu.old) }
+fn dirty_stays<N: BootName>(rt: &impl Abort, small: &mut SmallMachine<N>)
+    requires { Visits N.frames (side small.old.machine small.old.cpu) }
 {
     let root = GroupId::root();
-    take(rt, tables, machine, cpu, root, 2, 0);
-    take(rt, tables, machine, cpu, root, 0, 4);
-    let dirty = frame(rt, tables, 0);
-    assert!(rt; machine.is_kept(dirty));
-    machine.set_dirty(dirty, true);
-    gave(rt, reclaim_from(rt, tables, machine, root, 5), 1, true);
-    holds(rt, is_kept(rt, tables, machine, 0), "the dirty unit stays");
-    holds(rt, !is_kept(rt, tables, machine, 4), "the clean one went");
+    take_unit(rt, small, root, 2, 0);
+    take_unit(rt, small, root, 0, 4);
+    dirty_unit(rt, small, 0);
+    reclaim_gave(rt, reclaim_from(rt, small, root, 5), 1, true);
+    row_tells(rt, is_kept(rt, small, 0), "the dirty unit stays");
+    row_tells(rt, !is_kept(rt, small, 4), "the clean one went");
 }
 
 // A unit that a processor has pinned is missed, and comes back once the pin is gone.
-fn missed_by_a_pin<N: BootName>(
-    rt: &impl Abort,
-    tables: &Tables<N>,
-    machine: &mut Machine<N>,
-    cpu: &mut Cpu<N>,
-)
-    requires { Visits N.frames (side machine.old cpu.old) }
+fn missed_by_a_pin<N: BootName>(rt: &impl Abort, small: &mut SmallMachine<N>)
+    requires { Visits N.frames (side small.old.machine small.old.cpu) }
 {
     let root = GroupId::root();
-    take(rt, tables, machine, cpu, root, 0, 0);
-    let pinned = frame(rt, tables, 0);
-    holds(rt, cpu.get(tables, pinned) == Ok(Get::Held), "a pin");
-    gave(rt, reclaim_from(rt, tables, machine, root, 1), 0, true);
-    holds(rt, is_kept(rt, tables, machine, 0), "the pinned unit stays");
-    holds(rt, machine.counts().freezes == 0, "nothing was frozen");
-    assert!(rt; cpu.holds(pinned));
-    let _ = cpu.put(tables, pinned);
-    gave(rt, reclaim_from(rt, tables, machine, root, 1), 1, false);
-    holds(rt, machine.counts().freezes == 1, "it was frozen");
+    take_unit(rt, small, root, 0, 0);
+    pin_unit(rt, small, 0);
+    reclaim_gave(rt, reclaim_from(rt, small, root, 1), 0, true);
+    row_tells(rt, is_kept(rt, small, 0), "the pinned unit stays");
+    row_tells(
+        rt,
+        small.machine.counts().freezes == 0,
+        "nothing was frozen",
+    );
+    unpin_unit(rt, small, 0);
+    reclaim_gave(rt, reclaim_from(rt, small, root, 1), 1, false);
+    row_tells(rt, small.machine.counts().freezes == 1, "it was frozen");
 }
 
 // As soon as enough came back the rest stays; a block may give more than was wanted.
-fn want_reached_early<N: BootName>(
-    rt: &impl Abort,
-    tables: &Tables<N>,
-    machine: &mut Machine<N>,
-    cpu: &mut Cpu<N>,
-)
-    requires { Visits N.frames (side machine.old cpu.old) }
+fn want_reached_early<N: BootName>(rt: &impl Abort, small: &mut SmallMachine<N>)
+    requires { Visits N.frames (side small.old.machine small.old.cpu) }
 {
     let root = GroupId::root();
-    take(rt, tables, machine, cpu, root, 2, 0);
-    take(rt, tables, machine, cpu, root, 0, 4);
-    gave(rt, reclaim_from(rt, tables, machine, root, 3), 4, false);
-    holds(
-        rt,
-        is_kept(rt, tables, machine, 4),
-        "the younger unit stays",
-    );
+    take_unit(rt, small, root, 2, 0);
+    take_unit(rt, small, root, 0, 4);
+    reclaim_gave(rt, reclaim_from(rt, small, root, 3), 4, false);
+    row_tells(rt, is_kept(rt, small, 4), "the younger unit stays");
 }
 
 // With nothing wanted nothing is done, and all that is there may be less than was wanted.
-fn nothing_wanted<N: BootName>(
-    rt: &impl Abort,
-    tables: &Tables<N>,
-    machine: &mut Machine<N>,
-    cpu: &mut Cpu<N>,
-)
-    requires { Visits N.frames (side machine.old cpu.old) }
+fn nothing_wanted<N: BootName>(rt: &impl Abort, small: &mut SmallMachine<N>)
+    requires { Visits N.frames (side small.old.machine small.old.cpu) }
 {
     let root = GroupId::root();
-    take(rt, tables, machine, cpu, root, 0, 0);
-    gave(rt, reclaim_from(rt, tables, machine, root, 0), 0, false);
-    holds(rt, is_kept(rt, tables, machine, 0), "the unit stays");
-    gave(rt, reclaim_from(rt, tables, machine, root, 2), 1, true);
-    gave(rt, reclaim_from(rt, tables, machine, root, 2), 0, true);
+    take_unit(rt, small, root, 0, 0);
+    reclaim_gave(rt, reclaim_from(rt, small, root, 0), 0, false);
+    row_tells(rt, is_kept(rt, small, 0), "the unit stays");
+    reclaim_gave(rt, reclaim_from(rt, small, root, 2), 1, true);
+    reclaim_gave(rt, reclaim_from(rt, small, root, 2), 0, true);
 }
 
 // Units of groups outside the subtree stay.
-fn subtree<N: BootName>(
-    rt: &impl Abort,
-    tables: &Tables<N>,
-    machine: &mut Machine<N>,
-    cpu: &mut Cpu<N>,
-)
-    requires { Visits N.frames (side machine.old cpu.old) }
+fn subtree<N: BootName>(rt: &impl Abort, small: &mut SmallMachine<N>)
+    requires { Visits N.frames (side small.old.machine small.old.cpu) }
 {
     let root = GroupId::root();
-    take(rt, tables, machine, cpu, root, 0, 0);
-    let group = machine.make(b"/a").expect(rt, "a group");
-    gave(rt, reclaim_from(rt, tables, machine, group, 1), 0, true);
-    holds(rt, is_kept(rt, tables, machine, 0), "the unit above stays");
+    take_unit(rt, small, root, 0, 0);
+    let group = small.machine.make(b"/a").expect(rt, "a group");
+    reclaim_gave(rt, reclaim_from(rt, small, group, 1), 0, true);
+    row_tells(rt, is_kept(rt, small, 0), "the unit above stays");
 }
 
 // Rounds want what is missing, and none is made where there is room.
-fn rounds_make_room<N: BootName>(
-    rt: &impl Abort,
-    tables: &Tables<N>,
-    machine: &mut Machine<N>,
-    cpu: &mut Cpu<N>,
-)
-    requires { Visits N.frames (side machine.old cpu.old) }
+fn rounds_make_room<N: BootName>(rt: &impl Abort, small: &mut SmallMachine<N>)
+    requires { Visits N.frames (side small.old.machine small.old.cpu) }
 {
     let root = GroupId::root();
-    take(rt, tables, machine, cpu, root, 0, 0);
-    take(rt, tables, machine, cpu, root, 0, 1);
-    take(rt, tables, machine, cpu, root, 0, 2);
-    let given = rounds_from(rt, tables, machine, root, 1, 2);
-    holds(rt, given == 2, "two pages were missing");
-    holds(
-        rt,
-        is_kept(rt, tables, machine, 2),
-        "the youngest unit stays",
-    );
-    let given = rounds_from(rt, tables, machine, root, 1, 2);
-    holds(rt, given == 0, "there is room");
-    holds(rt, is_kept(rt, tables, machine, 2), "nothing is done");
+    take_unit(rt, small, root, 0, 0);
+    take_unit(rt, small, root, 0, 1);
+    take_unit(rt, small, root, 0, 2);
+    let given = rounds_from(rt, small, root, 1, 2);
+    row_tells(rt, given == 2, "two pages were missing");
+    row_tells(rt, is_kept(rt, small, 2), "the youngest unit stays");
+    let given = rounds_from(rt, small, root, 1, 2);
+    row_tells(rt, given == 0, "there is room");
+    row_tells(rt, is_kept(rt, small, 2), "nothing is done");
 }
 
 // The first round gives something, and a later one nothing: a pinned unit stays, and comes back once the pin is gone.
-fn rounds_end<N: BootName>(
-    rt: &impl Abort,
-    tables: &Tables<N>,
-    machine: &mut Machine<N>,
-    cpu: &mut Cpu<N>,
-)
-    requires { Visits N.frames (side machine.old cpu.old) }
+fn rounds_end<N: BootName>(rt: &impl Abort, small: &mut SmallMachine<N>)
+    requires { Visits N.frames (side small.old.machine small.old.cpu) }
 {
     let root = GroupId::root();
-    take(rt, tables, machine, cpu, root, 0, 0);
-    take(rt, tables, machine, cpu, root, 0, 1);
-    let pinned = frame(rt, tables, 0);
-    holds(rt, cpu.get(tables, pinned) == Ok(Get::Held), "a pin");
-    let given = rounds_from(rt, tables, machine, root, 0, 0);
-    holds(rt, given == 1, "one of two pages");
+    take_unit(rt, small, root, 0, 0);
+    take_unit(rt, small, root, 0, 1);
+    pin_unit(rt, small, 0);
+    let given = rounds_from(rt, small, root, 0, 0);
+    row_tells(rt, given == 1, "one of two pages");
     let first = Note::Round {
         number: 1,
         returned: 1,
@@ -217,34 +165,26 @@ fn rounds_end<N: BootName>(
         pages: 0,
         usage: 1,
     };
-    noted(rt, machine, &[first, second]);
-    holds(rt, is_kept(rt, tables, machine, 0), "the pinned unit stays");
-    holds(rt, !is_kept(rt, tables, machine, 1), "the other went");
-    assert!(rt; cpu.holds(pinned));
-    let _ = cpu.put(tables, pinned);
-    let given = rounds_from(rt, tables, machine, root, 0, 0);
-    holds(rt, given == 1, "it comes back");
+    noted(rt, small, &[first, second]);
+    row_tells(rt, is_kept(rt, small, 0), "the pinned unit stays");
+    row_tells(rt, !is_kept(rt, small, 1), "the other went");
+    unpin_unit(rt, small, 0);
+    let given = rounds_from(rt, small, root, 0, 0);
+    row_tells(rt, given == 1, "it comes back");
 }
 
 // The group with the most frames of its own is killed, its dirty unit too; then the next one; then there is nobody.
-fn most_frames<N: BootName>(
-    rt: &impl Abort,
-    tables: &Tables<N>,
-    machine: &mut Machine<N>,
-    cpu: &mut Cpu<N>,
-)
-    requires { Visits N.frames (side machine.old cpu.old) }
+fn most_frames<N: BootName>(rt: &impl Abort, small: &mut SmallMachine<N>)
+    requires { Visits N.frames (side small.old.machine small.old.cpu) }
 {
-    let above = machine.make(b"/a").expect(rt, "a group");
-    let one = machine.make(b"/a/b").expect(rt, "a group");
-    let two = machine.make(b"/a/c").expect(rt, "a group");
-    take(rt, tables, machine, cpu, one, 0, 0);
-    take(rt, tables, machine, cpu, two, 1, 2);
-    let dirty = frame(rt, tables, 2);
-    assert!(rt; machine.is_kept(dirty));
-    machine.set_dirty(dirty, true);
-    let killed = kill_for(rt, tables, machine, above);
-    holds(rt, killed == two.number(), "the group with two frames");
+    let above = small.machine.make(b"/a").expect(rt, "a group");
+    let one = small.machine.make(b"/a/b").expect(rt, "a group");
+    let two = small.machine.make(b"/a/c").expect(rt, "a group");
+    take_unit(rt, small, one, 0, 0);
+    take_unit(rt, small, two, 1, 2);
+    dirty_unit(rt, small, 2);
+    let killed = kill_for(rt, small, above);
+    row_tells(rt, killed == two.number(), "the group with two frames");
     let victim = Note::Victim {
         victim: Candidate {
             group: two,
@@ -264,36 +204,30 @@ fn most_frames<N: BootName>(
         left: 0,
         usage: 1,
     };
-    noted(rt, machine, &[victim, gone]);
-    holds(rt, !is_kept(rt, tables, machine, 2), "its unit went");
-    holds(rt, is_kept(rt, tables, machine, 0), "the other stays");
-    let told = usage_and_kills(rt, machine, above);
-    holds(rt, told == (1, 1), "a page, and a kill");
-    let killed = kill_for(rt, tables, machine, above);
-    holds(rt, killed == one.number(), "the group with one frame");
-    let killed = kill_for(rt, tables, machine, above);
-    holds(rt, killed == 64, "nobody is left");
-    let told = usage_and_kills(rt, machine, above);
-    holds(rt, told == (0, 2), "no page, and two kills");
+    noted(rt, small, &[victim, gone]);
+    row_tells(rt, !is_kept(rt, small, 2), "its unit went");
+    row_tells(rt, is_kept(rt, small, 0), "the other stays");
+    let told = usage_and_kills(rt, small, above);
+    row_tells(rt, told == (1, 1), "a page, and a kill");
+    let killed = kill_for(rt, small, above);
+    row_tells(rt, killed == one.number(), "the group with one frame");
+    let killed = kill_for(rt, small, above);
+    row_tells(rt, killed == 64, "nobody is left");
+    let told = usage_and_kills(rt, small, above);
+    row_tells(rt, told == (0, 2), "no page, and two kills");
 }
 
 // A unit that a processor has pinned stays charged past the kill of its group, kept by no one, until the last put is settled.
-fn pin_outlives_a_kill<N: BootName>(
-    rt: &impl Abort,
-    tables: &Tables<N>,
-    machine: &mut Machine<N>,
-    cpu: &mut Cpu<N>,
-)
-    requires { Visits N.frames (side machine.old cpu.old) }
+fn pin_outlives_a_kill<N: BootName>(rt: &impl Abort, small: &mut SmallMachine<N>)
+    requires { Visits N.frames (side small.old.machine small.old.cpu) }
 {
     let root = GroupId::root();
-    let group = machine.make(b"/a").expect(rt, "a group");
-    take(rt, tables, machine, cpu, group, 0, 0);
-    machine.shut(tables, cpu);
-    let pinned = frame(rt, tables, 0);
-    holds(rt, cpu.get(tables, pinned) == Ok(Get::Held), "a pin");
-    let killed = kill_for(rt, tables, machine, root);
-    holds(rt, killed == group.number(), "the one group with a frame");
+    let group = small.machine.make(b"/a").expect(rt, "a group");
+    take_unit(rt, small, group, 0, 0);
+    small.machine.shut(&small.tables, &mut small.cpu);
+    pin_unit(rt, small, 0);
+    let killed = kill_for(rt, small, root);
+    row_tells(rt, killed == group.number(), "the one group with a frame");
     let victim = Note::Victim {
         victim: Candidate { group, frames: 1 },
         candidates: 1,
@@ -307,25 +241,24 @@ fn pin_outlives_a_kill<N: BootName>(
         left: 1,
         usage: 1,
     };
-    noted(rt, machine, &[victim, pinned_past]);
-    holds(rt, !is_kept(rt, tables, machine, 0), "it isn't kept");
-    let told = usage_and_kills(rt, machine, group);
-    holds(rt, told == (1, 1), "it is charged still");
-    let killed = kill_for(rt, tables, machine, root);
-    holds(rt, killed == 64, "a killed group is no victim");
-    assert!(rt; cpu.holds(pinned));
-    let _ = cpu.put(tables, pinned);
-    machine.open(tables, cpu);
-    machine.settle(tables, cpu);
-    let told = usage_and_kills(rt, machine, group);
-    holds(rt, told == (0, 1), "it came back");
+    noted(rt, small, &[victim, pinned_past]);
+    row_tells(rt, !is_kept(rt, small, 0), "it isn't kept");
+    let told = usage_and_kills(rt, small, group);
+    row_tells(rt, told == (1, 1), "it is charged still");
+    let killed = kill_for(rt, small, root);
+    row_tells(rt, killed == 64, "a killed group is no victim");
+    unpin_unit(rt, small, 0);
+    small.machine.open(&small.tables, &mut small.cpu);
+    small.machine.settle(&small.tables, &mut small.cpu);
+    let told = usage_and_kills(rt, small, group);
+    row_tells(rt, told == (0, 1), "it came back");
 }
 
-// One row on a new machine.
-fn play<N: BootName>(rt: &impl Abort, alloc: Global, parts: Parts, row: Row)
+// One row on a machine of the boot.
+fn play_on<N: BootName>(rt: &impl Abort, alloc: Global, parts: SmallParts, row: ReclaimRow)
     requires { (parts.frames ≡ N.frames) × (parts.stocks ≡ N.stocks) }
 {
-    let Parts {
+    let SmallParts {
         frames,
         stocks,
         zone,
@@ -334,92 +267,88 @@ fn play<N: BootName>(rt: &impl Abort, alloc: Global, parts: Parts, row: Row)
         payer,
     } = parts;
     let tables = Tables::<N>::new(frames, stocks);
-    let mut cpu = Cpu::<N>::new(alloc, seat, payer).expect(rt, "memory");
-    let mut machine = Machine::<N>::new(alloc, &tables, zone, machine).expect(rt, "memory");
-    machine.open(&tables, &mut cpu);
+    let cpu = Cpu::<N>::new(alloc, seat, payer).expect(rt, "memory");
+    let machine = Machine::<N>::new(alloc, &tables, zone, machine).expect(rt, "memory");
+    let mut small = SmallMachine {
+        tables,
+        machine,
+        cpu,
+    };
+    small.machine.open(&small.tables, &mut small.cpu);
     match row {
-        Row::SecondChance => second_chance(rt, &tables, &mut machine, &mut cpu),
-        Row::DirtyStays => dirty_stays(rt, &tables, &mut machine, &mut cpu),
-        Row::MissedByAPin => missed_by_a_pin(rt, &tables, &mut machine, &mut cpu),
-        Row::WantReachedEarly => want_reached_early(rt, &tables, &mut machine, &mut cpu),
-        Row::NothingWanted => nothing_wanted(rt, &tables, &mut machine, &mut cpu),
-        Row::Subtree => subtree(rt, &tables, &mut machine, &mut cpu),
-        Row::RoundsMakeRoom => rounds_make_room(rt, &tables, &mut machine, &mut cpu),
-        Row::RoundsEnd => rounds_end(rt, &tables, &mut machine, &mut cpu),
-        Row::MostFrames => most_frames(rt, &tables, &mut machine, &mut cpu),
-        Row::PinOutlivesAKill => pin_outlives_a_kill(rt, &tables, &mut machine, &mut cpu),
+        ReclaimRow::SecondChance => second_chance(rt, &mut small),
+        ReclaimRow::DirtyStays => dirty_stays(rt, &mut small),
+        ReclaimRow::MissedByAPin => missed_by_a_pin(rt, &mut small),
+        ReclaimRow::WantReachedEarly => want_reached_early(rt, &mut small),
+        ReclaimRow::NothingWanted => nothing_wanted(rt, &mut small),
+        ReclaimRow::Subtree => subtree(rt, &mut small),
+        ReclaimRow::RoundsMakeRoom => rounds_make_room(rt, &mut small),
+        ReclaimRow::RoundsEnd => rounds_end(rt, &mut small),
+        ReclaimRow::MostFrames => most_frames(rt, &mut small),
+        ReclaimRow::PinOutlivesAKill => pin_outlives_a_kill(rt, &mut small),
     }
+    let SmallMachine {
+        tables,
+        machine: _machine,
+        cpu,
+    } = small;
     assert!(rt; cpu.is_idle());
     let _ = cpu.into_seats();
     let _ = tables.into_tables();
 }
 
-#[test]
-fn a_marked_unit_has_a_second_chance(rt: HostRuntime) -> Result<(), Fail> {
-    let parts = make_parts(&rt, rt.alloc())?;
-    play::<Brand>(&rt, rt.alloc(), parts, Row::SecondChance);
-    Ok(())
+// One row on a new machine.
+fn play_row(rt: &impl Abort, alloc: Global, row: ReclaimRow) {
+    let parts = make_small_parts(rt, alloc);
+    play_on::<Brand>(rt, alloc, parts, row);
 }
 
 #[test]
-fn a_dirty_unit_stays(rt: HostRuntime) -> Result<(), Fail> {
-    let parts = make_parts(&rt, rt.alloc())?;
-    play::<Brand>(&rt, rt.alloc(), parts, Row::DirtyStays);
-    Ok(())
+fn a_marked_unit_has_a_second_chance(rt: HostRuntime) {
+    play_row(&rt, rt.alloc(), ReclaimRow::SecondChance);
 }
 
 #[test]
-fn a_pinned_unit_is_missed(rt: HostRuntime) -> Result<(), Fail> {
-    let parts = make_parts(&rt, rt.alloc())?;
-    play::<Brand>(&rt, rt.alloc(), parts, Row::MissedByAPin);
-    Ok(())
+fn a_dirty_unit_stays(rt: HostRuntime) {
+    play_row(&rt, rt.alloc(), ReclaimRow::DirtyStays);
 }
 
 #[test]
-fn enough_is_enough(rt: HostRuntime) -> Result<(), Fail> {
-    let parts = make_parts(&rt, rt.alloc())?;
-    play::<Brand>(&rt, rt.alloc(), parts, Row::WantReachedEarly);
-    Ok(())
+fn a_pinned_unit_is_missed(rt: HostRuntime) {
+    play_row(&rt, rt.alloc(), ReclaimRow::MissedByAPin);
 }
 
 #[test]
-fn with_nothing_wanted_nothing_is_done(rt: HostRuntime) -> Result<(), Fail> {
-    let parts = make_parts(&rt, rt.alloc())?;
-    play::<Brand>(&rt, rt.alloc(), parts, Row::NothingWanted);
-    Ok(())
+fn enough_is_enough(rt: HostRuntime) {
+    play_row(&rt, rt.alloc(), ReclaimRow::WantReachedEarly);
 }
 
 #[test]
-fn what_is_outside_the_subtree_stays(rt: HostRuntime) -> Result<(), Fail> {
-    let parts = make_parts(&rt, rt.alloc())?;
-    play::<Brand>(&rt, rt.alloc(), parts, Row::Subtree);
-    Ok(())
+fn with_nothing_wanted_nothing_is_done(rt: HostRuntime) {
+    play_row(&rt, rt.alloc(), ReclaimRow::NothingWanted);
 }
 
 #[test]
-fn rounds_end_where_there_is_room(rt: HostRuntime) -> Result<(), Fail> {
-    let parts = make_parts(&rt, rt.alloc())?;
-    play::<Brand>(&rt, rt.alloc(), parts, Row::RoundsMakeRoom);
-    Ok(())
+fn what_is_outside_the_subtree_stays(rt: HostRuntime) {
+    play_row(&rt, rt.alloc(), ReclaimRow::Subtree);
 }
 
 #[test]
-fn rounds_end_where_nothing_comes(rt: HostRuntime) -> Result<(), Fail> {
-    let parts = make_parts(&rt, rt.alloc())?;
-    play::<Brand>(&rt, rt.alloc(), parts, Row::RoundsEnd);
-    Ok(())
+fn rounds_end_where_there_is_room(rt: HostRuntime) {
+    play_row(&rt, rt.alloc(), ReclaimRow::RoundsMakeRoom);
 }
 
 #[test]
-fn the_group_with_most_frames_is_killed(rt: HostRuntime) -> Result<(), Fail> {
-    let parts = make_parts(&rt, rt.alloc())?;
-    play::<Brand>(&rt, rt.alloc(), parts, Row::MostFrames);
-    Ok(())
+fn rounds_end_where_nothing_comes(rt: HostRuntime) {
+    play_row(&rt, rt.alloc(), ReclaimRow::RoundsEnd);
 }
 
 #[test]
-fn a_pin_outlives_a_kill(rt: HostRuntime) -> Result<(), Fail> {
-    let parts = make_parts(&rt, rt.alloc())?;
-    play::<Brand>(&rt, rt.alloc(), parts, Row::PinOutlivesAKill);
-    Ok(())
+fn the_group_with_most_frames_is_killed(rt: HostRuntime) {
+    play_row(&rt, rt.alloc(), ReclaimRow::MostFrames);
+}
+
+#[test]
+fn a_pin_outlives_a_kill(rt: HostRuntime) {
+    play_row(&rt, rt.alloc(), ReclaimRow::PinOutlivesAKill);
 }

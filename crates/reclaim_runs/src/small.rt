@@ -5,18 +5,18 @@ ghost use Rattle.stock_word.specs.Stock.{first_machine, first_processor};
 ghost use Rattle.mem_machine.specs.Machines.{Visits, side};
 
 use cpu_part::{BootName, Cpu, Tables};
-use frame_word::{Frame, FrameSeat, FrameWords};
+use frame_word::{Frame, FrameSeat, FrameWords, Get};
 use group_tree::group::GroupId;
 use mem_machine::Machine;
 use mem_reclaim::{Reclaimed, kill, make_rounds, reclaim};
-use std::alloc::{AllocError, Global};
+use std::alloc::Global;
 use std::process::Abort;
 use stock_word::{StockSeat, StockWords};
 use zone_blocks::order::Order;
 
 /// The tables of 16 frames and one processor, and all seats, as they are at first.
 #[derive(Drop)]
-pub struct Parts {
+pub struct SmallParts {
     pub frames: FrameWords,
     pub stocks: StockWords,
     pub zone: FrameSeat,
@@ -31,90 +31,121 @@ pub struct Parts {
 }
 
 /// The parts of a new boot.
-pub fn make_parts(rt: &impl Abort, alloc: Global) -> Result<Parts, AllocError> {
-    let (frames, zone, mut seats) = FrameWords::new(alloc, 16, 1)?;
-    let (stocks, machine, mut payers) = StockWords::new(alloc, 1)?;
+pub fn make_small_parts(rt: &impl Abort, alloc: Global) -> SmallParts {
+    let (frames, zone, mut seats) = FrameWords::new(alloc, 16, 1).expect(rt, "memory");
+    let (stocks, machine, mut payers) = StockWords::new(alloc, 1).expect(rt, "memory");
     let seat = seats.pop().expect(rt, "a seat");
     let payer = payers.pop().expect(rt, "a stock seat");
-    Ok(Parts {
+    SmallParts {
         frames,
         stocks,
         zone,
         machine,
         seat,
         payer,
-    })
+    }
 }
 
-/// It is so, or the run ends here and tells what it compared.
-pub fn holds(rt: &impl Abort, is: bool, what: &str) {
+/// A machine of 16 frames, with the tables and the part of its one processor.
+pub struct SmallMachine<N: BootName> {
+    pub tables: Tables<N>,
+    pub machine: Machine<N>,
+    pub cpu: Cpu<N>,
+}
+
+/// The row tells so, or it ends here and says what it compared.
+pub fn row_tells(rt: &impl Abort, is: bool, what: &str) {
     assert!(rt; is, "{what}");
 }
 
-/// The frame of this number.
-pub fn frame<N: BootName>(rt: &impl Abort, tables: &Tables<N>, number: u32) -> Frame
+// The frame of this number.
+fn frame_of<N: BootName>(rt: &impl Abort, tables: &Tables<N>, number: u32) -> Frame
     ensures { result < N.frames.frames }
 {
     tables.frames.frame(number).expect(rt, "a frame")
 }
 
 /// Takes a block for the group, whose head has this number.
-pub fn take<N: BootName>(
+pub fn take_unit<N: BootName>(
     rt: &impl Abort,
-    tables: &Tables<N>,
-    machine: &mut Machine<N>,
-    cpu: &mut Cpu<N>,
+    small: &mut SmallMachine<N>,
     group: GroupId,
     exponent: u32,
     number: u32,
 )
-    requires { Visits N.frames (side machine.old cpu.old) }
-    ensures { Visits N.frames (side machine.new cpu.new) }
+    requires { Visits N.frames (side small.old.machine small.old.cpu) }
+    ensures { Visits N.frames (side small.new.machine small.new.cpu) }
 {
+    let SmallMachine {
+        tables,
+        machine,
+        cpu,
+    } = small;
     let order = Order::of(exponent).expect(rt, "an order");
     assert!(rt; cpu.back_len() == 0 && machine.charges().tree().contains(group));
     assert!(rt; !machine.is_killed(group) && machine.charges().fits(order.frames()));
     let taken = machine.take_block(tables, cpu, group, order);
-    holds(
-        rt,
-        taken.is_ok_and(|head| head.number() == number),
-        "the head of the block",
-    );
+    let is_there = taken.is_ok_and(|head| head.number() == number);
+    row_tells(rt, is_there, "the head of the block");
 }
 
 /// Whether the frame heads a kept unit.
-pub fn is_kept<N: BootName>(
-    rt: &impl Abort,
-    tables: &Tables<N>,
-    machine: &Machine<N>,
-    number: u32,
-) -> bool {
-    machine.is_kept(frame(rt, tables, number))
+pub fn is_kept<N: BootName>(rt: &impl Abort, small: &SmallMachine<N>, number: u32) -> bool {
+    small.machine.is_kept(frame_of(rt, &small.tables, number))
+}
+
+/// Marks the kept unit that this frame heads as used.
+pub fn touch_unit<N: BootName>(rt: &impl Abort, small: &mut SmallMachine<N>, number: u32) {
+    let head = frame_of(rt, &small.tables, number);
+    assert!(rt; small.machine.is_kept(head));
+    small.machine.touch(head);
+}
+
+/// Makes the kept unit that this frame heads dirty.
+pub fn dirty_unit<N: BootName>(rt: &impl Abort, small: &mut SmallMachine<N>, number: u32) {
+    let head = frame_of(rt, &small.tables, number);
+    assert!(rt; small.machine.is_kept(head));
+    small.machine.set_dirty(head, true);
+}
+
+/// The processor takes a reference on the frame.
+pub fn pin_unit<N: BootName>(rt: &impl Abort, small: &mut SmallMachine<N>, number: u32)
+    ensures machine { small.new.machine ≡ small.old.machine }
+    ensures number { small.new.cpu.number ≡ small.old.cpu.number }
+{
+    let pinned = frame_of(rt, &small.tables, number);
+    let got = small.cpu.get(&small.tables, pinned);
+    row_tells(rt, got == Ok(Get::Held), "a pin");
+}
+
+/// The processor gives its reference on the frame back.
+pub fn unpin_unit<N: BootName>(rt: &impl Abort, small: &mut SmallMachine<N>, number: u32)
+    ensures machine { small.new.machine ≡ small.old.machine }
+    ensures number { small.new.cpu.number ≡ small.old.cpu.number }
+{
+    let pinned = frame_of(rt, &small.tables, number);
+    assert!(rt; small.cpu.holds(pinned));
+    let _ = small.cpu.put(&small.tables, pinned);
 }
 
 /// Reclaims so many pages from the subtree of the group.
 pub fn reclaim_from<N: BootName>(
     rt: &impl Abort,
-    tables: &Tables<N>,
-    machine: &mut Machine<N>,
+    small: &mut SmallMachine<N>,
     group: GroupId,
     want: u64,
 ) -> Reclaimed {
-    assert!(rt; want < 1 << 32 && machine.charges().tree().contains(group));
-    reclaim(machine, tables, group, want)
+    assert!(rt; want < 1 << 32 && small.machine.charges().tree().contains(group));
+    reclaim(&mut small.machine, &small.tables, group, want)
 }
 
 /// Kills the victim of the group, and tells its number; 64 where there is none.
-pub fn kill_for<N: BootName>(
-    rt: &impl Abort,
-    tables: &Tables<N>,
-    machine: &mut Machine<N>,
-    group: GroupId,
-) -> u32
-    ensures { machine.new.seat.view.opened ≡ machine.old.seat.view.opened }
+pub fn kill_for<N: BootName>(rt: &impl Abort, small: &mut SmallMachine<N>, group: GroupId) -> u32
+    ensures opened { small.new.machine.seat.view.opened ≡ small.old.machine.seat.view.opened }
+    ensures cpu { small.new.cpu ≡ small.old.cpu }
 {
-    assert!(rt; machine.charges().tree().contains(group));
-    match kill(machine, tables, group) {
+    assert!(rt; small.machine.charges().tree().contains(group));
+    match kill(&mut small.machine, &small.tables, group) {
         Some(victim) => victim.number(),
         None => 64,
     }
@@ -123,10 +154,10 @@ pub fn kill_for<N: BootName>(
 /// The usage of a group, in pages, and how many kills its events count.
 pub fn usage_and_kills<N: BootName>(
     rt: &impl Abort,
-    machine: &Machine<N>,
+    small: &SmallMachine<N>,
     group: GroupId,
 ) -> (u32, u64) {
-    let charges = machine.charges();
+    let charges = small.machine.charges();
     assert!(rt; charges.tree().contains(group));
     (charges.current(group), charges.events(group).oom_kill)
 }
@@ -134,12 +165,11 @@ pub fn usage_and_kills<N: BootName>(
 /// Reclaims from the subtree of the group in rounds, until its usage with `need` pages more is at most `limit`.
 pub fn rounds_from<N: BootName>(
     rt: &impl Abort,
-    tables: &Tables<N>,
-    machine: &mut Machine<N>,
+    small: &mut SmallMachine<N>,
     group: GroupId,
     need: u32,
     limit: u32,
 ) -> u64 {
-    assert!(rt; machine.charges().tree().contains(group));
-    make_rounds(machine, tables, group, need, limit)
+    assert!(rt; small.machine.charges().tree().contains(group));
+    make_rounds(&mut small.machine, &small.tables, group, need, limit)
 }

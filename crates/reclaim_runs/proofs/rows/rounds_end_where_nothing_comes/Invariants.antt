@@ -1,4 +1,0 @@
-use Rattle.reclaim_runs.proofs.rows.rounds_end_where_nothing_comes.Given as goal
-
-abbrev pub ghosts-play : goal.ghosts-play
-ghosts-play g a = record { frames = a.parts.frames; stocks = a.parts.stocks }
