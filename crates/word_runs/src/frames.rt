@@ -1,5 +1,4 @@
-//! Worked rows: what the answers are when calls meet, which no clause says. Several calls stand in
-//! each row, so that every call whose answer can vary is made once and succeeds.
+//! Worked rows on a frame's word: what the answers are when calls of two seats meet, which no clause says.
 ghost use Rattle.std.specs.Prelude.{◌≡◌, ◌<◌};
 ghost use Rattle.frame_word.specs.Seats.{IsZoneSeat, first_cpu_view, first_zone_view};
 
@@ -10,25 +9,25 @@ use std::process::Abort;
 use std::thread::{Threads, join};
 
 // What is tried on frame 3 of eight, by the zone's seat and a processor's.
-enum Trial {
-    Full,
-    FreezeEarly,
+enum FrameTrial {
+    FullReferences,
+    FreezeTooEarly,
     PutByBoth,
 }
 
 // Makes the words and the seats, and tries it.
-fn tries(rt: &impl Abort, alloc: Global, trial: Trial) {
+fn tries_on_frame_3(rt: &impl Abort, alloc: Global, trial: FrameTrial) {
     let (words, mut zone, mut cpus) = FrameWords::new(alloc, 8, 1).expect(rt, "memory");
     let mut cpu = cpus.pop().expect(rt, "a seat");
     match trial {
-        Trial::Full => fill_up(rt, &words, &mut zone),
-        Trial::FreezeEarly => freeze_early(rt, &words, &mut zone, &mut cpu),
-        Trial::PutByBoth => put_by_both(rt, &words, &mut zone, &mut cpu),
+        FrameTrial::FullReferences => fill_references(rt, &words, &mut zone),
+        FrameTrial::FreezeTooEarly => freeze_early(rt, &words, &mut zone, &mut cpu),
+        FrameTrial::PutByBoth => put_by_both(rt, &words, &mut zone, &mut cpu),
     }
 }
 
 // The zone has all 255 references.
-fn fill_up(rt: &impl Abort, words: &FrameWords, zone: &mut FrameSeat)
+fn fill_references(rt: &impl Abort, words: &FrameWords, zone: &mut FrameSeat)
     requires zone { IsZoneSeat words.now zone.old × (zone.old.view ≡ first_zone_view 8) }
     requires frames { words.now.frames ≡ 8 }
 {
@@ -39,7 +38,7 @@ fn fill_up(rt: &impl Abort, words: &FrameWords, zone: &mut FrameSeat)
 
 #[test]
 fn get_is_full_at_255_references(rt: HostRuntime) {
-    tries(&rt, rt.alloc(), Trial::Full);
+    tries_on_frame_3(&rt, rt.alloc(), FrameTrial::FullReferences);
 }
 
 // The zone and a processor have a reference each: the zone's freeze comes too early, and then in time.
@@ -59,10 +58,10 @@ fn freeze_early(rt: &impl Abort, words: &FrameWords, zone: &mut FrameSeat, cpu: 
 
 #[test]
 fn freeze_waits_for_the_other_seat(rt: HostRuntime) {
-    tries(&rt, rt.alloc(), Trial::FreezeEarly);
+    tries_on_frame_3(&rt, rt.alloc(), FrameTrial::FreezeTooEarly);
 }
 
-// The zone and a processor have a reference each. Whose put is the last has the frame in hand.
+// The zone and a processor have a reference each, and the second put is the last.
 fn put_by_both(rt: &impl Abort, words: &FrameWords, zone: &mut FrameSeat, cpu: &mut FrameSeat)
     requires zone { IsZoneSeat words.now zone.old × (zone.old.view ≡ first_zone_view 8) }
     requires cpu { (cpu.old.table ≡ words.now.table) × (cpu.old.view ≡ first_cpu_view 1) }
@@ -74,44 +73,11 @@ fn put_by_both(rt: &impl Abort, words: &FrameWords, zone: &mut FrameSeat, cpu: &
     same(rt, words.put(zone, frame), Put::Left(1));
     same(rt, words.put(cpu, frame), Put::Last);
     same(rt, words.get(zone, frame), Get::Zero);
-    words.unfreeze(cpu, frame, 1);
-    same(rt, words.get(zone, frame), Get::Held);
 }
 
 #[test]
-fn the_last_put_has_the_frame_in_hand(rt: HostRuntime) {
-    tries(&rt, rt.alloc(), Trial::PutByBoth);
-}
-
-// Frame 3 passes for processor 2, which takes it in and later passes it back. The zone collects it.
-fn goes_and_comes(words: &FrameWords, zone: &mut FrameSeat, second: &mut FrameSeat, frame: Frame)
-    requires zone { IsZoneSeat words.now zone.old × (zone.old.view ≡ first_zone_view 8) }
-    requires second { (second.old.table ≡ words.now.table) × (second.old.view ≡ first_cpu_view 2) }
-    requires sizes { (words.now.frames ≡ 8) × (words.now.cpus ≡ 2) × (frame ≡ 3) }
-    ensures zone { IsZoneSeat words.now zone.new }
-    ensures second { (second.new.table ≡ words.now.table) × (second.new.view.number ≡ 2) }
-{
-    words.open_visit(zone, second);
-    words.pass_out(zone, frame, 2);
-    words.take_in(zone, second, frame);
-    words.shut_visit(zone, second);
-    words.open_visit(zone, second);
-    words.pass_back(zone, second, frame);
-    words.collect(zone, second, frame);
-    words.unfreeze(zone, frame, 2);
-}
-
-#[test]
-fn frame_3_goes_to_processor_2_and_back(rt: HostRuntime) {
-    let (words, mut zone, mut cpus) = FrameWords::new(rt.alloc(), 8, 2).expect(&rt, "memory");
-    let frame = words.frame(3).expect(&rt, "frame 3");
-    let mut second = cpus.pop().expect(&rt, "a seat");
-    goes_and_comes(&words, &mut zone, &mut second, frame);
-    cpus.push(second).expect(&rt, "memory");
-    let last = words.close(zone, cpus);
-    same(&rt, last.word(frame), 2);
-    same(&rt, last.visit_word(1), 0);
-    same(&rt, last.visit_word(2), 1);
+fn the_second_of_two_puts_is_the_last(rt: HostRuntime) {
+    tries_on_frame_3(&rt, rt.alloc(), FrameTrial::PutByBoth);
 }
 
 // Gets the frame a thousand times, puts it where it was held, and tells whether a put was the last.
@@ -132,7 +98,7 @@ fn any_put_was_last(words: &FrameWords, seat: &mut FrameSeat, frame: Frame) -> b
 }
 
 // Two seats get and put the frame side by side: whether a put of either was the last.
-fn beside<R: Threads + Sync>(
+fn get_and_put_beside<R: Threads + Sync>(
     rt: &R,
     words: &FrameWords,
     one: &mut FrameSeat,
@@ -150,13 +116,13 @@ fn beside<R: Threads + Sync>(
 }
 
 #[test]
-fn two_getters(rt: HostRuntime) {
+fn two_seats_get_and_put_beside_each_other(rt: HostRuntime) {
     let (words, mut zone, mut cpus) = FrameWords::new(rt.alloc(), 8, 2).expect(&rt, "memory");
     let frame = words.frame(5).expect(&rt, "frame 5");
     let mut one = cpus.pop().expect(&rt, "a seat");
     let mut other = cpus.pop().expect(&rt, "a seat");
     words.unfreeze(&mut zone, frame, 1);
-    let (one_last, other_last) = beside(&rt, &words, &mut one, &mut other, frame);
+    let (one_last, other_last) = get_and_put_beside(&rt, &words, &mut one, &mut other, frame);
     same(&rt, one_last || other_last, false);
     same(&rt, words.freeze(&mut zone, frame, 1), true);
 }

@@ -5,7 +5,8 @@ ghost use Rattle.frame_word.specs.Seats.{IsZoneSeat, first_zone_view};
 ghost use Rattle.stock_word.specs.Stock.{IsZoneStock};
 
 use crate::parts::{
-    Given, Parts, drains, drops, fast, frame_of, give_back, give_some, give_up, make_parts, set_up,
+    GivenFrames, WordParts, drains_stock, drops_fresh, frame_of, give_back, give_some, give_up,
+    make_word_parts, pays_fast, set_up,
 };
 use crate::rows::same;
 use cpu_part::{BootName, Cpu, Dropped, Fast, MOST_FRESH, Tables};
@@ -36,7 +37,7 @@ fn passes<N: BootName>(
 }
 
 // A boot, in which frame 3 passes.
-fn boot_of_passing<N: BootName>(rt: &impl Abort, alloc: Global, parts: Parts<8>)
+fn boot_of_passing<N: BootName>(rt: &impl Abort, alloc: Global, parts: WordParts<8>)
     requires { (parts.frames ≡ N.frames) × (parts.stocks ≡ N.stocks) }
 {
     let (tables, mut zone, _, mut first, mut second) = set_up::<N, 8>(rt, alloc, parts);
@@ -46,7 +47,7 @@ fn boot_of_passing<N: BootName>(rt: &impl Abort, alloc: Global, parts: Parts<8>)
 
 #[test]
 fn no_seat_gets_a_frame_that_passes(rt: HostRuntime) {
-    let parts = make_parts::<8>(&rt, rt.alloc());
+    let parts = make_word_parts::<8>(&rt, rt.alloc());
     boot_of_passing::<Brand>(&rt, rt.alloc(), parts);
 }
 
@@ -89,12 +90,12 @@ fn takes_fronts<N: BootName>(
     takes(rt, tables, machine, cpu, Some(zeroth));
     takes(rt, tables, machine, cpu, Some(first));
     takes(rt, tables, machine, cpu, None);
-    fast(rt, tables, cpu, 1, Fast::NoStock);
-    drops(rt, tables, cpu, zeroth, Dropped::Listed);
+    pays_fast(rt, tables, cpu, 1, Fast::NoStock);
+    drops_fresh(rt, tables, cpu, zeroth, Dropped::Listed);
     takes(rt, tables, machine, cpu, Some(second));
-    drops(rt, tables, cpu, first, Dropped::Listed);
-    drops(rt, tables, cpu, second, Dropped::Listed);
-    drains(rt, tables, machine, 2);
+    drops_fresh(rt, tables, cpu, first, Dropped::Listed);
+    drops_fresh(rt, tables, cpu, second, Dropped::Listed);
+    drains_stock(rt, tables, machine, 2);
     takes(rt, tables, machine, cpu, None);
 }
 
@@ -113,7 +114,7 @@ fn takes<N: BootName>(
 }
 
 // 256 frames are listed. None of them is taken before there is a stock.
-fn pays_inside_a_visit<N: BootName>(rt: &impl Abort, alloc: Global, parts: Parts<256>)
+fn pays_inside_a_visit<N: BootName>(rt: &impl Abort, alloc: Global, parts: WordParts<256>)
     requires { (parts.frames ≡ N.frames) × (parts.stocks ≡ N.stocks) }
 {
     let (tables, mut zone, mut machine, mut cpu, second) = set_up::<N, 256>(rt, alloc, parts);
@@ -122,7 +123,7 @@ fn pays_inside_a_visit<N: BootName>(rt: &impl Abort, alloc: Global, parts: Parts
         &tables,
         &mut zone,
         &mut cpu,
-        Given {
+        GivenFrames {
             cpu: 1,
             from: 0,
             to: 256,
@@ -139,6 +140,6 @@ fn pays_inside_a_visit<N: BootName>(rt: &impl Abort, alloc: Global, parts: Parts
 
 #[test]
 fn fronts_are_paid_inside_a_visit(rt: HostRuntime) {
-    let parts = make_parts::<256>(&rt, rt.alloc());
+    let parts = make_word_parts::<256>(&rt, rt.alloc());
     pays_inside_a_visit::<Brand>(&rt, rt.alloc(), parts);
 }

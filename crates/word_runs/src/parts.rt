@@ -1,4 +1,4 @@
-//! Worked rows: what the answers are when calls of processors meet, which no clause says.
+//! Worked rows on processors' parts: what the answers are when their calls meet, which no clause says.
 ghost use Rattle.std.specs.Prelude.{◌≡◌, ◌≢◌, ◌+◌, ◌<◌, ◌≤◌, ℕ, [], length};
 ghost use Rattle.frame_word.specs.Seats.{IsInOwnHand, IsOpen, IsShut, IsZoneSeat, NothingPasses};
 ghost use Rattle.frame_word.specs.Seats.{first_cpu_view, first_zone_view, holds};
@@ -12,11 +12,11 @@ use std::alloc::Global;
 use std::marker::Brand;
 use std::process::Abort;
 use std::thread::{Threads, join};
-use stock_word::{Stock, StockSeat, StockWords};
+use stock_word::{StockSeat, StockWords};
 
 // The tables of F frames and 2 processors, and all seats, as they are at first.
 #[derive(Drop)]
-pub(crate) struct Parts<const F: u32> {
+pub(crate) struct WordParts<const F: u32> {
     pub frames: FrameWords,
     pub stocks: StockWords,
     pub zone: FrameSeat,
@@ -32,7 +32,7 @@ pub(crate) struct Parts<const F: u32> {
     pub ghost second_pays: { (payers.1.table ≡ stocks.table) × (payers.1.view ≡ first_processor 2) },
 }
 
-pub(crate) fn make_parts<const F: u32>(rt: &impl Abort, alloc: Global) -> Parts<F>
+pub(crate) fn make_word_parts<const F: u32>(rt: &impl Abort, alloc: Global) -> WordParts<F>
     requires { 1 ≤ F }
 {
     let (frames, zone, mut seats) = FrameWords::new(alloc, F, 2).expect(rt, "memory");
@@ -40,7 +40,7 @@ pub(crate) fn make_parts<const F: u32>(rt: &impl Abort, alloc: Global) -> Parts<
     let second = seats.pop().expect(rt, "the second seat");
     let first = seats.pop().expect(rt, "the first seat");
     let payer = payers.pop().expect(rt, "the second stock seat");
-    Parts {
+    WordParts {
         frames,
         stocks,
         zone,
@@ -54,7 +54,7 @@ pub(crate) fn make_parts<const F: u32>(rt: &impl Abort, alloc: Global) -> Parts<
 pub(crate) fn set_up<N: BootName, const F: u32>(
     rt: &impl Abort,
     alloc: Global,
-    parts: Parts<F>,
+    parts: WordParts<F>,
 ) -> (Tables<N>, FrameSeat, StockSeat, Cpu<N>, Cpu<N>)
     requires { (parts.frames ≡ N.frames) × (parts.stocks ≡ N.stocks) }
     ensures sizes { (N.frames.frames ≡ F) × (N.frames.cpus ≡ 2) × (N.stocks.cpus ≡ 2) }
@@ -63,7 +63,7 @@ pub(crate) fn set_up<N: BootName, const F: u32>(
     ensures first { (result.3.number ≡ 1) × (result.3.list ≡ []) × (result.3.fresh ≡ []) }
     ensures second { (result.4.number ≡ 2) × (result.4.list ≡ []) × (result.4.fresh ≡ []) }
 {
-    let Parts {
+    let WordParts {
         frames,
         stocks,
         zone,
@@ -90,7 +90,7 @@ pub(crate) fn frame_of<N: BootName>(rt: &impl Abort, tables: &Tables<N>, number:
 }
 
 // Takes a processor apart, which has nothing left.
-fn spend<N: BootName>(rt: &impl Abort, cpu: Cpu<N>) -> (FrameSeat, StockSeat)
+fn take_apart<N: BootName>(rt: &impl Abort, cpu: Cpu<N>) -> (FrameSeat, StockSeat)
     ensures { (result.0.table ≡ N.frames.table) × (result.1.table ≡ N.stocks.table) }
 {
     let _ = cpu.number();
@@ -105,8 +105,8 @@ pub(crate) fn give_up<N: BootName>(
     first: Cpu<N>,
     second: Cpu<N>,
 ) {
-    let _ = spend(rt, first);
-    let _ = spend(rt, second);
+    let _ = take_apart(rt, first);
+    let _ = take_apart(rt, second);
     let _ = tables.into_tables();
 }
 
@@ -130,7 +130,7 @@ fn take_back<N: BootName>(
 }
 
 // Frame 3 goes to processor 2 and comes back.
-fn hands_over<N: BootName>(rt: &impl Abort, alloc: Global, parts: Parts<8>)
+fn hands_over<N: BootName>(rt: &impl Abort, alloc: Global, parts: WordParts<8>)
     requires { (parts.frames ≡ N.frames) × (parts.stocks ≡ N.stocks) }
 {
     let (tables, mut zone, _, first, mut second) = set_up::<N, 8>(rt, alloc, parts);
@@ -139,7 +139,7 @@ fn hands_over<N: BootName>(rt: &impl Abort, alloc: Global, parts: Parts<8>)
         &tables,
         &mut zone,
         &mut second,
-        Given {
+        GivenFrames {
             cpu: 2,
             from: 3,
             to: 4,
@@ -154,7 +154,7 @@ fn hands_over<N: BootName>(rt: &impl Abort, alloc: Global, parts: Parts<8>)
 
 #[test]
 fn frame_3_goes_to_processor_2_and_back(rt: HostRuntime) {
-    let parts = make_parts::<8>(&rt, rt.alloc());
+    let parts = make_word_parts::<8>(&rt, rt.alloc());
     hands_over::<Brand>(&rt, rt.alloc(), parts);
 }
 
@@ -176,7 +176,7 @@ fn take_fresh<N: BootName>(
 }
 
 // A frame is paid for on the fast path, and this is the answer.
-pub(crate) fn fast<N: BootName>(
+pub(crate) fn pays_fast<N: BootName>(
     rt: &impl Abort,
     tables: &Tables<N>,
     cpu: &mut Cpu<N>,
@@ -189,7 +189,7 @@ pub(crate) fn fast<N: BootName>(
 }
 
 // The stock of processor 1 is drained of so many pages.
-pub(crate) fn drains<N: BootName>(
+pub(crate) fn drains_stock<N: BootName>(
     rt: &impl Abort,
     tables: &Tables<N>,
     machine: &mut StockSeat,
@@ -202,7 +202,7 @@ pub(crate) fn drains<N: BootName>(
 }
 
 // A fresh frame is dropped, and this is the answer.
-pub(crate) fn drops<N: BootName>(
+pub(crate) fn drops_fresh<N: BootName>(
     rt: &impl Abort,
     tables: &Tables<N>,
     cpu: &mut Cpu<N>,
@@ -214,7 +214,7 @@ pub(crate) fn drops<N: BootName>(
 }
 
 // Frames 0 and 1 are given to processor 1, whose stock is filled with 4 pages of group 1, and drained.
-fn pays<N: BootName>(rt: &impl Abort, alloc: Global, parts: Parts<8>)
+fn pays<N: BootName>(rt: &impl Abort, alloc: Global, parts: WordParts<8>)
     requires { (parts.frames ≡ N.frames) × (parts.stocks ≡ N.stocks) }
 {
     let (tables, mut zone, mut machine, mut cpu, second) = set_up::<N, 8>(rt, alloc, parts);
@@ -225,17 +225,17 @@ fn pays<N: BootName>(rt: &impl Abort, alloc: Global, parts: Parts<8>)
         &tables,
         &mut zone,
         &mut cpu,
-        Given {
+        GivenFrames {
             cpu: 1,
             from: 0,
             to: 2,
         },
     );
-    fast(rt, &tables, &mut cpu, 1, Fast::Got(paid));
-    fast(rt, &tables, &mut cpu, 2, Fast::OtherGroup);
-    drains(rt, &tables, &mut machine, 3);
-    fast(rt, &tables, &mut cpu, 1, Fast::Drained);
-    drops(rt, &tables, &mut cpu, paid, Dropped::NeedVisit);
+    pays_fast(rt, &tables, &mut cpu, 1, Fast::Got(paid));
+    pays_fast(rt, &tables, &mut cpu, 2, Fast::OtherGroup);
+    drains_stock(rt, &tables, &mut machine, 3);
+    pays_fast(rt, &tables, &mut cpu, 1, Fast::Drained);
+    drops_fresh(rt, &tables, &mut cpu, paid, Dropped::NeedVisit);
     same(rt, cpu.drops(), 0);
     same(rt, cpu.number(), 1);
     give_back(&tables, &mut zone, &mut cpu);
@@ -250,7 +250,7 @@ fn pays<N: BootName>(rt: &impl Abort, alloc: Global, parts: Parts<8>)
 
 #[test]
 fn group_1_pays_and_is_drained(rt: HostRuntime) {
-    let parts = make_parts::<8>(&rt, rt.alloc());
+    let parts = make_word_parts::<8>(&rt, rt.alloc());
     pays::<Brand>(&rt, rt.alloc(), parts);
 }
 
@@ -305,41 +305,22 @@ fn pin_all<N: BootName>(
     assert!(rt; cpu.holds(used.0));
 }
 
-// Beside a back frame: 254 pins on a frame and one on another, and no more.
-fn pin_the_rest<N: BootName>(
-    rt: &impl Abort,
-    tables: &Tables<N>,
-    cpu: &mut Cpu<N>,
-    used: (Frame, Frame),
-    unused: Frame,
-)
-    requires used { (used.0 < N.frames.frames) × (used.1 < N.frames.frames) }
-    requires unused { unused < N.frames.frames }
-{
-    pin(rt, tables, cpu, used.0, 254);
-    same(rt, cpu.get(tables, unused), Ok(Get::Zero));
-    pin(rt, tables, cpu, used.1, 1);
-    same(rt, cpu.get(tables, used.1), Err(Fault::PinsFull));
-}
-
-// Frames 1, 2 and 4, of each of which the zone has a reference now.
-fn three_in_use<N: BootName>(
+// Frames 1 and 2, of each of which the zone has a reference now.
+fn two_in_use<N: BootName>(
     rt: &impl Abort,
     tables: &Tables<N>,
     zone: &mut FrameSeat,
-) -> (Frame, Frame, Frame)
+) -> (Frame, Frame)
     requires zone { IsZoneSeat N.frames zone.old × (zone.old.view ≡ first_zone_view 8) × (N.frames.frames ≡ 8) }
     ensures zone { IsZoneSeat N.frames zone.new × IsShut zone.new 1 }
     ensures held { 1 ≤ holds zone.new result.0 }
-    ensures frames { (result.0 < N.frames.frames) × (result.1 < N.frames.frames) × (result.2 < N.frames.frames) }
+    ensures frames { (result.0 < N.frames.frames) × (result.1 < N.frames.frames) }
 {
     let one = frame_of(rt, tables, 1);
     let other = frame_of(rt, tables, 2);
-    let third = frame_of(rt, tables, 4);
     tables.frames.unfreeze(zone, other, 1);
-    tables.frames.unfreeze(zone, third, 1);
     tables.frames.unfreeze(zone, one, 1);
-    (one, other, third)
+    (one, other)
 }
 
 // The frame is pinned once and goes out of use: it is a back frame.
@@ -361,27 +342,25 @@ fn keeps_back<N: BootName>(
     same(rt, cpu.back_len(), 1);
 }
 
-// 256 pins on two frames, of which the zone has a reference each; then 255 pins and a back frame.
-fn pins_run_out<N: BootName>(rt: &impl Abort, alloc: Global, parts: Parts<8>)
+// 256 pins on two frames, of which the zone has a reference each; then one of them is a back frame, which is handed over.
+fn pins_run_out<N: BootName>(rt: &impl Abort, alloc: Global, parts: WordParts<8>)
     requires { (parts.frames ≡ N.frames) × (parts.stocks ≡ N.stocks) }
 {
     let (tables, mut zone, _, mut cpu, second) = set_up::<N, 8>(rt, alloc, parts);
     let unused = frame_of(rt, &tables, 3);
-    let (one, other, third) = three_in_use(rt, &tables, &mut zone);
+    let (one, other) = two_in_use(rt, &tables, &mut zone);
     pin_all(rt, &tables, &mut cpu, (one, other), unused);
     unpin(rt, &tables, &mut cpu, 256);
     keeps_back(rt, &tables, &mut zone, &mut cpu, one);
-    pin_the_rest(rt, &tables, &mut cpu, (other, third), unused);
     same(rt, cpu.number(), 1);
     give_back(&tables, &mut zone, &mut cpu);
     same(rt, take_last(&tables, &mut zone, &mut cpu), Some(one));
-    unpin(rt, &tables, &mut cpu, 255);
     give_up(rt, tables, cpu, second);
 }
 
 #[test]
 fn pins_are_full_at_256(rt: HostRuntime) {
-    let parts = make_parts::<8>(&rt, rt.alloc());
+    let parts = make_word_parts::<8>(&rt, rt.alloc());
     pins_run_out::<Brand>(&rt, rt.alloc(), parts);
 }
 
@@ -399,7 +378,7 @@ fn pages_put_back<N: BootName>(tables: &Tables<N>, cpu: &mut Cpu<N>) -> u64 {
 }
 
 // Another processor gets and puts a frame so many times, and tells whether a put was the last.
-fn visits<N: BootName>(tables: &Tables<N>, cpu: &mut Cpu<N>, frame: Frame) -> bool
+fn pin_and_unpin<N: BootName>(tables: &Tables<N>, cpu: &mut Cpu<N>, frame: Frame) -> bool
     requires { frame < N.frames.frames }
 {
     let mut last = false;
@@ -414,7 +393,7 @@ fn visits<N: BootName>(tables: &Tables<N>, cpu: &mut Cpu<N>, frame: Frame) -> bo
 }
 
 // What the two threads of the next test did: pages that came back, and whether a put was the last.
-fn beside<N: BootName + Send + Sync, R: Threads + Sync>(
+fn pay_beside_pins<N: BootName + Send + Sync, R: Threads + Sync>(
     rt: &R,
     tables: &Tables<N>,
     first: &mut Cpu<N>,
@@ -426,7 +405,7 @@ fn beside<N: BootName + Send + Sync, R: Threads + Sync>(
     join(
         rt,
         || pages_put_back(tables, first),
-        || visits(tables, second, frame),
+        || pin_and_unpin(tables, second, frame),
     )
 }
 
@@ -452,7 +431,7 @@ fn begins<N: BootName>(
         tables,
         zone,
         cpu,
-        Given {
+        GivenFrames {
             cpu: 1,
             from: 6,
             to: 7,
@@ -466,90 +445,28 @@ fn begins<N: BootName>(
 fn works_beside<N: BootName + Send + Sync, R: Threads + Abort + Sync>(
     rt: &R,
     alloc: Global,
-    parts: Parts<8>,
+    parts: WordParts<8>,
 )
     requires { (parts.frames ≡ N.frames) × (parts.stocks ≡ N.stocks) }
 {
     let (tables, mut zone, mut machine, mut first, mut second) = set_up::<N, 8>(rt, alloc, parts);
     let used = begins(rt, &tables, &mut zone, &mut machine, &mut first);
-    let (listed, is_last) = beside(rt, &tables, &mut first, &mut second, used);
+    let (listed, is_last) = pay_beside_pins(rt, &tables, &mut first, &mut second, used);
     same(rt, listed, 1000);
     same(rt, is_last, false);
     same(rt, first.drops(), 1000);
     same(rt, first.number(), 1);
-    drains(rt, &tables, &mut machine, 4);
+    same(rt, first.list_len(), 1);
+    same(rt, second.pins(), 0);
+    drains_stock(rt, &tables, &mut machine, 4);
     give_back(&tables, &mut zone, &mut first);
-    ends(rt, alloc, tables, (zone, machine), (first, second), used);
+    give_up(rt, tables, first, second);
 }
 
 #[test]
 fn drops_beside_pins(rt: HostRuntime) {
-    let parts = make_parts::<8>(&rt, rt.alloc());
+    let parts = make_word_parts::<8>(&rt, rt.alloc());
     works_beside::<Brand, _>(&rt, rt.alloc(), parts);
-}
-
-// The frames' words at the end: the frame in use has the zone's reference.
-fn close_frames(
-    rt: &impl Abort,
-    alloc: Global,
-    frames: FrameWords,
-    zone: FrameSeat,
-    seats: (FrameSeat, FrameSeat),
-    used: Frame,
-)
-    requires zone { zone.table ≡ frames.table }
-    requires seats { (seats.0.table ≡ frames.table) × (seats.1.table ≡ frames.table) }
-    requires sizes { (frames.frames ≡ 8) × (frames.cpus ≡ 2) }
-    requires used { used < 8 }
-{
-    let (first, second) = seats;
-    let mut seats = Vec::new(alloc);
-    seats.push(first).expect(rt, "memory");
-    seats.push(second).expect(rt, "memory");
-    let words = frames.close(zone, seats);
-    same(rt, words.word(used), 1);
-}
-
-// The stocks' words at the end: no stock has a page, and none is reported.
-fn close_stocks(
-    rt: &impl Abort,
-    alloc: Global,
-    stocks: StockWords,
-    machine: StockSeat,
-    payers: (StockSeat, StockSeat),
-)
-    requires machine { (machine.table ≡ stocks.table) × IsZoneStock machine.view }
-    requires payers { (payers.0.table ≡ stocks.table) × (payers.1.table ≡ stocks.table) }
-    requires sizes { stocks.cpus ≡ 2 }
-{
-    let (first, second) = payers;
-    let mut payers = Vec::new(alloc);
-    payers.push(first).expect(rt, "memory");
-    payers.push(second).expect(rt, "memory");
-    let books = stocks.close(machine, payers);
-    same(rt, books.stock(1), Stock::DrainedOf { group: 1 });
-    same(rt, books.reported(1), 0);
-}
-
-// The closed words: the frame in use has the zone's reference, every other frame none; no stock has a page.
-fn ends<N: BootName>(
-    rt: &impl Abort,
-    alloc: Global,
-    tables: Tables<N>,
-    zone: (FrameSeat, StockSeat),
-    cpus: (Cpu<N>, Cpu<N>),
-    used: Frame,
-)
-    requires zone { (zone.0.table ≡ N.frames.table) × (zone.1.table ≡ N.stocks.table) × IsZoneStock zone.1.view }
-    requires sizes { (N.frames.frames ≡ 8) × (N.frames.cpus ≡ 2) × (N.stocks.cpus ≡ 2) }
-    requires used { used < 8 }
-{
-    let (first, second) = cpus;
-    let (frames, stocks) = tables.into_tables();
-    let (first_seat, first_payer) = spend(rt, first);
-    let (second_seat, second_payer) = spend(rt, second);
-    close_frames(rt, alloc, frames, zone.0, (first_seat, second_seat), used);
-    close_stocks(rt, alloc, stocks, zone.1, (first_payer, second_payer));
 }
 
 // Gives a frame of the zone's hand to a processor whose visit is open.
@@ -571,7 +488,7 @@ fn give<N: BootName>(tables: &Tables<N>, zone: &mut FrameSeat, cpu: &mut Cpu<N>,
 
 // Which frames a processor is given: those from `from` on, below `to`.
 #[derive(Clone, Copy)]
-pub(crate) struct Given {
+pub(crate) struct GivenFrames {
     pub cpu: u32,
     pub from: u32,
     pub to: u32,
@@ -583,7 +500,7 @@ pub(crate) fn give_some<N: BootName>(
     tables: &Tables<N>,
     zone: &mut FrameSeat,
     cpu: &mut Cpu<N>,
-    given: Given,
+    given: GivenFrames,
 )
     requires frames { (given.to ≤ N.frames.frames) × (given.to ≤ 256) × (given.from ≤ given.to) }
     requires zone { IsZoneSeat N.frames zone.old × (zone.old.view ≡ first_zone_view N.frames.frames) }
@@ -601,22 +518,6 @@ pub(crate) fn give_some<N: BootName>(
     cpu.shut(tables, zone);
 }
 
-// Takes so many frames for group 1.
-fn take<N: BootName>(rt: &impl Abort, tables: &Tables<N>, cpu: &mut Cpu<N>, count: u32) {
-    for n in 0..count {
-        let frame = frame_of(rt, tables, n);
-        fast(rt, tables, cpu, 1, Fast::Got(frame));
-    }
-}
-
-// Drops the frames below this number, which are fresh.
-fn drop_all<N: BootName>(rt: &impl Abort, tables: &Tables<N>, cpu: &mut Cpu<N>, count: u32) {
-    for n in 0..count {
-        let frame = frame_of(rt, tables, n);
-        drops(rt, tables, cpu, frame, Dropped::Listed);
-    }
-}
-
 // Hands over all listed frames, and the zone collects them.
 pub(crate) fn give_back<N: BootName>(tables: &Tables<N>, zone: &mut FrameSeat, cpu: &mut Cpu<N>)
     requires { IsZoneSeat N.frames zone.old × IsShut zone.old cpu.old.number }
@@ -627,39 +528,4 @@ pub(crate) fn give_back<N: BootName>(tables: &Tables<N>, zone: &mut FrameSeat, c
     for _ in 0..256u64 {
         take_back(tables, zone, cpu);
     }
-}
-
-// 33 frames are listed and 32 of them become fresh, but not the last.
-fn fresh_runs_out<N: BootName>(rt: &impl Abort, alloc: Global, parts: Parts<40>)
-    requires { (parts.frames ≡ N.frames) × (parts.stocks ≡ N.stocks) }
-{
-    let (tables, mut zone, mut machine, mut cpu, second) = set_up::<N, 40>(rt, alloc, parts);
-    cpu.fill(&tables, &mut machine, 1, 40);
-    give_some(
-        rt,
-        &tables,
-        &mut zone,
-        &mut cpu,
-        Given {
-            cpu: 1,
-            from: 0,
-            to: 33,
-        },
-    );
-    take(rt, &tables, &mut cpu, 32);
-    fast(rt, &tables, &mut cpu, 1, Fast::FreshFull);
-    same(rt, cpu.fresh_len(), 32);
-    drop_all(rt, &tables, &mut cpu, 32);
-    same(rt, cpu.list_len(), 33);
-    same(rt, cpu.drops(), 32);
-    same(rt, cpu.number(), 1);
-    give_back(&tables, &mut zone, &mut cpu);
-    fast(rt, &tables, &mut cpu, 1, Fast::ListEmpty);
-    give_up(rt, tables, cpu, second);
-}
-
-#[test]
-fn fresh_frames_are_full_at_32(rt: HostRuntime) {
-    let parts = make_parts::<40>(&rt, rt.alloc());
-    fresh_runs_out::<Brand>(&rt, rt.alloc(), parts);
 }

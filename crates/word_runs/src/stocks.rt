@@ -1,3 +1,4 @@
+//! Worked rows on a stock's word, and its drain beside the processor that pays from it.
 ghost use Rattle.std.specs.Prelude.{◌≡◌, ◌≤◌, ◌+◌, false, length};
 ghost use Rattle.stock_word.specs.Stock.{IsProcessor, IsZoneStock, IsSettled, account_of, first_machine, first_processor};
 ghost use Rattle.stock_word.specs.Kinds.{draining, with_steps};
@@ -35,43 +36,32 @@ fn drained_with_a_fresh_page(rt: HostRuntime) {
     drained_beside_a_page(&rt, &words, &mut machine, &mut seat);
 }
 
-// Takes a page of the stock, of whatever group it is, where one is left. Tells whether there was.
-fn take_left(words: &StockWords, machine: &mut StockSeat, seat: &mut StockSeat) -> bool
-    requires tables { (machine.old.table ≡ words.now.table) × (seat.old.table ≡ words.now.table) }
-    requires seats { IsZoneStock machine.old.view × IsProcessor words.now seat.old.view }
-    ensures tables { (machine.new.table ≡ words.now.table) × (seat.new.table ≡ words.now.table) }
-    ensures seats { IsZoneStock machine.new.view × IsProcessor words.now seat.new.view }
-{
-    match words.look(machine, seat) {
-        Stock::HeldBy { group, pages } if pages > 0 => {
-            words.consume_held(machine, seat, group);
-            true
-        }
-        _ => false,
-    }
-}
-
-// Of the two pages of the stock, one is taken by the books, the other by its word.
-fn takes_both(rt: &impl Abort, words: &StockWords, machine: &mut StockSeat, seat: &mut StockSeat)
+// The stock has two pages: the third that is asked for isn't there.
+fn takes_all_pages(
+    rt: &impl Abort,
+    words: &StockWords,
+    machine: &mut StockSeat,
+    seat: &mut StockSeat,
+)
     requires tables { (machine.old.table ≡ words.now.table) × (seat.old.table ≡ words.now.table) }
     requires views { (machine.old.view ≡ first_machine) × (seat.old.view ≡ first_processor 2) × (words.now.cpus ≡ 2) }
 {
     words.fill(machine, seat, 63, 2);
-    same(rt, take_left(words, machine, seat), true);
+    same(rt, words.consume(seat, 63), Consume::Took);
     same(rt, words.consume(seat, 63), Consume::Took);
     same(rt, words.consume(seat, 63), Consume::Empty);
 }
 
 #[test]
-fn taken_by_the_books(rt: HostRuntime) {
+fn a_stock_runs_empty(rt: HostRuntime) {
     let (words, mut machine, mut seats) = StockWords::new(rt.alloc(), 2).expect(&rt, "memory");
     let mut seat = seats.pop().expect(&rt, "the seat of processor 2");
-    takes_both(&rt, &words, &mut machine, &mut seat);
+    takes_all_pages(&rt, &words, &mut machine, &mut seat);
 }
 
 // Takes and gives back pages of group 1 until it is told that the stock is drained, or for 100
 // steps. Tells how many pages it kept.
-fn work(words: &StockWords, seat: &mut StockSeat) -> u32
+fn pay_and_credit(words: &StockWords, seat: &mut StockSeat) -> u32
     requires table { seat.old.table ≡ words.now.table }
     requires processor { IsProcessor words.now seat.old.view }
     requires settled { seat.old.view.fresh ≡ 0 }
@@ -100,7 +90,7 @@ fn work(words: &StockWords, seat: &mut StockSeat) -> u32
 // A fill with 50 pages; then the processor works in one thread while the machine drains in
 // another; then, with both seats in one thread, what is left is drained, and what is fresh is
 // reported and taken in. Tells how many pages came back.
-fn round<R: Threads + Sync>(
+fn fill_and_drain<R: Threads + Sync>(
     rt: &R,
     words: &StockWords,
     mut machine: StockSeat,
@@ -132,7 +122,7 @@ fn round<R: Threads + Sync>(
                 × (result.1.view.fresh ≡ result.0) }
         {
             let mut own = seat;
-            (work(words, &mut own), own)
+            (pay_and_credit(words, &mut own), own)
         },
     );
     let (mut back, mut machine) = drained;
@@ -148,7 +138,7 @@ fn drains_beside_consumes_and_credits(rt: HostRuntime) {
     let (words, mut machine, mut seats) = StockWords::new(rt.alloc(), 1).expect(&rt, "memory");
     let mut seat = seats.pop().expect(&rt, "the seat of processor 1");
     for _ in 0..200u64 {
-        let (machine_after, seat_after, back) = round(&rt, &words, machine, seat);
+        let (machine_after, seat_after, back) = fill_and_drain(&rt, &words, machine, seat);
         machine = machine_after;
         seat = seat_after;
         same(&rt, back, 50);

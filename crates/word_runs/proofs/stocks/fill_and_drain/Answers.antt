@@ -1,7 +1,7 @@
 use Rattle.std.proofs.Common.{rules, ap}
 use Rattle.stock_word.specs.Stock.{Seated}
 use Rattle.stock_word.proofs.CallerLemmas.{settled_after}
-use Rattle.word_runs.proofs.stocks.round.Goals as goal
+use Rattle.word_runs.proofs.stocks.fill_and_drain.Goals as goal
 
 pub returns-clause-settled : goal.returns-clause-settled
 returns-clause-settled g c = settled_after _ _ _ _ _ _ _ _ _ _ (search rules) c.join-drained.ensures.second.2

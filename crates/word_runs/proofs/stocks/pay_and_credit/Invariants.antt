@@ -1,5 +1,5 @@
 use Rattle.std.proofs.Common.{◌≡◌, ◌≤◌}
-use Rattle.word_runs.proofs.stocks.work.Given as goal
+use Rattle.word_runs.proofs.stocks.pay_and_credit.Given as goal
 
 abbrev pub invariant-loop-step : goal.invariant-loop-step
 invariant-loop-step l = record {
