@@ -289,11 +289,12 @@ fn play_on<N: BootName>(rt: &impl Abort, alloc: Global, parts: SmallParts, row: 
     }
     let SmallMachine {
         tables,
-        machine: _machine,
+        machine,
         cpu,
     } = small;
     assert!(rt; cpu.is_idle());
     let _ = cpu.into_seats();
+    let _ = machine.into_seats();
     let _ = tables.into_tables();
 }
 
