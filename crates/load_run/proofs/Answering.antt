@@ -1,6 +1,6 @@
 -- What a script is answered, from what was read of it.
 use Rattle.std.proofs.Common.{◌≡◌, ℕ, All, Bool, zero, suc, ◌+◌, refl, List, length, take, Option, None}
-use Rattle.std.proofs.Common.{Some, IfSome, Result, Ok, Err, IfOk, IfErr, MatchResult, arith, ap, ◌∙◌, sym, subst}
+use Rattle.std.proofs.Common.{Some, IfSome, Result, Ok, Err, IfOk, arith, ap, ◌∙◌, sym, subst}
 use Rattle.std.proofs.lemmas.List.{length-take, take_all}
 use Rattle.std.proofs.lemmas.Bool.{false≢true}
 use Rattle.std.specs.Io.KnownBytes.{Appends}
@@ -15,11 +15,6 @@ use Rattle.script_lines.specs.declared.line.Line.{Line}
 use Rattle.script_lines.specs.Script.{IsScript}
 use Rattle.load_options.specs.declared.settings.Settings.{Settings}
 use Rattle.load_run.specs.Answers.{AreAnswers, IsAnswered, IsReplayed}
-use Rattle.mem_history.specs.Whole.{ShowsAll}
-use Rattle.mem_history.specs.Kept.{AreTied}
-use Rattle.step_rules.specs.After.{Run}
-use Rattle.script_replay.specs.History.{Replays, TellsHistory}
-use Rattle.script_replay.specs.Lines.{ServesAll, Standing, StopsAt}
 use Rattle.script_replay.specs.Ranges.{LineIsThere}
 use Rattle.script_replay.proofs.InRange.{script_there}
 
@@ -52,20 +47,9 @@ pub joined : {T E : Type 0} (r : Result T E) (P Q R : T → Type 0) → ((x : T)
 joined (Ok x) P Q R follows p q = follows x p q
 joined (Err e) P Q R follows p q = tt
 
--- lines were replayed, all of them, or up to one for whose text memory was wanting
-pub replays_or_stops : {V E : Type 0} (t : KnownTable) (w : Words) (explains : Bool) (s first e : Standing) (lines : List Line) (r : Result V E) (items : V → List ℕ)
-    → s ≡ first → IfOk r (λ v. ServesAll t explains s lines (items v) e)
-    → ((run : Run) → ShowsAll t run s.locked.machine s.cpus → AreTied t w s.cpus → IfOk r (λ v. TellsHistory t explains (Unit {0}) run s lines (items v) e))
-    → IfErr r (λ _. StopsAt lines (λ served text. Replays t w explains s served text e))
-    → MatchResult r (λ v. Replays t w explains first lines (items v) e) (λ _. StopsAt lines (λ served text. Replays t w explains first served text e))
-replays_or_stops t w explains s first e lines (Ok v) items same served history stops =
-    subst (λ (x : Standing). Replays t w explains x lines (items v) e) same (record { served = served; history = history })
-replays_or_stops t w explains s first e lines (Err x) items same served history stops =
-    subst (λ (y : Standing). StopsAt lines (λ part text. Replays t w explains y part text e)) same stops
-
--- what was found, where there is one
-pub at_ok : {V E : Type 0} (r : Result V E) (v : V) (P : V → Type 0) (Q : E → Type 0) → r ≡ Ok v → MatchResult r P Q → P v
-at_ok {V = V} {E = E} r v P Q is holds = subst (λ (x : Result V E). MatchResult x P Q) is holds
+-- what is so of a good result is so of its value
+pub at_ok : {V E : Type 0} (r : Result V E) (v : V) (P : V → Type 0) → r ≡ Ok v → IfOk r P → P v
+at_ok {V = V} {E = E} r v P is holds = subst (λ (x : Result V E). IfOk x P) is holds
 
 -- so many processors have so many parts
 pub first_long : (t : KnownTable) (w : Words) (p n : ℕ) → length (first_cpus t w p n) ≡ n

@@ -1,5 +1,5 @@
 -- What a script is answered.
-use Rattle.std.specs.Prelude.{◌≡◌, ℕ, Bool, Option, Some, List, [], ◌++◌, take}
+use Rattle.std.specs.Prelude.{◌≡◌, ℕ, ◌+◌, Bool, Option, Some, List, [], ◌++◌, take}
 use Rattle.std.specs.Io.KnownBytes.{Appends}
 use Rattle.frame_word.specs.Seats.{KnownTable}
 use Rattle.stock_word.specs.Stock.{Words}
@@ -9,6 +9,7 @@ use Rattle.mem_machine.specs.Machines.{IsFirst}
 use Rattle.mem_machine.specs.Telling.{TellsRun}
 use Rattle.mem_system.specs.Boots.{IsSizedAs, first_cpus}
 use Rattle.script_lines.specs.declared.line.Line.{Line}
+use Rattle.script_lines.specs.declared.script.TheConstants.{MOST_INPUT}
 use Rattle.script_lines.specs.Script.{IsScript}
 use Rattle.script_replay.specs.Lines.{ServesAll, Standing}
 use Rattle.script_replay.specs.History.{TellsHistory}
@@ -17,7 +18,7 @@ use Rattle.load_run.specs.Ending.{TellsEnd}
 
 -- what is read of an input: a byte more than a script may have, as far as there are so many
 abbrev pub bytes_read : List ℕ → List ℕ
-bytes_read input = take 1048577 input
+bytes_read input = take (MOST_INPUT + 1) input
 
 -- what stands after a boot with these sizes, under these tables: the machine of a new boot, and the parts of the
 -- processors, which did nothing yet
@@ -27,11 +28,12 @@ pub record StandsAtFirst (sizes : Config) (table : KnownTable) (stock_table : Wo
   pub sizes_are : first.locked.sizes ≡ sizes
   pub cpus : first.cpus ≡ first_cpus table stock_table 1 sizes.cpus
 
--- what a boot with these sizes answers to the lines, one after the other, with why groups were killed or without, and then
--- tells of its end. All steps of the lines together are one run from the boot on, which tells of each line that the promise
--- is kept after it. The ledger of the boot tells the run of no step, and so after each line each group's peak and event
--- counts are those of the run so far
-pub record AreAnswers (sizes : Config) (is_explained is_audited : Bool) (lines : List Line) (text : List ℕ) : Type 0 where
+-- What a boot with these sizes answers to the lines, one after the other, with why groups were killed or without, and
+-- then tells of its end. All steps of the lines together are one run from the boot on, which tells of each line that
+-- the promise is kept after it. The ledger of the boot tells the run of no step, and so after each line each group's
+-- peak and event counts are those of the run so far
+pub record AreAnswers (sizes : Config) (is_explained is_audited : Bool) (lines : List Line) (text : List ℕ)
+    : Type 0 where
   pub frames : KnownTable
   pub stocks : Words
   pub start : Standing
@@ -55,7 +57,8 @@ pub record IsAnswered (asked : Option Settings) (input text : List ℕ) : Type 0
   pub script : IsScript settings.sizes input lines
   pub answers : AreAnswers settings.sizes settings.is_explained settings.is_audited lines text
 
--- and a writer that held the bytes `before`, where they are known, was given all of its answers
+-- the settings that are asked for have answers to the input, and a writer that held the bytes `before`, where they are
+-- known, was given all of them
 pub record IsReplayed (asked : Option Settings) (input : List ℕ) (before after : Option (List ℕ)) : Type 0 where
   pub text : List ℕ
   pub answered : IsAnswered asked input text

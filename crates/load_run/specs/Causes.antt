@@ -14,12 +14,12 @@ use Rattle.load_options.specs.Settings.{HasSizesInRange}
 use Rattle.load_options.specs.Words.{TellsSettings}
 use Rattle.load_run.specs.Writing.{AppendsBeginning}
 
--- the n-th line of what is read of the input is the first bad one, for the sizes that are asked for
-pub record IsBadAt (asked : Option Settings) (input : List ℕ) (n : ℕ) : Type 0 where
+-- the line of this number of what is read of the input is the first bad one, for the sizes that are asked for
+pub record IsBadAt (asked : Option Settings) (input : List ℕ) (number : ℕ) : Type 0 where
   pub settings : Settings
   pub is_asked : asked ≡ Some settings
   pub in_range : HasSizesInRange settings.sizes
-  pub first : IsFirstBadLine settings.sizes (bytes_read input) n
+  pub first : IsFirstBadLine settings.sizes (bytes_read input) number
 
 -- the input is a script for the sizes that are asked for, and these may not be
 pub record IsRefused (asked : Option Settings) (input : List ℕ) : Type 0 where
@@ -29,17 +29,17 @@ pub record IsRefused (asked : Option Settings) (input : List ℕ) : Type 0 where
   pub script : IsScript settings.sizes input lines
   pub refused : ¬ IsValidConfig settings.sizes
 
--- why this fault comes. The words are judged first, then the script, then the sizes: so whatever comes after the words
--- comes where they ask for settings, and the sizes are refused only where the input is a script. That memory ran out or
--- the input failed has no other cause that a clause could name
+-- Which fault comes when. The words are judged first, then the script, then the sizes: so whatever comes after the
+-- words comes where they ask for settings, and the sizes are refused only where the input is a script. That memory
+-- ran out or the input failed has no other cause that a clause could name
 abbrev pub HasCause : Option Settings → List ℕ → ProgramFault → Type 0
 HasCause asked input (Words fault) = TellsSettings asked (Err fault)
-HasCause asked input (Script (script.BadLine n)) = IsBadAt asked input n
+HasCause asked input (Script (script.BadLine number)) = IsBadAt asked input number
 HasCause asked input (Script script.NoMemory) = IsSome asked
 HasCause asked input BadConfig = IsRefused asked input
 HasCause asked input Input = IsSome asked
 HasCause asked input Output = (text : List ℕ) × IsAnswered asked input text
-HasCause asked input (NoMemory e) = IsSome asked
+HasCause asked input (NoMemory error) = IsSome asked
 
 -- what is left of the answers to the input: a beginning where the output failed, else nothing
 abbrev pub LeavesAnswers : Option Settings → List ℕ → ProgramFault → Option (List ℕ) → Option (List ℕ) → Type 0
@@ -47,20 +47,20 @@ LeavesAnswers asked input Output before after =
     (text : List ℕ) × IsAnswered asked input text × AppendsBeginning before after text
 LeavesAnswers asked input fault before after = Keeps before after
 
--- the words or the input are misused: the words ask for no settings, or the input has a first bad line, or the sizes are
--- refused; and a writer that held the bytes `before`, where they are known, was told so, as far as it took that
+-- the words or the input are misused: the words ask for no settings, or the input has a first bad line, or the sizes
+-- are refused; and a writer that held the bytes `before`, where they are known, was told so, as far as it took that
 pub record IsMisused (asked : Option Settings) (input : List ℕ) (before after : Option (List ℕ)) : Type 0 where
   pub fault : ProgramFault
   pub is_misuse : status_of fault ≡ 2
   pub cause : HasCause asked input fault
   pub told : AppendsBeginning before after (fault_text fault)
 
--- the program failed at its work: of the answers a beginning was written where the output failed, else nothing; and that
--- it failed was told, as far as the writer took that
-pub record FailsAtWork (asked : Option Settings) (input : List ℕ) (output_before output_after : Option (List ℕ))
-    (before after : Option (List ℕ)) : Type 0 where
+-- the program failed at its work: of the answers a beginning was written where the output failed, else nothing; and
+-- that it failed was told, as far as the writer took that
+pub record FailsAtWork (asked : Option Settings) (input : List ℕ)
+    (output_before output_after faults_before faults_after : Option (List ℕ)) : Type 0 where
   pub fault : ProgramFault
   pub is_failure : status_of fault ≡ 1
   pub cause : HasCause asked input fault
   pub left : LeavesAnswers asked input fault output_before output_after
-  pub told : AppendsBeginning before after (fault_text fault)
+  pub told : AppendsBeginning faults_before faults_after (fault_text fault)

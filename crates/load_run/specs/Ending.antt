@@ -10,12 +10,13 @@ use Rattle.cpu_part.specs.Calls.{UnpinAnswers}
 use Rattle.mem_system.specs.declared.audit.Audit.{Audit}
 use Rattle.mem_system.specs.Ends.{Ends, pins_of}
 use Rattle.script_replay.specs.Lines.{Standing}
+use Rattle.load_run.specs.declared.boot_end.Ended.{Ended}
 
 -- a pin of each of these frames is put, one after the other
 abbrev pub PutsEach : List ℕ → KnownCpu → KnownCpu → Type 0
 PutsEach [] before after = after ≡ before
-PutsEach (f ∷ frames) before after =
-    (answer : Put) × (mid : KnownCpu) × UnpinAnswers f answer before mid × PutsEach frames mid after
+PutsEach (frame ∷ frames) before after =
+    (answer : Put) × (between : KnownCpu) × UnpinAnswers frame answer before between × PutsEach frames between after
 
 -- every pin of the processor is put
 pub record LetsGo (before after : KnownCpu) : Type 0 where
@@ -23,51 +24,48 @@ pub record LetsGo (before after : KnownCpu) : Type 0 where
   pub puts : PutsEach frames before after
   pub none_left : after.pins ≡ []
 
--- the boot ended, where so many pins were held: none; or every pin was put, and then it ended
-pub record EndsHeld (table : KnownTable) (stock_table : Words) (before : Standing)
-    (held : ℕ) (audit : Audit) : Type 0 where
-  pub held_are : held ≡ pins_of before.cpus
+-- the boot ended, and told how many pins were held: none; or every pin was put, and then it ended
+pub record EndsHeld (table : KnownTable) (stock_table : Words) (before : Standing) (ended : Ended) : Type 0 where
+  pub held_are : ended.held ≡ pins_of before.cpus
   pub cpus : List KnownCpu
-  pub free : held ≡ 0 → cpus ≡ before.cpus
-  pub pinned : 1 ≤ held → AllZip LetsGo before.cpus cpus
-  pub ends : Ends table stock_table before.locked cpus audit
+  pub free : ended.held ≡ 0 → cpus ≡ before.cpus
+  pub pinned : 1 ≤ ended.held → AllZip LetsGo before.cpus cpus
+  pub ends : Ends table stock_table before.locked cpus ended.audit
 
--- so the boot ended after something of which this is so
-pub record EndsAfter (table : KnownTable) (stock_table : Words) (is : Standing → Type 0)
-    (held : ℕ) (audit : Audit) : Type 0 where
+-- the boot ended where something stood of which this is so
+pub record EndsAfter (table : KnownTable) (stock_table : Words) (is : Standing → Type 0) (ended : Ended) : Type 0 where
   pub before : Standing
   pub is_before : is before
-  pub ends : EndsHeld table stock_table before held audit
+  pub ends : EndsHeld table stock_table before ended
 
 -- how many frames there are, and where
 abbrev pub audit_places_text : Audit → List ℕ
-audit_places_text a =
-    codes "audit frames " ++ (decimal a.frames ++ (codes " free " ++ (decimal a.free
-    ++ (codes " charged " ++ (decimal a.charged ++ codes "\n")))))
+audit_places_text audit =
+    codes "audit frames " ++ (decimal audit.frames ++ (codes " free " ++ (decimal audit.free
+    ++ (codes " charged " ++ (decimal audit.charged ++ codes "\n")))))
 
 -- how often units ended and came back
 abbrev pub counts_text : Audit → List ℕ
-counts_text a =
-    codes "audit puts " ++ (decimal a.last_puts ++ (codes " freezes " ++ (decimal a.freezes ++ (codes " drops "
-    ++ (decimal a.drops ++ (codes " returns " ++ (decimal a.returns ++ codes "\n")))))))
+counts_text audit =
+    codes "audit puts " ++ (decimal audit.last_puts ++ (codes " freezes " ++ (decimal audit.freezes ++ (codes " drops "
+    ++ (decimal audit.drops ++ (codes " returns " ++ (decimal audit.returns ++ codes "\n")))))))
 
 -- the two lines of an audit
 abbrev pub audit_text : Audit → List ℕ
-audit_text a = audit_places_text a ++ counts_text a
+audit_text audit = audit_places_text audit ++ counts_text audit
 
 -- the line of pins that were held, if there were any
 abbrev pub held_text : ℕ → List ℕ
 held_text held = if held == 0 then [] else codes "held " ++ decimal held ++ codes "\n"
 
 -- what is told of the end, where it is audited: the pins that were held, and the audit
-abbrev pub end_text : Bool → ℕ → Audit → List ℕ
-end_text true held a = held_text held ++ audit_text a
-end_text false held a = []
+abbrev pub end_text : Bool → Ended → List ℕ
+end_text true ended = held_text ended.held ++ audit_text ended.audit
+end_text false ended = []
 
--- so it is told, of a boot that ended
+-- a boot ended where this stood, and the text is what is told of that
 pub record TellsEnd (table : KnownTable) (stock_table : Words) (is_audited : Bool) (before : Standing)
     (text : List ℕ) : Type 0 where
-  pub held : ℕ
-  pub audit : Audit
-  pub ends : EndsHeld table stock_table before held audit
-  pub text_is : text ≡ end_text is_audited held audit
+  pub ended : Ended
+  pub ends : EndsHeld table stock_table before ended
+  pub text_is : text ≡ end_text is_audited ended

@@ -15,24 +15,24 @@ use Rattle.load_options.specs.Words.{TellsSettings}
 -- 2 where the program was used wrongly, 1 where it failed at its work
 abbrev pub status_of : ProgramFault → ℕ
 status_of (Words (words.BadWords text)) = 2
-status_of (Words (words.NoMemory e)) = 1
-status_of (Script (script.BadLine n)) = 2
+status_of (Words (words.NoMemory error)) = 1
+status_of (Script (script.BadLine number)) = 2
 status_of (Script script.NoMemory) = 1
 status_of BadConfig = 2
 status_of Input = 1
 status_of Output = 1
-status_of (NoMemory e) = 1
+status_of (NoMemory error) = 1
 
 -- the text that tells a fault: one line, or clap's text of the words
 abbrev pub fault_text : ProgramFault → List ℕ
 fault_text (Words (words.BadWords text)) = string_bytes text
-fault_text (Words (words.NoMemory e)) = codes "no memory\n"
-fault_text (Script (script.BadLine n)) = codes "bad line " ++ decimal n ++ codes "\n"
+fault_text (Words (words.NoMemory error)) = codes "no memory\n"
+fault_text (Script (script.BadLine number)) = codes "bad line " ++ decimal number ++ codes "\n"
 fault_text (Script script.NoMemory) = codes "no memory\n"
 fault_text BadConfig = codes "refused 14 BadConfig\n"
 fault_text Input = codes "input failed\n"
 fault_text Output = codes "output failed\n"
-fault_text (NoMemory e) = codes "no memory\n"
+fault_text (NoMemory error) = codes "no memory\n"
 
 -- a fault of the words: they ask for no settings, or memory ran out
 abbrev pub IsWordsFault : Option Settings → ProgramFault → Type 0
@@ -42,7 +42,7 @@ IsWordsFault asked fault = ⊥
 -- a fault of reading: the input failed, or memory ran out
 abbrev pub IsReadFault : ProgramFault → Type 0
 IsReadFault Input = ⊤
-IsReadFault (NoMemory e) = ⊤
+IsReadFault (NoMemory error) = ⊤
 IsReadFault fault = ⊥
 
 -- a fault of a script: its first bad line, or memory ran out
@@ -53,5 +53,5 @@ IsScriptFault sizes script fault = ⊥
 -- a fault of a boot: its sizes may not be; or they may, and memory ran out
 abbrev pub IsBootFault : Config → ProgramFault → Type 0
 IsBootFault sizes BadConfig = ¬ IsValidConfig sizes
-IsBootFault sizes (NoMemory e) = IsValidConfig sizes
+IsBootFault sizes (NoMemory error) = IsValidConfig sizes
 IsBootFault sizes fault = ⊥

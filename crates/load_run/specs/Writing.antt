@@ -4,4 +4,4 @@ use Rattle.std.specs.Io.KnownBytes.{Appends}
 
 -- known bytes grow by a beginning of these, which may be nothing or all of them
 abbrev pub AppendsBeginning : Option (List ℕ) → Option (List ℕ) → List ℕ → Type 0
-AppendsBeginning before after bytes = (n : ℕ) × Appends before after (take n bytes)
+AppendsBeginning before after bytes = (count : ℕ) × Appends before after (take count bytes)

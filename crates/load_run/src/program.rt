@@ -13,8 +13,8 @@ ghost use Rattle.load_run.specs.Answers.{AreAnswers, IsAnswered, IsReplayed, byt
 ghost use Rattle.zone_sizes.specs.Config.{IsValidConfig};
 
 use crate::fault::ProgramFault;
-use crate::running::run;
-use crate::telling::tell;
+use crate::fault_lines::tell_fault;
+use crate::running::replay_on_boot;
 use crate::writing::write_whole;
 use load_options::command_line::parse_words;
 use load_options::settings::Settings;
@@ -56,9 +56,9 @@ pub fn drive<S: AsStr, I: Read, O: Write, F: Write>(
     match answers_to(alloc, words, input) {
         Ok(answers) => match write_answers(output, &answers) {
             Ok(()) => 0,
-            Err(unwritten) => tell(faults, &unwritten),
+            Err(unwritten) => tell_fault(faults, &unwritten),
         },
-        Err(fault) => tell(faults, &fault),
+        Err(fault) => tell_fault(faults, &fault),
     }
 }
 
@@ -122,7 +122,7 @@ fn answers_of(
     match boot(alloc, settings.sizes) {
         Ok(boot) => {
             let is_explained = settings.is_explained;
-            match run::<Brand>(alloc, boot, lines, is_explained, settings.is_audited) {
+            match replay_on_boot::<Brand>(alloc, boot, lines, is_explained, settings.is_audited) {
                 Ok(answers) => Ok(answers),
                 Err(error) => Err(ProgramFault::NoMemory(error)),
             }

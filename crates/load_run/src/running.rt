@@ -1,14 +1,14 @@
 //! The life of a boot in the program: it replays the lines, and ends.
 
-ghost use Rattle.std.specs.Prelude.{◌≡◌, ◌++◌, All, IfOk, MatchResult, length};
+ghost use Rattle.std.specs.Prelude.{◌≡◌, ◌++◌, All, IfOk, length};
 ghost use Rattle.mem_system.specs.Boots.{IsSizedAs};
-ghost use Rattle.script_replay.specs.History.{Replays};
-ghost use Rattle.script_replay.specs.Lines.{StopsAt, standing};
+ghost use Rattle.script_replay.specs.History.{ReplaysOrStops};
+ghost use Rattle.script_replay.specs.Lines.{standing};
 ghost use Rattle.script_replay.specs.Ranges.{LineIsThere};
 ghost use Rattle.load_run.specs.Answers.{AreAnswers};
 ghost use Rattle.load_run.specs.Ending.{EndsAfter, end_text};
 
-use crate::run_end::{Ended, finish, write_end};
+use crate::boot_end::{Ended, end_boot, write_end};
 use cpu_part::{BootName, Cpu, Tables};
 use mem_system::{Boot, Locked};
 use script_lines::line::Line;
@@ -16,8 +16,9 @@ use script_replay::replay;
 use std::alloc::{AllocError, Global};
 
 /// Replays the lines on a boot under a name of its tables, and ends it; what they are answered, and what is told of
-/// kills and of the end where that is asked for. `AllocError` comes where memory is wanting: the boot has ended then too.
-pub fn run<N: BootName>(
+/// kills and of the end where that is asked for. `AllocError` comes where memory is wanting: the boot has ended then
+/// too.
+pub fn replay_on_boot<N: BootName>(
     alloc: Global,
     boot: Boot,
     lines: &[Line<'_>],
@@ -30,29 +31,26 @@ pub fn run<N: BootName>(
     ensures { IfOk result (λ text. AreAnswers boot.sizes is_explained is_audited lines.now text.items) }
 {
     let (tables, locked, cpus) = boot.into_parts::<N>(alloc)?;
-    let (answers, ended) = replay_and_end(alloc, tables, locked, cpus, lines, is_explained);
+    let (answers, ended) = replay_and_end_boot(alloc, locked, tables, cpus, lines, is_explained);
     tell_end(alloc, answers?, ended, is_audited)
 }
 
 // Replays the lines, and ends the boot, also where memory was wanting for what they are answered.
-fn replay_and_end<N: BootName>(
+fn replay_and_end_boot<N: BootName>(
     alloc: Global,
-    tables: Tables<N>,
     mut locked: Locked<N>,
+    tables: Tables<N>,
     mut cpus: Vec<Cpu<N>>,
     lines: &[Line<'_>],
     is_explained: bool,
 ) -> (Result<Vec<u8>, AllocError>, Ended)
     requires count { length cpus.items ≡ N.frames.cpus }
     requires lines { All (LineIsThere N.frames.frames N.frames.cpus) lines.now }
-    ensures { EndsAfter N.frames N.stocks (λ end. MatchResult result.0
-        (λ answers. Replays N.frames N.stocks is_explained (standing locked cpus.items) lines.now answers.items end)
-        (λ _. StopsAt lines.now (λ served text.
-        Replays N.frames N.stocks is_explained (standing locked cpus.items) served text end)))
-        result.1.held result.1.audit }
+    ensures { EndsAfter N.frames N.stocks (ReplaysOrStops N.frames N.stocks is_explained
+        (standing locked cpus.items) lines.now result.0) result.1 }
 {
     let answers = replay(alloc, &mut locked, &tables, &mut cpus, lines, is_explained);
-    let ended = finish(tables, locked, cpus);
+    let ended = end_boot(locked, tables, cpus);
     (answers, ended)
 }
 
@@ -64,7 +62,7 @@ pub fn tell_end(
     ended: Ended,
     is_audited: bool,
 ) -> Result<Vec<u8>, AllocError>
-    ensures { IfOk result (λ text. text.items ≡ answers.items ++ end_text is_audited ended.held ended.audit) }
+    ensures { IfOk result (λ text. text.items ≡ answers.items ++ end_text is_audited ended) }
 {
     if is_audited {
         let mut told = String::new(alloc);

@@ -1,10 +1,9 @@
 -- The answers of the early lines and those of the later, joined. Serves `run_by_threads`.
-use Rattle.std.proofs.Common.{◌≡◌, ◌∙◌, ℕ, Bool, false, List, [], ◌++◌, All, Result, Ok, IfOk, length, take, drop, refl, sym, subst}
+use Rattle.std.proofs.Common.{◌≡◌, ◌∙◌, ℕ, Bool, false, List, [], ◌++◌, All, length, take, drop, refl, sym, subst}
 use Rattle.std.proofs.lemmas.List.Elements.{All-take, All-drop}
 use Rattle.frame_word.specs.Seats.{KnownTable}
 use Rattle.stock_word.specs.Stock.{Words}
 use Rattle.zone_sizes.specs.declared.config.Config.{Config}
-use Rattle.mem_system.specs.declared.audit.Audit.{Audit}
 use Rattle.mem_system.specs.Boots.{IsQuiet, IsSizedAs}
 use Rattle.script_lines.specs.declared.line.Line.{Line}
 use Rattle.script_replay.specs.History.{TellsHistory}
@@ -12,13 +11,10 @@ use Rattle.script_replay.specs.Lines.{ServesAll, Standing}
 use Rattle.script_replay.specs.Ranges.{LineIsThere}
 use Rattle.script_threads.specs.Each.{TellsEach, workers_from}
 use Rattle.script_threads.specs.Runs.{lines_before_go}
+use Rattle.load_run.specs.declared.boot_end.Ended.{Ended}
 use Rattle.load_run.specs.Answers.{StandsAtFirst}
 use Rattle.load_run.specs.Ending.{EndsAfter, end_text}
 use Rattle.load_threads.specs.Answers.{AreThreadAnswers}
-
--- what is so where all went well
-pub ok_at : {V E : Type 0} (r : Result V E) (v : V) (P : V → Type 0) → r ≡ Ok v → IfOk r P → P v
-ok_at {V = V} {E = E} r v P is holds = subst (λ (x : Result V E). IfOk x P) is holds
 
 -- all lines name what is there, also as the tables and the parts say it
 there : (frames cpus known parts : ℕ) (lines : List Line) → frames ≡ known → cpus ≡ parts → All (LineIsThere frames cpus) lines
@@ -41,13 +37,13 @@ later_there sizes t w n lines later sized is all =
 
 -- the early lines were served from the boot on, the later ones told by processor, and the boot ended: these are the answers
 pub are_answers : (sizes : Config) (is_audited : Bool) (t : KnownTable) (w : Words) (lines first_lines other_lines : List Line)
-    (start at_go : Standing) (early later text : List ℕ) (held : ℕ) (audit : Audit) → StandsAtFirst sizes t w start
+    (start at_go : Standing) (early later text : List ℕ) (told : Ended) → StandsAtFirst sizes t w start
     → first_lines ≡ take (lines_before_go lines) lines → other_lines ≡ drop (lines_before_go lines) lines
     → ServesAll t false start first_lines early at_go → TellsHistory t false (Unit {0}) [] start first_lines early at_go
     → TellsEach t w (workers_from 1 at_go.cpus other_lines) later
-    → EndsAfter t w (λ end. IsQuiet t w end.locked × (length end.cpus ≡ t.cpus)) held audit
-    → text ≡ (early ++ later) ++ end_text is_audited held audit → AreThreadAnswers sizes is_audited lines text
-are_answers sizes is_audited t w lines first_lines other_lines start at_go early later text held audit first is_first is_other served history tells
+    → EndsAfter t w (λ end. IsQuiet t w end.locked × (length end.cpus ≡ t.cpus)) told
+    → text ≡ (early ++ later) ++ end_text is_audited told → AreThreadAnswers sizes is_audited lines text
+are_answers sizes is_audited t w lines first_lines other_lines start at_go early later text told first is_first is_other served history tells
     ended is = record {
       frames = t;
       stocks = w;
@@ -56,13 +52,13 @@ are_answers sizes is_audited t w lines first_lines other_lines start at_go early
       end = ended.before;
       early = early;
       later = later;
-      ending = end_text is_audited held audit;
+      ending = end_text is_audited told;
       first = first;
       served = subst (λ (l : List Line). ServesAll t false start l early at_go) is_first served;
       history = subst (λ (l : List Line). TellsHistory t false (Unit {0}) [] start l early at_go) is_first history;
       tells = subst (λ (l : List Line). TellsEach t w (workers_from 1 at_go.cpus l) later) is_other tells;
       quiet = ended.is_before.0;
       count = ended.is_before.1;
-      ends = record { held = held; audit = audit; ends = ended.ends; text_is = refl };
+      ends = record { ended = told; ends = ended.ends; text_is = refl };
       text_is = is;
     }

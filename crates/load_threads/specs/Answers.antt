@@ -16,11 +16,11 @@ use Rattle.load_options.specs.declared.settings.Settings.{Settings}
 use Rattle.load_run.specs.Answers.{StandsAtFirst}
 use Rattle.load_run.specs.Ending.{TellsEnd}
 
--- What a boot with these sizes answers to the lines. Those before `go` are served one after the other from the boot on,
--- and all their steps together are one run, which tells of each line that the promise is kept after it. Then each
+-- What a boot with these sizes answers to the lines. Those before `go` are served one after the other from the boot
+-- on, and all their steps together are one run, which tells of each line that the promise is kept after it. Then each
 -- processor is answered its own among the lines from `go` on, from its part as the lines before left it. What stands
--- behind the lock and at the parts after that, no clause says, but that no visit is open and that there are as many parts;
--- from there the boot ends
+-- behind the lock and at the parts after that, no clause says, but that no visit is open and that there are as many
+-- parts; from there the boot ends
 pub record AreThreadAnswers (sizes : Config) (is_audited : Bool) (lines : List Line) (text : List ℕ) : Type 0 where
   pub frames : KnownTable
   pub stocks : Words
@@ -49,7 +49,8 @@ pub record IsAnsweredByThreads (asked : Option Settings) (input text : List ℕ)
   pub script : IsScript settings.sizes input lines
   pub answers : AreThreadAnswers settings.sizes settings.is_audited lines text
 
--- and a writer that held the bytes `before`, where they are known, was given all of its answers
+-- the settings that are asked for have answers to the input, and a writer that held the bytes `before`, where they are
+-- known, was given all of them
 pub record IsRun (asked : Option Settings) (input : List ℕ) (before after : Option (List ℕ)) : Type 0 where
   pub text : List ℕ
   pub answered : IsAnsweredByThreads asked input text

@@ -20,12 +20,12 @@ LeavesThreadAnswers asked input Output before after =
     (text : List ℕ) × IsAnsweredByThreads asked input text × AppendsBeginning before after text
 LeavesThreadAnswers asked input fault before after = Keeps before after
 
--- the program failed at its work: of the answers a beginning was written where the output failed, else nothing; and that
--- it failed was told, as far as the writer took that
-pub record FailsAtRun (asked : Option Settings) (input : List ℕ) (output_before output_after : Option (List ℕ))
-    (before after : Option (List ℕ)) : Type 0 where
+-- the program failed at its work: of the answers a beginning was written where the output failed, else nothing; and
+-- that it failed was told, as far as the writer took that
+pub record FailsAtRun (asked : Option Settings) (input : List ℕ)
+    (output_before output_after faults_before faults_after : Option (List ℕ)) : Type 0 where
   pub fault : ProgramFault
   pub is_failure : status_of fault ≡ 1
   pub cause : HasRunCause asked input fault
   pub left : LeavesThreadAnswers asked input fault output_before output_after
-  pub told : AppendsBeginning before after (fault_text fault)
+  pub told : AppendsBeginning faults_before faults_after (fault_text fault)

@@ -14,8 +14,8 @@ use crate::running::run_by_threads;
 use load_options::command_line::parse_run_words;
 use load_options::settings::Settings;
 use load_run::fault::ProgramFault;
+use load_run::fault_lines::tell_fault;
 use load_run::program::{lines_of, read_script, write_answers};
-use load_run::telling::tell;
 use mem_system::{BootFault, boot};
 use script_lines::line::Line;
 use std::alloc::{AllocError, Global};
@@ -25,8 +25,8 @@ use std::marker::Brand;
 use std::sync::Wait;
 use std::thread::Threads;
 
-/// Runs the program's `run`: the words that follow its name, the script, the answers and the faults. It gives the status
-/// to end with.
+/// Runs the program's `run`: the words that follow its name, the script, the answers and the faults. It gives the
+/// status to end with.
 ///
 /// All is as with `drive` of `load_run`, and in the same order, but for the words, which name `run`, and for the lines:
 /// those before `go` are replayed, and those from it on served by a thread for each processor. A thread that can't be
@@ -54,9 +54,9 @@ pub fn drive_run<R: Threads + Wait + Sync, S: AsStr, I: Read, O: Write, F: Write
     match answers_to(rt, alloc, words, input) {
         Ok(answers) => match write_answers(output, &answers) {
             Ok(()) => 0,
-            Err(unwritten) => tell(faults, &unwritten),
+            Err(unwritten) => tell_fault(faults, &unwritten),
         },
-        Err(fault) => tell(faults, &fault),
+        Err(fault) => tell_fault(faults, &fault),
     }
 }
 

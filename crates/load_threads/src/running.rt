@@ -1,5 +1,5 @@
-//! The life of a boot under `run`: the lines before `go` one after the other, the others by a thread for each processor,
-//! and the end.
+//! The life of a boot under `run`: the lines before `go` one after the other, the others by a thread for each
+//! processor, and the end.
 
 ghost use Rattle.std.specs.Prelude.{◌≡◌, ◌<◌, ◌^◌, All, IfOk, length};
 ghost use Rattle.mem_system.specs.Boots.{IsQuiet, IsSizedAs};
@@ -9,7 +9,7 @@ ghost use Rattle.load_run.specs.Ending.{EndsAfter};
 ghost use Rattle.load_threads.specs.Answers.{AreThreadAnswers};
 
 use cpu_part::{BootName, Cpu, Tables};
-use load_run::run_end::{Ended, finish};
+use load_run::boot_end::{Ended, end_boot};
 use load_run::running::tell_end;
 use mem_system::{Boot, Locked, NoGate, System};
 use script_lines::line::Line;
@@ -39,7 +39,7 @@ pub fn run_by_threads<N: BootName + Send + Sync, R: Threads + Wait + Sync>(
     let (early, later) = lines.split_at(before_go(lines));
     let (tables, mut locked, mut cpus) = boot.into_parts::<N>(alloc)?;
     let first = replay(alloc, &mut locked, &tables, &mut cpus, early, false);
-    let (told, ended) = serve_and_end(rt, alloc, tables, locked, cpus, later, first.is_ok());
+    let (told, ended) = serve_and_end(rt, alloc, locked, tables, cpus, later, first.is_ok());
     let mut answers = first?;
     answers.extend_from_slice(&told?)?;
     tell_end(alloc, answers, ended, is_audited)
@@ -49,8 +49,8 @@ pub fn run_by_threads<N: BootName + Send + Sync, R: Threads + Wait + Sync>(
 fn serve_and_end<N: BootName + Send + Sync, R: Threads + Wait + Sync>(
     rt: &R,
     alloc: Global,
-    tables: Tables<N>,
     locked: Locked<N>,
+    tables: Tables<N>,
     mut cpus: Vec<Cpu<N>>,
     lines: &[Line<'_>],
     has_memory: bool,
@@ -60,13 +60,13 @@ fn serve_and_end<N: BootName + Send + Sync, R: Threads + Wait + Sync>(
     ensures told { IfOk result.0 (λ text.
         TellsEach N.frames N.stocks (workers_from 1 cpus.items lines.now) text.items) }
     ensures ends { EndsAfter N.frames N.stocks (λ end.
-        IsQuiet N.frames N.stocks end.locked × (length end.cpus ≡ N.frames.cpus)) result.1.held result.1.audit }
+        IsQuiet N.frames N.stocks end.locked × (length end.cpus ≡ N.frames.cpus)) result.1 }
 {
     locked.see_quiet(); // For the clauses: there are few processors.
     let system = System::of(locked, tables);
     let told = serve_later(rt, alloc, &system, &mut cpus, lines, has_memory);
     let (locked, tables) = system.into_parts();
-    let ended = finish(tables, locked, cpus);
+    let ended = end_boot(locked, tables, cpus);
     (told, ended)
 }
 

@@ -3,8 +3,8 @@
 
 use load_options::command_line::words;
 use load_run::fault::ProgramFault;
+use load_run::fault_lines::tell_fault;
 use load_run::program::drive;
-use load_run::telling::tell;
 use load_threads::program::drive_run;
 use std::process::ExitCode;
 
@@ -27,7 +27,7 @@ fn main(rt: HostRuntime) -> ExitCode {
                 drive(rt.alloc(), &words, &mut input, &mut output, &mut faults)
             }
         }
-        Err(fault) => tell(&mut faults, &ProgramFault::Words(fault)),
+        Err(fault) => tell_fault(&mut faults, &ProgramFault::Words(fault)),
     };
     ExitCode::from(status)
 }

@@ -274,20 +274,22 @@ module _ (t : KnownTable) (w : Words) (run : Run) (locked : KnownLocked) (cpus :
 
   frame_follows : (path : Bor (List ℕ)) (said : Answer) (after : Holder) (is : AnswersFrame t path before said after) → AllShut after.locked.machine →
       Decided (frame_steps t path before said after is) → Follows (frame_steps t path before said after is) after
-  frame_follows path (answer.Fast (Got f)) after is shut decided = got_follows is.0 f after is.2 is.3 decided
-  frame_follows path (answer.Served reply) after (inl none) shut decided = unseen_follows after none.2 (unseen_same t m c after.cpu none.3)
+  frame_follows path (answer.Fast (Got f)) after is shut decided = got_follows is.0.group f after is.0.got is.1 decided
+  frame_follows path (answer.Served reply) after (inl none) shut decided =
+      unseen_follows after none.same_locked (unseen_same t m c after.cpu none.same_cpu)
   frame_follows path (answer.Served reply) after (inr served) shut decided =
-      served_follows served.0 (fast_unseen t m c served.1.group served.1.fast served.0 served.1.answers served.1.none) (cmd.Alloc path 0) reply after served.2
+      let none = served.none in
+      served_follows served.seen (fast_unseen t m c none.group none.fast served.seen none.answers none.none) (cmd.Alloc path 0) reply after served.served
       shut decided
   frame_follows path said after is shut decided = absurd is
 
   release_follows : (f : ℕ) (said : Answer) (after : Holder) (is : AnswersRelease t f before said after) → AllShut after.locked.machine →
       Decided (release_answer_steps t f before said after is) → Follows (release_answer_steps t f before said after is) after
   release_follows f answer.Listed after is shut decided =
-      step_follows (step.Credit f) says.Back after is.2 (ap (λ (x : KnownCpu). x.number) is.1.5) refl
-      (fast_calls_lead.listed t w run m cpus k c after.cpu this_part f is.0 is.1 decided) decided
+      step_follows (step.Credit f) says.Back after is.1 (ap (λ (x : KnownCpu). x.number) is.0.listed.5) refl
+      (fast_calls_lead.listed t w run m cpus k c after.cpu this_part f is.0.fresh is.0.listed decided) decided
   release_follows f (answer.Served reply) after is shut decided =
-      served_follows is.0 (list_unseen t m c f is.0 is.1) (cmd.Release f) reply after is.2 shut decided
+      served_follows is.seen (list_unseen t m c f is.seen is.not_listed) (cmd.Release f) reply after is.served shut decided
   release_follows f said after is shut decided = absurd is
 
   settle_follows : (said : Answer) (after : Holder) (is : AnswersSettle t before said after) → AllShut after.locked.machine →

@@ -1,18 +1,15 @@
 -- The lines that went well so far, and the history that they tell. Serves `serve_line`, `replay`.
-use Rattle.std.proofs.Common.{Bool, Result, IfOk, ◌≡◌, ℕ, ◌+◌, ◌-◌, ◌<◌, ◌≤◌, Some, None, List, [], ◌∷◌, ◌++◌, length, take, get_or, append_assoc, append-nil, ap, refl, sym, ◌∙◌, subst, arith, inl, inr}
+use Rattle.std.proofs.Common.{Bool, Result, IfOk, ◌≡◌, ℕ, ◌+◌, ◌-◌, ◌<◌, ◌≤◌, Some, None, List, [], ◌∷◌, ◌++◌, length, take, get_or, append-nil, ap, refl, sym, ◌∙◌, subst, arith, inl, inr}
 use Rattle.std.specs.Prelude.{slice_set}
 use Rattle.std.specs.List.{slice_get}
 use Rattle.std.proofs.lemmas.Bool.{cases_eq}
-use Rattle.std.proofs.lemmas.List.{take_more, take_all}
 use Rattle.std.proofs.lemmas.Option.{slice_get_within, slice_get_read, none-some}
 use Rattle.frame_word.specs.Seats.{KnownTable}
 use Rattle.stock_word.specs.declared.view.Stock.{Stock}
 use Rattle.stock_word.specs.declared.view.Stock.TheVariants as stock_is
 use Rattle.stock_word.specs.Stock.{Words, group_of}
-use Rattle.group_charge.specs.Charges.{AreCharges}
 use Rattle.cpu_part.specs.Cpus.{KnownCpu, IsTied}
 use Rattle.step_rules.specs.After.{Run}
-use Rattle.mem_machine.specs.Machines.{IsConsistent}
 use Rattle.mem_machine.specs.Telling.{TellsRun}
 use Rattle.mem_history.specs.Whole.{ShowsAll}
 use Rattle.mem_history.specs.Kept.{AreTied, IsTiedPart}
@@ -24,10 +21,11 @@ use Rattle.script_lines.specs.declared.line.Command.{Command}
 use Rattle.script_lines.specs.declared.line.Line.{Line}
 use Rattle.script_lines.specs.declared.line.Line.TheVariants.{Go, At}
 use Rattle.script_replay.specs.Answers.{AnswersText}
-use Rattle.script_replay.specs.Lines.{Standing, AtPart, ServesLine, ServesAll, StopsAt}
-use Rattle.script_replay.specs.History.{line_steps, LineIsDecided, TellsHistory, Replays, GoesWell}
+use Rattle.script_replay.specs.Lines.{Standing, AtPart, InOrder, ServesLine, ServesAll, StopsAt}
+use Rattle.script_replay.specs.History.{line_steps, LineIsDecided, TellsHistory, Replays, GoesWell, IsWell}
 use Rattle.script_replay.specs.Ranges.{LineIsThere}
 use Rattle.script_replay.specs.Works.{work_of}
+use Rattle.script_replay.proofs.InOrder.{in_order_line}
 use Rattle.script_replay.proofs.InRange.{work_in_range}
 use Rattle.script_replay.proofs.Following.{work_follows}
 
@@ -53,10 +51,10 @@ pub part_goes : (t : KnownTable) (w : Words) (is_explained : Bool) (before after
     {number : ℕ} {U E : Type 0} (r : Result U E) (old new : List ℕ) → line ≡ At number processor command → LineIsThere t.frames (length cpus) line →
     slice_get cpus (processor - 1) ≡ Some c →
     (said : List ℕ) × AnswersText t is_explained command (holder before c) said (holder after d) × IfOk r (λ _. new ≡ old ++ said) →
-    IsQuiet t w after → IsConsistent t w after.machine → AreCharges after.machine.ledger → IsTied t w d → (d.stock.view.last ≡ stock_is.NoGroup → d.fresh ≡ []) →
+    IsWell t w after → IsTied t w d → (d.stock.view.last ≡ stock_is.NoGroup → d.fresh ≡ []) →
     (text : List ℕ) × GoesWell t w is_explained (record { locked = before; cpus = cpus }) line text
     (record { locked = after; cpus = slice_set cpus (processor - 1) d }) × IfOk r (λ _. new ≡ old ++ text)
-part_goes t w is_explained before after cpus line processor command c d r old new is there is_part answered quiet good charges tied none = (
+part_goes t w is_explained before after cpus line processor command c d r old new is there is_part answered well tied none = (
   answered.0,
   record {
     there = there;
@@ -64,9 +62,7 @@ part_goes t w is_explained before after cpus line processor command c d r old ne
         (record { locked = after; cpus = slice_set cpus (processor - 1) d })) (sym is)
         (record { part = c; left = d; is_part = is_part; answers = answered.1; cpus = refl });
     stands = record {
-      quiet = quiet;
-      consistent = good;
-      charges = charges;
+      well = well;
       tied = λ all. tied_still t w cpus (processor - 1) c d is_part tied none all;
     };
   },
@@ -78,48 +74,31 @@ pub part_read : (t : KnownTable) (w : Words) (is_explained : Bool) (before after
     {number : ℕ} {U E : Type 0} (r : Result U E) (old new : List ℕ) → line ≡ At number processor command → LineIsThere t.frames (length cpus) line →
     c ≡ get_or cpus (processor - 1) c →
     (said : List ℕ) × AnswersText t is_explained command (holder before c) said (holder after d) × IfOk r (λ _. new ≡ old ++ said) →
-    IsQuiet t w after → IsConsistent t w after.machine → AreCharges after.machine.ledger → IsTied t w d → (d.stock.view.last ≡ stock_is.NoGroup → d.fresh ≡ []) →
+    IsWell t w after → IsTied t w d → (d.stock.view.last ≡ stock_is.NoGroup → d.fresh ≡ []) →
     (text : List ℕ) × GoesWell t w is_explained (record { locked = before; cpus = cpus }) line text
     (record { locked = after; cpus = slice_set cpus (processor - 1) d }) × IfOk r (λ _. new ≡ old ++ text)
-part_read t w is_explained before after cpus line processor command c d {number = number} r old new is there read answered quiet good charges tied none =
+part_read t w is_explained before after cpus line processor command c d {number = number} r old new is there read answered well tied none =
     let named : LineIsThere t.frames (length cpus) (At number processor command) = subst (LineIsThere t.frames (length cpus)) is there in
     let low = named.low in
     let high = named.high in
     part_goes t w is_explained before after cpus line processor command c d r old new is there
-    (slice_get_read cpus (length cpus) (processor - 1) c refl (omega arith) read) answered quiet good charges tied none
+    (slice_get_read cpus (length cpus) (processor - 1) c refl (omega arith) read) answered well tied none
 
 -- ---- the lines so far
 
 abbrev pub GoesAll : KnownTable → Words → Bool → Standing → List Line → List ℕ → Standing → Type 0
-GoesAll t w is_explained s [] text e = (text ≡ []) × (e ≡ s)
-GoesAll t w is_explained s (line ∷ lines) text e =
-    (first : List ℕ) × (rest : List ℕ) × (mid : Standing) × GoesWell t w is_explained s line first mid × GoesAll t w is_explained mid lines rest e × (text ≡ first ++ rest)
-
-goes_more : (t : KnownTable) (w : Words) (is_explained : Bool) (s m e : Standing) (lines : List Line) (line : Line) (text more : List ℕ) → GoesAll t w is_explained s lines text m
-    → GoesWell t w is_explained m line more e → GoesAll t w is_explained s (lines ++ line ∷ []) (text ++ more) e
-goes_more t w is_explained s m e [] line text more all one =
-    let at : GoesWell t w is_explained s line more e = subst (λ (x : Standing). GoesWell t w is_explained x line more e) all.1 one in
-    (more, [], e, at, (refl, refl), ap (λ l. l ++ more) all.0 ∙ sym (append-nil more))
-goes_more t w is_explained s m e (l ∷ lines) line text more all one =
-    (all.0, all.1 ++ more, all.2, all.3, goes_more t w is_explained all.2 m e lines line all.1 more all.4 one, ap (λ x. x ++ more) all.5 ∙ append_assoc all.0 all.1 more)
-
-pub goes_line : (t : KnownTable) (w : Words) (is_explained : Bool) (s m e : Standing) (lines : List Line) (i : ℕ) (default : Line) (text new : List ℕ)
-    → i < length lines → GoesAll t w is_explained s (take i lines) text m
-    → (more : List ℕ) × GoesWell t w is_explained m (get_or lines i default) more e × (new ≡ text ++ more)
-    → GoesAll t w is_explained s (take (i + 1) lines) new e
-goes_line t w is_explained s m e lines i default text new inside all one =
-    let next : take (i + 1) lines ≡ take i lines ++ get_or lines i default ∷ [] = take_more lines i default inside in
-    rw (next, one.2) (goes_more t w is_explained s m e (take i lines) (get_or lines i default) text one.0 all one.1)
+GoesAll t w is_explained s lines text e = InOrder (GoesWell t w is_explained) s lines text e
 
 pub goes_served : (t : KnownTable) (w : Words) (is_explained : Bool) (s e : Standing) (lines : List Line) (text : List ℕ) → GoesAll t w is_explained s lines text e → ServesAll t is_explained s lines text e
 goes_served t w is_explained s e [] text all = all
-goes_served t w is_explained s e (line ∷ lines) text all = (all.0, all.1, all.2, all.3.serves, goes_served t w is_explained all.2 e lines all.1 all.4, all.5)
-
--- the lines are at their end
-pub goes_end : (t : KnownTable) (w : Words) (is_explained : Bool) (s e : Standing) (lines : List Line) (i : ℕ) (text items : List ℕ) → length lines ≤ i →
-    GoesAll t w is_explained s (take i lines) text e → items ≡ text → GoesAll t w is_explained s lines items e
-goes_end t w is_explained s e lines i text items past all is =
-    subst (λ (x : List Line × List ℕ). GoesAll t w is_explained s x.0 x.1 e) (λ j. (take_all i lines past j, sym is j)) all
+goes_served t w is_explained s e (line ∷ lines) text all = record {
+  first = all.first;
+  rest = all.rest;
+  between = all.between;
+  serves_first = all.serves_first.serves;
+  serves_rest = goes_served t w is_explained all.between e lines all.rest all.serves_rest;
+  text_is = all.text_is;
+}
 
 -- ---- what they tell
 
@@ -142,31 +121,32 @@ line_follows t w is_explained run s e (At number processor command) text shows t
     × (TellsRun t run s.locked.machine.ledger
     → TellsRun t (run ++ line_steps t is_explained s (At number processor command) text e goes.serves) e.locked.machine.ledger)) (sym is.cpus)
     (work_follows t w run s.locked s.cpus (processor - 1) is.part shows is.is_part tied is_explained (work_of command) text (holder e.locked is.left)
-    (work_in_range t.frames command goes.there.names) is.answers goes.stands.quiet.shut decided)
+    (work_in_range t.frames command goes.there.names) is.answers goes.stands.well.quiet.shut decided)
 
 pub goes_history : (t : KnownTable) (w : Words) (is_explained : Bool) (decided : Type 0) (run : Run) (s e : Standing) (lines : List Line) (text : List ℕ) →
     (decided → ShowsAll t run s.locked.machine s.cpus) → AreTied t w s.cpus → GoesAll t w is_explained s lines text e → TellsHistory t is_explained decided run s lines text e
 goes_history t w is_explained decided run s e [] text shows tied all = all
 goes_history t w is_explained decided run s e (line ∷ lines) text shows tied all =
-    let goes = all.3 in
-    let mid = all.2 in
-    let next : Run = run ++ line_steps t is_explained s line all.0 mid goes.serves in
-    let follows : decided → LineIsDecided t is_explained s line all.0 mid goes.serves → Follows t run s next mid =
-    λ so_far here. line_follows t w is_explained run s mid line all.0 (shows so_far) tied goes here in
-    let tied_then : AreTied t w mid.cpus = goes.stands.tied tied in (
-      all.0,
-      all.1,
-      mid,
-      goes.serves,
-      λ so_far here. record {
+    let goes = all.serves_first in
+    let mid = all.between in
+    let next : Run = run ++ line_steps t is_explained s line all.first mid goes.serves in
+    let follows : decided → LineIsDecided t is_explained s line all.first mid goes.serves → Follows t run s next mid =
+    λ so_far here. line_follows t w is_explained run s mid line all.first (shows so_far) tied goes here in
+    let tied_then : AreTied t w mid.cpus = goes.stands.tied tied in record {
+      first = all.first;
+      rest = all.rest;
+      between = mid;
+      serves_first = goes.serves;
+      kept = λ so_far here. record {
         legal = (follows so_far here).0.legal;
         tells = (follows so_far here).1;
-        promise = the_whole_is_promised t w next mid.locked.machine mid.cpus (follows so_far here).0 goes.stands.consistent goes.stands.charges tied_then
-            (some_cpu t w mid.locked goes.stands.quiet);
-      },
-      goes_history t w is_explained (decided × LineIsDecided t is_explained s line all.0 mid goes.serves) next mid e lines all.1 (λ both. (follows both.0 both.1).0) tied_then all.4,
-      all.5,
-    )
+        promise = the_whole_is_promised t w next mid.locked.machine mid.cpus (follows so_far here).0 goes.stands.well.consistent goes.stands.well.charges tied_then
+            (some_cpu t w mid.locked goes.stands.well.quiet);
+      };
+      tells = goes_history t w is_explained (decided × LineIsDecided t is_explained s line all.first mid goes.serves) next mid e lines all.rest
+          (λ both. (follows both.0 both.1).0) tied_then all.serves_rest;
+      text_is = all.text_is;
+    }
 
 -- memory was wanting for the text of the next line
 pub goes_stop : (t : KnownTable) (w : Words) (is_explained : Bool) (s m e : Standing) (lines : List Line) (i : ℕ) (default : Line) (text more : List ℕ)
@@ -175,7 +155,7 @@ pub goes_stop : (t : KnownTable) (w : Words) (is_explained : Bool) (s m e : Stan
 goes_stop t w is_explained s m e lines i default text more inside all one =
     let first = take (i + 1) lines in
     let said = text ++ more in
-    let goes : GoesAll t w is_explained s first said e = goes_line t w is_explained s m e lines i default text said inside all (more, one, refl) in
+    let goes : GoesAll t w is_explained s first said e = in_order_line (GoesWell t w is_explained) s m e lines i default text said inside all (more, one, refl) in
     record {
       number = i + 1;
       low = omega arith;

@@ -1,4 +1,5 @@
 pub mod Fronts
+pub mod InOrder
 pub mod InRange
 pub mod Going
 pub mod Telling

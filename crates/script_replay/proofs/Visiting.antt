@@ -1,8 +1,7 @@
 -- What lines were answered by visits. Serves `visit_answers`, `visit_replay`.
-use Rattle.std.proofs.Common.{Result, IfOk, ◌≡◌, ℕ, ◌+◌, ◌-◌, ◌<◌, ◌≤◌, List, [], ◌∷◌, ◌++◌, length, take, get_or, append_assoc, append-nil, ap, refl, sym, ◌∙◌, subst, arith, inr}
+use Rattle.std.proofs.Common.{Result, IfOk, ◌≡◌, ℕ, ◌+◌, ◌-◌, ◌<◌, ◌≤◌, List, [], ◌∷◌, ◌++◌, length, take, get_or, refl, sym, subst, arith, inr}
 use Rattle.std.specs.Prelude.{slice_set}
 use Rattle.std.specs.Borrow.{Bor}
-use Rattle.std.proofs.lemmas.List.{take_more, take_all}
 use Rattle.std.proofs.lemmas.Option.{slice_get_read}
 use Rattle.frame_word.specs.Seats.{KnownTable}
 use Rattle.stock_word.specs.Stock.{Words}
@@ -19,6 +18,7 @@ use Rattle.script_lines.specs.declared.line.Line.TheVariants.{At}
 use Rattle.script_replay.specs.Answers.{CanNotList, GetsNoneFast}
 use Rattle.script_replay.specs.Visits.{RepliesVisited, VisitsRelease, VisitsFrame, VisitsText, VisitsLine, VisitsAll}
 use Rattle.script_replay.specs.Lines.{StopsAt}
+use Rattle.script_replay.proofs.InOrder.{in_order_line}
 use Rattle.script_replay.specs.Ranges.{LineIsThere}
 
 -- ---- one visit
@@ -30,13 +30,14 @@ settled_done t w c d reply is = subst (λ (r : Reply). IsVisited t w cmd.Settle 
 -- where there is no frame for the group, the command is served by a visit
 pub visited_after : (t : KnownTable) (w : Words) (path : Bor (List ℕ)) (l : KnownLocked) (c seen : KnownCpu) (said : Answer) (d : KnownCpu) →
     IsQuiet t w l → GetsNoneFast path.now (holder l c) seen → RepliesVisited t w (cmd.Alloc path 0) seen said d → VisitsFrame t w path c said d
-visited_after t w path l c seen (Served reply) d quiet none served = inr (seen, l, quiet, none, served)
+visited_after t w path l c seen (Served reply) d quiet none served =
+    inr (record { seen = seen; none = record { locked = l; quiet = quiet; so = none }; visited = served })
 visited_after t w path l c seen said d quiet none served = absurd served
 
 -- where the frame can't be listed again, the command is served by a visit
 pub released_after : (t : KnownTable) (w : Words) (f : ℕ) (c seen : KnownCpu) (said : Answer) (d : KnownCpu) →
     CanNotList f c seen → RepliesVisited t w (cmd.Release f) seen said d → VisitsRelease t w f c said d
-released_after t w f c seen (Served reply) d can_not served = (seen, can_not, served)
+released_after t w f c seen (Served reply) d can_not served = record { seen = seen; not_listed = can_not; visited = served }
 released_after t w f c seen said d can_not served = absurd served
 
 -- ---- one line
@@ -67,24 +68,6 @@ part_visited t w cpus line processor command c d {number = number} r old new is 
       answered.2,
     )
 
--- ---- the lines so far
-
-visits_more : (t : KnownTable) (w : Words) (s m e : List KnownCpu) (lines : List Line) (line : Line) (text more : List ℕ) → VisitsAll t w s lines text m
-    → VisitsLine t w m line more e → VisitsAll t w s (lines ++ line ∷ []) (text ++ more) e
-visits_more t w s m e [] line text more all one =
-    let at : VisitsLine t w s line more e = subst (λ (x : List KnownCpu). VisitsLine t w x line more e) all.1 one in
-    (more, [], e, at, (refl, refl), ap (λ l. l ++ more) all.0 ∙ sym (append-nil more))
-visits_more t w s m e (l ∷ lines) line text more all one =
-    (all.0, all.1 ++ more, all.2, all.3, visits_more t w all.2 m e lines line all.1 more all.4 one, ap (λ x. x ++ more) all.5 ∙ append_assoc all.0 all.1 more)
-
-pub visits_line : (t : KnownTable) (w : Words) (s m e : List KnownCpu) (lines : List Line) (i : ℕ) (default : Line) (text new : List ℕ)
-    → i < length lines → VisitsAll t w s (take i lines) text m
-    → (more : List ℕ) × VisitsLine t w m (get_or lines i default) more e × (new ≡ text ++ more)
-    → VisitsAll t w s (take (i + 1) lines) new e
-visits_line t w s m e lines i default text new inside all one =
-    let next : take (i + 1) lines ≡ take i lines ++ get_or lines i default ∷ [] = take_more lines i default inside in
-    rw (next, one.2) (visits_more t w s m e (take i lines) (get_or lines i default) text one.0 all one.1)
-
 -- memory was wanting for the text of the next line
 pub visits_stop : (t : KnownTable) (w : Words) (s m e : List KnownCpu) (lines : List Line) (i : ℕ) (default : Line) (text more : List ℕ)
     → i < length lines → VisitsAll t w s (take i lines) text m → VisitsLine t w m (get_or lines i default) more e
@@ -94,11 +77,5 @@ visits_stop t w s m e lines i default text more inside all one = record {
   low = omega arith;
   high = omega (arith, inside);
   text = text ++ more;
-  served = visits_line t w s m e lines i default text (text ++ more) inside all (more, one, refl);
+  served = in_order_line (VisitsLine t w) s m e lines i default text (text ++ more) inside all (more, one, refl);
 }
-
--- the lines are at their end
-pub visits_end : (t : KnownTable) (w : Words) (s e : List KnownCpu) (lines : List Line) (i : ℕ) (text items : List ℕ) → length lines ≤ i →
-    VisitsAll t w s (take i lines) text e → items ≡ text → VisitsAll t w s lines items e
-visits_end t w s e lines i text items past all is =
-    subst (λ (x : List Line × List ℕ). VisitsAll t w s x.0 x.1 e) (λ j. (take_all i lines past j, sym is j)) all

@@ -1,18 +1,17 @@
 -- What lines are answered by visits, while others may go on beside them. No clause can name what lies behind the lock,
 -- so each visit is one by itself: there was such a value behind it, and the next may find another.
-use Rattle.std.specs.Prelude.{◌≡◌, ◌⊎◌, ℕ, ◌-◌, ◌≤◌, List, [], ◌∷◌, ◌++◌, Some, slice_get, slice_set}
+use Rattle.std.specs.Prelude.{◌≡◌, ◌⊎◌, ℕ, ◌-◌, List, [], Some, slice_get, slice_set}
 use Rattle.std.specs.Borrow.{Bor}
 use Rattle.frame_word.specs.Seats.{KnownTable}
 use Rattle.stock_word.specs.Stock.{Words}
-use Rattle.group_tree.specs.Groups.{number_at}
 use Rattle.cpu_part.specs.declared.answers.Fast.TheVariants.{Got}
-use Rattle.cpu_part.specs.declared.answers.Dropped.TheVariants as dropped
-use Rattle.cpu_part.specs.Cpus.{KnownCpu, times}
-use Rattle.cpu_part.specs.Calls.{FastAnswers, DropAnswers}
+use Rattle.cpu_part.specs.Cpus.{KnownCpu}
+use Rattle.cpu_part.specs.Calls.{FastAnswers}
 use Rattle.machine_texts.specs.Blocks.{blocks_text}
 use Rattle.machine_texts.specs.Show.{show_text}
 use Rattle.mem_system.specs.declared.command.Cmd.{Cmd}
 use Rattle.mem_system.specs.declared.command.Cmd.TheVariants as cmd
+use Rattle.mem_system.specs.declared.command.Reply.{Reply}
 use Rattle.mem_system.specs.declared.command.Reply.TheVariants.{Done}
 use Rattle.mem_system.specs.Boots.{KnownLocked, IsQuiet}
 use Rattle.mem_system.specs.Commands.{holder, IsVisited}
@@ -26,82 +25,108 @@ use Rattle.script_lines.specs.declared.line.Line.TheVariants.{Go, At}
 use Rattle.script_replay.specs.declared.work.Work.{Work}
 use Rattle.script_replay.specs.declared.work.Work.TheVariants.{Visit, Frame, Fast, Release, Get, Put, Settle}
 use Rattle.script_replay.specs.declared.work.Work.TheVariants.{Blocks, Show}
-use Rattle.script_replay.specs.Answers.{GetsPin, PutsPin, CanNotList, GetsNoneFast, FindsNoGroup}
+use Rattle.script_replay.specs.Answers.{CanNotList, FindsNoGroup, GetsFast, GetsNoneFast, GetsPin, ListsAgain, PutsPin}
+use Rattle.script_replay.specs.Lines.{InOrder}
 use Rattle.script_replay.specs.Works.{work_of}
+
+-- this is so of some value that lay behind the lock, with no visit open
+pub record BehindLock (table : KnownTable) (stock_table : Words) (is_so : KnownLocked → Type 0) : Type 0 where
+  pub locked : KnownLocked
+  pub quiet : IsQuiet table stock_table locked
+  pub so : is_so locked
 
 -- the command was served by a visit, and its reply is the answer
 abbrev pub RepliesVisited : KnownTable → Words → Cmd → KnownCpu → Answer → KnownCpu → Type 0
-RepliesVisited t w command c (answer.Served reply) d = IsVisited t w command c reply d
-RepliesVisited t w command c other d = ⊥
+RepliesVisited table stock_table command before (answer.Served reply) after =
+    IsVisited table stock_table command before reply after
+RepliesVisited table stock_table command before other after = ⊥
 
--- Settle: it was visited
+-- Settle: it was served by a visit
 abbrev pub VisitsSettle : KnownTable → Words → KnownCpu → Answer → KnownCpu → Type 0
-VisitsSettle t w c answer.Settled d = IsVisited t w cmd.Settle c Done d
-VisitsSettle t w c other d = ⊥
+VisitsSettle table stock_table before answer.Settled after =
+    IsVisited table stock_table cmd.Settle before Done after
+VisitsSettle table stock_table before other after = ⊥
 
--- Fast: a frame of the list for this group, and the lock isn't taken
+-- Fast: what a call answers for this group, and the lock isn't taken
 abbrev pub VisitsFast : ℕ → KnownCpu → Answer → KnownCpu → Type 0
-VisitsFast g c (answer.Fast fast) d = FastAnswers g fast c d
-VisitsFast g c other d = ⊥
+VisitsFast group before (answer.Fast fast) after = FastAnswers group fast before after
+VisitsFast group before other after = ⊥
+
+-- the frame couldn't be listed again without the lock, and its Release was served by a visit
+pub record ReleasesByVisit (table : KnownTable) (stock_table : Words) (frame : ℕ) (before : KnownCpu) (reply : Reply)
+    (after : KnownCpu) : Type 0 where
+  pub seen : KnownCpu
+  pub not_listed : CanNotList frame before seen
+  pub visited : IsVisited table stock_table (cmd.Release frame) seen reply after
 
 -- Release: a fresh frame is listed again without the lock, where it can be; else the command is served by a visit
 abbrev pub VisitsRelease : KnownTable → Words → ℕ → KnownCpu → Answer → KnownCpu → Type 0
-VisitsRelease t w f c answer.Listed d = (1 ≤ times f c.fresh) × DropAnswers f dropped.Listed c d
-VisitsRelease t w f c (answer.Served reply) d =
-    (seen : KnownCpu) × CanNotList f c seen × IsVisited t w (cmd.Release f) seen reply d
-VisitsRelease t w f c other d = ⊥
+VisitsRelease table stock_table frame before answer.Listed after = ListsAgain frame before after
+VisitsRelease table stock_table frame before (answer.Served reply) after =
+    ReleasesByVisit table stock_table frame before reply after
+VisitsRelease table stock_table frame before other after = ⊥
+
+-- no frame was got without the lock for the group that was found under it, and the Alloc was served by a visit
+pub record AllocatesByVisit (table : KnownTable) (stock_table : Words) (path : Bor (List ℕ)) (before : KnownCpu)
+    (reply : Reply) (after : KnownCpu) : Type 0 where
+  pub seen : KnownCpu
+  pub none : BehindLock table stock_table (λ locked. GetsNoneFast path.now (holder locked before) seen)
+  pub visited : IsVisited table stock_table (cmd.Alloc path 0) seen reply after
 
 -- Alloc of a single frame: the group is found under the lock. Without it the processor gets one of its list, where it
 -- can; else the command is served by a visit of its own, and what lies behind the lock may be another value then
 abbrev pub VisitsFrame : KnownTable → Words → Bor (List ℕ) → KnownCpu → Answer → KnownCpu → Type 0
-VisitsFrame t w path c (answer.Fast (Got f)) d =
-    (l : KnownLocked) × (g : ℕ) × IsQuiet t w l × (number_at l.machine.ledger.groups path.now ≡ Some g)
-    × FastAnswers g (Got f) c d
-VisitsFrame t w path c (answer.Served reply) d =
-    ((l : KnownLocked) × IsQuiet t w l × FindsNoGroup path.now (holder l c) reply (holder l d))
-    ⊎ ((seen : KnownCpu) × (l : KnownLocked) × IsQuiet t w l × GetsNoneFast path.now (holder l c) seen
-    × IsVisited t w (cmd.Alloc path 0) seen reply d)
-VisitsFrame t w path c other d = ⊥
+VisitsFrame table stock_table path before (answer.Fast (Got frame)) after =
+    BehindLock table stock_table (λ locked. GetsFast path.now frame (holder locked before) after)
+VisitsFrame table stock_table path before (answer.Served reply) after =
+    BehindLock table stock_table (λ locked. FindsNoGroup path.now (holder locked before) reply (holder locked after))
+    ⊎ AllocatesByVisit table stock_table path before reply after
+VisitsFrame table stock_table path before other after = ⊥
 
 -- What is answered where this is done, but where the answer is a text of any length
 abbrev pub AnswersByVisit : KnownTable → Words → Work → KnownCpu → Answer → KnownCpu → Type 0
-AnswersByVisit t w (Visit command) c said d = RepliesVisited t w command c said d
-AnswersByVisit t w (Frame path) c said d = VisitsFrame t w path c said d
-AnswersByVisit t w (Fast group) c said d = VisitsFast group c said d
-AnswersByVisit t w (Release frame) c said d = VisitsRelease t w frame c said d
-AnswersByVisit t w (Get frame) c said d = GetsPin frame c said d
-AnswersByVisit t w (Put frame) c said d = PutsPin frame c said d
-AnswersByVisit t w Settle c said d = VisitsSettle t w c said d
-AnswersByVisit t w Blocks c said d = ⊥
-AnswersByVisit t w Show c said d = ⊥
+AnswersByVisit table stock_table (Visit command) before said after =
+    RepliesVisited table stock_table command before said after
+AnswersByVisit table stock_table (Frame path) before said after = VisitsFrame table stock_table path before said after
+AnswersByVisit table stock_table (Fast group) before said after = VisitsFast group before said after
+AnswersByVisit table stock_table (Release frame) before said after =
+    VisitsRelease table stock_table frame before said after
+AnswersByVisit table stock_table (Get frame) before said after = GetsPin frame before said after
+AnswersByVisit table stock_table (Put frame) before said after = PutsPin frame before said after
+AnswersByVisit table stock_table Settle before said after = VisitsSettle table stock_table before said after
+AnswersByVisit table stock_table Blocks before said after = ⊥
+AnswersByVisit table stock_table Show before said after = ⊥
 
--- the same as text: `blocks` and `show` settle the processor, and tell of the machine as it is then
+-- what is answered where this is done, as text: `blocks` and `show` settle the processor, and tell of the machine as it
+-- is then
 abbrev pub VisitsWork : KnownTable → Words → Work → KnownCpu → List ℕ → KnownCpu → Type 0
-VisitsWork t w Blocks c text d = TellsOf t w c d (λ m. text ≡ blocks_text m.blocks)
-VisitsWork t w Show c text d = TellsOf t w c d (λ m. text ≡ show_text m)
-VisitsWork t w work c text d = (said : Answer) × AnswersByVisit t w work c said d × (text ≡ answer_text said)
+VisitsWork table stock_table Blocks before text after =
+    TellsOf table stock_table before after (λ machine. text ≡ blocks_text machine.blocks)
+VisitsWork table stock_table Show before text after =
+    TellsOf table stock_table before after (λ machine. text ≡ show_text machine)
+VisitsWork table stock_table work before text after =
+    (said : Answer) × AnswersByVisit table stock_table work before said after × (text ≡ answer_text said)
 
 -- what a command is answered at a part, as text, and the part after it
 abbrev pub VisitsText : KnownTable → Words → Command → KnownCpu → List ℕ → KnownCpu → Type 0
-VisitsText t w command c text d = VisitsWork t w (work_of command) c text d
+VisitsText table stock_table command before text after =
+    VisitsWork table stock_table (work_of command) before text after
 
 -- a command is answered this text at the part of its processor, and the other parts stay
-pub record VisitsPart (t : KnownTable) (w : Words) (before : List KnownCpu) (processor : ℕ) (command : Command)
-    (text : List ℕ) (after : List KnownCpu) : Type 0 where
+pub record VisitsPart (table : KnownTable) (stock_table : Words) (before : List KnownCpu) (processor : ℕ)
+    (command : Command) (text : List ℕ) (after : List KnownCpu) : Type 0 where
   pub part : KnownCpu
   pub left : KnownCpu
   pub is_part : slice_get before (processor - 1) ≡ Some part
-  pub answers : VisitsText t w command part text left
+  pub answers : VisitsText table stock_table command part text left
   pub cpus : after ≡ slice_set before (processor - 1) left
 
--- so it is with a line; `go` is answered nothing, and does nothing
+-- a line is answered this text; `go` is answered nothing, and does nothing
 abbrev pub VisitsLine : KnownTable → Words → List KnownCpu → Line → List ℕ → List KnownCpu → Type 0
-VisitsLine t w before Go text after = (text ≡ []) × (after ≡ before)
-VisitsLine t w before (At number processor command) text after = VisitsPart t w before processor command text after
+VisitsLine table stock_table before Go text after = (text ≡ []) × (after ≡ before)
+VisitsLine table stock_table before (At number processor command) text after =
+    VisitsPart table stock_table before processor command text after
 
--- the lines are answered one after the other, and their texts stand one after the other
+-- what lines are answered by visits, one after the other
 abbrev pub VisitsAll : KnownTable → Words → List KnownCpu → List Line → List ℕ → List KnownCpu → Type 0
-VisitsAll t w cpus [] text after = (text ≡ []) × (after ≡ cpus)
-VisitsAll t w cpus (line ∷ lines) text after =
-    (first : List ℕ) × (rest : List ℕ) × (mid : List KnownCpu)
-    × VisitsLine t w cpus line first mid × VisitsAll t w mid lines rest after × (text ≡ first ++ rest)
+VisitsAll table stock_table before lines text after = InOrder (VisitsLine table stock_table) before lines text after

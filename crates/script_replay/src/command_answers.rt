@@ -10,7 +10,7 @@ ghost use Rattle.script_replay.specs.declared.work.Work.TheVariants.{Frame, Rele
 ghost use Rattle.script_replay.specs.Answers.{AddsText, AnswersText, AnswersWork, kills_text};
 ghost use Rattle.script_replay.specs.Ranges.{NamesInRange, WorkInRange};
 
-use crate::unlocked_calls::{get, put, try_list};
+use crate::unlocked_calls::{answer_get, answer_put, try_list};
 use crate::work::{Work, work_of};
 use cpu_part::{BootName, Cpu, Fast, Tables};
 use group_tree::fault::Fault;
@@ -22,8 +22,8 @@ use reply_texts::{write_fast, write_listed, write_outcome, write_refusal, write_
 use script_lines::line::Command;
 use std::alloc::AllocError;
 
-// Serves a command and adds what it is answered, and behind that where `is_explained` says so why groups were killed for
-// it. Where memory is wanting the command was served all the same.
+// Serves a command of the script and adds what it is answered, and behind that, where `is_explained` says so, why
+// groups were killed for it. Where memory is wanting the command was served all the same.
 #[tactic(auto, using(crate::proofs::InRange::work_in_range))]
 pub(crate) fn answer_text<N: BootName>(
     locked: &mut Locked<N>,
@@ -34,15 +34,15 @@ pub(crate) fn answer_text<N: BootName>(
     text: &mut String,
 ) -> Result<(), AllocError>
     requires { NamesInRange N.frames.frames command.now }
-    ensures { AddsText result (AnswersText N.frames is_explained command.now) (holder locked.old cpu.old) (holder locked.new cpu.new)
-        (string_bytes text.old) (string_bytes text.new) }
+    ensures { AddsText result text.old text.new (λ said. AnswersText N.frames is_explained command.now
+        (holder locked.old cpu.old) said (holder locked.new cpu.new)) }
 {
     let work = work_of(command);
     answer_work(locked, tables, cpu, &work, is_explained, text)
 }
 
-// Does what is asked and adds what it is answered. Each text is written where the answer is made, and that of a
-// command under the lock from its outcome: a reply would have room for a path of 512 bytes.
+// Does what a command asks for and adds what it is answered. Each text is written where the answer is made, and that of
+// a command under the lock from its outcome: a reply would have room for a path of 512 bytes.
 fn answer_work<N: BootName>(
     locked: &mut Locked<N>,
     tables: &Tables<N>,
@@ -52,16 +52,16 @@ fn answer_work<N: BootName>(
     text: &mut String,
 ) -> Result<(), AllocError>
     requires { WorkInRange N.frames.frames work.now }
-    ensures { AddsText result (AnswersWork N.frames is_explained work.now) (holder locked.old cpu.old) (holder locked.new cpu.new)
-        (string_bytes text.old) (string_bytes text.new) }
+    ensures { AddsText result text.old text.new (λ said. AnswersWork N.frames is_explained work.now
+        (holder locked.old cpu.old) said (holder locked.new cpu.new)) }
 {
     match *work {
         Work::Visit(cmd) => serve_command(locked, tables, cpu, &cmd, is_explained, text),
         Work::Frame { path } => answer_frame(locked, tables, cpu, path, is_explained, text),
         Work::Fast { group } => write_fast(&cpu.alloc_fast(tables, group), text),
         Work::Release { frame } => answer_release(locked, tables, cpu, frame, is_explained, text),
-        Work::Get { frame } => get(tables, cpu, frame, text),
-        Work::Put { frame } => put(tables, cpu, frame, text),
+        Work::Get { frame } => answer_get(tables, cpu, frame, text),
+        Work::Put { frame } => answer_put(tables, cpu, frame, text),
         Work::Settle => {
             settle(locked, tables, cpu);
             write_settled(text)
@@ -87,16 +87,16 @@ fn serve_command<N: BootName>(
     text: &mut String,
 ) -> Result<(), AllocError>
     requires { IsOfZone N.frames cmd.now }
-    ensures { AddsText result (AnswersWork N.frames is_explained (Visit cmd.now)) (holder locked.old cpu.old) (holder locked.new cpu.new)
-        (string_bytes text.old) (string_bytes text.new) }
+    ensures { AddsText result text.old text.new (λ said. AnswersWork N.frames is_explained (Visit cmd.now)
+        (holder locked.old cpu.old) said (holder locked.new cpu.new)) }
 {
     let outcome = carry_out(locked, tables, cpu, cmd);
     write_outcome(locked.charges(), &outcome, text)?;
     explain(locked, is_explained, text)
 }
 
-// Serves an Alloc of a single frame for this group under the lock, and adds its reply, and what is told of its kills: its
-// path isn't sought again.
+// Serves an Alloc of a single frame for this group under the lock, and adds its reply, and what is told of its kills.
+// The group's path isn't sought again.
 fn serve_frame<N: BootName>(
     locked: &mut Locked<N>,
     tables: &Tables<N>,
@@ -107,8 +107,8 @@ fn serve_frame<N: BootName>(
 ) -> Result<(), AllocError>
     requires there { IsTrue (has_group locked.old.machine.ledger.groups group) }
     ensures { (path : Bor (List ℕ)) → number_at locked.old.machine.ledger.groups path.now ≡ Some group
-        → AddsText result (AnswersWork N.frames is_explained (Visit (Alloc path 0)))
-        (holder locked.old cpu.old) (holder locked.new cpu.new) (string_bytes text.old) (string_bytes text.new) }
+        → AddsText result text.old text.new (λ said. AnswersWork N.frames is_explained (Visit (Alloc path 0))
+        (holder locked.old cpu.old) said (holder locked.new cpu.new)) }
 {
     let outcome = carry_out_frame(locked, tables, cpu, group);
     write_outcome(locked.charges(), &outcome, text)?;
@@ -121,7 +121,8 @@ fn explain<N: BootName>(
     is_explained: bool,
     text: &mut String,
 ) -> Result<(), AllocError>
-    ensures { IfOk result (λ _. string_bytes text.new ≡ string_bytes text.old ++ kills_text is_explained locked.now.machine) }
+    ensures { IfOk result (λ _.
+        string_bytes text.new ≡ string_bytes text.old ++ kills_text is_explained locked.now.machine) }
 {
     if !is_explained {
         return Ok(());
@@ -139,8 +140,8 @@ fn answer_frame<N: BootName>(
     is_explained: bool,
     text: &mut String,
 ) -> Result<(), AllocError>
-    ensures { AddsText result (AnswersWork N.frames is_explained (Frame path.entry))
-        (holder locked.old cpu.old) (holder locked.new cpu.new) (string_bytes text.old) (string_bytes text.new) }
+    ensures { AddsText result text.old text.new (λ said. AnswersWork N.frames is_explained (Frame path.entry)
+        (holder locked.old cpu.old) said (holder locked.new cpu.new)) }
 {
     let Some(group) = locked.find(path) else {
         return write_refusal(&Fault::NoGroup, text);
@@ -161,8 +162,8 @@ fn answer_release<N: BootName>(
     text: &mut String,
 ) -> Result<(), AllocError>
     requires { number < N.frames.frames }
-    ensures { AddsText result (AnswersWork N.frames is_explained (Release number)) (holder locked.old cpu.old) (holder locked.new cpu.new)
-        (string_bytes text.old) (string_bytes text.new) }
+    ensures { AddsText result text.old text.new (λ said. AnswersWork N.frames is_explained (Release number)
+        (holder locked.old cpu.old) said (holder locked.new cpu.new)) }
 {
     if try_list(tables, cpu, number) {
         return write_listed(text);

@@ -1,22 +1,18 @@
 //! The commands that take no lock.
 
-ghost use Rattle.std.specs.Prelude.{◌≤◌, ◌<◌, MatchBool};
-ghost use Rattle.std.specs.String.{string_bytes};
-ghost use Rattle.cpu_part.specs.declared.answers.Dropped.TheVariants.{Listed};
-ghost use Rattle.cpu_part.specs.Cpus.{times};
-ghost use Rattle.cpu_part.specs.Calls.{DropAnswers};
-ghost use Rattle.script_replay.specs.Answers.{AddsAnswer, CanNotList, GetsPin, PutsPin};
+ghost use Rattle.std.specs.Prelude.{◌<◌, MatchBool};
+ghost use Rattle.script_replay.specs.Answers.{AddsAnswer, CanNotList, GetsPin, ListsAgain, PutsPin};
 
 use cpu_part::{BootName, Cpu, Dropped, Tables};
 use group_tree::fault::Fault;
 use reply_texts::{write_get, write_put, write_refusal};
 use std::alloc::AllocError;
 
-// Lists the frame again, where it is fresh at the processor and its page can be credited, and tells whether it did.
+// Lists the frame again without the lock, where it is fresh at the processor and its page can be credited, and tells
+// whether it did.
 pub(crate) fn try_list<N: BootName>(tables: &Tables<N>, cpu: &mut Cpu<N>, number: u32) -> bool
     requires { number < N.frames.frames }
-    ensures { MatchBool result ((1 ≤ times number cpu.old.fresh) × DropAnswers number Listed cpu.old cpu.new)
-        (CanNotList number cpu.old cpu.new) }
+    ensures { MatchBool result (ListsAgain number cpu.old cpu.new) (CanNotList number cpu.old cpu.new) }
 {
     let frame = tables.frames.frame(number).unwrap();
     if !cpu.has_fresh(frame) {
@@ -29,14 +25,14 @@ pub(crate) fn try_list<N: BootName>(tables: &Tables<N>, cpu: &mut Cpu<N>, number
 }
 
 // Pins the frame, without the lock, and adds what is answered.
-pub(crate) fn get<N: BootName>(
+pub(crate) fn answer_get<N: BootName>(
     tables: &Tables<N>,
     cpu: &mut Cpu<N>,
     number: u32,
     text: &mut String,
 ) -> Result<(), AllocError>
     requires { number < N.frames.frames }
-    ensures { AddsAnswer result (GetsPin number) cpu.old cpu.new (string_bytes text.old) (string_bytes text.new) }
+    ensures { AddsAnswer result text.old text.new (λ answer. GetsPin number cpu.old answer cpu.new) }
 {
     let frame = tables.frames.frame(number).unwrap();
     match cpu.get(tables, frame) {
@@ -46,14 +42,14 @@ pub(crate) fn get<N: BootName>(
 }
 
 // Takes a pin from the frame, without the lock, and adds what is answered.
-pub(crate) fn put<N: BootName>(
+pub(crate) fn answer_put<N: BootName>(
     tables: &Tables<N>,
     cpu: &mut Cpu<N>,
     number: u32,
     text: &mut String,
 ) -> Result<(), AllocError>
     requires { number < N.frames.frames }
-    ensures { AddsAnswer result (PutsPin number) cpu.old cpu.new (string_bytes text.old) (string_bytes text.new) }
+    ensures { AddsAnswer result text.old text.new (λ answer. PutsPin number cpu.old answer cpu.new) }
 {
     let frame = tables.frames.frame(number).unwrap();
     if !cpu.holds(frame) {

@@ -1,7 +1,6 @@
 //! One command, answered at a processor by visits, each of which takes the zone's lock by itself.
 
-ghost use Rattle.std.specs.Prelude.{◌≡◌, ◌++◌, ◌<◌, IfOk};
-ghost use Rattle.std.specs.String.{string_bytes};
+ghost use Rattle.std.specs.Prelude.{◌<◌};
 ghost use Rattle.mem_system.specs.Commands.{IsOfZone};
 ghost use Rattle.script_replay.specs.Answers.{AddsAnswer, AddsText};
 ghost use Rattle.script_replay.specs.declared.work.Work.TheVariants.{Blocks, Show};
@@ -9,7 +8,7 @@ ghost use Rattle.script_replay.specs.Ranges.{NamesInRange, WorkInRange};
 ghost use Rattle.script_replay.specs.Visits.{RepliesVisited, VisitsFrame, VisitsRelease, VisitsSettle, VisitsText};
 ghost use Rattle.script_replay.specs.Visits.{VisitsWork};
 
-use crate::unlocked_calls::{get, put, try_list};
+use crate::unlocked_calls::{answer_get, answer_put, try_list};
 use crate::work::{Work, work_of};
 use cpu_part::{BootName, Cpu, Fast};
 use group_tree::fault::Fault;
@@ -18,6 +17,16 @@ use reply_texts::{write_fast, write_listed, write_refusal, write_reply, write_se
 use script_lines::line::Command;
 use std::alloc::{AllocError, Global};
 use std::sync::Wait;
+
+// What a thread makes its visits by: what it waits with, the memory for texts, the system, and the gate that each visit
+// of a command calls.
+#[derive(Drop)]
+pub(crate) struct Visitor<'a, N: BootName, R, G> {
+    pub(crate) rt: &'a R,
+    pub(crate) alloc: Global,
+    pub(crate) system: &'a System<N>,
+    pub(crate) gate: &'a G,
+}
 
 /// Serves the command of a line at this processor, between the gate's `before` and `after`, which are told the line's
 /// number, and adds what it is answered. Where it is served by a visit, the visit calls the gate's
@@ -33,162 +42,151 @@ pub fn visit_line<N: BootName, R: Wait, G: Gate>(
     text: &mut String,
 ) -> Result<(), AllocError>
     requires { NamesInRange N.frames.frames command.now }
-    ensures { AddsText result (VisitsText N.frames N.stocks command.now) cpu.old cpu.new
-        (string_bytes text.old) (string_bytes text.new) }
+    ensures { AddsText result text.old text.new (λ said.
+        VisitsText N.frames N.stocks command.now cpu.old said cpu.new) }
 {
     let number = cpu.number();
+    let visitor = Visitor {
+        rt,
+        alloc,
+        system,
+        gate,
+    };
     gate.before(number, line);
-    visit_text(rt, alloc, system, cpu, command, gate, text)?;
+    visit_text(&visitor, cpu, command, text)?;
     gate.after(number, line);
     Ok(())
 }
 
-// Serves a command and adds what it is answered. Where memory is wanting the command was served all the same.
+// Serves a command of the script and adds what it is answered. Where memory is wanting the command was served all the
+// same.
 #[tactic(auto, using(crate::proofs::InRange::work_in_range))]
 pub(crate) fn visit_text<N: BootName, R: Wait, G: Gate>(
-    rt: &R,
-    alloc: Global,
-    system: &System<N>,
+    visitor: &Visitor<'_, N, R, G>,
     cpu: &mut Cpu<N>,
     command: &Command<'_>,
-    gate: &G,
     text: &mut String,
 ) -> Result<(), AllocError>
     requires { NamesInRange N.frames.frames command.now }
-    ensures { AddsText result (VisitsText N.frames N.stocks command.now) cpu.old cpu.new
-        (string_bytes text.old) (string_bytes text.new) }
+    ensures { AddsText result text.old text.new (λ said.
+        VisitsText N.frames N.stocks command.now cpu.old said cpu.new) }
 {
     let work = work_of(command);
-    visit_work(rt, alloc, system, cpu, &work, gate, text)
+    visit_work(visitor, cpu, &work, text)
 }
 
-// Does what is asked and adds what it is answered.
+// Does what a command asks for, by a visit where it needs the lock, and adds what it is answered.
 fn visit_work<N: BootName, R: Wait, G: Gate>(
-    rt: &R,
-    alloc: Global,
-    system: &System<N>,
+    visitor: &Visitor<'_, N, R, G>,
     cpu: &mut Cpu<N>,
     work: &Work<'_>,
-    gate: &G,
     text: &mut String,
 ) -> Result<(), AllocError>
     requires { WorkInRange N.frames.frames work.now }
-    ensures { AddsText result (VisitsWork N.frames N.stocks work.now) cpu.old cpu.new
-        (string_bytes text.old) (string_bytes text.new) }
+    ensures { AddsText result text.old text.new (λ said. VisitsWork N.frames N.stocks work.now cpu.old said cpu.new) }
 {
-    let tables = system.tables();
+    let tables = visitor.system.tables();
     match *work {
-        Work::Visit(cmd) => visited(rt, system, cpu, &cmd, gate, text),
-        Work::Frame { path } => visit_frame(rt, system, cpu, path, gate, text),
+        Work::Visit(cmd) => visit_and_reply(visitor, cpu, &cmd, text),
+        Work::Frame { path } => visit_frame(visitor, cpu, path, text),
         Work::Fast { group } => write_fast(&cpu.alloc_fast(tables, group), text),
-        Work::Release { frame } => visit_release(rt, system, cpu, frame, gate, text),
-        Work::Get { frame } => get(tables, cpu, frame, text),
-        Work::Put { frame } => put(tables, cpu, frame, text),
-        Work::Settle => visit_settle(rt, system, cpu, gate, text),
-        Work::Blocks => tell_blocks(rt, alloc, system, cpu, text),
-        Work::Show => tell_show(rt, alloc, system, cpu, text),
+        Work::Release { frame } => visit_release(visitor, cpu, frame, text),
+        Work::Get { frame } => answer_get(tables, cpu, frame, text),
+        Work::Put { frame } => answer_put(tables, cpu, frame, text),
+        Work::Settle => visit_settle(visitor, cpu, text),
+        Work::Blocks => visit_blocks(visitor, cpu, text),
+        Work::Show => visit_show(visitor, cpu, text),
     }
 }
 
 // Serves the command by a visit, and adds its reply.
-fn visited<N: BootName, R: Wait, G: Gate>(
-    rt: &R,
-    system: &System<N>,
+fn visit_and_reply<N: BootName, R: Wait, G: Gate>(
+    visitor: &Visitor<'_, N, R, G>,
     cpu: &mut Cpu<N>,
     cmd: &Cmd<'_>,
-    gate: &G,
     text: &mut String,
 ) -> Result<(), AllocError>
     requires { IsOfZone N.frames cmd.now }
-    ensures { AddsAnswer result (RepliesVisited N.frames N.stocks cmd.now) cpu.old cpu.new
-        (string_bytes text.old) (string_bytes text.new) }
+    ensures { AddsAnswer result text.old text.new (λ answer.
+        RepliesVisited N.frames N.stocks cmd.now cpu.old answer cpu.new) }
 {
     let mut reply = Reply::Done;
-    system.visit_into(rt, cpu, cmd, gate, &mut reply);
+    visitor
+        .system
+        .visit_into(visitor.rt, cpu, cmd, visitor.gate, &mut reply);
     write_reply(&reply, text)
 }
 
 // Settles the processor by a visit, and adds what is answered.
 fn visit_settle<N: BootName, R: Wait, G: Gate>(
-    rt: &R,
-    system: &System<N>,
+    visitor: &Visitor<'_, N, R, G>,
     cpu: &mut Cpu<N>,
-    gate: &G,
     text: &mut String,
 ) -> Result<(), AllocError>
-    ensures { AddsAnswer result (VisitsSettle N.frames N.stocks) cpu.old cpu.new
-        (string_bytes text.old) (string_bytes text.new) }
+    ensures { AddsAnswer result text.old text.new (λ answer. VisitsSettle N.frames N.stocks cpu.old answer cpu.new) }
 {
-    let _done = system.visit_with(rt, cpu, &Cmd::Settle, gate);
+    let _done = visitor
+        .system
+        .visit_with(visitor.rt, cpu, &Cmd::Settle, visitor.gate);
     write_settled(text)
 }
 
 // Takes a frame, without the lock where it can be, and adds what is answered.
 fn visit_frame<N: BootName, R: Wait, G: Gate>(
-    rt: &R,
-    system: &System<N>,
+    visitor: &Visitor<'_, N, R, G>,
     cpu: &mut Cpu<N>,
     path: &[u8],
-    gate: &G,
     text: &mut String,
 ) -> Result<(), AllocError>
-    ensures { AddsAnswer result (VisitsFrame N.frames N.stocks path.entry) cpu.old cpu.new
-        (string_bytes text.old) (string_bytes text.new) }
+    ensures { AddsAnswer result text.old text.new (λ answer.
+        VisitsFrame N.frames N.stocks path.entry cpu.old answer cpu.new) }
 {
-    let Some(group) = system.find(rt, path) else {
+    let Some(group) = visitor.system.find(visitor.rt, path) else {
         return write_refusal(&Fault::NoGroup, text);
     };
-    match cpu.alloc_fast(system.tables(), group.number()) {
+    match cpu.alloc_fast(visitor.system.tables(), group.number()) {
         Fast::Got(frame) => write_fast(&Fast::Got(frame), text),
-        _ => visited(rt, system, cpu, &Cmd::Alloc { path, order: 0 }, gate, text),
+        _ => visit_and_reply(visitor, cpu, &Cmd::Alloc { path, order: 0 }, text),
     }
 }
 
 // Lists a fresh frame again, without the lock where it can be, and adds what is answered.
 fn visit_release<N: BootName, R: Wait, G: Gate>(
-    rt: &R,
-    system: &System<N>,
+    visitor: &Visitor<'_, N, R, G>,
     cpu: &mut Cpu<N>,
     number: u32,
-    gate: &G,
     text: &mut String,
 ) -> Result<(), AllocError>
     requires { number < N.frames.frames }
-    ensures { AddsAnswer result (VisitsRelease N.frames N.stocks number) cpu.old cpu.new
-        (string_bytes text.old) (string_bytes text.new) }
+    ensures { AddsAnswer result text.old text.new (λ answer.
+        VisitsRelease N.frames N.stocks number cpu.old answer cpu.new) }
 {
-    if try_list(system.tables(), cpu, number) {
+    if try_list(visitor.system.tables(), cpu, number) {
         return write_listed(text);
     }
-    visited(rt, system, cpu, &Cmd::Release { frame: number }, gate, text)
+    visit_and_reply(visitor, cpu, &Cmd::Release { frame: number }, text)
 }
 
 // Settles the processor, and adds the free blocks.
-fn tell_blocks<N: BootName, R: Wait>(
-    rt: &R,
-    alloc: Global,
-    system: &System<N>,
+fn visit_blocks<N: BootName, R: Wait, G: Gate>(
+    visitor: &Visitor<'_, N, R, G>,
     cpu: &mut Cpu<N>,
     text: &mut String,
 ) -> Result<(), AllocError>
-    ensures { AddsText result (VisitsWork N.frames N.stocks Blocks) cpu.old cpu.new
-        (string_bytes text.old) (string_bytes text.new) }
+    ensures { AddsText result text.old text.new (λ said. VisitsWork N.frames N.stocks Blocks cpu.old said cpu.new) }
 {
-    let told = system.blocks(rt, alloc, cpu)?;
+    let told = visitor.system.blocks(visitor.rt, visitor.alloc, cpu)?;
     text.push_str(told.as_str())
 }
 
 // Settles the processor, and adds the place of every frame and the usage of every group.
-fn tell_show<N: BootName, R: Wait>(
-    rt: &R,
-    alloc: Global,
-    system: &System<N>,
+fn visit_show<N: BootName, R: Wait, G: Gate>(
+    visitor: &Visitor<'_, N, R, G>,
     cpu: &mut Cpu<N>,
     text: &mut String,
 ) -> Result<(), AllocError>
-    ensures { AddsText result (VisitsWork N.frames N.stocks Show) cpu.old cpu.new
-        (string_bytes text.old) (string_bytes text.new) }
+    ensures { AddsText result text.old text.new (λ said. VisitsWork N.frames N.stocks Show cpu.old said cpu.new) }
 {
-    let told = system.show(rt, alloc, cpu)?;
+    let told = visitor.system.show(visitor.rt, visitor.alloc, cpu)?;
     text.push_str(told.as_str())
 }

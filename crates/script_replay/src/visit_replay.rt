@@ -1,14 +1,13 @@
 //! Lines, served one after the other by visits: each command takes the zone's lock by itself.
 
 ghost use Rattle.std.specs.Prelude.{◌≡◌, All, IfErr, IfOk, length};
-ghost use Rattle.std.specs.String.{string_bytes};
 ghost use Rattle.mem_system.specs.Commands.{IsOfZone};
 ghost use Rattle.script_replay.specs.Answers.{AddsText};
 ghost use Rattle.script_replay.specs.Lines.{StopsAt};
 ghost use Rattle.script_replay.specs.Ranges.{LineIsThere};
 ghost use Rattle.script_replay.specs.Visits.{VisitsAll, VisitsLine};
 
-use crate::visit_answers::visit_text;
+use crate::visit_answers::{Visitor, visit_text};
 use cpu_part::{BootName, Cpu};
 use mem_system::{Cmd, NoGate, Reply, System};
 use reply_texts::write_reply;
@@ -17,9 +16,9 @@ use std::alloc::{AllocError, Global};
 use std::sync::Wait;
 
 /// Serves the lines in their order, each by a visit of the processor that it names or by a call that takes no lock,
-/// and gives their answers, each of whose lines ends with a line feed. `go` does nothing. `AllocError` comes where memory
-/// is wanting for the text of a line: the lines before it were served then, it was served too, once, without its text,
-/// and no line after it was.
+/// and gives their answers, each of whose lines ends with a line feed. `go` does nothing. `AllocError` comes where
+/// memory is wanting for the text of a line: the lines before it were served then, it was served too, once, without
+/// its text, and no line after it was.
 pub fn replay_by_visits<N: BootName, R: Wait>(
     rt: &R,
     alloc: Global,
@@ -49,8 +48,8 @@ fn serve_by_visit<N: BootName, R: Wait>(
     answers: &mut String,
 ) -> Result<(), AllocError>
     requires { LineIsThere N.frames.frames (length cpus.old) line.now }
-    ensures { AddsText result (λ before text after. VisitsLine N.frames N.stocks before line.now text after)
-        cpus.old cpus.new (string_bytes answers.old) (string_bytes answers.new) }
+    ensures { AddsText result answers.old answers.new (λ text.
+        VisitsLine N.frames N.stocks cpus.old line.now text cpus.new) }
 {
     match line {
         Line::Go => Ok(()),
@@ -60,14 +59,20 @@ fn serve_by_visit<N: BootName, R: Wait>(
             ..
         } => {
             let at = (*processor - 1) as usize;
-            visit_text(rt, alloc, system, &mut cpus[at], command, &NoGate, answers)
+            let visitor = Visitor {
+                rt,
+                alloc,
+                system,
+                gate: &NoGate,
+            };
+            visit_text(&visitor, &mut cpus[at], command, answers)
         }
     }
 }
 
 /// Serves the command by a visit at once, and adds what it is answered. Its contract leaves out what `System::visit`
-/// says: for a caller that wants the text alone these clauses are minutes of a check. `AllocError` comes where memory is
-/// wanting for the text: the command was served then.
+/// says: for a caller that wants the text alone these clauses are minutes of a check. `AllocError` comes where memory
+/// is wanting for the text: the command was served then.
 pub fn visit_command<N: BootName, R: Wait>(
     rt: &R,
     system: &System<N>,

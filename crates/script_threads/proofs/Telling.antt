@@ -6,7 +6,7 @@ use Rattle.stock_word.specs.Stock.{Words}
 use Rattle.cpu_part.specs.Cpus.{KnownCpu}
 use Rattle.script_lines.specs.declared.line.Line.{Line}
 use Rattle.script_threads.specs.Own.{ServesOwn}
-use Rattle.script_threads.specs.Each.{KnownWorker, workers_from, TellsEach}
+use Rattle.script_threads.specs.Each.{KnownWorker, workers_from, TellsEach, TellsOwn}
 
 abbrev worker : ℕ → KnownCpu → List Line → KnownWorker
 worker n c lines = record { number = n; before = c; lines = lines }
@@ -36,9 +36,9 @@ started_more cs i default lines inside =
 -- a worker's text, behind its heading
 pub joined : {T E : Type 0} (t : KnownTable) (w : Words) (p : ℕ) (c d : KnownCpu) (lines : List Line) (before head mid own new : List ℕ) (r : Result T E) →
     ServesOwn t w p c lines own d → mid ≡ before ++ head → IfOk r (λ _. new ≡ mid ++ own) →
-    IfOk r (λ _. (said : List ℕ) × (e : KnownCpu) × ServesOwn t w p c lines said e × (new ≡ before ++ (head ++ said)))
+    IfOk r (λ _. (said : List ℕ) × TellsOwn t w (worker p c lines) said × (new ≡ before ++ (head ++ said)))
 joined t w p c d lines before head mid own new (Ok x) serves first second =
-    (own, d, serves, second ∙ (ap (λ xs. xs ++ own) first ∙ append_assoc before head own))
+    (own, record { after = d; serves = serves }, second ∙ (ap (λ xs. xs ++ own) first ∙ append_assoc before head own))
 joined t w p c d lines before head mid own new (Err e) serves first second = tt
 
 -- no worker is left

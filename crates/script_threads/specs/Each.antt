@@ -13,19 +13,24 @@ pub record KnownWorker : Type 0 where
   pub before : KnownCpu
   pub lines : List Line
 
--- a worker for each of these parts, of the processors from p on
+-- a worker for each of these parts, of the processors from this number on
 abbrev pub workers_from : ℕ → List KnownCpu → List Line → List KnownWorker
-workers_from p [] lines = []
-workers_from p (c ∷ cs) lines = record { number = p; before = c; lines = lines } ∷ workers_from (p + 1) cs lines
+workers_from number [] lines = []
+workers_from number (cpu ∷ cpus) lines =
+    record { number = number; before = cpu; lines = lines } ∷ workers_from (number + 1) cpus lines
 
--- the line that heads the answers of processor p
+-- the line that heads the answers of a processor
 abbrev pub heading : ℕ → List ℕ
-heading p = codes "cpu " ++ decimal p ++ codes "\n"
+heading number = codes "cpu " ++ decimal number ++ codes "\n"
 
--- for each worker a heading, and behind it the texts of its own lines, from its part as it was
+-- the texts of the worker's own lines, from its part as it was to one that it left
+pub record TellsOwn (table : KnownTable) (stock_table : Words) (worker : KnownWorker) (text : List ℕ) : Type 0 where
+  pub after : KnownCpu
+  pub serves : ServesOwn table stock_table worker.number worker.before worker.lines text after
+
+-- for each worker a heading, and behind it the texts of its own lines
 abbrev pub TellsEach : KnownTable → Words → List KnownWorker → List ℕ → Type 0
-TellsEach t w [] text = text ≡ []
-TellsEach t w (x ∷ xs) text =
-    (own : List ℕ) × (rest : List ℕ) × (d : KnownCpu)
-    × ServesOwn t w x.number x.before x.lines own d × TellsEach t w xs rest
-    × (text ≡ (heading x.number ++ own) ++ rest)
+TellsEach table stock_table [] text = text ≡ []
+TellsEach table stock_table (worker ∷ workers) text =
+    (own : List ℕ) × (rest : List ℕ) × TellsOwn table stock_table worker own
+    × TellsEach table stock_table workers rest × (text ≡ (heading worker.number ++ own) ++ rest)

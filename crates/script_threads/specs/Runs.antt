@@ -20,10 +20,11 @@ lines_before_go lines = go_or 0 0 lines
 
 -- The lines before `go` are answered one after the other, and those from it on by a worker for each part as it was left
 -- then. The texts of the first stand first
-pub record RunsLines (t : KnownTable) (w : Words) (cpus : List KnownCpu) (lines : List Line) (text : List ℕ) : Type 0 where
+pub record RunsLines (table : KnownTable) (stock_table : Words) (cpus : List KnownCpu) (lines : List Line)
+    (text : List ℕ) : Type 0 where
   pub early : List ℕ
   pub later : List ℕ
   pub parts : List KnownCpu
-  pub visits : VisitsAll t w cpus (take (lines_before_go lines) lines) early parts
-  pub tells : TellsEach t w (workers_from 1 parts (drop (lines_before_go lines) lines)) later
+  pub visits : VisitsAll table stock_table cpus (take (lines_before_go lines) lines) early parts
+  pub tells : TellsEach table stock_table (workers_from 1 parts (drop (lines_before_go lines) lines)) later
   pub is : text ≡ early ++ later

@@ -36,7 +36,7 @@ pub fn run_each<N: BootName + Send + Sync, R: Threads + Wait + Sync, G: Gate + S
     run_named(rt, alloc, system, cpus, lines, gate)
 }
 
-// The same for lines that name frames and groups in range.
+// Serves the lines as `run_each` does, where they name frames and groups in range, whichever their processors.
 fn run_named<N: BootName + Send + Sync, R: Threads + Wait + Sync, G: Gate + Sync>(
     rt: &R,
     alloc: Global,

@@ -45,8 +45,8 @@ fn serve_own_line<N: BootName, R: Wait, G: Gate>(
     text: &mut String,
 ) -> Result<(), AllocError>
     requires { LineNames N.frames.frames line.now }
-    ensures { AddsText result (λ before said after. ServesOwnLine N.frames N.stocks number before line.now said after)
-        cpu.old cpu.new (string_bytes text.old) (string_bytes text.new) }
+    ensures { AddsText result text.old text.new (λ said.
+        ServesOwnLine N.frames N.stocks number cpu.old line.now said cpu.new) }
 {
     match line {
         Line::Go => Ok(()),

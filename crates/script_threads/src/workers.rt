@@ -2,9 +2,8 @@
 
 ghost use Rattle.std.specs.Prelude.{◌≡◌, ◌++◌, ℕ, All, IfOk, List};
 ghost use Rattle.std.specs.String.{string_bytes};
-ghost use Rattle.cpu_part.specs.Cpus.{KnownCpu};
 ghost use Rattle.script_threads.specs.Own.{LineNames, ServesOwn};
-ghost use Rattle.script_threads.specs.Each.{KnownWorker, heading};
+ghost use Rattle.script_threads.specs.Each.{KnownWorker, TellsOwn, heading};
 
 use crate::own_lines::serve_own;
 use cpu_part::{BootName, Cpu};
@@ -114,8 +113,7 @@ pub(crate) fn start<'s, E, N: BootName + Send + Sync, R: Wait + Sync, G: Gate + 
 impl<'a, N: BootName> Worker<'a, N> {
     // Waits for the worker's end, and adds its answers under its heading.
     pub(crate) fn join<R: Threads>(self, rt: &R, text: &mut String) -> Result<(), AllocError>
-        ensures { IfOk result (λ _. (own : List ℕ) × (d : KnownCpu)
-            × ServesOwn N.frames N.stocks self.entry.number self.entry.before self.entry.lines own d
+        ensures { IfOk result (λ _. (own : List ℕ) × TellsOwn N.frames N.stocks self.entry own
             × (string_bytes text.new ≡ string_bytes text.old ++ (heading self.entry.number ++ own))) }
     {
         let Worker { number, handle } = self;

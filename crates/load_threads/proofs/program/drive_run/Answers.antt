@@ -11,21 +11,21 @@ pub returns-in-Ok-write_answers-clause-misused : goal.returns-in-Ok-write_answer
 returns-in-Ok-write_answers-clause-misused g c = λ is. absurd (omega (arith, is))
 
 pub returns-in-Ok-clause-quiet : goal.returns-in-Ok-clause-quiet
-returns-in-Ok-clause-quiet g c = λ is. absurd (no_misuse _ _ c.in-Err-write_answers.ensures.fault c.tell.ensures.status is)
+returns-in-Ok-clause-quiet g c = λ is. absurd (no_misuse _ _ c.in-Err-write_answers.ensures.fault c.tell_fault.ensures.status is)
 
 pub returns-in-Ok-clause-misused : goal.returns-in-Ok-clause-misused
-returns-in-Ok-clause-misused g c = λ is. absurd (no_misuse _ _ c.in-Err-write_answers.ensures.fault c.tell.ensures.status is)
+returns-in-Ok-clause-misused g c = λ is. absurd (no_misuse _ _ c.in-Err-write_answers.ensures.fault c.tell_fault.ensures.status is)
 
 pub returns-in-Ok-clause-fails : goal.returns-in-Ok-clause-fails
 returns-in-Ok-clause-fails g c =
     λ is. run_cut_short _ _ _ _ _ _ c.in-Ok.answers.items _ _ c.in-Ok.ensures.answered c.deref.ensures.value c.write_answers.ensures.beginning
-    c.in-Err-write_answers.ensures.fault c.tell.ensures.told
+    c.in-Err-write_answers.ensures.fault c.tell_fault.ensures.told
 
 pub returns-clause-quiet : goal.returns-clause-quiet
 returns-clause-quiet g c = λ is. refl
 
 pub returns-clause-misused : goal.returns-clause-misused
-returns-clause-misused g c = λ is. run_misused _ _ _ _ c.in-Err.fault (sym c.tell-in-Err.ensures.status ∙ is) c.in-Err.ensures.cause c.tell-in-Err.ensures.told
+returns-clause-misused g c = λ is. run_misused _ _ _ _ c.in-Err.fault (sym c.tell_fault-in-Err.ensures.status ∙ is) c.in-Err.ensures.cause c.tell_fault-in-Err.ensures.told
 
 pub returns-clause-fails : goal.returns-clause-fails
-returns-clause-fails g c = λ is. run_failed _ _ _ _ _ c.in-Err.fault (sym c.tell-in-Err.ensures.status ∙ is) c.in-Err.ensures.cause c.tell-in-Err.ensures.told
+returns-clause-fails g c = λ is. run_failed _ _ _ _ _ c.in-Err.fault (sym c.tell_fault-in-Err.ensures.status ∙ is) c.in-Err.ensures.cause c.tell_fault-in-Err.ensures.told

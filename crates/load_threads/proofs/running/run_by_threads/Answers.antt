@@ -3,14 +3,14 @@
 use Rattle.std.proofs.Common.{◌≡◌, ◌∙◌, ◌≤◌, ℕ, false, List, [], ◌++◌, length, ap, subst, sym, take, drop}
 use Rattle.cpu_part.specs.Cpus.{KnownCpu}
 use Rattle.mem_system.proofs.Closing.{written_back}
-use Rattle.script_replay.specs.History.{TellsHistory}
-use Rattle.script_replay.specs.Lines.{ServesAll, Standing, standing}
+use Rattle.script_replay.specs.History.{Replays}
+use Rattle.script_replay.specs.Lines.{Standing, standing}
 use Rattle.script_threads.specs.Each.{TellsEach, workers_from}
 use Rattle.script_threads.proofs.Going.{go_least}
 use Rattle.load_run.specs.Ending.{end_text}
-use Rattle.load_run.proofs.Answering.{first_long, sized_as, weakened}
+use Rattle.load_run.proofs.Answering.{at_ok, first_long, sized_as, weakened}
 use Rattle.load_run.proofs.Starting.{boot_shown, parts_tied}
-use Rattle.load_threads.proofs.Joining.{are_answers, early_there, later_there, ok_at}
+use Rattle.load_threads.proofs.Joining.{are_answers, early_there, later_there}
 use Rattle.load_threads.proofs.running.run_by_threads.Goals as goal
 
 pub split_at-requires : goal.split_at-requires
@@ -55,26 +55,23 @@ returns g c =
     let at_go : Standing = standing c.replay-first.new.locked c.replay-first.new.cpus in
     let early = c.in_ok-answers.answers.items in
     let later = c.in_ok-told.field-0.items in
-    let held = c.serve_and_end-told.result.1.held in
-    let audit = c.serve_and_end-told.result.1.audit in
-    let served : ServesAll t false start c.split_at.result.0.now early at_go =
-    ok_at c.replay-first.result c.in_ok-answers.answers (λ v. ServesAll t false start c.split_at.result.0.now v.items at_go) c.in_ok-answers.was
-    c.replay-first.ensures.answers in
-    let history : TellsHistory t false (Unit {0}) [] start c.split_at.result.0.now early at_go =
-    ok_at c.replay-first.result c.in_ok-answers.answers (λ v. TellsHistory t false (Unit {0}) [] start c.split_at.result.0.now v.items at_go) c.in_ok-answers.was
-    (c.replay-first.ensures.history [] (boot_shown sizes t w c.in_ok-tables.locked.machine c.deref_mut.result.now sized c.in_ok-tables.ensures.machine firsts)
-    (parts_tied sizes t w c.in_ok-tables.locked.machine c.deref_mut.result.now sized c.in_ok-tables.ensures.machine firsts)) in
+    let ended = c.serve_and_end-told.result.1 in
+    let replays : Replays t w false start c.split_at.result.0.now early at_go =
+    at_ok c.replay-first.result c.in_ok-answers.answers (λ v. Replays t w false start c.split_at.result.0.now v.items at_go) c.in_ok-answers.was
+    c.replay-first.ensures.replayed in
+    let history = replays.history [] (boot_shown sizes t w c.in_ok-tables.locked.machine c.deref_mut.result.now sized c.in_ok-tables.ensures.machine firsts)
+    (parts_tied sizes t w c.in_ok-tables.locked.machine c.deref_mut.result.now sized c.in_ok-tables.ensures.machine firsts) in
     let tells : TellsEach t w (workers_from 1 at_go.cpus c.split_at.result.1.now) later =
     subst (λ (cpus : List KnownCpu). TellsEach t w (workers_from 1 cpus c.split_at.result.1.now) later) same
-    (ok_at c.serve_and_end-told.result.0 c.in_ok-told.field-0 _ c.in_ok-told.was c.serve_and_end-told.ensures.told) in
+    (at_ok c.serve_and_end-told.result.0 c.in_ok-told.field-0 _ c.in_ok-told.was c.serve_and_end-told.ensures.told) in
     let joined : c.extend_from_slice.new.self.items ≡ early ++ later =
     c.in_ok-extend_from_slice.ensures.items ∙ ap (λ (l : List ℕ). early ++ l) c.deref.ensures.value in
     weakened c.tell_end.result _ _ (λ text is.
-    are_answers sizes c.args.is_audited t w lines c.split_at.result.0.now c.split_at.result.1.now start at_go early later text.items held audit (record {
+    are_answers sizes c.args.is_audited t w lines c.split_at.result.0.now c.split_at.result.1.now start at_go early later text.items ended (record {
       sized = sized;
       machine = c.in_ok-tables.ensures.machine;
       sizes_are = c.in_ok-tables.ensures.sizes;
       cpus = firsts;
     }) (c.split_at.ensures.front ∙ ap (λ (n : ℕ). take n lines) c.before_go.ensures)
-    (c.split_at.ensures.back ∙ ap (λ (n : ℕ). drop n lines) c.before_go.ensures) served history tells c.serve_and_end-told.ensures.ends
-    (is ∙ ap (λ (l : List ℕ). l ++ end_text c.args.is_audited held audit) joined)) c.tell_end.ensures
+    (c.split_at.ensures.back ∙ ap (λ (n : ℕ). drop n lines) c.before_go.ensures) replays.served history tells c.serve_and_end-told.ensures.ends
+    (is ∙ ap (λ (l : List ℕ). l ++ end_text c.args.is_audited ended) joined)) c.tell_end.ensures

@@ -20,8 +20,8 @@ serve_later-told-requires-clause-lines g c κs within =
     let long : length c.deref_mut.result.now ≡ g.N.BootName.frames.cpus = ap length c.deref_mut.ensures.value ∙ c.requires.count in
     subst (λ (n : ℕ). All (LineIsThere g.N.BootName.frames.frames n) c.args.lines.now) (sym long) c.requires.lines
 
-pub finish-ended-requires : goal.finish-ended-requires
-finish-ended-requires g c =
+pub end_boot-ended-requires : goal.end_boot-ended-requires
+end_boot-ended-requires g c =
     let first = c.deref_mut.ensures.value in
     let long : length c.serve_later-told.new.cpus ≡ length c.args.cpus.items = c.serve_later-told.auto.cpus ∙ ap length first in
     let same = written_back c.args.cpus.len c.serve_later-told.new.cpus c.args.cpus.items long (sym c.deref_mut.ensures.len ∙ ap length first) in
@@ -44,6 +44,6 @@ returns-clause-ends g c =
     record {
       before = standing c.into_parts-locked.result.0 c.serve_later-told.new.cpus;
       is_before = (c.into_parts-locked.ensures.quiet, long ∙ c.requires.count);
-      ends = subst (λ (cpus : List KnownCpu). EndsHeld t w (standing c.into_parts-locked.result.0 cpus) c.finish-ended.result.held c.finish-ended.result.audit) same
-          c.finish-ended.ensures;
+      ends = subst (λ (cpus : List KnownCpu). EndsHeld t w (standing c.into_parts-locked.result.0 cpus) c.end_boot-ended.result) same
+          c.end_boot-ended.ensures;
     }

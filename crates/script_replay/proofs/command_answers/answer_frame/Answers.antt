@@ -19,7 +19,12 @@ returns-in_default g c =
     let same = holder c.args.locked.now c.args.cpu.now in
     told_alone (λ (said : Answer). AnswersFrame g.N.BootName.frames c.args.path same said same)
     (λ said so. frame_kills c.args.is_explained g.N.BootName.frames c.args.path same said same so) (Served (Refused NoGroup)) (string_bytes c.args.text.now)
-    (string_bytes c.write_refusal.new.text) c.write_refusal.result (inl (sym c.in_default.ensures.found, refl, refl, refl))
+    (string_bytes c.write_refusal.new.text) c.write_refusal.result (inl (record {
+      none = sym c.in_default.ensures.found;
+      refused = refl;
+      same_locked = refl;
+      same_cpu = refl;
+    }))
     refl c.write_refusal.ensures
 
 pub serve_frame-requires : goal.serve_frame-requires
@@ -32,9 +37,11 @@ returns-in-Got g c =
     told_alone (λ (said : Answer). AnswersFrame g.N.BootName.frames c.args.path before said after)
     (λ said so. frame_kills c.args.is_explained g.N.BootName.frames c.args.path before said after so) (answer.Fast (Got c.in-Got.frame)) (string_bytes c.args.text.now)
     (string_bytes c.write_fast.new.text) c.write_fast.result (
-      c.in-Some.group,
-      sym c.in-Some.ensures.found,
-      subst (λ (group : ℕ). FastAnswers group (Got c.in-Got.frame) c.args.cpu.now c.alloc_fast.new.self) c.number.ensures.value c.in-Got.ensures.answer,
+      record {
+        group = c.in-Some.group;
+        found = sym c.in-Some.ensures.found;
+        got = subst (λ (group : ℕ). FastAnswers group (Got c.in-Got.frame) c.args.cpu.now c.alloc_fast.new.self) c.number.ensures.value c.in-Got.ensures.answer;
+      },
       refl,
     ) refl c.write_fast.ensures
 

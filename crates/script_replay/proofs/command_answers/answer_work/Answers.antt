@@ -18,22 +18,22 @@ returns-in-Fast g c = subst (λ (work : Work). (said : List ℕ) × AnswersWork 
     (c.alloc_fast.ensures.answer, refl) refl c.write_fast.ensures)
 
 pub returns-in-Get : goal.returns-in-Get
-returns-in-Get g c = subst (λ (work : Work). (said : List ℕ) × AnswersWork g.N.BootName.frames c.args.is_explained work (holder c.args.locked.now c.args.cpu.now) said (holder c.args.locked.now c.get.new.cpu)
-    × IfOk c.get.result (λ _. string_bytes c.get.new.text ≡ string_bytes c.args.text.now ++ said)) (sym c.in-Get.is)
-    (alone (λ (said : Answer). AnswersGet c.in-Get.frame (holder c.args.locked.now c.args.cpu.now) said (holder c.args.locked.now c.get.new.cpu))
-    (λ said so. []) (string_bytes c.args.text.now) (string_bytes c.get.new.text) c.get.result (λ said so. refl)
-    (told_as (λ (said : Answer). GetsPin c.in-Get.frame c.args.cpu.now said c.get.new.cpu)
-    (λ (said : Answer). AnswersGet c.in-Get.frame (holder c.args.locked.now c.args.cpu.now) said (holder c.args.locked.now c.get.new.cpu))
-    (string_bytes c.args.text.now) (string_bytes c.get.new.text) c.get.result (λ said so. (so, refl)) c.get.ensures))
+returns-in-Get g c = subst (λ (work : Work). (said : List ℕ) × AnswersWork g.N.BootName.frames c.args.is_explained work (holder c.args.locked.now c.args.cpu.now) said (holder c.args.locked.now c.answer_get.new.cpu)
+    × IfOk c.answer_get.result (λ _. string_bytes c.answer_get.new.text ≡ string_bytes c.args.text.now ++ said)) (sym c.in-Get.is)
+    (alone (λ (said : Answer). AnswersGet c.in-Get.frame (holder c.args.locked.now c.args.cpu.now) said (holder c.args.locked.now c.answer_get.new.cpu))
+    (λ said so. []) (string_bytes c.args.text.now) (string_bytes c.answer_get.new.text) c.answer_get.result (λ said so. refl)
+    (told_as (λ (said : Answer). GetsPin c.in-Get.frame c.args.cpu.now said c.answer_get.new.cpu)
+    (λ (said : Answer). AnswersGet c.in-Get.frame (holder c.args.locked.now c.args.cpu.now) said (holder c.args.locked.now c.answer_get.new.cpu))
+    (string_bytes c.args.text.now) (string_bytes c.answer_get.new.text) c.answer_get.result (λ said so. (so, refl)) c.answer_get.ensures))
 
 pub returns-in-Put : goal.returns-in-Put
-returns-in-Put g c = subst (λ (work : Work). (said : List ℕ) × AnswersWork g.N.BootName.frames c.args.is_explained work (holder c.args.locked.now c.args.cpu.now) said (holder c.args.locked.now c.put.new.cpu)
-    × IfOk c.put.result (λ _. string_bytes c.put.new.text ≡ string_bytes c.args.text.now ++ said)) (sym c.in-Put.is)
-    (alone (λ (said : Answer). AnswersPut c.in-Put.frame (holder c.args.locked.now c.args.cpu.now) said (holder c.args.locked.now c.put.new.cpu))
-    (λ said so. []) (string_bytes c.args.text.now) (string_bytes c.put.new.text) c.put.result (λ said so. refl)
-    (told_as (λ (said : Answer). PutsPin c.in-Put.frame c.args.cpu.now said c.put.new.cpu)
-    (λ (said : Answer). AnswersPut c.in-Put.frame (holder c.args.locked.now c.args.cpu.now) said (holder c.args.locked.now c.put.new.cpu))
-    (string_bytes c.args.text.now) (string_bytes c.put.new.text) c.put.result (λ said so. (so, refl)) c.put.ensures))
+returns-in-Put g c = subst (λ (work : Work). (said : List ℕ) × AnswersWork g.N.BootName.frames c.args.is_explained work (holder c.args.locked.now c.args.cpu.now) said (holder c.args.locked.now c.answer_put.new.cpu)
+    × IfOk c.answer_put.result (λ _. string_bytes c.answer_put.new.text ≡ string_bytes c.args.text.now ++ said)) (sym c.in-Put.is)
+    (alone (λ (said : Answer). AnswersPut c.in-Put.frame (holder c.args.locked.now c.args.cpu.now) said (holder c.args.locked.now c.answer_put.new.cpu))
+    (λ said so. []) (string_bytes c.args.text.now) (string_bytes c.answer_put.new.text) c.answer_put.result (λ said so. refl)
+    (told_as (λ (said : Answer). PutsPin c.in-Put.frame c.args.cpu.now said c.answer_put.new.cpu)
+    (λ (said : Answer). AnswersPut c.in-Put.frame (holder c.args.locked.now c.args.cpu.now) said (holder c.args.locked.now c.answer_put.new.cpu))
+    (string_bytes c.args.text.now) (string_bytes c.answer_put.new.text) c.answer_put.result (λ said so. (so, refl)) c.answer_put.ensures))
 
 pub returns-in-Settle : goal.returns-in-Settle
 returns-in-Settle g c = subst (λ (work : Work). (said : List ℕ) × AnswersWork g.N.BootName.frames c.args.is_explained work (holder c.args.locked.now c.args.cpu.now) said (holder c.settle.new.locked c.settle.new.cpu)

@@ -10,5 +10,4 @@ returns-in-At g c =
     (get_or c.args.cpus.now (c.in-At.processor - 1) c.index-cpus-at.result) c.serve_part.new.cpu _ (string_bytes c.args.answers.now)
     (string_bytes c.serve_part.new.answers) c.in-At.is c.requires
     (ap (λ (d : KnownCpu). get_or c.args.cpus.now (c.in-At.processor - 1) d) c.index-cpus-at.is)
-    c.serve_part.ensures.answered c.serve_part.ensures.quiet c.serve_part.ensures.consistent
-    c.serve_part.ensures.charges c.serve_part.ensures.tied c.serve_part.ensures.none_fresh
+    c.serve_part.ensures.answered c.serve_part.ensures.well c.serve_part.ensures.tied c.serve_part.ensures.none_fresh

@@ -1,12 +1,14 @@
 use Rattle.std.proofs.Common.{ap}
 use Rattle.std.specs.String.{string_bytes}
-use Rattle.script_replay.proofs.Visiting.{visits_line, visits_stop, visits_end}
+use Rattle.script_replay.specs.Visits.{VisitsLine}
+use Rattle.script_replay.proofs.InOrder.{in_order_end, in_order_line}
+use Rattle.script_replay.proofs.Visiting.{visits_stop}
 use Rattle.script_replay.proofs.Telling.{at_error}
 use Rattle.script_replay.proofs.visit_replay.replay_by_visits.Goals as goal
 
 pub loop-line-preserved : goal.loop-line-preserved
 loop-line-preserved g c =
-    visits_line g.N.BootName.frames g.N.BootName.stocks c.args.cpus.now c.loop-line.cpus c.serve_by_visit.new.cpus
+    in_order_line (VisitsLine g.N.BootName.frames g.N.BootName.stocks) c.args.cpus.now c.loop-line.cpus c.serve_by_visit.new.cpus
     c.args.lines.now c.loop-line.line-index _ (string_bytes c.loop-line.answers) (string_bytes c.serve_by_visit.new.answers) c.loop-line-test.true
     c.loop-line.invariant c.in_ok-serve_by_visit.ensures
 
@@ -18,5 +20,5 @@ returns-in_err-serve_by_visit-clause-stopped g c =
 
 pub returns-clause-answers : goal.returns-clause-answers
 returns-clause-answers g c =
-    visits_end g.N.BootName.frames g.N.BootName.stocks c.args.cpus.now c.loop-line.cpus c.args.lines.now c.loop-line.line-index (string_bytes c.loop-line.answers)
+    in_order_end (VisitsLine g.N.BootName.frames g.N.BootName.stocks) c.args.cpus.now c.loop-line.cpus c.args.lines.now c.loop-line.line-index (string_bytes c.loop-line.answers)
     c.into_bytes.result.items c.loop-line-test.false c.loop-line.invariant (ap (λ v. v.items) c.into_bytes.ensures.value)

@@ -4,7 +4,7 @@ use Rattle.std.specs.Fmt.{decimal}
 use Rattle.std.specs.Io.KnownBytes.{Appends}
 use Rattle.load_run.specs.Writing.{AppendsBeginning}
 use Rattle.load_run.proofs.Written.{begins_after, begins_more}
-use Rattle.load_run.proofs.telling.write_bad_line.Goals as goal
+use Rattle.load_run.proofs.fault_lines.write_bad_line.Goals as goal
 
 pub returns-in_err-write_whole-clause-beginning : goal.returns-in_err-write_whole-clause-beginning
 returns-in_err-write_whole-clause-beginning g c =

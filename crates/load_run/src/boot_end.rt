@@ -1,8 +1,9 @@
-//! The end of a run: every pin is put, the boot ends, and what was counted is told.
+//! The end of a boot: every pin that is still held is put, the boot ends, and what was counted is told.
 
 ghost use Rattle.std.specs.Prelude.{◌≡◌, ◌++◌, [], IfOk, length};
 ghost use Rattle.std.specs.List.{AllZip};
 ghost use Rattle.std.specs.String.{string_bytes};
+ghost use Rattle.script_replay.specs.Lines.{standing};
 ghost use Rattle.load_run.specs.Ending.{EndsHeld, LetsGo, audit_text, counts_text, held_text, audit_places_text};
 
 use cpu_part::{BootName, Cpu, Tables};
@@ -28,7 +29,7 @@ fn put_pins<N: BootName>(tables: &Tables<N>, cpu: &mut Cpu<N>)
 }
 
 // Puts every pin of the processors.
-fn put_all<N: BootName>(tables: &Tables<N>, cpus: &mut [Cpu<N>])
+fn put_all_pins<N: BootName>(tables: &Tables<N>, cpus: &mut [Cpu<N>])
     ensures { AllZip LetsGo cpus.old cpus.new }
 {
     for cpu in cpus.iter_mut() {
@@ -37,9 +38,9 @@ fn put_all<N: BootName>(tables: &Tables<N>, cpus: &mut [Cpu<N>])
 }
 
 /// Ends a boot. Where pins are still held, they are put first.
-pub fn finish<N: BootName>(tables: Tables<N>, locked: Locked<N>, cpus: Vec<Cpu<N>>) -> Ended
+pub fn end_boot<N: BootName>(locked: Locked<N>, tables: Tables<N>, cpus: Vec<Cpu<N>>) -> Ended
     requires { length cpus.items ≡ N.frames.cpus }
-    ensures { EndsHeld N.frames N.stocks (record { locked = locked; cpus = cpus.items }) result.held result.audit }
+    ensures { EndsHeld N.frames N.stocks (standing locked cpus.items) result }
 {
     match end(locked, tables, cpus) {
         Ok(audit) => Ended { held: 0, audit },
@@ -50,7 +51,7 @@ pub fn finish<N: BootName>(tables: Tables<N>, locked: Locked<N>, cpus: Vec<Cpu<N
                 mut cpus,
                 pins,
             } = pinned;
-            put_all(&tables, &mut cpus);
+            put_all_pins(&tables, &mut cpus);
             match end(locked, tables, cpus) {
                 Ok(audit) => Ended { held: pins, audit },
                 Err(_) => unreachable!(),

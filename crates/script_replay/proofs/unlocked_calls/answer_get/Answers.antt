@@ -5,7 +5,7 @@ use Rattle.mem_system.specs.declared.command.Reply.TheVariants.{Refused}
 use Rattle.reply_texts.specs.Answer.{Answer, Got, Served}
 use Rattle.script_replay.specs.Answers.{GetsPin}
 use Rattle.script_replay.proofs.Telling.{told}
-use Rattle.script_replay.proofs.unlocked_calls.get.Goals as goal
+use Rattle.script_replay.proofs.unlocked_calls.answer_get.Goals as goal
 
 pub returns-in-Ok : goal.returns-in-Ok
 returns-in-Ok g c = told (λ (said : Answer). GetsPin c.args.number c.args.cpu.now said c.get.new.self) (Got c.in-Ok.got)

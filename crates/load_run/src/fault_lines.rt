@@ -1,4 +1,4 @@
-//! A fault is told in its words.
+//! Each fault is told in a line of its own, or in clap's text of the words.
 
 ghost use Rattle.std.specs.Prelude.{◌≡◌, ◌++◌, OnOk, codes};
 ghost use Rattle.std.specs.Fmt.{decimal};
@@ -15,7 +15,7 @@ use std::io;
 use std::io::Write;
 
 /// Tells a fault in its words, as far as the writer takes them, and gives the status to end with.
-pub fn tell<F: Write>(faults: &mut F, fault: &ProgramFault) -> u8
+pub fn tell_fault<F: Write>(faults: &mut F, fault: &ProgramFault) -> u8
     ensures status { result ≡ status_of fault.now }
     ensures told { AppendsBeginning (F.contents faults.old) (F.contents faults.new) (fault_text fault.now) }
 {

@@ -5,7 +5,7 @@ use Rattle.mem_system.specs.declared.command.Reply.TheVariants.{Refused}
 use Rattle.reply_texts.specs.Answer.{Answer, Put, Served}
 use Rattle.script_replay.specs.Answers.{PutsPin}
 use Rattle.script_replay.proofs.Telling.{told}
-use Rattle.script_replay.proofs.unlocked_calls.put.Goals as goal
+use Rattle.script_replay.proofs.unlocked_calls.answer_put.Goals as goal
 
 pub returns-then-not-holds : goal.returns-then-not-holds
 returns-then-not-holds g c = told (λ (said : Answer). PutsPin c.args.number c.args.cpu.now said c.args.cpu.now)

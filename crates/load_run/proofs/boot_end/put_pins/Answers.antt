@@ -1,6 +1,6 @@
 use Rattle.std.proofs.Common.{rules}
 use Rattle.load_run.proofs.Putting.{fewer_pins, lets_go, put_more, put_start}
-use Rattle.load_run.proofs.run_end.put_pins.Goals as goal
+use Rattle.load_run.proofs.boot_end.put_pins.Goals as goal
 
 pub loop-frame-init : goal.loop-frame-init
 loop-frame-init g c = put_start _

@@ -1,19 +1,19 @@
-use Rattle.std.proofs.Common.{◌≡◌, ◌∙◌, ℕ, List, All, MatchResult, length, ap, sym, subst}
+use Rattle.std.proofs.Common.{◌≡◌, ◌∙◌, ℕ, List, All, length, ap, sym, subst}
 use Rattle.cpu_part.specs.Cpus.{KnownCpu}
 use Rattle.mem_system.proofs.Closing.{written_back}
+use Rattle.script_replay.specs.History.{ReplaysOrStops}
 use Rattle.script_replay.specs.Lines.{standing}
 use Rattle.script_replay.specs.Ranges.{LineIsThere}
 use Rattle.load_run.specs.Ending.{EndsHeld}
-use Rattle.load_run.proofs.Answering.{replays_or_stops}
-use Rattle.load_run.proofs.running.replay_and_end.Goals as goal
+use Rattle.load_run.proofs.running.replay_and_end_boot.Goals as goal
 
 pub replay-answers-requires : goal.replay-answers-requires
 replay-answers-requires g c =
     let long : length c.deref_mut.result.now ≡ g.N.BootName.frames.cpus = ap length c.deref_mut.ensures.value ∙ c.requires.count in
     subst (λ (n : ℕ). All (LineIsThere g.N.BootName.frames.frames n) c.args.lines.now) (sym long) c.requires.lines
 
-pub finish-ended-requires : goal.finish-ended-requires
-finish-ended-requires g c =
+pub end_boot-ended-requires : goal.end_boot-ended-requires
+end_boot-ended-requires g c =
     let first = c.deref_mut.ensures.value in
     let long : length c.replay-answers.new.cpus ≡ length c.args.cpus.items = c.replay-answers.auto.cpus ∙ ap length first in
     let same = written_back c.args.cpus.len c.replay-answers.new.cpus c.args.cpus.items long (sym c.deref_mut.ensures.len ∙ ap length first) in
@@ -26,12 +26,9 @@ returns g c =
     let first = c.deref_mut.ensures.value in
     let long : length c.replay-answers.new.cpus ≡ length c.args.cpus.items = c.replay-answers.auto.cpus ∙ ap length first in
     let same = written_back c.args.cpus.len c.replay-answers.new.cpus c.args.cpus.items long (sym c.deref_mut.ensures.len ∙ ap length first) in
-    let held = c.finish-ended.result.held in
-    let audit = c.finish-ended.result.audit in
     record {
       before = standing c.replay-answers.new.locked c.replay-answers.new.cpus;
-      is_before = replays_or_stops t w c.args.is_explained (standing c.args.locked c.deref_mut.result.now) (standing c.args.locked c.args.cpus.items)
-          (standing c.replay-answers.new.locked c.replay-answers.new.cpus) c.args.lines.now c.replay-answers.result (λ v. v.items)
-          (ap (standing c.args.locked) first) c.replay-answers.ensures.answers c.replay-answers.ensures.history c.replay-answers.ensures.stopped;
-      ends = subst (λ (cpus : List KnownCpu). EndsHeld t w (standing c.replay-answers.new.locked cpus) held audit) same c.finish-ended.ensures;
+      is_before = subst (λ (cpus : List KnownCpu). ReplaysOrStops t w c.args.is_explained (standing c.args.locked cpus) c.args.lines.now
+          c.replay-answers.result (standing c.replay-answers.new.locked c.replay-answers.new.cpus)) first c.replay-answers.ensures;
+      ends = subst (λ (cpus : List KnownCpu). EndsHeld t w (standing c.replay-answers.new.locked cpus) c.end_boot-ended.result) same c.end_boot-ended.ensures;
     }

@@ -2,7 +2,7 @@ use Rattle.std.specs.String.{string_bytes}
 use Rattle.reply_texts.specs.Answer.{Answer, Served}
 use Rattle.script_replay.specs.Visits.{RepliesVisited}
 use Rattle.script_replay.proofs.Telling.{told}
-use Rattle.script_replay.proofs.visit_answers.visited.Goals as goal
+use Rattle.script_replay.proofs.visit_answers.visit_and_reply.Goals as goal
 
 pub returns : goal.returns
 returns g c =

@@ -4,7 +4,7 @@ use Rattle.machine_texts.specs.Blocks.{blocks_text}
 use Rattle.script_replay.specs.declared.work.Work.TheVariants.{Blocks}
 use Rattle.script_replay.specs.Visits.{VisitsWork}
 use Rattle.script_replay.proofs.Visiting.{said_as}
-use Rattle.script_replay.proofs.visit_answers.tell_blocks.Goals as goal
+use Rattle.script_replay.proofs.visit_answers.visit_blocks.Goals as goal
 
 pub returns-in_err-told : goal.returns-in_err-told
 returns-in_err-told g c =

@@ -1,6 +1,6 @@
 use Rattle.std.proofs.Common.{◌<◌, ◌≤◌, length, rules}
 use Rattle.load_run.proofs.Putting.{gone_end, gone_more, gone_start}
-use Rattle.load_run.proofs.run_end.put_all.Goals as goal
+use Rattle.load_run.proofs.boot_end.put_all_pins.Goals as goal
 
 pub loop-cpu-init : goal.loop-cpu-init
 loop-cpu-init g c = gone_start _

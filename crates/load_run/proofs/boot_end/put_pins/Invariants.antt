@@ -1,6 +1,6 @@
 use Rattle.std.proofs.Common.{length}
 use Rattle.load_run.proofs.Putting.{PutSoFar}
-use Rattle.load_run.proofs.run_end.put_pins.Given as goal
+use Rattle.load_run.proofs.boot_end.put_pins.Given as goal
 
 abbrev pub invariant-loop-frame : goal.invariant-loop-frame
 invariant-loop-frame g l = PutSoFar l.initial.cpu l.cpu

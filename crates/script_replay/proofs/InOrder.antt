@@ -1,0 +1,39 @@
+-- Lines that were served one after the other, so far. Serves `replay`, `replay_by_visits`, and `serve_own` of `script_threads`.
+use Rattle.std.proofs.Common.{◌≡◌, ℕ, ◌+◌, ◌<◌, ◌≤◌, List, [], ◌∷◌, ◌++◌, length, take, get_or, append_assoc, append-nil, ap, refl, sym, ◌∙◌, subst}
+use Rattle.std.proofs.lemmas.List.{take_more, take_all}
+use Rattle.script_lines.specs.declared.line.Line.{Line}
+use Rattle.script_replay.specs.Lines.{InOrder}
+
+in_order_more : {S : Type 0} (serves : S → Line → List ℕ → S → Type 0) (s m e : S) (lines : List Line) (line : Line) (text more : List ℕ)
+    → InOrder serves s lines text m → serves m line more e → InOrder serves s (lines ++ line ∷ []) (text ++ more) e
+in_order_more serves s m e [] line text more all one = record {
+  first = more;
+  rest = [];
+  between = e;
+  serves_first = subst (λ x. serves x line more e) all.1 one;
+  serves_rest = (refl, refl);
+  text_is = ap (λ l. l ++ more) all.0 ∙ sym (append-nil more);
+}
+in_order_more serves s m e (l ∷ lines) line text more all one = record {
+  first = all.first;
+  rest = all.rest ++ more;
+  between = all.between;
+  serves_first = all.serves_first;
+  serves_rest = in_order_more serves all.between m e lines line all.rest more all.serves_rest one;
+  text_is = ap (λ x. x ++ more) all.text_is ∙ append_assoc all.first all.rest more;
+}
+
+-- one line more
+pub in_order_line : {S : Type 0} (serves : S → Line → List ℕ → S → Type 0) (s m e : S) (lines : List Line) (i : ℕ) (default : Line) (text new : List ℕ)
+    → i < length lines → InOrder serves s (take i lines) text m
+    → (more : List ℕ) × serves m (get_or lines i default) more e × (new ≡ text ++ more)
+    → InOrder serves s (take (i + 1) lines) new e
+in_order_line serves s m e lines i default text new inside all one =
+    let next : take (i + 1) lines ≡ take i lines ++ get_or lines i default ∷ [] = take_more lines i default inside in
+    rw (next, one.2) (in_order_more serves s m e (take i lines) (get_or lines i default) text one.0 all one.1)
+
+-- the lines are at their end
+pub in_order_end : {S : Type 0} (serves : S → Line → List ℕ → S → Type 0) (s e : S) (lines : List Line) (i : ℕ) (text items : List ℕ)
+    → length lines ≤ i → InOrder serves s (take i lines) text e → items ≡ text → InOrder serves s lines items e
+in_order_end serves s e lines i text items past all is =
+    subst (λ (x : List Line × List ℕ). InOrder serves s x.0 x.1 e) (λ j. (take_all i lines past j, sym is j)) all
