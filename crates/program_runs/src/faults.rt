@@ -3,103 +3,103 @@
 ghost use Rattle.std.specs.Prelude.{◌≤◌, length};
 
 use crate::streams::{
-    Outcome, PLAIN, Paper, Script, holds, holds_of, in_steps, new_paper, run, run_on, whole,
+    AnswerWriter, PLAIN, ProgramRun, ScriptReader, program_holds, reader_in_steps, row_holds,
+    run_program, run_program_on, script_reader, writer_with_room,
 };
 use std::io::ErrorKind;
 use std::process::Abort;
 
-const SCRIPT: &str = "1 mkdir /a\n1 alloc /a 0\n1 blocks\n1 read /a memory.current\n";
+const GOOD_SCRIPT: &str = "1 mkdir /a\n1 alloc /a 0\n1 blocks\n1 read /a memory.current\n";
 
-const ANSWERS: &str = "group 1\nframe 0\n2:4 3:8\n16384\n";
+const GOOD_ANSWERS: &str = "group 1\nframe 0\n2:4 3:8\n16384\n";
 
 // Scripts for the default sizes, and the first bad line of each.
-fn bad_scripts() -> [(&'static str, usize); 31] {
-    [
-        ("0 show", 1),
-        ("3 show\n", 1),
-        ("1  show", 1),
-        ("1 show \n", 1),
-        ("1 show\r\n", 1),
-        (" 1 show\n", 1),
-        ("\t1 show\n", 1),
-        (" \n", 1),
-        ("1\n", 1),
-        ("1 \n", 1),
-        ("show\n", 1),
-        ("1 show\n\n# two\n1 shows\n", 4),
-        ("1 Show\n", 1),
-        ("1 get 16\n", 1),
-        ("1 get -1\n", 1),
-        ("1 get \n", 1),
-        ("1 get 4294967296\n", 1),
-        ("1 fast 64\n", 1),
-        ("1 fast 18446744073709551616\n", 1),
-        ("1 mkdir \n", 1),
-        ("1 mkdir /a /b\n", 1),
-        ("1 mkdir /a\u{0}\n", 1),
-        ("1 show\u{0}\n", 1),
-        ("\u{0}", 1),
-        ("1 alloc  0\n", 1),
-        ("1 alloc /a\n", 1),
-        ("1 mkdir /a\n1 write /a memory.max\n", 2),
-        ("go\n1 show\ngo\n", 3),
-        ("go \n", 1),
-        ("1 show\n\n# a comment\n2 show\n3 show\n0 show\n", 5),
-        ("1 show\n2 show\n1 release 15\n1 release 16", 4),
-    ]
-}
+const BAD_SCRIPTS: [(&str, usize); 31] = [
+    ("0 show", 1),
+    ("3 show\n", 1),
+    ("1  show", 1),
+    ("1 show \n", 1),
+    ("1 show\r\n", 1),
+    (" 1 show\n", 1),
+    ("\t1 show\n", 1),
+    (" \n", 1),
+    ("1\n", 1),
+    ("1 \n", 1),
+    ("show\n", 1),
+    ("1 show\n\n# two\n1 shows\n", 4),
+    ("1 Show\n", 1),
+    ("1 get 16\n", 1),
+    ("1 get -1\n", 1),
+    ("1 get \n", 1),
+    ("1 get 4294967296\n", 1),
+    ("1 fast 64\n", 1),
+    ("1 fast 18446744073709551616\n", 1),
+    ("1 mkdir \n", 1),
+    ("1 mkdir /a /b\n", 1),
+    ("1 mkdir /a\u{0}\n", 1),
+    ("1 show\u{0}\n", 1),
+    ("\u{0}", 1),
+    ("1 alloc  0\n", 1),
+    ("1 alloc /a\n", 1),
+    ("1 mkdir /a\n1 write /a memory.max\n", 2),
+    ("go\n1 show\ngo\n", 3),
+    ("go \n", 1),
+    ("1 show\n\n# a comment\n2 show\n3 show\n0 show\n", 5),
+    ("1 show\n2 show\n1 release 15\n1 release 16", 4),
+];
 
 // The script's first bad line is told, and nothing is answered.
 fn tells_first_bad_line(rt: &(impl Abort + AllocGlobal), script: &str, line: usize) {
     let told = format!(in rt.alloc(); "bad line {line}\n").expect(rt, "memory");
-    let outcome = run(rt, &PLAIN, whole(script.as_bytes()), 10_000);
-    holds_of(rt, outcome.status == 2, script);
-    holds_of(rt, outcome.faults.as_slice() == told.as_bytes(), script);
-    holds_of(rt, outcome.output.is_empty(), script);
+    let ended = run_program(rt, &PLAIN, script_reader(script.as_bytes()), 10_000);
+    row_holds(rt, ended.status == 2, script);
+    row_holds(rt, ended.faults.as_slice() == told.as_bytes(), script);
+    row_holds(rt, ended.output.is_empty(), script);
 }
 
 #[test]
 fn tells_each_first_bad_line(rt: HostRuntime) {
-    for (script, line) in bad_scripts() {
+    for (script, line) in BAD_SCRIPTS {
         tells_first_bad_line(&rt, script, line);
     }
 }
 
-// The run ended well, with the answers to `SCRIPT` and no fault.
-fn is_answered(outcome: &Outcome) -> bool {
-    outcome.status == 0
-        && outcome.output.as_slice() == ANSWERS.as_bytes()
-        && outcome.faults.is_empty()
+// The run ended well, with the answers to `GOOD_SCRIPT` and no fault.
+fn script_is_answered(ended: &ProgramRun) -> bool {
+    ended.status == 0
+        && ended.output.as_slice() == GOOD_ANSWERS.as_bytes()
+        && ended.faults.is_empty()
 }
 
 #[test]
 fn ends_well_where_nothing_fails(rt: HostRuntime) {
-    for at_once in 1..=80 {
-        let outcome = run(&rt, &PLAIN, in_steps(SCRIPT.as_bytes(), at_once), 10_000);
-        assert!(rt; is_answered(&outcome), "{at_once}");
+    for bytes_at_once in 1..=80 {
+        let script = reader_in_steps(GOOD_SCRIPT.as_bytes(), bytes_at_once);
+        let ended = run_program(&rt, &PLAIN, script, 10_000);
+        program_holds(&rt, script_is_answered(&ended));
     }
 }
 
-// `SCRIPT`, where one read fails after so many that go well.
-fn failing(good_reads: u32, kind: ErrorKind) -> Script<'static> {
-    Script {
+// `GOOD_SCRIPT`, where one read fails after so many that go well.
+fn reader_that_fails(good_reads: u32, read_fault: ErrorKind) -> ScriptReader<'static> {
+    ScriptReader {
         good_reads: Some(good_reads),
-        kind,
-        ..whole(SCRIPT.as_bytes())
+        read_fault,
+        ..script_reader(GOOD_SCRIPT.as_bytes())
     }
 }
 
 // Each read in turn fails so, the last one too: so many were made, each of which ended the run with this text.
-fn failed_reads<R: AllocGlobal + Abort>(rt: &R, kind: ErrorKind, told: &str) -> u32 {
+fn failed_reads<R: AllocGlobal + Abort>(rt: &R, read_fault: ErrorKind, told: &str) -> u32 {
     for good in 0..100 {
-        let outcome = run(rt, &PLAIN, failing(good, kind), 10_000);
-        if outcome.status == 0 {
-            holds_of(rt, is_answered(&outcome), told);
+        let ended = run_program(rt, &PLAIN, reader_that_fails(good, read_fault), 10_000);
+        if ended.status == 0 {
+            row_holds(rt, script_is_answered(&ended), told);
             return good;
         }
-        holds_of(rt, outcome.status == 1, told);
-        holds_of(rt, outcome.output.is_empty(), told);
-        holds_of(rt, outcome.faults.as_slice() == told.as_bytes(), told);
+        row_holds(rt, ended.status == 1, told);
+        row_holds(rt, ended.output.is_empty(), told);
+        row_holds(rt, ended.faults.as_slice() == told.as_bytes(), told);
     }
     100
 }
@@ -107,77 +107,80 @@ fn failed_reads<R: AllocGlobal + Abort>(rt: &R, kind: ErrorKind, told: &str) -> 
 #[test]
 fn tells_that_the_input_failed(rt: HostRuntime) {
     let failed = failed_reads(&rt, ErrorKind::ConnectionReset, "input failed\n");
-    assert!(rt; 10 < failed && failed < 100, "{failed}");
+    program_holds(&rt, 10 < failed && failed < 100);
     let wanting = failed_reads(&rt, ErrorKind::OutOfMemory, "no memory\n");
-    assert_eq!(rt; wanting, failed);
+    program_holds(&rt, wanting == failed);
 }
 
 #[test]
 fn reads_on_after_an_interrupt(rt: HostRuntime) {
     for good in 0..20 {
-        let outcome = run(&rt, &PLAIN, failing(good, ErrorKind::Interrupted), 10_000);
-        assert!(rt; is_answered(&outcome), "{good}");
+        let script = reader_that_fails(good, ErrorKind::Interrupted);
+        let ended = run_program(&rt, &PLAIN, script, 10_000);
+        program_holds(&rt, script_is_answered(&ended));
     }
 }
 
-// `SCRIPT`, over this writer for the answers.
-fn run_to(rt: &(impl Abort + AllocGlobal), output: Paper) -> Outcome {
-    let script = whole(SCRIPT.as_bytes());
-    let faults = new_paper(rt, 100);
-    run_on(rt.alloc(), &PLAIN, script, output, faults)
+// `GOOD_SCRIPT`, over this writer for the answers.
+fn run_to(rt: &(impl Abort + AllocGlobal), output: AnswerWriter) -> ProgramRun {
+    let script = script_reader(GOOD_SCRIPT.as_bytes());
+    let faults = writer_with_room(rt, 100);
+    run_program_on(rt.alloc(), &PLAIN, script, output, faults)
 }
 
 // The run told that its output failed, and wrote these answers before.
-fn is_cut_short(outcome: &Outcome, answers: &[u8]) -> bool {
-    outcome.status == 1
-        && outcome.output.as_slice() == answers
-        && outcome.faults.as_slice() == b"output failed\n".as_slice()
+fn answers_are_cut_short(ended: &ProgramRun, answers: &[u8]) -> bool {
+    ended.status == 1
+        && ended.output.as_slice() == answers
+        && ended.faults.as_slice() == b"output failed\n".as_slice()
 }
 
 // With room for so many bytes, so many at once, the answers are cut short there.
-fn is_cut_at(rt: &(impl Abort + AllocGlobal), at_once: usize, answers: &[u8], room: usize)
+fn answers_are_cut_at(
+    rt: &(impl Abort + AllocGlobal),
+    bytes_at_once: usize,
+    answers: &[u8],
+    room: usize,
+)
     requires { room ≤ length answers.now }
 {
-    let mut paper = new_paper(rt, room);
-    paper.at_once = at_once;
-    let outcome = run_to(rt, paper);
-    assert!(rt;
-        is_cut_short(&outcome, &answers[..room]),
-        "{at_once} {room}"
-    );
+    let mut writer = writer_with_room(rt, room);
+    writer.bytes_at_once = bytes_at_once;
+    let ended = run_to(rt, writer);
+    program_holds(rt, answers_are_cut_short(&ended, &answers[..room]));
 }
 
 // With room for all of the answers they are written, so many bytes at once, where the first write is interrupted.
-fn is_written(rt: &(impl Abort + AllocGlobal), at_once: usize) {
-    let mut paper = new_paper(rt, ANSWERS.len());
-    paper.at_once = at_once;
-    paper.interrupts = true;
-    let outcome = run_to(rt, paper);
-    assert!(rt; is_answered(&outcome), "{at_once}");
+fn answers_are_written(rt: &(impl Abort + AllocGlobal), bytes_at_once: usize) {
+    let mut writer = writer_with_room(rt, GOOD_ANSWERS.len());
+    writer.bytes_at_once = bytes_at_once;
+    writer.interrupts = true;
+    let ended = run_to(rt, writer);
+    program_holds(rt, script_is_answered(&ended));
 }
 
 #[test]
 fn tells_that_the_output_failed(rt: HostRuntime) {
-    let answers = ANSWERS.as_bytes();
-    for at_once in [1, 3, 100] {
+    let answers = GOOD_ANSWERS.as_bytes();
+    for bytes_at_once in [1, 3, 100] {
         for room in 0..answers.len() {
-            is_cut_at(&rt, at_once, answers, room);
+            answers_are_cut_at(&rt, bytes_at_once, answers, room);
         }
-        is_written(&rt, at_once);
+        answers_are_written(&rt, bytes_at_once);
     }
-    let mut unkept = new_paper(&rt, 100);
-    unkept.keeps = false;
-    holds(&rt, is_cut_short(&run_to(&rt, unkept), answers));
+    let mut unflushed = writer_with_room(&rt, 100);
+    unflushed.flushes = false;
+    program_holds(&rt, answers_are_cut_short(&run_to(&rt, unflushed), answers));
 }
 
 // With room for so much of the fault that is told, the run ends as it would.
 fn ends_as_it_would(rt: &(impl Abort + AllocGlobal), told: &[u8]) {
-    let script = whole(b"1 show\n1 sho".as_slice());
-    let output = new_paper(rt, 100);
-    let faults = new_paper(rt, told.len());
-    let outcome = run_on(rt.alloc(), &PLAIN, script, output, faults);
-    holds(rt, outcome.status == 2);
-    holds(rt, outcome.faults.as_slice() == told);
+    let script = script_reader(b"1 show\n1 sho".as_slice());
+    let output = writer_with_room(rt, 100);
+    let faults = writer_with_room(rt, told.len());
+    let ended = run_program_on(rt.alloc(), &PLAIN, script, output, faults);
+    program_holds(rt, ended.status == 2);
+    program_holds(rt, ended.faults.as_slice() == told);
 }
 
 #[test]

@@ -1,7 +1,10 @@
 //! Scripts over readers and writers in memory.
 
-use crate::rows::{Row, explained_rows, group_rows, kill_rows, processor_rows, reclaim_rows};
-use crate::streams::{Outcome, PLAIN, broken, holds, holds_of, in_steps, is_refused, run, whole};
+use crate::rows::{GROUP_ROWS, KILL_ROWS, PROCESSOR_ROWS, RECLAIM_ROWS, Row, row_of};
+use crate::streams::{
+    PLAIN, broken_reader, is_refused, program_holds, reader_in_steps, row_holds, run_program,
+    script_reader,
+};
 use crate::visits::visit_all;
 use load_options::command_line::parse_words;
 use mem_system::boot;
@@ -12,35 +15,29 @@ use std::process::Abort;
 use std::sync::Wait;
 use zone_sizes::config::Config;
 
-// The row is answered as it says.
-fn answers<R: AllocGlobal + Abort>(rt: &R, row: &Row) {
-    let words: Vec<&str> = row
-        .words
-        .split(' ')
-        .collect(rt.alloc())
-        .expect(rt, row.name);
-    let outcome = run(rt, &words, whole(row.script.as_bytes()), 10_000);
-    holds_of(rt, outcome.status == 0, row.name);
-    holds_of(rt, is_output(&outcome, row), row.name);
-    holds_of(rt, outcome.faults.is_empty(), row.name);
+// The words of the row's command line.
+fn words_of<'a>(rt: &(impl Abort + AllocGlobal), row: &Row<'a>) -> Vec<&'a str> {
+    let words = row.words.split(' ').collect(rt.alloc());
+    words.expect(rt, row.name)
 }
 
-// The output is the row's answers, and behind them what is told of the end.
-fn is_output(outcome: &Outcome, row: &Row) -> bool {
-    match outcome.output.strip_prefix(row.answers.as_bytes()) {
-        Some(ending) => ending == row.ending.as_bytes(),
-        None => false,
+// The program answers the row's script as it says, and tells its end.
+fn program_answers(rt: &(impl Abort + AllocGlobal), row: &Row<'_>, is_explained: bool) {
+    let mut words = words_of(rt, row);
+    if is_explained {
+        words.push("--explain").expect(rt, row.name);
     }
+    let script = row.script(rt.alloc()).expect(rt, row.name);
+    let mut answers = row.answers(rt.alloc(), is_explained).expect(rt, row.name);
+    row.add_ending(&mut answers).expect(rt, row.name);
+    let told = run_program(rt, &words, script_reader(script.as_bytes()), 10_000);
+    row_holds(rt, told.status == 0 && told.faults.is_empty(), row.name);
+    row_holds(rt, told.output.as_slice() == answers.as_bytes(), row.name);
 }
 
 // The sizes that the row's words ask for.
-fn sizes_of<R: AllocGlobal + Abort>(rt: &R, row: &Row) -> Config {
-    let words: Vec<&str> = row
-        .words
-        .split(' ')
-        .collect(rt.alloc())
-        .expect(rt, row.name);
-    let settings = parse_words(rt.alloc(), &words);
+fn sizes_of(rt: &(impl Abort + AllocGlobal), row: &Row<'_>) -> Config {
+    let settings = parse_words(rt.alloc(), &words_of(rt, row));
     settings.expect(rt, row.name).sizes
 }
 
@@ -56,66 +53,44 @@ fn visits_told<R: AllocGlobal + Abort + Wait>(
     visit_all::<Brand, _>(rt, alloc, boot, &lines).ok()
 }
 
-// The row is answered alike by visits, but for its end.
-fn visits_answer<R: AllocGlobal + Abort + Wait>(rt: &R, row: &Row) {
-    let answers = visits_told(rt, sizes_of(rt, row), row.script);
-    let answers = answers.expect(rt, row.name);
-    holds_of(rt, answers.as_slice() == row.answers.as_bytes(), row.name);
+// The row's script is answered alike by visits, but for its end.
+fn visits_answer<R: AllocGlobal + Abort + Wait>(rt: &R, row: &Row<'_>) {
+    let script = row.script(rt.alloc()).expect(rt, row.name);
+    let answers = row.answers(rt.alloc(), false).expect(rt, row.name);
+    let told = visits_told(rt, sizes_of(rt, row), script.as_str());
+    let told = told.expect(rt, row.name);
+    row_holds(rt, told.as_slice() == answers.as_bytes(), row.name);
 }
 
-// Each row is answered alike by visits.
-fn visits_answer_all<R: AllocGlobal + Abort + Wait>(rt: &R, rows: &[Row]) {
-    for row in rows {
-        visits_answer(rt, row);
-    }
-}
+const ALL_ROWS: [&str; 4] = [GROUP_ROWS, RECLAIM_ROWS, KILL_ROWS, PROCESSOR_ROWS];
 
-// Each row is answered as it says.
-fn answers_all<R: AllocGlobal + Abort>(rt: &R, rows: &[Row]) {
-    for row in rows {
-        answers(rt, row);
+#[test]
+fn answers_each_row(rt: HostRuntime) {
+    for rows in ALL_ROWS {
+        for row in rows.split("\n\n") {
+            program_answers(&rt, &row_of(row), false);
+        }
     }
 }
 
 #[test]
 fn visits_answer_each_row(rt: HostRuntime) {
-    visits_answer_all(&rt, &group_rows());
-    visits_answer_all(&rt, &processor_rows());
-}
-
-#[test]
-fn answers_each_row(rt: HostRuntime) {
-    answers_all(&rt, &group_rows());
-    answers_all(&rt, &processor_rows());
-}
-
-#[test]
-fn visits_answer_each_row_of_reclaim(rt: HostRuntime) {
-    visits_answer_all(&rt, &reclaim_rows());
-}
-
-#[test]
-fn answers_each_row_of_reclaim(rt: HostRuntime) {
-    answers_all(&rt, &reclaim_rows());
-}
-
-#[test]
-fn visits_answer_each_row_of_kills(rt: HostRuntime) {
-    visits_answer_all(&rt, &kill_rows());
-}
-
-#[test]
-fn answers_each_row_of_kills(rt: HostRuntime) {
-    answers_all(&rt, &kill_rows());
+    for rows in ALL_ROWS {
+        for row in rows.split("\n\n") {
+            visits_answer(&rt, &row_of(row));
+        }
+    }
 }
 
 #[test]
 fn explains_each_row_of_kills(rt: HostRuntime) {
-    answers_all(&rt, &explained_rows());
+    for row in KILL_ROWS.split("\n\n") {
+        program_answers(&rt, &row_of(row), true);
+    }
 }
 
 // The text of the blocks of a zone of 65,536 frames.
-fn write_blocks(text: &mut String) -> Result<(), AllocError> {
+fn write_greatest_blocks(text: &mut String) -> Result<(), AllocError> {
     text.push_str("10:0")?;
     for number in 1..64u32 {
         let at = number * 1_024;
@@ -126,13 +101,14 @@ fn write_blocks(text: &mut String) -> Result<(), AllocError> {
 
 #[test]
 fn tells_the_64_blocks_of_the_greatest_zone(rt: HostRuntime) {
-    let mut expected = String::new(rt.alloc());
-    write_blocks(&mut expected).expect(&rt, "memory");
-    holds(&rt, expected.as_str().ends_with(" 10:63488 10:64512\n"));
+    let mut blocks = String::new(rt.alloc());
+    write_greatest_blocks(&mut blocks).expect(&rt, "memory");
+    program_holds(&rt, blocks.as_str().ends_with(" 10:63488 10:64512\n"));
     let words = ["replay", "--frames=65536"];
-    let outcome = run(&rt, &words, whole(b"1 blocks\n".as_slice()), 10_000);
-    holds(&rt, outcome.status == 0);
-    holds(&rt, outcome.output.as_slice() == expected.as_bytes());
+    let script = script_reader(b"1 blocks\n".as_slice());
+    let told = run_program(&rt, &words, script, 10_000);
+    program_holds(&rt, told.status == 0);
+    program_holds(&rt, told.output.as_slice() == blocks.as_bytes());
 }
 
 // A script that names a path of 513 bytes twice.
@@ -148,24 +124,26 @@ fn name_a_long_path(script: &mut Vec<u8>, path: &[u8]) -> Result<(), AllocError>
 fn refuses_a_path_of_more_than_512_bytes(rt: HostRuntime) {
     let mut script = Vec::new(rt.alloc());
     name_a_long_path(&mut script, &[b'/'; 513]).expect(&rt, "memory");
-    let expected = b"refused 3 BadName\nrefused 6 NoGroup\n".as_slice();
-    let outcome = run(&rt, &PLAIN, whole(&script), 10_000);
-    holds(&rt, outcome.output.as_slice() == expected);
+    let answers = b"refused 3 BadName\nrefused 6 NoGroup\n".as_slice();
+    let told = run_program(&rt, &PLAIN, script_reader(&script), 10_000);
+    program_holds(&rt, told.output.as_slice() == answers);
 }
 
 #[test]
 fn judges_the_words_then_the_script_then_the_configuration(rt: HostRuntime) {
     let bad_words = ["replay", "--frames=0"];
     let clap = b"error: invalid value '0' for '--frames <N>'".as_slice();
-    is_refused(&rt, &bad_words, broken(), 2, clap);
-    is_refused(&rt, &PLAIN, broken(), 1, b"input failed\n".as_slice());
-    let cut = whole(b"1 mkdir /a\n1 alloc /a".as_slice());
-    is_refused(&rt, &PLAIN, cut, 2, b"bad line 2\n".as_slice());
-    let sizes = ["replay", "--batch", "4", "--high", "2"];
+    is_refused(&rt, &bad_words, broken_reader(), 2, clap);
+    let failed = b"input failed\n".as_slice();
+    is_refused(&rt, &PLAIN, broken_reader(), 1, failed);
+    let cut_script = script_reader(b"1 mkdir /a\n1 alloc /a".as_slice());
+    is_refused(&rt, &PLAIN, cut_script, 2, b"bad line 2\n".as_slice());
+    let bad_sizes = ["replay", "--batch", "4", "--high", "2"];
     let refused = b"refused 14 BadConfig\n".as_slice();
-    is_refused(&rt, &sizes, whole(b"".as_slice()), 2, refused);
-    let bad = whole(b"1 mkdir /a\ngo\ngo\n".as_slice());
-    is_refused(&rt, &sizes, bad, 2, b"bad line 3\n".as_slice());
+    let empty_script = script_reader(b"".as_slice());
+    is_refused(&rt, &bad_sizes, empty_script, 2, refused);
+    let bad_script = script_reader(b"1 mkdir /a\ngo\ngo\n".as_slice());
+    is_refused(&rt, &bad_sizes, bad_script, 2, b"bad line 3\n".as_slice());
 }
 
 // Adds 1,024 lines of 1,024 bytes.
@@ -181,15 +159,16 @@ fn add_comments(script: &mut Vec<u8>) -> Result<(), AllocError> {
 fn takes_scripts_of_1048576_bytes_alone(rt: HostRuntime) {
     let mut script = Vec::new(rt.alloc());
     add_comments(&mut script).expect(&rt, "memory");
-    let good = run(&rt, &PLAIN, in_steps(&script, 100_000), 0);
-    holds(&rt, good.status == 0);
+    let longest = reader_in_steps(&script, 100_000);
+    let told = run_program(&rt, &PLAIN, longest, 0);
+    program_holds(&rt, told.status == 0);
     script.push(b'#').expect(&rt, "memory");
-    let long = in_steps(&script, 100_000);
-    is_refused(&rt, &PLAIN, long, 2, b"bad line 1025\n".as_slice());
+    let too_long = reader_in_steps(&script, 100_000);
+    is_refused(&rt, &PLAIN, too_long, 2, b"bad line 1025\n".as_slice());
 }
 
 // Adds 3,000 good lines, and two bad ones.
-fn add_lines(script: &mut Vec<u8>) -> Result<(), AllocError> {
+fn add_good_and_bad_lines(script: &mut Vec<u8>) -> Result<(), AllocError> {
     for _ in 0..3_000 {
         script.extend_from_slice(b"1 blocks\n".as_slice())?;
     }
@@ -199,7 +178,7 @@ fn add_lines(script: &mut Vec<u8>) -> Result<(), AllocError> {
 #[test]
 fn tells_a_bad_line_far_behind(rt: HostRuntime) {
     let mut script = Vec::new(rt.alloc());
-    add_lines(&mut script).expect(&rt, "memory");
-    let bad = in_steps(&script, 100);
-    is_refused(&rt, &PLAIN, bad, 2, b"bad line 3001\n".as_slice());
+    add_good_and_bad_lines(&mut script).expect(&rt, "memory");
+    let bad_script = reader_in_steps(&script, 100);
+    is_refused(&rt, &PLAIN, bad_script, 2, b"bad line 3001\n".as_slice());
 }

@@ -13,7 +13,7 @@ use std::process::Abort;
 use std::sync::Wait;
 
 // Puts so many pins of the processor, or as many as it has.
-fn put_pins<N: BootName>(tables: &Tables<N>, cpu: &mut Cpu<N>, most: u64) {
+fn put_held_pins<N: BootName>(tables: &Tables<N>, cpu: &mut Cpu<N>, most: u64) {
     for _ in 0..most {
         if let Some(frame) = cpu.first_pin() {
             let _put = cpu.put(tables, frame);
@@ -22,7 +22,7 @@ fn put_pins<N: BootName>(tables: &Tables<N>, cpu: &mut Cpu<N>, most: u64) {
 }
 
 // Shuts the system down. Where pins are still held, they are put first.
-fn shut<N: BootName>(rt: &impl Abort, system: System<N>, cpus: Vec<Cpu<N>>)
+fn shut_down<N: BootName>(rt: &impl Abort, system: System<N>, cpus: Vec<Cpu<N>>)
     requires { length cpus.items ≡ N.frames.cpus }
 {
     if let Err(held) = system.shutdown(cpus) {
@@ -32,7 +32,7 @@ fn shut<N: BootName>(rt: &impl Abort, system: System<N>, cpus: Vec<Cpu<N>>)
             pins,
         } = held;
         for cpu in cpus.iter_mut() {
-            put_pins(system.tables(), cpu, pins);
+            put_held_pins(system.tables(), cpu, pins);
         }
         if let Err(_) = system.shutdown(cpus) {
             panic!(rt; "a pin is left")
@@ -53,6 +53,6 @@ pub fn visit_all<N: BootName, R: Wait + Abort>(
 {
     let (system, mut cpus) = boot.start::<N>(alloc)?;
     let answers = replay_by_visits(rt, alloc, &system, &mut cpus, lines);
-    shut(rt, system, cpus);
+    shut_down(rt, system, cpus);
     answers
 }

@@ -1,188 +1,127 @@
 //! The words of the command line.
 
-use crate::streams::{holds, holds_of};
+use crate::streams::{program_holds, row_holds};
 use load_options::command_line::{parse_run_words, parse_words};
 use load_options::fault::WordsFault;
 use load_options::settings::Settings;
 use std::process::Abort;
 use zone_sizes::config::Config;
 
-// The settings that the words ask for.
-fn settings(rt: &(impl Abort + AllocGlobal), words: &[&str]) -> Settings {
-    parse_words(rt.alloc(), words).expect(rt, "settings")
+// Words of `replay` with a space between each two, and what they ask for: frames, processors, `batch`, `high` and `stock`,
+// and whether the end is audited and kills are explained.
+const GOOD_WORDS: [(&str, [u32; 5], bool, bool); 9] = [
+    ("replay", [16, 2, 4, 8, 4], false, false),
+    ("replay --frames=9", [9, 2, 4, 8, 4], false, false),
+    ("replay --cpus=9", [16, 9, 4, 8, 4], false, false),
+    ("replay --batch=9", [16, 2, 9, 8, 4], false, false),
+    ("replay --high=9", [16, 2, 4, 9, 4], false, false),
+    ("replay --stock=9", [16, 2, 4, 8, 9], false, false),
+    (
+        "replay --frames=65536 --cpus 16 --batch 64 --high 256 --stock 64 --audit --explain",
+        [65_536, 16, 64, 256, 64],
+        true,
+        true,
+    ),
+    (
+        "replay --frames=40 --cpus=3 --batch=5 --high=12 --stock=7 --audit",
+        [40, 3, 5, 12, 7],
+        true,
+        false,
+    ),
+    (
+        "replay --audit --stock +7 --high 012 --batch 5 --cpus 3 --frames 40 --",
+        [40, 3, 5, 12, 7],
+        true,
+        false,
+    ),
+];
+
+// What the words are read as.
+fn read_words(rt: &(impl Abort + AllocGlobal), words: &str) -> Result<Settings, WordsFault> {
+    let words: Vec<&str> = words.split(' ').collect(rt.alloc()).expect(rt, "memory");
+    parse_words(rt.alloc(), &words)
 }
 
 #[test]
-fn has_defaults(rt: HostRuntime) {
-    let found = settings(&rt, &["replay"]);
-    let defaults = Config {
-        frames: 16,
-        cpus: 2,
-        batch: 4,
-        high: 8,
-        stock: 4,
-    };
-    holds(&rt, found.sizes == defaults);
-    holds(&rt, !found.is_audited && !found.is_explained);
-}
-
-#[test]
-fn takes_the_greatest_values(rt: HostRuntime) {
-    let words = [
-        "replay",
-        "--frames=65536",
-        "--cpus",
-        "16",
-        "--batch",
-        "64",
-        "--high",
-        "256",
-        "--stock",
-        "64",
-        "--audit",
-        "--explain",
-    ];
-    let found = settings(&rt, &words);
-    let greatest = Config {
-        frames: 65_536,
-        cpus: 16,
-        batch: 64,
-        high: 256,
-        stock: 64,
-    };
-    holds(&rt, found.sizes == greatest);
-    holds(&rt, found.is_audited && found.is_explained);
-}
-
-#[test]
-fn reads_both_spellings_in_any_order(rt: HostRuntime) {
-    let attached = [
-        "replay",
-        "--frames=40",
-        "--cpus=3",
-        "--batch=5",
-        "--high=12",
-        "--stock=7",
-        "--audit",
-    ];
-    let parted = [
-        "replay", "--audit", "--stock", "+7", "--high", "012", "--batch", "5", "--cpus", "3",
-        "--frames", "40", "--",
-    ];
-    let wanted = Settings {
-        sizes: Config {
-            frames: 40,
-            cpus: 3,
-            batch: 5,
-            high: 12,
-            stock: 7,
-        },
-        is_explained: false,
-        is_audited: true,
-    };
-    holds(&rt, settings(&rt, &attached) == wanted);
-    holds(&rt, settings(&rt, &parted) == wanted);
-}
-
-// The option alone gives these sizes, in the order of the options.
-fn reads_alone(rt: &(impl Abort + AllocGlobal), word: &str, wanted: [u32; 5]) {
-    let found = settings(rt, &["replay", word]);
-    let sizes = found.sizes;
-    let values = [
-        sizes.frames,
-        sizes.cpus,
-        sizes.batch,
-        sizes.high,
-        sizes.stock,
-    ];
-    holds_of(rt, values == wanted && !found.is_audited, word);
-}
-
-#[test]
-fn reads_each_option_alone(rt: HostRuntime) {
-    let cases = [
-        ("--frames=9", [9, 2, 4, 8, 4]),
-        ("--cpus=9", [16, 9, 4, 8, 4]),
-        ("--batch=9", [16, 2, 9, 8, 4]),
-        ("--high=9", [16, 2, 4, 9, 4]),
-        ("--stock=9", [16, 2, 4, 8, 9]),
-    ];
-    for (word, wanted) in cases {
-        reads_alone(&rt, word, wanted);
+fn asks_for_what_the_words_say(rt: HostRuntime) {
+    for (words, [frames, cpus, batch, high, stock], is_audited, is_explained) in GOOD_WORDS {
+        let wanted = Settings {
+            sizes: Config {
+                frames,
+                cpus,
+                batch,
+                high,
+                stock,
+            },
+            is_explained,
+            is_audited,
+        };
+        let settings = read_words(&rt, words).expect(&rt, words);
+        row_holds(&rt, settings == wanted, words);
     }
 }
 
 // The words are bad ones, and what is told of them begins so.
-fn is_told(rt: &impl Abort, found: Result<Settings, WordsFault>, begin: &str) {
-    match found {
+fn words_are_refused(rt: &impl Abort, settings: Result<Settings, WordsFault>, begin: &str) {
+    match settings {
         Err(WordsFault::BadWords(text)) => {
-            assert!(rt; text.as_str().starts_with(begin), "{text}")
+            row_holds(
+                rt,
+                !text.is_empty() && text.as_str().starts_with(begin),
+                begin,
+            )
         }
-        Ok(_) | Err(WordsFault::NoMemory(_)) => holds_of(rt, false, begin),
+        Ok(_) | Err(WordsFault::NoMemory(_)) => row_holds(rt, false, begin),
+    }
+}
+
+// Bad words, and how what is told of them begins.
+const BAD_WORDS: [(&str, &str); 23] = [
+    (
+        "replay --frames 0",
+        "error: invalid value '0' for '--frames <N>': 0 is not in 1..=65536\n",
+    ),
+    ("play", "error: unrecognized subcommand 'play'\n"),
+    (
+        "replay --help",
+        "Runs the lines of a script, one after the other\n\nUsage: memcg replay [OPTIONS]\n",
+    ),
+    ("replay --frames=65537", "error: "),
+    ("replay --cpus=17", "error: "),
+    ("replay --cpus=0", "error: "),
+    ("replay --batch=65", "error: "),
+    ("replay --batch=0", "error: "),
+    ("replay --high=257", "error: "),
+    ("replay --high=0", "error: "),
+    ("replay --stock=65", "error: "),
+    ("replay --stock=0", "error: "),
+    ("replay --frames=1.5", "error: "),
+    ("replay --frames=-1", "error: "),
+    ("replay --frames=", "error: "),
+    ("replay --frames", "error: "),
+    ("replay --audit=1", "error: "),
+    ("replay --frames=1 --frames=1", ""),
+    ("replay --audit --audit", ""),
+    ("replay x", ""),
+    ("run", ""),
+    ("--help", ""),
+    ("help", ""),
+];
+
+#[test]
+fn refuses_bad_words(rt: HostRuntime) {
+    let no_words: [&str; 0] = [];
+    words_are_refused(&rt, parse_words(rt.alloc(), &no_words), "");
+    for (words, begin) in BAD_WORDS {
+        words_are_refused(&rt, read_words(&rt, words), begin);
     }
 }
 
 #[test]
 fn run_explains_nothing(rt: HostRuntime) {
-    let found = parse_run_words(rt.alloc(), &["run", "--audit"]).expect(&rt, "settings");
-    holds(&rt, found.is_audited && !found.is_explained);
-    let found = parse_run_words(rt.alloc(), &["run", "--explain"]);
-    is_told(&rt, found, "error: unexpected argument '--explain' found\n");
-}
-
-#[test]
-fn tells_what_is_wrong(rt: HostRuntime) {
-    let alloc = rt.alloc();
-    let below = "error: invalid value '0' for '--frames <N>': 0 is not in 1..=65536\n";
-    is_told(&rt, parse_words(alloc, &["replay", "--frames", "0"]), below);
-    let unknown = "error: unrecognized subcommand 'play'\n";
-    is_told(&rt, parse_words(alloc, &["play"]), unknown);
-    let help = "Runs the lines of a script, one after the other\n\nUsage: memcg replay [OPTIONS]\n";
-    is_told(&rt, parse_words(alloc, &["replay", "--help"]), help);
-}
-
-#[test]
-fn refuses_each_value_past_its_range(rt: HostRuntime) {
-    let past = [
-        "--frames=65537",
-        "--cpus=17",
-        "--cpus=0",
-        "--batch=65",
-        "--batch=0",
-        "--high=257",
-        "--high=0",
-        "--stock=65",
-        "--stock=0",
-        "--frames=1.5",
-        "--frames=-1",
-        "--frames=",
-        "--frames",
-        "--audit=1",
-    ];
-    for word in past {
-        is_told(&rt, parse_words(rt.alloc(), &["replay", word]), "error: ");
-    }
-}
-
-// The words are bad ones, and something is told of them.
-fn is_refused(rt: &impl Abort, found: Result<Settings, WordsFault>) {
-    match found {
-        Err(WordsFault::BadWords(text)) => holds(rt, !text.is_empty()),
-        Ok(_) | Err(WordsFault::NoMemory(_)) => holds(rt, false),
-    }
-}
-
-#[test]
-fn refuses_what_it_does_not_have(rt: HostRuntime) {
-    for words in [
-        [].as_slice(),
-        &["run"],
-        &["replay", "--frames=1", "--frames=1"],
-        &["replay", "--audit", "--audit"],
-        &["replay", "x"],
-        &["--help"],
-        &["help"],
-    ] {
-        is_refused(&rt, parse_words(rt.alloc(), words));
-    }
+    let settings = parse_run_words(rt.alloc(), &["run", "--audit"]).expect(&rt, "settings");
+    program_holds(&rt, settings.is_audited && !settings.is_explained);
+    let settings = parse_run_words(rt.alloc(), &["run", "--explain"]);
+    let begin = "error: unexpected argument '--explain' found\n";
+    words_are_refused(&rt, settings, begin);
 }
