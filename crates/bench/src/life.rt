@@ -6,7 +6,6 @@ ghost use Rattle.cpu_part.specs.Cpus.{IsIdle};
 
 use crate::costs::Pace;
 use crate::machine::{Visited, tell_blocks, tell_settling, tell_visits};
-use crate::victims::tell_victim;
 use anyhow::{Context, Result};
 use cpu_part::{BootName, Cpu, Tables};
 use frame_word::{FrameSeat, FrameWords};
@@ -77,18 +76,23 @@ impl<N: BootName> Visited<N> {
     }
 }
 
+// Lets the value go. A function that lets go of many parts itself takes long to check.
+fn let_go<T: Drop>(_value: T) {}
+
 // The processor's part, of which nothing is left, is taken apart.
 fn take_apart<N: BootName>(visited: Visited<N>)
     requires { IsIdle visited.cpu }
 {
     let Visited {
-        tables: _,
-        machine: _,
+        tables,
+        machine,
         cpu,
         group: _,
         order: _,
         heads: _,
     } = visited;
+    let_go(tables);
+    let_go(machine);
     let _ = cpu.into_seats();
 }
 
@@ -104,14 +108,6 @@ fn end<N: BootName, R: Wait>(rt: &R, mut visited: Visited<N>) {
     unreachable!()
 }
 
-// What is measured on a machine.
-#[derive(Clone, Copy)]
-enum Part {
-    Calls,
-    // Who is killed, where groups are so deep.
-    Victim { name: &'static str, depth: usize },
-}
-
 // Measures the calls of a machine.
 fn tell_calls<N: BootName, R: Print + Clock + Alloc<A = Global>>(
     rt: &R,
@@ -124,18 +120,14 @@ fn tell_calls<N: BootName, R: Print + Clock + Alloc<A = Global>>(
     tell_settling(rt, pace, visited)
 }
 
-// Measures this part, where a group is made first, which pays.
-fn tell_part<N: BootName, R: Print + Clock + Alloc<A = Global>>(
+// Measures them, where a group is made first, which pays.
+fn tell_paid<N: BootName, R: Print + Clock + Alloc<A = Global>>(
     rt: &R,
     pace: Pace,
     visited: &mut Visited<N>,
-    part: Part,
 ) -> Result<()> {
     visited.group = visited.make(b"/a").context("no group")?;
-    match part {
-        Part::Calls => tell_calls(rt, pace, visited),
-        Part::Victim { name, depth } => tell_victim(rt, pace, visited, name, depth),
-    }
+    tell_calls(rt, pace, visited)
 }
 
 // The machine and its processor's part, whose first visit is open.
@@ -151,9 +143,21 @@ fn start<N: BootName>(alloc: Global, parts: Parts) -> Result<Visited<N>, AllocEr
         payer,
     } = parts;
     let tables = Tables::<N>::new(frames, stocks);
-    let machine = Machine::<N>::new(alloc, &tables, zone, machine)?;
-    let cpu = Cpu::<N>::new(alloc, seat, payer)?;
-    Ok(Visited::new(alloc, tables, machine, cpu))
+    let machine = match Machine::<N>::new(alloc, &tables, zone, machine) {
+        Ok(machine) => machine,
+        Err(error) => {
+            let_go(tables);
+            return Err(error);
+        }
+    };
+    match Cpu::<N>::new(alloc, seat, payer) {
+        Ok(cpu) => Ok(Visited::new(alloc, tables, machine, cpu)),
+        Err(error) => {
+            let_go(machine);
+            let_go(tables);
+            Err(error)
+        }
+    }
 }
 
 // Makes the machine and its processor's part, measures, and ends the processor's part.
@@ -161,12 +165,11 @@ fn live<N: BootName, R: Wait + Print + Clock + Alloc<A = Global>>(
     rt: &R,
     pace: Pace,
     parts: Parts,
-    part: Part,
 ) -> Result<()>
     requires { (parts.frames ≡ N.frames) × (parts.stocks ≡ N.stocks) }
 {
     let mut visited = start::<N>(rt.alloc(), parts)?;
-    let told = tell_part(rt, pace, &mut visited, part);
+    let told = tell_paid(rt, pace, &mut visited);
     end(rt, visited);
     told
 }
@@ -174,32 +177,5 @@ fn live<N: BootName, R: Wait + Print + Clock + Alloc<A = Global>>(
 /// Measures the machine's calls.
 pub fn tell_machine<R: Wait + Print + Clock + Alloc<A = Global>>(rt: &R, pace: Pace) -> Result<()> {
     let parts = Parts::new(rt.alloc(), 1_024)?;
-    live::<Brand, R>(rt, pace, parts, Part::Calls)
-}
-
-// Measures who is killed for the root, among 64 groups of which all but a chain are so deep.
-fn tell_depth<R: Wait + Print + Clock + Alloc<A = Global>>(
-    rt: &R,
-    pace: Pace,
-    name: &'static str,
-    depth: usize,
-) -> Result<()> {
-    let parts = Parts::new(rt.alloc(), 1_024)?;
-    live::<Brand, R>(rt, pace, parts, Part::Victim { name, depth })
-}
-
-/// Measures who is killed at a limit.
-pub fn tell_victims<R: Wait + Print + Clock + Alloc<A = Global>>(rt: &R, pace: Pace) -> Result<()> {
-    tell_depth(
-        rt,
-        pace,
-        "victim of the root, among 64 groups of depth 2",
-        2,
-    )?;
-    tell_depth(
-        rt,
-        pace,
-        "victim of the root, among 64 groups of depth 8",
-        8,
-    )
+    live::<Brand, R>(rt, pace, parts)
 }

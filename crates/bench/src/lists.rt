@@ -124,11 +124,9 @@ fn tell_order<R: Print + Clock + Alloc<A = Global>>(
     tell_rows(rt, pace, 10, &mut rows, &mut Order { owner, units })
 }
 
-/// Measures the calls, each with the test that it may be made, in two orders.
+/// Measures the calls, each with the test that it may be made.
 pub fn tell_lists<R: Print + Clock + Alloc<A = Global>>(rt: &R, pace: Pace) -> Result<()> {
     let count = pace.choose(65_536, 64);
-    println!(rt; "{count} units, one after the other:")?;
-    tell_order(rt, pace, count, in_order(rt.alloc(), count)?)?;
     println!(rt; "{count} units in a random order:")?;
     tell_order(rt, pace, count, shuffled(rt.alloc(), count)?)
 }

@@ -63,8 +63,8 @@ impl<N: BootName> Visited<N> {
         true
     }
 
-    /// Settles the processor.
-    pub fn settle(&mut self) -> bool {
+    // Settles the processor.
+    fn settle(&mut self) -> bool {
         self.machine.settle(&self.tables, &mut self.cpu);
         true
     }
@@ -87,8 +87,8 @@ impl<N: BootName> Visited<N> {
         self.machine.make(path).ok()
     }
 
-    /// Takes a block for the group, and tells its first frame.
-    pub fn take(&mut self) -> Option<u32> {
+    // Takes a block for the group, and tells its first frame.
+    fn take(&mut self) -> Option<u32> {
         if self.cpu.back_len() > 0 || !may_charge(&self.machine, self.group, self.order.frames()) {
             return None;
         }

@@ -15,7 +15,6 @@ mod references;
 mod script;
 mod system;
 mod tables;
-mod victims;
 mod zone;
 
 use crate::costs::Pace;

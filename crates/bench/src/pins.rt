@@ -126,6 +126,5 @@ pub fn tell_references<N: BootName, R: Wait + Print + Clock>(
         other,
         last,
     };
-    tell_pins(rt, pace, &mut pinned, 8)?;
     tell_pins(rt, pace, &mut pinned, 256)
 }

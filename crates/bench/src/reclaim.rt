@@ -18,9 +18,6 @@ use zone_sizes::config::Config;
 // The group at whose limit is allocated.
 const LIMITED: &[u8] = b"/l";
 
-// How many units stand outside the subtree of that group, for the second of its rows.
-const OUTSIDE: u32 = 60_000;
-
 // What all kept units of the group are.
 #[derive(Clone, Copy)]
 enum Units {
@@ -307,7 +304,7 @@ fn make_groups<N: BootName, R: Wait>(rt: &R, system: &System<N>, cpu: &mut Cpu<N
     Ok(())
 }
 
-// Measures allocs at the limit, with nothing kept outside the group's subtree and with many units.
+// Measures allocs at the limit.
 fn tell_allocs<N: BootName, R: Wait + Print + Clock>(
     rt: &R,
     pace: Pace,
@@ -323,11 +320,7 @@ fn tell_allocs<N: BootName, R: Wait + Print + Clock>(
     };
     let name = "alloc of order 0 at a limit of one page, with one clean unit, at 64 groups";
     let mut alone = [Row::new(name, 0, 1, 10_000)];
-    tell_rows(rt, pace, 10, &mut alone, &mut at_limit)?;
-    keep(rt, system, at_limit.cpu, pace.choose(OUTSIDE, 64))?;
-    let name = "the same beside 60,000 units outside the subtree";
-    let mut beside = [Row::new(name, 0, 1, 10_000)];
-    tell_rows(rt, pace, 10, &mut beside, &mut at_limit)
+    tell_rows(rt, pace, 10, &mut alone, &mut at_limit)
 }
 
 // Starts the boot, measures allocs at a limit, and shuts down.

@@ -2,7 +2,7 @@
 
 use crate::charges::tell_charges;
 use crate::costs::Pace;
-use crate::life::{tell_machine, tell_victims};
+use crate::life::tell_machine;
 use crate::lists::tell_lists;
 use crate::prepaid::tell_words;
 use crate::reclaim::tell_reclaim;
@@ -32,7 +32,7 @@ pub enum Table {
     Machine,
     /// Commands that take the lock.
     System,
-    /// Rounds of reclaim, and who is killed.
+    /// Rounds of reclaim, and kills.
     Reclaim,
     /// The lines of a script.
     Script,
@@ -81,10 +81,7 @@ pub fn tell_table<R: Threads + Wait + Print + Clock + Alloc<A = Global> + Sync>(
             tell_system(rt, pace, table)?;
             tell_boots(rt, pace)
         }
-        Table::Reclaim => {
-            tell_reclaim(rt, pace)?;
-            tell_victims(rt, pace)
-        }
+        Table::Reclaim => tell_reclaim(rt, pace),
         Table::Script => tell_script(rt, pace),
     }
 }
