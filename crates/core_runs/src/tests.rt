@@ -1,6 +1,5 @@
 //! Runs that are worked by hand from the table of the steps, each answer compared.
 
-mod busy;
 mod plays;
 mod random;
 mod recount;
@@ -8,7 +7,7 @@ mod recount;
 use group_tree::group::GroupId;
 use group_tree::path::PathText;
 use mem_core::zone::Core;
-use plays::{CoreFact, Row, group, plays, works};
+use plays::{CoreFact, CoreRow, core_tells, group_of, plays_rows, works_on_core};
 use std::test::Fail;
 use step_rules::phase::Phase;
 use step_rules::step::{Action, Answer};
@@ -16,17 +15,17 @@ use zone_blocks::block::Block;
 use zone_blocks::order::Order;
 
 // Processor 1 takes the lock, and /a is made as group 1.
-fn with_group() -> [Row; 2] {
+fn with_group() -> [CoreRow; 2] {
     let path = PathText::of(b"/a").unwrap();
     [
         (1, Action::Lock, Answer::Done),
-        (0, Action::Make { path }, Answer::Number(group(1))),
+        (0, Action::Make { path }, Answer::Number(group_of(1))),
     ]
 }
 
 // A block of one frame is placed for /a at this frame, and kept.
-fn placing(at: u32) -> [Row; 4] {
-    let group = group(1);
+fn placing(at: u32) -> [CoreRow; 4] {
+    let group = group_of(1);
     let order = Order::of(0).unwrap();
     let block = Block { at, order };
     let unfreeze = Action::Unfreeze {
@@ -46,8 +45,8 @@ fn placing(at: u32) -> [Row; 4] {
 }
 
 // After /a is made processor 1 is visited; its stock has so many pages of /a, and frames 0 and 1 are on its list.
-fn with_stock(pages: u32) -> [Row; 9] {
-    let group = group(1);
+fn with_stock(pages: u32) -> [CoreRow; 9] {
+    let group = group_of(1);
     let cpu = 1;
     let [lock, make] = with_group();
     [
@@ -64,7 +63,7 @@ fn with_stock(pages: u32) -> [Row; 9] {
 }
 
 // After /a is made frame 0 is placed for it, and kept.
-fn with_frame() -> [Row; 6] {
+fn with_frame() -> [CoreRow; 6] {
     let [lock, make] = with_group();
     let [grant, place, unfreeze, publish] = placing(0);
     [lock, make, grant, place, unfreeze, publish]
@@ -94,14 +93,14 @@ fn a_frame_lives_and_returns_once(rt: HostRuntime) -> Result<(), Fail> {
         (2, Action::Unlock, Answer::Done),
     ];
     let facts = [CoreFact::Current(GroupId::root(), 0), CoreFact::Pins(2, 0)];
-    works(&rt, rt.alloc(), &with_frame(), &rows, &facts)
+    works_on_core(&rt, rt.alloc(), &with_frame(), &rows, &facts)
 }
 
 // A credit takes the frame out of the fresh ones and to the end of the list, and only once.
 #[test]
 fn a_fresh_frame_is_credited_once(rt: HostRuntime) -> Result<(), Fail> {
     let root = GroupId::root();
-    let group = group(1);
+    let group = group_of(1);
     let rows = [
         (0, Action::ShutVisit { cpu: 1 }, Answer::Done),
         (1, Action::Unlock, Answer::Done),
@@ -121,13 +120,13 @@ fn a_fresh_frame_is_credited_once(rt: HostRuntime) -> Result<(), Fail> {
         CoreFact::Book(1, 2),
         CoreFact::Current(root, 2),
     ];
-    works(&rt, rt.alloc(), &with_stock(2), &rows, &facts)
+    works_on_core(&rt, rt.alloc(), &with_stock(2), &rows, &facts)
 }
 
 // A stock is drained between consume and credit: the frame stays fresh, is reported and absorbed, and kept.
 #[test]
 fn a_stock_is_drained_before_a_credit(rt: HostRuntime) -> Result<(), Fail> {
-    let group = group(1);
+    let group = group_of(1);
     let rows = [
         (1, Action::Consume { group }, Answer::Took),
         (0, Action::DrainStock { cpu: 1 }, Answer::Pages(1)),
@@ -153,7 +152,7 @@ fn a_stock_is_drained_before_a_credit(rt: HostRuntime) -> Result<(), Fail> {
         CoreFact::Book(1, 0),
         CoreFact::Current(GroupId::root(), 1),
     ];
-    works(&rt, rt.alloc(), &with_stock(2), &rows, &facts)
+    works_on_core(&rt, rt.alloc(), &with_stock(2), &rows, &facts)
 }
 
 // A frame that passes to a processor has no reference; it is listed, and passed back in another visit.
@@ -174,14 +173,14 @@ fn a_frame_is_passed_to_a_list_and_back(rt: HostRuntime) -> Result<(), Fail> {
         (0, Action::Collect { frame: 3, cpu: 2 }, Answer::Done),
         (0, Action::ShutVisit { cpu: 2 }, Answer::Done),
     ];
-    works(&rt, rt.alloc(), &out, &[], &[CoreFact::Listed(2, 1)])?;
-    works(&rt, rt.alloc(), &out, &back, &[CoreFact::Listed(2, 0)])
+    works_on_core(&rt, rt.alloc(), &out, &[], &[CoreFact::Listed(2, 1)])?;
+    works_on_core(&rt, rt.alloc(), &out, &back, &[CoreFact::Listed(2, 0)])
 }
 
 // Four pages are filled, one is consumed, three are drained, and the fresh frame's page is absorbed.
 #[test]
 fn a_book_of_four_pages_falls_to_0(rt: HostRuntime) -> Result<(), Fail> {
-    let (group, other) = (group(1), group(2));
+    let (group, other) = (group_of(1), group_of(2));
     let rows = [
         (1, Action::Consume { group }, Answer::Took),
         (1, Action::Consume { group: other }, Answer::OtherGroup),
@@ -193,13 +192,13 @@ fn a_book_of_four_pages_falls_to_0(rt: HostRuntime) -> Result<(), Fail> {
         (0, Action::Absorb { cpu: 1 }, Answer::Pages(1)),
     ];
     let facts = [CoreFact::Book(1, 0), CoreFact::Pending(group, 3)];
-    works(&rt, rt.alloc(), &with_stock(4), &rows, &facts)
+    works_on_core(&rt, rt.alloc(), &with_stock(4), &rows, &facts)
 }
 
 // A fresh frame that was collected comes back where its group is killed, with no end of a use.
 #[test]
 fn a_killed_groups_fresh_frame_is_dropped(rt: HostRuntime) -> Result<(), Fail> {
-    let group = group(1);
+    let group = group_of(1);
     let rows = [
         (1, Action::Consume { group }, Answer::Took),
         (1, Action::PassBack { frame: 0 }, Answer::Done),
@@ -215,13 +214,13 @@ fn a_killed_groups_fresh_frame_is_dropped(rt: HostRuntime) -> Result<(), Fail> {
         CoreFact::IsKilled(group),
         CoreFact::Current(GroupId::root(), 1),
     ];
-    works(&rt, rt.alloc(), &with_stock(2), &rows, &facts)
+    works_on_core(&rt, rt.alloc(), &with_stock(2), &rows, &facts)
 }
 
 // A pin outlives the kill of its group, which can't be removed before the frame came back.
 #[test]
 fn a_pin_outlives_a_kill(rt: HostRuntime) -> Result<(), Fail> {
-    let group = group(1);
+    let group = group_of(1);
     let rows = [
         (2, Action::Get { frame: 0 }, Answer::Held),
         (0, Action::Kill { group }, Answer::Done),
@@ -237,13 +236,13 @@ fn a_pin_outlives_a_kill(rt: HostRuntime) -> Result<(), Fail> {
         CoreFact::Back(2, 1, None),
         CoreFact::Current(GroupId::root(), 1),
     ];
-    works(&rt, rt.alloc(), &with_frame(), &rows, &facts)
+    works_on_core(&rt, rt.alloc(), &with_frame(), &rows, &facts)
 }
 
 // A step that names a group that was removed is illegal, also where it takes back no page.
 #[test]
 fn a_removed_group_is_not_named(rt: HostRuntime) -> Result<(), Fail> {
-    let group = group(1);
+    let group = group_of(1);
     let rows = [
         (0, Action::Ungrant { group, pages: 0 }, Answer::Done),
         (0, Action::Remove { group }, Answer::Done),
@@ -252,7 +251,7 @@ fn a_removed_group_is_not_named(rt: HostRuntime) -> Result<(), Fail> {
         (2, Action::Get { frame: 8 }, Answer::Illegal),
         (2, Action::Lock, Answer::Illegal),
     ];
-    works(&rt, rt.alloc(), &with_group(), &rows, &[])
+    works_on_core(&rt, rt.alloc(), &with_group(), &rows, &[])
 }
 
 // A processor has 256 pins at most, and a frame 255 references.
@@ -267,20 +266,20 @@ fn the_257th_pin_is_illegal(rt: HostRuntime) -> Result<(), Fail> {
         (2, Action::Get { frame: 1 }, Answer::Illegal),
     ];
     let mut core = Core::new(rt.alloc(), 8, 3)?;
-    plays(&rt, &mut core, &with_frame());
-    plays(&rt, &mut core, &[grant, place, unfreeze]);
+    plays_rows(&rt, &mut core, &with_frame());
+    plays_rows(&rt, &mut core, &[grant, place, unfreeze]);
     for _ in 0..254 {
-        plays(&rt, &mut core, &get);
+        plays_rows(&rt, &mut core, &get);
     }
-    plays(&rt, &mut core, &more);
-    assert!(rt; core.pins(2) == 256);
+    plays_rows(&rt, &mut core, &more);
+    core_tells(&rt, core.pins(2) == 256);
     Ok(())
 }
 
 // A grant over the limit is refused and noted; the peak and the events are told.
 #[test]
 fn a_refused_grant_is_noted(rt: HostRuntime) -> Result<(), Fail> {
-    let group = group(1);
+    let group = group_of(1);
     let limit = Some(2);
     let rows = [
         (0, Action::SetMax { group, limit }, Answer::Done),
@@ -299,12 +298,12 @@ fn a_refused_grant_is_noted(rt: HostRuntime) -> Result<(), Fail> {
         CoreFact::Events(group, 1, 0),
         CoreFact::LocalOom(group, 1),
     ];
-    works(&rt, rt.alloc(), &with_group(), &rows, &facts)
+    works_on_core(&rt, rt.alloc(), &with_group(), &rows, &facts)
 }
 
 // After /a is made four pages of it are placed on a block of four frames, which is kept.
-fn with_block() -> [Row; 6] {
-    let group = group(1);
+fn with_block() -> [CoreRow; 6] {
+    let group = group_of(1);
     let order = Order::of(2).unwrap();
     let block = Block { at: 0, order };
     let [lock, make] = with_group();
@@ -326,12 +325,12 @@ fn with_block() -> [Row; 6] {
 #[test]
 fn a_block_is_kept_whole(rt: HostRuntime) -> Result<(), Fail> {
     let facts = [
-        CoreFact::Current(group(1), 4),
+        CoreFact::Current(group_of(1), 4),
         CoreFact::IsHead(0),
-        CoreFact::Phase(1, Phase::Tail(group(1))),
-        CoreFact::Phase(3, Phase::Tail(group(1))),
+        CoreFact::Phase(1, Phase::Tail(group_of(1))),
+        CoreFact::Phase(3, Phase::Tail(group_of(1))),
     ];
-    works(&rt, rt.alloc(), &with_block(), &[], &facts)
+    works_on_core(&rt, rt.alloc(), &with_block(), &[], &facts)
 }
 
 // A block of order 2 comes back whole, by its head alone.
@@ -346,19 +345,19 @@ fn a_block_comes_back_whole(rt: HostRuntime) -> Result<(), Fail> {
         (1, Action::Unlock, Answer::Done),
     ];
     let facts = [
-        CoreFact::Current(group(1), 0),
+        CoreFact::Current(group_of(1), 0),
         CoreFact::Phase(0, Phase::InZone),
         CoreFact::Phase(1, Phase::InZone),
         CoreFact::Phase(2, Phase::InZone),
         CoreFact::Phase(3, Phase::InZone),
     ];
-    works(&rt, rt.alloc(), &with_block(), &rows, &facts)
+    works_on_core(&rt, rt.alloc(), &with_block(), &rows, &facts)
 }
 
 // A unit that was placed is no fresh frame: where its group is killed, it comes back only once its last reference is gone.
 #[test]
 fn a_placed_unit_is_not_dropped(rt: HostRuntime) -> Result<(), Fail> {
-    let group = group(1);
+    let group = group_of(1);
     let order = Order::of(0).unwrap();
     let block = Block { at: 0, order };
     let rows = [
@@ -379,5 +378,5 @@ fn a_placed_unit_is_not_dropped(rt: HostRuntime) -> Result<(), Fail> {
         CoreFact::Current(group, 0),
         CoreFact::Phase(0, Phase::InZone),
     ];
-    works(&rt, rt.alloc(), &with_group(), &rows, &facts)
+    works_on_core(&rt, rt.alloc(), &with_group(), &rows, &facts)
 }

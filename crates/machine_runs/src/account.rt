@@ -1,7 +1,7 @@
 //! The account beside the machine: where each frame is, what is prepaid and what was used at most, changed by the answers of
 //! the calls alone.
 
-use crate::holds::holds;
+use crate::agrees::machine_agrees;
 use group_tree::group::GroupId;
 use mem_machine::{Counts, Place};
 use std::alloc::Global;
@@ -13,7 +13,7 @@ use zone_blocks::order::Order;
 /// What is known of a frame: its place, the unit that it heads, and of a lent one since when it is there, and who paid for it
 /// if it is fresh.
 #[derive(Clone, Copy)]
-pub struct Known {
+pub struct KnownFrame {
     pub place: Place,
     pub unit: Option<ChargedUnit>,
     pub fresh_for: Option<GroupId>,
@@ -21,7 +21,7 @@ pub struct Known {
 }
 
 /// A free frame.
-pub const FREE: Known = Known {
+pub const FREE: KnownFrame = KnownFrame {
     place: Place::Free,
     unit: None,
     fresh_for: None,
@@ -30,46 +30,46 @@ pub const FREE: Known = Known {
 
 /// A processor's stock: the group that it was filled for last, and the pages left.
 #[derive(Clone, Copy)]
-pub struct Stock {
+pub struct KnownStock {
     pub group: Option<GroupId>,
     pub pages: u32,
 }
 
 /// What is known of a group number: the path of the group that has it, if one has, and its highest usage.
 #[derive(Clone, Copy)]
-pub struct Named {
+pub struct KnownGroup {
     pub path: Option<u32>,
     pub peak: u64,
 }
 
 /// What the answers of the calls tell, and the steps of these calls, each with the answer that it has to get.
 #[derive(Drop)]
-pub struct Account {
+pub struct MachineAccount {
     pub size: u32,
-    pub frames: Vec<Known>,
-    pub stocks: [Stock; 5],
-    pub groups: [Named; 8],
+    pub frames: Vec<KnownFrame>,
+    pub stocks: [KnownStock; 5],
+    pub groups: [KnownGroup; 8],
     pub counts: Counts,
     pub rows: Vec<(u32, Action, Answer)>,
     now: u64,
 }
 
 // The group that keeps the frame, or that paid for it.
-fn owner(known: &Known) -> Option<GroupId> {
+fn owner(known: &KnownFrame) -> Option<GroupId> {
     match known.place {
         Place::Charged(group) => Some(group),
         _ => known.fresh_for,
     }
 }
 
-impl Account {
+impl MachineAccount {
     /// All frames are free, and there is the root alone.
-    pub fn new(rt: &impl Abort, alloc: Global, frames: u32) -> Account {
-        let no_stock = Stock {
+    pub fn new(rt: &impl Abort, alloc: Global, frames: u32) -> MachineAccount {
+        let no_stock = KnownStock {
             group: None,
             pages: 0,
         };
-        let no_group = Named {
+        let no_group = KnownGroup {
             path: None,
             peak: 0,
         };
@@ -80,7 +80,7 @@ impl Account {
             returns: 0,
             misses: 0,
         };
-        Account {
+        MachineAccount {
             size: frames,
             frames: vec![in alloc; FREE; frames as usize].expect(rt, "memory"),
             stocks: [no_stock; 5],
@@ -94,7 +94,7 @@ impl Account {
     /// A step of a call, and the answer that it has to get.
     pub fn step(&mut self, rt: &impl Abort, seat: u32, action: Action, answer: Answer) {
         let pushed = self.rows.push((seat, action, answer));
-        holds(rt, pushed.is_ok(), "room for a step");
+        machine_agrees(rt, pushed.is_ok(), "room for a step");
     }
 
     /// A step of a call that has to be made.
@@ -103,12 +103,12 @@ impl Account {
     }
 
     /// What is known of a frame.
-    pub fn frame(&self, frame: u32) -> Known {
+    pub fn frame(&self, frame: u32) -> KnownFrame {
         self.frames.get(frame as usize).copied().unwrap_or(FREE)
     }
 
     /// From now on this is known of a frame.
-    pub fn put(&mut self, frame: u32, known: &Known) {
+    pub fn put(&mut self, frame: u32, known: &KnownFrame) {
         if let Some(slot) = self.frames.get_mut(frame as usize) {
             *slot = *known;
         }
@@ -117,7 +117,7 @@ impl Account {
     /// The frame comes to the end of a processor's list, or of its fresh frames, where a group paid for it.
     pub fn lend(&mut self, cpu: u32, frame: u32, fresh_for: Option<GroupId>) {
         self.now = self.now.saturating_add(1);
-        let known = Known {
+        let known = KnownFrame {
             place: Place::Lent(cpu),
             unit: None,
             fresh_for,
@@ -129,7 +129,7 @@ impl Account {
     /// The frames of a block are kept for a group, or free again.
     pub fn put_block(&mut self, head: u32, unit: &ChargedUnit, place: &Place) {
         for frame in head..head.saturating_add(unit.order.frames()) {
-            let known = Known {
+            let known = KnownFrame {
                 place: *place,
                 unit: None,
                 fresh_for: None,
@@ -143,7 +143,7 @@ impl Account {
     pub fn keep(&mut self, head: u32, unit: &ChargedUnit) {
         let place = Place::Charged(unit.group);
         self.put_block(head, unit, &place);
-        let known = Known {
+        let known = KnownFrame {
             place,
             unit: Some(*unit),
             fresh_for: None,
@@ -180,23 +180,23 @@ impl Account {
     }
 
     /// The stock of a processor.
-    pub fn stock(&self, cpu: u32) -> Stock {
+    pub fn stock(&self, cpu: u32) -> KnownStock {
         self.stocks[(cpu % 5) as usize]
     }
 
     /// From now on this is the stock of a processor.
     pub fn put_stock(&mut self, cpu: u32, group: Option<GroupId>, pages: u32) {
-        self.stocks[(cpu % 5) as usize] = Stock { group, pages };
+        self.stocks[(cpu % 5) as usize] = KnownStock { group, pages };
     }
 
     /// What is known of a group number.
-    pub fn named(&self, group: GroupId) -> Named {
+    pub fn named(&self, group: GroupId) -> KnownGroup {
         self.groups[(group.number() % 8) as usize]
     }
 
     /// From now on the group has this path, if it is there, and this peak.
     pub fn name(&mut self, group: GroupId, path: Option<u32>, peak: u64) {
-        self.groups[(group.number() % 8) as usize] = Named { path, peak };
+        self.groups[(group.number() % 8) as usize] = KnownGroup { path, peak };
     }
 
     // Whether so many frames, from this one on, are there and free.
@@ -291,7 +291,7 @@ impl Account {
             let group = GroupId::of(number).unwrap_or(GroupId::root());
             if self.is_below(charged, group) {
                 let used = self.usage(group).saturating_add(u64::from(pages));
-                let Named { path, peak } = self.named(group);
+                let KnownGroup { path, peak } = self.named(group);
                 self.name(group, path, used.max(peak));
             }
         }

@@ -2,8 +2,8 @@
 
 ghost use Rattle.std.specs.Prelude.{◌<◌};
 
-use crate::account::{Account, Known};
-use crate::holds::holds;
+use crate::account::{KnownFrame, MachineAccount};
+use crate::agrees::{core_agrees, machine_agrees};
 use cpu_part::{BootName, Cpu, Tables};
 use frame_word::Frame;
 use group_tree::group::GroupId;
@@ -13,13 +13,13 @@ use std::process::Abort;
 use step_rules::step::{self, Action, Answer, Step};
 
 // The frame stands at the same place, and heads the same kept unit or none.
-fn frame_alike<N: BootName>(rt: &impl Abort, machine: &Machine<N>, frame: Frame, known: &Known)
+fn frame_alike<N: BootName>(rt: &impl Abort, machine: &Machine<N>, frame: Frame, known: &KnownFrame)
     requires { frame < N.frames.frames }
 {
     let is_kept = machine.is_kept(frame);
-    holds(rt, machine.place(frame) == known.place, "places");
-    holds(rt, machine.unit(frame) == known.unit, "units");
-    holds(rt, is_kept == known.unit.is_some(), "kept units");
+    machine_agrees(rt, machine.place(frame) == known.place, "places");
+    machine_agrees(rt, machine.unit(frame) == known.unit, "units");
+    machine_agrees(rt, is_kept == known.unit.is_some(), "kept units");
 }
 
 /// Each frame stands at the same place, and heads the same kept unit or none.
@@ -27,7 +27,7 @@ pub fn frames_alike<N: BootName>(
     rt: &impl Abort,
     tables: &Tables<N>,
     machine: &Machine<N>,
-    account: &Account,
+    account: &MachineAccount,
 ) {
     for number in 0..tables.frames.frames() {
         if let Some(frame) = tables.frames.frame(number) {
@@ -40,29 +40,29 @@ pub fn frames_alike<N: BootName>(
 fn group_alike<N: BootName>(
     rt: &impl Abort,
     machine: &Machine<N>,
-    account: &Account,
+    account: &MachineAccount,
     group: GroupId,
 ) {
     let charges = machine.charges();
     let named = account.named(group);
     let is_there = group == GroupId::root() || named.path.is_some();
-    holds(rt, charges.tree().contains(group) == is_there, "groups");
-    holds(rt, !machine.is_killed(group), "no group is killed");
+    machine_agrees(rt, charges.tree().contains(group) == is_there, "groups");
+    machine_agrees(rt, !machine.is_killed(group), "no group is killed");
     if !charges.tree().contains(group) {
         return;
     }
     let (used, peak) = (machine.current(group), charges.peak(group));
-    holds(rt, u64::from(used) == account.usage(group), "usage");
-    holds(rt, u64::from(peak) == named.peak, "peaks");
+    machine_agrees(rt, u64::from(used) == account.usage(group), "usage");
+    machine_agrees(rt, u64::from(peak) == named.peak, "peaks");
 }
 
 /// The same groups are there, used as much, and what was counted is the same.
-pub fn groups_alike<N: BootName>(rt: &impl Abort, machine: &Machine<N>, account: &Account) {
+pub fn groups_alike<N: BootName>(rt: &impl Abort, machine: &Machine<N>, account: &MachineAccount) {
     for number in 0..8 {
         let group = GroupId::of(number).unwrap_or(GroupId::root());
         group_alike(rt, machine, account, group);
     }
-    holds(rt, machine.counts() == account.counts, "counts");
+    machine_agrees(rt, machine.counts() == account.counts, "counts");
 }
 
 /// The processor has as many frames on its list and as many fresh ones, and the oldest fresh one is the same.
@@ -70,13 +70,13 @@ pub fn lists_alike<N: BootName>(
     rt: &impl Abort,
     tables: &Tables<N>,
     cpu: &Cpu<N>,
-    account: &Account,
+    account: &MachineAccount,
 ) {
     let number = cpu.number();
     let listed = account.count(number, false);
     let fresh = account.count(number, true);
-    holds(rt, cpu.list_len() == listed, "lengths of lists");
-    holds(rt, cpu.fresh_len() == fresh, "numbers of fresh frames");
+    machine_agrees(rt, cpu.list_len() == listed, "lengths of lists");
+    machine_agrees(rt, cpu.fresh_len() == fresh, "numbers of fresh frames");
     for at in 0..account.size {
         let known = account.frame(at);
         if known.place == Place::Lent(number) && known.fresh_for.is_some() {
@@ -84,7 +84,7 @@ pub fn lists_alike<N: BootName>(
                 Some(frame) => cpu.has_fresh(frame),
                 None => false,
             };
-            holds(rt, is_fresh, "fresh frames");
+            machine_agrees(rt, is_fresh, "fresh frames");
         }
     }
 }
@@ -97,12 +97,12 @@ pub fn make_steps(rt: &impl Abort, core: &mut Core, rows: &[(u32, Action, Answer
             action: *action,
         };
         let is_so = core.steps() < 1_000_000 && core.step(step) == *wanted;
-        holds(rt, is_so, "each step is answered as the call was");
+        core_agrees(rt, is_so, "a step is answered as the call was");
     }
 }
 
 // Where the frame has to stand in the core: a fresh one is lent to its processor by the machine, and kept by its group there.
-fn place_in_core(known: &Known) -> step::FramePlace {
+fn place_in_core(known: &KnownFrame) -> step::FramePlace {
     if let Some(group) = known.fresh_for {
         return step::FramePlace::Charged(group);
     }
@@ -114,7 +114,7 @@ fn place_in_core(known: &Known) -> step::FramePlace {
 }
 
 // Whether the frame stands there in the core.
-fn is_there(core: &Core, frame: u32, known: &Known) -> bool {
+fn is_there(core: &Core, frame: u32, known: &KnownFrame) -> bool {
     if frame >= core.areas().frames() {
         return false;
     }
@@ -123,21 +123,21 @@ fn is_there(core: &Core, frame: u32, known: &Known) -> bool {
 }
 
 /// The frames stand there in the core too, and each processor has as many on its list and as many fresh ones.
-pub fn core_alike(rt: &impl Abort, core: &Core, account: &Account) {
+pub fn core_alike(rt: &impl Abort, core: &Core, account: &MachineAccount) {
     for frame in 0..account.size {
         let known = account.frame(frame);
-        holds(rt, is_there(core, frame, &known), "places in the core");
+        core_agrees(rt, is_there(core, frame, &known), "places");
     }
     for cpu in 1..5 {
         let listed = account.count(cpu, false);
         let fresh = account.count(cpu, true);
-        holds(rt, core.list_len(cpu) == listed, "lists in the core");
-        holds(rt, core.fresh(cpu).len() == fresh, "fresh in the core");
+        core_agrees(rt, core.list_len(cpu) == listed, "lengths of lists");
+        core_agrees(rt, core.fresh(cpu).len() == fresh, "fresh frames");
         let oldest = account.oldest(cpu, true);
-        holds(
+        core_agrees(
             rt,
             core.fresh(cpu).first().copied() == oldest,
-            "fresh in the core",
+            "fresh frames",
         );
     }
 }
@@ -146,7 +146,7 @@ pub fn core_alike(rt: &impl Abort, core: &Core, account: &Account) {
 fn group_in_core<N: BootName>(rt: &impl Abort, machine: &Machine<N>, core: &Core, group: GroupId) {
     let charges = machine.charges();
     let is_there = charges.tree().contains(group);
-    holds(rt, core.tree().contains(group) == is_there, "groups");
+    core_agrees(rt, core.tree().contains(group) == is_there, "groups");
     if !is_there || !core.tree().contains(group) {
         return;
     }
@@ -155,8 +155,8 @@ fn group_in_core<N: BootName>(rt: &impl Abort, machine: &Machine<N>, core: &Core
     let limit = charges.max(group) == core.max(group);
     let events = charges.events(group).max == core.events(group).max;
     let own = charges.events_local(group).max == core.events_local(group).max;
-    holds(rt, used && peak && limit, "groups in the core");
-    holds(rt, events && own, "events in the core");
+    core_agrees(rt, used && peak && limit, "usage, peak and limit");
+    core_agrees(rt, events && own, "events");
 }
 
 /// Each group has the same usage, peak, limit and counts of events in the core.

@@ -4,7 +4,7 @@ ghost use Rattle.mem_machine.specs.Machines.{Visits};
 ghost use Rattle.machine_runs.specs.Visiting.{AllShut, Stays};
 ghost use Rattle.mem_machine.specs.Local.{side};
 
-use crate::made::{Made, path};
+use crate::made::{MachineCall, path};
 use cpu_part::{BootName, Cpu, Tables};
 use frame_word::Frame;
 use group_tree::group::GroupId;
@@ -13,7 +13,7 @@ use zone_blocks::order::Order;
 
 /// What a turn is made of: a random word, and a fresh frame of the processor if there is one.
 #[derive(Clone, Copy)]
-pub struct Turn {
+pub struct MachineTurn {
     pub word: u32,
     pub fresh: u32,
 }
@@ -40,16 +40,16 @@ fn refill<N: BootName>(
     machine: &mut Machine<N>,
     cpu: &mut Cpu<N>,
     word: u32,
-) -> Made
+) -> MachineCall
     requires { Visits N.frames (side machine.old cpu.old) }
     ensures { Stays N.frames machine.old cpu.old machine.new cpu.new }
 {
     let batch = (word >> 8) % 9;
     if cpu.list_len() + cpu.fresh_len() + batch as usize > 256 {
-        return Made::Nothing;
+        return MachineCall::Nothing;
     }
     let frames = machine.refill(tables, cpu, batch);
-    Made::Refilled { batch, frames }
+    MachineCall::Refilled { batch, frames }
 }
 
 // Up to eight frames go back from the list.
@@ -58,22 +58,22 @@ fn drain_list<N: BootName>(
     machine: &mut Machine<N>,
     cpu: &mut Cpu<N>,
     word: u32,
-) -> Made
+) -> MachineCall
     requires { Visits N.frames (side machine.old cpu.old) }
     ensures { Stays N.frames machine.old cpu.old machine.new cpu.new }
 {
     let count = (word >> 8) % 9;
     let frames = machine.drain_list(tables, cpu, count);
-    Made::DrainedList { count, frames }
+    MachineCall::DrainedList { count, frames }
 }
 
 // A group is made.
-fn make<N: BootName>(machine: &mut Machine<N>, cpu: &Cpu<N>, word: u32) -> Made
+fn make<N: BootName>(machine: &mut Machine<N>, cpu: &Cpu<N>, word: u32) -> MachineCall
     requires { Visits N.frames (side machine.old cpu.now) }
     ensures { Stays N.frames machine.old cpu.now machine.new cpu.now }
 {
     let number = (word >> 8) % 4;
-    Made::MadeGroup {
+    MachineCall::MadeGroup {
         path: number,
         group: machine.make(path(number)).ok(),
     }
@@ -85,48 +85,48 @@ fn remove<N: BootName>(
     machine: &mut Machine<N>,
     cpu: &mut Cpu<N>,
     word: u32,
-) -> Made
+) -> MachineCall
     requires { Visits N.frames (side machine.old cpu.old) }
     ensures { Stays N.frames machine.old cpu.old machine.new cpu.new }
 {
     let group = some_group(word);
     let tree = machine.charges().tree();
     if group == GroupId::root() || !tree.contains(group) || tree.has_child(group) {
-        return Made::Nothing;
+        return MachineCall::Nothing;
     }
     if machine.current(group) > 0 {
-        return Made::Nothing;
+        return MachineCall::Nothing;
     }
     machine.remove(tables, cpu, group);
-    Made::Removed(group)
+    MachineCall::Removed(group)
 }
 
 // A group gets another limit, or none.
-fn set_max<N: BootName>(machine: &mut Machine<N>, cpu: &Cpu<N>, word: u32) -> Made
+fn set_max<N: BootName>(machine: &mut Machine<N>, cpu: &Cpu<N>, word: u32) -> MachineCall
     requires { Visits N.frames (side machine.old cpu.now) }
     ensures { Stays N.frames machine.old cpu.now machine.new cpu.now }
 {
     let group = some_group(word);
     if group == GroupId::root() || !machine.charges().tree().contains(group) {
-        return Made::Nothing;
+        return MachineCall::Nothing;
     }
     let pages = (word >> 16) % 24;
     let limit = if pages == 0 { None } else { Some(pages) };
     machine.set_max(group, limit);
-    Made::Limited { group, limit }
+    MachineCall::Limited { group, limit }
 }
 
 // It is noted of a group that its usage was about to go over its limit.
-fn note_max<N: BootName>(machine: &mut Machine<N>, cpu: &Cpu<N>, word: u32) -> Made
+fn note_max<N: BootName>(machine: &mut Machine<N>, cpu: &Cpu<N>, word: u32) -> MachineCall
     requires { Visits N.frames (side machine.old cpu.now) }
     ensures { Stays N.frames machine.old cpu.now machine.new cpu.now }
 {
     let group = some_group(word);
     if !machine.charges().tree().contains(group) {
-        return Made::Nothing;
+        return MachineCall::Nothing;
     }
     machine.note_max(group);
-    Made::Noted(group)
+    MachineCall::Noted(group)
 }
 
 // Pages are prepaid.
@@ -135,20 +135,20 @@ fn prepay<N: BootName>(
     machine: &mut Machine<N>,
     cpu: &mut Cpu<N>,
     word: u32,
-) -> Made
+) -> MachineCall
     requires { Visits N.frames (side machine.old cpu.old) }
     ensures { Stays N.frames machine.old cpu.old machine.new cpu.new }
 {
     let group = some_group(word);
     let pages = (word >> 16) % 8 + 1;
     if cpu.fresh_len() > 0 || !machine.charges().tree().contains(group) {
-        return Made::Nothing;
+        return MachineCall::Nothing;
     }
     if machine.is_killed(group) || !machine.charges().fits(pages) {
-        return Made::Nothing;
+        return MachineCall::Nothing;
     }
     let over = machine.prepay(tables, cpu, group, pages).err();
-    Made::Prepaid {
+    MachineCall::Prepaid {
         group,
         pages,
         over: over.map(|over| over.group),
@@ -161,16 +161,16 @@ fn drain_stock<N: BootName>(
     machine: &mut Machine<N>,
     cpu: &Cpu<N>,
     word: u32,
-) -> Made
+) -> MachineCall
     requires { Visits N.frames (side machine.old cpu.now) }
     ensures { Stays N.frames machine.old cpu.now machine.new cpu.now }
 {
     let number = (word >> 8) % 4 + 1;
     if number > tables.frames.cpus() {
-        return Made::Nothing;
+        return MachineCall::Nothing;
     }
     let pages = machine.drain_stock(tables, number);
-    Made::DrainedStock { cpu: number, pages }
+    MachineCall::DrainedStock { cpu: number, pages }
 }
 
 // The stocks of a subtree are drained.
@@ -179,26 +179,30 @@ fn drain_stocks<N: BootName>(
     machine: &mut Machine<N>,
     cpu: &Cpu<N>,
     word: u32,
-) -> Made
+) -> MachineCall
     requires { Visits N.frames (side machine.old cpu.now) }
     ensures { Stays N.frames machine.old cpu.now machine.new cpu.now }
 {
     let group = some_group(word);
     if !machine.charges().tree().contains(group) {
-        return Made::Nothing;
+        return MachineCall::Nothing;
     }
     let pages = machine.drain_stocks(tables, group);
-    Made::DrainedBelow { group, pages }
+    MachineCall::DrainedBelow { group, pages }
 }
 
 // The fresh frames become kept units.
-fn settle<N: BootName>(tables: &Tables<N>, machine: &mut Machine<N>, cpu: &mut Cpu<N>) -> Made
+fn settle<N: BootName>(
+    tables: &Tables<N>,
+    machine: &mut Machine<N>,
+    cpu: &mut Cpu<N>,
+) -> MachineCall
     requires { Visits N.frames (side machine.old cpu.old) }
     ensures { Stays N.frames machine.old cpu.old machine.new cpu.new }
 {
     let frames = u32::try_from(cpu.fresh_len()).unwrap_or(0);
     machine.settle(tables, cpu);
-    Made::Settled { frames }
+    MachineCall::Settled { frames }
 }
 
 // The head of the block that was taken, and the group whose limit had no room.
@@ -216,21 +220,21 @@ fn take_block<N: BootName>(
     machine: &mut Machine<N>,
     cpu: &mut Cpu<N>,
     word: u32,
-) -> Made
+) -> MachineCall
     requires { Visits N.frames (side machine.old cpu.old) }
     ensures { Stays N.frames machine.old cpu.old machine.new cpu.new }
 {
     let group = some_group(word);
     let order = Order::of((word >> 16) % 4).unwrap();
     if cpu.back_len() > 0 || !machine.charges().tree().contains(group) {
-        return Made::Nothing;
+        return MachineCall::Nothing;
     }
     if machine.is_killed(group) || !machine.charges().fits(order.frames()) {
-        return Made::Nothing;
+        return MachineCall::Nothing;
     }
     let taken = machine.take_block(tables, cpu, group, order);
     let (head, over) = told(taken);
-    Made::TookBlock {
+    MachineCall::TookBlock {
         group,
         order,
         head,
@@ -252,32 +256,32 @@ fn release<N: BootName>(
     machine: &mut Machine<N>,
     cpu: &Cpu<N>,
     word: u32,
-) -> Made
+) -> MachineCall
     requires { Visits N.frames (side machine.old cpu.now) }
     ensures { Stays N.frames machine.old cpu.now machine.new cpu.now }
 {
     let some = (word >> 8).checked_rem(tables.frames.frames()).unwrap_or(0);
     let number = kept_from(tables, machine, some);
     let Some(frame) = tables.frames.frame(number) else {
-        return Made::Nothing;
+        return MachineCall::Nothing;
     };
     if !machine.is_kept(frame) {
-        return Made::Nothing;
+        return MachineCall::Nothing;
     }
     let released = machine.release(tables, cpu, frame);
-    Made::Released {
+    MachineCall::Released {
         frame: number,
         left: left_of(released),
     }
 }
 
 // One call inside a visit.
-fn serve<N: BootName>(
+fn make_call<N: BootName>(
     tables: &Tables<N>,
     machine: &mut Machine<N>,
     cpu: &mut Cpu<N>,
     word: u32,
-) -> Made
+) -> MachineCall
     requires { Visits N.frames (side machine.old cpu.old) }
     ensures { Stays N.frames machine.old cpu.old machine.new cpu.new }
 {
@@ -298,17 +302,17 @@ fn serve<N: BootName>(
 }
 
 /// One call inside a visit, which is opened for it and shut after it.
-pub fn visit<N: BootName>(
+pub fn call_in_visit<N: BootName>(
     tables: &Tables<N>,
     machine: &mut Machine<N>,
     cpu: &mut Cpu<N>,
     word: u32,
-) -> Made
+) -> MachineCall
     requires { AllShut machine.old }
     ensures { AllShut machine.new }
 {
     machine.open(tables, cpu);
-    let made = serve(tables, machine, cpu, word);
+    let made = make_call(tables, machine, cpu, word);
     machine.shut(tables, cpu);
     made
 }
@@ -322,17 +326,21 @@ fn paying_group<N: BootName>(cpu: &Cpu<N>, word: u32) -> GroupId {
 }
 
 /// One call of the processor alone: a frame is paid for, or a fresh one given back.
-pub fn fast<N: BootName>(tables: &Tables<N>, cpu: &mut Cpu<N>, turn: &Turn) -> Made {
+pub fn call_fast<N: BootName>(
+    tables: &Tables<N>,
+    cpu: &mut Cpu<N>,
+    turn: &MachineTurn,
+) -> MachineCall {
     if turn.word & 16 != 0 {
         let group = paying_group(cpu, turn.word);
         let answer = cpu.alloc_fast(tables, group.number());
-        return Made::Paid { group, answer };
+        return MachineCall::Paid { group, answer };
     }
     match tables.frames.frame(turn.fresh) {
-        Some(frame) if cpu.has_fresh(frame) => Made::GaveBack {
+        Some(frame) if cpu.has_fresh(frame) => MachineCall::GaveBack {
             frame: turn.fresh,
             answer: cpu.drop_fresh(tables, frame),
         },
-        _ => Made::Nothing,
+        _ => MachineCall::Nothing,
     }
 }

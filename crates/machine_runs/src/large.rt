@@ -1,12 +1,11 @@
-//! A machine of a large boot: 65,536 frames and 16 processors.
+//! A machine of the greatest sizes, 65,536 frames and 16 processors, of which the last is lent frames and gives them back.
 ghost use Rattle.std.specs.Prelude.{◌≡◌, ◌≤◌};
-ghost use Rattle.frame_word.specs.Seats.{first_zone_view, first_cpu_view};
+ghost use Rattle.frame_word.specs.Seats.{IsShut, first_zone_view, first_cpu_view};
 ghost use Rattle.stock_word.specs.Stock.{first_machine, first_processor};
 
-use crate::few::lends_and_takes_back;
-use crate::holds::holds;
-use crate::parts::{Seats, close, new_cpu};
-use cpu_part::{BootName, Tables};
+use crate::agrees::machine_agrees;
+use crate::parts::{ProcessorSeats, close_processor, new_processor};
+use cpu_part::{BootName, Cpu, Tables};
 use frame_word::{FrameSeat, FrameWords};
 use mem_machine::Machine;
 use std::alloc::Global;
@@ -14,32 +13,30 @@ use std::marker::Brand;
 use std::process::Abort;
 use stock_word::{StockSeat, StockWords};
 
-/// The tables of F frames and 16 processors, and the seats of the machine and of processor 16, as they are at first.
+/// The tables of 65,536 frames and 16 processors, and the seats of the machine and of processor 16, as they are at first.
 #[derive(Drop)]
-pub struct LastParts<const F: u32> {
-    pub frames: FrameWords,
-    pub stocks: StockWords,
-    pub zone: FrameSeat,
-    pub machine: StockSeat,
-    pub last: Seats,
-    pub ghost sizes: { (frames.frames ≡ F) × (frames.cpus ≡ 16) × (stocks.cpus ≡ 16) },
-    pub ghost zone_is: { (zone.table ≡ frames.table) × (zone.view ≡ first_zone_view F) },
-    pub ghost machine_is: { (machine.table ≡ stocks.table) × (machine.view ≡ first_machine) },
-    pub ghost last_is: { (last.frames.table ≡ frames.table) × (last.frames.view ≡ first_cpu_view 16) },
-    pub ghost last_pays: { (last.stock.table ≡ stocks.table) × (last.stock.view ≡ first_processor 16) },
+struct LargeParts {
+    frames: FrameWords,
+    stocks: StockWords,
+    zone: FrameSeat,
+    machine: StockSeat,
+    last: ProcessorSeats,
+    ghost sizes: { (frames.frames ≡ 65536) × (frames.cpus ≡ 16) × (stocks.cpus ≡ 16) },
+    ghost zone_is: { (zone.table ≡ frames.table) × (zone.view ≡ first_zone_view 65536) },
+    ghost machine_is: { (machine.table ≡ stocks.table) × (machine.view ≡ first_machine) },
+    ghost last_is: { (last.frames.table ≡ frames.table) × (last.frames.view ≡ first_cpu_view 16) },
+    ghost last_pays: { (last.stock.table ≡ stocks.table) × (last.stock.view ≡ first_processor 16) },
 }
 
-/// The parts of a new boot.
-pub fn make_last_parts<const F: u32>(rt: &impl Abort, alloc: Global) -> LastParts<F>
-    requires { 1 ≤ F }
-{
-    let (frames, zone, mut seats) = FrameWords::new(alloc, F, 16).expect(rt, "memory");
+// The parts of a new boot.
+fn make_large_parts(rt: &impl Abort, alloc: Global) -> LargeParts {
+    let (frames, zone, mut seats) = FrameWords::new(alloc, 65_536, 16).expect(rt, "memory");
     let (stocks, machine, mut payers) = StockWords::new(alloc, 16).expect(rt, "memory");
-    let last = Seats {
+    let last = ProcessorSeats {
         frames: seats.pop().expect(rt, "a seat"),
         stock: payers.pop().expect(rt, "a stock seat"),
     };
-    LastParts {
+    LargeParts {
         frames,
         stocks,
         zone,
@@ -48,16 +45,34 @@ pub fn make_last_parts<const F: u32>(rt: &impl Abort, alloc: Global) -> LastPart
     }
 }
 
-/// In a visit of processor 16, so many frames come to its list and go back.
-pub fn lends<const F: u32, N: BootName>(
+// In a visit so many frames come to the processor's list, and go back: three, and then the others.
+fn lends_and_takes_back<N: BootName>(
     rt: &impl Abort,
-    alloc: Global,
-    parts: LastParts<F>,
-    count: u32,
+    tables: &Tables<N>,
+    machine: &mut Machine<N>,
+    cpu: &mut Cpu<N>,
+    frames: u32,
 )
+    requires { IsShut machine.old.seat cpu.old.number }
+{
+    machine.open(tables, cpu);
+    assert!(rt; frames <= 64 && cpu.list_len() == 0 && cpu.fresh_len() == 0);
+    let refilled = machine.refill(tables, cpu, frames);
+    machine_agrees(rt, refilled == frames, "frames that are lent");
+    let listed = cpu.list_len();
+    machine_agrees(rt, listed == frames as usize, "a list of these");
+    let first = machine.drain_list(tables, cpu, 3);
+    machine_agrees(rt, first == 3, "three frames go back");
+    let rest = machine.drain_list(tables, cpu, frames);
+    machine_agrees(rt, rest == frames.saturating_sub(3), "and the rest");
+    machine.shut(tables, cpu);
+}
+
+// In a visit of processor 16, 64 frames come to its list and go back.
+fn lends<N: BootName>(rt: &impl Abort, alloc: Global, parts: LargeParts)
     requires { (parts.frames ≡ N.frames) × (parts.stocks ≡ N.stocks) }
 {
-    let LastParts {
+    let LargeParts {
         frames,
         stocks,
         zone,
@@ -65,24 +80,17 @@ pub fn lends<const F: u32, N: BootName>(
         last,
     } = parts;
     let tables = Tables::<N>::new(frames, stocks);
-    let mut cpu = new_cpu::<N>(rt, alloc, last);
+    let mut cpu = new_processor::<N>(rt, alloc, last);
     let mut machine = Machine::<N>::new(alloc, &tables, zone, machine).expect(rt, "memory");
-    holds(rt, cpu.number() == 16, "lends");
-    lends_and_takes_back(rt, &tables, &mut machine, &mut cpu, count);
-    close(rt, cpu);
+    machine_agrees(rt, cpu.number() == 16, "the last processor");
+    lends_and_takes_back(rt, &tables, &mut machine, &mut cpu, 64);
+    close_processor(rt, cpu);
+    let _ = machine.into_seats();
     let _ = tables.into_tables();
 }
 
-// 64 of 65,536 frames.
-fn lends_of_many<N: BootName>(rt: &impl Abort, alloc: Global, parts: LastParts<65536>)
-    requires { (parts.frames ≡ N.frames) × (parts.stocks ≡ N.stocks) }
-{
-    lends::<65536, N>(rt, alloc, parts, 64);
-}
-
-// A machine of 65,536 frames and 16 processors is made, and serves the last of them.
 #[test]
-fn a_large_machine_lends_and_takes_back(rt: HostRuntime) {
-    let parts = make_last_parts::<65536>(&rt, rt.alloc());
-    lends_of_many::<Brand>(&rt, rt.alloc(), parts);
+fn frames_are_lent_and_taken_back(rt: HostRuntime) {
+    let parts = make_large_parts(&rt, rt.alloc());
+    lends::<Brand>(&rt, rt.alloc(), parts);
 }

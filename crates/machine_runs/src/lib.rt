@@ -5,13 +5,11 @@
 #[cfg(test)]
 mod account;
 #[cfg(test)]
+mod agrees;
+#[cfg(test)]
 mod alike;
 #[cfg(test)]
 mod calls;
-#[cfg(test)]
-mod few;
-#[cfg(test)]
-mod holds;
 #[cfg(test)]
 mod large;
 #[cfg(test)]

@@ -6,7 +6,7 @@ use zone_blocks::order::Order;
 
 /// A call and its answers.
 #[derive(Clone, Copy)]
-pub enum Made {
+pub enum MachineCall {
     /// No call was made: one of its conditions doesn't hold.
     Nothing,
     /// So many of at most `batch` frames came to the list.

@@ -1,8 +1,8 @@
 //! What the answers of a call change in the account, what they have to be there, and the steps of the call.
 
-use crate::account::{Account, FREE};
-use crate::holds::holds;
-use crate::made::{Made, path};
+use crate::account::{FREE, MachineAccount};
+use crate::agrees::machine_agrees;
+use crate::made::{MachineCall, path};
 use cpu_part::{Dropped, Fast};
 use group_tree::group::GroupId;
 use group_tree::path::PathText;
@@ -14,19 +14,19 @@ use zone_blocks::block::Block;
 use zone_blocks::order::Order;
 
 /// The processor takes the lock, and its visit begins.
-pub fn begin(rt: &impl Abort, account: &mut Account, cpu: u32) {
+pub fn begin_visit(rt: &impl Abort, account: &mut MachineAccount, cpu: u32) {
     account.done(rt, cpu, Action::Lock);
     account.done(rt, 0, Action::OpenVisit { cpu });
 }
 
 /// Its visit ends, and it gives the lock back.
-pub fn end(rt: &impl Abort, account: &mut Account, cpu: u32) {
+pub fn end_visit(rt: &impl Abort, account: &mut MachineAccount, cpu: u32) {
     account.done(rt, 0, Action::ShutVisit { cpu });
     account.done(rt, cpu, Action::Unlock);
 }
 
 // So many frames come to the list, each the front of the smallest free area.
-fn refilled(rt: &impl Abort, account: &mut Account, cpu: u32, batch: u32, frames: u32) {
+fn refilled(rt: &impl Abort, account: &mut MachineAccount, cpu: u32, batch: u32, frames: u32) {
     for _ in 0..frames {
         let frame = account.front(0).expect(rt, "a free frame");
         account.done(rt, 0, Action::PassOut { frame, cpu });
@@ -34,11 +34,11 @@ fn refilled(rt: &impl Abort, account: &mut Account, cpu: u32, batch: u32, frames
         account.lend(cpu, frame, None);
     }
     let is_end = frames == batch || account.front(0) == None;
-    holds(rt, is_end, "fewer frames only at the end");
+    machine_agrees(rt, is_end, "fewer frames only at the end");
 }
 
 // So many frames go back from the front of the list.
-fn drained_list(rt: &impl Abort, account: &mut Account, cpu: u32, count: u32, frames: u32) {
+fn drained_list(rt: &impl Abort, account: &mut MachineAccount, cpu: u32, count: u32, frames: u32) {
     for _ in 0..frames {
         let frame = account.oldest(cpu, false).expect(rt, "a listed frame");
         account.done(rt, cpu, Action::PassBack { frame });
@@ -46,17 +46,17 @@ fn drained_list(rt: &impl Abort, account: &mut Account, cpu: u32, count: u32, fr
         account.put(frame, &FREE);
     }
     let is_end = frames == count || account.count(cpu, false) == 0;
-    holds(rt, is_end, "fewer frames only at the end");
+    machine_agrees(rt, is_end, "fewer frames only at the end");
 }
 
 // A group is made of the path, and was used for nothing yet; or the path is refused.
-fn made_group(rt: &impl Abort, account: &mut Account, number: u32, group: Option<GroupId>) {
+fn made_group(rt: &impl Abort, account: &mut MachineAccount, number: u32, group: Option<GroupId>) {
     let path = PathText::of(path(number)).expect(rt, "a short path");
     let make = Action::Make { path };
     match group {
         Some(group) => {
             account.step(rt, 0, make, Answer::Number(group));
-            holds(rt, group.number() < 8, "few groups");
+            machine_agrees(rt, group.number() < 8, "few groups");
             account.name(group, Some(number), 0);
         }
         None => account.step(rt, 0, make, Answer::Illegal),
@@ -64,14 +64,14 @@ fn made_group(rt: &impl Abort, account: &mut Account, number: u32, group: Option
 }
 
 // A group that is used for nothing goes.
-fn removed(rt: &impl Abort, account: &mut Account, group: GroupId) {
-    holds(rt, account.usage(group) == 0, "an unused group goes");
+fn removed(rt: &impl Abort, account: &mut MachineAccount, group: GroupId) {
+    machine_agrees(rt, account.usage(group) == 0, "an unused group goes");
     account.done(rt, 0, Action::Remove { group });
     account.name(group, None, 0);
 }
 
 // The stock of a processor is drained, and its pages go back.
-fn drain(rt: &impl Abort, account: &mut Account, cpu: u32) -> u32 {
+fn drain(rt: &impl Abort, account: &mut MachineAccount, cpu: u32) -> u32 {
     let stock = account.stock(cpu);
     let pages = stock.pages;
     let answer = Answer::Pages(u128::from(pages));
@@ -87,7 +87,7 @@ fn drain(rt: &impl Abort, account: &mut Account, cpu: u32) -> u32 {
 // Pages are granted to a group, or a limit has no room for them. It tells whether they are.
 fn granted(
     rt: &impl Abort,
-    account: &mut Account,
+    account: &mut MachineAccount,
     group: GroupId,
     pages: u32,
     over: Option<GroupId>,
@@ -109,7 +109,7 @@ fn granted(
 // The own stock is drained, and filled where the limits have room.
 fn prepaid(
     rt: &impl Abort,
-    account: &mut Account,
+    account: &mut MachineAccount,
     cpu: u32,
     group: GroupId,
     pages: u32,
@@ -123,7 +123,7 @@ fn prepaid(
 }
 
 // The stocks of a subtree are drained.
-fn drained_below(rt: &impl Abort, account: &mut Account, group: GroupId) -> u64 {
+fn drained_below(rt: &impl Abort, account: &mut MachineAccount, group: GroupId) -> u64 {
     let mut pages = 0_u64;
     for cpu in 1..5 {
         let own = account.stock(cpu).group;
@@ -138,7 +138,7 @@ fn drained_below(rt: &impl Abort, account: &mut Account, group: GroupId) -> u64 
 }
 
 // The oldest fresh frame of the processor is kept by the group that paid for it.
-fn settled_one(rt: &impl Abort, account: &mut Account, cpu: u32) {
+fn settled_one(rt: &impl Abort, account: &mut MachineAccount, cpu: u32) {
     let frame = account.oldest(cpu, true).expect(rt, "a fresh frame");
     let payer = account.frame(frame).fresh_for;
     let group = payer.expect(rt, "the group that paid");
@@ -153,18 +153,18 @@ fn settled_one(rt: &impl Abort, account: &mut Account, cpu: u32) {
 }
 
 // Each fresh frame is settled, in the order in which they were taken.
-fn settled(rt: &impl Abort, account: &mut Account, cpu: u32, frames: u32) {
+fn settled(rt: &impl Abort, account: &mut MachineAccount, cpu: u32, frames: u32) {
     for _ in 0..frames {
         settled_one(rt, account, cpu);
     }
-    holds(rt, account.count(cpu, true) == 0, "all fresh are settled");
+    machine_agrees(rt, account.count(cpu, true) == 0, "all fresh are settled");
 }
 
 // A block is placed for pages that were granted, where its place is by the free frames; or there is none.
-fn placed(rt: &impl Abort, account: &mut Account, unit: &ChargedUnit, head: Option<u32>) {
+fn placed(rt: &impl Abort, account: &mut MachineAccount, unit: &ChargedUnit, head: Option<u32>) {
     let ChargedUnit { group, order } = *unit;
     let is_front = head == account.front(order.exponent());
-    holds(rt, is_front, "a block is the front of its area");
+    machine_agrees(rt, is_front, "a block is the front of its area");
     let place = Action::PlaceBlock { group, order };
     let pages = order.frames();
     match head {
@@ -191,7 +191,7 @@ fn placed(rt: &impl Abort, account: &mut Account, unit: &ChargedUnit, head: Opti
 // A block is taken, or there is none, or a limit has no room for it.
 fn took_block(
     rt: &impl Abort,
-    account: &mut Account,
+    account: &mut MachineAccount,
     unit: &ChargedUnit,
     head: Option<u32>,
     over: Option<GroupId>,
@@ -202,8 +202,8 @@ fn took_block(
 }
 
 // A unit gives up the zone's reference, the last one, and comes back.
-fn released(rt: &impl Abort, account: &mut Account, frame: u32, left: Option<u64>) {
-    holds(rt, left == None, "the zone's reference is the last");
+fn released(rt: &impl Abort, account: &mut MachineAccount, frame: u32, left: Option<u64>) {
+    machine_agrees(rt, left == None, "the zone's reference is the last");
     account.step(rt, 0, Action::Put { frame }, Answer::Last);
     account.done(rt, 0, Action::Return { frame });
     let unit = account.frame(frame).unit.expect(rt, "a kept unit");
@@ -214,18 +214,18 @@ fn released(rt: &impl Abort, account: &mut Account, frame: u32, left: Option<u64
 }
 
 // The front of the list is paid for by a page of the stock.
-fn got(rt: &impl Abort, account: &mut Account, cpu: u32, group: GroupId, frame: u32) {
+fn got(rt: &impl Abort, account: &mut MachineAccount, cpu: u32, group: GroupId, frame: u32) {
     let stock = account.stock(cpu);
     let is_front = account.oldest(cpu, false) == Some(frame);
-    holds(rt, is_front, "the front is paid for");
-    holds(rt, stock.group == Some(group), "its group pays");
+    machine_agrees(rt, is_front, "the front is paid for");
+    machine_agrees(rt, stock.group == Some(group), "its group pays");
     let pages = stock.pages.checked_sub(1).expect(rt, "a page");
     account.put_stock(cpu, Some(group), pages);
     account.lend(cpu, frame, Some(group));
 }
 
 // A frame is paid for, or not. That the stock has no page is told by what the processor saw of it last, without a step.
-fn paid(rt: &impl Abort, account: &mut Account, cpu: u32, group: GroupId, fast: Fast) {
+fn paid(rt: &impl Abort, account: &mut MachineAccount, cpu: u32, group: GroupId, fast: Fast) {
     let stock = account.stock(cpu);
     let (is_so, answer) = match fast {
         Fast::Got(_) => (true, Answer::Took),
@@ -235,7 +235,7 @@ fn paid(rt: &impl Abort, account: &mut Account, cpu: u32, group: GroupId, fast: 
         Fast::Drained => (stock.pages == 0, Answer::Drained),
         Fast::NoStock => (stock.pages == 0, Answer::Done),
     };
-    holds(rt, is_so, "a frame is refused for a cause");
+    machine_agrees(rt, is_so, "a frame is refused for a cause");
     if fast != Fast::NoStock {
         account.step(rt, cpu, Action::Consume { group }, answer);
     }
@@ -245,7 +245,13 @@ fn paid(rt: &impl Abort, account: &mut Account, cpu: u32, group: GroupId, fast: 
 }
 
 // A fresh frame is given back to the end of the list, or not.
-fn gave_back(rt: &impl Abort, account: &mut Account, cpu: u32, frame: u32, dropped: Dropped) {
+fn gave_back(
+    rt: &impl Abort,
+    account: &mut MachineAccount,
+    cpu: u32,
+    frame: u32,
+    dropped: Dropped,
+) {
     let stock = account.stock(cpu);
     let credit = Action::Credit { frame };
     match dropped {
@@ -256,39 +262,45 @@ fn gave_back(rt: &impl Abort, account: &mut Account, cpu: u32, frame: u32, dropp
         }
         Dropped::NeedVisit => {
             account.step(rt, cpu, credit, Answer::Drained);
-            holds(rt, stock.pages == 0, "a drained stock takes no page");
+            machine_agrees(rt, stock.pages == 0, "a drained stock takes no page");
         }
     }
 }
 
 /// What a call of this processor changes.
-pub fn recount(rt: &impl Abort, account: &mut Account, cpu: u32, made: &Made) {
+pub fn recount(rt: &impl Abort, account: &mut MachineAccount, cpu: u32, made: &MachineCall) {
     match *made {
-        Made::Nothing => {}
-        Made::Refilled { batch, frames } => refilled(rt, account, cpu, batch, frames),
-        Made::DrainedList { count, frames } => drained_list(rt, account, cpu, count, frames),
-        Made::MadeGroup { path, group } => made_group(rt, account, path, group),
-        Made::Removed(group) => removed(rt, account, group),
-        Made::Limited { group, limit } => account.done(rt, 0, Action::SetMax { group, limit }),
-        Made::Noted(group) => account.done(rt, 0, Action::NoteMax { group }),
-        Made::Prepaid { group, pages, over } => prepaid(rt, account, cpu, group, pages, over),
-        Made::DrainedStock { cpu, pages } => {
+        MachineCall::Nothing => {}
+        MachineCall::Refilled { batch, frames } => refilled(rt, account, cpu, batch, frames),
+        MachineCall::DrainedList { count, frames } => drained_list(rt, account, cpu, count, frames),
+        MachineCall::MadeGroup { path, group } => made_group(rt, account, path, group),
+        MachineCall::Removed(group) => removed(rt, account, group),
+        MachineCall::Limited { group, limit } => account.done(
+            rt,
+            0,
+            Action::SetMax { group, limit },
+        ),
+        MachineCall::Noted(group) => account.done(rt, 0, Action::NoteMax { group }),
+        MachineCall::Prepaid { group, pages, over } => prepaid(
+            rt, account, cpu, group, pages, over,
+        ),
+        MachineCall::DrainedStock { cpu, pages } => {
             let drained = drain(rt, account, cpu);
-            holds(rt, drained == pages, "the stock had as many pages");
+            machine_agrees(rt, drained == pages, "the stock had as many pages");
         }
-        Made::DrainedBelow { group, pages } => {
+        MachineCall::DrainedBelow { group, pages } => {
             let drained = drained_below(rt, account, group);
-            holds(rt, drained == pages, "the stocks had as many pages");
+            machine_agrees(rt, drained == pages, "the stocks had as many pages");
         }
-        Made::Settled { frames } => settled(rt, account, cpu, frames),
-        Made::TookBlock {
+        MachineCall::Settled { frames } => settled(rt, account, cpu, frames),
+        MachineCall::TookBlock {
             group,
             order,
             head,
             over,
         } => took_block(rt, account, &ChargedUnit { group, order }, head, over),
-        Made::Released { frame, left } => released(rt, account, frame, left),
-        Made::Paid { group, answer } => paid(rt, account, cpu, group, answer),
-        Made::GaveBack { frame, answer } => gave_back(rt, account, cpu, frame, answer),
+        MachineCall::Released { frame, left } => released(rt, account, frame, left),
+        MachineCall::Paid { group, answer } => paid(rt, account, cpu, group, answer),
+        MachineCall::GaveBack { frame, answer } => gave_back(rt, account, cpu, frame, answer),
     }
 }

@@ -11,22 +11,22 @@ use stock_word::{StockSeat, StockWords};
 
 /// The seats of one processor.
 #[derive(Drop)]
-pub struct Seats {
+pub struct ProcessorSeats {
     pub frames: FrameSeat,
     pub stock: StockSeat,
 }
 
 /// The tables of F frames and 4 processors, and all seats, as they are at first.
 #[derive(Drop)]
-pub struct Parts<const F: u32> {
+pub struct MachineParts<const F: u32> {
     pub frames: FrameWords,
     pub stocks: StockWords,
     pub zone: FrameSeat,
     pub machine: StockSeat,
-    pub first: Seats,
-    pub second: Seats,
-    pub third: Seats,
-    pub fourth: Seats,
+    pub first: ProcessorSeats,
+    pub second: ProcessorSeats,
+    pub third: ProcessorSeats,
+    pub fourth: ProcessorSeats,
     pub ghost sizes: { (frames.frames ≡ F) × (frames.cpus ≡ 4) × (stocks.cpus ≡ 4) },
     pub ghost zone_is: { (zone.table ≡ frames.table) × (zone.view ≡ first_zone_view F) },
     pub ghost machine_is: { (machine.table ≡ stocks.table) × (machine.view ≡ first_machine) },
@@ -41,28 +41,28 @@ pub struct Parts<const F: u32> {
 }
 
 /// The parts of a new boot.
-pub fn make_parts<const F: u32>(rt: &impl Abort, alloc: Global) -> Parts<F>
+pub fn make_machine_parts<const F: u32>(rt: &impl Abort, alloc: Global) -> MachineParts<F>
     requires { 1 ≤ F }
 {
     let (frames, zone, mut seats) = FrameWords::new(alloc, F, 4).expect(rt, "memory");
     let (stocks, machine, mut payers) = StockWords::new(alloc, 4).expect(rt, "memory");
-    let fourth = Seats {
+    let fourth = ProcessorSeats {
         frames: seats.pop().expect(rt, "a seat"),
         stock: payers.pop().expect(rt, "a stock seat"),
     };
-    let third = Seats {
+    let third = ProcessorSeats {
         frames: seats.pop().expect(rt, "a seat"),
         stock: payers.pop().expect(rt, "a stock seat"),
     };
-    let second = Seats {
+    let second = ProcessorSeats {
         frames: seats.pop().expect(rt, "a seat"),
         stock: payers.pop().expect(rt, "a stock seat"),
     };
-    let first = Seats {
+    let first = ProcessorSeats {
         frames: seats.pop().expect(rt, "a seat"),
         stock: payers.pop().expect(rt, "a stock seat"),
     };
-    Parts {
+    MachineParts {
         frames,
         stocks,
         zone,
@@ -75,7 +75,7 @@ pub fn make_parts<const F: u32>(rt: &impl Abort, alloc: Global) -> Parts<F>
 }
 
 /// The part of the processor whose seats these are.
-pub fn new_cpu<N: BootName>(rt: &impl Abort, alloc: Global, seats: Seats) -> Cpu<N>
+pub fn new_processor<N: BootName>(rt: &impl Abort, alloc: Global, seats: ProcessorSeats) -> Cpu<N>
     requires seat { IsCpuSeat N.frames seats.frames × (seats.frames.view ≡ first_cpu_view (number_of seats.frames)) }
     requires stock { (seats.stock.table ≡ N.stocks.table) × IsProcessor N.stocks seats.stock.view × (seats.stock.view.fresh ≡ 0) }
     requires same { seats.stock.view.number ≡ number_of seats.frames }
@@ -84,7 +84,7 @@ pub fn new_cpu<N: BootName>(rt: &impl Abort, alloc: Global, seats: Seats) -> Cpu
 }
 
 /// A processor's part with nothing left is taken apart.
-pub fn close<N: BootName>(rt: &impl Abort, cpu: Cpu<N>) {
+pub fn close_processor<N: BootName>(rt: &impl Abort, cpu: Cpu<N>) {
     assert!(rt; cpu.is_idle());
     let _ = cpu.into_seats();
 }

@@ -5,15 +5,15 @@ ghost use Rattle.frame_word.specs.Seats.{first_zone_view};
 ghost use Rattle.stock_word.specs.Stock.{first_machine};
 ghost use Rattle.machine_runs.specs.Visiting.{AllShut};
 
-use crate::account::Account;
+use crate::account::MachineAccount;
 use crate::alike::{
     core_alike, frames_alike, groups_alike, groups_in_core, lists_alike, make_steps,
 };
-use crate::calls::{Turn, fast, visit};
-use crate::made::Made;
-use crate::moves::{begin, end, recount};
-use crate::parts::{Parts, close, make_parts, new_cpu};
-use crate::tally::Tally;
+use crate::calls::{MachineTurn, call_fast, call_in_visit};
+use crate::made::MachineCall;
+use crate::moves::{begin_visit, end_visit, recount};
+use crate::parts::{MachineParts, close_processor, make_machine_parts, new_processor};
+use crate::tally::CallTally;
 use cpu_part::{BootName, Cpu, Tables};
 use frame_word::FrameSeat;
 use mem_core::zone::Core;
@@ -27,53 +27,53 @@ use stock_word::StockSeat;
 
 // How many calls a run has, and what stands beside it: an account, and in one run a core.
 #[derive(Drop)]
-struct Beside {
+struct BesideMachine {
     calls: u32,
-    account: Account,
+    account: MachineAccount,
     core: Option<Core>,
 }
 
 // One call of the processor, which the account follows.
-fn play<N: BootName>(
+fn call_and_recount<N: BootName>(
     rt: &impl Abort,
     tables: &Tables<N>,
     machine: &mut Machine<N>,
     cpu: &mut Cpu<N>,
-    account: &mut Account,
+    account: &mut MachineAccount,
     word: u32,
-) -> Made
+) -> MachineCall
     requires { AllShut machine.old }
     ensures { AllShut machine.new }
 {
     let number = cpu.number();
     if word >> 31 == 0 {
         let fresh = account.oldest(number, true).unwrap_or(0);
-        let made = fast(tables, cpu, &Turn { word, fresh });
+        let made = call_fast(tables, cpu, &MachineTurn { word, fresh });
         recount(rt, account, number, &made);
         made
     } else {
-        let made = visit(tables, machine, cpu, word);
-        begin(rt, account, number);
+        let made = call_in_visit(tables, machine, cpu, word);
+        begin_visit(rt, account, number);
         recount(rt, account, number, &made);
-        end(rt, account, number);
+        end_visit(rt, account, number);
         made
     }
 }
 
 // The fresh frames are settled, and the list goes back.
-fn finish<N: BootName>(
+fn give_lists_back<N: BootName>(
     rt: &impl Abort,
     tables: &Tables<N>,
     machine: &mut Machine<N>,
     cpu: &mut Cpu<N>,
-    account: &mut Account,
+    account: &mut MachineAccount,
 )
     requires { AllShut machine.old }
     ensures { AllShut machine.new }
 {
     for turn in 0..33u32 {
         let word = if turn == 0 { 0x8000_000b } else { 0x8000_0c02 };
-        play(rt, tables, machine, cpu, account, word);
+        call_and_recount(rt, tables, machine, cpu, account, word);
     }
 }
 
@@ -94,7 +94,7 @@ fn new_machine<N: BootName>(
 }
 
 // The parts of the four processors.
-struct Four<N: BootName> {
+struct FourProcessors<N: BootName> {
     first: Cpu<N>,
     second: Cpu<N>,
     third: Cpu<N>,
@@ -102,19 +102,24 @@ struct Four<N: BootName> {
 }
 
 // The core makes the steps of the calls, and stands as the machine.
-fn follow<N: BootName>(rt: &impl Abort, machine: &Machine<N>, account: &Account, core: &mut Core) {
+fn core_follows<N: BootName>(
+    rt: &impl Abort,
+    machine: &Machine<N>,
+    account: &MachineAccount,
+    core: &mut Core,
+) {
     make_steps(rt, core, account.rows.as_slice());
     core_alike(rt, core, account);
     groups_in_core(rt, machine, core);
 }
 
 // The machine and the processors stand as the account, and as the core if there is one.
-fn compare<N: BootName>(
+fn compare_machine<N: BootName>(
     rt: &impl Abort,
     tables: &Tables<N>,
     machine: &Machine<N>,
-    cpus: &Four<N>,
-    account: &mut Account,
+    cpus: &FourProcessors<N>,
+    account: &mut MachineAccount,
     core: &mut Option<Core>,
 ) {
     frames_alike(rt, tables, machine, account);
@@ -123,21 +128,21 @@ fn compare<N: BootName>(
         lists_alike(rt, tables, cpu, account);
     }
     match core {
-        Some(core) => follow(rt, machine, account, core),
+        Some(core) => core_follows(rt, machine, account, core),
         None => {}
     }
     account.rows.clear();
 }
 
 // One call of the processor that the word names.
-fn play_one<N: BootName>(
+fn call_one_processor<N: BootName>(
     rt: &impl Abort,
     tables: &Tables<N>,
     machine: &mut Machine<N>,
-    cpus: &mut Four<N>,
-    account: &mut Account,
+    cpus: &mut FourProcessors<N>,
+    account: &mut MachineAccount,
     word: u32,
-) -> Made
+) -> MachineCall
     requires { AllShut machine.old }
     ensures { AllShut machine.new }
 {
@@ -147,81 +152,81 @@ fn play_one<N: BootName>(
         2 => &mut cpus.third,
         _ => &mut cpus.fourth,
     };
-    play(rt, tables, machine, cpu, account, word)
+    call_and_recount(rt, tables, machine, cpu, account, word)
 }
 
 // So many random calls of four processors, compared with what stands beside them at every twentieth. It tells how often each
 // kind of call did something.
-fn drive<N: BootName>(
+fn call_at_random<N: BootName>(
     rt: &impl Abort,
     tables: &Tables<N>,
     machine: &mut Machine<N>,
-    cpus: &mut Four<N>,
-    beside: &mut Beside,
-) -> Tally
+    cpus: &mut FourProcessors<N>,
+    beside: &mut BesideMachine,
+) -> CallTally
     requires { AllShut machine.old }
     ensures { AllShut machine.new }
 {
     let mut random = Pcg32::seed_from_u64(2_026);
-    let mut tally = Tally::new();
-    let Beside {
+    let mut tally = CallTally::new();
+    let BesideMachine {
         calls,
         account,
         core,
     } = beside;
     for call in 0..*calls {
         let word = random.next_u32();
-        let made = play_one(rt, tables, machine, cpus, account, word);
+        let made = call_one_processor(rt, tables, machine, cpus, account, word);
         tally.note(&made);
         if call % 20 == 19 {
-            compare(rt, tables, machine, cpus, account, core);
+            compare_machine(rt, tables, machine, cpus, account, core);
         }
     }
     tally
 }
 
 // Every processor gives back what it has.
-fn finish_all<N: BootName>(
+fn give_all_back<N: BootName>(
     rt: &impl Abort,
     tables: &Tables<N>,
     machine: &mut Machine<N>,
-    cpus: &mut Four<N>,
-    beside: &mut Beside,
+    cpus: &mut FourProcessors<N>,
+    beside: &mut BesideMachine,
 )
     requires { AllShut machine.old }
 {
     let account = &mut beside.account;
-    finish(rt, tables, machine, &mut cpus.first, account);
-    finish(rt, tables, machine, &mut cpus.second, account);
-    finish(rt, tables, machine, &mut cpus.third, account);
-    finish(rt, tables, machine, &mut cpus.fourth, account);
-    compare(rt, tables, machine, cpus, account, &mut beside.core);
+    give_lists_back(rt, tables, machine, &mut cpus.first, account);
+    give_lists_back(rt, tables, machine, &mut cpus.second, account);
+    give_lists_back(rt, tables, machine, &mut cpus.third, account);
+    give_lists_back(rt, tables, machine, &mut cpus.fourth, account);
+    compare_machine(rt, tables, machine, cpus, account, &mut beside.core);
 }
 
 // The processors' parts, with nothing on any list, are taken apart.
-fn close_all<N: BootName>(rt: &impl Abort, cpus: Four<N>) {
-    let Four {
+fn close_processors<N: BootName>(rt: &impl Abort, cpus: FourProcessors<N>) {
+    let FourProcessors {
         first,
         second,
         third,
         fourth,
     } = cpus;
-    close(rt, first);
-    close(rt, second);
-    close(rt, third);
-    close(rt, fourth);
+    close_processor(rt, first);
+    close_processor(rt, second);
+    close_processor(rt, third);
+    close_processor(rt, fourth);
 }
 
 // A boot runs beside a core or a recount, and ends with nothing on any list.
-fn run<const F: u32, N: BootName>(
+fn run_machine<const F: u32, N: BootName>(
     rt: &impl Abort,
     alloc: Global,
-    parts: Parts<F>,
-    beside: &mut Beside,
-) -> Tally
+    parts: MachineParts<F>,
+    beside: &mut BesideMachine,
+) -> CallTally
     requires { (parts.frames ≡ N.frames) × (parts.stocks ≡ N.stocks) }
 {
-    let Parts {
+    let MachineParts {
         frames,
         stocks,
         zone,
@@ -232,56 +237,57 @@ fn run<const F: u32, N: BootName>(
         fourth,
     } = parts;
     let tables = Tables::<N>::new(frames, stocks);
-    let mut cpus = Four {
-        first: new_cpu::<N>(rt, alloc, first),
-        second: new_cpu::<N>(rt, alloc, second),
-        third: new_cpu::<N>(rt, alloc, third),
-        fourth: new_cpu::<N>(rt, alloc, fourth),
+    let mut cpus = FourProcessors {
+        first: new_processor::<N>(rt, alloc, first),
+        second: new_processor::<N>(rt, alloc, second),
+        third: new_processor::<N>(rt, alloc, third),
+        fourth: new_processor::<N>(rt, alloc, fourth),
     };
     let mut machine = new_machine(rt, alloc, &tables, zone, machine);
-    let tally = drive(rt, &tables, &mut machine, &mut cpus, beside);
-    finish_all(rt, &tables, &mut machine, &mut cpus, beside);
-    close_all(rt, cpus);
+    let tally = call_at_random(rt, &tables, &mut machine, &mut cpus, beside);
+    give_all_back(rt, &tables, &mut machine, &mut cpus, beside);
+    close_processors(rt, cpus);
+    let _ = machine.into_seats();
     let _ = tables.into_tables();
     tally
 }
 
 // A boot of 64 frames runs beside an account and a core.
-fn runs_small<N: BootName>(rt: &impl Abort, alloc: Global, parts: Parts<64>) -> Tally
+fn runs_small<N: BootName>(rt: &impl Abort, alloc: Global, parts: MachineParts<64>) -> CallTally
     requires { (parts.frames ≡ N.frames) × (parts.stocks ≡ N.stocks) }
 {
-    let mut beside = Beside {
+    let mut beside = BesideMachine {
         calls: 1_000,
-        account: Account::new(rt, alloc, 64),
+        account: MachineAccount::new(rt, alloc, 64),
         core: Some(Core::new(alloc, 64, 4).expect(rt, "memory")),
     };
-    run::<64, N>(rt, alloc, parts, &mut beside)
+    run_machine::<64, N>(rt, alloc, parts, &mut beside)
 }
 
 // A boot of 2,048 frames runs beside an account.
-fn runs_large<N: BootName>(rt: &impl Abort, alloc: Global, parts: Parts<2048>) -> Tally
+fn runs_large<N: BootName>(rt: &impl Abort, alloc: Global, parts: MachineParts<2048>) -> CallTally
     requires { (parts.frames ≡ N.frames) × (parts.stocks ≡ N.stocks) }
 {
-    let mut beside = Beside {
+    let mut beside = BesideMachine {
         calls: 20_000,
-        account: Account::new(rt, alloc, 2_048),
+        account: MachineAccount::new(rt, alloc, 2_048),
         core: None,
     };
-    run::<2048, N>(rt, alloc, parts, &mut beside)
+    run_machine::<2048, N>(rt, alloc, parts, &mut beside)
 }
 
 // 1,000 random calls on 64 frames do what the steps of the core do.
 #[test]
 fn a_thousand_calls_are_steps_of_a_core(rt: HostRuntime) {
-    let parts = make_parts::<64>(&rt, rt.alloc());
+    let parts = make_machine_parts::<64>(&rt, rt.alloc());
     let tally = runs_small::<Brand>(&rt, rt.alloc(), parts);
-    tally.holds(&rt, 3);
+    tally.each_kind_came(&rt, 3);
 }
 
 // 20,000 random calls on 2,048 frames do what a plain recount of their answers tells.
 #[test]
 fn twenty_thousand_calls_are_counted_again(rt: HostRuntime) {
-    let parts = make_parts::<2048>(&rt, rt.alloc());
+    let parts = make_machine_parts::<2048>(&rt, rt.alloc());
     let tally = runs_large::<Brand>(&rt, rt.alloc(), parts);
-    tally.holds(&rt, 20);
+    tally.each_kind_came(&rt, 20);
 }

@@ -1,7 +1,7 @@
 //! How often each kind of call was made and answered well.
 
-use crate::holds::holds;
-use crate::made::Made;
+use crate::agrees::machine_agrees;
+use crate::made::MachineCall;
 use cpu_part::{Dropped, Fast};
 use std::process::Abort;
 
@@ -26,26 +26,28 @@ enum Kind {
 }
 
 // The kind of what this call did; None where it did nothing.
-fn kind_of(made: &Made) -> Option<Kind> {
+fn kind_of(made: &MachineCall) -> Option<Kind> {
     match *made {
-        Made::Refilled { frames: 1.., .. } => Some(Kind::Refilled),
-        Made::DrainedList { frames: 1.., .. } => Some(Kind::DrainedList),
-        Made::MadeGroup { group: Some(_), .. } => Some(Kind::MadeGroup),
-        Made::Removed(_) => Some(Kind::Removed),
-        Made::Limited { .. } => Some(Kind::Limited),
-        Made::Noted(_) => Some(Kind::Noted),
-        Made::Prepaid { over: None, .. } => Some(Kind::Prepaid),
-        Made::Prepaid { .. } | Made::TookBlock { over: Some(_), .. } => Some(Kind::Over),
-        Made::DrainedStock { pages: 1.., .. } => Some(Kind::DrainedStock),
-        Made::DrainedBelow { pages: 1.., .. } => Some(Kind::DrainedBelow),
-        Made::Settled { frames: 1.. } => Some(Kind::Settled),
-        Made::TookBlock { head: Some(_), .. } => Some(Kind::TookBlock),
-        Made::Released { .. } => Some(Kind::Released),
-        Made::Paid {
+        MachineCall::Refilled { frames: 1.., .. } => Some(Kind::Refilled),
+        MachineCall::DrainedList { frames: 1.., .. } => Some(Kind::DrainedList),
+        MachineCall::MadeGroup { group: Some(_), .. } => Some(Kind::MadeGroup),
+        MachineCall::Removed(_) => Some(Kind::Removed),
+        MachineCall::Limited { .. } => Some(Kind::Limited),
+        MachineCall::Noted(_) => Some(Kind::Noted),
+        MachineCall::Prepaid { over: None, .. } => Some(Kind::Prepaid),
+        MachineCall::Prepaid { .. } | MachineCall::TookBlock { over: Some(_), .. } => Some(
+            Kind::Over,
+        ),
+        MachineCall::DrainedStock { pages: 1.., .. } => Some(Kind::DrainedStock),
+        MachineCall::DrainedBelow { pages: 1.., .. } => Some(Kind::DrainedBelow),
+        MachineCall::Settled { frames: 1.. } => Some(Kind::Settled),
+        MachineCall::TookBlock { head: Some(_), .. } => Some(Kind::TookBlock),
+        MachineCall::Released { .. } => Some(Kind::Released),
+        MachineCall::Paid {
             answer: Fast::Got(_),
             ..
         } => Some(Kind::Paid),
-        Made::GaveBack {
+        MachineCall::GaveBack {
             answer: Dropped::Listed,
             ..
         } => Some(Kind::GaveBack),
@@ -55,18 +57,18 @@ fn kind_of(made: &Made) -> Option<Kind> {
 
 /// How often each kind of call did something, and how often one was refused by a limit.
 #[derive(Clone, Copy)]
-pub struct Tally {
+pub struct CallTally {
     counts: [u32; 15],
 }
 
-impl Tally {
+impl CallTally {
     /// Nothing was called yet.
-    pub fn new() -> Tally {
-        Tally { counts: [0; 15] }
+    pub fn new() -> CallTally {
+        CallTally { counts: [0; 15] }
     }
 
     /// Counts a call.
-    pub fn note(&mut self, made: &Made) {
+    pub fn note(&mut self, made: &MachineCall) {
         if let Some(kind) = kind_of(made) {
             let at = kind as usize;
             self.counts[at] = self.counts[at].saturating_add(1);
@@ -74,9 +76,9 @@ impl Tally {
     }
 
     /// Each kind of call did something so many times at least.
-    pub fn holds(&self, rt: &impl Abort, times: u32) {
+    pub fn each_kind_came(&self, rt: &impl Abort, times: u32) {
         for count in &self.counts {
-            holds(rt, *count >= times, "holds");
+            machine_agrees(rt, *count >= times, "each kind of call");
         }
     }
 }

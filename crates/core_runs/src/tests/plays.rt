@@ -9,7 +9,7 @@ use step_rules::phase::Phase;
 use step_rules::step::{Action, Answer, Step};
 
 /// A seat, the step that it makes, and the answer that it has to get.
-pub type Row = (u32, Action, Answer);
+pub type CoreRow = (u32, Action, Answer);
 
 /// What has to be so after a run.
 #[derive(Clone, Copy)]
@@ -49,12 +49,12 @@ pub enum CoreFact {
 }
 
 /// The group of this number, of 64.
-pub fn group(number: u32) -> GroupId {
+pub fn group_of(number: u32) -> GroupId {
     GroupId::of(number).unwrap_or(GroupId::root())
 }
 
 /// Makes a step, of the first million.
-pub fn step(core: &mut Core, seat: u32, action: Action) -> Answer {
+fn core_step(core: &mut Core, seat: u32, action: Action) -> Answer {
     if core.steps() < 1_000_000 {
         core.step(Step { seat, action })
     } else {
@@ -62,10 +62,15 @@ pub fn step(core: &mut Core, seat: u32, action: Action) -> Answer {
     }
 }
 
+/// The core tells so, or the test ends here. A call is proved at less cost than the macro in its place.
+pub fn core_tells(rt: &impl Abort, is: bool) {
+    assert!(rt; is);
+}
+
 /// Makes the steps, each of which has to get its answer.
-pub fn plays(rt: &impl Abort, core: &mut Core, rows: &[Row]) {
+pub fn plays_rows(rt: &impl Abort, core: &mut Core, rows: &[CoreRow]) {
     for (seat, action, wanted) in rows {
-        let answer = step(core, *seat, *action);
+        let answer = core_step(core, *seat, *action);
         assert!(rt; answer == *wanted, "step {}", core.steps());
     }
 }
@@ -110,18 +115,18 @@ fn is_so(core: &Core, fact: &CoreFact) -> bool {
 }
 
 /// Plays the rows, after those that they begin with, on eight frames and three processors; then each fact has to be so.
-pub fn works(
+pub fn works_on_core(
     rt: &impl Abort,
     alloc: Global,
-    begin: &[Row],
-    rows: &[Row],
+    begin: &[CoreRow],
+    rows: &[CoreRow],
     facts: &[CoreFact],
 ) -> Result<(), Fail> {
     let mut core = Core::new(alloc, 8, 3)?;
-    plays(rt, &mut core, begin);
-    plays(rt, &mut core, rows);
+    plays_rows(rt, &mut core, begin);
+    plays_rows(rt, &mut core, rows);
     for fact in facts {
-        assert!(rt; is_so(&core, fact), "a fact");
+        core_tells(rt, is_so(&core, fact));
     }
     Ok(())
 }

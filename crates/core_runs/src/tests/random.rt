@@ -1,7 +1,7 @@
 //! Random steps of three processors and the zone, answered by the core and by a plain account.
 
-use super::plays::{Row, group};
-use super::recount::{FRAMES, Recount, Sought};
+use super::plays::{CoreRow, core_tells, group_of};
+use super::recount::{FRAMES, RecountedCore, SoughtFrame};
 use group_tree::group::GroupId;
 use group_tree::path::PathText;
 use mem_core::run::play;
@@ -17,7 +17,7 @@ use zone_blocks::order::Order;
 
 // What a random word says of a step: who makes it, and of what.
 #[derive(Clone, Copy)]
-struct Draw {
+struct StepDraw {
     cpu: u32,
     // The processor that holds the lock, or that one.
     holder: u32,
@@ -31,28 +31,28 @@ struct Draw {
     order: Order,
 }
 
-fn one_of_three(word: u32) -> u32 {
+fn number_to_three(word: u32) -> u32 {
     word % 3 + 1
 }
 
-fn drawn_from(word: u32, plain: &Recount) -> Draw {
-    let cpu = one_of_three(word >> 8);
-    let named = one_of_three(word >> 16);
-    Draw {
+fn step_drawn_from(word: u32, plain: &RecountedCore) -> StepDraw {
+    let cpu = number_to_three(word >> 8);
+    let named = number_to_three(word >> 16);
+    StepDraw {
         cpu,
         holder: plain.holder.unwrap_or(cpu),
         frame: (word >> 12) % FRAMES,
         is_any: (word >> 20) % 8 == 0,
-        group: group(named),
-        prepaid: group(plain.stock_group(cpu).unwrap_or(named)),
-        pages: one_of_three(word >> 20),
+        group: group_of(named),
+        prepaid: group_of(plain.stock_group(cpu).unwrap_or(named)),
+        pages: number_to_three(word >> 20),
         order: Order::of(0).unwrap(),
     }
 }
 
-impl Draw {
+impl StepDraw {
     // The frame that was found, or any.
-    fn or_any(&self, found: Option<u32>) -> u32 {
+    fn frame_or_any(&self, found: Option<u32>) -> u32 {
         if self.is_any {
             self.frame
         } else {
@@ -62,9 +62,9 @@ impl Draw {
 }
 
 // A step of the lock or of pages.
-fn zone_step(kind: u32, drawn: &Draw) -> (u32, Action) {
+fn zone_step(kind: u32, drawn: &StepDraw) -> (u32, Action) {
     let cpu = drawn.holder;
-    let Draw {
+    let StepDraw {
         frame,
         group,
         pages,
@@ -85,12 +85,12 @@ fn zone_step(kind: u32, drawn: &Draw) -> (u32, Action) {
 }
 
 // A step of a frame that passes, or that a use ended of. A fresh frame isn't passed back: another step is made.
-fn frame_step(kind: u32, drawn: &Draw, plain: &Recount) -> (u32, Action) {
+fn frame_step(kind: u32, drawn: &StepDraw, plain: &RecountedCore) -> (u32, Action) {
     let cpu = drawn.holder;
-    let front = drawn.or_any(plain.front(cpu));
+    let front = drawn.frame_or_any(plain.front(cpu));
     let is_fresh = plain.is_fresh(front);
-    let ended = drawn.or_any(plain.first(Sought::Ended));
-    let frame = drawn.or_any(plain.first(Sought::Passing(cpu)));
+    let ended = drawn.frame_or_any(plain.first(SoughtFrame::Ended));
+    let frame = drawn.frame_or_any(plain.first(SoughtFrame::Passing(cpu)));
     match kind {
         0 => (0, Action::Collect { frame, cpu }),
         1 => (0, Action::Return { frame: ended }),
@@ -108,8 +108,8 @@ fn frame_step(kind: u32, drawn: &Draw, plain: &Recount) -> (u32, Action) {
 }
 
 // A step of a reference or of a stock.
-fn own_step(kind: u32, drawn: &Draw, plain: &Recount) -> (u32, Action) {
-    let Draw {
+fn own_step(kind: u32, drawn: &StepDraw, plain: &RecountedCore) -> (u32, Action) {
+    let StepDraw {
         cpu,
         frame,
         group,
@@ -121,7 +121,7 @@ fn own_step(kind: u32, drawn: &Draw, plain: &Recount) -> (u32, Action) {
         0 => (
             cpu,
             Action::Put {
-                frame: drawn.or_any(plain.held(cpu)),
+                frame: drawn.frame_or_any(plain.held(cpu)),
             },
         ),
         1 => (cpu, Action::Get { frame }),
@@ -130,7 +130,7 @@ fn own_step(kind: u32, drawn: &Draw, plain: &Recount) -> (u32, Action) {
         5 => (
             cpu,
             Action::Credit {
-                frame: drawn.or_any(plain.first(Sought::Fresh(cpu))),
+                frame: drawn.frame_or_any(plain.first(SoughtFrame::Fresh(cpu))),
             },
         ),
         6 if pages == 1 => (0, Action::DrainStock { cpu }),
@@ -141,8 +141,8 @@ fn own_step(kind: u32, drawn: &Draw, plain: &Recount) -> (u32, Action) {
 }
 
 // A step that is picked by a random word; many are legal.
-fn pick(word: u32, plain: &Recount) -> (u32, Action) {
-    let drawn = drawn_from(word, plain);
+fn pick_step(word: u32, plain: &RecountedCore) -> (u32, Action) {
+    let drawn = step_drawn_from(word, plain);
     let kind = word % 5;
     match (word / 5) % 5 {
         0 => zone_step(kind, &drawn),
@@ -154,19 +154,23 @@ fn pick(word: u32, plain: &Recount) -> (u32, Action) {
 }
 
 // Processor 1 takes the lock; /a, /a/b and /c are made, and the first two have limits.
-fn make_groups() -> [Row; 6] {
+fn rows_of_groups() -> [CoreRow; 6] {
     let first = PathText::of(b"/a").unwrap();
     let second = PathText::of(b"/a/b").unwrap();
     let third = PathText::of(b"/c").unwrap();
     [
         (1, Action::Lock, Answer::Done),
-        (0, Action::Make { path: first }, Answer::Number(group(1))),
-        (0, Action::Make { path: second }, Answer::Number(group(2))),
-        (0, Action::Make { path: third }, Answer::Number(group(3))),
+        (0, Action::Make { path: first }, Answer::Number(group_of(1))),
+        (
+            0,
+            Action::Make { path: second },
+            Answer::Number(group_of(2)),
+        ),
+        (0, Action::Make { path: third }, Answer::Number(group_of(3))),
         (
             0,
             Action::SetMax {
-                group: group(1),
+                group: group_of(1),
                 limit: Some(6),
             },
             Answer::Done,
@@ -174,7 +178,7 @@ fn make_groups() -> [Row; 6] {
         (
             0,
             Action::SetMax {
-                group: group(2),
+                group: group_of(2),
                 limit: Some(3),
             },
             Answer::Done,
@@ -184,15 +188,15 @@ fn make_groups() -> [Row; 6] {
 
 // Random steps with the answers of the plain account, as the last of them left it.
 #[derive(Drop)]
-struct Plan {
+struct StepPlan {
     steps: Vec<Step>,
     answers: Vec<Answer>,
-    plain: Recount,
+    plain: RecountedCore,
 }
 
-impl Plan {
+impl StepPlan {
     // A step with its answer is kept.
-    fn keep(&mut self, row: &Row) -> Result<(), Fail> {
+    fn keep(&mut self, row: &CoreRow) -> Result<(), Fail> {
         let (seat, action, answer) = *row;
         self.steps.push(Step { seat, action })?;
         self.answers.push(answer)?;
@@ -201,7 +205,7 @@ impl Plan {
 
     // The plain account answers a step. Of those that change nothing, one of 32 is kept.
     fn add(&mut self, word: u32) -> Result<(), Fail> {
-        let (seat, action) = pick(word, &self.plain);
+        let (seat, action) = pick_step(word, &self.plain);
         let answer = self.plain.step(seat, &action)?;
         let is_idle = matches!(
             answer,
@@ -215,20 +219,20 @@ impl Plan {
 }
 
 // The steps that make the groups, in a plan.
-fn begun(alloc: Global) -> Result<Plan, Fail> {
-    let mut plan = Plan {
+fn groups_planned(alloc: Global) -> Result<StepPlan, Fail> {
+    let mut plan = StepPlan {
         steps: Vec::new(alloc),
         answers: Vec::new(alloc),
-        plain: Recount::new(alloc),
+        plain: RecountedCore::new(alloc),
     };
-    for row in &make_groups() {
+    for row in &rows_of_groups() {
         plan.keep(row)?;
     }
     Ok(plan)
 }
 
-fn planned(alloc: Global, steps: usize) -> Result<Plan, Fail> {
-    let mut plan = begun(alloc)?;
+fn steps_planned(alloc: Global, steps: usize) -> Result<StepPlan, Fail> {
+    let mut plan = groups_planned(alloc)?;
     let mut random = Pcg32::seed_from_u64(2_025);
     for _ in 0..20_000u32 {
         if plan.steps.len() < steps {
@@ -238,24 +242,30 @@ fn planned(alloc: Global, steps: usize) -> Result<Plan, Fail> {
     Ok(plan)
 }
 
-fn seats_agree(rt: &impl Abort, core: &Core, plain: &Recount, seat: u32, group: GroupId) {
-    assert!(rt; core.current(group) == u128::from(plain.usage(seat)));
-    assert!(rt; core.pending(group) == u128::from(plain.pending(seat)));
-    assert!(rt; core.stock_pages(seat) == u128::from(plain.stock(seat)));
-    assert!(rt; core.front(seat) == plain.front(seat).unwrap_or(0));
+fn seats_agree(rt: &impl Abort, core: &Core, plain: &RecountedCore, seat: u32, group: GroupId) {
+    core_tells(rt, core.current(group) == u128::from(plain.usage(seat)));
+    core_tells(rt, core.pending(group) == u128::from(plain.pending(seat)));
+    core_tells(rt, core.stock_pages(seat) == u128::from(plain.stock(seat)));
+    core_tells(rt, core.front(seat) == plain.front(seat).unwrap_or(0));
 }
 
-fn frames_agree(rt: &impl Abort, core: &Core, plain: &Recount, seat: u32) {
+fn frames_agree(rt: &impl Abort, core: &Core, plain: &RecountedCore, seat: u32) {
     for frame in 0..FRAMES {
-        assert!(rt; core.references(seat, frame) == plain.references(seat, frame));
-        assert!(rt; (core.phase(frame) == Phase::InZone) == plain.is_free(frame));
+        core_tells(
+            rt,
+            core.references(seat, frame) == plain.references(seat, frame),
+        );
+        core_tells(
+            rt,
+            (core.phase(frame) == Phase::InZone) == plain.is_free(frame),
+        );
     }
 }
 
 // The core tells of each group, processor and frame what the plain account has.
-fn agrees(rt: &impl Abort, core: &Core, plain: &Recount) {
+fn core_agrees(rt: &impl Abort, core: &Core, plain: &RecountedCore) {
     for seat in 0..4u32 {
-        seats_agree(rt, core, plain, seat, group(seat));
+        seats_agree(rt, core, plain, seat, group_of(seat));
         frames_agree(rt, core, plain, seat);
     }
 }
@@ -263,17 +273,17 @@ fn agrees(rt: &impl Abort, core: &Core, plain: &Recount) {
 // Six steps make the groups, and 300 are random.
 #[test]
 fn three_hundred_random_steps_agree_with_a_plain_account(rt: HostRuntime) -> Result<(), Fail> {
-    let Plan {
+    let StepPlan {
         steps,
         answers,
         plain,
-    } = planned(rt.alloc(), 306)?;
-    assert!(rt; steps.len() == 306);
+    } = steps_planned(rt.alloc(), 306)?;
+    core_tells(&rt, steps.len() == 306);
     for wanted in [Answer::Took, Answer::Back, Answer::Drained, Answer::Last] {
-        assert!(rt; answers.contains(&wanted));
+        core_tells(&rt, answers.contains(&wanted));
     }
     let played = play(rt.alloc(), 8, 3, steps.as_slice())?;
-    assert!(rt; played.answers.as_slice() == answers.as_slice());
-    agrees(&rt, &played.core, &plain);
+    core_tells(&rt, played.answers.as_slice() == answers.as_slice());
+    core_agrees(&rt, &played.core, &plain);
     Ok(())
 }

@@ -9,7 +9,7 @@ pub const FRAMES: u32 = 8;
 
 // Where a frame is: with the zone, with a processor, or kept by a group of this number.
 #[derive(Clone, Copy)]
-pub enum Recounted {
+pub enum RecountedFrame {
     Free,
     Out(u32),
     Listed(u32),
@@ -23,7 +23,7 @@ pub enum Recounted {
 
 // What a frame is looked for as.
 #[derive(Clone, Copy)]
-pub enum Sought {
+pub enum SoughtFrame {
     // Between the zone and this processor.
     Passing(u32),
     // Fresh at this processor.
@@ -34,24 +34,24 @@ pub enum Sought {
 
 // The last fill of a processor's stock.
 #[derive(Clone, Copy)]
-struct Filled {
+struct StockFill {
     cpu: u32,
     group: u32,
     is_drained: bool,
 }
 
 #[derive(Drop)]
-pub struct Recount {
+pub struct RecountedCore {
     pub holder: Option<u32>,
     is_visiting: bool,
-    spots: [Recounted; 8],
+    spots: [RecountedFrame; 8],
     // A seat and a frame for each reference.
     references: Vec<(u32, u32)>,
     // A processor, or 0 while it is pending, and a group for each page.
     pages: Vec<(u32, u32)>,
     // A processor and a frame, each list from its front on.
     lists: Vec<(u32, u32)>,
-    fills: Vec<Filled>,
+    fills: Vec<StockFill>,
 }
 
 // The group is this one or an ancestor of the other: group 2 is below group 1.
@@ -60,7 +60,7 @@ fn is_on_path(group: u32, below: u32) -> bool {
 }
 
 // How many pairs have these numbers, where there are such.
-fn count(pairs: &[(u32, u32)], first: Option<u32>, second: Option<u32>) -> u32 {
+fn count_pairs(pairs: &[(u32, u32)], first: Option<u32>, second: Option<u32>) -> u32 {
     let mut number = 0u32;
     for (one, other) in pairs {
         if first.unwrap_or(*one) == *one && second.unwrap_or(*other) == *other {
@@ -71,7 +71,7 @@ fn count(pairs: &[(u32, u32)], first: Option<u32>, second: Option<u32>) -> u32 {
 }
 
 // The second number of the first pair with this one.
-fn first_of(pairs: &[(u32, u32)], wanted: u32) -> Option<u32> {
+fn first_paired(pairs: &[(u32, u32)], wanted: u32) -> Option<u32> {
     for (one, other) in pairs {
         if *one == wanted {
             return Some(*other);
@@ -81,7 +81,7 @@ fn first_of(pairs: &[(u32, u32)], wanted: u32) -> Option<u32> {
 }
 
 // Takes out one pair of these numbers.
-fn take_out(pairs: &mut Vec<(u32, u32)>, wanted: (u32, u32)) {
+fn take_pair(pairs: &mut Vec<(u32, u32)>, wanted: (u32, u32)) {
     for index in 0..pairs.len() {
         if pairs[index] == wanted {
             let _ = pairs.remove(index);
@@ -90,34 +90,34 @@ fn take_out(pairs: &mut Vec<(u32, u32)>, wanted: (u32, u32)) {
     }
 }
 
-fn keeper(spot: Recounted) -> Option<u32> {
+fn keeping_group(spot: RecountedFrame) -> Option<u32> {
     match spot {
-        Recounted::Fresh(_, group) => Some(group),
-        Recounted::Back(_, group) => Some(group),
-        Recounted::BackReturning(_, group) => Some(group),
-        Recounted::InHand(group, _) => Some(group),
-        Recounted::Live(group) => Some(group),
+        RecountedFrame::Fresh(_, group) => Some(group),
+        RecountedFrame::Back(_, group) => Some(group),
+        RecountedFrame::BackReturning(_, group) => Some(group),
+        RecountedFrame::InHand(group, _) => Some(group),
+        RecountedFrame::Live(group) => Some(group),
         _ => None,
     }
 }
 
-fn suits(spot: Recounted, sought: Sought) -> bool {
+fn is_sought(spot: RecountedFrame, sought: SoughtFrame) -> bool {
     match (spot, sought) {
-        (Recounted::Out(at), Sought::Passing(cpu)) => at == cpu,
-        (Recounted::Returning(at), Sought::Passing(cpu)) => at == cpu,
-        (Recounted::BackReturning(at, _), Sought::Passing(cpu)) => at == cpu,
-        (Recounted::Fresh(at, _), Sought::Fresh(cpu)) => at == cpu,
-        (Recounted::InHand(_, is_ended), Sought::Ended) => is_ended,
+        (RecountedFrame::Out(at), SoughtFrame::Passing(cpu)) => at == cpu,
+        (RecountedFrame::Returning(at), SoughtFrame::Passing(cpu)) => at == cpu,
+        (RecountedFrame::BackReturning(at, _), SoughtFrame::Passing(cpu)) => at == cpu,
+        (RecountedFrame::Fresh(at, _), SoughtFrame::Fresh(cpu)) => at == cpu,
+        (RecountedFrame::InHand(_, is_ended), SoughtFrame::Ended) => is_ended,
         _ => false,
     }
 }
 
-impl Recount {
-    pub fn new(alloc: Global) -> Recount {
-        Recount {
+impl RecountedCore {
+    pub fn new(alloc: Global) -> RecountedCore {
+        RecountedCore {
             holder: Some(1),
             is_visiting: false,
-            spots: [Recounted::Free; 8],
+            spots: [RecountedFrame::Free; 8],
             references: Vec::new(alloc),
             pages: Vec::new(alloc),
             lists: Vec::new(alloc),
@@ -125,51 +125,51 @@ impl Recount {
         }
     }
 
-    fn spot(&self, frame: u32) -> Recounted {
+    fn spot(&self, frame: u32) -> RecountedFrame {
         self.spots[(frame % FRAMES) as usize]
     }
 
-    fn set(&mut self, frame: u32, spot: Recounted) {
+    fn set(&mut self, frame: u32, spot: RecountedFrame) {
         self.spots[(frame % FRAMES) as usize] = spot;
     }
 
     pub fn is_free(&self, frame: u32) -> bool {
-        matches!(self.spot(frame), Recounted::Free)
+        matches!(self.spot(frame), RecountedFrame::Free)
     }
 
     pub fn is_fresh(&self, frame: u32) -> bool {
-        matches!(self.spot(frame), Recounted::Fresh(..))
+        matches!(self.spot(frame), RecountedFrame::Fresh(..))
     }
 
     pub fn references(&self, seat: u32, frame: u32) -> u32 {
-        count(self.references.as_slice(), Some(seat), Some(frame))
+        count_pairs(self.references.as_slice(), Some(seat), Some(frame))
     }
 
     fn all_references(&self, frame: u32) -> u32 {
-        count(self.references.as_slice(), None, Some(frame))
+        count_pairs(self.references.as_slice(), None, Some(frame))
     }
 
     pub fn held(&self, seat: u32) -> Option<u32> {
-        first_of(self.references.as_slice(), seat)
+        first_paired(self.references.as_slice(), seat)
     }
 
     pub fn stock(&self, cpu: u32) -> u32 {
         if cpu == 0 {
             0
         } else {
-            count(self.pages.as_slice(), Some(cpu), None)
+            count_pairs(self.pages.as_slice(), Some(cpu), None)
         }
     }
 
     pub fn pending(&self, group: u32) -> u32 {
-        count(self.pages.as_slice(), Some(0), Some(group))
+        count_pairs(self.pages.as_slice(), Some(0), Some(group))
     }
 
     pub fn front(&self, cpu: u32) -> Option<u32> {
-        first_of(self.lists.as_slice(), cpu)
+        first_paired(self.lists.as_slice(), cpu)
     }
 
-    fn last_fill(&self, cpu: u32) -> Option<Filled> {
+    fn last_fill(&self, cpu: u32) -> Option<StockFill> {
         let mut last = None;
         for fill in self.fills.as_slice() {
             if fill.cpu == cpu {
@@ -189,7 +189,7 @@ impl Recount {
     fn kept_pages(&self, group: u32) -> u32 {
         let mut pages = 0u32;
         for frame in 0..FRAMES {
-            match keeper(self.spot(frame)) {
+            match keeping_group(self.spot(frame)) {
                 Some(owner) if is_on_path(group, owner) => pages = pages.saturating_add(1),
                 _ => {}
             }
@@ -217,9 +217,9 @@ impl Recount {
     }
 
     // The first frame that is looked for.
-    pub fn first(&self, sought: Sought) -> Option<u32> {
+    pub fn first(&self, sought: SoughtFrame) -> Option<u32> {
         for frame in 0..FRAMES {
-            if suits(self.spot(frame), sought) {
+            if is_sought(self.spot(frame), sought) {
                 return Some(frame);
             }
         }
@@ -227,7 +227,7 @@ impl Recount {
     }
 
     fn passes(&self, cpu: u32) -> bool {
-        self.first(Sought::Passing(cpu)).is_some()
+        self.first(SoughtFrame::Passing(cpu)).is_some()
     }
 
     // All frames of the block are there and free.

@@ -1,13 +1,15 @@
 //! How the plain account answers each step, and what it then keeps.
 
-use super::{Filled, Recount, Recounted, Sought, count, is_on_path, take_out};
+use super::{
+    RecountedCore, RecountedFrame, SoughtFrame, StockFill, count_pairs, is_on_path, take_pair,
+};
 use group_tree::group::GroupId;
 use std::alloc::AllocError;
 use step_rules::step::{Action, Answer};
 use zone_blocks::block::Block;
 use zone_blocks::order::Order;
 
-fn done_if(is_legal: bool) -> Answer {
+fn done_if_legal(is_legal: bool) -> Answer {
     if is_legal {
         Answer::Done
     } else {
@@ -15,7 +17,7 @@ fn done_if(is_legal: bool) -> Answer {
     }
 }
 
-impl Recount {
+impl RecountedCore {
     // The lock and the visit: whether the step is legal, who holds the lock then, and whether a visit is open.
     fn lock_step(&mut self, seat: u32, action: &Action) -> Answer {
         let held = self.holder;
@@ -30,49 +32,52 @@ impl Recount {
             self.holder = holder;
             self.is_visiting = is_visiting;
         }
-        done_if(is_legal)
+        done_if_legal(is_legal)
     }
 
     // No page is pending, and no frame passes.
     fn is_quiet(&self) -> bool {
         let is_still = !self.passes(1) && !self.passes(2) && !self.passes(3);
-        is_still && count(self.pages.as_slice(), Some(0), None) == 0
+        is_still && count_pairs(self.pages.as_slice(), Some(0), None) == 0
     }
 
     // Where a frame is after the step; None where the step is illegal.
-    fn moved(&self, seat: u32, action: &Action) -> Option<(u32, Recounted)> {
+    fn moved(&self, seat: u32, action: &Action) -> Option<(u32, RecountedFrame)> {
         let is_locked = self.holder.is_some();
         let (frame, spot) = match *action {
             Action::PassOut { frame, cpu } => match self.spot(frame) {
-                Recounted::Free if self.visits(cpu) => (frame, Recounted::Out(cpu)),
+                RecountedFrame::Free if self.visits(cpu) => (frame, RecountedFrame::Out(cpu)),
                 _ => return None,
             },
             Action::TakeIn { frame } => match self.spot(frame) {
-                Recounted::Out(cpu) if cpu == seat => (frame, Recounted::Listed(seat)),
+                RecountedFrame::Out(cpu) if cpu == seat => (frame, RecountedFrame::Listed(seat)),
                 _ => return None,
             },
             Action::PassBack { frame } => match self.spot(frame) {
                 _ if !self.visits(seat) => return None,
-                Recounted::Listed(_) if self.front(seat) == Some(frame) => (
+                RecountedFrame::Listed(_) if self.front(seat) == Some(frame) => (
                     frame,
-                    Recounted::Returning(seat),
+                    RecountedFrame::Returning(seat),
                 ),
-                Recounted::Back(cpu, group) if cpu == seat => (
+                RecountedFrame::Back(cpu, group) if cpu == seat => (
                     frame,
-                    Recounted::BackReturning(seat, group),
+                    RecountedFrame::BackReturning(seat, group),
                 ),
                 _ => return None,
             },
             Action::Collect { frame, cpu } => match self.spot(frame) {
-                Recounted::Returning(at) if at == cpu && is_locked => (frame, Recounted::Free),
-                Recounted::BackReturning(at, group) if at == cpu && is_locked => (
+                RecountedFrame::Returning(at) if at == cpu && is_locked => (
                     frame,
-                    Recounted::InHand(group, true),
+                    RecountedFrame::Free,
+                ),
+                RecountedFrame::BackReturning(at, group) if at == cpu && is_locked => (
+                    frame,
+                    RecountedFrame::InHand(group, true),
                 ),
                 _ => return None,
             },
             Action::Return { frame } => match self.spot(frame) {
-                Recounted::InHand(_, true) if is_locked => (frame, Recounted::Free),
+                RecountedFrame::InHand(_, true) if is_locked => (frame, RecountedFrame::Free),
                 _ => return None,
             },
             _ => return None,
@@ -85,8 +90,8 @@ impl Recount {
             return Ok(Answer::Illegal);
         };
         match spot {
-            Recounted::Listed(_) => self.lists.push((seat, frame))?,
-            Recounted::Returning(_) => take_out(&mut self.lists, (seat, frame)),
+            RecountedFrame::Listed(_) => self.lists.push((seat, frame))?,
+            RecountedFrame::Returning(_) => take_pair(&mut self.lists, (seat, frame)),
             _ => {}
         }
         self.set(frame, spot);
@@ -96,7 +101,7 @@ impl Recount {
     // So many pages that these keep go to others.
     fn hand_on(&mut self, from: (u32, u32), to: (u32, u32), pages: u32) -> Result<(), AllocError> {
         for _page in 0..pages {
-            take_out(&mut self.pages, from);
+            take_pair(&mut self.pages, from);
             self.pages.push(to)?;
         }
         Ok(())
@@ -132,10 +137,10 @@ impl Recount {
         let is_legal = self.holder.is_some() && pages <= self.pending(group);
         if is_legal {
             for _page in 0..pages {
-                take_out(&mut self.pages, (0, group));
+                take_pair(&mut self.pages, (0, group));
             }
         }
-        done_if(is_legal)
+        done_if_legal(is_legal)
     }
 
     fn place(&mut self, group: u32, order: Order) -> Answer {
@@ -145,8 +150,8 @@ impl Recount {
         match self.smallest() {
             None => Answer::NoFreeBlock,
             Some(at) => {
-                take_out(&mut self.pages, (0, group));
-                self.set(at, Recounted::InHand(group, false));
+                take_pair(&mut self.pages, (0, group));
+                self.set(at, RecountedFrame::InHand(group, false));
                 Answer::Placed(Block { at, order })
             }
         }
@@ -154,9 +159,9 @@ impl Recount {
 
     fn unfreeze(&mut self, frame: u32) -> Result<Answer, AllocError> {
         match self.spot(frame) {
-            Recounted::InHand(group, _) if self.holder.is_some() => {
+            RecountedFrame::InHand(group, _) if self.holder.is_some() => {
                 self.references.push((0, frame))?;
-                self.set(frame, Recounted::Live(group));
+                self.set(frame, RecountedFrame::Live(group));
                 Ok(Answer::Done)
             }
             _ => Ok(Answer::Illegal),
@@ -175,14 +180,17 @@ impl Recount {
         if self.references(seat, frame) == 0 || seat == 0 && self.holder.is_none() {
             return Answer::Illegal;
         }
-        take_out(&mut self.references, (seat, frame));
+        take_pair(&mut self.references, (seat, frame));
         let left = self.all_references(frame);
         if left > 0 {
             return Answer::Left(left);
         }
         match self.spot(frame) {
-            Recounted::Live(group) if seat == 0 => self.set(frame, Recounted::InHand(group, true)),
-            Recounted::Live(group) => self.set(frame, Recounted::Back(seat, group)),
+            RecountedFrame::Live(group) if seat == 0 => self.set(
+                frame,
+                RecountedFrame::InHand(group, true),
+            ),
+            RecountedFrame::Live(group) => self.set(frame, RecountedFrame::Back(seat, group)),
             _ => {}
         }
         Answer::Last
@@ -190,14 +198,14 @@ impl Recount {
 
     fn fill(&mut self, cpu: u32, group: u32, pages: u32) -> Result<Answer, AllocError> {
         let is_same = self.stock_group(cpu) == Some(group);
-        let is_new = is_same || self.first(Sought::Fresh(cpu)).is_none();
+        let is_new = is_same || self.first(SoughtFrame::Fresh(cpu)).is_none();
         let may_fill = is_new && self.stock(cpu) == 0;
         if !self.visits(cpu) || !may_fill || pages > self.pending(group) {
             return Ok(Answer::Illegal);
         }
         self.hand_on((0, group), (cpu, group), pages)?;
         let is_drained = false;
-        self.fills.push(Filled {
+        self.fills.push(StockFill {
             cpu,
             group,
             is_drained,
@@ -217,9 +225,9 @@ impl Recount {
                 if self.stock(seat) == 0 {
                     return Answer::Empty;
                 }
-                take_out(&mut self.pages, (seat, group));
-                take_out(&mut self.lists, (seat, front));
-                self.set(front, Recounted::Fresh(seat, group));
+                take_pair(&mut self.pages, (seat, group));
+                take_pair(&mut self.lists, (seat, front));
+                self.set(front, RecountedFrame::Fresh(seat, group));
                 Answer::Took
             }
             _ => Answer::OtherGroup,
@@ -228,13 +236,13 @@ impl Recount {
 
     fn credit(&mut self, seat: u32, frame: u32) -> Result<Answer, AllocError> {
         match (self.spot(frame), self.last_fill(seat)) {
-            (Recounted::Fresh(cpu, group), Some(fill)) if cpu == seat => {
+            (RecountedFrame::Fresh(cpu, group), Some(fill)) if cpu == seat => {
                 if fill.is_drained {
                     return Ok(Answer::Drained);
                 }
                 self.pages.push((seat, group))?;
                 self.lists.push((seat, frame))?;
-                self.set(frame, Recounted::Listed(seat));
+                self.set(frame, RecountedFrame::Listed(seat));
                 Ok(Answer::Back)
             }
             _ => Ok(Answer::Illegal),
@@ -250,7 +258,7 @@ impl Recount {
             let group = fill.group;
             self.hand_on((cpu, group), (0, group), pages)?;
             let is_drained = true;
-            self.fills.push(Filled {
+            self.fills.push(StockFill {
                 cpu,
                 group,
                 is_drained,
