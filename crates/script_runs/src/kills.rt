@@ -8,42 +8,46 @@ use std::process::Abort;
 use std::test::Fail;
 
 // The notes are explained so, where there are the groups `/a` and `/a/b`, which have the numbers 1 and 2.
-fn explains<R: AllocGlobal + Abort>(rt: &R, notes: &[Note], expected: &str) -> Result<(), Fail> {
+fn notes_are_explained<R: AllocGlobal + Abort>(
+    rt: &R,
+    notes: &[Note],
+    explanation: &str,
+) -> Result<(), Fail> {
     let alloc = rt.alloc();
     let mut tree = Tree::new(alloc)?;
-    let _one = tree.make(b"/a").expect(rt, "a group");
-    let _two = tree.make(b"/a/b").expect(rt, "a group");
+    let _parent = tree.make(b"/a").expect(rt, "a group");
+    let _child = tree.make(b"/a/b").expect(rt, "a group");
     let mut text = String::from_str(alloc, "ok\n")?;
     write_explanation(&tree, notes, &mut text)?;
-    let mut whole = String::from_str(alloc, "ok\n")?;
-    whole.push_str(expected)?;
-    assert!(rt; text.as_bytes() == whole.as_bytes(), "{text}");
+    let mut wanted = String::from_str(alloc, "ok\n")?;
+    wanted.push_str(explanation)?;
+    assert!(rt; text.as_bytes() == wanted.as_bytes(), "{text}");
     Ok(())
 }
 
-fn group(rt: &impl Abort, number: u32) -> GroupId {
+fn group_numbered(rt: &impl Abort, number: u32) -> GroupId {
     GroupId::of(number).expect(rt, "a number of a group")
 }
 
-fn candidate(rt: &impl Abort, number: u32, frames: u64) -> Candidate {
+fn candidate_of_group(rt: &impl Abort, number: u32, frames: u64) -> Candidate {
     Candidate {
-        group: group(rt, number),
+        group: group_numbered(rt, number),
         frames,
     }
 }
 
-fn limit(rt: &impl Abort) -> Note {
+fn note_of_limit(rt: &impl Abort) -> Note {
     Note::Limit {
-        group: group(rt, 1),
+        group: group_numbered(rt, 1),
         max: 8,
         usage: 8,
         need: 1,
     }
 }
 
-fn killed(rt: &impl Abort) -> Note {
+fn note_of_kill(rt: &impl Abort) -> Note {
     Note::Killed {
-        group: group(rt, 2),
+        group: group_numbered(rt, 2),
         returned: 2,
         pages: 2,
         pinned: 1,
@@ -55,7 +59,7 @@ fn killed(rt: &impl Abort) -> Note {
 #[test]
 fn tells_a_line_of_each_kind(rt: HostRuntime) -> Result<(), Fail> {
     let notes = [
-        limit(&rt),
+        note_of_limit(&rt),
         Note::Stock { cpu: 2, pages: 3 },
         Note::Stock { cpu: 16, pages: 0 },
         Note::Round {
@@ -66,31 +70,31 @@ fn tells_a_line_of_each_kind(rt: HostRuntime) -> Result<(), Fail> {
             usage: 3,
         },
         Note::Oom {
-            group: group(&rt, 1),
+            group: group_numbered(&rt, 1),
         },
         Note::Victim {
-            victim: candidate(&rt, 2, 3),
+            victim: candidate_of_group(&rt, 2, 3),
             candidates: 2,
-            next: candidate(&rt, 1, 1),
+            next: candidate_of_group(&rt, 1, 1),
         },
         Note::Stock { cpu: 1, pages: 1 },
-        killed(&rt),
+        note_of_kill(&rt),
     ];
-    let expected =
+    let explanation =
         "# limit /a 32768 usage 32768 need 4096\n# stock 2 bytes 12288 usage 20480\n# stock 16 bytes 0 usage 20480\n# round 1 tried 5 missed 4 returned 1 bytes 8192 usage 12288\n# oom /a\n# victim /a/b frames 3 of 2 candidates, next /a frames 1\n# killed /a/b returned 2 bytes 8192 pinned 1 bytes 4096 usage 12288\n";
-    explains(&rt, &notes, expected)
+    notes_are_explained(&rt, &notes, explanation)
 }
 
 #[test]
 fn tells_nothing_where_nobody_was_killed(rt: HostRuntime) -> Result<(), Fail> {
-    explains(&rt, &[], "")?;
+    notes_are_explained(&rt, &[], "")?;
     let notes = [
-        limit(&rt),
+        note_of_limit(&rt),
         Note::Oom {
-            group: group(&rt, 1),
+            group: group_numbered(&rt, 1),
         },
     ];
-    explains(&rt, &notes, "")
+    notes_are_explained(&rt, &notes, "")
 }
 
 // A stock that was drained before a limit was found without room has no line, and a single victim no next one; a group
@@ -100,12 +104,12 @@ fn tells_what_is_rare(rt: HostRuntime) -> Result<(), Fail> {
     let notes = [
         Note::Stock { cpu: 1, pages: 2 },
         Note::Victim {
-            victim: candidate(&rt, 63, u64::MAX),
+            victim: candidate_of_group(&rt, 63, u64::MAX),
             candidates: 1,
-            next: candidate(&rt, 63, u64::MAX),
+            next: candidate_of_group(&rt, 63, u64::MAX),
         },
         Note::Killed {
-            group: group(&rt, 0),
+            group: group_numbered(&rt, 0),
             returned: u64::MAX,
             pages: u64::MAX,
             pinned: 0,
@@ -113,7 +117,7 @@ fn tells_what_is_rare(rt: HostRuntime) -> Result<(), Fail> {
             usage: u32::MAX,
         },
     ];
-    let expected =
+    let explanation =
         "# victim 63 frames 18446744073709551615 of 1 candidates\n# killed / returned 18446744073709551615 bytes 75557863725914323415040 pinned 0 bytes 0 usage 17592186040320\n";
-    explains(&rt, &notes, expected)
+    notes_are_explained(&rt, &notes, explanation)
 }

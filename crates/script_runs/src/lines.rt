@@ -1,13 +1,14 @@
+//! Lines of a script, at the program's default sizes.
+
 use script_lines::fault::ScriptFault;
 use script_lines::line::{Command, Line};
 use script_lines::script::parse_script;
-use std::alloc::{AllocError, Global};
+use std::alloc::AllocError;
 use std::process::Abort;
-use std::test::Fail;
 use zone_sizes::config::Config;
 
 // The sizes that the program has by default.
-const SIZES: Config = Config {
+const DEFAULT_SIZES: Config = Config {
     frames: 16,
     cpus: 2,
     batch: 4,
@@ -15,97 +16,116 @@ const SIZES: Config = Config {
     stock: 4,
 };
 
-// The number of the first bad line, 0 where the script is good.
-fn bad_line(rt: &(impl Abort + AllocGlobal), script: &[u8]) -> usize {
-    match parse_script(rt.alloc(), script, &SIZES) {
+// The number of the script's first bad line, 0 where it is good.
+fn first_bad_line(rt: &(impl Abort + AllocGlobal), script: &[u8]) -> usize {
+    match parse_script(rt.alloc(), script, &DEFAULT_SIZES) {
         Ok(_) => 0,
         Err(ScriptFault::BadLine(number)) => number,
         Err(ScriptFault::NoMemory) => panic!(rt; "no memory"),
     }
 }
 
+// The script's first bad line has this number; 0 where it is good.
+fn first_bad_line_is(rt: &(impl Abort + AllocGlobal), script: &[u8], number: usize) {
+    assert_eq!(rt; first_bad_line(rt, script), number, "{script:?}");
+}
+
 // The script's one line has this command, at the first processor.
-fn reads(rt: &(impl Abort + AllocGlobal), script: &[u8], command: Command<'_>) {
-    match parse_script(rt.alloc(), script, &SIZES) {
-        Ok(lines) => {
-            let Some(
-                Line::At {
-                    number: _,
-                    processor: 1,
-                    command: found,
-                },
-            ) = lines.first()
-            else {
-                panic!(rt; "no line of the first processor");
-            };
-            assert_eq!(rt; *found, command, "{script:?}");
-        }
-        Err(_) => panic!(rt; "a bad script"),
+fn command_is(rt: &(impl Abort + AllocGlobal), script: &str, command: Command<'_>) {
+    let lines = parse_script(rt.alloc(), script.as_bytes(), &DEFAULT_SIZES);
+    let lines = lines.expect(rt, script);
+    let is_so = match lines.first() {
+        Some(
+            Line::At {
+                number: _,
+                processor: 1,
+                command: found,
+            },
+        ) => *found == command,
+        _ => false,
+    };
+    assert!(rt; is_so, "{script:?}");
+}
+
+// A line of each command, and the command.
+const COMMAND_LINES: [(&str, Command<'static>); 15] = [
+    (
+        "# a comment\n\n1 mkdir /a/b\n",
+        Command::Mkdir { path: b"/a/b" },
+    ),
+    ("1 rmdir /a/b", Command::Rmdir { path: b"/a/b" }),
+    (
+        "01 alloc /a/b 0010",
+        Command::Alloc {
+            path: b"/a/b",
+            order: 10,
+        },
+    ),
+    (
+        "1 read /a memory.max\n",
+        Command::Read {
+            path: b"/a",
+            file: b"memory.max",
+        },
+    ),
+    ("1 fast 63", Command::Fast { group: 63 }),
+    ("1 release 15", Command::Release { frame: 15 }),
+    ("1 get 0", Command::Get { frame: 0 }),
+    ("1 put 1", Command::Put { frame: 1 }),
+    ("1 settle", Command::Settle),
+    ("1 touch 2", Command::Touch { frame: 2 }),
+    ("1 dirty 3", Command::Dirty { frame: 3 }),
+    ("1 clean 4", Command::Clean { frame: 4 }),
+    ("1 owner 5", Command::Owner { frame: 5 }),
+    ("1 blocks", Command::Blocks),
+    ("1 show", Command::Show),
+];
+
+#[test]
+fn reads_each_command(rt: HostRuntime) {
+    for (script, command) in COMMAND_LINES {
+        command_is(&rt, script, command);
+    }
+}
+
+// The line of this number, in which the first processor asks for `show`.
+fn show_in_line(number: usize) -> Line<'static> {
+    Line::At {
+        number,
+        processor: 1,
+        command: Command::Show,
     }
 }
 
 #[test]
-fn reads_each_command(rt: HostRuntime) -> Result<(), Fail> {
-    let path: &[u8] = b"/a/b";
-    reads(
-        &rt,
-        b"# a comment\n\n1 mkdir /a/b\n",
-        Command::Mkdir { path },
-    );
-    reads(&rt, b"1 rmdir /a/b", Command::Rmdir { path });
-    reads(
-        &rt,
-        b"01 alloc /a/b 0010",
-        Command::Alloc { path, order: 10 },
-    );
-    reads(&rt, b"1 fast 63", Command::Fast { group: 63 });
-    reads(&rt, b"1 release 15", Command::Release { frame: 15 });
-    reads(&rt, b"1 get 0", Command::Get { frame: 0 });
-    reads(&rt, b"1 put 1", Command::Put { frame: 1 });
-    reads(&rt, b"1 settle", Command::Settle);
-    reads(&rt, b"1 touch 2", Command::Touch { frame: 2 });
-    reads(&rt, b"1 dirty 3", Command::Dirty { frame: 3 });
-    reads(&rt, b"1 clean 4", Command::Clean { frame: 4 });
-    reads(&rt, b"1 owner 5", Command::Owner { frame: 5 });
-    reads(&rt, b"1 blocks", Command::Blocks);
-    reads(&rt, b"1 show", Command::Show);
+fn comments_and_empty_lines_have_numbers(rt: HostRuntime) {
     let script = b"# a comment\n\n1 show\ngo\n1 show";
-    let lines = parse_script(rt.alloc(), script.as_slice(), &SIZES)?;
-    assert_eq!(rt; lines.len(), 3);
-    assert!(rt; lines[1] == Line::Go);
-    let last = Line::At {
-        number: 5,
-        processor: 1,
-        command: Command::Show,
-    };
-    assert!(rt; lines[2] == last);
-    Ok(())
+    let lines = parse_script(rt.alloc(), script.as_slice(), &DEFAULT_SIZES);
+    let lines = lines.expect(&rt, "a script");
+    let wanted = [show_in_line(3), Line::Go, show_in_line(5)];
+    assert!(rt; lines.as_slice() == wanted.as_slice());
 }
+
+// Writes of memory.max, and the value that each has.
+const WRITE_LINES: [(&str, &[u8]); 2] = [
+    ("1 write /a memory.max  \0 1k \n", b" \0 1k "),
+    ("1 write /a memory.max \n", b""),
+];
 
 #[test]
 fn a_value_is_all_that_follows_the_space(rt: HostRuntime) {
-    let path: &[u8] = b"/a";
-    let file: &[u8] = b"memory.max";
-    let value: &[u8] = b" \0 1k ";
-    let write = Command::Write { path, file, value };
-    reads(&rt, b"1 write /a memory.max  \0 1k \n", write);
-    let value: &[u8] = b"";
-    let empty = Command::Write { path, file, value };
-    reads(&rt, b"1 write /a memory.max \n", empty);
-    reads(&rt, b"1 read /a memory.max\n", Command::Read { path, file });
+    for (script, value) in WRITE_LINES {
+        let write = Command::Write {
+            path: b"/a",
+            file: b"memory.max",
+            value,
+        };
+        command_is(&rt, script, write);
+    }
 }
 
-#[test]
-fn names_the_first_bad_line(rt: HostRuntime) {
-    assert_eq!(rt;
-        bad_line(&rt, b"1 show\n#\n1 shown\n0 show\n".as_slice()),
-        3
-    );
-    assert_eq!(rt; bad_line(&rt, b"go\n1 show\n#go\ngo\n".as_slice()), 4);
-}
-
-// Scripts whose first line isn't in the grammar.
-const BAD: [&str; 37] = [
+// Lines that aren't in the grammar of scripts.
+const BAD_LINES: [&str; 37] = [
     "0 show",
     "3 show",
     "1  show",
@@ -147,54 +167,60 @@ const BAD: [&str; 37] = [
 
 #[test]
 fn refuses_what_is_not_in_the_grammar(rt: HostRuntime) {
-    for script in BAD.iter() {
-        assert_eq!(rt; bad_line(&rt, script.as_bytes()), 1, "{script:?}");
+    for line in BAD_LINES {
+        first_bad_line_is(&rt, line.as_bytes(), 1);
     }
 }
 
 #[test]
-fn a_line_has_1024_bytes(rt: HostRuntime) -> Result<(), Fail> {
-    let mut line = [b'a'; 1_025];
-    line[..9].copy_from_slice(b"1 mkdir /");
-    assert_eq!(rt; bad_line(&rt, &line[..1_024]), 0);
-    assert_eq!(rt; bad_line(&rt, &line), 1);
-    line[1_024] = b'\n';
-    assert_eq!(rt; bad_line(&rt, &line), 0);
-    Ok(())
+fn names_the_first_bad_line(rt: HostRuntime) {
+    first_bad_line_is(&rt, b"1 show\n#\n1 shown\n0 show\n", 3);
+    first_bad_line_is(&rt, b"go\n1 show\n#go\ngo\n", 4);
 }
 
-// So many lines, each a comment of 1,024 bytes with its end.
-fn comments(alloc: Global, count: u32) -> Result<Vec<u8>, AllocError> {
-    let mut script = Vec::new(alloc);
+#[test]
+fn a_line_has_1024_bytes(rt: HostRuntime) {
+    let mut line = [b'a'; 1_025];
+    line[..9].copy_from_slice(b"1 mkdir /");
+    first_bad_line_is(&rt, &line[..1_024], 0);
+    first_bad_line_is(&rt, &line, 1);
+    line[1_024] = b'\n';
+    first_bad_line_is(&rt, &line, 0);
+}
+
+// Adds 1,024 comments of 1,024 bytes, each with its end.
+fn add_greatest_comments(script: &mut Vec<u8>) -> Result<(), AllocError> {
     let comment = [b'#'; 1_023];
-    for _ in 0..count {
+    for _ in 0..1_024 {
         script.extend_from_slice(&comment)?;
         script.push(b'\n')?;
     }
-    Ok(script)
+    Ok(())
+}
+
+// With one byte more the script is bad in line 1,025.
+fn has_no_room_for(rt: &(impl Abort + AllocGlobal), script: &mut Vec<u8>, byte: u8) {
+    script.push(byte).expect(rt, "memory");
+    first_bad_line_is(rt, script.as_slice(), 1_025);
+    script.pop();
 }
 
 #[test]
-fn a_script_has_1048576_bytes(rt: HostRuntime) -> Result<(), Fail> {
-    let mut script = comments(rt.alloc(), 1_024)?;
+fn a_script_has_1048576_bytes(rt: HostRuntime) {
+    let mut script = Vec::new(rt.alloc());
+    add_greatest_comments(&mut script).expect(&rt, "memory");
     assert_eq!(rt; script.len(), 1_048_576);
-    assert_eq!(rt;
-        parse_script(rt.alloc(), script.as_slice(), &SIZES)?.len(),
-        0
-    );
-    for byte in [b'#', b'\n'] {
-        script.push(byte)?;
-        assert_eq!(rt; bad_line(&rt, script.as_slice()), 1_025);
-        script.pop();
-    }
-    Ok(())
+    let lines = parse_script(rt.alloc(), script.as_slice(), &DEFAULT_SIZES);
+    assert!(rt; lines.expect(&rt, "a script").is_empty());
+    has_no_room_for(&rt, &mut script, b'#');
+    has_no_room_for(&rt, &mut script, b'\n');
 }
 
 #[test]
-fn a_line_feed_too_many_belongs_to_its_line(rt: HostRuntime) -> Result<(), Fail> {
-    let alloc = rt.alloc();
-    let mut script = vec![in alloc; b'\n'; 1_048_570]?;
-    script.extend_from_slice(b"1 show\n".as_slice())?;
-    assert_eq!(rt; bad_line(&rt, script.as_slice()), 1_048_571);
-    Ok(())
+fn a_line_feed_too_many_belongs_to_its_line(rt: HostRuntime) {
+    let script = vec![in rt.alloc(); b'\n'; 1_048_570];
+    let mut script = script.expect(&rt, "memory");
+    let last = script.extend_from_slice(b"1 show\n".as_slice());
+    last.expect(&rt, "memory");
+    first_bad_line_is(&rt, script.as_slice(), 1_048_571);
 }

@@ -1,4 +1,4 @@
-//! Scripts and calls of two processors, each in a thread of its own, as tests. Nothing but tests stands here.
+//! Scripts of two and of four processors, each in a thread of its own, as tests. Nothing but tests stands here.
 #![tactic(auto)]
 
 #[cfg(test)]
@@ -7,8 +7,6 @@ mod gates;
 mod programs;
 #[cfg(test)]
 mod races;
-#[cfg(test)]
-mod rounds;
 #[cfg(test)]
 mod scripts;
 #[cfg(test)]

@@ -1,30 +1,28 @@
 //! Four processors beside each other, each with random lines, and what is asked of the zone after them.
 
-ghost use Rattle.std.specs.Prelude.{◌≡◌, length};
+ghost use Rattle.std.specs.Prelude.{◌≡◌, ◌<◌, length};
 
-use crate::systems::live;
-use mem_system::{NoGate, boot};
+use crate::systems::{ThreadAnswers, holds, run_script};
+use mem_system::NoGate;
 use rand_core::{Rng, SeedableRng};
 use rand_pcg::Pcg32;
 use script_lines::line::{Command, Line};
 use script_lines::script::parse_script;
 use script_threads::before_go;
-use std::alloc::{AllocError, Global};
-use std::marker::Brand;
+use std::alloc::AllocError;
 use std::process::Abort;
 use std::slice::Iter;
 use std::str;
-use std::test::Fail;
 use zone_sizes::config::Config;
 
-// How many lines each processor has; by hand 20,000.
-const LINES: u32 = 500;
+// How many lines each processor has in a storm; by hand 20,000.
+const STORM_LINES: u32 = 500;
 
 const FRAMES: u32 = 64;
 
 const CPUS: u32 = 4;
 
-const SIZES: Config = Config {
+const FOUR_PROCESSORS: Config = Config {
     frames: FRAMES,
     cpus: CPUS,
     batch: 4,
@@ -32,8 +30,8 @@ const SIZES: Config = Config {
     stock: 4,
 };
 
-// The groups, parents first. Together they may have more pages than there are frames, and each fewer.
-const GROUPS: [(&str, &str); 8] = [
+// The groups and their limits, parents first. Together they may have more pages than there are frames, and each fewer.
+const STORM_GROUPS: [(&str, &str); 8] = [
     ("/a", "64K"),
     ("/a/b", "32K"),
     ("/a/c", "48K"),
@@ -44,56 +42,107 @@ const GROUPS: [(&str, &str); 8] = [
     ("/h", "56K"),
 ];
 
+// The commands of a storm, each as often as it is to come among 32. A word in capitals stands for what a line picks.
+const STORM_COMMANDS: [&str; 32] = [
+    "alloc PATH 0",
+    "alloc PATH 0",
+    "alloc PATH 0",
+    "alloc PATH 0",
+    "alloc PATH 0",
+    "alloc PATH ORDER",
+    "alloc PATH ORDER",
+    "fast GROUP",
+    "fast GROUP",
+    "fast GROUP",
+    "fast GROUP",
+    "get FRAME",
+    "get FRAME",
+    "get FRAME",
+    "put FRAME",
+    "put FRAME",
+    "put FRAME",
+    "put FRAME",
+    "put FRAME",
+    "release FRAME",
+    "release FRAME",
+    "release FRAME",
+    "release FRAME",
+    "settle",
+    "touch FRAME",
+    "touch FRAME",
+    "dirty FRAME",
+    "clean FRAME",
+    "write PATH memory.max 8K",
+    "write PATH memory.max LIMIT",
+    "rmdir PATH",
+    "mkdir PATH",
+];
+
 // The lines that make the groups and set their limits.
-fn begin(script: &mut String) -> Result<(), AllocError> {
-    for (path, limit) in GROUPS {
+fn make_storm_groups(script: &mut String) -> Result<(), AllocError> {
+    for (path, limit) in STORM_GROUPS {
         writeln!(script, "1 mkdir {path}\n1 write {path} memory.max {limit}")?;
     }
     script.push_str("go\n")
 }
 
-// Adds a line of the processor that these words pick.
-fn pick(script: &mut String, cpu: u32, kind: u32, word: u32) -> Result<(), AllocError> {
-    let frame = (word >> 8) % FRAMES;
-    let (path, limit) = GROUPS[(word % 8) as usize];
-    let group = word % 10;
-    let order = (word >> 16) % 3;
-    match kind % 32 {
-        0..=4 => writeln!(script, "{cpu} alloc {path} 0"),
-        5 | 6 => writeln!(script, "{cpu} alloc {path} {order}"),
-        7..=10 => writeln!(script, "{cpu} fast {group}"),
-        11..=13 => writeln!(script, "{cpu} get {frame}"),
-        14..=18 => writeln!(script, "{cpu} put {frame}"),
-        19..=22 => writeln!(script, "{cpu} release {frame}"),
-        23 => writeln!(script, "{cpu} settle"),
-        24 | 25 => writeln!(script, "{cpu} touch {frame}"),
-        26 => writeln!(script, "{cpu} dirty {frame}"),
-        27 => writeln!(script, "{cpu} clean {frame}"),
-        28 => writeln!(script, "{cpu} write {path} memory.max 8K"),
-        29 => writeln!(script, "{cpu} write {path} memory.max {limit}"),
-        30 => writeln!(script, "{cpu} rmdir {path}"),
-        _ => writeln!(script, "{cpu} mkdir {path}"),
+// The number that a line picks for this word of a command, if one stands there.
+fn picked_number(word: &str, picked: u32) -> Option<u32> {
+    match word {
+        "GROUP" => Some(picked % 10),
+        "FRAME" => Some((picked >> 8) % FRAMES),
+        "ORDER" => Some((picked >> 16) % 3),
+        _ => None,
     }
+}
+
+// The path or the limit that a line picks for this word of a command, or the word.
+fn picked_text(word: &'static str, picked: u32) -> &'static str {
+    let (path, limit) = STORM_GROUPS[(picked % 8) as usize];
+    match word {
+        "PATH" => path,
+        "LIMIT" => limit,
+        _ => word,
+    }
+}
+
+// Adds a line of the processor with this command, which these bits pick the words of.
+fn add_storm_line(
+    script: &mut String,
+    cpu: u32,
+    command: &'static str,
+    picked: u32,
+) -> Result<(), AllocError> {
+    write!(script, "{cpu}")?;
+    for word in command.split(' ') {
+        match picked_number(word, picked) {
+            Some(number) => write!(script, " {number}")?,
+            None => write!(script, " {}", picked_text(word, picked))?,
+        }
+    }
+    script.push('\n')
 }
 
 // The script of this seed.
-fn storm_of(alloc: Global, seed: u64) -> Result<String, AllocError> {
+fn storm_script(rt: &(impl Abort + AllocGlobal), seed: u64) -> String {
     let mut random = Pcg32::seed_from_u64(seed);
-    let mut script = String::new(alloc);
-    begin(&mut script)?;
-    for _ in 0..LINES {
+    let mut script = String::new(rt.alloc());
+    make_storm_groups(&mut script).expect(rt, "memory");
+    for _ in 0..STORM_LINES {
         for cpu in 1..=CPUS {
-            let kind = random.next_u32();
-            pick(&mut script, cpu, kind >> 8, random.next_u32())?;
+            let kind = (random.next_u32() >> 8) % 32;
+            let command = STORM_COMMANDS[kind as usize];
+            let picked = random.next_u32();
+            add_storm_line(&mut script, cpu, command, picked).expect(rt, "memory");
         }
     }
-    Ok(script)
+    script
 }
 
-// What is asked at the end: the blocks and each frame's owner, when all are settled; and each usage, and the owners
-// again, when the groups at the top have lost their prepaid pages and what can be reclaimed.
-fn last_of(alloc: Global) -> Result<String, AllocError> {
-    let mut script = String::from_str(alloc, "1 settle\n2 settle\n3 settle\n4 settle\n")?;
+// What is asked at the end: the blocks and each frame's owner, when all are settled; and each usage, when the groups at the
+// top have lost their prepaid pages and what can be reclaimed.
+fn ask_after_the_storm(script: &mut String) -> Result<(), AllocError> {
+    script.push_str("1 settle\n2 settle\n3 settle\n4 settle\n")?;
     for path in ["/a", "/d", "/g", "/h"] {
         writeln!(script, "1 write {path} memory.max 0")?;
     }
@@ -101,60 +150,60 @@ fn last_of(alloc: Global) -> Result<String, AllocError> {
     for frame in 0..FRAMES {
         writeln!(script, "1 owner {frame}")?;
     }
-    for (path, _) in GROUPS {
+    for (path, _) in STORM_GROUPS {
         writeln!(script, "1 read {path} memory.current")?;
     }
-    Ok(script)
+    Ok(())
 }
 
-// The references that the processors' answers leave: of each, and on each frame.
+// The references that the processors' answers leave: of each processor, and on each frame.
 #[derive(Drop)]
-struct PinCounts {
-    of: [u64; 4],
-    on: [u64; 64],
+struct PinsLeft {
+    of_processors: [u64; 4],
+    on_frames: [u64; 64],
 }
 
-// Adds to the count at this place.
-fn add(counts: &mut [u64], place: u32, change: u64) {
-    if let Some(count) = counts.get_mut(place as usize) {
+// Adds to the pins that are counted at this place.
+fn add_pins(pins: &mut [u64], place: u32, change: u64) {
+    if let Some(count) = pins.get_mut(place as usize) {
         *count = count.wrapping_add(change);
     }
 }
 
-impl PinCounts {
+impl PinsLeft {
     // Counts what a line of the processor was answered.
-    fn note(&mut self, cpu: u32, command: &Command<'_>, answer: &str) {
+    fn note_answer(&mut self, cpu: u32, command: &Command<'_>, answer: &str) {
         let (frame, change) = match command {
             Command::Get { frame } if answer == "held" => (*frame, 1),
             Command::Put { frame } if answer != "refused 21 NotPinned" => (*frame, u64::MAX),
             _ => return,
         };
-        add(&mut self.of, cpu.wrapping_sub(1), change);
-        add(&mut self.on, frame, change);
+        add_pins(&mut self.of_processors, cpu.wrapping_sub(1), change);
+        add_pins(&mut self.on_frames, frame, change);
     }
 }
 
-// Reads off the answers which references are left.
-fn read_pins(lines: &[Line<'_>], told: &str) -> PinCounts {
-    let mut left = PinCounts {
-        of: [0; 4],
-        on: [0; 64],
+// Reads off the threads' answers which references are left.
+fn read_pins_left(lines: &[Line<'_>], by_threads: &str) -> PinsLeft {
+    let mut pins = PinsLeft {
+        of_processors: [0; 4],
+        on_frames: [0; 64],
     };
     let mut cpu = 0u32;
-    let mut own = lines.iter();
-    for answer in told.split('\n') {
+    let mut own_lines = lines.iter();
+    for answer in by_threads.split('\n') {
         if answer.starts_with("cpu ") {
             cpu = cpu.wrapping_add(1);
-            own = lines.iter();
-        } else if let Some(command) = next_of(&mut own, cpu) {
-            left.note(cpu, command, answer);
+            own_lines = lines.iter();
+        } else if let Some(command) = next_own_command(&mut own_lines, cpu) {
+            pins.note_answer(cpu, command, answer);
         }
     }
-    left
+    pins
 }
 
 // The processor's next command.
-fn next_of<'a>(lines: &mut Iter<'a, Line<'a>>, cpu: u32) -> Option<&'a Command<'a>> {
+fn next_own_command<'a>(lines: &mut Iter<'a, Line<'a>>, cpu: u32) -> Option<&'a Command<'a>> {
     for line in lines {
         match line {
             Line::At {
@@ -169,33 +218,56 @@ fn next_of<'a>(lines: &mut Iter<'a, Line<'a>>, cpu: u32) -> Option<&'a Command<'
 }
 
 // Whether the frames of this block are there, and free.
-fn is_free(owners: &[&str], at: u32, size: u32) -> bool {
+fn block_is_free(owners: &[&str], at: u32, size: u32) -> bool {
     match owners.get(at as usize..at.wrapping_add(size) as usize) {
         Some(block) => block.iter().all(|owner| *owner == "free"),
         None => false,
     }
 }
 
-// The free blocks that are in no greater one, as `blocks` tells them.
-fn blocks_of(alloc: Global, owners: &[&str]) -> Result<String, AllocError> {
-    let mut text = String::new(alloc);
-    for place in 0..448u32 {
-        let order = place / 64;
-        let at = place % 64;
-        let greater = order + 1;
-        let above = (at >> greater) << greater;
-        if at % (1 << order) == 0
-            && is_free(owners, at, 1 << order)
-            && !is_free(owners, above, 1 << greater)
-        {
-            write!(text, " {order}:{at}")?;
+// Whether the block of this order at this frame is free, and in no greater one that is.
+fn block_is_maximal(owners: &[&str], order: u32, at: u32) -> bool
+    requires { order < 7 }
+{
+    let greater = order + 1;
+    let above = (at >> greater) << greater;
+    at % (1 << order) == 0
+        && block_is_free(owners, at, 1 << order)
+        && !block_is_free(owners, above, 1 << greater)
+}
+
+// Adds the free blocks that are in no greater one, as `blocks` tells them.
+fn add_maximal_blocks(owners: &[&str], text: &mut String) -> Result<(), AllocError> {
+    for order in 0..7u32 {
+        for at in 0..64u32 {
+            if block_is_maximal(owners, order, at) {
+                write!(text, " {order}:{at}")?;
+            }
         }
     }
-    Ok(text)
+    Ok(())
+}
+
+// The blocks that were told are the greatest free ones of the frames whose owners were told.
+fn blocks_agree_with_owners(rt: &(impl Abort + AllocGlobal), blocks: &str, owners: &[&str]) {
+    let mut maximal = String::new(rt.alloc());
+    add_maximal_blocks(owners, &mut maximal).expect(rt, "memory");
+    let is_told = match maximal.as_str().strip_prefix(' ') {
+        Some(rest) => rest == blocks,
+        None => blocks == "none",
+    };
+    holds(rt, is_told);
+}
+
+// A frame on which references are left is kept.
+fn pins_agree_with_owners(rt: &impl Abort, owners: &[&str], pins: &PinsLeft) {
+    for (owner, left) in owners.iter().zip(pins.on_frames.iter()) {
+        holds(rt, *left == 0 || owner.starts_with('/'));
+    }
 }
 
 // How many frames are kept for the group or one below it.
-fn kept_below(owners: &[&str], path: &str) -> usize {
+fn frames_kept_below(owners: &[&str], path: &str) -> usize {
     let is_below = |owner: &&&str| match owner.strip_prefix(path) {
         Some(rest) => rest.is_empty() || rest.starts_with('/'),
         None => false,
@@ -203,51 +275,62 @@ fn kept_below(owners: &[&str], path: &str) -> usize {
     owners.iter().filter(is_below).count()
 }
 
-// The answers to what is asked at the end hold together, and go with the references that are left.
-fn add_up<R: AllocGlobal + Abort>(
-    rt: &R,
-    answers: &[&str],
-    left: &PinCounts,
-) -> Result<(), AllocError>
+// The usage that was told is 4,096 bytes for each frame that is kept, or the group is gone.
+fn usage_agrees_with_frames(rt: &(impl Abort + AllocGlobal), kept: usize, current: &str) {
+    let bytes = kept.wrapping_mul(4096);
+    let bytes = format!(in rt.alloc(); "{bytes}").expect(rt, "memory");
+    let is_gone = current == "refused 6 NoGroup" && kept == 0;
+    holds(rt, current == bytes.as_str() || is_gone);
+}
+
+// The answers to what is asked after the storm hold together, and go with the references that are left.
+fn answers_add_up(rt: &(impl Abort + AllocGlobal), answers: &[&str], pins: &PinsLeft)
     requires { length answers.now ≡ 82 }
 {
-    let blocks = answers[8];
     let owners = &answers[9..73];
-    let told = format!(in rt.alloc(); " {blocks}")?;
-    let free = blocks_of(rt.alloc(), owners)?;
-    assert!(rt; told == free || (blocks == "none" && free.is_empty()));
-    for (owner, pins) in owners.iter().zip(left.on.iter()) {
-        assert!(rt; *pins == 0 || owner.starts_with('/'));
+    blocks_agree_with_owners(rt, answers[8], owners);
+    pins_agree_with_owners(rt, owners, pins);
+    for ((path, _), current) in STORM_GROUPS.iter().zip(answers[73..81].iter()) {
+        usage_agrees_with_frames(rt, frames_kept_below(owners, path), current);
     }
-    for ((path, _), current) in GROUPS.iter().zip(answers[73..81].iter()) {
-        let kept = kept_below(owners, path);
-        let bytes = format!(in rt.alloc(); "{}", kept.wrapping_mul(4096))?;
-        assert!(rt; *current == bytes.as_str() || (*current == "refused 6 NoGroup" && kept == 0));
-    }
-    Ok(())
+}
+
+// The references that the threads' answers to the script leave.
+fn pins_after(rt: &(impl Abort + AllocGlobal), script: &str, by_threads: &[u8]) -> PinsLeft {
+    let lines = parse_script(rt.alloc(), script.as_bytes(), &FOUR_PROCESSORS);
+    let lines = lines.expect(rt, "a script");
+    let in_threads = lines.get(before_go(&lines)..).expect(rt, "a `go`");
+    let by_threads = str::from_utf8(by_threads).expect(rt, "a text");
+    read_pins_left(in_threads, by_threads)
+}
+
+// What is told after the storm holds together.
+fn the_storm_adds_up(rt: &(impl Abort + AllocGlobal), after_threads: &[u8], pins: &PinsLeft) {
+    let told = str::from_utf8(after_threads).expect(rt, "a text");
+    let answers: Vec<&str> = told.split('\n').collect(rt.alloc()).expect(rt, "memory");
+    assert_eq!(rt; answers.len(), 82);
+    answers_add_up(rt, &answers, pins);
 }
 
 #[test]
-fn what_threads_leave_adds_up(rt: HostRuntime) -> Result<(), Fail> {
-    let alloc = rt.alloc();
-    let sizes = SIZES;
-    let script = storm_of(alloc, 2_026)?;
-    let last = last_of(alloc)?;
-    let lines = parse_script(alloc, script.as_bytes(), &sizes)?;
-    let asked = parse_script(alloc, last.as_bytes(), &sizes)?;
-    let boot = boot(alloc, sizes).expect(&rt, "a boot");
-    let told = live::<Brand, _, _>(&rt, alloc, boot, &lines, &asked, &NoGate)?;
-    let threads = str::from_utf8(&told.threads).expect(&rt, "a text");
-    let later = lines
-        .get(before_go(&lines)..)
-        .expect(&rt, "lines from `go` on");
-    let left = read_pins(later, threads);
-    assert!(rt; told.pins == left.of);
-    let last = str::from_utf8(&told.last).expect(&rt, "a text");
-    let answers: Vec<&str> = last.split('\n').collect(alloc)?;
-    assert_eq!(rt; answers.len(), 82);
-    add_up(&rt, &answers, &left)?;
-    let audit = told.audit;
-    assert!(rt; audit.frames == FRAMES && audit.free.wrapping_add(audit.charged) == FRAMES);
-    Ok(())
+fn what_threads_leave_adds_up(rt: HostRuntime) {
+    let script = storm_script(&rt, 2_026);
+    let mut asked = String::new(rt.alloc());
+    ask_after_the_storm(&mut asked).expect(&rt, "memory");
+    let told = run_script(
+        &rt,
+        FOUR_PROCESSORS,
+        script.as_str(),
+        asked.as_str(),
+        &NoGate,
+    );
+    let told = told.expect(&rt, "a run");
+    let pins = pins_after(&rt, script.as_str(), &told.by_threads);
+    holds(&rt, told.pins_left == pins.of_processors);
+    the_storm_adds_up(&rt, &told.after_threads, &pins);
+    holds(&rt, told.audit.frames == FRAMES);
+    holds(
+        &rt,
+        told.audit.free.wrapping_add(told.audit.charged) == FRAMES,
+    );
 }
