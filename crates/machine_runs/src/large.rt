@@ -13,24 +13,26 @@ use std::marker::Brand;
 use std::process::Abort;
 use stock_word::{StockSeat, StockWords};
 
-/// The tables of 65,536 frames and 16 processors, and the seats of the machine and of processor 16, as they are at first.
+/// The tables of F frames and 16 processors, and the seats of the machine and of processor 16, as they are at first.
 #[derive(Drop)]
-struct LargeParts {
+struct LargeParts<const F: u32> {
     frames: FrameWords,
     stocks: StockWords,
     zone: FrameSeat,
     machine: StockSeat,
     last: ProcessorSeats,
-    ghost sizes: { (frames.frames ≡ 65536) × (frames.cpus ≡ 16) × (stocks.cpus ≡ 16) },
-    ghost zone_is: { (zone.table ≡ frames.table) × (zone.view ≡ first_zone_view 65536) },
+    ghost sizes: { (frames.frames ≡ F) × (frames.cpus ≡ 16) × (stocks.cpus ≡ 16) },
+    ghost zone_is: { (zone.table ≡ frames.table) × (zone.view ≡ first_zone_view F) },
     ghost machine_is: { (machine.table ≡ stocks.table) × (machine.view ≡ first_machine) },
     ghost last_is: { (last.frames.table ≡ frames.table) × (last.frames.view ≡ first_cpu_view 16) },
     ghost last_pays: { (last.stock.table ≡ stocks.table) × (last.stock.view ≡ first_processor 16) },
 }
 
 // The parts of a new boot.
-fn make_large_parts(rt: &impl Abort, alloc: Global) -> LargeParts {
-    let (frames, zone, mut seats) = FrameWords::new(alloc, 65_536, 16).expect(rt, "memory");
+fn make_large_parts<const F: u32>(rt: &impl Abort, alloc: Global) -> LargeParts<F>
+    requires { 1 ≤ F }
+{
+    let (frames, zone, mut seats) = FrameWords::new(alloc, F, 16).expect(rt, "memory");
     let (stocks, machine, mut payers) = StockWords::new(alloc, 16).expect(rt, "memory");
     let last = ProcessorSeats {
         frames: seats.pop().expect(rt, "a seat"),
@@ -68,8 +70,8 @@ fn lends_and_takes_back<N: BootName>(
     machine.shut(tables, cpu);
 }
 
-// In a visit of processor 16, 64 frames come to its list and go back.
-fn lends<N: BootName>(rt: &impl Abort, alloc: Global, parts: LargeParts)
+// In a visit of processor 16 of a machine of F frames, 64 come to its list and go back.
+fn lends<const F: u32, N: BootName>(rt: &impl Abort, alloc: Global, parts: LargeParts<F>)
     requires { (parts.frames ≡ N.frames) × (parts.stocks ≡ N.stocks) }
 {
     let LargeParts {
@@ -89,8 +91,15 @@ fn lends<N: BootName>(rt: &impl Abort, alloc: Global, parts: LargeParts)
     let _ = tables.into_tables();
 }
 
+// In a visit of processor 16 of a machine of 65,536 frames, 64 come to its list and go back.
+fn lends_of_many<N: BootName>(rt: &impl Abort, alloc: Global, parts: LargeParts<65536>)
+    requires { (parts.frames ≡ N.frames) × (parts.stocks ≡ N.stocks) }
+{
+    lends::<65536, N>(rt, alloc, parts);
+}
+
 #[test]
 fn frames_are_lent_and_taken_back(rt: HostRuntime) {
-    let parts = make_large_parts(&rt, rt.alloc());
-    lends::<Brand>(&rt, rt.alloc(), parts);
+    let parts = make_large_parts::<65536>(&rt, rt.alloc());
+    lends_of_many::<Brand>(&rt, rt.alloc(), parts);
 }
