@@ -23,11 +23,15 @@ status_of Input = 1
 status_of Output = 1
 status_of (NoMemory error) = 1
 
+-- the line that tells that the line of this number is bad
+abbrev pub bad_line_text : ℕ → List ℕ
+bad_line_text number = codes "bad line " ++ decimal number ++ codes "\n"
+
 -- the text that tells a fault: one line, or clap's text of the words
 abbrev pub fault_text : ProgramFault → List ℕ
 fault_text (Words (words.BadWords text)) = string_bytes text
 fault_text (Words (words.NoMemory error)) = codes "no memory\n"
-fault_text (Script (script.BadLine number)) = codes "bad line " ++ decimal number ++ codes "\n"
+fault_text (Script (script.BadLine number)) = bad_line_text number
 fault_text (Script script.NoMemory) = codes "no memory\n"
 fault_text BadConfig = codes "refused 14 BadConfig\n"
 fault_text Input = codes "input failed\n"

@@ -1,9 +1,8 @@
 //! Each fault is told in a line of its own, or in clap's text of the words.
 
-ghost use Rattle.std.specs.Prelude.{◌≡◌, ◌++◌, OnOk, codes};
-ghost use Rattle.std.specs.Fmt.{decimal};
+ghost use Rattle.std.specs.Prelude.{◌≡◌, OnOk};
 ghost use Rattle.std.specs.Io.KnownBytes.{Appends};
-ghost use Rattle.load_run.specs.Fault.{fault_text, status_of};
+ghost use Rattle.load_run.specs.Fault.{bad_line_text, fault_text, status_of};
 ghost use Rattle.load_run.specs.Writing.{AppendsBeginning};
 
 use crate::fault::ProgramFault;
@@ -43,10 +42,8 @@ fn write_fault<F: Write>(faults: &mut F, fault: &ProgramFault) -> io::Result<()>
 
 // Writes the text of the bad line with this number.
 fn write_bad_line<F: Write>(faults: &mut F, number: usize) -> io::Result<()>
-    ensures whole { OnOk result (Appends (F.contents faults.old) (F.contents faults.new)
-        (codes "bad line " ++ decimal number ++ codes "\n")) }
-    ensures beginning { AppendsBeginning (F.contents faults.old) (F.contents faults.new)
-        (codes "bad line " ++ decimal number ++ codes "\n") }
+    ensures whole { OnOk result (Appends (F.contents faults.old) (F.contents faults.new) (bad_line_text number)) }
+    ensures beginning { AppendsBeginning (F.contents faults.old) (F.contents faults.new) (bad_line_text number) }
 {
     let mut digits = Buffer::new();
     write_whole(faults, "bad line ".as_bytes())?;

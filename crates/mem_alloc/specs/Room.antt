@@ -70,68 +70,71 @@ pub record ReclaimsFor (group pages : ℕ) (way : Course KnownMachine) : Type 0 
   pub none_killed : KillsNone way
 
 -- what is done where reclaim makes no room: victims are killed for up to `most_killed_for` pages, and nobody for more
-pub record KillsForFew (requester group pages : ℕ) (way : Course KnownMachine) : Type 0 where
-  pub few : pages ≤ most_killed_for → KillsFor (Some requester) group pages way
+pub record KillsForFew (requester over pages : ℕ) (way : Course KnownMachine) : Type 0 where
+  pub few : pages ≤ most_killed_for → KillsFor (Some requester) over pages way
   pub many : most_killed_for < pages → Rests way
 
--- The limit of the group had no room for so many pages: that is noted there as `max`, the stocks of its subtree are
--- drained, its units are reclaimed in rounds, and then its victims are killed
-pub record RelievesLimit (requester group pages : ℕ) (way : Course KnownMachine) : Type 0 where
+-- The limit of the group `over` had no room for so many pages: that is noted there as `max`, the stocks of its subtree
+-- are drained, its units are reclaimed in rounds, and then its victims are killed
+pub record RelievesLimit (requester over pages : ℕ) (way : Course KnownMachine) : Type 0 where
   pub cleared : KnownMachine
   pub reclaimed : KnownMachine
   pub clearing : Run
   pub reclaiming : Run
   pub killing : Run
-  pub clears : ClearsBelow group pages (course way.table way.before clearing cleared)
-  pub reclaims : ReclaimsFor group pages (course way.table cleared reclaiming reclaimed)
-  pub kills : KillsForFew requester group pages (course way.table reclaimed killing way.after)
+  pub clears : ClearsBelow over pages (course way.table way.before clearing cleared)
+  pub reclaims : ReclaimsFor over pages (course way.table cleared reclaiming reclaimed)
+  pub kills : KillsForFew requester over pages (course way.table reclaimed killing way.after)
   pub steps_are : way.steps ≡ clearing ++ (reclaiming ++ killing)
 
--- A charge of so many pages to the group is refused at group `over`, the lowest of its path without room: that is noted
--- there as `max`, the stocks of its subtree are drained, units of it are reclaimed in rounds, and victims of it killed
-pub record IsRefusedAt (group pages over : ℕ) (way : Course KnownMachine) : Type 0 where
-  pub lowest : IsLowestOver way.before.ledger.groups (current_of way.before.ledger) group pages over
+-- A charge of so many pages to the group `requester` is refused at the group `over`, the lowest of its path without
+-- room: that is noted there as `max`, the stocks of its subtree are drained, units of it are reclaimed in rounds, and
+-- victims of it killed
+pub record IsRefusedAt (requester pages over : ℕ) (way : Course KnownMachine) : Type 0 where
+  pub lowest : IsLowestOver way.before.ledger.groups (current_of way.before.ledger) requester pages over
   pub relieving : Run
-  pub relieves : RelievesLimit group over pages (course way.table way.before relieving way.after)
-  pub steps_are : way.steps ≡ over_steps group pages over ++ relieving
+  pub relieves : RelievesLimit requester over pages (course way.table way.before relieving way.after)
+  pub steps_are : way.steps ≡ over_steps requester pages over ++ relieving
 
--- the group's limit has room for so many pages, and the requester, the group that asks for them, isn't killed
-pub record HasMadeRoom (requester group pages : ℕ) (after : KnownMachine) : Type 0 where
-  pub room : has_room_for after.ledger group pages ≡ true
+-- the limit of the group `over` has room for so many pages, and the requester, the group that asks for them, isn't
+-- killed
+pub record HasMadeRoom (requester over pages : ℕ) (after : KnownMachine) : Type 0 where
+  pub room : has_room_for after.ledger over pages ≡ true
   pub alive : is_killed after.killed requester ≡ false
 
 -- a charge is refused at the group `over`, which has room for the pages after that
-pub record MakesRoomAt (group pages over : ℕ) (way : Course KnownMachine) : Type 0 where
-  pub refused : IsRefusedAt group pages over way
-  pub room : HasMadeRoom group over pages way.after
+pub record MakesRoomAt (requester pages over : ℕ) (way : Course KnownMachine) : Type 0 where
+  pub refused : IsRefusedAt requester pages over way
+  pub room : HasMadeRoom requester over pages way.after
 
 -- a charge is refused at each of these groups, one after the other, and each has room for the pages then
 abbrev pub MakesRoom : ℕ → ℕ → List ℕ → Course KnownMachine → Type 0
-MakesRoom group pages [] way = Rests way
-MakesRoom group pages (over ∷ others) way = InTurn (MakesRoomAt group pages over) (MakesRoom group pages others) way
+MakesRoom requester pages [] way = Rests way
+MakesRoom requester pages (over ∷ others) way =
+    InTurn (MakesRoomAt requester pages over) (MakesRoom requester pages others) way
 
--- the group's limit has no room for the pages still, and the requester isn't killed
-pub record IsStillOver (requester group pages : ℕ) (after : KnownMachine) : Type 0 where
-  pub still : has_room_for after.ledger group pages ≡ false
+-- the limit of the group `over` has no room for the pages still, and the requester isn't killed
+pub record IsStillOver (requester over pages : ℕ) (after : KnownMachine) : Type 0 where
+  pub still : has_room_for after.ledger over pages ≡ false
   pub alive : is_killed after.killed requester ≡ false
 
--- why a requester's charge is refused for good after it was refused at the group: that has no room for the pages still;
--- or the requester was killed
+-- why a requester's charge is refused for good after it was refused at the group `over`: that has no room for the
+-- pages still; or the requester was killed
 abbrev pub IsCause : ℕ → ℕ → ℕ → AllocFault → KnownMachine → Type 0
-IsCause requester group pages (Over named) after = (named ≡ group) × IsStillOver requester group pages after
-IsCause requester group pages Killed after = is_killed after.killed requester ≡ true
-IsCause requester group pages NoFrames after = ⊥
+IsCause requester over pages (Over named) after = (named ≡ over) × IsStillOver requester over pages after
+IsCause requester over pages Killed after = is_killed after.killed requester ≡ true
+IsCause requester over pages NoFrames after = ⊥
 
 -- A charge is refused for good at the group `over`, for this cause, after it was noted there, the stocks of its
 -- subtree were drained, units of it were reclaimed and victims of it killed. The groups `refused_at` refused it before,
 -- and have room since
-pub record IsRefusedFor (group pages : ℕ) (cause : AllocFault) (way : Course KnownMachine) : Type 0 where
+pub record IsRefusedFor (requester pages : ℕ) (cause : AllocFault) (way : Course KnownMachine) : Type 0 where
   pub over : ℕ
   pub refused_at : List ℕ
   pub cleared : KnownMachine
   pub making : Run
   pub last : Run
-  pub makes : MakesRoom group pages refused_at (course way.table way.before making cleared)
-  pub refused : IsRefusedAt group pages over (course way.table cleared last way.after)
-  pub is_cause : IsCause group over pages cause way.after
+  pub makes : MakesRoom requester pages refused_at (course way.table way.before making cleared)
+  pub refused : IsRefusedAt requester pages over (course way.table cleared last way.after)
+  pub is_cause : IsCause requester over pages cause way.after
   pub steps_are : way.steps ≡ making ++ last

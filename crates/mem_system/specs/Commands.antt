@@ -129,6 +129,11 @@ MayAskFor (Alloc path order) was now limited need = AsksForPages path.now order 
 MayAskFor (Write path file value) was now limited need = AsksForLimit path.now file.now value.now was now limited need
 MayAskFor other was now limited need = ⊥
 
+-- the steps of a visit: it is opened, its processor is settled, these are made, and it is shut
+abbrev pub visit_steps : Side → Run → Run
+visit_steps before inner =
+    open_steps before.cpu.number ++ (settle_steps (visited before) ++ (inner ++ shut_steps before.cpu.number))
+
 -- A command under the lock: what was noted before is forgotten, the caller's visit is opened, its part is settled, the
 -- command is obeyed, and the visit is shut. No group is killed meanwhile before everything else was tried, nor by a
 -- step that isn't the command's; and the misses noted are those among the steps
@@ -139,13 +144,11 @@ pub record Serves (cmd : Cmd) (reply : Reply) (way : Course Holder) : Type 0 whe
   pub done : KnownMachine
   pub obeys : Obeys way.before.locked.sizes cmd reply (course way.table settled inner (side done way.after.cpu))
   pub no_rash : NoRashKill way.table (MayAskFor cmd settled.machine.ledger.groups) settled.machine settled.cpu inner
-  pub only_inner : has_kill (open_steps way.before.cpu.number
-      ++ (settle_steps (visited (side_of way.before)) ++ shut_steps way.before.cpu.number)) ≡ false
+  pub only_inner : has_kill (visit_steps (side_of way.before) []) ≡ false
   pub misses : CountsMisses (course way.table settled.machine inner done)
   pub machine : way.after.locked.machine ≡ with_visit_of done way.before.cpu.number 0
   pub sizes : way.after.locked.sizes ≡ way.before.locked.sizes
-  pub steps_are : way.steps ≡ open_steps way.before.cpu.number
-      ++ (settle_steps (visited (side_of way.before)) ++ (inner ++ shut_steps way.before.cpu.number))
+  pub steps_are : way.steps ≡ visit_steps (side_of way.before) inner
 
 -- a command was served under the lock, and this was its reply: these steps lead the holder from one state to the other
 pub record IsServed (table : KnownTable) (cmd : Cmd) (before : Holder) (reply : Reply) (after : Holder) : Type 0 where

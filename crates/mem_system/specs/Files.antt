@@ -5,17 +5,25 @@ use Rattle.group_tree.specs.Groups.{number_at}
 use Rattle.group_tree.specs.declared.fault.Fault.{Fault}
 use Rattle.group_tree.specs.declared.fault.Fault.TheVariants.{NoGroup, NoFile, ReadOnly, BadLimit, BadNumber}
 use Rattle.group_charge.specs.Charges.{Ledger, with_group_limit}
+use Rattle.frame_word.specs.Seats.{KnownTable}
+use Rattle.cpu_part.specs.Cpus.{KnownCpu}
 use Rattle.control_files.specs.declared.file.File.{File}
 use Rattle.control_files.specs.declared.file.File.TheVariants.{Max}
 use Rattle.control_files.specs.Files.{name_of, file_text}
 use Rattle.control_files.specs.Limit.{ReadsAs, IsTooGreat, IsNoLimitText}
 use Rattle.step_rules.specs.After.{Run}
-use Rattle.mem_machine.specs.Machines.{KnownMachine}
+use Rattle.mem_machine.specs.Machines.{KnownMachine, KeepsVisit, Visits}
+use Rattle.mem_machine.specs.Local.{side}
 use Rattle.mem_machine.specs.Steps.{set_max_steps}
 use Rattle.mem_alloc.specs.Stepping.{Course, Rests, course}
 use Rattle.mem_system.specs.declared.command.Reply.{Reply}
 use Rattle.mem_system.specs.declared.command.Reply.TheVariants.{Text, Done, Refused}
 use Rattle.mem_system.specs.Usage.{KeepsToLimit}
+
+-- the visit of whichever processor was visited before is kept
+abbrev pub KeepsAnyVisit : KnownTable → (before after : KnownMachine) → Type 0
+KeepsAnyVisit table before after =
+    (cpu : KnownCpu) → Visits table (side before cpu) → KeepsVisit table (side before cpu) (side after cpu)
 
 -- the path is that of this group, which isn't the root, and the name that of its file
 pub record IsFileOf (groups : List Group) (path name : List ℕ) (group : ℕ) (file : File) : Type 0 where

@@ -4,12 +4,9 @@ ghost use Rattle.std.specs.Prelude.{◌≡◌, ◌≢◌, ◌<◌, IsTrue, Match
 ghost use Rattle.group_tree.specs.Groups.{has_group};
 ghost use Rattle.control_files.specs.declared.file.File.TheVariants.{Max};
 ghost use Rattle.control_files.specs.Limit.{ReadsAs};
-ghost use Rattle.cpu_part.specs.Cpus.{KnownCpu};
 ghost use Rattle.mem_system.specs.Outcomes.{HasItsGroups, reply_of};
-ghost use Rattle.mem_machine.specs.Machines.{KeepsVisit, Visits};
 ghost use Rattle.mem_alloc.specs.Stepping.{ByStepsOfAny};
-ghost use Rattle.mem_system.specs.Files.{IsFileOf, HasNoFile, Reads, RefusesWrite, SetsLimit, Writes};
-ghost use Rattle.mem_machine.specs.Local.{side};
+ghost use Rattle.mem_system.specs.Files.{IsFileOf, HasNoFile, KeepsAnyVisit, Reads, RefusesWrite, SetsLimit, Writes};
 
 use crate::outcome::Outcome;
 use crate::usage::lower_above;
@@ -81,8 +78,7 @@ fn set_limit<N: BootName>(
     requires there { IsTrue (has_group machine.old.ledger.groups group) }
     requires below_root { group ≢ 0 }
     ensures sets { ByStepsOfAny N.frames machine.old machine.new (SetsLimit group limit) }
-    ensures stays { (c : KnownCpu) → Visits N.frames (side machine.old c)
-        → KeepsVisit N.frames (side machine.old c) (side machine.new c) }
+    ensures stays { KeepsAnyVisit N.frames machine.old machine.new }
 {
     machine.set_max(group, limit);
     if let Some(limit) = limit {
@@ -101,8 +97,7 @@ pub(crate) fn write_file<N: BootName>(
     ensures written { ByStepsOfAny N.frames machine.old machine.new
         (Writes path.now name.now value.now (reply_of machine.new.ledger result)) }
     ensures groups { HasItsGroups machine.new.ledger result }
-    ensures stays { (c : KnownCpu) → Visits N.frames (side machine.old c)
-        → KeepsVisit N.frames (side machine.old c) (side machine.new c) }
+    ensures stays { KeepsAnyVisit N.frames machine.old machine.new }
 {
     let (group, limit) = match find_limit(machine.charges(), path, name, value) {
         Ok(found) => found,

@@ -29,7 +29,7 @@ pub record AtPart (processor : ℕ) (is_done : Holder → Holder → Type 0) (be
 abbrev pub ServesLine : KnownTable → Bool → Standing → Line → List ℕ → Standing → Type 0
 ServesLine table is_explained before Go text after = (text ≡ []) × (after ≡ before)
 ServesLine table is_explained before (At number processor command) text after =
-    AtPart processor (λ one other. AnswersText table is_explained command one text other) before after
+    AtPart processor (λ from to. AnswersText table is_explained command from text to) before after
 
 -- a first line leads to what stands between, the others go on from there, and the text of the first stands first
 pub record FirstAndRest {S : Type 0} (leads_first leads_rest : S → List ℕ → S → Type 0) (before : S) (text : List ℕ)
@@ -45,8 +45,8 @@ pub record FirstAndRest {S : Type 0} (leads_first leads_rest : S → List ℕ �
 abbrev pub InOrder : {S : Type 0} → (S → Line → List ℕ → S → Type 0) → S → List Line → List ℕ → S → Type 0
 InOrder serves before [] text after = (text ≡ []) × (after ≡ before)
 InOrder serves before (line ∷ lines) text after =
-    FirstAndRest (λ one first other. serves one line first other)
-    (λ one rest other. InOrder serves one lines rest other) before text after
+    FirstAndRest (λ from first to. serves from line first to)
+    (λ from rest to. InOrder serves from lines rest to) before text after
 
 -- what lines are answered by value of what lies behind the lock
 abbrev pub ServesAll : KnownTable → Bool → Standing → List Line → List ℕ → Standing → Type 0
