@@ -43,7 +43,8 @@ fn replay<R: AllocGlobal>(rt: &R, words: &[&str], mut script: &[u8]) -> ProgramR
     }
 }
 
-// Scripts that leave pins, what their lines are answered by threads, and what is told of the end.
+// Scripts that leave pins, what their lines are answered by threads, and what is told of the end. No two threads get the
+// same frame: such a get may be `raced`.
 const PINS_LEFT: [(&str, &str, &str); 4] = [
     (
         "1 mkdir /a\n2 alloc /a 0\n2 settle\ngo\n2 get 0\n1 settle\n2 get 0\n",
@@ -56,9 +57,9 @@ const PINS_LEFT: [(&str, &str, &str); 4] = [
         "held 3\naudit frames 16 free 15 charged 1\naudit puts 0 freezes 0 drops 0 returns 0\n",
     ),
     (
-        "1 mkdir /a\n1 alloc /a 0\n1 settle\ngo\n1 get 0\n2 get 0\n1 get 0\n",
-        "group 1\nframe 0\nsettled\ncpu 1\nheld\nheld\ncpu 2\nheld\n",
-        "held 3\naudit frames 16 free 15 charged 1\naudit puts 0 freezes 0 drops 0 returns 0\n",
+        "1 mkdir /a\n1 alloc /a 0\n1 alloc /a 0\n1 settle\ngo\n1 get 0\n2 get 1\n1 get 0\n",
+        "group 1\nframe 0\nframe 1\nsettled\ncpu 1\nheld\nheld\ncpu 2\nheld\n",
+        "held 3\naudit frames 16 free 14 charged 2\naudit puts 0 freezes 0 drops 0 returns 0\n",
     ),
     (
         "1 mkdir /a\n1 alloc /a 0\n1 settle\ngo\n1 get 0\n1 get 0\n1 get 0\n1 release 0\n",
