@@ -24,7 +24,7 @@ use Rattle.mem_history.specs.Whole.{ShowsAll}
 -- ---- a new boot
 -- the machine of a new boot, and the parts of its processors, in order, none of which did anything
 pub record IsNewBoot (table : KnownTable) (words : Words) (machine : KnownMachine) (cpus : List KnownCpu) : Type 0 where
-  pub machine : IsFirst table words machine
+  pub first : IsFirst table words machine
   pub count : length cpus ≡ table.cpus
   pub each : (index : ℕ) (cpu : KnownCpu) → slice_get cpus index ≡ Some cpu →
       cpu ≡ first_cpu (record { table = table.table; view = first_cpu_view (suc index) })

@@ -64,7 +64,7 @@ fresh_by cpus (suc index) = option_map_or (λ cpu. length cpu.fresh) (slice_get 
 abbrev pub seen_together : List KnownCpu → ℕ → State → State
 seen_together cpus processor local = record local {
   references = λ other frame.
-    if is_own processor other then local.references other frame else references_by cpus other frame;
+      if is_own processor other then local.references other frame else references_by cpus other frame;
   parts = λ other. if other == processor then local.parts other else record (local.parts other) {
     stock = record ((local.parts other).stock) { pages = (local.parts other).stock.pages - fresh_by cpus other };
   };
