@@ -1,3 +1,4 @@
+//! Of the reading core, on which the program doesn't run.
 //! What a core tells: of its state, and so of each run that it shows.
 
 ghost use Rattle.std.specs.Prelude.{◌≡◌, ℕ, ◌<◌, ◌^◌, Some, IsTrue, length, slice_get};
