@@ -2,7 +2,7 @@
 
 ghost use Rattle.std.specs.Prelude.{◌≡◌, IfOk};
 ghost use Rattle.frame_word.specs.Seats.{first_zone_view};
-ghost use Rattle.stock_word.specs.Stock.{first_machine};
+ghost use Rattle.stock_word.specs.Stock.{first_zone_stock};
 ghost use Rattle.stock_word.specs.Calls.{uncounted};
 ghost use Rattle.mem_machine.specs.Machines.{IsConsistent, IsFirst};
 
@@ -76,7 +76,7 @@ impl<N: BootName> Machine<N> {
         stock: StockSeat,
     ) -> Result<Machine<N>, AllocError>
         requires seat { seat ≡ record { table = N.frames.table; view = first_zone_view N.frames.frames } }
-        requires stock { stock ≡ record { table = N.stocks.table; view = first_machine } }
+        requires stock { stock ≡ record { table = N.stocks.table; view = first_zone_stock } }
         requires cpus { N.stocks.cpus ≡ N.frames.cpus }
         ensures { IfOk result (λ machine. IsFirst N.frames N.stocks machine) }
     {

@@ -24,7 +24,7 @@ impl<N: BootName> Machine<N> {
         requires processor { IsCpuOf N.frames processor }
         requires group { stock_group self.old processor ≡ Some group }
         requires fits { group < MAX_GROUPS }
-        ensures drains { Drains self.old processor result self.new }
+        ensures drains { Drains processor result self.old self.new }
         ensures steps { MakesForAny N.frames self.old
             (drain_steps processor (stock_group self.old processor) result) self.new }
     {
@@ -41,7 +41,7 @@ impl<N: BootName> Machine<N> {
         requires processor { IsCpuOf N.frames processor }
         requires group { stock_group self.old processor ≡ Some group }
         requires fits { group < MAX_GROUPS }
-        ensures drains { DrainsNoted self.old processor result self.new }
+        ensures drains { DrainsNoted processor result self.old self.new }
         ensures steps { MakesForAny N.frames self.old
             (drain_steps processor (stock_group self.old processor) result) self.new }
     {
@@ -57,7 +57,7 @@ impl<N: BootName> Machine<N> {
     /// off its book and off the charge of the group that it is of. The processor's own calls may go on meanwhile.
     pub fn drain_stock(&mut self, tables: &Tables<N>, processor: u32) -> u32
         requires processor { IsCpuOf N.frames processor }
-        ensures drains { Drains self.old processor result self.new }
+        ensures drains { Drains processor result self.old self.new }
         ensures steps { MakesForAny N.frames self.old
             (drain_steps processor (stock_group self.old processor) result) self.new }
     {
@@ -189,7 +189,7 @@ impl<N: BootName> Machine<N> {
         ensures steps { OnOk result
             (MakesBy N.frames (prepay_steps group pages) (side self.old cpu.old) (side self.new cpu.new)) }
         ensures refused { IfErr result
-            (RefusesPrepay N.frames group pages (side self.old cpu.old) (side self.new cpu.new)) }
+            (λ over. RefusesPrepay N.frames group pages over (side self.old cpu.old) (side self.new cpu.new)) }
     {
         let number = cpu.number();
         self.drain_stock(tables, number);
