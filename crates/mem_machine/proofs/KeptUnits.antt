@@ -128,7 +128,7 @@ pub record JoinsCharges (t : KnownTable) (w : Words) (m : KnownMachine) (g pages
   pub areas : AreMaximalBlocks (free_of spots) blocks
   pub table : stock.table ≡ w.table
   pub stocks : IsZoneStock stock.view
-  pub noted : (p : ℕ) → (account_of stock.view p).noted ≡ 0
+  pub absorbed : (p : ℕ) → (account_of stock.view p).noted ≡ 0
   pub bounded : (p : ℕ) → (account_of stock.view p).book < 65536
   pub charged : (h : ℕ) → pages_of ledger h ≡ frames_charged m.spots h + cond (h == g) pages 0 + pages_booked t stock h
 
@@ -171,7 +171,7 @@ unit_kept t w m ok g fits b block spots placed first rest links lists joined cha
       spots = unit_fits t w m ok g fits b spots placed rest links joined.joins.stands joined.joins.homes change used;
       units = units_placed m.spots spots g b placed block uncharged ok.units;
       lists = joined.stand;
-      absorbed = joins.noted;
+      absorbed = joins.absorbed;
       bounded = joins.bounded;
       charged = λ h. let a = joins.charged h in let c = charges_rise m.spots spots g b placed block uncharged h in omega (arith, a, c);
       balances = balances;

@@ -155,8 +155,8 @@ abbrev pub own_fill_steps : ℕ → ℕ → Side → Run
 own_fill_steps group pages now = fill_steps now.cpu.number group pages
 
 -- the charge is refused at the group that the error names, and nothing is done
-abbrev pub RefusesGrant : KnownTable → ℕ → ℕ → Side → Over → Type 0
-RefusesGrant table group pages now over = Makes table now (over_steps group pages over.group) now
+abbrev pub RefusesGrant : KnownTable → ℕ → ℕ → Over → Side → Type 0
+RefusesGrant table group pages over now = Makes table now (over_steps group pages over.group) now
 
 -- the steps by which the processor's own stock is drained of all its pages
 abbrev pub own_drain_steps : Side → Run

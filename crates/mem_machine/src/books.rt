@@ -106,7 +106,8 @@ impl<N: BootName> Books<N> {
         requires pages { FitsStock pages }
         requires fits { pages_booked N.frames self.old group + pages < 2 ^ 32 }
         requires drained { (account_of self.old.view cpu.old.number).filled ≡ false }
-        requires settled { (cpu.old.fresh ≡ []) × ((account_of self.old.view cpu.old.number).noted ≡ 0) }
+        requires none_fresh { cpu.old.fresh ≡ [] }
+        requires absorbed { (account_of self.old.view cpu.old.number).noted ≡ 0 }
         ensures nothing_booked { (account_of self.old.view cpu.old.number).book ≡ 0 }
         ensures seat { self.new ≡ with_view self.old (filling self.old.view cpu.old.number group pages) }
         ensures cpu { cpu.new ≡ record cpu.old {

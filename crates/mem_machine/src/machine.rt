@@ -107,7 +107,8 @@ impl<N: BootName> Machine<N> {
     /// Takes the machine apart, for the end of the two tables: the zone's seats at the frames' table and at the
     /// stocks'.
     pub fn into_seats(self) -> (FrameSeat, StockSeat)
-        ensures seats { (result.0 ≡ self.seat) × (uncounted result.1 ≡ self.stock) }
+        ensures seat { result.0 ≡ self.seat }
+        ensures stock { uncounted result.1 ≡ self.stock }
         ensures consistent { IsConsistent N.frames N.stocks self }
     {
         let Machine {

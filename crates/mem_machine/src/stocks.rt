@@ -3,7 +3,7 @@
 ghost use Rattle.std.specs.Prelude.{◌≡◌, ◌<◌, [], Some, IsTrue, OnOk, OnErr, IfErr};
 ghost use Rattle.group_tree.specs.declared.group.TheConstants.{MAX_GROUPS};
 ghost use Rattle.group_tree.specs.Groups.{has_group, in_subtree};
-ghost use Rattle.mem_machine.specs.Machines.{IsCpuOf, LacksRoom, Visits};
+ghost use Rattle.mem_machine.specs.Machines.{IsCpuOf, LacksRoom, SideStays, Visits};
 ghost use Rattle.mem_machine.specs.Stocks.{IsDrained, AreDrained, AreOwnDrained, FitsStock, stock_group};
 ghost use Rattle.mem_machine.specs.Stocks.{of_group, of_subtree, Drains, DrainsIfChosen, DrainsNoted};
 ghost use Rattle.mem_machine.specs.Stocks.{DrainsGroup, DrainsSubtree, Fills, Prepays, IsOver};
@@ -154,11 +154,11 @@ impl<N: BootName> Machine<N> {
         requires drained { IsDrained self.old cpu.old.number }
         ensures fills { OnOk result (Fills group pages (side self.old cpu.old) (side self.new cpu.new)) }
         ensures over { IfErr result (λ over. LacksRoom self.old group pages over.group) }
-        ensures unchanged { OnErr result ((self.new ≡ self.old) × (cpu.new ≡ cpu.old)) }
+        ensures unchanged { OnErr result (SideStays (side self.old cpu.old) (side self.new cpu.new)) }
         ensures visit { Visits N.frames (side self.new cpu.new) }
         ensures steps { OnOk result
             (MakesBy N.frames (own_fill_steps group pages) (side self.old cpu.old) (side self.new cpu.new)) }
-        ensures refused { IfErr result (RefusesGrant N.frames group pages (side self.old cpu.old)) }
+        ensures refused { IfErr result (λ over. RefusesGrant N.frames group pages over (side self.old cpu.old)) }
     {
         let _number = cpu.number(); // For the clauses.
         let _tree = self.charges.tree(); // For the clauses.
