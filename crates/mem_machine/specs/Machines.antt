@@ -1,6 +1,6 @@
 -- What a contract sees of the machine, and what always holds of it.
 use Rattle.std.specs.Prelude.{◌≡◌, ◌≢◌, ℕ, ◌+◌, ◌<◌, ◌≤◌, ◌==◌, Bool, false, Option, Some, None}
-use Rattle.std.specs.Prelude.{is_some, IfSome, List, [], length, replicate, slice_set, if◌then◌else◌}
+use Rattle.std.specs.Prelude.{is_some, IfSome, List, [], ◌∷◌, length, replicate, slice_set, if◌then◌else◌}
 use Rattle.std.specs.List.{slice_index_or}
 use Rattle.zone_blocks.specs.declared.block.Block.{Block}
 use Rattle.zone_blocks.specs.Areas.{AreMaximalBlocks}
@@ -189,6 +189,12 @@ side machine cpu = record { machine = machine; cpu = cpu }
 pub record SideStays (before after : Side) : Type 0 where
   pub machine : after.machine ≡ before.machine
   pub cpu : after.cpu ≡ before.cpu
+
+-- the same is done with each of these frames, one after the other, in this order
+abbrev pub OneByOne : (ℕ → Side → Side → Type 0) → List ℕ → Side → Side → Type 0
+OneByOne IsDone [] before after = SideStays before after
+OneByOne IsDone (frame ∷ rest) before after =
+    (mid : Side) × IsDone frame before mid × OneByOne IsDone rest mid after
 
 -- The processor is visited: its visit was opened and not shut yet, no frame passes between it and the zone, and what is
 -- lent to it are its listed and fresh frames

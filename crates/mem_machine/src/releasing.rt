@@ -47,7 +47,8 @@ pub(crate) fn leave_list(links: &mut Links, lists: &mut Vec<Lru>, head: u32)
 
 impl<N: BootName> Machine<N> {
     /// Takes a kept unit off its list, and gives up the zone's reference on it. Where that was the last one, the unit
-    /// comes back. The unit goes by its head, which stands on a list of its group. It may be called in any processor's visit.
+    /// comes back. The unit goes by its head, which stands on a list of its group. It may be called in any processor's
+    /// visit.
     pub fn let_go(&mut self, tables: &Tables<N>, head: Frame) -> Released
         requires frame { head < N.frames.frames }
         requires kept { HeadsKeptUnit self.old head }
