@@ -87,10 +87,23 @@ home_of links frame = (link_at links frame).home
 abbrev pub HeadsKeptUnit : KnownMachine → ℕ → Type 0
 HeadsKeptUnit machine frame = home_of machine.links frame ≢ None
 
+-- The lists of all groups: the records through which the units are linked, and by number the two lists of each group
+pub record GroupLists : Type 0 where
+  pub links : List Link
+  pub lists : List Lru
+
+-- these records, and these lists
+abbrev pub group_lists : List Link → List Lru → GroupLists
+group_lists links lists = record { links = links; lists = lists }
+
+-- the lists of all groups of the machine
+abbrev pub lists_of : KnownMachine → GroupLists
+lists_of machine = group_lists machine.links machine.lists
+
 -- the lists of all groups but this one stand as they stood: the same units in the same order, with their marks and dirt
-abbrev pub OthersStay : ℕ → List Link → List Lru → List Link → List Lru → Type 0
-OthersStay group before old after new = (other : ℕ) (list : LruList) → other < MAX_GROUPS → other ≢ group
-    → entries_of after (lists_at new other) list ≡ entries_of before (lists_at old other) list
+abbrev pub OthersStay : ℕ → GroupLists → GroupLists → Type 0
+OthersStay group before after = (other : ℕ) (list : LruList) → other < MAX_GROUPS → other ≢ group
+    → entries_of after.links (lists_at after.lists other) list ≡ entries_of before.links (lists_at before.lists other) list
 
 -- each frame on no list has the record that it had, mark and dirt included
 abbrev pub LooseStay : List Link → List Link → Type 0

@@ -2,7 +2,7 @@
 
 ghost use Rattle.std.specs.Prelude.{◌≡◌, ◌≢◌, ◌<◌, None, IfSome, length};
 ghost use Rattle.group_tree.specs.declared.group.TheConstants.{MAX_GROUPS};
-ghost use Rattle.mem_machine.specs.Machines.{AreGroupLists, HeadsKeptUnit, StaysVisited, Visits, home_of};
+ghost use Rattle.mem_machine.specs.Machines.{AreGroupLists, HeadsKeptUnit, StaysVisited, Visits, home_of, group_lists};
 ghost use Rattle.mem_machine.specs.Releasing.{LeavesList, Releases, release_steps};
 ghost use Rattle.mem_machine.specs.Local.{Makes, MakesForAny, side};
 
@@ -31,7 +31,7 @@ pub(crate) fn leave_list(links: &mut Links, lists: &mut Vec<Lru>, head: u32)
     requires kept { home_of links.old head ≢ None }
     requires owner { IfSome (home_of links.old head) (λ home. home.owner < MAX_GROUPS) }
     requires lists { AreGroupLists links.old lists.old.items }
-    ensures leaves { LeavesList head links.old lists.old.items links.new lists.new.items }
+    ensures leaves { LeavesList head (group_lists links.old lists.old.items) (group_lists links.new lists.new.items) }
     ensures lists { AreGroupLists links.new lists.new.items }
     ensures frames { length links.new ≡ length links.old }
 {
