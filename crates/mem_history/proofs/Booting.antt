@@ -71,7 +71,7 @@ a_boot_is_shown t w m cpus boot = record {
   count = boot.count;
   each = λ k c at. subst (λ (x : KnownCpu). IsSeenAt t m (at_boot (zone_of t)) k x) (sym (boot.each k c at)) (record {
     number = refl;
-    sees = boot_seen t w m boot.first k;
+    sees = boot_seen t w m boot.machine k;
   });
 }
 

@@ -1,6 +1,6 @@
 -- Where the whole begins, and what holds wherever a run shows it.
-use Rattle.std.specs.Prelude.{◌≡◌, ℕ, ◌+◌, ◌≤◌, nat_le, zero, suc, Option, Some, None, List, [], ◌∷◌, length, slice_get}
-use Rattle.std.specs.Prelude.{if◌then◌else◌}
+use Rattle.std.specs.Prelude.{◌≡◌, ℕ, ◌+◌, ◌≤◌, nat_le, zero, suc, Option, Some, None, List, [], ◌∷◌}
+use Rattle.std.specs.Prelude.{length, slice_get, if◌then◌else◌}
 use Rattle.std.specs.Option.{option_map_or}
 use Rattle.frame_word.specs.Seats.{KnownTable, first_cpu_view}
 use Rattle.stock_word.specs.Stock.{Words, account_of, first_processor, group_of}
@@ -22,27 +22,28 @@ use Rattle.mem_machine.specs.Steps.{cpu_makes}
 use Rattle.mem_history.specs.Whole.{ShowsAll}
 
 -- ---- a new boot
+
 -- the machine of a new boot, and the parts of its processors, in order, none of which did anything
-pub record IsNewBoot (table : KnownTable) (words : Words) (machine : KnownMachine) (cpus : List KnownCpu) : Type 0 where
-  pub first : IsFirst table words machine
+pub record IsNewBoot (table : KnownTable) (words : Words) (first : KnownMachine) (cpus : List KnownCpu) : Type 0 where
+  pub machine : IsFirst table words first
   pub count : length cpus ≡ table.cpus
-  pub each : (index : ℕ) (cpu : KnownCpu) → slice_get cpus index ≡ Some cpu →
-      cpu ≡ first_cpu (record { table = table.table; view = first_cpu_view (suc index) })
+  pub each : (index : ℕ) (cpu : KnownCpu) → slice_get cpus index ≡ Some cpu
+      → cpu ≡ first_cpu (record { table = table.table; view = first_cpu_view (suc index) })
       (record { table = words.table; view = first_processor (suc index) })
 
 -- a new boot shows the run of no step
 abbrev pub ABootIsShown : Type 0
-ABootIsShown = (table : KnownTable) (words : Words) (machine : KnownMachine) (cpus : List KnownCpu)
-    → IsNewBoot table words machine cpus → ShowsAll table [] machine cpus
+ABootIsShown = (table : KnownTable) (words : Words) (first : KnownMachine) (cpus : List KnownCpu)
+    → IsNewBoot table words first cpus → ShowsAll table [] first cpus
 
 -- so the run of one Lock shows the first processor that takes it the machine of the new boot
 abbrev pub TheFirstHolderIsShown : Type 0
-TheFirstHolderIsShown =
-    (table : KnownTable) (words : Words) (machine : KnownMachine) (cpus : List KnownCpu) (index : ℕ) (cpu : KnownCpu)
-    → IsNewBoot table words machine cpus → slice_get cpus index ≡ Some cpu
-    → Shows table (cpu_makes cpu.number Lock Done ∷ []) (side machine cpu)
+TheFirstHolderIsShown = (table : KnownTable) (words : Words) (first : KnownMachine) (cpus : List KnownCpu) (index : ℕ)
+    (cpu : KnownCpu) → IsNewBoot table words first cpus → slice_get cpus index ≡ Some cpu
+    → Shows table (cpu_makes cpu.number Lock Done ∷ []) (side first cpu)
 
 -- ---- what always holds of the parts
+
 -- of each part, by its type: its lists and pins are what its seats know, and one that never saw a stock has no fresh
 -- frame
 pub record IsTiedPart (table : KnownTable) (words : Words) (cpu : KnownCpu) : Type 0 where
@@ -55,17 +56,19 @@ AreTied table words cpus =
     (index : ℕ) (cpu : KnownCpu) → slice_get cpus index ≡ Some cpu → IsTiedPart table words cpu
 
 -- ---- memory.current
+
 -- wherever a run shows the whole, the ledger's number for a group is the frames that the group and those below it keep,
 -- and the pages prepaid for them
 abbrev pub CurrentIsKept : Type 0
 CurrentIsKept = (table : KnownTable) (words : Words) (run : Run) (machine : KnownMachine) (cpus : List KnownCpu)
     → ShowsAll table run machine cpus → IsConsistent table words machine → AreCharges machine.ledger
     → AreTied table words cpus → 1 ≤ table.cpus → (group : ℕ)
-    → current_of machine.ledger group ≡
-    frames_kept (state_of (zone_of table) run).groups (state_of (zone_of table) run).phases table.frames group
+    → current_of machine.ledger group
+    ≡ frames_kept (state_of (zone_of table) run).groups (state_of (zone_of table) run).phases table.frames group
     + pages_prepaid (state_of (zone_of table) run).groups (state_of (zone_of table) run).parts table.cpus group
 
 -- ---- the promise
+
 -- the listed and the fresh frames of the processor of this number, by its part; number 0 is nobody's
 abbrev pub list_by : List KnownCpu → ℕ → List ℕ
 list_by cpus zero = []

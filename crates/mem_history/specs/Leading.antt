@@ -7,7 +7,6 @@ use Rattle.frame_word.specs.declared.answers.Put.TheVariants as put
 use Rattle.stock_word.specs.Stock.{Words}
 use Rattle.cpu_part.specs.declared.answers.Fast.TheVariants.{Got}
 use Rattle.cpu_part.specs.declared.answers.Dropped.TheVariants.{Listed}
-use Rattle.cpu_part.specs.declared.cpu.TheConstants.{MOST_PINS}
 use Rattle.cpu_part.specs.Cpus.{KnownCpu, IsTied, times}
 use Rattle.cpu_part.specs.Calls.{FastAnswers, DropAnswers, PinAnswers, UnpinAnswers}
 use Rattle.step_rules.specs.declared.step.Action.TheVariants.{Get, Put, Consume, Credit}
@@ -24,7 +23,7 @@ abbrev pub put_answer : Putted → Answer
 put_answer (put.Left left) = Left left
 put_answer put.Last = Last
 
--- the run shows the whole, and this is its part at the index, which its seats know
+-- the run shows the whole, and this is its part at this index, which its seats know
 pub record IsPart (table : KnownTable) (words : Words) (run : Run) (machine : KnownMachine) (cpus : List KnownCpu)
     (index : ℕ) (cpu : KnownCpu) : Type 0 where
   pub shows : ShowsAll table run machine cpus
@@ -35,27 +34,21 @@ pub record IsPart (table : KnownTable) (words : Words) (run : Run) (machine : Kn
 -- so is a put; so is a fast allocation that gets a frame, a Consume, and a fresh frame that is listed again, a Credit,
 -- where the stock is one that pays, as all parts decide
 pub record FastCallsLead : Type 0 where
-  pub held :
-      (table : KnownTable) (words : Words) (run : Run) (machine : KnownMachine) (cpus : List KnownCpu) (index : ℕ)
-      (before after : KnownCpu) → IsPart table words run machine cpus index before
-      → (frame : ℕ) → frame < table.frames → length before.back + length before.pins < MOST_PINS
-      → PinAnswers frame get.Held before after
-      → Makes table (side machine before) (cpu_makes before.number (Get frame) Held ∷ []) (side machine after)
-  pub putted :
-      (table : KnownTable) (words : Words) (run : Run) (machine : KnownMachine) (cpus : List KnownCpu) (index : ℕ)
-      (before after : KnownCpu) → IsPart table words run machine cpus index before
-      → (frame : ℕ) (answer : Putted) → UnpinAnswers frame answer before after
-      → Makes table (side machine before) (cpu_makes before.number (Put frame) (put_answer answer) ∷ [])
-      (side machine after)
-  pub got :
-      (table : KnownTable) (words : Words) (run : Run) (machine : KnownMachine) (cpus : List KnownCpu) (index : ℕ)
-      (before after : KnownCpu) → IsPart table words run machine cpus index before
-      → (group frame : ℕ) → FastAnswers group (Got frame) before after
-      → AreDecided table cpus (side machine before) (cpu_makes before.number (Consume group) Took ∷ [])
-      → Makes table (side machine before) (cpu_makes before.number (Consume group) Took ∷ []) (side machine after)
-  pub listed :
-      (table : KnownTable) (words : Words) (run : Run) (machine : KnownMachine) (cpus : List KnownCpu) (index : ℕ)
-      (before after : KnownCpu) → IsPart table words run machine cpus index before
-      → (frame : ℕ) → 1 ≤ times frame before.fresh → DropAnswers frame Listed before after
-      → AreDecided table cpus (side machine before) (cpu_makes before.number (Credit frame) Back ∷ [])
-      → Makes table (side machine before) (cpu_makes before.number (Credit frame) Back ∷ []) (side machine after)
+  pub held : (table : KnownTable) (words : Words) (run : Run) (machine : KnownMachine) (cpus : List KnownCpu)
+      (index : ℕ) (cpu later : KnownCpu) → IsPart table words run machine cpus index cpu → (frame : ℕ)
+      → frame < table.frames → length cpu.back + length cpu.pins < 256 → PinAnswers frame get.Held cpu later
+      → Makes table (side machine cpu) (cpu_makes cpu.number (Get frame) Held ∷ []) (side machine later)
+  pub putted : (table : KnownTable) (words : Words) (run : Run) (machine : KnownMachine) (cpus : List KnownCpu)
+      (index : ℕ) (cpu later : KnownCpu) → IsPart table words run machine cpus index cpu → (frame : ℕ)
+      (answer : Putted) → UnpinAnswers frame answer cpu later
+      → Makes table (side machine cpu) (cpu_makes cpu.number (Put frame) (put_answer answer) ∷ []) (side machine later)
+  pub got : (table : KnownTable) (words : Words) (run : Run) (machine : KnownMachine) (cpus : List KnownCpu)
+      (index : ℕ) (cpu later : KnownCpu) → IsPart table words run machine cpus index cpu → (group frame : ℕ)
+      → FastAnswers group (Got frame) cpu later
+      → AreDecided table cpus (side machine cpu) (cpu_makes cpu.number (Consume group) Took ∷ [])
+      → Makes table (side machine cpu) (cpu_makes cpu.number (Consume group) Took ∷ []) (side machine later)
+  pub listed : (table : KnownTable) (words : Words) (run : Run) (machine : KnownMachine) (cpus : List KnownCpu)
+      (index : ℕ) (cpu later : KnownCpu) → IsPart table words run machine cpus index cpu → (frame : ℕ)
+      → 1 ≤ times frame cpu.fresh → DropAnswers frame Listed cpu later
+      → AreDecided table cpus (side machine cpu) (cpu_makes cpu.number (Credit frame) Back ∷ [])
+      → Makes table (side machine cpu) (cpu_makes cpu.number (Credit frame) Back ∷ []) (side machine later)

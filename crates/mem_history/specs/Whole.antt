@@ -1,6 +1,6 @@
 -- One run of which the machine and every processor's part are what it shows, and how a line carries it on.
-use Rattle.std.specs.Prelude.{◌≡◌, ℕ, ◌-◌, ◌==◌, zero, suc, Bool, true, false, Some, List, [], ◌∷◌, ◌++◌, length, take}
-use Rattle.std.specs.Prelude.{slice_get, slice_set, IfSome}
+use Rattle.std.specs.Prelude.{◌≡◌, ℕ, ◌-◌, ◌==◌, zero, suc, Bool, true, false, Some, List, [], ◌∷◌, ◌++◌}
+use Rattle.std.specs.Prelude.{length, take, slice_get, slice_set, IfSome}
 use Rattle.std.specs.Prelude.{fold, if◌then◌else◌}
 use Rattle.std.specs.Option.{option_map_or}
 use Rattle.frame_word.specs.Seats.{KnownTable, IsShut, holds}
@@ -24,10 +24,10 @@ use Rattle.mem_machine.specs.Steps.{cpu_makes}
 abbrev pub seen_by : ℕ → State → State
 seen_by processor state = hide processor (record state { hold = HeldBy processor })
 
--- the part at this index, from 0, is that of the processor after it, and what the machine shows this processor with it
--- is what it would see
-pub record IsSeenAt (table : KnownTable) (machine : KnownMachine) (state : State) (index : ℕ)
-    (cpu : KnownCpu) : Type 0 where
+-- the part at this index is that of the processor with the next number, and what the machine shows this processor with
+-- it is what it would see
+pub record IsSeenAt (table : KnownTable) (machine : KnownMachine) (state : State)
+    (index : ℕ) (cpu : KnownCpu) : Type 0 where
   pub number : cpu.number ≡ suc index
   pub sees : local_of table machine cpu ≡ seen_by cpu.number state
 
@@ -43,18 +43,18 @@ pub record ShowsAll (table : KnownTable) (run : Run) (machine : KnownMachine) (c
 -- where a run shows the whole, a processor that takes the lock next is shown the machine and its part, from which its
 -- calls then lead on
 abbrev pub TheHolderIsShown : Type 0
-TheHolderIsShown =
-    (table : KnownTable) (run : Run) (machine : KnownMachine) (cpus : List KnownCpu) (index : ℕ) (cpu : KnownCpu)
-    → ShowsAll table run machine cpus → slice_get cpus index ≡ Some cpu
+TheHolderIsShown = (table : KnownTable) (run : Run) (machine : KnownMachine) (cpus : List KnownCpu) (index : ℕ)
+    (cpu : KnownCpu) → ShowsAll table run machine cpus → slice_get cpus index ≡ Some cpu
     → Shows table (run ++ cpu_makes cpu.number Lock Done ∷ []) (side machine cpu)
 
 -- ---- what all parts decide together
--- the references of the processor on the frame, by its part; number 0 is nobody's
+
+-- the references of a processor on the frame, by its part; number 0 is nobody's
 abbrev pub references_by : List KnownCpu → ℕ → ℕ → ℕ
 references_by cpus zero frame = 0
 references_by cpus (suc index) frame = option_map_or (λ cpu. holds cpu.seat frame) (slice_get cpus index) 0
 
--- how many fresh frames the processor has, likewise
+-- how many fresh frames a processor has, by its part
 abbrev pub fresh_by : List KnownCpu → ℕ → ℕ
 fresh_by cpus zero = 0
 fresh_by cpus (suc index) = option_map_or (λ cpu. length cpu.fresh) (slice_get cpus index) 0
@@ -63,8 +63,8 @@ fresh_by cpus (suc index) = option_map_or (λ cpu. length cpu.fresh) (slice_get 
 -- aren't paid for their fresh frames
 abbrev pub seen_together : List KnownCpu → ℕ → State → State
 seen_together cpus processor local = record local {
-  references = λ other frame.
-      if is_own processor other then local.references other frame else references_by cpus other frame;
+  references = λ seat frame.
+      if is_own processor seat then local.references seat frame else references_by cpus seat frame;
   parts = λ other. if other == processor then local.parts other else record (local.parts other) {
     stock = record ((local.parts other).stock) { pages = (local.parts other).stock.pages - fresh_by cpus other };
   };
@@ -78,24 +78,24 @@ IsDecided state seat action answer = IsCounted state action answer
 
 -- the state after these steps
 abbrev pub state_after : State → Run → State
-state_after state steps = fold (λ now entry. after now entry.0.seat entry.0.action entry.1) state steps
+state_after state steps = fold (λ now made. after now made.0.seat made.0.action made.1) state steps
 
 -- of a list of steps by the processor and the zone's seat, which starts from this side: each answer of a Get, a Put, a
 -- Freeze, a drain, a Consume and a Credit is what all parts together decide where the step is made
 abbrev pub AreDecided : KnownTable → List KnownCpu → Side → Run → Type 0
-AreDecided table cpus before steps = (index : ℕ) → IfSome (slice_get steps index) (λ entry. IsDecided
+AreDecided table cpus before steps = (index : ℕ) → IfSome (slice_get steps index) (λ made. IsDecided
     (seen_together cpus before.cpu.number
-    (state_after (local_of table before.machine before.cpu) (take index steps)))
-    entry.0.seat entry.0.action entry.1)
+    (state_after (local_of table before.machine before.cpu) (take index steps))) made.0.seat made.0.action made.1)
 
 -- ---- a line under the lock
+
 -- the processor takes the lock, makes these steps with the zone's seat, and gives it back
 abbrev pub under_lock : ℕ → Run → Run
 under_lock processor steps = cpu_makes processor Lock Done ∷ (steps ++ cpu_makes processor Unlock Done ∷ [])
 
 -- the part at this index holds the lock and is served by these steps, which leave every visit shut
-pub record ServesAt (table : KnownTable) (cpus : List KnownCpu) (index : ℕ) (before : Side) (steps : Run)
-    (after : Side) : Type 0 where
+pub record ServesAt (table : KnownTable) (cpus : List KnownCpu) (index : ℕ)
+    (before : Side) (steps : Run) (after : Side) : Type 0 where
   pub is_part : slice_get cpus index ≡ Some before.cpu
   pub leads : Makes table before steps after
   pub decided : AreDecided table cpus before steps
@@ -103,12 +103,12 @@ pub record ServesAt (table : KnownTable) (cpus : List KnownCpu) (index : ℕ) (b
 
 -- where a run shows the whole, it goes on with the line, and shows the whole after it
 abbrev pub LinesFollow : Type 0
-LinesFollow =
-    (table : KnownTable) (run : Run) (cpus : List KnownCpu) (index : ℕ) (before : Side) (steps : Run) (after : Side)
-    → ShowsAll table run before.machine cpus → ServesAt table cpus index before steps after
+LinesFollow = (table : KnownTable) (run : Run) (cpus : List KnownCpu) (index : ℕ) (before : Side) (steps : Run)
+    (after : Side) → ShowsAll table run before.machine cpus → ServesAt table cpus index before steps after
     → ShowsAll table (run ++ under_lock before.cpu.number steps) after.machine (slice_set cpus index after.cpu)
 
 -- ---- a call that takes no lock
+
 -- the steps that a processor makes without the lock
 abbrev pub is_fast : Action → Bool
 is_fast (Get frame) = true
@@ -118,8 +118,8 @@ is_fast (Credit frame) = true
 is_fast _ = false
 
 -- the part at this index makes one such step, and what lies behind the lock stays
-pub record ServesFast (table : KnownTable) (cpus : List KnownCpu) (index : ℕ) (before : Side) (action : Action)
-    (answer : Answer) (after : Side) : Type 0 where
+pub record ServesFast (table : KnownTable) (cpus : List KnownCpu) (index : ℕ)
+    (before : Side) (action : Action) (answer : Answer) (after : Side) : Type 0 where
   pub is_part : slice_get cpus index ≡ Some before.cpu
   pub number : after.cpu.number ≡ before.cpu.number
   pub fast : is_fast action ≡ true
@@ -129,8 +129,8 @@ pub record ServesFast (table : KnownTable) (cpus : List KnownCpu) (index : ℕ) 
 
 -- where a run shows the whole, it goes on with that step, and shows the whole after it
 abbrev pub FastLinesFollow : Type 0
-FastLinesFollow = (table : KnownTable) (run : Run) (cpus : List KnownCpu) (index : ℕ)
-    (before : Side) (action : Action) (answer : Answer) (after : Side)
-    → ShowsAll table run before.machine cpus → ServesFast table cpus index before action answer after
-    → ShowsAll table (run ++ cpu_makes before.cpu.number action answer ∷ [])
-    after.machine (slice_set cpus index after.cpu)
+FastLinesFollow = (table : KnownTable) (run : Run) (cpus : List KnownCpu) (index : ℕ) (before : Side) (action : Action)
+    (answer : Answer) (after : Side) → ShowsAll table run before.machine cpus
+    → ServesFast table cpus index before action answer after
+    → ShowsAll table (run ++ cpu_makes before.cpu.number action answer ∷ []) after.machine
+    (slice_set cpus index after.cpu)
