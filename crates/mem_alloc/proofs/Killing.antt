@@ -1,5 +1,5 @@
 -- What kills keep, and kills one after the other. Serves `kill_for`, `make_room`, and those who call them.
-use Rattle.std.proofs.Common.{◌≡◌, ℕ, zero, suc, ◌+◌, ◌<◌, ◌≤◌, Bool, true, false, Option, Some, None, List, [], ◌∷◌, ◌++◌, map, refl, sym, ap, ◌∙◌}
+use Rattle.std.proofs.Common.{◌≡◌, ℕ, zero, suc, ◌<◌, ◌≤◌, Bool, true, false, Option, Some, None, List, [], ◌∷◌, ◌++◌, map, refl, sym, ap, ◌∙◌}
 use Rattle.std.proofs.Common.{subst, inl, inr, arith, cond, length}
 use Rattle.std.specs.Prelude.{set, slice_set}
 use Rattle.std.proofs.lemmas.Bool.{and_parts, cases_Bool, cases_lt, false≢true, not-true}
@@ -22,7 +22,7 @@ use Rattle.mem_reclaim.specs.Killing.{IsKilledBy, OnlyDrains, OnlyLetsGo}
 use Rattle.mem_reclaim.specs.Victim.{HasMostFrames, IsVictim}
 use Rattle.mem_reclaim.proofs.Choosing.{chosen_there}
 use Rattle.mem_alloc.specs.Stepping.{ByStepsOfAny, Rests, course}
-use Rattle.mem_alloc.specs.Kills.{IsWanting, KillsEach, KillsFor, KillsOne, KillsVictims, has_room_for, with_oom_noted_at}
+use Rattle.mem_alloc.specs.Kills.{IsWanting, KillsEach, KillsFor, KillsOne, has_room_for, with_oom_noted_at}
 use Rattle.mem_alloc.specs.Room.{KillsForFew, RelievesLimit}
 use Rattle.mem_alloc.proofs.Lowering.{Lowers, lowers_none, lowers_both, same_visit, clears_lower, keeps_lower, sum_less}
 use Rattle.mem_machine.proofs.Followed.{makes_both, makes_none}
@@ -90,9 +90,10 @@ few_lower t r g pages m n steps k = elim (cases_lt 8 pages) [
 pub relieves_lower : (t : KnownTable) (r g pages : ℕ) (m n : KnownMachine) (steps : Run) → RelievesLimit r g pages (course t m steps n)
     → Lowers t m n
 relieves_lower t r g pages m n steps h =
-    lowers_both t m h.cleared n (clears_lower t g pages m h.cleared h.clearing h.clears)
-    (lowers_both t h.cleared h.reclaimed n (keeps_lower t h.cleared h.reclaimed h.reclaims.keeps)
-    (few_lower t r g pages h.reclaimed n h.killing h.kills))
+    let x = h.between in
+    let y = h.second.between in
+    lowers_both t m x n (clears_lower t g pages m x h.earlier h.first)
+    (lowers_both t x y n (keeps_lower t x y h.second.first.keeps) (few_lower t r g pages y n h.second.later h.second.second))
 
 pub relieving_lowers : (t : KnownTable) (r g pages : ℕ) (m n : KnownMachine) → ByStepsOfAny t m n (RelievesLimit r g pages) → Lowers t m n
 relieving_lowers t r g pages m n b = relieves_lower t r g pages m n b.0 b.1

@@ -83,7 +83,7 @@ pub returns-else-has_room_at-clause-room : goal.returns-else-has_room_at-clause-
 returns-else-has_room_at-clause-room g c = (
   refl,
   record {
-    still = ap (λ (l : Ledger). has_room_for l c.args.group c.args.pages) (sym c.charges.ensures) ∙ sym c.has_room_at.ensures ∙ c.if-has_room_at.false;
+    over = ap (λ (l : Ledger). has_room_for l c.args.group c.args.pages) (sym c.charges.ensures) ∙ sym c.has_room_at.ensures ∙ c.if-has_room_at.false;
     alive = sym c.is_killed.ensures ∙ c.if-is_killed.false;
   },
 )
