@@ -19,13 +19,13 @@ use Rattle.mem_alloc.specs.Frames.{ForLiving, RefusesKilled}
 
 -- the group is charged for a free block, and has it
 pub record TakesFreeBlock (group order head : ℕ) (way : Course Side) : Type 0 where
-  pub takes : TakesBlock way.before.machine group order head way.after.machine
+  pub takes : TakesBlock group order head way.before.machine way.after.machine
   pub cpu : way.after.cpu ≡ way.before.cpu
   pub steps_are : way.steps ≡ taken_steps group order head
 
 -- no block is free: the pages were charged, and go back
 pub record FindsNoBlock (group order : ℕ) (way : Course Side) : Type 0 where
-  pub none : TakesNoBlock way.before.machine group order way.after.machine
+  pub none : TakesNoBlock group order way.before.machine way.after.machine
   pub cpu : way.after.cpu ≡ way.before.cpu
   pub steps_are : way.steps ≡ unplaced_steps group order
 

@@ -40,7 +40,7 @@ ChargesFrame sizes group (Err cause) way = LacksBatch sizes group (ChargesOne gr
 -- the processor's own stock is drained, of `drained` pages, which go back to their group
 pub record DrainsStock (way : Course Side) : Type 0 where
   pub drained : ℕ
-  pub drains : Drains way.before.machine way.before.cpu.number drained way.after.machine
+  pub drains : Drains way.before.cpu.number drained way.before.machine way.after.machine
   pub cpu : way.after.cpu ≡ way.before.cpu
   pub runs : Makes way.table way.before way.steps way.after
   pub steps_are : way.steps

@@ -15,10 +15,10 @@ returns-in_default-clause-charges g c =
 
 pub fill_one-requires-clause-may_charge : goal.fill_one-requires-clause-may_charge
 fill_one-requires-clause-may_charge g c =
-    subst (λ (y : KnownMachine). MayCharge y c.args.group 1) (sym c.in-Err.ensures.unchanged.0)
+    subst (λ (y : KnownMachine). MayCharge y c.args.group 1) (sym c.in-Err.ensures.unchanged.machine)
     (record { there = c.requires.there; alive = c.requires.alive; fits = c.see_room.ensures.room 1 (omega arith) })
 
 pub returns-clause-charges : goal.returns-clause-charges
 returns-clause-charges g c =
-    one_charged g.N.BootName.frames c.args.sizes c.args.group c.in-Err._batch.group _ _ _ _ _ _ c.in-Err.ensures.unchanged.0
-    c.in-Err.ensures.unchanged.1 c.in-Err.ensures.over c.in-Err.ensures.refused c.fill_one.result c.fill_one.ensures.charges
+    one_charged g.N.BootName.frames c.args.sizes c.args.group c.in-Err._batch.group _ _ _ _ _ _ c.in-Err.ensures.unchanged.machine
+    c.in-Err.ensures.unchanged.cpu c.in-Err.ensures.over c.in-Err.ensures.refused c.fill_one.result c.fill_one.ensures.charges
