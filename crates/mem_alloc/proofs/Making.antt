@@ -15,6 +15,7 @@ use Rattle.mem_machine.specs.Local.{MakesForAny, Side, side, MakesAs}
 use Rattle.mem_machine.specs.Steps.{over_steps, note_max_steps, drain_stocks_steps, fill_steps}
 use Rattle.mem_machine.specs.Stocks.{Fills, DrainsSubtree, DrainsAllBelow, AreDrained}
 use Rattle.mem_alloc.specs.Stepping.{BySteps, ByStepsOfAny, Course, course}
+use Rattle.mem_reclaim.specs.Wanted.{progress}
 use Rattle.mem_reclaim.specs.Moves.{Leads}
 use Rattle.mem_reclaim.specs.Rounds.{MakesRounds, pages_missing}
 use Rattle.mem_reclaim.specs.Staying.{Keeps, MissedAll}
@@ -89,7 +90,7 @@ no_rounds t g pages m none = (
   [],
   record {
     given = 0;
-    reclaims = subst (λ (o : Option ℕ). ReclaimsBefore o g pages 0 m [] m) (sym none) (record { no_page = refl; machine = refl; no_step = refl });
+    reclaims = subst (λ (o : Option ℕ). ReclaimsBefore o g pages (progress 0 m [] m)) (sym none) (record { no_page = refl; machine = refl; no_step = refl });
     missed = λ over. absurd (false≢true (sym over ∙ ap (λ (o : Option ℕ). fits_limit o (current_of m.ledger g + pages)) none));
     keeps = keeps_none t m;
     moves = moves_rest t m;
@@ -105,7 +106,7 @@ rounds_for t g pages limit given m n is leads keeps missed = (
   leads.steps,
   record {
     given = given;
-    reclaims = subst (λ (o : Option ℕ). ReclaimsBefore o g pages given m leads.steps n) (sym is) leads.does;
+    reclaims = subst (λ (o : Option ℕ). ReclaimsBefore o g pages (progress given m leads.steps n)) (sym is) leads.does;
     missed = λ over.
         let here : limit_of n.ledger.groups g ≡ Some limit = ap (λ (x : List Group). limit_of x g) keeps.groups ∙ is in
         let full : nat_le (current_of n.ledger g + pages) limit ≡ false =

@@ -233,7 +233,7 @@ abbrev pub RashFree : KnownTable → (List Group → ℕ → ℕ → Type 0) →
 RashFree t MayAsk start c made steps =
     (before rest : Run) (e : Step × Answer) (victim : ℕ) → steps ≡ before ++ e ∷ rest → e.0.action ≡ Kill victim
     → (now : KnownMachine) × IsLocalRun c.number (local_of t start c) (made ++ before) (local_of t now c)
-    × MayKill t MayAsk start (made ++ before) now victim
+    × MayKill MayAsk (course t start (made ++ before) now) victim
 
 module _ (t : KnownTable) (MayAsk : List Group → ℕ → ℕ → Type 0) (s : KnownMachine) (c : KnownCpu) where
   pub rash_quiet : (made steps : Run) → has_kill steps ≡ false → RashFree t MayAsk s c made steps
@@ -247,19 +247,19 @@ module _ (t : KnownTable) (MayAsk : List Group → ℕ → ℕ → Type 0) (s : 
     | inr there ↦
         let same : (made ++ one) ++ there.0 ≡ made ++ before =
         append_assoc made one there.0 ∙ ap (λ (r : Run). made ++ r) (sym there.1) in
-        subst (λ (done : Run). (now : KnownMachine) × IsLocalRun c.number (local_of t s c) done (local_of t now c) × MayKill t MayAsk s done now v) same
+        subst (λ (done : Run). (now : KnownMachine) × IsLocalRun c.number (local_of t s c) done (local_of t now c) × MayKill MayAsk (course t s done now) v) same
         (last there.0 rest e v there.2 kill)
   ]
 
   -- a kill, and then steps without one
   pub rash_kill : (made later : Run) (m : KnownMachine) (v : ℕ) → IsLocalRun c.number (local_of t s c) made (local_of t m c)
-      → MayKill t MayAsk s made m v → has_kill later ≡ false → RashFree t MayAsk s c made (kill_steps v ++ later)
+      → MayKill MayAsk (course t s made m) v → has_kill later ≡ false → RashFree t MayAsk s c made (kill_steps v ++ later)
   rash_kill made later m v runs may quiet before rest e u is kill = elim (stands_in (kill_steps v) later before rest e is) [
     | inl here ↦
         let only = only_one (record { seat = 0; action = Kill v }, Done) before here.0 e here.1 in
         let who : v ≡ u = same_victim v u (ap (λ (x : Step × Answer). x.0.action) only.1 ∙ kill) in
         let done : made ≡ made ++ before = sym (append-nil made) ∙ ap (λ (r : Run). made ++ r) (sym only.0) in
-        subst (λ (z : Run × ℕ). (now : KnownMachine) × IsLocalRun c.number (local_of t s c) z.0 (local_of t now c) × MayKill t MayAsk s z.0 now z.1)
+        subst (λ (z : Run × ℕ). (now : KnownMachine) × IsLocalRun c.number (local_of t s c) z.0 (local_of t now c) × MayKill MayAsk (course t s z.0 now) z.1)
         (λ i. (done i, who i)) (m, runs, may)
     | inr there ↦ absurd (false≢true (sym quiet ∙ ap has_kill there.2 ∙ kills_there there.0 rest e u kill))
   ]
@@ -353,7 +353,7 @@ module _ (t : KnownTable) (MayAsk : List Group → ℕ → ℕ → Type 0) (s : 
       }
 
   may_kill : (r : Option ℕ) (g pages v : ℕ) (made : Run) (m : KnownMachine) (steps : Run) (n : KnownMachine) → MayAsk m.ledger.groups g pages
-      → Ready g made m → KillsOne r g pages v (course t m steps n) → MayKill t MayAsk s made m v
+      → Ready g made m → KillsOne r g pages v (course t m steps n) → MayKill MayAsk (course t s made m) v
   may_kill r g pages v made m steps n asked ready one = record {
     limited = g;
     need = pages;

@@ -11,7 +11,7 @@ use Rattle.mem_machine.specs.Machines.{KnownMachine, LacksRoom, is_killed}
 use Rattle.mem_machine.specs.Local.{MakesForAny, Side, side}
 use Rattle.mem_machine.specs.Steps.{Drain, over_steps, note_max_steps, drain_stocks_steps}
 use Rattle.mem_machine.specs.Stocks.{DrainsAllBelow, AreDrained}
-use Rattle.mem_reclaim.specs.Wanted.{GivesNothing, Reclaiming}
+use Rattle.mem_reclaim.specs.Wanted.{GivesNothing, Reclaiming, progress}
 use Rattle.mem_reclaim.specs.Moves.{Moves}
 use Rattle.mem_reclaim.specs.Rounds.{MakesRounds, max_rounds, pages_missing}
 use Rattle.mem_reclaim.specs.Staying.{Keeps, MissedAll}
@@ -60,7 +60,7 @@ ReclaimsBefore (Some limit) group pages = MakesRounds group (pages_missing group
 pub record ReclaimsFor (group pages : ℕ) (way : Course KnownMachine) : Type 0 where
   pub given : ℕ
   pub reclaims : ReclaimsBefore (limit_of way.before.ledger.groups group) group pages
-      given way.before way.steps way.after
+      (progress given way.before way.steps way.after)
   pub missed : has_room_for way.after.ledger group pages ≡ false → MissedAll group way.before way.after
   pub keeps : Keeps way.table way.before way.after
   pub moves : Moves way.table way.before given way.steps way.after

@@ -3,6 +3,7 @@ use Rattle.std.specs.Prelude.{◌≡◌, ℕ, zero, suc, ◌<◌, ◌≤◌, ◌
 use Rattle.step_rules.specs.After.{Run}
 use Rattle.mem_machine.specs.Machines.{KnownMachine}
 use Rattle.mem_machine.specs.Local.{Side, side}
+use Rattle.mem_reclaim.specs.Wanted.{progress}
 use Rattle.mem_reclaim.specs.Moves.{Moves}
 use Rattle.mem_reclaim.specs.Passes.{Reclaims}
 use Rattle.mem_reclaim.specs.Staying.{Keeps, MissedAll}
@@ -15,7 +16,7 @@ pub record MakesRound (want given : ℕ) (Tries : Course Side → Type 0) (way :
   pub reclaimed : KnownMachine
   pub reclaiming : Run
   pub trying : Run
-  pub reclaims : Reclaims 0 want given way.before.machine reclaiming reclaimed
+  pub reclaims : Reclaims 0 want (progress given way.before.machine reclaiming reclaimed)
   pub missed : given < want → MissedAll 0 way.before.machine reclaimed
   pub keeps : Keeps way.table way.before.machine reclaimed
   pub moves : Moves way.table way.before.machine given reclaiming reclaimed

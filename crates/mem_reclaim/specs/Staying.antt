@@ -46,9 +46,9 @@ UsageFalls group pages before after =
 
 -- a freeze of the frame missed in between, if it heads a clean unit that is still kept on this list
 abbrev pub IsMissed : KnownMachine → KnownMachine → ℕ → Home → Type 0
-IsMissed before after f home =
-    home_of after.links f ≡ Some home → (link_at after.links f).is_dirty ≡ false
-    → misses_of before.seat f < misses_of after.seat f
+IsMissed before after frame home =
+    home_of after.links frame ≡ Some home → (link_at after.links frame).is_dirty ≡ false
+    → misses_of before.seat frame < misses_of after.seat frame
 
 -- a freeze of each clean unit that still stands on this list of the group missed in between
 abbrev pub MissedOnList : ℕ → LruList → KnownMachine → KnownMachine → Type 0
