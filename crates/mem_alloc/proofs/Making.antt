@@ -1,10 +1,9 @@
 -- Charges that are refused, one after the other. Serves the loops of `fill_one` and `charge_block`.
-use Rattle.std.proofs.Common.{◌≡◌, ℕ, ◌+◌, ◌<◌, ◌≤◌, false, Option, Some, None, List, [], ◌∷◌, ◌++◌, refl, sym, ap, ◌∙◌, subst, arith}
-use Rattle.std.specs.Prelude.{Result, Ok, Err, IsErr, IfErr, IfOk, MatchResult, nat_le}
-use Rattle.std.proofs.lemmas.Bool.{false≢true, leb-false}
+use Rattle.std.proofs.Common.{◌≡◌, ℕ, ◌+◌, false, Option, None, List, [], ◌∷◌, ◌++◌, refl, sym, ap, ◌∙◌, subst}
+use Rattle.std.specs.Prelude.{Result, Ok, Err, IsErr, IfErr, IfOk, MatchResult}
+use Rattle.std.proofs.lemmas.Bool.{false≢true}
 use Rattle.std.proofs.lemmas.List.{append_assoc, append-nil}
 use Rattle.frame_word.specs.Seats.{KnownTable}
-use Rattle.group_tree.specs.declared.group.Group.{Group}
 use Rattle.group_tree.specs.Groups.{limit_of}
 use Rattle.group_tree.specs.Room.{IsLowestOver, fits_limit}
 use Rattle.group_charge.specs.Charges.{current_of, with_max_noted}
@@ -16,12 +15,8 @@ use Rattle.mem_machine.specs.Steps.{over_steps, note_max_steps, drain_stocks_ste
 use Rattle.mem_machine.specs.Stocks.{Fills, DrainsSubtree, DrainsAllBelow, AreDrained}
 use Rattle.mem_alloc.specs.Stepping.{BySteps, ByStepsOfAny, Course, course}
 use Rattle.mem_reclaim.specs.Wanted.{progress}
-use Rattle.mem_reclaim.specs.Moves.{Leads}
-use Rattle.mem_reclaim.specs.Rounds.{MakesRounds, pages_missing}
-use Rattle.mem_reclaim.specs.Staying.{Keeps, MissedAll}
 use Rattle.mem_reclaim.proofs.Keeping.{keeps_none}
 use Rattle.mem_reclaim.proofs.Moving.{moves_rest}
-use Rattle.mem_alloc.specs.Kills.{KillsFor}
 use Rattle.mem_alloc.specs.Room.{AfterRoom, ClearsBelow, HasMadeRoom, IsRefusedAt, IsRefusedFor, KillsForFew, MakesRoom, ReclaimsBefore, ReclaimsFor, RelievesLimit, TellsRoom}
 use Rattle.mem_alloc.specs.Room.{with_limit_noted, with_max_noted_at}
 use Rattle.mem_alloc.specs.declared.faults.AllocFault.{AllocFault}
@@ -71,19 +66,6 @@ relieves_by t r g pages m x y n first next last = (
       (makes_both t c.number next.0 last.0 (side x c) (side y c) (side n c) (next.2 c) (last.2 c)),
 )
 
--- victims are killed for few pages
-pub kills_few : (t : KnownTable) (r g pages : ℕ) (m n : KnownMachine) → pages ≤ 8 → ByStepsOfAny t m n (KillsFor (Some r) g pages)
-    → ByStepsOfAny t m n (KillsForFew r g pages)
-kills_few t r g pages m n few b = (b.0, record { few = λ _. b.1; many = λ many. absurd (omega (arith, few, many)) }, b.2)
-
--- and nobody for more
-pub kills_nobody : (t : KnownTable) (r g pages : ℕ) (m : KnownMachine) → 8 < pages → ByStepsOfAny t m m (KillsForFew r g pages)
-kills_nobody t r g pages m many = (
-  [],
-  record { few = λ few. absurd (omega (arith, few, many)); many = λ _. record { machine = refl; steps_are = refl } },
-  λ c. makes_none t c.number (side m c),
-)
-
 -- there is no limit
 pub no_rounds : (t : KnownTable) (g pages : ℕ) (m : KnownMachine) → limit_of m.ledger.groups g ≡ None → ByStepsOfAny t m m (ReclaimsFor g pages)
 no_rounds t g pages m none = (
@@ -96,26 +78,6 @@ no_rounds t g pages m none = (
     moves = moves_rest t m;
   },
   λ c. makes_none t c.number (side m c),
-)
-
--- there is one
-pub rounds_for : (t : KnownTable) (g pages limit given : ℕ) (m n : KnownMachine) → limit_of m.ledger.groups g ≡ Some limit
-    → Leads t given m n (MakesRounds g (pages_missing g pages limit) 16) → Keeps t m n
-    → (limit < current_of n.ledger g + pages → MissedAll g m n) → ByStepsOfAny t m n (ReclaimsFor g pages)
-rounds_for t g pages limit given m n is leads keeps missed = (
-  leads.steps,
-  record {
-    given = given;
-    reclaims = subst (λ (o : Option ℕ). ReclaimsBefore o g pages (progress given m leads.steps n)) (sym is) leads.does;
-    missed = λ over.
-        let here : limit_of n.ledger.groups g ≡ Some limit = ap (λ (x : List Group). limit_of x g) keeps.groups ∙ is in
-        let full : nat_le (current_of n.ledger g + pages) limit ≡ false =
-        sym (ap (λ (o : Option ℕ). fits_limit o (current_of n.ledger g + pages)) here) ∙ over in
-        missed (let ne = leb-false (current_of n.ledger g + pages) limit full in omega (arith, ne));
-    keeps = keeps;
-    moves = leads.moves;
-  },
-  leads.moves.runs,
 )
 
 -- charges that were refused, and then one more
@@ -212,9 +174,6 @@ module _ (t : KnownTable) (g pages : ℕ) (c : KnownCpu) (m x : KnownMachine) (s
       },
       runs_on,
     )
-
-    pub lowers_here : Lowers t x n
-    lowers_here = relieving_lowers t g over pages x n its
 
   -- this is done by steps of its own, now that there is room
   pub so_far_does : (Does : Course Side → Type 0) (n : KnownMachine) (d : KnownCpu) → BySteps t (side x c) (side n d) Does

@@ -17,7 +17,7 @@ use Rattle.mem_reclaim.proofs.LettingGo.{AreQuiet, misses_put, quiet_both, quiet
 use Rattle.mem_alloc.specs.declared.faults.AllocFault.{AllocFault}
 use Rattle.mem_alloc.specs.declared.faults.AllocFault.TheVariants.{Over, NoFrames, Killed}
 use Rattle.mem_alloc.specs.Stepping.{CountsMisses, Course, InTurn, OfMachineAlone, Stays, Where, course, of_machine}
-use Rattle.mem_alloc.specs.Kills.{KillsEach, KillsFor, KillsOne, has_room_for, with_oom_noted_at}
+use Rattle.mem_alloc.specs.Kills.{KillsEach, KillsFor, KillsOne, has_room_at, with_oom_noted_at}
 use Rattle.mem_alloc.specs.Room.{AfterRoom, ClearsBelow, IsRefusedAt, IsRefusedFor, IsRefusedOnce, KillsForFew, MakesRoom, RelievesLimit, with_max_noted_at}
 use Rattle.mem_alloc.specs.Charging.{ChargesAfterDrain, ChargesFrame, ChargesOne, DrainsStock, FillsStock, LacksBatch, PaysForFrame}
 use Rattle.mem_alloc.specs.Rounds.{FailsInRounds, GivesInRound, MakesRound, SucceedsInRounds}
@@ -91,7 +91,7 @@ counts_each r t g pages (v ∷ later) m n steps h =
 
 pub counts_kills : (r : Option ℕ) (t : KnownTable) (g pages : ℕ) (m n : KnownMachine) (steps : Run) → KillsFor r g pages (course t m steps n)
     → CountsMisses (course t m steps n)
-counts_kills r t g pages m n steps k = elim (cases_Bool (has_room_for m.ledger g pages)) [
+counts_kills r t g pages m n steps k = elim (cases_Bool (has_room_at m.ledger g pages)) [
   | inl room ↦ counts_rest t m n steps (k.room room).machine (k.room room).steps_are
   | inr over ↦
       let h = k.over over in

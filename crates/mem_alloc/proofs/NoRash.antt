@@ -34,7 +34,7 @@ use Rattle.mem_reclaim.specs.Staying.{Keeps, MissedAll}
 use Rattle.mem_reclaim.specs.Killing.{IsKilledBy, OnlyDrains, OnlyLetsGo}
 use Rattle.mem_reclaim.proofs.LettingGo.{AreQuiet, quiet_both, quiet_drains}
 use Rattle.mem_alloc.specs.Stepping.{Course, OfMachineAlone, Rests, course}
-use Rattle.mem_alloc.specs.Kills.{KillsEach, KillsFor, KillsOne, KillsVictims, has_room_for, with_oom_noted_at}
+use Rattle.mem_alloc.specs.Kills.{KillsEach, KillsFor, KillsOne, KillsUntilRoom, has_room_at, with_oom_noted_at}
 use Rattle.mem_alloc.specs.Room.{AfterRoom, ClearsBelow, IsRefusedAt, IsRefusedFor, IsRefusedOnce, KillsForFew, MakesRoom, ReclaimsFor, RelievesLimit}
 use Rattle.mem_alloc.specs.Room.{with_max_noted_at}
 use Rattle.mem_alloc.specs.declared.faults.AllocFault.{AllocFault}
@@ -393,7 +393,7 @@ module _ (t : KnownTable) (MayAsk : List Group → ℕ → ℕ → Type 0) (s : 
 
   -- where everything was tried, and what is noted then is one more `oom`
   tame_victims : (r : Option ℕ) (g pages : ℕ) (made : Run) (m : KnownMachine) (steps : Run) (n : KnownMachine) → MayAsk m.ledger.groups g pages
-      → Passes t c s made m → AreDrained g t.cpus m → MissedAll g s m → KillsVictims r g pages (course t m steps n) → Tame made m steps n
+      → Passes t c s made m → AreDrained g t.cpus m → MissedAll g s m → KillsUntilRoom r g pages (course t m steps n) → Tame made m steps n
   tame_victims r g pages made m steps n asked since drained missed h =
       let x = with_oom_noted_at m g in
       let note = passes_same t c m x (note_oom_steps g) (h.notes c).leads refl refl (record { quiet = refl; no_miss = λ f. refl }) in
@@ -408,9 +408,9 @@ module _ (t : KnownTable) (MayAsk : List Group → ℕ → ℕ → Type 0) (s : 
       (tame_each r g pages h.victims (made ++ note_oom_steps g) x h.killing n asked ready h.kills))
 
   pub tame_kills : (r : Option ℕ) (g pages : ℕ) (made : Run) (m : KnownMachine) (steps : Run) (n : KnownMachine) → MayAsk m.ledger.groups g pages
-      → Passes t c s made m → AreDrained g t.cpus m → (has_room_for m.ledger g pages ≡ false → MissedAll g s m)
+      → Passes t c s made m → AreDrained g t.cpus m → (has_room_at m.ledger g pages ≡ false → MissedAll g s m)
       → KillsFor r g pages (course t m steps n) → Tame made m steps n
-  tame_kills r g pages made m steps n asked since drained missed h = elim (cases_Bool (has_room_for m.ledger g pages)) [
+  tame_kills r g pages made m steps n asked since drained missed h = elim (cases_Bool (has_room_at m.ledger g pages)) [
     | inl room ↦ tame_rests made m steps n (h.room room)
     | inr over ↦ tame_victims r g pages made m steps n asked since drained (missed over) (h.over over)
   ]
@@ -442,7 +442,7 @@ module _ (t : KnownTable) (MayAsk : List Group → ℕ → ℕ → Type 0) (s : 
       tame_quiet made m steps n (keeps_pass t c m n steps h.moves.runs h.keeps h.moves.misses) h.keeps.groups h.moves.quiet
 
   few_tame : (r g pages : ℕ) (made : Run) (m : KnownMachine) (steps : Run) (n : KnownMachine) → (pages ≤ 8 → MayAsk m.ledger.groups g pages)
-      → Passes t c s made m → AreDrained g t.cpus m → (has_room_for m.ledger g pages ≡ false → MissedAll g s m)
+      → Passes t c s made m → AreDrained g t.cpus m → (has_room_at m.ledger g pages ≡ false → MissedAll g s m)
       → KillsForFew r g pages (course t m steps n) → Tame made m steps n
   few_tame r g pages made m steps n asked since drained missed h = elim (cases_lt 8 pages) [
     | inl many ↦ tame_rests made m steps n (h.many many)

@@ -1,5 +1,5 @@
 -- Blocks that are charged and taken. Serves `charge_block`, `take_after_drain` and `alloc_block`.
-use Rattle.std.proofs.Common.{◌≡◌, ◌≢◌, ℕ, ◌^◌, ◌<◌, ◌≤◌, true, false, List, [], ◌∷◌, ◌++◌, length, take, refl, sym, ap, ◌∙◌, subst, inl, inr, arith}
+use Rattle.std.proofs.Common.{◌≡◌, ℕ, ◌^◌, ◌<◌, ◌≤◌, true, false, List, [], ◌∷◌, ◌++◌, length, take, refl, sym, ap, ◌∙◌, subst, inl, inr, arith}
 use Rattle.std.specs.Prelude.{Result, Ok, Err}
 use Rattle.std.proofs.lemmas.Bool.{cases_lt, false≢true}
 use Rattle.std.proofs.lemmas.List.{append-nil, length-append, take_all}
@@ -85,9 +85,6 @@ module _ (t : KnownTable) (g k : ℕ) (c : KnownCpu) (m x : KnownMachine) (so_fa
 
   pub none_opened : TakesNoBlock g k x n → n.seat.view.opened ≡ m.seat.view.opened
   none_opened none = ap (λ (z : KnownMachine). z.seat.view.opened) none.machine ∙ so_far.lowers.opened
-
-  pub taken_opened : (head : ℕ) → TakesBlock g k head x n → n.seat.view.opened ≡ m.seat.view.opened
-  taken_opened head takes = ap (λ (z : KnownMachine). z.seat.view.opened) takes.machine ∙ so_far.lowers.opened
 
 -- a charge is refused for good
 charges_refused : (t : KnownTable) (g k : ℕ) (e : AllocFault) (a b : Side)
@@ -314,11 +311,3 @@ module _ (t : KnownTable) (g k : ℕ) (m : KnownMachine) (c : KnownCpu) (alive :
         makes_both t c.number first.0 drained.0 (side m c) (side x y) (side n d) first.2
             (subst (λ (p : ℕ). MakesAs t p (side x y) drained.0 (side n d)) number drained.2),
       )
-
-  -- what the charge decides: the block is taken, or its charge is refused for good
-  pub decides_charged : (r : Result ℕ AllocFault) (n : Side) → BySteps t (side m c) n (ChargesBlock g k r) → r ≢ Err NoFrames
-      → BySteps t (side m c) n (AllocatesBlock g k r)
-  decides_charged (Ok head) n b not = (b.0, inl (record { is = alive; does = b.1 }), b.2)
-  decides_charged (Err (Over over)) n b not = (b.0, record { is = alive; does = b.1 }, b.2)
-  decides_charged (Err NoFrames) n b not = absurd (not refl)
-  decides_charged (Err Killed) n b not = (b.0, inr (record { is = alive; does = b.1 }), b.2)

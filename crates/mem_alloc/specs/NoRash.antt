@@ -20,7 +20,7 @@ use Rattle.mem_machine.specs.Local.{IsLocalRun, local_of}
 use Rattle.mem_machine.specs.Stocks.{AreDrained}
 use Rattle.mem_reclaim.specs.Staying.{MissedAll}
 use Rattle.mem_reclaim.specs.Victim.{IsVictim}
-use Rattle.mem_alloc.specs.Kills.{has_room_for, most_killed_for}
+use Rattle.mem_alloc.specs.Kills.{has_room_at, most_killed_for}
 use Rattle.mem_alloc.specs.Stepping.{CountsMisses, Course, course}
 
 -- the step notes at the group that an allocation was about to fail at its limit
@@ -30,7 +30,7 @@ is_oom_note group action = false
 
 -- one of the steps notes that at the group
 abbrev pub has_oom_note : ℕ → Run → Bool
-has_oom_note group steps = list_any (λ e. is_oom_note group e.0.action) steps
+has_oom_note group steps = list_any (λ entry. is_oom_note group entry.0.action) steps
 
 -- The machine is the one that these steps of a call left, in what steps alone don't tell: each frame's misses are those
 -- that were noted before the call and among the steps; and whoever is kept was kept for the same group when the call
@@ -57,7 +57,7 @@ pub record MayKill (MayAsk : List Group → ℕ → ℕ → Type 0) (way : Cours
   pub limited : ℕ
   pub need : ℕ
   pub asked : MayAsk way.after.ledger.groups limited need
-  pub over : has_room_for way.after.ledger limited need ≡ false
+  pub over : has_room_at way.after.ledger limited need ≡ false
   pub noted : has_oom_note limited way.steps ≡ true
   pub drained : AreDrained limited way.table.cpus way.after
   pub missed : MissedAll limited way.before way.after

@@ -19,7 +19,7 @@ use Rattle.mem_alloc.specs.declared.faults.AllocFault.{AllocFault}
 use Rattle.mem_alloc.specs.declared.faults.AllocFault.TheVariants.{Over, NoFrames, Killed}
 use Rattle.mem_alloc.specs.Stepping.{Course, InTurn, OfMachineAlone, Rests, course}
 -- what is killed, and whether there is room
-pub use Rattle.mem_alloc.specs.Kills.{IsWanting, KillsFor, has_room_for, most_killed_for}
+pub use Rattle.mem_alloc.specs.Kills.{IsWanting, KillsFor, has_room_at, most_killed_for}
 
 -- the notes with one more, of the group's limit, if it has one: that it has no room for so many pages more
 abbrev pub limit_notes : Option ℕ → Ledger → ℕ → ℕ → List Note → List Note
@@ -61,7 +61,7 @@ pub record ReclaimsFor (group pages : ℕ) (way : Course KnownMachine) : Type 0 
   pub given : ℕ
   pub reclaims : ReclaimsBefore (limit_of way.before.ledger.groups group) group pages
       (progress given way.before way.steps way.after)
-  pub missed : has_room_for way.after.ledger group pages ≡ false → MissedAll group way.before way.after
+  pub missed : has_room_at way.after.ledger group pages ≡ false → MissedAll group way.before way.after
   pub keeps : Keeps way.table way.before way.after
   pub moves : Moves way.table way.before given way.steps way.after
 
@@ -79,7 +79,7 @@ RelievesLimit requester over pages way =
 -- the limit of the group `over` has room for so many pages, and the requester, the group that asks for them, isn't
 -- killed
 pub record HasMadeRoom (requester over pages : ℕ) (after : KnownMachine) : Type 0 where
-  pub room : has_room_for after.ledger over pages ≡ true
+  pub room : has_room_at after.ledger over pages ≡ true
   pub alive : is_killed after.killed requester ≡ false
 
 -- What the answer tells of the limit of the group `over`, once it was relieved for the requester's pages. Ok: it has

@@ -42,7 +42,7 @@ use Rattle.mem_machine.proofs.Prepaying.{current_falls}
 use Rattle.mem_machine.specs.declared.counts.Counts.{Counts}
 use Rattle.mem_reclaim.specs.Moves.{Rises, has_kill, is_kill, is_miss, missed_in, returned_in}
 use Rattle.mem_reclaim.specs.Staying.{OnlyLeave}
-use Rattle.mem_reclaim.specs.Killing.{KillsBySteps, KeepsNone, KeepsStocks, LetsGoAll, LetsGoBySteps, OnlyDrains, OnlyLetsGo, with_killed}
+use Rattle.mem_reclaim.specs.Killing.{KillsBySteps, HasNoKeptUnit, KeepsStocks, LetsGoAll, LetsGoBySteps, OnlyDrains, OnlyLetsGo, with_killed}
 use Rattle.mem_reclaim.proofs.Listing.{has_unit, listed_is, home_inside, has_mid}
 use Rattle.mem_reclaim.proofs.Rising.{drains_return_none, returned_both, rises_both, units_rise}
 use Rattle.mem_machine.proofs.Followed.{makes_both, makes_none}
@@ -417,7 +417,7 @@ pub record AllKilled (t : KnownTable) (v : ℕ) (m n : KnownMachine) : Type 0 wh
   pub kills : KillsBySteps t v m n
   pub marked : n.killed ≡ slice_set m.killed v true
   pub drained : AreOwnDrained v t.cpus n
-  pub none_kept : KeepsNone v n
+  pub none_kept : HasNoKeptUnit v n
   pub keeps : OnlyLetsGo t m n
   pub stocks : OnlyDrains m n
 

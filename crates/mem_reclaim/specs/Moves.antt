@@ -33,7 +33,7 @@ is_miss frame action answer = false
 
 -- how many of the steps are freezes of the frame that missed
 abbrev pub missed_in : ℕ → Run → ℕ
-missed_in frame steps = count_by (λ e. is_miss frame e.0.action e.1) steps
+missed_in frame steps = count_by (λ entry. is_miss frame entry.0.action entry.1) steps
 
 -- the pair is a freeze that missed, of whichever frame
 abbrev pub is_any_miss : Action → Answer → Bool
@@ -42,7 +42,7 @@ is_any_miss action answer = false
 
 -- how many of the steps are freezes that missed
 abbrev pub all_missed_in : Run → ℕ
-all_missed_in steps = count_by (λ e. is_any_miss e.0.action e.1) steps
+all_missed_in steps = count_by (λ entry. is_any_miss entry.0.action entry.1) steps
 
 -- the pair is the return of a unit
 abbrev pub is_return : Action → Answer → Bool
@@ -51,7 +51,7 @@ is_return action answer = false
 
 -- how many units these steps return
 abbrev pub returned_in : Run → ℕ
-returned_in steps = count_by (λ e. is_return e.0.action e.1) steps
+returned_in steps = count_by (λ entry. is_return entry.0.action entry.1) steps
 
 -- a count rose by so many, or is at its greatest
 abbrev pub Rises : ℕ → ℕ → ℕ → Type 0
@@ -64,7 +64,7 @@ is_kill action = false
 
 -- some step is a kill
 abbrev pub has_kill : Run → Bool
-has_kill steps = list_any (λ e. is_kill e.0.action) steps
+has_kill steps = list_any (λ entry. is_kill entry.0.action) steps
 
 -- Whoever holds the lock, these steps lead from one machine to the other; so many pages come back by them; none of them
 -- is a kill; the misses that the zone's seat noted of each frame grew by those among them; and the freezes and the

@@ -7,7 +7,7 @@ use Rattle.mem_machine.specs.Local.{MakesAs, side}
 use Rattle.mem_machine.specs.Steps.{over_steps}
 use Rattle.cpu_part.specs.Cpus.{KnownCpu}
 use Rattle.mem_alloc.specs.Stepping.{ByStepsOfAny}
-use Rattle.mem_alloc.specs.Room.{HasMadeRoom, RelievesLimit, TellsRoom, has_room_for}
+use Rattle.mem_alloc.specs.Room.{HasMadeRoom, RelievesLimit, TellsRoom, has_room_at}
 use Rattle.mem_alloc.proofs.Lowering.{Lowers, lowers_both, lowered_visit, usages_fall}
 use Rattle.mem_alloc.proofs.Killing.{relieving_lowers}
 use Rattle.mem_alloc.proofs.Making.{answer_is, so_far_more, so_far_over}
@@ -50,7 +50,7 @@ tries-smaller g c =
     (subst (λ (y : KnownMachine). ByStepsOfAny g.N.BootName.frames y c.make_room.new.machine
     (RelievesLimit c.args.group c.in-Err-Over.over.group c.frames-pages.result)) r.1
     c.make_room.ensures.clears)) c.make_room.ensures.below r.0.over
-    (subst (λ (n : ℕ). has_room_for c.make_room.new.machine.ledger c.in-Err-Over.over.group n ≡ true) c.frames-pages.ensures.frames
+    (subst (λ (n : ℕ). has_room_at c.make_room.new.machine.ledger c.in-Err-Over.over.group n ≡ true) c.frames-pages.ensures.frames
     c.in_ok-make_room-in-Err-Over.ensures.room.room)
 
 pub tries-preserved : goal.tries-preserved
