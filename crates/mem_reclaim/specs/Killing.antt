@@ -22,13 +22,21 @@ use Rattle.mem_reclaim.specs.declared.noting.Having.{Having}
 use Rattle.mem_reclaim.specs.Staying.{OnlyLeave}
 use Rattle.mem_reclaim.specs.Victim.{IsNext, own_frames, victim_note}
 
--- The units leave their lists in this order, and the zone's reference on each is put: one without another reference
--- comes back, its frames are free and its pages uncharged; any other stays charged, kept by no one
+-- The unit leaves its list, and the zone's reference on it is put: without another reference it comes back, its frames
+-- are free and its pages uncharged; else it stays charged, kept by no one. And then this is done
+pub record LetsGo (unit : Entry) (Then : KnownMachine → Run → KnownMachine → Type 0) (before : KnownMachine)
+    (steps : Run) (after : KnownMachine) : Type 0 where
+  pub between : KnownMachine
+  pub left : Released
+  pub later : Run
+  pub releases : Releases unit.number left before between
+  pub others : Then between later after
+  pub steps_are : steps ≡ release_steps unit.number left ++ later
+
+-- the units are let go in this order
 abbrev pub LetsGoAll : List Entry → KnownMachine → Run → KnownMachine → Type 0
 LetsGoAll [] before steps after = (after ≡ before) × (steps ≡ [])
-LetsGoAll (unit ∷ others) before steps after =
-    (between : KnownMachine) × (left : Released) × (later : Run) × Releases unit.number left before between
-    × LetsGoAll others between later after × (steps ≡ release_steps unit.number left ++ later)
+LetsGoAll (unit ∷ others) before steps after = LetsGo unit (LetsGoAll others) before steps after
 
 -- the units are let go by some steps, whoever holds the lock
 pub record LetsGoBySteps (table : KnownTable) (units : List Entry) (before after : KnownMachine) : Type 0 where
