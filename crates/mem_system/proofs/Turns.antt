@@ -20,7 +20,8 @@ use Rattle.mem_machine.specs.Settling.{Settles, settle_steps}
 use Rattle.mem_machine.specs.Steps.{open_steps, shut_steps, drain_list_steps, drain_steps}
 use Rattle.mem_machine.proofs.Draining.{drained_at, drained_else}
 use Rattle.mem_machine.proofs.NoneLent.{past_free}
-use Rattle.mem_system.specs.Commands.{BySteps, with_visit_of}
+use Rattle.mem_system.specs.Commands.{BySteps}
+use Rattle.mem_system.specs.Visits.{with_visit_of}
 use Rattle.mem_system.specs.Ends.{SettlesInVisit, Empties, LeavesAlone}
 use Rattle.mem_system.proofs.Listing.{left_over}
 use Rattle.mem_machine.proofs.Followed.{makes_both}

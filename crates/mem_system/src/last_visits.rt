@@ -3,9 +3,10 @@
 ghost use Rattle.std.specs.Prelude.{◌≡◌, [], All};
 ghost use Rattle.frame_word.specs.Seats.{IsShut};
 ghost use Rattle.mem_machine.specs.Machines.{KnownMachine};
-ghost use Rattle.mem_system.specs.Boots.{AllShut};
+ghost use Rattle.mem_system.specs.Locked.{AllShut};
 ghost use Rattle.mem_system.specs.Commands.{BySteps};
-ghost use Rattle.mem_system.specs.Ends.{InTurn, SettlesInVisit, Empties, IsSettledUnpinned, IsSpent, LeavesAlone, pins_of};
+ghost use Rattle.mem_system.specs.Ends.{ForEachCpu, SettlesInVisit, Empties, IsSettledUnpinned, IsSpent, pins_of};
+ghost use Rattle.mem_system.specs.Ends.{LeavesAlone};
 ghost use Rattle.mem_machine.specs.Local.{side};
 
 use cpu_part::{BootName, Cpu, Tables};
@@ -49,7 +50,7 @@ pub(crate) fn settle_all<N: BootName>(
 )
     requires shut { AllShut machine.old }
     requires no_pin { pins_of cpus.old ≡ 0 }
-    ensures settles { InTurn N.frames SettlesInVisit machine.old cpus.old machine.new cpus.new }
+    ensures settles { ForEachCpu N.frames SettlesInVisit machine.old cpus.old machine.new cpus.new }
     ensures shut { AllShut machine.new }
     ensures settled { All IsSettledUnpinned cpus.new }
 {
@@ -66,7 +67,7 @@ pub(crate) fn empty_all<N: BootName>(
 )
     requires shut { AllShut machine.old }
     requires settled { All IsSettledUnpinned cpus.old }
-    ensures empties { InTurn N.frames Empties machine.old cpus.old machine.new cpus.new }
+    ensures empties { ForEachCpu N.frames Empties machine.old cpus.old machine.new cpus.new }
     ensures shut { AllShut machine.new }
     ensures spent { All (λ cpu. IsSpent N.frames N.stocks machine.new cpu) cpus.new }
 {

@@ -53,8 +53,8 @@ use Rattle.mem_system.specs.declared.command.Cmd.{Cmd}
 use Rattle.mem_system.specs.declared.command.Cmd.TheVariants as cmd
 use Rattle.mem_system.specs.declared.command.Reply.{Reply}
 use Rattle.mem_system.specs.declared.command.Reply.TheVariants.{Refused, Done}
-use Rattle.mem_system.specs.Boots.{KnownLocked, AllShut}
-use Rattle.mem_system.specs.Commands.{Holder, holder, side_of, IsServed}
+use Rattle.mem_system.specs.Locked.{KnownLocked, AllShut}
+use Rattle.mem_system.specs.Visits.{Holder, holder, side_of, IsServed}
 use Rattle.reply_texts.specs.Answer.{Answer}
 use Rattle.reply_texts.specs.Answer as answer
 use Rattle.script_replay.specs.declared.work.Work.{Work}

@@ -4,11 +4,11 @@ use Rattle.std.specs.Borrow.{Bor}
 use Rattle.frame_word.specs.Seats.{KnownTable}
 use Rattle.cpu_part.specs.Cpus.{KnownCpu}
 use Rattle.mem_system.specs.declared.command.Cmd.TheVariants as cmd
-use Rattle.mem_system.specs.Boots.{KnownLocked}
+use Rattle.mem_system.specs.Locked.{KnownLocked}
 use Rattle.reply_texts.specs.Answer.{Answer, Served}
 use Rattle.script_replay.specs.Answers.{AnswersFrame, AnswersRelease, CanNotList, GetsNoneFast, RepliesServed}
 use Rattle.script_replay.specs.Answers.{frame_kills, kills_text, release_kills}
-use Rattle.mem_system.specs.Commands.{holder}
+use Rattle.mem_system.specs.Visits.{holder}
 
 -- where there is no frame for the group, the command is served
 pub served_after : (t : KnownTable) (path : Bor (List ℕ)) (l : KnownLocked) (c seen : KnownCpu) (said : Answer) (k : KnownLocked) (d : KnownCpu)

@@ -21,7 +21,7 @@ use Rattle.mem_system.specs.declared.command.Cmd.{Cmd}
 use Rattle.mem_system.specs.declared.command.Cmd.TheVariants as cmd
 use Rattle.mem_system.specs.declared.command.Reply.{Reply}
 use Rattle.mem_system.specs.declared.command.Reply.TheVariants.{Refused}
-use Rattle.mem_system.specs.Commands.{Holder, holder, IsServed}
+use Rattle.mem_system.specs.Visits.{Holder, holder, IsServed}
 use Rattle.mem_system.specs.Shown.{SettlesCaller}
 use Rattle.reply_texts.specs.Answer.{Answer}
 use Rattle.reply_texts.specs.Answer as answer

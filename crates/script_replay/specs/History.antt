@@ -20,8 +20,8 @@ use Rattle.mem_history.specs.Whole.{AreDecided, ShowsAll, under_lock}
 use Rattle.mem_history.specs.Kept.{AreTied, shown_of}
 use Rattle.mem_history.specs.Leading.{put_answer}
 use Rattle.mem_system.specs.declared.command.Cmd.{Cmd}
-use Rattle.mem_system.specs.Boots.{IsQuiet, KnownLocked}
-use Rattle.mem_system.specs.Commands.{Holder, holder, side_of}
+use Rattle.mem_system.specs.Locked.{IsQuiet, KnownLocked}
+use Rattle.mem_system.specs.Visits.{Holder, holder, side_of}
 use Rattle.reply_texts.specs.Answer.{Answer}
 use Rattle.reply_texts.specs.Answer as answer
 use Rattle.script_lines.specs.declared.line.Line.{Line}

@@ -5,7 +5,8 @@ ghost use Rattle.std.specs.Prelude.{◌≡◌, ◌<◌, ◌++◌, IfOk, IsTrue, 
 ghost use Rattle.group_tree.specs.Groups.{has_group, number_at};
 ghost use Rattle.mem_system.specs.declared.command.Cmd.TheVariants.{Alloc};
 ghost use Rattle.std.specs.String.{string_bytes};
-ghost use Rattle.mem_system.specs.Commands.{IsOfZone, holder};
+ghost use Rattle.mem_system.specs.Commands.{IsOfZone};
+ghost use Rattle.mem_system.specs.Visits.{holder};
 ghost use Rattle.script_replay.specs.declared.work.Work.TheVariants.{Frame, Release, Visit};
 ghost use Rattle.script_replay.specs.Answers.{AddsText, AnswersText, AnswersWork, kills_text};
 ghost use Rattle.script_replay.specs.Ranges.{NamesInRange, WorkInRange};

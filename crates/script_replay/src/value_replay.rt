@@ -3,7 +3,7 @@
 ghost use Rattle.std.specs.Prelude.{◌≡◌, [], All, length};
 ghost use Rattle.stock_word.specs.declared.view.Stock.TheVariants.{NoGroup};
 ghost use Rattle.cpu_part.specs.Cpus.{IsTied};
-ghost use Rattle.mem_system.specs.Commands.{holder};
+ghost use Rattle.mem_system.specs.Visits.{holder};
 ghost use Rattle.script_replay.specs.Answers.{AddsText, AnswersText};
 ghost use Rattle.script_replay.specs.History.{GoesWell, IsWell, ReplaysOrStops};
 ghost use Rattle.script_replay.specs.Lines.{standing};

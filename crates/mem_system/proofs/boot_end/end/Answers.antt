@@ -4,8 +4,8 @@ use Rattle.stock_word.specs.Stock.{AreOf}
 use Rattle.std.specs.Prelude.{min}
 use Rattle.group_tree.specs.Room.{max_count}
 use Rattle.cpu_part.specs.Cpus.{KnownCpu, IsIdle}
-use Rattle.mem_system.specs.Boots.{KnownLocked}
-use Rattle.mem_system.specs.Ends.{InTurn, SettlesInVisit, Empties, Ends, IsSettledUnpinned, frame_seat_of, stock_seat_of, drops_of, pins_of}
+use Rattle.mem_system.specs.Locked.{KnownLocked}
+use Rattle.mem_system.specs.Ends.{ForEachCpu, SettlesInVisit, Empties, Ends, IsSettledUnpinned, frame_seat_of, stock_seat_of, drops_of, pins_of}
 use Rattle.mem_system.proofs.Closing.{turn_long, written_back, idle_all, frame_seats_at, stock_seats_at, long_frames, long_stocks, all_ends}
 use Rattle.mem_system.proofs.boot_end.end.Goals as goal
 
@@ -80,10 +80,10 @@ returns-clause-ends g c =
     let none : pins_of c.args.cpus.items ≡ 0 =
     let counted = c.count_pins-pins.ensures in let zero = c.if-pins-gt0.false in sym (ap pins_of read) ∙ sym counted ∙ omega (arith, zero) in
     let dropped = c.count_drops-drops.ensures ∙ ap (λ (l : List KnownCpu). min (drops_of l) max_count) c.deref-2.ensures.value in
-    let rests : InTurn t SettlesInVisit c.locked.inside.machine c.args.cpus.items c.settle_all.new.machine c.settle_all.new.cpus =
-    subst (λ (l : List KnownCpu). InTurn t SettlesInVisit c.locked.inside.machine l c.settle_all.new.machine c.settle_all.new.cpus) first c.settle_all.ensures.settles in
-    let empties : InTurn t Empties c.settle_all.new.machine c.settle_all.new.cpus c.empty_all.new.machine c.empty_all.new.cpus =
-    subst (λ (l : List KnownCpu). InTurn t Empties c.settle_all.new.machine l c.empty_all.new.machine c.empty_all.new.cpus) (second ∙ same)
+    let rests : ForEachCpu t SettlesInVisit c.locked.inside.machine c.args.cpus.items c.settle_all.new.machine c.settle_all.new.cpus =
+    subst (λ (l : List KnownCpu). ForEachCpu t SettlesInVisit c.locked.inside.machine l c.settle_all.new.machine c.settle_all.new.cpus) first c.settle_all.ensures.settles in
+    let empties : ForEachCpu t Empties c.settle_all.new.machine c.settle_all.new.cpus c.empty_all.new.machine c.empty_all.new.cpus =
+    subst (λ (l : List KnownCpu). ForEachCpu t Empties c.settle_all.new.machine l c.empty_all.new.machine c.empty_all.new.cpus) (second ∙ same)
     c.empty_all.ensures.empties in
     subst (λ (l : KnownLocked). Ends t w l c.args.cpus.items c.take_audit-audit.result) c.locked.view_is
     (all_ends t w (record { machine = c.locked.inside.machine; sizes = c.locked.inside.sizes }) c.args.cpus.items c.settle_all.new.machine c.settle_all.new.cpus

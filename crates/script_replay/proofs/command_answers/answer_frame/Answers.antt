@@ -11,7 +11,7 @@ use Rattle.script_replay.specs.Answers.{AnswersFrame, GetsNoneFast, RepliesServe
 use Rattle.mem_system.proofs.Found.{found_there}
 use Rattle.script_replay.proofs.Fronts.{served_after, served_kills}
 use Rattle.script_replay.proofs.Telling.{kills_as, told_alone}
-use Rattle.mem_system.specs.Commands.{holder}
+use Rattle.mem_system.specs.Visits.{holder}
 use Rattle.script_replay.proofs.command_answers.answer_frame.Goals as goal
 
 pub returns-in_default : goal.returns-in_default

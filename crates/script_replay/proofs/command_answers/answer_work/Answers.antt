@@ -7,7 +7,7 @@ use Rattle.reply_texts.specs.Answer as answer
 use Rattle.script_replay.specs.declared.work.Work.{Work}
 use Rattle.script_replay.specs.Answers.{AnswersFast, AnswersGet, AnswersPut, AnswersSettle, AnswersWork, GetsPin, PutsPin}
 use Rattle.script_replay.proofs.Telling.{alone, told_alone, told_as}
-use Rattle.mem_system.specs.Commands.{holder}
+use Rattle.mem_system.specs.Visits.{holder}
 use Rattle.script_replay.proofs.command_answers.answer_work.Goals as goal
 
 pub returns-in-Fast : goal.returns-in-Fast
