@@ -93,12 +93,12 @@ pub record EndsVisit (table : KnownTable) (before after : Holder) : Type 0 where
   pub still : NothingPasses table after.locked.machine.seat after.cpu.seat
   pub lent : LentIsBorrowed table after.locked.machine.seat after.cpu.seat
 
--- Through the lock: there was such a value behind it, with no visit open; the command was served in it; and what it
--- lends the processor then are the frames that the processor's seat has borrowed
-pub record IsVisited (table : KnownTable) (words : Words) (cmd : Cmd) (reply : Reply) (before after : KnownCpu)
+-- Through the lock: there was such a value behind it, with no visit open; the processor was served so in it; and what
+-- it lends the processor then are the frames that the processor's seat has borrowed
+pub record IsVisited (table : KnownTable) (words : Words) (Served : Holder → Holder → Type 0) (before after : KnownCpu)
     : Type 0 where
   pub found : KnownLocked
   pub left : KnownLocked
   pub quiet : IsQuiet table words found
-  pub served : IsServed table cmd reply (holder found before) (holder left after)
+  pub served : Served (holder found before) (holder left after)
   pub lent : LentIsBorrowed table left.machine.seat after.seat

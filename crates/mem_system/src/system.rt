@@ -6,7 +6,7 @@ ghost use Rattle.mem_machine.specs.Machines.{IsConsistent};
 ghost use Rattle.mem_system.specs.Locked.{BehindLock, IsQuiet};
 ghost use Rattle.mem_system.specs.Boots.{first_cpus};
 ghost use Rattle.mem_system.specs.Commands.{IsOfZone, IsSettledAfter};
-ghost use Rattle.mem_system.specs.Visits.{IsVisited};
+ghost use Rattle.mem_system.specs.Visits.{IsServed, IsVisited};
 
 use crate::boots::Boot;
 use crate::command::{Cmd, Reply};
@@ -90,7 +90,7 @@ impl<N: BootName> System<N> {
     #[inline(always)]
     pub fn visit<R: Wait>(&self, rt: &R, cpu: &mut Cpu<N>, cmd: &Cmd<'_>) -> Reply
         requires { IsOfZone N.frames cmd.now }
-        ensures served { IsVisited N.frames N.stocks cmd.now result cpu.old cpu.new }
+        ensures served { IsVisited N.frames N.stocks (IsServed N.frames cmd.now result) cpu.old cpu.new }
         ensures settled { IsSettledAfter cmd.now result cpu.new }
     {
         self.visit_with(rt, cpu, cmd, &NoGate)
@@ -107,7 +107,7 @@ impl<N: BootName> System<N> {
         gate: &G,
     ) -> Reply
         requires { IsOfZone N.frames cmd.now }
-        ensures served { IsVisited N.frames N.stocks cmd.now result cpu.old cpu.new }
+        ensures served { IsVisited N.frames N.stocks (IsServed N.frames cmd.now result) cpu.old cpu.new }
         ensures settled { IsSettledAfter cmd.now result cpu.new }
     {
         let mut reply = Reply::Done;
@@ -128,7 +128,7 @@ impl<N: BootName> System<N> {
         reply: &mut Reply,
     )
         requires { IsOfZone N.frames cmd.now }
-        ensures served { IsVisited N.frames N.stocks cmd.now reply.new cpu.old cpu.new }
+        ensures served { IsVisited N.frames N.stocks (IsServed N.frames cmd.now reply.new) cpu.old cpu.new }
         ensures settled { IsSettledAfter cmd.now reply.new cpu.new }
     {
         let mut guard = self.locked.lock(rt);
